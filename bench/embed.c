@@ -58,6 +58,7 @@ static void no_handles(void) {
     EXPECT(kioskbasil_put(&s, "x", 1, &number), KIOSKBASIL_EMPTY_HANDLE);
     EXPECT(number, 7);
     EXPECT(kioskbasil_close(&s), KIOSKBASIL_EMPTY_HANDLE);
+    EXPECT(kioskbasil_leave(&s), KIOSKBASIL_EMPTY_HANDLE);
     EXPECT(kioskbasil_turn(&s, 1, &turn), KIOSKBASIL_EMPTY_HANDLE);
     EXPECT(turn.tenure, 7);
     EXPECT(kioskbasil_show_sender(&s, &sender), KIOSKBASIL_EMPTY_HANDLE);
@@ -77,6 +78,7 @@ static void no_handles(void) {
     EXPECT(kioskbasil_put(NULL, "x", 1, &number), KIOSKBASIL_NULL);
     EXPECT(kioskbasil_put(&s, NULL, 1, &number), KIOSKBASIL_NULL);
     EXPECT(kioskbasil_close(NULL), KIOSKBASIL_NULL);
+    EXPECT(kioskbasil_leave(NULL), KIOSKBASIL_NULL);
     EXPECT(kioskbasil_turn(NULL, 1, &turn), KIOSKBASIL_NULL);
     EXPECT(kioskbasil_show_sender(&s, NULL), KIOSKBASIL_NULL);
     EXPECT(kioskbasil_hear_once(&r, NULL), KIOSKBASIL_NULL);
@@ -85,7 +87,7 @@ static void no_handles(void) {
     EXPECT(kioskbasil_end(&s, 1, &r, 1, NULL, 1, &left), KIOSKBASIL_NULL);
     EXPECT(kioskbasil_open_after(&sizes, NULL, &s, 1, &r, 1), KIOSKBASIL_NULL);
     for (uint32_t code = 0; code <= KIOSKBASIL_NUMBERS_USED; code++) {
-        int named = code <= KIOSKBASIL_END || code >= KIOSKBASIL_BAD_SENDERS;
+        int named = code <= KIOSKBASIL_LEAVE || code >= KIOSKBASIL_BAD_SENDERS;
         EXPECT(strcmp(kioskbasil_text(code), "no code of this version") != 0, named);
         EXPECT(kioskbasil_refused(code), code >= 32);
     }
@@ -261,7 +263,101 @@ static void two_sittings(bool again, bool then) {
     EXPECT(left.ended, true);
 }
 
-/* ---- many short runs of four senders and four receivers, each in a thread of its own */
+/* Of the growths of memory that follow, this one is refused, counted from 1; 0 where none is, or it was. */
+static long refused;
+
+void *__real_malloc(size_t size);
+void *__real_realloc(void *old, size_t size);
+void *__wrap_malloc(size_t size);
+void *__wrap_realloc(void *old, size_t size);
+
+void *__wrap_malloc(size_t size) {
+    return refused > 0 && --refused == 0 ? NULL : __real_malloc(size);
+}
+
+void *__wrap_realloc(void *old, size_t size) {
+    return refused > 0 && --refused == 0 ? NULL : __real_realloc(old, size);
+}
+
+/* Each growth of memory for a bus, or for one after this sitting, is refused in turn: then none is made, and all handles stay empty.
+   One that is refused may be made good by a smaller one: then the bus is there. */
+static void no_memory(bool again, const kioskbasil_left *left) {
+    kioskbasil_sender s[3] = {KIOSKBASIL_NONE};
+    kioskbasil_receiver r[2] = {KIOSKBASIL_NONE};
+    kioskbasil_sizes sizes = {1, 4, 64, again};
+    kioskbasil_left over;
+    uint32_t code = KIOSKBASIL_NO_MEMORY;
+    long many = 0, none = 0;
+    for (bool all = false; !all; many++) {
+        refused = many + 1;
+        code = left ? kioskbasil_open_after(&sizes, left, s, 3, r, 2) : kioskbasil_open(&sizes, s, 3, r, 2);
+        all = refused > 0;
+        refused = 0;
+        if (code == KIOSKBASIL_OK) EXPECT(kioskbasil_end(s, 3, r, 2, NULL, 0, &over), KIOSKBASIL_OK);
+        else none++, EXPECT(code, KIOSKBASIL_NO_MEMORY);
+        EXPECT(s[0].live + s[1].live + s[2].live + r[0].live + r[1].live, 0);
+    }
+    EXPECT(code, KIOSKBASIL_OK);
+    EXPECT(none > 6, true);
+}
+
+/* A sender leaves: nothing of it follows, the other goes on, and the order and its end say so. In the next sitting it is there. */
+static void leaving(bool again) {
+    kioskbasil_sender s[2] = {KIOSKBASIL_NONE};
+    kioskbasil_receiver r[2] = {KIOSKBASIL_NONE};
+    kioskbasil_sizes sizes = {1, 8, 64, again};
+    kioskbasil_turn_answer turn;
+    kioskbasil_heard heard;
+    kioskbasil_item items[4];
+    kioskbasil_left left;
+    uint64_t seed = 17, log[9];
+    size_t many = 0;
+    EXPECT(kioskbasil_open(&sizes, s, 2, r, 2), KIOSKBASIL_OK);
+    EXPECT(kioskbasil_put(&s[0], "x", 1, NULL), KIOSKBASIL_OK);
+    EXPECT(kioskbasil_leave(&s[0]), KIOSKBASIL_CLOSE_PENDING);
+    EXPECT(kioskbasil_turn(&s[0], 0, NULL), KIOSKBASIL_GOING);
+    EXPECT(kioskbasil_leave(&s[0]), KIOSKBASIL_CLOSE_BUSY);
+    EXPECT(send_batch(&s[0], &seed, NULL), KIOSKBASIL_DELIVERED);
+    EXPECT(kioskbasil_leave(&s[0]), KIOSKBASIL_OK);
+    EXPECT(kioskbasil_leave(&s[0]), KIOSKBASIL_CLOSE_CLOSED);
+    EXPECT(kioskbasil_close(&s[0]), KIOSKBASIL_CLOSE_CLOSED);
+    EXPECT(kioskbasil_put(&s[0], "x", 1, NULL), KIOSKBASIL_PUT_CLOSED);
+    memset(&turn, 7, sizeof turn);
+    EXPECT(send_batch(&s[0], &seed, &turn), KIOSKBASIL_LEFT);
+    EXPECT(turn.tenure, 1);
+    EXPECT(turn.first + turn.last + turn.sender, 0);
+    EXPECT(send_batch(&s[0], &seed, NULL), KIOSKBASIL_CLOSED);
+    EXPECT(kioskbasil_put(&s[0], "x", 1, NULL), KIOSKBASIL_PUT_CLOSED);
+    EXPECT(leave_order(&s[0], &seed), KIOSKBASIL_CLOSE_CLOSED);
+    send_one(&s[1], 0, &seed);
+    EXPECT(end_order(&s[1], &seed), KIOSKBASIL_CLOSED);
+    EXPECT(kioskbasil_hear(r, items, 4, &many), KIOSKBASIL_END);
+    EXPECT(many, 2);
+    EXPECT(items[0].sender, 0);
+    EXPECT(items[1].sender, 1);
+    uint32_t code, said = 0, leaves = 0;
+    while ((code = kioskbasil_hear_once(&r[1], &heard)) != KIOSKBASIL_END) {
+        if (code == KIOSKBASIL_ITEM) EXPECT(heard.item.sender, said++);
+        if (code == KIOSKBASIL_LEAVE) leaves++, EXPECT(heard.owner, 0), EXPECT(heard.tenure, 0), EXPECT(said, 1);
+    }
+    EXPECT(said, 2);
+    EXPECT(leaves, 1);
+    EXPECT(kioskbasil_end(s, 2, r, 2, log, 9, &left), KIOSKBASIL_OK);
+    EXPECT(log[4], 0xc000000000000001);
+    for (int i = 0; i < KIOSKBASIL_MOST_SENDERS; i++) {
+        EXPECT(left.gone[i], i == 0);
+        EXPECT(left.counts[i], i < 2);
+    }
+    EXPECT(left.ended, true);
+    EXPECT(kioskbasil_open_after(&sizes, &left, s, 2, r, 1), KIOSKBASIL_OK);
+    send_one(&s[0], 1, &seed);
+    EXPECT(leave_order(&s[1], &seed), KIOSKBASIL_LEFT);
+    EXPECT(kioskbasil_end(s, 2, r, 1, NULL, 0, &left), KIOSKBASIL_OK);
+    EXPECT(left.gone[0], false);
+    EXPECT(left.gone[1], true);
+}
+
+/* ---- many short runs of four senders and four receivers, each in a thread of its own; in some the first sender that is done leaves */
 enum { SIDES = 4, MESSAGES = 24 };
 
 struct side {
@@ -269,6 +365,7 @@ struct side {
     kioskbasil_receiver *receiver;
     uint64_t seed;
     atomic_int *left;
+    bool leaves;
     kioskbasil_item heard[SIDES * MESSAGES + 1];
     size_t many;
     uint32_t last;
@@ -285,7 +382,9 @@ static void *send_side(void *given) {
         if (kioskbasil_put(me->sender, message, length, NULL) == KIOSKBASIL_OK) i++;
         if (i % 5 == 0 || i == MESSAGES) me->last = send_batch(me->sender, &me->seed, NULL);
     }
-    if (atomic_fetch_sub(me->left, 1) == 1) me->last = end_order(me->sender, &me->seed);
+    int still = atomic_fetch_sub(me->left, 1);
+    if (still == 1) me->last = end_order(me->sender, &me->seed);
+    else if (still == SIDES && me->leaves) me->last = leave_order(me->sender, &me->seed);
     return NULL;
 }
 
@@ -312,7 +411,7 @@ static int storm(unsigned run) {
     memset(sides, 0, sizeof sides);
     for (int i = 0; i < 2 * SIDES; i++) {
         struct side *side = &sides[i];
-        side->left = &left, side->seed = run * 16 + i + 1;
+        side->left = &left, side->seed = run * 16 + i + 1, side->leaves = run % 3 == 2;
         if (i < SIDES) side->sender = &s[i]; else side->receiver = &r[i - SIDES];
         if (pthread_create(&threads[i], NULL, i < SIDES ? send_side : hear_side, side)) exit(2);
     }
@@ -327,7 +426,7 @@ static int storm(unsigned run) {
         for (int b = 0; b < 56 && !bad; b++) bad |= item->bytes[b] != (b < item->length ? (uint8_t)(item->sender * 64 + item->number) : 0);
     }
     bad |= kioskbasil_end(s, SIDES, r, SIDES, NULL, 0, &ended) != KIOSKBASIL_OK;
-    for (int i = 0; i < SIDES; i++) bad |= ended.counts[i] != MESSAGES;
+    for (int i = 0; i < SIDES; i++) bad |= ended.counts[i] != MESSAGES || ended.gone[i] != (sides[i].last == KIOSKBASIL_LEFT);
     return bad;
 }
 
@@ -382,6 +481,10 @@ int main(int count, char **words) {
         ends();
         last_sender();
         for (int kinds = 0; kinds < 4; kinds++) two_sittings(kinds & 1, kinds & 2);
+        leaving(false);
+        leaving(true);
+        kioskbasil_left ended = {.ended = true};
+        for (int again = 0; again < 2; again++) no_memory(again, NULL), no_memory(again, &ended);
     }
     printf("%s: %ld passed, %ld failed\n", what, passed, failed);
     return failed != 0;

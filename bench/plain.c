@@ -14,7 +14,7 @@ struct row { u64 announced[64], fallback[6]; struct round round[6][8]; };
 struct page { u64 next[64], ended, words; } home;
 struct sender {
     char *messages[16]; u64 len[16], count, first, least, tenure, stored, words;
-    int closing, closed, stopped, busy, phase, at, bit, spelled, candidate, round, value, j;
+    int closing, leaving, closed, stopped, busy, phase, at, bit, spelled, candidate, round, value, j;
     int own_votes, published, lost, withdrawn;
     struct page page; u64 frame[129], presence, asked, cleared;
 } S[64];
@@ -70,7 +70,7 @@ static int elect(struct sender *s, u64 me, uint32_t random) {
 }
 static u64 make_frame(struct sender *s, u64 me) {
     u64 k = 1;
-    if (s->closing) s->frame[k++] = 3ull << 62;
+    if (s->closing || s->leaving) s->frame[k++] = 3ull << 62 | s->leaving;
     for (u64 i = 0; i < s->count; i++) {
         s->frame[k++] = 1ull << 63 | s->len[i] << 54 | (s->first + i);
         for (u64 b = 0; b < s->len[i]; b += 8) { u64 w = 0; for (u64 j = b; j < b + 8; j++) w = w << 8 | (j < s->len[i] ? (unsigned char)s->messages[i][j] : 0); s->frame[k++] = w; }
@@ -83,7 +83,7 @@ static int turn(u64 me, uint32_t random) { // true where it is going; else its a
     struct sender *s = &S[me]; u64 end = cyclic ? 1ull << 40 : T, next = s->tenure + 1;
     if (s->phase == REST) {
         if (s->closed) { say("closed\n", 0, 0, 0, 0); return 0; }
-        if (!s->count && !s->closing) { say("idle\n", 0, 0, 0, 0); return 0; }
+        if (!s->count && !s->closing && !s->leaving) { say("idle\n", 0, 0, 0, 0); return 0; }
         if (s->least >= end) { say("spent\n", 0, 0, 0, 0); return 0; }
         if (stage & 1 || stage / 2 < s->least) { say("waiting\n", 0, 0, 0, 0); return 0; }
         if (stage / 2 >= end) { s->least = stage / 2; say("spent\n", 0, 0, 0, 0); return 0; }
@@ -130,6 +130,7 @@ static int turn(u64 me, uint32_t random) { // true where it is going; else its a
     if (s->published) {
         s->page.words += s->words; s->page.next[me] = s->first + s->count; s->page.ended = s->closing; give_back(s);
         if (s->closing) { s->closed = 1; say("closed\n", 0, 0, 0, 0); return 0; }
+        if (s->leaving) { s->closed = 1; say("left %lu\n", s->tenure, 0, 0, 0); return 0; }
         say("delivered %lu %lu %lu\n", s->tenure, s->first, s->first + s->count - 1, 0); s->first += s->count; s->count = 0; return 0;
     }
     if (s->page.ended) { give_back(s); s->closed = 1; say("closed\n", 0, 0, 0, 0); return 0; }
@@ -143,6 +144,7 @@ static int recv(u64 me) { // true where it goes on
     if (!r->left) { r->left = w >> 40 & 0x3fff; r->owner = w >> 54 & 0xff; say("head %lu %lu\n", w & 0xffffffffff, r->owner, 0, 0); return 1; }
     r->left--;
     if (r->got >= r->bytes) {
+        if (w >> 62 == 3 && w & 1) { say("leave %lu\n", r->owner, 0, 0, 0); return 1; }
         if (w >> 62 == 3) { r->ended = 1; say("end\n", 0, 0, 0, 0); return 0; }
         r->bytes = w >> 54 & 0xff; r->number = w & 0xffffffffffff; r->got = 0;
     } else for (int j = 0; j < 8; j++) r->data[r->got++] = w >> (56 - 8 * j);
@@ -177,7 +179,7 @@ static int is_good(const char *line, const char *end, int shaped) { // the form 
     while (numbers + 1 < count && is_number(w[numbers + 1], 0, UINT64_MAX)) numbers++;
     if (!shaped) return (is(w[0], "shape") || is(w[0], "cycle")) && count == 6 && numbers == 5;
     if (is(w[0], "put")) return count == 3 && numbers >= 1 && is_hex(w[2]);
-    if (is(w[0], "close") || is(w[0], "stop")) return count == 2 && numbers == 1;
+    if (is(w[0], "close") || is(w[0], "stop") || is(w[0], "leave")) return count == 2 && numbers == 1;
     if (is(w[0], "turn")) return count == 4 && numbers == 3 && is_number(w[2], 0, 4294967295) && is_number(w[3], 1, 10000);
     return is(w[0], "recv") && count == 3 && numbers == 2 && is_number(w[2], 1, 10000);
 }
@@ -202,15 +204,15 @@ int main(int argc, char **argv) {
             shaped = 1; rows = calloc(T, sizeof *rows); word_of_log = calloc(L, 8);
         } else if (*line == 'p') {
             s = strtoul(line + 4, &line, 10); struct sender *p = &S[s % 64]; line++; k = *line == '-' ? 0 : strlen(line) / 2;
-            const char *why = p->stopped ? "Stopped" : p->closing || p->closed ? "Closed" : p->busy ? "Busy" : k > 56 ? "TooLong" : p->count == 16 ? "BatchFull" : 0;
+            const char *why = p->stopped ? "Stopped" : p->closing || p->leaving || p->closed ? "Closed" : p->busy ? "Busy" : k > 56 ? "TooLong" : p->count == 16 ? "BatchFull" : 0;
             if (s >= n) why = "NoSuchSender";
             if (why) { if (refused(passes, number, why)) goto stop; continue; }
             p->messages[p->count] = malloc(k + 1); p->len[p->count] = k; for (u64 i = 0; i < k; i++) { unsigned b; sscanf(line + 2 * i, "%2x", &b); p->messages[p->count][i] = b; }
             say("put %lu: number %lu\n", s, p->first + p->count, 0, 0); p->count++;
-        } else if (*line == 'c') {
-            s = strtoul(line + 6, 0, 10); struct sender *p = &S[s % 64]; const char *why = s >= n ? "NoSuchSender" : p->stopped ? "Stopped" : p->closing || p->closed ? "Closed" : p->busy ? "Busy" : p->count ? "Pending" : 0;
+        } else if (*line == 'c' || *line == 'l') { // both words have five letters
+            s = strtoul(line + 6, 0, 10); struct sender *p = &S[s % 64]; const char *why = s >= n ? "NoSuchSender" : p->stopped ? "Stopped" : p->closing || p->leaving || p->closed ? "Closed" : p->busy ? "Busy" : p->count ? "Pending" : 0;
             if (why) { if (refused(passes, number, why)) goto stop; continue; }
-            p->closing = 1; say("close %lu: closing\n", s, 0, 0, 0);
+            if (*line == 'c') { p->closing = 1; say("close %lu: closing\n", s, 0, 0, 0); } else { p->leaving = 1; say("leave %lu: leaving\n", s, 0, 0, 0); }
         } else if (*line == 't') {
             s = strtoul(line + 5, &line, 10); w = strtoul(line, &line, 10); k = strtoul(line, 0, 10);
             if (s >= n || S[s].stopped) { if (refused(passes, number, s >= n ? "NoSuchSender" : "Stopped")) goto stop; continue; }
@@ -232,7 +234,9 @@ int main(int argc, char **argv) {
     say("\n", 0, 0, 0, 0);
     for (;;) { // the order is what a receiver would be given of the whole log
         size_t before = used; M[8].fresh = used; int more = recv(8);
-        if (!strncmp(out + before, "item", 4)) { memmove(out + before + 5, out + before + 4, used - before - 4); memcpy(out + before, "order", 5); used++; } else if (M[8].ended) { used = before; say("order end\n", 0, 0, 0, 0); } else used = before;
+        if (!strncmp(out + before, "item", 4)) { memmove(out + before + 5, out + before + 4, used - before - 4); memcpy(out + before, "order", 5); used++; }
+        else if (!strncmp(out + before, "leave", 5)) { memmove(out + before + 6, out + before, used - before); memcpy(out + before, "order ", 6); used += 6; }
+        else if (M[8].ended) { used = before; say("order end\n", 0, 0, 0, 0); } else used = before;
         if (!more) break;
     }
     for (u64 i = 0; i < m; i++) { say("given %lu %lu", i, M[i].count, 0, 0); say(M[i].ended ? " end\n" : "\n", 0, 0, 0, 0); }

@@ -26,8 +26,9 @@
  *     that no other pointer of the same call points into and no other thread uses meanwhile;
  *   - malloc, realloc and free are those of the C library, or as good.
  *
- * ROOM FOR MORE. Codes above KIOSKBASIL_NUMBERS_USED and further calls may come. Leaving a bus, and telling
- * a receiver of a sender or of another receiver (`told`, `meet` of the library), are not offered to C.
+ * ROOM FOR MORE. Answers above KIOSKBASIL_LEAVE, refusals above KIOSKBASIL_NUMBERS_USED and further calls may
+ * come. Telling a receiver of a sender or of another receiver (`told`, `meet` of the library) is not offered
+ * to C.
  */
 #ifndef KIOSKBASIL_H
 #define KIOSKBASIL_H
@@ -58,7 +59,7 @@ enum kioskbasil_code {
   KIOSKBASIL_OWN = 5,        /* it has taken the page of .tenure */
   KIOSKBASIL_DELIVERED = 6,  /* its messages from .first to .last stand in the order, in the frame of .tenure */
   KIOSKBASIL_FULL = 7,       /* its frame does not fit the log; the batch is kept */
-  KIOSKBASIL_CLOSED = 8,     /* the order has ended, by this sender or another */
+  KIOSKBASIL_CLOSED = 8,     /* the order has ended, by this sender or another, or this sender had left */
   KIOSKBASIL_SPENT = 9,      /* all tenures are spent; the batch is kept */
   KIOSKBASIL_BEHIND = 10,    /* rows used again: .sender keeps the row of .tenure, which is to be used next */
   /* of a turn of a receiver */
@@ -66,6 +67,9 @@ enum kioskbasil_code {
   KIOSKBASIL_HEAD = 12,      /* a frame of .owner begins, of the tenure .tenure */
   KIOSKBASIL_ITEM = 13,      /* the next message of the order, in .item */
   KIOSKBASIL_END = 14,       /* the order has ended, and all of it was given; so it answers for good */
+  /* of leaving */
+  KIOSKBASIL_LEFT = 15,      /* of a sender: it has left, by its frame of .tenure */
+  KIOSKBASIL_LEAVE = 16,     /* of a receiver: .owner has left, and nothing of it follows */
   /* refusals */
   KIOSKBASIL_BAD_SENDERS = 32,    /* open: not 1 to 64 senders */
   KIOSKBASIL_BAD_RECEIVERS = 33,  /* open: not 1 to 8 receivers */
@@ -73,13 +77,13 @@ enum kioskbasil_code {
   KIOSKBASIL_BAD_ROWS = 35,       /* open: not 1 to 256 rows; used again, not 2 to 8 */
   KIOSKBASIL_BAD_LOG_WORDS = 36,  /* open: not 16 to 65,536 words */
   KIOSKBASIL_NO_MEMORY = 37,      /* open: memory was refused */
-  KIOSKBASIL_PUT_CLOSED = 38,     /* put: a close was accepted, or the order is known to have ended */
+  KIOSKBASIL_PUT_CLOSED = 38,     /* put: a close or a leave was accepted, or the order is known to have ended */
   KIOSKBASIL_PUT_BUSY = 39,       /* put: the batch is on its way */
   KIOSKBASIL_PUT_TOO_LONG = 40,   /* put: more than 56 bytes */
   KIOSKBASIL_PUT_BATCH_FULL = 41, /* put: 16 messages wait */
-  KIOSKBASIL_CLOSE_CLOSED = 42,   /* close: one was accepted, or the order is known to have ended */
-  KIOSKBASIL_CLOSE_BUSY = 43,     /* close: the batch is on its way */
-  KIOSKBASIL_CLOSE_PENDING = 44,  /* close: messages wait */
+  KIOSKBASIL_CLOSE_CLOSED = 42,   /* close, leave: one was accepted, or the order is known to have ended */
+  KIOSKBASIL_CLOSE_BUSY = 43,     /* close, leave: the batch is on its way */
+  KIOSKBASIL_CLOSE_PENDING = 44,  /* close, leave: messages wait */
   KIOSKBASIL_IN_USE = 45,         /* end: other handles have the bus still */
   KIOSKBASIL_PAGE_OUT = 46,       /* end: a sender that took the page has not given it back */
   KIOSKBASIL_EMPTY_HANDLE = 47,   /* the handle is empty */
@@ -107,9 +111,10 @@ typedef struct kioskbasil_receiver {
 /* The sizes of a bus, but for the numbers of its senders and receivers. */
 typedef struct kioskbasil_sizes {
   uint64_t rounds;    /* rounds of one binary decision: 1 to 8; any is right, 4 is usual */
-  uint64_t rows;      /* tenures of the sitting, 1 to 256; where rows are used again 2 to 8 */
+  uint64_t rows;      /* tenures of the sitting, 1 to 256; where rows are used again 2 to 8; a batch takes one,
+                         a close and a leave too */
   uint64_t log_words; /* words of the whole order, 16 to 65,536: a batch takes 1, a message 1 and one
-                         for each 8 bytes begun, a close 2 */
+                         for each 8 bytes begun, a close or a leave 2 */
   bool again;         /* rows of words are used again: up to 2^40 tenures */
 } kioskbasil_sizes;
 
@@ -143,7 +148,7 @@ typedef struct kioskbasil_sender_shown {
   uint64_t words;       /* the last length of the log that it has stored */
   uint64_t turns_left;  /* turns of its election, at most; 0 where none is begun */
   uint8_t number;       /* its own number, from 0 on */
-  bool is_closed;       /* it sends nothing more; false as long as its close waits to be sent */
+  bool is_closed;       /* it sends nothing more; false as long as its close or leave waits to be sent */
   bool wants_word;      /* its next turn uses its random word */
 } kioskbasil_sender_shown;
 
@@ -162,6 +167,7 @@ typedef struct kioskbasil_left {
   uint64_t words;                           /* words of the log */
   uint64_t tenures;                         /* tenures that have ended */
   bool ended;                               /* the order has ended */
+  bool gone[KIOSKBASIL_MOST_SENDERS];       /* each sender has left in the order */
 } kioskbasil_left;
 
 /* ---- the archive */
@@ -171,6 +177,7 @@ uint32_t bus_c_open_after(const kioskbasil_sizes *sizes, const kioskbasil_left *
                           size_t sender_count, kioskbasil_receiver *receivers, size_t receiver_count);
 uint32_t bus_c_put(kioskbasil_sender *sender, const uint8_t *bytes, size_t length, uint64_t *number);
 uint32_t bus_c_close(kioskbasil_sender *sender);
+uint32_t bus_c_leave(kioskbasil_sender *sender);
 uint32_t bus_c_turn(kioskbasil_sender *sender, uint32_t word, kioskbasil_turn_answer *answer);
 uint32_t bus_c_sender(kioskbasil_sender *sender, kioskbasil_sender_shown *shown);
 void bus_c_free_sender(kioskbasil_sender *sender);
@@ -198,7 +205,8 @@ static inline uint32_t kioskbasil_open(const kioskbasil_sizes *sizes, kioskbasil
  * else NUMBERS_USED if one of the 64 next numbers is 2^48 - 65,536 or more, else NO_MEMORY; the first whose
  * cause holds, and then no handle is changed.
  * Nothing checks that kioskbasil_end filled *left: the numbers go on from left->next, whatever it has.
- * left->ended has to be 0 or 1, and no handle may lie inside *left. */
+ * left->ended and each of left->gone have to be 0 or 1, and no handle may lie inside *left. Who had left is
+ * there again. */
 static inline uint32_t kioskbasil_open_after(const kioskbasil_sizes *sizes, const kioskbasil_left *left,
                                              kioskbasil_sender *senders, size_t sender_count,
                                              kioskbasil_receiver *receivers, size_t receiver_count) {
@@ -225,9 +233,19 @@ static inline uint32_t kioskbasil_close(kioskbasil_sender *sender) {
   return bus_c_close(sender);
 }
 
+/* Lets a leave mark wait, which says in the order that this sender has left once turns have sent it: that is
+ * answered KIOSKBASIL_LEFT, and nothing of this sender follows. The others go on. It is there again in a next
+ * sitting. Where the order has ended before, turns answer CLOSED and there is no mark. Takes no step.
+ * KIOSKBASIL_OK, or CLOSE_CLOSED, CLOSE_BUSY or CLOSE_PENDING, the first whose cause holds, and then
+ * nothing is changed. */
+static inline uint32_t kioskbasil_leave(kioskbasil_sender *sender) {
+  if (!sender) return KIOSKBASIL_NULL;
+  return bus_c_leave(sender);
+}
+
 /* One turn: at most one step on one word of the bus. `word` is a random word, which a vote of a coin uses;
  * other steps do not look at it. No word, however bad, breaks what is promised; bad ones cost steps.
- * The answer, IDLE to BEHIND, and what it says in *answer (which may be NULL). */
+ * The answer, IDLE to BEHIND or LEFT, and what it says in *answer (which may be NULL). */
 static inline uint32_t kioskbasil_turn(kioskbasil_sender *sender, uint32_t word, kioskbasil_turn_answer *answer) {
   kioskbasil_turn_answer own;
   if (!sender) return KIOSKBASIL_NULL;
@@ -245,7 +263,7 @@ static inline void kioskbasil_free_sender(kioskbasil_sender *sender) {
   if (sender) bus_c_free_sender(sender);
 }
 
-/* One turn: one load. The answer, EMPTY, HEAD, ITEM, END or GOING, and what it says in *answer. */
+/* One turn: one load. The answer, EMPTY, HEAD, ITEM, LEAVE, END or GOING, and what it says in *answer. */
 static inline uint32_t kioskbasil_hear_once(kioskbasil_receiver *receiver, kioskbasil_heard *answer) {
   if (!receiver || !answer) return KIOSKBASIL_NULL;
   return bus_c_hear_once(receiver, answer);
@@ -253,7 +271,8 @@ static inline uint32_t kioskbasil_hear_once(kioskbasil_receiver *receiver, kiosk
 
 /* Turns up to the first that is answered EMPTY or END, which is the answer, or GOING where there is no more
  * room. Items are written to items[0], items[1], .. in their order, and how many they are to *many. Places
- * behind these are not changed. */
+ * behind these are not changed. That a sender has left is passed over, as the heads of frames are: whoever
+ * wants to know at which place of the order calls kioskbasil_hear_once, and kioskbasil_end says it of the whole. */
 static inline uint32_t kioskbasil_hear(kioskbasil_receiver *receiver, kioskbasil_item *items, size_t room, size_t *many) {
   if (!receiver || !items || !many) return KIOSKBASIL_NULL;
   return bus_c_hear(receiver, items, room, UINT64_MAX, many);
@@ -303,6 +322,8 @@ static inline const char *kioskbasil_text(uint32_t code) {
   case KIOSKBASIL_HEAD: return "head";
   case KIOSKBASIL_ITEM: return "item";
   case KIOSKBASIL_END: return "end";
+  case KIOSKBASIL_LEFT: return "left";
+  case KIOSKBASIL_LEAVE: return "leave";
   case KIOSKBASIL_BAD_SENDERS: return "a bus has 1 to 64 senders";
   case KIOSKBASIL_BAD_RECEIVERS: return "a bus has 1 to 8 receivers";
   case KIOSKBASIL_BAD_ROUNDS: return "a bus has 1 to 8 rounds";
@@ -313,9 +334,9 @@ static inline const char *kioskbasil_text(uint32_t code) {
   case KIOSKBASIL_PUT_BUSY: return "no message is taken: the batch is on its way";
   case KIOSKBASIL_PUT_TOO_LONG: return "no message is taken: more than 56 bytes";
   case KIOSKBASIL_PUT_BATCH_FULL: return "no message is taken: 16 messages wait";
-  case KIOSKBASIL_CLOSE_CLOSED: return "the close is not taken: closed";
-  case KIOSKBASIL_CLOSE_BUSY: return "the close is not taken: the batch is on its way";
-  case KIOSKBASIL_CLOSE_PENDING: return "the close is not taken: messages wait";
+  case KIOSKBASIL_CLOSE_CLOSED: return "no close or leave is taken: closed";
+  case KIOSKBASIL_CLOSE_BUSY: return "no close or leave is taken: the batch is on its way";
+  case KIOSKBASIL_CLOSE_PENDING: return "no close or leave is taken: messages wait";
   case KIOSKBASIL_IN_USE: return "other handles have the bus still";
   case KIOSKBASIL_PAGE_OUT: return "a sender has not given the page back";
   case KIOSKBASIL_EMPTY_HANDLE: return "the handle is empty";

@@ -27,8 +27,8 @@ static inline uint32_t next_word(uint64_t *seed) {
     return (uint32_t)(*seed >> 32);
 }
 
-/* Turns, until there is nothing more to do, or nothing more that can be done: KIOSKBASIL_DELIVERED, IDLE, FULL, CLOSED or
-   SPENT; or a refusal. Between turns that answer WAITING or BEHIND it backs off. */
+/* Turns, until there is nothing more to do, or nothing more that can be done: KIOSKBASIL_DELIVERED, LEFT, IDLE, FULL, CLOSED
+   or SPENT; or a refusal. Between turns that answer WAITING or BEHIND it backs off. */
 static inline uint32_t send_batch(kioskbasil_sender *sender, uint64_t *seed, kioskbasil_turn_answer *answer) {
     unsigned step = 0;
     for (;;) {
@@ -52,6 +52,12 @@ static inline uint32_t send_batch(kioskbasil_sender *sender, uint64_t *seed, kio
 /* Closes, and sends that: KIOSKBASIL_CLOSED where the order has ended then; else why not. */
 static inline uint32_t end_order(kioskbasil_sender *sender, uint64_t *seed) {
     uint32_t code = kioskbasil_close(sender);
+    return code == KIOSKBASIL_OK ? send_batch(sender, seed, NULL) : code;
+}
+
+/* Leaves, and sends that: KIOSKBASIL_LEFT where it has left then; else why not. */
+static inline uint32_t leave_order(kioskbasil_sender *sender, uint64_t *seed) {
+    uint32_t code = kioskbasil_leave(sender);
     return code == KIOSKBASIL_OK ? send_batch(sender, seed, NULL) : code;
 }
 

@@ -38,7 +38,7 @@ pub fn run<R: Threads + Clock + Sync>(
 ) -> anyhow::Result<Tale> {
     let mut dice = Pcg32::new(seed, 0);
     let is_long = seed % SHAPES % 32 == LONG_SHAPE;
-    let load = first_load(seed, hands, is_long, &mut dice);
+    let load = with_leavers(first_load(seed, hands, is_long, &mut dice), &mut dice);
     let is_scarce = !load.is_calm && !is_long && dice.next_u32() % 4 == 0;
     let shape = Shape {
         senders: load.senders,
@@ -67,8 +67,27 @@ fn first_load(seed: u64, hands: u64, is_long: bool, dice: &mut Pcg32) -> Load
         messages: if is_long { 1_500 } else { few },
         hands: hands.max(1),
         is_calm: dice.next_u32() % 4 == 0,
+        leavers: 0,
         batch: if is_long { 1 } else { MOST_BATCH },
         after: None,
+    }
+}
+
+/// The same with some senders that leave, in one sitting of two. In one in which nobody stops
+/// sender 0 stays, so that somebody closes.
+fn with_leavers(load: Load, dice: &mut Pcg32) -> Load
+    requires { load.senders ≤ MOST_SENDERS }
+    ensures { result.senders ≤ MOST_SENDERS }
+{
+    let most = if load.is_calm {
+        load.senders
+    } else {
+        load.senders.saturating_add(1)
+    };
+    let leavers = u64::from(dice.next_u32()) % most.max(1);
+    Load {
+        leavers: if dice.next_u32() % 2 == 0 { leavers } else { 0 },
+        ..load
     }
 }
 
@@ -119,7 +138,8 @@ fn sit_after<R: Threads + Clock + Sync>(
     let rows = if is_again {
         some_rows(dice)
     } else {
-        load.senders.saturating_mul(load.messages).saturating_add(1)
+        let frames = load.senders.saturating_mul(load.messages);
+        frames.saturating_add(load.leavers).saturating_add(1)
     };
     let shape = Shape {
         senders: load.senders,
@@ -137,7 +157,8 @@ fn sit_after<R: Threads + Clock + Sync>(
 }
 
 /// What is asked of the sitting after this page. If each tenure has a row of its own there is one
-/// for each message, and one for the end. In half of these sittings all are used.
+/// for each message and each sender that leaves, and one for the end. In half of these sittings all
+/// are used.
 fn next_load(load: Load, page: Page, is_again: bool, dice: &mut Pcg32) -> Load
     requires { load.senders ≤ MOST_SENDERS }
     ensures { result.senders ≤ MOST_SENDERS }
@@ -146,13 +167,13 @@ fn next_load(load: Load, page: Page, is_again: bool, dice: &mut Pcg32) -> Load
     let other = senders_of(u64::from(dice.next_u32()));
     let senders = if is_same { load.senders } else { other };
     let few = u64::from(dice.next_u32() % 32);
-    let most = (MOST_ROWS as u64 - 1) / senders.max(1);
     let is_single = !is_again && dice.next_u32() % 2 == 0;
+    let next = with_leavers(Load { senders, ..load }, dice);
+    let most = (MOST_ROWS as u64 - 1).saturating_sub(next.leavers) / senders.max(1);
     Load {
-        senders,
         messages: if is_again { few } else { few.min(most) },
         batch: if is_single { 1 } else { MOST_BATCH },
         after: Some(page),
-        ..load
+        ..next
     }
 }

@@ -20,6 +20,7 @@ pub struct Figures {
     behinds: u64,
     gave_up: u64,
     stuck: u64,
+    left: u64,
     items: u64,
     most_tenures: u64,
     chains: u64,
@@ -40,6 +41,7 @@ impl Figures {
             behinds: 0,
             gave_up: 0,
             stuck: 0,
+            left: 0,
             items: 0,
             most_tenures: 0,
             chains: 0,
@@ -61,6 +63,7 @@ impl Figures {
             behinds: tale.behinds,
             gave_up: tale.gave_up,
             stuck: tale.stuck,
+            left: tale.left,
             items: tale.items,
             most_tenures: tale.last_tenure,
             chains: u64::from(is_chain),
@@ -92,6 +95,7 @@ impl Figures {
             behinds: self.behinds.saturating_add(other.behinds),
             gave_up: self.gave_up.saturating_add(other.gave_up),
             stuck: self.stuck.saturating_add(other.stuck),
+            left: self.left.saturating_add(other.left),
             items: self.items.saturating_add(other.items),
             most_tenures: self.most_tenures.max(other.most_tenures),
             chains: self.chains.saturating_add(other.chains),
@@ -99,11 +103,11 @@ impl Figures {
         }
     }
 
-    /// Senders stopped while they pinned a tenure, a holder was behind one to the last, and a
-    /// sitting went on with the numbers of another.
+    /// Senders stopped while they pinned a tenure, a holder was behind one to the last, a sender
+    /// left, and a sitting went on with the numbers of another.
     pub fn shows_all(&self) -> bool {
         let has_behind = self.behinds > 0 && self.stuck > 0;
-        self.stops_while_pinned > 0 && has_behind && self.chains > 0
+        self.stops_while_pinned > 0 && has_behind && self.left > 0 && self.chains > 0
     }
 
     /// A line for each figure.
@@ -117,6 +121,7 @@ impl Figures {
         println!(rt; "  turns answered behind {}", self.behinds)?;
         println!(rt; "  workers that waited too long {}", self.gave_up)?;
         println!(rt; "  of these senders with the page {}", self.stuck)?;
+        println!(rt; "  senders that left {}", self.left)?;
         println!(rt; "  items {}", self.items)?;
         println!(rt; "  tenures of the longest log {}", self.most_tenures)?;
         println!(rt;

@@ -29,11 +29,12 @@ use std::time::Clock;
 /// Runs of a storm where no argument says how many.
 const MOST_RUNS: u64 = 10_000;
 
-/// In so many runs some holder is behind another sender to the last, and some are chains.
+/// In so many runs some holder is behind another sender to the last, some sender leaves, and some
+/// are chains.
 const MANY_RUNS: u64 = 256;
 
-/// Storms in one thread for each processor and in eight. On false a run has failed, or none of
-/// many had a holder behind another sender to the last or was a chain.
+/// Storms in one thread for each processor and in eight. On false a run has failed, or many did not
+/// show all of these.
 fn two_storms<R: Threads + Clock + Print + Sync>(
     rt: &R,
     alloc: Global,
@@ -51,7 +52,7 @@ fn two_storms<R: Threads + Clock + Print + Sync>(
 }
 
 /// Three runs in four threads, and nine in one, which are the same each time. On false a run has
-/// failed, or none of the nine had a holder behind another sender to the last or was a chain.
+/// failed, or the nine did not show all of these.
 fn few_runs<R: Threads + Clock + Print + Sync>(rt: &R, alloc: Global) -> anyhow::Result<bool> {
     sums_of(rt, alloc, 3, 1)?;
     let some = storm(rt, alloc, 3, 4)?;

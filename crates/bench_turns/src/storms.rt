@@ -1,4 +1,4 @@
-//! A sitting whose workers yield, sleep a random while, or stop for good.
+//! A sitting whose workers yield, sleep a random while, leave, or stop for good.
 
 ghost use Rattle.std.specs.Prelude.{◌≡◌, ◌≤◌, All, IfOk, OnOk};
 ghost use Rattle.bus_pageslot.specs.Seats.{table_of};
@@ -34,6 +34,9 @@ pub struct Load {
     pub hands: u64,
     /// Nobody stops, and there are words for all.
     pub is_calm: bool,
+    /// So many of the senders leave, the last ones: in a calm sitting once all their messages are
+    /// sent, and else at any moment.
+    pub leavers: u64,
     /// A sender puts no more at once.
     pub batch: u32,
     /// The page with whose numbers the sitting goes on.
@@ -46,6 +49,17 @@ impl Load {
         match self.after {
             Some(page) => page.next,
             None => [0; MOST_SENDERS],
+        }
+    }
+
+    /// With how many messages left this sender leaves; None where it stays.
+    fn leaves_at(&self, sender: SenderNo, dice: &mut Pcg32) -> Option<u64> {
+        if u64::from(sender.0).saturating_add(self.leavers) < self.senders {
+            None
+        } else if self.is_calm {
+            Some(0)
+        } else {
+            Some(u64::from(dice.next_u32()) % self.messages.saturating_add(1).max(1))
         }
     }
 }
@@ -72,11 +86,13 @@ pub struct Tale {
     pub gave_up: u64,
     /// How many of these are senders that were behind another to the last.
     pub stuck: u64,
+    /// How many senders have left.
+    pub left: u64,
     /// The page was out at its end.
     pub is_out: bool,
     /// Nobody was to stop.
     pub is_calm: bool,
-    /// Nobody was to stop, and all was sent, heard and audited.
+    /// Nobody was to stop, and all was sent and heard, and audited where nobody left.
     pub is_whole: bool,
     /// How many items its order has.
     pub items: u64,
@@ -96,6 +112,7 @@ impl Tale {
             behinds: self.behinds.saturating_add(next.behinds),
             gave_up: self.gave_up.saturating_add(next.gave_up),
             stuck: self.stuck.saturating_add(next.stuck),
+            left: self.left.saturating_add(next.left),
             is_out: self.is_out || next.is_out,
             is_calm: self.is_calm && next.is_calm,
             is_whole: self.is_whole && next.is_whole,
@@ -153,7 +170,13 @@ pub fn sit_on<B: OfBus + Send + Sync, R: Threads + Clock + Sync>(
     let mut tellers = Vec::with_capacity(alloc, senders.len())?;
     for send_worker in send_workers_of::<B>(alloc, senders)? {
         let patience = Patience::cast(dice, load.is_calm);
-        let teller = Teller::new(send_worker, load.messages, load.batch, patience);
+        let leaves_at = load.leaves_at(send_worker.sender.number(), dice);
+        let teller = Teller::new(
+            send_worker,
+            (load.messages, leaves_at),
+            load.batch,
+            patience,
+        );
         tellers.push(teller)?;
     }
     let after = load.after.as_ref();
@@ -285,15 +308,17 @@ fn settle<B: OfBus>(
     let words = first.words(alloc, &the)?;
     let read = read_log(alloc, words.as_slice(), load.senders)?;
     have_heard(&read, receive_workers.as_slice())?;
+    have_left(&read, tellers.as_slice())?;
     let nexts = nexts_of(&read, load)?;
     have_told(nexts, tellers.as_slice())?;
     have_waited(tellers.as_slice())?;
     let tale = tale_of(&read, &tellers, &receive_workers, load);
-    let left = if tale.is_whole {
+    let has_all = tale.is_whole && read.order.left.is_empty();
+    let left = if has_all {
         let Report { ended, .. } = end_and_audit(alloc, the, receive_workers, load)?;
         Some(ended)
     } else {
-        let is_cut = !load.is_calm || tale.gave_up > 0;
+        let is_cut = tale.is_whole || !load.is_calm || tale.gave_up > 0;
         ensure!(is_cut, "nobody stopped, and something is missing");
         end_with(the, receive_workers, tale.is_out)?
     };
@@ -323,6 +348,10 @@ fn page_of(
     ensure!(page.next == nexts, "the page has other numbers");
     let is_read = page.ended == read.order.ended;
     ensure!(is_read, "the page has another end");
+    for number in 0..MOST_SENDERS as u8 {
+        let is_told = page.left[usize::from(number)] == is_among(&read.order.left, number);
+        ensure!(is_told, "the page has others that have left");
+    }
     Ok(if page.ended { Some(page) } else { None })
 }
 
@@ -347,6 +376,7 @@ fn tale_of<B: OfBus>(
             .fold(0u64, |sum, teller| sum.saturating_add(teller.behinds)),
         gave_up: count(tellers, receive_workers, Rest::GaveUp),
         stuck: with_page.filter(|teller| teller.waited_too_long()).count() as u64,
+        left: tellers.iter().filter(|teller| teller.has_left).count() as u64,
         is_out: tellers.iter().any(|teller| teller.has_page),
         is_calm: load.is_calm,
         is_whole: load.is_calm && has_sent && read.order.ended,
@@ -380,13 +410,49 @@ fn have_heard<B: OfBus>(
         let items = receive_worker.items.as_slice();
         ensure!(receive_worker.is_sound, "an item given is not the next");
         ensure!(order.starts_with(items), "another order was given");
-        let is_all = items.len() == order.len() && receive_worker.heard.ended() == read.order.ended;
+        let left = receive_worker.left.as_slice();
+        let is_same = read.order.left.as_slice().starts_with(left);
+        ensure!(is_same, "others were said to have left");
+        let has_marks = left.len() == read.order.left.len();
+        let has_items = items.len() == order.len() && has_marks;
+        let is_all = has_items && receive_worker.heard.ended() == read.order.ended;
         let has_stopped = receive_worker.rest == Some(Rest::Stopped);
         let has_end = receive_worker.heard.ended();
         ensure!(is_all || has_stopped, "a receiver was not given all");
         ensure!(is_all || !has_end, "an end was given too early");
     }
     Ok(())
+}
+
+/// Who has left had asked to, and has one leave mark in the log, behind which it has no item. It was
+/// told so, unless it has the page.
+fn have_left<B: OfBus>(read: &LogRead, tellers: &[Teller<B>]) -> anyhow::Result<()> {
+    let left = read.order.left.as_slice();
+    for teller in tellers {
+        let number = teller.send_worker.sender.number();
+        let mut marks = left.iter().filter(|mark| mark.0 == number);
+        let mark = marks.next();
+        ensure!(marks.next().is_none(), "a sender has left twice");
+        ensure!(
+            mark.is_some() || !teller.has_left,
+            "a leave mark is missing"
+        );
+        let Some((_, behind)) = mark else { continue };
+        ensure!(teller.has_asked, "a sender has left unasked");
+        ensure!(
+            teller.has_left || teller.has_page,
+            "a sender left and was not told"
+        );
+        let later = read.order.items.iter().skip(*behind as usize);
+        let is_last = later.filter(|item| item.sender == number).next().is_none();
+        ensure!(is_last, "an item follows its sender's leave mark");
+    }
+    Ok(())
+}
+
+/// The sender of this number is among those who left.
+fn is_among(left: &[(SenderNo, u64)], number: u8) -> bool {
+    left.iter().any(|mark| mark.0 == SenderNo(number))
 }
 
 /// The number behind each sender's items in the log. They carry its numbers one after another, from
@@ -437,7 +503,7 @@ fn have_waited<B: OfBus>(tellers: &[Teller<B>]) -> anyhow::Result<()> {
         match teller.last {
             Some(Turn::Behind { sender, .. }) => {
                 ensure!(teller.has_page, "a sender without the page is behind");
-                ensure!(has_left(tellers, sender), "one that is done is waited for");
+                ensure!(drops_out(tellers, sender), "one that is done is waited for");
             }
             Some(Turn::Waiting) => ensure!(!teller.has_page, "one with the page waits for it"),
             _ => bail!("a sender that had something to do has waited too long"),
@@ -447,7 +513,7 @@ fn have_waited<B: OfBus>(tellers: &[Teller<B>]) -> anyhow::Result<()> {
 }
 
 /// The sender of this number stopped or gave up.
-fn has_left<B: OfBus>(tellers: &[Teller<B>], number: SenderNo) -> bool {
+fn drops_out<B: OfBus>(tellers: &[Teller<B>], number: SenderNo) -> bool {
     tellers
         .iter()
         .filter(|teller| teller.send_worker.sender.number() == number)

@@ -5,8 +5,9 @@ ghost use Rattle.std.specs.Prelude.{◌≡◌, All};
 
 use crate::send_workers::SendWorker;
 use bus_pageslot::OfBus;
-use bus_receiver::{Heard, Item, Page, RecvTurn, Turn};
+use bus_receiver::{Heard, Item, Page, RecvTurn, SenderNo, Turn};
 use bus_register::Kind;
+use bus_register::limits::MOST_SENDERS;
 use bus_run::buses::{Tap, TheBus};
 use rand_core::Rng;
 use rand_pcg::Pcg32;
@@ -130,17 +131,24 @@ pub struct Teller<B: OfBus> {
     pub last: Option<Turn>,
     /// So many turns were answered Behind.
     pub behinds: u64,
+    /// It asked to leave.
+    pub has_asked: bool,
+    /// It has left, by what it was answered.
+    pub has_left: bool,
     messages: u64,
+    /// It leaves once no more of its messages are left; None where it stays.
+    leaves_at: Option<u64>,
     /// It puts no more at once.
     batch: u32,
     patience: Patience,
 }
 
 impl<B: OfBus> Teller<B> {
-    /// A sender of so many messages, in batches of at most so many, that has not begun.
+    /// A sender of so many messages, in batches of at most so many, that has not begun. It leaves
+    /// once no more of them are left than the first number in `leaves_at`, if it leaves.
     pub fn new(
         send_worker: SendWorker<B>,
-        messages: u64,
+        (messages, leaves_at): (u64, Option<u64>),
         batch: u32,
         patience: Patience,
     ) -> Teller<B> {
@@ -152,7 +160,10 @@ impl<B: OfBus> Teller<B> {
             delivered,
             last: None,
             behinds: 0,
+            has_asked: false,
+            has_left: false,
             messages,
+            leaves_at,
             batch: batch.max(1),
             patience,
         }
@@ -180,13 +191,22 @@ impl<B: OfBus> Teller<B> {
             return false;
         }
         if self.send_worker.sender.pending() == 0 {
-            self.fill(dice);
+            self.go_on(dice);
         }
         let turn = self.send_worker.sender.turn(&the.bus, dice.next_u32());
         self.take_in(turn);
         let waits = matches!(turn, Turn::Waiting | Turn::Behind { .. });
         self.patience.note(waits);
         waits
+    }
+
+    /// Asks to leave where it is to, and else puts what it has.
+    fn go_on(&mut self, dice: &mut Pcg32) {
+        if self.leaves_at.is_some_and(|few| self.messages <= few) {
+            self.has_asked |= self.send_worker.sender.leave().is_ok();
+        } else {
+            self.fill(dice);
+        }
     }
 
     /// Puts one to a batch of the messages that are left.
@@ -206,6 +226,11 @@ impl<B: OfBus> Teller<B> {
             Turn::Delivered { last, .. } => {
                 self.has_page = false;
                 self.delivered = last.saturating_add(1);
+            }
+            Turn::Left { .. } => {
+                self.has_page = false;
+                self.has_left = true;
+                self.rest = Some(Rest::Done);
             }
             Turn::Full | Turn::Closed | Turn::Spent => {
                 self.has_page = false;
@@ -239,8 +264,10 @@ pub struct ReceiveWorker<B: OfBus> {
     pub tap: Tap,
     pub heard: Heard,
     pub items: Vec<Item>,
+    /// Who left, by what it was given, and after how many items.
+    pub left: Vec<(SenderNo, u64)>,
     pub rest: Option<Rest>,
-    /// Each item was the next of its sender, and there was room for it.
+    /// Each answer could follow those before it, and there was room for it.
     pub is_sound: bool,
     patience: Patience,
     of: PhantomData<B>,
@@ -265,6 +292,7 @@ impl<B: OfBus> ReceiveWorker<B> {
             tap,
             heard,
             items: Vec::with_capacity(alloc, MOST_ITEMS)?,
+            left: Vec::with_capacity(alloc, MOST_SENDERS)?,
             rest: None,
             is_sound: true,
             patience,
@@ -285,6 +313,10 @@ impl<B: OfBus> ReceiveWorker<B> {
         let is_idle = turn == RecvTurn::Empty;
         match turn {
             RecvTurn::Item(item) => self.is_sound &= self.items.push(item).is_ok(),
+            RecvTurn::Leave(sender) => {
+                let behind = self.items.len() as u64;
+                self.is_sound &= self.left.push((sender, behind)).is_ok();
+            }
             RecvTurn::End => self.rest = Some(Rest::Done),
             RecvTurn::Empty | RecvTurn::Going | RecvTurn::Head { .. } => {}
         }

@@ -10,8 +10,9 @@ use Rattle.bus_register.specs.Words.{register, SumFits}
 use Rattle.bus_register.specs.Proved.TableLaws.{some_or_none, here_not, get_set_same, get_set_other}
 use Rattle.bus_register.specs.Protocol.{Protocol}
 use Rattle.bus_batch.specs.Batches.{Pending, next_of, CanPut, CanClose}
-use Rattle.bus_batch.specs.declared.batches.Phase.TheVariants.{Closing}
+use Rattle.bus_batch.specs.declared.batches.Phase.TheVariants.{Marking}
 use Rattle.bus_batch.specs.declared.messages.Item.{Item}
+use Rattle.bus_batch.specs.declared.messages.Mark.{Mark}
 use Rattle.bus_batch.specs.Frames.{Frame, AreFrames, AreFramesFrom, Spells, frame_words, log_words, order_of}
 use Rattle.bus_batch.proofs.FrameLaws.{same_frame, same_log}
 use Rattle.bus_machine.specs.Proved.Cyclic.{OwnedCyclicMachine, LeadTo, last_of}
@@ -34,10 +35,10 @@ use Rattle.bus_tenure.specs.declared.turns.Turn.{Turn as Answered}
 use Rattle.bus_register.specs.Tables.{of_some}
 use Rattle.bus_world.specs.Bus.{IsLayout, Part, Sending, least_of, standing_of, stands_at}
 use Rattle.bus_world.proofs.TenuresLaws as tenures
-use Rattle.bus_world.specs.Headline.{Action, HasPut, HasClosed, IsPrefix, Promises, puts}
+use Rattle.bus_world.specs.Headline.{Action, HasPut, HasMarked, IsPrefix, Promises, puts}
 use Rattle.bus_world.specs.Log.{Knows, words_read_from}
 use Rattle.bus_world.specs.CyclicMachines.{CyclicMachine, CyclicTrails, CyclicReached, IsOnWord, yard_of, core_in, pin_in, participant_going, move_due, participant_moved, with_participant, ring_after, ring_trails, ring_reclaims, ring_actions, no_ring_trails}
-use Rattle.bus_world.specs.CyclicMachines.CyclicReached.{NewCyclic, TurnTaken, PutTaken, CloseTaken, RecvTaken, StopTaken}
+use Rattle.bus_world.specs.CyclicMachines.CyclicReached.{NewCyclic, TurnTaken, PutTaken, MarkTaken, RecvTaken, StopTaken}
 use Rattle.bus_world.specs.Tenures.Stage.{Open, Held}
 use Rattle.bus_world.specs.Trails.{step_action}
 use Rattle.bus_world.specs.Turning.{words_after, number_found, after_step}
@@ -375,8 +376,8 @@ module _ {E : Type 0} (X : Election E) (P : Protocol E (Unit {0}) ℕ) (bases : 
         abbrev with_message : List ℕ → Participant E
         with_message bytes = record v { core = record v.core { queue = record v.core.queue { messages = v.core.queue.messages ++ bytes ∷ [] } } }
 
-        abbrev with_close : Participant E
-        with_close = record v { core = record v.core { queue = record v.core.queue { phase = Closing } } }
+        abbrev with_mark : Mark → Participant E
+        with_mark mark = record v { core = record v.core { queue = record v.core.queue { phase = Marking mark } } }
 
         takes_message : (bytes : List ℕ) → CanPut (queue_seen v.core.queue v.pin) (length bytes) → All (λ byte. byte < 256) bytes → AcceptsIn (bus_again X bases x rows) (record { ring = b; trails = T }) p (with_message bytes) (HasPut (next_of (queue_seen v.core.queue v.pin)) bytes ∷ [])
         takes_message bytes can small = with_batch (with_message bytes) (HasPut (next_of (queue_seen v.core.queue v.pin)) bytes ∷ [])
@@ -384,10 +385,13 @@ module _ {E : Type 0} (X : Election E) (P : Protocol E (Unit {0}) ℕ) (bases : 
             (subst (λ t. CyclicReached X (with_participant b p (cond t (with_message bytes) v)) (record T { actions = actions_with p (cond t (HasPut (next_of v.core.queue) bytes ∷ []) []) T.actions })) (events.put_taken (queue_seen v.core.queue v.pin) (length bytes) can)
             (PutTaken b T p v bytes reached goes_here small)))
 
-        takes_close : CanClose (queue_seen v.core.queue v.pin) → AcceptsIn (bus_again X bases x rows) (record { ring = b; trails = T }) p with_close (HasClosed ∷ [])
-        takes_close can = with_batch with_close (HasClosed ∷ [])
-            (subst (λ t. CyclicReached X (with_participant b p (cond t with_close v)) (record T { actions = actions_with p (cond t (HasClosed ∷ []) []) T.actions })) (close_can (queue_seen v.core.queue v.pin) can)
-            (CloseTaken b T p v reached goes_here))
+        takes_mark : (mark : Mark) → CanClose (queue_seen v.core.queue v.pin)
+            → AcceptsIn (bus_again X bases x rows) (record { ring = b; trails = T }) p (with_mark mark) (HasMarked mark ∷ [])
+        takes_mark mark can = with_batch (with_mark mark) (HasMarked mark ∷ [])
+            (subst (λ t. CyclicReached X (with_participant b p (cond t (with_mark mark) v))
+            (record T { actions = actions_with p (cond t (HasMarked mark ∷ []) []) T.actions }))
+            (close_can (queue_seen v.core.queue v.pin) can)
+            (MarkTaken b T p v mark reached goes_here))
 
     has_log : HasLog (bus_again X bases x rows) (record { ring = b; trails = T })
     has_log = record { frames = k.frames; lawful = frames_are; words_are = log_here; fits = short }
@@ -452,7 +456,7 @@ module _ {E : Type 0} (X : Election E) (P : Protocol E (Unit {0}) ℕ) (bases : 
   nobody_did b T ok two same rows_are bases_are (NewCyclic w new) q past = refl
   nobody_did b T ok two same rows_are bases_are (TurnTaken w U s v word answer before there low _) q past = other_actions s _ U.actions q (λ e. no_participant w U ok two same rows_are bases_are before q past v (ap (slice_get w.participants) e ∙ there_shown _ _ v there)) ∙ nobody_did w U ok two same rows_are bases_are before q past
   nobody_did b T ok two same rows_are bases_are (PutTaken w U s v bytes before goes small) q past = other_actions s _ U.actions q (λ e. no_participant w U ok two same rows_are bases_are before q past v (ap (slice_get w.participants) e ∙ there_shown _ _ v goes)) ∙ nobody_did w U ok two same rows_are bases_are before q past
-  nobody_did b T ok two same rows_are bases_are (CloseTaken w U s v before goes) q past = other_actions s _ U.actions q (λ e. no_participant w U ok two same rows_are bases_are before q past v (ap (slice_get w.participants) e ∙ there_shown _ _ v goes)) ∙ nobody_did w U ok two same rows_are bases_are before q past
+  nobody_did b T ok two same rows_are bases_are (MarkTaken w U s v mark before goes) q past = other_actions s _ U.actions q (λ e. no_participant w U ok two same rows_are bases_are before q past v (ap (slice_get w.participants) e ∙ there_shown _ _ v goes)) ∙ nobody_did w U ok two same rows_are bases_are before q past
   nobody_did b T ok two same rows_are bases_are (RecvTaken w U r v next answer before at does) q past = nobody_did w U ok two same rows_are bases_are before q past
   nobody_did b T ok two same rows_are bases_are (StopTaken w U s v before _) q past = nobody_did w U ok two same rows_are bases_are before q past
 
@@ -477,7 +481,8 @@ module _ {E : Type 0} (X : Election E) (P : Protocol E (Unit {0}) ℕ) (bases : 
     senders = λ z p v h at. is_sender z.ring z.trails h.served h.rows_some h.layout h.rows_are h.bases_are h.reached p v at;
     nobody = λ z q h past. nobody_did z.ring z.trails h.served h.rows_some h.layout h.rows_are h.bases_are h.reached q past;
     message = λ z p v bytes h at can small. takes_message z.ring z.trails h.served h.rows_some h.layout h.rows_are h.bases_are h.reached p v at h.running h.alone bytes can small;
-    close = λ z p v h at can. takes_close z.ring z.trails h.served h.rows_some h.layout h.rows_are h.bases_are h.reached p v at h.running h.alone can;
+    marked = λ z p v mark h at can. takes_mark z.ring z.trails h.served h.rows_some h.layout h.rows_are h.bases_are h.reached p v at
+        h.running h.alone mark can;
     step = λ z p v word o h at op low. steps_in z h p v at word o op low;
     ends = λ z p v word o h at op home got. ends_due z.ring z.trails h.served h.rows_some h.layout h.rows_are h.bases_are h.reached p v at (due X v) refl word o op home got;
     fits = λ z p v word o h at op. sum_fits z.ring z.trails h.served h.rows_some h.layout h.rows_are h.bases_are h.reached p v at word o op;

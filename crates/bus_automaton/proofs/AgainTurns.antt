@@ -7,7 +7,8 @@ use Rattle.bus_register.specs.declared.registers.Op.TheVariants.{Load, Store, Ad
 use Rattle.bus_register.specs.declared.registers.SenderNo.{SenderNo}
 use Rattle.bus_register.specs.Protocol.{Protocol, Laws}
 use Rattle.bus_batch.specs.Batches.{Pending}
-use Rattle.bus_batch.specs.declared.batches.Phase.TheVariants.{Closing}
+use Rattle.bus_batch.specs.declared.batches.Phase.TheVariants.{Marking}
+use Rattle.bus_batch.specs.declared.messages.Mark.{Mark}
 use Rattle.bus_ownerbits.specs.OneOwner.{OneOwner}
 use Rattle.bus_presence.specs.Reclaimers.{Reclaiming, reclaim_op, reclaim_fed, behind_of}
 use Rattle.bus_presence.specs.Pins.{step_at, pin_fed}
@@ -57,13 +58,14 @@ seen_first q (Pinned t) = refl
 seen_first q (Unpinning t) = refl
 seen_first q (Invalidated t) = refl
 
-seen_closing : (q : Pending) (u : Pin) → queue_seen (record q { phase = Closing }) u ≡ record (queue_seen q u) { phase = Closing }
-seen_closing q Away = refl
-seen_closing q (Announcing t) = refl
-seen_closing q (Validating t) = refl
-seen_closing q (Pinned t) = refl
-seen_closing q (Unpinning t) = refl
-seen_closing q (Invalidated t) = refl
+seen_marking : (q : Pending) (mark : Mark) (u : Pin)
+    → queue_seen (record q { phase = Marking mark }) u ≡ record (queue_seen q u) { phase = Marking mark }
+seen_marking q mark Away = refl
+seen_marking q mark (Announcing t) = refl
+seen_marking q mark (Validating t) = refl
+seen_marking q mark (Pinned t) = refl
+seen_marking q mark (Unpinning t) = refl
+seen_marking q mark (Invalidated t) = refl
 
 -- ---- a store does not look at what it found
 
@@ -409,8 +411,8 @@ process_laws X P laws names = record {
   one_action = λ v got word. one_due X v (due X v) got word;
   message = λ v bytes. record { me = refl; table_layout = refl; holds = refl; awaits = refl };
   message_waits = λ v bytes. seen_message v.core.queue v.pin (v.core.queue.messages ++ bytes ∷ []) ∙ ap (λ ms. record (queue_seen v.core.queue v.pin) { messages = ms ++ bytes ∷ [] }) (sym (seen_messages v.core.queue v.pin));
-  close = λ v. record { me = refl; table_layout = refl; holds = refl; awaits = refl };
-  close_waits = λ v. seen_closing v.core.queue v.pin;
+  marked = λ v mark. record { me = refl; table_layout = refl; holds = refl; awaits = refl };
+  mark_waits = λ v mark. seen_marking v.core.queue mark v.pin;
   handed_op = λ v word. (alike X v (due X v) refl).0 word;
   handed_answer = λ v got word. (alike X v (due X v) refl).1 got word;
   handed_fed = λ v got word. (alike X v (due X v) refl).2 got word;

@@ -19,7 +19,7 @@ use Rattle.bus_tenure.specs.declared.pages.Page.{Page}
 use Rattle.bus_tenure.specs.declared.phases.Phase.{Phase}
 use Rattle.bus_tenure.specs.declared.phases.Phase.TheVariants as phase
 use Rattle.bus_world.specs.Bus.{IsLayout, Fits}
-use Rattle.bus_world.specs.Headline.{Action, HasPut, HasClosed, puts, Promises}
+use Rattle.bus_world.specs.Headline.{Action, HasPut, HasMarked, puts, Promises}
 use Rattle.bus_world.specs.Log.{Knows}
 use Rattle.bus_world.specs.Starting.{AreNewCores}
 use Rattle.bus_world.specs.Tenures.{Stage}
@@ -39,8 +39,8 @@ use Rattle.bus_automaton.specs.RowsApart.{is_taken, process_apart, bus_apart, ta
 use Rattle.bus_automaton.specs.SenderTrails.{sender_trail_of_actions}
 use Rattle.bus_automaton.proofs.ApartTurns.{ends, takes_it}
 use Rattle.bus_automaton.proofs.Counting.{first_below}
-use Rattle.bus_automaton.proofs.Histories.{Kept, kept, nobody_did, log_is, log_in_bus, Reaches, takes_message, takes_close, steps, sum_fits, taken}
-use Rattle.bus_automaton.proofs.Taking.{with_message, with_close}
+use Rattle.bus_automaton.proofs.Histories.{Kept, kept, nobody_did, log_is, log_in_bus, Reaches, takes_message, takes_mark, steps, sum_fits, taken}
+use Rattle.bus_automaton.proofs.Taking.{with_message, with_mark}
 
 -- between turns no page is under way
 pub not_taken : {E : Type 0} (base words : ℕ → ℕ) (frames : List Frame) (c : Core E) (ph : Phase E) → Fits base words frames c ph → is_taken ph ≡ false
@@ -64,12 +64,15 @@ silent_page actions heard order owners q = record {
   took_once = q.took_once;
   owned = q.owned;
   rising = q.rising;
-  delivered = λ n. record { later = order.items; items = refl; ended = λ e. absurd (let bad : false ≡ true = e in cc) };
+  delivered = λ n. record { later = order.entries; entries = refl; ended = λ e. absurd (let bad : false ≡ true = e in cc) };
   told = λ n. record { rest = owners; together = refl };
   faithful = q.faithful;
   numbered = q.numbered;
   silent = λ n j k a at l here. absurd (let bad : None ≡ Some recv.End = at in let wrong : ⊥ = cc in wrong);
   closed = q.closed;
+  gone = q.gone;
+  asked = q.asked;
+  whole = q.whole;
   framed = q.framed;
 }
 
@@ -191,7 +194,8 @@ automaton_laws X P bases x y = record {
   senders = λ z p c h old. is_sender X P bases x y z h p c old;
   nobody = λ z q h past. nobody_did X P bases x y h.served z.bus z.trails h.reached q past;
   message = λ z p c bytes h old can small. accepts_in X P bases x y z h p c old (with_message c bytes) (HasPut (next_of c.queue) bytes ∷ []) (takes_message X P bases x y h.served z.bus z.trails h.reached h.running p c old bytes can small);
-  close = λ z p c h old can. accepts_in X P bases x y z h p c old (with_close c) (HasClosed ∷ []) (takes_close X P bases x y h.served z.bus z.trails h.reached h.running p c old can);
+  marked = λ z p c mark h old can. accepts_in X P bases x y z h p c old (with_mark c mark) (HasMarked mark ∷ [])
+      (takes_mark X P bases x y h.served z.bus z.trails h.reached h.running p c old mark can);
   step = λ z p c word o h old due within. steps_in X P bases x y z h p c old word o due;
   ends = λ z p c word o h old due home got. ends X c (situation_of X c) refl word o due home got;
   fits = λ z p c word o h old due. sum_fits X P bases x y h.served z.bus z.trails h.reached h.running p c old word o due;

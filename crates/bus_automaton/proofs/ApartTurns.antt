@@ -7,7 +7,7 @@ use Rattle.bus_register.specs.declared.registers.Op.{Op}
 use Rattle.bus_register.specs.declared.registers.Op.TheVariants.{Load, Store}
 use Rattle.bus_register.specs.Protocol.{Protocol, Laws}
 use Rattle.bus_ownerbits.specs.OneOwner.{OneOwner}
-use Rattle.bus_tenure.specs.Core.{Core, Election, is_closed, is_closing, is_empty, frame_len, has_room}
+use Rattle.bus_tenure.specs.Core.{Core, Election, is_closed, is_marking, is_empty, frame_len, has_room}
 use Rattle.bus_tenure.specs.Situations.{Situation, IsClosed, IsIdle, IsSpent, LooksAtStage, Elects, TakesPage, AwaitsPage, StoresWord, StoresLength, GivesBack, HasHanded, Stays, Comes, Returns, situation_at, situation_of, line_of, kind_at, tenure_at, op_at, fed_at, answer_at, rest_at, chosen_at, waits, core_begun, core_elected, core_at_rest, answer_of_election, answer_of_return}
 use Rattle.bus_tenure.specs.declared.pages.Page.{Page}
 use Rattle.bus_tenure.specs.declared.phases.Reason.{Reason}
@@ -242,7 +242,7 @@ module _ {E : Type 0} (X : Election E) (d : Core E) where
   empty_hold false false false f t stored page = tt
 
   empty_at : (ph : Phase E) → Empty (situation_at X d ph)
-  empty_at phase.Resting = empty_rest (is_closed d.queue.phase) (is_empty d.queue.messages && cond (is_closing d.queue.phase) false true) (nat_le d.layout.rows d.least) (both_first (is_empty d.queue.messages) (cond (is_closing d.queue.phase) false true))
+  empty_at phase.Resting = empty_rest (is_closed d.queue.phase) (is_empty d.queue.messages && cond (is_marking d.queue.phase) false true) (nat_le d.layout.rows d.least) (both_first (is_empty d.queue.messages) (cond (is_marking d.queue.phase) false true))
   empty_at (phase.Electing t e) = empty_owner (is_some (X.owner e)) t e
   empty_at (phase.Taken t) = tt
   empty_at (phase.Holding t page stored published) = empty_hold published page.ended (has_room d page) (nat_lt stored (frame_len d)) t stored page
@@ -367,8 +367,8 @@ process_laws X P laws names = record {
   one_action = λ c got word. step_is_one (kind_at X c (situation_of X c)) (tenure_at X c (situation_of X c)) got (chosen_at X c (situation_of X c) got word) (answer_at X c (situation_of X c) got word);
   message = λ c bytes. record { me = refl; table_layout = refl; holds = refl; awaits = refl };
   message_waits = λ c bytes. refl;
-  close = λ c. record { me = refl; table_layout = refl; holds = refl; awaits = refl };
-  close_waits = λ c. refl;
+  marked = λ c mark. record { me = refl; table_layout = refl; holds = refl; awaits = refl };
+  mark_waits = λ c mark. refl;
   handed_op = λ c word. op_handed X c (situation_of X c) refl word;
   handed_answer = λ c got word. answer_handed X c (situation_of X c) refl got word;
   handed_fed = λ c got word. fed_handed X c (situation_of X c) refl got word;

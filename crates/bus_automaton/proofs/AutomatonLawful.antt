@@ -6,12 +6,13 @@ use Rattle.std.proofs.lemmas.Option.{same_Some}
 use Rattle.bus_batch.specs.Batches.{next_of, CanPut, CanClose}
 use Rattle.bus_batch.specs.Frames.{Frame, AreFrames, Spells, log_words, order_of}
 use Rattle.bus_batch.specs.declared.messages.Item.{Item}
+use Rattle.bus_batch.specs.declared.messages.Mark.{Mark}
 use Rattle.bus_deliverylog.specs.Orders.{of_sender}
 use Rattle.bus_register.specs.Words.{register, SumFits}
 use Rattle.bus_register.specs.declared.registers.Op.{Op}
 use Rattle.bus_tenure.specs.Situations.{PageMove, Stays, Comes, Returns}
 use Rattle.bus_tenure.specs.declared.pages.Page.{Page}
-use Rattle.bus_world.specs.Headline.{Action, HasPut, HasClosed, Promises, puts}
+use Rattle.bus_world.specs.Headline.{Action, HasPut, HasMarked, Promises, puts}
 use Rattle.bus_world.specs.Log.{Knows}
 use Rattle.bus_world.specs.Turning.{words_after, home_moved}
 use Rattle.bus_automaton.specs.Lawful.{AutomatonLaws, IsSender, ChangesTo, AcceptsIn, StepsIn, LogGrows, HasLog, IsPromisedOf, no_answers}
@@ -32,8 +33,8 @@ pub record Moves {D : Type 0} (Q : Process D) (B : Automaton D) (z : B.State) (p
 pub record LeadsOn {D : Type 0} (Q : Process D) (B : Automaton D) : Type 0 where
   pub message : (z : B.State) (p : ℕ) (d : D) (bytes : List ℕ) → B.IsReached z → B.sender z p ≡ Some d → CanPut (Q.queue d) (length bytes)
       → All (λ byte. byte < 256) bytes → AcceptsIn B z p (Q.with_message d bytes) (HasPut (next_of (Q.queue d)) bytes ∷ [])
-  pub close : (z : B.State) (p : ℕ) (d : D) → B.IsReached z → B.sender z p ≡ Some d → CanClose (Q.queue d)
-      → AcceptsIn B z p (Q.with_close d) (HasClosed ∷ [])
+  pub marked : (z : B.State) (p : ℕ) (d : D) (mark : Mark) → B.IsReached z → B.sender z p ≡ Some d → CanClose (Q.queue d)
+      → AcceptsIn B z p (Q.with_mark d mark) (HasMarked mark ∷ [])
   pub step : (z : B.State) (p : ℕ) (d : D) (word : ℕ) (o : Op) → B.IsReached z → B.sender z p ≡ Some d → Q.op d word ≡ Some o
       → register o < length (B.words z) → Moves Q B z p d word o
   pub first : (z : B.State) (p : ℕ) → B.IsReached z → (B.sender_trail z p).first ≡ base_in B p
@@ -194,7 +195,7 @@ module _ {C D : Type 0} (f : C → D) (P : Process C) (Q : Process D) (i : DoesA
     senders = λ z p d h at. is_sender z h p d at;
     nobody = λ z q h past. nobody z h q past;
     message = on.message;
-    close = on.close;
+    marked = on.marked;
     step = steps_on on;
     ends = λ z p d word o h at due home got. ends z h p d at word o due home got;
     fits = λ z p d word o h at due. fits z h p d at word o due;

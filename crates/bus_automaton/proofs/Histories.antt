@@ -10,19 +10,21 @@ use Rattle.bus_register.specs.Tables.{of_some}
 use Rattle.bus_register.specs.Proved.TableLaws.{some_or_none}
 use Rattle.bus_register.specs.Protocol.{Protocol}
 use Rattle.bus_batch.specs.Batches.{next_of, CanPut, CanClose}
+use Rattle.bus_batch.specs.declared.messages.Mark.{Mark}
+use Rattle.bus_batch.specs.declared.messages.Mark.TheVariants.{End, Leave}
 use Rattle.bus_batch.specs.Frames.{Frame, AreFrames, log_words}
 use Rattle.bus_tenure.specs.Core.{Core, Election, Layout}
 use Rattle.bus_tenure.specs.Situations.{Situation, IsClosed, IsIdle, IsSpent, LooksAtStage, Elects, TakesPage, AwaitsPage, StoresWord, StoresLength, GivesBack, HasHanded, situation_of, op_at, answer_at}
 use Rattle.bus_tenure.specs.declared.pages.Page.{Page}
 use Rattle.bus_tenure.specs.declared.phases.Phase.TheVariants as phase
 use Rattle.bus_world.specs.Bus.{IsLayout, least_of, standing_of, stands_at}
-use Rattle.bus_world.specs.Headline.{Action, HasPut, HasClosed}
+use Rattle.bus_world.specs.Headline.{Action, HasPut, HasMarked}
 use Rattle.bus_world.specs.Playing.{log_of, Answers, PutGives, CloseGives, TurnAnswers}
 use Rattle.bus_world.specs.Tenures.Standing.{Runs}
-use Rattle.bus_world.specs.Trails.{Trails, Reached, trails_grown, turn_actions, put_actions, close_actions, turning_actions, actions_of}
+use Rattle.bus_world.specs.Trails.{Trails, Reached, trails_grown, turn_actions, put_actions, mark_actions, turning_actions, actions_of}
 use Rattle.bus_world.specs.Trails.Reached.{New, Then}
 use Rattle.bus_world.specs.Turning.{number_found, words_after, home_after, core_after, side_after}
-use Rattle.bus_world.specs.World.{Bus, Event, Put, Close, Turn, Recv, Stop, going, no_stops, Happens, SenderDoes, with_sender, put_in, close_in, LawfulBus}
+use Rattle.bus_world.specs.World.{Bus, Event, Put, Ask, Turn, Recv, Stop, going, no_stops, Happens, SenderDoes, with_sender, put_in, mark_in, LawfulBus}
 use Rattle.bus_world.specs.declared.events.Answer.{Answer}
 use Rattle.bus_world.specs.declared.events.Answer.TheVariants as answer
 use Rattle.bus_world.proofs.EventTrails as events
@@ -34,7 +36,7 @@ use Rattle.bus_world.proofs.TurnTrails.{longer_by}
 use Rattle.bus_world.proofs.Tying.{Tied}
 use Rattle.bus_world.proofs.WorldLaws.{event_left}
 use Rattle.bus_automaton.proofs.Phases.{tells}
-use Rattle.bus_automaton.proofs.Taking.{with_message, with_close, put_taken, close_taken}
+use Rattle.bus_automaton.proofs.Taking.{with_message, with_mark, put_taken, mark_taken}
 
 -- the words of its log
 abbrev pub log_in_bus : {E : Type 0} → Layout → Bus E → List ℕ
@@ -76,9 +78,9 @@ module _ {E : Type 0} (X : Election E) (P : Protocol E (Unit {0}) ℕ) (bases : 
     | inl e ↦ absurd (subst (λ o. PutGives o (length bytes) told.0) (nobody_goes b s (ap (slice_get b.side.senders) (sym e) ∙ none)) told.1)
     | inr n ↦ ap (λ z. cond z (put_actions bytes a) []) (ne_eqb q s n)
   ]
-  adds_none b b' (Close s) a told q none = elim (cases_eq q s) [
+  adds_none b b' (Ask s mark) a told q none = elim (cases_eq q s) [
     | inl e ↦ absurd (subst (λ o. CloseGives o) (nobody_goes b s (ap (slice_get b.side.senders) (sym e) ∙ none)) told.0)
-    | inr n ↦ ap (λ z. cond z (close_actions a) []) (ne_eqb q s n)
+    | inr n ↦ ap (λ z. cond z (mark_actions a) []) (ne_eqb q s n)
   ]
   adds_none b b' (Turn s word) a told q none = elim (cases_eq q s) [
     | inl e ↦ absurd (subst (λ o. TurnAnswers X b.side.words o word a) (nobody_goes b s (ap (slice_get b.side.senders) (sym e) ∙ none)) told)
@@ -124,12 +126,20 @@ module _ {E : Type 0} (X : Election E) (P : Protocol E (Unit {0}) ℕ) (bases : 
           longer = longer_by p (HasPut (next_of c.queue) bytes ∷ []) T.actions;
         }
 
-    pub takes_close : CanClose c.queue → Reaches b T p (with_close c) (HasClosed ∷ [])
-    takes_close can =
+    pub takes_mark : (mark : Mark) → CanClose c.queue → Reaches b T p (with_mark c mark) (HasMarked mark ∷ [])
+    takes_mark End can =
         let gives : CloseGives (going b p) = subst (λ o. CloseGives o) (sym goes) can in record {
-          trails = trails_grown X b (Close p) answer.Closing T;
-          reached = Then b (with_core b p (with_close c)) T (Close p) answer.Closing r tt (does (with_close c) (λ c. close_in c) (close_taken c can), refl, refl) (gives, refl);
-          longer = longer_by p (HasClosed ∷ []) T.actions;
+          trails = trails_grown X b (Ask p End) answer.Closing T;
+          reached = Then b (with_core b p (with_mark c End)) T (Ask p End) answer.Closing r tt
+              (does (with_mark c End) (λ c. mark_in c End) (mark_taken c End can), refl, refl) (gives, refl);
+          longer = longer_by p (HasMarked End ∷ []) T.actions;
+        }
+    takes_mark Leave can =
+        let gives : CloseGives (going b p) = subst (λ o. CloseGives o) (sym goes) can in record {
+          trails = trails_grown X b (Ask p Leave) answer.Leaving T;
+          reached = Then b (with_core b p (with_mark c Leave)) T (Ask p Leave) answer.Leaving r tt
+              (does (with_mark c Leave) (λ c. mark_in c Leave) (mark_taken c Leave can), refl, refl) (gives, refl);
+          longer = longer_by p (HasMarked Leave ∷ []) T.actions;
         }
 
   -- ---- a step

@@ -5,6 +5,8 @@ use Rattle.std.proofs.lemmas.List.{append-nil}
 use Rattle.std.proofs.lemmas.Option.{slice_get_within}
 use Rattle.bus_register.specs.declared.limits.TheConstants.{MOST_SENDERS}
 use Rattle.bus_batch.specs.Batches.{Pending, next_of, CanPut, CanClose}
+use Rattle.bus_batch.specs.declared.messages.Mark.{Mark}
+use Rattle.bus_batch.specs.declared.messages.Mark.TheVariants.{End, Leave}
 use Rattle.bus_core.specs.Keeping.{queue_of}
 use Rattle.bus_core.specs.Senders.{Sender, Situation, Does, Announces, Validates, Unpins, Withdraws, Scans, Clears, situation}
 use Rattle.bus_core.specs.Table.{Line, line_now}
@@ -16,13 +18,13 @@ use Rattle.bus_register.specs.Words.{register}
 use Rattle.bus_register.specs.declared.registers.Op.{Op}
 use Rattle.bus_tenure.specs.Core.{Election, Layout}
 use Rattle.bus_tenure.specs.declared.turns.Turn.{Turn as Answered}
-use Rattle.bus_world.specs.Headline.{Action, HasPut, HasClosed}
+use Rattle.bus_world.specs.Headline.{Action, HasPut, HasMarked}
 use Rattle.bus_world.specs.Trails.{step_action}
 use Rattle.bus_world.specs.Turning.{words_after, number_found}
-use Rattle.bus_world.specs.World.{Put, Close, Turn, is_set, no_stops}
+use Rattle.bus_world.specs.World.{Put, Ask, Turn, is_set, no_stops}
 use Rattle.bus_world.specs.CyclicProtocols.{actions_with}
 use Rattle.bus_world.specs.declared.events.Answer.TheVariants as answer
-use Rattle.bus_machine.specs.Machine.{Machine, Trails, Reached, Then, Happens, IsOnWord, going, with_sender, put_in, close_in, machine_after, found, turn_answer, trails_grown, turn_trails, turn_grown, entered}
+use Rattle.bus_machine.specs.Machine.{Machine, Trails, Reached, Then, Happens, IsOnWord, going, with_sender, put_in, mark_in, machine_after, found, turn_answer, trails_grown, turn_trails, turn_grown, entered}
 use Rattle.bus_automaton.specs.Lawful.{AcceptsIn}
 use Rattle.bus_automaton.specs.SenderTrails.{with_sender_trail}
 use Rattle.bus_automaton.proofs.AutomatonLawful.{Moves, LeadsOn}
@@ -178,9 +180,13 @@ module _ {E : Type 0} (X : Election E) (x : Layout) (reuse : Option ℕ) (bases 
       (Then m (with_sender m p (put_in v bytes)) T (Put p bytes) (answer.Number (next_of v.core.queue)) h.reached
       (record { sender = v; goes = goes; are_bytes = small; can = can; answered = refl; after = refl })))
 
-  takes_close : CanClose (queue_of v.core.queue v.reuse) → AcceptsIn (bus_of X x reuse bases) z p (close_in v) (HasClosed ∷ [])
-  takes_close can = accepts (close_in v) (HasClosed ∷ [])
-      (Then m (with_sender m p (close_in v)) T (Close p) answer.Closing h.reached
+  takes_mark : (mark : Mark) → CanClose (queue_of v.core.queue v.reuse)
+      → AcceptsIn (bus_of X x reuse bases) z p (mark_in v mark) (HasMarked mark ∷ [])
+  takes_mark End can = accepts (mark_in v End) (HasMarked End ∷ [])
+      (Then m (with_sender m p (mark_in v End)) T (Ask p End) answer.Closing h.reached
+      (record { sender = v; goes = goes; can = can; answered = refl; after = refl }))
+  takes_mark Leave can = accepts (mark_in v Leave) (HasMarked Leave ∷ [])
+      (Then m (with_sender m p (mark_in v Leave)) T (Ask p Leave) answer.Leaving h.reached
       (record { sender = v; goes = goes; can = can; answered = refl; after = refl }))
 
   -- ---- its step
@@ -237,7 +243,7 @@ module _ {E : Type 0} (X : Election E) (x : Layout) (reuse : Option ℕ) (bases 
 pub leads_on : {E : Type 0} (X : Election E) (x : Layout) (reuse : Option ℕ) (bases : List ℕ) → LeadsOn (process_of X) (bus_of X x reuse bases)
 leads_on X x reuse bases = record {
   message = λ z p v bytes h at can small. takes_message X x reuse bases z h p v at bytes can small;
-  close = λ z p v h at can. takes_close X x reuse bases z h p v at can;
+  marked = λ z p v mark h at can. takes_mark X x reuse bases z h p v at mark can;
   step = λ z p v word o h at due low. moves X x reuse bases z h p v at word o due low;
   first = λ z p h. refl;
 }

@@ -2,7 +2,8 @@
 use Rattle.std.proofs.Common.{◌≡◌, ℕ, ◌+◌, ◌<◌, ◌≤◌, Option, Some, List, [], ◌∷◌, ◌++◌, length, is_some, true, inl, inr, sym, ◌∙◌, ap, subst}
 use Rattle.std.specs.Prelude.{◌⊎◌}
 use Rattle.bus_batch.specs.Batches.{Pending}
-use Rattle.bus_batch.specs.declared.batches.Phase.TheVariants.{Closing}
+use Rattle.bus_batch.specs.declared.batches.Phase.TheVariants.{Marking}
+use Rattle.bus_batch.specs.declared.messages.Mark.{Mark}
 use Rattle.bus_register.specs.declared.kinds.Kind.{Kind}
 use Rattle.bus_register.specs.declared.limits.TheConstants.{MOST_MESSAGES, NUMBERS}
 use Rattle.bus_register.specs.declared.registers.Op.{Op}
@@ -34,8 +35,8 @@ pub record LawsAt {C : Type 0} (P : Process C) (c : C) : Type 0 where
   pub message : (bytes : List ℕ) → Keeps P c (P.with_message c bytes)
   pub message_waits : (bytes : List ℕ)
       → P.queue (P.with_message c bytes) ≡ record (P.queue c) { messages = (P.queue c).messages ++ bytes ∷ [] }
-  pub close : Keeps P c (P.with_close c)
-  pub close_waits : P.queue (P.with_close c) ≡ record (P.queue c) { phase = Closing }
+  pub marked : (mark : Mark) → Keeps P c (P.with_mark c mark)
+  pub mark_waits : (mark : Mark) → P.queue (P.with_mark c mark) ≡ record (P.queue c) { phase = Marking mark }
   pub handed_op : (word : ℕ) → P.op (P.handed c) word ≡ P.op c word
   pub handed_answer : (got word : ℕ) → P.answer (P.handed c) got word ≡ P.answer c got word
   pub handed_fed : (got word : ℕ) → P.fed (P.handed c) got word ≡ P.fed c got word
@@ -55,8 +56,8 @@ lawful_at_each P h = record {
   one_action = λ c. (h c).one_action;
   message = λ c. (h c).message;
   message_waits = λ c. (h c).message_waits;
-  close = λ c. (h c).close;
-  close_waits = λ c. (h c).close_waits;
+  marked = λ c. (h c).marked;
+  mark_waits = λ c. (h c).mark_waits;
   handed_op = λ c. (h c).handed_op;
   handed_answer = λ c. (h c).handed_answer;
   handed_fed = λ c. (h c).handed_fed;
@@ -114,9 +115,9 @@ module _ {C D : Type 0} (f : C → D) (P : Process C) (Q : Process D) (i : DoesA
     message = λ bytes. keeps_as c (P.with_message c bytes) (Q.with_message (f c) bytes) (i.with_message c bytes) (L.message c bytes);
     message_waits = λ bytes. ap Q.queue (i.with_message c bytes) ∙ i.queue (P.with_message c bytes) ∙ L.message_waits c bytes
         ∙ ap (λ (q : Pending). record q { messages = q.messages ++ bytes ∷ [] }) (sym (i.queue c));
-    close = keeps_as c (P.with_close c) (Q.with_close (f c)) (i.with_close c) (L.close c);
-    close_waits = ap Q.queue (i.with_close c) ∙ i.queue (P.with_close c) ∙ L.close_waits c
-        ∙ ap (λ (q : Pending). record q { phase = Closing }) (sym (i.queue c));
+    marked = λ mark. keeps_as c (P.with_mark c mark) (Q.with_mark (f c) mark) (i.with_mark c mark) (L.marked c mark);
+    mark_waits = λ mark. ap Q.queue (i.with_mark c mark) ∙ i.queue (P.with_mark c mark) ∙ L.mark_waits c mark
+        ∙ ap (λ (q : Pending). record q { phase = Marking mark }) (sym (i.queue c));
     handed_op = λ word. ap (λ d. Q.op d word) (i.handed c) ∙ i.op (P.handed c) word ∙ L.handed_op c word ∙ sym (i.op c word);
     handed_answer = λ got word. ap (λ d. Q.answer d got word) (i.handed c) ∙ i.answer (P.handed c) got word ∙ L.handed_answer c got word
         ∙ sym (i.answer c got word);

@@ -30,7 +30,7 @@ process_at_none X = record {
   table_layout = λ c. refl;
   queue = λ c. refl;
   with_message = λ c bytes. refl;
-  with_close = λ c. refl;
+  with_mark = λ c mark. refl;
   waiting = λ c. refl;
   op = λ c word. ap (λ l. l.op word) (at_none X c);
   kind = λ c. ap (λ l. l.kind) (at_none X c);
@@ -121,7 +121,7 @@ module _ {E : Type 0} (X : Election E) where
     table_layout = λ v. refl;
     queue = λ v. refl;
     with_message = λ v bytes. refl;
-    with_close = λ v. refl;
+    with_mark = λ v mark. refl;
     waiting = λ v. refl;
     op = λ v word. (at_some X v).op word;
     kind = λ v. (at_some X v).kind;

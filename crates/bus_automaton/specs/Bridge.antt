@@ -1,5 +1,6 @@
 -- The one process does what that of its kind of rows does, and each state of the one automaton shows one of the automaton of that kind.
 use Rattle.std.specs.Prelude.{◌≡◌, ℕ, Option, Some, None, List, option_map}
+use Rattle.bus_batch.specs.declared.messages.Mark.{Mark}
 use Rattle.bus_tenure.specs.Core.{Election, Layout}
 use Rattle.bus_tenure.specs.declared.pages.Page.{Page}
 use Rattle.bus_core.specs.Senders.{apart, again}
@@ -15,7 +16,7 @@ pub record DoesAs {C D : Type 0} (f : C → D) (P : Process C) (Q : Process D) :
   pub table_layout : (c : C) → Q.table_layout (f c) ≡ P.table_layout c
   pub queue : (c : C) → Q.queue (f c) ≡ P.queue c
   pub with_message : (c : C) (bytes : List ℕ) → Q.with_message (f c) bytes ≡ f (P.with_message c bytes)
-  pub with_close : (c : C) → Q.with_close (f c) ≡ f (P.with_close c)
+  pub with_mark : (c : C) (mark : Mark) → Q.with_mark (f c) mark ≡ f (P.with_mark c mark)
   pub waiting : (c : C) → Q.waiting (f c) ≡ P.waiting c
   pub op : (c : C) (word : ℕ) → Q.op (f c) word ≡ P.op c word
   pub kind : (c : C) → Q.kind (f c) ≡ P.kind c

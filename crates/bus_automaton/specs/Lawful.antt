@@ -6,15 +6,16 @@ use Rattle.bus_register.specs.declared.registers.Op.TheVariants.{Store}
 use Rattle.bus_register.specs.declared.registers.SenderNo.{SenderNo}
 use Rattle.bus_register.specs.Words.{register, SumFits}
 use Rattle.bus_batch.specs.Batches.{next_of, CanPut, CanClose}
-use Rattle.bus_batch.specs.declared.batches.Phase.TheVariants.{Closing}
+use Rattle.bus_batch.specs.declared.batches.Phase.TheVariants.{Marking}
 use Rattle.bus_batch.specs.declared.messages.Item.{Item}
+use Rattle.bus_batch.specs.declared.messages.Mark.{Mark}
 use Rattle.bus_batch.specs.Frames.{Frame, AreFrames, Order, Spells, log_words, order_of}
 use Rattle.bus_deliverylog.specs.Orders.{of_sender}
 use Rattle.bus_deliverylog.specs.declared.receiving.RecvTurn.{RecvTurn}
 use Rattle.bus_tenure.specs.Situations.{Comes}
 use Rattle.bus_tenure.specs.declared.pages.Page.{Page}
 use Rattle.bus_tenure.specs.declared.turns.Turn.{Turn}
-use Rattle.bus_world.specs.Headline.{Action, HasPut, HasClosed, Stepped, puts, Promises}
+use Rattle.bus_world.specs.Headline.{Action, HasPut, HasMarked, Stepped, puts, Promises}
 use Rattle.bus_world.specs.Log.{Knows}
 use Rattle.bus_world.specs.Turning.{words_after, home_moved}
 use Rattle.bus_world.specs.World.{first_page}
@@ -58,8 +59,8 @@ pub record ProcessLaws {C : Type 0} (P : Process C) : Type 0 where
   -- what it accepts joins its batch
   pub message : (c : C) (bytes : List ℕ) → Keeps P c (P.with_message c bytes)
   pub message_waits : (c : C) (bytes : List ℕ) → P.queue (P.with_message c bytes) ≡ record (P.queue c) { messages = (P.queue c).messages ++ bytes ∷ [] }
-  pub close : (c : C) → Keeps P c (P.with_close c)
-  pub close_waits : (c : C) → P.queue (P.with_close c) ≡ record (P.queue c) { phase = Closing }
+  pub marked : (c : C) (mark : Mark) → Keeps P c (P.with_mark c mark)
+  pub mark_waits : (c : C) (mark : Mark) → P.queue (P.with_mark c mark) ≡ record (P.queue c) { phase = Marking mark }
   -- with the page out of its hands its turn is the same ..
   pub handed_op : (c : C) (word : ℕ) → P.op (P.handed c) word ≡ P.op c word
   pub handed_answer : (c : C) (got word : ℕ) → P.answer (P.handed c) got word ≡ P.answer c got word
@@ -139,7 +140,8 @@ pub record AutomatonLaws {C : Type 0} (P : Process C) (A : Automaton C) : Type 0
   pub nobody : (z : A.State) (q : ℕ) → A.IsReached z → A.table_layout.senders ≤ q → actions_at A z q ≡ []
   -- what may happen leads on
   pub message : (z : A.State) (p : ℕ) (c : C) (bytes : List ℕ) → A.IsReached z → A.sender z p ≡ Some c → CanPut (P.queue c) (length bytes) → All (λ byte. byte < 256) bytes → AcceptsIn A z p (P.with_message c bytes) (HasPut (next_of (P.queue c)) bytes ∷ [])
-  pub close : (z : A.State) (p : ℕ) (c : C) → A.IsReached z → A.sender z p ≡ Some c → CanClose (P.queue c) → AcceptsIn A z p (P.with_close c) (HasClosed ∷ [])
+  pub marked : (z : A.State) (p : ℕ) (c : C) (mark : Mark) → A.IsReached z → A.sender z p ≡ Some c → CanClose (P.queue c)
+      → AcceptsIn A z p (P.with_mark c mark) (HasMarked mark ∷ [])
   pub step : (z : A.State) (p : ℕ) (c : C) (word : ℕ) (o : Op) → A.IsReached z → A.sender z p ≡ Some c → P.op c word ≡ Some o → register o < A.table_layout.words → StepsIn P A z p c word o
   -- the parts of a turn are the whole turn
   pub ends : (z : A.State) (p : ℕ) (c : C) (word : ℕ) (o : Op) → A.IsReached z → A.sender z p ≡ Some c → P.op c word ≡ Some o → (home : Option Page) (got : ℕ) → EndsBy P c (P.fed c got word) (P.after c home got word) home (P.move c)

@@ -11,7 +11,7 @@ use Rattle.bus_core.specs.declared.reuses.Reuse.{Reuse}
 use Rattle.bus_world.specs.Trails.{step_action}
 use Rattle.bus_world.specs.Turning.{before_step, after_step, laying}
 use Rattle.bus_world.specs.Waiting.{waiting_at}
-use Rattle.bus_machine.specs.Machine.{log_place, moved, put_in, close_in}
+use Rattle.bus_machine.specs.Machine.{log_place, moved, put_in, mark_in}
 use Rattle.bus_automaton.specs.Processes.{TableLayout, Process}
 use Rattle.bus_automaton.specs.RowsApart.{is_holding, is_taken}
 use Rattle.bus_automaton.specs.SenderTrails.{SenderTrail, sender_trail_of_actions}
@@ -57,7 +57,7 @@ process_of X = record {
   table_layout = λ v. table_layout_by v.core.layout (rows_used v.reuse);
   queue = λ v. queue_of v.core.queue v.reuse;
   with_message = λ v bytes. put_in v bytes;
-  with_close = λ v. close_in v;
+  with_mark = λ v mark. mark_in v mark;
   waiting = λ v. waiting_at v.core v.core.phase;
   op = λ v word. (line_now X v).op word;
   kind = λ v. (line_now X v).kind;

@@ -5,6 +5,7 @@ use Rattle.bus_register.specs.declared.kinds.Kind.{Kind}
 use Rattle.bus_register.specs.declared.limits.TheConstants.{MOST_MESSAGES, NUMBERS}
 use Rattle.bus_register.specs.declared.registers.Op.{Op}
 use Rattle.bus_batch.specs.Batches.{Pending}
+use Rattle.bus_batch.specs.declared.messages.Mark.{Mark}
 use Rattle.bus_tenure.specs.Situations.{PageMove, Stays, Comes, Returns}
 use Rattle.bus_tenure.specs.declared.pages.Page.{Page}
 use Rattle.bus_tenure.specs.declared.turns.Turn.{Turn}
@@ -27,10 +28,10 @@ pub record Process (C : Type 0) : Type 0 where
   -- its number, and how large its bus is
   pub me : C → ℕ
   pub table_layout : C → TableLayout
-  -- its batch, as a put and a close find it; and it with this message more, or with an end mark that waits
+  -- its batch, as a put and a close find it; and it with this message more, or with this mark that waits
   pub queue : C → Pending
   pub with_message : C → (bytes : List ℕ) → C
-  pub with_close : C → C
+  pub with_mark : C → Mark → C
   -- the messages that it has accepted and that are in no frame of the log
   pub waiting : C → List (List ℕ)
   -- ---- its next turn

@@ -1,6 +1,6 @@
 -- A bus whose rows of words are used again, as threads go by it: its senders as processes, and the bus as an automaton.
 use Rattle.std.specs.Prelude.{◌≡◌, ℕ, ◌+◌, ◌≤◌, Some, None, List, [], ◌∷◌, ◌++◌, slice_get, slice_index}
-use Rattle.bus_batch.specs.declared.batches.Phase.TheVariants.{Closing}
+use Rattle.bus_batch.specs.declared.batches.Phase.TheVariants.{Marking}
 use Rattle.bus_core.specs.declared.limits.TheConstants.{LEAST_ROWS_AGAIN}
 use Rattle.bus_core.specs.Reusing.Participants.{Due, Pins, Reclaims, Goes, log_from, answer_going}
 use Rattle.bus_core.specs.Reusing.Turns.{Participant, due, op_next, kind_due, wants_due, rest_due, participant_after, answer_after, queue_seen}
@@ -37,7 +37,7 @@ process_again X = record {
   table_layout = λ v. table_layout_again v.core.layout v.rows;
   queue = λ v. queue_seen v.core.queue v.pin;
   with_message = λ v bytes. record v { core = record v.core { queue = record v.core.queue { messages = v.core.queue.messages ++ bytes ∷ [] } } };
-  with_close = λ v. record v { core = record v.core { queue = record v.core.queue { phase = Closing } } };
+  with_mark = λ v mark. record v { core = record v.core { queue = record v.core.queue { phase = Marking mark } } };
   waiting = λ v. waiting_at v.core v.core.phase;
   op = λ v word. op_next X v word;
   kind = λ v. kind_due X v (due X v);
@@ -60,7 +60,7 @@ pub record CyclicHistory (E : Type 0) : Type 0 where
   pub ring : CyclicMachine E
   pub trails : CyclicTrails
 
--- Its senders have taken turns, put messages and closed, in any order. It has no receivers of its own, and nobody has stopped.
+-- Its senders have taken turns, put messages, closed and left, in any order. It has no receivers of its own, and nobody has stopped.
 pub record IsCyclicHistory {E : Type 0} (X : Election E) (bases : List ℕ) (x : Layout) (rows : ℕ) (z : CyclicHistory E) : Type 0 where
   pub served : IsLayout x
   pub rows_some : LEAST_ROWS_AGAIN ≤ rows

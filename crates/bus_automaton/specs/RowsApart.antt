@@ -1,6 +1,6 @@
 -- A bus with a row of words for each tenure, as threads go by it: its senders as processes, and the bus as an automaton.
 use Rattle.std.specs.Prelude.{◌≡◌, ℕ, Bool, true, false, Some, None, List, [], ◌∷◌, ◌++◌, slice_get, slice_index}
-use Rattle.bus_batch.specs.declared.batches.Phase.TheVariants.{Closing}
+use Rattle.bus_batch.specs.declared.batches.Phase.TheVariants.{Marking}
 use Rattle.bus_tenure.specs.Core.{Core, Election, Layout, log_at, words_of}
 use Rattle.bus_tenure.specs.Seen.{turns_of}
 use Rattle.bus_tenure.specs.Situations.{situation_of, line_of, op_at, kind_at, wants_at, rest_at, fed_at, answer_at}
@@ -40,7 +40,7 @@ process_apart X = record {
   table_layout = λ c. table_layout_of c.layout;
   queue = λ c. c.queue;
   with_message = λ c bytes. record c { queue = record c.queue { messages = c.queue.messages ++ bytes ∷ [] } };
-  with_close = λ c. record c { queue = record c.queue { phase = Closing } };
+  with_mark = λ c mark. record c { queue = record c.queue { phase = Marking mark } };
   waiting = λ c. waiting_at c c.phase;
   op = λ c word. op_at X c (situation_of X c) word;
   kind = λ c. kind_at X c (situation_of X c);

@@ -47,8 +47,8 @@ impl Plan {
     }
 
     /// The same plan of the sitting that goes on after this page, of which nothing but its numbers
-    /// is carried over; with no page of a first sitting. Gives NotEnded where the page says that its
-    /// order has not ended, and Numbers where a sender's next number is 2^48 - 65,536 or more.
+    /// is carried over; with no page of a first sitting. Gives NotEnded where the page says that
+    /// its order has not ended, and Numbers where a sender's next number is 2^48 - 65,536 or more.
     pub fn after(self, page: Option<&Page>) -> Result<Plan, MakeFault>
         ensures plan { IfOk result (λ plan. plan ≡ plan_after self (option_copied page.entry)) }
         ensures bases { IfOk result (λ plan. AreBases plan.bases) }

@@ -4,6 +4,7 @@ use Rattle.std.specs.Prelude.{All, ◌⊎◌}
 use Rattle.std.proofs.lemmas.List.{length-append}
 use Rattle.std.proofs.lemmas.List.Elements.{All-nil, All-cons, All-head, All-tail, All-append}
 use Rattle.bus_register.specs.declared.limits.TheConstants.{MOST_MESSAGES, NUMBERS}
+use Rattle.bus_batch.specs.declared.messages.Mark.{Mark}
 use Rattle.bus_batch.specs.declared.batches.Phase.{Phase}
 use Rattle.bus_batch.specs.declared.batches.Phase.TheVariants as phase
 use Rattle.bus_batch.specs.Messages.{IsMessage, IsNumbered, numbered_messages}
@@ -20,12 +21,13 @@ numbered_each first (m ∷ ms) fits each =
     All-cons IsNumbered (record { number = first; message = m }) (numbered_messages (first + 1) ms)
     (omega arith, All-head IsMessage m ms each) (numbered_each (first + 1) ms (omega arith) (All-tail IsMessage m ms each))
 
-is_body : (p : Phase) (first : ℕ) (ms : List (List ℕ)) → (0 < length ms) ⊎ (p ≡ phase.Closing) → length ms ≤ 16 → first + length ms ≤ 2 ^ 48 → All IsMessage ms → IsBody (body_of p first ms)
+is_body : (p : Phase) (first : ℕ) (ms : List (List ℕ)) → (0 < length ms) ⊎ ((mark : Mark) × (p ≡ phase.Marking mark)) → length ms ≤ 16
+    → first + length ms ≤ 2 ^ 48 → All IsMessage ms → IsBody (body_of p first ms)
 is_body phase.Open first ms (inl some) few fits each = let b = length-numbered first ms in (omega arith, omega arith, numbered_each first ms fits each)
-is_body phase.Open first ms (inr e) few fits each = absurd (cc)
-is_body phase.Closing first ms h few fits each = tt
+is_body phase.Open first ms (inr e) few fits each = absurd (let x = e.1 in cc)
+is_body (phase.Marking mark) first ms h few fits each = tt
 is_body phase.Closed first ms (inl some) few fits each = let b = length-numbered first ms in (omega arith, omega arith, numbered_each first ms fits each)
-is_body phase.Closed first ms (inr e) few fits each = absurd (cc)
+is_body phase.Closed first ms (inr e) few fits each = absurd (let x = e.1 in cc)
 
 pub is_frame : (b : Pending) (senders tenure : ℕ) → HasSomething b → IsKept b → b.sender.0 < senders → tenure < 2 ^ 40 → IsFrame senders (frame_of b tenure)
 is_frame b senders tenure some kept owner below = record {
@@ -44,6 +46,6 @@ kept_put b m after kept is_open room numbers message is =
       few = omega arith;
       each = subst (λ z. All IsMessage z) (sym is) (All-append IsMessage b.messages (m ∷ []) kept.each (All-cons IsMessage m [] message (All-nil IsMessage)));
       numbers = omega arith;
-      alone = λ closing. absurd (cc);
+      alone = λ mark marking. absurd (cc);
       owner_bits = kept.owner_bits;
     }

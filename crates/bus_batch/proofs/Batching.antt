@@ -6,6 +6,7 @@ use Rattle.std.specs.List.{flat_map}
 use Rattle.std.proofs.lemmas.Bool.{cases_lt}
 use Rattle.std.proofs.lemmas.List.{append-nil, append_assoc, get_or-take, get_or-drop, get_or_append_left, get_or-append-add, get_or-replicate, ext_get_or, drop-drop}
 use Rattle.std.proofs.lemmas.Grind.{common_steps}
+use Rattle.bus_batch.specs.declared.messages.Mark.{Mark}
 use Rattle.bus_batch.specs.declared.batches.Phase.{Phase}
 use Rattle.bus_batch.specs.declared.batches.Phase.TheVariants as phase
 use Rattle.bus_batch.specs.Messages.{Numbered, numbered_messages}
@@ -15,12 +16,13 @@ use Rattle.bus_batch.proofs.WordLaws.{words_least}
 use Rattle.bus_batch.proofs.BatchLaws.{length-numbered}
 use Rattle.bus_batch.proofs.Bytes.{padded_len}
 
-pub body_least : (p : Phase) (first : ℕ) (ms : List (List ℕ)) → (0 < length ms) ⊎ (p ≡ phase.Closing) → 1 ≤ length (body_words (body_of p first ms))
+pub body_least : (p : Phase) (first : ℕ) (ms : List (List ℕ)) → (0 < length ms) ⊎ ((mark : Mark) × (p ≡ phase.Marking mark))
+    → 1 ≤ length (body_words (body_of p first ms))
 body_least phase.Open first ms (inl some) = let a = words_least (numbered_messages first ms) in let b = length-numbered first ms in omega arith
-body_least phase.Open first ms (inr e) = absurd (cc)
-body_least phase.Closing first ms h = omega arith
+body_least phase.Open first ms (inr e) = absurd (let x = e.1 in cc)
+body_least (phase.Marking mark) first ms h = omega arith
 body_least phase.Closed first ms (inl some) = let a = words_least (numbered_messages first ms) in let b = length-numbered first ms in omega arith
-body_least phase.Closed first ms (inr e) = absurd (cc)
+body_least phase.Closed first ms (inr e) = absurd (let x = e.1 in cc)
 
 -- ---- data words
 

@@ -1,6 +1,6 @@
 -- A word of a message's bytes.
 use Rattle.std.proofs.Common.{◌≡◌, ℕ, zero, suc, ◌+◌, ◌-◌, ◌*◌, ◌/◌, ◌^◌, ◌<◌, ◌≤◌, min, List, ◌∷◌, ◌++◌, length, get_or, take, drop, replicate, arith, refl, sym, ap, ◌∙◌, subst, inl, inr, append_assoc}
-use Rattle.std.specs.Prelude.{All, Option, Some, None}
+use Rattle.std.specs.Prelude.{All, Bool, Option, Some, None}
 use Rattle.std.specs.Int.{w64, to_be_bytes, from_be_bytes, bytes_high_first, byte_at}
 use Rattle.std.proofs.lemmas.Nat.{mod_below, be_bytes_8, from_be_bytes-to_be_bytes_8}
 use Rattle.std.proofs.lemmas.Bool.{cases_lt}
@@ -87,18 +87,18 @@ refilled word k few none = ext_get_or 0 (take 8 (take k (to_be_bytes w64 word) +
 
 -- ---- what a word of bytes does
 
-module _ (senders least word : ℕ) (owner : SenderNo) (left room number len k : ℕ) (bytes : List ℕ) (fits : word < 2 ^ 64)
+module _ (senders least word : ℕ) (gone : List Bool) (owner : SenderNo) (left room number len k : ℕ) (bytes : List ℕ) (fits : word < 2 ^ 64)
     (unfinished : length bytes < len) (within : data_len (len - length bytes) ≤ left) (fillable : left ≤ data_len (len - length bytes) + 8 * room) (few : room < 16)
     (k_is : k ≡ min (len - length bytes) 8) where
   -- what a word is that may come
-  bytes_of : {rest : List ℕ} {pieces : List (Option Piece)} → (c : Completes senders least owner left room number len bytes (word ∷ rest) pieces) → to_be_bytes w64 word ≡ take 8 (c.more ++ replicate 8 0)
+  bytes_of : {rest : List ℕ} {pieces : List (Option Piece)} → (c : Completes senders least gone owner left room number len bytes (word ∷ rest) pieces) → to_be_bytes w64 word ≡ take 8 (c.more ++ replicate 8 0)
   bytes_of {rest} c = data_bytes c.more word c.each (let e : word ∷ rest ≡ data_word c.more ∷ (words_of_bytes c.n (drop 8 c.more) ++ c.rest_after) = c.words_are in cc)
 
-  more_len : {rest : List ℕ} {pieces : List (Option Piece)} → (c : Completes senders least owner left room number len bytes rest pieces) → length c.more ≡ len - length bytes
+  more_len : {rest : List ℕ} {pieces : List (Option Piece)} → (c : Completes senders least gone owner left room number len bytes rest pieces) → length c.more ≡ len - length bytes
   more_len c = let e = c.together in omega arith
 
   -- a byte is set that fills the last word
-  pub refuses_padding : (All (λ b. b ≡ 0) (drop k (to_be_bytes w64 word)) → ⊥) → Refuses (record { senders = senders; least = least; place = place.Data owner left room number len; bytes = bytes }) word
+  pub refuses_padding : (All (λ b. b ≡ 0) (drop k (to_be_bytes w64 word)) → ⊥) → Refuses (record { senders = senders; least = least; left = gone; place = place.Data owner left room number len; bytes = bytes }) word
   refuses_padding set rest pieces c = set (subst (λ z. All (λ b. b ≡ 0) (drop k z)) (sym (bytes_of c)) (rest_zero c.more k (k_is ∙ ap (λ z. min z 8) (sym (more_len c)))))
 
   module _ (none : All (λ b. b ≡ 0) (drop k (to_be_bytes w64 word))) where
@@ -108,15 +108,15 @@ module _ (senders least word : ℕ) (owner : SenderNo) (left room number len k :
     took_small : All (λ b. b < 256) (take k (to_be_bytes w64 word))
     took_small = All-take (λ b. b < 256) k (to_be_bytes w64 word) (spread_small word)
 
-    took_is : {rest : List ℕ} {pieces : List (Option Piece)} → (c : Completes senders least owner left room number len bytes (word ∷ rest) pieces) → take 8 c.more ≡ take k (to_be_bytes w64 word)
+    took_is : {rest : List ℕ} {pieces : List (Option Piece)} → (c : Completes senders least gone owner left room number len bytes (word ∷ rest) pieces) → take 8 c.more ≡ take k (to_be_bytes w64 word)
     took_is c = sym (ap (λ z. take k z) (bytes_of c) ∙ taken c.more k (k_is ∙ ap (λ z. min z 8) (sym (more_len c))))
 
     -- the message is whole
     module _ (p : Place) (bytes' : List ℕ) (whole : length bytes + k ≡ len) (after : IsAfter owner (left - 1) room p) where
-      whole_leads : (rest : List ℕ) (pieces : List (Option Piece)) → Awaits (record { senders = senders; least = least; place = p; bytes = bytes' }) rest pieces
-          → Completes senders least owner left room number len bytes (word ∷ rest) (Some (piece.Item (record { sender = owner; number = number; message = bytes ++ take k (to_be_bytes w64 word) })) ∷ pieces)
+      whole_leads : (rest : List ℕ) (pieces : List (Option Piece)) → Awaits (record { senders = senders; least = least; left = gone; place = p; bytes = bytes' }) rest pieces
+          → Completes senders least gone owner left room number len bytes (word ∷ rest) (Some (piece.Item (record { sender = owner; number = number; message = bytes ++ take k (to_be_bytes w64 word) })) ∷ pieces)
       whole_leads rest pieces a =
-          let f = after_leads senders least owner (left - 1) room p bytes' after few rest pieces a in
+          let f = after_leads senders least gone owner (left - 1) room p bytes' after few rest pieces a in
           let size = took_len in
           record {
             more = take k (to_be_bytes w64 word);
@@ -132,8 +132,8 @@ module _ (senders least word : ℕ) (owner : SenderNo) (left room number len k :
             pieces_are = refl;
           }
 
-      whole_covers : (rest : List ℕ) (pieces : List (Option Piece)) → Completes senders least owner left room number len bytes (word ∷ rest) pieces
-          → (further : List (Option Piece)) × (pieces ≡ Some (piece.Item (record { sender = owner; number = number; message = bytes ++ take k (to_be_bytes w64 word) })) ∷ further) × Awaits (record { senders = senders; least = least; place = p; bytes = bytes' }) rest further
+      whole_covers : (rest : List ℕ) (pieces : List (Option Piece)) → Completes senders least gone owner left room number len bytes (word ∷ rest) pieces
+          → (further : List (Option Piece)) × (pieces ≡ Some (piece.Item (record { sender = owner; number = number; message = bytes ++ take k (to_be_bytes w64 word) })) ∷ further) × Awaits (record { senders = senders; least = least; left = gone; place = p; bytes = bytes' }) rest further
       whole_covers rest pieces c =
           let size = more_len c in
           let n_is = c.n_is in
@@ -144,11 +144,11 @@ module _ (senders least word : ℕ) (owner : SenderNo) (left room number len k :
           let gives : pieces ≡ Some (piece.Item (record { sender = owner; number = number; message = bytes ++ take k (to_be_bytes w64 word) })) ∷ c.pieces_after =
           c.pieces_are ∙ ap (λ z. item_pieces z (record { sender = owner; number = number; message = bytes ++ c.more }) ++ c.pieces_after) n_zero
           ∙ ap (λ z. Some (piece.Item (record { sender = owner; number = number; message = bytes ++ z })) ∷ c.pieces_after) more_is in
-          let fills : Fills senders least owner (left - 1) room c.rest_after c.pieces_after = subst (λ z. Fills senders least owner (left - suc z) room c.rest_after c.pieces_after) n_zero c.fills in
-          (c.pieces_after, gives, after_covers senders least owner (left - 1) room p bytes' after rest c.pieces_after (subst (λ z. Fills senders least owner (left - 1) room z c.pieces_after) (sym rest_is) fills))
+          let fills : Fills senders least gone owner (left - 1) room c.rest_after c.pieces_after = subst (λ z. Fills senders least gone owner (left - suc z) room c.rest_after c.pieces_after) n_zero c.fills in
+          (c.pieces_after, gives, after_covers senders least gone owner (left - 1) room p bytes' after rest c.pieces_after (subst (λ z. Fills senders least gone owner (left - 1) room z c.pieces_after) (sym rest_is) fills))
 
-      pub takes_last : Takes (record { senders = senders; least = least; place = place.Data owner left room number len; bytes = bytes }) word (Some (piece.Item (record { sender = owner; number = number; message = bytes ++ take k (to_be_bytes w64 word) }))) (record { senders = senders; least = least; place = p; bytes = bytes' })
-      takes_last = record { leads = whole_leads; covers = whole_covers; begins = after_begins senders least owner (left - 1) room p bytes' after (omega arith) }
+      pub takes_last : Takes (record { senders = senders; least = least; left = gone; place = place.Data owner left room number len; bytes = bytes }) word (Some (piece.Item (record { sender = owner; number = number; message = bytes ++ take k (to_be_bytes w64 word) }))) (record { senders = senders; least = least; left = gone; place = p; bytes = bytes' })
+      takes_last = record { leads = whole_leads; covers = whole_covers; begins = after_begins senders least gone owner (left - 1) room p bytes' after (omega arith) }
 
     -- more bytes are to come
     module _ (unwhole : length bytes + k < len) where
@@ -158,8 +158,8 @@ module _ (senders least word : ℕ) (owner : SenderNo) (left room number len k :
       took_all : take k (to_be_bytes w64 word) ≡ to_be_bytes w64 word
       took_all = take_all k (to_be_bytes w64 word) (let e = spread_len word in let e' = eight in omega arith)
 
-      part_leads : (rest : List ℕ) (pieces : List (Option Piece)) → Completes senders least owner (left - 1) room number len (bytes ++ take k (to_be_bytes w64 word)) rest pieces
-          → Completes senders least owner left room number len bytes (word ∷ rest) (None ∷ pieces)
+      part_leads : (rest : List ℕ) (pieces : List (Option Piece)) → Completes senders least gone owner (left - 1) room number len (bytes ++ take k (to_be_bytes w64 word)) rest pieces
+          → Completes senders least gone owner left room number len bytes (word ∷ rest) (None ∷ pieces)
       part_leads rest pieces c =
           let size = took_len in
           let is_eight = eight in
@@ -179,14 +179,14 @@ module _ (senders least word : ℕ) (owner : SenderNo) (left room number len k :
             n_is = omega arith;
             rest_after = c.rest_after;
             pieces_after = c.pieces_after;
-            fills = let e : (left - 1) - suc c.n ≡ left - suc (suc c.n) = omega arith in subst (λ z. Fills senders least owner z room c.rest_after c.pieces_after) e c.fills;
+            fills = let e : (left - 1) - suc c.n ≡ left - suc (suc c.n) = omega arith in subst (λ z. Fills senders least gone owner z room c.rest_after c.pieces_after) e c.fills;
             within = omega arith;
             words_are = ap (λ z. word ∷ z) c.words_are ∙ ap (λ z. word ∷ (words_of_bytes (suc c.n) z ++ c.rest_after)) (sym behind) ∙ ap (λ z. z ∷ (words_of_bytes (suc c.n) (drop 8 (take k (to_be_bytes w64 word) ++ c.more)) ++ c.rest_after)) spelt;
             pieces_are = ap (λ z. None ∷ z) c.pieces_are ∙ ap (λ z. None ∷ (item_pieces c.n (record { sender = owner; number = number; message = z }) ++ c.pieces_after)) (append_assoc bytes (take k (to_be_bytes w64 word)) c.more);
           }
 
-      part_covers : (rest : List ℕ) (pieces : List (Option Piece)) → Completes senders least owner left room number len bytes (word ∷ rest) pieces
-          → (further : List (Option Piece)) × (pieces ≡ None ∷ further) × Completes senders least owner (left - 1) room number len (bytes ++ take k (to_be_bytes w64 word)) rest further
+      part_covers : (rest : List ℕ) (pieces : List (Option Piece)) → Completes senders least gone owner left room number len bytes (word ∷ rest) pieces
+          → (further : List (Option Piece)) × (pieces ≡ None ∷ further) × Completes senders least gone owner (left - 1) room number len (bytes ++ take k (to_be_bytes w64 word)) rest further
       part_covers rest pieces c =
           let size = more_len c in
           let is_eight = eight in
@@ -214,18 +214,18 @@ module _ (senders least word : ℕ) (owner : SenderNo) (left room number len k :
               n_is = fewer;
               rest_after = c.rest_after;
               pieces_after = c.pieces_after;
-              fills = let e : left - suc c.n ≡ (left - 1) - suc (c.n - 1) = omega arith in subst (λ z. Fills senders least owner z room c.rest_after c.pieces_after) e c.fills;
+              fills = let e : left - suc c.n ≡ (left - 1) - suc (c.n - 1) = omega arith in subst (λ z. Fills senders least gone owner z room c.rest_after c.pieces_after) e c.fills;
               within = omega arith;
               words_are = rest_is ∙ ap (λ z. words_of_bytes z (drop 8 c.more) ++ c.rest_after) n_more;
               pieces_are = refl;
             },
           )
 
-      pub takes_part : Takes (record { senders = senders; least = least; place = place.Data owner left room number len; bytes = bytes }) word None (record { senders = senders; least = least; place = place.Data owner (left - 1) room number len; bytes = bytes ++ take k (to_be_bytes w64 word) })
+      pub takes_part : Takes (record { senders = senders; least = least; left = gone; place = place.Data owner left room number len; bytes = bytes }) word None (record { senders = senders; least = least; left = gone; place = place.Data owner (left - 1) room number len; bytes = bytes ++ take k (to_be_bytes w64 word) })
       takes_part = record {
         leads = part_leads;
         covers = part_covers;
         begins = let size = took_len in let is_eight = eight in
             let had : length (bytes ++ take k (to_be_bytes w64 word)) ≡ length bytes + length (take k (to_be_bytes w64 word)) = length-append bytes (take k (to_be_bytes w64 word)) in
-            completes_some senders least owner (left - 1) room number len (bytes ++ take k (to_be_bytes w64 word)) (omega arith) (omega arith) (omega arith);
+            completes_some senders least gone owner (left - 1) room number len (bytes ++ take k (to_be_bytes w64 word)) (omega arith) (omega arith) (omega arith);
       }

@@ -1,17 +1,20 @@
 -- From one step of a reader to what it has read.
 use Rattle.std.proofs.Common.{◌≡◌, ℕ, suc, ◌+◌, ◌≤◌, true, false, List, [], ◌∷◌, ◌++◌, length, arith, refl, sym, ap, ◌∙◌, subst, inl, inr, append_assoc, Ok, Err, Some, None}
-use Rattle.std.specs.Prelude.{Option, Result, IfOk, IfSome, IsErr, ◌↔◌, slice_get}
+use Rattle.std.proofs.lemmas.List.Elements.{All-nil, All-cons}
+use Rattle.std.specs.Prelude.{◌<◌, ◌^◌, zero, replicate, All, Bool, Option, Result, IfOk, IfSome, IsErr, ◌↔◌, slice_get}
 use Rattle.std.proofs.lemmas.List.{length-append}
 use Rattle.std.proofs.Common.{append-nil}
 use Rattle.std.specs.List.{flat_map}
 use Rattle.bus_register.specs.declared.registers.SenderNo.{SenderNo}
 use Rattle.bus_batch.specs.declared.messages.Item.{Item}
+use Rattle.bus_batch.specs.declared.messages.Mark.TheVariants as mark
 use Rattle.bus_batch.specs.declared.messages.Piece.{Piece}
 use Rattle.bus_batch.specs.declared.messages.Piece.TheVariants as piece
 use Rattle.bus_batch.specs.declared.readers.BadWord.{BadWord}
 use Rattle.bus_batch.specs.declared.readers.Place.{Place}
 use Rattle.bus_batch.specs.declared.readers.Place.TheVariants as place
-use Rattle.bus_batch.specs.Frames.{IsLog, BeginsLog, IsBadWord, GivesPiece, end_word, log_words, log_pieces, message_words, words_of_bytes}
+use Rattle.bus_batch.specs.Frames.{Frame, AreFramesFrom, IsLog, BeginsLog, IsBadWord, GivesPiece, end_word, mark_word, log_words}
+use Rattle.bus_batch.specs.Frames.{log_pieces, message_words, words_of_bytes}
 use Rattle.bus_batch.specs.Frames.{Spells, order_in, owners_in}
 use Rattle.bus_batch.proofs.PieceLaws.{order_in-log, owners_in-log}
 use Rattle.bus_batch.specs.Reading.{Reading, Awaits, HasRead, IsSound}
@@ -96,33 +99,58 @@ module _ (senders : ℕ) (words : List ℕ) (pieces : List (Option Piece)) (old 
   torn_log not log = let a = had.covers log.frames [] log.lawful (log.words_are ∙ sym (append-nil words)) in not a.0 a.1
 
 -- where a reader stands inside a frame, the words so far are no log, and elsewhere they are
-module _ (senders : ℕ) (words : List ℕ) (pieces : List (Option Piece)) (s l : ℕ) (q : Place) (bytes : List ℕ) (old : Reading) (is : reading s l q bytes ≡ old) (had : HasRead senders words pieces old) where
-  nothing_in_body : (owner : SenderNo) (left room : ℕ) → 1 ≤ left → (further : List (Option Piece)) → Awaits (reading s l (place.Body owner left room) bytes) [] further → ⊥
+module _ (senders : ℕ) (words : List ℕ) (pieces : List (Option Piece)) (s l : ℕ) (gone : List Bool) (q : Place) (bytes : List ℕ) (old : Reading) (is : reading s l gone q bytes ≡ old) (had : HasRead senders words pieces old) where
+  nothing_in_body : (owner : SenderNo) (left room : ℕ) → 1 ≤ left → (further : List (Option Piece)) → Awaits (reading s l gone (place.Body owner left room) bytes) [] further → ⊥
   nothing_in_body owner left room some further (inl f) =
       let e : 0 ≡ length (flat_map message_words f.messages) + length (log_words f.frames) = ap (λ (z : List ℕ). length z) f.words_are ∙ length-append (flat_map message_words f.messages) (log_words f.frames) in
       let long = f.long in absurd (omega arith)
-  nothing_in_body owner left room some further (inr e) = absurd (let x : [] ≡ end_word ∷ [] = e.2 in cc)
+  nothing_in_body owner left room some further (inr (inl e)) = absurd (let x : [] ≡ end_word ∷ [] = e.words_are in cc)
+  nothing_in_body owner left room some further (inr (inr e)) = absurd (let x : [] ≡ mark_word mark.Leave ∷ log_words e.frames = e.words_are in cc)
 
-  nothing_in_data : (owner : SenderNo) (left room number len : ℕ) (further : List (Option Piece)) → Awaits (reading s l (place.Data owner left room number len) bytes) [] further → ⊥
+  nothing_in_data : (owner : SenderNo) (left room number len : ℕ) (further : List (Option Piece)) → Awaits (reading s l gone (place.Data owner left room number len) bytes) [] further → ⊥
   nothing_in_data owner left room number len further c = absurd (let x : [] ≡ words_of_bytes (suc c.n) c.more ++ c.rest_after = c.words_are in cc)
 
   pub torn_in_body : (owner : SenderNo) (left room : ℕ) → q ≡ place.Body owner left room → IsSound q bytes → IsLog senders words → ⊥
   torn_in_body owner left room e sound =
-      torn_log senders words pieces old had (subst (λ r. (further : List (Option Piece)) → Awaits r [] further → ⊥) (ap (λ z. reading s l z bytes) (sym e) ∙ is)
+      torn_log senders words pieces old had (subst (λ r. (further : List (Option Piece)) → Awaits r [] further → ⊥) (ap (λ z. reading s l gone z bytes) (sym e) ∙ is)
       (nothing_in_body owner left room (let t = subst (λ z. IsSound z bytes) e sound in t.1)))
 
   pub torn_in_data : (owner : SenderNo) (left room number len : ℕ) → q ≡ place.Data owner left room number len → IsLog senders words → ⊥
   torn_in_data owner left room number len e =
-      torn_log senders words pieces old had (subst (λ r. (further : List (Option Piece)) → Awaits r [] further → ⊥) (ap (λ z. reading s l z bytes) (sym e) ∙ is) (nothing_in_data owner left room number len))
+      torn_log senders words pieces old had (subst (λ r. (further : List (Option Piece)) → Awaits r [] further → ⊥) (ap (λ z. reading s l gone z bytes) (sym e) ∙ is) (nothing_in_data owner left room number len))
 
   whole_at : (p : Place) → q ≡ p → ((owner : SenderNo) (left room : ℕ) → q ≡ place.Body owner left room → ⊥)
-      → ((owner : SenderNo) (left room number len : ℕ) → q ≡ place.Data owner left room number len → ⊥) → Awaits (reading s l p bytes) [] []
-  whole_at place.Between e body held = ([], tt, refl, refl)
+      → ((owner : SenderNo) (left room number len : ℕ) → q ≡ place.Data owner left room number len → ⊥) → Awaits (reading s l gone p bytes) [] []
+  whole_at place.Between e body held = ([], (tt, All-nil (λ f. slice_get gone f.owner.0 ≡ Some false)), refl, refl)
   whole_at (place.Body owner left room) e body held = absurd (body owner left room e)
   whole_at (place.Data owner left room number len) e body held = absurd (held owner left room number len e)
   whole_at place.Ended e body held = (refl, refl)
-  whole_at place.Bad e body held = let a = had.begins in subst (λ r. Awaits r a.0 a.1) (sym is ∙ ap (λ z. reading s l z bytes) e) a.2
+  whole_at place.Bad e body held = let a = had.begins in subst (λ r. Awaits r a.0 a.1) (sym is ∙ ap (λ z. reading s l gone z bytes) e) a.2
 
   pub whole_outside : ((owner : SenderNo) (left room : ℕ) → q ≡ place.Body owner left room → ⊥)
       → ((owner : SenderNo) (left room number len : ℕ) → q ≡ place.Data owner left room number len → ⊥) → Spells senders words (order_in pieces) (owners_in pieces)
   whole_outside body held = whole_log senders words pieces old had (subst (λ r. Awaits r [] []) is (whole_at q refl body held))
+
+-- ---- before the first word
+
+nobody_left : (n k : ℕ) → k < n → slice_get (replicate n false) k ≡ Some false
+nobody_left zero k below = absurd (omega arith)
+nobody_left (suc n) zero below = refl
+nobody_left (suc n) (suc k) below = nobody_left n k (omega arith)
+
+-- owners that a head can name have not left
+none_left : (senders least : ℕ) (gone : List Bool) (fs : List Frame) → gone ≡ replicate 256 false → AreFramesFrom senders least fs
+    → All (λ f. slice_get gone f.owner.0 ≡ Some false) fs
+none_left senders least gone [] is lawful = All-nil (λ f. slice_get gone f.owner.0 ≡ Some false)
+none_left senders least gone (f ∷ fs) is lawful =
+    All-cons (λ z. slice_get gone z.owner.0 ≡ Some false) f fs (ap (λ z. slice_get z f.owner.0) is ∙ nobody_left 256 f.owner.0 (let b = lawful.0.owner_bits in omega arith))
+    (none_left senders (f.tenure + 1) gone fs is lawful.3)
+
+pub reads_none : (senders : ℕ) (gone : List Bool) (bytes : List ℕ) → gone ≡ replicate 256 false
+    → HasRead senders [] [] (reading senders 0 gone place.Between bytes)
+reads_none senders gone bytes is = record {
+  many = refl;
+  leads = λ rest further a. (a.0, a.1.0, sym a.2, sym a.3);
+  covers = λ frames rest lawful words. (log_pieces frames, (frames, (lawful, none_left senders 0 gone frames is lawful), sym words, refl), refl);
+  begins = ([], [], ([], (tt, All-nil (λ f. slice_get gone f.owner.0 ≡ Some false)), refl, refl));
+}

@@ -1,7 +1,7 @@
 -- Messages that fill so many words of a frame: one may be added in front or taken off, and any words can be filled for which
 -- there is room.
 use Rattle.std.proofs.Common.{◌≡◌, ℕ, zero, suc, ◌+◌, ◌-◌, ◌*◌, ◌/◌, ◌<◌, ◌≤◌, List, [], ◌∷◌, ◌++◌, length, replicate, arith, refl, sym, ap, ◌∙◌, subst, append_assoc, inl, inr}
-use Rattle.std.specs.Prelude.{All, Option}
+use Rattle.std.specs.Prelude.{All, Bool, false, Option, Some, slice_get}
 use Rattle.std.specs.List.{flat_map}
 use Rattle.std.proofs.Math.ListN.{length-append, length-replicate}
 use Rattle.std.proofs.lemmas.Bool.{cases_lt}
@@ -9,8 +9,8 @@ use Rattle.std.proofs.lemmas.List.Elements.{All-cons, All-head, All-tail, All-re
 use Rattle.bus_register.specs.declared.registers.SenderNo.{SenderNo}
 use Rattle.bus_batch.specs.declared.messages.Piece.{Piece}
 use Rattle.bus_batch.specs.Messages.{Numbered, IsNumbered}
-use Rattle.bus_batch.specs.Frames.{Frame, AreFramesFrom, message_word, data_len, words_of_bytes, message_words, message_pieces, log_words, log_pieces}
-use Rattle.bus_batch.specs.Reading.{Fills}
+use Rattle.bus_batch.specs.Frames.{Frame, message_word, data_len, words_of_bytes, message_words, message_pieces, log_words, log_pieces}
+use Rattle.bus_batch.specs.Reading.{Fills, MayFollow}
 use Rattle.bus_batch.proofs.WordLaws.{length-message_words}
 
 -- a message of so many zero bytes
@@ -54,9 +54,9 @@ filling (suc room) left h = elim (cases_lt left 8) [
 ]
 
 -- something can follow
-pub fills_some : (senders least : ℕ) (owner : SenderNo) (left room : ℕ) → left ≤ 8 * room
-    → (rest : List ℕ) × (pieces : List (Option Piece)) × Fills senders least owner left room rest pieces
-fills_some senders least owner left room h =
+pub fills_some : (senders least : ℕ) (gone : List Bool) (owner : SenderNo) (left room : ℕ) → left ≤ 8 * room
+    → (rest : List ℕ) × (pieces : List (Option Piece)) × Fills senders least gone owner left room rest pieces
+fills_some senders least gone owner left room h =
     let f = filling room left h in (
       flat_map message_words f.messages ++ [],
       flat_map (message_pieces owner) f.messages ++ [],
@@ -66,14 +66,14 @@ fills_some senders least owner left room h =
         each = f.each;
         long = f.long;
         frames = [];
-        lawful = tt;
+        lawful = (tt, All-nil (λ f. slice_get gone f.owner.0 ≡ Some false));
         words_are = refl;
         pieces_are = refl;
       },
     )
 
 -- the first of the messages that fill words which begin with this one
-pub record First (senders least : ℕ) (owner : SenderNo) (left room word : ℕ) (rest : List ℕ) (pieces : List (Option Piece)) : Type 0 where
+pub record First (senders least : ℕ) (gone : List Bool) (owner : SenderNo) (left room word : ℕ) (rest : List ℕ) (pieces : List (Option Piece)) : Type 0 where
   pub message : Numbered
   pub lawful : IsNumbered message
   pub word_is : word ≡ message_word (length message.message) message.number
@@ -81,13 +81,13 @@ pub record First (senders least : ℕ) (owner : SenderNo) (left room word : ℕ)
   pub room_more : 1 ≤ room
   pub rest_after : List ℕ
   pub pieces_after : List (Option Piece)
-  pub fills : Fills senders least owner (left - (1 + data_len (length message.message))) (room - 1) rest_after pieces_after
+  pub fills : Fills senders least gone owner (left - (1 + data_len (length message.message))) (room - 1) rest_after pieces_after
   pub words_are : rest ≡ words_of_bytes (data_len (length message.message)) message.message ++ rest_after
   pub pieces_are : pieces ≡ message_pieces owner message ++ pieces_after
 
-module _ (senders least : ℕ) (owner : SenderNo) (left room word : ℕ) (rest : List ℕ) (pieces : List (Option Piece)) where
+module _ (senders least : ℕ) (gone : List Bool) (owner : SenderNo) (left room word : ℕ) (rest : List ℕ) (pieces : List (Option Piece)) where
   first_of : (ms : List Numbered) → 1 ≤ left → length ms ≤ room → All IsNumbered ms → length (flat_map message_words ms) ≡ left
-      → (frames : List Frame) → (f : Fills senders least owner left room (word ∷ rest) pieces) → f.messages ≡ ms → f.frames ≡ frames → First senders least owner left room word rest pieces
+      → (frames : List Frame) → (f : Fills senders least gone owner left room (word ∷ rest) pieces) → f.messages ≡ ms → f.frames ≡ frames → First senders least gone owner left room word rest pieces
   first_of [] some few each long frames f e e' = absurd (omega arith)
   first_of (m ∷ ms) some few each long frames f e e' =
       let words : word ∷ rest ≡ flat_map message_words (m ∷ ms) ++ log_words frames = f.words_are ∙ ap (λ z. flat_map message_words z ++ log_words f.frames) e ∙ ap (λ z. flat_map message_words (m ∷ ms) ++ log_words z) e' in
@@ -110,7 +110,7 @@ module _ (senders least : ℕ) (owner : SenderNo) (left room word : ℕ) (rest :
           each = All-tail IsNumbered m ms each;
           long = omega arith;
           frames = frames;
-          lawful = subst (λ z. AreFramesFrom senders least z) e' f.lawful;
+          lawful = subst (λ z. MayFollow senders least gone z) e' f.lawful;
           words_are = refl;
           pieces_are = refl;
         };
@@ -118,15 +118,15 @@ module _ (senders least : ℕ) (owner : SenderNo) (left room word : ℕ) (rest :
         pieces_are = gives ∙ append_assoc (message_pieces owner m) (flat_map (message_pieces owner) ms) (log_pieces frames);
       }
 
-  pub first : 1 ≤ left → Fills senders least owner left room (word ∷ rest) pieces → First senders least owner left room word rest pieces
+  pub first : 1 ≤ left → Fills senders least gone owner left room (word ∷ rest) pieces → First senders least gone owner left room word rest pieces
   first some f = first_of f.messages some f.few f.each f.long f.frames f refl refl
 
 -- one message more in front
-pub fills_more : (senders least : ℕ) (owner : SenderNo) (left room : ℕ) (m : Numbered) (rest : List ℕ) (pieces : List (Option Piece))
+pub fills_more : (senders least : ℕ) (gone : List Bool) (owner : SenderNo) (left room : ℕ) (m : Numbered) (rest : List ℕ) (pieces : List (Option Piece))
     → IsNumbered m → 1 + data_len (length m.message) ≤ left → 1 ≤ room
-    → Fills senders least owner (left - (1 + data_len (length m.message))) (room - 1) rest pieces
-    → Fills senders least owner left room (message_words m ++ rest) (message_pieces owner m ++ pieces)
-fills_more senders least owner left room m rest pieces lawful within some f = record {
+    → Fills senders least gone owner (left - (1 + data_len (length m.message))) (room - 1) rest pieces
+    → Fills senders least gone owner left room (message_words m ++ rest) (message_pieces owner m ++ pieces)
+fills_more senders least gone owner left room m rest pieces lawful within some f = record {
   messages = m ∷ f.messages;
   few = let e = f.few in omega arith;
   each = All-cons IsNumbered m f.messages lawful f.each;

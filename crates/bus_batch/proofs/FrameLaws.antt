@@ -1,18 +1,21 @@
 -- Words spell one log at most, and a frame's words begin no other frame's.
 use Rattle.std.proofs.Common.{◌≡◌, ℕ, zero, suc, ◌+◌, ◌*◌, ◌<◌, ◌≤◌, min, List, [], ◌∷◌, ◌++◌, length, take, drop, refl, sym, ap, ◌∙◌, subst, append-nil, arith, Bool, false}
-use Rattle.std.specs.Prelude.{All, map, ◌||◌}
+use Rattle.std.specs.Prelude.{◌≢◌, All, map, ◌||◌, ◌==◌}
 use Rattle.std.proofs.Math.Bool.{or-false, or_assoc}
-use Rattle.std.proofs.lemmas.Bool.{false≢true, or_parts}
-use Rattle.bus_batch.specs.declared.messages.Item.{Item}
+use Rattle.std.proofs.lemmas.Bool.{false≢true, or_parts, eq-eqb}
+use Rattle.bus_batch.specs.declared.messages.Mark.TheVariants as mark
 use Rattle.bus_batch.proofs.PieceLaws.{order_made}
-use Rattle.std.specs.List.{flat_map}
+use Rattle.std.specs.List.{flat_map, list_any}
+use Rattle.std.proofs.lemmas.List.Folds.{list_any-append}
 use Rattle.std.proofs.lemmas.List.{length-drop, map-append, nil_from_length, take-append-drop}
 use Rattle.std.proofs.lemmas.List.Concat.{flat_map-append}
-use Rattle.std.proofs.lemmas.List.Elements.{All-head, All-tail, All-drop}
+use Rattle.std.proofs.lemmas.List.Elements.{All-nil, All-cons, All-append, All-head, All-tail, All-drop}
 use Rattle.bus_register.specs.declared.registers.SenderNo.{SenderNo}
 use Rattle.bus_batch.specs.Messages.{Numbered, IsNumbered}
-use Rattle.bus_batch.specs.Frames.{Frame, Body, Messages, EndMark, IsBody, IsFrame, AreFramesFrom, Spells, Order, order_of, has_end, ends, items_of, tenure_and_owner, head_word, message_word, data_word, data_len, words_of_bytes, message_words, body_words, frame_words, log_words}
-use Rattle.bus_batch.proofs.WordLaws.{head_parts, message_parts, not_end, length-words_of_bytes}
+use Rattle.bus_batch.specs.Frames.{Frame, Body, Messages, Marked, Entry, IsBody, IsFrame, AreFramesFrom, Spells, Order, order_of, has_end}
+use Rattle.bus_batch.specs.Frames.{has_gone, is_leave_of, ends, entries_of, body_entries, mark_word, tenure_and_owner, head_word}
+use Rattle.bus_batch.specs.Frames.{message_word, data_word, data_len, words_of_bytes, message_words, body_words, frame_words, log_words}
+use Rattle.bus_batch.proofs.WordLaws.{head_parts, message_parts, not_mark, same_mark, length-words_of_bytes}
 use Rattle.bus_batch.proofs.Bytes.{data_bytes, taken}
 use Rattle.bus_batch.proofs.Heads.{body_most}
 
@@ -65,11 +68,11 @@ same_messages (m ∷ ms) (k ∷ ks) each each' e =
 
 same_body : (b d : Body) → IsBody b → IsBody d → body_words b ≡ body_words d → b ≡ d
 same_body (Messages ms) (Messages ks) lawful lawful' e = ap Messages (same_messages ms ks lawful.2 lawful'.2 e)
-same_body (Messages []) EndMark lawful lawful' e = absurd (omega arith)
-same_body (Messages (m ∷ ms)) EndMark lawful lawful' e = let n = All-head IsNumbered m ms lawful.2 in absurd (not_end (length m.message) m.number n.1.0 n.0 (cc))
-same_body EndMark (Messages []) lawful lawful' e = absurd (omega arith)
-same_body EndMark (Messages (m ∷ ms)) lawful lawful' e = let n = All-head IsNumbered m ms lawful'.2 in absurd (not_end (length m.message) m.number n.1.0 n.0 (cc))
-same_body EndMark EndMark lawful lawful' e = refl
+same_body (Messages []) (Marked k) lawful lawful' e = absurd (omega arith)
+same_body (Messages (m ∷ ms)) (Marked k) lawful lawful' e = let n = All-head IsNumbered m ms lawful.2 in absurd (not_mark k (length m.message) m.number n.1.0 n.0 (cc))
+same_body (Marked k) (Messages []) lawful lawful' e = absurd (omega arith)
+same_body (Marked k) (Messages (m ∷ ms)) lawful lawful' e = let n = All-head IsNumbered m ms lawful'.2 in absurd (not_mark k (length m.message) m.number n.1.0 n.0 (cc))
+same_body (Marked k) (Marked l) lawful lawful' e = let word : mark_word k ≡ mark_word l = cc in ap Marked (same_mark k l word)
 
 abbrev frame_as : ℕ → SenderNo → Body → Frame
 frame_as t o b = record { tenure = t; owner = o; body = b }
@@ -108,38 +111,51 @@ no_frame_begins_another senders f g rest lawful lawful' e = same_frame senders f
 
 -- ---- one frame more
 
-pub frames_more : (senders least : ℕ) (fs : List Frame) (f : Frame) → AreFramesFrom senders least fs → has_end fs ≡ false → IsFrame senders f → least ≤ f.tenure
+-- whose leave mark the entries of a frame hold
+leaver : (s : ℕ) (g : Frame) → g.body ≡ Marked mark.Leave → list_any (is_leave_of s) (entries_of g) ≡ false → g.owner.0 ≢ s
+leaver s g is none same =
+    let here : ((g.owner.0 == s) || false) ≡ false = sym (ap (λ b. list_any (is_leave_of s) (body_entries g.owner b)) is) ∙ none in
+    let differ : (g.owner.0 == s) ≡ false = (or_parts (g.owner.0 == s) false here).0 in
+    false≢true (sym differ ∙ eq-eqb g.owner.0 s same)
+
+-- a frame of a later tenure after frames that have no end mark and no leave mark of its owner
+pub frames_more : (senders least : ℕ) (fs : List Frame) (f : Frame) → AreFramesFrom senders least fs → has_end fs ≡ false
+    → has_gone f.owner.0 (order_of fs) ≡ false → IsFrame senders f → least ≤ f.tenure
     → All (λ p. p.0 < f.tenure) (map tenure_and_owner fs) → AreFramesFrom senders least (fs ++ f ∷ [])
-frames_more senders least [] f lawful unended frame late above = (frame, late, (λ _. refl), tt)
-frames_more senders least (g ∷ gs) f lawful unended frame late above =
+frames_more senders least [] f lawful unended stays frame late above = (frame, late, (λ _. refl), tt, (λ _. All-nil (λ g. g.owner ≢ f.owner)))
+frames_more senders least (g ∷ gs) f lawful unended stays frame late above =
     let open_both = or_parts (ends g.body) (has_end gs) unended in
+    let stay_both = or_parts (list_any (is_leave_of f.owner.0) (entries_of g)) (has_gone f.owner.0 (order_of gs)) (sym (list_any-append (is_leave_of f.owner.0) (entries_of g) (flat_map entries_of gs)) ∙ stays) in
     let first : g.tenure < f.tenure = All-head (λ p. p.0 < f.tenure) (tenure_and_owner g) (map tenure_and_owner gs) above in (
       lawful.0,
       lawful.1,
       (λ e. absurd (false≢true (sym open_both.0 ∙ ap ends e))),
-      frames_more senders (g.tenure + 1) gs f lawful.3 open_both.1 frame (omega arith) (All-tail (λ p. p.0 < f.tenure) (tenure_and_owner g) (map tenure_and_owner gs) above),
+      frames_more senders (g.tenure + 1) gs f lawful.3 open_both.1 stay_both.1 frame (omega arith) (All-tail (λ p. p.0 < f.tenure) (tenure_and_owner g) (map tenure_and_owner gs) above),
+      (λ e. All-append (λ k. k.owner ≢ g.owner) gs (f ∷ []) (lawful.4 e)
+          (All-cons (λ k. k.owner ≢ g.owner) f [] (λ same. leaver f.owner.0 g e stay_both.0 (ap (λ (o : SenderNo). o.0) (sym same))) (All-nil (λ k. k.owner ≢ g.owner)))),
     )
 
 has_end-append : (fs gs : List Frame) → has_end (fs ++ gs) ≡ (has_end fs || has_end gs)
 has_end-append [] gs = refl
 has_end-append (f ∷ fs) gs = ap (λ z. ends f.body || z) (has_end-append fs gs) ∙ sym (or_assoc (ends f.body) (has_end fs) (has_end gs))
 
--- words of a log that has not ended, and a frame of a later tenure after them, spell its items too
+-- words of a log that has not ended, and a frame of a later tenure and of one who has not left after them, spell its entries too
 pub spells_more : (senders : ℕ) (words : List ℕ) (order : Order) (owners : List (ℕ × SenderNo)) (f : Frame)
-    → Spells senders words order owners → order.ended ≡ false → IsFrame senders f → All (λ p. p.0 < f.tenure) owners
-    → Spells senders (words ++ frame_words f) (record { items = order.items ++ items_of f; ended = ends f.body }) (owners ++ tenure_and_owner f ∷ [])
-spells_more senders words order owners f s unended frame above =
+    → Spells senders words order owners → order.ended ≡ false → has_gone f.owner.0 order ≡ false → IsFrame senders f
+    → All (λ p. p.0 < f.tenure) owners
+    → Spells senders (words ++ frame_words f) (record { entries = order.entries ++ entries_of f; ended = ends f.body }) (owners ++ tenure_and_owner f ∷ [])
+spells_more senders words order owners f s unended stays frame above =
     let open_still : has_end s.frames ≡ false = ap (λ (z : Order). z.ended) s.order_is ∙ unended in
     record {
       frames = s.frames ++ f ∷ [];
-      lawful = frames_more senders 0 s.frames f s.lawful open_still frame (omega arith) (subst (λ z. All (λ p. p.0 < f.tenure) z) (sym s.owners_are) above);
+      lawful = frames_more senders 0 s.frames f s.lawful open_still (ap (λ (z : Order). has_gone f.owner.0 z) s.order_is ∙ stays) frame (omega arith) (subst (λ z. All (λ p. p.0 < f.tenure) z) (sym s.owners_are) above);
       words_are = flat_map-append frame_words s.frames (f ∷ []) ∙ ap (λ z. log_words s.frames ++ z) (append-nil (frame_words f)) ∙ ap (λ z. z ++ frame_words f) s.words_are;
       order_is =
-          ap (λ (z : List Item). order_made z (has_end (s.frames ++ f ∷ []))) (flat_map-append items_of s.frames (f ∷ []) ∙ ap (λ z. flat_map items_of s.frames ++ z) (append-nil (items_of f)) ∙ ap (λ (z : Order). z.items ++ items_of f) s.order_is)
-          ∙ ap (λ (z : Bool). order_made (order.items ++ items_of f) z) (has_end-append s.frames (f ∷ []) ∙ ap (λ z. z || has_end (f ∷ [])) open_still ∙ or-false (ends f.body));
+          ap (λ (z : List Entry). order_made z (has_end (s.frames ++ f ∷ []))) (flat_map-append entries_of s.frames (f ∷ []) ∙ ap (λ z. flat_map entries_of s.frames ++ z) (append-nil (entries_of f)) ∙ ap (λ (z : Order). z.entries ++ entries_of f) s.order_is)
+          ∙ ap (λ (z : Bool). order_made (order.entries ++ entries_of f) z) (has_end-append s.frames (f ∷ []) ∙ ap (λ z. z || has_end (f ∷ [])) open_still ∙ or-false (ends f.body));
       owners_are = map-append tenure_and_owner s.frames (f ∷ []) ∙ ap (λ z. z ++ tenure_and_owner f ∷ []) s.owners_are;
     }
 
 -- no words spell the empty order
-pub spells_none : (senders : ℕ) → Spells senders [] (record { items = []; ended = false }) []
+pub spells_none : (senders : ℕ) → Spells senders [] (record { entries = []; ended = false }) []
 spells_none senders = record { frames = []; lawful = tt; words_are = refl; order_is = refl; owners_are = refl }

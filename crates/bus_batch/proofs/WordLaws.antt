@@ -4,8 +4,10 @@ use Rattle.std.specs.Prelude.{All}
 use Rattle.std.specs.List.{flat_map}
 use Rattle.std.proofs.Math.ListN.{length-append}
 use Rattle.std.proofs.lemmas.List.Elements.{All-head, All-tail}
+use Rattle.bus_batch.specs.declared.messages.Mark.{Mark}
+use Rattle.bus_batch.specs.declared.messages.Mark.TheVariants as mark
 use Rattle.bus_batch.specs.Messages.{Numbered, IsNumbered}
-use Rattle.bus_batch.specs.Frames.{head_word, message_word, end_word, data_len, words_of_bytes, message_words}
+use Rattle.bus_batch.specs.Frames.{head_word, message_word, end_word, mark_word, data_len, words_of_bytes, message_words}
 
 -- the parts of a head and of a message word
 pub head_parts : (o c t o' c' t' : ℕ) → o < 2 ^ 8 → c < 2 ^ 14 → t < 2 ^ 40 → o' < 2 ^ 8 → c' < 2 ^ 14 → t' < 2 ^ 40
@@ -17,6 +19,20 @@ message_parts l n l' n' a b e = (omega arith, omega arith)
 
 pub not_end : (l n : ℕ) → l ≤ 56 → n < 2 ^ 48 → message_word l n ≡ end_word → ⊥
 not_end l n a b e = absurd (omega arith)
+
+pub not_mark : (mark : Mark) (l n : ℕ) → l ≤ 56 → n < 2 ^ 48 → message_word l n ≡ mark_word mark → ⊥
+not_mark mark.End l n a b e = absurd (omega arith)
+not_mark mark.Leave l n a b e = absurd (omega arith)
+
+-- the two marks have words of their own
+pub other_marks : (word : ℕ) → word ≡ end_word → word ≡ mark_word mark.Leave → ⊥
+other_marks word e e' = absurd (omega arith)
+
+pub same_mark : (a b : Mark) → mark_word a ≡ mark_word b → a ≡ b
+same_mark mark.End mark.End e = refl
+same_mark mark.End mark.Leave e = absurd (omega arith)
+same_mark mark.Leave mark.End e = absurd (omega arith)
+same_mark mark.Leave mark.Leave e = refl
 
 pub length-words_of_bytes : (n : ℕ) (bytes : List ℕ) → length (words_of_bytes n bytes) ≡ n
 length-words_of_bytes zero bytes = refl

@@ -3,13 +3,14 @@ use Rattle.std.specs.Prelude.{◌≡◌, ℕ, ◌+◌, ◌<◌, ◌≤◌, ◌^�
 use Rattle.bus_register.specs.declared.limits.TheConstants.{MOST_BYTES, MOST_MESSAGES, NUMBERS}
 use Rattle.bus_register.specs.declared.registers.SenderNo.{SenderNo}
 use Rattle.bus_batch.specs.declared.batches.Phase.{Phase}
-use Rattle.bus_batch.specs.declared.batches.Phase.TheVariants.{Open, Closing, Closed}
+use Rattle.bus_batch.specs.declared.batches.Phase.TheVariants.{Open, Marking, Closed}
+use Rattle.bus_batch.specs.declared.messages.Mark.{Mark}
 use Rattle.bus_batch.specs.declared.batches.PutFault.{PutFault}
 use Rattle.bus_batch.specs.declared.batches.PutFault.TheVariants as put
 use Rattle.bus_batch.specs.declared.batches.CloseFault.{CloseFault}
 use Rattle.bus_batch.specs.declared.batches.CloseFault.TheVariants as close
 use Rattle.bus_batch.specs.Messages.{IsMessage, numbered_messages}
-use Rattle.bus_batch.specs.Frames.{Frame, Body, Messages, EndMark}
+use Rattle.bus_batch.specs.Frames.{Frame, Body, Messages, Marked}
 
 -- a sender's batch: its messages, numbered from first on, whether it accepts more, and whether they are on their way
 pub record Pending : Type 0 where
@@ -23,18 +24,18 @@ pub record Pending : Type 0 where
 abbrev pub next_of : Pending → ℕ
 next_of b = b.first + length b.messages
 
--- a close was accepted, or the order is known to have ended
+-- a close or a leave was accepted, or the order is known to have ended
 abbrev pub IsShut : Pending → Type 0
-IsShut b = (b.phase ≡ Closing) ⊎ (b.phase ≡ Closed)
+IsShut b = ((mark : Mark) × (b.phase ≡ Marking mark)) ⊎ (b.phase ≡ Closed)
 
--- messages wait, or an end mark
+-- messages wait, or a mark
 abbrev pub HasSomething : Pending → Type 0
-HasSomething b = (0 < length b.messages) ⊎ (b.phase ≡ Closing)
+HasSomething b = (0 < length b.messages) ⊎ ((mark : Mark) × (b.phase ≡ Marking mark))
 
--- what its frame carries: the end mark where it is closing, else its messages
+-- what its frame carries: the mark that waits, else its messages
 abbrev pub body_of : Phase → ℕ → List (List ℕ) → Body
 body_of Open first messages = Messages (numbered_messages first messages)
-body_of Closing first messages = EndMark
+body_of (Marking mark) first messages = Marked mark
 body_of Closed first messages = Messages (numbered_messages first messages)
 
 -- its frame in a tenure
@@ -55,13 +56,13 @@ IsPutFault b len put.Busy = (b.phase ≡ Open) × (b.busy ≡ true)
 IsPutFault b len put.TooLong = (b.phase ≡ Open) × (b.busy ≡ false) × (MOST_BYTES < len)
 IsPutFault b len put.BatchFull = (b.phase ≡ Open) × (b.busy ≡ false) × (len ≤ MOST_BYTES) × (length b.messages ≡ MOST_MESSAGES)
 
--- a close is taken
+-- a close or a leave is taken
 pub record CanClose (b : Pending) : Type 0 where
   pub is_open : b.phase ≡ Open
   pub idle : b.busy ≡ false
   pub none : b.messages ≡ []
 
--- why a close is refused, likewise
+-- why a close or a leave is refused, likewise
 abbrev pub IsCloseFault : Pending → CloseFault → Type 0
 IsCloseFault b close.Closed = IsShut b
 IsCloseFault b close.Busy = (b.phase ≡ Open) × (b.busy ≡ true)
@@ -70,7 +71,7 @@ IsCloseFault b close.Pending = (b.phase ≡ Open) × (b.busy ≡ false) × (0 < 
 -- the phase once the contents are sent
 abbrev pub phase_sent : Phase → Phase
 phase_sent Open = Open
-phase_sent Closing = Closed
+phase_sent (Marking mark) = Closed
 phase_sent Closed = Closed
 
 -- what a batch always keeps
@@ -78,5 +79,5 @@ pub record IsKept (b : Pending) : Type 0 where
   pub few : length b.messages ≤ MOST_MESSAGES
   pub each : All IsMessage b.messages
   pub numbers : next_of b ≤ NUMBERS
-  pub alone : b.phase ≡ Closing → b.messages ≡ []
+  pub alone : (mark : Mark) → b.phase ≡ Marking mark → b.messages ≡ []
   pub owner_bits : b.sender.0 < 2 ^ 8

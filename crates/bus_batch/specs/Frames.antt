@@ -1,18 +1,23 @@
--- The log: a list of frames, each a head followed by messages or by an end mark, spelt as 64-bit words.
+-- The log: a list of frames, each a head followed by messages or by a mark, spelt as 64-bit words.
 --
 --   word       bits 63, 62   bits 61 to 54      bits 53 to 40           bits 39 to 0
 --   head       01            owner              count                   tenure
 --   message    10            length, 0 to 56    six zero bits, and a number of 48 bits
 --   end        11            zero
+--   leave      11            zero               zero                    1
 --
 -- The count is the number of words of the frame after its head. A message word is followed by its bytes, eight to a word
 -- from the high end on, the last word filled with zero bytes.
-use Rattle.std.specs.Prelude.{◌≡◌, ℕ, zero, suc, ◌+◌, ◌*◌, ◌/◌, ◌<◌, ◌≤◌, ◌^◌, List, [], ◌∷◌, ◌++◌, length, take, drop, replicate, map, flat_map, All, Bool, true, false, ◌||◌, Option, Some, None, slice_get}
+use Rattle.std.specs.Prelude.{◌≡◌, ◌≢◌, ℕ, zero, suc, ◌+◌, ◌*◌, ◌/◌, ◌<◌, ◌≤◌, ◌^◌, List, [], ◌∷◌, ◌++◌}
+use Rattle.std.specs.Prelude.{length, take, drop, replicate, map, flat_map, All, Bool, true, false, ◌||◌, ◌==◌, Option, Some, None}
+use Rattle.std.specs.Prelude.{slice_get}
 use Rattle.bus_register.specs.declared.limits.TheConstants.{MOST_MESSAGES, TENURES}
 use Rattle.std.specs.List.{list_any}
 use Rattle.std.specs.Int.{w64, from_be_bytes}
 use Rattle.bus_register.specs.declared.registers.SenderNo.{SenderNo}
 use Rattle.bus_batch.specs.declared.messages.Item.{Item}
+use Rattle.bus_batch.specs.declared.messages.Mark.{Mark}
+use Rattle.bus_batch.specs.declared.messages.Mark.TheVariants as mark
 use Rattle.bus_batch.specs.declared.messages.Piece.{Piece}
 use Rattle.bus_batch.specs.declared.messages.Piece.TheVariants as piece
 use Rattle.bus_batch.specs.Messages.{Numbered, IsNumbered}
@@ -20,7 +25,7 @@ use Rattle.bus_batch.specs.Messages.{Numbered, IsNumbered}
 -- what a frame carries
 pub data Body : Type 0 where
   Messages : List Numbered → Body
-  EndMark : Body
+  Marked : Mark → Body
 
 -- one tenure's frame
 pub record Frame : Type 0 where
@@ -38,6 +43,11 @@ message_word len number = 2 ^ 63 + len * 2 ^ 54 + number
 
 abbrev pub end_word : ℕ
 end_word = 2 ^ 63 + 2 ^ 62
+
+-- the end word says that the order has ended, and the one above it that the frame's owner has left
+abbrev pub mark_word : Mark → ℕ
+mark_word mark.End = end_word
+mark_word mark.Leave = end_word + 1
 
 -- the first eight bytes as a word, from the high end on, with zero bytes where there are fewer
 unfoldable pub data_word : List ℕ → ℕ
@@ -57,7 +67,7 @@ message_words m = message_word (length m.message) m.number ∷ words_of_bytes (d
 
 abbrev pub body_words : Body → List ℕ
 body_words (Messages messages) = flat_map message_words messages
-body_words EndMark = end_word ∷ []
+body_words (Marked mark) = mark_word mark ∷ []
 
 abbrev pub frame_words : Frame → List ℕ
 frame_words f = head_word f.owner.0 (length (body_words f.body)) f.tenure ∷ body_words f.body
@@ -67,10 +77,10 @@ log_words frames = flat_map frame_words frames
 
 -- ---- frames of a log
 
--- 1 to 16 messages, or an end mark
+-- 1 to 16 messages, or a mark
 abbrev pub IsBody : Body → Type 0
 IsBody (Messages messages) = (0 < length messages) × (length messages ≤ MOST_MESSAGES) × All IsNumbered messages
-IsBody EndMark = Unit {0}
+IsBody (Marked mark) = Unit {0}
 
 pub record IsFrame (senders : ℕ) (f : Frame) : Type 0 where
   pub tenure : f.tenure < TENURES
@@ -78,11 +88,12 @@ pub record IsFrame (senders : ℕ) (f : Frame) : Type 0 where
   pub owner_bits : f.owner.0 < 2 ^ 8
   pub body : IsBody f.body
 
--- frames whose tenures rise strictly, the first not below least; nothing follows an end mark
+-- frames whose tenures rise strictly, the first not below least; nothing follows an end mark, and no frame of its owner a leave mark
 abbrev pub AreFramesFrom : ℕ → ℕ → List Frame → Type 0
 AreFramesFrom senders least [] = Unit {0}
 AreFramesFrom senders least (f ∷ frames) =
-    IsFrame senders f × (least ≤ f.tenure) × (f.body ≡ EndMark → frames ≡ []) × AreFramesFrom senders (f.tenure + 1) frames
+    IsFrame senders f × (least ≤ f.tenure) × (f.body ≡ Marked mark.End → frames ≡ []) × AreFramesFrom senders (f.tenure + 1) frames
+    × (f.body ≡ Marked mark.Leave → All (λ g. g.owner ≢ f.owner) frames)
 
 -- the frames of a log of so many senders
 abbrev pub AreFrames : ℕ → List Frame → Type 0
@@ -90,10 +101,36 @@ AreFrames senders frames = AreFramesFrom senders 0 frames
 
 -- ---- what a log says
 
--- an order: items one after another, and whether it has ended
+-- an item, or that a sender has left
+pub data Entry : Type 0 where
+  Says : Item → Entry
+  Leaves : SenderNo → Entry
+
+-- an order: entries one after another, and whether it has ended
 pub record Order : Type 0 where
-  pub items : List Item
+  pub entries : List Entry
   pub ended : Bool
+
+abbrev pub item_in : Entry → List Item
+item_in (Says item) = item ∷ []
+item_in (Leaves s) = []
+
+-- the items, in their order
+abbrev pub items_in : List Entry → List Item
+items_in entries = flat_map item_in entries
+
+-- whose it is
+abbrev pub sender_of : Entry → SenderNo
+sender_of (Says item) = item.sender
+sender_of (Leaves s) = s
+
+abbrev pub is_leave_of : ℕ → Entry → Bool
+is_leave_of s (Says item) = false
+is_leave_of s (Leaves o) = o.0 == s
+
+-- the sender has left in the order
+abbrev pub has_gone : ℕ → Order → Bool
+has_gone s order = list_any (is_leave_of s) order.entries
 
 abbrev pub item_of : SenderNo → Numbered → Item
 item_of owner m = record { sender = owner; number = m.number; message = m.message }
@@ -101,22 +138,37 @@ item_of owner m = record { sender = owner; number = m.number; message = m.messag
 -- every item's sender is its frame's owner
 abbrev pub body_items : SenderNo → Body → List Item
 body_items owner (Messages messages) = map (item_of owner) messages
-body_items owner EndMark = []
+body_items owner (Marked mark) = []
 
 -- every item's sender is its frame's owner
 abbrev pub items_of : Frame → List Item
 items_of f = body_items f.owner f.body
 
+-- the items of a frame's messages, or that its owner has left
+abbrev pub body_entries : SenderNo → Body → List Entry
+body_entries owner (Messages messages) = map (λ m. Says (item_of owner m)) messages
+body_entries owner (Marked mark.End) = []
+body_entries owner (Marked mark.Leave) = Leaves owner ∷ []
+
+abbrev pub entries_of : Frame → List Entry
+entries_of f = body_entries f.owner f.body
+
 abbrev pub ends : Body → Bool
 ends (Messages messages) = false
-ends EndMark = true
+ends (Marked mark.End) = true
+ends (Marked mark.Leave) = false
+
+abbrev pub leaves : Body → Bool
+leaves (Messages messages) = false
+leaves (Marked mark.End) = false
+leaves (Marked mark.Leave) = true
 
 abbrev pub has_end : List Frame → Bool
 has_end [] = false
 has_end (f ∷ frames) = ends f.body || has_end frames
 
 abbrev pub order_of : List Frame → Order
-order_of frames = record { items = flat_map items_of frames; ended = has_end frames }
+order_of frames = record { entries = flat_map entries_of frames; ended = has_end frames }
 
 abbrev pub tenure_and_owner : Frame → ℕ × SenderNo
 tenure_and_owner f = (f.tenure, f.owner)
@@ -155,9 +207,10 @@ message_pieces owner m = item_pieces (data_len (length m.message)) (item_of owne
 
 abbrev pub body_pieces : SenderNo → Body → List (Option Piece)
 body_pieces owner (Messages messages) = flat_map (message_pieces owner) messages
-body_pieces owner EndMark = Some piece.End ∷ []
+body_pieces owner (Marked mark.End) = Some piece.End ∷ []
+body_pieces owner (Marked mark.Leave) = Some (piece.Leave owner) ∷ []
 
--- a head gives its tenure and owner, the last word of a message its item, an end word the end; other words give nothing
+-- a head gives its tenure and owner, the last word of a message its item, an end word the end, a leave word its owner; others nothing
 abbrev pub frame_pieces : Frame → List (Option Piece)
 frame_pieces f = Some (piece.Head f.tenure f.owner) ∷ body_pieces f.owner f.body
 
@@ -170,27 +223,30 @@ GivesPiece senders words word found = (frames : List Frame) (rest : List ℕ) �
 
 -- ---- what pieces say together
 
-abbrev pub piece_items : Option Piece → List Item
-piece_items None = []
-piece_items (Some (piece.Head tenure owner)) = []
-piece_items (Some (piece.Item item)) = item ∷ []
-piece_items (Some piece.End) = []
+abbrev pub piece_entries : Option Piece → List Entry
+piece_entries None = []
+piece_entries (Some (piece.Head tenure owner)) = []
+piece_entries (Some (piece.Item item)) = Says item ∷ []
+piece_entries (Some piece.End) = []
+piece_entries (Some (piece.Leave s)) = Leaves s ∷ []
 
 abbrev pub piece_owners : Option Piece → List (ℕ × SenderNo)
 piece_owners None = []
 piece_owners (Some (piece.Head tenure owner)) = (tenure, owner) ∷ []
 piece_owners (Some (piece.Item item)) = []
 piece_owners (Some piece.End) = []
+piece_owners (Some (piece.Leave s)) = []
 
 abbrev pub is_end : Option Piece → Bool
 is_end None = false
 is_end (Some (piece.Head tenure owner)) = false
 is_end (Some (piece.Item item)) = false
 is_end (Some piece.End) = true
+is_end (Some (piece.Leave s)) = false
 
--- the items that pieces gave, in their order, and whether the end was among them
+-- the items and leaves that pieces gave, in their order, and whether the end was among them
 abbrev pub order_in : List (Option Piece) → Order
-order_in pieces = record { items = flat_map piece_items pieces; ended = list_any is_end pieces }
+order_in pieces = record { entries = flat_map piece_entries pieces; ended = list_any is_end pieces }
 
 -- the tenures and owners of the heads that pieces gave
 abbrev pub owners_in : List (Option Piece) → List (ℕ × SenderNo)

@@ -1,35 +1,45 @@
 -- Where a reader of frames stands.
-use Rattle.std.specs.Prelude.{◌≡◌, ℕ, suc, ◌+◌, ◌-◌, ◌*◌, ◌<◌, ◌≤◌, List, [], ◌∷◌, ◌++◌, length, flat_map, All, ◌⊎◌, Option, Some}
+use Rattle.std.specs.Prelude.{◌≡◌, ◌≢◌, ℕ, suc, ◌+◌, ◌-◌, ◌*◌, ◌<◌, ◌≤◌, List, [], ◌∷◌, ◌++◌, length, flat_map, All, ◌⊎◌, Option, Some}
+use Rattle.std.specs.Prelude.{Bool, false, slice_get}
 use Rattle.bus_register.specs.declared.limits.TheConstants.{MOST_MESSAGES, MOST_BYTES, MOST_MESSAGE_WORDS}
 use Rattle.bus_register.specs.declared.registers.SenderNo.{SenderNo}
+use Rattle.bus_batch.specs.declared.messages.Mark.TheVariants as mark
 use Rattle.bus_batch.specs.declared.messages.Piece.{Piece}
 use Rattle.bus_batch.specs.declared.messages.Piece.TheVariants as piece
 use Rattle.bus_batch.specs.declared.readers.Place.{Place}
 use Rattle.bus_batch.specs.declared.readers.Place.TheVariants.{Between, Body, Data, Ended, Bad}
 use Rattle.bus_batch.specs.Messages.{Numbered, IsNumbered}
-use Rattle.bus_batch.specs.Frames.{Frame, AreFrames, AreFramesFrom, data_len, words_of_bytes, message_words, message_pieces, item_pieces, end_word, log_words, log_pieces}
+use Rattle.bus_batch.specs.Frames.{Frame, AreFrames, AreFramesFrom, data_len, words_of_bytes, message_words, message_pieces, item_pieces}
+use Rattle.bus_batch.specs.Frames.{end_word, mark_word, log_words, log_pieces}
 
--- what a reader knows: how many senders there are, the least tenure that the next frame may have, its place in the log, and
--- the bytes that it has of an unfinished message
+-- what a reader knows: how many senders there are, the least tenure that the next frame may have, who has left, by number,
+-- its place in the log, and the bytes that it has of an unfinished message
 pub record Reading : Type 0 where
   pub senders : ℕ
   pub least : ℕ
+  pub left : List Bool
   pub place : Place
   pub bytes : List ℕ
 
+-- the frames of a log that may come next: none of one who has left
+abbrev pub MayFollow : ℕ → ℕ → List Bool → List Frame → Type 0
+MayFollow senders least gone frames = AreFramesFrom senders least frames × All (λ f. slice_get gone f.owner.0 ≡ Some false) frames
+
 -- messages of so many words, at most room of them, and then the frames of a log: the words of these, and their pieces
-pub record Fills (senders least : ℕ) (owner : SenderNo) (left room : ℕ) (rest : List ℕ) (pieces : List (Option Piece)) : Type 0 where
+pub record Fills (senders least : ℕ) (gone : List Bool) (owner : SenderNo) (left room : ℕ)
+    (rest : List ℕ) (pieces : List (Option Piece)) : Type 0 where
   pub messages : List Numbered
   pub few : length messages ≤ room
   pub each : All IsNumbered messages
   pub long : length (flat_map message_words messages) ≡ left
   pub frames : List Frame
-  pub lawful : AreFramesFrom senders least frames
+  pub lawful : MayFollow senders least gone frames
   pub words_are : rest ≡ flat_map message_words messages ++ log_words frames
   pub pieces_are : pieces ≡ flat_map (message_pieces owner) messages ++ log_pieces frames
 
 -- the rest of a message of len bytes that has some already, and then what fills the frame
-pub record Completes (senders least : ℕ) (owner : SenderNo) (left room number len : ℕ) (bytes rest : List ℕ) (pieces : List (Option Piece)) : Type 0 where
+pub record Completes (senders least : ℕ) (gone : List Bool) (owner : SenderNo) (left room number len : ℕ)
+    (bytes rest : List ℕ) (pieces : List (Option Piece)) : Type 0 where
   pub more : List ℕ
   pub together : length bytes + length more ≡ len
   pub each : All (λ byte. byte < 256) more
@@ -38,19 +48,40 @@ pub record Completes (senders least : ℕ) (owner : SenderNo) (left room number 
   pub n_is : data_len (length more) ≡ suc n
   pub rest_after : List ℕ
   pub pieces_after : List (Option Piece)
-  pub fills : Fills senders least owner (left - suc n) room rest_after pieces_after
+  pub fills : Fills senders least gone owner (left - suc n) room rest_after pieces_after
   pub within : suc n ≤ left
   pub words_are : rest ≡ words_of_bytes (suc n) more ++ rest_after
   pub pieces_are : pieces ≡ item_pieces n (record { sender = owner; number = number; message = bytes ++ more }) ++ pieces_after
+
+-- the end word, and then nothing
+pub record EndsAll (left room : ℕ) (rest : List ℕ) (pieces : List (Option Piece)) : Type 0 where
+  pub alone : left ≡ 1
+  pub fresh : room ≡ MOST_MESSAGES
+  pub words_are : rest ≡ end_word ∷ []
+  pub pieces_are : pieces ≡ Some piece.End ∷ []
+
+-- the leave word, and then the frames of a log, none of them of this owner
+pub record LeavesNext (senders least : ℕ) (gone : List Bool) (owner : SenderNo) (left room : ℕ)
+    (rest : List ℕ) (pieces : List (Option Piece)) : Type 0 where
+  pub alone : left ≡ 1
+  pub fresh : room ≡ MOST_MESSAGES
+  pub frames : List Frame
+  pub lawful : MayFollow senders least gone frames
+  pub others : All (λ f. f.owner ≢ owner) frames
+  pub words_are : rest ≡ mark_word mark.Leave ∷ log_words frames
+  pub pieces_are : pieces ≡ Some (piece.Leave owner) ∷ log_pieces frames
 
 -- the rest of a log, and its pieces, that may follow where a reader stands
 abbrev pub Awaits : Reading → List ℕ → List (Option Piece) → Type 0
 Awaits reader rest pieces = at reader.place
   where
     at : Place → Type 0
-    at Between = (frames : List Frame) × AreFramesFrom reader.senders reader.least frames × (rest ≡ log_words frames) × (pieces ≡ log_pieces frames)
-    at (Body owner left room) = Fills reader.senders reader.least owner left room rest pieces ⊎ ((left ≡ 1) × (room ≡ MOST_MESSAGES) × (rest ≡ end_word ∷ []) × (pieces ≡ Some piece.End ∷ []))
-    at (Data owner left room number len) = Completes reader.senders reader.least owner left room number len reader.bytes rest pieces
+    at Between = (frames : List Frame) × MayFollow reader.senders reader.least reader.left frames
+        × (rest ≡ log_words frames) × (pieces ≡ log_pieces frames)
+    at (Body owner left room) = Fills reader.senders reader.least reader.left owner left room rest pieces
+        ⊎ EndsAll left room rest pieces ⊎ LeavesNext reader.senders reader.least reader.left owner left room rest pieces
+    at (Data owner left room number len) =
+        Completes reader.senders reader.least reader.left owner left room number len reader.bytes rest pieces
     at Ended = (rest ≡ []) × (pieces ≡ [])
     at Bad = ⊥
 

@@ -10,8 +10,8 @@ ghost use Rattle.bus_batch.specs.Frames.{body_words};
 ghost use Rattle.std.specs.Prelude.{flat_map};
 ghost use Rattle.bus_batch.specs.Messages.{numbered_messages};
 
-use crate::messages::Message;
-use crate::words::{COUNT, END, HIGH, TAG};
+use crate::messages::{Mark, Message};
+use crate::words::{COUNT, END, HIGH, LEAVE, TAG};
 use arrayvec::ArrayVec;
 use bus_register::SenderNo;
 use bus_register::limits::{MOST_BODY_WORDS, MOST_MESSAGE_WORDS, MOST_MESSAGES, NUMBERS, TENURES};
@@ -23,7 +23,7 @@ const BODY_WORDS: usize = MOST_BODY_WORDS as usize;
 /// Why a message is not taken; of several causes the first counts.
 #[derive(Clone, Copy, Debug, PartialEq, Eq)]
 pub enum PutFault {
-    /// A close was accepted, or the order is known to have ended.
+    /// A close or a leave was accepted, or the order is known to have ended.
     Closed,
     /// The batch is on its way.
     Busy,
@@ -33,10 +33,10 @@ pub enum PutFault {
     BatchFull,
 }
 
-/// Why a close is not taken; of several causes the first counts.
+/// Why a close or a leave is not taken; of several causes the first counts.
 #[derive(Clone, Copy, Debug, PartialEq, Eq)]
 pub enum CloseFault {
-    /// A close was accepted, or the order is known to have ended.
+    /// A close or a leave was accepted, or the order is known to have ended.
     Closed,
     /// The batch is on its way.
     Busy,
@@ -48,13 +48,13 @@ pub enum CloseFault {
 #[derive(Clone, Copy, Debug, PartialEq, Eq)]
 pub enum Phase {
     Open,
-    /// A close was accepted, and its end mark waits.
-    Closing,
+    /// A close or a leave was accepted, and its mark waits.
+    Marking(Mark),
     Closed,
 }
 
 /// At most 16 messages of one sender, numbered one after another, that go into the log together;
-/// or an end mark alone.
+/// or a mark alone: of the end, or that the sender leaves.
 #[derive(Debug, Drop)]
 pub struct Batch {
     sender: SenderNo,
@@ -97,6 +97,7 @@ impl Model for Batch {
 
 impl Batch {
     ghost use Rattle.bus_batch.specs.declared.batches.Phase.TheVariants as phase;
+    ghost use Rattle.bus_batch.specs.declared.messages.Mark.TheVariants as mark;
     ghost use Rattle.bus_batch.specs.Batches.{Pending, next_of, HasSomething, frame_of, body_of};
     ghost use Rattle.bus_batch.specs.Batches.{CanPut, IsPutFault, CanClose, IsCloseFault};
     ghost use Rattle.bus_batch.specs.Batches.{phase_sent};
@@ -137,11 +138,25 @@ impl Batch {
         self.messages.is_empty()
     }
 
+    /// The messages that wait.
+    pub fn waiting(&self) -> &[Message]
+        ensures { result.now ≡ self.now.messages }
+    {
+        self.messages.as_slice()
+    }
+
     /// An end mark waits.
     pub fn is_closing(&self) -> bool
-        ensures { IsTrue result ↔ (self.now.phase ≡ phase.Closing) }
+        ensures { IsTrue result ↔ (self.now.phase ≡ phase.Marking mark.End) }
     {
-        self.phase == Phase::Closing
+        self.phase == Phase::Marking(Mark::End)
+    }
+
+    /// A leave mark waits.
+    pub fn is_leaving(&self) -> bool
+        ensures { IsTrue result ↔ (self.now.phase ≡ phase.Marking mark.Leave) }
+    {
+        self.phase == Phase::Marking(Mark::Leave)
     }
 
     /// Nothing more is sent.
@@ -202,7 +217,30 @@ impl Batch {
 
     /// Lets an end mark wait in place of messages.
     pub fn close(&mut self) -> Result<(), CloseFault>
-        ensures taken { OnOk result (self.new ≡ record self.old { phase = phase.Closing }) }
+        ensures taken { OnOk result
+            (self.new ≡ record self.old { phase = phase.Marking mark.End }) }
+        ensures could { OnOk result (CanClose self.old) }
+        ensures fault { IfErr result (IsCloseFault self.old) }
+        ensures refused { OnErr result (self.new ≡ self.old) }
+    {
+        self.mark(Mark::End)
+    }
+
+    /// Lets a leave mark wait in place of messages.
+    pub fn leave(&mut self) -> Result<(), CloseFault>
+        ensures taken { OnOk result
+            (self.new ≡ record self.old { phase = phase.Marking mark.Leave }) }
+        ensures could { OnOk result (CanClose self.old) }
+        ensures fault { IfErr result (IsCloseFault self.old) }
+        ensures refused { OnErr result (self.new ≡ self.old) }
+    {
+        self.mark(Mark::Leave)
+    }
+
+    /// Lets a mark wait in place of messages.
+    fn mark(&mut self, mark: Mark) -> Result<(), CloseFault>
+        ensures taken { OnOk result
+            (self.new ≡ record self.old { phase = phase.Marking mark }) }
         ensures could { OnOk result (CanClose self.old) }
         ensures fault { IfErr result (IsCloseFault self.old) }
         ensures refused { OnErr result (self.new ≡ self.old) }
@@ -216,7 +254,7 @@ impl Batch {
         if !self.messages.is_empty() {
             return Err(CloseFault::Pending);
         }
-        self.phase = Phase::Closing;
+        self.phase = Phase::Marking(mark);
         Ok(())
     }
 
@@ -252,7 +290,7 @@ impl Batch {
         self.first += self.messages.len() as u64;
         self.messages.clear();
         self.body.clear();
-        if self.phase == Phase::Closing {
+        if let Phase::Marking(_) = self.phase {
             self.phase = Phase::Closed;
         }
         self.busy = false;
@@ -293,10 +331,11 @@ impl Batch {
         if i == 0 {
             return TAG + self.sender.0 as u64 * HIGH + self.body_len() * COUNT + tenure;
         }
-        if self.phase == Phase::Closing {
-            return END;
+        match self.phase {
+            Phase::Marking(Mark::End) => END,
+            Phase::Marking(Mark::Leave) => LEAVE,
+            _ => self.body_word(i - 1),
         }
-        self.body_word(i - 1)
     }
 
     /// How many words the frame has after its head.
@@ -305,10 +344,9 @@ impl Batch {
             (body_words (body_of self.now.phase self.now.first self.now.messages)) }
         ensures most { result ≤ MOST_BODY_WORDS }
     {
-        if self.phase == Phase::Closing {
-            1
-        } else {
-            self.body.len() as u64
+        match self.phase {
+            Phase::Marking(_) => 1,
+            _ => self.body.len() as u64,
         }
     }
 

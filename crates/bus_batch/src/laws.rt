@@ -2,8 +2,12 @@
 
 ghost use Rattle.std.specs.Prelude.{◌≡◌, ◌≢◌, ℕ, ◌+◌, ◌-◌, ◌*◌, ◌%◌, ◌^◌, ◌<◌, ◌≤◌};
 ghost use Rattle.std.specs.Prelude.{List, [], ◌∷◌};
-ghost use Rattle.std.specs.Prelude.{◌++◌, All, false};
-ghost use Rattle.bus_batch.specs.Frames.{Frame, Messages, EndMark, IsFrame, AreFrames, frame_words};
+ghost use Rattle.std.specs.Prelude.{◌++◌, All, flat_map, map, false};
+ghost use Rattle.bus_batch.specs.declared.messages.Mark.{Mark};
+ghost use Rattle.bus_batch.specs.declared.messages.Mark.TheVariants as mark;
+ghost use Rattle.bus_batch.specs.Frames.{Frame, Messages, Marked, IsFrame, AreFrames, frame_words};
+ghost use Rattle.bus_batch.specs.Frames.{mark_word, entries_of, has_gone, items_in, IsBadWord};
+ghost use Rattle.bus_batch.specs.Frames.{Says, leaves};
 ghost use Rattle.bus_batch.specs.Frames.{IsLog, head_word, message_word};
 ghost use Rattle.bus_batch.specs.Frames.{Spells, order_of, items_of, ends, tenure_and_owner};
 ghost use Rattle.bus_register.specs.declared.limits.TheConstants.{TENURES, NUMBERS};
@@ -35,24 +39,49 @@ pub fn frame_spells()
 {}
 
 /// No words spell the empty order. Words of an order that has not ended, followed by a frame of a
-/// tenure above those before it, spell that order with the frame's items and its end mark.
+/// tenure above those before it, whose owner has not left, spell that order with the frame's
+/// entries and its end mark.
 pub fn spells_grow()
-    ensures none { (senders : ℕ) → Spells senders [] (record { items = []; ended = false }) [] }
+    ensures none { (senders : ℕ)
+        → Spells senders [] (record { entries = []; ended = false }) [] }
     ensures more { (senders : ℕ) (words : _) (order : _) (owners : _) (f : Frame)
-        → Spells senders words order owners → order.ended ≡ false → IsFrame senders f
+        → Spells senders words order owners → order.ended ≡ false
+        → has_gone f.owner.0 order ≡ false → IsFrame senders f
         → All (λ p. p.0 < f.tenure) owners
         → Spells senders (words ++ frame_words f) (record {
-          items = order.items ++ items_of f;
+          entries = order.entries ++ entries_of f;
           ended = ends f.body;
         }) (owners ++ tenure_and_owner f ∷ []) }
 {}
 
-/// What no log has: a frame after an end mark, a tenure that does not rise, an owner that is no
-/// sender, a frame of nothing. And what no log begins with: a head with more words than any frame
-/// has, or with more than its messages can fill, and a message with other bytes behind its own.
+/// The items of an order are those of its frames, in their order.
+pub fn entries_are_items()
+    ensures { (frames : List Frame)
+        → items_in (order_of frames).entries ≡ flat_map items_of frames }
+{}
+
+/// Where no frame is a leave mark, the entries of an order are the items of its frames and nothing
+/// else: a log of senders of which none leaves says what it said before they could.
+pub fn nobody_leaves()
+    ensures { (frames : List Frame) → All (λ f. leaves f.body ≡ false) frames
+        → (order_of frames).entries ≡ map Says (flat_map items_of frames) }
+{}
+
+/// What no log has: a frame after an end mark, a frame of an owner that left in an earlier one, a
+/// tenure that does not rise, an owner that is no sender, a frame of nothing. And what no log
+/// begins with: a head of one that has left, so that nobody leaves twice, a head with more words
+/// than any frame has, or with more than its messages can fill, another word with the tag of a
+/// mark, a mark that is not alone, and a message with other bytes behind its own.
 pub fn no_log_has()
     ensures after_end { (senders : ℕ) (f : Frame) (g : Frame) (rest : List Frame)
-        → f.body ≡ EndMark → ¬ AreFrames senders (f ∷ g ∷ rest) }
+        → f.body ≡ Marked mark.End → ¬ AreFrames senders (f ∷ g ∷ rest) }
+    ensures after_leaving { (senders : ℕ) (before : List Frame) (f : Frame)
+        (between : List Frame) (g : Frame) (rest : List Frame) → f.body ≡ Marked mark.Leave
+        → g.owner ≡ f.owner → ¬ AreFrames senders (before ++ f ∷ (between ++ g ∷ rest)) }
+    ensures head_after_leaving { (senders owner tenure count later : ℕ) → owner < 2 ^ 8
+        → tenure < TENURES → count < 2 ^ 14 → later < TENURES
+        → IsBadWord senders (head_word owner 1 tenure ∷ mark_word mark.Leave ∷ [])
+        (head_word owner count later) }
     ensures same_tenure { (senders : ℕ) (f : Frame) (g : Frame) (rest : List Frame)
         → g.tenure ≤ f.tenure → ¬ AreFrames senders (f ∷ g ∷ rest) }
     ensures stranger { (senders : ℕ) (f : Frame) (rest : List Frame) → senders ≤ f.owner.0
@@ -62,6 +91,13 @@ pub fn no_log_has()
     ensures long { (senders owner count tenure : ℕ) (rest : List ℕ) → owner < 2 ^ 8
         → count < 2 ^ 14 → tenure < TENURES → MOST_BODY_WORDS < count
         → ¬ IsLog senders (head_word owner count tenure ∷ rest) }
+    // Behind a head stand messages and the two marks alone, and a mark is the one word of its
+    // frame.
+    ensures other_mark { (senders owner count tenure word : ℕ) → mark_word mark.Leave < word
+        → IsBadWord senders (head_word owner count tenure ∷ []) word }
+    ensures mark_with_more { (senders owner count tenure : ℕ) (m : Mark) → owner < 2 ^ 8
+        → count < 2 ^ 14 → tenure < TENURES → count ≢ 1
+        → IsBadWord senders (head_word owner count tenure ∷ []) (mark_word m) }
     // The first message has one word, and the others have too few.
     ensures unfillable { (senders owner count tenure number : ℕ) (rest : List ℕ) → owner < 2 ^ 8
         → count < 2 ^ 14 → tenure < TENURES → number < NUMBERS
@@ -72,7 +108,8 @@ pub fn no_log_has()
         → ¬ IsLog senders (head_word owner count tenure ∷ message_word len number ∷ word ∷ rest) }
 {}
 
-/// A message that is taken has no fault, and one that is refused has one alone; a close likewise.
+/// A message that is taken has no fault, and one that is refused has one alone; a close or a leave
+/// likewise.
 pub fn faults_are_exact()
     ensures taken { (b : Pending) (len : ℕ) (fault : PutFault) → CanPut b len
         → ¬ IsPutFault b len fault }

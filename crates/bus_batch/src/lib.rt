@@ -26,5 +26,5 @@ pub mod readers;
 mod words;
 
 pub use batches::{Batch, CloseFault, PutFault};
-pub use messages::{Item, Message, Piece};
+pub use messages::{Item, Mark, Message, Piece};
 pub use readers::{BadWord, FrameReader};

@@ -117,6 +117,13 @@ impl Item {
     }
 }
 
+/// What a frame says in place of messages: that the order has ended, or that its sender has left.
+#[derive(Clone, Copy, Debug, PartialEq, Eq)]
+pub enum Mark {
+    End,
+    Leave,
+}
+
 /// What a word of the log says, where it says something by itself.
 #[derive(Debug, Drop, PartialEq, Eq)]
 pub enum Piece {
@@ -126,4 +133,6 @@ pub enum Piece {
     Item(Item),
     /// The order has ended.
     End,
+    /// This sender has left for good.
+    Leave(SenderNo),
 }

@@ -3,10 +3,11 @@
 ghost use Rattle.std.specs.Prelude.{◌≡◌, ℕ, ◌+◌, ◌*◌, ◌-◌, ◌<◌, ◌≤◌};
 ghost use Rattle.std.specs.Prelude.{◌^◌, List, [], ◌∷◌, ◌++◌, length, All, IfSome};
 ghost use Rattle.std.specs.Prelude.{IfNone, IsNone, IfOk, OnErr, IsErr, IsTrue, ◌↔◌, false, ◌⊎◌};
+ghost use Rattle.std.specs.Prelude.{replicate};
 ghost use Rattle.bus_batch.specs.Frames.{data_len};
 
 use crate::messages::{Item, Message, Piece};
-use crate::words::{COUNT, END, HIGH, TAG};
+use crate::words::{COUNT, END, HIGH, LEAVE, TAG};
 use bus_register::SenderNo;
 use bus_register::limits::{
     MOST_BODY_WORDS, MOST_BYTES, MOST_MESSAGE_WORDS, MOST_MESSAGES, NUMBERS,
@@ -58,6 +59,9 @@ enum Place {
     Bad,
 }
 
+/// How many owners a head can name.
+const OWNERS: usize = 256;
+
 /// The most messages of a frame.
 const BATCH_MESSAGES: u64 = MOST_MESSAGES as u64;
 
@@ -105,6 +109,8 @@ fn message_of(word: u64) -> Option<Length>
 pub struct FrameReader {
     senders: u64,
     least: u64,
+    /// Who has left, by number: for each owner that a head can name.
+    left: [bool; OWNERS],
     place: Place,
     bytes: Message,
 }
@@ -118,6 +124,7 @@ impl Model for FrameReader {
     ghost view = { λ r. record {
       senders = r.senders;
       least = r.least;
+      left = r.left;
       place = r.place;
       bytes = r.bytes;
     } };
@@ -128,7 +135,8 @@ impl Model for FrameReader {
 impl FrameReader {
     ghost use Rattle.bus_batch.specs.declared.readers.Place.TheVariants as place;
     ghost use Rattle.bus_batch.specs.Frames.{IsBadWord, GivesPiece, IsLog, Spells, order_in};
-    ghost use Rattle.bus_batch.specs.Frames.{owners_in, end_word};
+    ghost use Rattle.bus_batch.specs.Frames.{owners_in, end_word, mark_word};
+    ghost use Rattle.bus_batch.specs.declared.messages.Mark.TheVariants as mark;
     ghost use Rattle.bus_batch.specs.Reading.{HasRead, HasMetBadWord};
     ghost use Rattle.bus_batch.specs.declared.messages.Piece.TheVariants as piece;
     ghost use Rattle.bus_batch.specs.Steps.{Steps, Refuses};
@@ -141,6 +149,7 @@ impl FrameReader {
         FrameReader {
             senders,
             least: 0,
+            left: nobody(),
             place: Place::Between,
             bytes: Message::new(),
         }
@@ -168,6 +177,9 @@ impl FrameReader {
     {
         match head_of(word, self.senders, self.least) {
             Some(head) => {
+                if self.left[head.owner.0 as usize] {
+                    return Err(BadWord);
+                }
                 self.least = head.tenure + 1;
                 self.place = Place::Body {
                     owner: head.owner,
@@ -196,13 +208,36 @@ impl FrameReader {
         ensures steps { Steps self.old word result self.new }
     {
         let _held = &self.bytes;
-        if word == END {
-            return self.take_end(word, owner, left, room);
+        if word >= END {
+            return self.take_mark(word, owner, left, room);
         }
         match message_of(word) {
             Some(length) => self.take_length(word, owner, left, room, length),
             None => Err(BadWord),
         }
+    }
+
+    /// Takes a word with the tag of a mark.
+    fn take_mark(
+        &mut self,
+        word: u64,
+        owner: SenderNo,
+        left: u64,
+        room: u64,
+    ) -> Result<Option<Piece>, BadWord>
+        requires place { self.old.place ≡ place.Body owner left room }
+        requires word { end_word ≤ word }
+        ensures senders { self.new.senders ≡ self.old.senders }
+        ensures steps { Steps self.old word result self.new }
+    {
+        let _held = &self.bytes;
+        if word == END {
+            return self.take_end(word, owner, left, room);
+        }
+        if word == LEAVE {
+            return self.take_leave(word, owner, left, room);
+        }
+        Err(BadWord)
     }
 
     /// Takes an end word.
@@ -221,6 +256,29 @@ impl FrameReader {
         if left == 1 && room == BATCH_MESSAGES {
             self.place = Place::Ended;
             Ok(Some(Piece::End))
+        } else {
+            Err(BadWord)
+        }
+    }
+
+    /// Takes a leave word.
+    fn take_leave(
+        &mut self,
+        word: u64,
+        owner: SenderNo,
+        left: u64,
+        room: u64,
+    ) -> Result<Option<Piece>, BadWord>
+        requires place { self.old.place ≡ place.Body owner left room }
+        requires word { word ≡ mark_word mark.Leave }
+        ensures senders { self.new.senders ≡ self.old.senders }
+        ensures steps { Steps self.old word result self.new }
+    {
+        let _held = &self.bytes;
+        if left == 1 && room == BATCH_MESSAGES {
+            self.left[owner.0 as usize] = true;
+            self.place = Place::Between;
+            Ok(Some(Piece::Leave(owner)))
         } else {
             Err(BadWord)
         }
@@ -506,6 +564,13 @@ fn can_hold(left: u64, room: u64, len: u64) -> bool
 {
     let words = 1 + (len + 7) / 8;
     left >= words && left - words <= MOST_MESSAGE_WORDS * (room - 1)
+}
+
+/// Nobody has left.
+fn nobody() -> [bool; OWNERS]
+    ensures { result ≡ replicate OWNERS false }
+{
+    [false; OWNERS]
 }
 
 /// Where a reader stands after a message, with so many words and messages left.

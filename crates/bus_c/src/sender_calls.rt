@@ -1,13 +1,16 @@
 //! The calls of a sender. An empty handle stays empty, and nothing else is changed.
 
 ghost use Rattle.std.specs.Prelude.{◌≡◌, None, IfSome, IfNone, IsSomeAnd};
+ghost use Rattle.bus_batch.specs.declared.messages.Mark.TheVariants as mark;
 ghost use Rattle.bus_embed.specs.declared.codes.TheConstants.{OK as done};
 ghost use Rattle.bus_embed.specs.declared.codes.TheConstants.{EMPTY_HANDLE as no_handle};
 ghost use Rattle.bus_embed.specs.Calls.{PutAnswered, CloseAnswered, TurnAnswered, ShowsSender};
 
 use crate::sender::CSender;
 use bus_embed::codes::{EMPTY_HANDLE, OK};
-use bus_embed::{SenderShown, TurnAnswer, close_sender, put_message, show_sender, take_turn};
+use bus_embed::{
+    SenderShown, TurnAnswer, close_sender, leave_sender, put_message, show_sender, take_turn,
+};
 use std::alloc::Global;
 
 /// Appends a message to the sender's batch.
@@ -38,11 +41,28 @@ pub extern "C" fn bus_c_put(
 pub extern "C" fn bus_c_close(alloc: Global, sender: &mut CSender) -> u32
     ensures none { IfNone sender.old.held ((result ≡ no_handle) × (sender.new.held ≡ None)) }
     ensures close { IfSome sender.old.held (λ old. IsSomeAnd sender.new.held (λ new.
-        CloseAnswered old.handle result new.handle)) }
+        CloseAnswered mark.End old.handle result new.handle)) }
 {
     match sender.take(alloc) {
         Some(mut seat) => {
             let code = close_sender(&mut seat.handle);
+            sender.hold(seat);
+            code
+        }
+        None => EMPTY_HANDLE,
+    }
+}
+
+/// Lets a leave mark wait.
+#[unsafe(no_mangle)]
+pub extern "C" fn bus_c_leave(alloc: Global, sender: &mut CSender) -> u32
+    ensures none { IfNone sender.old.held ((result ≡ no_handle) × (sender.new.held ≡ None)) }
+    ensures leave { IfSome sender.old.held (λ old. IsSomeAnd sender.new.held (λ new.
+        CloseAnswered mark.Leave old.handle result new.handle)) }
+{
+    match sender.take(alloc) {
+        Some(mut seat) => {
+            let code = leave_sender(&mut seat.handle);
             sender.hold(seat);
             code
         }

@@ -46,6 +46,7 @@ pub const REPLAY: &str =
 R rounds for each bit (1 to 8), T tenures (1 to 256) and L log words (16 to 65536).
 With 'cycle' in the place of 'shape' there are T rows (2 to 8), which are used again, for up to
 2^40 tenures.
+The lines behind it are 'put S HEX', 'close S', 'turn S W K', 'recv M K', 'stop S' and 'leave S'.
 
 Examples:
   printf 'shape 1 1 1 4 16\\nput 0 6869\\nturn 0 0 99\\nturn 0 0 99\\nrecv 0 99\\n' | bus replay

@@ -1,7 +1,5 @@
 -- Each kind of step has its cause.
-use Rattle.std.specs.Prelude.{◌⊎◌}
-use Rattle.std.proofs.Common.{◌≡◌, inl, inr, ℕ, ◌+◌, ◌<◌, Bool, true, false, cond, ◌&&◌, nat_lt, nat_le, List, [], ◌∷◌, length, Option, Some, None, IsSome, IfSome, is_some, refl, sym, ◌∙◌, ap, subst, arith}
-use Rattle.std.proofs.lemmas.Bool.{leb-false, true≢false}
+use Rattle.std.proofs.Common.{◌≡◌, inl, inr, ℕ, ◌+◌, Bool, true, false, cond, nat_lt, Option, Some, None, IsSome, IfSome, is_some, refl, sym, ◌∙◌, ap, subst}
 use Rattle.std.proofs.lemmas.Option.{same_Some}
 use Rattle.bus_register.specs.declared.kinds.Kind.{Kind}
 use Rattle.bus_register.specs.declared.kinds.Kind.TheVariants as kind
@@ -10,18 +8,17 @@ use Rattle.bus_register.specs.declared.registers.Op.TheVariants.{Load, Store, Ad
 use Rattle.bus_register.specs.Protocol.{Protocol}
 use Rattle.bus_adoptcommit.specs.declared.verdicts.Verdict.{Verdict}
 use Rattle.bus_adoptcommit.specs.Kinds.{IsOfRatifier, IsNamedFor}
-use Rattle.bus_batch.specs.declared.batches.Phase.{Phase as BatchPhase}
-use Rattle.bus_batch.specs.declared.batches.Phase.TheVariants.{Open, Closing, Closed}
 use Rattle.bus_ownerbits.proofs.ElectionIsLawful.{last_bit as at_last_bit}
 use Rattle.bus_ownerbits.specs.Sizes.{decision_cost}
 use Rattle.bus_binconsensus.specs.Decisions.{decisions}
 use Rattle.bus_presence.specs.Reclaimers.{Reclaiming, reclaim_op}
 use Rattle.bus_tenure.specs.Causes.{HasCause as HasCauseApart, LooksForTenure, IsElected}
-use Rattle.bus_tenure.specs.Core.{Core, Election, row_at, is_empty, is_closing, is_closed}
+use Rattle.bus_tenure.specs.Core.{Core, Election, row_at}
 use Rattle.bus_tenure.specs.Elections.{Elector, ElectorKeeps, elections, election_with}
 use Rattle.bus_tenure.specs.Keeping.{SenderInvariant, PhaseKeeps, IsElecting}
 use Rattle.bus_tenure.specs.Situations.{Situation as Own, IsClosed, IsIdle, IsSpent, LooksAtStage, Elects, TakesPage, AwaitsPage, StoresWord, StoresLength, GivesBack, HasHanded, kind_at, situation_at, situation_of}
 use Rattle.bus_tenure.proofs.Caused.{word_cause, length_cause, back_cause, timely, election_cause}
+use Rattle.bus_tenure.proofs.Looking.{looks_at_rest}
 use Rattle.bus_tenure.proofs.Situated.{tells}
 use Rattle.bus_core.specs.Reusing.Besides.{reclaims_by}
 use Rattle.bus_core.specs.Reusing.Causes.{HasCause as HasCauseAgain}
@@ -39,35 +36,9 @@ use Rattle.bus_core.specs.declared.reuses.Reuse.{Reuse}
 use Rattle.bus_core.proofs.Bridged.{at_none, at_some}
 
 -- ---- who looks at the stage
-looks_by : {E : Type 0} (a b d : Bool) → ◌≡◌ {A = Own E} (cond a IsClosed (cond b IsIdle (cond d IsSpent LooksAtStage))) LooksAtStage
-    → (a ≡ false) × (b ≡ false) × (d ≡ false)
-looks_by true b d e = absurd cc
-looks_by false true d e = absurd cc
-looks_by false false true e = absurd cc
-looks_by false false false e = (refl, refl, refl)
-
--- who is closing shows it in its batch
-closes_by : (p : BatchPhase) → cond (is_closing p) false true ≡ false → p ≡ Closing
-closes_by Open e = absurd cc
-closes_by Closing e = refl
-closes_by Closed e = absurd cc
-
--- who is not idle has messages, or an end mark
-has_by : (ms : List (List ℕ)) (p : BatchPhase) → (is_empty ms && cond (is_closing p) false true) ≡ false → (0 < length ms) ⊎ (p ≡ Closing)
-has_by [] p e = inr (closes_by p e)
-has_by (m ∷ ms) p e = inl (omega arith)
-
 -- it has something to send, and a tenure left to enter
 pub looks_cause : {E : Type 0} (X : Election E) (c : Core E) → situation_of X c ≡ LooksAtStage → LooksForTenure c
-looks_cause {E} X c i =
-    let rests = tells X c LooksAtStage i in
-    let b = looks_by {E = E} (is_closed c.queue.phase) (is_empty c.queue.messages && cond (is_closing c.queue.phase) false true) (nat_le c.layout.rows c.least) (sym (ap (situation_at X c) rests) ∙ i) in
-    record {
-      rests = rests;
-      not_closed = λ e. true≢false (sym (ap is_closed e) ∙ b.0);
-      something = has_by c.queue.messages c.queue.phase b.1;
-      tenure_left = leb-false _ _ b.2;
-    }
+looks_cause X c i = let rests = tells X c LooksAtStage i in looks_at_rest c rests (sym (ap (situation_at X c) rests) ∙ i)
 
 -- an owner that stands
 owner_some : (x : Option ℕ) → is_some x ≡ true → (o : ℕ) × (x ≡ Some o)

@@ -3,10 +3,11 @@ use Rattle.std.specs.Prelude.{◌⊎◌, ◌≢◌}
 use Rattle.std.proofs.Common.{◌≡◌, inl, inr, ℕ, ◌/◌, ◌%◌, ◌<◌, ◌≤◌, Bool, true, false, cond, Option, Some, None, List, [], ◌∷◌, length, nat_lt, nat_le, ◌==◌, ◌&&◌, refl, sym, ◌∙◌, ap, arith}
 use Rattle.std.proofs.lemmas.Bool.{leb-true, lt-leb, ltb-true, ltb-false, lt-ltb, eqb-true, eqb-false, eq-eqb, ne_eqb, le-ltb, true≢false}
 use Rattle.bus_batch.specs.declared.batches.Phase.{Phase as BatchPhase}
-use Rattle.bus_batch.specs.declared.batches.Phase.TheVariants.{Open, Closing, Closed}
+use Rattle.bus_batch.specs.declared.batches.Phase.TheVariants.{Open, Marking, Closed}
+use Rattle.bus_batch.specs.declared.messages.Mark.{Mark}
 use Rattle.bus_presence.specs.declared.pins.Pin.{Pin}
 use Rattle.bus_presence.specs.declared.pins.Pin.TheVariants.{Away, Announcing, Validating, Pinned, Unpinning, Invalidated}
-use Rattle.bus_tenure.specs.Core.{Core, Election, is_empty, is_closing, is_closed}
+use Rattle.bus_tenure.specs.Core.{Core, Election, is_empty, is_marking, is_closed}
 use Rattle.bus_tenure.specs.Situations.{Situation as Own, IsClosed, IsIdle, IsSpent, LooksAtStage, situation_at, situation_of as own_situation, waits}
 use Rattle.bus_tenure.specs.declared.phases.Phase.TheVariants.{Resting}
 use Rattle.bus_tenure.proofs.Situated.{tells}
@@ -20,28 +21,28 @@ use Rattle.bus_core.proofs.Situated.{own_is}
 
 -- ---- what waits in its batch, and whether a tenure is left
 abbrev rest_by : {E : Type 0} → BatchPhase → List (List ℕ) → Bool → Own E
-rest_by p ms b = cond (is_closed p) IsClosed (cond (is_empty ms && cond (is_closing p) false true) IsIdle (cond b IsSpent LooksAtStage))
+rest_by p ms b = cond (is_closed p) IsClosed (cond (is_empty ms && cond (is_marking p) false true) IsIdle (cond b IsSpent LooksAtStage))
 
 module _ {E : Type 0} where
   -- who has something to send looks where a tenure is left
-  looks_where : (p : BatchPhase) (ms : List (List ℕ)) (b : Bool) → p ≢ Closed → (0 < length ms) ⊎ (p ≡ Closing) → b ≡ false
+  looks_where : (p : BatchPhase) (ms : List (List ℕ)) (b : Bool) → p ≢ Closed → (0 < length ms) ⊎ ((m : Mark) × (p ≡ Marking m)) → b ≡ false
       → rest_by {E = E} p ms b ≡ LooksAtStage
   looks_where Closed ms b opened some left = absurd (opened refl)
   looks_where Open [] b opened (inl some) left = absurd (omega arith)
-  looks_where Open [] b opened (inr closing) left = absurd cc
+  looks_where Open [] b opened (inr marked) left = absurd (let e = marked.1 in cc)
   looks_where Open (m ∷ ms) b opened some left = ap (λ d. cond d IsSpent LooksAtStage) left
-  looks_where Closing [] b opened some left = ap (λ d. cond d IsSpent LooksAtStage) left
-  looks_where Closing (m ∷ ms) b opened some left = ap (λ d. cond d IsSpent LooksAtStage) left
+  looks_where (Marking k) [] b opened some left = ap (λ d. cond d IsSpent LooksAtStage) left
+  looks_where (Marking k) (m ∷ ms) b opened some left = ap (λ d. cond d IsSpent LooksAtStage) left
 
   -- who is idle has nothing
   idle_by : (p : BatchPhase) (ms : List (List ℕ)) (b : Bool) → rest_by {E = E} p ms b ≡ IsIdle → (p ≡ Open) × (ms ≡ [])
   idle_by Open [] b i = (refl, refl)
   idle_by Open (m ∷ ms) true i = absurd cc
   idle_by Open (m ∷ ms) false i = absurd cc
-  idle_by Closing [] true i = absurd cc
-  idle_by Closing [] false i = absurd cc
-  idle_by Closing (m ∷ ms) true i = absurd cc
-  idle_by Closing (m ∷ ms) false i = absurd cc
+  idle_by (Marking k) [] true i = absurd cc
+  idle_by (Marking k) [] false i = absurd cc
+  idle_by (Marking k) (m ∷ ms) true i = absurd cc
+  idle_by (Marking k) (m ∷ ms) false i = absurd cc
   idle_by Closed ms b i = absurd cc
 
   -- who is closed is so by its batch
@@ -49,22 +50,22 @@ module _ {E : Type 0} where
   closed_by Open [] b i = absurd cc
   closed_by Open (m ∷ ms) true i = absurd cc
   closed_by Open (m ∷ ms) false i = absurd cc
-  closed_by Closing [] true i = absurd cc
-  closed_by Closing [] false i = absurd cc
-  closed_by Closing (m ∷ ms) true i = absurd cc
-  closed_by Closing (m ∷ ms) false i = absurd cc
+  closed_by (Marking k) [] true i = absurd cc
+  closed_by (Marking k) [] false i = absurd cc
+  closed_by (Marking k) (m ∷ ms) true i = absurd cc
+  closed_by (Marking k) (m ∷ ms) false i = absurd cc
   closed_by Closed ms b i = refl
 
   -- to whom no tenure is left has something to send
   spent_by : (p : BatchPhase) (ms : List (List ℕ)) (b : Bool) → rest_by {E = E} p ms b ≡ IsSpent
-      → (p ≢ Closed) × ((0 < length ms) ⊎ (p ≡ Closing)) × (b ≡ true)
+      → (p ≢ Closed) × ((0 < length ms) ⊎ ((m : Mark) × (p ≡ Marking m))) × (b ≡ true)
   spent_by Open [] b i = absurd cc
   spent_by Open (m ∷ ms) true i = ((λ e. cc), inl (omega arith), refl)
   spent_by Open (m ∷ ms) false i = absurd cc
-  spent_by Closing [] true i = ((λ e. cc), inr refl, refl)
-  spent_by Closing [] false i = absurd cc
-  spent_by Closing (m ∷ ms) true i = ((λ e. cc), inr refl, refl)
-  spent_by Closing (m ∷ ms) false i = absurd cc
+  spent_by (Marking k) [] true i = ((λ e. cc), inr (k, refl), refl)
+  spent_by (Marking k) [] false i = absurd cc
+  spent_by (Marking k) (m ∷ ms) true i = ((λ e. cc), inr (k, refl), refl)
+  spent_by (Marking k) (m ∷ ms) false i = absurd cc
   spent_by Closed ms b i = absurd cc
 
 -- ---- the stage that it found

@@ -1,12 +1,10 @@
 -- Plain stores: when one is due, and what it leaves.
-use Rattle.std.proofs.Common.{◌≡◌, ℕ, ◌+◌, ◌<◌, ◌≤◌, ◌==◌, Bool, true, false, cond, Option, Some, None, IsSome, nat_lt, refl, sym, ◌∙◌, ap, subst}
+use Rattle.std.proofs.Common.{◌≡◌, ℕ, ◌+◌, ◌<◌, ◌==◌, false, cond, Option, Some, None, IsSome, nat_lt, refl, sym, ◌∙◌, ap, subst}
 use Rattle.std.proofs.lemmas.Option.{same_Some}
 use Rattle.std.specs.Prelude.{◌&&◌, if◌then◌else◌}
 use Rattle.std.proofs.lemmas.Bool.{lt-ltb, le-ltb}
 use Rattle.bus_presence.specs.Reclaimers.{Reclaiming, IsClearing, reclaim_op, reclaim_fed}
 use Rattle.bus_presence.specs.declared.pins.Pin.TheVariants.{Away}
-use Rattle.bus_register.specs.Words.{register}
-use Rattle.bus_register.specs.declared.registers.Op.{Op}
 use Rattle.bus_register.specs.declared.registers.Op.TheVariants.{Load, Store}
 use Rattle.bus_tenure.specs.Core.{Core, Election}
 use Rattle.bus_tenure.specs.Doings.{doing_of, IsWord}
@@ -19,7 +17,7 @@ use Rattle.bus_tenure.specs.declared.turns.Turn.TheVariants.{Going}
 use Rattle.bus_core.specs.Reusing.Turns.{answer_of_reclaim}
 use Rattle.bus_core.specs.Keeping.{ReuseKeeps, IsAway, reclaimer_in, reclaimer_left, sender}
 use Rattle.bus_core.specs.Plain.{IsPlain, Word, Clear}
-use Rattle.bus_core.specs.Senders.{Sender, Situation, Does, Scans, Clears, pinning, situation_by, situation, words_all}
+use Rattle.bus_core.specs.Senders.{Sender, Does, Scans, Clears, pinning, situation_by, situation, words_all}
 use Rattle.bus_core.specs.Table.{line, line_now, reuse_reclaiming}
 use Rattle.bus_core.specs.declared.reuses.Reuse.{Reuse}
 use Rattle.bus_core.proofs.Situated.{own_is, clears_pinning}

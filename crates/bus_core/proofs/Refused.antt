@@ -5,7 +5,7 @@ use Rattle.std.proofs.lemmas.Option.{same_Some}
 use Rattle.bus_register.specs.declared.registers.SenderNo.{SenderNo}
 use Rattle.bus_presence.specs.declared.pins.Pin.TheVariants.{Announcing, Pinned, Unpinning}
 use Rattle.bus_tenure.specs.Causes.{LooksForTenure}
-use Rattle.bus_tenure.specs.Core.{Core, Election, Layout, frame_len, log_at}
+use Rattle.bus_tenure.specs.Core.{Core, Election, Layout, frame_len, log_at, is_marking, is_closing, is_leaving}
 use Rattle.bus_tenure.specs.Situations.{IsIdle, Elects}
 use Rattle.bus_tenure.specs.declared.pages.Page.{Page}
 use Rattle.bus_tenure.specs.declared.phases.Phase.{Phase}
@@ -19,6 +19,8 @@ use Rattle.bus_core.specs.Places.{IsInRow}
 use Rattle.bus_ownerbits.proofs.ElectionSteps.{row_within}
 use Rattle.bus_batch.specs.declared.batches.Phase.{Phase as BatchPhase}
 use Rattle.bus_batch.specs.declared.batches.Phase.TheVariants as batch
+use Rattle.bus_batch.specs.declared.messages.Mark.{Mark}
+use Rattle.bus_batch.specs.declared.messages.Mark.TheVariants as mark
 use Rattle.std.specs.Prelude.{◌⊎◌}
 use Rattle.bus_core.specs.Senders.{Sender, Situation, Does, situation}
 use Rattle.bus_core.specs.Table.{line, line_now}
@@ -97,9 +99,35 @@ begun_once c None t u e f = (same_election t u e.0 f.0 (sym e.1 ∙ f.1)).0
 begun_once c (Some r) t u e f = same_tenure t u (sym e ∙ f)
 
 -- who has nothing has not something
-sends_nothing : (ms : List (List ℕ)) (p : BatchPhase) → ms ≡ [] → p ≡ batch.Open → (0 < length ms) ⊎ (p ≡ batch.Closing) → ⊥
+sends_nothing : (ms : List (List ℕ)) (p : BatchPhase) → ms ≡ [] → p ≡ batch.Open
+    → (0 < length ms) ⊎ ((m : Mark) × (p ≡ batch.Marking m)) → ⊥
 sends_nothing ms p nothing opened (inl some) = let none = ap length nothing in omega arith
-sends_nothing ms p nothing opened (inr closing) = let bad = sym opened ∙ closing in cc
+sends_nothing ms p nothing opened (inr marked) = let bad = sym opened ∙ marked.1 in cc
+
+-- ---- a mark that waits
+-- an end mark is one
+closes_marking : (p : BatchPhase) → is_closing p ≡ true → is_marking p ≡ true
+closes_marking batch.Open e = e
+closes_marking (batch.Marking m) e = refl
+closes_marking batch.Closed e = e
+
+-- a leave mark is one
+leaves_marking : (p : BatchPhase) → is_leaving p ≡ true → is_marking p ≡ true
+leaves_marking batch.Open e = e
+leaves_marking (batch.Marking m) e = refl
+leaves_marking batch.Closed e = e
+
+-- none is both
+leaves_open : (p : BatchPhase) → is_closing p ≡ true → is_leaving p ≡ true → ⊥
+leaves_open batch.Open e f = absurd cc
+leaves_open (batch.Marking mark.End) e f = absurd cc
+leaves_open (batch.Marking mark.Leave) e f = absurd cc
+leaves_open batch.Closed e f = absurd cc
+
+-- who has published has found no end before
+unfound : {E : Type 0} (ph : Phase E) (t u : ℕ) (page : Page) (stored : ℕ) → FindsEnd u ph → ph ≡ Holding t page stored true → ⊥
+unfound ph t u page stored (Ended p n end) e = let s = same_page u t p page n stored false true e in true≢false (sym s.1.1)
+unfound ph t u page stored HandsOnEnd e = cc
 
 -- who pins none pins no tenure
 away_not : (reuse : Option Reuse) (r : Reuse) (t : ℕ) → reuse ≡ Some r → r.pin ≡ Pinned t → IsAway reuse → ⊥
@@ -144,14 +172,24 @@ module _ {E : Type 0} (X : Election E) (v : Sender E) (got word : ℕ) where
         λ t u first last page stored published held apart w. apart (published_is v.core.phase t u page stored published w.published held).0;
     delivered_from_elsewhere = λ t first last apart w. apart w.first_is;
     delivered_too_far = λ t first last far some w. let e = w.last_is in omega arith;
-    delivered_the_end = λ t first last ends w. true≢false (sym ends ∙ w.sends);
+    delivered_the_end = λ t first last ends w. true≢false (sym (closes_marking v.core.queue.phase ends) ∙ w.sends);
+    delivered_the_leave = λ t first last leaves w. true≢false (sym (leaves_marking v.core.queue.phase leaves) ∙ w.sends);
+    left_with_messages = λ t sends w. true≢false (sym (leaves_marking v.core.queue.phase w.leaves) ∙ sends);
+    left_with_the_end = λ t ends w. leaves_open v.core.queue.phase ends w.leaves;
+    left_unpublished = λ t page stored held w. true≢false (sym (published_is v.core.phase t t page stored false w.published held).1);
+    left_elsewhere = λ t u page stored published held apart w. apart (published_is v.core.phase t u page stored published w.published held).0;
     full_with_room = λ t page stored published held room w. let l = (room_is v.core v.core.phase t w.tenure page stored published w.lacks held).1 in omega arith;
     full_published = λ t page stored held w. true≢false (room_is v.core v.core.phase t w.tenure page stored true w.lacks held).0;
     closed_too_soon = λ t page stored published held goes stays w. elim w.why [
       | inl a ↦ true≢false (sym a.0 ∙ stays)
       | inr a ↦ true≢false (sym (end_is v.core.phase t w.tenure page stored published a held) ∙ goes)
     ];
+    closed_while_leaving = λ t page stored held leaves w. elim w.why [
+      | inl a ↦ leaves_open v.core.queue.phase a.0 leaves
+      | inr a ↦ unfound v.core.phase t w.tenure page stored a held
+    ];
     delivered_at_rest = λ t first last rests w. rests_unpublished v.core.phase t w.published rests;
+    left_at_rest = λ t rests w. rests_unpublished v.core.phase t w.published rests;
     full_at_rest = λ rests w. rests_with_room v.core v.core.phase w.tenure w.lacks rests;
     closed_at_rest = λ rests w. elim w.why [
       | inl a ↦ rests_unpublished v.core.phase w.tenure a.1 rests
@@ -214,10 +252,10 @@ module _ {E : Type 0} (X : Election E) (v : Sender E) (got word : ℕ) where
 pub rests_refused : {E : Type 0} (v : Sender E) → RestsRefuse v
 rests_refused v = record {
   idle_with_a_message = λ m rest some w. let bad = sym w.nothing ∙ some in cc;
-  idle_while_closing = λ closing w. let bad = sym w.is_open ∙ closing in cc;
+  idle_with_a_mark = λ m marked w. let bad = sym w.is_open ∙ marked in cc;
   idle_once_closed = λ closed w. let bad = sym w.is_open ∙ closed in cc;
   idle_in_an_election = λ t e runs w. let bad = sym w.none.rests ∙ runs in cc;
-  closed_while_closing = λ closing w. let bad = sym w.closed ∙ closing in cc;
+  closed_with_a_mark = λ m marked w. let bad = sym w.closed ∙ marked in cc;
   closed_while_open = λ opened w. let bad = sym w.closed ∙ opened in cc;
   closed_with_a_page = λ t page stored published held w. let bad = sym w.none.rests ∙ held in cc;
   spent_with_a_tenure_left = λ left w. let e = w.past in omega arith;

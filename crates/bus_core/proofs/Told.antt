@@ -1,13 +1,15 @@
 -- What the answer of a step tells, of the one table.
 use Rattle.std.specs.Prelude.{◌⊎◌}
-use Rattle.std.proofs.Common.{◌≡◌, ◌≢◌, inl, inr, ℕ, ◌-◌, ◌/◌, ◌≤◌, Bool, true, false, cond, Option, Some, None, IsSome, is_some, nat_le, ◌==◌, refl, sym, ◌∙◌, ap, subst, arith}
+use Rattle.std.proofs.Common.{◌≡◌, ◌≢◌, inl, inr, ℕ, ◌/◌, ◌≤◌, Bool, true, false, cond, Option, Some, None, IsSome, is_some, nat_le, ◌==◌, refl, sym, ◌∙◌, ap, subst, arith}
 use Rattle.std.proofs.lemmas.Bool.{leb-false, leb-true, true≢false}
 use Rattle.std.proofs.lemmas.Bool.Decides.{eqb_tells}
 use Rattle.std.proofs.lemmas.Option.{same_Some}
-use Rattle.bus_batch.specs.Batches.{next_of}
+use Rattle.bus_batch.specs.declared.batches.Phase.{Phase as BatchPhase}
+use Rattle.bus_batch.specs.declared.batches.Phase.TheVariants.{Open, Marking, Closed}
+use Rattle.bus_batch.specs.declared.messages.Mark.TheVariants as mark
 use Rattle.bus_presence.specs.Reclaimers.{behind_of}
-use Rattle.bus_tenure.specs.Core.{Core, Election, is_closing, row_at}
-use Rattle.bus_tenure.specs.Situations.{Situation as Own, IsClosed, IsIdle, IsSpent, LooksAtStage, Elects, TakesPage, AwaitsPage, StoresWord, StoresLength, GivesBack, HasHanded, situation_of, situation_at, waits, core_begun, op_at, answer_at, answer_of_election, answer_of_return}
+use Rattle.bus_tenure.specs.Core.{Core, Election, is_marking, is_closing, is_leaving, row_at}
+use Rattle.bus_tenure.specs.Situations.{Situation as Own, IsClosed, IsIdle, IsSpent, LooksAtStage, Elects, TakesPage, AwaitsPage, StoresWord, StoresLength, GivesBack, HasHanded, situation_of, situation_at, waits, core_begun, op_at, answer_at, answer_of_election, answer_sent, answer_of_return}
 use Rattle.bus_tenure.specs.declared.pages.Page.{Page}
 use Rattle.bus_tenure.specs.declared.phases.Reason.{Reason}
 use Rattle.bus_tenure.specs.declared.phases.Reason.TheVariants.{Sent, FoundEnd, NoRoom}
@@ -94,6 +96,7 @@ module _ {E : Type 0} (X : Election E) (v : Participant E) (got word : ℕ) wher
   tells_again width Belongs k (turn.Own t) w = record { pinned = w.pinned; election = w.election; elects = w.elects; chosen = w.chosen }
   tells_again width Belongs k (turn.Delivered t first last) w =
       record { gives = gives_ready t w.gives; published = w.published; sends = w.sends; first_is = w.first_is; last_is = w.last_is }
+  tells_again width Belongs k (turn.Left t) w = record { gives = gives_ready t w.gives; published = w.published; leaves = w.leaves }
   tells_again width Belongs k turn.Full w = record { tenure = w.tenure; gives = gives_ready w.tenure w.gives; lacks = w.lacks }
   tells_again width Belongs k turn.Closed w = record { tenure = w.tenure; gives = gives_ready w.tenure w.gives; why = w.why }
   tells_again width Belongs k turn.Spent w =
@@ -195,16 +198,18 @@ module _ {E : Type 0} (X : Election E) (c : Core E) (got word : ℕ) where
   stores z i returns looks takes elects =
       quiet z i (λ t e w. absurd (elects t e w)) takes returns (λ w y. looks w) (λ w y. looks w) (λ w. absurd (looks w))
 
-  -- the page goes back
-  closes : (b : Bool) → is_closing c.queue.phase ≡ b → (t : ℕ) → GivesReady X (apart c) t → HasPublished t c.phase
-      → FeedTells X (apart c) got word (cond b turn.Closed (turn.Delivered t c.queue.first (next_of c.queue - 1)))
-  closes true e t g w = record { tenure = t; gives = g; why = inl (e, w) }
-  closes false e t g w = record { gives = g; published = w; sends = e; first_is = refl; last_is = refl }
+  -- the page goes back, and its frame stands in the log
+  sent : (p : BatchPhase) → c.queue.phase ≡ p → (t : ℕ) → GivesReady X (apart c) t → HasPublished t c.phase
+      → FeedTells X (apart c) got word (answer_sent c.queue t p)
+  sent Open e t g w = record { gives = g; published = w; sends = ap is_marking e; first_is = refl; last_is = refl }
+  sent (Marking mark.End) e t g w = record { tenure = t; gives = g; why = inl (ap is_closing e, w) }
+  sent (Marking mark.Leave) e t g w = record { gives = g; published = w; leaves = ap is_leaving e }
+  sent Closed e t g w = record { gives = g; published = w; sends = ap is_marking e; first_is = refl; last_is = refl }
 
   -- the page is given back for this reason
   returned : (t : ℕ) (reason : Reason) → GivesReady X (apart c) t → Shows c t c.phase reason
       → FeedTells X (apart c) got word (answer_of_return c.queue t reason)
-  returned t Sent g w = closes (is_closing c.queue.phase) refl t g w
+  returned t Sent g w = sent c.queue.phase refl t g w
   returned t FoundEnd g w = record { tenure = t; gives = g; why = inr w }
   returned t NoRoom g w = record { tenure = t; gives = g; lacks = w }
 

@@ -44,6 +44,7 @@ reuse_by turn.Waiting t r = record r { pin = Pinned t }
 reuse_by turn.Going t r = record r { pin = Pinned t }
 reuse_by (turn.Own u) t r = record r { pin = Pinned t }
 reuse_by (turn.Delivered u a b) t r = record r { pin = Pinned t }
+reuse_by (turn.Left u) t r = record r { pin = Pinned t }
 reuse_by turn.Full t r = record r { pin = Pinned t }
 reuse_by turn.Closed t r = record r { pin = Pinned t }
 reuse_by turn.Spent t r = record r { pin = Pinned t }
@@ -57,7 +58,7 @@ abbrev pub turn_answered : Turn → Option Reuse → Turn
 turn_answered a None = a
 turn_answered a (Some r) = turn.Going
 
--- ---- puts, closes and the page
+-- ---- puts, marks and the page
 abbrev pub IsAway : Option Reuse → Type 0
 IsAway None = Unit {0}
 IsAway (Some r) = r.pin ≡ Away

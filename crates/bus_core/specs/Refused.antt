@@ -1,12 +1,13 @@
 -- What no step of a sender may answer, whatever its definitions are.
 use Rattle.std.specs.Prelude.{◌≡◌, ◌≢◌, ℕ, ◌+◌, ◌*◌, ◌/◌, ◌<◌, ◌≤◌, false, true, Some, None, Bool, List, [], ◌∷◌, IsSomeAnd}
 use Rattle.bus_batch.specs.Batches.{next_of}
+use Rattle.bus_batch.specs.declared.messages.Mark.{Mark}
 use Rattle.bus_batch.specs.declared.batches.Phase.TheVariants as batch
 use Rattle.bus_register.specs.declared.registers.Op.TheVariants.{Load}
 use Rattle.bus_register.specs.declared.registers.SenderNo.{SenderNo}
 use Rattle.bus_presence.specs.Reclamation.{presence_at}
 use Rattle.bus_presence.specs.declared.pins.Pin.TheVariants.{Away, Pinned, Unpinning, Invalidated}
-use Rattle.bus_tenure.specs.Core.{Election, frame_len, is_closing, log_at}
+use Rattle.bus_tenure.specs.Core.{Election, frame_len, is_marking, is_closing, is_leaving, log_at}
 use Rattle.bus_tenure.specs.Situations.{IsIdle, Elects}
 use Rattle.bus_tenure.specs.declared.pages.Page.{Page}
 use Rattle.bus_tenure.specs.declared.phases.Phase.TheVariants.{Resting, Electing, Holding}
@@ -32,8 +33,16 @@ pub record AnswersRefuse {E : Type 0} (X : Election E) (v : Sender E) (got word 
   pub delivered_from_elsewhere : (t first last : ℕ) → first ≢ v.core.queue.first → ¬ FeedTells X v got word (turn.Delivered t first last)
   pub delivered_too_far : (t first last : ℕ) → next_of v.core.queue ≤ last → 0 < next_of v.core.queue
       → ¬ FeedTells X v got word (turn.Delivered t first last)
-  -- Delivered of an end mark
+  -- Delivered of an end mark, or of a leave mark
   pub delivered_the_end : (t first last : ℕ) → is_closing v.core.queue.phase ≡ true → ¬ FeedTells X v got word (turn.Delivered t first last)
+  pub delivered_the_leave : (t first last : ℕ) → is_leaving v.core.queue.phase ≡ true → ¬ FeedTells X v got word (turn.Delivered t first last)
+  -- Left of messages, or of an end mark
+  pub left_with_messages : (t : ℕ) → is_marking v.core.queue.phase ≡ false → ¬ FeedTells X v got word (turn.Left t)
+  pub left_with_the_end : (t : ℕ) → is_closing v.core.queue.phase ≡ true → ¬ FeedTells X v got word (turn.Left t)
+  -- Left before the length takes its mark in, or of another tenure than that whose page it holds
+  pub left_unpublished : (t : ℕ) (page : Page) (stored : ℕ) → v.core.phase ≡ Holding t page stored false → ¬ FeedTells X v got word (turn.Left t)
+  pub left_elsewhere : (t u : ℕ) (page : Page) (stored : ℕ) (published : Bool)
+      → v.core.phase ≡ Holding t page stored published → t ≢ u → ¬ FeedTells X v got word (turn.Left u)
   -- Full where its frame fits, or once it is published
   pub full_with_room : (t : ℕ) (page : Page) (stored : ℕ) (published : Bool) → v.core.phase ≡ Holding t page stored published
       → page.words + frame_len v.core ≤ v.core.layout.capacity → ¬ FeedTells X v got word turn.Full
@@ -41,8 +50,12 @@ pub record AnswersRefuse {E : Type 0} (X : Election E) (v : Sender E) (got word 
   -- Closed while the order goes on, by a sender that was not to close
   pub closed_too_soon : (t : ℕ) (page : Page) (stored : ℕ) (published : Bool) → v.core.phase ≡ Holding t page stored published
       → page.ended ≡ false → is_closing v.core.queue.phase ≡ false → ¬ FeedTells X v got word turn.Closed
+  -- Closed once its leave mark stands in the log
+  pub closed_while_leaving : (t : ℕ) (page : Page) (stored : ℕ) → v.core.phase ≡ Holding t page stored true
+      → is_leaving v.core.queue.phase ≡ true → ¬ FeedTells X v got word turn.Closed
   -- any answer of a holder, where it holds no page
   pub delivered_at_rest : (t first last : ℕ) → v.core.phase ≡ Resting → ¬ FeedTells X v got word (turn.Delivered t first last)
+  pub left_at_rest : (t : ℕ) → v.core.phase ≡ Resting → ¬ FeedTells X v got word (turn.Left t)
   pub full_at_rest : v.core.phase ≡ Resting → ¬ FeedTells X v got word turn.Full
   pub closed_at_rest : v.core.phase ≡ Resting → ¬ FeedTells X v got word turn.Closed
   -- Waiting of one that pins no tenure, where nothing waits, or on the stage of an open tenure that it may enter
@@ -99,14 +112,14 @@ pub record AnswersRefuse {E : Type 0} (X : Election E) (v : Sender E) (got word 
 
 -- What no sender answers that takes no step.
 pub record RestsRefuse {E : Type 0} (v : Sender E) : Type 0 where
-  -- Idle where a message waits, or an end mark, where the batch is closed, or in an election
+  -- Idle where a message waits, or a mark, where the batch is closed, or in an election
   pub idle_with_a_message : (m : List ℕ) (rest : List (List ℕ)) → v.core.queue.messages ≡ m ∷ rest → ¬ RestTells v turn.Idle
-  pub idle_while_closing : v.core.queue.phase ≡ batch.Closing → ¬ RestTells v turn.Idle
+  pub idle_with_a_mark : (m : Mark) → v.core.queue.phase ≡ batch.Marking m → ¬ RestTells v turn.Idle
   pub idle_once_closed : v.core.queue.phase ≡ batch.Closed → ¬ RestTells v turn.Idle
   pub idle_in_an_election : (t : ℕ) (e : E) → v.core.phase ≡ Electing t e → ¬ RestTells v turn.Idle
-  -- Closed while its batch is open or its end mark waits still, or with a page
+  -- Closed while its batch is open or its mark waits still, or with a page
   pub closed_while_open : v.core.queue.phase ≡ batch.Open → ¬ RestTells v turn.Closed
-  pub closed_while_closing : v.core.queue.phase ≡ batch.Closing → ¬ RestTells v turn.Closed
+  pub closed_with_a_mark : (m : Mark) → v.core.queue.phase ≡ batch.Marking m → ¬ RestTells v turn.Closed
   pub closed_with_a_page : (t : ℕ) (page : Page) (stored : ℕ) (published : Bool) → v.core.phase ≡ Holding t page stored published
       → ¬ RestTells v turn.Closed
   -- Spent while a tenure is left, with nothing to send, or while it pins a tenure

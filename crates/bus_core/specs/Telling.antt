@@ -7,12 +7,12 @@ use Rattle.bus_batch.specs.declared.batches.Phase.TheVariants as batch
 use Rattle.bus_presence.specs.Reclamation.{presence_at}
 use Rattle.bus_presence.specs.declared.pins.Pin.TheVariants.{Announcing, Pinned, Unpinning, Invalidated}
 use Rattle.bus_tenure.specs.Causes.{LooksForTenure}
-use Rattle.bus_tenure.specs.Core.{Core, Election, is_closing}
+use Rattle.bus_tenure.specs.Core.{Core, Election, is_marking, is_closing, is_leaving}
 use Rattle.bus_tenure.specs.Seen.{HasElection, AwaitsItsPage}
 use Rattle.bus_tenure.specs.Situations.{Elects, situation_of}
 use Rattle.bus_tenure.specs.declared.phases.Phase.TheVariants.{Resting, Electing}
 use Rattle.bus_tenure.specs.declared.turns.Turn.{Turn}
-use Rattle.bus_tenure.specs.declared.turns.Turn.TheVariants.{Idle, Waiting, Going, Lost, Own, Delivered, Full, Closed, Spent, Behind}
+use Rattle.bus_tenure.specs.declared.turns.Turn.TheVariants.{Idle, Waiting, Going, Lost, Own, Delivered, Left, Full, Closed, Spent, Behind}
 use Rattle.bus_core.specs.Keeping.{IsAway}
 use Rattle.bus_core.specs.Reusing.Participants.{sizes_with}
 use Rattle.bus_core.specs.Reusing.Keeping.{IsRowReady, held_of}
@@ -51,7 +51,7 @@ pub record RestsIdle {E : Type 0} (v : Sender E) : Type 0 where
   pub is_open : v.core.queue.phase ≡ batch.Open
   pub nothing : v.core.queue.messages ≡ []
 
--- its batch is closed
+-- its batch is closed: it has closed or left, or has found the order ended
 pub record RestsClosed {E : Type 0} (v : Sender E) : Type 0 where
   pub none : HasBegunNone v
   pub closed : v.core.queue.phase ≡ batch.Closed
@@ -71,6 +71,7 @@ RestTells v Going = ⊥
 RestTells v (Lost t o) = ⊥
 RestTells v (Own t) = ⊥
 RestTells v (Delivered t first last) = ⊥
+RestTells v (Left t) = ⊥
 RestTells v Full = ⊥
 RestTells v Closed = RestsClosed v
 RestTells v Spent = RestsSpent v
@@ -128,9 +129,15 @@ pub record GivesReady {E : Type 0} (X : Election E) (v : Sender E) (t : ℕ) : T
 pub record Delivers {E : Type 0} (X : Election E) (v : Sender E) (t first last : ℕ) : Type 0 where
   pub gives : GivesReady X v t
   pub published : HasPublished t v.core.phase
-  pub sends : is_closing v.core.queue.phase ≡ false
+  pub sends : is_marking v.core.queue.phase ≡ false
   pub first_is : first ≡ v.core.queue.first
   pub last_is : last ≡ next_of v.core.queue - 1
+
+-- it gives the page of this tenure back with its leave mark in the log
+pub record LeavesFor {E : Type 0} (X : Election E) (v : Sender E) (t : ℕ) : Type 0 where
+  pub gives : GivesReady X v t
+  pub published : HasPublished t v.core.phase
+  pub leaves : is_leaving v.core.queue.phase ≡ true
 
 -- of whatever tenure that was: its frame does not fit
 pub record IsFull {E : Type 0} (X : Election E) (v : Sender E) : Type 0 where
@@ -183,6 +190,7 @@ FeedTells X v got word Going = TellsNoMore X v got word
 FeedTells X v got word (Lost t o) = Loses X v got word t o
 FeedTells X v got word (Own t) = IsChosen X v t
 FeedTells X v got word (Delivered t first last) = Delivers X v t first last
+FeedTells X v got word (Left t) = LeavesFor X v t
 FeedTells X v got word Full = IsFull X v
 FeedTells X v got word Closed = Ends X v
 FeedTells X v got word Spent = FindsNoneLeft v got

@@ -8,7 +8,8 @@ ghost use Rattle.bus_register.specs.declared.registers.Op.TheVariants as step;
 ghost use Rattle.bus_batch.specs.Batches.{next_of, CanPut, IsPutFault, CanClose, IsCloseFault};
 ghost use Rattle.bus_batch.specs.Batches.{IsShut};
 ghost use Rattle.bus_batch.specs.declared.batches.Phase.TheVariants as queue_phase;
-ghost use Rattle.bus_tenure.specs.Core.{words_of, is_closing, is_closed};
+ghost use Rattle.bus_batch.specs.declared.messages.Mark.TheVariants as mark;
+ghost use Rattle.bus_tenure.specs.Core.{words_of, is_closing, is_leaving, is_closed};
 ghost use Rattle.bus_tenure.specs.Elections.{election_of, elections, layout_with};
 ghost use Rattle.bus_tenure.specs.Seen.{AwaitsItsPage, turns_of, HasElection};
 ghost use Rattle.bus_tenure.specs.Situations.{situation_of, Stays, tenure_begun as tenure_by_stage};
@@ -35,7 +36,7 @@ use super::reuses::Reuse;
 use super::steps::{Ending, Step, ending_of};
 use crate::limits::{LEAST_ROWS_AGAIN, MOST_ROWS_AGAIN};
 use bus_adoptcommit::Ratifier;
-use bus_batch::{CloseFault, PutFault};
+use bus_batch::{CloseFault, Message, PutFault};
 use bus_ownerbits::Election;
 use bus_presence::Pin;
 use bus_register::limits::{MOST_ROUNDS, MOST_SENDERS, NUMBERS, TENURES};
@@ -153,6 +154,13 @@ impl<Q: Ratifier + Drop> SenderCore<Q> {
         self.turns.pending()
     }
 
+    /// The messages that wait.
+    pub fn waiting(&self) -> &[Message]
+        ensures { result.now ≡ self.now.core.queue.messages }
+    {
+        self.turns.waiting()
+    }
+
     /// The number that the next message gets.
     pub fn next_number(&self) -> u64
         ensures { result ≡ next_of self.now.core.queue }
@@ -167,7 +175,14 @@ impl<Q: Ratifier + Drop> SenderCore<Q> {
         self.turns.is_closing()
     }
 
-    /// Nothing more is sent.
+    /// Its leave mark waits.
+    pub fn is_leaving(&self) -> bool
+        ensures { result ≡ is_leaving self.now.core.queue.phase }
+    {
+        self.turns.is_leaving()
+    }
+
+    /// Nothing more is sent: it has closed or left, or has found the order ended.
     pub fn is_closed(&self) -> bool
         ensures { result ≡ is_closed self.now.core.queue.phase }
     {
@@ -466,11 +481,11 @@ impl<Q: Ratifier + Drop> SenderCore<Q> {
         }
     }
 
-    /// It has closed, or is closing.
+    /// It has closed or left, or is about to.
     fn is_shut(&self) -> bool
         ensures { IsTrue result ↔ IsShut self.now.core.queue }
     {
-        self.turns.is_closing() || self.turns.is_closed()
+        self.turns.is_closing() || self.turns.is_leaving() || self.turns.is_closed()
     }
 
     /// Appends a message to the batch and gives its number. While it pins a tenure the batch is
@@ -507,7 +522,7 @@ impl<Q: Ratifier + Drop> SenderCore<Q> {
         ensures taken { OnOk result
             (self.new ≡ record self.old {
               core = record self.old.core {
-                queue = record self.old.core.queue { phase = queue_phase.Closing };
+                queue = record self.old.core.queue { phase = queue_phase.Marking mark.End };
               };
             }) }
         ensures could { OnOk result
@@ -519,10 +534,43 @@ impl<Q: Ratifier + Drop> SenderCore<Q> {
         if self.is_away() {
             return self.turns.close();
         }
-        if self.is_shut() {
-            return Err(CloseFault::Closed);
+        Err(self.mark_fault())
+    }
+
+    /// Lets its leave mark wait in place of messages. While it pins a tenure the batch is on its
+    /// way.
+    ///
+    /// Once the mark stands in the log the answer is Left, and nothing more is sent. A holder that
+    /// finds the order ended answers Closed, and nothing more is sent either; where the mark does
+    /// not fit the log it answers Full, and the mark waits on.
+    pub fn leave(&mut self) -> Result<(), CloseFault>
+        ensures taken { OnOk result
+            (self.new ≡ record self.old {
+              core = record self.old.core {
+                queue = record self.old.core.queue { phase = queue_phase.Marking mark.Leave };
+              };
+            }) }
+        ensures could { OnOk result
+            (CanClose (queue_of self.old.core.queue self.old.reuse)) }
+        ensures fault { IfErr result
+            (IsCloseFault (queue_of self.old.core.queue self.old.reuse)) }
+        ensures refused { OnErr result (self.new ≡ self.old) }
+    {
+        if self.is_away() {
+            return self.turns.leave();
         }
-        Err(CloseFault::Busy)
+        Err(self.mark_fault())
+    }
+
+    /// Why no mark is taken while it pins a tenure.
+    fn mark_fault(&self) -> CloseFault
+        requires { ¬ IsAway self.now.reuse }
+        ensures { IsCloseFault (queue_of self.now.core.queue self.now.reuse) result }
+    {
+        if self.is_shut() {
+            return CloseFault::Closed;
+        }
+        CloseFault::Busy
     }
 
     /// The page is taken and is to be laid.

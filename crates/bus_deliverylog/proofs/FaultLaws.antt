@@ -4,20 +4,31 @@ use Rattle.std.proofs.lemmas.Bool.{cases_lt}
 use Rattle.std.proofs.lemmas.List.{length-take, get_or-take}
 use Rattle.bus_register.specs.declared.registers.SenderNo.{SenderNo}
 use Rattle.bus_batch.specs.declared.messages.Item.{Item}
-use Rattle.bus_batch.specs.Frames.{Order, Spells, BeginsLog}
+use Rattle.bus_batch.specs.Frames.{Order, Says, Leaves, Spells, BeginsLog}
 use Rattle.bus_deliverylog.specs.Orders.{IsPrefixOfOrder}
 use Rattle.bus_deliverylog.specs.Logs.{IsFirstBad, IsTorn}
 use Rattle.bus_deliverylog.proofs.ReadLaws.{spells_begin, front_begins}
 
 -- ---- prefixes
-pub none_skips : (a b : Item) → a ≢ b → IsPrefixOfOrder (record { items = b ∷ []; ended = false }) (record { items = a ∷ b ∷ []; ended = false }) → ⊥
-none_skips a b other h = let e : a ∷ b ∷ [] ≡ b ∷ h.later = h.items in other cc
+pub none_skips : (a b : Item) → a ≢ b
+    → IsPrefixOfOrder (record { entries = Says b ∷ []; ended = false }) (record { entries = Says a ∷ Says b ∷ []; ended = false }) → ⊥
+none_skips a b other h = let e : Says a ∷ Says b ∷ [] ≡ Says b ∷ h.later = h.entries in let same : Says a ≡ Says b = cc in other (cc)
 
-pub none_repeats : (a b : Item) → a ≢ b → IsPrefixOfOrder (record { items = a ∷ a ∷ []; ended = false }) (record { items = a ∷ b ∷ []; ended = false }) → ⊥
-none_repeats a b other h = let e : a ∷ b ∷ [] ≡ a ∷ a ∷ h.later = h.items in other cc
+pub none_repeats : (a b : Item) → a ≢ b
+    → IsPrefixOfOrder (record { entries = Says a ∷ Says a ∷ []; ended = false }) (record { entries = Says a ∷ Says b ∷ []; ended = false })
+    → ⊥
+none_repeats a b other h = let e : Says a ∷ Says b ∷ [] ≡ Says a ∷ Says a ∷ h.later = h.entries in let same : Says b ≡ Says a = cc in other (cc)
 
-pub none_ended : (a : Item) → IsPrefixOfOrder (record { items = []; ended = true }) (record { items = a ∷ []; ended = false }) → ⊥
+pub none_ended : (a : Item) → IsPrefixOfOrder (record { entries = []; ended = true }) (record { entries = Says a ∷ []; ended = false }) → ⊥
 none_ended a h = let e : true ≡ false = ap (λ (o : Order). o.ended) (h.ended refl) in absurd cc
+
+pub none_skips_a_leave : (s : SenderNo) (a : Item)
+    → IsPrefixOfOrder (record { entries = Says a ∷ []; ended = false }) (record { entries = Leaves s ∷ Says a ∷ []; ended = false }) → ⊥
+none_skips_a_leave s a h = let e : Leaves s ∷ Says a ∷ [] ≡ Says a ∷ h.later = h.entries in absurd cc
+
+pub none_leaves_early : (s : SenderNo) (a : Item)
+    → IsPrefixOfOrder (record { entries = Leaves s ∷ []; ended = false }) (record { entries = Says a ∷ Leaves s ∷ []; ended = false }) → ⊥
+none_leaves_early s a h = let e : Says a ∷ Leaves s ∷ [] ≡ Leaves s ∷ h.later = h.entries in absurd cc
 
 -- ---- faults
 pub whole_not_torn : (senders : ℕ) (words : List ℕ) (order : Order) (owners : List (ℕ × SenderNo)) → Spells senders words order owners → IsTorn senders words → ⊥

@@ -4,4 +4,5 @@ pub mod WriteLaws
 pub mod WritingSteps
 pub mod FaultLaws
 pub mod PrefixLaws
+pub mod Merging
 mod TextLemmas

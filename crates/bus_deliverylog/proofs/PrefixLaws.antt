@@ -1,14 +1,17 @@
 -- What was read is a prefix of what the whole log says.
-use Rattle.std.proofs.Common.{◌≡◌, ℕ, ◌+◌, ◌⊎◌, List, [], ◌∷◌, ◌++◌, true, Option, Some, refl, sym, ap, ◌∙◌, subst, append-nil, inl, inr}
+use Rattle.std.proofs.Common.{◌≡◌, ℕ, ◌+◌, ◌⊎◌, List, [], ◌∷◌, ◌++◌, true, false, Option, Some, refl, sym, ap, ◌∙◌, subst, append-nil, inl}
+use Rattle.std.proofs.Common.{inr}
 use Rattle.std.specs.Prelude.{◌||◌}
 use Rattle.std.specs.List.{flat_map, list_any}
 use Rattle.std.proofs.lemmas.Bool.{false≢true, or_parts}
 use Rattle.std.proofs.lemmas.List.Concat.{flat_map-append}
 use Rattle.std.proofs.lemmas.List.Folds.{list_any-append}
 use Rattle.bus_register.specs.declared.registers.SenderNo.{SenderNo}
+use Rattle.bus_batch.specs.declared.messages.Mark.TheVariants as mark
 use Rattle.bus_batch.specs.declared.messages.Piece.{Piece}
 use Rattle.bus_batch.specs.declared.messages.Piece.TheVariants as piece
-use Rattle.bus_batch.specs.Frames.{Frame, Body, Messages, EndMark, AreFrames, AreFramesFrom, Order, order_of, Spells, order_in, owners_in, piece_items, piece_owners, is_end, body_pieces, log_pieces}
+use Rattle.bus_batch.specs.Frames.{Frame, Body, Messages, Marked, ends, AreFrames, AreFramesFrom, Order, order_of, Spells, order_in}
+use Rattle.bus_batch.specs.Frames.{owners_in, piece_entries, piece_owners, is_end, body_pieces, log_pieces}
 use Rattle.bus_batch.specs.Reading.{Reading, HasRead}
 use Rattle.bus_batch.proofs.PieceLaws.{body_end, order_in-log, owners_in-log}
 use Rattle.bus_deliverylog.specs.Orders.{IsPrefixOfOrder}
@@ -42,15 +45,24 @@ only_end : (p q : List (Option Piece)) → Some piece.End ∷ [] ≡ p ++ q → 
 only_end [] q e later = absurd (false≢true later)
 only_end (y ∷ p) q e later = (tail_empty p q (let t : [] ≡ p ++ q = cc in t)).1
 
+-- behind a frame that is no end mark nothing follows an end, if nothing does in the frames after it
+end_behind : (o : SenderNo) (b : Body) (fs : List Frame) (p q : List (Option Piece))
+    → ((p' : List (Option Piece)) → log_pieces fs ≡ p' ++ q → list_any is_end p' ≡ true → q ≡ [])
+    → ends b ≡ false → body_pieces o b ++ log_pieces fs ≡ p ++ q → list_any is_end p ≡ true → q ≡ []
+end_behind o b fs p q others open_body rest later =
+    let none : list_any is_end (body_pieces o b) ≡ false = body_end o b ∙ open_body in
+    elim (parted (body_pieces o b) (log_pieces fs) p q rest) [
+      | inl l ↦ others l.middle l.second
+          (sym (ap (λ z. z || list_any is_end l.middle) none) ∙ sym (list_any-append is_end (body_pieces o b) l.middle) ∙ ap (list_any is_end) (sym l.first) ∙ later)
+      | inr s ↦ absurd (false≢true (sym (or_parts (list_any is_end p) (list_any is_end s.middle) (sym (list_any-append is_end p s.middle) ∙ ap (list_any is_end) (sym s.first) ∙ none)).0 ∙ later))
+    ]
+
 -- within a frame nothing follows an end, if nothing does in the frames after it
 end_in_body : (o : SenderNo) (b : Body) (fs : List Frame) (p q : List (Option Piece)) → ((p' : List (Option Piece)) → log_pieces fs ≡ p' ++ q → list_any is_end p' ≡ true → q ≡ [])
-    → (b ≡ EndMark → fs ≡ []) → body_pieces o b ++ log_pieces fs ≡ p ++ q → list_any is_end p ≡ true → q ≡ []
-end_in_body o (Messages ms) fs p q others last rest later = elim (parted (body_pieces o (Messages ms)) (log_pieces fs) p q rest) [
-  | inl l ↦ others l.middle l.second
-      (sym (ap (λ z. z || list_any is_end l.middle) (body_end o (Messages ms))) ∙ sym (list_any-append is_end (body_pieces o (Messages ms)) l.middle) ∙ ap (list_any is_end) (sym l.first) ∙ later)
-  | inr s ↦ absurd (false≢true (sym (or_parts (list_any is_end p) (list_any is_end s.middle) (sym (list_any-append is_end p s.middle) ∙ ap (list_any is_end) (sym s.first) ∙ body_end o (Messages ms))).0 ∙ later))
-]
-end_in_body o EndMark fs p q others last rest later = only_end p q (ap (λ z. Some piece.End ∷ log_pieces z) (sym (last refl)) ∙ rest) later
+    → (b ≡ Marked mark.End → fs ≡ []) → body_pieces o b ++ log_pieces fs ≡ p ++ q → list_any is_end p ≡ true → q ≡ []
+end_in_body o (Messages ms) fs p q others last rest later = end_behind o (Messages ms) fs p q others refl rest later
+end_in_body o (Marked mark.Leave) fs p q others last rest later = end_behind o (Marked mark.Leave) fs p q others refl rest later
+end_in_body o (Marked mark.End) fs p q others last rest later = only_end p q (ap (λ z. Some piece.End ∷ log_pieces z) (sym (last refl)) ∙ rest) later
 
 -- nothing follows an end
 pub end_last : (senders least : ℕ) (fs : List Frame) (p q : List (Option Piece)) → AreFramesFrom senders least fs → log_pieces fs ≡ p ++ q → list_any is_end p ≡ true → q ≡ []
@@ -67,8 +79,8 @@ pub order_in-prefix : (senders : ℕ) (frames : List Frame) (p q : List (Option 
 order_in-prefix senders frames p q lawful e =
     let order_is : order_of frames ≡ order_in (p ++ q) = sym (order_in-log frames) ∙ ap order_in e in
     record {
-      later = flat_map piece_items q;
-      items = ap (λ (z : Order). z.items) order_is ∙ flat_map-append piece_items p q;
+      later = flat_map piece_entries q;
+      entries = ap (λ (z : Order). z.entries) order_is ∙ flat_map-append piece_entries p q;
       ended = λ d.
           let nothing = end_last senders 0 frames p q lawful e d in
           sym (order_is ∙ ap order_in (ap (λ z. p ++ z) nothing ∙ append-nil p));

@@ -8,9 +8,8 @@ use Rattle.std.proofs.lemmas.List.Concat.{flat_map-append}
 use Rattle.std.proofs.lemmas.List.Folds.{list_any-append}
 use Rattle.std.proofs.Math.Seq.{drop-cons}
 use Rattle.bus_register.specs.declared.registers.SenderNo.{SenderNo}
-use Rattle.bus_batch.specs.declared.messages.Item.{Item}
 use Rattle.bus_batch.specs.declared.messages.Piece.{Piece}
-use Rattle.bus_batch.specs.Frames.{Order, Spells, BeginsLog, piece_items, piece_owners, is_end}
+use Rattle.bus_batch.specs.Frames.{Order, Entry, Spells, BeginsLog, piece_entries, piece_owners, is_end}
 use Rattle.bus_batch.specs.Reading.{Reading, HasRead}
 use Rattle.bus_batch.proofs.PieceLaws.{order_made}
 use Rattle.bus_deliverylog.specs.Logs.{Reads}
@@ -19,15 +18,16 @@ use Rattle.bus_deliverylog.specs.Logs.{Reads}
 pub reads_more : (senders word : ℕ) (words words' : List ℕ) (old new : Reading) (order order' : Order) (owners owners' : List (ℕ × SenderNo)) (found : Option Piece)
     → (r : Reads senders words old order owners) → new.senders ≡ old.senders → words' ≡ words ++ word ∷ []
     → HasRead old.senders (words ++ word ∷ []) (r.pieces ++ found ∷ []) new
-    → order'.items ≡ order.items ++ piece_items found → order'.ended ≡ (order.ended || is_end found) → owners' ≡ owners ++ piece_owners found
+    → order'.entries ≡ order.entries ++ piece_entries found → order'.ended ≡ (order.ended || is_end found)
+    → owners' ≡ owners ++ piece_owners found
     → Reads senders words' new order' owners'
-reads_more senders word words words' old new order order' owners owners' found r same words_are had items ended owners_are = record {
+reads_more senders word words words' old new order order' owners owners' found r same words_are had entries ended owners_are = record {
   pieces = r.pieces ++ found ∷ [];
   senders_are = same ∙ r.senders_are;
   had = subst (λ z. HasRead z words' (r.pieces ++ found ∷ []) new) (sym same) (subst (λ z. HasRead old.senders z (r.pieces ++ found ∷ []) new) (sym words_are) had);
   order_is =
-      ap (λ (z : List Item). order_made z order'.ended) (items ∙ ap (λ (z : Order). z.items ++ piece_items found) r.order_is ∙ ap (λ z. flat_map piece_items r.pieces ++ z) (sym (append-nil (piece_items found))) ∙ sym (flat_map-append piece_items r.pieces (found ∷ [])))
-      ∙ ap (λ (z : Bool). order_made (flat_map piece_items (r.pieces ++ found ∷ [])) z)
+      ap (λ (z : List Entry). order_made z order'.ended) (entries ∙ ap (λ (z : Order). z.entries ++ piece_entries found) r.order_is ∙ ap (λ z. flat_map piece_entries r.pieces ++ z) (sym (append-nil (piece_entries found))) ∙ sym (flat_map-append piece_entries r.pieces (found ∷ [])))
+      ∙ ap (λ (z : Bool). order_made (flat_map piece_entries (r.pieces ++ found ∷ [])) z)
       (ended ∙ ap (λ (z : Order). z.ended || is_end found) r.order_is ∙ ap (λ z. list_any is_end r.pieces || z) (sym (or-false (is_end found))) ∙ sym (list_any-append is_end r.pieces (found ∷ [])));
   owners_are = owners_are ∙ ap (λ z. z ++ piece_owners found) r.owners_are ∙ ap (λ z. flat_map piece_owners r.pieces ++ z) (sym (append-nil (piece_owners found))) ∙ sym (flat_map-append piece_owners r.pieces (found ∷ []));
 }

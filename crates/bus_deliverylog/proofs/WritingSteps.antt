@@ -8,7 +8,7 @@ use Rattle.bus_register.specs.declared.registers.Op.TheVariants.{Store}
 use Rattle.bus_register.specs.declared.registers.SenderNo.{SenderNo}
 use Rattle.bus_register.specs.Words.{register, after}
 use Rattle.bus_register.specs.Tables.{Beside}
-use Rattle.bus_batch.specs.Frames.{Frame, IsFrame, frame_words, Spells, Order, items_of, ends, tenure_and_owner}
+use Rattle.bus_batch.specs.Frames.{Frame, IsFrame, frame_words, Spells, Order, entries_of, has_gone, ends, tenure_and_owner}
 use Rattle.bus_batch.proofs.FrameLaws.{spells_more}
 use Rattle.bus_deliverylog.specs.Writing.{Writing, writing_kind, writing_op, writing_fed, words_at, HasStored, IsApart}
 
@@ -80,10 +80,11 @@ raises table w had is =
 
 -- so the words below the new length are whole frames
 pub raises_whole : (table : ℕ → ℕ) (w : Writing) (senders : ℕ) (order : Order) (owners : List (ℕ × SenderNo)) (f : Frame) → HasStored table w → writing_kind w ≡ Some StoreLength
-    → w.frame ≡ frame_words f → Spells senders (words_at table w.log_at w.from) order owners → order.ended ≡ false → IsFrame senders f → All (λ p. p.0 < f.tenure) owners
-    → Spells senders (words_at table w.log_at (w.from + length w.frame)) (record { items = order.items ++ items_of f; ended = ends f.body }) (owners ++ tenure_and_owner f ∷ [])
-raises_whole table w senders order owners f had is frame spelt unended lawful above =
+    → w.frame ≡ frame_words f → Spells senders (words_at table w.log_at w.from) order owners → order.ended ≡ false
+    → has_gone f.owner.0 order ≡ false → IsFrame senders f → All (λ p. p.0 < f.tenure) owners
+    → Spells senders (words_at table w.log_at (w.from + length w.frame)) (record { entries = order.entries ++ entries_of f; ended = ends f.body }) (owners ++ tenure_and_owner f ∷ [])
+raises_whole table w senders order owners f had is frame spelt unended stays lawful above =
     let stands = (raises table w had is).1 in
-    subst (λ z. Spells senders z (record { items = order.items ++ items_of f; ended = ends f.body }) (owners ++ tenure_and_owner f ∷ []))
+    subst (λ z. Spells senders z (record { entries = order.entries ++ entries_of f; ended = ends f.body }) (owners ++ tenure_and_owner f ∷ []))
     (sym (words_at-add table w.log_at w.from (length w.frame) ∙ ap (λ z. words_at table w.log_at w.from ++ z) (stands ∙ frame)))
-    (spells_more senders (words_at table w.log_at w.from) order owners f spelt unended lawful above)
+    (spells_more senders (words_at table w.log_at w.from) order owners f spelt unended stays lawful above)

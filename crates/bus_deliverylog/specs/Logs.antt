@@ -22,7 +22,7 @@ pub record StopsAtGood (senders : ℕ) (words : List ℕ) : Type 0 where
   pub below : place < length words
   pub good : BeginsLog senders (take (place + 1) words)
 
--- the words gave, one after another, the items of an order, its end mark, and the tenures and owners of frames
+-- the words gave, one after another, the entries of an order, its end mark, and the tenures and owners of frames
 pub record HasGiven (senders : ℕ) (words : List ℕ) (order : Order) (owners : List (ℕ × SenderNo)) : Type 0 where
   pub pieces : List (Option Piece)
   pub reader : Reading

@@ -36,6 +36,7 @@ turn_of None = turn.Going
 turn_of (Some (piece.Head tenure owner)) = turn.Head tenure owner
 turn_of (Some (piece.Item item)) = turn.Item item
 turn_of (Some piece.End) = turn.End
+turn_of (Some (piece.Leave s)) = turn.Leave s
 
 -- it has read these words, which gave these pieces
 pub record HasReceived (words : List ℕ) (pieces : List (Option Piece)) (r : Receiving) : Type 0 where

@@ -26,4 +26,5 @@ recv_text recv.Going = codes "going"
 recv_text recv.Empty = codes "empty"
 recv_text (recv.Head t o) = codes "head " ++ decimal t ++ codes " " ++ decimal o.0
 recv_text (recv.Item i) = codes "item " ++ item_text i
+recv_text (recv.Leave s) = codes "leave " ++ decimal s.0
 recv_text recv.End = codes "end"

@@ -2,7 +2,7 @@
 
 ghost use Rattle.std.specs.Prelude.{◌≡◌, ◌≢◌, IfOk, IfErr, Err};
 ghost use Rattle.bus_batch.specs.Frames.{BeginsLog};
-ghost use Rattle.bus_deliverylog.specs.Orders.{order_held};
+ghost use Rattle.bus_deliverylog.specs.Orders.{order_held, HasPlaces};
 ghost use Rattle.bus_deliverylog.specs.Logs.{IsFirstBad, HasGiven, StopsAtGood};
 
 use crate::orders::{LogFault, LogRead};
@@ -14,6 +14,7 @@ use std::alloc::Global;
 pub fn read_front(alloc: Global, words: &[u64], senders: u64) -> Result<LogRead, LogFault>
     ensures read { IfOk result
         (λ read. HasGiven senders words.now (order_held read.order) read.owners.items) }
+    ensures places { IfOk result (λ read. HasPlaces read.order) }
     ensures begins { BeginsLog senders words.now
         → IfErr result (λ fault. fault ≡ LogFault.NoMemory) }
     ensures bad { (place : _) → result ≡ Err (LogFault.BadWord place)

@@ -1,23 +1,25 @@
 //! Laws of the log and of its two ends: each function does nothing, and its contract is the law.
 
 ghost use Rattle.std.specs.Prelude.{◌≡◌, ◌≢◌, ℕ, ◌+◌, ◌<◌, List, []};
-ghost use Rattle.std.specs.Prelude.{◌∷◌, ◌++◌, length, All, Some, false, true};
+ghost use Rattle.std.specs.Prelude.{◌∷◌, ◌++◌, length, All, Some, false, true, slice_get};
 ghost use Rattle.bus_register.specs.Words.{register, after};
 ghost use Rattle.bus_register.specs.Tables.{Beside};
 ghost use Rattle.bus_register.specs.declared.kinds.Kind.TheVariants as kind;
 ghost use Rattle.bus_register.specs.declared.registers.Op.TheVariants as op;
-ghost use Rattle.bus_batch.specs.Frames.{Frame, IsFrame, frame_words, Spells, items_of, ends};
-ghost use Rattle.bus_batch.specs.Frames.{tenure_and_owner, order_in, owners_in};
+ghost use Rattle.bus_batch.specs.Frames.{Frame, IsFrame, frame_words, Spells, entries_of, ends};
+ghost use Rattle.bus_batch.specs.Frames.{tenure_and_owner, order_in, owners_in, has_gone};
+ghost use Rattle.bus_batch.specs.Frames.{Entry, Says, Leaves, items_in};
+ghost use Rattle.bus_register.specs.declared.registers.SenderNo.{SenderNo};
 ghost use Rattle.bus_batch.specs.Reading.{HasRead};
 ghost use Rattle.bus_batch.specs.declared.messages.Item.{Item};
-ghost use Rattle.bus_deliverylog.specs.Orders.{IsPrefixOfOrder};
+ghost use Rattle.bus_deliverylog.specs.Orders.{IsPrefixOfOrder, merged, AreMarks};
 ghost use Rattle.bus_deliverylog.specs.Logs.{IsFirstBad, IsTorn};
 ghost use Rattle.bus_deliverylog.specs.Writing.{Writing, writing_kind, writing_op, writing_fed};
 ghost use Rattle.bus_deliverylog.specs.Writing.{words_at, HasStored, IsApart};
 
 /// What a writer has stored stands in the log: of none before the first step, of one word more
 /// after each. When it stores the length, its whole frame stands in the log; so the words below the
-/// new length spell the frame's items after those that were spelt before.
+/// new length spell the frame's entries after those that were spelt before.
 pub fn writer_is_lawful()
     ensures starts { (table : ℕ → ℕ) (w : Writing) → w.stored ≡ 0 → HasStored table w }
     ensures steps { (table : ℕ → ℕ) (table' : ℕ → ℕ) (w : Writing) (o : _)
@@ -34,10 +36,10 @@ pub fn writer_is_lawful()
         → HasStored table w → writing_kind w ≡ Some kind.StoreLength
         → w.frame ≡ frame_words f
         → Spells senders (words_at table w.log_at w.from) order owners → order.ended ≡ false
-        → IsFrame senders f → All (λ p. p.0 < f.tenure) owners
+        → has_gone f.owner.0 order ≡ false → IsFrame senders f → All (λ p. p.0 < f.tenure) owners
         → Spells senders (words_at table w.log_at (w.from + length w.frame))
         (record {
-          items = order.items ++ items_of f;
+          entries = order.entries ++ entries_of f;
           ended = ends f.body;
         }) (owners ++ tenure_and_owner f ∷ []) }
 {}
@@ -51,24 +53,53 @@ pub fn reads_a_prefix()
         × ((later : _) × (owners ≡ owners_in pieces ++ later)) }
 {}
 
-/// What is no prefix of an order: what skips an item, what repeats one, and what has ended before
-/// it.
+/// What is no prefix of an order: what skips an item or a leave mark, what repeats an item, what
+/// has ended before it, and what has a leave mark too early.
 pub fn no_prefix_is()
     ensures skips { (a : Item) (b : Item) → a ≢ b
         → ¬ IsPrefixOfOrder (record {
-          items = b ∷ [];
+          entries = Says b ∷ [];
           ended = false;
-        }) (record { items = a ∷ b ∷ []; ended = false }) }
+        }) (record { entries = Says a ∷ Says b ∷ []; ended = false }) }
     ensures repeats { (a : Item) (b : Item) → a ≢ b
         → ¬ IsPrefixOfOrder (record {
-          items = a ∷ a ∷ [];
+          entries = Says a ∷ Says a ∷ [];
           ended = false;
-        }) (record { items = a ∷ b ∷ []; ended = false }) }
+        }) (record { entries = Says a ∷ Says b ∷ []; ended = false }) }
     ensures ended { (a : Item)
-        → ¬ IsPrefixOfOrder (record { items = []; ended = true }) (record {
-          items = a ∷ [];
+        → ¬ IsPrefixOfOrder (record { entries = []; ended = true }) (record {
+          entries = Says a ∷ [];
           ended = false;
         }) }
+    ensures skips_a_leave { (s : SenderNo) (a : Item)
+        → ¬ IsPrefixOfOrder (record {
+          entries = Says a ∷ [];
+          ended = false;
+        }) (record { entries = Leaves s ∷ Says a ∷ []; ended = false }) }
+    ensures leaves_early { (s : SenderNo) (a : Item)
+        → ¬ IsPrefixOfOrder (record {
+          entries = Leaves s ∷ [];
+          ended = false;
+        }) (record { entries = Says a ∷ Leaves s ∷ []; ended = false }) }
+{}
+
+/// Items and leave marks as one list: what is noted at the end of either joins it at its end, and
+/// its items are the items. A mark stands there behind as many items as it says.
+pub fn merged_is_one_list()
+    ensures item_joins { (items : List Item) (marks : List (SenderNo × ℕ)) (i : Item)
+        → AreMarks 0 (length items) marks
+        → merged (items ++ i ∷ []) marks ≡ merged items marks ++ Says i ∷ [] }
+    ensures mark_joins { (items : List Item) (marks : List (SenderNo × ℕ)) (s : SenderNo)
+        → AreMarks 0 (length items) marks
+        → merged items (marks ++ (s, length items) ∷ []) ≡ merged items marks ++ Leaves s ∷ [] }
+    ensures items_are { (items : List Item) (marks : List (SenderNo × ℕ))
+        → items_in (merged items marks) ≡ items }
+    // Each mark stands behind as many items as it says.
+    ensures marks_stand { (items : List Item) (marks : List (SenderNo × ℕ))
+        (k : ℕ) (s : SenderNo) (place : ℕ) → AreMarks 0 (length items) marks
+        → slice_get marks k ≡ Some (s, place)
+        → (front : List Entry) × (rest : List Entry)
+        × (merged items marks ≡ front ++ Leaves s ∷ rest) × (length (items_in front) ≡ place) }
 {}
 
 /// Words that are a log have no fault, and words that are none have one alone.

@@ -2,8 +2,8 @@
 
 ghost use Rattle.std.specs.Prelude.{◌≡◌, ◌≢◌, ℕ, List, ◌++◌, ◌||◌, IfOk};
 ghost use Rattle.std.specs.Prelude.{IfErr, OnOk, MatchResult, Err};
-ghost use Rattle.bus_batch.specs.Frames.{Spells, BeginsLog, piece_items, piece_owners, is_end};
-ghost use Rattle.bus_deliverylog.specs.Orders.{order_held};
+ghost use Rattle.bus_batch.specs.Frames.{Spells, BeginsLog, piece_entries, piece_owners, is_end};
+ghost use Rattle.bus_deliverylog.specs.Orders.{order_held, HasPlaces};
 ghost use Rattle.bus_deliverylog.specs.Logs.{Reads, IsFirstBad, IsTorn, StopsAtGood};
 
 use crate::orders::{LogFault, LogRead, Order};
@@ -14,6 +14,7 @@ use std::alloc::Global;
 pub fn read_log(alloc: Global, words: &[u64], senders: u64) -> Result<LogRead, LogFault>
     ensures read { IfOk result
         (λ read. Spells senders words.now (order_held read.order) read.owners.items) }
+    ensures places { IfOk result (λ read. HasPlaces read.order) }
 
     // Of the words of a log it tells just what they spell, unless memory is refused.
     ensures exact { (order : _) (owners : _) → Spells senders words.now order owners
@@ -40,6 +41,7 @@ pub(crate) fn read_words(
 ) -> Result<(LogRead, FrameReader), LogFault>
     ensures read { IfOk result
         (λ done. Reads senders words.now done.1 (order_held done.0.order) done.0.owners.items) }
+    ensures places { IfOk result (λ done. HasPlaces done.0.order) }
     ensures begins { BeginsLog senders words.now
         → IfErr result (λ fault. fault ≡ LogFault.NoMemory) }
     ensures bad { (place : _) → result ≡ Err (LogFault.BadWord place)
@@ -49,10 +51,7 @@ pub(crate) fn read_words(
 {
     let mut reader = FrameReader::new(senders);
     let mut read = LogRead {
-        order: Order {
-            items: Vec::new(alloc),
-            ended: false,
-        },
+        order: Order::new(alloc),
         owners: Vec::new(alloc),
     };
     for (place, word) in words.iter().enumerate() {
@@ -68,8 +67,10 @@ pub(crate) fn read_words(
 
 /// Notes what a word gave.
 fn note(read: &mut LogRead, found: Option<Piece>) -> Result<(), LogFault>
-    ensures items { OnOk result
-        (read.new.order.items.items ≡ read.old.order.items.items ++ piece_items found) }
+    requires { HasPlaces read.old.order }
+    ensures places { HasPlaces read.new.order }
+    ensures entries { OnOk result ((order_held read.new.order).entries
+        ≡ (order_held read.old.order).entries ++ piece_entries found) }
     ensures ended { OnOk result (read.new.order.ended ≡ (read.old.order.ended || is_end found)) }
     ensures owners { OnOk result
         (read.new.owners.items ≡ read.old.owners.items ++ piece_owners found) }
@@ -83,7 +84,12 @@ fn note(read: &mut LogRead, found: Option<Piece>) -> Result<(), LogFault>
             }
         }
         Some(Piece::Item(item)) => {
-            if read.order.items.push(item).is_err() {
+            if read.order.push(item).is_err() {
+                return Err(LogFault::NoMemory);
+            }
+        }
+        Some(Piece::Leave(sender)) => {
+            if read.order.leave(sender).is_err() {
                 return Err(LogFault::NoMemory);
             }
         }

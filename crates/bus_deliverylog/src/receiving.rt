@@ -19,6 +19,8 @@ pub enum RecvTurn {
     /// A frame begins.
     Head { tenure: u64, owner: SenderNo },
     Item(Item),
+    /// This sender has left for good.
+    Leave(SenderNo),
     /// The order has ended.
     End,
 }
@@ -232,6 +234,7 @@ impl Reader {
             None => RecvTurn::Going,
             Some(Piece::Head { tenure, owner }) => RecvTurn::Head { tenure, owner },
             Some(Piece::Item(item)) => RecvTurn::Item(item),
+            Some(Piece::Leave(sender)) => RecvTurn::Leave(sender),
             Some(Piece::End) => {
                 self.ended = true;
                 RecvTurn::End

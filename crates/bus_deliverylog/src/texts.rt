@@ -59,6 +59,7 @@ impl fmt::Display for RecvTurn {
                 let item = ItemText(item);
                 write!(f, "item {item}")
             }
+            RecvTurn::Leave(sender) => write!(f, "leave {}", sender.0),
             RecvTurn::End => f.write_str("end"),
         }
     }

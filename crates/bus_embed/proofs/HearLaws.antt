@@ -53,6 +53,7 @@ next {before = before} {n = n} {many = many} {at = at} {at' = at'} (heard.Item i
           ∙ ap (λ l. l ++ drop (suc many) before) (sym (map-append item_told g.items (item ∷ [])))
           ∙ ap (λ k. map item_told (g.items ++ item ∷ []) ++ drop k before) (one_more many ∙ sym is.0);
     }
+next (heard.Leave sender) g h on room one none = nothing (heard.Leave sender) refl g h on (none refl).0 (none refl).1
 next heard.End g h on room one none = absurd (let bad : false ≡ true = on in cc)
 
 -- a turn that ended it

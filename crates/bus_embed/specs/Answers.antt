@@ -27,6 +27,7 @@ turn_code turn.Going = code.GOING
 turn_code (turn.Lost tenure owner) = code.LOST
 turn_code (turn.Own tenure) = code.OWN
 turn_code (turn.Delivered tenure first last) = code.DELIVERED
+turn_code (turn.Left tenure) = code.LEFT
 turn_code turn.Full = code.FULL
 turn_code turn.Closed = code.CLOSED
 turn_code turn.Spent = code.SPENT
@@ -37,6 +38,7 @@ heard_code heard.Going = code.GOING
 heard_code heard.Empty = code.EMPTY
 heard_code (heard.Head tenure owner) = code.HEAD
 heard_code (heard.Item item) = code.ITEM
+heard_code (heard.Leave sender) = code.LEAVE
 heard_code heard.End = code.END
 
 abbrev pub make_code : MakeFault → ℕ
@@ -81,6 +83,7 @@ turn_answer turn.Going = record { tenure = 0; first = 0; last = 0; sender = 0 }
 turn_answer (turn.Lost tenure owner) = record { tenure = tenure; first = 0; last = 0; sender = owner.0 }
 turn_answer (turn.Own tenure) = record { tenure = tenure; first = 0; last = 0; sender = 0 }
 turn_answer (turn.Delivered tenure first last) = record { tenure = tenure; first = first; last = last; sender = 0 }
+turn_answer (turn.Left tenure) = record { tenure = tenure; first = 0; last = 0; sender = 0 }
 turn_answer turn.Full = record { tenure = 0; first = 0; last = 0; sender = 0 }
 turn_answer turn.Closed = record { tenure = 0; first = 0; last = 0; sender = 0 }
 turn_answer turn.Spent = record { tenure = 0; first = 0; last = 0; sender = 0 }
@@ -107,4 +110,5 @@ heard_answer heard.Going = record { tenure = 0; owner = 0; item = no_item }
 heard_answer heard.Empty = record { tenure = 0; owner = 0; item = no_item }
 heard_answer (heard.Head tenure owner) = record { tenure = tenure; owner = owner.0; item = no_item }
 heard_answer (heard.Item item) = record { tenure = 0; owner = 0; item = item_told item }
+heard_answer (heard.Leave sender) = record { tenure = 0; owner = sender.0; item = no_item }
 heard_answer heard.End = record { tenure = 0; owner = 0; item = no_item }

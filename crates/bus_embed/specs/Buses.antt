@@ -40,7 +40,7 @@ rows_again false rows = None
 
 -- the page of a bus that left this
 abbrev pub page_of : Left → Page
-page_of left = record { next = left.next; ended = left.ended; tenures = left.tenures; words = left.words }
+page_of left = record { next = left.next; left = left.gone; ended = left.ended; tenures = left.tenures; words = left.words }
 
 abbrev pub pages : Option Left → Option Page
 pages None = None

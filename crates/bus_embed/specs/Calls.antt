@@ -3,6 +3,7 @@ use Rattle.std.specs.Prelude.{◌≡◌, ℕ, ◌+◌, ◌⊎◌, Bool, true, fa
 use Rattle.bus_register.specs.declared.registers.Op.{Op}
 use Rattle.bus_batch.specs.Batches.{next_of, CanPut, IsPutFault, CanClose, IsCloseFault}
 use Rattle.bus_batch.specs.declared.messages.Item.{Item}
+use Rattle.bus_batch.specs.declared.messages.Mark.{Mark}
 use Rattle.bus_batch.specs.declared.batches.PutFault.{PutFault}
 use Rattle.bus_batch.specs.declared.batches.CloseFault.{CloseFault}
 use Rattle.bus_deliverylog.specs.declared.receiving.RecvTurn.{RecvTurn}
@@ -10,7 +11,7 @@ use Rattle.bus_deliverylog.specs.declared.receiving.RecvTurn.TheVariants as hear
 use Rattle.bus_tenure.specs.Core.{is_closed}
 use Rattle.bus_tenure.specs.declared.turns.Turn.{Turn}
 use Rattle.bus_core.specs.Telling.{FeedTells}
-use Rattle.bus_world.specs.Headline.{HasPut, HasClosed}
+use Rattle.bus_world.specs.Headline.{HasPut, HasMarked}
 use Rattle.bus_pageslot.specs.Listening.{Hears}
 use Rattle.bus_pageslot.specs.Rule.{Sat, receiver_view_in, known_in}
 use Rattle.bus_pageslot.specs.Seats.{SenderSeat, TookAndTold, table_of, actions_of, stored_of}
@@ -35,10 +36,10 @@ pub record Puts (old : SenderSeat Held) (bytes : List ℕ) (given : Result ℕ P
   pub refused : OnErr given (new.core ≡ old.core)
   pub seat : new.seat ≡ old.seat
 
--- a close was taken, or came to this fault
-pub record Closes (old : SenderSeat Held) (given : Result (Unit {0}) CloseFault) (new : SenderSeat Held) : Type 0 where
-  pub taken : OnOk given (new.core ≡ process.with_close old.core)
-  pub action : OnOk given (actions_of process new ≡ actions_of process old ++ HasClosed ∷ [])
+-- a close was taken, or a leave, by the mark that it asks for, or came to this fault
+pub record Closes (asked : Mark) (old : SenderSeat Held) (given : Result (Unit {0}) CloseFault) (new : SenderSeat Held) : Type 0 where
+  pub taken : OnOk given (new.core ≡ process.with_mark old.core asked)
+  pub action : OnOk given (actions_of process new ≡ actions_of process old ++ HasMarked asked ∷ [])
   pub could : OnOk given (CanClose (process.queue old.core))
   pub fault : IfErr given (IsCloseFault (process.queue old.core))
   pub refused : OnErr given (new.core ≡ old.core)
@@ -57,9 +58,9 @@ pub record PutAnswered (old : SenderSeat Held) (bytes : List ℕ) (answer before
   pub code : answer ≡ put_code given
   pub number : after ≡ written before given
 
-pub record CloseAnswered (old : SenderSeat Held) (answer : ℕ) (new : SenderSeat Held) : Type 0 where
+pub record CloseAnswered (asked : Mark) (old : SenderSeat Held) (answer : ℕ) (new : SenderSeat Held) : Type 0 where
   pub given : Result (Unit {0}) CloseFault
-  pub closes : Closes old given new
+  pub closes : Closes asked old given new
   pub code : answer ≡ close_code given
 
 pub record TurnAnswered (old : SenderSeat Held) (word answer : ℕ) (told : TurnAnswer) (new : SenderSeat Held) : Type 0 where
@@ -91,6 +92,7 @@ goes_on heard.Going = true
 goes_on heard.Empty = false
 goes_on (heard.Head tenure owner) = true
 goes_on (heard.Item item) = true
+goes_on (heard.Leave sender) = true
 goes_on heard.End = false
 
 -- the items of an answer: one or none
@@ -99,6 +101,7 @@ items_in heard.Going = []
 items_in heard.Empty = []
 items_in (heard.Head tenure owner) = []
 items_in (heard.Item item) = item ∷ []
+items_in (heard.Leave sender) = []
 items_in heard.End = []
 
 -- so many turns, each answered so that more may be there, gave these items and led from one seat to another

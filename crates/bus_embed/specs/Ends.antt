@@ -1,8 +1,8 @@
 -- What the end of a bus leaves, as numbers.
-use Rattle.std.specs.Prelude.{◌≡◌, ℕ, ◌+◌, ◌<◌, List, length, slice_index, Option, Some, None, Result, Ok, Err}
+use Rattle.std.specs.Prelude.{◌≡◌, ℕ, ◌+◌, ◌<◌, List, length, slice_get, slice_index, Option, Some, None, Result, Ok, Err}
 use Rattle.bus_register.specs.declared.limits.TheConstants.{MOST_SENDERS}
 use Rattle.bus_register.specs.declared.registers.SenderNo.{SenderNo}
-use Rattle.bus_batch.specs.Frames.{Order, Spells}
+use Rattle.bus_batch.specs.Frames.{Order, Spells, has_gone}
 use Rattle.bus_deliverylog.specs.Orders.{of_sender}
 use Rattle.bus_handles.specs.Handles.{SeatOfBus}
 use Rattle.bus_handles.specs.declared.answers.BusNotEnded.{BusNotEnded}
@@ -13,8 +13,8 @@ use Rattle.bus_embed.specs.declared.buses.Left.{Left}
 use Rattle.bus_embed.specs.Answers.{end_code, over}
 use Rattle.bus_embed.specs.Buses.{Held, process, automaton}
 
--- Of the order that the log spells (it spells one alone) how many items each sender has; its numbers before and behind it; and what the
--- page says besides.
+-- Of the order that the log spells (it spells one alone) how many items each sender has, and whether it has left; its numbers before and
+-- behind it; and what the page says besides.
 pub record IsLeftBy (z : Outcome) (left : Left) : Type 0 where
   pub order : Order
   pub owners : List (ℕ × SenderNo)
@@ -26,6 +26,7 @@ pub record IsLeftBy (z : Outcome) (left : Left) : Type 0 where
   pub words : left.words ≡ length z.log
   pub tenures : left.tenures ≡ z.page.tenures
   pub ended : left.ended ≡ z.page.ended
+  pub gone : (s : ℕ) → s < MOST_SENDERS → slice_get left.gone s ≡ Some (has_gone s order)
 
 -- The bus was ended, and its log's first words are written, as many as there is room for. Or it was not, and nothing is written.
 abbrev pub Leaves : SeatOfBus Held → List ℕ → Left → Result Outcome BusNotEnded → List ℕ → Left → Type 0

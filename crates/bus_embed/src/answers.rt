@@ -12,7 +12,7 @@ use bus_handles::{Item, MOST_BYTES, RecvTurn, Turn};
 #[repr(C)]
 #[derive(Clone, Copy, Debug)]
 pub struct TurnAnswer {
-    /// Of Lost, Own, Delivered and Behind.
+    /// Of Lost, Own, Delivered, Left and Behind.
     pub tenure: u64,
     /// Of Delivered: the number of the first message.
     pub first: u64,
@@ -26,7 +26,7 @@ pub struct TurnAnswer {
 #[repr(C)]
 #[derive(Clone, Copy, Debug)]
 pub struct HeardItem {
-    /// Its number among the messages of its sender, from 0 on.
+    /// Its number among the messages of its sender, from the base of that on.
     pub number: u64,
     /// Its sender.
     pub sender: u8,
@@ -42,7 +42,7 @@ pub struct HeardItem {
 pub struct HeardAnswer {
     /// Of Head, else 0: the tenure of the frame.
     pub tenure: u64,
-    /// Of Head, else 0: the sender that owned it.
+    /// Of Head: the sender that owned it. Of Leave: who has left. Else 0.
     pub owner: u8,
     /// Of Item, else of no byte.
     pub item: HeardItem,
@@ -108,6 +108,15 @@ pub(crate) fn turn_told(turn: Turn) -> (u32, TurnAnswer)
                 },
             )
         }
+        Turn::Left { tenure } => (
+            codes::LEFT,
+            TurnAnswer {
+                tenure,
+                first: 0,
+                last: 0,
+                sender: 0,
+            },
+        ),
         Turn::Full => (codes::FULL, none),
         Turn::Closed => (codes::CLOSED, none),
         Turn::Spent => (codes::SPENT, none),
@@ -186,6 +195,16 @@ pub(crate) fn heard_told(turn: RecvTurn) -> (u32, HeardAnswer)
                 HeardAnswer {
                     tenure: 0,
                     owner: 0,
+                    item,
+                },
+            )
+        }
+        RecvTurn::Leave(sender) => {
+            (
+                codes::LEAVE,
+                HeardAnswer {
+                    tenure: 0,
+                    owner: sender.0,
                     item,
                 },
             )

@@ -49,6 +49,8 @@ pub struct Left {
     pub tenures: u64,
     /// The order has ended.
     pub ended: bool,
+    /// Which senders have left.
+    pub gone: [bool; MOST_SENDERS],
 }
 
 /// Opens a bus of these sizes, as `open`, or as `open_cyclic` where its rows are used again.
@@ -146,6 +148,7 @@ impl Left {
             words: page.words,
             tenures: page.tenures,
             ended: page.ended,
+            gone: page.left,
         }
     }
 
@@ -155,6 +158,7 @@ impl Left {
     {
         Page {
             next: self.next,
+            left: self.gone,
             ended: self.ended,
             tenures: self.tenures,
             words: self.words,

@@ -17,7 +17,7 @@ pub const OWN: u32 = 5;
 pub const DELIVERED: u32 = 6;
 /// A sender: its frame does not fit the log.
 pub const FULL: u32 = 7;
-/// A sender: the order has ended.
+/// A sender: the order has ended, or this sender had left.
 pub const CLOSED: u32 = 8;
 /// A sender: all tenures are spent.
 pub const SPENT: u32 = 9;
@@ -33,6 +33,11 @@ pub const ITEM: u32 = 13;
 /// A receiver: the order has ended, and all of it was given.
 pub const END: u32 = 14;
 
+/// A sender: its leave mark stands in the order. It has left for good.
+pub const LEFT: u32 = 15;
+/// A receiver: a sender has left, and nothing of it follows.
+pub const LEAVE: u32 = 16;
+
 /// No bus: senders are not 1 to 64.
 pub const BAD_SENDERS: u32 = 32;
 /// No bus: receivers are not 1 to 8.
@@ -45,7 +50,7 @@ pub const BAD_ROWS: u32 = 35;
 pub const BAD_LOG_WORDS: u32 = 36;
 /// Memory was refused.
 pub const NO_MEMORY: u32 = 37;
-/// No put: a close was accepted, or the order is known to have ended.
+/// No put: a close or a leave was accepted, or the order is known to have ended.
 pub const PUT_CLOSED: u32 = 38;
 /// No put: the batch is on its way.
 pub const PUT_BUSY: u32 = 39;
@@ -53,11 +58,11 @@ pub const PUT_BUSY: u32 = 39;
 pub const PUT_TOO_LONG: u32 = 40;
 /// No put: 16 messages wait.
 pub const PUT_BATCH_FULL: u32 = 41;
-/// No close: one was accepted, or the order is known to have ended.
+/// No close or leave: one was accepted, or the order is known to have ended.
 pub const CLOSE_CLOSED: u32 = 42;
-/// No close: the batch is on its way.
+/// No close or leave: the batch is on its way.
 pub const CLOSE_BUSY: u32 = 43;
-/// No close: messages wait.
+/// No close or leave: messages wait.
 pub const CLOSE_PENDING: u32 = 44;
 /// No end: other handles have the bus still.
 pub const IN_USE: u32 = 45;

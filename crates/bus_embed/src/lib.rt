@@ -16,4 +16,4 @@ pub use answers::{HeardAnswer, HeardItem, TurnAnswer};
 pub use bus_handles::{ReceiverHandle, SenderHandle, ThreeWord};
 pub use buses::{Left, Sizes, end_bus, open_bus, open_bus_after, refused_code};
 pub use receivers::{ReceiverShown, hear_items, hear_once, show_receiver};
-pub use senders::{SenderShown, close_sender, put_message, show_sender, take_turn};
+pub use senders::{SenderShown, close_sender, leave_sender, put_message, show_sender, take_turn};

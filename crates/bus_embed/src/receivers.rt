@@ -34,7 +34,8 @@ pub fn hear_once(receiver: &mut ReceiverHandle<ThreeWord>, answer: &mut HeardAns
 
 /// Turns, at most so many, which write items into `items` from its first place on, as long as
 /// there is room: how many items they were, and the code of what ended it. That is Empty, or End,
-/// and Going where `items` is full or all turns are taken.
+/// and Going where `items` is full or all turns are taken. Leave marks are passed over, as heads:
+/// `hear_once` tells them.
 #[tactic(auto, using(crate::proofs::HearLaws::starts, crate::proofs::HearLaws::next, crate::proofs::HearLaws::stops, crate::proofs::HearLaws::full, crate::proofs::HearLaws::tired))]
 pub fn hear_items(
     receiver: &mut ReceiverHandle<ThreeWord>,
@@ -64,7 +65,8 @@ fn may_go_on(turn: &RecvTurn) -> bool
     ensures { result ≡ goes_on turn.now }
 {
     match turn {
-        RecvTurn::Going | RecvTurn::Head { .. } | RecvTurn::Item(_) => true,
+        RecvTurn::Going | RecvTurn::Head { .. } => true,
+        RecvTurn::Item(_) | RecvTurn::Leave(_) => true,
         RecvTurn::Empty | RecvTurn::End => false,
     }
 }
@@ -82,7 +84,8 @@ fn write_item(turn: RecvTurn, items: &mut [HeardItem], place: usize) -> usize
             items[place] = HeardItem::of(&item);
             place + 1
         }
-        RecvTurn::Going | RecvTurn::Head { .. } | RecvTurn::Empty | RecvTurn::End => place,
+        RecvTurn::Going | RecvTurn::Head { .. } | RecvTurn::Leave(_) => place,
+        RecvTurn::Empty | RecvTurn::End => place,
     }
 }
 

@@ -1,5 +1,8 @@
 //! The calls of a sender.
 
+ghost use Rattle.std.specs.Prelude.{◌≡◌};
+ghost use Rattle.bus_batch.specs.declared.messages.Mark.TheVariants as mark;
+ghost use Rattle.bus_embed.specs.Answers.{close_code};
 ghost use Rattle.bus_embed.specs.Calls.{PutAnswered, CloseAnswered, TurnAnswered, ShowsSender};
 
 use crate::answers::{TurnAnswer, turn_told};
@@ -45,9 +48,23 @@ pub fn put_message(sender: &mut SenderHandle<ThreeWord>, bytes: &[u8], number: &
 
 /// Lets an end mark wait, as `SenderHandle::close`: OK, or the code of the fault.
 pub fn close_sender(sender: &mut SenderHandle<ThreeWord>) -> u32
-    ensures { CloseAnswered sender.old result sender.new }
+    ensures { CloseAnswered mark.End sender.old result sender.new }
 {
-    match sender.close() {
+    closed_code(sender.close())
+}
+
+/// Lets a leave mark wait, as `SenderHandle::leave`: OK, or the code of the fault.
+pub fn leave_sender(sender: &mut SenderHandle<ThreeWord>) -> u32
+    ensures { CloseAnswered mark.Leave sender.old result sender.new }
+{
+    closed_code(sender.leave())
+}
+
+/// The code of what a close or a leave came to.
+fn closed_code(given: Result<(), CloseFault>) -> u32
+    ensures { result ≡ close_code given }
+{
+    match given {
         Ok(()) => codes::OK,
         Err(CloseFault::Closed) => codes::CLOSE_CLOSED,
         Err(CloseFault::Busy) => codes::CLOSE_BUSY,

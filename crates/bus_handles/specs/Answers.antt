@@ -12,6 +12,7 @@ delivered_turn done = turn.Delivered done.tenure done.first done.last
 -- the answer of the sender where none was
 abbrev pub not_delivered_turn : NotDelivered → Turn
 not_delivered_turn why.Idle = turn.Idle
+not_delivered_turn (why.Left tenure) = turn.Left tenure
 not_delivered_turn why.Full = turn.Full
 not_delivered_turn why.Closed = turn.Closed
 not_delivered_turn why.Spent = turn.Spent

@@ -1,9 +1,10 @@
 -- A close that is sent off at once.
 use Rattle.std.specs.Prelude.{◌≡◌, List, [], ◌∷◌, ◌++◌}
 use Rattle.bus_batch.specs.Batches.{CanClose, IsCloseFault}
+use Rattle.bus_batch.specs.declared.messages.Mark.TheVariants as mark
 use Rattle.bus_tenure.specs.declared.turns.Turn.{Turn}
 use Rattle.bus_tenure.specs.declared.turns.Turn.TheVariants as turn
-use Rattle.bus_world.specs.Headline.{HasClosed}
+use Rattle.bus_world.specs.Headline.{HasMarked}
 use Rattle.bus_automaton.specs.Processes.{Process}
 use Rattle.bus_pageslot.specs.Seats.{SenderSeat, actions_of}
 use Rattle.bus_pageslot.specs.Turns.{Tellings, Sends}
@@ -13,9 +14,9 @@ use Rattle.bus_handles.specs.declared.answers.OrderNotEnded.TheVariants as why
 -- a sender took a close, with no step
 pub record Closes {C : Type 0} (P : Process C) (old new : SenderSeat C) : Type 0 where
   pub could : CanClose (P.queue old.core)
-  pub core : new.core ≡ P.with_close old.core
+  pub core : new.core ≡ P.with_mark old.core mark.End
   pub seat : new.seat ≡ old.seat
-  pub action : actions_of P new ≡ actions_of P old ++ HasClosed ∷ []
+  pub action : actions_of P new ≡ actions_of P old ++ HasMarked mark.End ∷ []
 
 -- it took a close, and then turns up to a last one, which answered so
 pub record ClosesAndSends {C : Type 0} (P : Process C) (T : Tellings C) (old : SenderSeat C) (answer : Turn) (new : SenderSeat C) : Type 0 where

@@ -11,8 +11,9 @@ use Rattle.bus_handles.specs.declared.answers.BusNotEnded.TheVariants as bus
 
 abbrev pub not_delivered_text : NotDelivered → List ℕ
 not_delivered_text delivered.Idle = codes "nothing is delivered: no message waits"
+not_delivered_text (delivered.Left tenure) = codes "nothing is delivered: the sender has left"
 not_delivered_text delivered.Full = codes "nothing is delivered: the log is full"
-not_delivered_text delivered.Closed = codes "nothing is delivered: the order has ended"
+not_delivered_text delivered.Closed = codes "nothing is delivered: the order has ended, or the sender has left"
 not_delivered_text delivered.Spent = codes "nothing is delivered: all rows are spent"
 
 abbrev pub order_not_ended_text : OrderNotEnded → List ℕ

@@ -25,9 +25,11 @@ pub struct Delivered {
 pub enum NotDelivered {
     /// Nothing was pending.
     Idle,
+    /// Its leave mark stands in the order, by its frame of this tenure: it has left for good.
+    Left { tenure: u64 },
     /// The frame does not fit the log. The batch is kept.
     Full,
-    /// The order has ended, by this sender or another.
+    /// The order has ended, by this sender or another, or this sender had left before.
     Closed,
     /// All rows are spent. The batch is kept.
     Spent,
@@ -41,8 +43,11 @@ impl fmt::Display for NotDelivered {
     fn fmt<W: fmt::Write>(&self, f: &mut fmt::Formatter<W>) -> fmt::Result {
         f.write_str(match self {
             NotDelivered::Idle => "nothing is delivered: no message waits",
+            NotDelivered::Left { .. } => "nothing is delivered: the sender has left",
             NotDelivered::Full => "nothing is delivered: the log is full",
-            NotDelivered::Closed => "nothing is delivered: the order has ended",
+            NotDelivered::Closed => {
+                "nothing is delivered: the order has ended, or the sender has left"
+            }
             NotDelivered::Spent => "nothing is delivered: all rows are spent",
         })
     }
@@ -109,6 +114,7 @@ pub fn answered(turn: Turn) -> Result<Delivered, NotDelivered>
             last,
         }),
         Turn::Idle => Err(NotDelivered::Idle),
+        Turn::Left { tenure } => Err(NotDelivered::Left { tenure }),
         Turn::Full => Err(NotDelivered::Full),
         Turn::Closed => Err(NotDelivered::Closed),
         Turn::Spent => Err(NotDelivered::Spent),

@@ -39,9 +39,10 @@ pub fn open<Q: Ratifier + Drop>(
 
 /// Opens the next sitting, as `open`: a bus whose senders go on with the numbers of this page. That
 /// is the page of a bus that was ended once its order had ended: `end` gives it by `Ended::page`.
-/// Nothing else of it is carried over. A message that waited there waits no more and has to be put
-/// here anew, and gets its number again if it is put first. NotEnded says that the order of the
-/// page has not ended, and Numbers that a sender has no numbers left for a whole log.
+/// Nothing else of it is carried over. A message that waited there has to be put here anew, as
+/// `SenderHandle::carry_to` does, and gets its number again if it is put first. NotEnded says that
+/// the order of the page has not ended, and Numbers that a sender has no numbers left for a whole
+/// log.
 pub fn open_after<Q: Ratifier + Drop>(
     alloc: Global,
     shape: Shape,

@@ -89,7 +89,8 @@ impl<Q: Ratifier + Drop> ReceiverHandle<Q> {
         self.receiver.turn(bus)
     }
 
-    /// Turns, until one finds a head, an item or the end. That it ends is not promised.
+    /// Turns, until one finds a head, an item, a leave mark or the end. That it ends is not
+    /// promised.
     pub fn take<W: Wait>(&mut self, wait: &W) -> RecvTurn
         ensures bus { self.new.bus ≡ self.old.bus }
         ensures takes { Takes self.old.me result self.new.me }
@@ -99,7 +100,7 @@ impl<Q: Ratifier + Drop> ReceiverHandle<Q> {
     }
 
     /// Turns, until one finds an item or the end: the item, and none at the end and ever after. It
-    /// waits as `take` does, and that it ends is not promised.
+    /// passes over leave marks. It waits as `take` does, and that it ends is not promised.
     pub fn next_item<W: Wait>(&mut self, wait: &W) -> Option<Item>
         ensures bus { self.new.bus ≡ self.old.bus }
         ensures passes { PassesTo self.old.me (item_or_end result) self.new.me }

@@ -4,9 +4,10 @@ ghost use Rattle.std.specs.Prelude.{◌≡◌, ℕ, ◌+◌, List, [], ◌∷◌
 ghost use Rattle.std.specs.Prelude.{Some, None, IfSome, IfNone, IfOk, IfErr, OnOk, OnErr};
 ghost use Rattle.std.specs.Arc.{arc_value};
 ghost use Rattle.bus_batch.specs.Batches.{next_of, CanPut, IsPutFault, CanClose, IsCloseFault};
-ghost use Rattle.bus_tenure.specs.Core.{is_closed};
+ghost use Rattle.bus_batch.specs.declared.messages.Mark.TheVariants as mark;
+ghost use Rattle.bus_tenure.specs.Core.{is_closed, is_leaving};
 ghost use Rattle.bus_register.specs.declared.registers.Op.{Op};
-ghost use Rattle.bus_world.specs.Headline.{HasPut, HasClosed, puts};
+ghost use Rattle.bus_world.specs.Headline.{HasPut, HasMarked, puts};
 ghost use Rattle.bus_core.specs.Causes.{HasCause};
 ghost use Rattle.bus_core.specs.Telling.{FeedTells};
 ghost use Rattle.bus_core.specs.Telling.{RestTells};
@@ -16,6 +17,7 @@ ghost use Rattle.bus_pageslot.specs.Seats.{TookAndTold, table_of};
 ghost use Rattle.bus_pageslot.specs.Seats.{first_number_of, actions_of, stored_of};
 ghost use Rattle.bus_pageslot.specs.Turns.{tells_by, Sends, SendsAsking, StopsWaiting};
 ghost use Rattle.bus_pageslot.specs.Sendings.{waiting_of, HasSent, HasSentPart};
+ghost use Rattle.bus_pageslot.specs.Sendings.{Carries, CarryRefused};
 ghost use Rattle.bus_handles.specs.Answers.{delivered_turn, not_delivered_turn};
 ghost use Rattle.bus_handles.specs.Closings.{ClosesAndSends, NotEndedFor};
 
@@ -84,6 +86,13 @@ impl<Q: Ratifier + Drop, R: Rng + Drop> SenderHandle<Q, R> {
         self.sender.pending()
     }
 
+    /// The messages that wait in its batch, in their order.
+    pub fn waiting(&self) -> &[Message]
+        ensures { result.now ≡ waiting_of (process_by Q.Ratifier) self.now }
+    {
+        self.sender.waiting()
+    }
+
     /// The number that the next message gets.
     pub fn next_number(&self) -> u64
         ensures { result ≡ next_of ((process_by Q.Ratifier).queue self.now.core) }
@@ -91,12 +100,19 @@ impl<Q: Ratifier + Drop, R: Rng + Drop> SenderHandle<Q, R> {
         self.sender.next_number()
     }
 
-    /// It sends nothing more: it has closed the order, or has learned that the order has ended.
-    /// False as long as its close waits to be sent.
+    /// It sends nothing more: it has closed the order, has left it, or has learned that the order
+    /// has ended. False as long as its mark waits to be sent.
     pub fn is_closed(&self) -> bool
         ensures { result ≡ is_closed ((process_by Q.Ratifier).queue self.now.core).phase }
     {
         self.sender.is_closed()
+    }
+
+    /// It is to leave: its leave mark waits to be sent.
+    pub fn is_leaving(&self) -> bool
+        ensures { result ≡ is_leaving ((process_by Q.Ratifier).queue self.now.core).phase }
+    {
+        self.sender.is_leaving()
     }
 
     /// The last length of the log, in words, that it has stored; 0 before the first.
@@ -154,19 +170,50 @@ impl<Q: Ratifier + Drop, R: Rng + Drop> SenderHandle<Q, R> {
     }
 
     /// Lets an end mark wait, which ends the order once it is sent. Refused where messages wait,
-    /// in its batch or on their way, and where it is closing or closed. Takes no step. A fault
-    /// changes nothing.
+    /// in its batch or on their way, and where it is closing, leaving or closed. Takes no step. A
+    /// fault changes nothing.
     pub fn close(&mut self) -> Result<(), CloseFault>
         ensures taken { let P = process_by Q.Ratifier in
-            OnOk result (self.new.core ≡ P.with_close self.old.core) }
+            OnOk result (self.new.core ≡ P.with_mark self.old.core mark.End) }
         ensures action { let P = process_by Q.Ratifier in
-            OnOk result (actions_of P self.new ≡ actions_of P self.old ++ HasClosed ∷ []) }
+            OnOk result (actions_of P self.new ≡ actions_of P self.old ++ HasMarked mark.End ∷ []) }
         ensures could { OnOk result (CanClose ((process_by Q.Ratifier).queue self.old.core)) }
         ensures fault { IfErr result (IsCloseFault ((process_by Q.Ratifier).queue self.old.core)) }
         ensures refused { OnErr result (self.new.core ≡ self.old.core) }
         ensures seat { self.new.seat ≡ self.old.seat }
     {
         self.sender.close()
+    }
+
+    /// Lets a leave mark wait, which says in the order that this sender has left, once it is sent.
+    /// Nothing of this sender follows it, and it stays away until the next sitting. Refused where
+    /// `close` is. Takes no step. A fault changes nothing.
+    pub fn leave(&mut self) -> Result<(), CloseFault>
+        ensures taken { let P = process_by Q.Ratifier in
+            OnOk result (self.new.core ≡ P.with_mark self.old.core mark.Leave) }
+        ensures action { let P = process_by Q.Ratifier in OnOk result
+            (actions_of P self.new ≡ actions_of P self.old ++ HasMarked mark.Leave ∷ []) }
+        ensures could { OnOk result (CanClose ((process_by Q.Ratifier).queue self.old.core)) }
+        ensures fault { IfErr result (IsCloseFault ((process_by Q.Ratifier).queue self.old.core)) }
+        ensures refused { OnErr result (self.new.core ≡ self.old.core) }
+        ensures seat { self.new.seat ≡ self.old.seat }
+    {
+        self.sender.leave()
+    }
+
+    /// Puts the messages that wait in its batch into that of `next`, in their order and behind what
+    /// waits there; they wait here too. So what was not sent in one sitting goes on in the next:
+    /// put first into the next sender of this number, messages get the numbers that they were
+    /// answered before. Gives BatchFull where they do not fit beside what waits there, and else
+    /// what a put gives. Takes no step. A fault changes nothing.
+    pub fn carry_to<S>(&self, next: &mut SenderHandle<Q, S>) -> Result<(), PutFault>
+        ensures carried { OnOk result
+            (Carries (process_by Q.Ratifier) self.now next.old next.new) }
+        ensures fault { IfErr result (CarryRefused (process_by Q.Ratifier) self.now next.old) }
+        ensures refused { OnErr result (next.new.core ≡ next.old.core) }
+        ensures seat { next.new.seat ≡ next.old.seat }
+    {
+        self.sender.carry_to(&mut next.sender)
     }
 
     /// One turn: at most one step on one word of the bus. `word` is the random word of a vote;
@@ -185,8 +232,8 @@ impl<Q: Ratifier + Drop, R: Rng + Drop> SenderHandle<Q, R> {
     }
 
     /// Turns, until there is nothing more to do, or nothing more that can be done: Idle, Delivered,
-    /// Full, Closed or Spent. Each vote takes one word of its generator. It waits for nothing but
-    /// its own next turn, and that it ends is not promised.
+    /// Left, Full, Closed or Spent. Each vote takes one word of its generator. It waits for nothing
+    /// but its own next turn, and that it ends is not promised.
     #[must_use]
     pub fn send<W: Wait>(&mut self, wait: &W) -> Turn
         ensures table { table_of self.new ≡ table_of self.old }

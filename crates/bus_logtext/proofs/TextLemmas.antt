@@ -5,9 +5,10 @@ use Rattle.std.proofs.lemmas.List.{length-append}
 use Rattle.std.proofs.lemmas.List.Concat.{flat_map-append}
 use Rattle.bus_register.specs.declared.registers.SenderNo.{SenderNo}
 use Rattle.bus_batch.specs.declared.messages.Item.{Item}
+use Rattle.bus_batch.specs.declared.messages.Mark.TheVariants as mark
 use Rattle.bus_batch.specs.declared.messages.Piece.{Piece}
 use Rattle.bus_batch.specs.Messages.{Numbered}
-use Rattle.bus_batch.specs.Frames.{Frame, Body, Messages, EndMark, Spells, item_pieces, message_pieces, body_pieces, frame_pieces, log_pieces, words_of_bytes, message_words, body_words, frame_words, log_words, data_len, item_of, order_in, owners_in}
+use Rattle.bus_batch.specs.Frames.{Frame, Body, Messages, Marked, Spells, item_pieces, message_pieces, body_pieces, frame_pieces, log_pieces, words_of_bytes, message_words, body_words, frame_words, log_words, data_len, item_of, order_in, owners_in}
 use Rattle.bus_batch.specs.Reading.{Reading, HasRead}
 use Rattle.bus_logtext.specs.Text.{piece_line}
 use Rattle.bus_logtext.specs.Answers.{TellsLog}
@@ -51,7 +52,8 @@ messages_long owner (m ∷ messages) =
 
 body_long : (owner : SenderNo) (body : Body) → length (body_pieces owner body) ≡ length (body_words body)
 body_long owner (Messages messages) = messages_long owner messages
-body_long owner EndMark = refl
+body_long owner (Marked mark.End) = refl
+body_long owner (Marked mark.Leave) = refl
 
 log_long : (frames : List Frame) → length (log_pieces frames) ≡ length (log_words frames)
 log_long [] = refl

@@ -21,14 +21,19 @@ frame_line tenure owner = codes "frame" ++ behind tenure ++ behind owner.0 ++ 10
 abbrev pub item_line : Item → List ℕ
 item_line item = codes "item " ++ item_text item ++ 10 ∷ []
 
+-- that a sender has left
+abbrev pub leave_line : SenderNo → List ℕ
+leave_line sender = codes "leave" ++ behind sender.0 ++ 10 ∷ []
+
 -- the line of what a word says, where it says something by itself
 abbrev pub piece_line : Option Piece → List ℕ
 piece_line None = []
 piece_line (Some (piece.Head tenure owner)) = frame_line tenure owner
 piece_line (Some (piece.Item item)) = item_line item
 piece_line (Some piece.End) = codes "end" ++ 10 ∷ []
+piece_line (Some (piece.Leave sender)) = leave_line sender
 
--- a line for each frame, behind it one for each of its items or for the end, in the order of the words
+-- a line for each frame, behind it one for each of its items, for the end or for the leave mark, in the order of the words
 abbrev pub log_text : List Frame → List ℕ
 log_text frames = flat_map piece_line (log_pieces frames)
 

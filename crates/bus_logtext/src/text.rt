@@ -24,11 +24,12 @@ fn push_piece(text: &mut String, found: Option<Piece>) -> Result<(), AllocError>
             writeln!(text, "item {item}")
         }
         Some(Piece::End) => text.push_str("end\n"),
+        Some(Piece::Leave(sender)) => writeln!(text, "leave {}", sender.0),
     }
 }
 
-/// What the words of a log of so many senders spell: each frame, and behind it its items or the
-/// end.
+/// What the words of a log of so many senders spell: each frame, and behind it its items, the end,
+/// or that its sender has left.
 pub fn log_text(alloc: Global, words: &[u64], senders: u64) -> Result<String, LogFault>
     ensures told { IfOk result (λ text. TellsLog senders words.now (string_bytes text)) }
     ensures bad { (place : _) → result ≡ Err (LogFault.BadWord place)

@@ -5,7 +5,8 @@ use Rattle.std.proofs.Math.Path.{fun_ext}
 use Rattle.std.proofs.lemmas.List.{append-nil, map-set}
 use Rattle.std.proofs.lemmas.Option.{slice_get-map, same_Some}
 use Rattle.bus_batch.specs.Batches.{Pending, next_of, CanPut, CanClose}
-use Rattle.bus_batch.specs.declared.batches.Phase.TheVariants.{Closing}
+use Rattle.bus_batch.specs.declared.batches.Phase.TheVariants.{Marking}
+use Rattle.bus_batch.specs.declared.messages.Mark.{Mark}
 use Rattle.bus_core.proofs.Bridged.{at_none}
 use Rattle.bus_core.specs.Keeping.{new_sender, queue_of}
 use Rattle.bus_core.specs.Senders.{Sender, apart, situation}
@@ -19,12 +20,12 @@ use Rattle.bus_world.specs.Headline.{Action}
 use Rattle.bus_world.specs.Playing.{TurnAnswers, PutGives, CloseGives, RecvAnswers, StopGives}
 use Rattle.bus_world.specs.Trails.{New, Then, turning_actions, turn_actions, heard_of, trails_grown as plain_grown, Reached as PlainReached}
 use Rattle.bus_world.specs.Turning.{side_after, core_after, words_after, number_found, home_after, owners_after}
-use Rattle.bus_world.specs.World.{Bus, Event, Put, Close, Turn, Recv, Stop, SenderDoes, ReceiverDoes, StopDoes, IsNewReceiver, is_set, can_close, is_open, new_core, going as plain_going, with_sender as plain_with, put_in as plain_put, close_in as plain_close}
+use Rattle.bus_world.specs.World.{Bus, Event, Put, Ask, Turn, Recv, Stop, SenderDoes, ReceiverDoes, StopDoes, IsNewReceiver, is_set, can_close, is_open, new_core, going as plain_going, with_sender as plain_with, put_in as plain_put, mark_in as plain_mark}
 use Rattle.bus_world.specs.CyclicProtocols.{actions_with}
 use Rattle.bus_world.specs.declared.events.Answer.{Answer}
 use Rattle.bus_world.specs.declared.events.Answer.TheVariants as answer
 use Rattle.bus_machine.specs.Proved.Bridge.{of_bus, plain_trails, IsPlainEvent, HappensAtNone, IsPlain}
-use Rattle.bus_machine.specs.Machine.{base_of, Machine, Trails, Reached, New as Start, Then as Next, TakesTurn, TakesPut, TakesClose, StopsNow, Hears, Happens, IsNew, no_machine_trails, trails_grown, turn_grown, turn_trails, log_place, going, with_sender, put_in, close_in, machine_after, found, turn_answer}
+use Rattle.bus_machine.specs.Machine.{base_of, Machine, Trails, Reached, New as Start, Then as Next, TakesTurn, TakesPut, TakesMark, StopsNow, Hears, Happens, IsNew, no_machine_trails, trails_grown, turn_grown, turn_trails, log_place, going, with_sender, put_in, mark_in, machine_after, found, turn_answer}
 
 closed_by : {A : Type 0} (o b : Bool) (xs : List A) → o ≡ true → b ≡ false → xs ≡ [] → o && ((cond b false true) && is_empty xs) ≡ true
 closed_by o b xs i j k = ap (λ y. y && ((cond b false true) && is_empty xs)) i ∙ ap (λ y. (cond y false true) && is_empty xs) j ∙ ap is_empty k
@@ -110,21 +111,21 @@ module _ {E : Type 0} (X : Election E) (bases : List ℕ) (x : Layout) (b : Bus 
         trails = λ T. ap (λ k. record { actions = (trails_grown X (of_bus bases x b) (Put s bytes) a T).actions; heard = k }) (nothing_heard T.heard);
       }
 
-  closes : (s : ℕ) (a : Answer) (m : Machine E) → TakesClose (of_bus bases x b) s a m → IsPlainEvent X bases x b (Close s) a m
-  closes s a m h =
+  marks : (s : ℕ) (asked : Mark) (a : Answer) (m : Machine E) → TakesMark (of_bus bases x b) s asked a m → IsPlainEvent X bases x b (Ask s asked) a m
+  marks s asked a m h =
       let o = opened bases x b s h.sender h.goes in
       let c = o.0 in
       let can = subst (λ (v : Sender E). CanClose (queue_of v.core.queue v.reuse)) o.2 h.can in
       let may = close_taken c.queue can in
-      let closed = record c { queue = record c.queue { phase = Closing } } in
-      let new = record b { side = plain_with b.side s closed } in
+      let marked = record c { queue = record c.queue { phase = Marking asked } } in
+      let new = record b { side = plain_with b.side s marked } in
       record {
         bus = new;
-        is = h.after ∙ ap (λ v. with_sender (of_bus bases x b) s (close_in v)) o.2 ∙ ap (λ l. record (of_bus bases x b) { senders = l }) (sym (map-set apart b.side.senders s closed));
+        is = h.after ∙ ap (λ v. with_sender (of_bus bases x b) s (mark_in v asked)) o.2 ∙ ap (λ l. record (of_bus bases x b) { senders = l }) (sym (map-set apart b.side.senders s marked));
         event = tt;
-        happens = (subst (λ k. SenderDoes b.side k (λ y. plain_with b.side s (plain_close y)) new.side) (sym o.1) (ap (λ t. plain_with b.side s (cond t closed c)) (sym may)), refl, refl);
+        happens = (subst (λ k. SenderDoes b.side k (λ y. plain_with b.side s (plain_mark y asked)) new.side) (sym o.1) (ap (λ t. plain_with b.side s (cond t marked c)) (sym may)), refl, refl);
         answers = (subst CloseGives (sym o.1) can, h.answered);
-        trails = λ T. ap (λ k. record { actions = (trails_grown X (of_bus bases x b) (Close s) a T).actions; heard = k }) (nothing_heard T.heard);
+        trails = λ T. ap (λ k. record { actions = (trails_grown X (of_bus bases x b) (Ask s asked) a T).actions; heard = k }) (nothing_heard T.heard);
       }
 
   stops : (s : ℕ) (a : Answer) (m : Machine E) → StopsNow (of_bus bases x b) s a m → IsPlainEvent X bases x b (Stop s) a m
@@ -157,7 +158,7 @@ module _ {E : Type 0} (X : Election E) (bases : List ℕ) (x : Layout) (b : Bus 
 
 pub happens_at_none : {E : Type 0} (X : Election E) → HappensAtNone X
 happens_at_none X bases x b (Put s bytes) a m h = puts X bases x b s bytes a m h
-happens_at_none X bases x b (Close s) a m h = closes X bases x b s a m h
+happens_at_none X bases x b (Ask s asked) a m h = marks X bases x b s asked a m h
 happens_at_none X bases x b (Turn s word) a m h = turns X bases x b s word a m h
 happens_at_none X bases x b (Recv r) a m h = hears X bases x b r a m h
 happens_at_none X bases x b (Stop s) a m h = stops X bases x b s a m h
@@ -200,7 +201,7 @@ module _ {E : Type 0} (X : Election E) where
 
   pub event_reuse : (w m : Machine E) (e : Event) (a : Answer) → Happens X w e a m → (m.layout ≡ w.layout) × (m.reuse ≡ w.reuse)
   event_reuse w m (Put s bytes) a h = (ap (λ (y : Machine E). y.layout) h.after, ap (λ (y : Machine E). y.reuse) h.after)
-  event_reuse w m (Close s) a h = (ap (λ (y : Machine E). y.layout) h.after, ap (λ (y : Machine E). y.reuse) h.after)
+  event_reuse w m (Ask s asked) a h = (ap (λ (y : Machine E). y.layout) h.after, ap (λ (y : Machine E). y.reuse) h.after)
   event_reuse w m (Turn s word) a h = (ap (λ (y : Machine E). y.layout) h.after, ap (λ (y : Machine E). y.reuse) h.after)
   event_reuse w m (Recv r) a h = (ap (λ (y : Machine E). y.layout) h.after, ap (λ (y : Machine E). y.reuse) h.after)
   event_reuse w m (Stop s) a h = (ap (λ (y : Machine E). y.layout) h.after, ap (λ (y : Machine E). y.reuse) h.after)
@@ -208,7 +209,7 @@ module _ {E : Type 0} (X : Election E) where
   -- the numbers that the sitting began with stay
   pub event_bases : (w m : Machine E) (e : Event) (a : Answer) → Happens X w e a m → m.bases ≡ w.bases
   event_bases w m (Put s bytes) a h = ap (λ (y : Machine E). y.bases) h.after
-  event_bases w m (Close s) a h = ap (λ (y : Machine E). y.bases) h.after
+  event_bases w m (Ask s asked) a h = ap (λ (y : Machine E). y.bases) h.after
   event_bases w m (Turn s word) a h = ap (λ (y : Machine E). y.bases) h.after
   event_bases w m (Recv r) a h = ap (λ (y : Machine E). y.bases) h.after
   event_bases w m (Stop s) a h = ap (λ (y : Machine E). y.bases) h.after

@@ -9,7 +9,8 @@ use Rattle.bus_register.specs.declared.registers.Op.{Op}
 use Rattle.bus_register.specs.declared.registers.Op.TheVariants.{Load, Store, Add, Cas}
 use Rattle.bus_batch.specs.Batches.{frame_of, next_of, CanPut, CanClose}
 use Rattle.bus_batch.specs.Frames.{frame_words}
-use Rattle.bus_batch.specs.declared.batches.Phase.TheVariants.{Closing}
+use Rattle.bus_batch.specs.declared.batches.Phase.TheVariants.{Marking}
+use Rattle.bus_batch.specs.declared.messages.Mark.{Mark}
 use Rattle.bus_core.proofs.Bridged.{at_some}
 use Rattle.bus_core.specs.Keeping.{new_sender, queue_of}
 use Rattle.bus_core.specs.Senders.{Sender, Situation, Does, Scans, Clears, again, situation, at_home, pinning, reclaiming}
@@ -31,20 +32,21 @@ use Rattle.bus_tenure.specs.Situations.{Situation as Own, IsClosed, IsIdle, IsSp
 use Rattle.bus_tenure.specs.declared.pages.Page.{Page}
 use Rattle.bus_tenure.specs.declared.turns.Turn.{Turn as Answered}
 use Rattle.bus_world.proofs.EventTrails.{put_taken}
-use Rattle.bus_world.specs.Headline.{HasPut, HasClosed}
+use Rattle.bus_world.specs.Headline.{HasPut, HasMarked}
 use Rattle.bus_world.specs.Playing.{PutGives, CloseGives, StopGives}
-use Rattle.bus_world.specs.CyclicMachines.{CyclicMachine, CyclicTrails, CyclicReached, NewCyclic, TurnTaken, PutTaken, CloseTaken, RecvTaken, StopTaken, ring_after, ring_actions, ring_reclaims, participant_moved}
+use Rattle.bus_world.specs.CyclicMachines.{CyclicMachine, CyclicTrails, CyclicReached, NewCyclic, TurnTaken, PutTaken, MarkTaken, RecvTaken, StopTaken, ring_after, ring_actions, ring_reclaims, participant_moved}
 use Rattle.bus_world.specs.CyclicMachines as rings
-use Rattle.bus_world.specs.Trails.{step_action, put_actions, close_actions}
+use Rattle.bus_world.specs.Trails.{step_action, put_actions, mark_actions}
 use Rattle.bus_world.specs.Turning.{words_after, number_found, home_moved, core_moved, after_step, owners_by}
-use Rattle.bus_world.specs.World.{Event, Put, Close, Turn, Recv, Stop, is_set, new_core, IsNewReceiver}
+use Rattle.bus_world.specs.World.{Event, Put, Ask, Turn, Recv, Stop, is_set, new_core, IsNewReceiver}
 use Rattle.bus_world.specs.CyclicProtocols.{word_found, actions_with, answers_with}
 use Rattle.bus_world.specs.declared.events.Answer.{Answer}
 use Rattle.bus_world.specs.declared.events.Answer.TheVariants as answer
 use Rattle.bus_machine.proofs.AtNone.{close_taken, event_reuse}
+use Rattle.bus_machine.proofs.Cyclic.LastTakers.{mark_action}
 use Rattle.bus_machine.proofs.Takes.{takes_told}
 use Rattle.bus_machine.specs.Proved.Bridge.{of_ring, of_cyclic, ring_trails, AreSized, IsCyclicEvent, HappensAtSome, IsCyclicOf}
-use Rattle.bus_machine.specs.Machine.{base_of, Machine, Trails, Reached, New as Start, Then as Next, TakesTurn, TakesPut, TakesClose, StopsNow, Hears, Happens, IsNew, IsOnWord, no_machine_trails, log_place, last_of, going, with_sender, put_in, close_in, moved, machine_after, found, turn_answer, turn_trails, turn_grown, trails_grown}
+use Rattle.bus_machine.specs.Machine.{base_of, Machine, Trails, Reached, New as Start, Then as Next, TakesTurn, TakesPut, TakesMark, StopsNow, Hears, Happens, IsNew, IsOnWord, no_machine_trails, log_place, last_of, going, with_sender, put_in, mark_in, moved, machine_after, found, turn_answer, turn_trails, turn_grown, trails_grown}
 
 -- ---- layout and rows stay
 moved_layout : {E : Type 0} (m : PageMove) (home : Option Page) (c : Core E) → (core_moved m home c).layout ≡ c.layout
@@ -316,29 +318,30 @@ module _ {E : Type 0} (X : Election E) (z : OwnedCyclicMachine E) (sized : AreSi
             (subst (λ t. CyclicReached X (rings.with_participant b s (cond t put v)) (record T { actions = actions_with s (cond t (HasPut (next_of v.core.queue) bytes ∷ []) []) T.actions })) may (PutTaken b T s v bytes r o.1 h.are_bytes));
       }
 
-  closes : (s : ℕ) (a : Answer) (m : Machine E) → TakesClose (of_cyclic z) s a m → IsCyclicEvent X z (Close s) a m
-  closes s a m h =
+  marks : (s : ℕ) (asked : Mark) (a : Answer) (m : Machine E) → TakesMark (of_cyclic z) s asked a m → IsCyclicEvent X z (Ask s asked) a m
+  marks s asked a m h =
       let o = opened z s h.sender h.goes in
       let v = o.0 in
       let can = subst (λ (y : Sender E). CanClose (queue_of y.core.queue y.reuse)) o.2 h.can in
       let may = close_taken (queue_seen v.core.queue v.pin) can in
-      let closed = record v { core = record v.core { queue = record v.core.queue { phase = Closing } } } in
-      let new : OwnedCyclicMachine E = record { ring = rings.with_participant b s closed; owners = z.owners } in
+      let marked = record v { core = record v.core { queue = record v.core.queue { phase = Marking asked } } } in
+      let new : OwnedCyclicMachine E = record { ring = rings.with_participant b s marked; owners = z.owners } in
       record {
         bus = new;
-        is = h.after ∙ ap (λ y. with_sender (of_cyclic z) s (close_in y)) o.2 ∙ ap (λ l. record (of_cyclic z) { senders = l }) (sym (map-set again b.participants s closed));
-        sized = fit_after b sized s v closed o.3 refl refl;
+        is = h.after ∙ ap (λ y. with_sender (of_cyclic z) s (mark_in y asked)) o.2 ∙ ap (λ l. record (of_cyclic z) { senders = l }) (sym (map-set again b.participants s marked));
+        sized = fit_after b sized s v marked o.3 refl refl;
         steps = record {
           is = tt;
           within = tt;
-          happens = subst (λ k. ParticipantDoes b k (λ y. rings.with_participant b s (rings.participant_closed y)) new.ring) (sym o.1) (ap (λ t. rings.with_participant b s (cond t closed v)) (sym may));
+          happens = subst (λ k. ParticipantDoes b k (λ y. rings.with_participant b s (rings.participant_marked y asked)) new.ring) (sym o.1) (ap (λ t. rings.with_participant b s (cond t marked v)) (sym may));
           answers = (subst (λ k. CloseGives (core_found k)) (sym o.1) can, h.answered);
           owners = refl;
         };
         trails = λ T. refl;
         reached = λ T r.
-            subst (λ w. CyclicReached X new.ring (record T { actions = actions_with s (close_actions w) T.actions })) (sym h.answered)
-            (subst (λ t. CyclicReached X (rings.with_participant b s (cond t closed v)) (record T { actions = actions_with s (cond t (HasClosed ∷ []) []) T.actions })) may (CloseTaken b T s v r o.1));
+            subst (λ w. CyclicReached X new.ring (record T { actions = actions_with s (mark_actions w) T.actions })) (sym h.answered)
+            (subst (λ l. CyclicReached X new.ring (record T { actions = actions_with s l T.actions })) (sym (mark_action asked))
+            (subst (λ t. CyclicReached X (rings.with_participant b s (cond t marked v)) (record T { actions = actions_with s (cond t (HasMarked asked ∷ []) []) T.actions })) may (MarkTaken b T s v asked r o.1)));
       }
 
   stops : (s : ℕ) (a : Answer) (m : Machine E) → StopsNow (of_cyclic z) s a m → IsCyclicEvent X z (Stop s) a m
@@ -380,7 +383,7 @@ module _ {E : Type 0} (X : Election E) (z : OwnedCyclicMachine E) (sized : AreSi
 
 pub happens_at_some : {E : Type 0} (X : Election E) → HappensAtSome X
 happens_at_some X z (Put s bytes) a m sized h = puts X z sized s bytes a m h
-happens_at_some X z (Close s) a m sized h = closes X z sized s a m h
+happens_at_some X z (Ask s asked) a m sized h = marks X z sized s asked a m h
 happens_at_some X z (Turn s word) a m sized h = turns X z sized s word a m h
 happens_at_some X z (Recv r) a m sized h = hears X z sized r a m h
 happens_at_some X z (Stop s) a m sized h = stops X z sized s a m h

@@ -32,16 +32,16 @@ use Rattle.bus_tenure.specs.declared.turns.Turn.{Turn as Answered}
 use Rattle.bus_world.specs.Bus.{Part, standing_of, stands_at}
 use Rattle.bus_world.specs.Headline.{Action}
 use Rattle.bus_world.specs.Tenures.Standing.{Runs}
-use Rattle.bus_world.specs.Trails.{step_action, put_actions, close_actions}
+use Rattle.bus_world.specs.Trails.{step_action, put_actions, mark_actions}
 use Rattle.bus_world.specs.Turning.{after_step}
-use Rattle.bus_world.specs.World.{Event, Put, Close, Turn, Recv, Stop}
+use Rattle.bus_world.specs.World.{Event, Put, Ask, Turn, Recv, Stop}
 use Rattle.bus_world.specs.CyclicProtocols.{actions_with}
 use Rattle.bus_world.specs.declared.events.Answer.{Answer}
 use Rattle.bus_world.specs.declared.events.Answer.TheVariants as answer
 use Rattle.bus_machine.proofs.Framed.{IsFramed, framed}
 use Rattle.bus_machine.proofs.Leading.{Sits, sits_before}
 use Rattle.bus_machine.specs.Bounding.{is_of_holder, is_towards, steps_towards, AreBounded}
-use Rattle.bus_machine.specs.Machine.{base_of, Machine, Trails, Reached, New as Start, Then as Next, Happens, TakesTurn, IsNew, trails_grown, turn_trails, turn_grown, turn_answer, found, has_stopped, moved, put_in, close_in, no_machine_trails}
+use Rattle.bus_machine.specs.Machine.{base_of, Machine, Trails, Reached, New as Start, Then as Next, Happens, TakesTurn, IsNew, trails_grown, turn_trails, turn_grown, turn_answer, found, has_stopped, moved, put_in, mark_in, no_machine_trails}
 use Rattle.bus_machine.specs.Promise.{pin_of}
 
 -- ---- how many steps
@@ -74,20 +74,22 @@ step_elsewhere t u (Some k) got chose told ne = elim (eqb_tells u t) [
   | inr other ↦ none_of_other (is_of_holder k) (u == t) _ other.0
 ]
 
--- puts and closes add none
+-- puts and marks add none
 put_adds : (t : ℕ) (bytes : List ℕ) (a : Answer) → steps_towards t (put_actions bytes a) ≡ 0
 put_adds t bytes (answer.Number n) = refl
 put_adds t bytes answer.Closing = refl
+put_adds t bytes answer.Leaving = refl
 put_adds t bytes (answer.Turn told) = refl
 put_adds t bytes (answer.Recv told) = refl
 put_adds t bytes answer.Stopped = refl
 
-close_adds : (t : ℕ) (a : Answer) → steps_towards t (close_actions a) ≡ 0
-close_adds t (answer.Number n) = refl
-close_adds t answer.Closing = refl
-close_adds t (answer.Turn told) = refl
-close_adds t (answer.Recv told) = refl
-close_adds t answer.Stopped = refl
+mark_adds : (t : ℕ) (a : Answer) → steps_towards t (mark_actions a) ≡ 0
+mark_adds t (answer.Number n) = refl
+mark_adds t answer.Closing = refl
+mark_adds t answer.Leaving = refl
+mark_adds t (answer.Turn told) = refl
+mark_adds t (answer.Recv told) = refl
+mark_adds t answer.Stopped = refl
 
 -- ---- a pin, by the situation
 never_pins : {E : Type 0} (s : Reclaiming) (z : Own E) (t : ℕ) (a b : Bool)
@@ -591,7 +593,7 @@ actions_of_it s ds D q same = elim (eqb_tells q s) [
   | inr i ↦ absurd (i.1 same)
 ]
 
-actions_of_other : (s : ℕ) (ds : List Action) (D : ℕ → List Action) (q : ℕ) → q ≢ s → actions_with s ds D q ≡ D q
+pub actions_of_other : (s : ℕ) (ds : List Action) (D : ℕ → List Action) (q : ℕ) → q ≢ s → actions_with s ds D q ≡ D q
 actions_of_other s ds D q ne = elim (eqb_tells q s) [
   | inl i ↦ absurd (ne i.1)
   | inr i ↦ ap (λ b. D q ++ cond b ds []) i.0 ∙ append-nil (D q)
@@ -678,11 +680,11 @@ module _ {E : Type 0} (X : Election E) (P : Protocol E (Unit {0}) ℕ) (m m' : M
       (ap (λ (y : Machine E). y.layout) h.after) at (ap (λ (y : Machine E). y.senders) h.after) refl
       (same_sender P m T c h.sender (put_in h.sender bytes) (T.actions s) (put_actions bytes a) refl refl refl (λ t. put_adds t bytes a)
       (c.each s h.sender at))
-  event_counts (Close s) a h =
+  event_counts (Ask s asked) a h =
       let at = there_shown (has_stopped m s) (slice_get m.senders s) h.sender h.goes in
-      one_more P m T c m' (trails_grown X m (Close s) a T) s h.sender (close_in h.sender) (close_actions a)
+      one_more P m T c m' (trails_grown X m (Ask s asked) a T) s h.sender (mark_in h.sender asked) (mark_actions a)
       (ap (λ (y : Machine E). y.layout) h.after) at (ap (λ (y : Machine E). y.senders) h.after) refl
-      (same_sender P m T c h.sender (close_in h.sender) (T.actions s) (close_actions a) refl refl refl (λ t. close_adds t a)
+      (same_sender P m T c h.sender (mark_in h.sender asked) (T.actions s) (mark_actions a) refl refl refl (λ t. mark_adds t a)
       (c.each s h.sender at))
   event_counts (Turn s word) a h = turn_counts s word a h
   event_counts (Recv r) a h = none_more P m T c m' (trails_grown X m (Recv r) a T) (ap (λ (y : Machine E). y.layout) h.after)

@@ -17,9 +17,10 @@ use Rattle.bus_tenure.specs.declared.pages.Page.{Page}
 use Rattle.bus_tenure.specs.declared.turns.Turn.{Turn as Answered}
 use Rattle.bus_world.proofs.PlayingLaws.{set_same, one_there}
 use Rattle.bus_world.proofs.Stopping.{set_there}
-use Rattle.bus_world.specs.Playing.{RecvRefused}
+use Rattle.bus_batch.specs.declared.messages.Mark.{Mark}
+use Rattle.bus_world.specs.Playing.{RecvRefused, asked_answer}
 use Rattle.bus_world.specs.Turning.{words_after, home_moved, after_step, owners_by}
-use Rattle.bus_world.specs.World.{Put, Close, Turn, Recv, Stop, RecvDoes}
+use Rattle.bus_world.specs.World.{Put, Ask, Turn, Recv, Stop, RecvDoes}
 use Rattle.bus_world.specs.declared.events.Answer.TheVariants as answer
 use Rattle.bus_world.specs.declared.events.StepFault.{StepFault}
 use Rattle.bus_world.specs.declared.events.StepFault.TheVariants as fault
@@ -89,8 +90,8 @@ module _ {E : Type 0} where
     pub put_unknown : (bytes : List ℕ) → Refuses now (Put p bytes) why now
     put_unknown bytes = record { refused = other_cause (slice_get now.senders p) (has_stopped now p) why (PutRefused (length bytes) why) w; nothing = refl }
 
-    pub close_unknown : Refuses now (Close p) why now
-    close_unknown = record { refused = other_cause (slice_get now.senders p) (has_stopped now p) why (CloseRefused why) w; nothing = refl }
+    pub mark_unknown : (asked : Mark) → Refuses now (Ask p asked) why now
+    mark_unknown asked = record { refused = other_cause (slice_get now.senders p) (has_stopped now p) why (CloseRefused why) w; nothing = refl }
 
     pub turn_unknown : (word : ℕ) → Refuses now (Turn p word) why now
     turn_unknown word = record { refused = w; nothing = refl }
@@ -137,22 +138,22 @@ module _ {E : Type 0} (X : Election E) (m : Machine E) (h : IsHeld X m) (now : M
       pub put_sits : (r : Result ℕ StepFault) → IfOk r (λ number. HasTaken v bytes number v') → IfErr r (λ why. PutRefused (length bytes) why v) → OnErr r (v' ≡ v) → IsHeld X (with_sender m p v')
       put_sits r t w same = by_result r _ _ (IsHeld X (with_sender m p v')) t (err_both r _ _ w same) (λ number k. held_after X m _ (Put p bytes) _ h (put_does number k)) (λ why k. subst (IsHeld X) (sym (same_sender v' k.1 ∙ sym is)) h)
 
-    -- ---- a close
-    module _ (v' : Sender E) where
-      close_does : HasShut v v' → Happens X m (Close p) answer.Closing (with_sender m p v')
-      close_does t = record { sender = v; goes = goes; can = t.can; answered = refl; after = ap (with_sender m p) t.sender_is }
+    -- ---- a close or a leave
+    module _ (asked : Mark) (v' : Sender E) where
+      mark_does : HasShut v asked v' → Happens X m (Ask p asked) (asked_answer asked) (with_sender m p v')
+      mark_does t = record { sender = v; goes = goes; can = t.can; answered = refl; after = ap (with_sender m p) t.sender_is }
 
-      pub close_happens : (r : Result (Unit {0}) StepFault) → OnOk r (HasShut v v') → OnOk r (Happens X now (Close p) answer.Closing (with_sender m p v'))
-      close_happens r t = unit_more r _ _ t (λ k. subst (λ y. Happens X y (Close p) answer.Closing (with_sender m p v')) is (close_does k))
+      pub mark_happens : (r : Result (Unit {0}) StepFault) → OnOk r (HasShut v asked v') → OnOk r (Happens X now (Ask p asked) (asked_answer asked) (with_sender m p v'))
+      mark_happens r t = unit_more r _ _ t (λ k. subst (λ y. Happens X y (Ask p asked) (asked_answer asked) (with_sender m p v')) is (mark_does k))
 
-      pub close_refuses : (r : Result (Unit {0}) StepFault) → IfErr r (λ why. CloseRefused why v) → OnErr r (v' ≡ v) → IfErr r (λ why. Refuses now (Close p) why (with_sender m p v'))
-      close_refuses r w same = err_more r _ _ _ w same (λ why k e. record {
-        refused = subst (λ y. Refused y (Close p) why) is (own_cause (slice_get m.senders p) (has_stopped m p) why (CloseRefused why) v at free_here k);
+      pub mark_refuses : (r : Result (Unit {0}) StepFault) → IfErr r (λ why. CloseRefused why v) → OnErr r (v' ≡ v) → IfErr r (λ why. Refuses now (Ask p asked) why (with_sender m p v'))
+      mark_refuses r w same = err_more r _ _ _ w same (λ why k e. record {
+        refused = subst (λ y. Refused y (Ask p asked) why) is (own_cause (slice_get m.senders p) (has_stopped m p) why (CloseRefused why) v at free_here k);
         nothing = same_sender v' e;
       })
 
-      pub close_sits : (r : Result (Unit {0}) StepFault) → OnOk r (HasShut v v') → IfErr r (λ why. CloseRefused why v) → OnErr r (v' ≡ v) → IsHeld X (with_sender m p v')
-      close_sits r t w same = unit_result r _ _ (IsHeld X (with_sender m p v')) t (err_both r _ _ w same) (λ k. held_after X m _ (Close p) _ h (close_does k)) (λ why k. subst (IsHeld X) (sym (same_sender v' k.1 ∙ sym is)) h)
+      pub mark_sits : (r : Result (Unit {0}) StepFault) → OnOk r (HasShut v asked v') → IfErr r (λ why. CloseRefused why v) → OnErr r (v' ≡ v) → IsHeld X (with_sender m p v')
+      mark_sits r t w same = unit_result r _ _ (IsHeld X (with_sender m p v')) t (err_both r _ _ w same) (λ k. held_after X m _ (Ask p asked) _ h (mark_does k)) (λ why k. subst (IsHeld X) (sym (same_sender v' k.1 ∙ sym is)) h)
 
     -- ---- a stop
     abbrev with_stop : Machine E

@@ -1,5 +1,5 @@
 -- Whatever happens, the new machine follows the old one, and what is answered is so.
-use Rattle.std.proofs.Common.{slice_index, ◌≡◌, inl, ℕ, ◌+◌, ◌-◌, ◌/◌, ◌≤◌, ◌==◌, nat_le, Bool, true, false, cond, Option, Some, None, List, [], ◌∷◌, ◌++◌, filter, length, map, take, slice_get, arith}
+use Rattle.std.proofs.Common.{slice_index, ◌≡◌, inl, inr, ℕ, ◌+◌, ◌/◌, ◌≤◌, ◌==◌, nat_le, Bool, true, false, cond, Option, Some, None, List, [], ◌∷◌, ◌++◌, filter, length, map, take, slice_get, arith}
 use Rattle.std.proofs.Common.{refl, sym, ◌∙◌, ap, subst}
 use Rattle.std.proofs.Math.Seq.{take-length}
 use Rattle.std.proofs.lemmas.List.{length-append, take-append-le}
@@ -8,7 +8,6 @@ use Rattle.std.proofs.lemmas.Grind.{flat_map-append}
 use Rattle.std.proofs.lemmas.Option.{slice_get-map, same_Some}
 use Rattle.std.specs.Prelude.{option_map}
 use Rattle.std.proofs.lemmas.Bool.{leb-true}
-use Rattle.bus_batch.specs.Batches.{next_of}
 use Rattle.bus_batch.specs.Frames.{log_words}
 use Rattle.bus_core.proofs.Looking.{closed_at, spent_at}
 use Rattle.bus_core.proofs.Reusing.Tells.{Shows, gives_shows}
@@ -20,7 +19,7 @@ use Rattle.bus_core.specs.declared.reuses.Reuse.{Reuse}
 use Rattle.bus_presence.specs.Reclaimers.{behind_of}
 use Rattle.bus_presence.specs.declared.reclaimers.Behind.{Behind}
 use Rattle.bus_tenure.proofs.Situated.{tells as tells_phase}
-use Rattle.bus_tenure.specs.Situations.{IsClosed, IsIdle, IsSpent, LooksAtStage, Elects, TakesPage, AwaitsPage, StoresWord, StoresLength, GivesBack, HasHanded, waits, answer_of_return}
+use Rattle.bus_tenure.specs.Situations.{IsClosed, IsIdle, IsSpent, LooksAtStage, Elects, TakesPage, AwaitsPage, StoresWord, StoresLength, GivesBack, HasHanded, waits, answer_sent, answer_of_return}
 use Rattle.bus_tenure.specs.declared.phases.Reason.{Reason}
 use Rattle.bus_tenure.specs.declared.phases.Reason.TheVariants.{Sent, FoundEnd, NoRoom}
 use Rattle.bus_world.specs.Bus.{Part, Fits}
@@ -34,17 +33,20 @@ use Rattle.bus_core.specs.Reusing.Turns.{Participant}
 use Rattle.bus_register.specs.Protocol.{Protocol}
 use Rattle.bus_register.specs.Proved.TableLaws.{push_here}
 use Rattle.bus_register.specs.declared.registers.SenderNo.{SenderNo}
-use Rattle.bus_tenure.specs.Core.{Core, Election, Layout, is_closing}
+use Rattle.bus_batch.specs.declared.batches.Phase.{Phase as BatchPhase}
+use Rattle.bus_batch.specs.declared.batches.Phase.TheVariants as batch
+use Rattle.bus_batch.specs.declared.messages.Mark.TheVariants as mark
+use Rattle.bus_tenure.specs.Core.{Core, Election, Layout}
 use Rattle.bus_tenure.specs.declared.turns.Turn.{Turn as Answered}
 use Rattle.bus_tenure.specs.declared.turns.Turn.TheVariants as turn
 use Rattle.bus_world.proofs.EventTrails.{reached_kept}
 use Rattle.bus_world.proofs.Tellings.{event_tells}
 use Rattle.bus_world.proofs.Waiting.{event_frames}
 use Rattle.bus_world.proofs.WorldLaws.{event_left}
-use Rattle.bus_world.specs.Headline.{Action, HasPut, HasClosed, Stepped, IsPrefix, put_of, puts}
+use Rattle.bus_world.specs.Headline.{Action, HasPut, HasMarked, Stepped, IsPrefix, put_of, puts}
 use Rattle.bus_world.specs.Telling as plain
 use Rattle.bus_world.specs.Trails.{put_actions}
-use Rattle.bus_world.specs.World.{Bus, Event, Put, Close, Turn, Recv, Stop}
+use Rattle.bus_world.specs.World.{Bus, Event, Put, Ask, Turn, Recv, Stop}
 use Rattle.bus_world.specs.CyclicMachines.{participant_going}
 use Rattle.bus_world.specs.CyclicProtocols.{actions_with}
 use Rattle.bus_world.specs.declared.events.Answer.{Answer}
@@ -52,7 +54,7 @@ use Rattle.bus_world.specs.declared.events.Answer.TheVariants as answer
 use Rattle.bus_machine.proofs.AtNone as none
 use Rattle.bus_machine.proofs.AtSome as some
 use Rattle.bus_machine.proofs.Bounding.{actions_of_it, there_shown}
-use Rattle.bus_machine.proofs.Ending.{ended_of, published_ends, found_ends, closing_is, none_left}
+use Rattle.bus_machine.proofs.Ending.{ended_of, published_ends, found_ends, none_left}
 use Rattle.bus_machine.proofs.Framed.{IsFramed, framed}
 use Rattle.bus_machine.proofs.Growing.{grows, rises}
 use Rattle.bus_machine.proofs.Joining.{event_words, event_joins}
@@ -61,14 +63,14 @@ use Rattle.bus_machine.proofs.Promised.{promised, participant_at}
 use Rattle.bus_machine.proofs.Staying.{promise_stays, grown_longer}
 use Rattle.bus_machine.specs.Proved.Bridge.{of_bus, of_cyclic, plain_trails, ring_trails, IsPlainEvent, IsCyclicEvent}
 use Rattle.bus_machine.specs.Machine.{base_of, Machine, Trails, Reached, Then, Happens, TakesTurn, trails_grown, going, has_stopped, found, log_of, stage_of}
-use Rattle.bus_machine.specs.Remembering.{HasEnded, NoneIsLeft, Remembers}
+use Rattle.bus_machine.specs.Remembering.{NoneIsLeft, Remembers}
 use Rattle.bus_machine.specs.Promise.{HasGoneOn, is_in, actions_in, Follows, ReusesSafely, words_joined}
-use Rattle.bus_machine.specs.Telling.{TurnTells, PutTells, SenderTells, EventTells, Tells, LossesAreSeen}
+use Rattle.bus_machine.specs.Telling.{TurnTells, ClosedTells, PutTells, SenderTells, EventTells, Tells, LossesAreSeen}
 
 -- ---- actions in a tenure
 in_same : (t : ℕ) (d : Action) → is_in t d ≡ staying.is_in t d
 in_same t (HasPut number bytes) = refl
-in_same t HasClosed = refl
+in_same t (HasMarked asked) = refl
 in_same t (Stepped None k found chose told) = refl
 in_same t (Stepped (Some u) k found chose told) = refl
 
@@ -77,31 +79,33 @@ actions_same t ds = ap (λ f. filter f ds) (fun_ext (in_same t))
 
 -- ---- what an answer tells
 -- of a turn that is answered Closed or Spent
-abbrev EndIsTold : {E : Type 0} → Machine E → ℕ → List Action → Answered → Type 0
-EndIsTold m s actions turn.Idle = Unit {0}
-EndIsTold m s actions turn.Waiting = Unit {0}
-EndIsTold m s actions turn.Going = Unit {0}
-EndIsTold m s actions (turn.Lost t o) = Unit {0}
-EndIsTold m s actions (turn.Own t) = Unit {0}
-EndIsTold m s actions (turn.Delivered t first last) = Unit {0}
-EndIsTold m s actions turn.Full = Unit {0}
-EndIsTold m s actions turn.Closed = HasEnded m
-EndIsTold m s actions turn.Spent = NoneIsLeft m s actions
-EndIsTold m s actions (turn.Behind t p) = Unit {0}
+abbrev EndIsTold : {E : Type 0} → Machine E → ℕ → Sender E → List Action → Answered → Type 0
+EndIsTold m s v actions turn.Idle = Unit {0}
+EndIsTold m s v actions turn.Waiting = Unit {0}
+EndIsTold m s v actions turn.Going = Unit {0}
+EndIsTold m s v actions (turn.Lost t o) = Unit {0}
+EndIsTold m s v actions (turn.Own t) = Unit {0}
+EndIsTold m s v actions (turn.Delivered t first last) = Unit {0}
+EndIsTold m s v actions (turn.Left t) = Unit {0}
+EndIsTold m s v actions turn.Full = Unit {0}
+EndIsTold m s v actions turn.Closed = ClosedTells m s v
+EndIsTold m s v actions turn.Spent = NoneIsLeft m s actions
+EndIsTold m s v actions (turn.Behind t p) = Unit {0}
 
 -- of the sender that goes on
 abbrev LastIsTold : {E : Type 0} → Machine E → ℕ → Option (Sender E) → List Action → Answer → Type 0
 LastIsTold m s None actions a = Unit {0}
 LastIsTold m s (Some v) actions (answer.Number n) = Unit {0}
 LastIsTold m s (Some v) actions answer.Closing = Unit {0}
-LastIsTold m s (Some v) actions (answer.Turn t) = EndIsTold m s actions t
+LastIsTold m s (Some v) actions answer.Leaving = Unit {0}
+LastIsTold m s (Some v) actions (answer.Turn t) = EndIsTold m s v actions t
 LastIsTold m s (Some v) actions (answer.Recv r) = Unit {0}
 LastIsTold m s (Some v) actions answer.Stopped = Unit {0}
 
 -- of a put, or of such a turn
 abbrev PutIsTold : {E : Type 0} → Machine E → Event → Answer → Trails → Type 0
 PutIsTold m (Put s bytes) a T = PutTells (base_of m s) (T.actions s) a
-PutIsTold m (Close s) a T = Unit {0}
+PutIsTold m (Ask s asked) a T = Unit {0}
 PutIsTold m (Turn s word) a T = LastIsTold m s (going m s) (T.actions s) a
 PutIsTold m (Recv r) a T = Unit {0}
 PutIsTold m (Stop s) a T = Unit {0}
@@ -128,21 +132,23 @@ put_told first s bytes (answer.Number n) T P is numbered =
     now (numbered place n bytes) at)
     ∙ sym (ap (λ l. first + length (puts l)) now)
 put_told first s bytes answer.Closing T P is numbered = tt
+put_told first s bytes answer.Leaving T P is numbered = tt
 put_told first s bytes (answer.Turn t) T P is numbered = tt
 put_told first s bytes (answer.Recv r) T P is numbered = tt
 put_told first s bytes answer.Stopped T P is numbered = tt
 
 module _ {E : Type 0} (bases : List ℕ) (x : Layout) (b : Bus E) where
-  turn_at_none : (s : ℕ) (c : Core E) (actions : List Action) (t : Answered) → EndIsTold (of_bus bases x b) s actions t
+  turn_at_none : (s : ℕ) (c : Core E) (actions : List Action) (t : Answered) → EndIsTold (of_bus bases x b) s (apart c) actions t
       → plain.TurnTells x (log_of (of_bus bases x b)) s c actions t → TurnTells (of_bus bases x b) s (apart c) actions t
   turn_at_none s c actions t k h = by t k h where
-    by : (t : Answered) → EndIsTold (of_bus bases x b) s actions t → plain.TurnTells x (log_of (of_bus bases x b)) s c actions t → TurnTells (of_bus bases x b) s (apart c) actions t
+    by : (t : Answered) → EndIsTold (of_bus bases x b) s (apart c) actions t → plain.TurnTells x (log_of (of_bus bases x b)) s c actions t → TurnTells (of_bus bases x b) s (apart c) actions t
     by turn.Idle k h = h
     by turn.Waiting k h = h
     by turn.Going k h = h
     by (turn.Lost u o) k h = h
     by (turn.Own u) k h = h
     by (turn.Delivered u first last) k h = h
+    by (turn.Left u) k h = h
     by turn.Full k h = h
     by turn.Closed k h = k
     by turn.Spent k h = k
@@ -152,31 +158,33 @@ module _ {E : Type 0} (bases : List ℕ) (x : Layout) (b : Bus E) where
   sender_at_none s word T a None i k h = tt
   sender_at_none s word T (answer.Number n) (Some v) i k h = tt
   sender_at_none s word T answer.Closing (Some v) i k h = tt
+  sender_at_none s word T answer.Leaving (Some v) i k h = tt
   sender_at_none s word T (answer.Turn t) (Some v) i k h =
       let o = none.opened bases x b s v i in
-      subst (λ y. TurnTells (of_bus bases x b) s y (T.actions s) t) (sym o.2) (turn_at_none s o.0 (T.actions s) t k (subst (λ y. plain.SenderTells x (log_of (of_bus bases x b)) s y (T.actions s) t) o.1 h))
+      subst (λ y. TurnTells (of_bus bases x b) s y (T.actions s) t) (sym o.2) (turn_at_none s o.0 (T.actions s) t (subst (λ y. EndIsTold (of_bus bases x b) s y (T.actions s) t) o.2 k) (subst (λ y. plain.SenderTells x (log_of (of_bus bases x b)) s y (T.actions s) t) o.1 h))
   sender_at_none s word T (answer.Recv r) (Some v) i k h = tt
   sender_at_none s word T answer.Stopped (Some v) i k h = tt
 
   tells_at_none : (e : Event) (a : Answer) (T : Trails) → PutIsTold (of_bus bases x b) e a T → plain.EventTells x b e a (plain_trails T)
       → EventTells (of_bus bases x b) e a T
   tells_at_none (Put s bytes) a T p h = p
-  tells_at_none (Close s) a T p h = tt
+  tells_at_none (Ask s asked) a T p h = tt
   tells_at_none (Turn s word) a T p h = sender_at_none s word T a (going (of_bus bases x b) s) refl p h
   tells_at_none (Recv r) a T p h = tt
   tells_at_none (Stop s) a T p h = tt
 
 module _ {E : Type 0} (z : OwnedCyclicMachine E) where
-  turn_at_some : (s : ℕ) (v : Participant E) (actions : List Action) (t : Answered) → EndIsTold (of_cyclic z) s actions t
+  turn_at_some : (s : ℕ) (v : Participant E) (actions : List Action) (t : Answered) → EndIsTold (of_cyclic z) s (again v) actions t
       → truth.ParticipantTells z.ring s v.core actions t → TurnTells (of_cyclic z) s (again v) actions t
   turn_at_some s v actions t k h = by t k h where
-    by : (t : Answered) → EndIsTold (of_cyclic z) s actions t → truth.ParticipantTells z.ring s v.core actions t → TurnTells (of_cyclic z) s (again v) actions t
+    by : (t : Answered) → EndIsTold (of_cyclic z) s (again v) actions t → truth.ParticipantTells z.ring s v.core actions t → TurnTells (of_cyclic z) s (again v) actions t
     by turn.Idle k h = h
     by turn.Waiting k h = h
     by turn.Going k h = h
     by (turn.Lost u o) k h = h
     by (turn.Own u) k h = h
     by (turn.Delivered u first last) k h = h
+    by (turn.Left u) k h = h
     by turn.Full k h = h
     by turn.Closed k h = k
     by turn.Spent k h = k
@@ -186,16 +194,17 @@ module _ {E : Type 0} (z : OwnedCyclicMachine E) where
   sender_at_some s actions a None i k h = tt
   sender_at_some s actions (answer.Number n) (Some v) i k h = tt
   sender_at_some s actions answer.Closing (Some v) i k h = tt
+  sender_at_some s actions answer.Leaving (Some v) i k h = tt
   sender_at_some s actions (answer.Turn t) (Some v) i k h =
       let o = some.opened z s v i in
-      subst (λ y. TurnTells (of_cyclic z) s y actions t) (sym o.2) (turn_at_some s o.0 actions t k (subst (λ y. truth.TurnIsTrue z.ring s y actions (answer.Turn t)) o.1 h))
+      subst (λ y. TurnTells (of_cyclic z) s y actions t) (sym o.2) (turn_at_some s o.0 actions t (subst (λ y. EndIsTold (of_cyclic z) s y actions t) o.2 k) (subst (λ y. truth.TurnIsTrue z.ring s y actions (answer.Turn t)) o.1 h))
   sender_at_some s actions (answer.Recv r) (Some v) i k h = tt
   sender_at_some s actions answer.Stopped (Some v) i k h = tt
 
   tells_at_some : (e : Event) (a : Answer) (T : Trails) → PutIsTold (of_cyclic z) e a T → truth.EventIsTrue z.ring e a (ring_trails T)
       → EventTells (of_cyclic z) e a T
   tells_at_some (Put s bytes) a T p h = p
-  tells_at_some (Close s) a T p h = tt
+  tells_at_some (Ask s asked) a T p h = tt
   tells_at_some (Turn s word) a T p h = sender_at_some s (T.actions s) a (going (of_cyclic z) s) refl p h
   tells_at_some (Recv r) a T p h = tt
   tells_at_some (Stop s) a T p h = tt
@@ -204,7 +213,7 @@ module _ {E : Type 0} (z : OwnedCyclicMachine E) where
 module _ {E : Type 0} (X : Election E) (P : Protocol E (Unit {0}) ℕ) (m : Machine E) (T : Trails) (f : IsFramed P m T) (p : ℕ) (v : Sender E)
     (at : slice_get m.senders p ≡ Some v) (k : Remembers m p v (T.actions p)) (actions : List Action) (more : IsPrefix (T.actions p) actions) (word : ℕ) where
   abbrev Told : Answered → Type 0
-  Told t = EndIsTold m p actions t
+  Told t = EndIsTold m p v actions t
 
   part : Part (base_of m) m.layout f.V f.frames p v.core
   part = f.sending.parts p v.core (f.core_of p v at)
@@ -231,12 +240,18 @@ module _ {E : Type 0} (X : Election E) (P : Protocol E (Unit {0}) ℕ) (m : Mach
 
   -- of whom the page goes back
   returned : (t : ℕ) (reason : Reason) → Shows v.core t v.core.phase reason → Told (answer_of_return v.core.queue t reason)
-  returned t Sent w = by (is_closing v.core.queue.phase) refl where
-    by : (b : Bool) → is_closing v.core.queue.phase ≡ b → Told (cond b turn.Closed (turn.Delivered t v.core.queue.first (next_of v.core.queue - 1)))
-    by true i = ended_of P m T f (published_ends (base_of m) f.V f.frames v.core t v.core.phase w (closing_is v.core.queue.phase i) part.fits)
-    by false i = tt
-  returned t FoundEnd w = ended_of P m T f (found_ends (base_of m) f.V f.frames v.core t v.core.phase w part.fits)
+  returned t Sent w = by v.core.queue.phase refl where
+    by : (q : BatchPhase) → v.core.queue.phase ≡ q → Told (answer_sent v.core.queue t q)
+    by batch.Open i = tt
+    by (batch.Marking mark.End) i = inl (ended_of P m T f (published_ends (base_of m) f.V f.frames v.core t v.core.phase w i part.fits))
+    by (batch.Marking mark.Leave) i = tt
+    by batch.Closed i = tt
+  returned t FoundEnd w = inl (ended_of P m T f (found_ends (base_of m) f.V f.frames v.core t v.core.phase w part.fits))
   returned t NoRoom w = tt
+
+  -- whose batch is closed
+  closed_told : v.core.queue.phase ≡ batch.Closed → ClosedTells m p v
+  closed_told shut = elim (k.closed shut) [ inl ended ↦ inl ended | inr left ↦ inr (shut, left) ]
 
   -- who withdraws, and who reclaims
   lost : (t : ℕ) (o : Option SenderNo) → Told (answer_of_loss t o)
@@ -250,7 +265,7 @@ module _ {E : Type 0} (X : Election E) (P : Protocol E (Unit {0}) ℕ) (m : Mach
   answer_is_told : (z : Situation E) → situation X v ≡ z → Told ((line_now X v).answer (found m (line_now X v) word) word)
   answer_is_told z i = subst (λ w. Told ((line X v w).answer (found m (line X v w) word) word)) (sym i) (by z i) where
     by : (z : Situation E) → situation X v ≡ z → Told ((line X v z).answer (found m (line X v z) word) word)
-    by (Does IsClosed) i = k.closed (closed_at X v (own_is X v IsClosed i))
+    by (Does IsClosed) i = closed_told (closed_at X v (own_is X v IsClosed i))
     by (Does IsIdle) i = tt
     by (Does IsSpent) i = spent (spent_at X v (own_is X v IsSpent i))
     by (Does LooksAtStage) i = looked (waits v.core (stage_of m)) (nat_le v.core.layout.rows (stage_of m / 2)) refl
@@ -293,7 +308,7 @@ module _ {E : Type 0} (X : Election E) (P : Protocol E (Unit {0}) ℕ) (m m' : M
         put_told (base_of m p) p bytes a T T' (ap (λ f. (trails_grown X m f a T).actions) i)
         (λ place number sent at. subst (λ l. number ≡ slice_index l p + length (puts (take place (T'.actions p)))) (none.event_bases X m m' e a h)
         (k.by.promises.numbered p place number sent at))
-    by (Close p) i = tt
+    by (Ask p asked) i = tt
     by (Turn p word) i = last p word i
     by (Recv q) i = tt
     by (Stop p) i = tt

@@ -122,6 +122,7 @@ module _ {E : Type 0} (X : Election E) (v : Sender E) (word n t : ℕ) (page : P
   gives_too (turn.Lost u o) w = loses_then u o v.reuse w
   gives_too (turn.Own u) w = absurd (let bad : phase.Giving t reason ≡ phase.Electing u w.election = w.elects in cc)
   gives_too (turn.Delivered u first last) w = record { gives = readies u w.gives; published = shows u Sent (sent_on u t reason _ w.published refl); sends = w.sends; first_is = w.first_is; last_is = w.last_is }
+  gives_too (turn.Left u) w = record { gives = readies u w.gives; published = shows u Sent (sent_on u t reason _ w.published refl); leaves = w.leaves }
   gives_too turn.Full w = record { tenure = w.tenure; gives = readies w.tenure w.gives; lacks = shows w.tenure NoRoom (full_on g.core w.tenure t reason _ w.lacks refl) }
   gives_too turn.Closed w = record {
     tenure = w.tenure;

@@ -32,7 +32,7 @@ use Rattle.bus_world.proofs.WorldLaws.{numbers_fit}
 use Rattle.bus_world.specs.Bus.{IsLayout, Fits}
 use Rattle.bus_world.specs.Headline.{order_given}
 use Rattle.bus_world.specs.Trails.{MachineInvariant}
-use Rattle.bus_world.specs.World.{Bus, Event, Put, Close, Turn, Recv, Stop, given_at}
+use Rattle.bus_world.specs.World.{Bus, Event, Put, Ask, Turn, Recv, Stop, given_at}
 use Rattle.bus_world.specs.declared.events.Answer.{Answer}
 use Rattle.bus_machine.proofs.AtNone as none
 use Rattle.bus_machine.proofs.Leading.{Sits, led_ring, ring_serves, ring_ok, ring_two}
@@ -46,7 +46,7 @@ use Rattle.bus_machine.specs.Promise.{HasRows}
 module _ {E : Type 0} (X : Election E) where
   many_after : (m m' : Machine E) (e : Event) (a : Answer) → Happens X m e a m' → length m'.senders ≡ length m.senders
   many_after m m' (Put s bytes) a h = ap (λ (y : Machine E). length y.senders) h.after ∙ length-set m.senders s _
-  many_after m m' (Close s) a h = ap (λ (y : Machine E). length y.senders) h.after ∙ length-set m.senders s _
+  many_after m m' (Ask s asked) a h = ap (λ (y : Machine E). length y.senders) h.after ∙ length-set m.senders s _
   many_after m m' (Turn s word) a h = ap (λ (y : Machine E). length y.senders) h.after ∙ length-set m.senders s _
   many_after m m' (Recv r) a h = ap (λ (y : Machine E). length y.senders) h.after
   many_after m m' (Stop s) a h = ap (λ (y : Machine E). length y.senders) h.after

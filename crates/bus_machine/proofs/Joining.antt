@@ -34,7 +34,7 @@ use Rattle.bus_world.proofs.Waiting.{with_frame, frames_by, event_frames}
 use Rattle.bus_world.specs.Headline.{IsPrefix}
 use Rattle.bus_world.specs.Log.{words_read_from}
 use Rattle.bus_world.specs.Turning.{words_after}
-use Rattle.bus_world.specs.World.{Bus, Event, Put, Close, Turn, Recv, Stop, is_set, going as plain_going}
+use Rattle.bus_world.specs.World.{Bus, Event, Put, Ask, Turn, Recv, Stop, is_set, going as plain_going}
 use Rattle.bus_world.specs.declared.events.Answer.{Answer}
 use Rattle.bus_machine.proofs.Clearing.{clearing, clears_at}
 use Rattle.bus_machine.proofs.Framed.{IsFramed, read_alike}
@@ -69,7 +69,7 @@ module _ {E : Type 0} (X : Election E) (bases : List ℕ) (x : Layout) (b : Bus 
   -- what joins with an event
   pub event_words : (e : Event) → log_words (event_frames X b e frames) ≡ log_words frames ++ words_joined X (of_bus bases x b) e
   event_words (Put s bytes) = sym (append-nil (log_words frames))
-  event_words (Close s) = sym (append-nil (log_words frames))
+  event_words (Ask s asked) = sym (append-nil (log_words frames))
   event_words (Turn s word) = sender_words (plain_going b s) (going (of_bus bases x b) s) (going_is s)
   event_words (Recv r) = sym (append-nil (log_words frames))
   event_words (Stop s) = sym (append-nil (log_words frames))
@@ -291,7 +291,7 @@ pub event_joins : {E : Type 0} (X : Election E) (P : Protocol E (Unit {0}) ℕ) 
     → IsPrefix (log_of m) (log_of m') → (rows : ℕ) → m.reuse ≡ Some rows → ReusesRows X m T rows
     → log_of m' ≡ log_of m ++ words_joined X m e
 event_joins X P m m' T f (Put s bytes) a h grows rows used u = ap log_of h.after ∙ sym (append-nil (log_of m))
-event_joins X P m m' T f (Close s) a h grows rows used u = ap log_of h.after ∙ sym (append-nil (log_of m))
+event_joins X P m m' T f (Ask s asked) a h grows rows used u = ap log_of h.after ∙ sym (append-nil (log_of m))
 event_joins X P m m' T f (Turn s word) a h grows rows used u = turn_joins X P m m' T f s word a h grows rows used u
 event_joins X P m m' T f (Recv r) a h grows rows used u = ap log_of h.after ∙ sym (append-nil (log_of m))
 event_joins X P m m' T f (Stop s) a h grows rows used u = ap log_of h.after ∙ sym (append-nil (log_of m))

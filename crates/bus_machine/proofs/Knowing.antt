@@ -7,7 +7,7 @@ use Rattle.std.proofs.lemmas.List.{append-nil, length-append}
 use Rattle.std.proofs.lemmas.Option.{same_Some}
 use Rattle.bus_batch.proofs.FrameLaws.{spells_one}
 use Rattle.bus_batch.specs.Batches.{frame_of}
-use Rattle.bus_batch.specs.Frames.{Order, Spells, AreFrames, order_of, log_words, tenure_and_owner, frame_words}
+use Rattle.bus_batch.specs.Frames.{Order, Spells, AreFrames, order_of, log_words, tenure_and_owner, frame_words, has_gone}
 use Rattle.bus_core.proofs.Situated.{own_is}
 use Rattle.bus_core.specs.Reusing.Keeping.{held_of}
 use Rattle.bus_core.specs.Senders.{Sender, Does, log_start, situation}
@@ -76,7 +76,7 @@ core_found : {E : Type 0} (o : Option (Core E)) (s : Standing E) → of_some sta
 core_found None s e = absurd cc
 core_found (Some c) s e = (c, refl)
 
-module _ {E : Type 0} (X : Election E) (P : Protocol E (Unit {0}) ℕ) (m : Machine E) (T : Trails) (f : IsFramed P m T) where
+module _ {E : Type 0} (P : Protocol E (Unit {0}) ℕ) (m : Machine E) (T : Trails) (f : IsFramed P m T) where
   -- the order that the log spells is that of the frames
   pub order_same : (order : Order) (owners : List (ℕ × SenderNo)) → Spells m.layout.senders (log_of m) order owners
       → order_of f.frames ≡ order
@@ -90,6 +90,7 @@ module _ {E : Type 0} (X : Election E) (P : Protocol E (Unit {0}) ℕ) (m : Mach
       } in
       (spells_one m.layout.senders (log_of m) (order_of f.frames) order (map tenure_and_owner f.frames) owners here s).0
 
+module _ {E : Type 0} (X : Election E) (P : Protocol E (Unit {0}) ℕ) (m : Machine E) (T : Trails) (f : IsFramed P m T) where
   -- a page at home knows the order
   pub knows : (order : Order) (owners : List (ℕ × SenderNo)) → Spells m.layout.senders (log_of m) order owners → (page : Page)
       → m.home ≡ Some page → KnowsOrder (base_of m) page order
@@ -99,7 +100,8 @@ module _ {E : Type 0} (X : Election E) (P : Protocol E (Unit {0}) ℕ) (m : Mach
         record {
           entries = k.entries;
           next = λ q low. k.next q low
-              ∙ ap (λ (o : Order). base_of m q + length (of_sender q o)) (order_same order owners s);
+              ∙ ap (λ (o : Order). base_of m q + length (of_sender q o)) (order_same P m T f order owners s);
+          left = λ q low. k.left q low ∙ ap (λ (o : Order). Some (has_gone q o)) (order_same P m T f order owners s);
         }
     | Held holder stage away many holds ↦ absurd (true≢false (sym (ap is_some at) ∙ away))
   ]
@@ -143,7 +145,7 @@ module _ {E : Type 0} (X : Election E) (P : Protocol E (Unit {0}) ℕ) (m : Mach
             owners = map tenure_and_owner f.frames;
             spelled = record { frames = f.frames; lawful = f.sending.log.lawful; words_are = refl; order_is = refl; owners_are = refl };
             words = knows.words ∙ sym many_words;
-            knows = record { entries = knows.entries; next = knows.next };
+            knows = record { entries = knows.entries; next = knows.next; left = knows.left };
             ended = knows.ended;
             tenures = knows.tenures;
           };
@@ -167,7 +169,7 @@ module _ {E : Type 0} (X : Election E) (P : Protocol E (Unit {0}) ℕ) (m : Mach
             owners = map tenure_and_owner w.front;
             spelled = record { frames = w.front; lawful = lawful; words_are = refl; order_is = refl; owners_are = refl };
             words = omega arith;
-            knows = record { entries = knows.entries; next = knows.next };
+            knows = record { entries = knows.entries; next = knows.next; left = knows.left };
             ended = knows.ended;
             tenures = knows.tenures;
           };

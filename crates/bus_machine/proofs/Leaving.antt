@@ -14,7 +14,7 @@ use Rattle.bus_tenure.specs.Situations.{IsClosed, IsIdle, IsSpent, LooksAtStage,
 use Rattle.bus_tenure.specs.declared.pages.Page.{Page}
 use Rattle.bus_tenure.specs.declared.turns.Turn.TheVariants as turn
 use Rattle.bus_world.specs.Turning.{home_moved, words_after}
-use Rattle.bus_world.specs.World.{Event, Put, Close, Turn, Recv, Stop}
+use Rattle.bus_world.specs.World.{Event, Put, Ask, Turn, Recv, Stop}
 use Rattle.bus_world.specs.declared.events.Answer.{Answer}
 use Rattle.bus_world.specs.declared.events.Answer.TheVariants as answer
 
@@ -97,7 +97,7 @@ module _ {E : Type 0} (X : Election E) (m m' : Machine E) (T T' : Trails) (e : E
 
 pub opens_only : {E : Type 0} (X : Election E) (m m' : Machine E) (T T' : Trails) (e : Event) (a : Answer) → IsPromised X m T → IsPromised X m' T' → Tells X m e a → Happens X m e a m' → OpensOnly X m e a m'
 opens_only {E} X m m' T T' (Put s bytes) a p p' told h t opened leaves = same_words X m m' T T' (Put s bytes) a p p' told t opened leaves (ap (λ (y : Machine E). y.words) h.after)
-opens_only {E} X m m' T T' (Close s) a p p' told h t opened leaves = same_words X m m' T T' (Close s) a p p' told t opened leaves (ap (λ (y : Machine E). y.words) h.after)
+opens_only {E} X m m' T T' (Ask s asked) a p p' told h t opened leaves = same_words X m m' T T' (Ask s asked) a p p' told t opened leaves (ap (λ (y : Machine E). y.words) h.after)
 opens_only {E} X m m' T T' (Turn s word) a p p' told h t opened leaves = by_turn X m m' T T' (Turn s word) a p p' told t opened leaves s word refl h (situation X h.sender) refl
 opens_only {E} X m m' T T' (Recv r) a p p' told h t opened leaves = same_words X m m' T T' (Recv r) a p p' told t opened leaves (ap (λ (y : Machine E). y.words) h.after)
 opens_only {E} X m m' T T' (Stop s) a p p' told h t opened leaves = same_words X m m' T T' (Stop s) a p p' told t opened leaves (ap (λ (y : Machine E). y.words) h.after)

@@ -27,14 +27,14 @@ use Rattle.bus_tenure.specs.declared.phases.Phase.{Phase}
 use Rattle.bus_tenure.specs.declared.phases.Phase.TheVariants as phase
 use Rattle.bus_tenure.specs.declared.turns.Turn.{Turn as Answered}
 use Rattle.bus_world.specs.Turning.{after_step, number_found}
-use Rattle.bus_world.specs.World.{Event, Put, Close, Turn, Recv, Stop}
+use Rattle.bus_world.specs.World.{Event, Put, Ask, Turn, Recv, Stop}
 use Rattle.bus_world.specs.declared.events.Answer.{Answer}
 use Rattle.bus_world.specs.declared.events.Answer.TheVariants as answer
 use Rattle.bus_machine.proofs.Bounding.{Counts, counted, may_enter, announces_of, validates_of, there_shown}
 use Rattle.bus_machine.proofs.Growing.{rises}
 use Rattle.bus_machine.proofs.Leading.{Sits, sits_before}
 use Rattle.bus_machine.specs.Bounding.{named_by, named_from, is_tenure, pins_from, steps_of_pin, IsNamedFirst, PinsAreBounded}
-use Rattle.bus_machine.specs.Machine.{base_of, Machine, Trails, Reached, New as Start, Then as Next, Happens, TakesTurn, trails_grown, turn_trails, turn_grown, turn_answer, entered, found, has_stopped, moved, put_in, close_in, stage_of}
+use Rattle.bus_machine.specs.Machine.{base_of, Machine, Trails, Reached, New as Start, Then as Next, Happens, TakesTurn, trails_grown, turn_trails, turn_grown, turn_answer, entered, found, has_stopped, moved, put_in, mark_in, stage_of}
 use Rattle.bus_machine.specs.Promise.{pin_of}
 
 -- ---- lists of steps
@@ -857,11 +857,11 @@ module _ {E : Type 0} (X : Election E) (P : Protocol E (Unit {0}) ℕ) (m m' : M
       one_more m m' T (trails_grown X m (Put s bytes) a T) c up s h.sender (put_in h.sender bytes) [] at
       (ap (λ (y : Machine E). y.senders) h.after) (sym (append-nil (T.pins s))) (λ q ne. refl)
       (kept_same h.sender.reuse h.sender.core (put_in h.sender bytes).core (stage_of m) (T.pins s) refl refl (c.each s h.sender at))
-  event_kept (Close s) a h up =
+  event_kept (Ask s asked) a h up =
       let at = there_shown (has_stopped m s) (slice_get m.senders s) h.sender h.goes in
-      one_more m m' T (trails_grown X m (Close s) a T) c up s h.sender (close_in h.sender) [] at (ap (λ (y : Machine E). y.senders) h.after)
+      one_more m m' T (trails_grown X m (Ask s asked) a T) c up s h.sender (mark_in h.sender asked) [] at (ap (λ (y : Machine E). y.senders) h.after)
       (sym (append-nil (T.pins s))) (λ q ne. refl)
-      (kept_same h.sender.reuse h.sender.core (close_in h.sender).core (stage_of m) (T.pins s) refl refl (c.each s h.sender at))
+      (kept_same h.sender.reuse h.sender.core (mark_in h.sender asked).core (stage_of m) (T.pins s) refl refl (c.each s h.sender at))
   event_kept (Turn s word) a h up = turn_kept s word a h up
   event_kept (Recv r) a h up = none_more m m' T (trails_grown X m (Recv r) a T) c up (ap (λ (y : Machine E). y.senders) h.after) refl
   event_kept (Stop s) a h up = none_more m m' T (trails_grown X m (Stop s) a T) c up (ap (λ (y : Machine E). y.senders) h.after) refl

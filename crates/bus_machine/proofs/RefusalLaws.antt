@@ -1,10 +1,12 @@
 -- Answers, memories and machines that the definitions refuse.
-use Rattle.std.proofs.Common.{◌+◌, ◌≡◌, inl, inr, ℕ, ◌≤◌, true, false, Option, Some, None, List, [], ◌∷◌, ◌++◌, drop, length, slice_get, slice_index, arith, refl, sym, ◌∙◌, ap, subst}
+use Rattle.std.proofs.Common.{◌+◌, ◌≡◌, ◌⊎◌, inl, inr, ℕ, ◌≤◌, Bool, true, false, cond, Option, Some, None, List, [], ◌∷◌, ◌++◌, drop, length, map, slice_get, slice_index, arith, refl, sym, ◌∙◌, ap, subst}
 use Rattle.std.proofs.lemmas.Bool.{true≢false}
-use Rattle.std.proofs.lemmas.Option.{same_Some}
+use Rattle.std.proofs.lemmas.Option.{same_Some, slice_get_within}
 use Rattle.std.proofs.lemmas.List.{append-nil, length-append}
 use Rattle.bus_batch.proofs.FrameLaws.{same_frame, same_log, spells_one}
-use Rattle.bus_batch.specs.Frames.{Frame, Order, Spells, AreFrames, frame_words, items_of, log_words, order_of, has_end}
+use Rattle.bus_batch.specs.Frames.{Frame, Order, Spells, AreFrames, frame_words, items_of, log_words, order_of, has_end, has_gone, tenure_and_owner}
+use Rattle.bus_batch.specs.declared.batches.Phase.TheVariants as batch
+use Rattle.bus_batch.specs.declared.messages.Mark.TheVariants as mark
 use Rattle.bus_batch.specs.declared.messages.Item.{Item}
 use Rattle.bus_core.specs.Senders.{Sender}
 use Rattle.bus_machine.proofs.Cyclic.SameActions as same_actions
@@ -13,21 +15,31 @@ use Rattle.bus_core.specs.Reusing.Keeping.{held_of}
 use Rattle.bus_presence.specs.declared.pins.Pin.TheVariants.{Unpinning}
 use Rattle.bus_register.specs.declared.kinds.Kind.TheVariants as kind
 use Rattle.bus_register.specs.declared.registers.SenderNo.{SenderNo}
-use Rattle.bus_tenure.specs.Core.{Election}
+use Rattle.bus_batch.specs.Batches.{frame_of}
+use Rattle.bus_core.specs.Reusing.Telling.{HasPublished, Published, HandsOnSent}
+use Rattle.bus_tenure.specs.Core.{Election, is_leaving}
+use Rattle.bus_tenure.specs.declared.pages.Page.{Page}
+use Rattle.bus_tenure.specs.declared.phases.Phase.{Phase}
+use Rattle.bus_tenure.specs.declared.phases.Phase.TheVariants as phase
 use Rattle.bus_tenure.specs.Seen.{tenure_of}
 use Rattle.bus_tenure.specs.declared.turns.Turn.TheVariants as turn
 use Rattle.bus_world.specs.Headline.{Action, Stepped, Elected, puts}
 use Rattle.bus_world.specs.Log.{AreCounted}
-use Rattle.bus_world.specs.Telling.{HasDelivered}
+use Rattle.bus_world.specs.Telling.{HasDelivered, HasLeft}
 use Rattle.bus_world.specs.World.{Event}
+use Rattle.bus_batch.specs.declared.messages.Mark.{Mark}
 use Rattle.bus_world.specs.declared.events.Answer.{Answer}
+use Rattle.bus_world.specs.declared.events.Answer.TheVariants as answer
+use Rattle.bus_machine.proofs.Bounding.{there_shown}
+use Rattle.bus_machine.proofs.Ending.{has_gone_last}
 use Rattle.bus_machine.proofs.Following.{actions_same}
+use Rattle.bus_register.specs.Proved.TableLaws.{get_set_same}
 use Rattle.bus_machine.specs.Bounding.{steps_towards, steps_of_pin, IsNamedFirst}
-use Rattle.bus_machine.specs.Machine.{base_of, Machine, Trails, log_of, stage_of}
+use Rattle.bus_machine.specs.Machine.{base_of, Machine, Trails, TakesMark, has_stopped, mark_in, log_of, stage_of}
 use Rattle.bus_machine.specs.Promise.{IsPagedBy, ReusesSafely, actions_in, words_of_frame}
-use Rattle.bus_machine.specs.Refusals.{LossesRefuse, AnswersRefuse, SaysNoMore, SaysMore, NumbersRefuse, BoundsRefuse, FollowsRefuse, PagesRefuse, MemoriesRefuse, WordsRefuse}
-use Rattle.bus_machine.specs.Remembering.{HasEnded, rows_in}
-use Rattle.bus_machine.specs.Telling.{IsReused}
+use Rattle.bus_machine.specs.Refusals.{LossesRefuse, AnswersRefuse, SaysNoMore, SaysMore, NumbersRefuse, BoundsRefuse, FollowsRefuse, PagesRefuse, MemoriesRefuse, WordsRefuse, MarksRefuse}
+use Rattle.bus_machine.specs.Remembering.{HasEnded, HasLeftIt, rows_in}
+use Rattle.bus_machine.specs.Telling.{ClosedTells, IsReused}
 
 nothing_there : (i : ℕ) (d : Action) → slice_get [] i ≡ Some d → ⊥
 nothing_there i d e = cc
@@ -66,6 +78,39 @@ goes_on m order owners spelled goes w =
     let one = spells_one m.layout.senders (log_of m) w.order order w.owners owners w.spelled spelled in
     true≢false (sym w.ended ∙ ap (λ (o : Order). o.ended) one.0 ∙ goes)
 
+-- nor has a sender left in one that has not its leave mark
+stays_in : {E : Type 0} (m : Machine E) (s : ℕ) (order : Order) (owners : List (ℕ × SenderNo))
+    → Spells m.layout.senders (log_of m) order owners → has_gone s order ≡ false → HasLeftIt m s → ⊥
+stays_in m s order owners spelled stays w =
+    let one = spells_one m.layout.senders (log_of m) w.order order w.owners owners w.spelled spelled in
+    true≢false (sym w.left ∙ ap (has_gone s) one.0 ∙ stays)
+
+-- so its batch is not closed
+not_closed : {E : Type 0} (m : Machine E) (s : ℕ) (order : Order) (owners : List (ℕ × SenderNo))
+    → Spells m.layout.senders (log_of m) order owners → order.ended ≡ false → has_gone s order ≡ false → HasEnded m ⊎ HasLeftIt m s → ⊥
+not_closed m s order owners spelled goes stays (inl ended) = goes_on m order owners spelled goes ended
+not_closed m s order owners spelled goes stays (inr left) = stays_in m s order owners spelled stays left
+
+closed_last : {E : Type 0} (m : Machine E) (s : ℕ) (v : Sender E) → ClosedTells m s v → HasEnded m ⊎ HasLeftIt m s
+closed_last m s v (inl ended) = inl ended
+closed_last m s v (inr left) = inr left.1
+
+-- who is told to have left has its mark in the order
+left_told : {E : Type 0} (m : Machine E) (s t : ℕ) → HasLeft m.layout.senders (log_of m) s t → HasLeftIt m s
+left_told m s t w = record {
+  order = order_of (w.earlier ++ w.frame ∷ []);
+  owners = map tenure_and_owner (w.earlier ++ w.frame ∷ []);
+  spelled = record { frames = w.earlier ++ w.frame ∷ []; lawful = w.lawful; words_are = w.words_are; order_is = refl; owners_are = refl };
+  left = subst (λ n. has_gone n (order_of (w.earlier ++ w.frame ∷ [])) ≡ true) w.owner (has_gone_last w.earlier w.frame w.says);
+}
+
+-- and its mark is the last frame of the log
+left_last : {E : Type 0} (m : Machine E) (s t : ℕ) (front : List Frame) (f : Frame) → AreFrames m.layout.senders (front ++ f ∷ [])
+    → log_words (front ++ f ∷ []) ≡ log_of m → (w : HasLeft m.layout.senders (log_of m) s t) → w.frame ≡ f
+left_last m s t front f lawful are w =
+    last_one w.earlier front w.frame f
+    (same_log m.layout.senders 0 0 (w.earlier ++ w.frame ∷ []) (front ++ f ∷ []) w.lawful lawful (w.words_are ∙ sym are))
+
 -- what is told delivered is the last frame of the log
 delivered_last : {E : Type 0} (m : Machine E) (s t first last : ℕ) (front : List Frame) (f : Frame)
     → AreFrames m.layout.senders (front ++ f ∷ []) → log_words (front ++ f ∷ []) ≡ log_of m
@@ -79,6 +124,17 @@ none_ended m empty w =
     let none = none_spelled w.spelled.frames (w.spelled.words_are ∙ empty) in
     let ended : (order_of w.spelled.frames).ended ≡ true = ap (λ (o : Order). o.ended) w.spelled.order_is ∙ w.ended in
     true≢false (sym ended ∙ ap has_end none)
+
+-- and nobody has left in it
+none_left : {E : Type 0} (m : Machine E) (s : ℕ) → log_of m ≡ [] → HasLeftIt m s → ⊥
+none_left m s empty w =
+    let none = none_spelled w.spelled.frames (w.spelled.words_are ∙ empty) in
+    let gone : has_gone s (order_of w.spelled.frames) ≡ true = ap (has_gone s) w.spelled.order_is ∙ w.left in
+    true≢false (sym gone ∙ ap (λ fs. has_gone s (order_of fs)) none)
+
+none_closed : {E : Type 0} (m : Machine E) (s : ℕ) → log_of m ≡ [] → HasEnded m ⊎ HasLeftIt m s → ⊥
+none_closed m s empty (inl ended) = none_ended m empty ended
+none_closed m s empty (inr left) = none_left m s empty left
 
 module _ {E : Type 0} (m : Machine E) where
   pub losses_refused : LossesRefuse m
@@ -104,8 +160,17 @@ module _ {E : Type 0} (m : Machine E) where
         let same = delivered_last m p t first last front f lawful are told in
         other (counts_from first i (items_of told.frame) rest told.numbers (ap items_of same ∙ items));
     full_with_room = λ room told. omega arith;
-    closed_with_nothing = λ empty told. none_ended m empty told;
-    closed_too_soon = λ order owners spelled goes told. goes_on m order owners spelled goes told;
+    left_without_mark = λ t order owners spelled stays told. stays_in m p order owners spelled stays (left_told m p t told);
+    left_elsewhere = λ t front f lawful are other told.
+        other (ap (λ (g : Frame). g.tenure) (sym (left_last m p t front f lawful are told)) ∙ told.tenure);
+    left_by_another = λ t front f lawful are other told.
+        other (ap (λ (g : Frame). g.owner.0) (sym (left_last m p t front f lawful are told)) ∙ told.owner);
+    closed_with_nothing = λ empty told. none_closed m p empty (closed_last m p v told);
+    closed_too_soon = λ order owners spelled goes stays told. not_closed m p order owners spelled goes stays (closed_last m p v told);
+    closed_by_leaving = λ order owners spelled goes apart told. elim told [
+      | inl ended ↦ goes_on m order owners spelled goes ended
+      | inr left ↦ apart left.0
+    ];
     spent_before_the_last = λ stage two told. elim told [
       | inl ended ↦ omega arith
       | inr last ↦ (let is = last.1 in let low = last.2.opened in omega arith)
@@ -116,6 +181,33 @@ module _ {E : Type 0} (m : Machine E) where
     ];
     behind_apart = λ t q none told. subst IsReused none told;
   }
+
+-- ---- marks
+-- what waits at a sender that was to close or to leave
+waits_as : {E : Type 0} (old new : Machine E) (s : ℕ) (asked : Mark) (a : Answer) (v : Sender E) → TakesMark old s asked a new
+    → slice_get new.senders s ≡ Some v → v ≡ mark_in v asked
+waits_as {E} old new s asked a v h there =
+    let at = there_shown (has_stopped old s) (slice_get old.senders s) h.sender h.goes in
+    let set = get_set_same old.senders s (mark_in h.sender asked) (slice_get_within old.senders s h.sender at) in
+    let is : mark_in h.sender asked ≡ v = same_Some _ _ (sym set ∙ ap (λ (y : Machine E). slice_get y.senders s) (sym h.after) ∙ there) in
+    subst (λ u. u ≡ mark_in u asked) is refl
+
+phase_as : {E : Type 0} (v : Sender E) (asked : Mark) → v ≡ mark_in v asked → v.core.queue.phase ≡ batch.Marking asked
+phase_as {E} v asked e = ap (λ (u : Sender E). u.core.queue.phase) e
+
+pub marks_refused : {E : Type 0} (X : Election E) (old new : Machine E) → MarksRefuse X old new
+marks_refused X old new = record {
+  leave_as_close = λ s h. let bad : answer.Closing ≡ answer.Leaving = h.answered in cc;
+  close_as_leave = λ s h. let bad : answer.Leaving ≡ answer.Closing = h.answered in cc;
+  leave_waits_as_end = λ s v a there ph h.
+      let bad : batch.Marking mark.End ≡ batch.Marking mark.Leave = sym ph
+      ∙ phase_as v mark.Leave (waits_as old new s mark.Leave a v h there) in cc;
+  end_waits_as_leave = λ s v a there ph h.
+      let bad : batch.Marking mark.Leave ≡ batch.Marking mark.End = sym ph
+      ∙ phase_as v mark.End (waits_as old new s mark.End a v h there) in cc;
+  leave_waits_not = λ s v a there ph h.
+      let bad : batch.Open ≡ batch.Marking mark.Leave = sym ph ∙ phase_as v mark.Leave (waits_as old new s mark.Leave a v h there) in cc;
+}
 
 -- numbers of messages
 pub numbers_refused : NumbersRefuse
@@ -175,14 +267,39 @@ follows_refused X old e a new = record {
       apart (same_frame senders k g [] [] lawful' lawful (ap (λ w. w ++ []) both)).0;
 }
 
+-- who holds a page holds one
+held_so : {E : Type 0} (t u : ℕ) (page page' : Page) (stored stored' : ℕ) (published published' : Bool)
+    → ◌≡◌ {A = Phase E} (phase.Holding t page stored published) (phase.Holding u page' stored' published')
+    → (page ≡ page') × (published ≡ published')
+held_so t u page page' stored stored' published published' e = (cc, cc)
+
 pub pages_refused : {E : Type 0} (X : Election E) (m : Machine E) (T : Trails) → PagesRefuse X m T
-pages_refused X m T = record {
+pages_refused {E} X m T = record {
   home_while_held = λ page t home held p. let k = subst (IsPagedBy (stage_of m) _ _) home p.by.paged in let a = k.0 in omega arith;
   out_while_open = λ t home opened p. let k = subst (IsPagedBy (stage_of m) _ _) home p.by.paged in let a = k.1 in omega arith;
   other_tenure = λ page home apart p. apart (subst (IsPagedBy (stage_of m) _ _) home p.by.paged).0;
   other_items = λ page order owners s home spelled few apart p.
       let one = spells_one m.layout.senders (log_of m) order p.order owners p.owners spelled p.by.spelled in
       apart ((p.by.knows page home).next s few ∙ ap (λ (o : Order). base_of m s + length (of_sender s o)) (sym one.0));
+  other_leavers = λ page order owners s home spelled few apart p.
+      let one = spells_one m.layout.senders (log_of m) order p.order owners p.owners spelled p.by.spelled in
+      apart ((p.by.knows page home).left s few ∙ ap (λ (o : Order). Some (has_gone s o)) (sym one.0));
+  out_other_leavers = λ s v t page stored q order owners away at holds spelled few apart p.
+      let w = p.by.out away in
+      let held : held_of v.core.phase ≡ Some t = ap held_of holds in
+      let stage = p.by.holds s v t at held in
+      let opened = w.stage in
+      let same : w.tenure ≡ t = omega arith in
+      let owner_is : w.owner ≡ s = same_Some _ _ (sym w.last ∙ ap (slice_get p.by.takers.all) same ∙ p.by.owns s v t at held) in
+      let sender_is : w.sender ≡ v = same_Some _ _ (sym w.there ∙ ap (slice_get m.senders) owner_is ∙ at) in
+      let has = held_so t w.tenure page w.page stored w.stored false w.published
+      (sym holds ∙ ap (λ (u : Sender E). u.core.phase) (sym sender_is) ∙ w.has) in
+      let front_is : w.front ≡ log_of m = sym (append-nil w.front)
+      ∙ ap (λ b. w.front ++ cond b (frame_words (frame_of w.sender.core.queue w.tenure)) []) has.1
+      ∙ sym w.behind in
+      let known = subst (λ f. Spells m.layout.senders f w.knows.order w.knows.owners) front_is w.knows.spelled in
+      let one = spells_one m.layout.senders (log_of m) w.knows.order order w.knows.owners owners known spelled in
+      apart (ap (λ (g : Page). slice_get g.left q) has.0 ∙ w.knows.knows.left q few ∙ ap (λ (o : Order). Some (has_gone q o)) one.0);
   counts_untaken = λ page home one idle p.
       let all = p.by.takers.all in
       let many : length all ≡ 1 = sym (p.by.counts page home) ∙ one in
@@ -199,14 +316,38 @@ pages_refused X m T = record {
   out_of_hands = λ away nobody p. let w = p.by.out away in nobody w.owner w.sender w.tenure w.there (ap held_of w.has);
 }
 
+-- who has left by the order that the log spells has left in it
+left_by_it : {E : Type 0} (m : Machine E) (s : ℕ) (order : Order) (owners : List (ℕ × SenderNo))
+    → Spells m.layout.senders (log_of m) order owners → has_gone s order ≡ true → HasLeftIt m s
+left_by_it m s order owners spelled gone = record { order = order; owners = owners; spelled = spelled; left = gone }
+
+never_at_rest : {E : Type 0} (t : ℕ) (ph : Phase E) → HasPublished t ph → ph ≡ phase.Resting → ⊥
+never_at_rest t ph (Published page stored) e = cc
+never_at_rest t ph HandsOnSent e = cc
+
 rows_same : (r rows : ℕ) → ◌≡◌ {A = Option ℕ} (Some r) (Some rows) → r ≡ rows
 rows_same r rows e = same_Some r rows e
 
 -- memories of what is not so
 pub memories_refused : {E : Type 0} (X : Election E) (m : Machine E) (T : Trails) → MemoriesRefuse X m T
 memories_refused X m T = record {
-  closed_with_nothing = λ s v at closed empty p. none_ended m empty ((p.by.remembers s v at).closed closed);
-  closed_too_soon = λ s v order owners at closed spelled goes p. goes_on m order owners spelled goes ((p.by.remembers s v at).closed closed);
+  closed_with_nothing = λ s v at closed empty p. none_closed m s empty ((p.by.remembers s v at).closed closed);
+  closed_too_soon = λ s v order owners at closed spelled goes stays p.
+      not_closed m s order owners spelled goes stays ((p.by.remembers s v at).closed closed);
+  open_after_leaving = λ s v order owners at open_is spelled gone p.
+      elim ((p.by.remembers s v at).gone (left_by_it m s order owners spelled gone)) [
+        | inl closed ↦ (let bad : batch.Open ≡ batch.Closed = sym open_is ∙ closed in cc)
+        | inr now ↦ (let bad : is_leaving batch.Open ≡ true = ap is_leaving (sym open_is) ∙ now.leaves in true≢false (sym bad))
+      ];
+  leaving_after_leaving = λ s v order owners at leaving ph spelled gone p.
+      elim ((p.by.remembers s v at).gone (left_by_it m s order owners spelled gone)) [
+        | inl closed ↦ (let bad : batch.Marking mark.Leave ≡ batch.Closed = sym leaving ∙ closed in cc)
+        | inr now ↦ never_at_rest now.tenure v.core.phase now.published ph
+      ];
+  open_after_asking = λ s v asked at open_is did p. elim ((p.by.remembers s v at).asked asked did) [
+    | inl marking ↦ (let bad : batch.Open ≡ batch.Marking marking.0 = sym open_is ∙ marking.1 in cc)
+    | inr closed ↦ (let bad : batch.Open ≡ batch.Closed = sym open_is ∙ closed in cc)
+  ];
   other_number = λ s v at other p. other (p.by.remembers s v at).is.me;
   other_layout = λ s v at other p. other (p.by.remembers s v at).is.layout;
   other_mark = λ s v at other p. other (p.by.remembers s v at).is.marks;

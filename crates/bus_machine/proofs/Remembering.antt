@@ -1,19 +1,21 @@
 -- What each sender of a machine goes by is so.
-use Rattle.std.specs.Prelude.{◌≢◌}
-use Rattle.std.proofs.Common.{◌≡◌, inl, inr, ℕ, ◌+◌, ◌*◌, ◌/◌, ◌<◌, ◌≤◌, ◌==◌, nat_le, Bool, true, false, cond, Option, Some, None, is_some, List, [], ◌∷◌, ◌++◌, length, map, slice_get, slice_index, slice_set, arith, refl, sym, ◌∙◌, ap, subst}
+use Rattle.std.specs.Prelude.{◌≢◌, ◌⊎◌}
+use Rattle.std.proofs.Common.{◌≡◌, inl, inr, ℕ, zero, suc, ◌+◌, ◌*◌, ◌/◌, ◌<◌, ◌≤◌, ◌==◌, nat_le, Bool, true, false, cond, Option, Some, None, is_some, List, [], ◌∷◌, ◌++◌, length, map, slice_get, slice_index, slice_set, arith, refl, sym, ◌∙◌, ap, subst}
 use Rattle.std.proofs.lemmas.Bool.{cases_eq, cases_lt, true≢false}
 use Rattle.std.proofs.lemmas.Bool.Decides.{eqb_tells}
 use Rattle.std.proofs.lemmas.List.{get_or-set_same, length-append, length-map}
 use Rattle.std.proofs.lemmas.Option.{same_Some, slice_get_within}
-use Rattle.bus_batch.specs.Batches.{next_of, frame_of, phase_sent}
-use Rattle.bus_batch.specs.Frames.{has_end, order_of}
+use Rattle.bus_batch.specs.Batches.{next_of, frame_of, phase_sent, IsShut}
+use Rattle.bus_batch.specs.Frames.{has_end, has_gone, order_of}
+use Rattle.bus_batch.specs.declared.messages.Mark.{Mark}
+use Rattle.bus_batch.specs.declared.messages.Mark.TheVariants as mark
 use Rattle.bus_batch.specs.declared.messages.Item.{Item}
 use Rattle.bus_batch.specs.declared.batches.Phase.{Phase as BatchPhase}
 use Rattle.bus_batch.specs.declared.batches.Phase.TheVariants as batch
 use Rattle.bus_core.proofs.Reusing.Tells.{Shows, gives_shows}
 use Rattle.bus_core.proofs.Situated.{own_is}
 use Rattle.bus_core.specs.Senders.{Sender, Situation, Does, Announces, Validates, Unpins, Withdraws, Scans, Clears, situation}
-use Rattle.bus_core.specs.Table.{line, line_now, seen}
+use Rattle.bus_core.specs.Table.{Line, line, line_now, seen}
 use Rattle.bus_core.specs.declared.reuses.Reuse.{Reuse}
 use Rattle.bus_deliverylog.specs.Orders.{of_sender}
 use Rattle.bus_register.specs.Protocol.{Protocol}
@@ -30,27 +32,31 @@ use Rattle.bus_tenure.specs.declared.phases.Phase.TheVariants as phase
 use Rattle.bus_tenure.specs.declared.phases.Reason.{Reason}
 use Rattle.bus_tenure.specs.declared.phases.Reason.TheVariants.{Sent, FoundEnd, NoRoom}
 use Rattle.bus_world.specs.Bus.{Part, Fits, standing_of, stands_at}
-use Rattle.bus_world.specs.Headline.{Action, Stepped, Elected, puts}
+use Rattle.bus_world.specs.Headline.{Action, HasPut, HasMarked, Stepped, Asked, Elected, puts}
 use Rattle.bus_world.specs.Log.{next_number, sent_count}
 use Rattle.bus_world.specs.Waiting.{waiting_at}
 use Rattle.bus_world.proofs.FrameOfBatch.{length-items}
 use Rattle.bus_world.proofs.LogLaws.{next-append_owner}
 use Rattle.bus_world.specs.Tenures.Stage.{Open, Held}
 use Rattle.bus_world.specs.Tenures.Standing.{Holds}
-use Rattle.bus_world.specs.Trails.{step_action}
+use Rattle.bus_world.proofs.Places.{got_split}
+use Rattle.bus_world.specs.Trails.{step_action, put_actions, mark_actions}
 use Rattle.bus_world.specs.Turning.{after_step, core_with_page, words_after}
-use Rattle.bus_world.specs.World.{Event, Put, Close, Turn, Recv, Stop}
+use Rattle.bus_world.specs.CyclicProtocols.{actions_with}
+use Rattle.bus_tenure.specs.declared.turns.Turn.{Turn as Answered}
+use Rattle.bus_world.specs.World.{Event, Put, Ask, Turn, Recv, Stop}
 use Rattle.bus_world.specs.declared.events.Answer.{Answer}
 use Rattle.bus_world.specs.declared.events.Answer.TheVariants as answer
 use Rattle.bus_machine.proofs.AtNone.{event_reuse}
-use Rattle.bus_machine.proofs.Bounding.{actions_of_it, added, added_is, there_shown}
-use Rattle.bus_machine.proofs.Ending.{published_ends, found_ends, ended_of, still_ended, past_more}
+use Rattle.bus_machine.proofs.Bounding.{actions_of_it, actions_of_other, added, added_is, there_shown}
+use Rattle.bus_machine.proofs.Ending.{published_ends, published_leaves, left_by, found_ends, ended_of, left_of, still_ended, still_left, past_more}
 use Rattle.bus_machine.proofs.Framed.{IsFramed, framed}
 use Rattle.bus_machine.proofs.Growing.{grows, rises}
+use Rattle.bus_machine.proofs.Knowing.{order_same}
 use Rattle.bus_machine.proofs.Leading.{Sits, sits_before, sits_after}
 use Rattle.bus_machine.proofs.Staying.{grown_longer}
-use Rattle.bus_machine.specs.Machine.{base_of, Machine, Trails, Reached, New as Start, Then as Next, Happens, TakesTurn, IsNew, IsOnWord, trails_grown, turn_grown, turn_answer, found, has_stopped, moved, put_in, close_in, no_machine_trails, stage_of}
-use Rattle.bus_machine.specs.Remembering.{HasEnded, HasLost, IsPastFor, IsItself, Remembers}
+use Rattle.bus_machine.specs.Machine.{base_of, Machine, Trails, Reached, New as Start, Then as Next, Happens, TakesTurn, IsNew, IsOnWord, trails_grown, turn_grown, turn_answer, found, has_stopped, moved, put_in, mark_in, no_machine_trails, stage_of}
+use Rattle.bus_machine.specs.Remembering.{HasEnded, HasLeftIt, LeavesNow, HasLost, IsPastFor, IsItself, Remembers}
 
 -- ---- by the frames of the log
 module _ {E : Type 0} (P : Protocol E (Unit {0}) ℕ) (m : Machine E) (T : Trails) (f : IsFramed P m T) (p : ℕ) (v : Sender E)
@@ -117,15 +123,15 @@ module _ {E : Type 0} (P : Protocol E (Unit {0}) ℕ) (m : Machine E) (T : Trail
       length-append sent_now (waiting_at v.core ph) ∙ ap (λ n. n + length (waiting_at v.core ph)) (length-map (of_sender p (order_of f.frames)) (λ (i : Item). i.message))
 
   numbers_by : (ph : Phase E) → Fits (base_of m) f.V f.frames v.core ph → next_of v.core.queue ≡ its_next + length (waiting_at v.core ph)
-  numbers_by phase.Resting fits = ap (λ n. n + length v.core.queue.messages) (fits.1 ∙ ap (λ z. next_number (base_of m) z f.frames) part.me)
-  numbers_by (phase.Electing u k) fits = ap (λ n. n + length v.core.queue.messages) (fits.1 ∙ ap (λ z. next_number (base_of m) z f.frames) part.me)
+  numbers_by phase.Resting fits = ap (λ n. n + length v.core.queue.messages) (fits.1.0 ∙ ap (λ z. next_number (base_of m) z f.frames) part.me)
+  numbers_by (phase.Electing u k) fits = ap (λ n. n + length v.core.queue.messages) (fits.1.0 ∙ ap (λ z. next_number (base_of m) z f.frames) part.me)
   numbers_by (phase.Taken u) fits = absurd fits
-  numbers_by (phase.Holding u page stored false) fits = ap (λ n. n + length v.core.queue.messages) (fits.1.first ∙ ap (λ z. next_number (base_of m) z f.frames) part.me)
+  numbers_by (phase.Holding u page stored false) fits = ap (λ n. n + length v.core.queue.messages) (fits.1.goes_on.0 ∙ ap (λ z. next_number (base_of m) z f.frames) part.me)
   numbers_by (phase.Holding u page stored true) fits =
       let w = fits.1 in
       let b = frame_of v.core.queue u in
       let mine : v.core.me ≡ b.owner.0 = part.me ∙ sym part.sender in
-      let all = ap (λ n. n + length v.core.queue.messages) (w.first ∙ ap (λ z. next_number (base_of m) z w.front) mine)
+      let all = ap (λ n. n + length v.core.queue.messages) (w.goes_on.0 ∙ ap (λ z. next_number (base_of m) z w.front) mine)
       ∙ ap (λ n. next_number (base_of m) b.owner.0 w.front + n) (sym (length-items v.core.queue u part.queue))
       ∙ sym (next-append_owner (base_of m) w.front b) ∙ ap (λ z. next_number (base_of m) z (w.front ++ b ∷ [])) part.sender ∙ ap (next_number (base_of m) p) (sym w.frames_are) in
       omega arith
@@ -137,6 +143,16 @@ module _ {E : Type 0} (P : Protocol E (Unit {0}) ℕ) (m : Machine E) (T : Trail
   pub itself : IsItself m p v
   itself = record { me = part.me; layout = part.layout; marks = part.sender }
 
+  -- whoever has left is closed, or is leaving with its page
+  pub left_so : HasLeftIt m p → (v.core.queue.phase ≡ batch.Closed) ⊎ LeavesNow v
+  left_so left =
+      let gone : has_gone v.core.me (order_of f.frames) ≡ true = ap (λ n. has_gone n (order_of f.frames)) part.me
+      ∙ ap (has_gone p) (order_same P m T f left.order left.owners left.spelled) ∙ left.left in
+      elim (left_by (base_of m) f.V f.frames v.core 0 v.core.phase part.fits (part.sender ∙ sym part.me) gone) [
+        | inl closed ↦ inl closed
+        | inr now ↦ inr record { tenure = now.0; published = now.1; leaves = now.2 }
+      ]
+
   pub busy_begun : (t : ℕ) → tenure_of v.core.phase ≡ Some t → v.core.queue.busy ≡ true
   busy_begun t e = busy_in v.core.phase part.fits t e
 
@@ -145,11 +161,56 @@ module _ {E : Type 0} (P : Protocol E (Unit {0}) ℕ) (m : Machine E) (T : Trail
 
 -- ---- by what happened
 record Recalls {E : Type 0} (m : Machine E) (s : ℕ) (c : Core E) (actions : List Action) : Type 0 where
-  closed : c.queue.phase ≡ batch.Closed → HasEnded m
+  closed : c.queue.phase ≡ batch.Closed → HasEnded m ⊎ HasLeftIt m s
+  asked : (asked : Mark) → Asked asked actions → IsShut c.queue
   past : (t : ℕ) → t < c.least → IsPastFor (stage_of m) s actions t
 
 abbrev AllRecall : {E : Type 0} → Machine E → Trails → Type 0
 AllRecall {E} m T = (s : ℕ) (v : Sender E) → slice_get m.senders s ≡ Some v → Recalls m s v.core (T.actions s)
+
+-- a batch of this phase is shut
+abbrev IsShutAt : BatchPhase → Type 0
+IsShutAt q = ((m : Mark) × (q ≡ batch.Marking m)) ⊎ (q ≡ batch.Closed)
+
+-- ---- actions that ask for no mark
+abbrev AsksNone : List Action → Type 0
+AsksNone ds = (asked : Mark) → Asked asked ds → ⊥
+
+nothing_asks : AsksNone []
+nothing_asks asked (place, at) = let bad = at in cc
+
+one_asks : (d : Action) → ((asked : Mark) → d ≡ HasMarked asked → ⊥) → AsksNone (d ∷ [])
+one_asks d other asked (zero, at) = other asked (same_Some _ _ at)
+one_asks d other asked (suc place, at) = let bad = at in cc
+
+put_asks : (bytes : List ℕ) (a : Answer) → AsksNone (put_actions bytes a)
+put_asks bytes (answer.Number n) = one_asks (HasPut n bytes) (λ asked e. cc)
+put_asks bytes answer.Closing = nothing_asks
+put_asks bytes answer.Leaving = nothing_asks
+put_asks bytes (answer.Turn t) = nothing_asks
+put_asks bytes (answer.Recv t) = nothing_asks
+put_asks bytes answer.Stopped = nothing_asks
+
+step_asks : (k : Option Kind) (tenure : Option ℕ) (got : ℕ) (chose : Option ℕ) (told : Answered)
+    → AsksNone (step_action k tenure got chose told)
+step_asks None tenure got chose told = nothing_asks
+step_asks (Some k) tenure got chose told = one_asks (Stepped tenure k got chose told) (λ asked e. cc)
+
+turn_asks : {E : Type 0} (z : Situation E) (l : Line E) (got word : ℕ) (told : Answered) → AsksNone (added z l got word told)
+turn_asks (Does z) l got word told = step_asks l.kind l.tenure got (l.chosen got word) told
+turn_asks (Announces t) l got word told = nothing_asks
+turn_asks (Validates t) l got word told = nothing_asks
+turn_asks (Unpins t) l got word told = nothing_asks
+turn_asks (Withdraws t) l got word told = nothing_asks
+turn_asks (Scans r) l got word told = nothing_asks
+turn_asks (Clears r) l got word told = nothing_asks
+
+-- what was asked for with more actions that ask for none was asked for before
+asked_before : (xs ds : List Action) → AsksNone ds → (asked : Mark) → Asked asked (xs ++ ds) → Asked asked xs
+asked_before xs ds none asked (place, at) = elim (got_split xs ds place _ at) [
+  | inl before ↦ (place, before)
+  | inr after ↦ absurd (none asked (after.0, after.2))
+]
 
 -- an event of a machine that was led to
 module _ {E : Type 0} (X : Election E) (P : Protocol E (Unit {0}) ℕ) (m m' : Machine E) (T : Trails) (e : Event) (a : Answer) (sits : Sits X P m)
@@ -160,8 +221,9 @@ module _ {E : Type 0} (X : Election E) (P : Protocol E (Unit {0}) ℕ) (m m' : M
   f' : IsFramed P m' T'
   f' = framed X P m' T' (sits_after X P m m' e a h sits) (Next m m' T e a r h)
 
-  ended_on : HasEnded m → HasEnded m'
-  ended_on w = still_ended P m m' T' (event_reuse X m m' e a h).0 f' (grows X P m m' T e a sits r h) w
+  closed_on : (s : ℕ) → HasEnded m ⊎ HasLeftIt m s → HasEnded m' ⊎ HasLeftIt m' s
+  closed_on s (inl ended) = inl (still_ended P m m' T' (event_reuse X m m' e a h).0 f' (grows X P m m' T e a sits r h) ended)
+  closed_on s (inr left) = inr (still_left P m m' T' s (event_reuse X m m' e a h).0 f' (grows X P m m' T e a sits r h) left)
 
   past_on : (s t : ℕ) → IsPastFor (stage_of m) s (T.actions s) t → IsPastFor (stage_of m') s (T'.actions s) t
   past_on s t w = past_more (stage_of m) (stage_of m') s (T.actions s) (T'.actions s) t (rises X P m m' T e a sits r h)
@@ -169,28 +231,34 @@ module _ {E : Type 0} (X : Election E) (P : Protocol E (Unit {0}) ℕ) (m m' : M
 
   -- who is as before, but for its messages, its phase and whether its batch is on its way
   alike : (s : ℕ) (c c' : Core E) → Recalls m s c (T.actions s) → (c'.queue.phase ≡ batch.Closed → c.queue.phase ≡ batch.Closed)
-      → c'.least ≡ c.least → Recalls m' s c' (T'.actions s)
-  alike s c c' w shut same = record {
-    closed = λ i. ended_on (w.closed (shut i));
+      → ((asked : Mark) → Asked asked (T'.actions s) → IsShut c'.queue) → c'.least ≡ c.least → Recalls m' s c' (T'.actions s)
+  alike s c c' w shut asks same = record {
+    closed = λ i. closed_on s (w.closed (shut i));
+    asked = asks;
     past = λ t low. past_on s t (w.past t (omega arith));
   }
 
-  -- one sender is another
-  one_other : (s : ℕ) (v v' : Sender E) → slice_get m.senders s ≡ Some v → m'.senders ≡ slice_set m.senders s v'
-      → Recalls m' s v'.core (T'.actions s) → AllRecall m' T'
-  one_other s v v' at senders now q w here = elim (cases_eq q s) [
+  -- one sender is another, and has done this
+  one_other : (s : ℕ) (v v' : Sender E) (ds : List Action) → slice_get m.senders s ≡ Some v → m'.senders ≡ slice_set m.senders s v'
+      → T'.actions ≡ actions_with s ds T.actions → Recalls m' s v'.core (T'.actions s) → AllRecall m' T'
+  one_other s v v' ds at senders did now q w here = elim (cases_eq q s) [
     | inl same ↦
         let set = slice_set m.senders s v' in
         let is : v' ≡ w = same_Some _ _ (sym (get_set_same m.senders s v' (slice_get_within m.senders s v at))
         ∙ ap (slice_get set) (sym same) ∙ ap (λ l. slice_get l q) (sym senders) ∙ here) in
         subst (λ n. Recalls m' n w.core (T'.actions n)) (sym same) (subst (λ (y : Sender E). Recalls m' s y.core (T'.actions s)) is now)
-    | inr other ↦ alike q w.core w.core (k q w (sym (get_set_other m.senders s v' q other) ∙ ap (λ l. slice_get l q) (sym senders) ∙ here))
-        (λ i. i) refl
+    | inr other ↦
+        let before = k q w (sym (get_set_other m.senders s v' q other) ∙ ap (λ l. slice_get l q) (sym senders) ∙ here) in
+        let same : T'.actions q ≡ T.actions q = ap (λ (D : ℕ → List Action). D q) did ∙ actions_of_other s ds T.actions q other in
+        alike q w.core w.core before (λ i. i) (λ asked j. before.asked asked (subst (Asked asked) same j)) refl
   ]
 
-  -- all are as before
-  none_other : m'.senders ≡ m.senders → AllRecall m' T'
-  none_other senders q w here = alike q w.core w.core (k q w (ap (λ l. slice_get l q) (sym senders) ∙ here)) (λ i. i) refl
+  -- all are as before, and nobody has done anything
+  none_other : m'.senders ≡ m.senders → T'.actions ≡ T.actions → AllRecall m' T'
+  none_other senders did q w here =
+      let before = k q w (ap (λ l. slice_get l q) (sym senders) ∙ here) in
+      alike q w.core w.core before (λ i. i)
+      (λ asked j. before.asked asked (subst (Asked asked) (ap (λ (D : ℕ → List Action). D q) did) j)) refl
 
 -- a turn
 module _ {E : Type 0} (X : Election E) (P : Protocol E (Unit {0}) ℕ) (m m' : Machine E) (T : Trails) (s word : ℕ) (a : Answer) (sits : Sits X P m)
@@ -216,9 +284,6 @@ module _ {E : Type 0} (X : Election E) (P : Protocol E (Unit {0}) ℕ) (m m' : M
   abbrev Good : Core E → Type 0
   Good c = Recalls m' s c (U.actions s)
 
-  good : (c : Core E) → (c.queue.phase ≡ batch.Closed → v.core.queue.phase ≡ batch.Closed) → c.least ≡ v.core.least → Good c
-  good c shut same = alike X P m m' T (Turn s word) a sits r h k s v.core c w shut same
-
   low : stage_of m ≤ stage_of m'
   low = rises X P m m' T (Turn s word) a sits r h
 
@@ -236,29 +301,43 @@ module _ {E : Type 0} (X : Election E) (P : Protocol E (Unit {0}) ℕ) (m m' : M
       ∙ ap (λ (D : ℕ → List Action). D s) (added_is (situation X v) (line_now X v) s (got (situation X v)) word (turn_answer m (line_now X v) word) T)
       ∙ actions_of_it s (did (situation X v)) T.actions s refl ∙ ap (λ y. T.actions s ++ did y) i
 
+  -- it has asked for no mark with it
+  asked_old : (asked : Mark) → Asked asked (U.actions s) → Asked asked (T.actions s)
+  asked_old asked j =
+      let z = situation X v in
+      asked_before (T.actions s) (did z) (turn_asks z (line X v z) (got z) word (turn_answer m (line X v z) word)) asked
+      (subst (Asked asked) (done z refl) j)
+
+  good : (c : Core E) → (c.queue.phase ≡ batch.Closed → v.core.queue.phase ≡ batch.Closed) → c.queue.phase ≡ v.core.queue.phase
+      → c.least ≡ v.core.least → Good c
+  good c shut phase_is same = alike X P m m' T (Turn s word) a sits r h k s v.core c w shut
+      (λ asked j. subst IsShutAt (sym phase_is) (w.asked asked (asked_old asked j))) same
+
   -- the page is laid before it, or not
   laid : (t : ℕ) (home : Option Page) (c : Core E) → Good c → Good (core_with_page c t home)
-  laid t None c g = record { closed = g.closed; past = g.past }
-  laid t (Some page) c g = record { closed = g.closed; past = g.past }
+  laid t None c g = record { closed = g.closed; asked = g.asked; past = g.past }
+  laid t (Some page) c g = record { closed = g.closed; asked = g.asked; past = g.past }
 
   -- a first look at the stage
   looked_apart : (b d : Bool) → nat_le v.core.layout.rows (stage_of m / 2) ≡ d
       → Good (cond b v.core (cond d (record v.core { least = stage_of m / 2 }) (core_begun X v.core (stage_of m / 2))))
-  looked_apart true d i = good v.core (λ j. j) refl
+  looked_apart true d i = good v.core (λ j. j) refl refl
   looked_apart false true i = record {
-    closed = λ j. ended_on X P m m' T (Turn s word) a sits r h k (w.closed j);
+    closed = λ j. closed_on X P m m' T (Turn s word) a sits r h k s (w.closed j);
+    asked = λ asked j. w.asked asked (asked_old asked j);
     past = λ t small. (let more = low in inl (omega arith));
   }
-  looked_apart false false i = good (core_begun X v.core (stage_of m / 2)) (λ j. j) refl
+  looked_apart false false i = good (core_begun X v.core (stage_of m / 2)) (λ j. j) refl refl
 
   looked_again : (b d : Bool) → nat_le v.core.layout.rows (stage_of m / 2) ≡ d
       → Good (cond b v.core (cond d (record v.core { least = stage_of m / 2 }) v.core))
-  looked_again true d i = good v.core (λ j. j) refl
+  looked_again true d i = good v.core (λ j. j) refl refl
   looked_again false true i = record {
-    closed = λ j. ended_on X P m m' T (Turn s word) a sits r h k (w.closed j);
+    closed = λ j. closed_on X P m m' T (Turn s word) a sits r h k s (w.closed j);
+    asked = λ asked j. w.asked asked (asked_old asked j);
     past = λ t small. (let more = low in inl (omega arith));
   }
-  looked_again false false i = good v.core (λ j. j) refl
+  looked_again false false i = good v.core (λ j. j) refl refl
 
   looks : (o : Option Reuse) → Good (seen X v.core o (stage_of m)).core
   looks None = looked_apart (waits v.core (stage_of m)) (nat_le v.core.layout.rows (stage_of m / 2)) refl
@@ -266,8 +345,8 @@ module _ {E : Type 0} (X : Election E) (P : Protocol E (Unit {0}) ℕ) (m m' : M
 
   -- the second look
   validated : (t : ℕ) (b : Bool) → Good (cond b (core_begun X v.core t) v.core)
-  validated t true = good (core_begun X v.core t) (λ j. j) refl
-  validated t false = good v.core (λ j. j) refl
+  validated t true = good (core_begun X v.core t) (λ j. j) refl refl
+  validated t false = good v.core (λ j. j) refl refl
 
   -- ---- a step of its election
   module _ (t : ℕ) (e : E) (i : situation X v ≡ Does (Elects t e)) where
@@ -319,14 +398,15 @@ module _ {E : Type 0} (X : Election E) (P : Protocol E (Unit {0}) ℕ) (m m' : M
 
     decides : (o : ℕ) → X.owner e' ≡ Some o → (b : Bool) → (o == v.core.me) ≡ b
         → Good (cond b (record v.core { phase = phase.Electing t e' }) (record v.core { queue = record v.core.queue { busy = false }; least = t + 1; phase = phase.Resting }))
-    decides o owned true i = good (record v.core { phase = phase.Electing t e' }) (λ j. j) refl
+    decides o owned true i = good (record v.core { phase = phase.Electing t e' }) (λ j. j) refl refl
     decides o owned false i = record {
-      closed = λ j. ended_on X P m m' T (Turn s word) a sits r h k (w.closed j);
+      closed = λ j. closed_on X P m m' T (Turn s word) a sits r h k s (w.closed j);
+      asked = λ asked j. w.asked asked (asked_old asked j);
       past = lost o owned (λ same. elim (eqb_tells o v.core.me) [ inl y ↦ true≢false (sym y.0 ∙ i) | inr n ↦ n.1 same ]);
     }
 
     elects : (own : Option ℕ) → X.owner e' ≡ own → Good (core_elected v.core t e' own)
-    elects None owned = good (record v.core { phase = phase.Electing t e' }) (λ j. j) refl
+    elects None owned = good (record v.core { phase = phase.Electing t e' }) (λ j. j) refl refl
     elects (Some o) owned = decides o owned (o == v.core.me) refl
 
   -- ---- the page goes back
@@ -338,52 +418,74 @@ module _ {E : Type 0} (X : Election E) (P : Protocol E (Unit {0}) ℕ) (m m' : M
       let words : m'.words ≡ slice_set m.words 1 (2 * t + 2) = ap (λ (y : Machine E). y.words) h.after ∙ ap (λ l. words_after m.words (l.op word)) now in
       ap (λ l. slice_index l 1) words ∙ get_or-set_same m.words 1 (2 * t + 2) 0 there
 
-  -- its batch is closed for its end mark, or for the one that it found
-  shut_sent : (q : BatchPhase) → v.core.queue.phase ≡ q → (q ≡ batch.Closing → has_end f.frames ≡ true) → phase_sent q ≡ batch.Closed → HasEnded m
-  shut_sent batch.Open is ends j = absurd cc
-  shut_sent batch.Closing is ends j = ended_of P m T f (ends refl)
-  shut_sent batch.Closed is ends j = w.closed is
+  -- its batch is closed for its mark, or for an end mark that it found
+  shut_sent : (q : BatchPhase) → v.core.queue.phase ≡ q → (q ≡ batch.Marking mark.End → has_end f.frames ≡ true)
+      → (q ≡ batch.Marking mark.Leave → has_gone s (order_of f.frames) ≡ true) → phase_sent q ≡ batch.Closed → HasEnded m ⊎ HasLeftIt m s
+  shut_sent batch.Open is ends leaves j = absurd cc
+  shut_sent (batch.Marking mark.End) is ends leaves j = inl (ended_of P m T f (ends refl))
+  shut_sent (batch.Marking mark.Leave) is ends leaves j = inr (left_of P m T f s (leaves refl))
+  shut_sent batch.Closed is ends leaves j = w.closed is
 
-  shut : (t : ℕ) (reason : Reason) → Shows v.core t v.core.phase reason → (core_at_rest v.core reason t).queue.phase ≡ batch.Closed → HasEnded m
+  shut : (t : ℕ) (reason : Reason) → Shows v.core t v.core.phase reason → (core_at_rest v.core reason t).queue.phase ≡ batch.Closed
+      → HasEnded m ⊎ HasLeftIt m s
   shut t Sent y j = shut_sent v.core.queue.phase refl
-      (λ closing. published_ends (base_of m) f.V f.frames v.core t v.core.phase y closing its.fits) j
-  shut t FoundEnd y j = ended_of P m T f (found_ends (base_of m) f.V f.frames v.core t v.core.phase y its.fits)
+      (λ closing. published_ends (base_of m) f.V f.frames v.core t v.core.phase y closing its.fits)
+      (λ leaving. subst (λ q. has_gone q (order_of f.frames) ≡ true) its.sender
+      (published_leaves (base_of m) f.V f.frames v.core t v.core.phase y leaving its.fits)) j
+  shut t FoundEnd y j = inl (ended_of P m T f (found_ends (base_of m) f.V f.frames v.core t v.core.phase y its.fits))
   shut t NoRoom y j = w.closed j
+
+  -- a batch that is shut stays so
+  shut_after : (q : BatchPhase) → IsShutAt q → IsShutAt (phase_sent q)
+  shut_after batch.Open (inl marking) = absurd (let bad = marking.1 in cc)
+  shut_after batch.Open (inr closed) = absurd (let bad : batch.Open ≡ batch.Closed = closed in cc)
+  shut_after (batch.Marking asked) j = inr refl
+  shut_after batch.Closed j = inr refl
+
+  stays_shut : (t : ℕ) (reason : Reason) → IsShut v.core.queue → IsShut (core_at_rest v.core reason t).queue
+  stays_shut t Sent j = shut_after v.core.queue.phase j
+  stays_shut t FoundEnd j = inr refl
+  stays_shut t NoRoom j = j
 
   gives : (t : ℕ) (page : Page) (reason : Reason) → situation X v ≡ Does (GivesBack t page reason) → Good (core_at_rest v.core reason t)
   gives t page reason i =
       let own = own_is X v (GivesBack t page reason) i in
       let stage = stage_given t page reason i in
       record {
-        closed = λ j. ended_on X P m m' T (Turn s word) a sits r h k (shut t reason (gives_shows X v.core t page reason own) j);
+        closed = λ j. closed_on X P m m' T (Turn s word) a sits r h k s (shut t reason (gives_shows X v.core t page reason own) j);
+        asked = λ asked j. stays_shut t reason (w.asked asked (asked_old asked j));
         past = λ u small. inl (omega arith);
       }
 
   -- ---- whatever the turn is
   by_turn : (z : Situation E) → situation X v ≡ z → Good (moved (after_step (line X v z).move) m.home ((line X v z).fed (got z) word)).core
-  by_turn (Does IsClosed) i = good v.core (λ j. j) refl
-  by_turn (Does IsIdle) i = good v.core (λ j. j) refl
-  by_turn (Does IsSpent) i = good v.core (λ j. j) refl
+  by_turn (Does IsClosed) i = good v.core (λ j. j) refl refl
+  by_turn (Does IsIdle) i = good v.core (λ j. j) refl refl
+  by_turn (Does IsSpent) i = good v.core (λ j. j) refl refl
   by_turn (Does LooksAtStage) i = looks v.reuse
   by_turn (Does (Elects t e)) i = elects t e i (X.owner (X.fed e (got (Does (Elects t e))) word)) refl
-  by_turn (Does (TakesPage t)) i = laid t m.home (record v.core { phase = phase.Taken t }) (good (record v.core { phase = phase.Taken t }) (λ j. j) refl)
-  by_turn (Does (AwaitsPage t)) i = laid t m.home v.core (good v.core (λ j. j) refl)
-  by_turn (Does (StoresWord t page stored)) i = good (record v.core { phase = phase.Holding t page (stored + 1) false }) (λ j. j) refl
-  by_turn (Does (StoresLength t page stored)) i = good (record v.core { phase = phase.Holding t page stored true }) (λ j. j) refl
+  by_turn (Does (TakesPage t)) i = laid t m.home (record v.core { phase = phase.Taken t }) (good (record v.core { phase = phase.Taken t }) (λ j. j) refl refl)
+  by_turn (Does (AwaitsPage t)) i = laid t m.home v.core (good v.core (λ j. j) refl refl)
+  by_turn (Does (StoresWord t page stored)) i = good (record v.core { phase = phase.Holding t page (stored + 1) false }) (λ j. j) refl refl
+  by_turn (Does (StoresLength t page stored)) i = good (record v.core { phase = phase.Holding t page stored true }) (λ j. j) refl refl
   by_turn (Does (GivesBack t page reason)) i = gives t page reason i
   by_turn (Does (HasHanded t reason)) i = absurd (subst (Fits (base_of m) f.V f.frames v.core) (tells X v.core (HasHanded t reason) (own_is X v (HasHanded t reason) i)) its.fits)
-  by_turn (Announces t) i = good v.core (λ j. j) refl
+  by_turn (Announces t) i = good v.core (λ j. j) refl refl
   by_turn (Validates t) i = validated t (got (Validates t) / 2 == t)
-  by_turn (Unpins t) i = good v.core (λ j. j) refl
-  by_turn (Withdraws t) i = good v.core (λ j. j) refl
-  by_turn (Scans q) i = good v.core (λ j. j) refl
-  by_turn (Clears q) i = good v.core (λ j. j) refl
+  by_turn (Unpins t) i = good v.core (λ j. j) refl refl
+  by_turn (Withdraws t) i = good v.core (λ j. j) refl refl
+  by_turn (Scans q) i = good v.core (λ j. j) refl refl
+  by_turn (Clears q) i = good v.core (λ j. j) refl refl
 
   turn_recalls : AllRecall m' U
   turn_recalls =
       let l = line_now X v in
-      one_other X P m m' T (Turn s word) a sits r h k s v (moved (after_step l.move) m.home (l.fed (found m l word) word)) at
-      (ap (λ (y : Machine E). y.senders) h.after) (by_turn (situation X v) refl)
+      one_other X P m m' T (Turn s word) a sits r h k s v (moved (after_step l.move) m.home (l.fed (found m l word) word)) (did (situation X v)) at
+      (ap (λ (y : Machine E). y.senders) h.after)
+      (ap (λ o. (trails_grown X m (Turn s word) o T).actions) h.answered
+      ∙ ap (λ o. (turn_grown X m s o word (answer.Turn (turn_answer m l word)) T).actions) h.goes
+      ∙ added_is (situation X v) l s (got (situation X v)) word (turn_answer m l word) T)
+      (by_turn (situation X v) refl)
 
 -- ---- whatever leads to a machine
 module _ {E : Type 0} (X : Election E) (P : Protocol E (Unit {0}) ℕ) where
@@ -391,20 +493,27 @@ module _ {E : Type 0} (X : Election E) (P : Protocol E (Unit {0}) ℕ) where
       → AllRecall m' (trails_grown X m e a T)
   event_recalls m m' T (Put s bytes) a sits r h k =
       let at = there_shown (has_stopped m s) (slice_get m.senders s) h.sender h.goes in
-      one_other X P m m' T (Put s bytes) a sits r h k s h.sender (put_in h.sender bytes) at (ap (λ (y : Machine E). y.senders) h.after)
-      (alike X P m m' T (Put s bytes) a sits r h k s h.sender.core (put_in h.sender bytes).core (k s h.sender at) (λ j. j) refl)
-  event_recalls m m' T (Close s) a sits r h k =
+      let before = k s h.sender at in
+      let now = actions_of_it s (put_actions bytes a) T.actions s refl in
+      one_other X P m m' T (Put s bytes) a sits r h k s h.sender (put_in h.sender bytes) (put_actions bytes a) at
+      (ap (λ (y : Machine E). y.senders) h.after) refl
+      (alike X P m m' T (Put s bytes) a sits r h k s h.sender.core (put_in h.sender bytes).core before (λ j. j)
+      (λ asked j. before.asked asked
+      (asked_before (T.actions s) (put_actions bytes a) (put_asks bytes a) asked (subst (Asked asked) now j))) refl)
+  event_recalls m m' T (Ask s asked) a sits r h k =
       let at = there_shown (has_stopped m s) (slice_get m.senders s) h.sender h.goes in
-      one_other X P m m' T (Close s) a sits r h k s h.sender (close_in h.sender) at (ap (λ (y : Machine E). y.senders) h.after)
-      (alike X P m m' T (Close s) a sits r h k s h.sender.core (close_in h.sender).core (k s h.sender at)
-      (λ j. absurd (let bad : batch.Closing ≡ batch.Closed = j in cc)) refl)
+      one_other X P m m' T (Ask s asked) a sits r h k s h.sender (mark_in h.sender asked) (mark_actions a) at
+      (ap (λ (y : Machine E). y.senders) h.after) refl
+      (alike X P m m' T (Ask s asked) a sits r h k s h.sender.core (mark_in h.sender asked).core (k s h.sender at)
+      (λ j. absurd (let bad : batch.Marking asked ≡ batch.Closed = j in cc)) (λ other j. inl (asked, refl)) refl)
   event_recalls m m' T (Turn s word) a sits r h k = turn_recalls X P m m' T s word a sits r h k
-  event_recalls m m' T (Recv q) a sits r h k = none_other X P m m' T (Recv q) a sits r h k (ap (λ (y : Machine E). y.senders) h.after)
-  event_recalls m m' T (Stop s) a sits r h k = none_other X P m m' T (Stop s) a sits r h k (ap (λ (y : Machine E). y.senders) h.after)
+  event_recalls m m' T (Recv q) a sits r h k = none_other X P m m' T (Recv q) a sits r h k (ap (λ (y : Machine E). y.senders) h.after) refl
+  event_recalls m m' T (Stop s) a sits r h k = none_other X P m m' T (Stop s) a sits r h k (ap (λ (y : Machine E). y.senders) h.after) refl
 
   new_recalls : (m : Machine E) → IsNew m → AllRecall m no_machine_trails
   new_recalls m new s v at = subst (λ (y : Sender E). Recalls m s y.core []) (sym (new.senders s v at).1) record {
     closed = λ j. absurd (let bad : batch.Open ≡ batch.Closed = j in cc);
+    asked = λ asked j. absurd (nothing_asks asked j);
     past = λ t small. absurd (omega arith);
   }
 
@@ -423,6 +532,8 @@ module _ {E : Type 0} (X : Election E) (P : Protocol E (Unit {0}) ℕ) where
         rows = f.rows s v at;
         numbers = numbered P m T f s v at;
         closed = k.closed;
+        gone = left_so P m T f s v at;
+        asked = k.asked;
         past = k.past;
         begun = begun_opened P m T f s v at;
         busy = busy_begun P m T f s v at;

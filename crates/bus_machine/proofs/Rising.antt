@@ -14,7 +14,7 @@ use Rattle.bus_world.specs.Headline.{IsPrefix}
 use Rattle.bus_world.specs.Tenures.Stage.{Open, Held}
 use Rattle.bus_world.specs.Tenures.{Stage, Standing}
 use Rattle.bus_world.specs.Turning.{Side, side_after, home_after, owners_after}
-use Rattle.bus_world.specs.World.{Bus, Event, Put, Close, Turn, Recv, Stop, Happens, SenderDoes, LawfulBus, with_sender, put_in, close_in, going}
+use Rattle.bus_world.specs.World.{Bus, Event, Put, Ask, Turn, Recv, Stop, Happens, SenderDoes, LawfulBus, with_sender, put_in, mark_in, going}
 
 -- what the stage is by how many pages were taken, and by whether the last is back
 stage_by : {E : Type 0} (ended stage : ℕ) (home : Bool) (owners : List ℕ) (standing : ℕ → Option (Standing E)) → Stage ended stage home owners standing → ((home ≡ true) × (stage ≡ 2 * length owners)) ⊎ ((home ≡ false) × (stage + 1 ≡ 2 * length owners))
@@ -63,7 +63,7 @@ module _ {base : ℕ → ℕ} {E : Type 0} (X : Election E) (P : Protocol E (Uni
 
   event_leaves : (e : Event) → Happens X b e b' → Leaves
   event_leaves (Put s bytes) d = by_sender s (going b s) (λ c. with_sender b.side s (put_in c bytes)) (λ c. refl) d.0
-  event_leaves (Close s) d = by_sender s (going b s) (λ c. with_sender b.side s (close_in c)) (λ c. refl) d.0
+  event_leaves (Ask s asked) d = by_sender s (going b s) (λ c. with_sender b.side s (mark_in c asked)) (λ c. refl) d.0
   event_leaves (Turn s word) d = by_turn s word (going b s) refl d.0
   event_leaves (Recv r) d = same_leaves b.side d.0 refl
   event_leaves (Stop s) d = same_leaves b.side d.0 refl

@@ -18,9 +18,9 @@ use Rattle.bus_tenure.specs.declared.turns.Turn.{Turn as Answered}
 use Rattle.bus_world.proofs.Framing.{order_grows, owners_grow}
 use Rattle.bus_world.proofs.Growing.{same_prefix}
 use Rattle.bus_world.proofs.Places.{got_before}
-use Rattle.bus_world.specs.Headline.{Action, Stepped, item_heard, end_heard, order_given, IsPrefix}
+use Rattle.bus_world.specs.Headline.{Action, Stepped, entry_heard, end_heard, order_given, IsPrefix}
 use Rattle.bus_world.specs.Trails.{Takers}
-use Rattle.bus_world.specs.World.{Event, Put, Close, Turn, Recv, Stop}
+use Rattle.bus_world.specs.World.{Event, Put, Ask, Turn, Recv, Stop}
 use Rattle.bus_world.specs.CyclicProtocols.{actions_with}
 use Rattle.bus_world.specs.declared.events.Answer.{Answer}
 use Rattle.bus_world.specs.declared.events.Answer.TheVariants as answer
@@ -73,8 +73,8 @@ true_or false b e = absurd (let z : false ≡ true = e in cc)
 
 given_grows : (trail trail' : List RecvTurn) → IsPrefix trail trail' → (q q' : Order) → IsPrefixOfOrder (order_given trail) q → IsPrefixOfOrder (order_given trail') q' → IsPrefixOfOrder q q' → IsPrefixOfOrder (order_given trail) (order_given trail')
 given_grows trail trail' more q q' front front' grown = record {
-  later = flat_map item_heard more.rest;
-  items = ap (flat_map item_heard) (sym more.together) ∙ flat_map-append item_heard trail more.rest;
+  later = flat_map entry_heard more.rest;
+  entries = ap (flat_map entry_heard) (sym more.together) ∙ flat_map-append entry_heard trail more.rest;
   ended = λ e.
       let q_is = front.ended e in
       let q_ended : q.ended ≡ true = ap (λ (z : Order). z.ended) (sym q_is) ∙ e in
@@ -110,6 +110,7 @@ module _ {E : Type 0} (X : Election E) (m : Machine E) (T : Trails) where
   sender_longer s word None a = stays_long T
   sender_longer s word (Some v) (answer.Number n) = stays_long T
   sender_longer s word (Some v) answer.Closing = stays_long T
+  sender_longer s word (Some v) answer.Leaving = stays_long T
   sender_longer s word (Some v) (answer.Turn t) = turn_longer (situation X v) (line_now X v) s (found m (line_now X v) word) word t
   sender_longer s word (Some v) (answer.Recv t) = stays_long T
   sender_longer s word (Some v) answer.Stopped = stays_long T
@@ -117,13 +118,14 @@ module _ {E : Type 0} (X : Election E) (m : Machine E) (T : Trails) where
   heard_longer : (r : ℕ) (a : Answer) (q : ℕ) → IsPrefix (T.heard q) (heard_grown r a T.heard q)
   heard_longer r (answer.Number n) q = no_longer (T.heard q)
   heard_longer r answer.Closing q = no_longer (T.heard q)
+  heard_longer r answer.Leaving q = no_longer (T.heard q)
   heard_longer r (answer.Turn t) q = no_longer (T.heard q)
   heard_longer r (answer.Recv t) q = record { rest = cond (q == r) (t ∷ []) []; together = refl }
   heard_longer r answer.Stopped q = no_longer (T.heard q)
 
   pub grown_longer : (e : Event) (a : Answer) → Longer T (trails_grown X m e a T)
   grown_longer (Put s bytes) a = record { actions = longer_by s _ T.actions; heard = λ q. no_longer (T.heard q) }
-  grown_longer (Close s) a = record { actions = longer_by s _ T.actions; heard = λ q. no_longer (T.heard q) }
+  grown_longer (Ask s asked) a = record { actions = longer_by s _ T.actions; heard = λ q. no_longer (T.heard q) }
   grown_longer (Turn s word) a = sender_longer s word (going m s) a
   grown_longer (Recv r) a = record { actions = λ q. no_longer (T.actions q); heard = heard_longer r a }
   grown_longer (Stop s) a = stays_long T

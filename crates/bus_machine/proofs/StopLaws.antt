@@ -20,8 +20,8 @@ use Rattle.bus_tenure.specs.Elections.{Elector}
 use Rattle.bus_tenure.specs.declared.turns.Turn.{Turn as Answered}
 use Rattle.bus_world.specs.Headline.{Action}
 use Rattle.bus_world.specs.Playing.{RecvRefused}
-use Rattle.bus_world.specs.Trails.{put_actions, close_actions}
-use Rattle.bus_world.specs.World.{Event, Put, Close, Turn, Recv, Stop, is_set}
+use Rattle.bus_world.specs.Trails.{put_actions, mark_actions}
+use Rattle.bus_world.specs.World.{Event, Put, Ask, Turn, Recv, Stop, is_set}
 use Rattle.bus_world.specs.CyclicProtocols.{actions_with}
 use Rattle.bus_world.specs.declared.events.Answer.{Answer}
 use Rattle.bus_world.specs.declared.events.Answer.TheVariants as answer
@@ -35,7 +35,7 @@ use Rattle.bus_machine.specs.Stopping.{IsOfOther, with_stop_of, JustStopped, Sta
 module _ {E : Type 0} (X : Election E) where
   stops_after : (w m : Machine E) (e : Event) (a : Answer) → Happens X w e a m → length m.stopped ≡ length w.stopped
   stops_after w m (Put s bytes) a h = ap (λ (y : Machine E). length y.stopped) h.after
-  stops_after w m (Close s) a h = ap (λ (y : Machine E). length y.stopped) h.after
+  stops_after w m (Ask s asked) a h = ap (λ (y : Machine E). length y.stopped) h.after
   stops_after w m (Turn s word) a h = ap (λ (y : Machine E). length y.stopped) h.after
   stops_after w m (Recv r) a h = ap (λ (y : Machine E). length y.stopped) h.after
   stops_after w m (Stop s) a h = ap (λ (y : Machine E). length y.stopped) h.after ∙ length-set w.stopped s true
@@ -48,7 +48,7 @@ module _ {E : Type 0} (X : Election E) where
   -- the senders are as many, and the sizes the same
   many_after : (w m : Machine E) (e : Event) (a : Answer) → Happens X w e a m → (length m.senders ≡ length w.senders) × (m.layout ≡ w.layout)
   many_after w m (Put s bytes) a h = (ap (λ (y : Machine E). length y.senders) h.after ∙ length-set w.senders s _, ap (λ (y : Machine E). y.layout) h.after)
-  many_after w m (Close s) a h = (ap (λ (y : Machine E). length y.senders) h.after ∙ length-set w.senders s _, ap (λ (y : Machine E). y.layout) h.after)
+  many_after w m (Ask s asked) a h = (ap (λ (y : Machine E). length y.senders) h.after ∙ length-set w.senders s _, ap (λ (y : Machine E). y.layout) h.after)
   many_after w m (Turn s word) a h = (ap (λ (y : Machine E). length y.senders) h.after ∙ length-set w.senders s _, ap (λ (y : Machine E). y.layout) h.after)
   many_after w m (Recv r) a h = (ap (λ (y : Machine E). length y.senders) h.after, ap (λ (y : Machine E). y.layout) h.after)
   many_after w m (Stop s) a h = (ap (λ (y : Machine E). length y.senders) h.after, ap (λ (y : Machine E). y.layout) h.after)
@@ -106,14 +106,14 @@ module _ {E : Type 0} (X : Election E) (m : Machine E) (s : ℕ) (t : Bool) wher
 
   happens_alike : (e : Event) (a : Answer) (next : Machine E) → IsOfOther s e → Happens X m e a next → Happens X told e a (with_stop_of s t next)
   happens_alike (Put q bytes) a next ne h = record { sender = h.sender; goes = going_alike q ne ∙ h.goes; are_bytes = h.are_bytes; can = h.can; answered = h.answered; after = ap (with_stop_of s t) h.after }
-  happens_alike (Close q) a next ne h = record { sender = h.sender; goes = going_alike q ne ∙ h.goes; can = h.can; answered = h.answered; after = ap (with_stop_of s t) h.after }
+  happens_alike (Ask q asked) a next ne h = record { sender = h.sender; goes = going_alike q ne ∙ h.goes; can = h.can; answered = h.answered; after = ap (with_stop_of s t) h.after }
   happens_alike (Turn q word) a next ne h = record { sender = h.sender; goes = going_alike q ne ∙ h.goes; within = on_word _ h.within; answered = h.answered; after = ap (with_stop_of s t) h.after }
   happens_alike (Recv r) a next ne h = record { receiver = h.receiver; next = h.next; heard = h.heard; there = h.there; does = h.does; answered = h.answered; after = ap (with_stop_of s t) h.after }
   happens_alike (Stop q) a next ne h = record { sender = h.sender; goes = going_alike q ne ∙ h.goes; answered = h.answered; after = ap (with_stop_of s t) h.after ∙ ap (λ l. record m { stopped = l }) (sym (set_comm m.stopped s q t true (λ e. ne (sym e)))) }
 
   trails_alike : (e : Event) (g : Answer) (T : Trails) → IsOfOther s e → trails_grown X told e g T ≡ trails_grown X m e g T
   trails_alike (Put q bytes) g T ne = refl
-  trails_alike (Close q) g T ne = refl
+  trails_alike (Ask q asked) g T ne = refl
   trails_alike (Turn q word) g T ne = ap (λ o. turn_grown X m q o word g T) (going_alike q ne)
   trails_alike (Recv r) g T ne = refl
   trails_alike (Stop q) g T ne = refl
@@ -122,7 +122,7 @@ module _ {E : Type 0} (X : Election E) (m : Machine E) (s : ℕ) (t : Bool) wher
 module _ {E : Type 0} (m : Machine E) (s : ℕ) (l : List Bool) (same : (q : ℕ) → q ≢ s → has_stopped (record m { stopped = l }) q ≡ has_stopped m q) where
   refused_alike : (e : Event) (why : StepFault) → IsOfOther s e → Refused m e why → Refused (record m { stopped = l }) e why
   refused_alike (Put q bytes) why ne w = subst (λ t. SenderRefused (slice_get m.senders q) t why (PutRefused (length bytes) why)) (sym (same q ne)) w
-  refused_alike (Close q) why ne w = subst (λ t. SenderRefused (slice_get m.senders q) t why (CloseRefused why)) (sym (same q ne)) w
+  refused_alike (Ask q asked) why ne w = subst (λ t. SenderRefused (slice_get m.senders q) t why (CloseRefused why)) (sym (same q ne)) w
   refused_alike (Turn q word) why ne w = subst (λ t. SenderRefused (slice_get m.senders q) t why (λ v. ⊥)) (sym (same q ne)) w
   refused_alike (Recv r) why ne w = w
   refused_alike (Stop q) why ne w = subst (λ t. SenderRefused (slice_get m.senders q) t why (λ v. ⊥)) (sym (same q ne)) w
@@ -157,6 +157,7 @@ module _ {E : Type 0} (X : Election E) (m : Machine E) (q s : ℕ) (ne : s ≢ q
   turn_adds None word a T = the_same s T
   turn_adds (Some v) word (answer.Number n) T = the_same s T
   turn_adds (Some v) word answer.Closing T = the_same s T
+  turn_adds (Some v) word answer.Leaving T = the_same s T
   turn_adds (Some v) word (answer.Turn t) T = line_adds (situation X v) (line_now X v) (found m (line_now X v) word) word t T
   turn_adds (Some v) word (answer.Recv t) T = the_same s T
   turn_adds (Some v) word answer.Stopped T = the_same s T
@@ -171,9 +172,9 @@ module _ {E : Type 0} (X : Election E) where
     | inl e ↦ absurd (late m q s h.sender stop e h.goes)
     | inr ne ↦ leaves m m' _ T _ s h.after stop refl (get_set_other m.senders q _ s ne) record { actions = actions_beside q s (put_actions bytes a) T.actions ne; pins = refl; reclaims = refl }
   ]
-  event_leaves m m' (Close q) a T s stop h = elim (cases_eq s q) [
+  event_leaves m m' (Ask q asked) a T s stop h = elim (cases_eq s q) [
     | inl e ↦ absurd (late m q s h.sender stop e h.goes)
-    | inr ne ↦ leaves m m' _ T _ s h.after stop refl (get_set_other m.senders q _ s ne) record { actions = actions_beside q s (close_actions a) T.actions ne; pins = refl; reclaims = refl }
+    | inr ne ↦ leaves m m' _ T _ s h.after stop refl (get_set_other m.senders q _ s ne) record { actions = actions_beside q s (mark_actions a) T.actions ne; pins = refl; reclaims = refl }
   ]
   event_leaves m m' (Turn q word) a T s stop h = elim (cases_eq s q) [
     | inl e ↦ absurd (late m q s h.sender stop e h.goes)
@@ -188,7 +189,7 @@ module _ {E : Type 0} (X : Election E) where
   -- nobody stops but by a stop of its own
   event_tells : (m m' : Machine E) (e : Event) (a : Answer) (s : ℕ) → e ≢ Stop s → Happens X m e a m' → has_stopped m' s ≡ has_stopped m s
   event_tells m m' (Put q bytes) a s other h = ap (λ (y : Machine E). has_stopped y s) h.after
-  event_tells m m' (Close q) a s other h = ap (λ (y : Machine E). has_stopped y s) h.after
+  event_tells m m' (Ask q asked) a s other h = ap (λ (y : Machine E). has_stopped y s) h.after
   event_tells m m' (Turn q word) a s other h = ap (λ (y : Machine E). has_stopped y s) h.after
   event_tells m m' (Recv r) a s other h = ap (λ (y : Machine E). has_stopped y s) h.after
   event_tells m m' (Stop q) a s other h = elim (cases_eq s q) [
@@ -260,8 +261,8 @@ module _ {E : Type 0} where
   never_a_put : (len : ℕ) (v : Sender E) → PutRefused len fault.Stopped v → ⊥
   never_a_put len v e = let bad : fault.Stopped ≡ fault.Put e.0 = e.2 in cc
 
-  never_a_close : (v : Sender E) → CloseRefused fault.Stopped v → ⊥
-  never_a_close v e = let bad : fault.Stopped ≡ fault.Close e.0 = e.2 in cc
+  never_a_mark : (v : Sender E) → CloseRefused fault.Stopped v → ⊥
+  never_a_mark v e = let bad : fault.Stopped ≡ fault.Close e.0 = e.2 in cc
 
 never_a_recv : (o : Option Receiving) → RecvRefused o fault.Stopped → ⊥
 never_a_recv None e = cc
@@ -272,10 +273,10 @@ refuses X = record {
   idle_stop = λ m T s a r few h. (let just = stops X m m T s a r few h in true≢false (sym just.stopped ∙ just.went_on));
   late_turn = λ old new s word a stop h. late old s s h.sender stop refl h.goes;
   late_put = λ old new s bytes a stop h. late old s s h.sender stop refl h.goes;
-  late_close = λ old new s a stop h. late old s s h.sender stop refl h.goes;
+  late_mark = λ old new s asked a stop h. late old s s h.sender stop refl h.goes;
   second_stop = λ old new s a stop h. late old s s h.sender stop refl h.goes;
   put_untimely = λ m s bytes free w. not_as_stopped (slice_get m.senders s) (has_stopped m s) _ free (never_a_put (length bytes)) w;
-  close_untimely = λ m s free w. not_as_stopped (slice_get m.senders s) (has_stopped m s) _ free never_a_close w;
+  mark_untimely = λ m s asked free w. not_as_stopped (slice_get m.senders s) (has_stopped m s) _ free never_a_mark w;
   turn_untimely = λ m s word free w. not_as_stopped (slice_get m.senders s) (has_stopped m s) (λ v. ⊥) free (λ v e. e) w;
   stop_untimely = λ m s free w. not_as_stopped (slice_get m.senders s) (has_stopped m s) (λ v. ⊥) free (λ v e. e) w;
   recv_untimely = λ m r w. never_a_recv (slice_get m.receivers r) w;
@@ -286,7 +287,7 @@ for_good X P = record {
   stops = λ old new T s a r few h. stops X old new T s a r few h;
   stays = λ old new events run T s stop. stays X P events old new run T s stop;
   put_refused = λ m s v bytes there stop. as_stopped (slice_get m.senders s) (has_stopped m s) v (PutRefused (length bytes)) there stop;
-  close_refused = λ m s v there stop. as_stopped (slice_get m.senders s) (has_stopped m s) v CloseRefused there stop;
+  mark_refused = λ m s v asked there stop. as_stopped (slice_get m.senders s) (has_stopped m s) v CloseRefused there stop;
   turn_refused = λ m s v word there stop. as_stopped (slice_get m.senders s) (has_stopped m s) v (λ why u. ⊥) there stop;
   stop_refused = λ m s v there stop. as_stopped (slice_get m.senders s) (has_stopped m s) v (λ why u. ⊥) there stop;
   may_stop = λ m s v there free. (

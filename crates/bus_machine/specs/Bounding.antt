@@ -9,7 +9,7 @@ use Rattle.bus_register.specs.declared.registers.Op.{Op}
 use Rattle.bus_register.specs.declared.registers.Op.TheVariants.{Load, Store, Add, Cas}
 use Rattle.bus_tenure.specs.Core.{Election}
 use Rattle.bus_tenure.specs.declared.phases.Phase.TheVariants.{Electing}
-use Rattle.bus_world.specs.Headline.{Action, HasPut, HasClosed, Stepped}
+use Rattle.bus_world.specs.Headline.{Action, HasPut, HasMarked, Stepped}
 use Rattle.bus_machine.specs.Machine.{Machine, Trails}
 
 -- the step is one of who has the page
@@ -22,7 +22,7 @@ is_of_holder k = false
 -- the action is a step in this tenure towards its page: one of its election, or the one that takes the page
 abbrev pub is_towards : ℕ → Action → Bool
 is_towards t (HasPut number bytes) = false
-is_towards t HasClosed = false
+is_towards t (HasMarked mark) = false
 is_towards t (Stepped None k found chose answer) = false
 is_towards t (Stepped (Some u) k found chose answer) = if is_of_holder k then false else u == t
 

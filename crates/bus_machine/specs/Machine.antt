@@ -3,7 +3,8 @@ use Rattle.std.specs.Prelude.{◌≡◌, ℕ, ◌+◌, ◌-◌, ◌<◌, Bool, t
 use Rattle.bus_register.specs.declared.registers.Op.{Op}
 use Rattle.bus_register.specs.Words.{register}
 use Rattle.bus_batch.specs.Batches.{next_of, CanPut, CanClose}
-use Rattle.bus_batch.specs.declared.batches.Phase.TheVariants.{Closing}
+use Rattle.bus_batch.specs.declared.batches.Phase.TheVariants.{Marking}
+use Rattle.bus_batch.specs.declared.messages.Mark.{Mark}
 use Rattle.bus_deliverylog.specs.Receiving.{Receiving}
 use Rattle.bus_deliverylog.specs.declared.receiving.RecvTurn.{RecvTurn}
 use Rattle.bus_presence.specs.Reclamation.{Trails as Entries, no_trails, trails_with_entry}
@@ -17,9 +18,10 @@ use Rattle.bus_core.specs.Table.{Line, line_now}
 use Rattle.bus_core.specs.Reusing.Participants.{log_from}
 use Rattle.bus_world.specs.Headline.{Action}
 use Rattle.bus_world.specs.Log.{words_read_from}
-use Rattle.bus_world.specs.Trails.{step_action, put_actions, close_actions}
+use Rattle.bus_world.specs.Playing.{asked_answer}
+use Rattle.bus_world.specs.Trails.{step_action, put_actions, mark_actions}
 use Rattle.bus_world.specs.Turning.{words_after, number_found, home_moved, core_moved, after_step}
-use Rattle.bus_world.specs.World.{Event, Put, Close, Turn, Recv, Stop, is_set, no_stops, AreBases, first_page, IsNewReceiver, RecvDoes}
+use Rattle.bus_world.specs.World.{Event, Put, Ask, Turn, Recv, Stop, is_set, no_stops, AreBases, first_page, IsNewReceiver, RecvDoes}
 use Rattle.bus_world.specs.CyclicProtocols.{no_actions, no_answers, actions_with, answers_with}
 use Rattle.bus_world.specs.declared.events.Answer.{Answer}
 use Rattle.bus_world.specs.declared.events.Answer.TheVariants as answer
@@ -79,8 +81,8 @@ with_sender b s v = record b { senders = slice_set b.senders s v }
 abbrev pub put_in : {E : Type 0} → Sender E → List ℕ → Sender E
 put_in v bytes = record v { core = record v.core { queue = record v.core.queue { messages = v.core.queue.messages ++ bytes ∷ [] } } }
 
-abbrev pub close_in : {E : Type 0} → Sender E → Sender E
-close_in v = record v { core = record v.core { queue = record v.core.queue { phase = Closing } } }
+abbrev pub mark_in : {E : Type 0} → Sender E → Mark → Sender E
+mark_in v mark = record v { core = record v.core { queue = record v.core.queue { phase = Marking mark } } }
 
 -- a sender, with the page laid before it where it has taken it
 abbrev pub moved : {E : Type 0} → PageMove → Option Page → Sender E → Sender E
@@ -126,13 +128,13 @@ pub record TakesPut {E : Type 0} (old : Machine E) (s : ℕ) (bytes : List ℕ) 
   pub answered : a ≡ answer.Number (next_of sender.core.queue)
   pub after : new ≡ with_sender old s (put_in sender bytes)
 
--- it lets an end mark wait
-pub record TakesClose {E : Type 0} (old : Machine E) (s : ℕ) (a : Answer) (new : Machine E) : Type 0 where
+-- it lets this mark wait, and answers that it does
+pub record TakesMark {E : Type 0} (old : Machine E) (s : ℕ) (mark : Mark) (a : Answer) (new : Machine E) : Type 0 where
   pub sender : Sender E
   pub goes : going old s ≡ Some sender
   pub can : CanClose (queue_of sender.core.queue sender.reuse)
-  pub answered : a ≡ answer.Closing
-  pub after : new ≡ with_sender old s (close_in sender)
+  pub answered : a ≡ asked_answer mark
+  pub after : new ≡ with_sender old s (mark_in sender mark)
 
 -- it stops, which changes nothing else
 pub record StopsNow {E : Type 0} (old : Machine E) (s : ℕ) (a : Answer) (new : Machine E) : Type 0 where
@@ -154,7 +156,7 @@ pub record Hears {E : Type 0} (old : Machine E) (r : ℕ) (a : Answer) (new : Ma
 -- Event e happens, a is its answer, and new is what is left. Nothing is assumed of who is scheduled, of the random words, or of who stops.
 abbrev pub Happens : {E : Type 0} → Election E → Machine E → Event → Answer → Machine E → Type 0
 Happens X old (Put s bytes) a new = TakesPut old s bytes a new
-Happens X old (Close s) a new = TakesClose old s a new
+Happens X old (Ask s mark) a new = TakesMark old s mark a new
 Happens X old (Turn s word) a new = TakesTurn X old s word a new
 Happens X old (Recv r) a new = Hears old r a new
 Happens X old (Stop s) a new = StopsNow old s a new
@@ -188,6 +190,7 @@ abbrev pub turn_grown : {E : Type 0} → Election E → Machine E → ℕ → Op
 turn_grown X b s None word a T = T
 turn_grown X b s (Some v) word (answer.Number n) T = T
 turn_grown X b s (Some v) word answer.Closing T = T
+turn_grown X b s (Some v) word answer.Leaving T = T
 turn_grown X b s (Some v) word (answer.Turn t) T = turn_trails (situation X v) (line_now X v) s (found b (line_now X v) word) word t T
 turn_grown X b s (Some v) word (answer.Recv t) T = T
 turn_grown X b s (Some v) word answer.Stopped T = T
@@ -195,6 +198,7 @@ turn_grown X b s (Some v) word answer.Stopped T = T
 abbrev pub heard_grown : ℕ → Answer → (ℕ → List RecvTurn) → ℕ → List RecvTurn
 heard_grown r (answer.Number n) H = H
 heard_grown r answer.Closing H = H
+heard_grown r answer.Leaving H = H
 heard_grown r (answer.Turn t) H = H
 heard_grown r (answer.Recv t) H = answers_with r t H
 heard_grown r answer.Stopped H = H
@@ -202,7 +206,7 @@ heard_grown r answer.Stopped H = H
 -- what an event with this answer adds: a stop is no action
 abbrev pub trails_grown : {E : Type 0} → Election E → Machine E → Event → Answer → Trails → Trails
 trails_grown X b (Put s bytes) a T = record T { actions = actions_with s (put_actions bytes a) T.actions }
-trails_grown X b (Close s) a T = record T { actions = actions_with s (close_actions a) T.actions }
+trails_grown X b (Ask s mark) a T = record T { actions = actions_with s (mark_actions a) T.actions }
 trails_grown X b (Turn s word) a T = turn_grown X b s (going b s) word a T
 trails_grown X b (Recv r) a T = record T { heard = heard_grown r a T.heard }
 trails_grown X b (Stop s) a T = T

@@ -15,7 +15,7 @@ use Rattle.bus_tenure.specs.Core.{Election, Layout, words_of}
 use Rattle.bus_tenure.specs.Elections.{Elector, layout_with}
 use Rattle.bus_tenure.specs.declared.pages.Page.{Page}
 use Rattle.bus_world.specs.Playing.{Within, Beyond, RecvRefused}
-use Rattle.bus_world.specs.World.{Event, Put, Close, Turn, Recv, Stop, no_bases}
+use Rattle.bus_world.specs.World.{Event, Put, Ask, Turn, Recv, Stop, no_bases}
 use Rattle.bus_world.specs.declared.limits.TheConstants.{FIRST_NUMBERS}
 use Rattle.bus_world.specs.declared.events.Answer.{Answer}
 use Rattle.bus_world.specs.declared.events.StepFault.{StepFault}
@@ -151,10 +151,10 @@ PutRefused len why v = (cause : PutFault) × IsPutFault (queue_of v.core.queue v
 abbrev pub CloseRefused : {E : Type 0} → StepFault → Sender E → Type 0
 CloseRefused why v = (cause : CloseFault) × IsCloseFault (queue_of v.core.queue v.reuse) cause × (why ≡ fault.Close cause)
 
--- each fault where its cause holds and no earlier one; turns and stops have no cause of their own
+-- each fault where its cause holds and no earlier one; both marks have the same, and turns and stops none of their own
 abbrev pub Refused : {E : Type 0} → Machine E → Event → StepFault → Type 0
 Refused m (Put s bytes) why = SenderRefused (slice_get m.senders s) (has_stopped m s) why (PutRefused (length bytes) why)
-Refused m (Close s) why = SenderRefused (slice_get m.senders s) (has_stopped m s) why (CloseRefused why)
+Refused m (Ask s mark) why = SenderRefused (slice_get m.senders s) (has_stopped m s) why (CloseRefused why)
 Refused m (Turn s word) why = SenderRefused (slice_get m.senders s) (has_stopped m s) why (λ v. ⊥)
 Refused m (Recv r) why = RecvRefused (slice_get m.receivers r) why
 Refused m (Stop s) why = SenderRefused (slice_get m.senders s) (has_stopped m s) why (λ v. ⊥)

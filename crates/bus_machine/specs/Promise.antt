@@ -6,7 +6,7 @@ use Rattle.bus_register.specs.declared.registers.Op.{Op}
 use Rattle.bus_register.specs.declared.registers.SenderNo.{SenderNo}
 use Rattle.bus_register.specs.Words.{register}
 use Rattle.bus_batch.specs.Batches.{frame_of}
-use Rattle.bus_batch.specs.Frames.{Frame, Order, Spells, frame_words}
+use Rattle.bus_batch.specs.Frames.{Frame, Order, Spells, frame_words, has_gone}
 use Rattle.bus_core.specs.Keeping.{reclaimer_in}
 use Rattle.bus_core.specs.Senders.{Sender, Does, Clears, situation}
 use Rattle.bus_core.specs.Table.{line_now}
@@ -24,10 +24,10 @@ use Rattle.bus_tenure.specs.Core.{Election}
 use Rattle.bus_tenure.specs.Situations.{Elects, TakesPage, StoresWord}
 use Rattle.bus_tenure.specs.declared.pages.Page.{Page}
 use Rattle.bus_tenure.specs.declared.phases.Phase.TheVariants.{Electing, Holding}
-use Rattle.bus_world.specs.Headline.{Action, HasPut, HasClosed, Stepped, Took, puts, order_given, IsPrefix, Promises}
+use Rattle.bus_world.specs.Headline.{Action, HasPut, HasMarked, Stepped, Took, puts, order_given, IsPrefix, Promises}
 use Rattle.bus_world.specs.Trails.{Takers}
 use Rattle.bus_world.specs.Waiting.{waiting_at}
-use Rattle.bus_world.specs.World.{Event, Put, Close, Turn, Recv, Stop}
+use Rattle.bus_world.specs.World.{Event, Put, Ask, Turn, Recv, Stop}
 use Rattle.bus_world.specs.declared.events.Answer.{Answer}
 use Rattle.bus_machine.specs.Machine.{Machine, Trails, base_of, Reached, trails_grown, owners_told, log_place, log_of, stage_of, going}
 use Rattle.bus_machine.specs.Remembering.{Remembers}
@@ -88,10 +88,11 @@ abbrev pub IsPagedBy : (stage len : ℕ) → Bool → Option Page → Type 0
 IsPagedBy stage len ended None = (t : ℕ) × (stage ≡ 2 * t + 1)
 IsPagedBy stage len ended (Some page) = (stage ≡ 2 * page.tenures) × (page.words ≡ len) × (page.ended ≡ ended)
 
--- it knows the next number of each sender behind this order
+-- it knows the next number of each sender behind this order, and who has left by it
 pub record KnowsOrder (base : ℕ → ℕ) (page : Page) (order : Order) : Type 0 where
   pub entries : length page.next ≡ MOST_SENDERS
   pub next : (s : ℕ) → s < MOST_SENDERS → slice_index page.next s ≡ base s + length (of_sender s order)
+  pub left : (s : ℕ) → s < MOST_SENDERS → slice_get page.left s ≡ Some (has_gone s order)
 
 -- A page that is out knows what the log was when it left home: how many words it had, the order that these spell, and the tenures.
 pub record KnowsFront (base : ℕ → ℕ) (senders tenure : ℕ) (page : Page) (front : List ℕ) : Type 0 where
@@ -142,7 +143,8 @@ pub record IsPromisedBy {E : Type 0} (X : Election E) (m : Machine E) (T : Trail
   pub owns : (s : ℕ) (v : Sender E) (t : ℕ) → slice_get m.senders s ≡ Some v → held_of v.core.phase ≡ Some t → slice_get takers.all t ≡ Some s
   -- a page at home counts the pages that were taken
   pub counts : (page : Page) → m.home ≡ Some page → page.tenures ≡ length takers.all
-  -- it knows the next number of each sender behind the order; a page that is out is with the owner of the tenure that is held
+  -- it knows the next number of each sender behind the order, and who has left in it; a page that is out is with the owner of the tenure
+  -- that is held
   pub knows : (page : Page) → m.home ≡ Some page → KnowsOrder (base_of m) page order
   pub out : m.home ≡ None → IsWithOwner m T takers.all
   -- a word of the log is stored past its length, behind those of the same frame that are stored
@@ -179,7 +181,7 @@ HasGoneOn m (Some rows) t = t + rows ≤ stage_of m / 2
 -- the action is a step in this tenure: one of its election, the one that takes its page, or one of who holds that page
 abbrev pub is_in : ℕ → Action → Bool
 is_in t (HasPut number bytes) = false
-is_in t HasClosed = false
+is_in t (HasMarked mark) = false
 is_in t (Stepped None k found chose answer) = false
 is_in t (Stepped (Some u) k found chose answer) = u == t
 
@@ -196,7 +198,7 @@ frame_next X (Some v) = (line_now X v).publishes
 -- with an event: that of a sender that goes on and whose turn stores a length; with all others none
 abbrev pub frame_published : {E : Type 0} → Election E → Machine E → Event → Option Frame
 frame_published X m (Put s bytes) = None
-frame_published X m (Close s) = None
+frame_published X m (Ask s mark) = None
 frame_published X m (Turn s word) = frame_next X (going m s)
 frame_published X m (Recv r) = None
 frame_published X m (Stop s) = None

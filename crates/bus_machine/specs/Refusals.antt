@@ -1,7 +1,9 @@
 -- What no turn of a machine may answer, what no sender of it remembers, and what follows no machine.
 use Rattle.std.specs.Prelude.{◌≡◌, ◌≢◌, ℕ, ◌+◌, ◌*◌, ◌<◌, ◌≤◌, true, false, Some, None, List, [], ◌∷◌, ◌++◌, length, slice_get, slice_index}
 use Rattle.bus_batch.specs.declared.batches.Phase.TheVariants as batch
-use Rattle.bus_batch.specs.Frames.{Frame, Order, Spells, IsFrame, AreFrames, frame_words, items_of, log_words}
+use Rattle.bus_batch.specs.Frames.{Frame, Order, Spells, IsFrame, AreFrames, frame_words, items_of, log_words, has_gone}
+use Rattle.bus_batch.specs.declared.messages.Mark.{Mark}
+use Rattle.bus_batch.specs.declared.messages.Mark.TheVariants as mark
 use Rattle.bus_batch.specs.declared.messages.Item.{Item}
 use Rattle.bus_batch.specs.Batches.{next_of}
 use Rattle.bus_core.specs.Senders.{Sender, Does, Clears, situation}
@@ -23,14 +25,14 @@ use Rattle.bus_register.specs.declared.registers.SenderNo.{SenderNo}
 use Rattle.bus_tenure.specs.Core.{Election, frame_len}
 use Rattle.bus_tenure.specs.Situations.{StoresWord}
 use Rattle.bus_tenure.specs.declared.pages.Page.{Page}
-use Rattle.bus_tenure.specs.declared.phases.Phase.TheVariants.{Resting, Electing}
+use Rattle.bus_tenure.specs.declared.phases.Phase.TheVariants.{Resting, Electing, Holding}
 use Rattle.bus_tenure.specs.declared.turns.Turn.TheVariants as turn
-use Rattle.bus_world.specs.Headline.{Action, HasPut, Stepped, Announced, Elected, Took}
-use Rattle.bus_world.specs.World.{Event}
+use Rattle.bus_world.specs.Headline.{Action, HasPut, Stepped, Announced, Asked, Elected, Took}
+use Rattle.bus_world.specs.World.{Event, Ask}
 use Rattle.bus_world.specs.declared.events.Answer.{Answer}
 use Rattle.bus_world.specs.declared.events.Answer.TheVariants as answer
 use Rattle.bus_machine.specs.Bounding.{named_by, AreBounded, PinsAreBounded}
-use Rattle.bus_machine.specs.Machine.{Machine, Trails, base_of, log_place, log_of, stage_of}
+use Rattle.bus_machine.specs.Machine.{Machine, Trails, Happens, base_of, log_place, log_of, stage_of}
 use Rattle.bus_machine.specs.Promise.{IsPromised, Follows, actions_in, pin_of, frame_published}
 use Rattle.bus_machine.specs.Telling.{TurnTells, PutTells, LossesAreSeen}
 
@@ -60,12 +62,22 @@ pub record AnswersRefuse {E : Type 0} (m : Machine E) (s : ℕ) (v : Sender E) (
   pub delivered_from_elsewhere : (t first last : ℕ) (front : List Frame) (f : Frame) (i : Item) (rest : List Item)
       → AreFrames m.layout.senders (front ++ f ∷ []) → log_words (front ++ f ∷ []) ≡ log_of m → items_of f ≡ i ∷ rest → i.number ≢ first
       → ¬ TurnTells m s v actions (turn.Delivered t first last)
+  -- Left without its leave mark in the order that the log spells
+  pub left_without_mark : (t : ℕ) (order : Order) (owners : List (ℕ × SenderNo)) → Spells m.layout.senders (log_of m) order owners
+      → has_gone s order ≡ false → ¬ TurnTells m s v actions (turn.Left t)
+  -- or of another tenure or sender than those of the last frame of the log
+  pub left_elsewhere : (t : ℕ) (front : List Frame) (f : Frame) → AreFrames m.layout.senders (front ++ f ∷ [])
+      → log_words (front ++ f ∷ []) ≡ log_of m → f.tenure ≢ t → ¬ TurnTells m s v actions (turn.Left t)
+  pub left_by_another : (t : ℕ) (front : List Frame) (f : Frame) → AreFrames m.layout.senders (front ++ f ∷ [])
+      → log_words (front ++ f ∷ []) ≡ log_of m → f.owner.0 ≢ s → ¬ TurnTells m s v actions (turn.Left t)
   -- Full where there is room
   pub full_with_room : length (log_of m) + frame_len v.core ≤ m.layout.capacity → ¬ TurnTells m s v actions turn.Full
-  -- Closed with an empty log, or while the order goes on
+  -- Closed with an empty log; or while the order goes on, of one that has not left in it, or whose batch was not closed
   pub closed_with_nothing : log_of m ≡ [] → ¬ TurnTells m s v actions turn.Closed
   pub closed_too_soon : (order : Order) (owners : List (ℕ × SenderNo)) → Spells m.layout.senders (log_of m) order owners → order.ended ≡ false
-      → ¬ TurnTells m s v actions turn.Closed
+      → has_gone s order ≡ false → ¬ TurnTells m s v actions turn.Closed
+  pub closed_by_leaving : (order : Order) (owners : List (ℕ × SenderNo)) → Spells m.layout.senders (log_of m) order owners
+      → order.ended ≡ false → v.core.queue.phase ≢ batch.Closed → ¬ TurnTells m s v actions turn.Closed
   -- Spent in the first of two tenures, or in the only one, of a sender that has seen no election end
   pub spent_before_the_last : stage_of m ≡ 1 → m.layout.rows ≡ 2 → ¬ TurnTells m s v actions turn.Spent
   pub spent_unseen : stage_of m ≡ 0 → m.layout.rows ≡ 1 → actions ≡ [] → ¬ TurnTells m s v actions turn.Spent
@@ -79,6 +91,17 @@ pub record NumbersRefuse : Type 0 where
   pub unput : ¬ PutTells 0 [] (answer.Number 0)
   -- of a sender whose sitting began with the number 5, numbers that start anew
   pub starts_anew : (bytes : List ℕ) → ¬ PutTells 5 (HasPut 0 bytes ∷ []) (answer.Number 0)
+
+-- a close that is answered Leaving, or a leave that is answered Closing, or that lets another mark wait, or none
+pub record MarksRefuse {E : Type 0} (X : Election E) (old new : Machine E) : Type 0 where
+  pub leave_as_close : (s : ℕ) → ¬ Happens X old (Ask s mark.Leave) answer.Closing new
+  pub close_as_leave : (s : ℕ) → ¬ Happens X old (Ask s mark.End) answer.Leaving new
+  pub leave_waits_as_end : (s : ℕ) (v : Sender E) (a : Answer) → slice_get new.senders s ≡ Some v
+      → v.core.queue.phase ≡ batch.Marking mark.End → ¬ Happens X old (Ask s mark.Leave) a new
+  pub end_waits_as_leave : (s : ℕ) (v : Sender E) (a : Answer) → slice_get new.senders s ≡ Some v
+      → v.core.queue.phase ≡ batch.Marking mark.Leave → ¬ Happens X old (Ask s mark.End) a new
+  pub leave_waits_not : (s : ℕ) (v : Sender E) (a : Answer) → slice_get new.senders s ≡ Some v → v.core.queue.phase ≡ batch.Open
+      → ¬ Happens X old (Ask s mark.Leave) a new
 
 -- more steps towards a page than an election has turns, or no turn left while one runs
 pub record BoundsRefuse {E : Type 0} (X : Election E) (bound : ℕ) (m : Machine E) (T : Trails) : Type 0 where
@@ -124,6 +147,15 @@ pub record PagesRefuse {E : Type 0} (X : Election E) (m : Machine E) (T : Trails
   pub other_items : (page : Page) (order : Order) (owners : List (ℕ × SenderNo)) (s : ℕ) → m.home ≡ Some page
       → Spells m.layout.senders (log_of m) order owners → s < MOST_SENDERS → slice_index page.next s ≢ base_of m s + length (of_sender s order)
       → ¬ IsPromised X m T
+  -- or another of whom it is to know whether it has left
+  pub other_leavers : (page : Page) (order : Order) (owners : List (ℕ × SenderNo)) (s : ℕ) → m.home ≡ Some page
+      → Spells m.layout.senders (log_of m) order owners → s < MOST_SENDERS → slice_get page.left s ≢ Some (has_gone s order)
+      → ¬ IsPromised X m T
+  -- or such a page that is out, whose holder has published nothing
+  pub out_other_leavers : (s : ℕ) (v : Sender E) (t : ℕ) (page : Page) (stored q : ℕ) (order : Order) (owners : List (ℕ × SenderNo))
+      → m.home ≡ None → slice_get m.senders s ≡ Some v → v.core.phase ≡ Holding t page stored false
+      → Spells m.layout.senders (log_of m) order owners → q < MOST_SENDERS → slice_get page.left q ≢ Some (has_gone q order)
+      → ¬ IsPromised X m T
   -- a page at home that counts a tenure, while nobody has done anything
   pub counts_untaken : (page : Page) → m.home ≡ Some page → page.tenures ≡ 1 → ((s : ℕ) → T.actions s ≡ []) → ¬ IsPromised X m T
   -- two senders that hold a page, that is to be laid one, or that give it back
@@ -147,9 +179,19 @@ pub record MemoriesRefuse {E : Type 0} (X : Election E) (m : Machine E) (T : Tra
       → r.rows ≢ rows → ¬ IsPromised X m T
   -- its next message is the second one, and it has done nothing
   pub first_as_one : (s : ℕ) (v : Sender E) → slice_get m.senders s ≡ Some v → next_of v.core.queue ≡ base_of m s + 1 → T.actions s ≡ [] → ¬ IsPromised X m T
-  -- its batch is closed while the order goes on
+  -- its batch is closed while the order goes on, in which it has not left
   pub closed_too_soon : (s : ℕ) (v : Sender E) (order : Order) (owners : List (ℕ × SenderNo)) → slice_get m.senders s ≡ Some v
-      → v.core.queue.phase ≡ batch.Closed → Spells m.layout.senders (log_of m) order owners → order.ended ≡ false → ¬ IsPromised X m T
+      → v.core.queue.phase ≡ batch.Closed → Spells m.layout.senders (log_of m) order owners → order.ended ≡ false → has_gone s order ≡ false
+      → ¬ IsPromised X m T
+  -- it has left in the order, and its batch is open; or its leave mark waits still while it holds no page
+  pub open_after_leaving : (s : ℕ) (v : Sender E) (order : Order) (owners : List (ℕ × SenderNo)) → slice_get m.senders s ≡ Some v
+      → v.core.queue.phase ≡ batch.Open → Spells m.layout.senders (log_of m) order owners → has_gone s order ≡ true → ¬ IsPromised X m T
+  pub leaving_after_leaving : (s : ℕ) (v : Sender E) (order : Order) (owners : List (ℕ × SenderNo)) → slice_get m.senders s ≡ Some v
+      → v.core.queue.phase ≡ batch.Marking mark.Leave → v.core.phase ≡ Resting → Spells m.layout.senders (log_of m) order owners
+      → has_gone s order ≡ true → ¬ IsPromised X m T
+  -- it has asked to close or to leave, and its batch is open
+  pub open_after_asking : (s : ℕ) (v : Sender E) (asked : Mark) → slice_get m.senders s ≡ Some v → v.core.queue.phase ≡ batch.Open
+      → Asked asked (T.actions s) → ¬ IsPromised X m T
   -- its batch is closed, and the log is empty
   pub closed_with_nothing : (s : ℕ) (v : Sender E) → slice_get m.senders s ≡ Some v → v.core.queue.phase ≡ batch.Closed → log_of m ≡ [] → ¬ IsPromised X m T
   -- it enters tenure 0 no more, which is open, and has done nothing

@@ -1,14 +1,17 @@
 -- What a sender goes by is so: by what happened its batch is closed or on its way, and the tenures are past that it enters no more.
 use Rattle.std.specs.Prelude.{◌≡◌, ◌≢◌, ◌⊎◌, ℕ, ◌+◌, ◌*◌, ◌<◌, ◌≤◌, true, false, Option, Some, None, List, length}
-use Rattle.bus_batch.specs.Batches.{next_of}
-use Rattle.bus_batch.specs.Frames.{Order, Spells}
+use Rattle.bus_batch.specs.Batches.{next_of, IsShut}
+use Rattle.bus_batch.specs.Frames.{Order, Spells, has_gone}
 use Rattle.bus_batch.specs.declared.batches.Phase.TheVariants.{Closed}
+use Rattle.bus_batch.specs.declared.messages.Mark.{Mark}
+use Rattle.bus_core.specs.Reusing.Telling.{HasPublished}
 use Rattle.bus_core.specs.Senders.{Sender}
 use Rattle.bus_core.specs.declared.reuses.Reuse.{Reuse}
 use Rattle.bus_register.specs.declared.registers.SenderNo.{SenderNo}
+use Rattle.bus_tenure.specs.Core.{is_leaving}
 use Rattle.bus_tenure.specs.Seen.{tenure_of}
 use Rattle.bus_tenure.specs.declared.phases.Phase.TheVariants.{Resting}
-use Rattle.bus_world.specs.Headline.{Action, Elected, puts}
+use Rattle.bus_world.specs.Headline.{Action, Asked, Elected, puts}
 use Rattle.bus_machine.specs.Machine.{Machine, base_of, log_of, stage_of}
 
 -- the order that the log spells has ended
@@ -17,6 +20,19 @@ pub record HasEnded {E : Type 0} (m : Machine E) : Type 0 where
   pub owners : List (ℕ × SenderNo)
   pub spelled : Spells m.layout.senders (log_of m) order owners
   pub ended : order.ended ≡ true
+
+-- sender s has left in the order that the log spells
+pub record HasLeftIt {E : Type 0} (m : Machine E) (s : ℕ) : Type 0 where
+  pub order : Order
+  pub owners : List (ℕ × SenderNo)
+  pub spelled : Spells m.layout.senders (log_of m) order owners
+  pub left : has_gone s order ≡ true
+
+-- its leave mark is published, and the page not given back
+pub record LeavesNow {E : Type 0} (v : Sender E) : Type 0 where
+  pub tenure : ℕ
+  pub published : HasPublished tenure v.core.phase
+  pub leaves : is_leaving v.core.queue.phase ≡ true
 
 -- by its actions sender s saw the election of this tenure end with another owner, at such a stage, at which the tenure had opened
 pub record HasLost (stage s : ℕ) (actions : List Action) (t : ℕ) : Type 0 where
@@ -51,8 +67,12 @@ pub record Remembers {E : Type 0} (m : Machine E) (s : ℕ) (v : Sender E) (acti
   pub rows : rows_in v.reuse ≡ m.reuse
   -- its next message has the number of its base and how many it has put
   pub numbers : next_of v.core.queue ≡ base_of m s + length (puts actions)
-  -- its batch is closed only once the order has ended
-  pub closed : v.core.queue.phase ≡ Closed → HasEnded m
+  -- its batch is closed only once the order has ended, or the sender has left in it
+  pub closed : v.core.queue.phase ≡ Closed → HasEnded m ⊎ HasLeftIt m s
+  -- where the sender has left, its batch is closed, or the sender has yet to give the page back with its mark published
+  pub gone : HasLeftIt m s → (v.core.queue.phase ≡ Closed) ⊎ LeavesNow v
+  -- once it has asked to close or to leave, nothing more is put into it
+  pub asked : (mark : Mark) → Asked mark actions → IsShut v.core.queue
   -- each tenure below the first that it may enter has ended, or it has lost it
   pub past : (t : ℕ) → t < v.core.least → IsPastFor (stage_of m) s actions t
   -- a tenure that it has begun was opened

@@ -1,12 +1,13 @@
 -- What a stop does, and that it is for good.
 use Rattle.std.specs.Prelude.{◌≡◌, ◌≢◌, ◌⊎◌, ℕ, ◌≤◌, Bool, true, false, Some, None, List, All, slice_get, slice_set}
+use Rattle.bus_batch.specs.declared.messages.Mark.{Mark}
 use Rattle.bus_core.specs.Senders.{Sender}
 use Rattle.bus_register.specs.declared.limits.TheConstants.{MOST_SENDERS}
 use Rattle.bus_register.specs.Protocol.{Protocol}
 use Rattle.bus_adoptcommit.specs.declared.verdicts.Verdict.{Verdict}
 use Rattle.bus_tenure.specs.Core.{Election}
 use Rattle.bus_tenure.specs.Elections.{Elector}
-use Rattle.bus_world.specs.World.{Event, Put, Close, Turn, Recv, Stop}
+use Rattle.bus_world.specs.World.{Event, Put, Ask, Turn, Recv, Stop}
 use Rattle.bus_world.specs.declared.events.Answer.{Answer}
 use Rattle.bus_world.specs.declared.events.Answer.TheVariants as answer
 use Rattle.bus_world.specs.declared.events.StepFault.{StepFault}
@@ -17,7 +18,7 @@ use Rattle.bus_machine.specs.Playing.{Refused, AllAnswered, trails_after}
 -- an event of another sender than s, or of a receiver
 abbrev pub IsOfOther : ℕ → Event → Type 0
 IsOfOther s (Put q bytes) = q ≢ s
-IsOfOther s (Close q) = q ≢ s
+IsOfOther s (Ask q mark) = q ≢ s
 IsOfOther s (Turn q word) = q ≢ s
 IsOfOther s (Recv r) = Unit {0}
 IsOfOther s (Stop q) = q ≢ s
@@ -62,7 +63,8 @@ pub record StopsAreForGood {S : Type 0} (X : Election (Elector S)) (P : Protocol
   pub stays : (old new : Machine (Elector S)) (events : List Event) (run : AllAnswered X P old events new) (T : Trails) (s : ℕ) → has_stopped old s ≡ true → StaysStopped old T s new (trails_after X P old events new run T)
   -- whatever else is wrong with an event of one that has stopped
   pub put_refused : (m : Machine (Elector S)) (s : ℕ) (v : Sender (Elector S)) (bytes : List ℕ) → slice_get m.senders s ≡ Some v → has_stopped m s ≡ true → IsRefusedAsStopped m (Put s bytes)
-  pub close_refused : (m : Machine (Elector S)) (s : ℕ) (v : Sender (Elector S)) → slice_get m.senders s ≡ Some v → has_stopped m s ≡ true → IsRefusedAsStopped m (Close s)
+  pub mark_refused : (m : Machine (Elector S)) (s : ℕ) (v : Sender (Elector S)) (mark : Mark) → slice_get m.senders s ≡ Some v
+      → has_stopped m s ≡ true → IsRefusedAsStopped m (Ask s mark)
   pub turn_refused : (m : Machine (Elector S)) (s : ℕ) (v : Sender (Elector S)) (word : ℕ) → slice_get m.senders s ≡ Some v → has_stopped m s ≡ true → IsRefusedAsStopped m (Turn s word)
   pub stop_refused : (m : Machine (Elector S)) (s : ℕ) (v : Sender (Elector S)) → slice_get m.senders s ≡ Some v → has_stopped m s ≡ true → IsRefusedAsStopped m (Stop s)
   -- a sender that goes on may stop: its stop is not refused, and there is what it does and is answered
@@ -74,14 +76,14 @@ pub record StopsAreForGood {S : Type 0} (X : Election (Elector S)) (P : Protocol
 pub record StopRefuses {E : Type 0} (X : Election E) : Type 0 where
   -- a stop that does nothing
   pub idle_stop : (m : Machine E) (T : Trails) (s : ℕ) (a : Answer) → Reached X m T → m.layout.senders ≤ MOST_SENDERS → ¬ Happens X m (Stop s) a m
-  -- a turn, a put, a close or a second stop of a sender that has stopped
+  -- a turn, a put, a close, a leave or a second stop of a sender that has stopped
   pub late_turn : (old new : Machine E) (s word : ℕ) (a : Answer) → has_stopped old s ≡ true → ¬ Happens X old (Turn s word) a new
   pub late_put : (old new : Machine E) (s : ℕ) (bytes : List ℕ) (a : Answer) → has_stopped old s ≡ true → ¬ Happens X old (Put s bytes) a new
-  pub late_close : (old new : Machine E) (s : ℕ) (a : Answer) → has_stopped old s ≡ true → ¬ Happens X old (Close s) a new
+  pub late_mark : (old new : Machine E) (s : ℕ) (mark : Mark) (a : Answer) → has_stopped old s ≡ true → ¬ Happens X old (Ask s mark) a new
   pub second_stop : (old new : Machine E) (s : ℕ) (a : Answer) → has_stopped old s ≡ true → ¬ Happens X old (Stop s) a new
   -- the fault Stopped of a sender that goes on, or that there is not
   pub put_untimely : (m : Machine E) (s : ℕ) (bytes : List ℕ) → HasNotStopped m s → ¬ Refused m (Put s bytes) fault.Stopped
-  pub close_untimely : (m : Machine E) (s : ℕ) → HasNotStopped m s → ¬ Refused m (Close s) fault.Stopped
+  pub mark_untimely : (m : Machine E) (s : ℕ) (mark : Mark) → HasNotStopped m s → ¬ Refused m (Ask s mark) fault.Stopped
   pub turn_untimely : (m : Machine E) (s word : ℕ) → HasNotStopped m s → ¬ Refused m (Turn s word) fault.Stopped
   pub stop_untimely : (m : Machine E) (s : ℕ) → HasNotStopped m s → ¬ Refused m (Stop s) fault.Stopped
   -- also of a receiver, whatever its number

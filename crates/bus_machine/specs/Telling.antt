@@ -1,10 +1,11 @@
 -- What the answer of a sender's turn tells: of the sender, of what its step found, and of what happened by whatever trails led to the machine.
-use Rattle.std.specs.Prelude.{◌≡◌, ◌≢◌, ℕ, ◌+◌, ◌*◌, ◌<◌, Bool, Option, Some, None, List, length, slice_get, slice_index}
+use Rattle.std.specs.Prelude.{◌≡◌, ◌≢◌, ◌⊎◌, ℕ, ◌+◌, ◌*◌, ◌<◌, Bool, Option, Some, None, List, length, slice_get, slice_index}
 use Rattle.bus_adoptcommit.specs.declared.verdicts.Verdict.{Verdict}
 use Rattle.bus_register.specs.Protocol.{Protocol}
 use Rattle.bus_register.specs.Words.{register}
 use Rattle.bus_register.specs.declared.registers.Op.{Op}
 use Rattle.bus_register.specs.declared.registers.SenderNo.{SenderNo}
+use Rattle.bus_batch.specs.declared.batches.Phase.TheVariants as batch
 use Rattle.bus_core.specs.Causes.{IsCaused}
 use Rattle.bus_core.specs.Senders.{Sender}
 use Rattle.bus_core.specs.Table.{line_now, lost_of}
@@ -16,13 +17,13 @@ use Rattle.bus_tenure.specs.Elections.{Elector}
 use Rattle.bus_tenure.specs.declared.turns.Turn.{Turn as Answered}
 use Rattle.bus_tenure.specs.declared.turns.Turn.TheVariants as turn
 use Rattle.bus_world.specs.Headline.{Action, Elected, Took, puts}
-use Rattle.bus_world.specs.Telling.{HasDelivered}
-use Rattle.bus_world.specs.World.{Event, Put, Close, Turn, Recv, Stop}
+use Rattle.bus_world.specs.Telling.{HasDelivered, HasLeft}
+use Rattle.bus_world.specs.World.{Event, Put, Ask, Turn, Recv, Stop}
 use Rattle.bus_world.specs.declared.events.Answer.{Answer}
 use Rattle.bus_world.specs.declared.events.Answer.TheVariants as answer
 use Rattle.bus_machine.specs.Machine.{Machine, Trails, Reached, base_of, trails_grown, going, log_of, stage_of}
 use Rattle.bus_machine.specs.Promise.{pin_of}
-use Rattle.bus_machine.specs.Remembering.{HasEnded, NoneIsLeft}
+use Rattle.bus_machine.specs.Remembering.{HasEnded, HasLeftIt, NoneIsLeft}
 
 -- ---- a turn tells of the sender that took it, and of what its step found in these words
 -- without a step the sender has nothing to do, for the reason that it answers
@@ -35,16 +36,18 @@ abbrev pub SenderSays : {E : Type 0} → Election E → List ℕ → Option (Sen
 SenderSays X words None word a = Unit {0}
 SenderSays X words (Some v) word (answer.Number n) = Unit {0}
 SenderSays X words (Some v) word answer.Closing = Unit {0}
+SenderSays X words (Some v) word answer.Leaving = Unit {0}
 SenderSays X words (Some v) word (answer.Turn t) = StepTells X words v ((line_now X v).op word) word t
 SenderSays X words (Some v) word (answer.Recv r) = Unit {0}
 SenderSays X words (Some v) word answer.Stopped = Unit {0}
 
 -- So Behind is answered only by a holder that loaded a presence with this step and found in it the tenure whose row is to be cleared; Own
--- only by who stood in that tenure, whose election had chosen it; Delivered, Full and, of a turn that took a step, Closed only by who gives
--- the page back, when the row of the next tenure is ready. Going is answered only where none of these is due, and never without a step.
+-- only by who stood in that tenure, whose election had chosen it; Delivered, Left, Full and, of a turn that took a step, Closed only by
+-- who gives the page back, when the row of the next tenure is ready. Going is answered only where none of these is due, and never without
+-- a step.
 abbrev pub Says : {E : Type 0} → Election E → Machine E → Event → Answer → Type 0
 Says X m (Put s bytes) a = Unit {0}
-Says X m (Close s) a = Unit {0}
+Says X m (Ask s mark) a = Unit {0}
 Says X m (Turn s word) a = SenderSays X m.words (going m s) word a
 Says X m (Recv r) a = Unit {0}
 Says X m (Stop s) a = Unit {0}
@@ -57,7 +60,7 @@ SenderCauses X P (Some v) = IsCaused X P v
 -- the sender whose turn it is, and which goes on, has a cause for its step, whatever that is for
 abbrev pub Causes : {S : Type 0} → Election (Elector S) → Protocol S Bool Verdict → Machine (Elector S) → Event → Type 0
 Causes X P m (Put s bytes) = Unit {0}
-Causes X P m (Close s) = Unit {0}
+Causes X P m (Ask s mark) = Unit {0}
 Causes X P m (Turn s word) = SenderCauses X P (going m s)
 Causes X P m (Recv r) = Unit {0}
 Causes X P m (Stop s) = Unit {0}
@@ -69,11 +72,15 @@ IsReused None = ⊥
 IsReused (Some rows) = Unit {0}
 
 -- ---- an answer of sender s
+-- The order has ended. Or it goes on, and the sender, whose batch was closed before, has left in it.
+abbrev pub ClosedTells : {E : Type 0} → Machine E → ℕ → Sender E → Type 0
+ClosedTells m s v = HasEnded m ⊎ ((v.core.queue.phase ≡ batch.Closed) × HasLeftIt m s)
+
 -- A tenure is lost to the owner with which a step of this sender saw its election end, and which is another sender. A tenure is the
 -- sender's own where it is elected in it and took its page. Messages are delivered where the last frame of the order is that of this
--- sender and tenure and holds them, with these numbers. The log is full where the sender's frame does not fit behind it. With a step and
--- without one, a sender is closed where the order has ended, and tenures are spent where none is left to it. A presence stands in the way
--- only where rows are used again.
+-- sender and tenure and holds them, with these numbers. A sender has left where that frame is its leave mark. The log is full where the
+-- sender's frame does not fit behind it. With a step and without one, a sender is closed where the order has ended, and tenures are spent
+-- where none is left to it; without one it is closed also where it has left. A presence stands in the way only where rows are used again.
 abbrev pub TurnTells : {E : Type 0} → Machine E → ℕ → Sender E → List Action → Answered → Type 0
 TurnTells m s v actions turn.Idle = Unit {0}
 TurnTells m s v actions turn.Waiting = Unit {0}
@@ -81,8 +88,9 @@ TurnTells m s v actions turn.Going = Unit {0}
 TurnTells m s v actions (turn.Lost t o) = Elected actions t o.0 × (o.0 ≢ s)
 TurnTells m s v actions (turn.Own t) = Elected actions t s × ((place : ℕ) × Took actions t place)
 TurnTells m s v actions (turn.Delivered t first last) = HasDelivered m.layout.senders (log_of m) s t first last
+TurnTells m s v actions (turn.Left t) = HasLeft m.layout.senders (log_of m) s t
 TurnTells m s v actions turn.Full = m.layout.capacity < length (log_of m) + frame_len v.core
-TurnTells m s v actions turn.Closed = HasEnded m
+TurnTells m s v actions turn.Closed = ClosedTells m s v
 TurnTells m s v actions turn.Spent = NoneIsLeft m s actions
 TurnTells m s v actions (turn.Behind t p) = IsReused m.reuse
 
@@ -91,6 +99,7 @@ abbrev pub SenderTells : {E : Type 0} → Machine E → ℕ → Option (Sender E
 SenderTells m s None actions a = Unit {0}
 SenderTells m s (Some v) actions (answer.Number n) = Unit {0}
 SenderTells m s (Some v) actions answer.Closing = Unit {0}
+SenderTells m s (Some v) actions answer.Leaving = Unit {0}
 SenderTells m s (Some v) actions (answer.Turn t) = TurnTells m s v actions t
 SenderTells m s (Some v) actions (answer.Recv r) = Unit {0}
 SenderTells m s (Some v) actions answer.Stopped = Unit {0}
@@ -99,6 +108,7 @@ SenderTells m s (Some v) actions answer.Stopped = Unit {0}
 abbrev pub PutTells : ℕ → List Action → Answer → Type 0
 PutTells first actions (answer.Number n) = n + 1 ≡ first + length (puts actions)
 PutTells first actions answer.Closing = Unit {0}
+PutTells first actions answer.Leaving = Unit {0}
 PutTells first actions (answer.Turn t) = Unit {0}
 PutTells first actions (answer.Recv r) = Unit {0}
 PutTells first actions answer.Stopped = Unit {0}
@@ -106,7 +116,7 @@ PutTells first actions answer.Stopped = Unit {0}
 -- an event of the machine as it was, with its answer, by the trails that lead to the machine as it is then
 abbrev pub EventTells : {E : Type 0} → Machine E → Event → Answer → Trails → Type 0
 EventTells m (Put s bytes) a T = PutTells (base_of m s) (T.actions s) a
-EventTells m (Close s) a T = Unit {0}
+EventTells m (Ask s mark) a T = Unit {0}
 EventTells m (Turn s word) a T = SenderTells m s (going m s) (T.actions s) a
 EventTells m (Recv r) a T = Unit {0}
 EventTells m (Stop s) a T = Unit {0}

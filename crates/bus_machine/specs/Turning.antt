@@ -1,6 +1,7 @@
 -- One turn of one sender on what all share, and senders and receivers at their starts.
 use Rattle.std.specs.Prelude.{◌≡◌, ℕ, ◌<◌, Option, Some, IfSome, List, length, slice_get, slice_index}
 use Rattle.bus_batch.specs.Batches.{next_of, CanPut, CanClose}
+use Rattle.bus_batch.specs.declared.messages.Mark.{Mark}
 use Rattle.bus_core.specs.Keeping.{queue_of, new_sender}
 use Rattle.bus_core.specs.Senders.{Sender}
 use Rattle.bus_core.specs.Table.{Line}
@@ -9,7 +10,7 @@ use Rattle.bus_tenure.specs.Core.{Layout}
 use Rattle.bus_tenure.specs.declared.pages.Page.{Page}
 use Rattle.bus_tenure.specs.declared.turns.Turn.{Turn as Answered}
 use Rattle.bus_world.specs.Turning.{words_after, number_found, home_moved, after_step}
-use Rattle.bus_machine.specs.Machine.{moved, put_in, close_in}
+use Rattle.bus_machine.specs.Machine.{moved, put_in, mark_in}
 
 -- the step of this line was taken on these words, if one was due
 pub record HasStepped {E : Type 0} (l : Line E) (words : List ℕ) (word : ℕ) (told : Answered) (words' : List ℕ) (sender' : Sender E) : Type 0 where
@@ -32,10 +33,10 @@ pub record HasTaken {E : Type 0} (old : Sender E) (bytes : List ℕ) (number : �
   pub number_is : number ≡ next_of old.core.queue
   pub sender_is : new ≡ put_in old bytes
 
--- an end mark waits at a sender
-pub record HasShut {E : Type 0} (old new : Sender E) : Type 0 where
+-- this mark waits at a sender
+pub record HasShut {E : Type 0} (old : Sender E) (mark : Mark) (new : Sender E) : Type 0 where
   pub can : CanClose (queue_of old.core.queue old.reuse)
-  pub sender_is : new ≡ close_in old
+  pub sender_is : new ≡ mark_in old mark
 
 -- so many senders, each at its start
 pub record AreNewSenders {E : Type 0} (x : Layout) (reuse : Option ℕ) (bases : List ℕ) (many : ℕ) (senders : List (Sender E)) : Type 0 where

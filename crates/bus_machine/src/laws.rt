@@ -16,7 +16,7 @@ ghost use Rattle.bus_machine.specs.Promise.{actions_in};
 ghost use Rattle.bus_machine.specs.PromiseRefusals.{PromiseRefuses};
 ghost use Rattle.bus_machine.specs.Refusals.{LossesRefuse, AnswersRefuse, SaysNoMore};
 ghost use Rattle.bus_machine.specs.Refusals.{SaysMore, NumbersRefuse, FollowsRefuse};
-ghost use Rattle.bus_machine.specs.Refusals.{PagesRefuse, MemoriesRefuse, WordsRefuse};
+ghost use Rattle.bus_machine.specs.Refusals.{PagesRefuse, MemoriesRefuse, WordsRefuse, MarksRefuse};
 ghost use Rattle.bus_machine.specs.Refusals.{BoundsRefuse};
 ghost use Rattle.bus_machine.specs.Stopping.{StopsAreForGood, StopRefuses};
 ghost use Rattle.bus_machine.specs.Telling.{Tells, OpensOnly, LossesAreSeen};
@@ -105,9 +105,11 @@ pub fn losses_refuse<Q: Ratifier>()
 /// No answer is true that accepts a message with another number than its sender's first one and how
 /// many that had put before it; or that is Lost to an owner whose election the sender did not see,
 /// or to itself; Own of a tenure whose page it did not take; Delivered or Closed where the log is
-/// empty; Delivered of another tenure, sender or first number than those of the last frame; Closed
-/// while the order goes on; Full where the frame fits; Spent in the first of two tenures, or in the
-/// only one before its election has ended; Behind where each tenure has a row.
+/// empty; Delivered of another tenure, sender or first number than those of the last frame; Left
+/// of one whose leave mark does not stand in the log, or is not its last frame; Closed while the
+/// order goes on, of one that has not left in it or whose batch was not closed; Full where the
+/// frame fits; Spent in the first of two tenures, or in the only one before its election has ended;
+/// Behind where each tenure has a row.
 pub fn answers_refuse<Q: Ratifier>()
     ensures turns { (machine : Machine (Elector Q)) (number : ℕ) (sender : Sender (Elector Q))
         (actions : List Action) → AnswersRefuse machine number sender actions }
@@ -124,21 +126,25 @@ pub fn same_actions_say_no_more()
     ensures more { (t : ℕ) (before after : List Action) → SaysMore t before after }
 {}
 
+/// No close is answered Leaving and no leave Closing, and neither lets the mark of the other wait.
 /// No machine follows another by an event with which the stage falls; or with which the log gets
-/// other words though no length was stored, or the same words though one was, or another frame
-/// than that of who stored it. None is promised whose page is at home while the stage is odd, or
-/// out while it is even, or knows another number of tenures or of items, or is out while nobody
-/// holds it, or counts a tenure that nobody took, or that two senders hold, or one that did not
-/// take it; nor one of which a sender goes by another number, layout or count of rows, is to put
-/// its second message first, is closed while the order goes on, passes over a tenure that is open,
-/// begins one that is not, or has its batch on its way at rest; nor one of which a sender stores a
-/// word of the log below the length next, or clears a word of a row in which somebody stands. None
-/// is bounded of which a sender took more steps towards a page, or has no turn left while its
-/// election runs.
+/// other words though no length was stored, or the same words though one was, or another frame than
+/// that of who stored it. None is promised whose page is at home while the stage is odd, or out
+/// while it is even, or knows another number of tenures or of items, or others that have left, or
+/// is out while nobody holds it, or counts a tenure that nobody took, or that two senders hold, or
+/// one that did not take it; nor one of which a sender goes by another number, layout or count of
+/// rows, is to put its second message first, is closed while the order goes on in which it has not
+/// left, has left in it and is open or at rest with its mark, has asked for a mark and is open,
+/// passes over a tenure that is open, begins one that is not, or has its batch on its way at rest;
+/// nor one of which a sender stores a word of the log below the length next, or clears a word of a
+/// row in which somebody stands. None is bounded of which a sender took more steps towards a page,
+/// or has no turn left while its election runs.
 pub fn machines_refuse<Q: Ratifier>()
     ensures follows { let X = election_of Q.Ratifier in
         (old : Machine (Elector Q)) (event : Event) (given : Answer) (new : Machine (Elector Q))
         → FollowsRefuse X old event given new }
+    ensures marks { let X = election_of Q.Ratifier in
+        (old new : Machine (Elector Q)) → MarksRefuse X old new }
     ensures pages { let X = election_of Q.Ratifier in
         (machine : Machine (Elector Q)) (trails : Trails) → PagesRefuse X machine trails }
     ensures memories { let X = election_of Q.Ratifier in

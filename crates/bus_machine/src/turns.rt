@@ -19,6 +19,7 @@ ghost use Rattle.bus_machine.specs.Turning.{HasStepped, HasTurned, HasTaken, Has
 
 use arrayvec::ArrayVec;
 use bus_adoptcommit::Ratifier;
+use bus_batch::Mark;
 use bus_core::SenderCore;
 use bus_register::limits::{MOST_ROWS, NUMBERS};
 use bus_register::{Cells, SenderNo};
@@ -115,13 +116,17 @@ pub fn put_to<Q: Ratifier + Drop>(core: &mut SenderCore<Q>, bytes: &[u8]) -> Res
     }
 }
 
-/// An end mark waits at a sender, or is refused.
-pub fn close_to<Q: Ratifier + Drop>(core: &mut SenderCore<Q>) -> Result<(), StepFault>
-    ensures taken { OnOk result (HasShut core.old core.new) }
+/// A mark waits at a sender, or is refused.
+pub fn mark_to<Q: Ratifier + Drop>(core: &mut SenderCore<Q>, mark: Mark) -> Result<(), StepFault>
+    ensures taken { OnOk result (HasShut core.old mark core.new) }
     ensures fault { IfErr result (λ why. CloseRefused why core.old) }
     ensures refused { OnErr result (core.new ≡ core.old) }
 {
-    match core.close() {
+    let marked = match mark {
+        Mark::End => core.close(),
+        Mark::Leave => core.leave(),
+    };
+    match marked {
         Ok(()) => Ok(()),
         Err(fault) => Err(StepFault::Close(fault)),
     }

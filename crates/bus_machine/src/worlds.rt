@@ -6,12 +6,13 @@ ghost use Rattle.std.specs.Prelude.{IfOk, IfErr, OnOk, OnErr};
 ghost use Rattle.std.specs.Option.{option_copied};
 ghost use Rattle.bus_register.specs.declared.registers.SenderNo.{SenderNo as Number};
 ghost use Rattle.bus_batch.specs.Frames.{Spells};
-ghost use Rattle.bus_deliverylog.specs.Orders.{order_held};
+ghost use Rattle.bus_deliverylog.specs.Orders.{order_held, HasPlaces};
 ghost use Rattle.bus_tenure.specs.Elections.{election_of};
 ghost use Rattle.bus_world.specs.declared.events.Answer.TheVariants as answer;
 ghost use Rattle.bus_world.specs.Headline.{order_given};
-ghost use Rattle.bus_world.specs.Playing.{event_told};
-ghost use Rattle.bus_world.specs.World.{no_bases, Put, Close, Turn as SenderTurn, Recv, Stop};
+ghost use Rattle.bus_batch.specs.declared.messages.Mark.TheVariants.{End, Leave};
+ghost use Rattle.bus_world.specs.Playing.{event_told, asked_answer};
+ghost use Rattle.bus_world.specs.World.{no_bases, Put, Ask, Turn as SenderTurn, Recv, Stop};
 ghost use Rattle.bus_ownerbits.specs.Sizes.{election_bound};
 ghost use Rattle.bus_machine.specs.Bounding.{AreBounded, PinsAreBounded};
 ghost use Rattle.bus_machine.specs.Machine.{Trails, Reached, Happens, has_stopped, log_of};
@@ -24,9 +25,10 @@ ghost use Rattle.bus_machine.specs.Telling.{Causes, Says, LossesAreSeen};
 
 use crate::shapes::{fault_of, first_numbers, log_word};
 use crate::starts::new_senders;
-use crate::turns::{close_to, note_owner, put_to, turn_sender};
+use crate::turns::{mark_to, note_owner, put_to, turn_sender};
 use arrayvec::ArrayVec;
 use bus_adoptcommit::Ratifier;
+use bus_batch::Mark;
 use bus_core::SenderCore;
 use bus_deliverylog::{Order, Reader, read_front, read_log};
 use bus_ownerbits::Election;
@@ -181,15 +183,15 @@ impl<Q: Ratifier + Drop> World<Q> {
         put_to(&mut self.senders[sender as usize], bytes)
     }
 
-    /// An end mark waits at a sender.
-    fn close_at(&mut self, sender: u64) -> Result<(), StepFault>
+    /// A mark waits at a sender.
+    fn mark_at(&mut self, sender: u64, mark: Mark) -> Result<(), StepFault>
         ensures happens { let X = election_of Q.Ratifier in
-            OnOk result (Happens X self.old (Close sender) answer.Closing self.new) }
-        ensures refused { IfErr result (λ why. Refuses self.old (Close sender) why self.new) }
+            OnOk result (Happens X self.old (Ask sender mark) (asked_answer mark) self.new) }
+        ensures refused { IfErr result (λ why. Refuses self.old (Ask sender mark) why self.new) }
     {
         election_is_lawful::<Q>();
         self.goes_on(sender)?;
-        close_to(&mut self.senders[sender as usize])
+        mark_to(&mut self.senders[sender as usize], mark)
     }
 
     /// A sender takes a turn.
@@ -256,12 +258,27 @@ impl<Q: Ratifier + Drop> World<Q> {
     /// pins a tenure of rows that are used again this is refused as Busy. Takes no memory.
     pub fn close(&mut self, sender: SenderNo) -> Result<(), StepFault>
         ensures answered { let X = election_of Q.Ratifier in
-            OnOk result (Answers X Q.protocol self.old (Close sender.0) answer.Closing self.new) }
-        ensures refused { IfErr result (λ why. Refuses self.old (Close sender.0) why self.new) }
+            OnOk result (Answers X Q.protocol self.old (Ask sender.0 End) answer.Closing self.new) }
+        ensures refused { IfErr result (λ why. Refuses self.old (Ask sender.0 End) why self.new) }
     {
         election_is_lawful::<Q>();
         let _ = &self.shape;
-        self.close_at(u64::from(sender.0))
+        self.mark_at(u64::from(sender.0), Mark::End)
+    }
+
+    /// A sender is to leave for good: a leave mark waits at it from then on, and it takes no
+    /// message any more. While the sender pins a tenure of rows that are used again this is
+    /// refused as Busy. Takes no memory.
+    pub fn leave(&mut self, sender: SenderNo) -> Result<(), StepFault>
+        ensures answered { let X = election_of Q.Ratifier in
+            OnOk result (Answers X Q.protocol self.old (Ask sender.0 Leave)
+            answer.Leaving self.new) }
+        ensures refused { IfErr result
+            (λ why. Refuses self.old (Ask sender.0 Leave) why self.new) }
+    {
+        election_is_lawful::<Q>();
+        let _ = &self.shape;
+        self.mark_at(u64::from(sender.0), Mark::Leave)
     }
 
     /// A sender stops: from now on it does nothing any more. A page that it has stays out, and a
@@ -290,8 +307,12 @@ impl<Q: Ratifier + Drop> World<Q> {
         match event {
             Event::Put { sender, bytes } => Ok(Answer::Number(self.put_at(*sender, bytes)?)),
             Event::Close(sender) => {
-                self.close_at(*sender)?;
+                self.mark_at(*sender, Mark::End)?;
                 Ok(Answer::Closing)
+            }
+            Event::Leave(sender) => {
+                self.mark_at(*sender, Mark::Leave)?;
+                Ok(Answer::Leaving)
             }
             Event::Turn { sender, word } => self.turn_at(*sender, *word),
             Event::Recv(receiver) => self.recv_at(*receiver),
@@ -307,10 +328,10 @@ impl<Q: Ratifier + Drop> World<Q> {
     /// By the actions of all trails that lead here, with this turn: a sender that answers Lost saw
     /// the election of that tenure end with the owner that it names, which is another sender; one
     /// that answers Own is elected and took the page; what is Delivered is the last frame of the
-    /// order; and Full is answered only where the frame does not fit behind the log. No turn is an
-    /// action in a tenure whose row had gone on before: what was elected there stays as it is. The
-    /// log gets the frame of a sender whose turn stores a length, with that turn, and no word
-    /// else.
+    /// order, and where one has Left that frame is its leave mark; and Full is answered only where
+    /// the frame does not fit behind the log. No turn is an action in a tenure whose row had gone
+    /// on before: what was elected there stays as it is. The log gets the frame of a sender whose
+    /// turn stores a length, with that turn, and no word else.
     pub fn step(&mut self, event: &Event) -> Result<Answer, StepFault>
         ensures answered { let X = election_of Q.Ratifier in
             IfOk result (λ a. Answers X Q.protocol self.old (event_told event.now) a self.new) }
@@ -431,10 +452,12 @@ impl<Q: Ratifier + Drop> World<Q> {
         &words[log..log + words[0] as usize]
     }
 
-    /// The order: what the words below the length spell. Memory is its only refusal.
+    /// The order: what the words below the length spell. Each leave mark has its place, which is
+    /// how many items stand before it. Memory is its only refusal.
     pub fn order(&self, alloc: Global) -> Result<Order, NoMemory>
-        ensures { IfOk result (λ order. (owners : List (ℕ × Number))
+        ensures spells { IfOk result (λ order. (owners : List (ℕ × Number))
             × Spells self.now.layout.senders (log_of self.now) (order_held order) owners) }
+        ensures places { IfOk result HasPlaces }
     {
         election_is_lawful::<Q>();
         match read_log(alloc, self.log(), self.shape.senders) {
@@ -443,13 +466,15 @@ impl<Q: Ratifier + Drop> World<Q> {
         }
     }
 
-    /// What the receiver of this number was given: the items and the end that it was answered.
-    /// There must be such a receiver. Memory is its only refusal.
+    /// What the receiver of this number was given: the items, leave marks and the end that it was
+    /// answered, each leave mark behind as many items as stood before it. There must be such a
+    /// receiver. Memory is its only refusal.
     pub fn given(&self, alloc: Global, receiver: u64) -> Result<Order, NoMemory>
         requires { receiver < length self.now.receivers }
-        ensures { let X = election_of Q.Ratifier in
+        ensures answered { let X = election_of Q.Ratifier in
             IfOk result (λ order. (trails : Trails) → Reached X self.now trails
             → order_held order ≡ order_given (trails.heard receiver)) }
+        ensures places { IfOk result HasPlaces }
     {
         election_is_lawful::<Q>();
         let place = self.receivers[receiver as usize].place();

@@ -1,15 +1,16 @@
 -- What a sender accepts between its steps: its actions as its batch shows them.
-use Rattle.std.proofs.Common.{◌≡◌, ℕ, zero, suc, ◌+◌, ◌≤◌, Bool, true, false, List, [], ◌∷◌, ◌++◌, length, drop, arith, refl, sym, ◌∙◌, ap}
+use Rattle.std.proofs.Common.{◌≡◌, ℕ, zero, suc, ◌+◌, ◌≤◌, true, false, cond, List, [], ◌∷◌, ◌++◌, length, drop, arith, refl, sym, ◌∙◌, ap}
 use Rattle.std.proofs.lemmas.List.{append-nil, length-append, length-drop, drop-append-le}
 use Rattle.bus_batch.specs.Batches.{Pending, next_of, CanPut, CanClose}
 use Rattle.bus_batch.specs.declared.batches.Phase.{Phase}
-use Rattle.bus_batch.specs.declared.batches.Phase.TheVariants.{Open, Closing}
-use Rattle.bus_tenure.specs.Core.{is_closing}
-use Rattle.bus_world.specs.Headline.{Action, HasPut, HasClosed}
+use Rattle.bus_batch.specs.declared.batches.Phase.TheVariants.{Open, Marking, Closed}
+use Rattle.bus_batch.specs.declared.messages.Mark.{Mark}
+use Rattle.bus_tenure.specs.Core.{is_marking}
+use Rattle.bus_world.specs.Headline.{Action, HasPut, HasMarked}
 use Rattle.bus_automaton.specs.Processes.{Process}
 use Rattle.bus_automaton.specs.Lawful.{ProcessLaws}
-use Rattle.bus_pageslot.specs.Steps.{Accepts, puts_from, closes_since, accepted_since}
-use Rattle.bus_pageslot.specs.Steps.Accepts.{Nothing, Message, Close}
+use Rattle.bus_pageslot.specs.Steps.{Accepts, puts_from, marks_since, accepted_since}
+use Rattle.bus_pageslot.specs.Steps.Accepts.{Nothing, Message, Marks}
 
 module _ {C : Type 0} (P : Process C) (L : ProcessLaws P) (c : C) where
   -- the rest of it stays
@@ -31,10 +32,10 @@ module _ {C : Type 0} (P : Process C) (L : ProcessLaws P) (c : C) where
         first = ap (λ (q : Pending). q.first) waits ∙ h.first;
         longer = let a = h.longer in let b = length-append (P.queue d).messages (bytes ∷ []) in let size = ap (λ (q : Pending). length q.messages) waits in omega arith;
       }
-  stays e all (Close d actions more can) =
+  stays e all (Marks d actions mark more can) =
       let h = stays d actions more in
-      let k = L.close d in
-      let waits = L.close_waits d in
+      let k = L.marked d mark in
+      let waits = L.mark_waits d mark in
       record {
         me = k.me ∙ h.me;
         table_layout = k.table_layout ∙ h.table_layout;
@@ -42,12 +43,12 @@ module _ {C : Type 0} (P : Process C) (L : ProcessLaws P) (c : C) where
         longer = let a = h.longer in let size = ap (λ (q : Pending). length q.messages) waits in omega arith;
       }
 
-puts_from-snoc : (n : ℕ) (xs : List (List ℕ)) (bytes : List ℕ) (k : ℕ) → k ≡ n + length xs → puts_from n (xs ++ bytes ∷ []) ≡ puts_from n xs ++ HasPut k bytes ∷ []
+pub puts_from-snoc : (n : ℕ) (xs : List (List ℕ)) (bytes : List ℕ) (k : ℕ) → k ≡ n + length xs → puts_from n (xs ++ bytes ∷ []) ≡ puts_from n xs ++ HasPut k bytes ∷ []
 puts_from-snoc n [] bytes k e = ap (λ z. HasPut z bytes ∷ []) (let z : n ≡ k = omega arith in z)
 puts_from-snoc n (x ∷ xs) bytes k e = ap (λ z. HasPut n x ∷ z) (puts_from-snoc (n + 1) xs bytes k (omega arith))
 
-open_is : (ph : Phase) → ph ≡ Open → is_closing ph ≡ false
-open_is ph e = ap is_closing e
+open_is : (ph : Phase) → ph ≡ Open → is_marking ph ≡ false
+open_is ph e = ap is_marking e
 
 none_left : {A : Type 0} (k : ℕ) (xs : List A) → length xs ≤ k → drop k xs ≡ []
 none_left zero [] l = refl
@@ -55,42 +56,52 @@ none_left (suc k) [] l = refl
 none_left zero (x ∷ xs) l = absurd (omega arith)
 none_left (suc k) (x ∷ xs) l = none_left k xs (omega arith)
 
--- a close before, and none
-closed_once : (b : Bool) → closes_since b b ≡ []
-closed_once true = refl
-closed_once false = refl
+-- a mark before, and none
+marked_once : (ph : Phase) → marks_since ph ph ≡ []
+marked_once Open = refl
+marked_once (Marking mark) = refl
+marked_once Closed = refl
+
+-- a sender that accepts something has no mark, and had none before
+none_marked : (before now : Phase) → now ≡ Open → marks_since before now ≡ []
+none_marked before now e = ap (marks_since before) e
 
 -- with one message more in its batch
 since_message : (before now : Pending) (bytes : List ℕ) → now.first ≡ before.first → length before.messages ≤ length now.messages → CanPut now (length bytes) → accepted_since before (record now { messages = now.messages ++ bytes ∷ [] }) ≡ accepted_since before now ++ HasPut (next_of now) bytes ∷ []
 since_message before now bytes first longer can =
     let k = length before.messages in
-    let none : closes_since (is_closing before.phase) (is_closing now.phase) ≡ [] = ap (closes_since (is_closing before.phase)) (open_is now.phase can.is_open) in
+    let none : marks_since before.phase now.phase ≡ [] = none_marked before.phase now.phase can.is_open in
     let moved : drop k (now.messages ++ bytes ∷ []) ≡ drop k now.messages ++ bytes ∷ [] = drop-append-le k now.messages (bytes ∷ []) longer in
     let size = length-drop k now.messages in
     ap (λ z. puts_from (next_of before) (drop k (now.messages ++ bytes ∷ [])) ++ z) none ∙ append-nil (puts_from (next_of before) (drop k (now.messages ++ bytes ∷ [])))
     ∙ ap (puts_from (next_of before)) moved ∙ puts_from-snoc (next_of before) (drop k now.messages) bytes (next_of now) (omega arith)
     ∙ ap (λ z. z ++ HasPut (next_of now) bytes ∷ []) (sym (append-nil (puts_from (next_of before) (drop k now.messages))) ∙ ap (λ z. puts_from (next_of before) (drop k now.messages) ++ z) (sym none))
 
--- a sender that can close has nothing, and had nothing before
-since_close : (before now : Pending) → CanClose now → (is_closing before.phase ≡ false) → accepted_since before (record now { phase = Closing }) ≡ accepted_since before now ++ HasClosed ∷ []
-since_close before now can was =
+-- with a mark that waits
+since_mark : (before now : Pending) (mark : Mark) → CanClose now → (is_marking before.phase ≡ false)
+    → accepted_since before (record now { phase = Marking mark }) ≡ accepted_since before now ++ HasMarked mark ∷ []
+since_mark before now mark can was =
     let k = length before.messages in
-    let none : closes_since (is_closing before.phase) (is_closing now.phase) ≡ [] = ap (closes_since (is_closing before.phase)) (open_is now.phase can.is_open) in
-    let closed : closes_since (is_closing before.phase) true ≡ HasClosed ∷ [] = ap (λ z. closes_since z true) was in
-    ap (λ z. puts_from (next_of before) (drop k now.messages) ++ z) closed
-    ∙ ap (λ z. z ++ HasClosed ∷ []) (sym (append-nil (puts_from (next_of before) (drop k now.messages))) ∙ ap (λ z. puts_from (next_of before) (drop k now.messages) ++ z) (sym none))
+    let none : marks_since before.phase now.phase ≡ [] = none_marked before.phase now.phase can.is_open in
+    let marked : marks_since before.phase (Marking mark) ≡ HasMarked mark ∷ [] = ap (λ z. cond z [] (HasMarked mark ∷ [])) was in
+    ap (λ z. puts_from (next_of before) (drop k now.messages) ++ z) marked
+    ∙ ap (λ z. z ++ HasMarked mark ∷ []) (sym (append-nil (puts_from (next_of before) (drop k now.messages)))
+    ∙ ap (λ z. puts_from (next_of before) (drop k now.messages) ++ z) (sym none))
 
 module _ {C : Type 0} (P : Process C) (L : ProcessLaws P) (c : C) where
-  -- a sender that accepts something was not closing before
-  pub was_open : (d : C) (actions : List Action) → Accepts P c d actions → (P.queue d).phase ≡ Open → is_closing (P.queue c).phase ≡ false
+  -- a sender that accepts something had no mark before
+  pub was_open : (d : C) (actions : List Action) → Accepts P c d actions → (P.queue d).phase ≡ Open → is_marking (P.queue c).phase ≡ false
   was_open d actions Nothing e = open_is (P.queue c).phase e
   was_open f all (Message d actions bytes more can small) e = was_open d actions more can.is_open
-  was_open f all (Close d actions more can) e = was_open d actions more can.is_open
+  was_open f all (Marks d actions mark more can) e = was_open d actions more can.is_open
 
   pub since_is : (d : C) (actions : List Action) → Accepts P c d actions → accepted_since (P.queue c) (P.queue d) ≡ actions
   since_is d actions Nothing =
-      ap (λ z. puts_from (next_of (P.queue c)) z ++ closes_since (is_closing (P.queue c).phase) (is_closing (P.queue c).phase)) (none_left (length (P.queue c).messages) (P.queue c).messages (omega arith)) ∙ closed_once (is_closing (P.queue c).phase)
+      ap (λ z. puts_from (next_of (P.queue c)) z ++ marks_since (P.queue c).phase (P.queue c).phase)
+      (none_left (length (P.queue c).messages) (P.queue c).messages (omega arith)) ∙ marked_once (P.queue c).phase
   since_is f all (Message d actions bytes more can small) =
       let h = stays P L c d actions more in
       ap (accepted_since (P.queue c)) (L.message_waits d bytes) ∙ since_message (P.queue c) (P.queue d) bytes h.first h.longer can ∙ ap (λ z. z ++ HasPut (next_of (P.queue d)) bytes ∷ []) (since_is d actions more)
-  since_is f all (Close d actions more can) = ap (accepted_since (P.queue c)) (L.close_waits d) ∙ since_close (P.queue c) (P.queue d) can (was_open d actions more can.is_open) ∙ ap (λ z. z ++ HasClosed ∷ []) (since_is d actions more)
+  since_is f all (Marks d actions mark more can) = ap (accepted_since (P.queue c)) (L.mark_waits d mark)
+      ∙ since_mark (P.queue c) (P.queue d) mark can (was_open d actions more can.is_open)
+      ∙ ap (λ z. z ++ HasMarked mark ∷ []) (since_is d actions more)

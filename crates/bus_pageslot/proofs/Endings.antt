@@ -5,7 +5,7 @@ use mathlib.Core.Option as maybe
 use lib.ListN.{get_elem?}
 use Rattle.std.proofs.lemmas.Bool.{true≢false}
 use Rattle.atomic_table.specs.Table.{Final, Seen}
-use Rattle.bus_batch.specs.Frames.{Order, Spells}
+use Rattle.bus_batch.specs.Frames.{Order, Spells, has_gone}
 use Rattle.bus_deliverylog.specs.Orders.{of_sender}
 use Rattle.bus_tenure.specs.declared.pages.Page.{Page}
 use Rattle.bus_world.specs.Headline.{IsPrefix}
@@ -40,7 +40,7 @@ some_of None e = absurd (true≢false (sym e))
 some_of (Some page) e = (page, refl)
 
 -- what is in the slot
-slot_is : (home : Option Page) (page : Page) → slot_of home ≡ slot_of (Some page) → home ≡ Some page
+pub slot_is : (home : Option Page) (page : Page) → slot_of home ≡ slot_of (Some page) → home ≡ Some page
 slot_is None page e = absurd (some-ne-none (Some page) (sym e))
 slot_is (Some other) page e = some-injective (Some other) (Some page) e
 
@@ -61,6 +61,7 @@ module _ {C : Type 0} (P : Process C) (A : Automaton C) (L : AutomatonLaws P A) 
         spells = subst (λ ws. Spells A.table_layout.senders ws q.order q.owners) log_is s;
         numbered = q.promises.faithful.numbered;
         counts = λ p l. knows.next p l ∙ ap (λ (o : Order). slice_index A.bases p + length (of_sender p o)) s.order_is;
+        left = λ p l. knows.left p l ∙ ap (λ (o : Order). Some (has_gone p o)) s.order_is;
         ended = knows.ended ∙ ap (λ (o : Order). o.ended) s.order_is;
         words = knows.words ∙ sym (length-read (slice_index (A.words z)) A.table_layout.log (slice_index (A.words z) 0)) ∙ ap length log_is;
       }

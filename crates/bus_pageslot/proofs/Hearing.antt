@@ -6,57 +6,60 @@ use Rattle.std.proofs.lemmas.Grind.{flat_map-append}
 use Rattle.std.proofs.lemmas.List.{append-nil, length-append, length-drop, take-append-drop, take-append-le, take-take, take_all, take_more}
 use Rattle.std.proofs.lemmas.List.Folds.{list_any-append}
 use Rattle.std.proofs.lemmas.Option.{same_Some, slice_get_within, get_or_from_slice_get}
-use Rattle.bus_batch.specs.declared.messages.Item.{Item}
 use Rattle.bus_batch.specs.declared.messages.Piece.{Piece}
 use Rattle.bus_batch.specs.declared.messages.Piece.TheVariants as piece
-use Rattle.bus_batch.specs.Frames.{Frame, Order, AreFrames, log_words, log_pieces, frame_pieces, order_of, tenure_and_owner, order_in, owners_in, piece_items, piece_owners, is_end}
+use Rattle.bus_batch.specs.Frames.{Frame, Entry, Order, AreFrames, log_words, log_pieces, frame_pieces, order_of, tenure_and_owner, order_in, owners_in, piece_entries, piece_owners, is_end}
 use Rattle.bus_batch.proofs.PieceLaws.{owners_in-log}
 use Rattle.bus_deliverylog.specs.Orders.{IsPrefixOfOrder}
 use Rattle.bus_deliverylog.specs.Receiving.{turn_of}
 use Rattle.bus_deliverylog.specs.declared.receiving.RecvTurn.{RecvTurn}
 use Rattle.bus_deliverylog.specs.declared.receiving.RecvTurn.TheVariants as turn
 use Rattle.bus_deliverylog.proofs.PrefixLaws.{end_last}
-use Rattle.bus_world.specs.Headline.{IsPrefix, item_heard, end_heard, head_heard, order_given, heads}
+use Rattle.bus_world.specs.Headline.{IsPrefix, entry_heard, end_heard, head_heard, order_given, heads}
 use Rattle.bus_world.proofs.HearTrails.{more_order}
 use Rattle.bus_world.proofs.Places.{got_split}
 use Rattle.bus_world.proofs.ReceivingLaws.{length-log_pieces, given_is_prefix}
 use Rattle.bus_pageslot.specs.ReceiverViews.{ReceiverView, new_receiver_view, receiver_view_after_load, receiver_view_knowing, heard_length, heard_word, length_turn, IsSilent, HasHeard, Begins, Agree}
 
 -- ---- what one answer adds
-order_so : (items items' : List Item) (a b : Bool) → items ≡ items' → a ≡ b → ◌≡◌ {A = Order} (record { items = items; ended = a }) (record { items = items'; ended = b })
-order_so items items' a b e f = ap (λ z. record { items = z; ended = a }) e ∙ ap (λ z. record { items = items'; ended = z }) f
+order_so : (entries entries' : List Entry) (a b : Bool) → entries ≡ entries' → a ≡ b
+    → ◌≡◌ {A = Order} (record { entries = entries; ended = a }) (record { entries = entries'; ended = b })
+order_so entries entries' a b e f = ap (λ z. record { entries = z; ended = a }) e ∙ ap (λ z. record { entries = entries'; ended = z }) f
 
-given_more : (trail : List RecvTurn) (a : RecvTurn) → order_given (trail ++ a ∷ []) ≡ more_order (order_given trail) (item_heard a) (end_heard a)
-given_more trail a = order_so _ _ _ _ (flat_map-append item_heard trail (a ∷ []) ∙ ap (λ z. flat_map item_heard trail ++ z) (append-nil (item_heard a)))
+given_more : (trail : List RecvTurn) (a : RecvTurn) → order_given (trail ++ a ∷ []) ≡ more_order (order_given trail) (entry_heard a) (end_heard a)
+given_more trail a = order_so _ _ _ _ (flat_map-append entry_heard trail (a ∷ []) ∙ ap (λ z. flat_map entry_heard trail ++ z) (append-nil (entry_heard a)))
     (list_any-append end_heard trail (a ∷ []) ∙ ap (λ z. list_any end_heard trail || z) (or-false (end_heard a)))
 
 heads_more : (trail : List RecvTurn) (a : RecvTurn) → heads (trail ++ a ∷ []) ≡ heads trail ++ head_heard a
 heads_more trail a = flat_map-append head_heard trail (a ∷ []) ∙ ap (λ z. flat_map head_heard trail ++ z) (append-nil (head_heard a))
 
-order_more : (pieces : List (Option Piece)) (p : Option Piece) → order_in (pieces ++ p ∷ []) ≡ more_order (order_in pieces) (piece_items p) (is_end p)
-order_more pieces p = order_so _ _ _ _ (flat_map-append piece_items pieces (p ∷ []) ∙ ap (λ z. flat_map piece_items pieces ++ z) (append-nil (piece_items p)))
+order_more : (pieces : List (Option Piece)) (p : Option Piece) → order_in (pieces ++ p ∷ []) ≡ more_order (order_in pieces) (piece_entries p) (is_end p)
+order_more pieces p = order_so _ _ _ _ (flat_map-append piece_entries pieces (p ∷ []) ∙ ap (λ z. flat_map piece_entries pieces ++ z) (append-nil (piece_entries p)))
     (list_any-append is_end pieces (p ∷ []) ∙ ap (λ z. list_any is_end pieces || z) (or-false (is_end p)))
 
 owners_more : (pieces : List (Option Piece)) (p : Option Piece) → owners_in (pieces ++ p ∷ []) ≡ owners_in pieces ++ piece_owners p
 owners_more pieces p = flat_map-append piece_owners pieces (p ∷ []) ∙ ap (λ z. flat_map piece_owners pieces ++ z) (append-nil (piece_owners p))
 
 -- an answer tells its piece
-item_told : (p : Option Piece) → item_heard (turn_of p) ≡ piece_items p
-item_told None = refl
-item_told (Some (piece.Head t o)) = refl
-item_told (Some (piece.Item i)) = refl
-item_told (Some piece.End) = refl
+entry_told : (p : Option Piece) → entry_heard (turn_of p) ≡ piece_entries p
+entry_told None = refl
+entry_told (Some (piece.Head t o)) = refl
+entry_told (Some (piece.Item i)) = refl
+entry_told (Some (piece.Leave o)) = refl
+entry_told (Some piece.End) = refl
 
 end_told : (p : Option Piece) → end_heard (turn_of p) ≡ is_end p
 end_told None = refl
 end_told (Some (piece.Head t o)) = refl
 end_told (Some (piece.Item i)) = refl
+end_told (Some (piece.Leave o)) = refl
 end_told (Some piece.End) = refl
 
 head_told : (p : Option Piece) → head_heard (turn_of p) ≡ piece_owners p
 head_told None = refl
 head_told (Some (piece.Head t o)) = refl
 head_told (Some (piece.Item i)) = refl
+head_told (Some (piece.Leave o)) = refl
 head_told (Some piece.End) = refl
 
 or_true : (a b : Bool) → b ≡ true → (a || b) ≡ true
@@ -93,10 +96,10 @@ module _ (frames : List Frame) where
     heard_learnt known = record { given_is = h.given_is; heads_are = h.heads_are; ended_is = h.ended_is; silent = h.silent }
 
     -- an answer that tells nothing
-    quiet : (known : List ℕ) (answer : RecvTurn) → e.ended ≡ false → item_heard answer ≡ [] → end_heard answer ≡ false → head_heard answer ≡ [] → HasHeard frames (heard_length e known answer)
-    quiet known answer going items ends head =
+    quiet : (known : List ℕ) (answer : RecvTurn) → e.ended ≡ false → entry_heard answer ≡ [] → end_heard answer ≡ false → head_heard answer ≡ [] → HasHeard frames (heard_length e known answer)
+    quiet known answer going entries ends head =
         let same : order_given (e.answers ++ answer ∷ []) ≡ order_given e.answers =
-        given_more e.answers answer ∙ ap (λ z. more_order (order_given e.answers) z (end_heard answer)) items ∙ ap (more_order (order_given e.answers) []) ends ∙ order_so _ _ _ _ (append-nil (order_given e.answers).items) (or-false (order_given e.answers).ended) in
+        given_more e.answers answer ∙ ap (λ z. more_order (order_given e.answers) z (end_heard answer)) entries ∙ ap (more_order (order_given e.answers) []) ends ∙ order_so _ _ _ _ (append-nil (order_given e.answers).entries) (or-false (order_given e.answers).ended) in
         record {
           given_is = same ∙ h.given_is;
           heads_are = heads_more e.answers answer ∙ ap (λ z. heads e.answers ++ z) head ∙ append-nil (heads e.answers) ∙ h.heads_are;
@@ -120,8 +123,8 @@ module _ (frames : List Frame) where
         let none : (order_given e.answers).ended ≡ false = sym h.ended_is ∙ going in
         let more = given_more e.answers (turn_of found) in
         record {
-          given_is = more ∙ ap (λ z. more_order z (item_heard (turn_of found)) (end_heard (turn_of found))) h.given_is ∙ ap (λ z. more_order (order_in (take e.place all)) z (end_heard (turn_of found))) (item_told found)
-              ∙ ap (more_order (order_in (take e.place all)) (piece_items found)) (end_told found) ∙ sym (order_more (take e.place all) found) ∙ ap order_in (sym pieces);
+          given_is = more ∙ ap (λ z. more_order z (entry_heard (turn_of found)) (end_heard (turn_of found))) h.given_is ∙ ap (λ z. more_order (order_in (take e.place all)) z (end_heard (turn_of found))) (entry_told found)
+              ∙ ap (more_order (order_in (take e.place all)) (piece_entries found)) (end_told found) ∙ sym (order_more (take e.place all) found) ∙ ap order_in (sym pieces);
           heads_are = heads_more e.answers (turn_of found) ∙ ap (λ z. z ++ head_heard (turn_of found)) h.heads_are ∙ ap (λ z. owners_in (take e.place all) ++ z) (head_told found) ∙ sym (owners_more (take e.place all) found) ∙ ap owners_in (sym pieces);
           ended_is = sym (end_told found) ∙ ap (λ z. z || end_heard (turn_of found)) (sym none) ∙ ap (λ (z : Order). z.ended) (sym more);
           silent = silent_more e.answers (turn_of found) none;
@@ -163,8 +166,8 @@ module _ (n : ℕ) (frames : List Frame) (lawful : AreFrames n frames) where
       let order_is : order_given f.answers ≡ order_in (take p all ++ rest) = k.given_is ∙ ap order_in front in
       record {
         order = record {
-          later = flat_map piece_items rest;
-          items = ap (λ (z : Order). z.items) order_is ∙ flat_map-append piece_items (take p all) rest ∙ ap (λ (z : Order). z.items ++ flat_map piece_items rest) (sym h.given_is);
+          later = flat_map piece_entries rest;
+          entries = ap (λ (z : Order). z.entries) order_is ∙ flat_map-append piece_entries (take p all) rest ∙ ap (λ (z : Order). z.entries ++ flat_map piece_entries rest) (sym h.given_is);
           ended = λ d.
               let over : list_any is_end (take p all) ≡ true = ap (λ (z : Order). z.ended) (sym h.given_is) ∙ d in
               let none : drop p all ≡ [] = end_last n 0 frames (take p all) (drop p all) lawful (sym (take-append-drop p all)) over in

@@ -1,6 +1,8 @@
 pub mod AllSeats
 pub mod Sending
 pub mod Batching
+pub mod Carrying
+pub mod Carried
 pub mod Accepting
 pub mod Reaching
 pub mod Numbering

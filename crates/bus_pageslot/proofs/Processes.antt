@@ -20,7 +20,7 @@ use Rattle.bus_presence.specs.declared.pins.Pin.TheVariants.{Away, Announcing, V
 use Rattle.bus_register.specs.Protocol.{Protocol}
 use Rattle.bus_register.specs.declared.kinds.Kind.{Kind}
 use Rattle.bus_register.specs.declared.registers.Op.{Op}
-use Rattle.bus_tenure.specs.Core.{Election, Layout, is_closed}
+use Rattle.bus_tenure.specs.Core.{Election, Layout, is_closed, is_leaving}
 use Rattle.bus_tenure.specs.Elections.{Elector, election_with}
 use Rattle.bus_tenure.specs.Seen.{AwaitsItsPage}
 use Rattle.bus_tenure.specs.Situations.{PageMove, Stays, Comes, Returns}
@@ -45,7 +45,7 @@ seen_same f h q (Pinned t) = h q
 seen_same f h q (Unpinning t) = h q
 seen_same f h q (Invalidated t) = h q
 
-queue_same : {A : Type 0} (f : Pending → A) → ((q : Pending) → f (record q { busy = true }) ≡ f q) → (q : Pending) (r : Option Reuse)
+pub queue_same : {A : Type 0} (f : Pending → A) → ((q : Pending) → f (record q { busy = true }) ≡ f q) → (q : Pending) (r : Option Reuse)
     → f (queue_of q r) ≡ f q
 queue_same f h q None = refl
 queue_same f h q (Some r) = seen_same f h q r.pin
@@ -120,6 +120,10 @@ module _ {S : Type 0} (kind_of : S → Option Kind) (op : S → ℕ → Option O
   pub closed_is : is_closed (P.queue v).phase ≡ is_closed v.core.queue.phase
   unfolding process_with
   closed_is = queue_same (λ q. is_closed q.phase) (λ q. refl) v.core.queue v.reuse
+
+  pub leaving_is : is_leaving (P.queue v).phase ≡ is_leaving v.core.queue.phase
+  unfolding process_with
+  leaving_is = queue_same (λ q. is_leaving q.phase) (λ q. refl) v.core.queue v.reuse
 
   pub messages_are : (P.queue v).messages ≡ v.core.queue.messages
   unfolding process_with

@@ -72,7 +72,7 @@ module _ {C : Type 0} (P : Process C) (A : Automaton C) (z : A.State) (order : O
   -- a receiver that was answered nothing
   none_good : IsGood order owners []
   none_good = record {
-    order_is = record { later = order.items; items = refl; ended = λ e. absurd (let bad : false ≡ true = e in cc) };
+    order_is = record { later = order.entries; entries = refl; ended = λ e. absurd (let bad : false ≡ true = e in cc) };
     owners_are = record { rest = owners; together = refl };
     silent = λ j k a at l here. absurd (let bad : None ≡ Some turn.End = at in let wrong : ⊥ = cc in wrong);
   }
@@ -107,6 +107,9 @@ seats_promised {C} P A L s r =
         numbered = q.numbered;
         silent = λ n. (good (heard n) (shown n)).silent;
         closed = q.closed;
+        gone = q.gone;
+        asked = q.asked;
+        whole = q.whole;
         framed = q.framed;
       };
       views = λ j v e. subst (λ l. Fits P (actions_at A r.state) l v) same (view_fits P A r.state r.seat j nobody v (r.views j v e));

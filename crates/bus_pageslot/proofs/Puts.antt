@@ -1,4 +1,4 @@
--- A sender that has accepted a message or a close still shows its seat, which no step has changed; and its actions have that one more.
+-- A sender that has accepted a message or a mark still shows its seat, which no step has changed; and its actions have that one more.
 use Rattle.std.proofs.Common.{◌≡◌, ℕ, ◌+◌, ◌<◌, ◌≤◌, Option, List, [], ◌∷◌, ◌++◌, length, arith, sym, ◌∙◌, ap, subst, append_assoc}
 use Rattle.std.specs.Prelude.{All, Result, Ok, Err, IfOk, OnOk, OnErr}
 use Rattle.std.proofs.lemmas.List.{length-append}
@@ -7,15 +7,16 @@ use Rattle.atomic_table.specs.declared.shared.Seat.{Seat}
 use Rattle.bus_batch.specs.Batches.{Pending, next_of, CanPut, CanClose}
 use Rattle.bus_batch.specs.declared.batches.PutFault.{PutFault}
 use Rattle.bus_batch.specs.declared.batches.CloseFault.{CloseFault}
+use Rattle.bus_batch.specs.declared.messages.Mark.{Mark}
 use Rattle.bus_tenure.specs.declared.pages.Page.{Page}
-use Rattle.bus_world.specs.Headline.{Action, HasPut, HasClosed, puts}
+use Rattle.bus_world.specs.Headline.{Action, HasPut, HasMarked, puts}
 use Rattle.bus_pageslot.specs.declared.rule.View.{View}
 use Rattle.bus_pageslot.specs.declared.rule.View.TheVariants.{Sender}
 use Rattle.bus_automaton.specs.Processes.{TableLayout, Process}
 use Rattle.bus_automaton.specs.Lawful.{ProcessLaws, Keeps}
 use Rattle.bus_pageslot.specs.Rule.{Sat, sender_trail_in, stored_in}
 use Rattle.bus_pageslot.specs.Steps.{Accepts, Numbers, carried_of, since_in, all_in}
-use Rattle.bus_pageslot.specs.Steps.Accepts.{Message, Close}
+use Rattle.bus_pageslot.specs.Steps.Accepts.{Message, Marks}
 use Rattle.bus_pageslot.specs.Seats.{Shows}
 use Rattle.bus_pageslot.proofs.Accepting.{since_is}
 
@@ -55,14 +56,15 @@ module _ {C : Type 0} (P : Process C) (L : ProcessLaws P) (d : C) (s : Seat (Opt
         still (P.with_message d bytes) (h.actions ++ HasPut (next_of (P.queue d)) bytes ∷ []) one_message (L.message d bytes) (ap (λ (q : Pending). q.first) waits)
         (let room = can.room in let more = length-append (P.queue d).messages (bytes ∷ []) in let size = ap (λ (q : Pending). length q.messages) waits in omega arith)
 
-  module _ (can : CanClose (P.queue d)) where
-    one_close : Accepts P h.shown (P.with_close d) (h.actions ++ HasClosed ∷ [])
-    one_close = Close d h.actions h.accepts can
+  module _ (mark : Mark) (can : CanClose (P.queue d)) where
+    one_mark : Accepts P h.shown (P.with_mark d mark) (h.actions ++ HasMarked mark ∷ [])
+    one_mark = Marks d h.actions mark h.accepts can
 
-    shows_closed : Shows P (P.with_close d) s
-    shows_closed =
-        let waits = L.close_waits d in
-        still (P.with_close d) (h.actions ++ HasClosed ∷ []) one_close (L.close d) (ap (λ (q : Pending). q.first) waits) (let few = h.counted.few in let size = ap (λ (q : Pending). length q.messages) waits in omega arith)
+    shows_marked : Shows P (P.with_mark d mark) s
+    shows_marked =
+        let waits = L.mark_waits d mark in
+        still (P.with_mark d mark) (h.actions ++ HasMarked mark ∷ []) one_mark (L.marked d mark) (ap (λ (q : Pending). q.first) waits)
+        (let few = h.counted.few in let size = ap (λ (q : Pending). length q.messages) waits in omega arith)
 
   -- it shows a seat that shows the same
   pub shows_same : (s' : Seat (Option Page) (View C)) → s'.me ≡ s.me → s'.table_id ≡ s.table_id → Shows P d s'
@@ -99,10 +101,14 @@ module _ {C : Type 0} (P : Process C) (L : ProcessLaws P) (d : C) (s : Seat (Opt
       ∙ ap (λ l. (sender_trail_in s.me.0).first + length (puts l)) (sym (actions_are d h.actions h.accepts))
   put_counts bytes (Err e) number could = tt
 
-  pub shows_close : (d' : C) (r : Result (Unit {0}) CloseFault) → OnOk r (d' ≡ P.with_close d) → OnOk r (CanClose (P.queue d)) → OnErr r (d' ≡ d) → Shows P d' s
-  shows_close d' (Ok n) taken could same = subst (λ z. Shows P z s) (sym taken) (shows_closed could)
-  shows_close d' (Err e) taken could same = subst (λ z. Shows P z s) (sym same) h
+  -- what close, or leave, makes of it
+  pub shows_mark : (mark : Mark) (d' : C) (r : Result (Unit {0}) CloseFault) → OnOk r (d' ≡ P.with_mark d mark)
+      → OnOk r (CanClose (P.queue d)) → OnErr r (d' ≡ d) → Shows P d' s
+  shows_mark mark d' (Ok n) taken could same = subst (λ z. Shows P z s) (sym taken) (shows_marked mark could)
+  shows_mark mark d' (Err e) taken could same = subst (λ z. Shows P z s) (sym same) h
 
-  pub close_done : (d' : C) (r : Result (Unit {0}) CloseFault) → OnOk r (d' ≡ P.with_close d) → OnOk r (CanClose (P.queue d)) → OnOk r (actions_in P s.me.0 d' ≡ actions_in P s.me.0 d ++ HasClosed ∷ [])
-  close_done d' (Ok n) taken could = ap (actions_in P s.me.0) taken ∙ more_actions (P.with_close d) HasClosed (one_close could)
-  close_done d' (Err e) taken could = tt
+  pub mark_done : (mark : Mark) (d' : C) (r : Result (Unit {0}) CloseFault) → OnOk r (d' ≡ P.with_mark d mark)
+      → OnOk r (CanClose (P.queue d)) → OnOk r (actions_in P s.me.0 d' ≡ actions_in P s.me.0 d ++ HasMarked mark ∷ [])
+  mark_done mark d' (Ok n) taken could =
+      ap (actions_in P s.me.0) taken ∙ more_actions (P.with_mark d mark) (HasMarked mark) (one_mark mark could)
+  mark_done mark d' (Err e) taken could = tt

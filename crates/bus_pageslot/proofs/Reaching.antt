@@ -2,11 +2,11 @@
 use Rattle.std.proofs.Common.{◌≡◌, Some, List, [], ◌∷◌, ◌++◌, refl, sym, ◌∙◌, ap, append_assoc}
 use Rattle.std.proofs.lemmas.List.{append-nil}
 use Rattle.bus_batch.specs.Batches.{next_of}
-use Rattle.bus_world.specs.Headline.{Action, HasPut, HasClosed}
+use Rattle.bus_world.specs.Headline.{Action, HasPut, HasMarked}
 use Rattle.bus_automaton.specs.Processes.{Process, Automaton}
 use Rattle.bus_automaton.specs.Lawful.{AutomatonLaws, AcceptsIn}
 use Rattle.bus_pageslot.specs.Steps.{Accepts}
-use Rattle.bus_pageslot.specs.Steps.Accepts.{Nothing, Message, Close}
+use Rattle.bus_pageslot.specs.Steps.Accepts.{Nothing, Message, Marks}
 use Rattle.bus_automaton.specs.SenderTrails.{with_actions}
 
 module _ {C : Type 0} (P : Process C) (A : Automaton C) (L : AutomatonLaws P A) (z : A.State) (reached : A.IsReached z) (c : C) (here : A.sender z (P.me c) ≡ Some c) where
@@ -36,4 +36,7 @@ module _ {C : Type 0} (P : Process C) (A : Automaton C) (L : AutomatonLaws P A) 
   accepted d actions Nothing = stays_in
   accepted e all (Message d actions bytes more can small) =
       let m = accepted d actions more in one_more d (P.with_message d bytes) actions (HasPut (next_of (P.queue d)) bytes ∷ []) m (L.message m.state (P.me c) d bytes m.changes.reached m.changes.here can small)
-  accepted e all (Close d actions more can) = let m = accepted d actions more in one_more d (P.with_close d) actions (HasClosed ∷ []) m (L.close m.state (P.me c) d m.changes.reached m.changes.here can)
+  accepted e all (Marks d actions mark more can) =
+      let m = accepted d actions more in
+      one_more d (P.with_mark d mark) actions (HasMarked mark ∷ []) m
+      (L.marked m.state (P.me c) d mark m.changes.reached m.changes.here can)

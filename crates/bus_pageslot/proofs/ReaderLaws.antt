@@ -201,6 +201,7 @@ no_end : (found : Option Piece) → turn.Going ≡ turn_of found → is_end foun
 no_end None e = refl
 no_end (Some (piece.Head t o)) e = refl
 no_end (Some (piece.Item i)) e = refl
+no_end (Some (piece.Leave o)) e = refl
 no_end (Some piece.End) e = absurd (let no : turn.Going ≡ turn.End = e in cc)
 
 pub goes_on_after : {C : Type 0} (m : Sat C) (words log : ℕ) (r r' : Receiving) (got : ℕ) → IsReceiverView m words log r → r.ended ≡ false → ((ws : List ℕ) (pieces : List (Option Piece)) → HasReceived ws pieces r → TakesWord ws pieces r got turn.Going r') → r'.ended ≡ false

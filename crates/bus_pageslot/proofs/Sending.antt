@@ -61,6 +61,7 @@ waiting_goes turn.Going e = refl
 waiting_goes (turn.Lost t owner) e = refl
 waiting_goes (turn.Own t) e = refl
 waiting_goes (turn.Delivered t first last) e = absurd (true≢false (sym e))
+waiting_goes (turn.Left t) e = absurd (true≢false (sym e))
 waiting_goes turn.Full e = absurd (true≢false (sym e))
 waiting_goes turn.Closed e = absurd (true≢false (sym e))
 waiting_goes turn.Spent e = absurd (true≢false (sym e))

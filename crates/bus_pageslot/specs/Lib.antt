@@ -14,3 +14,4 @@ pub mod Promised
 pub mod Histories
 pub mod SafeSeats
 pub mod Truths
+pub mod Carried

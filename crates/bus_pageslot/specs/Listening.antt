@@ -65,6 +65,7 @@ item_turn_of turn.Going = item_turn.Going
 item_turn_of turn.Empty = item_turn.Empty
 item_turn_of (turn.Head tenure owner) = item_turn.Going
 item_turn_of (turn.Item item) = item_turn.Item
+item_turn_of (turn.Leave sender) = item_turn.Going
 item_turn_of turn.End = item_turn.End
 
 -- what stands in that place then; any other answer leaves what stood there before
@@ -73,6 +74,7 @@ item_after turn.Going before = before
 item_after turn.Empty before = before
 item_after (turn.Head tenure owner) before = before
 item_after (turn.Item item) before = Some item
+item_after (turn.Leave sender) before = before
 item_after turn.End before = before
 
 pub record Writes (answer : RecvTurn) (before : Option Item) (told : ItemTurn) (after : Option Item) : Type 0 where

@@ -3,7 +3,7 @@ use Rattle.std.specs.Prelude.{◌≡◌, ℕ, ◌+◌, ◌<◌, List, Some, leng
 use Rattle.bus_register.specs.declared.limits.TheConstants.{MOST_SENDERS}
 use Rattle.bus_register.specs.declared.registers.SenderNo.{SenderNo}
 use Rattle.bus_batch.specs.declared.messages.Item.{Item}
-use Rattle.bus_batch.specs.Frames.{Order, Spells}
+use Rattle.bus_batch.specs.Frames.{Order, Spells, has_gone}
 use Rattle.bus_deliverylog.specs.Orders.{of_sender}
 use Rattle.bus_tenure.specs.declared.pages.Page.{Page}
 
@@ -15,12 +15,13 @@ pub record Outcome : Type 0 where
   pub page : Page
 
 -- The words spell an order, in which each sender's items have its numbers from its first one on. The page knows of it: the next number of each
--- sender behind it, whether it has ended, and how many words there are. The words spell one order alone.
+-- sender behind it, which senders have left in it, whether it has ended, and how many words there are. The words spell one order alone.
 pub record IsOutcome (z : Outcome) : Type 0 where
   pub order : Order
   pub owners : List (ℕ × SenderNo)
   pub spells : Spells z.senders z.log order owners
   pub numbered : (s k : ℕ) (i : Item) → slice_get (of_sender s order) k ≡ Some i → i.number ≡ slice_index z.bases s + k
   pub counts : (s : ℕ) → s < MOST_SENDERS → slice_index z.page.next s ≡ slice_index z.bases s + length (of_sender s order)
+  pub left : (s : ℕ) → s < MOST_SENDERS → slice_get z.page.left s ≡ Some (has_gone s order)
   pub ended : z.page.ended ≡ order.ended
   pub words : z.page.words ≡ length z.log

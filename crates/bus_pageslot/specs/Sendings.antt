@@ -1,5 +1,5 @@
 -- Messages that a sender puts and sends, in batches.
-use Rattle.std.specs.Prelude.{◌≡◌, ℕ, ◌<◌, ◌≤◌, ◌-◌, Bool, true, false, List, [], ◌∷◌, ◌++◌, length, take, slice_get, Option, Some, None, ◌⊎◌}
+use Rattle.std.specs.Prelude.{◌≡◌, ℕ, ◌+◌, ◌<◌, ◌≤◌, ◌-◌, Bool, true, false, List, [], ◌∷◌, ◌++◌, length, take, slice_get, Option, Some, None, ◌⊎◌}
 use Rattle.bus_register.specs.declared.limits.TheConstants.{MOST_BYTES, MOST_MESSAGES}
 use Rattle.bus_batch.specs.Batches.{CanPut, IsPutFault, next_of}
 use Rattle.bus_batch.specs.declared.batches.PutFault.{PutFault}
@@ -8,6 +8,7 @@ use Rattle.bus_tenure.specs.declared.turns.Turn.{Turn}
 use Rattle.bus_world.specs.Headline.{HasPut, puts}
 use Rattle.bus_automaton.specs.Processes.{Process}
 use Rattle.bus_pageslot.specs.Seats.{SenderSeat, actions_of}
+use Rattle.bus_pageslot.specs.Steps.{puts_from}
 use Rattle.bus_pageslot.specs.Turns.{Tellings, Sends}
 use Rattle.bus_pageslot.specs.declared.seats.SendFault.{SendFault}
 use Rattle.bus_pageslot.specs.declared.seats.SendFault.TheVariants as fault
@@ -103,3 +104,28 @@ pub record HasSentPart {C : Type 0} (P : Process C) (T : Tellings C) (first : Se
   pub puts_are : puts (actions_of P new) ≡ puts (actions_of P first) ++ take unsent.put messages
   pub waits : WaitsOf P first (take unsent.put messages) new
   pub sent_is : unsent.sent ≡ unsent.put - length (waiting_of P new)
+
+-- ---- what was not sent, carried on
+-- Takes of just these messages, in this order and with no step, led from one sender to another.
+pub data TakesAll {C : Type 0} (P : Process C) (first : SenderSeat C) : List (List ℕ) → SenderSeat C → Type 0 where
+  TakesNone : TakesAll P first [] first
+  TakesMore : (messages : List (List ℕ)) (old : SenderSeat C) (bytes : List ℕ) (new : SenderSeat C) → TakesAll P first messages old
+      → Takes P old bytes new → TakesAll P first (messages ++ bytes ∷ []) new
+
+-- A sender took all that waits with another, behind what waited there, and nothing else: these messages have the next numbers there.
+pub record Carries {C : Type 0} (P : Process C) (from old new : SenderSeat C) : Type 0 where
+  pub takes : TakesAll P old (waiting_of P from) new
+  pub actions : actions_of P new ≡ actions_of P old ++ puts_from (next_of (P.queue old.core)) (waiting_of P from)
+  pub waits : waiting_of P new ≡ waiting_of P old ++ waiting_of P from
+
+-- some wait, and they fit beside what waits there
+pub record MayFit {C : Type 0} (P : Process C) (from old : SenderSeat C) : Type 0 where
+  pub some : 0 < length (waiting_of P from)
+  pub room : length (waiting_of P old) + length (waiting_of P from) ≤ MOST_MESSAGES
+
+-- why it took none of them: they do not fit there, or its batch takes no message at all
+abbrev pub CarryRefused : {C : Type 0} → Process C → SenderSeat C → SenderSeat C → PutFault → Type 0
+CarryRefused P from old put.Closed = MayFit P from old × IsPutFault (P.queue old.core) 0 put.Closed
+CarryRefused P from old put.Busy = MayFit P from old × IsPutFault (P.queue old.core) 0 put.Busy
+CarryRefused P from old put.TooLong = ⊥
+CarryRefused P from old put.BatchFull = MOST_MESSAGES < length (waiting_of P old) + length (waiting_of P from)

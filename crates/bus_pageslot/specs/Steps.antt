@@ -6,13 +6,16 @@ use Rattle.bus_register.specs.declared.registers.Op.TheVariants.{Load, Store, Ad
 use Rattle.bus_register.specs.declared.registers.SenderNo.{SenderNo}
 use Rattle.bus_register.specs.Words.{register}
 use Rattle.bus_batch.specs.Batches.{Pending, next_of, CanPut, CanClose}
+use Rattle.bus_batch.specs.declared.batches.Phase.{Phase}
+use Rattle.bus_batch.specs.declared.batches.Phase.TheVariants.{Open, Marking, Closed}
 use Rattle.bus_batch.specs.declared.messages.Item.{Item}
+use Rattle.bus_batch.specs.declared.messages.Mark.{Mark}
 use Rattle.bus_batch.specs.Frames.{Order, Spells}
 use Rattle.bus_deliverylog.specs.Orders.{of_sender}
-use Rattle.bus_tenure.specs.Core.{length_at, is_closing}
+use Rattle.bus_tenure.specs.Core.{length_at, is_marking}
 use Rattle.bus_tenure.specs.Situations.{PageMove, Stays, Comes, Returns}
 use Rattle.bus_tenure.specs.declared.pages.Page.{Page}
-use Rattle.bus_world.specs.Headline.{Action, HasPut, HasClosed, puts, IsPrefix}
+use Rattle.bus_world.specs.Headline.{Action, HasPut, HasMarked, puts, IsPrefix}
 use Rattle.bus_pageslot.specs.ReceiverViews.{receiver_view_after_load, receiver_view_knowing, Agree}
 use Rattle.bus_pageslot.specs.declared.rule.View.{View}
 use Rattle.bus_pageslot.specs.declared.rule.View.TheVariants.{Maker, Sender, Tap, Meeting, Telling, Spent}
@@ -25,23 +28,25 @@ use Rattle.bus_automaton.specs.SenderTrails.{SenderTrail, with_actions, with_sen
 pub data Accepts {C : Type 0} (P : Process C) (c : C) : C → List Action → Type 0 where
   Nothing : Accepts P c c []
   Message : (d : C) (actions : List Action) (bytes : List ℕ) → Accepts P c d actions → CanPut (P.queue d) (length bytes) → All (λ byte. byte < 256) bytes → Accepts P c (P.with_message d bytes) (actions ++ HasPut (next_of (P.queue d)) bytes ∷ [])
-  Close : (d : C) (actions : List Action) → Accepts P c d actions → CanClose (P.queue d) → Accepts P c (P.with_close d) (actions ++ HasClosed ∷ [])
+  Marks : (d : C) (actions : List Action) (mark : Mark) → Accepts P c d actions → CanClose (P.queue d)
+      → Accepts P c (P.with_mark d mark) (actions ++ HasMarked mark ∷ [])
 
 -- Whatever a sender that has done this accepts next, it numbers each message by how many it has put before, from its first number on.
 abbrev pub Numbers : {C : Type 0} → Process C → C → SenderTrail → Type 0
 Numbers {C} P c did = (d : C) (actions : List Action) → Accepts P c d actions → (size : ℕ) → CanPut (P.queue d) size → next_of (P.queue d) ≡ did.first + length (puts (did.actions ++ actions))
 
--- the same actions, as the batches show them: the messages of the one that the other does not have yet, and the close
+-- the same actions, as the batches show them: the messages of the one that the other does not have yet, and the mark
 abbrev pub puts_from : ℕ → List (List ℕ) → List Action
 puts_from first [] = []
 puts_from first (bytes ∷ more) = HasPut first bytes ∷ puts_from (first + 1) more
 
-abbrev pub closes_since : Bool → Bool → List Action
-closes_since before true = if before then [] else HasClosed ∷ []
-closes_since before false = []
+abbrev pub marks_since : Phase → Phase → List Action
+marks_since before Open = []
+marks_since before (Marking mark) = if is_marking before then [] else HasMarked mark ∷ []
+marks_since before Closed = []
 
 abbrev pub accepted_since : Pending → Pending → List Action
-accepted_since before now = puts_from (next_of before) (drop (length before.messages) now.messages) ++ closes_since (is_closing before.phase) (is_closing now.phase)
+accepted_since before now = puts_from (next_of before) (drop (length before.messages) now.messages) ++ marks_since before.phase now.phase
 
 -- since the last step of a seat with this view its sender, which is now d, has accepted this
 abbrev pub since_in : {C : Type 0} → Process C → View C → C → List Action

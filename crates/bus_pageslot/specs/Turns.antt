@@ -40,6 +40,7 @@ is_waiting turn.Going = false
 is_waiting (turn.Lost t owner) = false
 is_waiting (turn.Own t) = false
 is_waiting (turn.Delivered t first last) = false
+is_waiting (turn.Left t) = false
 is_waiting turn.Full = false
 is_waiting turn.Closed = false
 is_waiting turn.Spent = false

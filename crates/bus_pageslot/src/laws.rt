@@ -8,6 +8,7 @@ ghost use Rattle.bus_register.specs.Words.{register};
 ghost use Rattle.bus_register.specs.declared.registers.Op.{Op};
 ghost use Rattle.bus_register.specs.declared.registers.Op.TheVariants.{Load, Store};
 ghost use Rattle.bus_register.specs.declared.registers.SenderNo.{SenderNo};
+ghost use Rattle.atomic_table.specs.Seated.{TableId};
 ghost use Rattle.atomic_table.specs.Table.{State};
 ghost use Rattle.bus_core.specs.Senders.{Sender};
 ghost use Rattle.bus_core.specs.Table.{line_now};
@@ -21,23 +22,26 @@ ghost use Rattle.bus_presence.specs.Reclamation.{presence_at};
 ghost use Rattle.bus_tenure.specs.Elections.{Elector, election_of};
 ghost use Rattle.bus_tenure.specs.declared.pages.Page.{Page};
 ghost use Rattle.bus_tenure.specs.declared.turns.Turn.TheVariants.{Behind};
-ghost use Rattle.bus_world.specs.Headline.{IsPrefix};
+ghost use Rattle.bus_world.specs.Headline.{Action, IsPrefix};
 ghost use Rattle.bus_world.specs.Turning.{words_after};
-ghost use Rattle.bus_automaton.specs.Buses.{process_by, automaton_by};
+ghost use Rattle.bus_automaton.specs.Buses.{process_by, automaton_by, plan_after};
 ghost use Rattle.bus_automaton.specs.Processes.{TableLayout, base_in, log_below};
 ghost use Rattle.bus_automaton.specs.SenderTrails.{SenderTrail, with_sender_trail};
 ghost use Rattle.bus_automaton.specs.declared.plans.Plan.{Plan};
 ghost use Rattle.bus_pageslot.specs.ReceiverViews.{ReceiverView};
 ghost use Rattle.bus_pageslot.specs.declared.rule.View.{View};
 ghost use Rattle.bus_pageslot.specs.declared.rule.View.TheVariants as view;
-ghost use Rattle.bus_pageslot.specs.Histories.{HasHistory};
+ghost use Rattle.bus_pageslot.specs.Buses.{IsNewSeat};
+ghost use Rattle.bus_pageslot.specs.Carried.{WereAnswered};
+ghost use Rattle.bus_pageslot.specs.Histories.{HasHistory, Shown};
 ghost use Rattle.bus_pageslot.specs.Listening.{Hears};
 ghost use Rattle.bus_pageslot.specs.Promised.{IsPromised};
-ghost use Rattle.bus_pageslot.specs.Rule.{Sat, TableInvariant};
+ghost use Rattle.bus_pageslot.specs.Rule.{Sat, TableInvariant, slot_of};
 ghost use Rattle.bus_pageslot.specs.SafeSeats.{AreSafe, LeavesPast};
-ghost use Rattle.bus_pageslot.specs.Seats.{SenderSeat, TookAndTold, sender_trail_of};
+ghost use Rattle.bus_pageslot.specs.Seats.{SenderSeat, TookAndTold, sender_trail_of, actions_of};
+ghost use Rattle.bus_pageslot.specs.Sendings.{Carries, waiting_of};
 ghost use Rattle.bus_pageslot.specs.Stages.{TakesPageOf};
-ghost use Rattle.bus_pageslot.specs.Steps.{IsDue, all_in};
+ghost use Rattle.bus_pageslot.specs.Steps.{Accepts, IsDue, all_in, puts_from};
 ghost use Rattle.bus_pageslot.specs.Truths.{IsTrueAnswer};
 
 use bus_adoptcommit::Ratifier;
@@ -156,8 +160,9 @@ pub fn only_owners_leave_the_stage<Q: Ratifier>()
 /// Whatever a step of a sender answers is so of all that happened until then, with this step. Lost
 /// names the owner with which the sender saw that election end, and which is another sender. Own is
 /// of a tenure whose election chose the sender, and whose page it took. What is Delivered stands in
-/// the order, with these numbers, and is its last frame. The log is Full where the sender's frame
-/// does not fit behind it. Behind is answered only where rows of words are used again.
+/// the order, with these numbers, and is its last frame. Where a sender has Left, the last frame of
+/// the order is its leave mark. The log is Full where the sender's frame does not fit behind it.
+/// Behind is answered only where rows of words are used again.
 pub fn answers_are_true<Q: Ratifier>()
     ensures { let P = process_by Q.Ratifier in
         (plan : Plan) (s : State (Option Page) (View (Sender (Elector Q)))) (seat : ℕ)
@@ -218,3 +223,27 @@ pub fn no_turn_without_a_load<Q: Ratifier>()
         → e.place ≤ length e.known
         → ¬ Hears {C = Sender (Elector Q)} (view.Tap x e, []) answer (view.Tap x e, []) }
 {}
+
+/// While the page is at home it says of each sender what the first message in its batch was
+/// answered, also where that has accepted more since its last step; and those that wait behind it
+/// were answered the next numbers, one by one. A sitting that goes on after a page begins with its
+/// numbers. So messages that are carried there, before any other is put, get the numbers that they
+/// were answered before.
+pub fn carried_messages_keep_their_numbers<Q: Ratifier>()
+    ensures waited { let P = process_by Q.Ratifier in
+        (plan : Plan) (s : State (Option Page) (View (Sender (Elector Q)))) (seat : ℕ)
+        (v d : Sender (Elector Q)) (sender_trail : SenderTrail) (actions : List Action)
+        (page : Page) → TableInvariant P (automaton_by Q.Ratifier plan) s
+        → Shown s seat v sender_trail → s.homes ≡ slot_of (Some page) ∷ [] → Accepts P v d actions
+        → (slice_index page.next (P.me d) ≡ (P.queue d).first)
+        × WereAnswered (sender_trail.actions ++ actions) (P.queue d).first (P.queue d).messages }
+    ensures carried { let P = process_by Q.Ratifier in
+        (plan : Plan) (page : Page) (table : TableId) (p : ℕ)
+        (from old new : SenderSeat (Sender (Elector Q)))
+        → IsNewSeat P (automaton_by Q.Ratifier (plan_after plan (Some page))) table p old
+        → Carries P from old new
+        → actions_of P new ≡ puts_from (slice_index page.next p) (waiting_of P from) }
+{
+    threads_may_go_by::<Q>();
+    tables_are_machines::<Q>();
+}

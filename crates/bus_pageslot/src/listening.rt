@@ -18,7 +18,7 @@ use bus_deliverylog::{Reader, RecvTurn};
 /// What a turn of a receiver answers where an item is written in its place.
 #[derive(Clone, Copy, Debug, PartialEq, Eq)]
 pub enum ItemTurn {
-    /// A head, a longer length, or a word that is not taken.
+    /// A head, a leave mark, a longer length, or a word that is not taken.
     Going,
     /// The length is the one that it knew, and its place is there.
     Empty,
@@ -165,7 +165,7 @@ fn tell(answer: RecvTurn, item: &mut Option<Item>) -> ItemTurn
         }
         RecvTurn::End => ItemTurn::End,
         RecvTurn::Empty => ItemTurn::Empty,
-        RecvTurn::Going | RecvTurn::Head { .. } => ItemTurn::Going,
+        RecvTurn::Going | RecvTurn::Head { .. } | RecvTurn::Leave(_) => ItemTurn::Going,
     }
 }
 

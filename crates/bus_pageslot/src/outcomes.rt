@@ -7,7 +7,7 @@ ghost use Rattle.std.specs.Vec.{vec_len, vec_capacity};
 ghost use Rattle.std.specs.Slots.{slots_items, slots_len, IsFull};
 ghost use Rattle.bus_register.specs.declared.registers.SenderNo.{SenderNo as Number};
 ghost use Rattle.bus_batch.specs.declared.messages.Item.{Item};
-ghost use Rattle.bus_batch.specs.Frames.{Order, Spells};
+ghost use Rattle.bus_batch.specs.Frames.{Order, Spells, has_gone};
 ghost use Rattle.bus_deliverylog.specs.Orders.{of_sender};
 ghost use Rattle.bus_world.specs.Log.{words_read_from};
 ghost use Rattle.bus_automaton.specs.Buses.{process_by, automaton_by};
@@ -83,14 +83,17 @@ impl Ended {
     }
 
     /// The page, as its last owner gave it back. It has the number of the log's words, whether the
-    /// order that they spell has ended, and for each sender the number that its next message would
-    /// have behind it.
+    /// order that they spell has ended, and for each sender whether it has left in it, and the
+    /// number that its next message would have behind it.
     pub fn page(&self) -> &Page
         ensures page { result.now ≡ self.now.page }
         ensures words { result.now.words ≡ length self.now.log }
         ensures ended { (order : Order) (owners : List (ℕ × Number))
             → Spells self.now.senders self.now.log order owners
             → result.now.ended ≡ order.ended }
+        ensures left { (sender : ℕ) (order : Order) (owners : List (ℕ × Number))
+            → sender < MOST_SENDERS → Spells self.now.senders self.now.log order owners
+            → slice_get result.now.left sender ≡ Some (has_gone sender order) }
         ensures next { (sender : ℕ) (order : Order) (owners : List (ℕ × Number))
             → sender < MOST_SENDERS → Spells self.now.senders self.now.log order owners
             → slice_index result.now.next sender

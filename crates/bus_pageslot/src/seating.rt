@@ -122,8 +122,9 @@ pub(crate) fn seat_all<Q: Ratifier + Drop>(
     requires senders { plan.shape.senders ≡ (automaton_by Q.Ratifier plan).table_layout.senders }
     ensures senders { let P = process_by Q.Ratifier in let A = automaton_by Q.Ratifier plan in
         IfOk result (λ made. AreNewSeats P A shared.now.table_id plan.shape.senders made.0.items) }
-    ensures maker { IfOk result (λ made. (made.1.table_id ≡ shared.now.table_id)
-        × (made.1.me ≡ (Maker (automaton_by Q.Ratifier plan).table_layout plan.shape.senders, []))) }
+    ensures maker { let A = automaton_by Q.Ratifier plan in
+        IfOk result (λ made. (made.1.table_id ≡ shared.now.table_id)
+        × (made.1.me ≡ (Maker A.table_layout plan.shape.senders, []))) }
 {
     let mut senders = Vec::new(alloc);
     for me in 0..plan.shape.senders {

@@ -6,11 +6,12 @@ ghost use Rattle.std.specs.Prelude.{OnOk, OnErr, length, ◌-◌, ◌≤◌, IsT
 ghost use Rattle.bus_batch.specs.Batches.{next_of, CanPut, IsPutFault, CanClose, IsCloseFault};
 ghost use Rattle.bus_core.specs.Causes.{HasCause};
 ghost use Rattle.bus_core.specs.Telling.{FeedTells, RestTells};
-ghost use Rattle.bus_tenure.specs.Core.{is_closed};
+ghost use Rattle.bus_batch.specs.declared.messages.Mark.TheVariants as mark;
+ghost use Rattle.bus_tenure.specs.Core.{is_closed, is_leaving};
 ghost use Rattle.bus_tenure.specs.declared.turns.Turn.TheVariants as turn;
 ghost use Rattle.bus_tenure.specs.Elections.{election_of};
 ghost use Rattle.bus_register.specs.declared.registers.Op.{Op as Step};
-ghost use Rattle.bus_world.specs.Headline.{HasPut, HasClosed, puts};
+ghost use Rattle.bus_world.specs.Headline.{HasPut, HasMarked, puts};
 ghost use Rattle.bus_pageslot.specs.declared.rule.View.TheVariants.{Tap};
 ghost use Rattle.bus_pageslot.specs.ReceiverViews.{ReceiverView};
 ghost use Rattle.bus_pageslot.specs.Rule.{known_in, stored_in};
@@ -23,6 +24,7 @@ ghost use Rattle.bus_automaton.specs.Buses.{process_by};
 ghost use Rattle.bus_automaton.specs.LastAnswers.{is_last};
 ghost use Rattle.bus_pageslot.specs.Sendings.{waiting_of, SendsOff, KeepsFor, FillsBatches};
 ghost use Rattle.bus_pageslot.specs.Sendings.{HasSent, StopsAt, HasSentPart};
+ghost use Rattle.bus_pageslot.specs.Sendings.{Carries, CarryRefused};
 ghost use Rattle.bus_pageslot.specs.SendFaults.{send_fault_text};
 
 use crate::buses::Bus;
@@ -88,7 +90,8 @@ impl fmt::Display for Unsent {
 
 /// A sender of a bus: what it holds, and the seat that it steps with. One thread at a time has it.
 ///
-/// `put` and `close` take no step on the bus. `turn` takes at most one, and waits for nothing.
+/// `put`, `close` and `leave` take no step on the bus. `turn` takes at most one, and waits for
+/// nothing.
 #[derive(Drop)]
 pub struct Sender<Q: Ratifier = ThreeWord> {
     core: SenderCore<Q>,
@@ -139,6 +142,13 @@ impl<Q: Ratifier + Drop> Sender<Q> {
         self.core.pending()
     }
 
+    /// The messages that wait in its batch, in their order.
+    pub fn waiting(&self) -> &[Message]
+        ensures { result.now ≡ waiting_of (process_by Q.Ratifier) self.now }
+    {
+        self.core.waiting()
+    }
+
     /// The number that the next message gets.
     pub fn next_number(&self) -> u64
         ensures { result ≡ next_of ((process_by Q.Ratifier).queue self.now.core) }
@@ -146,12 +156,19 @@ impl<Q: Ratifier + Drop> Sender<Q> {
         self.core.next_number()
     }
 
-    /// It sends nothing more: it has closed the order, or has learned that the order has ended.
-    /// False as long as its close waits to be sent.
+    /// It sends nothing more: it has closed the order, has left it, or has learned that the order
+    /// has ended. False as long as its mark waits to be sent.
     pub fn is_closed(&self) -> bool
         ensures { result ≡ is_closed ((process_by Q.Ratifier).queue self.now.core).phase }
     {
         self.core.is_closed()
+    }
+
+    /// It is to leave: its leave mark waits to be sent.
+    pub fn is_leaving(&self) -> bool
+        ensures { result ≡ is_leaving ((process_by Q.Ratifier).queue self.now.core).phase }
+    {
+        self.core.is_leaving()
     }
 
     /// The last length of the log, in words, that it has stored; 0 before the first.
@@ -191,8 +208,8 @@ impl<Q: Ratifier + Drop> Sender<Q> {
         ensures number { let P = process_by Q.Ratifier in
             IfOk result (λ number. number ≡ next_of (P.queue self.old.core)) }
         ensures counts { let P = process_by Q.Ratifier in
-            IfOk result
-            (λ number. number ≡ first_number_of P self.old + length (puts (actions_of P self.old))) }
+            let before = puts (actions_of P self.old) in
+            IfOk result (λ number. number ≡ first_number_of P self.old + length before) }
         ensures taken { OnOk result
             (self.new.core ≡ (process_by Q.Ratifier).with_message self.old.core bytes.now) }
         ensures action { let P = process_by Q.Ratifier in
@@ -210,13 +227,13 @@ impl<Q: Ratifier + Drop> Sender<Q> {
     }
 
     /// Lets an end mark wait, which ends the order once it is sent. Refused where messages wait,
-    /// in its batch or on their way, and where it is closing or closed. Takes no step. A fault
-    /// changes nothing.
+    /// in its batch or on their way, and where it is closing, leaving or closed. Takes no step. A
+    /// fault changes nothing.
     pub fn close(&mut self) -> Result<(), CloseFault>
         ensures taken { let P = process_by Q.Ratifier in
-            OnOk result (self.new.core ≡ P.with_close self.old.core) }
+            OnOk result (self.new.core ≡ P.with_mark self.old.core mark.End) }
         ensures action { let P = process_by Q.Ratifier in
-            OnOk result (actions_of P self.new ≡ actions_of P self.old ++ HasClosed ∷ []) }
+            OnOk result (actions_of P self.new ≡ actions_of P self.old ++ HasMarked mark.End ∷ []) }
         ensures could { OnOk result (CanClose ((process_by Q.Ratifier).queue self.old.core)) }
         ensures fault { IfErr result (IsCloseFault ((process_by Q.Ratifier).queue self.old.core)) }
         ensures refused { OnErr result (self.new.core ≡ self.old.core) }
@@ -224,6 +241,49 @@ impl<Q: Ratifier + Drop> Sender<Q> {
     {
         threads_may_go_by::<Q>();
         self.core.close()
+    }
+
+    /// Lets a leave mark wait, which says in the order that this sender has left, once it is sent.
+    /// Nothing of this sender follows it. Refused where `close` is. Takes no step. A fault changes
+    /// nothing.
+    pub fn leave(&mut self) -> Result<(), CloseFault>
+        ensures taken { let P = process_by Q.Ratifier in
+            OnOk result (self.new.core ≡ P.with_mark self.old.core mark.Leave) }
+        ensures action { let P = process_by Q.Ratifier in OnOk result
+            (actions_of P self.new ≡ actions_of P self.old ++ HasMarked mark.Leave ∷ []) }
+        ensures could { OnOk result (CanClose ((process_by Q.Ratifier).queue self.old.core)) }
+        ensures fault { IfErr result (IsCloseFault ((process_by Q.Ratifier).queue self.old.core)) }
+        ensures refused { OnErr result (self.new.core ≡ self.old.core) }
+        ensures seat { self.new.seat ≡ self.old.seat }
+    {
+        threads_may_go_by::<Q>();
+        self.core.leave()
+    }
+
+    /// Puts the messages that wait in its batch into that of `next`, in their order and behind what
+    /// waits there; they wait here too. So what was not sent in one sitting goes on in the next:
+    /// put first into the next sender of this number, messages get the numbers that they were
+    /// answered before. Gives BatchFull where they do not fit beside what waits there, and else
+    /// what a put gives. Takes no step. A fault changes nothing.
+    pub fn carry_to(&self, next: &mut Sender<Q>) -> Result<(), PutFault>
+        ensures carried { OnOk result
+            (Carries (process_by Q.Ratifier) self.now next.old next.new) }
+        ensures fault { IfErr result (CarryRefused (process_by Q.Ratifier) self.now next.old) }
+        ensures refused { OnErr result (next.new.core ≡ next.old.core) }
+        ensures seat { next.new.seat ≡ next.old.seat }
+    {
+        threads_may_go_by::<Q>();
+        let room = (MOST_MESSAGES as u64).saturating_sub(next.pending());
+        if self.pending() > room {
+            return Err(PutFault::BatchFull);
+        }
+        let waiting = self.waiting();
+        for message in waiting {
+            if let Err(fault) = next.put(message.as_slice()) {
+                return Err(fault);
+            }
+        }
+        Ok(())
     }
 
     /// One turn: at most one step on one word of the bus that it is a sender of. `word` is the
@@ -307,8 +367,10 @@ impl<Q: Ratifier + Drop> Sender<Q> {
     }
 
     /// Turns, until there is nothing more to do, or nothing more that can be done: Idle, Delivered,
-    /// Full, Closed or Spent. Each vote takes one word of `rng`, and nothing else takes one. It
-    /// waits for nothing but its own next turn, and that it ends is not promised.
+    /// Left, Full, Closed or Spent. What it tells of the last answer is what a turn tells of it: of
+    /// Left, that the leave mark was published in that tenure. Each vote takes one word of `rng`,
+    /// and nothing else takes one. It waits for nothing but its own next turn, and that it ends is
+    /// not promised.
     pub fn send<W: Wait, R: Rng>(&mut self, wait: &W, bus: &Bus<Q>, rng: &mut R) -> Turn
         requires { table_of self.old ≡ bus.now.table }
         ensures table { table_of self.new ≡ table_of self.old }
@@ -515,7 +577,8 @@ fn ends_sending(turn: Turn) -> bool
     ensures { result ≡ is_last turn }
 {
     match turn {
-        Turn::Idle | Turn::Delivered { .. } | Turn::Full | Turn::Closed | Turn::Spent => true,
+        Turn::Idle | Turn::Delivered { .. } | Turn::Left { .. } => true,
+        Turn::Full | Turn::Closed | Turn::Spent => true,
         Turn::Waiting | Turn::Going | Turn::Lost { .. } | Turn::Own { .. } => false,
         Turn::Behind { .. } => false,
     }

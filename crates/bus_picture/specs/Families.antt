@@ -25,7 +25,7 @@ family_of kind =
     (if bytes_eq kind (codes "Vote") then Some family.Add else
     (if bytes_eq kind (codes "Fallback") then Some family.Exchange else
     (if is_one_of (codes "TakePage" ∷ codes "GivePageBack" ∷ []) kind then Some family.Page else
-    (if is_one_of (codes "put" ∷ codes "close" ∷ codes "stop" ∷ []) kind then Some family.Call else
+    (if is_one_of (codes "put" ∷ codes "close" ∷ codes "leave" ∷ codes "stop" ∷ []) kind then Some family.Call else
     (if bytes_eq kind (codes "-") then Some family.Nothing else None))))))
 
 -- the shape of its mark

@@ -32,6 +32,7 @@ only_empty turn.Going before after told w is = absurd (let no : item_turn.Going 
 only_empty turn.Empty before after told w is = (refl, w.after_is)
 only_empty (turn.Head t o) before after told w is = absurd (let no : item_turn.Going ≡ item_turn.Empty = sym w.told_is ∙ is in cc)
 only_empty (turn.Item i) before after told w is = absurd (let no : item_turn.Item ≡ item_turn.Empty = sym w.told_is ∙ is in cc)
+only_empty (turn.Leave s) before after told w is = absurd (let no : item_turn.Going ≡ item_turn.Empty = sym w.told_is ∙ is in cc)
 only_empty turn.End before after told w is = absurd (let no : item_turn.End ≡ item_turn.Empty = sym w.told_is ∙ is in cc)
 
 pub only_going : (answer : RecvTurn) (before after : Option Item) (told : ItemTurn) → Writes answer before told after → told ≡ item_turn.Going → (is_given answer ≡ false) × (answer ≡ turn.Empty → ⊥) × (after ≡ before)
@@ -39,6 +40,7 @@ only_going turn.Going before after told w is = (refl, λ empty. absurd (let no :
 only_going turn.Empty before after told w is = absurd (let no : item_turn.Empty ≡ item_turn.Going = sym w.told_is ∙ is in cc)
 only_going (turn.Head t o) before after told w is = (refl, λ empty. absurd (let no : turn.Head t o ≡ turn.Empty = empty in cc), w.after_is)
 only_going (turn.Item i) before after told w is = absurd (let no : item_turn.Item ≡ item_turn.Going = sym w.told_is ∙ is in cc)
+only_going (turn.Leave s) before after told w is = (refl, λ empty. absurd (let no : turn.Leave s ≡ turn.Empty = empty in cc), w.after_is)
 only_going turn.End before after told w is = absurd (let no : item_turn.End ≡ item_turn.Going = sym w.told_is ∙ is in cc)
 
 pub last_written : (answer : RecvTurn) (before after : Option Item) (told : ItemTurn) → Writes answer before told after → before ≡ None → (told ≡ item_turn.Item) ⊎ (told ≡ item_turn.End) → last_of (next_of false after) ≡ answer
@@ -55,6 +57,10 @@ last_written (turn.Head t o) before after told w none is = elim is [
   | inr end ↦ absurd (let no : item_turn.Going ≡ item_turn.End = sym w.told_is ∙ end in cc)
 ]
 last_written (turn.Item i) before after told w none is = ap (λ a. last_of (next_of false a)) w.after_is
+last_written (turn.Leave s) before after told w none is = elim is [
+  | inl item ↦ absurd (let no : item_turn.Going ≡ item_turn.Item = sym w.told_is ∙ item in cc)
+  | inr end ↦ absurd (let no : item_turn.Going ≡ item_turn.End = sym w.told_is ∙ end in cc)
+]
 last_written turn.End before after told w none is = ap (λ a. last_of (next_of false a)) (w.after_is ∙ none)
 
 pub not_stopped : (after : Option Item) → next_of false after ≡ next.Stopped → ⊥

@@ -19,12 +19,13 @@ abbrev pub bus_of : {C : Type 0} → ReceiverSeat C → TableId
 bus_of r = r.table_id
 
 -- ---- turns, one after another
--- a frame's head, an item or the end
+-- a frame's head, an item, a leave mark or the end
 abbrev pub is_found : RecvTurn → Bool
 is_found turn.Going = false
 is_found turn.Empty = false
 is_found (turn.Head tenure owner) = true
 is_found (turn.Item item) = true
+is_found (turn.Leave sender) = true
 is_found turn.End = true
 
 -- turns that found nothing led from one seat to another
@@ -32,7 +33,7 @@ pub data HearsOn {C : Type 0} (first : Sat C) : Sat C → Type 0 where
   Here : HearsOn first first
   More : (old : Sat C) (answer : RecvTurn) (new : Sat C) → HearsOn first old → Hears old answer new → is_found answer ≡ false → HearsOn first new
 
--- turns up to the first that found a head, an item or the end
+-- turns up to the first that found a head, an item, a leave mark or the end
 pub record Takes {C : Type 0} (first : Sat C) (answer : RecvTurn) (new : Sat C) : Type 0 where
   pub old : Sat C
   pub before : HearsOn first old
@@ -46,6 +47,7 @@ is_given turn.Going = false
 is_given turn.Empty = false
 is_given (turn.Head tenure owner) = false
 is_given (turn.Item item) = true
+is_given (turn.Leave sender) = false
 is_given turn.End = true
 
 -- turns that found neither led from one seat to another

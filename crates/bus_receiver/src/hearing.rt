@@ -1,7 +1,7 @@
 //! A listener that counts what a receiver was given.
 
-ghost use Rattle.std.specs.Prelude.{◌≡◌, ◌+◌, ◌<◌, ◌&&◌, ◌==◌};
-ghost use Rattle.std.specs.Prelude.{nat_lt, slice_index, slice_set, true, false};
+ghost use Rattle.std.specs.Prelude.{◌≡◌, ◌+◌, ◌<◌, ◌&&◌, ◌==◌, Some};
+ghost use Rattle.std.specs.Prelude.{slice_get, slice_index, slice_set, true, false};
 
 use bus_deliverylog::RecvTurn;
 use bus_register::SenderNo;
@@ -9,13 +9,15 @@ use bus_register::limits::MOST_SENDERS;
 use bus_tenure::Page;
 use std::marker::Model;
 
-/// A listener: it counts the items of each sender, and refuses an item that is not the next of its
-/// sender or cannot be counted, and after the end all but the end.
+/// A listener: it counts the items of each sender and notes who has left. It refuses an item that
+/// is not the next of its sender or cannot be counted, all of one that has left, and after the end
+/// all but the end.
 #[derive(Debug, Drop)]
 pub struct Heard {
     bases: [u64; MOST_SENDERS],
     counts: [u64; MOST_SENDERS],
     items: u64,
+    left: [bool; MOST_SENDERS],
     ended: bool,
 }
 
@@ -29,6 +31,7 @@ impl Model for Heard {
       bases = h.bases;
       counts = h.counts;
       items = h.items;
+      left = h.left;
       ended = h.ended;
     } };
 
@@ -37,7 +40,7 @@ impl Model for Heard {
 
 impl Heard {
     ghost use Rattle.bus_receiver.specs.Hearing.{nothing, nothing_after, goes_on, has_room};
-    ghost use Rattle.bus_receiver.specs.Hearing.{expected, takes, hearing_after};
+    ghost use Rattle.bus_receiver.specs.Hearing.{expected, is_there, takes, hearing_after};
 
     /// A listener of a first sitting that has heard nothing: it expects numbers from 0 on.
     pub fn new() -> Heard
@@ -47,6 +50,7 @@ impl Heard {
             bases: [0; MOST_SENDERS],
             counts: [0; MOST_SENDERS],
             items: 0,
+            left: [false; MOST_SENDERS],
             ended: false,
         }
     }
@@ -60,13 +64,15 @@ impl Heard {
             bases: page.next,
             counts: [0; MOST_SENDERS],
             items: 0,
+            left: [false; MOST_SENDERS],
             ended: false,
         }
     }
 
     /// Takes the next answer of a receiver and gives true, or refuses it and gives false: an item
-    /// that is not the next of its sender, of no sender below `MOST_SENDERS`, or one more than can
-    /// be counted, and all but the end after the end. What is refused changes nothing.
+    /// that is not the next of its sender, or one more than can be counted; an item or a leave mark
+    /// of a sender that has left, or of none below `MOST_SENDERS`; and all but the end after the
+    /// end. What is refused changes nothing.
     pub fn note(&mut self, turn: &RecvTurn) -> bool
         ensures takes { result ≡ takes self.old turn.now }
         ensures taken { result ≡ true → self.new ≡ hearing_after self.old turn.now }
@@ -78,6 +84,7 @@ impl Heard {
                 true
             }
             RecvTurn::Item(item) => self.note_item(item.sender, item.number),
+            RecvTurn::Leave(sender) => self.note_leave(*sender),
             RecvTurn::Going | RecvTurn::Empty | RecvTurn::Head { .. } => !self.ended,
         }
     }
@@ -86,7 +93,7 @@ impl Heard {
     fn note_item(&mut self, sender: SenderNo, number: u64) -> bool
         ensures takes { result
             ≡ (goes_on self.old && has_room self.old &&
-            (nat_lt sender.0 MOST_SENDERS && (number == expected self.old sender.0))) }
+            (is_there self.old sender.0 && (number == expected self.old sender.0))) }
         ensures taken { result ≡ true
             → self.new ≡ record self.old {
               counts = slice_set self.old.counts sender.0
@@ -99,6 +106,9 @@ impl Heard {
         if self.ended || place >= MOST_SENDERS {
             return false;
         }
+        if self.left[place] {
+            return false;
+        }
         let base = self.bases[place];
         if number < base || number - base != self.counts[place] {
             return false;
@@ -108,6 +118,21 @@ impl Heard {
         }
         self.items += 1;
         self.counts[place] += 1;
+        true
+    }
+
+    /// Takes the leave mark of this sender, or refuses it.
+    fn note_leave(&mut self, sender: SenderNo) -> bool
+        ensures takes { result ≡ (goes_on self.old && is_there self.old sender.0) }
+        ensures taken { result ≡ true
+            → self.new ≡ record self.old { left = slice_set self.old.left sender.0 true } }
+        ensures refused { result ≡ false → self.new ≡ self.old }
+    {
+        let place = usize::from(sender.0);
+        if self.ended || place >= MOST_SENDERS || self.left[place] {
+            return false;
+        }
+        self.left[place] = true;
         true
     }
 
@@ -124,6 +149,14 @@ impl Heard {
         ensures { result ≡ self.now.items }
     {
         self.items
+    }
+
+    /// The leave mark of the sender was among what it took.
+    pub fn has_left(&self, sender: SenderNo) -> bool
+        requires { sender.0 < MOST_SENDERS }
+        ensures { slice_get self.now.left sender.0 ≡ Some result }
+    {
+        self.left[usize::from(sender.0)]
     }
 
     /// The end was among what it took.

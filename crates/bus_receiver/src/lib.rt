@@ -28,4 +28,4 @@ pub use bus_tenure::{Page, Turn};
 pub use bus_world::{MakeFault, Shape};
 pub use hearing::Heard;
 pub use receivers::{Next, Receiver};
-pub use sizes::{tenures_needed, words_needed};
+pub use sizes::{room_to_close, tenures_needed, words_needed};

@@ -93,7 +93,8 @@ impl<Q: Ratifier + Drop> Receiver<Q> {
         self.tap.item_turns(bus, item)
     }
 
-    /// Turns, until one finds a head, an item or the end. That it ends is not promised.
+    /// Turns, until one finds a head, an item, a leave mark or the end. That it ends is not
+    /// promised.
     pub fn take<W: Wait>(&mut self, wait: &W, bus: &Bus<Q>) -> RecvTurn
         requires { bus_of self.old ≡ bus.now.table }
         ensures table { bus_of self.new ≡ bus_of self.old }
@@ -115,7 +116,7 @@ impl<Q: Ratifier + Drop> Receiver<Q> {
     }
 
     /// Turns, until one finds an item or the end: the item, and none at the end and ever after. It
-    /// waits as `take` does, and that it ends is not promised.
+    /// passes over leave marks. It waits as `take` does, and that it ends is not promised.
     pub fn next_item<W: Wait>(&mut self, wait: &W, bus: &Bus<Q>) -> Option<Item>
         requires { bus_of self.old ≡ bus.now.table }
         ensures table { bus_of self.new ≡ bus_of self.old }
@@ -250,12 +251,12 @@ impl<Q: Ratifier + Drop> Receiver<Q> {
     }
 }
 
-/// It is a head, an item or the end.
+/// It is a head, an item, a leave mark or the end.
 fn finds(turn: &RecvTurn) -> bool
     ensures { result ≡ is_found turn.now }
 {
     match turn {
-        RecvTurn::Head { .. } | RecvTurn::Item(_) | RecvTurn::End => true,
+        RecvTurn::Head { .. } | RecvTurn::Item(_) | RecvTurn::Leave(_) | RecvTurn::End => true,
         RecvTurn::Going | RecvTurn::Empty => false,
     }
 }

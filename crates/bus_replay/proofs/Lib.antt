@@ -2,3 +2,4 @@ pub mod HexLemmas
 pub mod RepeatLemmas
 pub mod PlayLemmas
 pub mod GivenLemmas
+pub mod EntryLemmas

@@ -5,11 +5,12 @@ use Rattle.std.proofs.lemmas.Option.{slice_get_within}
 use Rattle.bus_register.specs.Protocol.{Protocol}
 use Rattle.bus_register.specs.Proved.TableLaws.{get_set_same}
 use Rattle.bus_adoptcommit.specs.declared.verdicts.Verdict.{Verdict}
+use Rattle.bus_batch.specs.declared.messages.Mark.TheVariants as mark
 use Rattle.bus_core.specs.Senders.{Sender}
 use Rattle.bus_tenure.specs.Core.{Election}
 use Rattle.bus_tenure.specs.Elections.{Elector}
 use Rattle.bus_world.specs.Playing.{RecvRefused}
-use Rattle.bus_world.specs.World.{Event, Put, Close, Turn, Recv, Stop, is_set}
+use Rattle.bus_world.specs.World.{Event, Put, Ask, Turn, Recv, Stop, is_set}
 use Rattle.bus_world.specs.declared.events.Answer.{Answer}
 use Rattle.bus_world.specs.declared.events.Answer.TheVariants as answer
 use Rattle.bus_world.specs.declared.events.StepFault.{StepFault}
@@ -38,7 +39,8 @@ turns (Some w) v false why at goes refused = refused
 pub not_refused : {E : Type 0} (X : Election E) (old new : Machine E) (e : Event) (a : Answer) (why : StepFault) → Happens X old e a new
     → goes_on a ≡ true → Refused new e why → ⊥
 not_refused X old new (Put s bytes) a why h goes refused = stops_so a (answer.Number _) h.answered refl goes
-not_refused X old new (Close s) a why h goes refused = stops_so a answer.Closing h.answered refl goes
+not_refused X old new (Ask s mark.End) a why h goes refused = stops_so a answer.Closing h.answered refl goes
+not_refused X old new (Ask s mark.Leave) a why h goes refused = stops_so a answer.Leaving h.answered refl goes
 not_refused {E} X old new (Turn s word) a why h goes refused =
     let here = there (has_stopped old s) (slice_get old.senders s) h.sender h.goes in
     let unset : has_stopped new s ≡ false = ap (λ (y : Machine E). is_set (slice_get y.stopped s)) h.after ∙ here.0 in

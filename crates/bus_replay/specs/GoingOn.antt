@@ -15,6 +15,7 @@ turn_goes_on turn.Going = true
 turn_goes_on (turn.Lost t o) = false
 turn_goes_on (turn.Own t) = false
 turn_goes_on (turn.Delivered t first last) = false
+turn_goes_on (turn.Left t) = false
 turn_goes_on turn.Full = false
 turn_goes_on turn.Closed = false
 turn_goes_on turn.Spent = false
@@ -25,11 +26,13 @@ recv_goes_on recv.Going = true
 recv_goes_on recv.Empty = false
 recv_goes_on (recv.Head t o) = true
 recv_goes_on (recv.Item i) = true
+recv_goes_on (recv.Leave s) = true
 recv_goes_on recv.End = false
 
 abbrev pub goes_on : Answer → Bool
 goes_on (answer.Number n) = false
 goes_on answer.Closing = false
+goes_on answer.Leaving = false
 goes_on (answer.Turn t) = turn_goes_on t
 goes_on (answer.Recv t) = recv_goes_on t
 goes_on answer.Stopped = false

@@ -2,7 +2,8 @@
 use Rattle.std.specs.Prelude.{ℕ, ◌+◌, ◌-◌, ◌*◌, ◌^◌, Bool, ◌&&◌, List, [], ◌∷◌, length, Option, Some, None, codes, nat_lt, nat_le, if◌then◌else◌, option_and_then}
 use Rattle.std.specs.Option.{option_map}
 use Rattle.std.specs.Str.{bytes_eq}
-use Rattle.bus_world.specs.World.{Event, Put, Close, Turn, Recv, Stop}
+use Rattle.bus_batch.specs.declared.messages.Mark.TheVariants as mark
+use Rattle.bus_world.specs.World.{Event, Put, Ask, Turn, Recv, Stop}
 use Rattle.bus_world.specs.declared.shapes.Shape.{Shape}
 use Rattle.bus_replay.specs.declared.lines.TheConstants.{MOST_TURNS_A_LINE}
 use Rattle.bus_replay.specs.declared.lines.FirstLine.{FirstLine}
@@ -89,7 +90,7 @@ put_from (s ∷ bytes ∷ x ∷ more) = None
 -- `close S`
 abbrev pub close_from : List ℕ → Option Command
 close_from [] = None
-close_from (s ∷ []) = Some (record { event = Close s; times = 1 })
+close_from (s ∷ []) = Some (record { event = Ask s mark.End; times = 1 })
 close_from (s ∷ x ∷ more) = None
 
 -- so many turns can one line ask for
@@ -117,10 +118,18 @@ stop_from [] = None
 stop_from (s ∷ []) = Some (record { event = Stop s; times = 1 })
 stop_from (s ∷ x ∷ more) = None
 
+-- `leave S`
+abbrev pub leave_from : List ℕ → Option Command
+leave_from [] = None
+leave_from (s ∷ []) = Some (record { event = Ask s mark.Leave; times = 1 })
+leave_from (s ∷ x ∷ more) = None
+
 -- what a line behind the first one says
 abbrev pub command_of : List ℕ → Option Command
 command_of line =
     or_else (option_and_then put_from (arguments_of (codes "put") line))
     (or_else (option_and_then close_from (numbers_behind (codes "close") line))
     (or_else (option_and_then turn_from (numbers_behind (codes "turn") line))
-    (or_else (option_and_then recv_from (numbers_behind (codes "recv") line)) (option_and_then stop_from (numbers_behind (codes "stop") line)))))
+    (or_else (option_and_then recv_from (numbers_behind (codes "recv") line))
+    (or_else (option_and_then stop_from (numbers_behind (codes "stop") line))
+    (option_and_then leave_from (numbers_behind (codes "leave") line))))))

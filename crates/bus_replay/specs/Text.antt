@@ -5,10 +5,11 @@ use Rattle.bus_batch.specs.declared.batches.CloseFault.{CloseFault}
 use Rattle.bus_batch.specs.declared.batches.CloseFault.TheVariants as close
 use Rattle.bus_batch.specs.declared.batches.PutFault.{PutFault}
 use Rattle.bus_batch.specs.declared.batches.PutFault.TheVariants as put
-use Rattle.bus_batch.specs.Frames.{Order}
+use Rattle.bus_batch.specs.declared.messages.Mark.TheVariants as mark
+use Rattle.bus_batch.specs.Frames.{Order, Entry, Says, Leaves, items_in}
 use Rattle.bus_deliverylog.specs.Text.{item_text, recv_text}
 use Rattle.bus_tenure.specs.Text.{turn_text}
-use Rattle.bus_world.specs.World.{Event, Put, Close, Turn, Recv, Stop}
+use Rattle.bus_world.specs.World.{Event, Put, Ask, Turn, Recv, Stop}
 use Rattle.bus_world.specs.declared.events.Answer.{Answer}
 use Rattle.bus_world.specs.declared.events.Answer.TheVariants as answer
 use Rattle.bus_world.specs.declared.events.StepFault.{StepFault}
@@ -27,6 +28,7 @@ behind n = 32 ∷ decimal n
 abbrev pub answer_text : Answer → List ℕ
 answer_text (answer.Number n) = codes "number" ++ behind n
 answer_text answer.Closing = codes "closing"
+answer_text answer.Leaving = codes "leaving"
 answer_text (answer.Turn t) = turn_text t
 answer_text (answer.Recv t) = recv_text t
 answer_text answer.Stopped = codes "stopped"
@@ -34,7 +36,8 @@ answer_text answer.Stopped = codes "stopped"
 -- who is asked
 abbrev pub event_text : Event → List ℕ
 event_text (Put s bytes) = codes "put" ++ behind s
-event_text (Close s) = codes "close" ++ behind s
+event_text (Ask s mark.End) = codes "close" ++ behind s
+event_text (Ask s mark.Leave) = codes "leave" ++ behind s
 event_text (Turn s word) = codes "turn" ++ behind s
 event_text (Recv r) = codes "recv" ++ behind r
 event_text (Stop s) = codes "stop" ++ behind s
@@ -87,12 +90,21 @@ abbrev pub order_end : Bool → List ℕ
 order_end true = codes "order end" ++ 10 ∷ []
 order_end false = []
 
--- a line for each item, and one for the end
-abbrev pub order_text : Order → List ℕ
-order_text q = flat_map (λ i. codes "order " ++ item_text i ++ 10 ∷ []) q.items ++ order_end q.ended
+-- the line of an item, or that a sender has left
+abbrev pub entry_line : Entry → List ℕ
+entry_line (Says item) = codes "order " ++ item_text item ++ 10 ∷ []
+entry_line (Leaves s) = codes "order leave" ++ behind s.0 ++ 10 ∷ []
 
+-- a line for each entry, and one for the end
+abbrev pub order_text : Order → List ℕ
+order_text q = flat_map entry_line q.entries ++ order_end q.ended
+
+abbrev pub count_line : ℕ → ℕ → Bool → List ℕ
+count_line r items ended = codes "given" ++ behind r ++ behind items ++ end_text ended ++ 10 ∷ []
+
+-- how many items a receiver was given, and whether the end
 abbrev pub given_line : ℕ → Order → List ℕ
-given_line r q = codes "given" ++ behind r ++ behind (length q.items) ++ end_text q.ended ++ 10 ∷ []
+given_line r q = count_line r (length (items_in q.entries)) q.ended
 
 -- a line for each receiver, in order
 abbrev pub given_text : List Order → List ℕ

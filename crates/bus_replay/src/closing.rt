@@ -1,14 +1,19 @@
 //! What `replay` prints behind the answers to a script.
 
-ghost use Rattle.std.specs.Prelude.{◌≡◌, ◌++◌, ℕ, List, map, length, OnOk, string_bytes};
-ghost use Rattle.bus_deliverylog.specs.Orders.{order_held};
+ghost use Rattle.std.specs.Prelude.{◌≡◌, ◌++◌, ℕ, List, map, flat_map, length, OnOk};
+ghost use Rattle.std.specs.Prelude.{string_bytes};
+ghost use Rattle.bus_batch.specs.Frames.{Says};
+ghost use Rattle.bus_deliverylog.specs.Orders.{merged, order_held};
 ghost use Rattle.bus_tenure.specs.Elections.{election_of};
 ghost use Rattle.bus_machine.specs.Machine.{Trails, Reached};
-ghost use Rattle.bus_replay.specs.Text.{owners_line, order_text, given_line, given_text};
+ghost use Rattle.bus_replay.specs.Text.{owners_line, entry_line, order_text, count_line};
+ghost use Rattle.bus_replay.specs.Text.{given_line, given_text};
 ghost use Rattle.bus_replay.specs.Answers.{Closes, given_by};
 
 use bus_adoptcommit::Ratifier;
+use bus_batch::Item;
 use bus_deliverylog::Order;
+use bus_deliverylog::laws::merged_is_one_list;
 use bus_deliverylog::texts::ItemText;
 use bus_machine::World;
 use bus_register::{NoMemory, SenderNo};
@@ -27,19 +32,64 @@ fn push_owners(text: &mut String, owners: &[SenderNo]) -> Result<(), AllocError>
     text.push_str("\n")
 }
 
-/// Puts a line for each item at the end of a text, and one for the end.
+/// Puts a line for each item at the end of a text.
+fn push_items(text: &mut String, items: &[Item]) -> Result<(), AllocError>
+    ensures { OnOk result
+        (string_bytes text.new ≡ string_bytes text.old
+        ++ flat_map entry_line (map Says items.now)) }
+{
+    for item in items {
+        let item = ItemText(item);
+        writeln!(text, "order {item}")?;
+    }
+    Ok(())
+}
+
+/// Puts a line for each item at the end of a text, and one for each that left, at its place.
+fn push_entries(
+    text: &mut String,
+    items: &[Item],
+    left: &[(SenderNo, u64)],
+) -> Result<(), AllocError>
+    ensures { OnOk result
+        (string_bytes text.new ≡ string_bytes text.old
+        ++ flat_map entry_line (merged items.now left.now)) }
+{
+    let mut rest = items;
+    let mut before = 0u64;
+    for mark in left {
+        let more = mark.1.saturating_sub(before).min(rest.len() as u64);
+        let (front, behind) = rest.split_at(more as usize);
+        push_items(text, front)?;
+        writeln!(text, "order leave {}", mark.0.0)?;
+        rest = behind;
+        before = mark.1;
+    }
+    push_items(text, rest)
+}
+
+/// Puts a line for each entry at the end of a text, and one for the end.
 fn push_order(text: &mut String, order: &Order) -> Result<(), AllocError>
     ensures { OnOk result
         (string_bytes text.new ≡ string_bytes text.old ++ order_text (order_held order.now)) }
 {
-    for item in &order.items {
-        let item = ItemText(item);
-        writeln!(text, "order {item}")?;
-    }
+    push_entries(text, &order.items, &order.left)?;
     if order.ended {
         text.push_str("order end\n")?;
     }
     Ok(())
+}
+
+/// Puts the line of a receiver that was given so many items at the end of a text.
+fn push_count(text: &mut String, receiver: u64, items: u64, ended: bool) -> Result<(), AllocError>
+    ensures { OnOk result
+        (string_bytes text.new ≡ string_bytes text.old ++ count_line receiver items ended) }
+{
+    write!(text, "given {receiver} {items}")?;
+    if ended {
+        text.push_str(" end")?;
+    }
+    text.push_str("\n")
 }
 
 /// Puts the line of what a receiver was given at the end of a text.
@@ -48,11 +98,8 @@ fn push_given(text: &mut String, receiver: u64, order: &Order) -> Result<(), All
         (string_bytes text.new ≡ string_bytes text.old ++ given_line receiver
         (order_held order.now)) }
 {
-    write!(text, "given {receiver} {}", order.items.len())?;
-    if order.ended {
-        text.push_str(" end")?;
-    }
-    text.push_str("\n")
+    merged_is_one_list();
+    push_count(text, receiver, order.items.len() as u64, order.ended)
 }
 
 /// Puts the lines of all receivers at the end of a text.

@@ -6,8 +6,8 @@ ghost use Rattle.std.specs.Option.{option_map};
 ghost use Rattle.bus_script.specs.Grammar.{number_of, each_of, and_before, arguments_of};
 ghost use Rattle.bus_replay.specs.Lines.{shape_from, shape_of, first_of};
 ghost use Rattle.bus_replay.specs.Lines.{put_of, put_from, close_from, are_times};
-ghost use Rattle.bus_replay.specs.Lines.{turn_from, recv_from, stop_from, numbers_behind};
-ghost use Rattle.bus_replay.specs.Lines.{command_of, hex_of};
+ghost use Rattle.bus_replay.specs.Lines.{turn_from, recv_from, stop_from, leave_from};
+ghost use Rattle.bus_replay.specs.Lines.{numbers_behind, command_of, hex_of};
 ghost use Rattle.bus_replay.specs.Told.{command_told};
 
 use crate::commands::Command;
@@ -181,6 +181,21 @@ fn stop_of(line: &[u8]) -> Option<Command>
     })
 }
 
+fn leave_of(line: &[u8]) -> Option<Command>
+    ensures { option_map command_told result ≡ option_and_then leave_from
+        (numbers_behind (codes "leave") line.now) }
+{
+    let mut words = words_behind(line, b"leave")?;
+    let sender = next_number(&mut words)?;
+    if words.next_word().is_some() {
+        return None;
+    }
+    Some(Command {
+        event: Event::Leave(sender),
+        times: 1,
+    })
+}
+
 /// What a line behind the first one asks for.
 pub fn command_of(alloc: Global, line: &[u8]) -> Result<Option<Command>, AllocError>
     ensures { IfOk result (λ command. option_map command_told command ≡ command_of line.now) }
@@ -194,8 +209,11 @@ pub fn command_of(alloc: Global, line: &[u8]) -> Result<Option<Command>, AllocEr
     if let Some(command) = turn_of(line) {
         return Ok(Some(command));
     }
-    match recv_of(line) {
+    if let Some(command) = recv_of(line) {
+        return Ok(Some(command));
+    }
+    match stop_of(line) {
         Some(command) => Ok(Some(command)),
-        None => Ok(stop_of(line)),
+        None => Ok(leave_of(line)),
     }
 }

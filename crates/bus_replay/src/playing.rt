@@ -33,7 +33,7 @@ fn recv_goes_on(turn: &RecvTurn) -> bool
     ensures { result ≡ recv_goes_on turn.now }
 {
     match turn {
-        RecvTurn::Going | RecvTurn::Head { .. } | RecvTurn::Item(_) => true,
+        RecvTurn::Going | RecvTurn::Head { .. } | RecvTurn::Item(_) | RecvTurn::Leave(_) => true,
         RecvTurn::Empty | RecvTurn::End => false,
     }
 }
@@ -43,7 +43,7 @@ pub fn goes_on(answer: &Answer) -> bool
     ensures { result ≡ goes_on answer.now }
 {
     match answer {
-        Answer::Number(_) | Answer::Closing | Answer::Stopped => false,
+        Answer::Number(_) | Answer::Closing | Answer::Leaving | Answer::Stopped => false,
         Answer::Turn(turn) => turn_goes_on(*turn),
         Answer::Recv(turn) => recv_goes_on(turn),
     }

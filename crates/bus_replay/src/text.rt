@@ -14,6 +14,7 @@ fn push_answer(text: &mut String, answer: &Answer) -> Result<(), AllocError>
     match answer {
         Answer::Number(number) => write!(text, "number {number}"),
         Answer::Closing => text.push_str("closing"),
+        Answer::Leaving => text.push_str("leaving"),
         Answer::Turn(turn) => write!(text, "{turn}"),
         Answer::Recv(turn) => write!(text, "{turn}"),
         Answer::Stopped => text.push_str("stopped"),
@@ -28,6 +29,7 @@ fn push_event(text: &mut String, event: &Event) -> Result<(), AllocError>
     match event {
         Event::Put { sender, bytes: _ } => write!(text, "put {sender}"),
         Event::Close(sender) => write!(text, "close {sender}"),
+        Event::Leave(sender) => write!(text, "leave {sender}"),
         Event::Turn { sender, word: _ } => write!(text, "turn {sender}"),
         Event::Recv(receiver) => write!(text, "recv {receiver}"),
         Event::Stop(sender) => write!(text, "stop {sender}"),

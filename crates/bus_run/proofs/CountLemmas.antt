@@ -4,12 +4,14 @@ use Rattle.std.specs.Prelude.{filter, flat_map, sum}
 use Rattle.std.proofs.lemmas.Bool.{cases_lt}
 use Rattle.std.proofs.lemmas.Bool.Decides.{eqb_tells}
 use Rattle.std.proofs.lemmas.List.{take_all}
+use Rattle.std.proofs.lemmas.List.Concat.{flat_map-append}
 use Rattle.std.proofs.lemmas.List.Sums.{sum_by_more}
 use Rattle.bus_register.specs.declared.limits.TheConstants.{MOST_SENDERS}
 use Rattle.bus_register.specs.declared.registers.SenderNo.{SenderNo}
 use Rattle.bus_batch.specs.declared.messages.Item.{Item}
 use Rattle.bus_batch.specs.Messages.{Numbered}
-use Rattle.bus_batch.specs.Frames.{Body, Frame, Order, Messages, EndMark, AreFramesFrom, Spells, item_of, body_items, items_of}
+use Rattle.bus_batch.specs.declared.messages.Mark.TheVariants as mark
+use Rattle.bus_batch.specs.Frames.{Body, Frame, Order, Messages, Marked, AreFramesFrom, Spells, Says, item_in, items_in, item_of, body_entries, entries_of}
 use Rattle.bus_receiver.specs.Hearing.{Hearing}
 use Rattle.bus_run.specs.Audit.{IsFair, IsSummed, CountsAll}
 
@@ -88,17 +90,20 @@ below_both : (n : ℕ) (xs ys : List Item) → Below n xs → Below n ys → Bel
 below_both n [] ys a b = b
 below_both n (x ∷ xs) ys a b = (a.0, below_both n xs ys a.1 b)
 
-below_messages : (n : ℕ) (owner : SenderNo) (messages : List Numbered) → owner.0 < n → Below n (map (item_of owner) messages)
+below_messages : (n : ℕ) (owner : SenderNo) (messages : List Numbered) → owner.0 < n → Below n (items_in (map (λ (m : Numbered). Says (item_of owner m)) messages))
 below_messages n owner [] l = tt
 below_messages n owner (m ∷ messages) l = (l, below_messages n owner messages l)
 
-below_body : (n : ℕ) (owner : SenderNo) (body : Body) → owner.0 < n → Below n (body_items owner body)
+below_body : (n : ℕ) (owner : SenderNo) (body : Body) → owner.0 < n → Below n (items_in (body_entries owner body))
 below_body n owner (Messages messages) l = below_messages n owner messages l
-below_body n owner EndMark l = tt
+below_body n owner (Marked mark.End) l = tt
+below_body n owner (Marked mark.Leave) l = tt
 
-below_frames : (senders n least : ℕ) (fs : List Frame) → senders ≤ n → AreFramesFrom senders least fs → Below n (flat_map items_of fs)
+below_frames : (senders n least : ℕ) (fs : List Frame) → senders ≤ n → AreFramesFrom senders least fs → Below n (items_in (flat_map entries_of fs))
 below_frames senders n least [] l h = tt
-below_frames senders n least (f ∷ fs) l h = below_both n (items_of f) (flat_map items_of fs) (below_body n f.owner f.body (let owner = h.0.owner in omega arith)) (below_frames senders n (f.tenure + 1) fs l h.3)
+below_frames senders n least (f ∷ fs) l h =
+    subst (Below n) (sym (flat_map-append item_in (entries_of f) (flat_map entries_of fs)))
+    (below_both n (items_in (entries_of f)) (items_in (flat_map entries_of fs)) (below_body n f.owner f.body (let owner = h.0.owner in omega arith)) (below_frames senders n (f.tenure + 1) fs l h.3))
 
 -- ---- counts
 sum_to : (counts : List ℕ) (k : ℕ) → k ≤ length counts → sum (take k counts) ≡ total k (slice_index counts)
@@ -115,8 +120,9 @@ sum_all counts many is = ap sum (sym (take_all many counts (omega arith))) ∙ s
 -- a note that counted, of each sender of a bus, what the order has, and whose total is the sum of these, has counted all items
 counts_all : (senders : ℕ) (words : List ℕ) (order : Order) (owners : List (ℕ × SenderNo)) (h : Hearing) → senders ≤ MOST_SENDERS → Spells senders words order owners → IsSummed h → IsFair order h → CountsAll order h
 counts_all senders words order owners h few spells summed fair =
-    let below : Below MOST_SENDERS order.items = subst (λ (o : Order). Below MOST_SENDERS o.items) spells.order_is (below_frames senders MOST_SENDERS 0 spells.frames few spells.lawful) in
-    sym summed.1 ∙ sum_all h.counts MOST_SENDERS summed.0 ∙ total_same MOST_SENDERS (slice_index h.counts) (has_of order.items) (λ s l. fair.0 s l) ∙ all_of MOST_SENDERS order.items below
+    let items : List Item = items_in order.entries in
+    let below : Below MOST_SENDERS items = subst (λ (o : Order). Below MOST_SENDERS (items_in o.entries)) spells.order_is (below_frames senders MOST_SENDERS 0 spells.frames few spells.lawful) in
+    sym summed.1 ∙ sum_all h.counts MOST_SENDERS summed.0 ∙ total_same MOST_SENDERS (slice_index h.counts) (has_of items) (λ s l. fair.0 s l) ∙ all_of MOST_SENDERS items below
 
 pub all_counted : (senders : ℕ) (words : List ℕ) (order : Order) (owners : List (ℕ × SenderNo)) (heards : List Hearing) → senders ≤ MOST_SENDERS → Spells senders words order owners → All IsSummed heards → All (IsFair order) heards → All (CountsAll order) heards
 all_counted senders words order owners heards few spells summed fair k d l = counts_all senders words order owners (get_or heards k d) few spells (summed k d l) (fair k d l)

@@ -6,3 +6,4 @@ pub mod WaitLemmas
 pub mod LeftLemmas
 pub mod PutLemmas
 pub mod CountLemmas
+pub mod NoteLemmas

@@ -13,7 +13,7 @@ use Rattle.bus_run.specs.Audit.{IsSpelled, IsFirstFault}
 use Rattle.bus_run.specs.Left.{Held, Shown}
 use Rattle.bus_run.specs.Stops.{AreInOrder, IsWhole, is_gate, has_gate, AreUnstopped, IsFirstStop, IsLate, IsTextFault, IsNamed, IsStop}
 use Rattle.bus_run.specs.declared.audits.AuditFault.{AuditFault}
-use Rattle.bus_run.specs.declared.audits.AuditFault.TheVariants.{Count, NotEnded}
+use Rattle.bus_run.specs.declared.audits.AuditFault.TheVariants.{Count, NotEnded, Left}
 use Rattle.bus_run.specs.declared.faults.RunFault.{RunFault}
 use Rattle.bus_run.specs.declared.faults.RunFault.TheVariants as run
 use Rattle.bus_run.specs.declared.faults.SenderFault.{SenderFault}
@@ -57,6 +57,7 @@ unstopped (Some fault) e = absurd (true≢false e)
 pub named : (order : Order) (heards : List Hearing) (why : AuditFault) → IsFirstFault order heards why → IsNamed (length heards) why
 named order heards (Count r s) h = (slice_get_within heards r h.1 h.2, h.3)
 named order heards (NotEnded r) h = slice_get_within heards r h.1 h.2
+named order heards (Left s) h = h.1
 
 module _ {D E : Type 0} (number : D → ℕ) (noted : D → Option SenderFault) (sender : D → SenderSeat Held) (shape : Shape) (messages room : ℕ) (send_workers : List D) (receive_workers : List E) (seats : List Shown) (heards : List Hearing) where
   -- the fault of the workers

@@ -8,7 +8,7 @@ use Rattle.std.proofs.lemmas.List.Elements.{filter-append}
 use Rattle.std.proofs.lemmas.Option.{slice_get-map, same_Some}
 use Rattle.bus_register.specs.declared.registers.SenderNo.{SenderNo}
 use Rattle.bus_batch.specs.declared.messages.Item.{Item}
-use Rattle.bus_batch.specs.Frames.{Frame, IsFrame, AreFramesFrom, Order, Spells, order_of, items_of, frame_words, log_words}
+use Rattle.bus_batch.specs.Frames.{Frame, IsFrame, AreFramesFrom, Order, Spells, order_of, item_in, items_in, entries_of, frame_words, log_words}
 use Rattle.bus_batch.proofs.FrameLaws.{same_frame}
 use Rattle.bus_deliverylog.specs.Orders.{of_sender}
 use Rattle.bus_world.specs.Headline.{Action, IsPrefix, puts}
@@ -60,7 +60,12 @@ begun n m least least' (f ∷ fs) (g ∷ gs) rest a b e =
     record { rest = r.rest; together = (let first = s.0 in let later = r.together in cc) }
 
 of_more : (s : ℕ) (fs more : List Frame) → of_sender s (order_of (fs ++ more)) ≡ of_sender s (order_of fs) ++ of_sender s (order_of more)
-of_more s fs more = ap (filter (λ (i : Item). i.sender.0 == s)) (flat_map-append items_of fs more) ∙ filter-append (λ (i : Item). i.sender.0 == s) (flat_map items_of fs) (flat_map items_of more)
+of_more s fs more =
+    let first = flat_map entries_of fs in
+    let later = flat_map entries_of more in
+    ap (λ z. filter (λ (i : Item). i.sender.0 == s) (items_in z)) (flat_map-append entries_of fs more)
+    ∙ ap (filter (λ (i : Item). i.sender.0 == s)) (flat_map-append item_in first later)
+    ∙ filter-append (λ (i : Item). i.sender.0 == s) (items_in first) (items_in later)
 
 none_more : (xs ys : List Item) → length (xs ++ ys) ≡ length xs → xs ++ ys ≡ xs
 none_more xs ys same = ap (λ z. xs ++ z) (nil_from_length ys (let all = length-append xs ys in omega arith)) ∙ append-nil xs

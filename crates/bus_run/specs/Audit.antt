@@ -4,14 +4,14 @@ use Rattle.std.specs.Int.{w64, to_be_bytes}
 use Rattle.bus_register.specs.declared.limits.TheConstants.{MOST_SENDERS, MOST_LOG_WORDS}
 use Rattle.bus_register.specs.declared.registers.SenderNo.{SenderNo}
 use Rattle.bus_batch.specs.declared.messages.Item.{Item}
-use Rattle.bus_batch.specs.Frames.{Order, Spells}
+use Rattle.bus_batch.specs.Frames.{Order, Spells, items_in, has_gone}
 use Rattle.bus_deliverylog.specs.Orders.{of_sender}
 use Rattle.bus_world.specs.declared.shapes.Shape.{Shape}
 use Rattle.bus_pageslot.specs.Outcomes.{Outcome}
 use Rattle.bus_receiver.specs.Hearing.{Hearing}
 use Rattle.bus_run.specs.declared.limits.TheConstants.{ROUNDS, ROWS}
 use Rattle.bus_run.specs.declared.audits.AuditFault.{AuditFault}
-use Rattle.bus_run.specs.declared.audits.AuditFault.TheVariants.{Count, NotEnded}
+use Rattle.bus_run.specs.declared.audits.AuditFault.TheVariants.{Count, NotEnded, Left}
 
 -- The words that were left spell an order. They spell one alone.
 abbrev pub IsSpelled : Outcome → Type 0
@@ -39,12 +39,25 @@ IsSummed h = (length h.counts ≡ MOST_SENDERS) × (sum h.counts ≡ h.items)
 
 -- its total is that of the items of the order
 abbrev pub CountsAll : Order → Hearing → Type 0
-CountsAll order h = h.items ≡ length order.items
+CountsAll order h = h.items ≡ length (items_in order.entries)
 
--- the receivers before the one that is named are fair, and it is not
+-- none of the senders below this one has left
+abbrev pub StayBelow : ℕ → Order → Type 0
+StayBelow many order = (s : ℕ) → s < many → has_gone s order ≡ false
+
+-- no sender has left
+abbrev pub AllStay : Order → Type 0
+AllStay order = StayBelow MOST_SENDERS order
+
+-- of all senders that have left this is the lowest
+abbrev pub IsFirstLeaver : Order → ℕ → Type 0
+IsFirstLeaver order sender = StayBelow sender order × (has_gone sender order ≡ true)
+
+-- the receivers before the one that is named are fair, and it is not; or all are, and a sender has left
 abbrev pub IsFirstFault : Order → List Hearing → AuditFault → Type 0
 IsFirstFault order heards (Count receiver sender) = All (IsFair order) (take receiver heards) × (h : Hearing) × (slice_get heards receiver ≡ Some h) × (sender < MOST_SENDERS) × Miscounts order h sender
 IsFirstFault order heards (NotEnded receiver) = All (IsFair order) (take receiver heards) × (h : Hearing) × (slice_get heards receiver ≡ Some h) × CountsBelow MOST_SENDERS order h × (h.ended ≡ false)
+IsFirstFault order heards (Left sender) = All (IsFair order) heards × (sender < MOST_SENDERS) × IsFirstLeaver order sender
 
 -- so many items of each of so many senders
 abbrev pub SendsEach : ℕ → ℕ → Order → Type 0

@@ -4,15 +4,16 @@ use Rattle.bus_batch.specs.Frames.{Order}
 use Rattle.bus_world.specs.declared.shapes.Shape.{Shape}
 use Rattle.bus_pageslot.specs.Outcomes.{Outcome}
 use Rattle.bus_receiver.specs.Hearing.{Hearing}
-use Rattle.bus_run.specs.Audit.{OfOrder, IsSpelled, IsFair, CountsAll, SendsEach, CarriesNumbers, IsClosed}
+use Rattle.bus_run.specs.Audit.{OfOrder, IsSpelled, IsFair, CountsAll, SendsEach, CarriesNumbers, IsClosed, AllStay}
 use Rattle.bus_run.specs.Left.{run_plan, IsLeftBehind}
 
--- The order has so many items of each of so many senders, which carry the numbers from 0 on, and has ended; and each note has counted all
--- of it and the end, with the total of all its items.
+-- The order has so many items of each of so many senders, which carry the numbers from 0 on; it has ended, and no sender has left; and each
+-- note has counted all of it and the end, with the total of all its items.
 pub record IsHeardWhole (senders messages : ℕ) (heards : List Hearing) (order : Order) : Type 0 where
   pub sends : SendsEach senders messages order
   pub carried : CarriesNumbers senders order
   pub closed : IsClosed order
+  pub stay : AllStay order
   pub fair : All (IsFair order) heards
   pub all : All (CountsAll order) heards
 

@@ -1,7 +1,8 @@
 -- What a worker's sender does where it sends, and where it closes.
 use Rattle.std.specs.Prelude.{◌≡◌, [], ◌∷◌, ◌++◌}
+use Rattle.bus_batch.specs.declared.messages.Mark.TheVariants as mark
 use Rattle.bus_tenure.specs.declared.turns.Turn.{Turn}
-use Rattle.bus_world.specs.Headline.{HasClosed}
+use Rattle.bus_world.specs.Headline.{HasMarked}
 use Rattle.bus_pageslot.specs.Seats.{SenderSeat, actions_of}
 use Rattle.bus_pageslot.specs.Turns.{Sends}
 use Rattle.bus_run.specs.Left.{Held, run_process, run_tells}
@@ -13,6 +14,6 @@ SendsOn first answer new = Sends run_process run_tells first answer new
 -- it let an end mark wait, and its turns then answered so
 pub record Closes (first : SenderSeat Held) (answer : Turn) (new : SenderSeat Held) : Type 0 where
   pub asked : SenderSeat Held
-  pub core : asked.core ≡ run_process.with_close first.core
-  pub actions : actions_of run_process asked ≡ actions_of run_process first ++ HasClosed ∷ []
+  pub core : asked.core ≡ run_process.with_mark first.core mark.End
+  pub actions : actions_of run_process asked ≡ actions_of run_process first ++ HasMarked mark.End ∷ []
   pub sends : SendsOn asked answer new

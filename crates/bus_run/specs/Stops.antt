@@ -15,7 +15,7 @@ use Rattle.bus_run.specs.Audit.{shape_of_run, OfOrder, IsSpelled, SendsEach, IsC
 use Rattle.bus_run.specs.Left.{Held, run_process, run_plan, RunServes, RunRefuses, batch_of, Shown, IsLeftBy, IsLeftBehind, IsToldByAll}
 use Rattle.bus_run.specs.Numbers.{numbers_below}
 use Rattle.bus_run.specs.declared.audits.AuditFault.{AuditFault}
-use Rattle.bus_run.specs.declared.audits.AuditFault.TheVariants.{Count, NotEnded}
+use Rattle.bus_run.specs.declared.audits.AuditFault.TheVariants.{Count, NotEnded, Left}
 use Rattle.bus_run.specs.declared.faults.RunFault.{RunFault}
 use Rattle.bus_run.specs.declared.faults.RunFault.TheVariants as run
 use Rattle.bus_run.specs.declared.faults.SenderFault.{SenderFault}
@@ -85,7 +85,7 @@ IsOpen order = order.ended ≡ false
 abbrev pub IsFirstMiscount : ℕ → ℕ → Order → Type 0
 IsFirstMiscount s messages order = IsClosed order × SendsEach s messages order × (length (of_sender s order) ≢ messages)
 
--- all of so many senders have sent all, the order has ended and says so, and a receiver noted something else
+-- all of so many senders have sent all, the order has ended and says so, and a receiver noted something else, or a sender has left
 abbrev pub IsFirstUnfair : ℕ → ℕ → List Hearing → AuditFault → Order → Type 0
 IsFirstUnfair senders messages heards why order = IsClosed order × SendsEach senders messages order × IsFirstFault order heards why
 
@@ -122,6 +122,7 @@ IsTextFault left heards other = ⊥
 abbrev pub IsNamed : ℕ → AuditFault → Type 0
 IsNamed receivers (Count receiver sender) = (receiver < receivers) × (sender < MOST_SENDERS)
 IsNamed receivers (NotEnded receiver) = receiver < receivers
+IsNamed receivers (Left sender) = sender < MOST_SENDERS
 
 -- what can go wrong once there is a bus of so many senders and receivers
 abbrev pub IsStop : ℕ → ℕ → RunFault → Type 0

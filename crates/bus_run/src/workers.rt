@@ -271,7 +271,7 @@ impl<B: OfBus, W: Wait, G> SendAll<'_, B, W, G> {
     fn send_batch(&self, send_worker: &mut SendWorker<B>) -> bool {
         !matches!(
             send_worker.send(self.wait, self.the),
-            Turn::Full | Turn::Closed | Turn::Spent
+            Turn::Left { .. } | Turn::Full | Turn::Closed | Turn::Spent
         )
     }
 }

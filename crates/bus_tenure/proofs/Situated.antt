@@ -1,6 +1,6 @@
 -- What the situation of a sender tells of its phase.
 use Rattle.std.proofs.Common.{◌≡◌, ℕ, Bool, true, false, cond, ◌&&◌, nat_lt, nat_le, is_some, refl, subst}
-use Rattle.bus_tenure.specs.Core.{Core, Election, frame_len, has_room, is_empty, is_closing, is_closed}
+use Rattle.bus_tenure.specs.Core.{Core, Election, frame_len, has_room, is_empty, is_marking, is_closed}
 use Rattle.bus_tenure.specs.Situations.{Situation, IsClosed, IsIdle, IsSpent, LooksAtStage, Elects, TakesPage, AwaitsPage, StoresWord, StoresLength, GivesBack, HasHanded, situation_at, situation_of}
 use Rattle.bus_tenure.specs.declared.pages.Page.{Page}
 use Rattle.bus_tenure.specs.declared.phases.Reason.TheVariants.{Sent, FoundEnd, NoRoom}
@@ -39,7 +39,7 @@ module _ {E : Type 0} (X : Election E) where
   by_hold false false false f published t stored page = (stored, published, refl)
 
   tells_at : (c : Core E) (ph : Phase E) → Tells (situation_at X c ph) ph
-  tells_at c Resting = by_rest (is_closed c.queue.phase) (is_empty c.queue.messages && cond (is_closing c.queue.phase) false true) (nat_le c.layout.rows c.least)
+  tells_at c Resting = by_rest (is_closed c.queue.phase) (is_empty c.queue.messages && cond (is_marking c.queue.phase) false true) (nat_le c.layout.rows c.least)
   tells_at c (Electing t e) = by_owner (is_some (X.owner e)) t e refl
   tells_at c (Taken t) = refl
   tells_at c (Holding t page stored published) = by_hold published page.ended (has_room c page) (nat_lt stored (frame_len c)) published t stored page

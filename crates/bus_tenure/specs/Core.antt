@@ -1,10 +1,11 @@
 -- One sender: the words of the bus that it is on, its batch, and the tenure that it has begun.
-use Rattle.std.specs.Prelude.{ℕ, ◌+◌, ◌*◌, Bool, true, false, Option, List, [], ◌∷◌, length, nat_le, slice_set}
+use Rattle.std.specs.Prelude.{ℕ, ◌+◌, ◌*◌, Bool, true, false, Option, List, [], ◌∷◌, length, nat_le, slice_set, if◌then◌else◌}
 use Rattle.bus_register.specs.declared.kinds.Kind.{Kind}
 use Rattle.bus_register.specs.declared.registers.Op.{Op}
 use Rattle.bus_batch.specs.Batches.{Pending, next_of, frame_of}
 use Rattle.bus_batch.specs.declared.batches.Phase.{Phase as BatchPhase}
-use Rattle.bus_batch.specs.declared.batches.Phase.TheVariants.{Open, Closing, Closed}
+use Rattle.bus_batch.specs.declared.batches.Phase.TheVariants.{Open, Marking, Closed}
+use Rattle.bus_batch.specs.declared.messages.Mark.TheVariants as mark
 use Rattle.bus_batch.specs.Frames.{frame_words}
 use Rattle.bus_tenure.specs.declared.pages.Page.{Page}
 use Rattle.bus_tenure.specs.declared.phases.Reason.{Reason}
@@ -56,16 +57,30 @@ pub record Election (E : Type 0) : Type 0 where
   -- of so many senders, number me, with so many rounds, over words from a place on
   pub started : ℕ → ℕ → ℕ → ℕ → E
 
--- an end mark waits
+-- a mark waits in place of messages
+abbrev pub is_marking : BatchPhase → Bool
+is_marking Open = false
+is_marking (Marking m) = true
+is_marking Closed = false
+
+-- that is the end mark
 abbrev pub is_closing : BatchPhase → Bool
 is_closing Open = false
-is_closing Closing = true
+is_closing (Marking mark.End) = true
+is_closing (Marking mark.Leave) = false
 is_closing Closed = false
+
+-- that is the sender's leave mark
+abbrev pub is_leaving : BatchPhase → Bool
+is_leaving Open = false
+is_leaving (Marking mark.End) = false
+is_leaving (Marking mark.Leave) = true
+is_leaving Closed = false
 
 -- nothing more is sent
 abbrev pub is_closed : BatchPhase → Bool
 is_closed Open = false
-is_closed Closing = false
+is_closed (Marking m) = false
 is_closed Closed = true
 
 abbrev pub is_empty : {A : Type 0} → List A → Bool
@@ -80,8 +95,14 @@ frame_len c = length (frame_words (frame_of c.queue 0))
 abbrev pub has_room : {E : Type 0} → Core E → Page → Bool
 has_room c page = nat_le (page.words + frame_len c) c.layout.capacity
 
--- the page as a holder hands it on: the numbers, the end mark, the tenures and the words brought up to date
+-- the page as a holder hands it on: the numbers, who left, the end mark, the tenures and the words brought up to date
 abbrev pub page_after : {E : Type 0} → Core E → ℕ → Page → Reason → Page
-page_after c t page Sent = record { next = slice_set page.next c.me (next_of c.queue); ended = is_closing c.queue.phase; tenures = t + 1; words = page.words + frame_len c }
+page_after c t page Sent = record {
+  next = slice_set page.next c.me (next_of c.queue);
+  left = if is_leaving c.queue.phase then slice_set page.left c.me true else page.left;
+  ended = is_closing c.queue.phase;
+  tenures = t + 1;
+  words = page.words + frame_len c;
+}
 page_after c t page FoundEnd = record page { tenures = t + 1 }
 page_after c t page NoRoom = record page { tenures = t + 1 }

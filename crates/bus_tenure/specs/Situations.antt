@@ -6,9 +6,11 @@ use Rattle.bus_register.specs.declared.kinds.Kind.TheVariants as kind
 use Rattle.bus_register.specs.declared.registers.Op.{Op}
 use Rattle.bus_register.specs.declared.registers.Op.TheVariants.{Load, Store}
 use Rattle.bus_batch.specs.Batches.{Pending, next_of, frame_of, phase_sent}
-use Rattle.bus_batch.specs.declared.batches.Phase.TheVariants.{Closed}
+use Rattle.bus_batch.specs.declared.batches.Phase.{Phase as BatchPhase}
+use Rattle.bus_batch.specs.declared.batches.Phase.TheVariants.{Open, Marking, Closed}
+use Rattle.bus_batch.specs.declared.messages.Mark.TheVariants as mark
 use Rattle.bus_batch.specs.Frames.{Frame, frame_words}
-use Rattle.bus_tenure.specs.Core.{Core, Election, length_at, stage_at, row_at, log_at, is_closing, is_closed, is_empty, frame_len, has_room, page_after}
+use Rattle.bus_tenure.specs.Core.{Core, Election, length_at, stage_at, row_at, log_at, is_marking, is_closed, is_empty, frame_len, has_room, page_after}
 use Rattle.bus_tenure.specs.declared.pages.Page.{Page}
 use Rattle.bus_tenure.specs.declared.phases.Reason.{Reason}
 use Rattle.bus_tenure.specs.declared.phases.Reason.TheVariants.{Sent, FoundEnd, NoRoom}
@@ -21,7 +23,7 @@ use Rattle.bus_tenure.specs.declared.turns.Turn.TheVariants as turn
 pub data Situation (E : Type 0) : Type 0 where
   -- it is closed
   IsClosed : Situation E
-  -- nothing is pending, and it is not closing
+  -- nothing is pending, and no mark waits
   IsIdle : Situation E
   -- no tenure is begun, and none is left to enter
   IsSpent : Situation E
@@ -45,7 +47,7 @@ pub data Situation (E : Type 0) : Type 0 where
 abbrev pub resting : {E : Type 0} → Core E → Situation E
 resting c =
     if is_closed c.queue.phase then IsClosed else
-    (if is_empty c.queue.messages && (if is_closing c.queue.phase then false else true) then IsIdle else
+    (if is_empty c.queue.messages && (if is_marking c.queue.phase then false else true) then IsIdle else
     (if nat_le c.layout.rows c.least then IsSpent else LooksAtStage))
 
 abbrev pub electing : {E : Type 0} → Election E → ℕ → E → Situation E
@@ -164,8 +166,15 @@ queue_after NoRoom q = record q { busy = false }
 abbrev pub core_at_rest : {E : Type 0} → Core E → Reason → ℕ → Core E
 core_at_rest c reason t = record c { queue = queue_after reason c.queue; least = t + 1; phase = Resting }
 
+-- the answer once its frame stands in the log: the end mark, its leave mark, or its messages
+abbrev pub answer_sent : Pending → ℕ → BatchPhase → Turn
+answer_sent q t Open = turn.Delivered t q.first (next_of q - 1)
+answer_sent q t (Marking mark.End) = turn.Closed
+answer_sent q t (Marking mark.Leave) = turn.Left t
+answer_sent q t Closed = turn.Delivered t q.first (next_of q - 1)
+
 abbrev pub answer_of_return : Pending → ℕ → Reason → Turn
-answer_of_return q t Sent = if is_closing q.phase then turn.Closed else turn.Delivered t q.first (next_of q - 1)
+answer_of_return q t Sent = answer_sent q t q.phase
 answer_of_return q t FoundEnd = turn.Closed
 answer_of_return q t NoRoom = turn.Full
 

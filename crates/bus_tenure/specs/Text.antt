@@ -10,6 +10,7 @@ turn_text turn.Going = codes "going"
 turn_text (turn.Lost t o) = codes "lost " ++ decimal t ++ codes " " ++ decimal o.0
 turn_text (turn.Own t) = codes "own " ++ decimal t
 turn_text (turn.Delivered t first last) = codes "delivered " ++ decimal t ++ codes " " ++ decimal first ++ codes " " ++ decimal last
+turn_text (turn.Left t) = codes "left " ++ decimal t
 turn_text turn.Full = codes "full"
 turn_text turn.Closed = codes "closed"
 turn_text turn.Spent = codes "spent"

@@ -1,6 +1,6 @@
 //! What the holder of the lock guards.
 
-ghost use Rattle.std.specs.Prelude.{◌≡◌, ◌<◌, IfOk, slice_set};
+ghost use Rattle.std.specs.Prelude.{◌≡◌, ◌<◌, IfOk, slice_set, true, if◌then◌else◌};
 
 use bus_register::limits::MOST_SENDERS;
 use bus_register::{NoMemory, SenderNo};
@@ -12,6 +12,8 @@ use std::marker::Model;
 pub struct Page {
     /// For each sender the number of its next message in the order.
     pub next: [u64; MOST_SENDERS],
+    /// For each sender whether it has left. No sender goes by it.
+    pub left: [bool; MOST_SENDERS],
     /// The order has ended: nothing is appended any more.
     pub ended: bool,
     /// How many tenures have ended.
@@ -57,17 +59,29 @@ impl OwnedPage {
         self.page.tenures = tenures;
     }
 
-    /// A frame of this sender stands in the log, and `number` is that of its next message.
-    pub(crate) fn take_frame(&mut self, sender: SenderNo, number: u64, ended: bool, words: u64)
+    /// A frame of this sender stands in the log, and `number` is that of its next message. With
+    /// that frame it has left, or it has not.
+    pub(crate) fn take_frame(
+        &mut self,
+        sender: SenderNo,
+        number: u64,
+        left: bool,
+        ended: bool,
+        words: u64,
+    )
         requires { sender.0 < MOST_SENDERS }
         ensures { self.new ≡ record self.old {
           next = slice_set self.old.next sender.0 number;
+          left = if left then slice_set self.old.left sender.0 true else self.old.left;
           ended = ended;
           words = words;
         } }
     {
         let page = &mut *self.page;
         page.next[usize::from(sender.0)] = number;
+        if left {
+            page.left[usize::from(sender.0)] = true;
+        }
         page.ended = ended;
         page.words = words;
     }

@@ -8,8 +8,9 @@ ghost use Rattle.bus_batch.specs.Batches.{next_of, frame_of, HasSomething, CanPu
 ghost use Rattle.bus_batch.specs.Batches.{CanClose, IsCloseFault};
 ghost use Rattle.bus_batch.specs.Frames.{frame_words};
 ghost use Rattle.bus_batch.specs.declared.batches.Phase.TheVariants as queue_phase;
-ghost use Rattle.bus_tenure.specs.Core.{log_at, Core, row_at, words_of, is_closing, is_closed};
-ghost use Rattle.bus_tenure.specs.Core.{frame_len, has_room, page_after};
+ghost use Rattle.bus_batch.specs.declared.messages.Mark.TheVariants as mark;
+ghost use Rattle.bus_tenure.specs.Core.{log_at, Core, row_at, words_of, is_marking, is_closing};
+ghost use Rattle.bus_tenure.specs.Core.{is_leaving, is_closed, frame_len, has_room, page_after};
 ghost use Rattle.bus_tenure.specs.Elections.{election_of, elections, layout_with, ElectorKeeps};
 ghost use Rattle.bus_tenure.specs.Keeping.{SenderInvariant, IsInTenure};
 ghost use Rattle.bus_tenure.specs.Seen.{turns_of, tenure_of, HasElection, AwaitsItsPage};
@@ -18,7 +19,7 @@ ghost use Rattle.bus_tenure.specs.Situations.{core_begun, LooksAtStage, GivesBac
 ghost use Rattle.bus_tenure.specs.Situations.{holding, situation_of, kind_at, op_at, core_at_rest};
 ghost use Rattle.bus_tenure.specs.Situations.{core_after_stage, tenure_begun, fed_at};
 ghost use Rattle.bus_tenure.specs.Situations.{answer_of_stage, answer_of_return, answer_at};
-ghost use Rattle.bus_tenure.specs.Situations.{wants_at};
+ghost use Rattle.bus_tenure.specs.Situations.{wants_at, answer_sent};
 ghost use Rattle.bus_tenure.specs.declared.pages.Page.{Page};
 ghost use Rattle.bus_tenure.specs.declared.phases.Phase.TheVariants as phase;
 ghost use Rattle.bus_tenure.specs.Doings.{doing_of, Ends, IsWord};
@@ -29,7 +30,7 @@ use super::pages::{OwnedPage, Page};
 use super::phases::{Phase, Reason};
 use super::turns::Turn;
 use bus_adoptcommit::Ratifier;
-use bus_batch::{Batch, CloseFault, PutFault};
+use bus_batch::{Batch, CloseFault, Message, PutFault};
 use bus_ownerbits::Election;
 use bus_register::limits::{MOST_BODY_WORDS, MOST_ROUNDS, MOST_SENDERS, NUMBERS, TENURES};
 use bus_register::{Kind, Machine, Op, Reg, SenderNo};
@@ -168,13 +169,29 @@ impl<Q: Ratifier + Drop> Turns<Q> {
     pub fn close(&mut self) -> Result<(), CloseFault>
         ensures taken { OnOk result
             (self.new ≡ record self.old {
-              queue = record self.old.queue { phase = queue_phase.Closing };
+              queue = record self.old.queue { phase = queue_phase.Marking mark.End };
             }) }
         ensures could { OnOk result (CanClose self.old.queue) }
         ensures fault { IfErr result (IsCloseFault self.old.queue) }
         ensures refused { OnErr result (self.new ≡ self.old) }
     {
         self.batch.close()
+    }
+
+    /// Lets its leave mark wait in place of messages. Once that stands in the log the answer is
+    /// Left, and nothing more is sent. A holder that finds the order ended answers Closed, and
+    /// nothing more is sent either; where the mark does not fit the log it answers Full, and the
+    /// mark waits on.
+    pub fn leave(&mut self) -> Result<(), CloseFault>
+        ensures taken { OnOk result
+            (self.new ≡ record self.old {
+              queue = record self.old.queue { phase = queue_phase.Marking mark.Leave };
+            }) }
+        ensures could { OnOk result (CanClose self.old.queue) }
+        ensures fault { IfErr result (IsCloseFault self.old.queue) }
+        ensures refused { OnErr result (self.new ≡ self.old) }
+    {
+        self.batch.leave()
     }
 
     /// The sender's number.
@@ -191,6 +208,13 @@ impl<Q: Ratifier + Drop> Turns<Q> {
         self.batch.len()
     }
 
+    /// The messages that wait.
+    pub fn waiting(&self) -> &[Message]
+        ensures { result.now ≡ self.now.queue.messages }
+    {
+        self.batch.waiting()
+    }
+
     /// The number that the next message gets.
     pub fn next_number(&self) -> u64
         ensures { result ≡ next_of self.now.queue }
@@ -205,7 +229,14 @@ impl<Q: Ratifier + Drop> Turns<Q> {
         self.batch.is_closing()
     }
 
-    /// Nothing more is sent.
+    /// Its leave mark waits.
+    pub fn is_leaving(&self) -> bool
+        ensures { result ≡ is_leaving self.now.queue.phase }
+    {
+        self.batch.is_leaving()
+    }
+
+    /// Nothing more is sent: it has closed or left, or has found the order ended.
     pub fn is_closed(&self) -> bool
         ensures { result ≡ is_closed self.now.queue.phase }
     {
@@ -227,12 +258,19 @@ impl<Q: Ratifier + Drop> Turns<Q> {
         }
     }
 
-    /// Nothing is pending, and no end mark waits.
+    /// A mark waits in place of messages.
+    fn is_marking(&self) -> bool
+        ensures { result ≡ is_marking self.now.queue.phase }
+    {
+        self.is_closing() || self.is_leaving()
+    }
+
+    /// Nothing is pending, and no mark waits.
     fn has_nothing(&self) -> bool
         ensures { IsTrue result
-            ↔ ((self.now.queue.messages ≡ []) × (is_closing self.now.queue.phase ≡ false)) }
+            ↔ ((self.now.queue.messages ≡ []) × (is_marking self.now.queue.phase ≡ false)) }
     {
-        self.batch.is_empty() && !self.is_closing()
+        self.batch.is_empty() && !self.is_marking()
     }
 
     /// What it does where no tenure is begun.
@@ -608,29 +646,38 @@ impl<Q: Ratifier + Drop> Turns<Q> {
         }
     }
 
+    /// The answer once its frame stands in the log.
+    fn sent(&self, tenure: u64) -> Turn
+        requires { HasSomething self.now.queue }
+        ensures { result ≡ answer_sent self.now.queue tenure self.now.queue.phase }
+    {
+        if self.is_closing() {
+            return Turn::Closed;
+        }
+        if self.is_leaving() {
+            return Turn::Left { tenure };
+        }
+        let next = self.next_number();
+        Turn::Delivered {
+            tenure,
+            first: next - self.pending(),
+            last: next - 1,
+        }
+    }
+
     /// Ends the tenure: the contents are sent, or come back, or are never sent.
     fn finish(&mut self, tenure: u64, reason: Reason) -> Turn
         requires { IsInTenure self.old tenure }
         ensures state { self.new ≡ core_at_rest self.old reason tenure }
         ensures answer { result ≡ answer_of_return self.old.queue tenure reason }
     {
-        let closing = self.is_closing();
-        let next = self.next_number();
-        let first = next - self.pending();
+        let sent = self.sent(tenure);
         self.least = tenure + 1;
         self.phase = Phase::Resting;
         match reason {
             Reason::Sent => {
                 self.batch.done();
-                if closing {
-                    Turn::Closed
-                } else {
-                    Turn::Delivered {
-                        tenure,
-                        first,
-                        last: next - 1,
-                    }
-                }
+                sent
             }
             Reason::FoundEnd => {
                 self.batch.ended();
@@ -670,7 +717,7 @@ impl<Q: Ratifier + Drop> Turns<Q> {
     }
 
     /// Brings the page up to date for the next owner: the tenures, and after a frame the sender's
-    /// number, the end mark and the words.
+    /// number, whether it has left, the end mark and the words.
     fn update(&self, tenure: u64, page: &mut OwnedPage, reason: Reason)
         requires below { tenure < 2 ^ 63 }
         requires room { reason ≡ Reason.Sent → page.old.words + frame_len self.now < 2 ^ 64 }
@@ -682,7 +729,8 @@ impl<Q: Ratifier + Drop> Turns<Q> {
         match reason {
             Reason::Sent => {
                 let words = page.get().words + self.frame_len();
-                page.take_frame(self.me, self.next_number(), self.is_closing(), words);
+                let (left, ended) = (self.is_leaving(), self.is_closing());
+                page.take_frame(self.me, self.next_number(), left, ended, words);
             }
             Reason::FoundEnd | Reason::NoRoom => {}
         }

@@ -12,7 +12,7 @@ use std::fmt;
 /// It is written in the words of `replay`, as `lost 2 0` or `delivered 1 0 3`.
 #[derive(Clone, Copy, Debug, PartialEq, Eq)]
 pub enum Turn {
-    /// Nothing is pending, and it is not closing. No step was taken.
+    /// Nothing is pending, and no mark waits. No step was taken.
     Idle,
     /// The stage shows no tenure that it may enter: another sender holds the page, or it has been
     /// there.
@@ -25,9 +25,11 @@ pub enum Turn {
     Own { tenure: u64 },
     /// Its messages with these numbers, the first and the last, stand in the order.
     Delivered { tenure: u64, first: u64, last: u64 },
-    /// Its frame does not fit the log. The messages are kept.
+    /// Its leave mark stands in the order, by its frame of this tenure: it has left for good.
+    Left { tenure: u64 },
+    /// Its frame does not fit the log. The messages, or the mark, are kept.
     Full,
-    /// The order has ended, or it has closed: nothing more is sent.
+    /// The order has ended, or it has closed or left: nothing more is sent.
     Closed,
     /// All tenures of the sitting are spent.
     Spent,
@@ -51,6 +53,7 @@ impl fmt::Display for Turn {
                 first,
                 last,
             } => write!(f, "delivered {tenure} {first} {last}"),
+            Turn::Left { tenure } => write!(f, "left {tenure}"),
             Turn::Full => f.write_str("full"),
             Turn::Closed => f.write_str("closed"),
             Turn::Spent => f.write_str("spent"),

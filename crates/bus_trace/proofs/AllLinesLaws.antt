@@ -17,7 +17,7 @@ use Rattle.bus_tenure.specs.Elections.{Elector}
 use Rattle.bus_core.specs.Senders.{Sender}
 use Rattle.bus_machine.specs.Machine.{Machine, Happens, has_stopped, going}
 use Rattle.bus_tenure.specs.Core.{Election}
-use Rattle.bus_world.specs.World.{Event, Put, Close, Turn, Recv, Stop}
+use Rattle.bus_world.specs.World.{Event, Put, Ask, Turn, Recv, Stop}
 use Rattle.bus_world.specs.declared.events.Answer.{Answer}
 use Rattle.bus_world.specs.declared.events.StepFault.{StepFault}
 use Rattle.bus_world.specs.declared.events.StepFault.TheVariants as fault
@@ -132,7 +132,7 @@ module _ {E : Type 0} (X : Election E) where
 
   few_kept : (m : Machine E) (e : Event) (a : Answer) (new : Machine E) → HasFew m → Happens X m e a new → HasFew new
   few_kept m (Put s bytes) a new few h = subst HasFew (sym h.after) (few_set MOST_SENDERS m.senders s _ few.0, few.1)
-  few_kept m (Close s) a new few h = subst HasFew (sym h.after) (few_set MOST_SENDERS m.senders s _ few.0, few.1)
+  few_kept m (Ask s mark) a new few h = subst HasFew (sym h.after) (few_set MOST_SENDERS m.senders s _ few.0, few.1)
   few_kept m (Turn s word) a new few h = subst HasFew (sym h.after) (few_set MOST_SENDERS m.senders s _ few.0, few.1)
   few_kept m (Recv r) a new few h = subst HasFew (sym h.after) (few.0, few_set MOST_RECEIVERS m.receivers r _ few.1)
   few_kept m (Stop s) a new few h = subst HasFew (sym h.after) few
@@ -143,7 +143,7 @@ module _ {E : Type 0} (X : Election E) where
 
   few_asked : (m : Machine E) (e : Event) (a : Answer) (new : Machine E) → HasFew m → Happens X m e a new → AsksFew e
   few_asked m (Put s bytes) a new few h = sender_few m s h.sender few h.goes
-  few_asked m (Close s) a new few h = sender_few m s h.sender few h.goes
+  few_asked m (Ask s mark) a new few h = sender_few m s h.sender few h.goes
   few_asked m (Turn s word) a new few h = sender_few m s h.sender few h.goes
   few_asked m (Recv r) a new few h = let lt = slice_get_within m.receivers r h.receiver h.there in omega (arith, lt, few.1)
   few_asked m (Stop s) a new few h = sender_few m s h.sender few h.goes

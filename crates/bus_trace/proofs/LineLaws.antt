@@ -14,14 +14,15 @@ use Rattle.bus_deliverylog.specs.Text.{hex_digit, hex_pair, hex_text, item_text,
 use Rattle.bus_deliverylog.specs.declared.receiving.RecvTurn.{RecvTurn}
 use Rattle.bus_deliverylog.specs.declared.receiving.RecvTurn.TheVariants as recv
 use Rattle.bus_batch.specs.declared.messages.Item.{Item}
+use Rattle.bus_batch.specs.declared.messages.Mark.TheVariants as mark
 use Rattle.bus_machine.specs.Machine.{Machine, going}
 use Rattle.bus_tenure.specs.Core.{Election}
 use Rattle.bus_tenure.specs.Text.{turn_text}
 use Rattle.bus_tenure.specs.declared.turns.Turn.{Turn as Turned}
 use Rattle.bus_tenure.specs.declared.turns.Turn.TheVariants as turn
-use Rattle.bus_world.specs.Headline.{Action, HasPut, HasClosed, Stepped}
-use Rattle.bus_world.specs.Trails.{put_actions, close_actions}
-use Rattle.bus_world.specs.World.{Event, Put, Close, Turn, Recv, Stop}
+use Rattle.bus_world.specs.Headline.{Action, HasPut, HasMarked, Stepped}
+use Rattle.bus_world.specs.Trails.{put_actions, mark_actions}
+use Rattle.bus_world.specs.World.{Event, Put, Ask, Turn, Recv, Stop}
 use Rattle.bus_world.specs.declared.events.Answer.{Answer}
 use Rattle.bus_world.specs.declared.events.Answer.TheVariants as answer
 use Rattle.bus_replay.specs.Text.{behind, answer_text}
@@ -127,6 +128,7 @@ plain_turn turn.Going = plain_by (codes "going") refl
 plain_turn (turn.Lost t o) = then_another (codes "lost " ++ decimal t) o.0 (then_number (codes "lost ") t (plain_by (codes "lost ") refl))
 plain_turn (turn.Own t) = then_number (codes "own ") t (plain_by (codes "own ") refl)
 plain_turn (turn.Delivered t first last) = then_another (codes "delivered " ++ decimal t ++ codes " " ++ decimal first) last (then_another (codes "delivered " ++ decimal t) first (then_number (codes "delivered ") t (plain_by (codes "delivered ") refl)))
+plain_turn (turn.Left t) = then_number (codes "left ") t (plain_by (codes "left ") refl)
 plain_turn turn.Full = plain_by (codes "full") refl
 plain_turn turn.Closed = plain_by (codes "closed") refl
 plain_turn turn.Spent = plain_by (codes "spent") refl
@@ -158,11 +160,13 @@ plain_recv recv.Going = plain_by (codes "going") refl
 plain_recv recv.Empty = plain_by (codes "empty") refl
 plain_recv (recv.Head t o) = then_another (codes "head " ++ decimal t) o.0 (then_number (codes "head ") t (plain_by (codes "head ") refl))
 plain_recv (recv.Item i) = plain_append (codes "item ") (item_text i) (plain_by (codes "item ") refl) (plain_item i)
+plain_recv (recv.Leave s) = then_number (codes "leave ") s.0 (plain_by (codes "leave ") refl)
 plain_recv recv.End = plain_by (codes "end") refl
 
 plain_answer : (a : Answer) → IsPlain (answer_text a)
 plain_answer (answer.Number n) = numbered_word (codes "number") n (plain_by (codes "number") refl)
 plain_answer answer.Closing = plain_by (codes "closing") refl
+plain_answer answer.Leaving = plain_by (codes "leaving") refl
 plain_answer (answer.Turn t) = plain_turn t
 plain_answer (answer.Recv t) = plain_recv t
 plain_answer answer.Stopped = plain_by (codes "stopped") refl
@@ -197,7 +201,8 @@ with_step p tenure k found (Some o) = record {
 
 of_action : (p : TraceSizes) (o : Option Op) (d : Action) → IsMiddle (action_text p o d)
 of_action p o (HasPut number bytes) = without_step (codes "put") family.Call refl (plain_by (codes "put") refl)
-of_action p o HasClosed = without_step (codes "close") family.Call refl (plain_by (codes "close") refl)
+of_action p o (HasMarked mark.End) = without_step (codes "close") family.Call refl (plain_by (codes "close") refl)
+of_action p o (HasMarked mark.Leave) = without_step (codes "leave") family.Call refl (plain_by (codes "leave") refl)
 of_action p o (Stepped tenure k found chose answer) = with_step p tenure k found o
 
 of_actions : (p : TraceSizes) (o : Option Op) (actions : List Action) → IsMiddle (actions_text p o actions)
@@ -224,7 +229,7 @@ a_stop = without_step (codes "stop") family.Call refl (plain_by (codes "stop") r
 -- ---- who is asked, where a bus can have it
 abbrev pub AsksFew : Event → Type 0
 AsksFew (Put s bytes) = s < MOST_SENDERS
-AsksFew (Close s) = s < MOST_SENDERS
+AsksFew (Ask s mark) = s < MOST_SENDERS
 AsksFew (Turn s word) = s < MOST_SENDERS
 AsksFew (Recv r) = r < MOST_RECEIVERS
 AsksFew (Stop s) = s < MOST_SENDERS
@@ -240,8 +245,8 @@ pub line_read : {E : Type 0} (p : TraceSizes) (X : Election E) (line : ℕ) (m :
     → IsReadable (row_text p X line m e a)
 line_read p X line m (Put s bytes) a few = readable (decimal line) (codes "sender" ++ behind s) (columns p X m (Put s bytes) a)
     (answer_text a) (plain_decimal line) (a_sender s few) (of_actions p None (put_actions bytes a)) (plain_answer a)
-line_read p X line m (Close s) a few = readable (decimal line) (codes "sender" ++ behind s) (columns p X m (Close s) a) (answer_text a)
-    (plain_decimal line) (a_sender s few) (of_actions p None (close_actions a)) (plain_answer a)
+line_read p X line m (Ask s mark) a few = readable (decimal line) (codes "sender" ++ behind s) (columns p X m (Ask s mark) a)
+    (answer_text a) (plain_decimal line) (a_sender s few) (of_actions p None (mark_actions a)) (plain_answer a)
 line_read p X line m (Turn s word) a few = readable (decimal line) (codes "sender" ++ behind s) (columns p X m (Turn s word) a)
     (answer_text a) (plain_decimal line) (a_sender s few) (of_sender p X (slice_index m.words) (going m s) word) (plain_answer a)
 line_read p X line m (Recv r) a few = readable (decimal line) (codes "receiver" ++ behind r) (columns p X m (Recv r) a) (answer_text a)

@@ -4,13 +4,14 @@ use Rattle.std.specs.Prelude.{codes, decimal}
 use Rattle.std.proofs.lemmas.List.{append-nil, length-append}
 use Rattle.bus_register.specs.declared.kinds.Kind.{Kind}
 use Rattle.bus_register.specs.declared.registers.Op.{Op}
+use Rattle.bus_batch.specs.declared.messages.Mark.TheVariants as mark
 use Rattle.bus_core.specs.Senders.{Sender}
 use Rattle.bus_core.specs.Table.{line_now}
 use Rattle.bus_deliverylog.specs.Receiving.{Receiving, receiving_kind, receiving_op}
 use Rattle.bus_machine.specs.Machine.{Machine, Happens, has_stopped}
 use Rattle.bus_tenure.specs.Core.{Election}
-use Rattle.bus_world.specs.Trails.{put_actions, close_actions}
-use Rattle.bus_world.specs.World.{Event, Put, Close, Turn, Recv, Stop}
+use Rattle.bus_world.specs.Trails.{put_actions, mark_actions}
+use Rattle.bus_world.specs.World.{Event, Put, Ask, Turn, Recv, Stop}
 use Rattle.bus_world.specs.declared.events.Answer.{Answer}
 use Rattle.bus_replay.specs.Text.{answer_text}
 use Rattle.bus_register.specs.Words.{register}
@@ -44,7 +45,8 @@ receiver_told p words r (Some v) = due_told p words (Recv r) refl None (receivin
 columns_told : {E : Type 0} (p : TraceSizes) (X : Election E) (m m' : Machine E) (e : Event) (a : Answer) → Happens X m e a m'
     → columns p X m e a ≡ seen_told p e (seen_in (slice_index m.words) (due_by X m e))
 columns_told p X m m' (Put s bytes) a h = ap (λ (z : Answer). actions_text p None (put_actions bytes z)) h.answered
-columns_told p X m m' (Close s) a h = ap (λ (z : Answer). actions_text p None (close_actions z)) h.answered
+columns_told p X m m' (Ask s mark.End) a h = ap (λ (z : Answer). actions_text p None (mark_actions z)) h.answered
+columns_told p X m m' (Ask s mark.Leave) a h = ap (λ (z : Answer). actions_text p None (mark_actions z)) h.answered
 columns_told p X m m' (Turn s word) a h =
     let l = line_now X h.sender in
     ap (λ o. sender_text p X (slice_index m.words) o word) h.goes ∙ due_told p (slice_index m.words) (Turn s word) refl l.tenure l.kind

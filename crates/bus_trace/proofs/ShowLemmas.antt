@@ -17,9 +17,9 @@ use Rattle.bus_tenure.specs.Core.{Election}
 use Rattle.bus_tenure.specs.Elections.{Elector}
 use Rattle.bus_tenure.specs.Situations.{Situation as Own}
 use Rattle.bus_tenure.specs.declared.turns.Turn.{Turn as Answered}
-use Rattle.bus_world.specs.Trails.{step_action, put_actions, close_actions}
+use Rattle.bus_world.specs.Trails.{step_action, put_actions, mark_actions}
 use Rattle.bus_world.specs.Turning.{number_found}
-use Rattle.bus_world.specs.World.{Event, Put, Close, Turn, Recv, Stop}
+use Rattle.bus_world.specs.World.{Event, Put, Ask, Turn, Recv, Stop}
 use Rattle.bus_world.specs.declared.events.Answer.{Answer}
 use Rattle.bus_world.specs.declared.events.Answer.TheVariants as answer
 use Rattle.bus_trace.specs.Rows.{actions_text, due_text, line_text, sender_text, columns}
@@ -102,7 +102,7 @@ module _ {S : Type 0} (p : TraceSizes) (X : Election (Elector S)) (P : Protocol 
 
   pub shown : (e : Event) (a : Answer) (new : Machine (Elector S)) → Answers X P m e a new → Shows p X m e a
   shown (Put s bytes) a new h = ap (actions_text p None) (sym (own s (put_actions bytes a) []))
-  shown (Close s) a new h = ap (actions_text p None) (sym (own s (close_actions a) []))
+  shown (Ask s mark) a new h = ap (actions_text p None) (sym (own s (mark_actions a) []))
   shown (Turn s word) a new h = λ v goes.
       turn_shown s word a (turn_answer m (line_now X h.happens.sender) word) h.happens.answered v goes (subst (SenderCauses X P) goes h.causes)
   shown (Recv r) a new h = tt

@@ -32,7 +32,7 @@ use Rattle.bus_tenure.specs.declared.phases.Reason.TheVariants.{Sent, FoundEnd, 
 use Rattle.bus_core.specs.Reusing.Causes.{LeavesTenure, AsLoser, AsHolder, AsLate, StandsInside as StandsInRow}
 use Rattle.bus_core.specs.Reusing.Turns.{tenure_begun_by}
 use Rattle.bus_world.specs.Turning.{words_after}
-use Rattle.bus_world.specs.World.{Event, Put, Close, Turn, Recv, Stop}
+use Rattle.bus_world.specs.World.{Event, Put, Ask, Turn, Recv, Stop}
 use Rattle.bus_world.specs.declared.events.Answer.{Answer}
 use Rattle.bus_trace.specs.declared.seen.Step.{Step}
 use Rattle.bus_trace.specs.Steps.{step_of, sender_due, receiver_due, due_by, seen_in}
@@ -192,7 +192,7 @@ load_leaves v step n false false e = ap (λ (z : Step). after z.op n) (sym (same
 pub leaves : {E : Type 0} (X : Election E) (m m' : Machine E) (e : Event) (a : Answer) (step : Step) → Happens X m e a m'
     → Some step ≡ due_by X m e → slice_index m'.words (register step.op) ≡ after step.op (slice_index m.words (register step.op))
 leaves X m m' (Put s bytes) a step h is = absurd cc
-leaves X m m' (Close s) a step h is = absurd cc
+leaves X m m' (Ask s mark) a step h is = absurd cc
 leaves {E} X m m' (Turn s word) a step h is =
     let l = line_now X h.sender in
     let due = ap (λ o. sender_due X o word) (sym (there (has_stopped m s) (slice_get m.senders s) h.sender h.goes)) ∙ sym is in

@@ -4,14 +4,15 @@ use Rattle.bus_register.specs.declared.kinds.Kind.{Kind}
 use Rattle.bus_register.specs.declared.registers.Op.{Op}
 use Rattle.bus_register.specs.Names.{kind_name}
 use Rattle.bus_register.specs.Words.{register, after}
+use Rattle.bus_batch.specs.declared.messages.Mark.TheVariants as mark
 use Rattle.bus_core.specs.Senders.{Sender}
 use Rattle.bus_core.specs.Table.{Line, line_now}
 use Rattle.bus_deliverylog.specs.Receiving.{Receiving, receiving_kind, receiving_op}
 use Rattle.bus_machine.specs.Machine.{Machine, going}
 use Rattle.bus_tenure.specs.Core.{Election}
-use Rattle.bus_world.specs.Headline.{Action, HasPut, HasClosed, Stepped}
-use Rattle.bus_world.specs.Trails.{put_actions, close_actions}
-use Rattle.bus_world.specs.World.{Event, Put, Close, Turn, Recv, Stop}
+use Rattle.bus_world.specs.Headline.{Action, HasPut, HasMarked, Stepped}
+use Rattle.bus_world.specs.Trails.{put_actions, mark_actions}
+use Rattle.bus_world.specs.World.{Event, Put, Ask, Turn, Recv, Stop}
 use Rattle.bus_world.specs.declared.events.Answer.{Answer}
 use Rattle.bus_replay.specs.Text.{behind, answer_text}
 use Rattle.bus_trace.specs.Words.{TraceSizes, word_name}
@@ -40,7 +41,8 @@ step_text p tenure k found (Some o) = column (tenure_text tenure) ++ column (kin
 -- of an action of a sender; a step of it was this one
 abbrev pub action_text : TraceSizes → Option Op → Action → List ℕ
 action_text p o (HasPut number bytes) = no_step (codes "put")
-action_text p o HasClosed = no_step (codes "close")
+action_text p o (HasMarked mark.End) = no_step (codes "close")
+action_text p o (HasMarked mark.Leave) = no_step (codes "leave")
 action_text p o (Stepped tenure k found chose answer) = step_text p tenure k found o
 
 -- of what an event added to the trail of its sender: an action, or nothing
@@ -62,7 +64,7 @@ receiving_text p words (Some v) = due_text p words None (receiving_kind v) (rece
 -- who is asked
 abbrev pub who_text : Event → List ℕ
 who_text (Put s bytes) = column (codes "sender" ++ behind s)
-who_text (Close s) = column (codes "sender" ++ behind s)
+who_text (Ask s mark) = column (codes "sender" ++ behind s)
 who_text (Turn s word) = column (codes "sender" ++ behind s)
 who_text (Recv r) = column (codes "receiver" ++ behind r)
 who_text (Stop s) = column (codes "sender" ++ behind s)
@@ -76,10 +78,11 @@ abbrev pub sender_text : {E : Type 0} → TraceSizes → Election E → (ℕ →
 sender_text p X words None word = no_step (codes "-")
 sender_text p X words (Some v) word = line_text p words (line_now X v) word
 
--- of a put and of a close the action that it added, of a sender's turn the step that is due of it, and of a receiver the load that it makes
+-- of a put and of a mark that is asked for the action that it added, of a sender's turn the step that is due of it, and of a receiver
+-- the load that it makes
 abbrev pub columns : {E : Type 0} → TraceSizes → Election E → Machine E → Event → Answer → List ℕ
 columns p X m (Put s bytes) a = actions_text p None (put_actions bytes a)
-columns p X m (Close s) a = actions_text p None (close_actions a)
+columns p X m (Ask s mark) a = actions_text p None (mark_actions a)
 columns p X m (Turn s word) a = sender_text p X (slice_index m.words) (going m s) word
 columns p X m (Recv r) a = receiving_text p (slice_index m.words) (slice_get m.receivers r)
 columns p X m (Stop s) a = no_step (codes "stop")

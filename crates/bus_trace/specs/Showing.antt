@@ -8,7 +8,7 @@ use Rattle.bus_machine.specs.Machine.{Machine, Trails, no_machine_trails, trails
 use Rattle.bus_presence.specs.Reclamation.{Entry}
 use Rattle.bus_tenure.specs.Core.{Election}
 use Rattle.bus_tenure.specs.Situations.{Situation as Own}
-use Rattle.bus_world.specs.World.{Event, Put, Close, Turn, Recv, Stop}
+use Rattle.bus_world.specs.World.{Event, Put, Ask, Turn, Recv, Stop}
 use Rattle.bus_world.specs.declared.events.Answer.{Answer}
 use Rattle.bus_trace.specs.Rows.{no_step, step_text, actions_text, columns}
 use Rattle.bus_trace.specs.Words.{TraceSizes}
@@ -38,7 +38,7 @@ pub record ShowsTurn {E : Type 0} (p : TraceSizes) (X : Election E) (m : Machine
 
 abbrev pub Shows : {E : Type 0} → TraceSizes → Election E → Machine E → Event → Answer → Type 0
 Shows p X m (Put s bytes) a = columns p X m (Put s bytes) a ≡ actions_text p None ((added X m (Put s bytes) a).actions s)
-Shows p X m (Close s) a = columns p X m (Close s) a ≡ actions_text p None ((added X m (Close s) a).actions s)
+Shows p X m (Ask s mark) a = columns p X m (Ask s mark) a ≡ actions_text p None ((added X m (Ask s mark) a).actions s)
 Shows {E} p X m (Turn s word) a = (v : Sender E) → going m s ≡ Some v → ShowsTurn p X m s word a v
 Shows p X m (Recv r) a = Unit {0}
 Shows p X m (Stop s) a = added X m (Stop s) a ≡ no_machine_trails

@@ -8,7 +8,7 @@ use Rattle.bus_core.specs.Table.{Line, line_now}
 use Rattle.bus_deliverylog.specs.Receiving.{Receiving, receiving_kind, receiving_op}
 use Rattle.bus_machine.specs.Machine.{Machine}
 use Rattle.bus_tenure.specs.Core.{Election}
-use Rattle.bus_world.specs.World.{Event, Put, Close, Turn, Recv, Stop}
+use Rattle.bus_world.specs.World.{Event, Put, Ask, Turn, Recv, Stop}
 use Rattle.bus_trace.specs.declared.seen.Seen.{Seen}
 use Rattle.bus_trace.specs.declared.seen.Step.{Step}
 
@@ -33,7 +33,7 @@ receiver_due (Some v) = step_of None (receiving_kind v) (receiving_op v)
 -- the step that an event is to take on a word, if it takes one
 abbrev pub due_by : {E : Type 0} → Election E → Machine E → Event → Option Step
 due_by X m (Put s bytes) = None
-due_by X m (Close s) = None
+due_by X m (Ask s mark) = None
 due_by X m (Turn s word) = sender_due X (slice_get m.senders s) word
 due_by X m (Recv r) = receiver_due (slice_get m.receivers r)
 due_by X m (Stop s) = None

@@ -1,7 +1,8 @@
 -- The lines of a trace, as a program that has seen the steps makes them.
 use Rattle.std.specs.Prelude.{ℕ, Option, Some, None, List, [], ◌∷◌, ◌++◌, codes, decimal}
 use Rattle.bus_register.specs.Words.{register}
-use Rattle.bus_world.specs.World.{Event, Put, Close, Turn, Recv, Stop}
+use Rattle.bus_batch.specs.declared.messages.Mark.TheVariants as mark
+use Rattle.bus_world.specs.World.{Event, Put, Ask, Turn, Recv, Stop}
 use Rattle.bus_world.specs.declared.events.Answer.{Answer}
 use Rattle.bus_replay.specs.Text.{answer_text}
 use Rattle.bus_trace.specs.Words.{TraceSizes, word_name}
@@ -12,7 +13,8 @@ use Rattle.bus_trace.specs.declared.seen.Seen.{Seen}
 -- what stands in the place of a kind where there is no step
 abbrev pub name_told : Event → List ℕ
 name_told (Put s bytes) = codes "put"
-name_told (Close s) = codes "close"
+name_told (Ask s mark.End) = codes "close"
+name_told (Ask s mark.Leave) = codes "leave"
 name_told (Turn s word) = codes "-"
 name_told (Recv r) = codes "-"
 name_told (Stop s) = codes "stop"

@@ -14,6 +14,7 @@ pub fn push_answer(text: &mut String, answer: &Answer) -> Result<(), AllocError>
     match answer {
         Answer::Number(number) => write!(text, "number {number}"),
         Answer::Closing => text.push_str("closing"),
+        Answer::Leaving => text.push_str("leaving"),
         Answer::Stopped => text.push_str("stopped"),
         Answer::Turn(turn) => write!(text, "{turn}"),
         Answer::Recv(turn) => write!(text, "{turn}"),

@@ -49,6 +49,7 @@ fn push_who(text: &mut String, event: &Event) -> Result<(), AllocError>
     match event {
         Event::Put { sender, bytes: _ } => write!(text, "sender {sender}\t"),
         Event::Close(sender) => write!(text, "sender {sender}\t"),
+        Event::Leave(sender) => write!(text, "sender {sender}\t"),
         Event::Turn { sender, word: _ } => write!(text, "sender {sender}\t"),
         Event::Recv(receiver) => write!(text, "receiver {receiver}\t"),
         Event::Stop(sender) => write!(text, "sender {sender}\t"),
@@ -88,6 +89,7 @@ fn push_no_step(text: &mut String, event: &Event) -> Result<(), AllocError>
     match event {
         Event::Put { .. } => text.push_str("-\tput\t-\t-\t-\t"),
         Event::Close(_) => text.push_str("-\tclose\t-\t-\t-\t"),
+        Event::Leave(_) => text.push_str("-\tleave\t-\t-\t-\t"),
         Event::Stop(_) => text.push_str("-\tstop\t-\t-\t-\t"),
         Event::Turn { .. } | Event::Recv(_) => text.push_str("-\t-\t-\t-\t-\t"),
     }

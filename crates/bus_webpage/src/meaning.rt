@@ -15,6 +15,11 @@ const KINDS = {
         why: 'The sender is asked to end the order. It has to win a tenure for its end mark, ' +
             'as for any other frame.',
     },
+    leave: {
+        does: 'call',
+        why: 'The sender is asked to leave for good. It has to win a tenure for its leave ' +
+            'mark, as for any other frame.',
+    },
     stop: {
         does: 'call',
         why: 'The sender takes no step from here on. Its words stay as they are.',
@@ -137,8 +142,9 @@ const UNKNOWN = {does: 'exchange', why: 'a kind that this page does not know'};
 const PLAIN = {
     going: 'there is more to do', idle: 'nothing waits to be sent',
     waiting: 'it cannot enter a tenure now', full: 'the frame does not fit in the log',
-    closed: 'the order has ended for this sender', spent: 'no tenure is left',
+    closed: 'this sender sends nothing more', spent: 'no tenure is left',
     empty: 'nothing more is published', end: 'the order has ended', closing: 'an end mark waits',
+    leaving: 'a leave mark waits',
     stopped: 'for good',
 };
 
@@ -152,6 +158,8 @@ function saidAnswer(answer) {
     case 'own': return 'it is the owner of tenure ' + first + ' and has the page';
     case 'delivered':
         return 'in tenure ' + first + ' its messages ' + second + ' to ' + third + ' were sent';
+    case 'left': return 'in tenure ' + first + ' its leave mark was sent';
+    case 'leave': return 'sender ' + first + ' has left';
     case 'behind': return 'sender ' + second + ' may still be in tenure ' + first;
     case 'head': return 'a frame of tenure ' + first + ' by sender ' + second;
     case 'item': return 'message ' + second + ' of sender ' + first + ': ' + saidBytes(third);
@@ -239,6 +247,7 @@ function told(page, row) {
         return actor(row) + ' is given a message: ' + messageOfPut(page, row) + '.';
     }
     if (row.kind === 'close') return actor(row) + ' is asked to close the order.';
+    if (row.kind === 'leave') return actor(row) + ' is asked to leave for good.';
     if (row.kind === 'stop') return actor(row) + ' stops for good.';
     if (row.word === '-') return actor(row) + ' has a turn and takes no step.';
     const place = placeOf(row.word);

@@ -104,6 +104,7 @@ function processOf(page, who) {
         const [seat, number] = who.split(' ');
         page.processes.set(who, {
             who, seat, number: +number, steps: [], puts: [], given: [], delivered: [], stops: [],
+            left: [],
         });
     }
     return page.processes.get(who);
@@ -123,6 +124,7 @@ function noteRow(page, row, step) {
     if (row.kind === 'stop') process.stops.push(step);
     if (row.answer.startsWith('item ')) process.given.push(step);
     if (row.answer.startsWith('delivered ')) process.delivered.push(step);
+    if (row.answer.startsWith('left ')) process.left.push(step);
     if (row.kind === 'TakePage') page.takes.set(row.tenure, step);
     if (!page.firstOfLine.has(+row.line)) page.firstOfLine.set(+row.line, step);
     if (row.word === '-') return;
@@ -185,7 +187,8 @@ function framed(page, roles, final, from, end, owner) {
     let at = from;
     while (at < end && at < page.log.length) {
         const message = messageOf(final(at));
-        roles[at] = {is: message ? 'message' : 'end', owner};
+        const mark = bitsOf(final(at), 0, 1) ? 'leave' : 'end';
+        roles[at] = {is: message ? 'message' : mark, owner};
         const first = at;
         at += 1;
         const data = message ? Math.ceil(message.bytes / 8) : 0;

@@ -297,6 +297,7 @@ function linkTo(button, step) {
 function senderNotes(process) {
     const notes = [];
     if (holder() === process.who) notes.push('has the page');
+    if (countUpTo(process.left, view.step)) notes.push('has left');
     if (countUpTo(process.stops, view.step)) notes.push('stopped for good');
     const sent = countUpTo(process.delivered, view.step);
     const last = sent ? +rowAt(process.delivered[sent - 1]).answer.split(' ')[3] : -1;
@@ -497,6 +498,7 @@ function saidWord(index, value) {
     const message = role.is === 'message' && messageOf(value);
     if (message) return saidMessage(index, role.owner, message);
     if (role.is === 'bytes') return 'bytes of that message';
+    if (role.is === 'leave') return 'sender ' + role.owner + ' has left';
     return role.is === 'end' ? 'end of the order' : 'no word of a frame';
 }
 

@@ -10,11 +10,12 @@ use Rattle.bus_register.specs.Protocol.{Protocol, Laws}
 use Rattle.bus_register.specs.Tables.{put, Beside}
 use Rattle.bus_register.specs.Proved.TableLaws.{put_here, put_beside}
 use Rattle.bus_batch.specs.declared.batches.Phase.{Phase}
-use Rattle.bus_batch.specs.declared.batches.Phase.TheVariants.{Open, Closing, Closed}
+use Rattle.bus_batch.specs.declared.batches.Phase.TheVariants.{Open, Marking, Closed}
+use Rattle.bus_batch.specs.declared.messages.Mark.{Mark}
 use Rattle.bus_batch.specs.declared.messages.Item.{Item}
 use Rattle.bus_batch.specs.Messages.{IsMessage}
 use Rattle.bus_batch.specs.Batches.{Pending, IsKept, next_of, frame_of}
-use Rattle.bus_batch.specs.Frames.{AreFrames, Frame, order_of, log_words, frame_words}
+use Rattle.bus_batch.specs.Frames.{AreFrames, Frame, order_of, items_in, log_words, frame_words}
 use Rattle.bus_tenure.specs.Core.{Core, Election, Layout, log_at, is_empty}
 use Rattle.bus_tenure.specs.declared.pages.Page.{Page}
 use Rattle.bus_tenure.specs.declared.phases.Phase.{Phase as SenderPhase}
@@ -26,16 +27,16 @@ use Rattle.bus_world.specs.Bus.{IsLayout, Part, Fits, Sending}
 use Rattle.bus_world.proofs.BusLaws as bus
 use Rattle.bus_world.proofs.Framing.{front_lawful}
 use Rattle.bus_world.proofs.Bounds.{items_few}
-use Rattle.bus_world.specs.World.{is_open, can_put, can_close, put_in, close_in}
+use Rattle.bus_world.specs.World.{is_open, can_put, can_close, put_in, mark_in}
 
 -- ---- what a sender accepts
 pub data Accepted : Type 0 where
   Puts : (bytes : List ℕ) → Accepted
-  Closes : Accepted
+  Asks : Mark → Accepted
 
 abbrev pub accept : {E : Type 0} → Core E → Accepted → Core E
 accept c (Puts bytes) = put_in c bytes
-accept c Closes = close_in c
+accept c (Asks m) = mark_in c m
 
 abbrev pub accepting : {E : Type 0} → Core E → List Accepted → Core E
 accepting c [] = c
@@ -45,7 +46,7 @@ accepting c (a ∷ more) = accepting (accept c a) more
 abbrev pub AreAccepted : List Accepted → Type 0
 AreAccepted [] = Unit {0}
 AreAccepted (Puts bytes ∷ more) = All (λ byte. byte < 256) bytes × AreAccepted more
-AreAccepted (Closes ∷ more) = AreAccepted more
+AreAccepted (Asks m ∷ more) = AreAccepted more
 
 -- ---- fewer items than words
 shorter : {A : Type 0} (b : Bool) (x : A) (ys : List A) (n : ℕ) → length ys ≤ n → length (cond b (x ∷ ys) ys) ≤ suc n
@@ -57,12 +58,12 @@ filter_short p [] = omega arith
 filter_short p (x ∷ xs) = shorter (p x) x (filter p xs) (length xs) (filter_short p xs)
 
 pub sent_short : (senders s : ℕ) (frames : List Frame) → AreFrames senders frames → 17 * sent_count s frames ≤ 16 * length (log_words frames)
-sent_short senders s frames lawful = let a = filter_short (λ i. i.sender.0 == s) (order_of frames).items in let b = items_few senders frames lawful in omega arith
+sent_short senders s frames lawful = let a = filter_short (λ i. i.sender.0 == s) (items_in (order_of frames).entries) in let b = items_few senders frames lawful in omega arith
 
 -- ---- tests
 pub open_is : (ph : Phase) → is_open ph ≡ true → ph ≡ Open
 open_is Open e = refl
-open_is Closing e = absurd (true≢false (sym e))
+open_is (Marking m) e = absurd (true≢false (sym e))
 open_is Closed e = absurd (true≢false (sym e))
 
 pub not_busy : (b : Bool) → cond b false true ≡ true → b ≡ false
@@ -72,6 +73,9 @@ not_busy false e = refl
 pub empty_is : {A : Type 0} (xs : List A) → is_empty xs ≡ true → xs ≡ []
 empty_is [] e = refl
 empty_is (x ∷ xs) e = absurd (true≢false (sym e))
+
+open_apart : Open ≡ Closed → ⊥
+open_apart e = cc
 
 -- a batch that is not on its way is that of a sender that has begun no tenure
 pub idle_rests : (base : ℕ → ℕ) {E : Type 0} (words : ℕ → ℕ) (frames : List Frame) (c : Core E) (ph : SenderPhase E) → Fits base words frames c ph → c.queue.busy ≡ false → ph ≡ phase.Resting
@@ -90,14 +94,14 @@ module _ {E : Type 0} (X : Election E) (P : Protocol E (Unit {0}) ℕ) (laws : L
 
     -- its numbers stay far below their range
     first_below : (ph : SenderPhase E) → Fits base words frames c ph → 17 * c.queue.first ≤ 17 * base c.me + 16 * length (log_words frames)
-    first_below phase.Resting f = let short = sent_short x.senders c.me frames h.log.lawful in let first = f.1 in omega arith
-    first_below (phase.Electing t u) f = let short = sent_short x.senders c.me frames h.log.lawful in let first = f.1 in omega arith
+    first_below phase.Resting f = let short = sent_short x.senders c.me frames h.log.lawful in let first = f.1.0 in omega arith
+    first_below (phase.Electing t u) f = let short = sent_short x.senders c.me frames h.log.lawful in let first = f.1.0 in omega arith
     first_below (phase.Taken t) f = absurd f
     first_below (phase.Holding t page stored true) f =
-        let written = f.1 in let short = sent_short x.senders c.me written.front (front_lawful x.senders 0 written.front (frame_of c.queue t) (subst (AreFrames x.senders) written.frames_are h.log.lawful)).0 in let first = written.first in
+        let written = f.1 in let short = sent_short x.senders c.me written.front (front_lawful x.senders 0 written.front (frame_of c.queue t) (subst (AreFrames x.senders) written.frames_are h.log.lawful)).0 in let first = written.goes_on.0 in
         let more = ap length (ap log_words written.frames_are ∙ log_words-append written.front (frame_of c.queue t)) ∙ length-append (log_words written.front) (frame_words (frame_of c.queue t)) in
         omega arith
-    first_below (phase.Holding t page stored false) f = let short = sent_short x.senders c.me frames h.log.lawful in let first = f.1.first in omega arith
+    first_below (phase.Holding t page stored false) f = let short = sent_short x.senders c.me frames h.log.lawful in let first = f.1.goes_on.0 in omega arith
     first_below (phase.Giving t reason) f = absurd f
 
     pub numbers_fit : next_of c.queue < 2 ^ 48
@@ -116,8 +120,8 @@ module _ {E : Type 0} (X : Election E) (P : Protocol E (Unit {0}) ℕ) (laws : L
             | inr ne ↦ beside q ne
           ]
 
-      replaced : (q : Pending) → c.queue.busy ≡ false → q.busy ≡ false → q.sender ≡ c.queue.sender → q.first ≡ c.queue.first → IsKept q → senders' p ≡ Some (record c { queue = q }) → Sending base P x words home senders' owners frames
-      replaced q idle idle' sender first kept new =
+      replaced : (q : Pending) → c.queue.busy ≡ false → q.busy ≡ false → q.sender ≡ c.queue.sender → q.first ≡ c.queue.first → ((c.queue.phase ≡ Closed) × (c.queue.messages ≡ []) → (q.phase ≡ Closed) × (q.messages ≡ [])) → IsKept q → senders' p ≡ Some (record c { queue = q }) → Sending base P x words home senders' owners frames
+      replaced q idle idle' sender first closed kept new =
           let rests = idle_rests base words frames c c.phase own.fits idle in
           let fits = subst (Fits base words frames c) rests own.fits in
           bus.spends X P laws x ok width words home senders owners frames h p c (record c { queue = q }) senders' old new beside rests rests (omega arith)
@@ -127,7 +131,7 @@ module _ {E : Type 0} (X : Election E) (P : Protocol E (Unit {0}) ℕ) (laws : L
             below = own.below;
             sender = ap (λ (z : SenderNo). z.0) sender ∙ own.sender;
             queue = kept;
-            fits = subst (Fits base words frames (record c { queue = q })) (sym rests) (idle', first ∙ fits.1);
+            fits = subst (Fits base words frames (record c { queue = q })) (sym rests) (idle', (first ∙ fits.1.0, λ gone. closed (fits.1.1 gone)));
           }
 
       put_kept : (bytes : List ℕ) → All (λ byte. byte < 256) bytes → senders' p ≡ Some (put_in c bytes) → Sending base P x words home senders' owners frames
@@ -145,25 +149,27 @@ module _ {E : Type 0} (X : Election E) (P : Protocol E (Unit {0}) ℕ) (laws : L
               let room = ltb-true (length c.queue.messages) 16 sized.1 in
               let more = length-append c.queue.messages (bytes ∷ []) in
               let fit = numbers_fit in
-              replaced (record c.queue { messages = c.queue.messages ++ bytes ∷ [] }) idle idle refl refl
+              replaced (record c.queue { messages = c.queue.messages ++ bytes ∷ [] }) idle idle refl refl (λ z. absurd (open_apart (sym is ∙ z.0)))
               record {
                 few = (omega arith);
                 each = All-append IsMessage c.queue.messages (bytes ∷ []) own.queue.each (All-from_recursion IsMessage (bytes ∷ []) ((short, small), tt));
                 numbers = (omega arith);
-                alone = λ z. absurd (let bad = sym is ∙ z in let wrong : ⊥ = cc in wrong);
+                alone = λ m z. absurd (let bad = sym is ∙ z in let wrong : ⊥ = cc in wrong);
                 owner_bits = own.queue.owner_bits;
               } now
 
-      close_kept : senders' p ≡ Some (close_in c) → Sending base P x words home senders' owners frames
-      close_kept new = by_test (can_close c.queue) refl new
+      mark_kept : (m : Mark) → senders' p ≡ Some (mark_in c m) → Sending base P x words home senders' owners frames
+      mark_kept m new = by_test (can_close c.queue) refl new
         where
-          by_test : (b : Bool) → can_close c.queue ≡ b → senders' p ≡ Some (cond b (record c { queue = record c.queue { phase = Closing } }) c) → Sending base P x words home senders' owners frames
+          by_test : (b : Bool) → can_close c.queue ≡ b → senders' p ≡ Some (cond b (record c { queue = record c.queue { phase = Marking m } }) c) → Sending base P x words home senders' owners frames
           by_test false e now = unchanged now
           by_test true e now =
               let tests = and_parts (cond c.queue.busy false true) (is_empty c.queue.messages) (and_parts (is_open c.queue.phase) (cond c.queue.busy false true && is_empty c.queue.messages) e).1 in
               let idle = not_busy c.queue.busy tests.0 in
               let none = empty_is c.queue.messages tests.1 in
-              replaced (record c.queue { phase = Closing }) idle idle refl refl record { few = own.queue.few; each = own.queue.each; numbers = own.queue.numbers; alone = λ z. none; owner_bits = own.queue.owner_bits } now
+              let is = open_is c.queue.phase (and_parts (is_open c.queue.phase) (cond c.queue.busy false true && is_empty c.queue.messages) e).0 in
+              replaced (record c.queue { phase = Marking m }) idle idle refl refl (λ z. absurd (open_apart (sym is ∙ z.0)))
+              record { few = own.queue.few; each = own.queue.each; numbers = own.queue.numbers; alone = λ k z. none; owner_bits = own.queue.owner_bits } now
 
   -- a sender with all that it has accepted, in the place of the one before
   pub grows : (more : List Accepted) → AreAccepted more → (senders : ℕ → Option (Core E)) → Sending base P x words home senders owners frames → (c : Core E) → senders p ≡ Some c
@@ -173,7 +179,7 @@ module _ {E : Type 0} (X : Election E) (P : Protocol E (Unit {0}) ℕ) (laws : L
       let mid : ℕ → Option (Core E) = put p (Some (put_in c bytes)) senders in
       grows more each.1 mid (put_kept senders h c old mid (put_beside p (Some (put_in c bytes)) senders) bytes each.0 (put_here p (Some (put_in c bytes)) senders)) (put_in c bytes) (put_here p (Some (put_in c bytes)) senders)
       senders' (λ q ne. beside q ne ∙ sym (put_beside p (Some (put_in c bytes)) senders q ne)) new
-  grows (Closes ∷ more) each senders h c old senders' beside new =
-      let mid : ℕ → Option (Core E) = put p (Some (close_in c)) senders in
-      grows more each mid (close_kept senders h c old mid (put_beside p (Some (close_in c)) senders) (put_here p (Some (close_in c)) senders)) (close_in c) (put_here p (Some (close_in c)) senders)
-      senders' (λ q ne. beside q ne ∙ sym (put_beside p (Some (close_in c)) senders q ne)) new
+  grows (Asks m ∷ more) each senders h c old senders' beside new =
+      let mid : ℕ → Option (Core E) = put p (Some (mark_in c m)) senders in
+      grows more each mid (mark_kept senders h c old mid (put_beside p (Some (mark_in c m)) senders) m (put_here p (Some (mark_in c m)) senders)) (mark_in c m) (put_here p (Some (mark_in c m)) senders)
+      senders' (λ q ne. beside q ne ∙ sym (put_beside p (Some (mark_in c m)) senders q ne)) new

@@ -1,6 +1,6 @@
 -- Words of zero, the page at home and senders at their starts keep what senders, words, page and owners keep.
-use Rattle.std.proofs.Common.{◌≡◌, ℕ, ◌<◌, true, Option, Some, None, inl, inr, List, [], replicate, slice_index, arith, refl, sym, ◌∙◌, ap, subst}
-use Rattle.std.proofs.lemmas.Bool.{cases_lt}
+use Rattle.std.proofs.Common.{◌≡◌, ℕ, zero, suc, ◌<◌, true, false, Option, Some, None, inl, inr, List, [], replicate, slice_get, slice_index, arith, refl, sym, ◌∙◌, ap, subst}
+use Rattle.std.proofs.lemmas.Bool.{cases_lt, false≢true}
 use Rattle.std.proofs.lemmas.List.{get_or-replicate, get_or_past, length-replicate}
 use Rattle.std.proofs.lemmas.List.Elements.{All-from_recursion}
 use Rattle.std.proofs.lemmas.Option.{same_Some}
@@ -45,12 +45,17 @@ module _ {E : Type 0} (X : Election E) (P : Protocol E (Unit {0}) ℕ) (laws : L
         me = refl;
         below = n.0;
         sender = refl;
-        queue = record { few = omega arith; each = All-from_recursion IsMessage [] tt; numbers = (let a = are.low p in omega arith); alone = λ z. refl; owner_bits = omega arith };
-        fits = (refl, omega arith);
+        queue = record { few = omega arith; each = All-from_recursion IsMessage [] tt; numbers = (let a = are.low p in omega arith); alone = λ m z. refl; owner_bits = omega arith };
+        fits = (refl, (omega arith, λ gone. absurd (false≢true gone)));
       }
 
+  none_left : (n s : ℕ) → s < n → slice_get (replicate n false) s ≡ Some false
+  none_left zero s l = absurd (omega arith)
+  none_left (suc n) zero l = refl
+  none_left (suc n) (suc s) l = none_left n s (omega arith)
+
   new_knows : Knows (slice_index bases) (first_page bases) [] 0 0
-  new_knows = record { entries = are.many; next = λ s l. omega arith; ended = refl; tenures = refl; words = refl }
+  new_knows = record { entries = are.many; next = λ s l. omega arith; left = λ s l. none_left MOST_SENDERS s l; ended = refl; tenures = refl; words = refl }
 
   pub new_sending : Sending (slice_index bases) P x words (Some (first_page bases)) senders [] []
   new_sending = record {

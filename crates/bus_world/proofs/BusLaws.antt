@@ -1,5 +1,5 @@
 -- Each turn of a sender keeps what senders, words, page and owners keep.
-use Rattle.std.proofs.Common.{◌≡◌, ◌≢◌, ℕ, suc, ◌+◌, ◌*◌, ◌<◌, ◌≤◌, Bool, true, false, Option, Some, None, ◌⊎◌, inl, inr, List, [], ◌∷◌, ◌++◌, length, take, is_some, slice_get, slice_index, slice_set, arith, refl, sym, ◌∙◌, ap, subst}
+use Rattle.std.proofs.Common.{◌≡◌, ◌≢◌, ℕ, suc, ◌+◌, ◌*◌, ◌<◌, ◌≤◌, Bool, true, false, Option, Some, None, ◌⊎◌, inl, inr, List, [], ◌∷◌, ◌++◌, length, take, cond, ◌||◌, is_some, slice_get, slice_index, slice_set, arith, refl, sym, ◌∙◌, ap, subst}
 use Rattle.std.proofs.lemmas.Bool.{cases_eq, true≢false}
 use Rattle.std.proofs.lemmas.List.{take_more, get_or-set_same, get_or-set_other}
 use Rattle.std.proofs.Math.ListN.{length-set}
@@ -14,9 +14,11 @@ use Rattle.bus_register.specs.declared.registers.SenderNo.{SenderNo}
 use Rattle.bus_register.specs.Words.{register, after}
 use Rattle.bus_register.specs.Tables.{of_some, Beside, Agree, Stepped}
 use Rattle.bus_register.specs.Protocol.{Protocol, Laws}
-use Rattle.bus_batch.specs.Batches.{Pending, IsKept, next_of, frame_of}
-use Rattle.bus_batch.specs.Frames.{Frame, frame_words, IsFrame, items_of, has_end}
-use Rattle.bus_tenure.specs.Core.{Core, Election, Layout, log_at, frame_len, page_after}
+use Rattle.bus_batch.specs.Batches.{Pending, IsKept, next_of, frame_of, phase_sent}
+use Rattle.bus_batch.specs.declared.batches.Phase.{Phase as BatchPhase}
+use Rattle.bus_batch.specs.declared.batches.Phase.TheVariants.{Open, Marking, Closed}
+use Rattle.bus_batch.specs.Frames.{Frame, frame_words, IsFrame, items_of, has_end, leaves, order_of, has_gone}
+use Rattle.bus_tenure.specs.Core.{Core, Election, Layout, is_leaving, log_at, frame_len, page_after}
 use Rattle.bus_tenure.specs.Situations.{core_at_rest, queue_after}
 use Rattle.bus_tenure.specs.declared.phases.Reason.{Reason}
 use Rattle.bus_tenure.specs.declared.phases.Reason.TheVariants.{Sent, FoundEnd, NoRoom}
@@ -25,21 +27,45 @@ use Rattle.bus_tenure.specs.declared.phases.Phase.{Phase}
 use Rattle.bus_tenure.specs.declared.phases.Phase.TheVariants as phase
 use Rattle.bus_world.specs.Log.{words_read_from, next_number, AreCounted, AreEarlier, Logged, Knows}
 use Rattle.bus_register.specs.Tables.{put}
-use Rattle.bus_register.specs.Proved.TableLaws.{put_here, put_beside, some_or_none, push_beside}
-use Rattle.bus_world.proofs.LogLaws.{read-agree, Logged-agree, Logged-publish, next-append_other, next-append_owner, has_end-append, AreEarlier-append, AreEarlier-later}
+use Rattle.bus_register.specs.Proved.TableLaws.{put_here, put_beside, some_or_none, push_beside, get_set_same, get_set_other}
+use Rattle.bus_world.proofs.LogLaws.{read-agree, Logged-agree, Logged-publish, next-append_other, next-append_owner, gone-append_owner, gone-append_other, SaySame, say_same, has_end-append, AreEarlier-append, AreEarlier-later}
 use Rattle.bus_batch.proofs.BatchLaws.{is_frame}
-use Rattle.bus_world.proofs.FrameOfBatch.{counted_frame, length-items, ends-body}
+use Rattle.bus_world.proofs.FrameOfBatch.{counted_frame, length-items, ends-body, leaves-body}
 use Rattle.bus_ownerbits.specs.OneOwner.{OneOwner}
 use Rattle.bus_ownerbits.proofs.ElectionSteps.{row_within}
 use Rattle.bus_world.specs.Tenures.{Standing}
 use Rattle.bus_world.specs.Tenures.Standing.{Runs, Holds}
 use Rattle.bus_world.proofs.TenuresLaws as tenures
-use Rattle.bus_world.specs.Bus.{IsLayout, stands_at, standing_of, least_of, IsWriting, HasBegun, Fits, Part, AreOwned, Sending}
+use Rattle.bus_world.specs.Bus.{IsLayout, stands_at, standing_of, least_of, GoesOn, IsWriting, HasBegun, Fits, Part, AreOwned, Sending}
 
 -- one step on the words: the step's own word has changed and no other
 pub record Changes (o : Op) (words words' : ℕ → ℕ) : Type 0 where
   pub here : words' (register o) ≡ after o (words (register o))
   pub elsewhere : (r : ℕ) → r ≢ register o → words' r ≡ words r
+
+-- ---- who has left
+-- a sender that is not closed has not left
+pub still_here : (base : ℕ → ℕ) {E : Type 0} (frames : List Frame) (c : Core E) → GoesOn base frames c → (c.queue.phase ≡ Closed → ⊥) → has_gone c.me (order_of frames) ≡ false
+still_here base frames c g is_open = by_gone (has_gone c.me (order_of frames)) refl
+  where
+    by_gone : (b : Bool) → has_gone c.me (order_of frames) ≡ b → b ≡ false
+    by_gone true e = absurd (is_open (g.1 e).0)
+    by_gone false e = refl
+
+-- whose leave mark is sent is closed
+left_shut : (ph : BatchPhase) → is_leaving ph ≡ true → phase_sent ph ≡ Closed
+left_shut Open e = absurd (true≢false (sym e))
+left_shut (Marking m) e = refl
+left_shut Closed e = refl
+
+-- a page that notes that a sender has left, if it has
+noted_own : (left : List Bool) (me : ℕ) (b : Bool) → slice_get left me ≡ Some false → slice_get (cond b (slice_set left me true) left) me ≡ Some b
+noted_own left me true e = get_set_same left me true (slice_get_within left me false e)
+noted_own left me false e = e
+
+noted_other : (left : List Bool) (me : ℕ) (b : Bool) (s : ℕ) → s ≢ me → slice_get (cond b (slice_set left me true) left) s ≡ slice_get left s
+noted_other left me true s ne = get_set_other left me true s ne
+noted_other left me false s ne = refl
 
 -- the other words are the same
 pub Knows-len : {base : ℕ → ℕ} (page : Page) (frames : List Frame) (past len len' : ℕ) → len' ≡ len → Knows base page frames past len → Knows base page frames past len'
@@ -49,7 +75,7 @@ module _ (base : ℕ → ℕ) {E : Type 0} (x : Layout) (words words' : ℕ → 
     (agree : Agree (log_at x) x.capacity words words') (len : words' 0 ≡ words 0) where
   writing_stays : (t : ℕ) (page : Page) (stored : ℕ) → IsWriting base words frames c t page stored → IsWriting base words' frames c t page stored
   writing_stays t page stored w = record {
-    first = w.first;
+    goes_on = w.goes_on;
     page_knows = Knows-len page frames t (words 0) (words' 0) len w.page_knows;
     earlier = w.earlier;
     stored_below = w.stored_below;
@@ -68,28 +94,31 @@ module _ (base : ℕ → ℕ) {E : Type 0} (x : Layout) (words words' : ℕ → 
   Fits-agree (phase.Electing t e) f = f
   Fits-agree (phase.Taken t) f = f
   Fits-agree (phase.Holding t page stored false) f = (f.0, writing_stays t page stored f.1)
-  Fits-agree (phase.Holding t page stored true) f = (f.0, let h = f.1 in record { front = h.front; frames_are = h.frames_are; first = h.first; page_knows = h.page_knows; earlier = h.earlier; is_open = h.is_open; len_is = len ∙ h.len_is })
+  Fits-agree (phase.Holding t page stored true) f = (f.0, let h = f.1 in record { front = h.front; frames_are = h.frames_are; goes_on = h.goes_on; page_knows = h.page_knows; earlier = h.earlier; is_open = h.is_open; len_is = len ∙ h.len_is })
   Fits-agree (phase.Giving t reason) f = f
 
 pub Part-agree : {base : ℕ → ℕ} {E : Type 0} (x : Layout) (words words' : ℕ → ℕ) (frames : List Frame) (p : ℕ) (c : Core E) → Agree (log_at x) x.capacity words words' → words' 0 ≡ words 0 → Part base x words frames p c → Part base x words' frames p c
 Part-agree {base} x words words' frames p c agree len h = record { layout = h.layout; me = h.me; below = h.below; sender = h.sender; queue = h.queue; fits = Fits-agree base x words words' frames c h.layout agree len c.phase h.fits }
 
--- a sender that holds no page only counts its own items
-Fits-rests : (base : ℕ → ℕ) {E : Type 0} (words words' : ℕ → ℕ) (frames frames' : List Frame) (c : Core E) (ph : Phase E) → ((t : ℕ) → stands_at ph ≡ Holds t → ⊥) → next_number base c.me frames' ≡ next_number base c.me frames → Fits base words frames c ph → Fits base words' frames' c ph
-Fits-rests base words words' frames frames' c phase.Resting free e f = (f.0, f.1 ∙ sym e)
-Fits-rests base words words' frames frames' c (phase.Electing t u) free e f = (f.0, f.1 ∙ sym e)
+-- a sender that holds no page only counts its own items, and knows whether it has left
+goes_on_same : (base : ℕ → ℕ) {E : Type 0} (frames frames' : List Frame) (c : Core E) → SaySame base c.me frames frames' → GoesOn base frames c → GoesOn base frames' c
+goes_on_same base frames frames' c e g = (g.0 ∙ sym e.0, λ gone. g.1 (sym e.1 ∙ gone))
+
+Fits-rests : (base : ℕ → ℕ) {E : Type 0} (words words' : ℕ → ℕ) (frames frames' : List Frame) (c : Core E) (ph : Phase E) → ((t : ℕ) → stands_at ph ≡ Holds t → ⊥) → SaySame base c.me frames frames' → Fits base words frames c ph → Fits base words' frames' c ph
+Fits-rests base words words' frames frames' c phase.Resting free e f = (f.0, goes_on_same base frames frames' c e f.1)
+Fits-rests base words words' frames frames' c (phase.Electing t u) free e f = (f.0, goes_on_same base frames frames' c e f.1)
 Fits-rests base words words' frames frames' c (phase.Taken t) free e f = absurd (free t refl)
 Fits-rests base words words' frames frames' c (phase.Holding t page stored published) free e f = absurd (free t refl)
 Fits-rests base words words' frames frames' c (phase.Giving t reason) free e f = absurd (free t refl)
 
-pub Part-rests : {base : ℕ → ℕ} {E : Type 0} (x : Layout) (words words' : ℕ → ℕ) (frames frames' : List Frame) (p : ℕ) (c : Core E) → ((t : ℕ) → stands_at c.phase ≡ Holds t → ⊥) → next_number base p frames' ≡ next_number base p frames → Part base x words frames p c → Part base x words' frames' p c
+pub Part-rests : {base : ℕ → ℕ} {E : Type 0} (x : Layout) (words words' : ℕ → ℕ) (frames frames' : List Frame) (p : ℕ) (c : Core E) → ((t : ℕ) → stands_at c.phase ≡ Holds t → ⊥) → SaySame base p frames frames' → Part base x words frames p c → Part base x words' frames' p c
 Part-rests {base} x words words' frames frames' p c free e h = record {
   layout = h.layout;
   me = h.me;
   below = h.below;
   sender = h.sender;
   queue = h.queue;
-  fits = Fits-rests base words words' frames frames' c c.phase free (subst (λ z. next_number base z frames' ≡ next_number base z frames) (sym h.me) e) h.fits;
+  fits = Fits-rests base words words' frames frames' c c.phase free (subst (λ z. SaySame base z frames frames') (sym h.me) e) h.fits;
 }
 
 pub part_of : {base : ℕ → ℕ} {E : Type 0} (x : Layout) (words words' : ℕ → ℕ) (frames frames' : List Frame) (p : ℕ) (c : Core E) (ph : Phase E) → Part base x words frames p c → Fits base words' frames' (record c { phase = ph }) ph → Part base x words' frames' p (record c { phase = ph })
@@ -123,20 +152,20 @@ IsUnsent Sent = ⊥
 IsUnsent FoundEnd = Unit {0}
 IsUnsent NoRoom = Unit {0}
 
-unsent_base : (reason : Reason) → IsUnsent reason → (q : Pending) → (queue_after reason q).first ≡ q.first
-unsent_base Sent u q = absurd u
-unsent_base FoundEnd u q = refl
-unsent_base NoRoom u q = refl
+unsent_goes_on : (base : ℕ → ℕ) {E : Type 0} (frames : List Frame) (reason : Reason) → IsUnsent reason → (c : Core E) (t : ℕ) → GoesOn base frames c → GoesOn base frames (core_at_rest c reason t)
+unsent_goes_on base frames Sent u c t g = absurd u
+unsent_goes_on base frames FoundEnd u c t g = (g.0, λ gone. (refl, (g.1 gone).1))
+unsent_goes_on base frames NoRoom u c t g = g
 
 unsent_queue : (reason : Reason) → IsUnsent reason → (q : Pending) → IsKept q → IsKept (queue_after reason q)
 unsent_queue Sent u q is = absurd u
-unsent_queue FoundEnd u q is = record { few = is.few; each = is.each; numbers = is.numbers; alone = λ e. absurd cc; owner_bits = is.owner_bits }
+unsent_queue FoundEnd u q is = record { few = is.few; each = is.each; numbers = is.numbers; alone = λ m e. absurd cc; owner_bits = is.owner_bits }
 unsent_queue NoRoom u q is = record { few = is.few; each = is.each; numbers = is.numbers; alone = is.alone; owner_bits = is.owner_bits }
 
 unsent_knows : {base : ℕ → ℕ} {E : Type 0} (reason : Reason) → IsUnsent reason → (c : Core E) (t : ℕ) (page : Page) (frames : List Frame) (len : ℕ) → Knows base page frames t len → Knows base (page_after c t page reason) frames (t + 1) len
 unsent_knows Sent u c t page frames len k = absurd u
-unsent_knows FoundEnd u c t page frames len k = record { entries = k.entries; next = k.next; ended = k.ended; tenures = refl; words = k.words }
-unsent_knows NoRoom u c t page frames len k = record { entries = k.entries; next = k.next; ended = k.ended; tenures = refl; words = k.words }
+unsent_knows FoundEnd u c t page frames len k = record { entries = k.entries; next = k.next; left = k.left; ended = k.ended; tenures = refl; words = k.words }
+unsent_knows NoRoom u c t page frames len k = record { entries = k.entries; next = k.next; left = k.left; ended = k.ended; tenures = refl; words = k.words }
 
 AreOwned-push : (owners : List ℕ) (o : ℕ) (frames : List Frame) → AreOwned owners frames → AreOwned (owners ++ o ∷ []) frames
 AreOwned-push owners o [] a = tt
@@ -221,7 +250,7 @@ module _ {E : Type 0} (X : Election E) (P : Protocol E (Unit {0}) ℕ) (laws : L
       chosen_holding u page k published holds = chosen_from (λ t e o a b. absurd (holding_apart u page k published t e (sym holds ∙ a)))
 
       -- the others, where p alone may hold the page
-      others_rest : (t : ℕ) (words' : ℕ → ℕ) (frames' : List Frame) → S p ≡ Some (Holds t) → ((q : ℕ) → q ≢ p → next_number base q frames' ≡ next_number base q frames) → (q : ℕ) (d : Core E) → q ≢ p → senders q ≡ Some d → Part base x words' frames' q d
+      others_rest : (t : ℕ) (words' : ℕ → ℕ) (frames' : List Frame) → S p ≡ Some (Holds t) → ((q : ℕ) → q ≢ p → SaySame base q frames frames') → (q : ℕ) (d : Core E) → q ≢ p → senders q ≡ Some d → Part base x words' frames' q d
       others_rest t words' frames' holds same q d ne e = Part-rests x words words' frames frames' q d (λ u f. ne (sym (one_holder p q t u holds (stand q d e ∙ ap Some f)))) (same q ne) (h.parts q d e)
 
       others_agree : (words' : ℕ → ℕ) → Agree (log_at x) x.capacity words words' → words' 0 ≡ words 0 → (q : ℕ) (d : Core E) → q ≢ p → senders q ≡ Some d → Part base x words' frames q d
@@ -336,7 +365,7 @@ module _ {E : Type 0} (X : Election E) (P : Protocol E (Unit {0}) ℕ) (laws : L
             let k = h.page_knows page t at_home opened in (
               f.0,
               record {
-                first = f.1;
+                goes_on = f.1;
                 page_knows = Knows-len page frames t (words 0) (words' 0) (elsewhere 0 (omega arith)) k.0;
                 earlier = k.1;
                 stored_below = omega arith;
@@ -396,7 +425,7 @@ module _ {E : Type 0} (X : Election E) (P : Protocol E (Unit {0}) ℕ) (laws : L
 
           one_more : IsWriting base words' frames (record c { phase = phase.Holding t page (stored + 1) false }) t page (stored + 1)
           one_more = let w = writing.1 in record {
-            first = w.first;
+            goes_on = w.goes_on;
             page_knows = Knows-len page frames t (words 0) (words' 0) len_same w.page_knows;
             earlier = w.earlier;
             stored_below = omega arith;
@@ -418,7 +447,7 @@ module _ {E : Type 0} (X : Election E) (P : Protocol E (Unit {0}) ℕ) (laws : L
             log = subst (λ z. Logged base x.senders x.capacity (log_at x) words' z frames) (sym len_same) (Logged-agree x.senders x.capacity (log_at x) words (words 0) frames h.log words' (λ r a b. past r (omega arith)));
             owned = h.owned;
             page_knows = λ g u a b. let k = h.page_knows g u a (sym stage_same ∙ b) in (Knows-len g frames u (words 0) (words' 0) len_same k.0, k.1);
-            parts = parts_from words' frames (others_rest t words' frames is_holder (λ q ne. refl)) (subst (Part base x words' frames p) (sym goes) (part_of x words words' frames frames p c (phase.Holding t page (stored + 1) false) own_part (writing.0, one_more)));
+            parts = parts_from words' frames (others_rest t words' frames is_holder (λ q ne. (refl, refl))) (subst (Part base x words' frames p) (sym goes) (part_of x words words' frames frames p c (phase.Holding t page (stored + 1) false) own_part (writing.0, one_more)));
             chosen = chosen_holding t page (stored + 1) false (ap (λ z. z.phase) goes);
           }
 
@@ -456,7 +485,10 @@ module _ {E : Type 0} (X : Election E) (P : Protocol E (Unit {0}) ℕ) (laws : L
           len_now = word ∙ ap (λ z. z + frame_len c) written.1.page_knows.words
 
           counts : AreCounted (next_number base f.owner.0 frames) (items_of f)
-          counts = subst (λ z. AreCounted z (items_of f)) (written.1.first ∙ ap (λ z. next_number base z frames) (own_part.me ∙ sym sender_is)) (counted_frame c.queue t)
+          counts = subst (λ z. AreCounted z (items_of f)) (written.1.goes_on.0 ∙ ap (λ z. next_number base z frames) (own_part.me ∙ sym sender_is)) (counted_frame c.queue t)
+
+          has_stayed : has_gone f.owner.0 (order_of frames) ≡ false
+          has_stayed = subst (λ z. has_gone z (order_of frames) ≡ false) (own_part.me ∙ sym sender_is) (still_here base frames c written.1.goes_on written.0.is_open)
 
           pub publishes : Sending base P x words' home senders' owners (frames ++ f ∷ [])
           publishes = record {
@@ -464,18 +496,18 @@ module _ {E : Type 0} (X : Election E) (P : Protocol E (Unit {0}) ℕ) (laws : L
                 (λ r a b. elsewhere r (omega arith)) (elsewhere 1 (omega arith)) refl (S-same (ap (λ z. stands_at z.phase) goes ∙ sym (ap stands_at holds))) (L-same (ap (λ z. z.least) goes)) refl;
             log = subst (λ z. Logged base x.senders x.capacity (log_at x) words' z (frames ++ f ∷ [])) (sym len_now)
                 (Logged-agree x.senders x.capacity (log_at x) words (words 0 + length (frame_words f)) (frames ++ f ∷ [])
-                (Logged-publish x.senders x.capacity (log_at x) words (words 0) frames h.log f frame_lawful still_open written.1.earlier counts whole
+                (Logged-publish x.senders x.capacity (log_at x) words (words 0) frames h.log f frame_lawful still_open has_stayed written.1.earlier counts whole
                 (let a = written.1.page_knows.words in let b = ap (λ (z : Layout). z.capacity) own_part.layout in omega arith))
                 words' (λ r a b. elsewhere r (omega arith)));
             owned = AreOwned-append owners frames f h.owned (held.2 ∙ ap Some (sym sender_is));
             page_knows = λ g u a b. absurd (let y = elsewhere 1 (omega arith) in let z = held.1 in omega arith);
-            parts = parts_from words' (frames ++ f ∷ []) (others_rest t words' (frames ++ f ∷ []) is_holder (λ q ne. next-append_other base q frames f (λ e. ne (e ∙ sender_is))))
+            parts = parts_from words' (frames ++ f ∷ []) (others_rest t words' (frames ++ f ∷ []) is_holder (λ q ne. say_same base q frames f (λ e. ne (e ∙ sender_is))))
                 (subst (Part base x words' (frames ++ f ∷ []) p) (sym goes) (part_of x words words' frames (frames ++ f ∷ []) p c (phase.Holding t page stored true) own_part (
                   written.0,
                   record {
                     front = frames;
                     frames_are = refl;
-                    first = written.1.first;
+                    goes_on = written.1.goes_on;
                     page_knows = Knows-len page frames t (words 0) page.words written.1.page_knows.words written.1.page_knows;
                     earlier = written.1.earlier;
                     is_open = is_open;
@@ -487,9 +519,9 @@ module _ {E : Type 0} (X : Election E) (P : Protocol E (Unit {0}) ℕ) (laws : L
 
         -- ── it gives the page back ──
         module _ (reason : Reason) (words' : ℕ → ℕ) (stage : words' 1 ≡ 2 * t + 2) (elsewhere : (r : ℕ) → r ≢ 1 → words' r ≡ words r) (goes : c' ≡ core_at_rest c reason t)
-            (base_now : (queue_after reason c.queue).first ≡ next_number base c.me frames) (queue_now : IsKept (queue_after reason c.queue)) (knows_now : Knows base (page_after c t page reason) frames (t + 1) (words 0)) (earlier_now : AreEarlier (t + 1) frames) where
+            (goes_on_now : GoesOn base frames (core_at_rest c reason t)) (queue_now : IsKept (queue_after reason c.queue)) (knows_now : Knows base (page_after c t page reason) frames (t + 1) (words 0)) (earlier_now : AreEarlier (t + 1) frames) where
           rests_now : Fits base words' frames (core_at_rest c reason t) phase.Resting
-          rests_now = (not_busy reason c.queue, base_now)
+          rests_now = (not_busy reason c.queue, goes_on_now)
 
           pub gives_back : Sending base P x words' (Some (page_after c t page reason)) senders' owners frames
           gives_back = record {
@@ -520,7 +552,7 @@ module _ {E : Type 0} (X : Election E) (P : Protocol E (Unit {0}) ℕ) (laws : L
           pub gives_unsent : (reason : Reason) → IsUnsent reason → published ≡ false → c' ≡ core_at_rest c reason t → Sending base P x words' (Some (page_after c t page reason)) senders' owners frames
           gives_unsent reason unsent none_yet goes =
               let w = subst (λ z. Fits base words frames c (phase.Holding t page stored z)) none_yet (subst (Fits base words frames c) holds own_part.fits) in
-              gives_back reason words' stage elsewhere goes (unsent_base reason unsent c.queue ∙ w.1.first) (unsent_queue reason unsent c.queue own_part.queue) (unsent_knows reason unsent c t page frames (words 0) w.1.page_knows) (AreEarlier-later t (t + 1) frames (omega arith) w.1.earlier)
+              gives_back reason words' stage elsewhere goes (unsent_goes_on base frames reason unsent c t w.1.goes_on) (unsent_queue reason unsent c.queue own_part.queue) (unsent_knows reason unsent c t page frames (words 0) w.1.page_knows) (AreEarlier-later t (t + 1) frames (omega arith) w.1.earlier)
 
           pub gives_sent : published ≡ true → c' ≡ core_at_rest c Sent t → Sending base P x words' (Some (page_after c t page Sent)) senders' owners frames
           gives_sent sent_yet goes =
@@ -528,17 +560,27 @@ module _ {E : Type 0} (X : Election E) (P : Protocol E (Unit {0}) ℕ) (laws : L
               let f = frame_of c.queue t in
               let me_is : c.queue.sender.0 ≡ c.me = own_part.sender ∙ sym own_part.me in
               let base_now : next_of c.queue ≡ next_number base c.me frames =
-              ap (λ z. z + length c.queue.messages) w.1.first ∙ ap (λ z. next_number base c.me w.1.front + z) (sym (length-items c.queue t own_part.queue))
+              ap (λ z. z + length c.queue.messages) w.1.goes_on.0 ∙ ap (λ z. next_number base c.me w.1.front + z) (sym (length-items c.queue t own_part.queue))
               ∙ ap (λ z. next_number base z w.1.front + length (items_of f)) (sym me_is) ∙ sym (next-append_owner base w.1.front f) ∙ ap (λ z. next_number base z (w.1.front ++ f ∷ [])) me_is ∙ ap (next_number base c.me) (sym w.1.frames_are) in
               let k = w.1.page_knows in
               let small : c.me < MOST_SENDERS = let a = own_part.me in let b = own_part.below in let d = ok.senders in omega arith in
-              gives_back Sent words' stage elsewhere goes base_now
-              record { few = omega arith; each = none_short; numbers = (let a = own_part.queue.numbers in omega arith); alone = λ z. refl; owner_bits = own_part.queue.owner_bits }
+              let stayed : has_gone c.me (order_of w.1.front) ≡ false = still_here base w.1.front c w.1.goes_on w.0.is_open in
+              let gone_now : has_gone c.me (order_of frames) ≡ is_leaving c.queue.phase =
+              ap (λ z. has_gone c.me (order_of z)) w.1.frames_are ∙ ap (λ z. has_gone z (order_of (w.1.front ++ f ∷ []))) (sym me_is) ∙ gone-append_owner w.1.front f ∙ ap (λ z. has_gone z (order_of w.1.front) || leaves f.body) me_is
+              ∙ ap (λ b. b || leaves f.body) stayed ∙ leaves-body c.queue in
+              let others_gone : (s : ℕ) → s ≢ c.me → has_gone s (order_of w.1.front) ≡ has_gone s (order_of frames) =
+              λ s ne. sym (gone-append_other s w.1.front f (λ e. ne (e ∙ me_is))) ∙ ap (λ z. has_gone s (order_of z)) (sym w.1.frames_are) in
+              gives_back Sent words' stage elsewhere goes (base_now, λ gone. (left_shut c.queue.phase (sym gone_now ∙ gone), refl))
+              record { few = omega arith; each = none_short; numbers = (let a = own_part.queue.numbers in omega arith); alone = λ m z. refl; owner_bits = own_part.queue.owner_bits }
               record {
                 entries = length-set page.next c.me (next_of c.queue) ∙ k.entries;
                 next = λ s l. elim (cases_eq s c.me) [
                   | inl i ↦ ap (slice_index (slice_set page.next c.me (next_of c.queue))) i ∙ get_or-set_same page.next c.me (next_of c.queue) 0 (let a = k.entries in omega arith) ∙ base_now ∙ ap (λ z. next_number base z frames) (sym i)
                   | inr ne ↦ get_or-set_other page.next c.me s (next_of c.queue) 0 ne ∙ k.next s l ∙ sym (next-append_other base s w.1.front f (λ e. ne (e ∙ me_is))) ∙ ap (next_number base s) (sym w.1.frames_are)
+                ];
+                left = λ s l. elim (cases_eq s c.me) [
+                  | inl i ↦ ap (slice_get (page_after c t page Sent).left) i ∙ noted_own page.left c.me (is_leaving c.queue.phase) (k.left c.me small ∙ ap Some stayed) ∙ ap Some (sym gone_now) ∙ ap (λ z. Some (has_gone z (order_of frames))) (sym i)
+                  | inr ne ↦ noted_other page.left c.me (is_leaving c.queue.phase) s ne ∙ k.left s l ∙ ap Some (others_gone s ne)
                 ];
                 ended = sym (ends-body c.queue) ∙ sym (has_end-append w.1.front f (sym k.ended ∙ w.1.is_open)) ∙ ap has_end (sym w.1.frames_are);
                 tenures = refl;

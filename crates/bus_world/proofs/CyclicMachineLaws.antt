@@ -13,7 +13,8 @@ use Rattle.bus_register.specs.Tables.{put, of_some}
 use Rattle.bus_register.specs.Proved.TableLaws.{put_here, put_beside, get_set_same, get_set_other}
 use Rattle.bus_register.specs.Protocol.{Protocol, Laws}
 use Rattle.bus_batch.specs.Batches.{Pending, next_of}
-use Rattle.bus_batch.specs.declared.batches.Phase.TheVariants.{Closing}
+use Rattle.bus_batch.specs.declared.batches.Phase.TheVariants.{Marking}
+use Rattle.bus_batch.specs.declared.messages.Mark.{Mark}
 use Rattle.bus_deliverylog.specs.Receiving.{Receiving}
 use Rattle.bus_deliverylog.specs.declared.receiving.RecvTurn.{RecvTurn}
 use Rattle.bus_ownerbits.specs.OneOwner.{OneOwner}
@@ -35,11 +36,11 @@ use Rattle.bus_tenure.specs.declared.turns.Turn.{Turn as Answered}
 use Rattle.bus_tenure.proofs.Situated.{tells}
 use Rattle.bus_world.specs.Bus.{IsLayout, Part, Fits, standing_of, stands_at, least_of}
 use Rattle.bus_tenure.specs.declared.turns.Turn.TheVariants as turn
-use Rattle.bus_world.specs.Headline.{Action, HasPut, HasClosed}
-use Rattle.bus_world.specs.CyclicMachines.{CyclicMachine, yard_of, pin_in, core_in, Leads, IsCyclic, IsNewCyclic, IsOnWord, IsKeptCyclic, CyclicTrails, CyclicReached, NewCyclic, TurnTaken, PutTaken, CloseTaken, RecvTaken, StopTaken, participant_going, with_participant, participant_put, participant_closed, move_due, participant_moved, ring_after, ring_trails, ring_reclaims, ring_actions}
+use Rattle.bus_world.specs.Headline.{Action, HasPut, HasMarked}
+use Rattle.bus_world.specs.CyclicMachines.{CyclicMachine, yard_of, pin_in, core_in, Leads, IsCyclic, IsNewCyclic, IsOnWord, IsKeptCyclic, CyclicTrails, CyclicReached, NewCyclic, TurnTaken, PutTaken, MarkTaken, RecvTaken, StopTaken, participant_going, with_participant, participant_put, participant_marked, move_due, participant_moved, ring_after, ring_trails, ring_reclaims, ring_actions}
 use Rattle.bus_world.specs.Tenures.Standing.{Holds}
 use Rattle.bus_world.specs.Turning.{words_after, number_found, core_moved, after_step, home_after, owners_after}
-use Rattle.bus_world.specs.CyclicProtocols.{CyclicProtocol, Led, NewProtocol, Turned, PutIn, ClosedIn, Heard, AnswersDue, due_in, due_actions, actions_with, no_actions, no_answers, answers_with, trails_with, yard_after, words_stepped, word_found}
+use Rattle.bus_world.specs.CyclicProtocols.{CyclicProtocol, Led, NewProtocol, Turned, PutIn, MarkedIn, Heard, AnswersDue, due_in, due_actions, actions_with, no_actions, no_answers, answers_with, trails_with, yard_after, words_stepped, word_found}
 use Rattle.bus_world.specs.World.{RecvDoes, is_set, is_open, can_put, can_close, new_core}
 use Rattle.bus_world.proofs.Beginning.{zeros}
 use Rattle.bus_world.proofs.TenuresLaws as tenures
@@ -528,8 +529,8 @@ module _ {E : Type 0} (X : Election E) (P : Protocol E (Unit {0}) ℕ) (laws : L
     abbrev queue_with : Participant E → List ℕ → Pending
     queue_with v bytes = record v.core.queue { messages = v.core.queue.messages ++ bytes ∷ [] }
 
-    abbrev queue_closing : Participant E → Pending
-    queue_closing v = record v.core.queue { phase = Closing }
+    abbrev queue_marking : Participant E → Mark → Pending
+    queue_marking v m = record v.core.queue { phase = Marking m }
 
     -- a batch in its place, as the yard has it
     batch_leads : (s : ℕ) (v : Participant E) (q : Pending) (ds : List Action) → slice_get b.participants s ≡ Some v
@@ -570,20 +571,20 @@ module _ {E : Type 0} (X : Election E) (P : Protocol E (Unit {0}) ℕ) (laws : L
                   (PutIn here T.pins T.actions T.heard s v.core bytes h.leads.led (ap core_in at) (ap pin_in at ∙ may.0) small));
             }
 
-    close_led : (s : ℕ) (v : Participant E) → slice_get b.participants s ≡ Some v
-        → IsLed (with_participant b s (participant_closed v)) (record T { actions = actions_with s (cond (can_close (queue_seen v.core.queue v.pin)) (HasClosed ∷ []) []) T.actions })
-    close_led s v at = by_can (can_close (queue_seen v.core.queue v.pin)) refl
+    mark_led : (s : ℕ) (v : Participant E) (m : Mark) → slice_get b.participants s ≡ Some v
+        → IsLed (with_participant b s (participant_marked v m)) (record T { actions = actions_with s (cond (can_close (queue_seen v.core.queue v.pin)) (HasMarked m ∷ []) []) T.actions })
+    mark_led s v m at = by_can (can_close (queue_seen v.core.queue v.pin)) refl
       where
         by_can : (t : Bool) → can_close (queue_seen v.core.queue v.pin) ≡ t
-            → IsLed (with_participant b s (cond t (record v { core = record v.core { queue = queue_closing v } }) v)) (record T { actions = actions_with s (cond t (HasClosed ∷ []) []) T.actions })
+            → IsLed (with_participant b s (cond t (record v { core = record v.core { queue = queue_marking v m } }) v)) (record T { actions = actions_with s (cond t (HasMarked m ∷ []) []) T.actions })
         by_can false e = idle_led s v at
         by_can true e =
             let may = away_closes v.core.queue v.pin e in
             record {
               is = record { rows = rows_after b h.is s v _ at refl; words = h.is.words };
-              leads = batch_leads s v (queue_closing v) (HasClosed ∷ []) at
-                  (subst (λ t. Led X b.layout b.rows (record here { senders = put s (Some (cond t (record v.core { queue = queue_closing v }) v.core)) here.senders }) T.pins (actions_with s (cond t (HasClosed ∷ []) []) T.actions) T.heard) may.1
-                  (ClosedIn here T.pins T.actions T.heard s v.core h.leads.led (ap core_in at) (ap pin_in at ∙ may.0)));
+              leads = batch_leads s v (queue_marking v m) (HasMarked m ∷ []) at
+                  (subst (λ t. Led X b.layout b.rows (record here { senders = put s (Some (cond t (record v.core { queue = queue_marking v m }) v.core)) here.senders }) T.pins (actions_with s (cond t (HasMarked m ∷ []) []) T.actions) T.heard) may.1
+                  (MarkedIn here T.pins T.actions T.heard s v.core m h.leads.led (ap core_in at) (ap pin_in at ∙ may.0)));
             }
 
     recv_led : (r : ℕ) (v next : Receiving) (answer : RecvTurn) → slice_get b.receivers r ≡ Some v → RecvDoes (slice_index b.words) v answer next
@@ -609,7 +610,7 @@ module _ {E : Type 0} (X : Election E) (P : Protocol E (Unit {0}) ℕ) (laws : L
   ring_led b x T (NewCyclic w new) = record { is = new_ring X w new; leads = new_leads X w new }
   ring_led b x T (TurnTaken w U s v word answer before goes low told) = turn_led w x U (ring_led w x U before) s v word answer (participant_there w s v goes) (due X v) refl low told
   ring_led b x T (PutTaken w U s v bytes before goes small) = put_led w x U (ring_led w x U before) s v bytes (participant_there w s v goes) small
-  ring_led b x T (CloseTaken w U s v before goes) = close_led w x U (ring_led w x U before) s v (participant_there w s v goes)
+  ring_led b x T (MarkTaken w U s v m before goes) = mark_led w x U (ring_led w x U before) s v m (participant_there w s v goes)
   ring_led b x T (RecvTaken w U r v next answer before at does) = recv_led w x U (ring_led w x U before) r v next answer at does
   ring_led b x T (StopTaken w U s v before goes) = stop_led w x U (ring_led w x U before) s
 

@@ -6,13 +6,16 @@ use Rattle.std.proofs.lemmas.Option.{same_Some}
 use Rattle.bus_register.specs.declared.kinds.Kind.TheVariants as kind
 use Rattle.bus_register.specs.declared.registers.Op.{Op}
 use Rattle.bus_register.specs.declared.registers.Op.TheVariants.{Load, Store}
+use Rattle.bus_register.specs.declared.registers.SenderNo.{SenderNo}
 use Rattle.bus_register.specs.Words.{register, after}
 use Rattle.bus_register.specs.Tables.{Beside, Agree, put, of_some}
 use Rattle.bus_register.specs.Proved.TableLaws.{put_here, put_beside, some_or_none}
 use Rattle.bus_register.specs.Protocol.{Protocol, Laws, inputs, outputs}
 use Rattle.bus_batch.specs.Batches.{Pending, next_of, frame_of}
-use Rattle.bus_batch.specs.declared.batches.Phase.TheVariants.{Open, Closing}
-use Rattle.bus_batch.specs.Frames.{Frame, frame_words, order_of, tenure_and_owner}
+use Rattle.bus_batch.specs.declared.batches.Phase.TheVariants.{Open, Marking}
+use Rattle.bus_batch.specs.declared.messages.Mark.{Mark}
+use Rattle.bus_batch.specs.declared.messages.Mark.TheVariants as mark
+use Rattle.bus_batch.specs.Frames.{Frame, Leaves, frame_words, order_of, tenure_and_owner}
 use Rattle.bus_deliverylog.specs.Orders.{of_sender}
 use Rattle.bus_deliverylog.specs.Receiving.{Receiving}
 use Rattle.bus_deliverylog.specs.declared.receiving.RecvTurn.{RecvTurn}
@@ -36,31 +39,31 @@ use Rattle.bus_tenure.proofs.Situated.{tells}
 use Rattle.bus_world.specs.Bus.{IsLayout, Part, Fits, Sending, standing_of, least_of, stands_at}
 use Rattle.bus_core.specs.Reusing.Participants.{Due, sizes_with, log_from, place_for, reclaim_due, due_reclaimed, due_home, due_beside, core_looked, core_seen, pin_seen, pin_elected}
 use Rattle.bus_world.specs.Turning.{number_found, core_with_page, core_after, home_after, owners_after}
-use Rattle.bus_world.specs.CyclicProtocols.{CyclicProtocol, IsNewProtocol, Led, IsKeptProtocol, NewProtocol, Turned, PutIn, ClosedIn, Heard, no_answers, answers_with, going_actions, due_actions, actions_with, no_actions, due_in, words_stepped, word_found, yard_pin_stepped, yard_reclaimed, yard_after_going, yard_after, trails_with}
+use Rattle.bus_world.specs.CyclicProtocols.{CyclicProtocol, IsNewProtocol, Led, IsKeptProtocol, NewProtocol, Turned, PutIn, MarkedIn, Heard, no_answers, answers_with, going_actions, due_actions, actions_with, no_actions, due_in, words_stepped, word_found, yard_pin_stepped, yard_reclaimed, yard_after_going, yard_after, trails_with}
 use Rattle.bus_world.specs.World.{first_page, RecvDoes, can_put, can_close}
-use Rattle.bus_world.proofs.Accepting.{Accepted, Puts, Closes, AreAccepted, accept, grows}
+use Rattle.bus_world.proofs.Accepting.{Accepted, Puts, Asks, AreAccepted, accept, grows}
 use Rattle.bus_world.proofs.Beginning.{new_sending}
 use Rattle.bus_world.proofs.BusLaws as bus
 use Rattle.bus_world.proofs.TenuresLaws as tenures
 use Rattle.bus_world.proofs.TurningLaws.{Steps, open_stage, begins_opened, turn_keeps, turn_within, at_home}
 use Rattle.bus_world.proofs.Waiting.{frames_after}
-use Rattle.bus_world.specs.Headline.{Action, HasPut, HasClosed, Stepped, Took, IsPrefix}
+use Rattle.bus_world.specs.Headline.{Action, HasPut, HasMarked, Stepped, Took, IsPrefix}
 use Rattle.bus_world.specs.Log.{words_read_from}
 use Rattle.bus_world.proofs.WorldLaws.{counted_at}
 use Rattle.bus_world.proofs.FrameOwners.{owner_took, rise}
-use Rattle.bus_world.proofs.Framing.{framed, last_frame}
-use Rattle.std.proofs.lemmas.List.{map-append}
+use Rattle.bus_world.proofs.Framing.{framed, entry_of, has_left, gone_for_good, last_frame}
+use Rattle.std.proofs.lemmas.List.{append-nil, map-append}
 use Rattle.bus_world.specs.Trails.{step_action}
 use Rattle.bus_world.proofs.Tying.{next_at, next_tenure, Tables, PageTies}
-use Rattle.bus_world.proofs.TableTrails.{IsPlain, plain_none, plain_put, plain_close, plain_step, none_in}
+use Rattle.bus_world.proofs.TableTrails.{IsPlain, plain_none, plain_put, plain_mark, plain_step, none_in}
 use Rattle.bus_world.proofs.TurnTrails.{TiesOf, calm, begins, turn_tied, batch_tied}
-use Rattle.bus_world.specs.Headline.{Closed}
+use Rattle.bus_world.specs.Headline.{Asked}
 use Rattle.bus_world.proofs.Waiting.{waiting_at, waiting_of}
-use Rattle.bus_world.proofs.Closings.{turn_closing, turn_frames, frames_later, own_closed}
-use Rattle.bus_world.proofs.PutLaws.{elected_waits, laid_waits, publish_puts}
+use Rattle.bus_world.proofs.Asking.{turn_waiting, turn_frames, frames_later, own_asked}
+use Rattle.bus_world.proofs.PutLaws.{elected_waits, laid_waits, publish_puts, nothing_left}
 use Rattle.bus_world.proofs.HearTrails.{delivered_to, heads_to, silent_to}
 use Rattle.bus_world.proofs.CyclicProtocolHears.{AllHear, all_new, all_after, turn_hears, one_hears, told_in}
-use Rattle.bus_world.proofs.CyclicProtocolNotes.{sent_by, IsNoted, PutsNothing, noted_turn, noted_over, noted_put, noted_close, steps_put_nothing, nothing_put}
+use Rattle.bus_world.proofs.CyclicProtocolNotes.{sent_by, IsNoted, PutsNothing, noted_turn, noted_over, noted_put, noted_mark, steps_put_nothing, nothing_put}
 use Rattle.bus_world.proofs.CyclicProtocolWords.{Laid, put_is, laid_quiet, quiet_same, quiet_pin, quiet_reclaimer, laid_worked, laid_logged, laid_told, laid_taken, laid_given}
 
 -- ---- what is no other
@@ -206,10 +209,10 @@ module _ {E : Type 0} (X : Election E) (P : Protocol E (Unit {0}) ℕ) (laws : L
     tied_put V' c' ds = tied V' c' (put p (Some c') y.senders) (put_beside p (Some c') y.senders) (put_here p (Some c') y.senders) ds
 
     -- its messages wait on, and the frames are the same
-    noted : (c' : Core E) (senders' : ℕ → Option (Core E)) → Beside p y.senders senders' → senders' p ≡ Some c' → (ds : List Action) → PutsNothing ds → waiting_of (Some c') ≡ waiting_of (Some c) → (c'.queue.phase ≡ Closing → c.queue.phase ≡ Closing) → IsNoted (slice_index y.bases) senders' frames (actions_with p ds D)
+    noted : (c' : Core E) (senders' : ℕ → Option (Core E)) → Beside p y.senders senders' → senders' p ≡ Some c' → (ds : List Action) → PutsNothing ds → waiting_of (Some c') ≡ waiting_of (Some c) → ((m : Mark) → c'.queue.phase ≡ Marking m → c.queue.phase ≡ Marking m) → IsNoted (slice_index y.bases) senders' frames (actions_with p ds D)
     noted c' senders' beside new ds = noted_over y.senders frames D k.notes p c old senders' beside c' new ds
 
-    noted_as : (c' : Core E) (ds : List Action) → PutsNothing ds → waiting_of (Some c') ≡ waiting_of (Some c) → (c'.queue.phase ≡ Closing → c.queue.phase ≡ Closing) → IsNoted (slice_index y.bases) (put p (Some c') y.senders) frames (actions_with p ds D)
+    noted_as : (c' : Core E) (ds : List Action) → PutsNothing ds → waiting_of (Some c') ≡ waiting_of (Some c) → ((m : Mark) → c'.queue.phase ≡ Marking m → c.queue.phase ≡ Marking m) → IsNoted (slice_index y.bases) (put p (Some c') y.senders) frames (actions_with p ds D)
     noted_as c' ds = noted c' (put p (Some c') y.senders) (put_beside p (Some c') y.senders) (put_here p (Some c') y.senders) ds
 
     abbrev same_actions : ℕ → List Action
@@ -248,7 +251,7 @@ module _ {E : Type 0} (X : Election E) (P : Protocol E (Unit {0}) ℕ) (laws : L
           ties = tied V c (put p (Some (core_looked X c (y.reclamation.pins p) got)) y.senders) (put_beside p (Some (core_looked X c (y.reclamation.pins p) got)) y.senders)
               (put_here p (Some (core_looked X c (y.reclamation.pins p) got)) y.senders ∙ ap Some (ap (λ w. core_looked X c w got) at ∙ same)) [] (λ q a b. refl) (omega arith) (λ t e i. i) plain_none;
           notes = noted c (put p (Some (core_looked X c (y.reclamation.pins p) got)) y.senders) (put_beside p (Some (core_looked X c (y.reclamation.pins p) got)) y.senders)
-              (put_here p (Some (core_looked X c (y.reclamation.pins p) got)) y.senders ∙ ap Some (ap (λ w. core_looked X c w got) at ∙ same)) [] nothing_put refl (λ i. i);
+              (put_here p (Some (core_looked X c (y.reclamation.pins p) got)) y.senders ∙ ap Some (ap (λ w. core_looked X c w got) at ∙ same)) [] nothing_put refl (λ m i. i);
           participants = participants_on (pin_fed (y.reclamation.pins p) got) (core_looked X c (y.reclamation.pins p) got) (subst (λ w. IsParticipant (pin_fed w got) (core_looked X c w got)) (sym at) (subst (IsParticipant (pin_fed v got)) (sym same) is));
           ready = ready';
         };
@@ -274,7 +277,7 @@ module _ {E : Type 0} (X : Election E) (P : Protocol E (Unit {0}) ℕ) (laws : L
               ties = begins X P laws x ok width starts owner_is named announces apart V y.home y.senders y.owners frames k.sending p c old D k.ties V (put p (Some (core_looked X c (y.reclamation.pins p) got)) y.senders) (put_beside p (Some (core_looked X c (y.reclamation.pins p) got)) y.senders)
                   t e.rests e.least e.room (λ q a b. refl) (put_here p (Some (core_looked X c (y.reclamation.pins p) got)) y.senders ∙ ap Some c_now) [] plain_none;
               notes = noted (core_begun X c t) (put p (Some (core_looked X c (y.reclamation.pins p) got)) y.senders) (put_beside p (Some (core_looked X c (y.reclamation.pins p) got)) y.senders)
-                  (put_here p (Some (core_looked X c (y.reclamation.pins p) got)) y.senders ∙ ap Some c_now) [] nothing_put (sym (ap (waiting_at c) e.rests)) (λ i. i);
+                  (put_here p (Some (core_looked X c (y.reclamation.pins p) got)) y.senders ∙ ap Some c_now) [] nothing_put (sym (ap (waiting_at c) e.rests)) (λ m i. i);
               participants = participants_on (pin_fed (y.reclamation.pins p) got) (core_looked X c (y.reclamation.pins p) got) (subst (λ w. IsParticipant w (core_looked X c (y.reclamation.pins p) got)) (sym v_now) (subst (IsParticipant (Pinned t)) (sym c_now) record {
                 pinned = λ u i. (X.started c.layout.senders c.me c.layout.rounds (row_at c.layout t), ap (λ w. phase.Electing w (X.started c.layout.senders c.me c.layout.rounds (row_at c.layout t))) (pinned_is t u i));
                 electing = λ u f i. ap Pinned (electing_is t u (X.started c.layout.senders c.me c.layout.rounds (row_at c.layout t)) f i).0;
@@ -328,7 +331,7 @@ module _ {E : Type 0} (X : Election E) (P : Protocol E (Unit {0}) ℕ) (laws : L
             sending = k.sending;
             laid = laid_quiet x rows y.reclamation reclamation' V (quiet_reclaimer x rows two y.reclamation T reclamation_keeps s is o due) k.laid;
             ties = tied V c y.senders (λ q ne. refl) old [] (λ q a b. refl) (omega arith) (λ t e i. i) plain_none;
-            notes = noted c y.senders (λ q ne. refl) old [] nothing_put refl (λ i. i);
+            notes = noted c y.senders (λ q ne. refl) old [] nothing_put refl (λ m i. i);
             participants = k.participants;
             ready = λ t held none. absurd cc;
           };
@@ -374,7 +377,7 @@ module _ {E : Type 0} (X : Election E) (P : Protocol E (Unit {0}) ℕ) (laws : L
           sending = subst (λ s. Sending (slice_index y.bases) P x V y.home s y.owners frames) (sym (put_is p (Some c) y.senders old)) k.sending;
           laid = laid_quiet x rows y.reclamation (record { words = y.reclamation.words; pins = put p (y.reclamation.pins p) y.reclamation.pins; reclaimer = y.reclamation.reclaimer }) V (quiet_same x rows y.reclamation (record { words = y.reclamation.words; pins = put p (y.reclamation.pins p) y.reclamation.pins; reclaimer = y.reclamation.reclaimer }) refl refl) k.laid;
           ties = tied_put V c ds (λ q a b. refl) (omega arith) (λ t e i. i) plain;
-          notes = noted_as c ds nothing refl (λ i. i);
+          notes = noted_as c ds nothing refl (λ m i. i);
           participants = participants_on (y.reclamation.pins p) c participant;
           ready = k.ready;
         };
@@ -428,7 +431,7 @@ module _ {E : Type 0} (X : Election E) (P : Protocol E (Unit {0}) ℕ) (laws : L
                     record { layout = part.layout; me = part.me; below = part.below; sender = part.sender; queue = part.queue; fits = subst (Fits (slice_index y.bases) V frames c') (sym rests) fits };
                 laid = laid_quiet x rows y.reclamation (record { words = y.reclamation.words; pins = put p Away y.reclamation.pins; reclaimer = y.reclamation.reclaimer }) V (quiet_same x rows y.reclamation (record { words = y.reclamation.words; pins = put p Away y.reclamation.pins; reclaimer = y.reclamation.reclaimer }) refl refl) k.laid;
                 ties = tied_put V c' looked (λ q a b. refl) (let a = ap (next_at c) rests in let b = ap (next_at c') rests in omega arith) (λ t e i. i) looked_plain;
-                notes = noted_as c' looked looked_nothing (ap (waiting_at c') rests ∙ sym (ap (waiting_at c) rests)) (λ i. i);
+                notes = noted_as c' looked looked_nothing (ap (waiting_at c') rests ∙ sym (ap (waiting_at c) rests)) (λ m i. i);
                 participants = participants_on Away c' (rested_participant Away c' rests (λ t i. cc) (λ t i. absurd (elim i [ inl a ↦ cc | inr a ↦ cc ])));
                 ready = k.ready;
               };
@@ -447,7 +450,7 @@ module _ {E : Type 0} (X : Election E) (P : Protocol E (Unit {0}) ℕ) (laws : L
                 sending = subst (λ s. Sending (slice_index y.bases) P x V y.home s y.owners frames) (sym (put_is p (Some c) y.senders old)) k.sending;
                 laid = laid_quiet x rows y.reclamation reclamation' V (quiet_same x rows y.reclamation reclamation' refl refl) k.laid;
                 ties = tied_put V c looked (λ q a b. refl) (omega arith) (λ u e i. i) looked_plain;
-                notes = noted_as c looked looked_nothing refl (λ i. i);
+                notes = noted_as c looked looked_nothing refl (λ m i. i);
                 participants = participants_on (Announcing t) c (rested_participant (Announcing t) c rests (λ u i. cc) (λ u i. elim i [
                   | inl a ↦ (let e = announcing_is t u a in record { rests = rests; looks = looks; least = omega arith; room = omega arith })
                   | inr a ↦ absurd cc
@@ -559,7 +562,7 @@ module _ {E : Type 0} (X : Election E) (P : Protocol E (Unit {0}) ℕ) (laws : L
                   laid = laid';
                   ties = done_ties;
                   notes = noted_as c' (step_action (X.kind_of e) (Some t) met (X.owner later) answer) (steps_put_nothing (X.kind_of e) (Some t) met (X.owner later) answer) (elected_waits c t later (X.owner later) ∙ sym (ap (waiting_at c) elects))
-                      (turn_closing X c (Elects t e) y.home met word);
+                      (λ m. turn_waiting X c m (Elects t e) y.home met word);
                   participants = participants_on v c' is;
                   ready = λ u held none. k.ready u (sym (put_beside (row_of z t + far) n y.reclamation.words 1 (λ i. omega arith)) ∙ held) none;
                 };
@@ -641,7 +644,7 @@ module _ {E : Type 0} (X : Election E) (P : Protocol E (Unit {0}) ℕ) (laws : L
                 sending = turn_on (TakesPage t) at (put 1 (2 * t + 1) V) taker (changes_put (Store record { 0 = 1 } (2 * t + 1)) 1 (2 * t + 1) refl refl) refl;
                 ties = subst (λ g. TiesOf P x (put 1 (2 * t + 1) V) (put p (Some taker) y.senders) (y.owners ++ p ∷ []) (actions_with p (Stepped (Some t) kind.TakePage g None answer ∷ []) D)) (sym k.laid.stage)
                     (ties_on (TakesPage t) at (put 1 (2 * t + 1) V) taker (changes_put (Store record { 0 = 1 } (2 * t + 1)) 1 (2 * t + 1) refl refl) refl);
-                notes = noted_as taker (Stepped (Some t) kind.TakePage (y.reclamation.words 1) None answer ∷ []) (steps_put_nothing (Some kind.TakePage) (Some t) (y.reclamation.words 1) None answer) (laid_waits (record c { phase = phase.Taken t }) t y.home ∙ sym (ap (waiting_at c) elects)) (turn_closing X c (TakesPage t) y.home (y.reclamation.words 1) word);
+                notes = noted_as taker (Stepped (Some t) kind.TakePage (y.reclamation.words 1) None answer ∷ []) (steps_put_nothing (Some kind.TakePage) (Some t) (y.reclamation.words 1) None answer) (laid_waits (record c { phase = phase.Taken t }) t y.home ∙ sym (ap (waiting_at c) elects)) (λ m. turn_waiting X c m (TakesPage t) y.home (y.reclamation.words 1) word);
                 laid = laid_taken x rows y.reclamation T reclamation_keeps (put p (Unpinning t) y.reclamation.pins) V k.laid t open_now;
                 participants = participants_on (Unpinning t) taker record {
                   pinned = λ v i. absurd cc;
@@ -707,7 +710,7 @@ module _ {E : Type 0} (X : Election E) (P : Protocol E (Unit {0}) ℕ) (laws : L
               sending = turn_on (StoresWord t page stored) at (put (log_at x + spot) number V) writer (changes_put (Store record { 0 = r } number) (log_at x + spot) number (sym spot_is) refl) refl;
               ties = tied_put (put (log_at x + spot) number V) writer (Stepped (Some t) kind.StoreLogWord (y.reclamation.words (log_from x rows + spot)) None answer ∷ []) (beside_rows (log_at x + spot) number (inr (omega arith))) (let a = held_next in omega arith)
                   (λ u e i. absurd (holding_no_electing t page (stored + 1) false u e i)) (plain_step _ _ _ _ (λ i. cc));
-              notes = noted_as writer (Stepped (Some t) kind.StoreLogWord (y.reclamation.words (log_from x rows + spot)) None answer ∷ []) (steps_put_nothing (Some kind.StoreLogWord) (Some t) (y.reclamation.words (log_from x rows + spot)) None answer) (sym (ap (waiting_at c) (holds ∙ ap (phase.Holding t page stored) unpublished))) (λ i. i);
+              notes = noted_as writer (Stepped (Some t) kind.StoreLogWord (y.reclamation.words (log_from x rows + spot)) None answer ∷ []) (steps_put_nothing (Some kind.StoreLogWord) (Some t) (y.reclamation.words (log_from x rows + spot)) None answer) (sym (ap (waiting_at c) (holds ∙ ap (phase.Holding t page stored) unpublished))) (λ m i. i);
               laid = laid_logged x rows y.reclamation pins_on V k.laid spot number two spot_low;
               participants = participants_on (y.reclamation.pins p) writer (held_participant t page stored published holds writer (λ u e. holding_no_electing t page (stored + 1) false u e));
               ready = λ u held none. k.ready u (sym (put_beside (log_from x rows + spot) number y.reclamation.words 1 (λ i. omega arith)) ∙ held) none;
@@ -731,10 +734,10 @@ module _ {E : Type 0} (X : Election E) (P : Protocol E (Unit {0}) ℕ) (laws : L
                 notes = noted_turn y.senders frames D k.notes p c old (put p (Some c') y.senders) (put_beside p (Some c') y.senders) c' (put_here p (Some c') y.senders) (frames_after X c (StoresLength t page stored) frames)
                     (Stepped (Some t) kind.StoreLength (y.reclamation.words 0) None answer ∷ []) (steps_put_nothing (Some kind.StoreLength) (Some t) (y.reclamation.words 0) None answer)
                     (publish_puts X y.senders (put p (Some c') y.senders) frames p (put_beside p (Some c') y.senders) c old part.queue part.sender t page stored (holds ∙ ap (phase.Holding t page stored) unpublished) (put_here p (Some c') y.senders))
-                    (λ i. i)
-                    (turn_frames X c (StoresLength t page stored) frames (λ f. Closed (actions_with p (Stepped (Some t) kind.StoreLength (y.reclamation.words 0) None answer ∷ []) D f.owner.0))
-                    (frames_later y.senders frames D k.notes.closings p c old (Stepped (Some t) kind.StoreLength (y.reclamation.words 0) None answer ∷ []))
-                    (λ u i. subst (λ q. Closed (actions_with p (Stepped (Some t) kind.StoreLength (y.reclamation.words 0) None answer ∷ []) D q)) (sym part.sender) (own_closed y.senders frames D k.notes.closings p c old (Stepped (Some t) kind.StoreLength (y.reclamation.words 0) None answer ∷ []) i)));
+                    (λ m i. i)
+                    (turn_frames X c (StoresLength t page stored) frames (λ m f. Asked m (actions_with p (Stepped (Some t) kind.StoreLength (y.reclamation.words 0) None answer ∷ []) D f.owner.0))
+                    (frames_later y.senders frames D k.notes.askings p c old (Stepped (Some t) kind.StoreLength (y.reclamation.words 0) None answer ∷ []))
+                    (λ u m i. subst (λ q. Asked m (actions_with p (Stepped (Some t) kind.StoreLength (y.reclamation.words 0) None answer ∷ []) D q)) (sym part.sender) (own_asked y.senders frames D k.notes.askings p c old (Stepped (Some t) kind.StoreLength (y.reclamation.words 0) None answer ∷ []) m i)));
                 laid = laid_told x rows y.reclamation pins_on V k.laid 0 n;
                 participants = participants_on (y.reclamation.pins p) c' (held_participant t page stored published holds c' (λ u e. holding_no_electing t page stored true u e));
                 ready = λ u held none. k.ready u (sym (put_beside 0 n y.reclamation.words 1 (λ i. omega arith)) ∙ held) none;
@@ -755,7 +758,7 @@ module _ {E : Type 0} (X : Election E) (P : Protocol E (Unit {0}) ℕ) (laws : L
                     (Then y.reclamation (record y.reclamation { words = put 1 (2 * t + 2) y.reclamation.words; reclaimer = None }) T T k.reached (GaveBack y.reclamation T t stage_held is_ready));
                 sending = turn_on (GivesBack t page reason) at (put 1 (2 * t + 2) V) c' (changes_put (Store record { 0 = 1 } (2 * t + 2)) 1 (2 * t + 2) refl refl) refl;
                 ties = tied_put (put 1 (2 * t + 2) V) c' (Stepped (Some t) kind.GivePageBack (y.reclamation.words 1) None answer ∷ []) (beside_rows 1 (2 * t + 2) (inl (omega arith))) (let a = held_next in omega arith) (λ u e i. absurd (resting_no_electing u e i)) (plain_step _ _ _ _ (λ i. cc));
-                notes = noted_as c' (Stepped (Some t) kind.GivePageBack (y.reclamation.words 1) None answer ∷ []) (steps_put_nothing (Some kind.GivePageBack) (Some t) (y.reclamation.words 1) None answer) (gives_waits t page stored c published page.ended (has_room c page) (nat_lt stored (frame_len c)) holds reason (sym (ap (situation_at X c) holds) ∙ at)) (turn_closing X c (GivesBack t page reason) y.home (y.reclamation.words 1) word);
+                notes = noted_as c' (Stepped (Some t) kind.GivePageBack (y.reclamation.words 1) None answer ∷ []) (steps_put_nothing (Some kind.GivePageBack) (Some t) (y.reclamation.words 1) None answer) (gives_waits t page stored c published page.ended (has_room c page) (nat_lt stored (frame_len c)) holds reason (sym (ap (situation_at X c) holds) ∙ at)) (λ m. turn_waiting X c m (GivesBack t page reason) y.home (y.reclamation.words 1) word);
                 laid = laid_given x rows y.reclamation T reclamation_keeps pins_on V k.laid t stage_held (λ j low. (safe z two y.reclamation T reclamation_keeps).clean t j stage_held is_ready low);
                 participants = participants_on (y.reclamation.pins p) c' (held_participant t page stored published holds c' (λ u e. resting_no_electing u e));
                 ready = λ u held none. absurd (let now = put_here 1 (2 * t + 2) y.reclamation.words in omega arith);
@@ -824,7 +827,7 @@ module _ {E : Type 0} (X : Election E) (P : Protocol E (Unit {0}) ℕ) (laws : L
     -- ---- what a sender accepts that pins no tenure
     abbrev accepted_actions : Accepted → List Action
     accepted_actions (Puts bytes) = cond (can_put c.queue (length bytes)) (HasPut (next_of c.queue) bytes ∷ []) []
-    accepted_actions Closes = cond (can_close c.queue) (HasClosed ∷ []) []
+    accepted_actions (Asks m) = cond (can_close c.queue) (HasMarked m ∷ []) []
 
     accept_kept : (a : Accepted) → AreAccepted (a ∷ []) → y.reclamation.pins p ≡ Away → HasKept H (record y { senders = put p (Some (accept c a)) y.senders }) T (actions_with p (accepted_actions a) D)
     accept_kept a good away = record {
@@ -856,7 +859,7 @@ module _ {E : Type 0} (X : Election E) (P : Protocol E (Unit {0}) ℕ) (laws : L
 
       same_phase : (a : Accepted) → (accept c a).phase ≡ c.phase
       same_phase (Puts bytes) = by_test (can_put c.queue (length bytes)) (record c.queue { messages = c.queue.messages ++ bytes ∷ [] })
-      same_phase Closes = by_test (can_close c.queue) (record c.queue { phase = Closing })
+      same_phase (Asks m) = by_test (can_close c.queue) (record c.queue { phase = Marking m })
 
       batch_now : (q : Pending) (ds : List Action) → IsPlain ds → TiesOf P x V (put p (Some (record c { queue = q })) y.senders) y.owners (actions_with p ds D)
       batch_now q ds plain = batch_tied X P laws x ok width starts owner_is named announces apart V y.home y.senders y.owners frames k.sending p c old D k.ties V (put p (Some (record c { queue = q })) y.senders) (put_beside p (Some (record c { queue = q })) y.senders)
@@ -871,23 +874,23 @@ module _ {E : Type 0} (X : Election E) (P : Protocol E (Unit {0}) ℕ) (laws : L
         where
           by_put : (b : Bool) → can_put c.queue (length bytes) ≡ b → IsNoted (slice_index y.bases) (put p (Some (cond b (record c { queue = record c.queue { messages = c.queue.messages ++ bytes ∷ [] } }) c)) y.senders) frames (actions_with p (cond b (HasPut (next_of c.queue) bytes ∷ []) []) D)
           by_put true e = noted_put y.senders frames D k.notes p c old V part.fits part.me bytes e
-          by_put false e = noted_as c [] nothing_put refl (λ i. i)
-      accepted_notes Closes = by_close (can_close c.queue) refl
+          by_put false e = noted_as c [] nothing_put refl (λ m i. i)
+      accepted_notes (Asks m) = by_mark (can_close c.queue) refl
         where
-          by_close : (b : Bool) → can_close c.queue ≡ b → IsNoted (slice_index y.bases) (put p (Some (cond b (record c { queue = record c.queue { phase = Closing } }) c)) y.senders) frames (actions_with p (cond b (HasClosed ∷ []) []) D)
-          by_close true e = noted_close y.senders frames D k.notes p c old V part.fits part.me e
-          by_close false e = noted_as c [] nothing_put refl (λ i. i)
+          by_mark : (b : Bool) → can_close c.queue ≡ b → IsNoted (slice_index y.bases) (put p (Some (cond b (record c { queue = record c.queue { phase = Marking m } }) c)) y.senders) frames (actions_with p (cond b (HasMarked m ∷ []) []) D)
+          by_mark true e = noted_mark y.senders frames D k.notes p c old V part.fits part.me m e
+          by_mark false e = noted_as c [] nothing_put refl (λ k i. i)
 
       accepted_ties : (a : Accepted) → TiesOf P x V (put p (Some (accept c a)) y.senders) y.owners (actions_with p (accepted_actions a) D)
       accepted_ties (Puts bytes) = by_can (can_put c.queue (length bytes)) (record c.queue { messages = c.queue.messages ++ bytes ∷ [] }) (HasPut (next_of c.queue) bytes) (plain_put (next_of c.queue) bytes)
-      accepted_ties Closes = by_can (can_close c.queue) (record c.queue { phase = Closing }) HasClosed plain_close
+      accepted_ties (Asks m) = by_can (can_close c.queue) (record c.queue { phase = Marking m }) (HasMarked m) (plain_mark m)
 
   -- ---- a new yard
   no_owner : (t s : ℕ) → slice_get [] t ≡ Some s → ⊥
   no_owner t s e = cc
 
-  open_apart : Open ≡ Closing → ⊥
-  open_apart e = cc
+  open_apart : (m : Mark) → Open ≡ Marking m → ⊥
+  open_apart m e = cc
 
   nothing_waits : (o : Option (Core E)) → ((c : Core E) → o ≡ Some c → waiting_of (Some c) ≡ []) → [] ≡ waiting_of o
   nothing_waits None none = refl
@@ -921,7 +924,7 @@ module _ {E : Type 0} (X : Election E) (P : Protocol E (Unit {0}) ℕ) (laws : L
       notes = record {
         put = λ s. nothing_waits (y.senders s) (λ c i. ap (λ (d : Core E). waiting_of (Some d)) (new.senders s c i).1);
         counted = λ s place number bytes e. absurd (none_in place _ e);
-        closings = record { closing = λ q c i shut. absurd (open_apart (sym (ap (λ (d : Core E). d.queue.phase) (new.senders q c i).1) ∙ shut)); ended = λ j f at ends. absurd (none_in j f at) };
+        askings = record { waiting = λ q c m i waits. absurd (open_apart m (sym (ap (λ (d : Core E). d.queue.phase) (new.senders q c i).1) ∙ waits)); logged = λ j f m at says. absurd (none_in j f at) };
       };
       participants = λ p c e. let s = new.senders p c e in subst (λ w. IsParticipant (w.pins p) c) (sym new.reclamation) (subst (IsParticipant Away) (sym s.1) record {
         pinned = λ t j. absurd cc;
@@ -957,7 +960,7 @@ module _ {E : Type 0} (X : Election E) (P : Protocol E (Unit {0}) ℕ) (laws : L
   led_kept H y T D (NewProtocol w new) = start_kept w new
   led_kept H y T D (Turned w U F J p c word answer before old told) = let k = led_kept J w U F before in turn_kept J w U F k.V k.frames k.kept p c old word answer
   led_kept H y T D (PutIn w U F J p c bytes before old away small) = let k = led_kept J w U F before in accept_kept J w U F k.V k.frames k.kept p c old (Puts bytes) (small, tt) away
-  led_kept H y T D (ClosedIn w U F J p c before old away) = let k = led_kept J w U F before in accept_kept J w U F k.V k.frames k.kept p c old Closes tt away
+  led_kept H y T D (MarkedIn w U F J p c m before old away) = let k = led_kept J w U F before in accept_kept J w U F k.V k.frames k.kept p c old (Asks m) tt away
   led_kept H y T D (Heard w U F J r v next answer before at does) = heard_kept J w U F (led_kept J w U F before) r v next answer at does
 
   -- ---- what is promised
@@ -1023,8 +1026,13 @@ module _ {E : Type 0} (X : Election E) (P : Protocol E (Unit {0}) ℕ) (laws : L
                   tenure = l.frame.tenure;
                   owner = l.frame.owner;
                   last = ap (map tenure_and_owner) l.frames_are ∙ map-append tenure_and_owner l.front (l.frame ∷ []);
-                  closed = h.notes.closings.ended l.place l.frame l.at l.ends;
+                  closed = h.notes.askings.logged l.place l.frame mark.End l.at l.ends;
                 };
+            gone = gone_for_good x.senders 0 k.frames lawful;
+            asked = λ s q at. let r = entry_of k.frames q (Leaves s) at in subst (λ (w : SenderNo). Asked mark.Leave (D w.0)) (sym r.own) (h.notes.askings.logged r.place r.frame mark.Leave r.at (r.left s refl));
+            whole = λ s q at.
+                let waits = nothing_left x k.V k.frames y.senders h.sending.parts s.0 (has_left k.frames q s at) in
+                sym (h.notes.put s.0 ∙ ap (λ w. sent_by k.frames s.0 ++ w) waits ∙ append-nil (sent_by k.frames s.0));
           };
         };
       }

@@ -1,4 +1,4 @@
--- What senders have noted stays true: what each has put, how its messages were numbered, and who closed.
+-- What senders have noted stays true: what each has put, how its messages were numbered, and who asked for a mark.
 use Rattle.std.proofs.Common.{◌+◌, ◌≡◌, ◌≢◌, ℕ, true, false, cond, ◌&&◌, nat_lt, nat_le, Option, Some, None, inl, inr, List, [], ◌∷◌, ◌++◌, length, map, slice_get, arith, refl, sym, ◌∙◌, ap, subst}
 use Rattle.std.proofs.lemmas.Bool.{and_parts, cases_eq}
 use Rattle.std.proofs.lemmas.Bool.Decides.{eqb_tells}
@@ -6,22 +6,23 @@ use Rattle.std.proofs.lemmas.Grind.{flat_map-append}
 use Rattle.std.proofs.lemmas.List.{append-nil, append_assoc, length-append}
 use Rattle.bus_register.specs.Tables.{Beside, put}
 use Rattle.bus_register.specs.Proved.TableLaws.{put_here, put_beside}
-use Rattle.bus_batch.specs.declared.batches.Phase.TheVariants.{Closing}
+use Rattle.bus_batch.specs.declared.batches.Phase.TheVariants.{Marking}
+use Rattle.bus_batch.specs.declared.messages.Mark.{Mark}
 use Rattle.bus_batch.specs.declared.messages.Item.{Item}
 use Rattle.bus_batch.specs.Batches.{Pending, next_of}
-use Rattle.bus_batch.specs.Frames.{Frame, EndMark, order_of}
+use Rattle.bus_batch.specs.Frames.{Frame, Marked, order_of}
 use Rattle.bus_deliverylog.specs.Orders.{of_sender}
 use Rattle.bus_tenure.specs.Core.{Core, is_empty}
 use Rattle.bus_tenure.specs.declared.phases.Phase.TheVariants as phase
 use Rattle.bus_world.specs.Bus.{Fits}
-use Rattle.bus_world.specs.Headline.{Action, HasPut, HasClosed, Closed, put_of, puts}
+use Rattle.bus_world.specs.Headline.{Action, HasPut, HasMarked, Asked, put_of, puts}
 use Rattle.bus_world.specs.Log.{next_number}
 use Rattle.bus_world.proofs.Waiting.{waiting_at, waiting_of}
 use Rattle.bus_world.specs.World.{is_open, can_put, can_close}
 use Rattle.bus_world.specs.CyclicProtocols.{actions_with}
 use Rattle.bus_world.proofs.Accepting.{idle_rests, not_busy}
-use Rattle.bus_world.proofs.Closings.{Closings, closings_on, frames_later, own_closed, own_closes}
-use Rattle.bus_world.proofs.EventTrails.{numbered_more, only_action, same_number, closed_apart, stepped_apart}
+use Rattle.bus_world.proofs.Asking.{Askings, askings_on, one_waits, frames_later, own_asked, own_asks}
+use Rattle.bus_world.proofs.EventTrails.{numbered_more, only_action, same_number, marked_apart, stepped_apart}
 use Rattle.bus_world.proofs.TableTrails.{none_in}
 use Rattle.bus_world.specs.Trails.{step_action}
 use Rattle.bus_tenure.specs.declared.turns.Turn.{Turn as Answered}
@@ -35,7 +36,7 @@ pub record IsNoted {E : Type 0} (base : ℕ → ℕ) (senders : ℕ → Option (
   -- what a sender has put: its messages in the order, and those that wait
   pub put : (s : ℕ) → puts (D s) ≡ sent_by frames s ++ waiting_of (senders s)
   pub counted : (s : ℕ) → AreNumbered (base s) (D s)
-  pub closings : Closings senders frames D
+  pub askings : Askings senders frames D
 
 length_mapped : (xs : List Item) → length (map (λ (i : Item). i.message) xs) ≡ length xs
 length_mapped [] = refl
@@ -56,9 +57,9 @@ module _ {base : ℕ → ℕ} {E : Type 0} (senders : ℕ → Option (Core E)) (
 
   -- a turn: messages go from a batch into the order
   pub noted_turn : (senders' : ℕ → Option (Core E)) → Beside p senders senders' → (c' : Core E) → senders' p ≡ Some c' → (frames' : List Frame) (ds : List Action) → PutsNothing ds
-      → ((q : ℕ) → sent_by frames' q ++ waiting_of (senders' q) ≡ sent_by frames q ++ waiting_of (senders q)) → (c'.queue.phase ≡ Closing → c.queue.phase ≡ Closing)
-      → ((i : ℕ) (f : Frame) → slice_get frames' i ≡ Some f → f.body ≡ EndMark → Closed (actions_with p ds D f.owner.0)) → IsNoted base senders' frames' (actions_with p ds D)
-  noted_turn senders' beside c' new frames' ds nothing waits closing ends = record {
+      → ((q : ℕ) → sent_by frames' q ++ waiting_of (senders' q) ≡ sent_by frames q ++ waiting_of (senders q)) → ((m : Mark) → c'.queue.phase ≡ Marking m → c.queue.phase ≡ Marking m)
+      → ((i : ℕ) (f : Frame) (m : Mark) → slice_get frames' i ≡ Some f → f.body ≡ Marked m → Asked m (actions_with p ds D f.owner.0)) → IsNoted base senders' frames' (actions_with p ds D)
+  noted_turn senders' beside c' new frames' ds nothing waits marking says = record {
     put = λ q. elim (cases_eq q p) [
       | inl e ↦ ap puts (noted_own ds q e) ∙ flat_map-append put_of (D q) ds ∙ ap (λ z. puts (D q) ++ z) nothing.none ∙ append-nil (puts (D q)) ∙ n.put q ∙ sym (waits q)
       | inr ne ↦ ap puts (noted_other ds q ne) ∙ n.put q ∙ sym (waits q)
@@ -67,16 +68,16 @@ module _ {base : ℕ → ℕ} {E : Type 0} (senders : ℕ → Option (Core E)) (
       | inl e ↦ subst (AreNumbered (base q)) (sym (noted_own ds q e)) (numbered_more (base q) (D q) ds (n.counted q) (λ j m bytes at. absurd (nothing.never j m bytes at)))
       | inr ne ↦ subst (AreNumbered (base q)) (sym (noted_other ds q ne)) (n.counted q)
     ];
-    closings = closings_on senders frames D n.closings p c old ds senders' beside c' new frames' (λ e. own_closed senders frames D n.closings p c old ds (closing e)) ends;
+    askings = askings_on senders frames D n.askings p c old ds senders' beside c' new frames' (λ m e. own_asked senders frames D n.askings p c old ds m (marking m e)) says;
   }
 
   -- where the frames stay
-  pub noted_over : (senders' : ℕ → Option (Core E)) → Beside p senders senders' → (c' : Core E) → senders' p ≡ Some c' → (ds : List Action) → PutsNothing ds → waiting_of (Some c') ≡ waiting_of (Some c) → (c'.queue.phase ≡ Closing → c.queue.phase ≡ Closing)
+  pub noted_over : (senders' : ℕ → Option (Core E)) → Beside p senders senders' → (c' : Core E) → senders' p ≡ Some c' → (ds : List Action) → PutsNothing ds → waiting_of (Some c') ≡ waiting_of (Some c) → ((m : Mark) → c'.queue.phase ≡ Marking m → c.queue.phase ≡ Marking m)
       → IsNoted base senders' frames (actions_with p ds D)
-  noted_over senders' beside c' new ds nothing waits closing = noted_turn senders' beside c' new frames ds nothing (λ q. elim (cases_eq q p) [
+  noted_over senders' beside c' new ds nothing waits marking = noted_turn senders' beside c' new frames ds nothing (λ q. elim (cases_eq q p) [
     | inl e ↦ ap (λ z. sent_by frames q ++ waiting_of z) (ap senders' e ∙ new) ∙ ap (λ z. sent_by frames q ++ z) waits ∙ ap (λ z. sent_by frames q ++ waiting_of z) (sym (ap senders e ∙ old))
     | inr ne ↦ ap (λ z. sent_by frames q ++ waiting_of z) (beside q ne)
-  ]) closing (frames_later senders frames D n.closings p c old ds)
+  ]) marking (frames_later senders frames D n.askings p c old ds)
 
   -- ---- what it accepts
   module _ (words : ℕ → ℕ) (fits : Fits base words frames c c.phase) (me : c.me ≡ p) where
@@ -96,7 +97,7 @@ module _ {base : ℕ → ℕ} {E : Type 0} (senders : ℕ → Option (Core E)) (
             (one.0, sym (same_number (next_of c.queue) m bytes b one.1) ∙ number ∙ sym (ap (λ z. base z + length (puts (D z))) e))))
         | inr ne ↦ subst (AreNumbered (base q)) (sym (noted_other ds q ne)) (n.counted q)
       ];
-      closings = closings_on senders frames D n.closings p c old ds later (put_beside p (Some c') senders) c' (put_here p (Some c') senders) frames (λ e. own_closed senders frames D n.closings p c old ds e) (frames_later senders frames D n.closings p c old ds);
+      askings = askings_on senders frames D n.askings p c old ds later (put_beside p (Some c') senders) c' (put_here p (Some c') senders) frames (λ m e. own_asked senders frames D n.askings p c old ds m e) (frames_later senders frames D n.askings p c old ds);
     } where
       c' : Core E
       c' = record c { queue = record c.queue { messages = c.queue.messages ++ bytes ∷ [] } }
@@ -119,28 +120,28 @@ module _ {base : ℕ → ℕ} {E : Type 0} (senders : ℕ → Option (Core E)) (
       after = ap (waiting_at c') rests
 
       first : c.queue.first ≡ next_number base p frames
-      first = (subst (Fits base words frames c) rests fits).1 ∙ ap (λ z. next_number base z frames) me
+      first = (subst (Fits base words frames c) rests fits).1.0 ∙ ap (λ z. next_number base z frames) me
 
       number : next_of c.queue ≡ base p + length (puts (D p))
       number =
           let a = ap length (n.put p ∙ ap (λ z. sent_by frames p ++ waiting_of z) old ∙ ap (λ z. sent_by frames p ++ z) before) in
           let b = length-append (sent_by frames p) c.queue.messages in let d = length_mapped (of_sender p (order_of frames)) in let e = first in omega arith
 
-    pub noted_close : can_close c.queue ≡ true → IsNoted base (with_batch (record c.queue { phase = Closing })) frames (actions_with p (HasClosed ∷ []) D)
-    noted_close can = record {
+    pub noted_mark : (m : Mark) → can_close c.queue ≡ true → IsNoted base (with_batch (record c.queue { phase = Marking m })) frames (actions_with p (HasMarked m ∷ []) D)
+    noted_mark m can = record {
       put = λ q. elim (cases_eq q p) [
-        | inl e ↦ ap puts (noted_own (HasClosed ∷ []) q e) ∙ flat_map-append put_of (D q) (HasClosed ∷ []) ∙ append-nil (puts (D q)) ∙ n.put q ∙ ap (λ z. sent_by frames q ++ waiting_of z) (ap senders e ∙ old) ∙ ap (λ z. sent_by frames q ++ z) (ap (waiting_at c) rests)
+        | inl e ↦ ap puts (noted_own (HasMarked m ∷ []) q e) ∙ flat_map-append put_of (D q) (HasMarked m ∷ []) ∙ append-nil (puts (D q)) ∙ n.put q ∙ ap (λ z. sent_by frames q ++ waiting_of z) (ap senders e ∙ old) ∙ ap (λ z. sent_by frames q ++ z) (ap (waiting_at c) rests)
             ∙ sym (ap (λ z. sent_by frames q ++ z) (ap (waiting_at c') rests)) ∙ sym (ap (λ z. sent_by frames q ++ waiting_of z) (ap later e ∙ put_here p (Some c') senders))
-        | inr ne ↦ ap puts (noted_other (HasClosed ∷ []) q ne) ∙ n.put q ∙ sym (ap (λ z. sent_by frames q ++ waiting_of z) (put_beside p (Some c') senders q ne))
+        | inr ne ↦ ap puts (noted_other (HasMarked m ∷ []) q ne) ∙ n.put q ∙ sym (ap (λ z. sent_by frames q ++ waiting_of z) (put_beside p (Some c') senders q ne))
       ];
       counted = λ q. elim (cases_eq q p) [
-        | inl e ↦ subst (AreNumbered (base q)) (sym (noted_own (HasClosed ∷ []) q e)) (numbered_more (base q) (D q) (HasClosed ∷ []) (n.counted q) (λ j m b at. absurd (closed_apart m b (only_action HasClosed j (HasPut m b) at).1)))
-        | inr ne ↦ subst (AreNumbered (base q)) (sym (noted_other (HasClosed ∷ []) q ne)) (n.counted q)
+        | inl e ↦ subst (AreNumbered (base q)) (sym (noted_own (HasMarked m ∷ []) q e)) (numbered_more (base q) (D q) (HasMarked m ∷ []) (n.counted q) (λ j k b at. absurd (marked_apart m k b (only_action (HasMarked m) j (HasPut k b) at).1)))
+        | inr ne ↦ subst (AreNumbered (base q)) (sym (noted_other (HasMarked m ∷ []) q ne)) (n.counted q)
       ];
-      closings = closings_on senders frames D n.closings p c old (HasClosed ∷ []) later (put_beside p (Some c') senders) c' (put_here p (Some c') senders) frames (λ e. own_closes senders frames D n.closings p c old (HasClosed ∷ []) (0, refl)) (frames_later senders frames D n.closings p c old (HasClosed ∷ []));
+      askings = askings_on senders frames D n.askings p c old (HasMarked m ∷ []) later (put_beside p (Some c') senders) c' (put_here p (Some c') senders) frames (λ k e. own_asks senders frames D n.askings p c old (HasMarked m ∷ []) k (one_waits m k e)) (frames_later senders frames D n.askings p c old (HasMarked m ∷ []));
     } where
       c' : Core E
-      c' = record c { queue = record c.queue { phase = Closing } }
+      c' = record c { queue = record c.queue { phase = Marking m } }
 
       later : ℕ → Option (Core E)
       later = put p (Some c') senders

@@ -10,10 +10,13 @@ use Rattle.bus_register.specs.declared.kinds.Kind.{Kind}
 use Rattle.bus_register.specs.declared.kinds.Kind.TheVariants as kind
 use Rattle.bus_register.specs.Protocol.{Protocol, Laws, inputs, outputs}
 use Rattle.bus_register.specs.Proved.TableLaws.{get_set_same, get_set_other}
+use Rattle.bus_register.specs.declared.registers.SenderNo.{SenderNo}
 use Rattle.bus_batch.specs.declared.messages.Item.{Item}
 use Rattle.bus_batch.specs.Batches.{next_of}
-use Rattle.bus_batch.specs.declared.batches.Phase.TheVariants.{Closing}
-use Rattle.bus_batch.specs.Frames.{Frame, Order, AreFrames, log_words, log_pieces, order_of, owners_in, order_in, tenure_and_owner}
+use Rattle.bus_batch.specs.declared.batches.Phase.TheVariants.{Marking}
+use Rattle.bus_batch.specs.declared.messages.Mark.{Mark}
+use Rattle.bus_batch.specs.declared.messages.Mark.TheVariants as mark
+use Rattle.bus_batch.specs.Frames.{Frame, Order, Leaves, AreFrames, log_words, log_pieces, order_of, owners_in, order_in, tenure_and_owner}
 use Rattle.bus_deliverylog.specs.Orders.{IsPrefixOfOrder, of_sender}
 use Rattle.bus_deliverylog.specs.Receiving.{Receiving}
 use Rattle.bus_deliverylog.specs.declared.receiving.RecvTurn.{RecvTurn}
@@ -40,31 +43,32 @@ use Rattle.bus_world.specs.Bus.{IsLayout, Fits}
 use Rattle.bus_world.proofs.FrameOwners.{owner_took, rise}
 use Rattle.bus_world.proofs.Beginning.{zeros}
 use Rattle.bus_world.proofs.BusLaws as bus
-use Rattle.bus_world.specs.Headline.{Action, HasPut, HasClosed, Stepped, puts, Took, Closed, item_heard, end_heard, order_given, IsPrefix, Promises}
+use Rattle.bus_world.specs.Headline.{Action, HasPut, HasMarked, Stepped, puts, Took, Asked, entry_heard, end_heard, order_given, IsPrefix, Promises}
 use Rattle.bus_world.specs.Log.{next_number, sent_count}
 use Rattle.bus_world.proofs.LogLaws.{length-read}
 use Rattle.bus_world.specs.Turning.{Side, side_after, core_after, number_found}
-use Rattle.bus_world.specs.World.{Bus, Event, Put, Close, Turn, Recv, Stop, going, IsEvent, Happens, SenderDoes, with_sender, can_put, can_close, put_in, close_in, LawfulBus, IsNew, is_open, given_at}
+use Rattle.bus_world.specs.World.{Bus, Event, Put, Ask, Turn, Recv, Stop, going, IsEvent, Happens, SenderDoes, with_sender, can_put, can_close, put_in, mark_in, LawfulBus, IsNew, is_open, given_at}
 use Rattle.bus_world.proofs.TurningLaws.{side_of}
 use Rattle.bus_world.proofs.WorldLaws.{counted_at, event_left, event_puts, new_is_lawful}
-use Rattle.bus_world.specs.Playing.{Answers, PutGives, CloseGives, TurnAnswers, RecvAnswers, log_of}
+use Rattle.bus_world.specs.Playing.{Answers, PutGives, CloseGives, TurnAnswers, RecvAnswers, asked_answer, log_of}
 use Rattle.bus_world.specs.declared.events.Answer.{Answer}
 use Rattle.bus_world.specs.declared.events.Answer.TheVariants as answer
-use Rattle.bus_world.specs.Trails.{Trails, no_trails, trails_grown, actions_of, put_actions, close_actions, turning_actions, step_action, heard_of, answer_heard, IsPromisedBy, IsPromised, StaysPromised, Follows, Reached}
+use Rattle.bus_world.specs.Trails.{Trails, no_trails, trails_grown, actions_of, put_actions, mark_actions, turning_actions, step_action, heard_of, answer_heard, IsPromisedBy, IsPromised, StaysPromised, Follows, Reached}
 use Rattle.bus_world.specs.Trails.Reached.{New, Then}
 use Rattle.bus_world.proofs.Stopping.{is_there}
 use Rattle.bus_world.proofs.Waiting.{frames_after, put_by, waiting_of, waiting_at, accepted, accepted_by, event_frames, frames_by}
 use Rattle.bus_world.proofs.Tying.{AreNumbered, Hears, Tied}
 use Rattle.bus_world.proofs.Places.{got_split}
-use Rattle.bus_world.proofs.TableTrails.{plain_put, plain_close}
+use Rattle.bus_world.proofs.TableTrails.{plain_put, plain_mark}
 use Rattle.bus_world.proofs.TurnTrails.{Ties, turn_ties, batch_ties}
 use Rattle.bus_world.proofs.HearTrails.{IsTold, hears_later, hears_more, delivered_to, heads_to, silent_to}
-use Rattle.bus_world.proofs.Closings.{Closings, still_closed, closings_after, frames_later, own_closed, own_closes, turn_closing, turn_frames}
-use Rattle.bus_world.proofs.Framing.{framed, last_frame, order_grows, owners_grow}
+use Rattle.bus_world.proofs.Asking.{Askings, still_asked, askings_after, one_waits, frames_later, own_asked, own_asks, turn_waiting, turn_frames}
+use Rattle.bus_world.proofs.PutLaws.{nothing_left}
+use Rattle.bus_world.proofs.Framing.{framed, entry_of, has_left, gone_for_good, last_frame, order_grows, owners_grow}
 use Rattle.bus_world.proofs.Growing.{event_takers}
 
-open_apart : Open ≡ Closing → ⊥
-open_apart e = cc
+open_apart : (m : Mark) → Open ≡ Marking m → ⊥
+open_apart m e = cc
 
 true_or : (a b : Bool) → a ≡ true → (a || b) ≡ true
 true_or true b e = refl
@@ -73,8 +77,8 @@ true_or false b e = absurd (let z : false ≡ true = e in cc)
 -- what was given grows with the answers
 given_more : (trail trail' : List RecvTurn) → IsPrefix trail trail' → (q q' : Order) → IsPrefixOfOrder (order_given trail) q → IsPrefixOfOrder (order_given trail') q' → IsPrefixOfOrder q q' → IsPrefixOfOrder (order_given trail) (order_given trail')
 given_more trail trail' more q q' front front' grown = record {
-  later = flat_map item_heard more.rest;
-  items = ap (flat_map item_heard) (sym more.together) ∙ flat_map-append item_heard trail more.rest;
+  later = flat_map entry_heard more.rest;
+  entries = ap (flat_map entry_heard) (sym more.together) ∙ flat_map-append entry_heard trail more.rest;
   ended = λ e.
       let q_is = front.ended e in
       let q_ended : q.ended ≡ true = ap (λ (z : Order). z.ended) (sym q_is) ∙ e in
@@ -95,8 +99,13 @@ only_action d (suc i) x e = absurd (none_in i x e)
 pub same_number : (n m : ℕ) (xs ys : List ℕ) → HasPut n xs ≡ HasPut m ys → n ≡ m
 same_number n m xs ys e = cc
 
-pub closed_apart : (n : ℕ) (bytes : List ℕ) → HasClosed ≡ HasPut n bytes → ⊥
-closed_apart n bytes e = cc
+pub marked_apart : (m : Mark) (n : ℕ) (bytes : List ℕ) → HasMarked m ≡ HasPut n bytes → ⊥
+marked_apart m n bytes e = cc
+
+-- what a close or a leave that is taken adds
+pub mark_adds : (m : Mark) → mark_actions (asked_answer m) ≡ HasMarked m ∷ []
+mark_adds mark.End = refl
+mark_adds mark.Leave = refl
 
 pub stepped_apart : (tn : Option ℕ) (k : Kind) (got : ℕ) (ch : Option ℕ) (t : Answered) (n : ℕ) (bytes : List ℕ) → Stepped tn k got ch t ≡ HasPut n bytes → ⊥
 stepped_apart tn k got ch t n bytes e = cc
@@ -129,9 +138,9 @@ module _ {E : Type 0} (X : Election E) where
   put_puts_at false (Some c) bytes n gives = refl
   put_puts_at true (Some c) bytes n gives = ap (λ b. cond b (bytes ∷ []) []) (sym (put_taken c.queue (length bytes) gives.0))
 
-  close_puts_at : (t : Bool) → puts (cond t (HasClosed ∷ []) []) ≡ []
-  close_puts_at true = refl
-  close_puts_at false = refl
+  mark_puts_at : (m : Mark) (t : Bool) → puts (cond t (HasMarked m ∷ []) []) ≡ []
+  mark_puts_at m true = refl
+  mark_puts_at m false = refl
 
   turn_puts_at : (t : Bool) (words : List ℕ) (o : Option (Core E)) (word : ℕ) (a : Answer) → TurnAnswers X words o word a → puts (cond t (turning_actions X words o word a) []) ≡ []
   turn_puts_at t words None word a told = absurd told
@@ -140,7 +149,7 @@ module _ {E : Type 0} (X : Election E) where
 
   actions_put : (b : Bus E) (e : Event) (a : Answer) (b' : Bus E) (q : ℕ) → Answers X b e a b' → puts (actions_of X b e a q) ≡ accepted b e q
   actions_put b (Put s bytes) a b' q w = ap (λ z. puts (cond (q == s) (put_actions bytes z) [])) w.2 ∙ put_puts_at (q == s) (going b s) bytes w.0 w.1
-  actions_put b (Close s) a b' q w = ap (λ z. puts (cond (q == s) (close_actions z) [])) w.1 ∙ close_puts_at (q == s)
+  actions_put b (Ask s m) a b' q w = ap (λ z. puts (cond (q == s) z [])) (ap mark_actions w.1 ∙ mark_adds m) ∙ mark_puts_at m (q == s)
   actions_put b (Turn s word) a b' q w = turn_puts_at (q == s) b.side.words (going b s) word a w
   actions_put b (Recv r) a b' q w = refl
   actions_put b (Stop s) a b' q w = refl
@@ -158,13 +167,13 @@ module _ (bases : List ℕ) {E : Type 0} (X : Election E) (P : Protocol E (Unit 
         by_test true = batch_ties X P laws x ok width starts owner_is named announces apart b.side frames (side_of h) s c (is_there b s c i) 0 D T (record c { queue = record c.queue { messages = c.queue.messages ++ bytes ∷ [] } }) (HasPut n bytes ∷ []) refl refl (plain_put n bytes)
         by_test false = batch_ties X P laws x ok width starts owner_is named announces apart b.side frames (side_of h) s c (is_there b s c i) 0 D T c (HasPut n bytes ∷ []) refl refl (plain_put n bytes)
 
-    close_ties : (s : ℕ) (o : Option (Core E)) → going b s ≡ o → SenderDoes b.side o (λ c. with_sender b.side s (close_in c)) b'.side → CloseGives o → Ties P x b'.side (λ q. D q ++ cond (q == s) (HasClosed ∷ []) [])
-    close_ties s None i d gives = absurd gives
-    close_ties s (Some c) i d gives = subst (λ z. Ties P x z (λ q. D q ++ cond (q == s) (HasClosed ∷ []) [])) (sym d) (by_test (can_close c.queue))
+    mark_ties : (s : ℕ) (m : Mark) (o : Option (Core E)) → going b s ≡ o → SenderDoes b.side o (λ c. with_sender b.side s (mark_in c m)) b'.side → CloseGives o → Ties P x b'.side (λ q. D q ++ cond (q == s) (HasMarked m ∷ []) [])
+    mark_ties s m None i d gives = absurd gives
+    mark_ties s m (Some c) i d gives = subst (λ z. Ties P x z (λ q. D q ++ cond (q == s) (HasMarked m ∷ []) [])) (sym d) (by_test (can_close c.queue))
       where
-        by_test : (t : Bool) → Ties P x (with_sender b.side s (cond t (record c { queue = record c.queue { phase = Closing } }) c)) (λ q. D q ++ cond (q == s) (HasClosed ∷ []) [])
-        by_test true = batch_ties X P laws x ok width starts owner_is named announces apart b.side frames (side_of h) s c (is_there b s c i) 0 D T (record c { queue = record c.queue { phase = Closing } }) (HasClosed ∷ []) refl refl plain_close
-        by_test false = batch_ties X P laws x ok width starts owner_is named announces apart b.side frames (side_of h) s c (is_there b s c i) 0 D T c (HasClosed ∷ []) refl refl plain_close
+        by_test : (t : Bool) → Ties P x (with_sender b.side s (cond t (record c { queue = record c.queue { phase = Marking m } }) c)) (λ q. D q ++ cond (q == s) (HasMarked m ∷ []) [])
+        by_test true = batch_ties X P laws x ok width starts owner_is named announces apart b.side frames (side_of h) s c (is_there b s c i) 0 D T (record c { queue = record c.queue { phase = Marking m } }) (HasMarked m ∷ []) refl refl (plain_mark m)
+        by_test false = batch_ties X P laws x ok width starts owner_is named announces apart b.side frames (side_of h) s c (is_there b s c i) 0 D T c (HasMarked m ∷ []) refl refl (plain_mark m)
 
     turning_ties : (s word : ℕ) (o : Option (Core E)) → going b s ≡ o → SenderDoes b.side o (λ c. side_after X b.side s c (situation_of X c) word) b'.side → (a : Answer) → TurnAnswers X b.side.words o word a → Ties P x b'.side (λ q. D q ++ cond (q == s) (turning_actions X b.side.words o word a) [])
     turning_ties s word None i d a told = absurd told
@@ -173,50 +182,54 @@ module _ (bases : List ℕ) {E : Type 0} (X : Election E) (P : Protocol E (Unit 
 
     event_ties : (e : Event) (a : Answer) → Happens X b e b' → Answers X b e a b' → Ties P x b'.side (λ q. D q ++ actions_of X b e a q)
     event_ties (Put s bytes) a d w = subst (λ t. Ties P x b'.side (λ q. D q ++ cond (q == s) (put_actions bytes t) [])) (sym w.2) (put_ties s bytes (going b s) refl d.0 w.0 w.1)
-    event_ties (Close s) a d w = subst (λ t. Ties P x b'.side (λ q. D q ++ cond (q == s) (close_actions t) [])) (sym w.1) (close_ties s (going b s) refl d.0 w.0)
+    event_ties (Ask s m) a d w = subst (λ t. Ties P x b'.side (λ q. D q ++ cond (q == s) t [])) (sym (ap mark_actions w.1 ∙ mark_adds m)) (mark_ties s m (going b s) refl d.0 w.0)
     event_ties (Turn s word) a d w = turning_ties s word (going b s) refl d.0 a w
     event_ties (Recv r) a d w = subst (λ z. Ties P x z (λ q. D q ++ [])) (sym d.0) (subst (Ties P x b.side) (sym (fun_ext (λ q. append-nil (D q)))) T)
     event_ties (Stop s) a d w = subst (λ z. Ties P x z (λ q. D q ++ [])) (sym d.0) (subst (Ties P x b.side) (sym (fun_ext (λ q. append-nil (D q)))) T)
 
-  -- ---- who closed
-  module _ (b b' : Bus E) (frames : List Frame) (h : LawfulBus (slice_index bases) P x b frames) (D : ℕ → List Action) (C : Closings (slice_get b.side.senders) frames D) where
+  -- ---- who asked for a mark
+  module _ (b b' : Bus E) (frames : List Frame) (h : LawfulBus (slice_index bases) P x b frames) (D : ℕ → List Action) (C : Askings (slice_get b.side.senders) frames D) where
     -- a sender goes on with another batch, and the frames stay
-    goes_on_closing : (s : ℕ) (c c' : Core E) (i : slice_get b.side.senders s ≡ Some c) (ds : List Action) → (c'.queue.phase ≡ Closing → Closed (D s ++ cond (s == s) ds [])) → b'.side.senders ≡ slice_set b.side.senders s c' → Closings (slice_get b'.side.senders) frames (λ q. D q ++ cond (q == s) ds [])
-    goes_on_closing s c c' i ds own same = subst (λ z. Closings (slice_get z) frames (λ q. D q ++ cond (q == s) ds [])) (sym same)
-        (closings_after b.side.senders frames D C s c i ds c' frames own (frames_later (slice_get b.side.senders) frames D C s c i ds))
+    goes_on_asking : (s : ℕ) (c c' : Core E) (i : slice_get b.side.senders s ≡ Some c) (ds : List Action) → ((m : Mark) → c'.queue.phase ≡ Marking m → Asked m (D s ++ cond (s == s) ds [])) → b'.side.senders ≡ slice_set b.side.senders s c' → Askings (slice_get b'.side.senders) frames (λ q. D q ++ cond (q == s) ds [])
+    goes_on_asking s c c' i ds own same = subst (λ z. Askings (slice_get z) frames (λ q. D q ++ cond (q == s) ds [])) (sym same)
+        (askings_after b.side.senders frames D C s c i ds c' frames own (frames_later (slice_get b.side.senders) frames D C s c i ds))
 
-    put_closings : (s : ℕ) (bytes : List ℕ) (o : Option (Core E)) → going b s ≡ o → SenderDoes b.side o (λ c. with_sender b.side s (put_in c bytes)) b'.side → (n : ℕ) → PutGives o (length bytes) n → Closings (slice_get b'.side.senders) frames (λ q. D q ++ cond (q == s) (HasPut n bytes ∷ []) [])
-    put_closings s bytes None i d n gives = absurd gives
-    put_closings s bytes (Some c) i d n gives = goes_on_closing s c (put_in c bytes) (is_there b s c i) (HasPut n bytes ∷ []) (λ e. own_closed (slice_get b.side.senders) frames D C s c (is_there b s c i) (HasPut n bytes ∷ []) (by_test (can_put c.queue (length bytes)) e)) (ap (λ (z : Side E). z.senders) d)
+    put_askings : (s : ℕ) (bytes : List ℕ) (o : Option (Core E)) → going b s ≡ o → SenderDoes b.side o (λ c. with_sender b.side s (put_in c bytes)) b'.side → (n : ℕ) → PutGives o (length bytes) n → Askings (slice_get b'.side.senders) frames (λ q. D q ++ cond (q == s) (HasPut n bytes ∷ []) [])
+    put_askings s bytes None i d n gives = absurd gives
+    put_askings s bytes (Some c) i d n gives = goes_on_asking s c (put_in c bytes) (is_there b s c i) (HasPut n bytes ∷ []) (λ m e. own_asked (slice_get b.side.senders) frames D C s c (is_there b s c i) (HasPut n bytes ∷ []) m (by_test m (can_put c.queue (length bytes)) e)) (ap (λ (z : Side E). z.senders) d)
       where
-        by_test : (t : Bool) → (cond t (record c { queue = record c.queue { messages = c.queue.messages ++ bytes ∷ [] } }) c).queue.phase ≡ Closing → c.queue.phase ≡ Closing
-        by_test true e = e
-        by_test false e = e
+        by_test : (m : Mark) (t : Bool) → (cond t (record c { queue = record c.queue { messages = c.queue.messages ++ bytes ∷ [] } }) c).queue.phase ≡ Marking m → c.queue.phase ≡ Marking m
+        by_test m true e = e
+        by_test m false e = e
 
-    close_closings : (s : ℕ) (o : Option (Core E)) → going b s ≡ o → SenderDoes b.side o (λ c. with_sender b.side s (close_in c)) b'.side → CloseGives o → Closings (slice_get b'.side.senders) frames (λ q. D q ++ cond (q == s) (HasClosed ∷ []) [])
-    close_closings s None i d gives = absurd gives
-    close_closings s (Some c) i d gives = goes_on_closing s c (close_in c) (is_there b s c i) (HasClosed ∷ []) (λ e. own_closes (slice_get b.side.senders) frames D C s c (is_there b s c i) (HasClosed ∷ []) (0, refl)) (ap (λ (z : Side E). z.senders) d)
+    mark_askings : (s : ℕ) (k : Mark) (o : Option (Core E)) → going b s ≡ o → SenderDoes b.side o (λ c. with_sender b.side s (mark_in c k)) b'.side → CloseGives o → Askings (slice_get b'.side.senders) frames (λ q. D q ++ cond (q == s) (HasMarked k ∷ []) [])
+    mark_askings s k None i d gives = absurd gives
+    mark_askings s k (Some c) i d gives = goes_on_asking s c (mark_in c k) (is_there b s c i) (HasMarked k ∷ []) (λ m e. by_test m (can_close c.queue) e) (ap (λ (z : Side E). z.senders) d)
+      where
+        by_test : (m : Mark) (t : Bool) → (cond t (record c { queue = record c.queue { phase = Marking k } }) c).queue.phase ≡ Marking m → Asked m (D s ++ cond (s == s) (HasMarked k ∷ []) [])
+        by_test m true e = own_asks (slice_get b.side.senders) frames D C s c (is_there b s c i) (HasMarked k ∷ []) m (one_waits k m e)
+        by_test m false e = own_asked (slice_get b.side.senders) frames D C s c (is_there b s c i) (HasMarked k ∷ []) m e
 
-    turn_closings : (s word : ℕ) (o : Option (Core E)) → going b s ≡ o → SenderDoes b.side o (λ c. side_after X b.side s c (situation_of X c) word) b'.side → (ds : List Action) → Closings (slice_get b'.side.senders) (frames_by X o frames) (λ q. D q ++ cond (q == s) ds [])
-    turn_closings s word None i d ds = record {
-      closing = λ q c at shut. still_closed (D q) (cond (q == s) ds []) (C.closing q c (ap (λ (z : Side E). slice_get z.senders q) (sym d) ∙ at) shut);
-      ended = λ j f at ends. still_closed (D f.owner.0) (cond (f.owner.0 == s) ds []) (C.ended j f at ends);
+    turn_askings : (s word : ℕ) (o : Option (Core E)) → going b s ≡ o → SenderDoes b.side o (λ c. side_after X b.side s c (situation_of X c) word) b'.side → (ds : List Action) → Askings (slice_get b'.side.senders) (frames_by X o frames) (λ q. D q ++ cond (q == s) ds [])
+    turn_askings s word None i d ds = record {
+      waiting = λ q c m at waits. still_asked m (D q) (cond (q == s) ds []) (C.waiting q c m (ap (λ (z : Side E). slice_get z.senders q) (sym d) ∙ at) waits);
+      logged = λ j f m at says. still_asked m (D f.owner.0) (cond (f.owner.0 == s) ds []) (C.logged j f m at says);
     }
-    turn_closings s word (Some c) i d ds =
+    turn_askings s word (Some c) i d ds =
         let part = h.keeps.sending.parts s c (is_there b s c i) in
         let z = situation_of X c in
-        subst (λ l. Closings (slice_get l) (frames_after X c z frames) (λ q. D q ++ cond (q == s) ds [])) (sym (ap (λ (l : Side E). l.senders) d))
-        (closings_after b.side.senders frames D C s c (is_there b s c i) ds (core_after X c z b.side.home (number_found (slice_index b.side.words) (op_at X c z word)) word) (frames_after X c z frames)
-        (λ e. own_closed (slice_get b.side.senders) frames D C s c (is_there b s c i) ds (turn_closing X c z b.side.home (number_found (slice_index b.side.words) (op_at X c z word)) word e))
-        (turn_frames X c z frames (λ f. Closed (D f.owner.0 ++ cond (f.owner.0 == s) ds [])) (frames_later (slice_get b.side.senders) frames D C s c (is_there b s c i) ds)
-        (λ t e. subst (λ q. Closed (D q ++ cond (q == s) ds [])) (sym part.sender) (own_closed (slice_get b.side.senders) frames D C s c (is_there b s c i) ds e))))
+        subst (λ l. Askings (slice_get l) (frames_after X c z frames) (λ q. D q ++ cond (q == s) ds [])) (sym (ap (λ (l : Side E). l.senders) d))
+        (askings_after b.side.senders frames D C s c (is_there b s c i) ds (core_after X c z b.side.home (number_found (slice_index b.side.words) (op_at X c z word)) word) (frames_after X c z frames)
+        (λ m e. own_asked (slice_get b.side.senders) frames D C s c (is_there b s c i) ds m (turn_waiting X c m z b.side.home (number_found (slice_index b.side.words) (op_at X c z word)) word e))
+        (turn_frames X c z frames (λ m f. Asked m (D f.owner.0 ++ cond (f.owner.0 == s) ds [])) (frames_later (slice_get b.side.senders) frames D C s c (is_there b s c i) ds)
+        (λ t m e. subst (λ q. Asked m (D q ++ cond (q == s) ds [])) (sym part.sender) (own_asked (slice_get b.side.senders) frames D C s c (is_there b s c i) ds m e))))
 
-    event_closings : (e : Event) (a : Answer) → Happens X b e b' → Answers X b e a b' → Closings (slice_get b'.side.senders) (event_frames X b e frames) (λ q. D q ++ actions_of X b e a q)
-    event_closings (Put s bytes) a d w = subst (λ t. Closings (slice_get b'.side.senders) frames (λ q. D q ++ cond (q == s) (put_actions bytes t) [])) (sym w.2) (put_closings s bytes (going b s) refl d.0 w.0 w.1)
-    event_closings (Close s) a d w = subst (λ t. Closings (slice_get b'.side.senders) frames (λ q. D q ++ cond (q == s) (close_actions t) [])) (sym w.1) (close_closings s (going b s) refl d.0 w.0)
-    event_closings (Turn s word) a d w = turn_closings s word (going b s) refl d.0 (turning_actions X b.side.words (going b s) word a)
-    event_closings (Recv r) a d w = subst (λ z. Closings (slice_get z.senders) frames (λ q. D q ++ [])) (sym d.0) (subst (Closings (slice_get b.side.senders) frames) (sym (fun_ext (λ q. append-nil (D q)))) C)
-    event_closings (Stop s) a d w = subst (λ z. Closings (slice_get z.senders) frames (λ q. D q ++ [])) (sym d.0) (subst (Closings (slice_get b.side.senders) frames) (sym (fun_ext (λ q. append-nil (D q)))) C)
+    event_askings : (e : Event) (a : Answer) → Happens X b e b' → Answers X b e a b' → Askings (slice_get b'.side.senders) (event_frames X b e frames) (λ q. D q ++ actions_of X b e a q)
+    event_askings (Put s bytes) a d w = subst (λ t. Askings (slice_get b'.side.senders) frames (λ q. D q ++ cond (q == s) (put_actions bytes t) [])) (sym w.2) (put_askings s bytes (going b s) refl d.0 w.0 w.1)
+    event_askings (Ask s m) a d w = subst (λ t. Askings (slice_get b'.side.senders) frames (λ q. D q ++ cond (q == s) t [])) (sym (ap mark_actions w.1 ∙ mark_adds m)) (mark_askings s m (going b s) refl d.0 w.0)
+    event_askings (Turn s word) a d w = turn_askings s word (going b s) refl d.0 (turning_actions X b.side.words (going b s) word a)
+    event_askings (Recv r) a d w = subst (λ z. Askings (slice_get z.senders) frames (λ q. D q ++ [])) (sym d.0) (subst (Askings (slice_get b.side.senders) frames) (sym (fun_ext (λ q. append-nil (D q)))) C)
+    event_askings (Stop s) a d w = subst (λ z. Askings (slice_get z.senders) frames (λ q. D q ++ [])) (sym d.0) (subst (Askings (slice_get b.side.senders) frames) (sym (fun_ext (λ q. append-nil (D q)))) C)
 
   -- ---- the receivers
   -- each has heard what stands below its place, and where there is none nothing is heard
@@ -269,7 +282,7 @@ module _ (bases : List ℕ) {E : Type 0} (X : Election E) (P : Protocol E (Unit 
 
     event_heard : LawfulBus (slice_index bases) P x b' (frames ++ more) → (e : Event) (a : Answer) → Happens X b e b' → Answers X b e a b' → Heard (frames ++ more) b'.receivers (λ r. A r ++ heard_of e a r)
     event_heard lawful (Put s bytes) a d w = nobody_hears d.1
-    event_heard lawful (Close s) a d w = nobody_hears d.1
+    event_heard lawful (Ask s m) a d w = nobody_hears d.1
     event_heard lawful (Turn s word) a d w = nobody_hears d.1
     event_heard lawful (Recv r) a d w = one_hears d.0 lawful r (slice_get b.receivers r) refl a w
     event_heard lawful (Stop s) a d w = nobody_hears d.1
@@ -287,7 +300,7 @@ module _ (bases : List ℕ) {E : Type 0} (X : Election E) (P : Protocol E (Unit 
         let waits : waiting_of (slice_get b.side.senders s) ≡ c.queue.messages = ap waiting_of i ∙ ap (waiting_at c) e in
         let size : length (put_by b frames s) ≡ length sent_now + length c.queue.messages = ap (λ z. length (sent_now ++ z)) waits ∙ length-append sent_now c.queue.messages in
         let many : length sent_now ≡ sent_count s frames = length-map (of_sender s (order_of frames)) (λ (v : Item). v.message) in
-        let first : c.queue.first ≡ next_number (slice_index bases) s frames = fits.1 ∙ ap (λ z. next_number (slice_index bases) z frames) part.me in
+        let first : c.queue.first ≡ next_number (slice_index bases) s frames = fits.1.0 ∙ ap (λ z. next_number (slice_index bases) z frames) part.me in
         omega arith
     number_at s c i (phase.Electing t u) e fits idle = absurd (busy_apart c.queue.busy fits.0.busy idle)
     number_at s c i (phase.Taken t) e fits idle = absurd fits
@@ -306,10 +319,10 @@ module _ (bases : List ℕ) {E : Type 0} (X : Election E) (P : Protocol E (Unit 
           (one.0, sym (same_number _ _ _ _ one.1) ∙ subst (λ z. w.0 ≡ slice_index bases z + length (put_by b frames z)) (sym y.1) (put_number s (going b s) refl (length bytes') w.0 w.1))
       | inr y ↦ absurd (none_in j _ (ap (λ t. slice_get (cond t (put_actions bytes' a) []) j) (sym y.0) ∙ e))
     ]
-    numbers b' (Close s) a w q j n bytes e = absurd (by_test (q == s) (ap (λ t. slice_get (cond (q == s) (close_actions t) []) j) (sym w.1) ∙ e))
+    numbers b' (Ask s m) a w q j n bytes e = absurd (by_test (q == s) (ap (λ t. slice_get (cond (q == s) t []) j) (sym (ap mark_actions w.1 ∙ mark_adds m)) ∙ e))
       where
-        by_test : (t : Bool) → slice_get (cond t (HasClosed ∷ []) []) j ≡ Some (HasPut n bytes) → ⊥
-        by_test true f = closed_apart n bytes (only_action HasClosed j _ f).1
+        by_test : (t : Bool) → slice_get (cond t (HasMarked m ∷ []) []) j ≡ Some (HasPut n bytes) → ⊥
+        by_test true f = marked_apart m n bytes (only_action (HasMarked m) j _ f).1
         by_test false f = none_in j _ f
     numbers b' (Turn s word) a w q j n bytes e = absurd (turning (q == s) (going b s) w e)
       where
@@ -355,7 +368,7 @@ module _ (bases : List ℕ) {E : Type 0} (X : Election E) (P : Protocol E (Unit 
           counted = λ s. numbered_more (slice_index bases s) (T.actions s) (actions_of X b e a s) (k.tied.counted s) (λ j n bytes i. let z = numbers b k.frames k.lawful b' e a w s j n bytes i in (z.0, z.1 ∙ ap (λ y. slice_index bases s + length y) (sym (k.tied.puts s))));
           heard = heard.each;
           silent = heard.silent;
-          closings = subst (λ z. Closings (slice_get b'.side.senders) z (λ q. T.actions q ++ actions_of X b e a q)) (sym frames_are) (event_closings b b' k.frames k.lawful T.actions k.tied.closings e a d w);
+          askings = subst (λ z. Askings (slice_get b'.side.senders) z (λ q. T.actions q ++ actions_of X b e a q)) (sym frames_are) (event_askings b b' k.frames k.lawful T.actions k.tied.askings e a d w);
         };
       }
 
@@ -404,7 +417,7 @@ module _ (bases : List ℕ) {E : Type 0} (X : Election E) (P : Protocol E (Unit 
             let nothing : take v.place (log_pieces []) ≡ [] = take-nil v.place in
             record { given_is = ap order_in (sym nothing); heads_are = ap owners_in (sym nothing); ended = λ e. absurd (let z = sym n.6 ∙ e in cc); going = λ e. refl; silent = λ j k a e l f. absurd (none_in j _ e) };
         silent = λ r i. refl;
-        closings = record { closing = λ q c i shut. absurd (open_apart (ap (λ (z : Core E). z.queue.phase) (sym (new.senders q c i).1) ∙ shut)); ended = λ j f at ends. absurd (none_in j f at) };
+        askings = record { waiting = λ q c m i waits. absurd (open_apart m (ap (λ (z : Core E). z.queue.phase) (sym (new.senders q c i).1) ∙ waits)); logged = λ j f m at says. absurd (none_in j f at) };
       };
     }
 
@@ -448,8 +461,14 @@ module _ (bases : List ℕ) {E : Type 0} (X : Election E) (P : Protocol E (Unit 
             tenure = l.frame.tenure;
             owner = l.frame.owner;
             last = ap (map tenure_and_owner) l.frames_are ∙ map-append tenure_and_owner l.front (l.frame ∷ []);
-            closed = k.tied.closings.ended l.place l.frame l.at l.ends;
+            closed = k.tied.askings.logged l.place l.frame mark.End l.at l.ends;
           };
+      gone = gone_for_good x.senders 0 frames k.lawful.keeps.sending.log.lawful;
+      asked = λ s q at. let r = entry_of frames q (Leaves s) at in subst (λ (z : SenderNo). Asked mark.Leave (T.actions z.0)) (sym r.own) (k.tied.askings.logged r.place r.frame mark.Leave r.at (r.left s refl));
+      whole = λ s q at.
+          let sent_now = map (λ (i : Item). i.message) (of_sender s.0 (order_of frames)) in
+          let waits = nothing_left x (slice_index b.side.words) frames (slice_get b.side.senders) k.lawful.keeps.sending.parts s.0 (has_left frames q s at) in
+          sym (k.tied.puts s.0 ∙ ap (λ z. sent_now ++ z) waits ∙ append-nil sent_now);
       framed = framed x.senders 0 frames k.lawful.keeps.sending.log.lawful;
     }
 

@@ -8,7 +8,7 @@ use Rattle.bus_tenure.specs.Core.{Core, Election}
 use Rattle.bus_tenure.specs.Situations.{situation_of, line_of}
 use Rattle.bus_world.specs.Headline.{IsPrefix}
 use Rattle.bus_world.specs.Turning.{Side, side_after}
-use Rattle.bus_world.specs.World.{Bus, Event, Put, Close, Turn, Recv, Stop, going, Happens, SenderDoes, with_sender, put_in, close_in}
+use Rattle.bus_world.specs.World.{Bus, Event, Put, Ask, Turn, Recv, Stop, going, Happens, SenderDoes, with_sender, put_in, mark_in}
 use Rattle.bus_world.specs.declared.events.Event.{Event as Told}
 use Rattle.bus_world.specs.Playing.{event_told}
 
@@ -39,7 +39,7 @@ same_owners side side' (Some c) f same d = same_prefix side.owners side'.owners 
 
 pub event_takers : {E : Type 0} (X : Election E) (b b' : Bus E) (e : Event) → Happens X b e b' → IsPrefix b.side.owners b'.side.owners
 event_takers X b b' (Put s bytes) d = same_owners b.side b'.side (going b s) (λ c. with_sender b.side s (put_in c bytes)) (λ c. refl) d.0
-event_takers X b b' (Close s) d = same_owners b.side b'.side (going b s) (λ c. with_sender b.side s (close_in c)) (λ c. refl) d.0
+event_takers X b b' (Ask s m) d = same_owners b.side b'.side (going b s) (λ c. with_sender b.side s (mark_in c m)) (λ c. refl) d.0
 event_takers X b b' (Turn s word) d = turn_owners X b.side b'.side s word (going b s) d.0
 event_takers X b b' (Recv r) d = same_prefix b.side.owners b'.side.owners (ap (λ (z : Side _). z.owners) d.0)
 event_takers X b b' (Stop s) d = same_prefix b.side.owners b'.side.owners (ap (λ (z : Side _). z.owners) d.0)

@@ -8,10 +8,9 @@ use Rattle.std.proofs.lemmas.Grind.{common_steps, flat_map-append}
 use Rattle.std.proofs.lemmas.List.{append-nil, take-append-le, take-append-drop, take_more, get_or_append_left}
 use Rattle.std.proofs.lemmas.List.Folds.{list_any-append}
 use Rattle.std.proofs.lemmas.Option.{same_Some, slice_get_within, get_or_from_slice_get}
-use Rattle.bus_batch.specs.declared.messages.Item.{Item}
 use Rattle.bus_batch.specs.declared.messages.Piece.{Piece}
 use Rattle.bus_batch.specs.declared.messages.Piece.TheVariants as piece
-use Rattle.bus_batch.specs.Frames.{Frame, Order, AreFrames, log_words, log_pieces, frame_pieces, order_of, order_in, owners_in, piece_items, piece_owners, is_end, tenure_and_owner}
+use Rattle.bus_batch.specs.Frames.{Frame, Order, Entry, AreFrames, log_words, log_pieces, frame_pieces, order_of, order_in, owners_in, piece_entries, piece_owners, is_end, tenure_and_owner}
 use Rattle.bus_batch.proofs.PieceLaws.{owners_in-log}
 use Rattle.bus_deliverylog.specs.Orders.{IsPrefixOfOrder}
 use Rattle.bus_deliverylog.specs.Receiving.{Receiving, turn_of}
@@ -21,54 +20,57 @@ use Rattle.bus_tenure.specs.Core.{Layout, log_at}
 use Rattle.bus_world.specs.Log.{words_read_from, Logged}
 use Rattle.bus_world.proofs.LogLaws.{length-read}
 use Rattle.bus_world.proofs.ReceivingLaws.{given_is_prefix, length-log_pieces}
-use Rattle.bus_world.specs.Headline.{item_heard, end_heard, head_heard, order_given, heads, IsPrefix}
+use Rattle.bus_world.specs.Headline.{entry_heard, end_heard, head_heard, order_given, heads, IsPrefix}
 use Rattle.bus_world.proofs.Places.{got_split}
 use Rattle.bus_world.proofs.Tying.{Hears, IsSilent}
 use Rattle.bus_world.specs.World.{RecvDoes, RecvStep, recv_found, IsReceiver, given_at}
 use Rattle.bus_world.proofs.WorldLaws.{received}
 
 -- ---- what one answer adds
-abbrev pub more_order : Order → List Item → Bool → Order
-more_order o items ended = record { items = o.items ++ items; ended = o.ended || ended }
+abbrev pub more_order : Order → List Entry → Bool → Order
+more_order o entries ended = record { entries = o.entries ++ entries; ended = o.ended || ended }
 
-order_so : (items items' : List Item) (a b : Bool) → items ≡ items' → a ≡ b → ◌≡◌ {A = Order} (record { items = items; ended = a }) (record { items = items'; ended = b })
-order_so items items' a b e f = ap (λ z. record { items = z; ended = a }) e ∙ ap (λ z. record { items = items'; ended = z }) f
+order_so : (entries entries' : List Entry) (a b : Bool) → entries ≡ entries' → a ≡ b → ◌≡◌ {A = Order} (record { entries = entries; ended = a }) (record { entries = entries'; ended = b })
+order_so entries entries' a b e f = ap (λ z. record { entries = z; ended = a }) e ∙ ap (λ z. record { entries = entries'; ended = z }) f
 
-given_more : (trail : List RecvTurn) (a : RecvTurn) → order_given (trail ++ a ∷ []) ≡ more_order (order_given trail) (item_heard a) (end_heard a)
-given_more trail a = order_so _ _ _ _ (flat_map-append item_heard trail (a ∷ []) ∙ ap (λ z. flat_map item_heard trail ++ z) (append-nil (item_heard a)))
+given_more : (trail : List RecvTurn) (a : RecvTurn) → order_given (trail ++ a ∷ []) ≡ more_order (order_given trail) (entry_heard a) (end_heard a)
+given_more trail a = order_so _ _ _ _ (flat_map-append entry_heard trail (a ∷ []) ∙ ap (λ z. flat_map entry_heard trail ++ z) (append-nil (entry_heard a)))
     (list_any-append end_heard trail (a ∷ []) ∙ ap (λ z. list_any end_heard trail || z) (or-false (end_heard a)))
 
 heads_more : (trail : List RecvTurn) (a : RecvTurn) → heads (trail ++ a ∷ []) ≡ heads trail ++ head_heard a
 heads_more trail a = flat_map-append head_heard trail (a ∷ []) ∙ ap (λ z. flat_map head_heard trail ++ z) (append-nil (head_heard a))
 
-order_more : (pieces : List (Option Piece)) (p : Option Piece) → order_in (pieces ++ p ∷ []) ≡ more_order (order_in pieces) (piece_items p) (is_end p)
-order_more pieces p = order_so _ _ _ _ (flat_map-append piece_items pieces (p ∷ []) ∙ ap (λ z. flat_map piece_items pieces ++ z) (append-nil (piece_items p)))
+order_more : (pieces : List (Option Piece)) (p : Option Piece) → order_in (pieces ++ p ∷ []) ≡ more_order (order_in pieces) (piece_entries p) (is_end p)
+order_more pieces p = order_so _ _ _ _ (flat_map-append piece_entries pieces (p ∷ []) ∙ ap (λ z. flat_map piece_entries pieces ++ z) (append-nil (piece_entries p)))
     (list_any-append is_end pieces (p ∷ []) ∙ ap (λ z. list_any is_end pieces || z) (or-false (is_end p)))
 
 owners_more : (pieces : List (Option Piece)) (p : Option Piece) → owners_in (pieces ++ p ∷ []) ≡ owners_in pieces ++ piece_owners p
 owners_more pieces p = flat_map-append piece_owners pieces (p ∷ []) ∙ ap (λ z. flat_map piece_owners pieces ++ z) (append-nil (piece_owners p))
 
 -- an answer tells its piece
-item_told : (p : Option Piece) → item_heard (turn_of p) ≡ piece_items p
-item_told None = refl
-item_told (Some (piece.Head t o)) = refl
-item_told (Some (piece.Item i)) = refl
-item_told (Some piece.End) = refl
+entry_told : (p : Option Piece) → entry_heard (turn_of p) ≡ piece_entries p
+entry_told None = refl
+entry_told (Some (piece.Head t o)) = refl
+entry_told (Some (piece.Item i)) = refl
+entry_told (Some (piece.Leave s)) = refl
+entry_told (Some piece.End) = refl
 
 end_told : (p : Option Piece) → end_heard (turn_of p) ≡ is_end p
 end_told None = refl
 end_told (Some (piece.Head t o)) = refl
 end_told (Some (piece.Item i)) = refl
+end_told (Some (piece.Leave s)) = refl
 end_told (Some piece.End) = refl
 
 head_told : (p : Option Piece) → head_heard (turn_of p) ≡ piece_owners p
 head_told None = refl
 head_told (Some (piece.Head t o)) = refl
 head_told (Some (piece.Item i)) = refl
+head_told (Some (piece.Leave s)) = refl
 head_told (Some piece.End) = refl
 
 nothing_more : (o : Order) → more_order o [] false ≡ o
-nothing_more o = order_so _ _ _ _ (append-nil o.items) (or-false o.ended)
+nothing_more o = order_so _ _ _ _ (append-nil o.entries) (or-false o.ended)
 
 or_true : (a b : Bool) → b ≡ true → (a || b) ≡ true
 or_true true b e = refl
@@ -132,7 +134,7 @@ silent_more trail answer h how j k a at l here = elim (got_split trail (answer �
 
 -- an answer that tells nothing, of a receiver that stays where it is
 record Tells_nothing (v next : Receiving) (answer : RecvTurn) : Type 0 where
-  items : item_heard answer ≡ []
+  entries : entry_heard answer ≡ []
   ends : end_heard answer ≡ false
   head : head_heard answer ≡ []
   place : next.place ≡ v.place
@@ -141,7 +143,7 @@ record Tells_nothing (v next : Receiving) (answer : RecvTurn) : Type 0 where
 module _ (frames : List Frame) (v : Receiving) (trail : List RecvTurn) (h : Hears frames v trail) (answer : RecvTurn) (next : Receiving) where
   quiet : v.ended ≡ false → Tells_nothing v next answer → Hears frames next (trail ++ answer ∷ [])
   quiet on q =
-      let same : order_given (trail ++ answer ∷ []) ≡ order_given trail = given_more trail answer ∙ ap (λ z. more_order (order_given trail) z (end_heard answer)) q.items ∙ ap (more_order (order_given trail) []) q.ends ∙ nothing_more (order_given trail) in
+      let same : order_given (trail ++ answer ∷ []) ≡ order_given trail = given_more trail answer ∙ ap (λ z. more_order (order_given trail) z (end_heard answer)) q.entries ∙ ap (more_order (order_given trail) []) q.ends ∙ nothing_more (order_given trail) in
       record {
         given_is = same ∙ h.given_is ∙ ap (λ z. order_in (take z (log_pieces frames))) (sym q.place);
         heads_are = heads_more trail answer ∙ ap (λ z. heads trail ++ z) q.head ∙ append-nil (heads trail) ∙ h.heads_are ∙ ap (λ z. owners_in (take z (log_pieces frames))) (sym q.place);
@@ -155,10 +157,10 @@ module _ (frames : List Frame) (v : Receiving) (trail : List RecvTurn) (h : Hear
   good on found at told place_is ended_is =
       let pieces : take next.place (log_pieces frames) ≡ take v.place (log_pieces frames) ++ found ∷ [] =
       ap (λ z. take z (log_pieces frames)) place_is ∙ take_more (log_pieces frames) v.place found (slice_get_within (log_pieces frames) v.place found at) ∙ ap (λ z. take v.place (log_pieces frames) ++ z ∷ []) (get_or_from_slice_get (log_pieces frames) v.place found found at) in
-      let items : item_heard answer ≡ piece_items found = ap item_heard told ∙ item_told found in
+      let entries : entry_heard answer ≡ piece_entries found = ap entry_heard told ∙ entry_told found in
       let ends : end_heard answer ≡ is_end found = ap end_heard told ∙ end_told found in
       record {
-        given_is = given_more trail answer ∙ ap (λ z. more_order z (item_heard answer) (end_heard answer)) h.given_is ∙ ap (λ z. more_order (given_at frames v) z (end_heard answer)) items ∙ ap (more_order (given_at frames v) (piece_items found)) ends
+        given_is = given_more trail answer ∙ ap (λ z. more_order z (entry_heard answer) (end_heard answer)) h.given_is ∙ ap (λ z. more_order (given_at frames v) z (end_heard answer)) entries ∙ ap (more_order (given_at frames v) (piece_entries found)) ends
             ∙ sym (order_more (take v.place (log_pieces frames)) found) ∙ ap order_in (sym pieces);
         heads_are = heads_more trail answer ∙ ap (λ z. z ++ head_heard answer) h.heads_are ∙ ap (λ z. owners_in (take v.place (log_pieces frames)) ++ z) (ap head_heard told ∙ head_told found) ∙ sym (owners_more (take v.place (log_pieces frames)) found) ∙ ap owners_in (sym pieces);
         ended = λ e. ap (λ (z : Order). z.ended) (given_more trail answer) ∙ or_true (order_given trail).ended (end_heard answer) (ends ∙ sym ended_is ∙ e);
@@ -170,7 +172,7 @@ module _ (frames : List Frame) (v : Receiving) (trail : List RecvTurn) (h : Hear
   again : v.ended ≡ true → answer ≡ heard.End → next ≡ v → Hears frames next (trail ++ answer ∷ [])
   again e told same =
       let still : order_given (trail ++ answer ∷ []) ≡ order_given trail =
-      given_more trail answer ∙ ap (λ z. more_order (order_given trail) (item_heard z) (end_heard z)) told ∙ order_so _ _ _ _ (append-nil (order_given trail).items) (or_left (order_given trail).ended true (h.ended e)) in
+      given_more trail answer ∙ ap (λ z. more_order (order_given trail) (entry_heard z) (end_heard z)) told ∙ order_so _ _ _ _ (append-nil (order_given trail).entries) (or_left (order_given trail).ended true (h.ended e)) in
       record {
         given_is = still ∙ h.given_is ∙ ap (λ (z : Receiving). given_at frames z) (sym same);
         heads_are = heads_more trail answer ∙ ap (λ z. heads trail ++ head_heard z) told ∙ append-nil (heads trail) ∙ h.heads_are ∙ ap (λ (z : Receiving). owners_in (take z.place (log_pieces frames))) (sym same);
@@ -188,21 +190,21 @@ module _ {base : ℕ → ℕ} (x : Layout) (frames : List Frame) (words : ℕ �
     | inl e ↦
         let t = step.at_length e in
         let got = recv_found words v in
-        let goes : answer ≡ heard.Going → next.place ≡ v.place → next.ended ≡ v.ended → Hears frames next (trail ++ answer ∷ []) = λ a b d. quiet frames v trail h answer next on record { items = ap item_heard a; ends = ap end_heard a; head = ap head_heard a; place = b; ended = d } in
+        let goes : answer ≡ heard.Going → next.place ≡ v.place → next.ended ≡ v.ended → Hears frames next (trail ++ answer ∷ []) = λ a b d. quiet frames v trail h answer next on record { entries = ap entry_heard a; ends = ap end_heard a; head = ap head_heard a; place = b; ended = d } in
         elim (cases_lt v.known got) [
           | inl l ↦ elim (cases_lt v.log_words got) [
             | inl beyond ↦ (let a = t.beyond l beyond in goes a.0 (ap (λ (z : Receiving). z.place) a.1) (ap (λ (z : Receiving). z.ended) a.1))
             | inr within ↦ (let a = t.more l within in goes a.0 (ap (λ (z : Receiving). z.place) a.1) (ap (λ (z : Receiving). z.ended) a.1))
           ]
           | inr g ↦ elim (cases_eq got v.known) [
-            | inl i ↦ (let a = t.same i in quiet frames v trail h answer next on record { items = ap item_heard a.0; ends = ap end_heard a.0; head = ap head_heard a.0; place = ap (λ (z : Receiving). z.place) a.1; ended = ap (λ (z : Receiving). z.ended) a.1 })
+            | inl i ↦ (let a = t.same i in quiet frames v trail h answer next on record { entries = ap entry_heard a.0; ends = ap end_heard a.0; head = ap head_heard a.0; place = ap (λ (z : Receiving). z.place) a.1; ended = ap (λ (z : Receiving). z.ended) a.1 })
             | inr ne ↦ (let a = t.less (omega arith) in goes a.0 (ap (λ (z : Receiving). z.place) a.1) (ap (λ (z : Receiving). z.ended) a.1))
           ]
         ]
     | inr ne ↦
         let had = received x frames words log v own in
         elim (step.at_word ne (take v.place (log_words frames)) (take v.place (log_pieces frames)) had) [
-          | inl bad ↦ quiet frames v trail h answer next on record { items = ap item_heard bad.1; ends = ap end_heard bad.1; head = ap head_heard bad.1; place = ap (λ (z : Receiving). z.place) bad.2; ended = ap (λ (z : Receiving). z.ended) bad.2 }
+          | inl bad ↦ quiet frames v trail h answer next on record { entries = ap entry_heard bad.1; ends = ap end_heard bad.1; head = ap head_heard bad.1; place = ap (λ (z : Receiving). z.place) bad.2; ended = ap (λ (z : Receiving). z.ended) bad.2 }
           | inr ok ↦
               let more : v.place < words 0 = let a = own.receives.place_below in let b = own.receives.known_below in omega arith in
               let got_is : recv_found words v ≡ words (log_at x + v.place) = elim (eqb_tells v.place v.known) [

@@ -18,7 +18,7 @@ pub mod Tying
 pub mod TableTrails
 pub mod TurnTrails
 pub mod HearTrails
-pub mod Closings
+pub mod Asking
 pub mod Framing
 pub mod Growing
 pub mod Serving

@@ -1,14 +1,18 @@
 -- What a new frame, and a word past the length, do to the log.
-use Rattle.std.proofs.Common.{◌≡◌, ◌≢◌, ℕ, zero, suc, ◌+◌, ◌<◌, ◌≤◌, true, false, inl, inr, List, [], ◌∷◌, ◌++◌, length, filter, map, ◌==◌, ◌||◌, cond, arith, refl, sym, ◌∙◌, ap, subst, append_assoc}
+use Rattle.std.proofs.Common.{◌≡◌, ◌≢◌, ℕ, zero, suc, ◌+◌, ◌<◌, ◌≤◌, true, false, inl, inr, List, [], ◌∷◌, ◌++◌, length, filter, map, flat_map, ◌==◌, ◌||◌, cond, arith, refl, sym, ◌∙◌, ap, subst, append_assoc}
 use Rattle.std.proofs.Math.Bool.{or-false}
 use Rattle.std.proofs.lemmas.Bool.{cases_eq, eq-eqb, ne_eqb, or_parts, true≢false}
 use Rattle.std.proofs.lemmas.Grind.{common_steps, flat_map-append}
 use Rattle.std.proofs.lemmas.List.{append-nil, length-append}
-use Rattle.std.proofs.lemmas.List.Elements.{filter-append}
+use Rattle.std.proofs.lemmas.List.Elements.{All-append, All-nil, All-from_recursion, filter-append}
+use Rattle.std.proofs.lemmas.List.Folds.{list_any-append}
+use Rattle.std.specs.List.{list_any}
 use Rattle.bus_register.specs.Tables.{Agree}
 use Rattle.bus_batch.specs.declared.messages.Item.{Item}
-use Rattle.bus_batch.specs.Frames.{Frame, Body, Messages, EndMark, AreFramesFrom, IsFrame, log_words, frame_words, order_of, items_of, item_of, body_items, has_end, ends}
+use Rattle.bus_batch.specs.declared.messages.Mark.TheVariants as mark
+use Rattle.bus_batch.specs.Frames.{Frame, Body, Messages, Marked, AreFramesFrom, IsFrame, Says, log_words, frame_words, order_of, entries_of, body_entries, items_of, items_in, item_of, body_items, has_end, ends, leaves, has_gone, is_leave_of}
 use Rattle.bus_batch.specs.Messages.{Numbered}
+use Rattle.bus_batch.proofs.PieceLaws.{entries_are_items}
 use Rattle.bus_register.specs.declared.registers.SenderNo.{SenderNo}
 use Rattle.bus_deliverylog.specs.Orders.{of_sender}
 use Rattle.bus_world.specs.Log.{words_read_from, sent_count, next_number, AreCounted, AreEarlier, Logged}
@@ -38,20 +42,60 @@ pub has_end-append : (frames : List Frame) (f : Frame) → has_end frames ≡ fa
 has_end-append [] f e = or-false (ends f.body)
 has_end-append (g ∷ frames) f e = let none = or_parts (ends g.body) (has_end frames) e in ap (λ z. z || has_end (frames ++ f ∷ [])) none.0 ∙ has_end-append frames f none.1
 
-pub AreFramesFrom-append : (n least : ℕ) (frames : List Frame) (f : Frame) → AreFramesFrom n least frames → IsFrame n f → has_end frames ≡ false → AreEarlier f.tenure frames → least ≤ f.tenure → AreFramesFrom n least (frames ++ f ∷ [])
-AreFramesFrom-append n least [] f a b e c l = (b, l, (λ z. refl), tt)
-AreFramesFrom-append n least (g ∷ frames) f a b e c l = (
+-- ---- who has left
+-- messages are no leave marks
+no_leave : (s : ℕ) (owner : SenderNo) (ms : List Numbered) → list_any (is_leave_of s) (map (λ m. Says (item_of owner m)) ms) ≡ false
+no_leave s owner [] = refl
+no_leave s owner (m ∷ ms) = no_leave s owner ms
+
+own_leave : (owner : SenderNo) (b : Body) → list_any (is_leave_of owner.0) (body_entries owner b) ≡ leaves b
+own_leave owner (Messages ms) = no_leave owner.0 owner ms
+own_leave owner (Marked mark.End) = refl
+own_leave owner (Marked mark.Leave) = ap (λ b. b || false) (eq-eqb owner.0 owner.0 refl)
+
+other_leave : (s : ℕ) (owner : SenderNo) (b : Body) → s ≢ owner.0 → list_any (is_leave_of s) (body_entries owner b) ≡ false
+other_leave s owner (Messages ms) ne = no_leave s owner ms
+other_leave s owner (Marked mark.End) ne = refl
+other_leave s owner (Marked mark.Leave) ne = ap (λ b. b || false) (ne_eqb owner.0 s (λ e. ne (sym e)))
+
+gone-append : (s : ℕ) (frames : List Frame) (f : Frame) → has_gone s (order_of (frames ++ f ∷ [])) ≡ (has_gone s (order_of frames) || list_any (is_leave_of s) (entries_of f))
+gone-append s frames f =
+    ap (list_any (is_leave_of s)) (flat_map-append entries_of frames (f ∷ []) ∙ ap (λ z. (order_of frames).entries ++ z) (append-nil (entries_of f)))
+    ∙ list_any-append (is_leave_of s) (order_of frames).entries (entries_of f)
+
+-- by a frame its owner leaves, if anybody does
+pub gone-append_owner : (frames : List Frame) (f : Frame) → has_gone f.owner.0 (order_of (frames ++ f ∷ [])) ≡ (has_gone f.owner.0 (order_of frames) || leaves f.body)
+gone-append_owner frames f = gone-append f.owner.0 frames f ∙ ap (λ b. has_gone f.owner.0 (order_of frames) || b) (own_leave f.owner f.body)
+
+pub gone-append_other : (s : ℕ) (frames : List Frame) (f : Frame) → s ≢ f.owner.0 → has_gone s (order_of (frames ++ f ∷ [])) ≡ has_gone s (order_of frames)
+gone-append_other s frames f ne = gone-append s frames f ∙ ap (λ b. has_gone s (order_of frames) || b) (other_leave s f.owner f.body ne) ∙ or-false (has_gone s (order_of frames))
+
+-- who has not left by more frames has not left by the first one
+gone_parts : (s : ℕ) (g : Frame) (frames : List Frame) → has_gone s (order_of (g ∷ frames)) ≡ false → (list_any (is_leave_of s) (entries_of g) ≡ false) × (has_gone s (order_of frames) ≡ false)
+gone_parts s g frames e = or_parts (list_any (is_leave_of s) (entries_of g)) (has_gone s (order_of frames)) (sym (list_any-append (is_leave_of s) (entries_of g) (order_of frames).entries) ∙ e)
+
+not_its_own : (f g : Frame) → list_any (is_leave_of f.owner.0) (entries_of g) ≡ false → g.body ≡ Marked mark.Leave → f.owner ≢ g.owner
+not_its_own f g e left same = true≢false (sym (ap leaves left) ∙ sym (own_leave g.owner g.body) ∙ ap (λ (z : SenderNo). list_any (is_leave_of z.0) (entries_of g)) (sym same) ∙ e)
+
+pub AreFramesFrom-append : (n least : ℕ) (frames : List Frame) (f : Frame) → AreFramesFrom n least frames → IsFrame n f → has_end frames ≡ false → AreEarlier f.tenure frames → least ≤ f.tenure → has_gone f.owner.0 (order_of frames) ≡ false
+    → AreFramesFrom n least (frames ++ f ∷ [])
+AreFramesFrom-append n least [] f a b e c l stays = (b, l, (λ z. refl), tt, (λ z. All-nil (λ g. g.owner ≢ f.owner)))
+AreFramesFrom-append n least (g ∷ frames) f a b e c l stays = (
   a.0,
   a.1,
   (λ z. let t : true ≡ false = sym (ap ends z) ∙ (or_parts (ends g.body) (has_end frames) e).0 in absurd (true≢false t)),
-  AreFramesFrom-append n (g.tenure + 1) frames f a.3 b (or_parts (ends g.body) (has_end frames) e).1 c.1 (let z = c.0 in omega arith),
+  AreFramesFrom-append n (g.tenure + 1) frames f a.3 b (or_parts (ends g.body) (has_end frames) e).1 c.1 (let z = c.0 in omega arith) (gone_parts f.owner.0 g frames stays).1,
+  (λ z. All-append (λ h. h.owner ≢ g.owner) frames (f ∷ []) (a.4 z) (All-from_recursion (λ h. h.owner ≢ g.owner) (f ∷ []) (not_its_own f g (gone_parts f.owner.0 g frames stays).0 z, tt))),
 )
 
-pub items-append : (frames : List Frame) (f : Frame) → (order_of (frames ++ f ∷ [])).items ≡ (order_of frames).items ++ items_of f
-items-append frames f = flat_map-append items_of frames (f ∷ []) ∙ ap (λ z. (order_of frames).items ++ z) (append-nil (items_of f))
+-- ---- the items among the entries
+pub items-append : (frames : List Frame) (f : Frame) → items_in (order_of (frames ++ f ∷ [])).entries ≡ items_in (order_of frames).entries ++ items_of f
+items-append frames f =
+    entries_are_items (frames ++ f ∷ []) ∙ flat_map-append items_of frames (f ∷ []) ∙ ap (λ z. flat_map items_of frames ++ z) (append-nil (items_of f))
+    ∙ ap (λ z. z ++ items_of f) (sym (entries_are_items frames))
 
 pub of_sender-append : (s : ℕ) (frames : List Frame) (f : Frame) → of_sender s (order_of (frames ++ f ∷ [])) ≡ of_sender s (order_of frames) ++ filter (λ i. i.sender.0 == s) (items_of f)
-of_sender-append s frames f = ap (filter (λ i. i.sender.0 == s)) (items-append frames f) ∙ filter-append (λ i. i.sender.0 == s) (order_of frames).items (items_of f)
+of_sender-append s frames f = ap (filter (λ i. i.sender.0 == s)) (items-append frames f) ∙ filter-append (λ i. i.sender.0 == s) (items_in (order_of frames).entries) (items_of f)
 
 pub AreEarlier-append : (tenure : ℕ) (frames : List Frame) (f : Frame) → AreEarlier tenure frames → f.tenure < tenure → AreEarlier tenure (frames ++ f ∷ [])
 AreEarlier-append tenure [] f a b = (b, tt)
@@ -77,11 +121,11 @@ others_messages s owner (m ∷ messages) ne = ap (λ b. cond b (item_of owner m 
 
 owned_body : (owner : SenderNo) (b : Body) → filter (λ i. i.sender.0 == owner.0) (body_items owner b) ≡ body_items owner b
 owned_body owner (Messages messages) = owned_messages owner messages
-owned_body owner EndMark = refl
+owned_body owner (Marked m) = refl
 
 others_body : (s : ℕ) (owner : SenderNo) (b : Body) → s ≢ owner.0 → filter (λ i. i.sender.0 == s) (body_items owner b) ≡ []
 others_body s owner (Messages messages) ne = others_messages s owner messages ne
-others_body s owner EndMark ne = refl
+others_body s owner (Marked m) ne = refl
 
 pub owned_items : (f : Frame) → filter (λ i. i.sender.0 == f.owner.0) (items_of f) ≡ items_of f
 owned_items f = owned_body f.owner f.body
@@ -95,10 +139,10 @@ module _ {base : ℕ → ℕ} (n capacity at : ℕ) (words : ℕ → ℕ) (len :
   Logged-agree words' same = record { lawful = h.lawful; words_are = read-agree words words' at len same ∙ h.words_are; fits = h.fits; low = h.low; counted = h.counted }
 
   -- a frame whose words stand past the length is published by raising the length
-  pub Logged-publish : (f : Frame) → IsFrame n f → has_end frames ≡ false → AreEarlier f.tenure frames → AreCounted (next_number base f.owner.0 frames) (items_of f) → words_read_from words (at + len) (length (frame_words f)) ≡ frame_words f
+  pub Logged-publish : (f : Frame) → IsFrame n f → has_end frames ≡ false → has_gone f.owner.0 (order_of frames) ≡ false → AreEarlier f.tenure frames → AreCounted (next_number base f.owner.0 frames) (items_of f) → words_read_from words (at + len) (length (frame_words f)) ≡ frame_words f
       → len + length (frame_words f) ≤ capacity → Logged base n capacity at words (len + length (frame_words f)) (frames ++ f ∷ [])
-  Logged-publish f is open_ended earlier counts stored fits = record {
-    lawful = AreFramesFrom-append n 0 frames f h.lawful is open_ended earlier (omega arith);
+  Logged-publish f is open_ended stays earlier counts stored fits = record {
+    lawful = AreFramesFrom-append n 0 frames f h.lawful is open_ended earlier (omega arith) stays;
     words_are = read-add words at len (length (frame_words f)) ∙ ap (λ z. z ++ words_read_from words (at + len) (length (frame_words f))) h.words_are ∙ ap (λ z. log_words frames ++ z) stored ∙ sym (log_words-append frames f);
     fits = fits;
     low = h.low;
@@ -123,3 +167,10 @@ next-append_owner base frames f = let e = sent-append_owner frames f in omega ar
 
 pub next-append_other : (base : ℕ → ℕ) (s : ℕ) (frames : List Frame) (f : Frame) → s ≢ f.owner.0 → next_number base s (frames ++ f ∷ []) ≡ next_number base s frames
 next-append_other base s frames f ne = let e = sent-append_other s frames f ne in omega arith
+
+-- a sender's next number and whether it has left, where other frames say the same of it
+abbrev pub SaySame : (ℕ → ℕ) → ℕ → List Frame → List Frame → Type 0
+SaySame base s frames frames' = (next_number base s frames' ≡ next_number base s frames) × (has_gone s (order_of frames') ≡ has_gone s (order_of frames))
+
+pub say_same : (base : ℕ → ℕ) (s : ℕ) (frames : List Frame) (f : Frame) → s ≢ f.owner.0 → SaySame base s frames (frames ++ f ∷ [])
+say_same base s frames f ne = (next-append_other base s frames f ne, gone-append_other s frames f ne)

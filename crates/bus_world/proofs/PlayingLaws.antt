@@ -1,5 +1,5 @@
 -- What a program holds stays a bus.
-use Rattle.std.proofs.Common.{◌≡◌, ◌≢◌, ℕ, zero, suc, ◌+◌, ◌*◌, ◌-◌, ◌/◌, ◌<◌, ◌≤◌, ◌^◌, Bool, true, false, cond, ◌&&◌, ◌==◌, nat_le, Option, Some, None, ◌⊎◌, inl, inr, List, [], ◌∷◌, ◌++◌, length, map, get_or, slice_get, slice_index, slice_set, arith, refl, sym, ◌∙◌, ap, subst}
+use Rattle.std.proofs.Common.{◌≡◌, ◌≢◌, ℕ, zero, suc, ◌+◌, ◌*◌, ◌/◌, ◌<◌, ◌≤◌, Bool, true, false, cond, ◌==◌, nat_le, Option, Some, None, ◌⊎◌, inl, inr, List, [], ◌∷◌, length, map, get_or, slice_get, slice_index, slice_set, arith, refl, sym, ◌∙◌, ap, subst}
 use Rattle.std.specs.Prelude.{Result, Ok, Err, IsErr, IsErrAnd, IfErr, IfSome, All}
 use Rattle.std.proofs.lemmas.Bool.{true≢false}
 use Rattle.std.proofs.lemmas.Bool.Decides.{eqb_tells}
@@ -12,27 +12,26 @@ use Rattle.bus_register.specs.Words.{register, SumFits}
 use Rattle.bus_register.specs.declared.registers.Op.{Op}
 use Rattle.bus_register.specs.declared.registers.Op.TheVariants.{Load, Store}
 use Rattle.bus_register.specs.Tables.{of_some}
-use Rattle.bus_batch.specs.Batches.{next_of}
+use Rattle.bus_batch.specs.declared.batches.Phase.{Phase as BatchPhase}
+use Rattle.bus_batch.specs.declared.batches.Phase.TheVariants.{Open, Marking, Closed}
+use Rattle.bus_batch.specs.declared.messages.Mark.TheVariants as mark
 use Rattle.bus_deliverylog.specs.Receiving.{Receiving, receiving_op}
-use Rattle.bus_deliverylog.specs.declared.receiving.RecvTurn.{RecvTurn}
 use Rattle.bus_ownerbits.specs.OneOwner.{OneOwner}
-use Rattle.bus_tenure.specs.Core.{Core, Election, Layout, is_closing, words_of}
-use Rattle.bus_tenure.specs.Situations.{waits, Situation, IsClosed, IsIdle, IsSpent, LooksAtStage, Elects, TakesPage, AwaitsPage, StoresWord, StoresLength, GivesBack, HasHanded, situation_of, op_at, answer_at, answer_of_election, answer_of_return}
-use Rattle.bus_tenure.specs.declared.pages.Page.{Page}
+use Rattle.bus_tenure.specs.Core.{Core, Election, Layout, words_of}
+use Rattle.bus_tenure.specs.Situations.{waits, Situation, IsClosed, IsIdle, IsSpent, LooksAtStage, Elects, TakesPage, AwaitsPage, StoresWord, StoresLength, GivesBack, HasHanded, situation_of, op_at, answer_at, answer_of_election, answer_of_return, answer_sent}
 use Rattle.bus_tenure.specs.declared.phases.Reason.{Reason}
 use Rattle.bus_tenure.specs.declared.phases.Reason.TheVariants.{Sent, FoundEnd, NoRoom}
 use Rattle.bus_tenure.specs.declared.turns.Turn.{Turn as Answered}
 use Rattle.bus_tenure.specs.declared.turns.Turn.TheVariants as turn
 use Rattle.bus_world.specs.Bus.{IsLayout, Part, stands_at, standing_of}
 use Rattle.bus_register.specs.Proved.TableLaws.{push_here}
-use Rattle.bus_world.specs.Turning.{side_after, words_after, number_found, home_after, core_after, owners_after, owners_by}
+use Rattle.bus_world.specs.Turning.{side_after, number_found, owners_after, owners_by}
 use Rattle.bus_world.proofs.Waiting.{frames_after}
 use Rattle.bus_world.proofs.TurningLaws.{turn_lawful, IsSide, side_of}
-use Rattle.bus_world.specs.World.{Bus, Stop, has_stopped, RecvDoes, put_in, close_in, IsReceiver}
+use Rattle.bus_world.specs.World.{Bus, has_stopped, IsReceiver}
 use Rattle.bus_tenure.proofs.Situated.{tells}
 use Rattle.bus_world.specs.Trails.{MachineInvariant}
 use Rattle.bus_world.specs.Playing.{SizedBus}
-use Rattle.bus_world.specs.declared.events.StepFault.{StepFault}
 
 -- a list with the same element in its place
 pub set_same : {A : Type 0} (xs : List A) (p : ℕ) (x : A) → slice_get xs p ≡ Some x → slice_set xs p x ≡ xs
@@ -65,11 +64,13 @@ module _ {E : Type 0} (X : Election E) (c : Core E) (p : ℕ) (owners : List ℕ
       by_test false = refl
 
   leaving_told : (t : ℕ) (reason : Reason) → owners ≡ owners_by (answer_of_return c.queue t reason) p owners
-  leaving_told t Sent = by_test (is_closing c.queue.phase)
+  leaving_told t Sent = by_phase c.queue.phase
     where
-      by_test : (a : Bool) → owners ≡ owners_by (cond a turn.Closed (turn.Delivered t c.queue.first (next_of c.queue - 1))) p owners
-      by_test true = refl
-      by_test false = refl
+      by_phase : (ph : BatchPhase) → owners ≡ owners_by (answer_sent c.queue t ph) p owners
+      by_phase Open = refl
+      by_phase (Marking mark.End) = refl
+      by_phase (Marking mark.Leave) = refl
+      by_phase Closed = refl
   leaving_told t FoundEnd = refl
   leaving_told t NoRoom = refl
 

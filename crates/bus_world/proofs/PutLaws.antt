@@ -7,12 +7,12 @@ use Rattle.bus_register.specs.declared.registers.SenderNo.{SenderNo}
 use Rattle.bus_register.specs.Tables.{Beside}
 use Rattle.bus_register.specs.Proved.TableLaws.{get_set_same, get_set_other}
 use Rattle.bus_batch.specs.declared.batches.Phase.{Phase as BatchPhase}
-use Rattle.bus_batch.specs.declared.batches.Phase.TheVariants.{Open, Closing, Closed}
+use Rattle.bus_batch.specs.declared.batches.Phase.TheVariants.{Open, Marking, Closed}
 use Rattle.bus_batch.specs.declared.messages.Item.{Item}
 use Rattle.bus_batch.specs.Messages.{numbered_messages}
 use Rattle.bus_batch.specs.Batches.{Pending, IsKept, frame_of, body_of}
-use Rattle.bus_batch.specs.Frames.{Frame, order_of, items_of, body_items, item_of}
-use Rattle.bus_tenure.specs.Core.{Core, Election, frame_len, has_room, is_empty, is_closing, is_closed}
+use Rattle.bus_batch.specs.Frames.{Frame, order_of, has_gone, items_of, body_items, item_of}
+use Rattle.bus_tenure.specs.Core.{Core, Election, Layout, frame_len, has_room, is_empty, is_marking, is_closed}
 use Rattle.bus_tenure.specs.Situations.{Situation, IsClosed, IsIdle, IsSpent, LooksAtStage, Elects, TakesPage, StoresWord, StoresLength, GivesBack, situation_at, situation_of, resting, electing, holding, core_begun, core_after_stage, waits, core_elected, core_at_rest, op_at}
 use Rattle.bus_tenure.specs.declared.pages.Page.{Page}
 use Rattle.bus_tenure.specs.declared.phases.Reason.{Reason}
@@ -21,6 +21,7 @@ use Rattle.bus_tenure.specs.declared.phases.Phase.{Phase}
 use Rattle.bus_tenure.specs.declared.phases.Phase.TheVariants as phase
 use Rattle.bus_deliverylog.specs.Orders.{of_sender}
 use Rattle.bus_world.proofs.LogLaws.{of_sender-append, owned_items, others_items}
+use Rattle.bus_world.specs.Bus.{Part, Fits}
 use Rattle.bus_world.specs.Turning.{Side, number_found, core_with_page, core_after, side_after}
 use Rattle.bus_world.proofs.Waiting.{frames_after, waiting_at, waiting_of}
 
@@ -31,7 +32,7 @@ messages_numbered owner base (m ∷ ms) = ap (λ z. m ∷ z) (messages_numbered 
 
 messages_at : (ph : BatchPhase) (q : Pending) → q.phase ≡ ph → IsKept q → map (λ (i : Item). i.message) (body_items q.sender (body_of ph q.first q.messages)) ≡ q.messages
 messages_at Open q e is = messages_numbered q.sender q.first q.messages
-messages_at Closing q e is = sym (is.alone e)
+messages_at (Marking m) q e is = sym (is.alone m e)
 messages_at Closed q e is = messages_numbered q.sender q.first q.messages
 
 messages_of_frame : (q : Pending) (t : ℕ) → IsKept q → map (λ (i : Item). i.message) (items_of (frame_of q t)) ≡ q.messages
@@ -98,7 +99,7 @@ module _ {E : Type 0} (X : Election E) (senders senders' : ℕ → Option (Core 
           (ap (waiting_at (record c { least = got / 2 })) rests) refl) ∙ sym resting_waits)
 
       rest_puts : Puts (resting c)
-      rest_puts = choose (is_closed c.queue.phase) IsClosed _ (λ new. stays c new refl) (choose (is_empty c.queue.messages && cond (is_closing c.queue.phase) false true) IsIdle _ (λ new. stays c new refl) (choose (nat_le c.layout.rows c.least) IsSpent LooksAtStage (λ new. stays c new refl) looks_puts))
+      rest_puts = choose (is_closed c.queue.phase) IsClosed _ (λ new. stays c new refl) (choose (is_empty c.queue.messages && cond (is_marking c.queue.phase) false true) IsIdle _ (λ new. stays c new refl) (choose (nat_le c.layout.rows c.least) IsSpent LooksAtStage (λ new. stays c new refl) looks_puts))
 
     module _ (t : ℕ) (e : E) (elects : c.phase ≡ phase.Electing t e) where
       electing_waits : waiting_of (Some c) ≡ c.queue.messages
@@ -141,3 +142,27 @@ module _ {E : Type 0} (X : Election E) (side : Side E) (frames : List Frame) (p 
   pub turn_puts : (q : ℕ) → map (λ (i : Item). i.message) (of_sender q (order_of (frames_after X c (situation_of X c) frames))) ++ waiting_of (slice_get (side_after X side p c (situation_of X c) word).senders q) ≡ map (λ (i : Item). i.message) (of_sender q (order_of frames)) ++ waiting_of (slice_get side.senders q)
   turn_puts = puts_in_turn X (slice_get side.senders) (slice_get (slice_set side.senders p core_now)) frames p (get_set_other side.senders p core_now) c old kept sender side.home (number_found (slice_index side.words) (op_at X c (situation_of X c) word)) word at_rest
       (get_set_same side.senders p core_now (slice_get_within side.senders p c old))
+
+-- ---- who has left
+module _ {base : ℕ → ℕ} {E : Type 0} (x : Layout) (words : ℕ → ℕ) (frames : List Frame) where
+  -- has nothing that waits
+  left_nothing : (s : ℕ) (c : Core E) → Part base x words frames s c → has_gone s (order_of frames) ≡ true → waiting_of (Some c) ≡ []
+  left_nothing s c part gone = by_phase c.phase part.fits
+    where
+      gone_now : has_gone c.me (order_of frames) ≡ true
+      gone_now = ap (λ z. has_gone z (order_of frames)) part.me ∙ gone
+
+      by_phase : (ph : Phase E) → Fits base words frames c ph → waiting_at c ph ≡ []
+      by_phase phase.Resting fits = (fits.1.1 gone_now).1
+      by_phase (phase.Electing t e) fits = absurd (fits.0.is_open (fits.1.1 gone_now).0)
+      by_phase (phase.Taken t) fits = absurd fits
+      by_phase (phase.Holding t page stored true) fits = refl
+      by_phase (phase.Holding t page stored false) fits = absurd (fits.0.is_open (fits.1.goes_on.1 gone_now).0)
+      by_phase (phase.Giving t reason) fits = absurd fits
+
+  pub nothing_left : (senders : ℕ → Option (Core E)) → ((p : ℕ) (c : Core E) → senders p ≡ Some c → Part base x words frames p c) → (s : ℕ) → has_gone s (order_of frames) ≡ true → waiting_of (senders s) ≡ []
+  nothing_left senders parts s gone = by_option (senders s) refl
+    where
+      by_option : (o : Option (Core E)) → senders s ≡ o → waiting_of o ≡ []
+      by_option None e = refl
+      by_option (Some c) e = left_nothing s c (parts s c e) gone

@@ -6,7 +6,8 @@ use Rattle.bus_register.specs.declared.registers.SenderNo.{SenderNo}
 use Rattle.bus_batch.specs.declared.messages.Item.{Item}
 use Rattle.bus_batch.specs.declared.messages.Piece.{Piece}
 use Rattle.bus_batch.specs.Messages.{Numbered}
-use Rattle.bus_batch.specs.Frames.{BeginsLog, Frame, Body, Messages, EndMark, order_of, item_of, AreFrames, log_words, frame_words, log_pieces, frame_pieces, body_pieces, message_pieces, item_pieces, message_words, body_words, data_len}
+use Rattle.bus_batch.specs.declared.messages.Mark.TheVariants as mark
+use Rattle.bus_batch.specs.Frames.{BeginsLog, Frame, Body, Messages, Marked, order_of, item_of, AreFrames, log_words, frame_words, log_pieces, frame_pieces, body_pieces, message_pieces, item_pieces, message_words, body_words, data_len}
 use Rattle.bus_batch.specs.Reading.{Reading, HasRead}
 use Rattle.bus_batch.proofs.WordLaws.{length-words_of_bytes}
 use Rattle.bus_deliverylog.specs.Orders.{IsPrefixOfOrder}
@@ -30,7 +31,8 @@ pieces_of_messages owner (m ∷ ms) =
 
 pieces_of_body : (owner : SenderNo) (b : Body) → length (body_pieces owner b) ≡ length (body_words b)
 pieces_of_body owner (Messages ms) = pieces_of_messages owner ms
-pieces_of_body owner EndMark = refl
+pieces_of_body owner (Marked mark.End) = refl
+pieces_of_body owner (Marked mark.Leave) = refl
 
 pub length-log_pieces : (frames : List Frame) → length (log_pieces frames) ≡ length (log_words frames)
 length-log_pieces [] = refl

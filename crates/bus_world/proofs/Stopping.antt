@@ -3,7 +3,6 @@ use Rattle.std.proofs.Common.{◌≡◌, ℕ, zero, suc, Bool, true, false, cond
 use Rattle.bus_register.specs.declared.limits.TheConstants.{MOST_SENDERS}
 use Rattle.bus_tenure.specs.Core.{Core}
 use Rattle.bus_world.specs.World.{Bus, is_set, has_stopped, going, no_stops}
-use Rattle.bus_world.specs.declared.events.StepFault.{StepFault}
 
 no_one : {A : Type 0} (v : A) → ◌≡◌ {A = Option A} None (Some v) → ⊥
 no_one v e = cc

@@ -7,13 +7,14 @@ use Rattle.bus_register.specs.declared.kinds.Kind.TheVariants as kind
 use Rattle.bus_register.specs.Tables.{of_some, Beside, put, Agree}
 use Rattle.bus_register.specs.Proved.TableLaws.{put_here, put_beside, push_here, push_beside}
 use Rattle.bus_register.specs.Protocol.{Protocol, Laws, counted_input}
+use Rattle.bus_batch.specs.declared.messages.Mark.{Mark}
 use Rattle.bus_tenure.specs.Core.{Core, Election, Layout}
 use Rattle.bus_tenure.specs.declared.phases.Phase.TheVariants as phase
 use Rattle.bus_tenure.specs.declared.turns.Turn.{Turn as Answered}
 use Rattle.bus_ownerbits.specs.OneOwner.{OneOwner}
 use Rattle.bus_ownerbits.proofs.ElectionSteps.{row_within}
 use Rattle.bus_world.proofs.Places.{got_before, got_after, got_split}
-use Rattle.bus_world.specs.Headline.{Action, HasPut, HasClosed, Stepped, Announced, Elected, Took}
+use Rattle.bus_world.specs.Headline.{Action, HasPut, HasMarked, Stepped, Announced, Elected, Took}
 use Rattle.bus_world.proofs.Tying.{next_tenure, Tables, PageTies}
 
 -- ---- lists
@@ -63,10 +64,10 @@ plain_put n bytes = record {
   none_took = λ t i a. let e = (only_one (HasPut n bytes) i _ a.at).1 in cc;
 }
 
-pub plain_close : IsPlain (HasClosed ∷ [])
-plain_close = record {
-  none_elected = λ t o a. let e = (only_one HasClosed a.place _ a.at).1 in cc;
-  none_took = λ t i a. let e = (only_one HasClosed i _ a.at).1 in cc;
+pub plain_mark : (m : Mark) → IsPlain (HasMarked m ∷ [])
+plain_mark m = record {
+  none_elected = λ t o a. let e = (only_one (HasMarked m) a.place _ a.at).1 in cc;
+  none_took = λ t i a. let e = (only_one (HasMarked m) i _ a.at).1 in cc;
 }
 
 same_step : (tn tn' : Option ℕ) (k k' : Kind) (f f' : ℕ) (ch ch' : Option ℕ) (a a' : Answered) → Stepped tn k f ch a ≡ Stepped tn' k' f' ch' a' → (tn ≡ tn') × (k ≡ k') × (ch ≡ ch') × (a ≡ a')

@@ -6,13 +6,15 @@ use Rattle.bus_register.specs.declared.kinds.Kind.{Kind}
 use Rattle.bus_register.specs.declared.kinds.Kind.TheVariants as kind
 use Rattle.bus_register.specs.Protocol.{Protocol, Laws}
 use Rattle.bus_register.specs.Proved.TableLaws.{some_or_none}
-use Rattle.bus_batch.specs.Batches.{next_of, frame_of}
+use Rattle.bus_batch.specs.Batches.{next_of, body_of, frame_of}
 use Rattle.bus_batch.specs.declared.batches.Phase.{Phase as BatchPhase}
-use Rattle.bus_batch.specs.declared.batches.Phase.TheVariants.{Closing}
+use Rattle.bus_batch.specs.declared.batches.Phase.TheVariants.{Open, Marking, Closed}
+use Rattle.bus_batch.specs.declared.messages.Mark.{Mark}
+use Rattle.bus_batch.specs.declared.messages.Mark.TheVariants as mark
 use Rattle.bus_batch.specs.Frames.{Frame, AreFrames, log_words}
 use Rattle.bus_ownerbits.specs.OneOwner.{OneOwner}
-use Rattle.bus_tenure.specs.Core.{Core, Election, Layout, log_at, is_empty, is_closing, is_closed, has_room, frame_len}
-use Rattle.bus_tenure.specs.Situations.{Situation, IsClosed, IsIdle, IsSpent, LooksAtStage, Elects, TakesPage, StoresWord, StoresLength, GivesBack, situation_at, situation_of, resting, electing, holding, waits, op_at, answer_at, answer_of_election}
+use Rattle.bus_tenure.specs.Core.{Core, Election, Layout, log_at, is_empty, is_marking, is_closed, has_room, frame_len}
+use Rattle.bus_tenure.specs.Situations.{Situation, IsClosed, IsIdle, IsSpent, LooksAtStage, Elects, TakesPage, StoresWord, StoresLength, GivesBack, situation_at, situation_of, resting, electing, holding, waits, op_at, answer_at, answer_of_election, answer_sent}
 use Rattle.bus_tenure.specs.declared.pages.Page.{Page}
 use Rattle.bus_tenure.specs.declared.phases.Reason.TheVariants.{Sent, FoundEnd, NoRoom}
 use Rattle.bus_tenure.specs.declared.phases.Phase.{Phase}
@@ -28,17 +30,17 @@ use Rattle.bus_world.proofs.Stopping.{is_there}
 use Rattle.bus_world.proofs.LogLaws.{length-read}
 use Rattle.bus_world.specs.Playing.{Answers, TurnAnswers, log_of}
 use Rattle.bus_world.proofs.FrameOfBatch.{counted_frame, length-items}
-use Rattle.bus_world.specs.Telling.{TurnTells, SenderTells, EventTells}
+use Rattle.bus_world.specs.Telling.{HasDelivered, TurnTells, SenderTells, EventTells}
 use Rattle.bus_world.specs.Trails.{Trails, Reached, trails_grown, turn_actions, turning_actions, step_action}
 use Rattle.bus_world.specs.Turning.{Side, number_found}
 use Rattle.bus_world.proofs.TurningLaws.{IsSide, side_of}
-use Rattle.bus_world.specs.World.{Bus, Event, Put, Close, Turn, Recv, Stop, going, Happens}
+use Rattle.bus_world.specs.World.{Bus, Event, Put, Ask, Turn, Recv, Stop, going, Happens}
 use Rattle.bus_world.proofs.EventTrails.{reached_kept, follows}
 use Rattle.bus_world.proofs.Places.{got_after}
 
-some_messages : (ph : BatchPhase) (n : ℕ) → (0 < n) ⊎ (ph ≡ Closing) → is_closing ph ≡ false → 0 < n
+some_messages : (ph : BatchPhase) (n : ℕ) → (0 < n) ⊎ ((m : Mark) × (ph ≡ Marking m)) → is_marking ph ≡ false → 0 < n
 some_messages ph n (inl some) e = some
-some_messages ph n (inr closing) e = absurd (true≢false (sym (ap is_closing closing) ∙ e))
+some_messages ph n (inr marks) e = absurd (true≢false (sym (ap is_marking marks.1) ∙ e))
 
 module _ {E : Type 0} (X : Election E) (P : Protocol E (Unit {0}) ℕ) (laws : Laws X.op X.fed P OneOwner) (x : Layout) {base : ℕ → ℕ} (owner_is : (e : E) → X.owner e ≡ P.output e)
     (named : (e : E) (word : ℕ) → is_some (X.kind_of e) ≡ is_some (X.op e word))
@@ -75,7 +77,7 @@ module _ {E : Type 0} (X : Election E) (P : Protocol E (Unit {0}) ℕ) (laws : L
       by_tests false false ds = tt
 
   rest_true : True (resting c)
-  rest_true = pick (is_closed c.queue.phase) IsClosed _ (λ _ own. tt) (λ _. pick (is_empty c.queue.messages && cond (is_closing c.queue.phase) false true) IsIdle _ (λ _ own. tt) (λ _. pick (nat_le c.layout.rows c.least) IsSpent LooksAtStage (λ _ own. tt) (λ _. looks)))
+  rest_true = pick (is_closed c.queue.phase) IsClosed _ (λ _ own. tt) (λ _. pick (is_empty c.queue.messages && cond (is_marking c.queue.phase) false true) IsIdle _ (λ _ own. tt) (λ _. pick (nat_le c.layout.rows c.least) IsSpent LooksAtStage (λ _ own. tt) (λ _. looks)))
 
   -- ---- in an election
   module _ (t : ℕ) (e : E) where
@@ -117,12 +119,11 @@ module _ {E : Type 0} (X : Election E) (P : Protocol E (Unit {0}) ℕ) (laws : L
     delivers : c.phase ≡ phase.Holding t page stored true → True (GivesBack t page Sent)
     delivers is own =
         let fits = subst (Fits base W frames c) is part.fits in
-        by_closing (is_closing c.queue.phase) refl fits.1.front fits.1.frames_are (some_messages c.queue.phase (length c.queue.messages) fits.0.something)
+        by_phase c.queue.phase refl fits.1.front fits.1.frames_are (some_messages c.queue.phase (length c.queue.messages) fits.0.something)
       where
-        by_closing : (b : Bool) → is_closing c.queue.phase ≡ b → (front : List Frame) → frames ≡ front ++ frame_of c.queue t ∷ [] → (is_closing c.queue.phase ≡ false → 0 < length c.queue.messages)
-            → TurnTells x log p c (before ++ turn_actions X c (GivesBack t page Sent) (number_found (slice_index side.words) (op_at X c (GivesBack t page Sent) word)) word (answer.Turn (told (GivesBack t page Sent)))) (cond b turn.Closed (turn.Delivered t c.queue.first (next_of c.queue - 1)))
-        by_closing true i front e some = tt
-        by_closing false i front e some = record {
+        messages_sent : is_marking c.queue.phase ≡ false → (front : List Frame) → frames ≡ front ++ frame_of c.queue t ∷ [] → (is_marking c.queue.phase ≡ false → 0 < length c.queue.messages)
+            → HasDelivered x.senders log p t c.queue.first (next_of c.queue - 1)
+        messages_sent i front e some = record {
           earlier = front;
           frame = frame_of c.queue t;
           lawful = subst (AreFrames x.senders) e h.sending.log.lawful;
@@ -133,6 +134,21 @@ module _ {E : Type 0} (X : Election E) (P : Protocol E (Unit {0}) ℕ) (laws : L
           numbers = counted_frame c.queue t;
           many = (let l = length-items c.queue t part.queue in let m = some i in omega arith);
         }
+
+        by_phase : (ph : BatchPhase) → c.queue.phase ≡ ph → (front : List Frame) → frames ≡ front ++ frame_of c.queue t ∷ [] → (is_marking c.queue.phase ≡ false → 0 < length c.queue.messages)
+            → TurnTells x log p c (before ++ turn_actions X c (GivesBack t page Sent) (number_found (slice_index side.words) (op_at X c (GivesBack t page Sent) word)) word (answer.Turn (told (GivesBack t page Sent)))) (answer_sent c.queue t ph)
+        by_phase Open i front e some = messages_sent (ap is_marking i) front e some
+        by_phase (Marking mark.End) i front e some = tt
+        by_phase (Marking mark.Leave) i front e some = record {
+          earlier = front;
+          frame = frame_of c.queue t;
+          lawful = subst (AreFrames x.senders) e h.sending.log.lawful;
+          words_are = ap log_words (sym e) ∙ sym h.sending.log.words_are;
+          tenure = refl;
+          owner = part.sender;
+          says = ap (λ ph. body_of ph c.queue.first c.queue.messages) i;
+        }
+        by_phase Closed i front e some = messages_sent (ap is_marking i) front e some
 
     is_full : c.phase ≡ phase.Holding t page stored false → has_room c page ≡ false → True (GivesBack t page NoRoom)
     is_full is no_room own =
@@ -191,9 +207,10 @@ module _ {E : Type 0} (X : Election E) (P : Protocol E (Unit {0}) ℕ) (laws : L
 
   pub event_tells : (e : Event) (a : Answer) → Happens X old e new → Answers X old e a new → EventTells x old e a (trails_grown X old e a T)
   event_tells (Put s bytes) a d w = tt
-  event_tells (Close s) a d w = tt
+  event_tells (Ask s m) a d w = tt
   event_tells (Turn s word) (answer.Number n) d w = tt
   event_tells (Turn s word) answer.Closing d w = tt
+  event_tells (Turn s word) answer.Leaving d w = tt
   event_tells (Turn s word) (answer.Turn t) d w = turn_tells s word t d w
   event_tells (Turn s word) (answer.Recv u) d w = tt
   event_tells (Turn s word) answer.Stopped d w = tt

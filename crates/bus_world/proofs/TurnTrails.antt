@@ -12,7 +12,7 @@ use Rattle.bus_register.specs.Words.{register}
 use Rattle.bus_register.specs.Tables.{of_some, put, Agree, Beside}
 use Rattle.bus_register.specs.Proved.TableLaws.{put_here, put_beside, some_or_none, get_set_same, get_set_other}
 use Rattle.bus_register.specs.Protocol.{Protocol, Laws, Starts, counted_input}
-use Rattle.bus_tenure.specs.Core.{Core, Election, Layout, log_at, row_at, frame_len, has_room, is_empty, is_closing, is_closed}
+use Rattle.bus_tenure.specs.Core.{Core, Election, Layout, log_at, row_at, frame_len, has_room, is_empty, is_marking, is_closed}
 use Rattle.bus_tenure.specs.Situations.{Situation, IsClosed, IsIdle, IsSpent, LooksAtStage, Elects, TakesPage, StoresWord, StoresLength, GivesBack, situation_at, situation_of, resting, electing, holding, core_begun, waits, core_elected, core_at_rest, answer_at, op_at, kind_at, tenure_at, chosen_at}
 use Rattle.bus_tenure.specs.declared.pages.Page.{Page}
 use Rattle.bus_tenure.specs.declared.phases.Reason.{Reason}
@@ -205,7 +205,7 @@ module _ {base : ℕ → ℕ} {E : Type 0} (X : Election E) (P : Protocol E (Uni
           by_waits false e new = by_room (nat_le c.layout.rows (got / 2)) refl e new
 
       rest_kept : KeptTies (resting c)
-      rest_kept = choose (is_closed c.queue.phase) IsClosed _ idle (choose (is_empty c.queue.messages && cond (is_closing c.queue.phase) false true) IsIdle _ idle (choose (nat_le c.layout.rows c.least) IsSpent LooksAtStage idle looks))
+      rest_kept = choose (is_closed c.queue.phase) IsClosed _ idle (choose (is_empty c.queue.messages && cond (is_marking c.queue.phase) false true) IsIdle _ idle (choose (nat_le c.layout.rows c.least) IsSpent LooksAtStage idle looks))
 
     -- ---- an election
     module _ (t : ℕ) (e : E) (elects : c.phase ≡ phase.Electing t e) where

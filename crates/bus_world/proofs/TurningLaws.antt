@@ -16,8 +16,9 @@ use Rattle.bus_register.specs.Protocol.{Protocol, Laws}
 use Rattle.bus_batch.specs.Frames.{Frame, frame_words}
 use Rattle.bus_batch.specs.Batches.{HasSomething, frame_of}
 use Rattle.bus_batch.specs.declared.batches.Phase.{Phase as BatchPhase}
-use Rattle.bus_batch.specs.declared.batches.Phase.TheVariants.{Open, Closing, Closed}
-use Rattle.bus_tenure.specs.Core.{Core, Election, Layout, log_at, row_at, words_of, frame_len, has_room, is_empty, is_closing, is_closed, page_after}
+use Rattle.bus_batch.specs.declared.batches.Phase.TheVariants.{Open, Marking, Closed}
+use Rattle.bus_batch.specs.declared.messages.Mark.{Mark}
+use Rattle.bus_tenure.specs.Core.{Core, Election, Layout, log_at, row_at, words_of, frame_len, has_room, is_empty, is_marking, is_closed, page_after}
 use Rattle.bus_tenure.specs.Situations.{Situation, IsClosed, IsIdle, IsSpent, LooksAtStage, Elects, TakesPage, StoresWord, StoresLength, GivesBack, situation_at, situation_of, resting, electing, holding, core_begun, waits, core_elected, core_at_rest, op_at}
 use Rattle.bus_tenure.specs.declared.pages.Page.{Page}
 use Rattle.bus_tenure.specs.declared.phases.Reason.{Reason}
@@ -28,9 +29,8 @@ use Rattle.bus_ownerbits.specs.OneOwner.{OneOwner}
 use Rattle.bus_ownerbits.proofs.ElectionSteps.{row_within}
 use Rattle.bus_world.specs.Tenures.Standing.{Runs}
 use Rattle.bus_world.proofs.TenuresLaws as tenures
-use Rattle.bus_world.specs.Bus.{IsLayout, least_of, standing_of, Part, Fits, HasBegun, Sending, stands_at}
+use Rattle.bus_world.specs.Bus.{IsLayout, least_of, standing_of, Part, Fits, GoesOn, HasBegun, Sending, stands_at}
 use Rattle.bus_world.proofs.BusLaws as bus
-use Rattle.bus_world.specs.Log.{next_number}
 use Rattle.bus_world.specs.Turning.{Side, words_after, number_found, core_with_page, home_after, core_after, owners_after, side_after}
 use Rattle.bus_world.specs.World.{Bus, LawfulBus}
 use Rattle.bus_world.proofs.Waiting.{frames_after}
@@ -38,15 +38,15 @@ use Rattle.bus_world.proofs.Waiting.{frames_after}
 open_apart : Open ≡ Closed → ⊥
 open_apart h = cc
 
-closing_apart : Closing ≡ Closed → ⊥
-closing_apart h = cc
+marking_apart : (m : Mark) → Marking m ≡ Closed → ⊥
+marking_apart m h = cc
 
 -- who looks at the stage is not closed and has something to send
-looks_has : {E : Type 0} (ph : BatchPhase) (messages : List (List ℕ)) (spent : Bool) → (let z : Situation E = cond (is_closed ph) IsClosed (cond (is_empty messages && cond (is_closing ph) false true) IsIdle (cond spent IsSpent LooksAtStage)) in z ≡ LooksAtStage)
-    → (ph ≡ Closed → ⊥) × ((1 ≤ length messages) ⊎ (ph ≡ Closing))
+looks_has : {E : Type 0} (ph : BatchPhase) (messages : List (List ℕ)) (spent : Bool) → (let z : Situation E = cond (is_closed ph) IsClosed (cond (is_empty messages && cond (is_marking ph) false true) IsIdle (cond spent IsSpent LooksAtStage)) in z ≡ LooksAtStage)
+    → (ph ≡ Closed → ⊥) × ((1 ≤ length messages) ⊎ ((m : Mark) × (ph ≡ Marking m)))
 looks_has Open [] spent h = absurd cc
 looks_has Open (m ∷ messages) spent h = (open_apart, inl (omega arith))
-looks_has Closing messages spent h = (closing_apart, inr refl)
+looks_has (Marking m) messages spent h = (marking_apart m, inr (m, refl))
 looks_has Closed messages spent h = absurd cc
 
 -- the stage shows a tenure that is open and may be entered
@@ -139,7 +139,7 @@ module _ {base : ℕ → ℕ} {E : Type 0} (X : Election E) (P : Protocol E (Uni
 
     -- ---- a load of the stage
     module _ (rests : c.phase ≡ phase.Resting) where
-      resting_fits : (c.queue.busy ≡ false) × (c.queue.first ≡ next_number base c.me frames)
+      resting_fits : (c.queue.busy ≡ false) × GoesOn base frames c
       resting_fits = subst (Fits base words frames c) rests part.fits
 
       part_least : (k : ℕ) → Part base x words frames p (record c { least = k })
@@ -191,7 +191,7 @@ module _ {base : ℕ → ℕ} {E : Type 0} (X : Election E) (P : Protocol E (Uni
       rest_kept : Kept (resting c)
       rest_kept = by_closed c.queue.phase refl
         where
-          by_empty : (b : Bool) → (c.queue.phase ≡ Closed → ⊥) → (is_empty c.queue.messages && cond (is_closing c.queue.phase) false true) ≡ b → Kept (cond b IsIdle (cond (nat_le c.layout.rows c.least) IsSpent LooksAtStage))
+          by_empty : (b : Bool) → (c.queue.phase ≡ Closed → ⊥) → (is_empty c.queue.messages && cond (is_marking c.queue.phase) false true) ≡ b → Kept (cond b IsIdle (cond (nat_le c.layout.rows c.least) IsSpent LooksAtStage))
           by_empty true a e = idle
           by_empty false a e = choose (nat_le c.layout.rows c.least) IsSpent LooksAtStage idle (looks a (something_from c.queue.phase c.queue.messages refl refl e))
             where
@@ -199,19 +199,19 @@ module _ {base : ℕ → ℕ} {E : Type 0} (X : Election E) (P : Protocol E (Uni
               some_message [] j f = absurd (true≢false f)
               some_message (m ∷ messages) j f = inl (let z = ap length j in omega arith)
 
-              something_from : (ph : BatchPhase) (messages : List (List ℕ)) → c.queue.phase ≡ ph → c.queue.messages ≡ messages → (is_empty messages && cond (is_closing ph) false true) ≡ false → HasSomething c.queue
+              something_from : (ph : BatchPhase) (messages : List (List ℕ)) → c.queue.phase ≡ ph → c.queue.messages ≡ messages → (is_empty messages && cond (is_marking ph) false true) ≡ false → HasSomething c.queue
               something_from Open messages i j f = some_message messages j f
-              something_from Closing messages i j f = inr i
+              something_from (Marking m) messages i j f = inr (m, i)
               something_from Closed messages i j f = some_message messages j f
 
-          by_closed : (ph : BatchPhase) → c.queue.phase ≡ ph → Kept (cond (is_closed ph) IsClosed (cond (is_empty c.queue.messages && cond (is_closing c.queue.phase) false true) IsIdle (cond (nat_le c.layout.rows c.least) IsSpent LooksAtStage)))
-          by_closed Open e = by_empty (is_empty c.queue.messages && cond (is_closing c.queue.phase) false true) (λ z. open_apart (sym e ∙ z)) refl
-          by_closed Closing e = by_empty (is_empty c.queue.messages && cond (is_closing c.queue.phase) false true) (λ z. closing_apart (sym e ∙ z)) refl
+          by_closed : (ph : BatchPhase) → c.queue.phase ≡ ph → Kept (cond (is_closed ph) IsClosed (cond (is_empty c.queue.messages && cond (is_marking c.queue.phase) false true) IsIdle (cond (nat_le c.layout.rows c.least) IsSpent LooksAtStage)))
+          by_closed Open e = by_empty (is_empty c.queue.messages && cond (is_marking c.queue.phase) false true) (λ z. open_apart (sym e ∙ z)) refl
+          by_closed (Marking m) e = by_empty (is_empty c.queue.messages && cond (is_marking c.queue.phase) false true) (λ z. marking_apart m (sym e ∙ z)) refl
           by_closed Closed e = idle
 
     -- ---- an election
     module _ (t : ℕ) (e : E) (elects : c.phase ≡ phase.Electing t e) where
-      electing_fits : HasBegun c.queue × (c.queue.first ≡ next_number base c.me frames)
+      electing_fits : HasBegun c.queue × GoesOn base frames c
       electing_fits = subst (Fits base words frames c) elects part.fits
 
       -- it takes the page

@@ -12,7 +12,7 @@ use Rattle.bus_world.specs.Headline.{Action, HasPut, puts, Announced, Elected, T
 use Rattle.bus_world.specs.Trails.{Trails}
 use Rattle.bus_world.specs.World.{Bus, given_at}
 use Rattle.bus_world.proofs.Waiting.{put_by}
-use Rattle.bus_world.proofs.Closings.{Closings}
+use Rattle.bus_world.proofs.Asking.{Askings}
 
 -- the first tenure in whose election a sender has no part
 abbrev pub next_at : {E : Type 0} → Core E → Phase E → ℕ
@@ -67,4 +67,4 @@ pub record Tied {E : Type 0} (bases : List ℕ) (P : Protocol E (Unit {0}) ℕ) 
   pub counted : (s : ℕ) → AreNumbered (slice_index bases s) (T.actions s)
   pub heard : (r : ℕ) (v : Receiving) → slice_get b.receivers r ≡ Some v → Hears frames v (T.heard r)
   pub silent : (r : ℕ) → slice_get b.receivers r ≡ None → T.heard r ≡ []
-  pub closings : Closings (slice_get b.side.senders) frames T.actions
+  pub askings : Askings (slice_get b.side.senders) frames T.actions

@@ -5,7 +5,7 @@ use Rattle.bus_deliverylog.specs.Orders.{of_sender}
 use Rattle.bus_tenure.specs.Core.{Core, Election}
 use Rattle.bus_tenure.specs.Situations.{Situation, situation_of, line_of}
 pub use Rattle.bus_world.specs.Waiting.{waiting_at}
-use Rattle.bus_world.specs.World.{Bus, Event, Put, Close, Turn, Recv, Stop, going, can_put}
+use Rattle.bus_world.specs.World.{Bus, Event, Put, Ask, Turn, Recv, Stop, going, can_put}
 
 -- ---- the frames of the log
 abbrev pub with_frame : Option Frame → List Frame → List Frame
@@ -23,7 +23,7 @@ frames_by X (Some c) frames = frames_after X c (situation_of X c) frames
 -- after an event
 abbrev pub event_frames : {E : Type 0} → Election E → Bus E → Event → List Frame → List Frame
 event_frames X b (Put s bytes) frames = frames
-event_frames X b (Close s) frames = frames
+event_frames X b (Ask s m) frames = frames
 event_frames X b (Turn s word) frames = frames_by X (going b s) frames
 event_frames X b (Recv r) frames = frames
 event_frames X b (Stop s) frames = frames
@@ -45,7 +45,7 @@ accepted_by (Some c) bytes = cond (can_put c.queue (length bytes)) (bytes ∷ []
 -- the message that an event puts for a sender: none, or the bytes of a put that is accepted
 abbrev pub accepted : {E : Type 0} → Bus E → Event → ℕ → List (List ℕ)
 accepted b (Put s bytes) q = cond (q == s) (accepted_by (going b s) bytes) []
-accepted b (Close s) q = []
+accepted b (Ask s m) q = []
 accepted b (Turn s word) q = []
 accepted b (Recv r) q = []
 accepted b (Stop s) q = []

@@ -8,7 +8,8 @@ use Rattle.std.proofs.lemmas.List.{append-nil, length-append, length-replicate, 
 use Rattle.std.proofs.Math.Seq.{take-nil}
 use Rattle.std.proofs.lemmas.Option.{same_Some, slice_get_within}
 use Rattle.bus_register.specs.Protocol.{Protocol, Laws}
-use Rattle.bus_batch.specs.declared.batches.Phase.TheVariants.{Closing}
+use Rattle.bus_batch.specs.declared.batches.Phase.TheVariants.{Marking}
+use Rattle.bus_batch.specs.declared.messages.Mark.{Mark}
 use Rattle.bus_batch.specs.declared.messages.Item.{Item}
 use Rattle.bus_batch.specs.Batches.{next_of}
 use Rattle.bus_batch.specs.Frames.{IsBadWord, Frame, order_of, log_words, frame_words, log_pieces}
@@ -34,10 +35,10 @@ use Rattle.bus_world.proofs.TurningLaws.{IsSide, side_of}
 use Rattle.bus_world.proofs.TurningLaws as turning
 use Rattle.bus_world.proofs.PutLaws as puts
 use Rattle.bus_world.proofs.Accepting as accepting
-use Rattle.bus_world.proofs.Accepting.{Accepted, Puts, Closes, accept, AreAccepted, open_is, not_busy, empty_is, idle_rests}
+use Rattle.bus_world.proofs.Accepting.{Accepted, Puts, Asks, accept, AreAccepted, open_is, not_busy, empty_is, idle_rests}
 use Rattle.bus_tenure.specs.declared.phases.Reason.{Reason}
 use Rattle.bus_register.specs.Proved.TableLaws.{get_set_same, get_set_other}
-use Rattle.bus_world.specs.World.{Event, Put, Close, Turn, Recv, Stop, going, IsEvent, Happens, SenderDoes, ReceiverDoes, recv_found, Bus, is_open, can_put, can_close, put_in, close_in, with_sender, LawfulBus, IsReceiver, RecvStep, RecvDoes, IsNew, first_page}
+use Rattle.bus_world.specs.World.{Event, Put, Ask, Turn, Recv, Stop, going, IsEvent, Happens, SenderDoes, ReceiverDoes, recv_found, Bus, is_open, can_put, can_close, put_in, mark_in, with_sender, LawfulBus, IsReceiver, RecvStep, RecvDoes, IsNew, first_page}
 use Rattle.bus_world.proofs.Waiting.{with_frame, frames_after, frames_by, event_frames, accepted_by, accepted, waiting_at, put_by, waiting_of}
 
 -- ---- numbers
@@ -201,10 +202,10 @@ module _ {E : Type 0} (X : Election E) (P : Protocol E (Unit {0}) ℕ) (laws : L
     put_left s bytes small None i d same = record { left = quiet (same_side P x frames b.side b'.side d (side_of h)) same; now_is = refl }
     put_left s bytes small (Some c) i d same = record { left = quiet (same_side P x frames (with_sender b.side s (put_in c bytes)) b'.side d (accept_lawful X P laws x ok width starts owner_is b.side frames (side_of h) s c (is_there b s c i) (Puts bytes) (small, tt))) same; now_is = refl }
 
-    close_left : (s : ℕ) (o : Option (Core E)) → going b s ≡ o → SenderDoes b.side o (λ c. with_sender b.side s (close_in c)) b'.side → b'.receivers ≡ b.receivers → After base frames frames b'
+    mark_left : (s : ℕ) (m : Mark) (o : Option (Core E)) → going b s ≡ o → SenderDoes b.side o (λ c. with_sender b.side s (mark_in c m)) b'.side → b'.receivers ≡ b.receivers → After base frames frames b'
     unfolding quiet longer
-    close_left s None i d same = record { left = quiet (same_side P x frames b.side b'.side d (side_of h)) same; now_is = refl }
-    close_left s (Some c) i d same = record { left = quiet (same_side P x frames (with_sender b.side s (close_in c)) b'.side d (accept_lawful X P laws x ok width starts owner_is b.side frames (side_of h) s c (is_there b s c i) Closes tt)) same; now_is = refl }
+    mark_left s m None i d same = record { left = quiet (same_side P x frames b.side b'.side d (side_of h)) same; now_is = refl }
+    mark_left s m (Some c) i d same = record { left = quiet (same_side P x frames (with_sender b.side s (mark_in c m)) b'.side d (accept_lawful X P laws x ok width starts owner_is b.side frames (side_of h) s c (is_there b s c i) (Asks m) tt)) same; now_is = refl }
 
     turn_left : (s word : ℕ) (o : Option (Core E)) → going b s ≡ o → SenderDoes b.side o (λ c. side_after X b.side s c (situation_of X c) word) b'.side → b'.receivers ≡ b.receivers → After base frames (frames_by X o frames) b'
     unfolding quiet longer
@@ -243,7 +244,7 @@ module _ {E : Type 0} (X : Election E) (P : Protocol E (Unit {0}) ℕ) (laws : L
     -- whatever happens next
     pub event_left : (e : Event) → IsEvent e → Happens X b e b' → After base frames (event_frames X b e frames) b'
     event_left (Put s bytes) is d = put_left s bytes is (going b s) refl d.0 d.1
-    event_left (Close s) is d = close_left s (going b s) refl d.0 d.1
+    event_left (Ask s m) is d = mark_left s m (going b s) refl d.0 d.1
     event_left (Turn s word) is d = turn_left s word (going b s) refl d.0 d.1
     event_left (Recv r) is d = recv_left r (slice_get b.receivers r) refl d.0 d.1
     event_left (Stop s) is d = stop_left d.0 d.1
@@ -274,16 +275,16 @@ module _ {E : Type 0} (X : Election E) (P : Protocol E (Unit {0}) ℕ) (laws : L
             let rests = idle_rests base (slice_index b.side.words) frames c c.phase fits idle in
             ap (waiting_at (record c { queue = record c.queue { messages = c.queue.messages ++ bytes ∷ [] } })) rests ∙ ap (λ z. z ++ bytes ∷ []) (sym (ap (waiting_at c) rests))
 
-    close_waits : (c : Core E) → Fits base (slice_index b.side.words) frames c c.phase → waiting_of (Some (close_in c)) ≡ waiting_of (Some c) ++ []
-    close_waits c fits = by_test (can_close c.queue) refl
+    mark_waits : (c : Core E) (m : Mark) → Fits base (slice_index b.side.words) frames c c.phase → waiting_of (Some (mark_in c m)) ≡ waiting_of (Some c) ++ []
+    mark_waits c m fits = by_test (can_close c.queue) refl
       where
-        by_test : (t : Bool) → can_close c.queue ≡ t → waiting_of (Some (cond t (record c { queue = record c.queue { phase = Closing } }) c)) ≡ waiting_of (Some c) ++ []
+        by_test : (t : Bool) → can_close c.queue ≡ t → waiting_of (Some (cond t (record c { queue = record c.queue { phase = Marking m } }) c)) ≡ waiting_of (Some c) ++ []
         by_test false e = sym (append-nil (waiting_of (Some c)))
         by_test true e =
             let tests = (and_parts (is_open c.queue.phase) (cond c.queue.busy false true && is_empty c.queue.messages) e).1 in
             let idle = not_busy c.queue.busy (and_parts (cond c.queue.busy false true) (is_empty c.queue.messages) tests).0 in
             let rests = idle_rests base (slice_index b.side.words) frames c c.phase fits idle in
-            ap (waiting_at (record c { queue = record c.queue { phase = Closing } })) rests ∙ sym (ap (waiting_at c) rests) ∙ sym (append-nil (waiting_of (Some c)))
+            ap (waiting_at (record c { queue = record c.queue { phase = Marking m } })) rests ∙ sym (ap (waiting_at c) rests) ∙ sym (append-nil (waiting_of (Some c)))
 
     own_part : (s : ℕ) (c : Core E) → slice_get b.side.senders s ≡ Some c → Part base x (slice_index b.side.words) frames s c
     own_part s c i = h.keeps.sending.parts s c i
@@ -300,11 +301,11 @@ module _ {E : Type 0} (X : Election E) (P : Protocol E (Unit {0}) ℕ) (laws : L
       | inr y ↦ at_other s c (put_in c bytes) (is_there b s c i) (ap (λ (z : Side E). z.senders) d) (accepted_by (Some c) bytes) (put_waits c bytes (own_part s c (is_there b s c i)).fits) q y.1 ∙ sym (append-nil (put_by b frames q)) ∙ ap (λ t. put_by b frames q ++ cond t (accepted_by (Some c) bytes) []) (sym y.0)
     ]
 
-    close_puts : (s : ℕ) (o : Option (Core E)) → going b s ≡ o → SenderDoes b.side o (λ c. with_sender b.side s (close_in c)) b'.side → (q : ℕ) → put_by b' frames q ≡ put_by b frames q ++ []
-    close_puts s None i d q = bus_same d frames q ∙ sym (append-nil (put_by b frames q))
-    close_puts s (Some c) i d q = elim (cases_eq q s) [
-      | inl y ↦ subst (λ z. put_by b' frames z ≡ put_by b frames z ++ []) (sym y) (at_sender s c (close_in c) (is_there b s c i) (ap (λ (z : Side E). z.senders) d) [] (close_waits c (own_part s c (is_there b s c i)).fits))
-      | inr ne ↦ at_other s c (close_in c) (is_there b s c i) (ap (λ (z : Side E). z.senders) d) [] (close_waits c (own_part s c (is_there b s c i)).fits) q ne ∙ sym (append-nil (put_by b frames q))
+    mark_puts : (s : ℕ) (m : Mark) (o : Option (Core E)) → going b s ≡ o → SenderDoes b.side o (λ c. with_sender b.side s (mark_in c m)) b'.side → (q : ℕ) → put_by b' frames q ≡ put_by b frames q ++ []
+    mark_puts s m None i d q = bus_same d frames q ∙ sym (append-nil (put_by b frames q))
+    mark_puts s m (Some c) i d q = elim (cases_eq q s) [
+      | inl y ↦ subst (λ z. put_by b' frames z ≡ put_by b frames z ++ []) (sym y) (at_sender s c (mark_in c m) (is_there b s c i) (ap (λ (z : Side E). z.senders) d) [] (mark_waits c m (own_part s c (is_there b s c i)).fits))
+      | inr ne ↦ at_other s c (mark_in c m) (is_there b s c i) (ap (λ (z : Side E). z.senders) d) [] (mark_waits c m (own_part s c (is_there b s c i)).fits) q ne ∙ sym (append-nil (put_by b frames q))
     ]
 
     never_giving : (c : Core E) (ph : SenderPhase E) → c.phase ≡ ph → Fits base (slice_index b.side.words) frames c ph → (t : ℕ) (reason : Reason) → ph ≡ phase.Giving t reason → ⊥
@@ -319,7 +320,7 @@ module _ {E : Type 0} (X : Election E) (P : Protocol E (Unit {0}) ℕ) (laws : L
 
     pub event_puts : (e : Event) → Happens X b e b' → (q : ℕ) → put_by b' (event_frames X b e frames) q ≡ put_by b frames q ++ accepted b e q
     event_puts (Put s bytes) d q = put_puts s bytes (going b s) refl d.0 q
-    event_puts (Close s) d q = close_puts s (going b s) refl d.0 q
+    event_puts (Ask s m) d q = mark_puts s m (going b s) refl d.0 q
     event_puts (Turn s word) d q = turn_event_puts s word (going b s) refl d.0 q
     event_puts (Recv r) d q = bus_same d.0 frames q ∙ sym (append-nil (put_by b frames q))
     event_puts (Stop s) d q = bus_same d.0 frames q ∙ sym (append-nil (put_by b frames q))

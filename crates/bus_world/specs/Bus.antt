@@ -5,7 +5,7 @@ use Rattle.bus_register.specs.Tables.{of_some}
 use Rattle.bus_register.specs.Protocol.{Protocol}
 use Rattle.bus_batch.specs.Batches.{Pending, IsKept, HasSomething, frame_of}
 use Rattle.bus_batch.specs.declared.batches.Phase.TheVariants.{Closed}
-use Rattle.bus_batch.specs.Frames.{Frame, frame_words}
+use Rattle.bus_batch.specs.Frames.{Frame, frame_words, order_of, has_gone}
 use Rattle.bus_tenure.specs.Core.{Core, Layout, log_at, frame_len}
 use Rattle.bus_tenure.specs.declared.pages.Page.{Page}
 use Rattle.bus_tenure.specs.declared.phases.Phase.{Phase}
@@ -35,9 +35,15 @@ abbrev pub least_of : {E : Type 0} → Option (Core E) → ℕ
 least_of None = 0
 least_of (Some c) = c.least
 
+-- the sender's next message follows its items in these frames; and where it has left in them its batch is closed, and no message waits
+abbrev pub GoesOn : {E : Type 0} → (ℕ → ℕ) → List Frame → Core E → Type 0
+GoesOn base frames c =
+    (c.queue.first ≡ next_number base c.me frames)
+    × (has_gone c.me (order_of frames) ≡ true → (c.queue.phase ≡ Closed) × (c.queue.messages ≡ []))
+
 -- the frame of a holder is not published: the words that it has stored stand past the length
 pub record IsWriting {E : Type 0} (base : ℕ → ℕ) (words : ℕ → ℕ) (frames : List Frame) (c : Core E) (t : ℕ) (page : Page) (stored : ℕ) : Type 0 where
-  pub first : c.queue.first ≡ next_number base c.me frames
+  pub goes_on : GoesOn base frames c
   pub page_knows : Knows base page frames t (words 0)
   pub earlier : AreEarlier t frames
   pub stored_below : stored ≤ frame_len c
@@ -48,7 +54,7 @@ pub record IsWriting {E : Type 0} (base : ℕ → ℕ) (words : ℕ → ℕ) (fr
 pub record HasWritten {E : Type 0} (base : ℕ → ℕ) (words : ℕ → ℕ) (frames : List Frame) (c : Core E) (t : ℕ) (page : Page) : Type 0 where
   pub front : List Frame
   pub frames_are : frames ≡ front ++ frame_of c.queue t ∷ []
-  pub first : c.queue.first ≡ next_number base c.me front
+  pub goes_on : GoesOn base front c
   pub page_knows : Knows base page front t page.words
   pub earlier : AreEarlier t front
   pub is_open : page.ended ≡ false
@@ -60,8 +66,8 @@ pub record HasBegun (q : Pending) : Type 0 where
   pub something : HasSomething q
 
 abbrev pub Fits : {E : Type 0} → (ℕ → ℕ) → (ℕ → ℕ) → List Frame → Core E → Phase E → Type 0
-Fits base words frames c phase.Resting = (c.queue.busy ≡ false) × (c.queue.first ≡ next_number base c.me frames)
-Fits base words frames c (phase.Electing t e) = HasBegun c.queue × (c.queue.first ≡ next_number base c.me frames)
+Fits base words frames c phase.Resting = (c.queue.busy ≡ false) × GoesOn base frames c
+Fits base words frames c (phase.Electing t e) = HasBegun c.queue × GoesOn base frames c
 -- between events no page is under way
 Fits base words frames c (phase.Taken t) = ⊥
 Fits base words frames c (phase.Holding t page stored false) = HasBegun c.queue × IsWriting base words frames c t page stored

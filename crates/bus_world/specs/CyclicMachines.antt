@@ -4,7 +4,8 @@ use Rattle.std.specs.Prelude.{◌≡◌, ℕ, ◌+◌, ◌<◌, Bool, true, Opti
 use Rattle.bus_register.specs.declared.registers.Op.{Op}
 use Rattle.bus_register.specs.Words.{register}
 use Rattle.bus_batch.specs.Batches.{next_of}
-use Rattle.bus_batch.specs.declared.batches.Phase.TheVariants.{Closing}
+use Rattle.bus_batch.specs.declared.batches.Phase.TheVariants.{Marking}
+use Rattle.bus_batch.specs.declared.messages.Mark.{Mark}
 use Rattle.bus_deliverylog.specs.Receiving.{Receiving}
 use Rattle.bus_deliverylog.specs.declared.receiving.RecvTurn.{RecvTurn}
 use Rattle.bus_presence.specs.Reclamation.{Trails, no_trails, trails_with_entry}
@@ -18,7 +19,7 @@ use Rattle.bus_tenure.specs.Core.{Core, Election, Layout}
 use Rattle.bus_tenure.specs.Situations.{PageMove, Stays, line_of}
 use Rattle.bus_tenure.specs.declared.pages.Page.{Page}
 use Rattle.bus_tenure.specs.declared.turns.Turn.{Turn as Answered}
-use Rattle.bus_world.specs.Headline.{Action, HasPut, HasClosed}
+use Rattle.bus_world.specs.Headline.{Action, HasPut, HasMarked}
 use Rattle.bus_world.specs.Turning.{words_after, number_found, home_moved, core_moved, after_step}
 use Rattle.bus_world.specs.World.{is_set, can_put, can_close, no_stops, AreBases, first_page, new_core, IsNewReceiver, RecvDoes}
 use Rattle.bus_world.specs.CyclicProtocols.{CyclicProtocol, Led, IsKeptProtocol, no_actions, no_answers, trails_with, due_actions, actions_with, answers_with}
@@ -99,12 +100,12 @@ ring_actions X b s v d word answer = actions_with s (due_actions X b.layout b.ro
 abbrev pub participant_going : {E : Type 0} → CyclicMachine E → ℕ → Option (Participant E)
 participant_going b s = if is_set (slice_get b.stopped s) then None else slice_get b.participants s
 
--- While a sender pins a tenure its batch is on its way: it takes no message, and no close.
+-- While a sender pins a tenure its batch is on its way: it takes no message, no close and no leave.
 abbrev pub participant_put : {E : Type 0} → Participant E → List ℕ → Participant E
 participant_put v bytes = if can_put (queue_seen v.core.queue v.pin) (length bytes) then record v { core = record v.core { queue = record v.core.queue { messages = v.core.queue.messages ++ bytes ∷ [] } } } else v
 
-abbrev pub participant_closed : {E : Type 0} → Participant E → Participant E
-participant_closed v = if can_close (queue_seen v.core.queue v.pin) then record v { core = record v.core { queue = record v.core.queue { phase = Closing } } } else v
+abbrev pub participant_marked : {E : Type 0} → Participant E → Mark → Participant E
+participant_marked v mark = if can_close (queue_seen v.core.queue v.pin) then record v { core = record v.core { queue = record v.core.queue { phase = Marking mark } } } else v
 
 abbrev pub with_participant : {E : Type 0} → CyclicMachine E → ℕ → Participant E → CyclicMachine E
 with_participant b s v = record b { participants = slice_set b.participants s v }
@@ -134,7 +135,7 @@ pub record IsNewCyclic {E : Type 0} (b : CyclicMachine E) : Type 0 where
   pub stopped : b.stopped ≡ no_stops
 
 -- One after another: any sender that has not stopped takes a turn with any random word, whose step is on a word of the bus, or puts a
--- message, or closes, or stops; or any receiver takes a turn. A turn of a sender answers what is due of what its step found.
+-- message, closes, leaves, or stops; or any receiver takes a turn. A turn of a sender answers what is due of what its step found.
 pub data CyclicReached {E : Type 0} (X : Election E) : CyclicMachine E → CyclicTrails → Type 0 where
   NewCyclic : (b : CyclicMachine E) → IsNewCyclic b → CyclicReached X b no_ring_trails
   TurnTaken : (b : CyclicMachine E) (T : CyclicTrails) (s : ℕ) (v : Participant E) (word : ℕ) (answer : Answered) → CyclicReached X b T → participant_going b s ≡ Some v → IsOnWord b (op_due X v (due X v) word)
@@ -142,8 +143,8 @@ pub data CyclicReached {E : Type 0} (X : Election E) : CyclicMachine E → Cycli
       → CyclicReached X (ring_after X b s v (due X v) word) (record T { pins = ring_trails b s (due X v) T.pins; reclaims = ring_reclaims b s (due X v) T.reclaims; actions = ring_actions X b s v (due X v) word answer T.actions })
   PutTaken : (b : CyclicMachine E) (T : CyclicTrails) (s : ℕ) (v : Participant E) (bytes : List ℕ) → CyclicReached X b T → participant_going b s ≡ Some v → All (λ byte. byte < 256) bytes
       → CyclicReached X (with_participant b s (participant_put v bytes)) (record T { actions = actions_with s (if can_put (queue_seen v.core.queue v.pin) (length bytes) then HasPut (next_of v.core.queue) bytes ∷ [] else []) T.actions })
-  CloseTaken : (b : CyclicMachine E) (T : CyclicTrails) (s : ℕ) (v : Participant E) → CyclicReached X b T → participant_going b s ≡ Some v
-      → CyclicReached X (with_participant b s (participant_closed v)) (record T { actions = actions_with s (if can_close (queue_seen v.core.queue v.pin) then HasClosed ∷ [] else []) T.actions })
+  MarkTaken : (b : CyclicMachine E) (T : CyclicTrails) (s : ℕ) (v : Participant E) (mark : Mark) → CyclicReached X b T → participant_going b s ≡ Some v
+      → CyclicReached X (with_participant b s (participant_marked v mark)) (record T { actions = actions_with s (if can_close (queue_seen v.core.queue v.pin) then HasMarked mark ∷ [] else []) T.actions })
   RecvTaken : (b : CyclicMachine E) (T : CyclicTrails) (r : ℕ) (v next : Receiving) (answer : RecvTurn) → CyclicReached X b T → slice_get b.receivers r ≡ Some v → RecvDoes (slice_index b.words) v answer next
       → CyclicReached X (record b { receivers = slice_set b.receivers r next }) (record T { heard = answers_with r answer T.heard })
   StopTaken : (b : CyclicMachine E) (T : CyclicTrails) (s : ℕ) (v : Participant E) → CyclicReached X b T → participant_going b s ≡ Some v → CyclicReached X (record b { stopped = slice_set b.stopped s true }) T

@@ -6,6 +6,7 @@ use Rattle.bus_register.specs.declared.registers.SenderNo.{SenderNo}
 use Rattle.bus_register.specs.Words.{register, after}
 use Rattle.bus_register.specs.Tables.{put}
 use Rattle.bus_batch.specs.Batches.{next_of}
+use Rattle.bus_batch.specs.declared.messages.Mark.{Mark}
 use Rattle.bus_batch.specs.Frames.{Order, Spells}
 use Rattle.bus_deliverylog.specs.Receiving.{Receiving}
 use Rattle.bus_deliverylog.specs.declared.receiving.RecvTurn.{RecvTurn}
@@ -21,10 +22,10 @@ use Rattle.bus_tenure.specs.declared.phases.Phase.TheVariants.{Electing}
 use Rattle.bus_tenure.specs.declared.turns.Turn.{Turn as Answered}
 use Rattle.bus_core.specs.Reusing.Participants.{sizes_with, log_from, Due, Pins, Reclaims, Goes, due_of, place_for, core_looked, core_going, pin_going, reclaimer_going, answer_going}
 use Rattle.bus_world.specs.Turning.{core_moved, after_step, home_after, owners_after}
-use Rattle.bus_world.specs.Headline.{Action, HasPut, HasClosed, Promises}
+use Rattle.bus_world.specs.Headline.{Action, HasPut, HasMarked, Promises}
 use Rattle.bus_world.specs.Log.{words_read_from}
 use Rattle.bus_world.specs.Trails.{step_action, Takers}
-use Rattle.bus_world.specs.World.{AreBases, first_page, new_core, IsNewReceiver, RecvDoes, can_put, can_close, put_in, close_in}
+use Rattle.bus_world.specs.World.{AreBases, first_page, new_core, IsNewReceiver, RecvDoes, can_put, can_close, put_in, mark_in}
 
 pub record CyclicProtocol (E : Type 0) : Type 0 where
   -- the number of each sender's first message
@@ -124,15 +125,15 @@ abbrev pub due_in : {E : Type 0} → Election E → Layout → ℕ → CyclicPro
 due_in X x rows y p c = due_of X x rows p c (y.reclamation.pins p) y.reclamation.reclaimer
 
 -- These trails, actions and answers lead to a protocol: from a new one, by one thing after another, of anybody and in any order. A sender takes
--- a turn with any random word; or one that pins no tenure puts a message, or closes; or a receiver takes a turn.
+-- a turn with any random word; or one that pins no tenure puts a message, closes or leaves; or a receiver takes a turn.
 pub data Led {E : Type 0} (X : Election E) (x : Layout) (rows : ℕ) : CyclicProtocol E → Trails → (ℕ → List Action) → (ℕ → List RecvTurn) → Type 0 where
   NewProtocol : (y : CyclicProtocol E) → IsNewProtocol x rows y → Led X x rows y no_trails no_actions no_answers
   Turned : (y : CyclicProtocol E) (T : Trails) (D : ℕ → List Action) (H : ℕ → List RecvTurn) (p : ℕ) (c : Core E) (word : ℕ) (answer : Answered) → Led X x rows y T D H → y.senders p ≡ Some c → AnswersDue X x rows y c (due_in X x rows y p c) word answer
       → Led X x rows (yard_after X x rows y p c (due_in X x rows y p c) word) (trails_with y p (due_in X x rows y p c) T) (actions_with p (due_actions X x rows y c (due_in X x rows y p c) word answer) D) H
   PutIn : (y : CyclicProtocol E) (T : Trails) (D : ℕ → List Action) (H : ℕ → List RecvTurn) (p : ℕ) (c : Core E) (bytes : List ℕ) → Led X x rows y T D H → y.senders p ≡ Some c → y.reclamation.pins p ≡ Away → All (λ byte. byte < 256) bytes
       → Led X x rows (record y { senders = put p (Some (put_in c bytes)) y.senders }) T (actions_with p (if can_put c.queue (length bytes) then HasPut (next_of c.queue) bytes ∷ [] else []) D) H
-  ClosedIn : (y : CyclicProtocol E) (T : Trails) (D : ℕ → List Action) (H : ℕ → List RecvTurn) (p : ℕ) (c : Core E) → Led X x rows y T D H → y.senders p ≡ Some c → y.reclamation.pins p ≡ Away
-      → Led X x rows (record y { senders = put p (Some (close_in c)) y.senders }) T (actions_with p (if can_close c.queue then HasClosed ∷ [] else []) D) H
+  MarkedIn : (y : CyclicProtocol E) (T : Trails) (D : ℕ → List Action) (H : ℕ → List RecvTurn) (p : ℕ) (c : Core E) (mark : Mark) → Led X x rows y T D H → y.senders p ≡ Some c → y.reclamation.pins p ≡ Away
+      → Led X x rows (record y { senders = put p (Some (mark_in c mark)) y.senders }) T (actions_with p (if can_close c.queue then HasMarked mark ∷ [] else []) D) H
   Heard : (y : CyclicProtocol E) (T : Trails) (D : ℕ → List Action) (H : ℕ → List RecvTurn) (r : ℕ) (v next : Receiving) (answer : RecvTurn) → Led X x rows y T D H → y.receivers r ≡ Some v → RecvDoes y.reclamation.words v answer next
       → Led X x rows (record y { receivers = put r (Some next) y.receivers }) T D (answers_with r answer H)
 

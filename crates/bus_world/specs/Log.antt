@@ -1,8 +1,8 @@
 -- The log that words hold below the length, and the page that knows of it.
-use Rattle.std.specs.Prelude.{◌≡◌, ℕ, zero, suc, ◌+◌, ◌<◌, ◌≤◌, List, [], ◌∷◌, ◌++◌, length, slice_index}
+use Rattle.std.specs.Prelude.{◌≡◌, ℕ, zero, suc, ◌+◌, ◌<◌, ◌≤◌, List, [], ◌∷◌, ◌++◌, length, Some, slice_get, slice_index}
 use Rattle.bus_register.specs.declared.limits.TheConstants.{MOST_SENDERS}
 use Rattle.bus_batch.specs.declared.messages.Item.{Item}
-use Rattle.bus_batch.specs.Frames.{Frame, AreFrames, log_words, order_of, has_end}
+use Rattle.bus_batch.specs.Frames.{Frame, AreFrames, log_words, order_of, has_end, has_gone}
 use Rattle.bus_deliverylog.specs.Orders.{of_sender}
 use Rattle.bus_tenure.specs.declared.pages.Page.{Page}
 use Rattle.bus_world.specs.declared.limits.TheConstants.{FIRST_NUMBERS}
@@ -38,10 +38,11 @@ pub record Logged (base : ℕ → ℕ) (n capacity at : ℕ) (words : ℕ → �
   pub low : (s : ℕ) → base s < FIRST_NUMBERS
   pub counted : (s : ℕ) → AreCounted (base s) (of_sender s (order_of frames))
 
--- the page knows the next number of each sender behind these frames, whether they have ended, the tenures and the length
+-- the page knows the next number of each sender behind these frames, who has left in them, whether they have ended, the tenures, the length
 pub record Knows (base : ℕ → ℕ) (page : Page) (frames : List Frame) (past len : ℕ) : Type 0 where
   pub entries : length page.next ≡ MOST_SENDERS
   pub next : (s : ℕ) → s < MOST_SENDERS → slice_index page.next s ≡ next_number base s frames
+  pub left : (s : ℕ) → s < MOST_SENDERS → slice_get page.left s ≡ Some (has_gone s (order_of frames))
   pub ended : page.ended ≡ has_end frames
   pub tenures : page.tenures ≡ past
   pub words : page.words ≡ len

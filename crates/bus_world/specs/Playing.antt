@@ -1,14 +1,16 @@
 -- The bus as a program holds it, and what it answers to each event.
-use Rattle.std.specs.Prelude.{◌≡◌, ℕ, ◌<◌, ◌≤◌, ◌⊎◌, Option, Some, None, List, [], ◌∷◌, length, slice_get, slice_index, slice_set}
+use Rattle.std.specs.Prelude.{◌≡◌, ℕ, ◌<◌, ◌≤◌, ◌⊎◌, Option, Some, None, List, length, slice_get, slice_index, slice_set}
 use Rattle.bus_register.specs.declared.limits.TheConstants.{MOST_SENDERS, MOST_RECEIVERS, MOST_ROUNDS, MOST_ROWS, LEAST_LOG_WORDS, MOST_LOG_WORDS}
 use Rattle.bus_batch.specs.Batches.{next_of, CanPut, CanClose}
+use Rattle.bus_batch.specs.declared.messages.Mark.{Mark}
+use Rattle.bus_batch.specs.declared.messages.Mark.TheVariants.{End, Leave}
 use Rattle.bus_deliverylog.specs.Receiving.{Receiving}
 use Rattle.bus_deliverylog.specs.declared.receiving.RecvTurn.{RecvTurn}
 use Rattle.bus_tenure.specs.Core.{Core, Election, Layout, log_at}
 use Rattle.bus_tenure.specs.Situations.{situation_of, op_at, answer_at}
 use Rattle.bus_world.specs.Log.{words_read_from}
 use Rattle.bus_world.specs.Turning.{number_found}
-use Rattle.bus_world.specs.World.{Bus, Event, Put, Close, Turn, Recv, Stop, going, RecvDoes, IsNew}
+use Rattle.bus_world.specs.World.{Bus, Event, Put, Ask, Turn, Recv, Stop, going, RecvDoes, IsNew}
 use Rattle.bus_world.specs.declared.events.Event.{Event as Told}
 use Rattle.bus_world.specs.declared.events.Event.TheVariants as told
 use Rattle.bus_world.specs.declared.events.Answer.{Answer}
@@ -53,7 +55,8 @@ pub record IsMade {E : Type 0} (bases : List ℕ) (x : Layout) (shape : Shape) (
 -- the event that a program tells
 abbrev pub event_told : Told → Event
 event_told (told.Put s bytes) = Put s bytes.items
-event_told (told.Close s) = Close s
+event_told (told.Close s) = Ask s End
+event_told (told.Leave s) = Ask s Leave
 event_told (told.Turn s word) = Turn s word
 event_told (told.Recv r) = Recv r
 event_told (told.Stop s) = Stop s
@@ -64,7 +67,7 @@ abbrev pub PutGives : {E : Type 0} → Option (Core E) → ℕ → ℕ → Type 
 PutGives None len number = ⊥
 PutGives (Some c) len number = CanPut c.queue len × (number ≡ next_of c.queue)
 
--- a close is taken
+-- a close or a leave is taken
 abbrev pub CloseGives : {E : Type 0} → Option (Core E) → Type 0
 CloseGives None = ⊥
 CloseGives (Some c) = CanClose c.queue
@@ -84,10 +87,15 @@ abbrev pub StopGives : {E : Type 0} → Option (Core E) → Type 0
 StopGives None = ⊥
 StopGives (Some c) = Unit {0}
 
+-- what a close or a leave that is taken is answered
+abbrev pub asked_answer : Mark → Answer
+asked_answer End = answer.Closing
+asked_answer Leave = answer.Leaving
+
 -- no event of a sender that has stopped is answered
 abbrev pub Answers : {E : Type 0} → Election E → Bus E → Event → Answer → Bus E → Type 0
 Answers X old (Put s bytes) a new = (number : ℕ) × PutGives (going old s) (length bytes) number × (a ≡ answer.Number number)
-Answers X old (Close s) a new = CloseGives (going old s) × (a ≡ answer.Closing)
+Answers X old (Ask s mark) a new = CloseGives (going old s) × (a ≡ asked_answer mark)
 Answers X old (Turn s word) a new = TurnAnswers X old.side.words (going old s) word a
 Answers X old (Recv r) a new = RecvAnswers old.side.words old.receivers r (slice_get old.receivers r) a new.receivers
 Answers X old (Stop s) a new = StopGives (going old s) × (a ≡ answer.Stopped)

@@ -1,14 +1,15 @@
 -- What the promise refuses: of each named wrong behaviour one instance, of which it is false.
-use Rattle.std.specs.Prelude.{◌≡◌, ℕ, zero, suc, Some, None, List, [], ◌∷◌, false, length, slice_get, take}
+use Rattle.std.specs.Prelude.{◌≡◌, ℕ, zero, suc, Some, None, List, [], ◌∷◌, true, false, length, map, slice_get, take}
 use Rattle.bus_register.specs.declared.kinds.Kind.TheVariants as kind
 use Rattle.bus_register.specs.declared.registers.SenderNo.{SenderNo}
 use Rattle.bus_batch.specs.declared.messages.Item.{Item}
-use Rattle.bus_batch.specs.Frames.{Order}
+use Rattle.bus_batch.specs.declared.messages.Mark.TheVariants as mark
+use Rattle.bus_batch.specs.Frames.{Order, Says, Leaves, items_in}
 use Rattle.bus_deliverylog.specs.Orders.{of_sender}
 use Rattle.bus_deliverylog.specs.declared.receiving.RecvTurn.{RecvTurn}
 use Rattle.bus_deliverylog.specs.declared.receiving.RecvTurn.TheVariants as heard
 use Rattle.bus_tenure.specs.declared.turns.Turn.TheVariants as turn
-use Rattle.bus_world.specs.Headline.{Action, HasPut, Stepped, puts, Promises}
+use Rattle.bus_world.specs.Headline.{Action, HasPut, HasMarked, Stepped, puts, Asked, Promises}
 
 -- two lists, of number 0 and of all others
 abbrev pub each_of : {A : Type 0} → List A → List A → ℕ → List A
@@ -31,6 +32,10 @@ owns = announces ∷ elects 0 ∷ takes ∷ []
 
 abbrev pub puts_and_owns : List Action
 puts_and_owns = HasPut 0 (1 ∷ []) ∷ announces ∷ elects 0 ∷ takes ∷ []
+
+-- one that has put that message and then asked to leave
+abbrev pub puts_and_leaves : List Action
+puts_and_leaves = HasPut 0 (1 ∷ []) ∷ HasMarked mark.Leave ∷ announces ∷ elects 0 ∷ takes ∷ []
 
 abbrev pub sender : ℕ → SenderNo
 sender n = record { 0 = n }
@@ -92,8 +97,20 @@ pub record PromiseRefuses : Type 0 where
   pub altered : No (each_of puts_and_owns []) (each_of (heard.Item (item 0 0) ∷ []) [])
   -- the end was given, and its owner had not closed
   pub unclosed : No (each_of owns []) (each_of (heard.End ∷ []) [])
+  -- after a sender's leave mark an item of it was given
+  pub after_leaving : NoAnswers (each_of (heard.Leave (sender 0) ∷ heard.Item (item 0 0) ∷ []) [])
+  -- or its leave mark again
+  pub leaves_twice : NoAnswers (each_of (heard.Leave (sender 0) ∷ heard.Leave (sender 0) ∷ []) [])
+  -- the leave mark of an owner was given that had not asked to leave
+  pub unasked_leave : No (each_of owns []) (each_of (heard.Leave (sender 0) ∷ []) [])
+  -- or of one that had, with a message that it had put before, and that is not in the order
+  pub left_behind : No (each_of puts_and_leaves []) (each_of (heard.Leave (sender 0) ∷ []) [])
   -- a frame's item is another sender's
-  pub foreign_item : NoOrder record { items = item 0 0 ∷ []; ended = false } ((0, sender 1) ∷ [])
+  pub foreign_item : NoOrder record { entries = Says (item 0 0) ∷ []; ended = false } ((0, sender 1) ∷ [])
+  -- or the leave mark of another sender
+  pub foreign_leave : NoOrder record { entries = Leaves (sender 0) ∷ []; ended = false } ((0, sender 1) ∷ [])
+  -- a sender that has left closed the order
+  pub ends_after_leaving : NoOrder record { entries = Leaves (sender 0) ∷ []; ended = true } ((0, sender 0) ∷ (1, sender 0) ∷ [])
   -- in a sitting that begins with the number 5, numbers that start anew: a first item has the number 0, or a first put is answered 0
   pub starts_anew : (actions : ℕ → List Action) → NoFrom (λ s. 5) actions (each_of (heard.Item (item 0 0) ∷ []) [])
   pub put_from_zero : (heard : ℕ → List RecvTurn) → NoFrom (λ s. 5) (each_of (HasPut 0 [] ∷ []) []) heard
@@ -106,3 +123,9 @@ pub record FromZero : Type 0 where
       → (s k : ℕ) (i : Item) → slice_get (of_sender s order) k ≡ Some i → i.number ≡ k
   pub puts_are : (actions : ℕ → List Action) (heard : ℕ → List RecvTurn) (order : Order) (owners : List (ℕ × SenderNo)) → Promises (λ s. 0) actions heard order owners
       → (s place number : ℕ) (bytes : List ℕ) → slice_get (actions s) place ≡ Some (HasPut number bytes) → number ≡ length (puts (take place (actions s)))
+
+-- Where nobody has asked to leave, the order is of items alone.
+pub record ItemsAlone : Type 0 where
+  pub entries : (base : ℕ → ℕ) (actions : ℕ → List Action) (heard : ℕ → List RecvTurn) (order : Order) (owners : List (ℕ × SenderNo))
+      → Promises base actions heard order owners → ((s : ℕ) → ¬ Asked mark.Leave (actions s))
+      → order.entries ≡ map Says (items_in order.entries)

@@ -4,15 +4,16 @@ use Rattle.bus_register.specs.declared.limits.TheConstants.{MOST_SENDERS, MOST_R
 use Rattle.bus_register.specs.declared.kinds.Kind.{Kind}
 use Rattle.bus_register.specs.declared.registers.SenderNo.{SenderNo}
 use Rattle.bus_register.specs.Protocol.{Protocol}
+use Rattle.bus_batch.specs.declared.messages.Mark.TheVariants as mark
 use Rattle.bus_batch.specs.Frames.{Frame, Order, Spells}
 use Rattle.bus_deliverylog.specs.declared.receiving.RecvTurn.{RecvTurn}
 use Rattle.bus_deliverylog.specs.Orders.{IsPrefixOfOrder}
 use Rattle.bus_tenure.specs.Core.{Core, Election, Layout}
 use Rattle.bus_tenure.specs.Situations.{Situation, situation_of, tenure_at, kind_at, op_at, chosen_at}
 use Rattle.bus_tenure.specs.declared.turns.Turn.{Turn as Answered}
-use Rattle.bus_world.specs.Headline.{Action, HasPut, HasClosed, Stepped, Took, order_given, IsPrefix, Promises}
+use Rattle.bus_world.specs.Headline.{Action, HasPut, HasMarked, Stepped, Took, order_given, IsPrefix, Promises}
 use Rattle.bus_world.specs.Turning.{number_found}
-use Rattle.bus_world.specs.World.{Bus, Event, Put, Close, Turn, Recv, Stop, going, IsEvent, Happens, IsNew, LawfulBus}
+use Rattle.bus_world.specs.World.{Bus, Event, Put, Ask, Turn, Recv, Stop, going, IsEvent, Happens, IsNew, LawfulBus}
 use Rattle.bus_world.specs.Playing.{SizedBus, Answers, log_of}
 use Rattle.bus_world.specs.declared.events.Answer.{Answer}
 use Rattle.bus_world.specs.declared.events.Answer.TheVariants as answer
@@ -25,6 +26,7 @@ step_action (Some k) tenure got chose turn = Stepped tenure k got chose turn ∷
 abbrev pub turn_actions : {E : Type 0} → Election E → Core E → Situation E → ℕ → ℕ → Answer → List Action
 turn_actions X c z got word (answer.Number n) = []
 turn_actions X c z got word answer.Closing = []
+turn_actions X c z got word answer.Leaving = []
 turn_actions X c z got word (answer.Turn t) = step_action (kind_at X c z) (tenure_at X c z) got (chosen_at X c z got word) t
 turn_actions X c z got word (answer.Recv t) = []
 turn_actions X c z got word answer.Stopped = []
@@ -38,22 +40,24 @@ turning_actions X words (Some c) word a = turn_actions X c (situation_of X c) (n
 abbrev pub put_actions : List ℕ → Answer → List Action
 put_actions bytes (answer.Number n) = HasPut n bytes ∷ []
 put_actions bytes answer.Closing = []
+put_actions bytes answer.Leaving = []
 put_actions bytes (answer.Turn t) = []
 put_actions bytes (answer.Recv t) = []
 put_actions bytes answer.Stopped = []
 
--- what a close adds, by its answer
-abbrev pub close_actions : Answer → List Action
-close_actions (answer.Number n) = []
-close_actions answer.Closing = HasClosed ∷ []
-close_actions (answer.Turn t) = []
-close_actions (answer.Recv t) = []
-close_actions answer.Stopped = []
+-- what a close or a leave adds, by its answer
+abbrev pub mark_actions : Answer → List Action
+mark_actions (answer.Number n) = []
+mark_actions answer.Closing = HasMarked mark.End ∷ []
+mark_actions answer.Leaving = HasMarked mark.Leave ∷ []
+mark_actions (answer.Turn t) = []
+mark_actions (answer.Recv t) = []
+mark_actions answer.Stopped = []
 
 -- what an event with this answer adds to the trail of sender q: a stop is no action
 abbrev pub actions_of : {E : Type 0} → Election E → Bus E → Event → Answer → ℕ → List Action
 actions_of X b (Put s bytes) a q = if q == s then put_actions bytes a else []
-actions_of X b (Close s) a q = if q == s then close_actions a else []
+actions_of X b (Ask s asked) a q = if q == s then mark_actions a else []
 actions_of X b (Turn s word) a q = if q == s then turning_actions X b.side.words (going b s) word a else []
 actions_of X b (Recv r) a q = []
 actions_of X b (Stop s) a q = []
@@ -61,6 +65,7 @@ actions_of X b (Stop s) a q = []
 abbrev pub answer_heard : Answer → List RecvTurn
 answer_heard (answer.Number n) = []
 answer_heard answer.Closing = []
+answer_heard answer.Leaving = []
 answer_heard (answer.Turn t) = []
 answer_heard (answer.Recv t) = t ∷ []
 answer_heard answer.Stopped = []
@@ -68,7 +73,7 @@ answer_heard answer.Stopped = []
 -- what an event and its answer add to the trail of a receiver
 abbrev pub heard_of : Event → Answer → ℕ → List RecvTurn
 heard_of (Put s bytes) a q = []
-heard_of (Close s) a q = []
+heard_of (Ask s asked) a q = []
 heard_of (Turn s word) a q = []
 heard_of (Recv r) a q = if q == r then answer_heard a else []
 heard_of (Stop s) a q = []

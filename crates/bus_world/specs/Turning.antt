@@ -94,6 +94,7 @@ owners_by turn.Going p owners = owners
 owners_by (turn.Lost t o) p owners = owners
 owners_by (turn.Own t) p owners = owners ++ p ∷ []
 owners_by (turn.Delivered t first last) p owners = owners
+owners_by (turn.Left t) p owners = owners
 owners_by turn.Full p owners = owners
 owners_by turn.Closed p owners = owners
 owners_by turn.Spent p owners = owners

@@ -3,7 +3,8 @@ use Rattle.std.specs.Prelude.{◌≡◌, ◌≢◌, ℕ, ◌+◌, ◌<◌, Bool,
 use Rattle.bus_register.specs.declared.limits.TheConstants.{MOST_BYTES, MOST_MESSAGES, MOST_SENDERS}
 use Rattle.bus_register.specs.Protocol.{Protocol}
 use Rattle.bus_batch.specs.declared.batches.Phase.{Phase}
-use Rattle.bus_batch.specs.declared.batches.Phase.TheVariants.{Open, Closing, Closed}
+use Rattle.bus_batch.specs.declared.batches.Phase.TheVariants.{Open, Marking, Closed}
+use Rattle.bus_batch.specs.declared.messages.Mark.{Mark}
 use Rattle.bus_batch.specs.Batches.{Pending}
 use Rattle.bus_batch.specs.Frames.{Frame, Order, order_in, log_pieces}
 use Rattle.bus_deliverylog.specs.declared.receiving.RecvTurn.{RecvTurn}
@@ -41,7 +42,8 @@ going b s = if has_stopped b s then None else slice_get b.side.senders s
 -- A sender stops by an event of its own, or just by having none any more.
 pub data Event : Type 0 where
   Put : (sender : ℕ) → (bytes : List ℕ) → Event
-  Close : (sender : ℕ) → Event
+  -- a close asks for the end mark, a leave for the leave mark
+  Ask : (sender : ℕ) → Mark → Event
   Turn : (sender : ℕ) → (word : ℕ) → Event
   Recv : (receiver : ℕ) → Event
   Stop : (sender : ℕ) → Event
@@ -49,29 +51,29 @@ pub data Event : Type 0 where
 -- bytes are bytes
 abbrev pub IsEvent : Event → Type 0
 IsEvent (Put s bytes) = All (λ byte. byte < 256) bytes
-IsEvent (Close s) = Unit {0}
+IsEvent (Ask s mark) = Unit {0}
 IsEvent (Turn s word) = Unit {0}
 IsEvent (Recv r) = Unit {0}
 IsEvent (Stop s) = Unit {0}
 
 abbrev pub is_open : Phase → Bool
 is_open Open = true
-is_open Closing = false
+is_open (Marking mark) = false
 is_open Closed = false
 
 -- a message of so many bytes is accepted
 abbrev pub can_put : Pending → ℕ → Bool
 can_put q len = is_open q.phase && ((if q.busy then false else true) && (nat_le len MOST_BYTES && nat_lt (length q.messages) MOST_MESSAGES))
 
--- a close is accepted
+-- a close or a leave is accepted
 abbrev pub can_close : Pending → Bool
 can_close q = is_open q.phase && ((if q.busy then false else true) && is_empty q.messages)
 
 abbrev pub put_in : {E : Type 0} → Core E → List ℕ → Core E
 put_in c bytes = if can_put c.queue (length bytes) then record c { queue = record c.queue { messages = c.queue.messages ++ bytes ∷ [] } } else c
 
-abbrev pub close_in : {E : Type 0} → Core E → Core E
-close_in c = if can_close c.queue then record c { queue = record c.queue { phase = Closing } } else c
+abbrev pub mark_in : {E : Type 0} → Core E → Mark → Core E
+mark_in c mark = if can_close c.queue then record c { queue = record c.queue { phase = Marking mark } } else c
 
 abbrev pub with_sender : {E : Type 0} → Side E → ℕ → Core E → Side E
 with_sender side s c = record side { senders = slice_set side.senders s c }
@@ -108,7 +110,7 @@ StopDoes old s (Some c) new = new ≡ slice_set old s true
 -- A stop takes no step, and changes nothing but who has stopped; and no other event changes that.
 abbrev pub Happens : {E : Type 0} → Election E → Bus E → Event → Bus E → Type 0
 Happens X old (Put s bytes) new = SenderDoes old.side (going old s) (λ c. with_sender old.side s (put_in c bytes)) new.side × (new.receivers ≡ old.receivers) × (new.stopped ≡ old.stopped)
-Happens X old (Close s) new = SenderDoes old.side (going old s) (λ c. with_sender old.side s (close_in c)) new.side × (new.receivers ≡ old.receivers) × (new.stopped ≡ old.stopped)
+Happens X old (Ask s mark) new = SenderDoes old.side (going old s) (λ c. with_sender old.side s (mark_in c mark)) new.side × (new.receivers ≡ old.receivers) × (new.stopped ≡ old.stopped)
 Happens X old (Turn s word) new = SenderDoes old.side (going old s) (λ c. side_after X old.side s c (situation_of X c) word) new.side × (new.receivers ≡ old.receivers) × (new.stopped ≡ old.stopped)
 Happens X old (Recv r) new = (new.side ≡ old.side) × ReceiverDoes old.side.words old.receivers r (slice_get old.receivers r) new.receivers × (new.stopped ≡ old.stopped)
 Happens X old (Stop s) new = (new.side ≡ old.side) × (new.receivers ≡ old.receivers) × StopDoes old.stopped s (going old s) new.stopped
@@ -131,7 +133,7 @@ pub record LawfulBus {E : Type 0} (base : ℕ → ℕ) (P : Protocol E (Unit {0}
   pub words : length bus.side.words ≡ words_of x
   pub keeps : Lawful base P x (slice_index bus.side.words) bus.side.home (slice_get bus.side.senders) (slice_get bus.receivers) bus.side.owners frames
 
--- what a receiver was given: the items and the end among the pieces below its place
+-- what a receiver was given: the items, the leave marks and the end among the pieces below its place
 abbrev pub given_at : List Frame → Receiving → Order
 given_at frames v = order_in (take v.place (log_pieces frames))
 
@@ -146,7 +148,7 @@ abbrev pub no_bases : List ℕ
 no_bases = replicate MOST_SENDERS 0
 
 abbrev pub first_page : List ℕ → Page
-first_page bases = record { next = bases; ended = false; tenures = 0; words = 0 }
+first_page bases = record { next = bases; left = replicate MOST_SENDERS false; ended = false; tenures = 0; words = 0 }
 
 abbrev pub new_core : {E : Type 0} → Layout → ℕ → ℕ → Core E
 new_core x first p = record { layout = x; me = p; queue = record { sender = record { 0 = p }; first = first; messages = []; phase = Open; busy = false }; least = 0; phase = phase.Resting }

@@ -11,6 +11,8 @@ pub enum Event {
     Put { sender: u64, bytes: Vec<u8> },
     /// The sender is to close the order.
     Close(u64),
+    /// The sender is to leave for good.
+    Leave(u64),
     /// The sender takes a turn; `word` is the random word of a vote.
     Turn { sender: u64, word: u32 },
     /// The receiver takes a turn.
@@ -27,6 +29,8 @@ pub enum Answer {
     Number(u64),
     /// The end mark waits at the sender.
     Closing,
+    /// The sender's leave mark waits at it.
+    Leaving,
     /// What the sender's turn came to.
     Turn(Turn),
     /// What the receiver's turn came to.
@@ -43,6 +47,7 @@ pub enum StepFault {
     /// The sender has stopped. Looked at before all that waits at it.
     Stopped,
     Put(PutFault),
+    /// Of a close or a leave.
     Close(CloseFault),
 }
 

@@ -18,6 +18,7 @@ pub fn first_page(alloc: Global, bases: [u64; MOST_SENDERS]) -> Result<OwnedPage
 {
     let page = Page {
         next: bases,
+        left: [false; MOST_SENDERS],
         ended: false,
         tenures: 0,
         words: 0,

@@ -85,7 +85,7 @@ impl Worker {
             match self.receiver.turn() {
                 RecvTurn::Item(item) => apply(item.message.as_slice(), &mut self.counters),
                 RecvTurn::Empty | RecvTurn::End => return,
-                RecvTurn::Going | RecvTurn::Head { .. } => {}
+                RecvTurn::Going | RecvTurn::Head { .. } | RecvTurn::Leave(_) => {}
             }
         }
     }

@@ -2,8 +2,9 @@
 //! all that it receives, its own too. A transfer of more than an account has is refused. So which
 //! ones are refused depends on the order, and equal ledgers need one order. It may differ from run
 //! to run: the ledgers go to standard error, the verdict to standard output. They do so in three
-//! sittings, each with a bus of its own that goes on with the numbers of the one before. `rt try`
-//! in its folder prints `3 replicas, 3 sittings, 90 commands: all equal`.
+//! sittings, each with a bus of its own that goes on with the numbers of the one before. In the
+//! second one a worker leaves for good, and from then on it listens. `rt try` in its folder prints
+//! `3 replicas, 3 sittings, 80 commands: all equal`.
 #![tactic(auto)]
 
 ghost use Rattle.std.specs.Prelude.{◌≡◌, ◌↔◌, ◌^◌, ◌<◌, IsTrue, sum};
@@ -12,7 +13,7 @@ ghost use Rattle.example_ledger.specs.Transfers.{after_transfer, message_of, mon
 
 use anyhow::{Context, ensure};
 use bus_handles::{
-    Ended, Page, ReceiverHandle, RecvTurn, SenderHandle, SenderNo, Shape, ThreeWord, open,
+    Ended, Page, ReceiverHandle, RecvTurn, SenderHandle, SenderNo, Shape, ThreeWord, Turn, open,
     open_after,
 };
 use std::alloc::{AllocGlobal, Global};
@@ -116,18 +117,42 @@ impl Ledger {
     }
 }
 
+/// What a worker does in a sitting, beside listening.
+#[derive(Clone, Copy)]
+enum Part {
+    Sends,
+    /// It sends, and then leaves.
+    Leaves,
+    /// It has left in the sitting before.
+    Listens,
+}
+
+/// The part of the worker of this number, after this page: the first leaves in the second sitting.
+fn part_of(number: u8, page: Option<&Page>) -> Part {
+    match page {
+        Some(page) if page.left.get(usize::from(number)) == Some(&true) => Part::Listens,
+        Some(_) if number == 0 => Part::Leaves,
+        Some(_) | None => Part::Sends,
+    }
+}
+
 /// A worker of one sitting: a sender, a receiver, and its replica of the ledger.
 #[derive(Drop)]
 struct Worker {
+    part: Part,
     sender: SenderHandle<ThreeWord>,
     receiver: ReceiverHandle<ThreeWord>,
     ledger: Ledger,
 }
 
 impl Worker {
-    /// Sends two batches of transfers, each with one to an unknown account, and catches up.
+    /// Sends two batches of transfers, each with one to an unknown account, and catches up. Then it
+    /// leaves, if that is its part.
     fn work<W: Wait>(mut self, wait: &W) -> anyhow::Result<Worker> {
         let from = self.sender.number().0;
+        if matches!(self.part, Part::Listens) {
+            return Ok(self);
+        }
         for amount in [20, 30] {
             for to in 0..5 {
                 self.sender.put(&encode(Transfer { from, to, amount }))?;
@@ -135,7 +160,18 @@ impl Worker {
             self.send(wait)?;
             self.catch_up(wait);
         }
+        if matches!(self.part, Part::Leaves) {
+            self.leave(wait)?;
+        }
         Ok(self)
+    }
+
+    /// Leaves, so that nothing of it follows.
+    fn leave<W: Wait>(&mut self, wait: &W) -> anyhow::Result<()> {
+        self.sender.leave()?;
+        let sent = self.sender.send(wait);
+        ensure!(matches!(sent, Turn::Left { .. }), "a worker has not left");
+        Ok(())
     }
 
     /// Sends the batch.
@@ -152,7 +188,7 @@ impl Worker {
             match self.receiver.turn() {
                 RecvTurn::Item(item) => self.ledger.take_in(item.message.as_slice()),
                 RecvTurn::Empty | RecvTurn::End => return,
-                RecvTurn::Going | RecvTurn::Head { .. } => {}
+                RecvTurn::Going | RecvTurn::Head { .. } | RecvTurn::Leave(_) => {}
             }
         }
     }
@@ -175,7 +211,7 @@ fn begin(alloc: Global, ledgers: Vec<Ledger>, page: Option<&Page>) -> anyhow::Re
         senders: 3,
         receivers: 3,
         rounds: 4,
-        rows: 8,
+        rows: 9,
         log_words: 128,
     };
     let (senders, receivers) = match page {
@@ -185,6 +221,7 @@ fn begin(alloc: Global, ledgers: Vec<Ledger>, page: Option<&Page>) -> anyhow::Re
     let mut workers = Vec::new(alloc);
     for ((sender, receiver), ledger) in senders.into_iter().zip(receivers).zip(ledgers) {
         workers.push(Worker {
+            part: part_of(sender.number().0, page),
             sender,
             receiver,
             ledger,
@@ -216,7 +253,7 @@ fn sit<R: AllocGlobal + Sync + Threads + Wait>(
 }
 
 /// Sees that a sitting went on with the numbers of this page, or with 0, and has ten commands of
-/// each worker.
+/// each worker that sent, and that just the one has left that was to leave.
 fn see_numbers(ended: &Ended, page: Option<&Page>) -> anyhow::Result<()> {
     for number in 0..3_u8 {
         let next = match page {
@@ -225,7 +262,17 @@ fn see_numbers(ended: &Ended, page: Option<&Page>) -> anyhow::Result<()> {
         };
         let sender = SenderNo(number);
         ensure!(ended.base(sender) == next, "numbers do not go on");
-        ensure!(ended.count(sender) == 10, "a command is not in the order");
+        let part = part_of(number, page);
+        let commands = if matches!(part, Part::Listens) { 0 } else { 10 };
+        ensure!(
+            ended.count(sender) == commands,
+            "a command is not in the order"
+        );
+        let has_left = ended.page().left[usize::from(number)];
+        ensure!(
+            has_left == matches!(part, Part::Leaves),
+            "another one has left"
+        );
     }
     Ok(())
 }
@@ -238,7 +285,7 @@ fn compare<R: Eprint>(rt: &R, ledgers: &[Ledger]) -> anyhow::Result<()> {
         ensure!(ledger.balances() == first.balances(), "they differ");
         ensure!(ledger.applied == first.applied, "they differ");
         let commands = ledger.applied.checked_add(ledger.refused);
-        ensure!(commands == Some(90), "a command is missing");
+        ensure!(commands == Some(80), "a command is missing");
     }
     Ok(())
 }
@@ -259,5 +306,5 @@ fn main(rt: HostRuntime) -> anyhow::Result<()> {
         ledgers = replicas;
     }
     compare(&rt, &ledgers)?;
-    println!(&rt; "3 replicas, 3 sittings, 90 commands: all equal").context("no output")
+    println!(&rt; "3 replicas, 3 sittings, 80 commands: all equal").context("no output")
 }

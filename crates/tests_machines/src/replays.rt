@@ -2,6 +2,7 @@
 
 mod bytes;
 mod cycles;
+mod leaving;
 mod random;
 
 use bus_adoptcommit::{ThreeWord, TwoCollect};

@@ -3,7 +3,7 @@
 ghost use Rattle.std.specs.Prelude.{◌<◌};
 
 use bus_adoptcommit::ThreeWord;
-use bus_batch::PutFault;
+use bus_batch::{CloseFault, PutFault};
 use bus_core::SenderCore;
 use bus_presence::Pin;
 use bus_register::limits::MOST_SENDERS;
@@ -27,6 +27,7 @@ fn made(me: u8) -> SenderCore<ThreeWord>
 fn first_page() -> Page {
     Page {
         next: [0; MOST_SENDERS],
+        left: [false; MOST_SENDERS],
         ended: false,
         tenures: 0,
         words: 0,
@@ -272,6 +273,73 @@ fn holder_waits_for_who_is_inside(rt: HostRuntime) -> Result<(), Fail> {
     };
     comes_to(&rt, &mut late, &mut cells, &mut page, lost);
     comes_to(&rt, &mut holder, &mut cells, &mut page, delivered(1, 1));
+    Ok(())
+}
+
+/// The page says that sender 1 of the two has left, and that the order goes on.
+fn says_who_left(rt: &impl Abort, page: Option<OwnedPage>) {
+    let home = page.expect(rt, "the page is at home");
+    let page = home.get();
+    assert_eq!(rt; (page.left[0], page.left[1]), (false, true));
+    assert_eq!(rt; (page.next[1], page.ended), (0, false));
+    assert_eq!(rt; (page.tenures, page.words), (1, 2));
+}
+
+#[test]
+fn leaves_for_good(rt: HostRuntime) -> Result<(), Fail> {
+    let mut cells = Cells::new(rt.alloc(), WORDS)?;
+    let mut page = Some(OwnedPage::new(rt.alloc(), first_page())?);
+    let mut leaver = made(1);
+    assert_eq!(rt; leaver.leave(), Ok(()));
+    assert!(rt; leaver.is_leaving());
+    assert_eq!(rt; leaver.kind(), Some(Kind::LoadStage));
+    goes_on(&rt, &mut leaver, &mut cells, &mut page, 2);
+    assert_eq!(rt; leaver.close(), Err(CloseFault::Closed));
+    comes_to(
+        &rt,
+        &mut leaver,
+        &mut cells,
+        &mut page,
+        Turn::Own { tenure: 0 },
+    );
+    goes_on(&rt, &mut leaver, &mut cells, &mut page, 1);
+    holds(&rt, &cells, 3, 0);
+    comes_to(
+        &rt,
+        &mut leaver,
+        &mut cells,
+        &mut page,
+        Turn::Left { tenure: 0 },
+    );
+    holds(&rt, &cells, 0, 2);
+    holds(&rt, &cells, 17, 0xC000_0000_0000_0001);
+    assert!(rt; leaver.is_closed() && !leaver.is_leaving());
+    assert_eq!(rt; leaver.kind(), None);
+    assert_eq!(rt; leaver.rest(), Turn::Closed);
+    says_who_left(&rt, page);
+    Ok(())
+}
+
+/// One that pins a tenure takes no leave, as it takes no close.
+#[test]
+fn pinned_it_takes_no_leave(rt: HostRuntime) -> Result<(), Fail> {
+    let mut cells = Cells::new(rt.alloc(), WORDS)?;
+    let mut page = Some(OwnedPage::new(rt.alloc(), first_page())?);
+    let mut sender = made(0);
+    puts(&rt, &mut sender, b"a");
+    assert_eq!(rt; sender.leave(), Err(CloseFault::Pending));
+    goes_on(&rt, &mut sender, &mut cells, &mut page, 2);
+    assert_eq!(rt; sender.leave(), Err(CloseFault::Busy));
+    comes_to(
+        &rt,
+        &mut sender,
+        &mut cells,
+        &mut page,
+        Turn::Own { tenure: 0 },
+    );
+    comes_to(&rt, &mut sender, &mut cells, &mut page, delivered(0, 0));
+    assert_eq!(rt; sender.leave(), Ok(()));
+    assert!(rt; sender.waiting().is_empty());
     Ok(())
 }
 

@@ -30,6 +30,29 @@ fn one_sender_alone(rt: HostRuntime) {
 }
 
 #[test]
+fn one_sender_leaves(rt: HostRuntime) {
+    gives(
+        &rt,
+        b"shape 1 1 1 4 16\nleave 0\nturn 0 0 99\nturn 0 0 99\nturn 0 0 99\nrecv 0 3\n",
+        Outcome::Done,
+        "1\t2\tsender 0\t-\tleave\t-\t-\t-\tleaving\n\
+         2\t3\tsender 0\t-\tLoadStage\tstage\t0\t0\tgoing\n\
+         3\t3\tsender 0\t0\tAnnounce\trow 0 announcement 0\t0\t1\tgoing\n\
+         4\t3\tsender 0\t0\tTakePage\tstage\t0\t1\town 0\n\
+         5\t4\tsender 0\t0\tStoreLogWord\tlog 0\t0\t4611687117939015680\tgoing\n\
+         6\t4\tsender 0\t0\tStoreLogWord\tlog 1\t0\t13835058055282163713\tgoing\n\
+         7\t4\tsender 0\t0\tStoreLength\tlength\t0\t2\tgoing\n\
+         8\t4\tsender 0\t0\tGivePageBack\tstage\t1\t2\tleft 0\n\
+         9\t5\tsender 0\t-\t-\t-\t-\t-\tclosed\n\
+         10\t6\treceiver 0\t-\tLoadLength\tlength\t2\t2\tgoing\n\
+         11\t6\treceiver 0\t-\tLoadLogWord\tlog 0\t4611687117939015680\t4611687117939015680\t\
+         head 0 0\n\
+         12\t6\treceiver 0\t-\tLoadLogWord\tlog 1\t13835058055282163713\t13835058055282163713\t\
+         leave 0\n",
+    );
+}
+
+#[test]
 fn no_bus_and_no_line(rt: HostRuntime) {
     gives(&rt, b"", Outcome::Refused, "end: BadLine\n");
     gives(

@@ -1,5 +1,6 @@
 //! Worked calls of a bus.
 
+mod leaving;
 mod sittings;
 mod stops;
 

@@ -15,7 +15,7 @@ fn puts(rt: &impl Abort, batch: &mut Batch, bytes: &[u8], want: Result<u64, PutF
 
 /// The word at `i` of the batch's frame in tenure 0.
 fn word_at(rt: &impl Abort, batch: &Batch, i: u64) -> u64 {
-    assert!(rt; !batch.is_empty() || batch.is_closing());
+    assert!(rt; !batch.is_empty() || batch.is_closing() || batch.is_leaving());
     assert!(rt; i < batch.frame_len());
     batch.word(i, 0)
 }
@@ -26,7 +26,7 @@ fn begins(rt: &impl Abort, batch: &mut Batch)
 {
     assert!(rt; !batch.is_busy());
     assert!(rt; !batch.is_closed());
-    assert!(rt; !batch.is_empty() || batch.is_closing());
+    assert!(rt; !batch.is_empty() || batch.is_closing() || batch.is_leaving());
     batch.begin();
 }
 
@@ -97,6 +97,75 @@ fn sent_and_closed(rt: HostRuntime) {
     batch.ended();
     assert!(rt; batch.is_closed());
     assert_eq!(rt; batch.close(), Err(CloseFault::Closed));
+}
+
+/// Neither a message nor another mark is taken.
+fn takes_nothing(rt: &impl Abort, batch: &mut Batch) {
+    puts(rt, batch, b"c", Err(PutFault::Closed));
+    assert_eq!(rt; batch.close(), Err(CloseFault::Closed));
+    assert_eq!(rt; batch.leave(), Err(CloseFault::Closed));
+}
+
+#[test]
+fn sent_and_left(rt: HostRuntime) {
+    let mut batch = Batch::new(SenderNo(3), 5);
+    puts(&rt, &mut batch, b"a", Ok(5));
+    assert_eq!(rt; batch.leave(), Err(CloseFault::Pending));
+    let waiting = batch.waiting();
+    assert_eq!(rt; waiting.len(), 1);
+    assert_eq!(rt; waiting[0].as_slice(), b"a".as_slice());
+    begins(&rt, &mut batch);
+    assert_eq!(rt; batch.leave(), Err(CloseFault::Busy));
+    assert!(rt; batch.is_busy());
+    batch.done();
+    assert_eq!(rt; batch.leave(), Ok(()));
+    assert!(rt; batch.is_leaving() && !batch.is_closing() && !batch.is_closed());
+    assert!(rt; batch.waiting().is_empty());
+    takes_nothing(&rt, &mut batch);
+    assert_eq!(rt; word_at(&rt, &batch, 0), 0x40C0_0100_0000_0000);
+    assert_eq!(rt; word_at(&rt, &batch, 1), 0xC000_0000_0000_0001);
+    begins(&rt, &mut batch);
+    batch.back();
+    assert!(rt; batch.is_leaving() && !batch.is_busy());
+    begins(&rt, &mut batch);
+    batch.done();
+    assert!(rt; batch.is_closed() && !batch.is_leaving());
+    assert_eq!(rt; batch.next_number(), 6);
+    takes_nothing(&rt, &mut batch);
+}
+
+/// A head of a frame of one word, of this owner.
+fn head_of(owner: u8, tenure: u64) -> Piece {
+    Piece::Head {
+        tenure,
+        owner: SenderNo(owner),
+    }
+}
+
+#[test]
+fn reads_who_left(rt: HostRuntime) {
+    let mut reader = FrameReader::new(2);
+    let head = head_of(1, 9);
+    assert_eq!(rt; reader.feed(0x4040_0100_0000_0009), Ok(Some(head)));
+    assert_eq!(rt;
+        reader.feed(0xC000_0000_0000_0001),
+        Ok(Some(Piece::Leave(SenderNo(1))))
+    );
+    assert!(rt; !reader.inside());
+    let other = head_of(0, 10);
+    assert_eq!(rt; reader.feed(0x4000_0100_0000_000A), Ok(Some(other)));
+    assert_eq!(rt; reader.feed(0xC000_0000_0000_0000), Ok(Some(Piece::End)));
+}
+
+#[test]
+fn reads_nothing_of_one_that_left(rt: HostRuntime) {
+    let mut reader = FrameReader::new(2);
+    let head = head_of(1, 9);
+    assert_eq!(rt; reader.feed(0x4040_0100_0000_0009), Ok(Some(head)));
+    let left = Piece::Leave(SenderNo(1));
+    assert_eq!(rt; reader.feed(0xC000_0000_0000_0001), Ok(Some(left)));
+    assert_eq!(rt; reader.feed(0x4040_0100_0000_000A), Err(BadWord));
+    assert_eq!(rt; reader.feed(0x4000_0100_0000_000A), Err(BadWord));
 }
 
 #[test]

@@ -1,6 +1,7 @@
 //! Turns of one sender over words of its own.
 
 use bus_adoptcommit::ThreeWord;
+use bus_batch::{CloseFault, PutFault};
 use bus_core::SenderCore;
 use bus_presence::Pin;
 use bus_register::limits::MOST_SENDERS;
@@ -19,6 +20,7 @@ const STAGE: Reg = Reg(1);
 fn first_page() -> Page {
     Page {
         next: [0; MOST_SENDERS],
+        left: [false; MOST_SENDERS],
         ended: false,
         tenures: 0,
         words: 0,
@@ -133,6 +135,77 @@ fn its_end_mark_closes_it(rt: HostRuntime) -> Result<(), Fail> {
     assert_eq!(rt; turns(&rt, &mut core, &mut cells), Turn::Closed);
     assert_eq!(rt; core.rest(), Turn::Closed);
     assert!(rt; core.is_closed());
+    Ok(())
+}
+
+/// It takes neither a message nor a mark.
+fn takes_nothing(rt: &impl Abort, core: &mut SenderCore<ThreeWord>) {
+    assert!(rt; core.next_number() < 16);
+    assert_eq!(rt; core.put(b"b"), Err(PutFault::Closed));
+    assert_eq!(rt; core.close(), Err(CloseFault::Closed));
+    assert_eq!(rt; core.leave(), Err(CloseFault::Closed));
+}
+
+/// The only one of two senders has sent its leave mark, of two words, in tenure 0.
+fn page_it_left(rt: &impl Abort, page: &Page) {
+    assert_eq!(rt; (page.left[0], page.left[1]), (true, false));
+    assert_eq!(rt; (page.next[0], page.ended), (0, false));
+    assert_eq!(rt; (page.tenures, page.words), (1, 2));
+}
+
+#[test]
+fn its_leave_mark_closes_it(rt: HostRuntime) -> Result<(), Fail> {
+    let mut cells = Cells::new(rt.alloc(), 40)?;
+    let mut core = SenderCore::<ThreeWord>::new(2, SenderNo(0), 1, 2, 16, 0);
+    assert_eq!(rt; core.leave(), Ok(()));
+    assert!(rt; core.is_leaving() && !core.is_closing() && !core.is_closed());
+    takes_nothing(&rt, &mut core);
+    assert_eq!(rt; turns(&rt, &mut core, &mut cells), Turn::Own { tenure: 0 });
+    assert!(rt; core.awaits_page());
+    core.lay(OwnedPage::new(rt.alloc(), first_page())?);
+    for _ in 0..3 {
+        assert_eq!(rt; step(&rt, &mut core, &mut cells), Turn::Going);
+    }
+    let taken = core.take_out().expect(&rt, "the page");
+    page_it_left(&rt, taken.get());
+    assert_eq!(rt; step(&rt, &mut core, &mut cells), Turn::Left { tenure: 0 });
+    assert_eq!(rt; word(&rt, &cells, STAGE), 2);
+    assert_eq!(rt; core.rest(), Turn::Closed);
+    assert!(rt; core.is_closed() && !core.is_leaving());
+    takes_nothing(&rt, &mut core);
+    Ok(())
+}
+
+/// What a sender that is to leave answers in the end where it finds this page.
+fn leaves_by<R: Abort + AllocGlobal>(rt: &R, page: Page) -> Result<(Turn, bool), Fail> {
+    let mut cells = Cells::new(rt.alloc(), 40)?;
+    let mut core = SenderCore::<ThreeWord>::new(1, SenderNo(0), 1, 2, 16, 0);
+    assert!(rt; core.leave().is_ok());
+    assert_eq!(rt; turns(rt, &mut core, &mut cells), Turn::Own { tenure: 0 });
+    assert!(rt; core.awaits_page());
+    core.lay(OwnedPage::new(rt.alloc(), page)?);
+    let turn = turns(rt, &mut core, &mut cells);
+    assert_eq!(rt; core.is_closed(), !core.is_leaving());
+    Ok((turn, core.is_leaving()))
+}
+
+#[test]
+fn a_leave_mark_that_is_not_sent(rt: HostRuntime) -> Result<(), Fail> {
+    let ended = Page {
+        ended: true,
+        ..first_page()
+    };
+    assert_eq!(rt; leaves_by(&rt, ended)?, (Turn::Closed, false));
+    let full = Page {
+        words: 15,
+        ..first_page()
+    };
+    assert_eq!(rt; leaves_by(&rt, full)?, (Turn::Full, true));
+    let room = Page {
+        words: 14,
+        ..first_page()
+    };
+    assert_eq!(rt; leaves_by(&rt, room)?, (Turn::Left { tenure: 0 }, false));
     Ok(())
 }
 

@@ -38,6 +38,31 @@ fn logs_are_told(rt: HostRuntime) {
 }
 
 #[test]
+fn who_left_is_told(rt: HostRuntime) {
+    tells(
+        &rt,
+        b"4000010000000000\nc000000000000001\n",
+        "frame 0 0\nleave 0\n",
+    );
+    tells(
+        &rt,
+        b"4000010000000000\n8000000000000000\n4000010000000001\nC000000000000001\n\
+          4040010000000002\nc000000000000000\n",
+        "frame 0 0\nitem 0 0 -\nframe 1 0\nleave 0\nframe 2 1\nend\n",
+    );
+    refuses(
+        &rt,
+        b"4000010000000000\nc000000000000001\n4000010000000001\n",
+        "word 2: BadWord\n",
+    );
+    refuses(
+        &rt,
+        b"4000010000000000\nc000000000000002\n",
+        "word 1: BadWord\n",
+    );
+}
+
+#[test]
 fn words_that_are_no_log(rt: HostRuntime) {
     refuses(&rt, b"4000020000000000\n8040000000000000\n", "end: Torn\n");
     refuses(

@@ -3,7 +3,7 @@
 ghost use Rattle.std.specs.Prelude.{◌≡◌, ◌+◌, ◌<◌, ◌^◌, false};
 
 use bus_batch::{Batch, Item, Message};
-use bus_deliverylog::{LogFault, Reader, RecvTurn, Writer, read_log};
+use bus_deliverylog::{LogFault, Order, Reader, RecvTurn, Writer, read_log};
 use bus_register::{Kind, Machine, Op, Reg, SenderNo};
 use std::alloc::Global;
 use std::process::Abort;
@@ -17,7 +17,7 @@ fn item(rt: &impl Abort, sender: u8, number: u64, bytes: &[u8]) -> Item {
     }
 }
 
-/// Sees what the words of two senders say.
+/// Sees what the words of two senders say, of whom nobody has left.
 fn reads(
     rt: &impl Abort,
     alloc: Global,
@@ -28,8 +28,23 @@ fn reads(
 ) {
     let read = read_log(alloc, words, 2).expect(rt, "a log");
     assert_eq!(rt; read.order.items.as_slice(), items);
+    assert!(rt; read.order.left.is_empty());
     assert_eq!(rt; read.order.ended, ended);
     assert_eq!(rt; read.owners.as_slice(), owners);
+}
+
+/// Sees who has left by the words of two senders, and after how many items, of so many in all.
+fn reads_left(
+    rt: &impl Abort,
+    alloc: Global,
+    words: &[u64],
+    left: &[(SenderNo, u64)],
+    items: usize,
+    ended: bool,
+) {
+    let read = read_log(alloc, words, 2).expect(rt, "a log");
+    assert_eq!(rt; read.order.left.as_slice(), left);
+    assert_eq!(rt; (read.order.items.len(), read.order.ended), (items, ended));
 }
 
 /// Sees why the words of two senders are no log.
@@ -169,9 +184,82 @@ fn bad_frames(rt: HostRuntime) {
     refuses(
         &rt,
         alloc,
-        &[0x4000_0100_0000_0000, 0xC000_0000_0000_0001],
+        &[0x4000_0200_0000_0000, 0xC000_0000_0000_0001],
         at_one,
     );
+    refuses(
+        &rt,
+        alloc,
+        &[0x4000_0100_0000_0000, 0xC000_0000_0000_0002],
+        at_one,
+    );
+    let left = [0x4000_0100_0000_0000, 0xC000_0000_0000_0001];
+    reads_left(&rt, alloc, &left, &[(SenderNo(0), 0)], 0, false);
+    refuses(
+        &rt,
+        alloc,
+        &[left[0], left[1], 0x4000_0100_0000_0001],
+        LogFault::BadWord { place: 2 },
+    );
+}
+
+#[test]
+fn who_left(rt: HostRuntime) {
+    let alloc = rt.alloc();
+    let words = [
+        0x4000_0100_0000_0000,
+        0x8000_0000_0000_0000,
+        0x4000_0100_0000_0001,
+        0xC000_0000_0000_0001,
+        0x4040_0200_0000_0002,
+        0x8000_0000_0000_0000,
+        0x8000_0000_0000_0001,
+        0x4040_0100_0000_0003,
+        0xC000_0000_0000_0001,
+    ];
+    let both = [(SenderNo(0), 1), (SenderNo(1), 3)];
+    reads_left(&rt, alloc, &words[..4], &both[..1], 1, false);
+    reads_left(&rt, alloc, &words[..7], &both[..1], 3, false);
+    reads_left(&rt, alloc, &words, &both, 3, false);
+    let read = read_log(alloc, &words, 2).expect(&rt, "a log");
+    let owners = [
+        (0, SenderNo(0)),
+        (1, SenderNo(0)),
+        (2, SenderNo(1)),
+        (3, SenderNo(1)),
+    ];
+    assert_eq!(rt; read.owners.as_slice(), owners.as_slice());
+    let mut ended = words;
+    ended[8] = 0xC000_0000_0000_0000;
+    reads_left(&rt, alloc, &ended, &both[..1], 3, true);
+}
+
+#[test]
+fn where_all_have_left(rt: HostRuntime) {
+    let words = [
+        0x4040_0100_0000_0000,
+        0xC000_0000_0000_0001,
+        0x4000_0100_0000_0001,
+        0xC000_0000_0000_0001,
+    ];
+    let both = [(SenderNo(1), 0), (SenderNo(0), 0)];
+    reads_left(&rt, rt.alloc(), &words, &both, 0, false);
+    for head in [0x4000_0100_0000_0002, 0x4040_0100_0000_0002] {
+        let more = [words[0], words[1], words[2], words[3], head];
+        refuses(&rt, rt.alloc(), &more, LogFault::BadWord { place: 4 });
+    }
+}
+
+#[test]
+fn an_order_is_put_together(rt: HostRuntime) {
+    let mut order = Order::new(rt.alloc());
+    assert!(rt; order.leave(SenderNo(2)).is_ok());
+    assert!(rt; order.push(item(&rt, 0, 0, b"a")).is_ok());
+    assert!(rt; order.push(item(&rt, 1, 0, b"b")).is_ok());
+    assert!(rt; order.leave(SenderNo(1)).is_ok());
+    let left = [(SenderNo(2), 0), (SenderNo(1), 2)];
+    assert_eq!(rt; order.left.as_slice(), left.as_slice());
+    assert_eq!(rt; (order.items.len(), order.ended), (2, false));
 }
 
 /// How a plain reading of the words of two senders ends, by bits and counts alone: with the fault,
@@ -179,6 +267,8 @@ fn bad_frames(rt: HostRuntime) {
 fn plain_fault(words: &[u64]) -> Option<LogFault> {
     let (mut left, mut room, mut bytes, mut least) = (0u64, 0u64, 0u64, 0u64);
     let mut ended = false;
+    let mut gone = [false; 2];
+    let mut owner = 0u64;
     for (place, word) in words.iter().enumerate() {
         let bad = Some(LogFault::BadWord {
             place: place as u64,
@@ -194,6 +284,10 @@ fn plain_fault(words: &[u64]) -> Option<LogFault> {
             if tag != 1 || high > 1 || count == 0 || count > 128 || tenure < least {
                 return bad;
             }
+            if gone[(high % 2) as usize] {
+                return bad;
+            }
+            owner = high;
             left = count;
             room = 16;
             least = tenure.saturating_add(1);
@@ -208,10 +302,11 @@ fn plain_fault(words: &[u64]) -> Option<LogFault> {
             }
             bytes = 0;
         } else if tag == 3 {
-            if *word != 0xC000_0000_0000_0000 || left != 0 || room != 16 {
+            if *word > 0xC000_0000_0000_0001 || left != 0 || room != 16 {
                 return bad;
             }
-            ended = true;
+            ended = *word == 0xC000_0000_0000_0000;
+            gone[(owner % 2) as usize] = !ended;
         } else {
             room = room.saturating_sub(1);
             let data = high.saturating_add(7) / 8;
@@ -240,10 +335,11 @@ fn agrees(rt: &impl Abort, alloc: Global, words: &[u64]) {
 }
 
 /// Words that each stand at an edge of the format.
-const EDGES: [u64; 16] = [
+const EDGES: [u64; 18] = [
     0,
     0x4000_0000_0000_0000,
     0x4000_0100_0000_0000,
+    0x4000_0100_0000_0001,
     0x4000_0200_0000_0000,
     0x4040_0100_0000_0001,
     0x4000_0300_0000_0000,
@@ -256,6 +352,7 @@ const EDGES: [u64; 16] = [
     0x8001_0000_0000_0000,
     0xC000_0000_0000_0000,
     0xC000_0000_0000_0001,
+    0xC000_0000_0000_0002,
     0x6100_0000_0000_0000,
 ];
 
@@ -354,4 +451,31 @@ fn writes_and_receives(rt: HostRuntime) {
     assert_eq!(rt; receives(&rt, &mut reader, &memory), RecvTurn::End);
     assert!(rt; reader.has_ended());
     assert!(rt; reader.kind().is_none() && reader.next().is_none());
+}
+
+#[test]
+fn receives_who_left(rt: HostRuntime) {
+    let mut memory = [0u64; 8];
+    memory[0] = 4;
+    memory[1] = 0x4040_0100_0000_0000;
+    memory[2] = 0xC000_0000_0000_0001;
+    memory[3] = 0x4000_0100_0000_0001;
+    memory[4] = 0xC000_0000_0000_0000;
+    let mut reader = Reader::new(2, Reg(1), Reg(0), 7);
+    let answers = [
+        RecvTurn::Going,
+        RecvTurn::Head {
+            tenure: 0,
+            owner: SenderNo(1),
+        },
+        RecvTurn::Leave(SenderNo(1)),
+        RecvTurn::Head {
+            tenure: 1,
+            owner: SenderNo(0),
+        },
+    ];
+    for answer in answers.iter() {
+        assert_eq!(rt; receives(&rt, &mut reader, &memory), *answer);
+    }
+    assert_eq!(rt; receives(&rt, &mut reader, &memory), RecvTurn::End);
 }

@@ -94,6 +94,23 @@ fn a_long_answer_is_cut(rt: HostRuntime) {
     );
 }
 
+/// Whether the one line of a trace is drawn as a call, with this in the column of kinds.
+fn is_call<R: Abort + AllocGlobal>(rt: &R, kind: &str) -> bool {
+    let trace = format!(in rt.alloc(); "1\t2\tsender 0\t-\t{kind}\t-\t-\t-\tidle");
+    let text = picture_of(rt.alloc(), trace.expect(rt, "memory").as_str()).expect(rt, "memory");
+    text.as_str().contains("<use href='#call' x='60' y='150'/>")
+}
+
+#[test]
+fn what_takes_no_step(rt: HostRuntime) {
+    for kind in ["put", "close", "leave", "stop"] {
+        assert!(rt; is_call(&rt, kind), "{kind}");
+    }
+    for kind in ["-", "left", "leaving", "LoadStage"] {
+        assert!(rt; !is_call(&rt, kind), "{kind}");
+    }
+}
+
 /// Whether the one line of a trace is drawn, with this in the column of who.
 fn is_drawn<R: Abort + AllocGlobal>(rt: &R, who: &str) -> bool {
     let trace = format!(in rt.alloc(); "1\t2\t{who}\t-\tput\t-\t-\t-\tidle").expect(rt, "memory");

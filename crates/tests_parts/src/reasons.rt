@@ -151,6 +151,47 @@ fn reasons_of_turns(rt: HostRuntime) {
 }
 
 #[test]
+fn reasons_of_leaves(rt: HostRuntime) {
+    replay_says(
+        &rt,
+        b"shape 1 1 1 1 16\nleave 0 1\n",
+        "BadLine",
+        "line 2: words behind the first: 2; its form is 'leave S'",
+    );
+    replay_says(
+        &rt,
+        b"shape 1 1 1 1 16\nleaves 0\n",
+        "BadLine",
+        "line 2: 'leaves' begins no line here: others are 'put', 'close', 'turn', 'recv', 'stop' \
+         and 'leave'",
+    );
+    replay_says(
+        &rt,
+        b"shape 1 1 1 1 16\nput 0 61\nleave 0\n",
+        "Pending",
+        "line 3: messages wait at the sender: take turns until 'delivered', then close or leave",
+    );
+    replay_says(
+        &rt,
+        b"shape 1 1 1 1 16\nleave 0\nput 0 61\n",
+        "Closed",
+        "line 3: the sender has closed or left, or its order has ended: it takes no more",
+    );
+    replay_says(
+        &rt,
+        b"leave 0\n",
+        "BadLine",
+        "line 1: the first line is 'shape N M R T L' or 'cycle N M R T L', with five numbers",
+    );
+    ratify_says(
+        &rt,
+        b"leave 0\n",
+        "BadLine",
+        "line 1: it is a line of a script for 'bus replay' or 'bus trace'",
+    );
+}
+
+#[test]
 fn reasons_of_logs(rt: HostRuntime) {
     log_says(
         &rt,

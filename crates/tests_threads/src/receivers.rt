@@ -143,6 +143,25 @@ fn to_the_end(rt: HostRuntime) {
 }
 
 #[test]
+fn who_leaves_is_heard(rt: HostRuntime) {
+    let (bus, mut sender, mut first, mut second) = with_an_a(&rt, rt.alloc());
+    assert_eq!(&rt; sender.leave(), Ok(()));
+    turns_to(&rt, &bus, &mut sender, Turn::Own { tenure: 1 });
+    turns_to(&rt, &bus, &mut sender, Turn::Left { tenure: 1 });
+    assert_eq!(&rt; first.take(&rt, &bus), head(1));
+    let left = RecvTurn::Leave(SenderNo(0));
+    assert_eq!(&rt; first.take(&rt, &bus), left);
+    hears(&rt, &bus, &mut first, &[RecvTurn::Empty]);
+    let item = second.next_item_while(&rt, &bus, || false);
+    assert!(&rt; matches!(item, Next::Item(_)));
+    assert_eq!(&rt; second.next_item_while(&rt, &bus, || false), Next::Stopped);
+    assert_eq!(&rt; (first.place(), second.place()), (5, 5));
+    assert!(&rt; !first.has_ended() && !second.has_ended());
+    let ended = Receiver::end(bus, second).expect(&rt, "the page is home");
+    assert_eq!(&rt; (ended.log().len(), ended.page().left[0]), (5, true));
+}
+
+#[test]
 fn items_alone(rt: HostRuntime) {
     let (bus, mut sender, mut first, mut second) = with_an_a(&rt, rt.alloc());
     assert_eq!(&rt; (first.known(), second.known()), (3, 0));
@@ -249,4 +268,36 @@ fn what_a_listener_refuses(rt: HostRuntime) {
     }
     notes(&rt, &mut heard, &RecvTurn::End, true);
     assert_eq!(rt; heard.items(), 3);
+}
+
+/// What a listener has noted of a sender: how many items, and whether it has left.
+fn has(rt: &impl Abort, heard: &Heard, sender: u8, want: (u64, bool)) {
+    assert!(rt; sender < 64);
+    let sender = SenderNo(sender);
+    assert_eq!(rt; (heard.count(sender), heard.has_left(sender)), want);
+}
+
+/// That this sender has left.
+fn gone(sender: u8) -> RecvTurn {
+    RecvTurn::Leave(SenderNo(sender))
+}
+
+#[test]
+fn what_a_listener_notes_of_leaving(rt: HostRuntime) {
+    let mut heard = Heard::new();
+    notes(&rt, &mut heard, &item(0, 0), true);
+    has(&rt, &heard, 0, (1, false));
+    notes(&rt, &mut heard, &gone(0), true);
+    has(&rt, &heard, 0, (1, true));
+    notes(&rt, &mut heard, &gone(0), false);
+    notes(&rt, &mut heard, &item(0, 1), false);
+    notes(&rt, &mut heard, &gone(64), false);
+    notes(&rt, &mut heard, &gone(63), true);
+    notes(&rt, &mut heard, &item(1, 0), true);
+    has(&rt, &heard, 63, (0, true));
+    has(&rt, &heard, 1, (1, false));
+    notes(&rt, &mut heard, &RecvTurn::End, true);
+    notes(&rt, &mut heard, &gone(1), false);
+    has(&rt, &heard, 1, (1, false));
+    assert_eq!(rt; heard.items(), 2);
 }

@@ -56,6 +56,13 @@ impl<'b> BusSender<'b> {
         }
     }
 
+    fn leave(&mut self) -> Result<Answer, StepFault> {
+        match self.sender.leave() {
+            Ok(()) => Ok(Answer::Leaving),
+            Err(fault) => Err(StepFault::Close(fault)),
+        }
+    }
+
     fn turn(&mut self, word: u32) -> Result<Answer, StepFault> {
         let bus = self.bus;
         Ok(Answer::Turn(self.sender.turn(bus, word)))
@@ -119,6 +126,10 @@ impl<'b> Both<'b> {
                 Some(found) => found.close(),
                 None => Err(StepFault::NoSuchSender),
             },
+            Event::Leave(sender) => match self.senders.get_mut(*sender as usize) {
+                Some(found) => found.leave(),
+                None => Err(StepFault::NoSuchSender),
+            },
             Event::Turn { sender, word } => match self.senders.get_mut(*sender as usize) {
                 Some(found) => found.turn(*word),
                 None => Err(StepFault::NoSuchSender),
@@ -146,7 +157,7 @@ impl<'b> Both<'b> {
         self.dice.next_u32() % most.max(1)
     }
 
-    /// Something happens: a put, a close, some turns of a sender, or some of a receiver.
+    /// Something happens: a put, a close, a leave, some turns of a sender, or some of a receiver.
     fn happens<R: Abort + AllocGlobal>(&mut self, rt: &R) {
         let sender = u64::from(self.below(8)) % self.senders.len().max(1) as u64;
         let receiver = u64::from(self.below(4)) % self.receivers.len().max(1) as u64;
@@ -156,7 +167,8 @@ impl<'b> Both<'b> {
                 self.take(rt, &Event::Put { sender, bytes });
             }
             30..32 => self.take(rt, &Event::Close(sender)),
-            32..85 => {
+            32..35 => self.take(rt, &Event::Leave(sender)),
+            35..85 => {
                 for _ in 0..self.below(24) {
                     let word = self.dice.next_u32();
                     self.take(rt, &Event::Turn { sender, word });
@@ -199,6 +211,7 @@ fn is_same(got: &Result<Answer, StepFault>, want: &Result<Answer, StepFault>) ->
     match (got, want) {
         (Ok(Answer::Number(got)), Ok(Answer::Number(want))) => got == want,
         (Ok(Answer::Closing), Ok(Answer::Closing)) => true,
+        (Ok(Answer::Leaving), Ok(Answer::Leaving)) => true,
         (Ok(Answer::Turn(got)), Ok(Answer::Turn(want))) => got == want,
         (Ok(Answer::Recv(got)), Ok(Answer::Recv(want))) => got == want,
         (Err(got), Err(want)) => got == want,
@@ -259,6 +272,7 @@ fn play<R: Abort + AllocGlobal>(
 #[derive(Default, Drop)]
 struct Sum {
     items: u64,
+    left: u64,
     ended: u64,
     lost: u64,
 }
@@ -276,7 +290,9 @@ fn compare<R: Abort + AllocGlobal>(
     let read = read_log(rt.alloc(), ended.log(), senders).expect(rt, "a log");
     let order = world.order(rt.alloc()).expect(rt, "memory");
     assert_eq!(rt; read.order.items.as_slice(), order.items.as_slice());
+    assert_eq!(rt; read.order.left.as_slice(), order.left.as_slice());
     assert_eq!(rt; read.order.ended, order.ended);
+    sum.left = sum.left.saturating_add(order.left.len() as u64);
     sum.items = sum.items.saturating_add(order.items.len() as u64);
     sum.ended = sum.ended.saturating_add(u64::from(order.ended));
 }
@@ -318,6 +334,7 @@ fn bus_like_world(rt: HostRuntime) {
         schedule(&rt, seed, &mut sum);
     }
     assert!(rt; sum.items > 1000, "{} items", sum.items);
+    assert!(rt; sum.left > 100, "{} leave marks", sum.left);
     assert!(rt; sum.ended > 100, "{} orders that ended", sum.ended);
     assert!(rt; sum.lost > 100, "{} tenures lost", sum.lost);
 }

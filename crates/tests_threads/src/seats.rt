@@ -7,6 +7,7 @@ ghost use Rattle.bus_pageslot.specs.Seats.{table_of};
 
 mod cyclic;
 mod elections;
+mod leaving;
 mod making;
 mod sittings;
 mod stops;

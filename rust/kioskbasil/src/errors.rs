@@ -54,7 +54,7 @@ faults! {
 faults! {
     /// Why a message was not put; nothing has changed.
     PutError {
-        /// A close was accepted, or the order is known to have ended.
+        /// A close or a leave was accepted, or the order is known to have ended.
         Closed = 38: "no message is taken: closed",
         /// The batch is on its way.
         Busy = 39: "no message is taken: the batch is on its way",
@@ -66,14 +66,14 @@ faults! {
 }
 
 faults! {
-    /// Why a close was not taken; nothing has changed.
+    /// Why a close or a leave was not taken; nothing has changed.
     CloseError {
         /// One was accepted, or the order is known to have ended.
-        Closed = 42: "the close is not taken: closed",
+        Closed = 42: "no close or leave is taken: closed",
         /// The batch is on its way.
-        Busy = 43: "the close is not taken: the batch is on its way",
+        Busy = 43: "no close or leave is taken: the batch is on its way",
         /// Messages wait.
-        Pending = 44: "the close is not taken: messages wait",
+        Pending = 44: "no close or leave is taken: messages wait",
     }
 }
 
@@ -92,7 +92,7 @@ faults! {
 /// Why a sender does not go on.
 #[derive(Clone, Copy, Debug, PartialEq, Eq)]
 pub enum SendError {
-    /// Messages wait, or a close, and this is what sending them was answered.
+    /// Messages wait, or a close or a leave, and this is what sending them was answered.
     Turn(Turn),
     /// The next message was not taken.
     Put(PutError),

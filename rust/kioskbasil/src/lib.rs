@@ -52,9 +52,10 @@ pub struct Shape {
     pub receivers: usize,
     /// Rounds of one binary decision: 1 to 8. Any number is right.
     pub rounds: u64,
-    /// Tenures of the sitting: 1 to 256; where rows are used again 2 to 8.
+    /// Tenures of the sitting: 1 to 256; where rows are used again 2 to 8. A batch takes one, a close and a leave too.
     pub rows: u64,
-    /// Words of the whole order: 16 to 65,536. A batch takes 1, a message 1 and one for each 8 bytes begun, a close 2.
+    /// Words of the whole order: 16 to 65,536. A batch takes 1, a message 1 and one for each 8 bytes begun, a close
+    /// or a leave 2.
     pub log_words: u64,
     /// Rows of words are used again, by up to 2^40 tenures.
     pub again: bool,
@@ -89,6 +90,8 @@ pub struct Ended {
     pub tenures: u64,
     /// The order has ended.
     pub ended: bool,
+    /// Which senders have left.
+    pub left: [bool; MOST_SENDERS],
 }
 
 /// How a bus is opened and ended. Its handles have it together.
@@ -132,6 +135,7 @@ impl Bus {
             words: before.log.len() as u64,
             tenures: before.tenures,
             ended: before.ended,
+            gone: before.left,
         };
         Bus::opened(shape, Some(&left))
     }

@@ -102,6 +102,7 @@ pub struct Left {
     pub words: u64,
     pub tenures: u64,
     pub ended: bool,
+    pub gone: [bool; MOST_SENDERS],
 }
 
 impl Left {
@@ -112,6 +113,7 @@ impl Left {
         words: 0,
         tenures: 0,
         ended: false,
+        gone: [false; MOST_SENDERS],
     };
 }
 
@@ -138,6 +140,7 @@ extern "C" {
         number: *mut u64,
     ) -> u32;
     pub fn bus_c_close(sender: *mut RawSender) -> u32;
+    pub fn bus_c_leave(sender: *mut RawSender) -> u32;
     pub fn bus_c_turn(sender: *mut RawSender, word: u32, answer: *mut TurnAnswer) -> u32;
     pub fn bus_c_sender(sender: *mut RawSender, shown: *mut SenderShown) -> u32;
     pub fn bus_c_free_sender(sender: *mut RawSender);

@@ -12,7 +12,7 @@ use std::ops::Deref;
 pub struct Item {
     /// Its sender.
     pub sender: u8,
-    /// Its number among the messages of its sender, from 0 on.
+    /// Its number among the messages of its sender, from the base of that on.
     pub number: u64,
     length: u8,
     bytes: [u8; 56],
@@ -66,6 +66,8 @@ pub enum Heard {
     Head { tenure: u64, owner: u8 },
     /// The next message of the order.
     Item(Item),
+    /// This sender has left, and nothing of it follows.
+    Leave(u8),
     /// The order has ended, and all of it was given.
     End,
 }
@@ -75,7 +77,8 @@ const BATCH: usize = 32;
 
 /// A receiver of a bus. It may go to another thread, and one thread at a time has it.
 ///
-/// `next_item` and `try_item` take up to 32 items out of the bus at once, and give them one by one.
+/// `next_item` and `try_item` take up to 32 items out of the bus at once, and give them one by one. They pass over that
+/// a sender has left: whoever uses `turn` alone is told each at its place, and `Ended` has all.
 pub struct Receiver {
     raw: raw::RawReceiver,
     ready: [RawItem; BATCH],
@@ -172,6 +175,7 @@ impl Receiver {
                 owner: told.owner,
             },
             13 => Heard::Item(Item::of(&told.item)),
+            16 => Heard::Leave(told.owner),
             14 => {
                 self.ended = true;
                 Heard::End
@@ -241,6 +245,7 @@ impl Receiver {
                     next: left.next,
                     tenures: left.tenures,
                     ended: left.ended,
+                    left: left.gone,
                 })
             }
             code => Err(EndError::of_code(code)),

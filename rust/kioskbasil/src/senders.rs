@@ -20,9 +20,11 @@ pub enum Turn {
     Own { tenure: u64 },
     /// Its messages with these numbers stand in the order.
     Delivered { tenure: u64, first: u64, last: u64 },
+    /// Its leave mark stands in the order, by its frame of this tenure: it has left.
+    Left { tenure: u64 },
     /// Its frame does not fit the log. The batch is kept.
     Full,
-    /// The order has ended.
+    /// The order has ended, or this sender had left.
     Closed,
     /// All tenures are spent. The batch is kept.
     Spent,
@@ -54,6 +56,7 @@ impl Turn {
                 tenure,
                 sender: told.sender,
             },
+            15 => Turn::Left { tenure },
             _ => unreachable!("the archive answered {code}"),
         }
     }
@@ -72,6 +75,7 @@ impl fmt::Display for Turn {
                 first,
                 last,
             } => write!(f, "delivered {tenure} {first} {last}"),
+            Turn::Left { tenure } => write!(f, "left {tenure}"),
             Turn::Full => f.write_str("full"),
             Turn::Closed => f.write_str("closed"),
             Turn::Spent => f.write_str("spent"),
@@ -138,7 +142,7 @@ impl Sender {
         self.shown().next_number
     }
 
-    /// It sends nothing more. False as long as its close waits to be sent.
+    /// It sends nothing more. False as long as its close or leave waits to be sent.
     pub fn is_closed(&mut self) -> bool {
         self.shown().is_closed
     }
@@ -176,6 +180,42 @@ impl Sender {
         }
     }
 
+    /// Lets a leave mark wait, which says in the order that this sender has left, once it is sent: then `send` gives
+    /// `Left`, and nothing of this sender follows. The others go on, and in a next sitting it is there again. Takes no
+    /// step.
+    ///
+    /// ```
+    /// use kioskbasil::{Bus, CloseError, Heard, PutError, Shape, Turn};
+    ///
+    /// let (mut senders, mut receivers) = Bus::open(Shape::of(2, 1))?;
+    /// senders[0].send_all(["my last"])?;
+    /// senders[0].leave()?;
+    /// assert_eq!(senders[0].put(b"more"), Err(PutError::Closed));
+    /// assert_eq!(senders[0].send(), Turn::Left { tenure: 1 });
+    /// assert_eq!(senders[0].leave(), Err(CloseError::Closed));
+    /// senders[1].send_all(["I stay"])?;
+    /// let mut heard = Vec::new();
+    /// loop {
+    ///     match receivers[0].turn() {
+    ///         Heard::Item(item) => heard.push(item.sender),
+    ///         Heard::Leave(sender) => assert_eq!((sender, &heard[..]), (0, &[0][..])),
+    ///         Heard::Empty => break,
+    ///         _ => {}
+    ///     }
+    /// }
+    /// assert_eq!(heard, [0, 1]);
+    /// senders[1].end_order()?;
+    /// assert_eq!(Bus::end(senders, receivers)?.left[..2], [true, false]);
+    /// # Ok::<(), Box<dyn std::error::Error>>(())
+    /// ```
+    pub fn leave(&mut self) -> Result<(), CloseError> {
+        // SAFETY: as in `shown`.
+        match unsafe { raw::bus_c_leave(&mut self.raw) } {
+            0 => Ok(()),
+            code => Err(CloseError::of_code(code)),
+        }
+    }
+
     /// One turn: at most one step on one word of the bus. `word` is the random word of a vote.
     pub fn turn(&mut self, word: u32) -> Turn {
         let mut told = raw::TurnAnswer::default();
@@ -184,7 +224,7 @@ impl Sender {
         Turn::of(code, told)
     }
 
-    /// Turns until Idle, Delivered, Full, Closed or Spent. It backs off while another sender has to go on first.
+    /// Turns until Idle, Delivered, Left, Full, Closed or Spent. It backs off while another sender has to go on first.
     #[must_use = "Full and Spent send nothing"]
     pub fn send(&mut self) -> Turn {
         let mut back_off = BackOff::default();

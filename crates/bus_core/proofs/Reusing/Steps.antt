@@ -4,14 +4,17 @@ use Rattle.std.proofs.lemmas.Bool.{lt-ltb}
 use Rattle.std.proofs.lemmas.Option.{same_Some}
 use Rattle.bus_register.specs.declared.registers.Op.{Op}
 use Rattle.bus_batch.specs.Batches.{Pending}
+use Rattle.bus_batch.specs.declared.batches.Phase.{Phase as BatchPhase}
+use Rattle.bus_batch.specs.declared.batches.Phase.TheVariants.{Open, Marking, Closed}
+use Rattle.bus_batch.specs.declared.messages.Mark.TheVariants as mark
 use Rattle.bus_presence.specs.Pins.{step_at, pin_fed}
 use Rattle.bus_presence.specs.Reclaimers.{Reclaiming, is_reclaimed}
 use Rattle.bus_presence.specs.Reclamation.{ReclamationSizes, presence_at, row_of}
 use Rattle.bus_presence.specs.declared.pins.Pin.{Pin}
 use Rattle.bus_presence.specs.declared.pins.Pin.TheVariants.{Away, Announcing, Validating, Pinned, Unpinning, Invalidated}
 use Rattle.bus_register.specs.declared.registers.SenderNo.{SenderNo}
-use Rattle.bus_tenure.specs.Core.{Core, Election, Layout, stage_at, row_at, is_closing}
-use Rattle.bus_tenure.specs.Situations.{Situation, IsClosed, IsIdle, IsSpent, LooksAtStage, Elects, TakesPage, AwaitsPage, StoresWord, StoresLength, GivesBack, HasHanded, situation_of, op_at, fed_at, answer_at, core_begun, core_elected, answer_of_election, answer_of_return}
+use Rattle.bus_tenure.specs.Core.{Core, Election, Layout, stage_at, row_at}
+use Rattle.bus_tenure.specs.Situations.{Situation, IsClosed, IsIdle, IsSpent, LooksAtStage, Elects, TakesPage, AwaitsPage, StoresWord, StoresLength, GivesBack, HasHanded, situation_of, op_at, fed_at, answer_at, core_begun, core_elected, answer_of_election, answer_sent, answer_of_return}
 use Rattle.bus_tenure.specs.Keeping.{AreSizes}
 use Rattle.bus_tenure.specs.declared.pages.Page.{Page}
 use Rattle.bus_tenure.specs.declared.phases.Reason.{Reason}
@@ -117,12 +120,14 @@ module _ {E : Type 0} (X : Election E) (W : Layout → ℕ) (B : Layout → ℕ 
       pub lost : v.lost ≡ lost_by answer v.lost
       pub told : answer ≡ told_by answer
 
-    ends_sent : (v : Participant E) (b : Bool) (t first last : ℕ) → Ends v (cond b turn.Closed (turn.Delivered t first last))
-    ends_sent v true t first last = record { pin = refl; reclaimer = refl; lost = refl; told = refl }
-    ends_sent v false t first last = record { pin = refl; reclaimer = refl; lost = refl; told = refl }
+    ends_sent : (v : Participant E) (q : Pending) (t : ℕ) (p : BatchPhase) → Ends v (answer_sent q t p)
+    ends_sent v q t Open = record { pin = refl; reclaimer = refl; lost = refl; told = refl }
+    ends_sent v q t (Marking mark.End) = record { pin = refl; reclaimer = refl; lost = refl; told = refl }
+    ends_sent v q t (Marking mark.Leave) = record { pin = refl; reclaimer = refl; lost = refl; told = refl }
+    ends_sent v q t Closed = record { pin = refl; reclaimer = refl; lost = refl; told = refl }
 
     ends : (v : Participant E) (q : Pending) (t : ℕ) (reason : Reason) → Ends v (answer_of_return q t reason)
-    ends v q t Sent = ends_sent v (is_closing q.phase) t q.first _
+    ends v q t Sent = ends_sent v q t q.phase
     ends v q t FoundEnd = record { pin = refl; reclaimer = refl; lost = refl; told = refl }
     ends v q t NoRoom = record { pin = refl; reclaimer = refl; lost = refl; told = refl }
 

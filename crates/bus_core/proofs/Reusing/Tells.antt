@@ -1,5 +1,5 @@
 -- What the answer of a participant's step tells.
-use Rattle.std.proofs.Common.{◌≡◌, inl, inr, ℕ, ◌+◌, ◌-◌, ◌/◌, ◌<◌, ◌≤◌, Bool, true, false, cond, Option, Some, None, IsSome, IfSome, is_some, nat_lt, nat_le, ◌==◌, ◌&&◌, refl, sym, ◌∙◌, ap, subst, arith}
+use Rattle.std.proofs.Common.{◌≡◌, inl, inr, ℕ, ◌+◌, ◌/◌, ◌<◌, ◌≤◌, Bool, true, false, cond, Option, Some, None, IsSome, IfSome, is_some, nat_lt, nat_le, ◌==◌, ◌&&◌, refl, sym, ◌∙◌, ap, subst, arith}
 use Rattle.std.proofs.lemmas.Bool.{lt-ltb, leb-false, leb-true, true≢false}
 use Rattle.std.proofs.lemmas.Bool.Decides.{eqb_tells}
 use Rattle.std.proofs.lemmas.Option.{same_Some}
@@ -7,14 +7,16 @@ use Rattle.bus_register.specs.declared.registers.Op.{Op}
 use Rattle.bus_register.specs.declared.registers.Op.TheVariants.{Load, Store}
 use Rattle.bus_register.specs.Words.{register}
 use Rattle.bus_register.specs.declared.registers.SenderNo.{SenderNo}
-use Rattle.bus_batch.specs.Batches.{next_of}
+use Rattle.bus_batch.specs.declared.batches.Phase.{Phase as BatchPhase}
+use Rattle.bus_batch.specs.declared.batches.Phase.TheVariants.{Open, Marking, Closed}
+use Rattle.bus_batch.specs.declared.messages.Mark.TheVariants as mark
 use Rattle.bus_presence.specs.Reclaimers.{Reclaiming, reclaim_op, behind_of, is_reclaimed}
 use Rattle.bus_presence.specs.Reclamation.{ReclamationSizes, presence_at}
 use Rattle.bus_presence.specs.Pins.{step_at}
 use Rattle.bus_presence.specs.declared.pins.Pin.{Pin}
 use Rattle.bus_presence.specs.declared.pins.Pin.TheVariants.{Away, Announcing, Validating, Pinned, Unpinning, Invalidated}
-use Rattle.bus_tenure.specs.Core.{Core, Election, stage_at, is_closing, has_room, frame_len}
-use Rattle.bus_tenure.specs.Situations.{Situation, IsClosed, IsIdle, IsSpent, LooksAtStage, Elects, TakesPage, AwaitsPage, StoresWord, StoresLength, GivesBack, HasHanded, situation_at, situation_of, waits, answer_of_return}
+use Rattle.bus_tenure.specs.Core.{Core, Election, stage_at, is_marking, is_closing, is_leaving, has_room, frame_len}
+use Rattle.bus_tenure.specs.Situations.{Situation, IsClosed, IsIdle, IsSpent, LooksAtStage, Elects, TakesPage, AwaitsPage, StoresWord, StoresLength, GivesBack, HasHanded, situation_at, situation_of, waits, answer_sent, answer_of_return}
 use Rattle.bus_tenure.specs.declared.pages.Page.{Page}
 use Rattle.bus_tenure.specs.declared.phases.Reason.{Reason}
 use Rattle.bus_tenure.specs.declared.phases.Reason.TheVariants.{Sent, FoundEnd, NoRoom}
@@ -271,12 +273,16 @@ module _ {E : Type 0} (X : Election E) (v : Participant E) (got word : ℕ) wher
   looks false false e f i d = goes_quiet LooksAtStage d (λ t w. cc) (λ t w. (returns_no t LooksAtStage w).0 refl)
       (λ w y. true≢false (sym y ∙ e)) (λ w y. let n = leb-false v.core.layout.rows (got / 2) f in omega arith) (λ w. enters e f d) i (unheld (ap held_of (tells X v.core LooksAtStage i)))
 
-  closes : (b : Bool) → is_closing v.core.queue.phase ≡ b → (t : ℕ) → GivesReady X v t → HasPublished t v.core.phase → FeedTells X v got word (cond b turn.Closed (turn.Delivered t v.core.queue.first (next_of v.core.queue - 1)))
-  closes true e t g w = record { tenure = t; gives = g; why = inl (e, w) }
-  closes false e t g w = record { gives = g; published = w; sends = e; first_is = refl; last_is = refl }
+  -- its frame stands in the log
+  sent : (p : BatchPhase) → v.core.queue.phase ≡ p → (t : ℕ) → GivesReady X v t → HasPublished t v.core.phase
+      → FeedTells X v got word (answer_sent v.core.queue t p)
+  sent Open e t g w = record { gives = g; published = w; sends = ap is_marking e; first_is = refl; last_is = refl }
+  sent (Marking mark.End) e t g w = record { tenure = t; gives = g; why = inl (ap is_closing e, w) }
+  sent (Marking mark.Leave) e t g w = record { gives = g; published = w; leaves = ap is_leaving e }
+  sent Closed e t g w = record { gives = g; published = w; sends = ap is_marking e; first_is = refl; last_is = refl }
 
   returned : (t : ℕ) (reason : Reason) → GivesReady X v t → Shows v.core t v.core.phase reason → FeedTells X v got word (answer_of_return v.core.queue t reason)
-  returned t Sent g w = closes (is_closing v.core.queue.phase) refl t g w
+  returned t Sent g w = sent v.core.queue.phase refl t g w
   returned t FoundEnd g w = record { tenure = t; gives = g; why = inr w }
   returned t NoRoom g w = record { tenure = t; gives = g; lacks = w }
 

@@ -6,7 +6,7 @@ use Rattle.bus_presence.specs.Reclamation.{ReclamationSizes, reclaimer_after}
 use Rattle.bus_presence.specs.declared.pins.Pin.{Pin}
 use Rattle.bus_presence.specs.declared.pins.Pin.TheVariants.{Unpinning}
 use Rattle.bus_tenure.specs.declared.turns.Turn.{Turn}
-use Rattle.bus_tenure.specs.declared.turns.Turn.TheVariants.{Idle, Waiting, Going, Lost, Own, Delivered, Full, Closed, Spent, Behind}
+use Rattle.bus_tenure.specs.declared.turns.Turn.TheVariants.{Idle, Waiting, Going, Lost, Own, Delivered, Left, Full, Closed, Spent, Behind}
 
 -- it parts from the tenure whose election is over
 abbrev pub pin_by : Turn → Pin → Pin
@@ -16,6 +16,7 @@ pin_by Going v = v
 pin_by (Lost t o) v = Unpinning t
 pin_by (Own t) v = Unpinning t
 pin_by (Delivered t first last) v = v
+pin_by (Left t) v = v
 pin_by Full v = v
 pin_by Closed v = v
 pin_by Spent v = v
@@ -29,6 +30,7 @@ lost_by Going l = l
 lost_by (Lost t o) l = Some o
 lost_by (Own t) l = l
 lost_by (Delivered t first last) l = l
+lost_by (Left t) l = l
 lost_by Full l = l
 lost_by Closed l = l
 lost_by Spent l = l
@@ -42,6 +44,7 @@ reclaimer_by x Going s = s
 reclaimer_by x (Lost t o) s = s
 reclaimer_by x (Own t) s = reclaimer_after x t
 reclaimer_by x (Delivered t first last) s = None
+reclaimer_by x (Left t) s = None
 reclaimer_by x Full s = None
 reclaimer_by x Closed s = None
 reclaimer_by x Spent s = s
@@ -55,6 +58,7 @@ told_by Going = Going
 told_by (Lost t o) = Going
 told_by (Own t) = Own t
 told_by (Delivered t first last) = Delivered t first last
+told_by (Left t) = Left t
 told_by Full = Full
 told_by Closed = Closed
 told_by Spent = Spent

@@ -6,7 +6,7 @@ use Rattle.bus_batch.specs.Batches.{next_of}
 use Rattle.bus_presence.specs.Reclamation.{presence_at}
 use Rattle.bus_presence.specs.declared.pins.Pin.{Pin}
 use Rattle.bus_presence.specs.declared.pins.Pin.TheVariants.{Announcing, Pinned, Unpinning, Invalidated}
-use Rattle.bus_tenure.specs.Core.{Core, Election, frame_len, is_closing}
+use Rattle.bus_tenure.specs.Core.{Core, Election, frame_len, is_marking, is_closing, is_leaving}
 use Rattle.bus_tenure.specs.Situations.{Situation, LooksAtStage, GivesBack, HasHanded, situation_of, waits as stage_waits}
 use Rattle.bus_tenure.specs.declared.pages.Page.{Page}
 use Rattle.bus_tenure.specs.declared.phases.Phase.{Phase}
@@ -14,7 +14,7 @@ use Rattle.bus_tenure.specs.declared.phases.Phase.TheVariants.{Electing, Holding
 use Rattle.bus_tenure.specs.declared.phases.Reason.{Reason}
 use Rattle.bus_tenure.specs.declared.phases.Reason.TheVariants.{Sent, FoundEnd, NoRoom}
 use Rattle.bus_tenure.specs.declared.turns.Turn.{Turn}
-use Rattle.bus_tenure.specs.declared.turns.Turn.TheVariants.{Idle, Waiting, Going, Lost, Own, Delivered, Full, Closed, Spent, Behind}
+use Rattle.bus_tenure.specs.declared.turns.Turn.TheVariants.{Idle, Waiting, Going, Lost, Own, Delivered, Left, Full, Closed, Spent, Behind}
 use Rattle.bus_core.specs.Reusing.Participants.{Goes}
 use Rattle.bus_core.specs.Reusing.Turns.{Participant, sizes_of, due, op_next, participant_after}
 use Rattle.bus_core.specs.Reusing.Keeping.{IsRowReady, held_of}
@@ -78,9 +78,15 @@ pub data FindsEnd {E : Type 0} (t : ℕ) : Phase E → Type 0 where
 pub record Delivers {E : Type 0} (X : Election E) (v : Participant E) (t first last : ℕ) : Type 0 where
   pub gives : GivesReady X v t
   pub published : HasPublished t v.core.phase
-  pub sends : is_closing v.core.queue.phase ≡ false
+  pub sends : is_marking v.core.queue.phase ≡ false
   pub first_is : first ≡ v.core.queue.first
   pub last_is : last ≡ next_of v.core.queue - 1
+
+-- it gives the page of this tenure back with its leave mark in the log
+pub record LeavesFor {E : Type 0} (X : Election E) (v : Participant E) (t : ℕ) : Type 0 where
+  pub gives : GivesReady X v t
+  pub published : HasPublished t v.core.phase
+  pub leaves : is_leaving v.core.queue.phase ≡ true
 
 -- of whatever tenure that was: its frame does not fit
 pub record IsFull {E : Type 0} (X : Election E) (v : Participant E) : Type 0 where
@@ -125,6 +131,7 @@ FeedTells X v got word Going = TellsNoMore X v got word
 FeedTells X v got word (Lost t o) = Withdraws v t o
 FeedTells X v got word (Own t) = IsChosen X v t
 FeedTells X v got word (Delivered t first last) = Delivers X v t first last
+FeedTells X v got word (Left t) = LeavesFor X v t
 FeedTells X v got word Full = IsFull X v
 FeedTells X v got word Closed = Ends X v
 FeedTells X v got word Spent = FindsNoneLeft X v got

@@ -144,7 +144,7 @@ answer_due X v (Goes z) got word = answer_going X v.core z got word
 abbrev pub answer_after : {E : Type 0} → Election E → Participant E → ℕ → ℕ → Turn
 answer_after X v got word = answer_due X v (due X v) got word
 
--- ---- puts, closes and the page
+-- ---- puts, marks and the page
 -- its batch, which is on its way from the load of the stage that begins a tenure until the answer that ends it
 abbrev pub queue_seen : Pending → Pin → Pending
 queue_seen q Away = q

@@ -6,6 +6,7 @@ use Rattle.bus_register.specs.declared.registers.Op.{Op}
 use Rattle.bus_register.specs.Protocol.{Protocol}
 use Rattle.bus_register.specs.Words.{register, SumFits}
 use Rattle.bus_batch.specs.Batches.{Pending, next_of, CanClose}
+use Rattle.bus_batch.specs.declared.messages.Mark.{Mark}
 use Rattle.bus_deliverylog.specs.Receiving.{Receiving, receiving_op}
 use Rattle.bus_presence.specs.Reclaimers.{behind_of}
 use Rattle.bus_presence.specs.declared.reclaimers.Behind.{Behind}
@@ -19,11 +20,11 @@ use Rattle.bus_tenure.specs.Seen.{AwaitsItsPage}
 use Rattle.bus_tenure.specs.Situations.{Situation, IsClosed, IsIdle, IsSpent, LooksAtStage, Elects, TakesPage, AwaitsPage, StoresWord, StoresLength, GivesBack, HasHanded, situation_at}
 use Rattle.bus_tenure.specs.declared.turns.Turn.{Turn as Answered}
 use Rattle.bus_world.specs.Bus.{IsLayout}
-use Rattle.bus_world.specs.Headline.{Action, HasPut, HasClosed}
-use Rattle.bus_world.specs.Playing.{PutGives, CloseGives, StopGives}
-use Rattle.bus_world.specs.CyclicMachines.{CyclicMachine, CyclicTrails, CyclicReached, TurnTaken, PutTaken, CloseTaken, RecvTaken, StopTaken, IsKeptCyclic, IsOnWord, participant_going, ring_after, ring_trails, ring_reclaims, ring_actions, with_participant, participant_put, participant_closed}
+use Rattle.bus_world.specs.Headline.{Action, HasPut, HasMarked}
+use Rattle.bus_world.specs.Playing.{PutGives, CloseGives, StopGives, asked_answer}
+use Rattle.bus_world.specs.CyclicMachines.{CyclicMachine, CyclicTrails, CyclicReached, TurnTaken, PutTaken, MarkTaken, RecvTaken, StopTaken, IsKeptCyclic, IsOnWord, participant_going, ring_after, ring_trails, ring_reclaims, ring_actions, with_participant, participant_put, participant_marked}
 use Rattle.bus_world.specs.Turning.{number_found, owners_by, owners_after}
-use Rattle.bus_world.specs.World.{Event, Put, Close, Turn, Recv, Stop, can_put, can_close, is_open, is_set}
+use Rattle.bus_world.specs.World.{Event, Put, Ask, Turn, Recv, Stop, can_put, can_close, is_open, is_set}
 use Rattle.bus_world.specs.CyclicProtocols.{actions_with}
 use Rattle.bus_world.specs.declared.events.Answer.{Answer}
 use Rattle.bus_world.specs.declared.events.Answer.TheVariants as answer
@@ -36,7 +37,7 @@ use Rattle.bus_machine.specs.Proved.Cyclic.{OwnedCyclicMachine, LeadTo, AreLastT
 use Rattle.bus_machine.specs.Proved.Following.{Steps, ring_trails_grown, turn_grown, heard_grown, TurnsWithin}
 use Rattle.bus_machine.specs.Proved.Following as following
 use Rattle.bus_machine.specs.Proved.Happening.{Happens, ParticipantDoes, ReaderDoes, TurnAnswers, RecvAnswers, core_found}
-use Rattle.bus_machine.proofs.Cyclic.LastTakers.{takers_one, last_told, last_beside, put_takes, close_takes}
+use Rattle.bus_machine.proofs.Cyclic.LastTakers.{takers_one, last_told, last_beside, put_takes, mark_takes, mark_action}
 
 -- ---- what an answer tells of who took the page
 module _ {E : Type 0} (X : Election E) (v : Participant E) (s : ℕ) (owners : List ℕ) where
@@ -152,20 +153,23 @@ module _ {E : Type 0} (X : Election E) (P : Protocol E (Unit {0}) ℕ) where
     same_parts : (y : OwnedCyclicMachine E) (r : CyclicMachine E) (owners : List ℕ) → y.ring ≡ r → y.owners ≡ owners → y ≡ record { ring = r; owners = owners }
     same_parts y r owners i j = ap (λ q. record { ring = q; owners = y.owners }) i ∙ ap (λ q. record { ring = r; owners = q }) j
 
-    close_leads : (p : ℕ) (a : Answer) (z' : OwnedCyclicMachine E) → z'.owners ≡ z.owners → (o : Option (Participant E)) → participant_going b p ≡ o → ParticipantDoes b o (λ v. with_participant b p (participant_closed v)) z'.ring
-        → CloseGives (core_found o) → a ≡ answer.Closing → LeadTo X z' (ring_trails_grown X b (Close p) a T)
-    close_leads p a z' owners None goes does gives told = absurd gives
-    close_leads p a z' owners (Some v) goes does gives told =
+    mark_leads : (p : ℕ) (asked : Mark) (a : Answer) (z' : OwnedCyclicMachine E) → z'.owners ≡ z.owners → (o : Option (Participant E)) → participant_going b p ≡ o
+        → ParticipantDoes b o (λ v. with_participant b p (participant_marked v asked)) z'.ring
+        → CloseGives (core_found o) → a ≡ asked_answer asked → LeadTo X z' (ring_trails_grown X b (Ask p asked) a T)
+    mark_leads p asked a z' owners None goes does gives told = absurd gives
+    mark_leads p asked a z' owners (Some v) goes does gives told =
         let can : can_close (queue_seen v.core.queue v.pin) ≡ true = close_taken (queue_seen v.core.queue v.pin) gives in
-        let ds : List Action = HasClosed ∷ [] in
-        let whole = CloseTaken b T p v l.reached goes in
-        let same : record T { actions = actions_with p (cond (can_close (queue_seen v.core.queue v.pin)) (HasClosed ∷ []) []) T.actions } ≡ record T { actions = actions_with p ds T.actions } =
-        ap (λ c. record T { actions = actions_with p (cond c (HasClosed ∷ []) []) T.actions }) can in
-        let base : LeadTo X (record { ring = with_participant b p (participant_closed v); owners = z.owners }) (record T { actions = actions_with p ds T.actions }) = record {
-          reached = subst (CyclicReached X (with_participant b p (participant_closed v))) same whole;
-          owners = last_beside b.rows z.owners T.actions p ds close_takes l.owners;
+        let ds : List Action = HasMarked asked ∷ [] in
+        let whole = MarkTaken b T p v asked l.reached goes in
+        let same : record T { actions = actions_with p (cond (can_close (queue_seen v.core.queue v.pin)) (HasMarked asked ∷ []) []) T.actions } ≡ record T { actions = actions_with p ds T.actions } =
+        ap (λ c. record T { actions = actions_with p (cond c (HasMarked asked ∷ []) []) T.actions }) can in
+        let base : LeadTo X (record { ring = with_participant b p (participant_marked v asked); owners = z.owners }) (record T { actions = actions_with p ds T.actions }) = record {
+          reached = subst (CyclicReached X (with_participant b p (participant_marked v asked))) same whole;
+          owners = last_beside b.rows z.owners T.actions p ds (mark_takes asked) l.owners;
         } in
-        subst (λ c. LeadTo X z' (ring_trails_grown X b (Close p) c T)) (sym told) (subst (λ y. LeadTo X y (record T { actions = actions_with p ds T.actions })) (sym (same_parts z' _ _ does owners)) base)
+        subst (λ c. LeadTo X z' (ring_trails_grown X b (Ask p asked) c T)) (sym told)
+        (subst (λ l. LeadTo X z' (record T { actions = actions_with p l T.actions })) (sym (mark_action asked))
+        (subst (λ y. LeadTo X y (record T { actions = actions_with p ds T.actions })) (sym (same_parts z' _ _ does owners)) base))
 
     there_shown : (t : Bool) (o : Option (Participant E)) (v : Participant E) → cond t None o ≡ Some v → o ≡ Some v
     there_shown true o v e = absurd (let bad : None ≡ Some v = e in cc)
@@ -205,7 +209,7 @@ module _ {E : Type 0} (X : Election E) (P : Protocol E (Unit {0}) ℕ) where
 
     pub leads_on : (e : Event) (a : Answer) (z' : OwnedCyclicMachine E) → Steps X z e a z' → LeadTo X z' (ring_trails_grown X b e a T)
     leads_on (Put p bytes) a z' d = put_leads p bytes a z' d.is d.owners (participant_going b p) refl d.happens d.answers.0 d.answers.1 d.answers.2
-    leads_on (Close p) a z' d = close_leads p a z' d.owners (participant_going b p) refl d.happens d.answers.0 d.answers.1
+    leads_on (Ask p asked) a z' d = mark_leads p asked a z' d.owners (participant_going b p) refl d.happens d.answers.0 d.answers.1
     leads_on (Turn p word) a z' d = turn_leads p word a z' d.owners (participant_going b p) refl d.within d.happens d.answers
     leads_on (Recv r) a z' d = recv_leads r a z' d.owners (slice_get b.receivers r) refl d.answers
     leads_on (Stop p) a z' d = stop_leads p a z' d.owners (participant_going b p) refl d.happens d.answers.0
@@ -229,7 +233,7 @@ module _ {E : Type 0} (X : Election E) (P : Protocol E (Unit {0}) ℕ) where
 
   pub event_sizes : (b b' : CyclicMachine E) (e : Event) → Happens X b e b' → SameSizes b b'
   event_sizes b b' (Put p bytes) d = participant_sizes b b' (participant_going b p) _ (λ v. record { layout = refl; rows = refl; participants = length-set b.participants p _ }) d
-  event_sizes b b' (Close p) d = participant_sizes b b' (participant_going b p) _ (λ v. record { layout = refl; rows = refl; participants = length-set b.participants p _ }) d
+  event_sizes b b' (Ask p asked) d = participant_sizes b b' (participant_going b p) _ (λ v. record { layout = refl; rows = refl; participants = length-set b.participants p _ }) d
   event_sizes b b' (Turn p word) d = participant_sizes b b' (participant_going b p) _ (λ v. record { layout = refl; rows = refl; participants = length-set b.participants p _ }) d
   event_sizes b b' (Recv r) d = reader_sizes b b' r (slice_get b.receivers r) d
   event_sizes b b' (Stop p) d = participant_sizes b b' (participant_going b p) _ (λ v. record { layout = refl; rows = refl; participants = refl }) d

@@ -4,10 +4,13 @@ use Rattle.std.proofs.lemmas.Bool.{cases_lt}
 use Rattle.std.proofs.lemmas.List.{append-nil, length-append, length-drop, drop-append-le}
 use Rattle.std.proofs.lemmas.Option.{same_Some}
 use Rattle.std.proofs.Math.Seq.{drop-nil}
+use Rattle.bus_batch.specs.declared.messages.Mark.{Mark}
+use Rattle.bus_batch.specs.declared.messages.Mark.TheVariants.{End, Leave}
 use Rattle.bus_tenure.specs.declared.turns.Turn.{Turn as Answered}
 use Rattle.bus_tenure.specs.declared.turns.Turn.TheVariants as turn
-use Rattle.bus_world.specs.Headline.{Action, HasPut, HasClosed, Took}
-use Rattle.bus_world.specs.Trails.{Takers}
+use Rattle.bus_world.specs.Headline.{Action, HasPut, HasMarked, Took}
+use Rattle.bus_world.specs.Playing.{asked_answer}
+use Rattle.bus_world.specs.Trails.{Takers, mark_actions}
 use Rattle.bus_world.specs.Turning.{owners_by}
 use Rattle.bus_world.specs.CyclicProtocols.{actions_with}
 use Rattle.bus_world.proofs.Places.{got_before, got_split}
@@ -60,6 +63,7 @@ last_told r turn.Going s all = last_again r all
 last_told r (turn.Lost t o) s all = last_again r all
 last_told r (turn.Own t) s all = last_last r all (s ∷ [])
 last_told r (turn.Delivered t first last) s all = last_again r all
+last_told r (turn.Left t) s all = last_again r all
 last_told r turn.Full s all = last_again r all
 last_told r turn.Closed s all = last_again r all
 last_told r turn.Spent s all = last_again r all
@@ -76,9 +80,14 @@ pub put_takes : (number : ℕ) (bytes : List ℕ) → TakesNone (HasPut number b
 put_takes number bytes t zero h = let bad = h.at in cc
 put_takes number bytes t (suc place) h = let bad = h.at in cc
 
-pub close_takes : TakesNone (HasClosed ∷ [])
-close_takes t zero h = let bad = h.at in cc
-close_takes t (suc place) h = let bad = h.at in cc
+-- a mark that is taken is an action
+pub mark_action : (asked : Mark) → mark_actions (asked_answer asked) ≡ HasMarked asked ∷ []
+mark_action End = refl
+mark_action Leave = refl
+
+pub mark_takes : (asked : Mark) → TakesNone (HasMarked asked ∷ [])
+mark_takes asked t zero h = let bad = h.at in cc
+mark_takes asked t (suc place) h = let bad = h.at in cc
 
 takers_beside : (all : List ℕ) (D : ℕ → List Action) (p : ℕ) (ds : List Action) → TakesNone ds → Takers all D → Takers all (actions_with p ds D)
 takers_beside all D p ds none h = record {

@@ -28,7 +28,7 @@ use Rattle.bus_world.specs.Headline.{IsPrefix}
 use Rattle.bus_world.specs.Log.{words_read_from}
 use Rattle.bus_world.specs.CyclicMachines.{CyclicMachine, CyclicTrails, IsOnWord, yard_of, core_in, participant_going, ring_after}
 use Rattle.bus_world.specs.Turning.{words_after}
-use Rattle.bus_world.specs.World.{Event, Put, Close, Turn, Recv, Stop, is_set}
+use Rattle.bus_world.specs.World.{Event, Put, Ask, Turn, Recv, Stop, is_set}
 use Rattle.bus_world.specs.CyclicProtocols.{CyclicProtocol, IsKeptProtocol}
 use Rattle.bus_world.proofs.Growing.{same_prefix}
 use Rattle.bus_world.proofs.LogLaws.{read-agree, read-add}
@@ -275,7 +275,7 @@ module _ {E : Type 0} (X : Election E) (P : Protocol E (Unit {0}) ℕ) (z : Owne
 
   pub log_grows : (e : Event) (b' : CyclicMachine E) → Happens X b e b' → StepsWithin X b e → IsPrefix (log_of b) (log_of b')
   log_grows (Put p bytes) b' d low = beside_grows b' (participant_going b p) _ (λ v. refl) d
-  log_grows (Close p) b' d low = beside_grows b' (participant_going b p) _ (λ v. refl) d
+  log_grows (Ask p asked) b' d low = beside_grows b' (participant_going b p) _ (λ v. refl) d
   log_grows (Turn p word) b' d low = turn_grows b' p word (participant_going b p) refl low d
   log_grows (Recv r) b' d low = recv_grows b' r (slice_get b.receivers r) d
   log_grows (Stop p) b' d low = beside_grows b' (participant_going b p) _ (λ v. refl) d

@@ -22,7 +22,7 @@ use Rattle.bus_tenure.specs.Situations.{Situation, IsClosed, IsIdle, IsSpent, Lo
 use Rattle.bus_tenure.specs.declared.turns.Turn.{Turn as Answered}
 use Rattle.bus_tenure.proofs.Situated.{tells}
 use Rattle.bus_world.specs.Headline.{Action, Stepped, Elected}
-use Rattle.bus_world.specs.CyclicMachines.{CyclicMachine, CyclicTrails, CyclicReached, NewCyclic, TurnTaken, PutTaken, CloseTaken, RecvTaken, StopTaken, yard_of, ring_after, ring_actions, participant_put, participant_closed}
+use Rattle.bus_world.specs.CyclicMachines.{CyclicMachine, CyclicTrails, CyclicReached, NewCyclic, TurnTaken, PutTaken, MarkTaken, RecvTaken, StopTaken, yard_of, ring_after, ring_actions, participant_put, participant_marked}
 use Rattle.bus_world.specs.Trails.{step_action}
 use Rattle.bus_world.specs.Turning.{number_found}
 use Rattle.bus_world.specs.World.{can_put, can_close}
@@ -177,8 +177,8 @@ module _ {E : Type 0} (X : Election E) (P : Protocol E (Unit {0}) ℕ) (laws : L
   ring_seen b x T (PutTaken w U s v bytes before goes small) =
       let same = put_same (can_put (queue_seen v.core.queue v.pin) (length bytes)) v _ refl refl in
       record { seen = seen_same w U.actions (ring_seen w x U before) s v (participant_there w s v goes) (participant_put v bytes) _ same.0 same.1 }
-  ring_seen b x T (CloseTaken w U s v before goes) =
+  ring_seen b x T (MarkTaken w U s v asked before goes) =
       let same = put_same (can_close (queue_seen v.core.queue v.pin)) v _ refl refl in
-      record { seen = seen_same w U.actions (ring_seen w x U before) s v (participant_there w s v goes) (participant_closed v) _ same.0 same.1 }
+      record { seen = seen_same w U.actions (ring_seen w x U before) s v (participant_there w s v goes) (participant_marked v asked) _ same.0 same.1 }
   ring_seen b x T (RecvTaken w U r v next answer before at does) = record { seen = (ring_seen w x U before).seen }
   ring_seen b x T (StopTaken w U s v before goes) = record { seen = (ring_seen w x U before).seen }

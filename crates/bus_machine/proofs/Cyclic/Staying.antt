@@ -32,10 +32,10 @@ use Rattle.bus_core.specs.Reusing.Keeping.{held_of}
 use Rattle.bus_core.specs.Reusing.Turns.{Participant, due, op_due, on_place, op_placed}
 use Rattle.bus_world.specs.Bus.{Part, Fits, standing_of, stands_at, least_of}
 use Rattle.bus_world.specs.Headline.{Action}
-use Rattle.bus_world.specs.CyclicMachines.{CyclicMachine, CyclicTrails, CyclicReached, IsOnWord, yard_of, core_in, participant_going, ring_after, ring_actions}
-use Rattle.bus_world.specs.Trails.{step_action, put_actions, close_actions}
+use Rattle.bus_world.specs.CyclicMachines.{CyclicMachine, CyclicTrails, IsOnWord, yard_of, core_in, participant_going, ring_after, ring_actions}
+use Rattle.bus_world.specs.Trails.{step_action, put_actions, mark_actions}
 use Rattle.bus_world.specs.Turning.{words_after}
-use Rattle.bus_world.specs.World.{Event, Put, Close, Turn, Recv, Stop}
+use Rattle.bus_world.specs.World.{Event, Put, Ask, Turn, Recv, Stop}
 use Rattle.bus_world.specs.CyclicProtocols.{CyclicProtocol, IsKeptProtocol, actions_with, due_actions}
 use Rattle.bus_world.specs.declared.events.Answer.{Answer}
 use Rattle.bus_world.specs.declared.events.Answer.TheVariants as answer
@@ -84,16 +84,18 @@ module _ (t : ℕ) where
   put_beside_all : (bytes : List ℕ) (a : Answer) → actions_in t (put_actions bytes a) ≡ []
   put_beside_all bytes (answer.Number n) = refl
   put_beside_all bytes answer.Closing = refl
+  put_beside_all bytes answer.Leaving = refl
   put_beside_all bytes (answer.Turn told) = refl
   put_beside_all bytes (answer.Recv told) = refl
   put_beside_all bytes answer.Stopped = refl
 
-  close_beside_all : (a : Answer) → actions_in t (close_actions a) ≡ []
-  close_beside_all (answer.Number n) = refl
-  close_beside_all answer.Closing = refl
-  close_beside_all (answer.Turn told) = refl
-  close_beside_all (answer.Recv told) = refl
-  close_beside_all answer.Stopped = refl
+  mark_beside_all : (a : Answer) → actions_in t (mark_actions a) ≡ []
+  mark_beside_all (answer.Number n) = refl
+  mark_beside_all answer.Closing = refl
+  mark_beside_all answer.Leaving = refl
+  mark_beside_all (answer.Turn told) = refl
+  mark_beside_all (answer.Recv told) = refl
+  mark_beside_all answer.Stopped = refl
 
 -- ---- of any ring that something leads to
 module _ {E : Type 0} (X : Election E) (P : Protocol E (Unit {0}) ℕ) (laws : Laws X.op X.fed P OneOwner) (owner_is : (e : E) → X.owner e ≡ P.output e)
@@ -247,7 +249,7 @@ module _ {E : Type 0} (X : Election E) (P : Protocol E (Unit {0}) ℕ) (laws : L
 
   pub event_rises : (e : Event) (b' : CyclicMachine E) → Happens X b e b' → StepsWithin X b e → stage_of b ≤ stage_of b'
   event_rises (Put p bytes) b' d low = same_words b' (beside_rises b' (participant_going b p) _ (λ v. refl) d)
-  event_rises (Close p) b' d low = same_words b' (beside_rises b' (participant_going b p) _ (λ v. refl) d)
+  event_rises (Ask p asked) b' d low = same_words b' (beside_rises b' (participant_going b p) _ (λ v. refl) d)
   event_rises (Turn p word) b' d low = event_turn_rises b' p word (participant_going b p) refl low d
   event_rises (Recv r) b' d low = same_words b' (reader_rises b' r (slice_get b.receivers r) d)
   event_rises (Stop p) b' d low = same_words b' (beside_rises b' (participant_going b p) _ (λ v. refl) d)
@@ -256,13 +258,14 @@ module _ {E : Type 0} (X : Election E) (P : Protocol E (Unit {0}) ℕ) (laws : L
   event_turn_stays t gone p word None goes a s = refl
   event_turn_stays t gone p word (Some v) goes (answer.Number n) s = refl
   event_turn_stays t gone p word (Some v) goes answer.Closing s = refl
+  event_turn_stays t gone p word (Some v) goes answer.Leaving s = refl
   event_turn_stays t gone p word (Some v) goes (answer.Turn told) s = turn_stays p v (participant_there b p v goes) word t gone told s
   event_turn_stays t gone p word (Some v) goes (answer.Recv told) s = refl
   event_turn_stays t gone p word (Some v) goes answer.Stopped s = refl
 
   pub event_stays : (t : ℕ) → HasGoneOn b t → (e : Event) (a : Answer) (s : ℕ) → actions_in t ((ring_trails_grown X b e a T).actions s) ≡ actions_in t (T.actions s)
   event_stays t gone (Put p bytes) a s = beside_stays t p (put_actions bytes a) T.actions (put_beside_all t bytes a) s
-  event_stays t gone (Close p) a s = beside_stays t p (close_actions a) T.actions (close_beside_all t a) s
+  event_stays t gone (Ask p asked) a s = beside_stays t p (mark_actions a) T.actions (mark_beside_all t a) s
   event_stays t gone (Turn p word) a s = event_turn_stays t gone p word (participant_going b p) refl a s
   event_stays t gone (Recv r) a s = refl
   event_stays t gone (Stop p) a s = refl

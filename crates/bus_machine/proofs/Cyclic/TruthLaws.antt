@@ -3,9 +3,11 @@ use Rattle.std.proofs.Common.{◌≡◌, ◌⊎◌, inl, inr, ℕ, ◌+◌, ◌-
 use Rattle.std.proofs.lemmas.Bool.{leb-false, true≢false}
 use Rattle.bus_register.specs.declared.registers.SenderNo.{SenderNo}
 use Rattle.bus_register.specs.Protocol.{Protocol}
-use Rattle.bus_batch.specs.Batches.{next_of, frame_of}
+use Rattle.bus_batch.specs.Batches.{next_of, frame_of, body_of}
 use Rattle.bus_batch.specs.declared.batches.Phase.{Phase as BatchPhase}
-use Rattle.bus_batch.specs.declared.batches.Phase.TheVariants.{Closing}
+use Rattle.bus_batch.specs.declared.batches.Phase.TheVariants as batch
+use Rattle.bus_batch.specs.declared.messages.Mark.{Mark}
+use Rattle.bus_batch.specs.declared.messages.Mark.TheVariants as mark
 use Rattle.bus_batch.specs.Frames.{Frame, AreFrames, log_words}
 use Rattle.bus_presence.specs.Reclaimers.{behind_of}
 use Rattle.bus_presence.specs.declared.reclaimers.Behind.{Behind}
@@ -13,8 +15,8 @@ use Rattle.bus_presence.specs.declared.pins.Pin.{Pin}
 use Rattle.bus_presence.specs.declared.pins.Pin.TheVariants.{Away, Announcing, Validating, Pinned, Unpinning, Invalidated}
 use Rattle.bus_core.specs.Reusing.Participants.{Due, Pins, Reclaims, Goes, log_from, answer_going}
 use Rattle.bus_core.specs.Reusing.Turns.{Participant, due, op_due, answer_due, answer_of_loss, answer_of_pin, answer_of_reclaim}
-use Rattle.bus_tenure.specs.Core.{Core, Election, log_at, is_empty, is_closing, is_closed, has_room, frame_len}
-use Rattle.bus_tenure.specs.Situations.{Situation, IsClosed, IsIdle, IsSpent, LooksAtStage, Elects, TakesPage, StoresWord, StoresLength, GivesBack, situation_at, situation_of, resting, electing, holding, waits}
+use Rattle.bus_tenure.specs.Core.{Core, Election, log_at, is_empty, is_marking, is_closed, has_room, frame_len}
+use Rattle.bus_tenure.specs.Situations.{Situation, IsClosed, IsIdle, IsSpent, LooksAtStage, Elects, TakesPage, StoresWord, StoresLength, GivesBack, situation_at, situation_of, resting, electing, holding, waits, answer_sent}
 use Rattle.bus_tenure.specs.declared.pages.Page.{Page}
 use Rattle.bus_tenure.specs.declared.phases.Reason.TheVariants.{Sent, FoundEnd, NoRoom}
 use Rattle.bus_tenure.specs.declared.phases.Phase.{Phase}
@@ -25,8 +27,9 @@ use Rattle.bus_world.specs.Bus.{IsLayout, Part, Fits}
 use Rattle.bus_world.specs.Headline.{Action, Elected, Took}
 use Rattle.bus_world.specs.Log.{words_read_from}
 use Rattle.bus_world.specs.CyclicMachines.{CyclicMachine, CyclicTrails, IsKeptCyclic, yard_of, core_in, participant_going}
+use Rattle.bus_world.specs.Telling.{HasDelivered}
 use Rattle.bus_world.specs.Turning.{number_found}
-use Rattle.bus_world.specs.World.{Event, Put, Close, Turn, Recv, Stop}
+use Rattle.bus_world.specs.World.{Event, Put, Ask, Turn, Recv, Stop}
 use Rattle.bus_world.specs.CyclicProtocols.{CyclicProtocol, actions_with, due_actions, going_actions}
 use Rattle.bus_world.specs.declared.events.Answer.{Answer}
 use Rattle.bus_world.proofs.FrameOfBatch.{counted_frame, length-items}
@@ -35,21 +38,21 @@ use Rattle.bus_world.proofs.Places.{got_after}
 use Rattle.bus_world.proofs.CyclicMachineLaws.{IsCyclicLayout, IsLed, due_goes, participant_there}
 use Rattle.bus_world.proofs.Serving.{Serves}
 use Rattle.bus_world.proofs.CyclicProtocolLaws.{HasKept, led_kept, words_read}
-use Rattle.bus_machine.specs.Proved.Cyclic.{OwnedCyclicMachine, LeadTo, IsServedCyclic, log_of}
+use Rattle.bus_machine.specs.Proved.Cyclic.{OwnedCyclicMachine, LeadTo, log_of}
 use Rattle.bus_machine.specs.Proved.Following.{Steps, ring_trails_grown, turn_grown}
 use Rattle.bus_machine.specs.Proved.Happening.{TurnAnswers}
 use Rattle.bus_machine.specs.Proved.Truth.{LossesAreSeen, ParticipantTells, TurnIsTrue, EventIsTrue}
-use Rattle.bus_machine.proofs.Cyclic.CyclicLaws.{layout_served, led, ok, leads_on, event_sizes, kept_at}
+use Rattle.bus_machine.proofs.Cyclic.CyclicLaws.{layout_served, led, leads_on, event_sizes, kept_at}
 use Rattle.bus_machine.proofs.Cyclic.LossLaws.{own_actions, loss_still, ring_seen}
 
 -- a pin parts from one tenure
 unpinning_is : (t u : ℕ) → Unpinning t ≡ Unpinning u → t ≡ u
 unpinning_is t u e = cc
 
--- whose frame is no end mark has messages to send
-some_messages : (ph : BatchPhase) (n : ℕ) → (0 < n) ⊎ (ph ≡ Closing) → is_closing ph ≡ false → 0 < n
+-- whose frame is no mark has messages to send
+some_messages : (ph : BatchPhase) (n : ℕ) → (0 < n) ⊎ ((m : Mark) × (ph ≡ batch.Marking m)) → is_marking ph ≡ false → 0 < n
 some_messages ph n (inl some) e = some
-some_messages ph n (inr closing) e = absurd (true≢false (sym (ap is_closing closing) ∙ e))
+some_messages ph n (inr marking) e = absurd (true≢false (sym (ap is_marking marking.1) ∙ e))
 
 module _ {E : Type 0} (X : Election E) (P : Protocol E (Unit {0}) ℕ) (z : OwnedCyclicMachine E) (s : Serves X P z.ring.layout) (ok : IsLayout z.ring.layout) (two : 2 ≤ z.ring.rows) (T : CyclicTrails) (l : LeadTo X z T) where
   abbrev b : CyclicMachine E
@@ -114,7 +117,7 @@ module _ {E : Type 0} (X : Election E) (P : Protocol E (Unit {0}) ℕ) (z : Owne
         by_tests false false ds = tt
 
     rest_true : True (resting c)
-    rest_true = pick (is_closed c.queue.phase) IsClosed _ (λ _ own. tt) (λ _. pick (is_empty c.queue.messages && cond (is_closing c.queue.phase) false true) IsIdle _ (λ _ own. tt) (λ _. pick (nat_le c.layout.rows c.least) IsSpent LooksAtStage (λ _ own. tt) (λ _. looks)))
+    rest_true = pick (is_closed c.queue.phase) IsClosed _ (λ _ own. tt) (λ _. pick (is_empty c.queue.messages && cond (is_marking c.queue.phase) false true) IsIdle _ (λ _ own. tt) (λ _. pick (nat_le c.layout.rows c.least) IsSpent LooksAtStage (λ _ own. tt) (λ _. looks)))
 
     -- elected
     takes : (t : ℕ) → True (TakesPage t)
@@ -130,21 +133,36 @@ module _ {E : Type 0} (X : Election E) (P : Protocol E (Unit {0}) ℕ) (z : Owne
       delivers : c.phase ≡ phase.Holding t page stored true → True (GivesBack t page Sent)
       delivers is own =
           let fits = subst (Fits (slice_index b.bases) k.V k.frames c) is part.fits in
-          by_closing (is_closing c.queue.phase) refl fits.1.front fits.1.frames_are (some_messages c.queue.phase (length c.queue.messages) fits.0.something)
+          by_phase c.queue.phase refl fits.1.front fits.1.frames_are (some_messages c.queue.phase (length c.queue.messages) fits.0.something)
         where
-          by_closing : (q : Bool) → is_closing c.queue.phase ≡ q → (front : List Frame) → k.frames ≡ front ++ frame_of c.queue t ∷ [] → (is_closing c.queue.phase ≡ false → 0 < length c.queue.messages)
-              → ParticipantTells b p c (actions (GivesBack t page Sent)) (cond q turn.Closed (turn.Delivered t c.queue.first (next_of c.queue - 1)))
-          by_closing true i front e some = tt
-          by_closing false i front e some = record {
+          messages : (front : List Frame) → k.frames ≡ front ++ frame_of c.queue t ∷ [] → 0 < length c.queue.messages
+              → HasDelivered b.layout.senders (log_of b) p t c.queue.first (next_of c.queue - 1)
+          messages front e some = record {
             earlier = front;
             frame = frame_of c.queue t;
             lawful = subst (AreFrames b.layout.senders) e k.kept.sending.log.lawful;
             words_are = ap log_words (sym e) ∙ sym log_read;
             tenure = refl;
             owner = part.sender;
-            some = (let size = length-items c.queue t part.queue in let m = some i in omega arith);
+            some = (let size = length-items c.queue t part.queue in omega arith);
             numbers = counted_frame c.queue t;
-            many = (let size = length-items c.queue t part.queue in let m = some i in omega arith);
+            many = (let size = length-items c.queue t part.queue in omega arith);
+          }
+
+          by_phase : (q : BatchPhase) → c.queue.phase ≡ q → (front : List Frame) → k.frames ≡ front ++ frame_of c.queue t ∷ []
+              → (is_marking c.queue.phase ≡ false → 0 < length c.queue.messages)
+              → ParticipantTells b p c (actions (GivesBack t page Sent)) (answer_sent c.queue t q)
+          by_phase batch.Open i front e some = messages front e (some (ap is_marking i))
+          by_phase batch.Closed i front e some = messages front e (some (ap is_marking i))
+          by_phase (batch.Marking mark.End) i front e some = tt
+          by_phase (batch.Marking mark.Leave) i front e some = record {
+            earlier = front;
+            frame = frame_of c.queue t;
+            lawful = subst (AreFrames b.layout.senders) e k.kept.sending.log.lawful;
+            words_are = ap log_words (sym e) ∙ sym log_read;
+            tenure = refl;
+            owner = part.sender;
+            says = ap (λ q. body_of q c.queue.first c.queue.messages) i;
           }
 
       is_full : c.phase ≡ phase.Holding t page stored false → has_room c page ≡ false → True (GivesBack t page NoRoom)
@@ -216,7 +234,7 @@ module _ {E : Type 0} (X : Election E) (P : Protocol E (Unit {0}) ℕ) (z : Owne
 
   pub event_true : (e : Event) (a : Answer) (z' : OwnedCyclicMachine E) → Steps X z e a z' → EventIsTrue b e a (ring_trails_grown X b e a T)
   event_true (Put p bytes) a z' d = tt
-  event_true (Close p) a z' d = tt
+  event_true (Ask p asked) a z' d = tt
   event_true (Turn p word) a z' d =
       let same = event_sizes X P z.ring z'.ring (Turn p word) d.happens in
       let kept : IsKeptCyclic X z'.ring (ring_trails_grown X b (Turn p word) a T) = kept_at X P z' (subst (Serves X P) (sym same.layout) s) (subst IsLayout (sym same.layout) ok) (subst (λ n. 2 ≤ n) (sym same.rows) two) (ring_trails_grown X b (Turn p word) a T) (leads_on X P z s ok two T l (Turn p word) a z' d) in

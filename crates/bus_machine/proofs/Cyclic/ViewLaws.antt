@@ -1,5 +1,5 @@
 -- What is read from the words of a bus whose rows are used again, and what a new one is made of.
-use Rattle.std.proofs.Common.{◌≡◌, ℕ, ◌+◌, ◌*◌, ◌-◌, ◌<◌, ◌≤◌, Some, [], length, slice_get, slice_index, arith, ◌∙◌}
+use Rattle.std.proofs.Common.{◌≡◌, ℕ, ◌≤◌, Some, length, slice_get, slice_index, arith}
 use Rattle.bus_register.specs.Protocol.{Protocol}
 use Rattle.bus_deliverylog.specs.Receiving.{Receiving}
 use Rattle.bus_core.specs.Reusing.Participants.{log_from}

@@ -4,10 +4,10 @@ use Rattle.bus_deliverylog.specs.Receiving.{Receiving}
 use Rattle.bus_deliverylog.specs.declared.receiving.RecvTurn.{RecvTurn}
 use Rattle.bus_core.specs.Reusing.Turns.{Participant, due, op_due, answer_due, queue_seen}
 use Rattle.bus_tenure.specs.Core.{Core, Election}
-use Rattle.bus_world.specs.Playing.{PutGives, CloseGives, StopGives}
-use Rattle.bus_world.specs.CyclicMachines.{CyclicMachine, participant_going, ring_after, participant_put, participant_closed, with_participant}
+use Rattle.bus_world.specs.Playing.{PutGives, CloseGives, StopGives, asked_answer}
+use Rattle.bus_world.specs.CyclicMachines.{CyclicMachine, participant_going, ring_after, participant_put, participant_marked, with_participant}
 use Rattle.bus_world.specs.Turning.{number_found}
-use Rattle.bus_world.specs.World.{Event, Put, Close, Turn, Recv, Stop, RecvDoes}
+use Rattle.bus_world.specs.World.{Event, Put, Ask, Turn, Recv, Stop, RecvDoes}
 use Rattle.bus_world.specs.declared.events.Answer.{Answer}
 use Rattle.bus_world.specs.declared.events.Answer.TheVariants as answer
 
@@ -24,13 +24,13 @@ ReaderDoes old r (Some v) new = (next : Receiving) × (turn : RecvTurn) × RecvD
 -- A stop takes no step, and changes nothing but who has stopped; and no other event changes that.
 abbrev pub Happens : {E : Type 0} → Election E → CyclicMachine E → Event → CyclicMachine E → Type 0
 Happens X old (Put s bytes) new = ParticipantDoes old (participant_going old s) (λ v. with_participant old s (participant_put v bytes)) new
-Happens X old (Close s) new = ParticipantDoes old (participant_going old s) (λ v. with_participant old s (participant_closed v)) new
+Happens X old (Ask s mark) new = ParticipantDoes old (participant_going old s) (λ v. with_participant old s (participant_marked v mark)) new
 Happens X old (Turn s word) new = ParticipantDoes old (participant_going old s) (λ v. ring_after X old s v (due X v) word) new
 Happens X old (Recv r) new = ReaderDoes old r (slice_get old.receivers r) new
 Happens X old (Stop s) new = ParticipantDoes old (participant_going old s) (λ v. record old { stopped = slice_set old.stopped s true }) new
 
 -- ---- what is answered
--- a sender as a put and a close find it: while it pins a tenure, its batch is on its way
+-- a sender as a put, a close and a leave find it: while it pins a tenure, its batch is on its way
 abbrev pub core_found : {E : Type 0} → Option (Participant E) → Option (Core E)
 core_found None = None
 core_found (Some v) = Some (record v.core { queue = queue_seen v.core.queue v.pin })
@@ -48,7 +48,7 @@ RecvAnswers old r (Some v) a new = (next : Receiving) × (turn : RecvTurn) × Re
 -- no event of a sender that has stopped is answered
 abbrev pub Answers : {E : Type 0} → Election E → CyclicMachine E → Event → Answer → CyclicMachine E → Type 0
 Answers X old (Put s bytes) a new = (number : ℕ) × PutGives (core_found (participant_going old s)) (length bytes) number × (a ≡ answer.Number number)
-Answers X old (Close s) a new = CloseGives (core_found (participant_going old s)) × (a ≡ answer.Closing)
+Answers X old (Ask s mark) a new = CloseGives (core_found (participant_going old s)) × (a ≡ asked_answer mark)
 Answers X old (Turn s word) a new = TurnAnswers X old.words (participant_going old s) word a
 Answers X old (Recv r) a new = RecvAnswers old r (slice_get old.receivers r) a new
 Answers X old (Stop s) a new = StopGives (core_found (participant_going old s)) × (a ≡ answer.Stopped)

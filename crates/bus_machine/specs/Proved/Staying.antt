@@ -1,7 +1,7 @@
 -- What stays of a tenure whose row has gone on to a later one.
-use Rattle.std.specs.Prelude.{◌≢◌, ℕ, ◌+◌, ◌/◌, ◌≤◌, Bool, false, Some, None, List, filter, slice_index, ◌==◌}
+use Rattle.std.specs.Prelude.{ℕ, ◌+◌, ◌/◌, ◌≤◌, Bool, false, Some, None, List, filter, slice_index, ◌==◌}
 use Rattle.bus_tenure.specs.Core.{stage_at}
-use Rattle.bus_world.specs.Headline.{Action, HasPut, HasClosed, Stepped, Announced, Elected, Took}
+use Rattle.bus_world.specs.Headline.{Action, HasPut, HasMarked, Stepped, Announced, Elected, Took}
 use Rattle.bus_world.specs.CyclicMachines.{CyclicMachine}
 
 -- twice the tenure that is open, and one more while its page is out
@@ -15,7 +15,7 @@ HasGoneOn b t = t + b.rows ≤ stage_of b / 2
 -- the action is a step in this tenure: one of its election, the one that takes its page, or one of who holds that page
 abbrev pub is_in : ℕ → Action → Bool
 is_in t (HasPut number bytes) = false
-is_in t HasClosed = false
+is_in t (HasMarked mark) = false
 is_in t (Stepped None k found chose answer) = false
 is_in t (Stepped (Some u) k found chose answer) = u == t
 

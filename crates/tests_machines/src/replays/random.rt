@@ -10,11 +10,13 @@ use bus_tenure::Turn;
 use bus_world::{Answer, Event, Shape};
 use std::process::Abort;
 
-/// What was put: for each sender the numbers that its messages carry, in 16 digits.
+/// What was put: for each sender the numbers that its messages carry, in 16 digits, and whether it
+/// has asked to leave.
 #[derive(Drop)]
 struct Sheet {
     puts: [[u64; 64]; 8],
     many: [usize; 8],
+    leaves: [bool; 8],
 }
 
 /// A fixed sequence of numbers (Knuth's MMIX generator).
@@ -73,6 +75,11 @@ fn push_line<R: Abort + AllocGlobal>(
         if world.step(&Event::Close(sender)).is_ok() {
             writeln!(script, "close {sender}").expect(rt, "memory");
         }
+    } else if choice < 29 {
+        if world.step(&Event::Leave(sender)).is_ok() {
+            sheet.leaves[at] = true;
+            writeln!(script, "leave {sender}").expect(rt, "memory");
+        }
     } else if choice < 85 {
         let times = dice.below(40).wrapping_mul(dice.below(3)).wrapping_add(1);
         let word = (dice.below(0x10_0000) % 0x10_0000) as u32;
@@ -101,6 +108,7 @@ fn push_line<R: Abort + AllocGlobal>(
 struct Said {
     items: u64,
     of: [usize; 8],
+    left: [bool; 8],
     ended: bool,
     receivers: u64,
     given: u64,
@@ -124,6 +132,10 @@ fn check_item<R: Abort + AllocGlobal>(
     let number = next_number(rt, words);
     let at = (sender % 8) as usize;
     assert!(rt;
+        !said.left[at],
+        "nothing of a sender follows its leave mark"
+    );
+    assert!(rt;
         sender < 8 && number == said.of[at] as u64,
         "none skipped, none repeated"
     );
@@ -135,6 +147,23 @@ fn check_item<R: Abort + AllocGlobal>(
     assert_eq!(rt; words.next_word(), Some(put.as_bytes()), "as it was put");
     said.of[at] = said.of[at].wrapping_add(1);
     said.items = said.items.wrapping_add(1);
+}
+
+/// A sender that has left: once, after it had asked to, and behind all that it had put.
+fn check_leave(rt: &impl Abort, words: &mut Words<'_>, sheet: &Sheet, said: &mut Said) {
+    assert_eq!(rt; words.next_word(), Some(b"leave".as_slice()));
+    assert!(rt; !said.ended, "nothing follows the end");
+    let sender = next_number(rt, words);
+    let at = (sender % 8) as usize;
+    assert!(rt; sender < 8 && sheet.leaves[at], "it had asked to leave");
+    assert!(rt; !said.left[at], "it leaves once");
+    assert_eq!(rt;
+        said.of[at],
+        sheet.many[at],
+        "all that it had put stands before"
+    );
+    assert!(rt; words.next_word().is_none());
+    said.left[at] = true;
 }
 
 /// What a receiver was given: no more than the order has, and the end only after all.
@@ -149,11 +178,27 @@ fn check_given(rt: &impl Abort, words: &mut Words<'_>, said: &mut Said) {
     said.given = said.given.wrapping_add(count);
 }
 
-/// Looks at each closing line. Gives how many items the order has, and how many were given.
-fn check<R: Abort + AllocGlobal>(rt: &R, shape: Shape, sheet: &Sheet, text: &[u8]) -> (u64, u64) {
+/// How many of these are so.
+fn count(all: &[bool; 8]) -> u64 {
+    let mut many: u64 = 0;
+    for one in all.iter() {
+        many = many.wrapping_add(u64::from(*one));
+    }
+    many
+}
+
+/// Looks at each closing line. Gives how many items the order has, how many were given, and how
+/// many senders have left.
+fn check<R: Abort + AllocGlobal>(
+    rt: &R,
+    shape: Shape,
+    sheet: &Sheet,
+    text: &[u8],
+) -> (u64, u64, u64) {
     let mut said = Said {
         items: 0,
         of: [0; 8],
+        left: [false; 8],
         ended: false,
         receivers: 0,
         given: 0,
@@ -177,6 +222,8 @@ fn check<R: Abort + AllocGlobal>(rt: &R, shape: Shape, sheet: &Sheet, text: &[u8
             assert!(rt; owners <= shape.rows, "one owner for each tenure");
         } else if line.bytes == b"order end".as_slice() {
             said.ended = true;
+        } else if line.bytes.starts_with(b"order leave".as_slice()) {
+            check_leave(rt, &mut words, sheet, &mut said);
         } else if first == b"order".as_slice() {
             check_item(rt, &mut words, sheet, &mut said);
         } else if first == b"given".as_slice() {
@@ -184,7 +231,7 @@ fn check<R: Abort + AllocGlobal>(rt: &R, shape: Shape, sheet: &Sheet, text: &[u8
         }
     }
     assert_eq!(rt; said.receivers, shape.receivers, "a line for each receiver");
-    (said.items, said.given)
+    (said.items, said.given, count(&said.left))
 }
 
 #[test]
@@ -192,6 +239,7 @@ fn random_scripts(rt: HostRuntime) {
     let mut dice = Dice { state: 1 };
     let mut items: u64 = 0;
     let mut given: u64 = 0;
+    let mut left: u64 = 0;
     for _ in 0..500 {
         let shape = shape(&mut dice);
         let Ok(mut world) = World::new(rt.alloc(), shape) else {
@@ -200,6 +248,7 @@ fn random_scripts(rt: HostRuntime) {
         let mut sheet = Sheet {
             puts: [[0; 64]; 8],
             many: [0; 8],
+            leaves: [false; 8],
         };
         let Shape {
             senders,
@@ -216,7 +265,8 @@ fn random_scripts(rt: HostRuntime) {
         }
         let answer = answer_to::<ThreeWord>(rt.alloc(), script.as_bytes()).expect(&rt, "memory");
         assert_eq!(rt; answer.outcome, Outcome::Done, "of {script}");
-        let (ordered, received) = check(&rt, shape, &sheet, answer.text.as_bytes());
+        let (ordered, received, gone) = check(&rt, shape, &sheet, answer.text.as_bytes());
+        left = left.wrapping_add(gone);
         items = items.wrapping_add(ordered);
         given = given.wrapping_add(received);
     }
@@ -225,4 +275,5 @@ fn random_scripts(rt: HostRuntime) {
         given > 1000,
         "receivers are given something: {given} items"
     );
+    assert!(rt; left > 100, "some leave: {left} leave marks");
 }

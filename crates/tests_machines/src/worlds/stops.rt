@@ -36,7 +36,7 @@ fn hears(rt: &impl Abort, world: &mut World<ThreeWord>, messages: &[u8]) {
                 heard += 1;
             }
             RecvTurn::Empty => break,
-            RecvTurn::End => panic!(rt; "nobody closes"),
+            RecvTurn::Leave(_) | RecvTurn::End => panic!(rt; "nobody leaves or closes"),
         }
     }
     assert_eq!(rt; heard, messages.len());

@@ -67,6 +67,59 @@ fn numbers_go_on(rt: HostRuntime) {
     goes_on::<ThreeWord, HostRuntime>(&rt);
 }
 
+/// What waits at a sender is put into the batch of the next one, which is answered so.
+fn carries<Q: Ratifier + Drop>(
+    rt: &impl Abort,
+    from: &Sender<Q>,
+    next: &mut Sender<Q>,
+    want: Result<(), PutFault>,
+)
+    ensures { table_of next.new ≡ table_of next.old }
+{
+    assert_eq!(rt; from.carry_to(next), want);
+}
+
+/// One message waits, and it is this byte.
+fn waits<Q: Ratifier + Drop>(rt: &impl Abort, sender: &Sender<Q>, byte: u8) {
+    let waiting = sender.waiting();
+    assert_eq!(rt; waiting.len(), 1);
+    assert_eq!(rt; waiting[0].as_slice(), [byte].as_slice());
+}
+
+/// Two senders and a receiver, with a row for each of four tenures.
+const TWO: Shape = Shape {
+    senders: 2,
+    receivers: 1,
+    rounds: 1,
+    rows: 4,
+    log_words: 64,
+};
+
+/// A b that sender 0 had not sent when the order was closed goes on in the next sitting, with the
+/// number that it had.
+fn carries_on<Q: Ratifier + Drop, R: Abort + AllocGlobal>(rt: &R) {
+    let (bus, mut zero, mut one, tap) = pair_of(rt, made::<Q>(rt, rt.alloc(), TWO));
+    puts(rt, &mut zero, b"a", Ok(0));
+    delivers(rt, &bus, &mut zero, 0, 0);
+    puts(rt, &mut zero, b"b", Ok(1));
+    closes(rt, &mut one, Ok(()));
+    ends_in(rt, &bus, &mut one, 99, Turn::Own { tenure: 1 });
+    ends_in(rt, &bus, &mut one, 99, Turn::Closed);
+    waits(rt, &zero, b'b');
+    let page = *left(rt, bus, tap).page();
+    let next = Bus::after(rt.alloc(), TWO, &page).expect(rt, "memory");
+    let (bus, mut next_zero, _one, tap) = pair_of::<Q>(rt, next);
+    carries(rt, &zero, &mut next_zero, Ok(()));
+    waits(rt, &next_zero, b'b');
+    delivers(rt, &bus, &mut next_zero, 0, 1);
+    has_the_next(rt, &left(rt, bus, tap));
+}
+
+#[test]
+fn what_was_not_sent_goes_on(rt: HostRuntime) {
+    carries_on::<ThreeWord, HostRuntime>(&rt);
+}
+
 /// A bus after this page is refused so, or made.
 fn refuses_after<Q: Ratifier + Drop, R: Abort>(
     rt: &R,
@@ -82,12 +135,13 @@ fn refuses_after<Q: Ratifier + Drop, R: Abort>(
     assert_eq!(rt; Bus::<Q>::cyclic(alloc, rows, Some(page)).err(), want);
 }
 
-/// The page of an ended order whose sender 63 has this next number.
+/// The page of an ended order that all have left, and whose sender 63 has this next number.
 fn page_with(next: u64) -> Page {
     let mut numbers = [0; 64];
     numbers[63] = next;
     Page {
         next: numbers,
+        left: [true; 64],
         ended: true,
         tenures: 1,
         words: 2,

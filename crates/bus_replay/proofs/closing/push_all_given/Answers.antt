@@ -8,7 +8,7 @@ pub loop-receiver-preserved : goal.loop-receiver-preserved
 loop-receiver-preserved g c trails reached =
     one_given (λ r. order_given (trails.heard r)) (length c.args.bus.now.receivers) c.loop-receiver.receiver
     (order_held c.in_ok-given.given) (string_bytes c.loop-receiver.text) (string_bytes c.push_given.new.text) _ (search rules)
-    (c.in_ok-given.ensures trails reached) c.in_ok-push_given.ensures (c.loop-receiver.invariant trails reached)
+    (c.in_ok-given.ensures.answered trails reached) c.in_ok-push_given.ensures (c.loop-receiver.invariant trails reached)
 
 pub returns : goal.returns
 returns g c trails reached =

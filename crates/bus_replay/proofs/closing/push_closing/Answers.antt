@@ -8,7 +8,7 @@ use Rattle.bus_replay.proofs.closing.push_closing.Goals as goal
 pub returns : goal.returns
 returns g c =
     let X = election_with g.Q.Machine.kind_of g.Q.Machine.op g.Q.Machine.fed g.Q.Ratifier.protocol in
-    let read = c.in_ok-order.ensures in
+    let read = c.in_ok-order.ensures.spells in
     let order = order_held c.in_ok-order.order in
     on_done c.push_all_given.result _ _ c.push_all_given.ensures
     (λ all. closes X g.Q.Ratifier.protocol c.args.bus.now (string_bytes c.args.text.now) (string_bytes c.push_order.new.text)

@@ -29,3 +29,13 @@ loop-place-preserved c = λ order owners spells. one_more_fair (IsFair order) c.
 
 pub returns-clause-ok : goal.returns-clause-ok
 returns-clause-ok c = λ order owners spells. subst (All (IsFair order)) (take_all c.loop-place.place c.args.heards.now c.loop-place-test.false) (c.loop-place.invariant order owners spells)
+
+pub returns-in-Some-first_leaver-clause-fault : goal.returns-in-Some-first_leaver-clause-fault
+returns-in-Some-first_leaver-clause-fault c = λ order owners spells. (
+  subst (All (IsFair order)) (take_all c.loop-place.place c.args.heards.now c.loop-place-test.false) (c.loop-place.invariant order owners spells),
+  c.in-Some-first_leaver.ensures.some.0,
+  c.in-Some-first_leaver.ensures.some.1 order owners spells,
+)
+
+pub returns-clause-stay : goal.returns-clause-stay
+returns-clause-stay c = c.first_leaver.ensures.none c.in_default-first_leaver.is

@@ -114,6 +114,7 @@ returns-clause-report g c =
                 let has_told = still_told s many known left.log (subst (λ n. HasTold n many known) told.1 told.2) c.in_ok-ended.ensures.front in
                 carries (of_sender s order) many k item (told_all s many left.log left.senders order owners has_told spells (sends s lt)) at;
             closed = c.in_ok-ended.ensures.closed order owners spells;
+            stay = c.in_ok-audit.ensures.stay order owners spells;
             fair = fair;
             all = all_counted left.senders left.log order owners _ (subst (λ n. n ≤ MOST_SENDERS) (sym senders_are) c.requires.senders) spells c.in_ok-first.ensures.summed fair;
           };

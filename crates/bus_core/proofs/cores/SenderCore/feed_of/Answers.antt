@@ -6,6 +6,11 @@ use Rattle.bus_core.proofs.Kept.{keeps_line, Keeps}
 use Rattle.bus_core.proofs.Reusing.Laws.{elections_keep}
 use Rattle.bus_core.proofs.cores.SenderCore.feed_of.Goals as goal
 
+pub feed_parts-requires-clause-due : goal.feed_parts-requires-clause-due
+feed_parts-requires-clause-due g c =
+    let X = election_with g.Q.Machine.kind_of g.Q.Machine.op g.Q.Machine.fed g.Q.Ratifier.protocol in
+    subst (λ y. IsSome ((line_now X y).op c.args.word)) (sym c.self.view_is) c.requires.due
+
 pub invariant_of-self : goal.invariant_of-self
 invariant_of-self g c =
     let P = g.Q.Ratifier.protocol in

@@ -1,4 +1,4 @@
-use Rattle.std.proofs.Common.{false, true, sym, ◌∙◌, ap, subst}
+use Rattle.std.proofs.Common.{sym, ◌∙◌, ap, subst}
 use Rattle.std.proofs.lemmas.Bool.{true≢false}
 use Rattle.bus_tenure.specs.Elections.{Elector, election_with, elections}
 use Rattle.bus_tenure.specs.Seen.{HoldsPublished}

@@ -17,4 +17,5 @@ returns c =
       words = c.page-page.ensures.words;
       tenures = ap (λ p. p.tenures) c.page-page.ensures.page;
       ended = ap (λ p. p.ended) c.page-page.ensures.page;
+      gone = λ k below. c.page-page.ensures.left k s.0 s.1 below s.2;
     }

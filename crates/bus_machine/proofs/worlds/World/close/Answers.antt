@@ -2,7 +2,8 @@ use Rattle.std.proofs.Common.{subst}
 use Rattle.std.specs.Prelude.{OnOk}
 use Rattle.bus_tenure.specs.Elections.{elections, election_with}
 use Rattle.bus_machine.proofs.Served.{served}
-use Rattle.bus_world.specs.World.{Close}
+use Rattle.bus_batch.specs.declared.messages.Mark.TheVariants.{End}
+use Rattle.bus_world.specs.World.{Ask}
 use Rattle.bus_world.specs.declared.events.Answer.TheVariants as answer
 use Rattle.bus_machine.proofs.Calls.{answers}
 use Rattle.bus_machine.specs.Playing.{Answers}
@@ -16,5 +17,5 @@ returns-clause-answered g c =
     let shape = c.self.inside.shape in
     let R = elections P shape.rounds in
     let s = served g.Q.Machine.kind_of g.Q.Machine.op g.Q.Machine.fed P g.met.Q.Machine.names_each_step g.met.Q.Ratifier.own_kinds shape (c.election_is_lawful.ensures.lawful.laws shape.rounds) c.self.inside.reuse in
-    subst (λ n. OnOk c.close_at.result (Answers X P c.args.self.now (Close n) answer.Closing c.close_at.new.self)) c.from.ensures
-    (unit_more c.close_at.result _ _ c.close_at.ensures.happens (λ h. answers X P R _ s c.self.invariant c.args.self.now c.self.view_is (Close c.from.result) answer.Closing c.close_at.new.self h tt tt))
+    subst (λ n. OnOk c.mark_at.result (Answers X P c.args.self.now (Ask n End) answer.Closing c.mark_at.new.self)) c.from.ensures
+    (unit_more c.mark_at.result _ _ c.mark_at.ensures.happens (λ h. answers X P R _ s c.self.invariant c.args.self.now c.self.view_is (Ask c.from.result End) answer.Closing c.mark_at.new.self h tt tt))

@@ -28,8 +28,8 @@ slice_bounds-read_front-end g c =
     let size = length-take c.place-place.result c.log.result.now in
     omega arith
 
-pub returns-in-Ok : goal.returns-in-Ok
-returns-in-Ok g c trails leads =
+pub returns-in-Ok-clause-answered : goal.returns-in-Ok-clause-answered
+returns-in-Ok-clause-answered g c trails leads =
     let P = g.Q.Ratifier.protocol in
     let X = election_with g.Q.Machine.kind_of g.Q.Machine.op g.Q.Machine.fed P in
     let shape = c.self.inside.shape in
