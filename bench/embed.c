@@ -263,7 +263,7 @@ static void two_sittings(bool again, bool then) {
     EXPECT(left.ended, true);
 }
 
-/* Of the growths of memory that follow, this one is refused, counted from 1; 0 where none is, or it was. */
+/* Of the growths of memory that follow this one is refused, counted from 1; 0 where none is. */
 static long refused;
 
 void *__real_malloc(size_t size);
@@ -279,8 +279,9 @@ void *__wrap_realloc(void *old, size_t size) {
     return refused > 0 && --refused == 0 ? NULL : __real_realloc(old, size);
 }
 
-/* Each growth of memory for a bus, or for one after this sitting, is refused in turn: then none is made, and all handles stay empty.
-   One that is refused may be made good by a smaller one: then the bus is there. */
+/* Each growth of memory for a bus, or for one after this sitting, is refused in turn: then none is
+   made, and all handles stay empty. One that is refused may be made good by a smaller one: then
+   the bus is there. */
 static void no_memory(bool again, const kioskbasil_left *left) {
     kioskbasil_sender s[3] = {KIOSKBASIL_NONE};
     kioskbasil_receiver r[2] = {KIOSKBASIL_NONE};
@@ -290,11 +291,16 @@ static void no_memory(bool again, const kioskbasil_left *left) {
     long many = 0, none = 0;
     for (bool all = false; !all; many++) {
         refused = many + 1;
-        code = left ? kioskbasil_open_after(&sizes, left, s, 3, r, 2) : kioskbasil_open(&sizes, s, 3, r, 2);
+        code = left ? kioskbasil_open_after(&sizes, left, s, 3, r, 2)
+                    : kioskbasil_open(&sizes, s, 3, r, 2);
         all = refused > 0;
         refused = 0;
-        if (code == KIOSKBASIL_OK) EXPECT(kioskbasil_end(s, 3, r, 2, NULL, 0, &over), KIOSKBASIL_OK);
-        else none++, EXPECT(code, KIOSKBASIL_NO_MEMORY);
+        if (code == KIOSKBASIL_OK) {
+            EXPECT(kioskbasil_end(s, 3, r, 2, NULL, 0, &over), KIOSKBASIL_OK);
+        } else {
+            none++;
+            EXPECT(code, KIOSKBASIL_NO_MEMORY);
+        }
         EXPECT(s[0].live + s[1].live + s[2].live + r[0].live + r[1].live, 0);
     }
     EXPECT(code, KIOSKBASIL_OK);
@@ -338,7 +344,11 @@ static void leaving(bool again) {
     uint32_t code, said = 0, leaves = 0;
     while ((code = kioskbasil_hear_once(&r[1], &heard)) != KIOSKBASIL_END) {
         if (code == KIOSKBASIL_ITEM) EXPECT(heard.item.sender, said++);
-        if (code == KIOSKBASIL_LEAVE) leaves++, EXPECT(heard.owner, 0), EXPECT(heard.tenure, 0), EXPECT(said, 1);
+        if (code != KIOSKBASIL_LEAVE) continue;
+        leaves++;
+        EXPECT(heard.owner, 0);
+        EXPECT(heard.tenure, 0);
+        EXPECT(said, 1);
     }
     EXPECT(said, 2);
     EXPECT(leaves, 1);

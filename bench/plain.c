@@ -14,7 +14,8 @@ struct row { u64 announced[64], fallback[6]; struct round round[6][8]; };
 struct page { u64 next[64], ended, words; } home;
 struct sender {
     char *messages[16]; u64 len[16], count, first, least, tenure, stored, words;
-    int closing, leaving, closed, stopped, busy, phase, at, bit, spelled, candidate, round, value, j;
+    int closing, leaving, closed, stopped, busy, phase, at, bit, spelled, candidate, round, value;
+    int j;
     int own_votes, published, lost, withdrawn;
     struct page page; u64 frame[129], presence, asked, cleared;
 } S[64];

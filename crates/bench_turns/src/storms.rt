@@ -424,8 +424,8 @@ fn have_heard<B: OfBus>(
     Ok(())
 }
 
-/// Who has left had asked to, and has one leave mark in the log, behind which it has no item. It was
-/// told so, unless it has the page.
+/// Who has left had asked to, and has one leave mark in the log, behind which it has no item. It
+/// was told so, unless it has the page.
 fn have_left<B: OfBus>(read: &LogRead, tellers: &[Teller<B>]) -> anyhow::Result<()> {
     let left = read.order.left.as_slice();
     for teller in tellers {

@@ -21,7 +21,7 @@ pub enum AuditFault {
     Left { sender: u64 },
 }
 
-/// Holds what each receiver noted against what the bus left behind, from which nobody may have left.
+/// Holds what each receiver noted against what the bus left behind. Nobody may have left.
 pub fn audit(ended: &Ended, heards: &[Heard]) -> Result<(), AuditFault>
     ensures ok { OnOk result (OfOrder ended.now (λ order. All (IsFair order) heards.now)) }
     ensures stay { OnOk result (OfOrder ended.now AllStay) }

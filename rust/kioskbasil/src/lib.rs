@@ -52,10 +52,11 @@ pub struct Shape {
     pub receivers: usize,
     /// Rounds of one binary decision: 1 to 8. Any number is right.
     pub rounds: u64,
-    /// Tenures of the sitting: 1 to 256; where rows are used again 2 to 8. A batch takes one, a close and a leave too.
+    /// Tenures of the sitting: 1 to 256; where rows are used again 2 to 8. A batch takes one, a
+    /// close and a leave too.
     pub rows: u64,
-    /// Words of the whole order: 16 to 65,536. A batch takes 1, a message 1 and one for each 8 bytes begun, a close
-    /// or a leave 2.
+    /// Words of the whole order: 16 to 65,536. A batch takes 1, a message 1 and one for each 8
+    /// bytes begun, a close or a leave 2.
     pub log_words: u64,
     /// Rows of words are used again, by up to 2^40 tenures.
     pub again: bool,

@@ -77,8 +77,9 @@ const BATCH: usize = 32;
 
 /// A receiver of a bus. It may go to another thread, and one thread at a time has it.
 ///
-/// `next_item` and `try_item` take up to 32 items out of the bus at once, and give them one by one. They pass over that
-/// a sender has left: whoever uses `turn` alone is told each at its place, and `Ended` has all.
+/// `next_item` and `try_item` take up to 32 items out of the bus at once, and give them one by one.
+/// They pass over that a sender has left: whoever uses `turn` alone is told each at its place, and
+/// `Ended` has all.
 pub struct Receiver {
     raw: raw::RawReceiver,
     ready: [RawItem; BATCH],
@@ -184,7 +185,8 @@ impl Receiver {
         }
     }
 
-    /// The next item that is there; None where there is nothing more by now, or for good. Waits for nothing.
+    /// The next item that is there; None where there is nothing more by now, or for good. Waits for
+    /// nothing.
     pub fn try_item(&mut self) -> Option<Item> {
         if self.given == self.many && !self.ended {
             self.fill();

@@ -28,7 +28,8 @@ pub enum Turn {
     Closed,
     /// All tenures are spent. The batch is kept.
     Spent,
-    /// Where rows are used again: this sender keeps the row of this tenure, which is to be used next.
+    /// Where rows are used again: this sender keeps the row of this tenure, which is to be used
+    /// next.
     Behind { tenure: u64, sender: u8 },
 }
 
@@ -180,9 +181,9 @@ impl Sender {
         }
     }
 
-    /// Lets a leave mark wait, which says in the order that this sender has left, once it is sent: then `send` gives
-    /// `Left`, and nothing of this sender follows. The others go on, and in a next sitting it is there again. Takes no
-    /// step.
+    /// Lets a leave mark wait, which says in the order that this sender has left, once it is sent:
+    /// then `send` gives `Left`, and nothing of this sender follows. The others go on, and in a next
+    /// sitting it is there again. Takes no step.
     ///
     /// ```
     /// use kioskbasil::{Bus, CloseError, Heard, PutError, Shape, Turn};
@@ -224,7 +225,8 @@ impl Sender {
         Turn::of(code, told)
     }
 
-    /// Turns until Idle, Delivered, Left, Full, Closed or Spent. It backs off while another sender has to go on first.
+    /// Turns until Idle, Delivered, Left, Full, Closed or Spent. It backs off while another sender
+    /// has to go on first.
     #[must_use = "Full and Spent send nothing"]
     pub fn send(&mut self) -> Turn {
         let mut back_off = BackOff::default();
