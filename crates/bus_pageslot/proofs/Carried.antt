@@ -14,7 +14,7 @@ use Rattle.bus_deliverylog.specs.Orders.{of_sender}
 use Rattle.bus_core.specs.Keeping.{new_sender, new_reuse}
 use Rattle.bus_core.specs.Senders.{Sender}
 use Rattle.bus_core.specs.Reusing.Keeping.{held_of}
-use Rattle.bus_machine.specs.Machine.{Machine, Trails, base_of, stage_of}
+use Rattle.bus_machine.specs.Machine.{Machine, Trails, stage_of}
 use Rattle.bus_machine.specs.Promise.{IsPagedBy}
 use Rattle.bus_tenure.specs.Core.{Core, Election, Layout}
 use Rattle.bus_tenure.specs.declared.pages.Page.{Page}

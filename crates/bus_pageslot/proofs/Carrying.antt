@@ -1,14 +1,11 @@
 -- What waits with one sender, put into the batch of another.
 use Rattle.std.proofs.Common.{◌≡◌, ℕ, ◌+◌, ◌<◌, ◌≤◌, true, false, get_or, take, drop, List, [], ◌∷◌, ◌++◌, length}
 use Rattle.std.proofs.Common.{arith, refl, sym, ◌∙◌, ap, subst, append_assoc, inl, inr}
-use Rattle.std.specs.Prelude.{◌⊎◌}
 use Rattle.std.proofs.lemmas.List.{append-nil, length-append, take_more, take-append-drop}
 use Rattle.bus_batch.specs.Batches.{Pending, next_of, IsShut, IsPutFault}
-use Rattle.bus_batch.specs.declared.batches.Phase.{Phase}
 use Rattle.bus_batch.specs.declared.batches.Phase.TheVariants.{Open, Marking, Closed}
 use Rattle.bus_batch.specs.declared.batches.PutFault.{PutFault}
 use Rattle.bus_batch.specs.declared.batches.PutFault.TheVariants as put
-use Rattle.bus_batch.specs.declared.messages.Mark.{Mark}
 use Rattle.bus_world.specs.Headline.{HasPut}
 use Rattle.bus_automaton.specs.Processes.{Process}
 use Rattle.bus_automaton.specs.Lawful.{ProcessLaws}

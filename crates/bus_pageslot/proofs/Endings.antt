@@ -1,10 +1,11 @@
 -- What the close of a table tells of the bus that it was.
-use Rattle.std.proofs.Common.{◌≡◌, ◌≢◌, ℕ, zero, suc, ◌+◌, ◌%◌, ◌≤◌, true, false, Option, Some, None, is_some, List, [], ◌∷◌, ◌++◌, length, map, slice_index, arith, refl, sym, ◌∙◌, ap, subst}
+use Rattle.std.proofs.Common.{◌≡◌, ◌≢◌, ℕ, zero, suc, ◌+◌, ◌%◌, ◌<◌, ◌≤◌, true, false, Option, Some, None, is_some, List, [], ◌∷◌, ◌++◌, length, slice_get, slice_index, arith, refl, sym, ◌∙◌, ap, subst}
 use mathlib.Core.Option.{some, none, some-injective, some-ne-none}
 use mathlib.Core.Option as maybe
 use lib.ListN.{get_elem?}
 use Rattle.std.proofs.lemmas.Bool.{true≢false}
 use Rattle.atomic_table.specs.Table.{Final, Seen}
+use Rattle.bus_register.specs.declared.registers.SenderNo.{SenderNo}
 use Rattle.bus_batch.specs.Frames.{Order, Spells, has_gone}
 use Rattle.bus_deliverylog.specs.Orders.{of_sender}
 use Rattle.bus_tenure.specs.declared.pages.Page.{Page}
@@ -45,9 +46,12 @@ slot_is None page e = absurd (some-ne-none (Some page) (sym e))
 slot_is (Some other) page e = some-injective (Some other) (Some page) e
 
 module _ {C : Type 0} (P : Process C) (A : Automaton C) (L : AutomatonLaws P A) where
-  -- the page at home knows the frames
-  pub outcome_of : (v : View C) (log : List ℕ) (page : Page) → IsLeft P A v log (Some page) → IsOutcome record { senders = A.table_layout.senders; bases = A.bases; log = log; page = page }
-  outcome_of v log page h =
+  -- the page at home knows the frames, where its tenures are above theirs
+  pub outcome_of : (v : View C) (log : List ℕ) (page : Page) → IsLeft P A v log (Some page)
+      → ((order : Order) (owners : List (ℕ × SenderNo)) → Spells A.table_layout.senders log order owners
+      → (place t : ℕ) (o : SenderNo) → slice_get owners place ≡ Some (t, o) → t < page.tenures)
+      → IsOutcome record { senders = A.table_layout.senders; bases = A.bases; log = log; page = page }
+  outcome_of v log page h above =
       let z = h.shown.state in
       let q = L.promised z h.shown.reached in
       let log_is : log_in A z ≡ log = ap (λ (ws : List ℕ). log_below A.table_layout ws) (sym h.shown.words) ∙ h.log_is in
@@ -55,15 +59,17 @@ module _ {C : Type 0} (P : Process C) (A : Automaton C) (L : AutomatonLaws P A) 
       let home : A.home z ≡ Some page = slot_is (A.home z) page (some-injective _ _ (ap (λ (hs : List (maybe.Option (Option Page))). get_elem? hs 0) same)) in
       let s = q.spelled in
       let knows = (L.page_knows z page s.frames h.shown.reached home s.lawful s.words_are).1 in
+      let spells = subst (λ ws. Spells A.table_layout.senders ws q.order q.owners) log_is s in
       record {
         order = q.order;
         owners = q.owners;
-        spells = subst (λ ws. Spells A.table_layout.senders ws q.order q.owners) log_is s;
+        spells = spells;
         numbered = q.promises.faithful.numbered;
         counts = λ p l. knows.next p l ∙ ap (λ (o : Order). slice_index A.bases p + length (of_sender p o)) s.order_is;
         left = λ p l. knows.left p l ∙ ap (λ (o : Order). Some (has_gone p o)) s.order_is;
         ended = knows.ended ∙ ap (λ (o : Order). o.ended) s.order_is;
         words = knows.words ∙ sym (length-read (slice_index (A.words z)) A.table_layout.log (slice_index (A.words z) 0)) ∙ ap length log_is;
+        tenures = above q.order q.owners spells;
       }
 
   module _ (id : ℕ) (v : View C) (x : TableLayout) (e : ReceiverView) (is : v ≡ Tap x e) (ws : List ℕ) (xs : List (Option Page)) (f : Final (Seen (TableInvariant P A) id v) ws xs) where

@@ -1,6 +1,7 @@
 pub mod AllSeats
 pub mod Sending
 pub mod Batching
+pub mod Keeping
 pub mod Carrying
 pub mod Carried
 pub mod Accepting
@@ -11,6 +12,7 @@ pub mod Hearing
 pub mod Ties
 pub mod Extending
 pub mod Walks
+pub mod Counted
 pub mod Plain
 pub mod Openings
 pub mod Puts
@@ -28,4 +30,6 @@ pub mod OnePage
 pub mod Endings
 pub mod Staging
 pub mod Truths
+pub mod Resting
 pub mod Publishing
+pub mod AboveFrames

@@ -26,7 +26,7 @@ use Rattle.bus_pageslot.proofs.Truths.{there}
 use Rattle.bus_pageslot.proofs.Stepping as stepping
 
 -- the log of a machine is that of its words
-log_is : {E : Type 0} (m : Machine E) (x : Layout) (reuse : Option ℕ) → m.layout ≡ x → m.reuse ≡ reuse
+pub log_is : {E : Type 0} (m : Machine E) (x : Layout) (reuse : Option ℕ) → m.layout ≡ x → m.reuse ≡ reuse
     → log_of m ≡ log_below (table_layout_by x reuse) m.words
 log_is m x reuse sizes rows =
     ap (λ y. words_read_from (slice_index m.words) (log_place y m.reuse) (slice_index m.words 0)) sizes

@@ -17,6 +17,7 @@ use Rattle.bus_pageslot.specs.declared.rule.View.TheVariants.{Tap}
 use Rattle.bus_automaton.specs.Processes.{TableLayout}
 use Rattle.bus_pageslot.specs.Rule.{Sat, receiver_view_in, known_in}
 use Rattle.bus_pageslot.specs.Seats.{knows, IsFit, IsReceiverView}
+use Rattle.bus_pageslot.specs.Steps.{Learns}
 use Rattle.bus_pageslot.specs.Listening.{FindsLength, FindsWord, HearsLength, HearsWord, Hears}
 
 -- ---- a reader beside a receiver's view that knows more
@@ -218,3 +219,7 @@ no_still_turn {C} x e answer going within h = elim (cases_lt e.place (length e.k
   | inl l ↦ (let more : e.loads ≡ e.loads + 1 = ap (λ (y : Sat C). (receiver_view_in y.0).loads) (h.at_word going l).finds.now in omega arith)
   | inr l ↦ (let more : e.loads ≡ e.loads + 1 = ap (λ (y : Sat C). (receiver_view_in y.0).loads) (h.at_length going (omega arith)).finds.now in omega arith)
 ]
+
+-- nor is a receiver told a length without one
+pub no_still_telling : {C : Type 0} (x : TableLayout) (e : ReceiverView) (got : ℕ) → Learns {C = C} (Tap x e, []) got (Tap x e, []) → ⊥
+no_still_telling {C} x e got h = let more : e.loads ≡ e.loads + 1 = ap (λ (y : Sat C). (receiver_view_in y.0).loads) h.now in omega arith

@@ -54,7 +54,7 @@ pub same_sender : {C : Type 0} (old new : SenderSeat C) → new.core ≡ old.cor
 same_sender old new core seat = ap (λ c. record { core = c; seat = new.seat }) core ∙ ap (λ s. record { core = old.core; seat = s }) seat
 
 -- turns between which a function is asked are turns
-waiting_goes : (a : Turn) → is_waiting a ≡ true → is_last a ≡ false
+pub waiting_goes : (a : Turn) → is_waiting a ≡ true → is_last a ≡ false
 waiting_goes turn.Idle e = absurd (true≢false (sym e))
 waiting_goes turn.Waiting e = refl
 waiting_goes turn.Going e = refl
@@ -67,12 +67,12 @@ waiting_goes turn.Closed e = absurd (true≢false (sym e))
 waiting_goes turn.Spent e = absurd (true≢false (sym e))
 waiting_goes (turn.Behind t sender) e = refl
 
-goes_on : {C F : Type 0} (P : Process C) (T : Tellings C) (Tells : F → Bool → F → Type 0) (first : SenderSeat C) (given : F) (new : SenderSeat C) (f : F) → AsksOn P T Tells first given new f → TurnsOn P T first new
+pub goes_on : {C F : Type 0} (P : Process C) (T : Tellings C) (Tells : F → Bool → F → Type 0) (first : SenderSeat C) (given : F) (new : SenderSeat C) (f : F) → AsksOn P T Tells first given new f → TurnsOn P T first new
 goes_on P T Tells first given _ _ Unasked = Here
 goes_on P T Tells first given _ _ (Goes old f word answer new before turned last other) = More old word answer new (goes_on P T Tells first given old f before) turned last
 goes_on P T Tells first given _ _ (Asks old f word answer new f' before turned waits told) = More old word answer new (goes_on P T Tells first given old f before) turned (waiting_goes answer waits)
 
-sends_asking : {C F : Type 0} (P : Process C) (T : Tellings C) (Tells : F → Bool → F → Type 0) (first : SenderSeat C) (given : F) (answer : Turn) (new : SenderSeat C) → SendsAsking P T Tells first given answer new → Sends P T first answer new
+pub sends_asking : {C F : Type 0} (P : Process C) (T : Tellings C) (Tells : F → Bool → F → Type 0) (first : SenderSeat C) (given : F) (answer : Turn) (new : SenderSeat C) → SendsAsking P T Tells first given answer new → Sends P T first answer new
 sends_asking P T Tells first given answer new h = record { old = h.old; word = h.word; before = goes_on P T Tells first given h.old h.asked h.before; turned = h.turned; last = h.last }
 
 pub sends_if : {C F : Type 0} (P : Process C) (T : Tellings C) (Tells : F → Bool → F → Type 0) (first : SenderSeat C) (given : F) (new : SenderSeat C) (result : Option Turn) → IfSome result (λ answer. SendsAsking P T Tells first given answer new) → (answer : Turn) → result ≡ Some answer → Sends P T first answer new

@@ -1,6 +1,7 @@
 pub mod ReceiverViews
 pub mod Rule
 pub mod Steps
+pub mod StepsShown
 pub mod Stages
 pub mod Listening
 pub mod Seats

@@ -15,7 +15,8 @@ pub record Outcome : Type 0 where
   pub page : Page
 
 -- The words spell an order, in which each sender's items have its numbers from its first one on. The page knows of it: the next number of each
--- sender behind it, which senders have left in it, whether it has ended, and how many words there are. The words spell one order alone.
+-- sender behind it, which senders have left in it, whether it has ended, and how many words there are; and each frame is of one of the
+-- tenures that it counts. The words spell one order alone.
 pub record IsOutcome (z : Outcome) : Type 0 where
   pub order : Order
   pub owners : List (ℕ × SenderNo)
@@ -25,3 +26,4 @@ pub record IsOutcome (z : Outcome) : Type 0 where
   pub left : (s : ℕ) → s < MOST_SENDERS → slice_get z.page.left s ≡ Some (has_gone s order)
   pub ended : z.page.ended ≡ order.ended
   pub words : z.page.words ≡ length z.log
+  pub tenures : (place t : ℕ) (o : SenderNo) → slice_get owners place ≡ Some (t, o) → t < z.page.tenures

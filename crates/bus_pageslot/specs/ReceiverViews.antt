@@ -8,7 +8,7 @@ use Rattle.bus_deliverylog.specs.declared.receiving.RecvTurn.TheVariants as turn
 use Rattle.bus_world.specs.Headline.{IsPrefix, order_given, heads}
 
 -- The words of the log that it knows; how many of these it has read, and whether the end was among them; what its turns that took a
--- step have answered, the first first; and how many loads its calls count, one for each.
+-- step have answered, the first first; and how many loads it has taken, of which a meeting is three and counts one.
 pub record ReceiverView : Type 0 where
   pub known : List ℕ
   pub place : ℕ

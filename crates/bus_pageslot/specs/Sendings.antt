@@ -4,7 +4,9 @@ use Rattle.bus_register.specs.declared.limits.TheConstants.{MOST_BYTES, MOST_MES
 use Rattle.bus_batch.specs.Batches.{CanPut, IsPutFault, next_of}
 use Rattle.bus_batch.specs.declared.batches.PutFault.{PutFault}
 use Rattle.bus_batch.specs.declared.batches.PutFault.TheVariants as put
+use Rattle.bus_tenure.specs.Core.{is_closing}
 use Rattle.bus_tenure.specs.declared.turns.Turn.{Turn}
+use Rattle.bus_tenure.specs.declared.turns.Turn.TheVariants as turn
 use Rattle.bus_world.specs.Headline.{HasPut, puts}
 use Rattle.bus_automaton.specs.Processes.{Process}
 use Rattle.bus_pageslot.specs.Seats.{SenderSeat, actions_of}
@@ -27,6 +29,11 @@ pub record Takes {C : Type 0} (P : Process C) (old : SenderSeat C) (bytes : List
   pub action : actions_of P new ≡ actions_of P old ++ HasPut (next_of (P.queue old.core)) bytes ∷ []
 
 -- ---- one batch
+-- The same messages wait as before. Or this sender has ended the order, with the end mark that waited: a close is taken only where no
+-- message waits, and no message is taken beside it.
+abbrev pub KeptAfter : {C : Type 0} → Process C → SenderSeat C → Turn → SenderSeat C → Type 0
+KeptAfter P old answer new = (waiting_of P new ≡ waiting_of P old) ⊎ ((answer ≡ turn.Closed) × (is_closing (P.queue old.core).phase ≡ true))
+
 -- the batch was sent off: turns up to a last one, after which no message waits
 pub record SendsOff {C : Type 0} (P : Process C) (T : Tellings C) (old new : SenderSeat C) : Type 0 where
   pub answer : Turn

@@ -13,10 +13,10 @@ ghost use Rattle.bus_pageslot.specs.Seats.{table_of};
 ghost use Rattle.bus_pageslot.specs.Endings.{IsLeft};
 
 use crate::outcomes::{EndFault, Ended, leave};
-use crate::rule::BusTable;
 use crate::seating::{bus_table, log_at, seat_all, tap_all};
 use crate::seats::Sender;
 use crate::taps::Tap;
+use crate::words::Words;
 use bus_adoptcommit::{Ratifier, ThreeWord};
 use bus_automaton::Plan;
 use bus_machine::shapes::fault_of;
@@ -34,7 +34,7 @@ type Made<Q> = (Bus<Q>, Vec<Sender<Q>>, Vec<Tap<Q>>);
 /// atomic step on one word of its table.
 #[derive(Drop)]
 pub struct Bus<Q: Ratifier = ThreeWord> {
-    pub(crate) table: BusTable<Q>,
+    pub(crate) words: Words<Q>,
     senders: u64,
     /// The numbers that its sitting began with.
     bases: [u64; MOST_SENDERS],
@@ -52,13 +52,13 @@ impl<Q: Ratifier> Model for Bus<Q> {
 
     ghost Value = { BusId };
 
-    ghost view = { λ b. record { table = b.table.shared.table_id; plan = b.table.shared.key } };
+    ghost view = { λ b. b.words };
 
     ghost invariant = { λ b.
-        let A = automaton_with Q.kind_of Q.op Q.fed Q.protocol b.table.shared.key in
-        (b.senders ≡ b.table.shared.key.shape.senders)
+        let A = automaton_with Q.kind_of Q.op Q.fed Q.protocol b.words.plan in
+        (b.senders ≡ b.words.plan.shape.senders)
         × (b.senders ≡ A.table_layout.senders)
-        × (b.bases ≡ b.table.shared.key.bases)
+        × (b.bases ≡ b.words.plan.bases)
         × (b.bases ≡ A.bases)
         × (b.log ≡ A.table_layout.log)
         × (b.log_words ≡ A.table_layout.capacity)
@@ -165,14 +165,14 @@ impl<Q: Ratifier + Drop> Bus<Q> {
             tap.me.0 log None) }
     {
         let Bus {
-            table,
+            words,
             senders,
             bases,
             log,
             log_words,
             room,
         } = self;
-        leave(table, tap.into_seat(), senders, bases, log, log_words, room)
+        leave(words, tap.into_seat(), senders, bases, log, log_words, room)
     }
 }
 
@@ -219,14 +219,14 @@ fn build<Q: Ratifier + Drop>(alloc: Global, plan: Plan) -> Result<Made<Q>, NoMem
     ensures table { IfOk result (λ made. All (λ s. table_of s ≡ made.0.table) made.1.items
         × All (λ t. t.table_id ≡ made.0.table) made.2.items) }
 {
-    let (table, maker) = bus_table(alloc, plan)?;
+    let (words, maker) = bus_table(alloc, plan)?;
     let log = log_at::<Q>(plan);
-    let (senders, maker) = seat_all(alloc, plan, &table.shared, maker)?;
-    let taps = tap_all(alloc, plan, &table.shared, maker, log)?;
+    let (senders, maker) = seat_all(alloc, plan, &words, maker)?;
+    let taps = tap_all(alloc, plan, &words, maker, log)?;
     let room = roomy(alloc, plan.shape.log_words)?;
     let bases = plan.bases;
     let bus = Bus {
-        table,
+        words,
         senders: plan.shape.senders,
         bases,
         log,

@@ -19,9 +19,11 @@ ghost use Rattle.bus_machine.specs.Playing.{layout_of};
 ghost use Rattle.bus_machine.specs.Promise.{words_of_frame};
 ghost use Rattle.bus_ownerbits.specs.Sizes.{election_bound};
 ghost use Rattle.bus_presence.specs.Reclamation.{presence_at};
+ghost use Rattle.bus_tenure.specs.Core.{Layout};
 ghost use Rattle.bus_tenure.specs.Elections.{Elector, election_of};
 ghost use Rattle.bus_tenure.specs.declared.pages.Page.{Page};
-ghost use Rattle.bus_tenure.specs.declared.turns.Turn.TheVariants.{Behind};
+ghost use Rattle.bus_tenure.specs.declared.turns.Turn.{Turn};
+ghost use Rattle.bus_tenure.specs.declared.turns.Turn.TheVariants.{Behind, Closed, Spent};
 ghost use Rattle.bus_world.specs.Headline.{Action, IsPrefix};
 ghost use Rattle.bus_world.specs.Turning.{words_after};
 ghost use Rattle.bus_automaton.specs.Buses.{process_by, automaton_by, plan_after};
@@ -41,8 +43,10 @@ ghost use Rattle.bus_pageslot.specs.SafeSeats.{AreSafe, LeavesPast};
 ghost use Rattle.bus_pageslot.specs.Seats.{SenderSeat, TookAndTold, sender_trail_of, actions_of};
 ghost use Rattle.bus_pageslot.specs.Sendings.{Carries, waiting_of};
 ghost use Rattle.bus_pageslot.specs.Stages.{TakesPageOf};
-ghost use Rattle.bus_pageslot.specs.Steps.{Accepts, IsDue, all_in, puts_from};
+ghost use Rattle.bus_pageslot.specs.Steps.{Accepts, IsDue, Learns, all_in, puts_from};
+ghost use Rattle.bus_pageslot.specs.StepsShown.{steps_in, steps_shown};
 ghost use Rattle.bus_pageslot.specs.Truths.{IsTrueAnswer};
+ghost use Rattle.bus_pageslot.specs.Turns.{Turned, tells_by};
 
 use bus_adoptcommit::Ratifier;
 use bus_automaton::laws::threads_may_go_by;
@@ -217,12 +221,29 @@ pub fn behind_shows_its_load<Q: Ratifier>()
 {}
 
 /// No turn of a receiver, but after the end, leaves its seat as it was: so none answers without a
-/// step on the table.
+/// step on the table. Nor is a receiver told a length, or met, without one.
 pub fn no_turn_without_a_load<Q: Ratifier>()
-    ensures { (x : TableLayout) (e : ReceiverView) (answer : RecvTurn) → e.ended ≡ false
+    ensures turns { (x : TableLayout) (e : ReceiverView) (answer : RecvTurn) → e.ended ≡ false
         → e.place ≤ length e.known
         → ¬ Hears {C = Sender (Elector Q)} (view.Tap x e, []) answer (view.Tap x e, []) }
+    ensures told { (x : TableLayout) (e : ReceiverView) (got : ℕ)
+        → ¬ Learns {C = Sender (Elector Q)} (view.Tap x e, []) got (view.Tap x e, []) }
 {}
+
+/// A turn takes at most one step. Of a sender of which one is due the seat shows one step more
+/// afterwards, and else the sender is as it was. Of a receiver the seat shows one load more, and
+/// after the end it is as it was.
+pub fn turns_take_one_step<Q: Ratifier>()
+    ensures sender { let P = process_by Q.Ratifier in
+        (old new : SenderSeat (Sender (Elector Q))) (word : ℕ) (answer : Turn) (o : Op)
+        → P.op old.core word ≡ Some o → Turned P (tells_by Q.Ratifier) old word answer new
+        → steps_in (sender_trail_of P new) ≡ steps_in (sender_trail_of P old) + 1 }
+    ensures receiver { (x : TableLayout) (e : ReceiverView) (answer : RecvTurn)
+        (m : Sat (Sender (Elector Q))) → e.ended ≡ false → e.place ≤ length e.known
+        → Hears (view.Tap x e, []) answer m → steps_shown m.0 ≡ e.loads + 1 }
+{
+    threads_may_go_by::<Q>();
+}
 
 /// While the page is at home it says of each sender what the first message in its batch was
 /// answered, also where that has accepted more since its last step; and those that wait behind it
@@ -246,4 +267,30 @@ pub fn carried_messages_keep_their_numbers<Q: Ratifier>()
 {
     threads_may_go_by::<Q>();
     tables_are_machines::<Q>();
+}
+
+/// What a sender answers without a step is so of all that happened until then, with what it has
+/// accepted since its last step. It is Closed only where the order has ended, or where its batch
+/// is closed and it has left in the order. It is Spent only where no tenure is left to it: all have
+/// ended, or the last was opened and it saw that election end with another owner. Where a step is
+/// due `rest` is Going, of which nothing is said. Refused are Closed while the length is 0, and
+/// Spent while the last tenure is not opened.
+pub fn rests_are_true<Q: Ratifier>()
+    ensures rests { let P = process_by Q.Ratifier in
+        (plan : Plan) (s : State (Option Page) (View (Sender (Elector Q)))) (seat : ℕ)
+        (v d : Sender (Elector Q)) (sender_trail : SenderTrail) (actions : List Action)
+        → TableInvariant P (automaton_by Q.Ratifier plan) s → Shown s seat v sender_trail
+        → Accepts P v d actions
+        → IsTrueAnswer (layout_of Q.protocol plan.shape plan.reuse) plan.reuse s d
+        (sender_trail.actions ++ actions) (P.rest d) }
+    ensures refused { (sizes : Layout) (reuse : Option ℕ)
+        (s : State (Option Page) (View (Sender (Elector Q)))) (d : Sender (Elector Q))
+        (actions : List Action)
+        → (slice_index s.words 0 ≡ 0 → ¬ IsTrueAnswer sizes reuse s d actions Closed)
+        × (slice_index s.words 1 + 2 < 2 * sizes.rows
+        → ¬ IsTrueAnswer sizes reuse s d actions Spent) }
+{
+    threads_may_go_by::<Q>();
+    tables_are_machines::<Q>();
+    events_keep_promise::<Q>();
 }

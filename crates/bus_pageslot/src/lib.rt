@@ -3,7 +3,12 @@
 //! A bus of one sender and one receiver, from its making to its end:
 //!
 //! ```
+//! use bus_adoptcommit::ThreeWord;
+//! use bus_deliverylog::RecvTurn;
 //! use bus_pageslot::Bus;
+//! use bus_tenure::Turn;
+//! use bus_world::Shape;
+//! use rand_pcg::Pcg32;
 //!
 //! let shape = Shape { senders: 1, receivers: 1, rounds: 1, rows: 2, log_words: 16 };
 //! let (bus, mut senders, mut taps) = Bus::<ThreeWord>::new(rt.alloc(), shape)?;
@@ -21,13 +26,13 @@
 mod buses;
 pub mod laws;
 mod listening;
-mod meetings;
 mod outcomes;
 mod rule;
 mod seating;
 mod seats;
 mod steps;
 mod taps;
+mod words;
 
 pub use buses::Bus;
 pub use listening::ItemTurn;

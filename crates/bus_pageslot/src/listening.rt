@@ -9,9 +9,9 @@ ghost use Rattle.bus_deliverylog.specs.Receiving.{HasReceived, TakesWord};
 ghost use Rattle.bus_pageslot.specs.Listening.{Hears, HearsLength, HearsWord, answer_of};
 ghost use Rattle.bus_pageslot.specs.Listening.{Writes, WritesOrPlain, HearsAfter};
 
-use crate::rule::{BusSeat, LoadsLengthInTurn, LoadsWordInTurn, SharedTable};
+use crate::rule::BusSeat;
+use crate::words::Words;
 use bus_adoptcommit::Ratifier;
-use bus_automaton::laws::threads_may_go_by;
 use bus_batch::Item;
 use bus_deliverylog::{Reader, RecvTurn};
 
@@ -46,12 +46,12 @@ fn catch_up(reader: &mut Reader, known: u64)
 /// The length is loaded, and the answer is written.
 #[inline(never)]
 fn hear_length<Q: Ratifier + Drop>(
-    shared: &SharedTable<Q>,
+    words: &Words<Q>,
     seat: &mut BusSeat<Q>,
     reader: &mut Reader,
     answer: &mut RecvTurn,
 )
-    requires table { seat.old.table_id ≡ shared.now.table_id }
+    requires table { seat.old.table_id ≡ words.now.table }
     requires receiver_view { (log : ℕ)
         × IsReceiverView seat.old.me seat.old.table_id.words log reader.old }
     requires going { reader.old.ended ≡ false }
@@ -64,8 +64,7 @@ fn hear_length<Q: Ratifier + Drop>(
     ensures known { reader.new.known ≡ length (known_in seat.new.me.0) }
     ensures hears { HearsLength seat.old.me answer.new seat.new.me }
 {
-    threads_may_go_by::<Q>();
-    let length = shared.load::<LoadsLengthInTurn<Q>>(seat, 0);
+    let length = words.load_length_in_turn(seat);
     *answer = reader.feed(length);
 }
 
@@ -100,13 +99,13 @@ fn take_word(reader: &mut Reader, word: u64, answer: &mut RecvTurn)
 /// answer is written.
 #[inline(always)]
 fn hear_word<Q: Ratifier + Drop>(
-    shared: &SharedTable<Q>,
+    words: &Words<Q>,
     seat: &mut BusSeat<Q>,
     log: u64,
     reader: &mut Reader,
     answer: &mut RecvTurn,
 ) -> bool
-    requires table { seat.old.table_id ≡ shared.now.table_id }
+    requires table { seat.old.table_id ≡ words.now.table }
     requires receiver_view { IsReceiverView seat.old.me seat.old.table_id.words log reader.old }
     requires going { reader.old.ended ≡ false }
     requires below { reader.old.place ≢ reader.old.known }
@@ -115,7 +114,7 @@ fn hear_word<Q: Ratifier + Drop>(
     ensures known { known_in seat.new.me.0 ≡ known_in seat.old.me.0 }
     ensures hears { HearsWord seat.old.me (answer_of result answer.new) seat.new.me }
 {
-    let word = shared.load::<LoadsWordInTurn<Q>>(seat, (log + reader.place()) as usize);
+    let word = words.load_word_in_turn(seat, (log + reader.place()) as usize);
     if reader.take_plain(word) {
         return true;
     }
@@ -128,14 +127,14 @@ fn hear_word<Q: Ratifier + Drop>(
 /// nothing by itself; else the answer is written.
 #[inline(always)]
 pub(crate) fn hear<Q: Ratifier + Drop>(
-    shared: &SharedTable<Q>,
+    words: &Words<Q>,
     seat: &mut BusSeat<Q>,
     log: u64,
     known: &mut u64,
     reader: &mut Reader,
     answer: &mut RecvTurn,
 ) -> bool
-    requires table { seat.old.table_id ≡ shared.now.table_id }
+    requires table { seat.old.table_id ≡ words.now.table }
     requires receiver_view { IsReceiverView seat.old.me seat.old.table_id.words log reader.old }
     requires going { reader.old.ended ≡ false }
     requires known { known.old ≡ length (known_in seat.old.me.0) }
@@ -146,11 +145,11 @@ pub(crate) fn hear<Q: Ratifier + Drop>(
 {
     catch_up(reader, *known);
     if reader.place() == reader.known() {
-        hear_length(shared, seat, reader, answer);
+        hear_length(words, seat, reader, answer);
         *known = reader.known();
         return false;
     }
-    hear_word(shared, seat, log, reader, answer)
+    hear_word(words, seat, log, reader, answer)
 }
 
 /// The answer with its item written in place; any other answer leaves that as it was.
@@ -205,12 +204,12 @@ fn take_in_place(reader: &mut Reader, word: u64, item: &mut Option<Item>) -> Ite
 /// The length is loaded, and no item is written.
 #[inline(never)]
 fn hear_length_in_place<Q: Ratifier + Drop>(
-    shared: &SharedTable<Q>,
+    words: &Words<Q>,
     seat: &mut BusSeat<Q>,
     reader: &mut Reader,
     item: &mut Option<Item>,
 ) -> ItemTurn
-    requires table { seat.old.table_id ≡ shared.now.table_id }
+    requires table { seat.old.table_id ≡ words.now.table }
     requires receiver_view { (log : ℕ)
         × IsReceiverView seat.old.me seat.old.table_id.words log reader.old }
     requires going { reader.old.ended ≡ false }
@@ -225,7 +224,7 @@ fn hear_length_in_place<Q: Ratifier + Drop>(
         × HearsLength seat.old.me answer seat.new.me }
 {
     let mut answer = RecvTurn::Going;
-    hear_length(shared, seat, reader, &mut answer);
+    hear_length(words, seat, reader, &mut answer);
     tell(answer, item)
 }
 
@@ -233,13 +232,13 @@ fn hear_length_in_place<Q: Ratifier + Drop>(
 /// nothing by itself.
 #[inline(always)]
 fn hear_word_in_place<Q: Ratifier + Drop>(
-    shared: &SharedTable<Q>,
+    words: &Words<Q>,
     seat: &mut BusSeat<Q>,
     log: u64,
     reader: &mut Reader,
     item: &mut Option<Item>,
 ) -> Option<ItemTurn>
-    requires table { seat.old.table_id ≡ shared.now.table_id }
+    requires table { seat.old.table_id ≡ words.now.table }
     requires receiver_view { IsReceiverView seat.old.me seat.old.table_id.words log reader.old }
     requires going { reader.old.ended ≡ false }
     requires below { reader.old.place ≢ reader.old.known }
@@ -251,7 +250,7 @@ fn hear_word_in_place<Q: Ratifier + Drop>(
     ensures plain { result ≡ None → (reader.new.place ≡ reader.old.place + 1)
         × (reader.new.ended ≡ false) }
 {
-    let word = shared.load::<LoadsWordInTurn<Q>>(seat, (log + reader.place()) as usize);
+    let word = words.load_word_in_turn(seat, (log + reader.place()) as usize);
     if reader.take_plain(word) {
         return None;
     }
@@ -262,14 +261,14 @@ fn hear_word_in_place<Q: Ratifier + Drop>(
 /// took a word that says nothing by itself.
 #[inline(always)]
 fn turn_in_place<Q: Ratifier + Drop>(
-    shared: &SharedTable<Q>,
+    words: &Words<Q>,
     seat: &mut BusSeat<Q>,
     log: u64,
     known: &mut u64,
     reader: &mut Reader,
     item: &mut Option<Item>,
 ) -> Option<ItemTurn>
-    requires table { seat.old.table_id ≡ shared.now.table_id }
+    requires table { seat.old.table_id ≡ words.now.table }
     requires receiver_view { IsReceiverView seat.old.me seat.old.table_id.words log reader.old }
     requires going { reader.old.ended ≡ false }
     requires known { known.old ≡ length (known_in seat.old.me.0) }
@@ -284,25 +283,25 @@ fn turn_in_place<Q: Ratifier + Drop>(
 {
     catch_up(reader, *known);
     if reader.place() == reader.known() {
-        let turn = hear_length_in_place(shared, seat, reader, item);
+        let turn = hear_length_in_place(words, seat, reader, item);
         *known = reader.known();
         return Some(turn);
     }
-    hear_word_in_place(shared, seat, log, reader, item)
+    hear_word_in_place(words, seat, log, reader, item)
 }
 
 /// Turns of a receiver that has not ended, up to the first that takes no word which says nothing by
 /// itself. An item is written in place.
 #[inline(always)]
 pub(crate) fn hear_in_place<Q: Ratifier + Drop>(
-    shared: &SharedTable<Q>,
+    words: &Words<Q>,
     seat: &mut BusSeat<Q>,
     log: u64,
     known: &mut u64,
     reader: &mut Reader,
     item: &mut Option<Item>,
 ) -> ItemTurn
-    requires table { seat.old.table_id ≡ shared.now.table_id }
+    requires table { seat.old.table_id ≡ words.now.table }
     requires receiver_view { IsReceiverView seat.old.me seat.old.table_id.words log reader.old }
     requires going { reader.old.ended ≡ false }
     requires known { known.old ≡ length (known_in seat.old.me.0) }
@@ -312,7 +311,7 @@ pub(crate) fn hear_in_place<Q: Ratifier + Drop>(
     ensures hears { HearsAfter seat.old.me item.old result item.new seat.new.me }
 {
     loop {
-        if let Some(turn) = turn_in_place(shared, seat, log, known, reader, item) {
+        if let Some(turn) = turn_in_place(words, seat, log, known, reader, item) {
             return turn;
         }
     }

@@ -15,7 +15,9 @@ ghost use Rattle.bus_pageslot.specs.declared.rule.View.TheVariants.{Tap};
 ghost use Rattle.bus_pageslot.specs.ReceiverViews.{ReceiverView};
 ghost use Rattle.bus_pageslot.specs.Endings.{IsLeft};
 
-use crate::rule::{BusSeat, BusTable};
+use crate::laws::tables_are_machines;
+use crate::rule::BusSeat;
+use crate::words::Words;
 use atomic_table::Closed;
 use bus_adoptcommit::Ratifier;
 use bus_automaton::laws::threads_may_go_by;
@@ -84,7 +86,8 @@ impl Ended {
 
     /// The page, as its last owner gave it back. It has the number of the log's words, whether the
     /// order that they spell has ended, and for each sender whether it has left in it, and the
-    /// number that its next message would have behind it.
+    /// number that its next message would have behind it. Its tenures are above that of each
+    /// frame.
     pub fn page(&self) -> &Page
         ensures page { result.now ≡ self.now.page }
         ensures words { result.now.words ≡ length self.now.log }
@@ -98,6 +101,9 @@ impl Ended {
             → sender < MOST_SENDERS → Spells self.now.senders self.now.log order owners
             → slice_index result.now.next sender
             ≡ slice_index self.now.bases sender + length (of_sender sender order) }
+        ensures tenures { (order : Order) (owners : List (ℕ × Number)) (place tenure : ℕ)
+            (owner : Number) → Spells self.now.senders self.now.log order owners
+            → slice_get owners place ≡ Some (tenure, owner) → tenure < result.now.tenures }
     {
         spells_one();
         self.page.get()
@@ -134,7 +140,7 @@ impl Ended {
 
 /// What this table, of which this is the seat of a receiver, leaves behind.
 pub(crate) fn leave<Q: Ratifier + Drop>(
-    table: BusTable<Q>,
+    words: Words<Q>,
     seat: BusSeat<Q>,
     senders: u64,
     bases: [u64; MOST_SENDERS],
@@ -142,29 +148,30 @@ pub(crate) fn leave<Q: Ratifier + Drop>(
     log_words: u64,
     room: Vec<u64>,
 ) -> Result<Ended, EndFault>
-    requires table { seat.table_id ≡ table.shared.table_id }
+    requires table { seat.table_id ≡ words.table }
     requires tap { (d : _) × (e : ReceiverView) × (seat.me ≡ (Tap d e, [])) }
     requires empty { (room.items ≡ []) × (vec_len room ≡ 0) }
-    requires senders { senders ≡ (automaton_by Q.Ratifier table.shared.key).table_layout.senders }
-    requires bases { bases ≡ (automaton_by Q.Ratifier table.shared.key).bases }
-    requires log { log ≡ (automaton_by Q.Ratifier table.shared.key).table_layout.log }
+    requires senders { senders ≡ (automaton_by Q.Ratifier words.plan).table_layout.senders }
+    requires bases { bases ≡ (automaton_by Q.Ratifier words.plan).bases }
+    requires log { log ≡ (automaton_by Q.Ratifier words.plan).table_layout.log }
     requires log_words { log_words
-        ≡ (automaton_by Q.Ratifier table.shared.key).table_layout.capacity }
+        ≡ (automaton_by Q.Ratifier words.plan).table_layout.capacity }
     requires roomy { log_words ≤ vec_capacity room }
     ensures ended { IfOk result
-        (λ left. IsLeft (process_by Q.Ratifier) (automaton_by Q.Ratifier table.shared.key)
+        (λ left. IsLeft (process_by Q.Ratifier) (automaton_by Q.Ratifier words.plan)
         seat.me.0 left.log (Some left.page)) }
     ensures senders { IfOk result (λ left. left.senders ≡ senders) }
     ensures bases { IfOk result (λ left. left.bases ≡ bases) }
     ensures out { OnErr result ((log : List ℕ)
-        × IsLeft (process_by Q.Ratifier) (automaton_by Q.Ratifier table.shared.key)
+        × IsLeft (process_by Q.Ratifier) (automaton_by Q.Ratifier words.plan)
         seat.me.0 log None) }
 {
     threads_may_go_by::<Q>();
-    let mut closed = table.close_with(seat);
+    tables_are_machines::<Q>();
+    let mut closed = words.close(seat);
     let stage = closed.word(1);
     let length = closed.word(0);
-    let words = words_from(&closed, log, length, room);
+    let kept = words_from(&closed, log, length, room);
     let page = closed.take(0);
     closed.free();
     if stage % 2 == 1 {
@@ -173,7 +180,7 @@ pub(crate) fn leave<Q: Ratifier + Drop>(
     Ok(Ended {
         senders,
         bases,
-        log: words,
+        log: kept,
         page: page.unwrap(),
     })
 }

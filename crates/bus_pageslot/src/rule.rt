@@ -1,11 +1,10 @@
 //! The rule of the table: its words, its slot and the views of its seats are a run of the machine.
 
-use atomic_table::{Join, Play, Seat, Shared, Split, Table, TableRule};
+use atomic_table::{Seat, TableRule};
 use bus_adoptcommit::Ratifier;
 use bus_automaton::Plan;
 use bus_core::SenderCore;
 use bus_tenure::OwnedPage;
-use std::alloc::Global;
 use std::marker::{Brand, Model, PhantomData};
 
 /// What a sender did. No value of it is made.
@@ -113,20 +112,6 @@ impl<C> Told<C> for Brand {
     ghost word = { 0 };
 }
 
-/// The seat shows the sender that was picked, with the turn that it took.
-pub(crate) struct Goes<Q, K> {
-    of: PhantomData<(Q, K)>,
-}
-
-impl<Q: Ratifier, K: Told<SenderCore<Q>>> Play<Option<OwnedPage>, View<SenderCore<Q>>>
-    for Goes<Q, K> {
-    ghost use Rattle.bus_automaton.specs.Buses.{process_with};
-    ghost use Rattle.bus_pageslot.specs.Steps.{GoesOn};
-
-    ghost then = { λ _ m got m'. GoesOn (process_with Q.kind_of Q.op Q.fed Q.protocol)
-        K.core K.word m got m' };
-}
-
 /// The sender that a call picks for the seat that it makes, and the number of its first message.
 pub trait Seated<C> {
     ghost use Rattle.std.specs.Prelude.{ℕ, Option};
@@ -143,124 +128,5 @@ impl<C> Seated<C> for Brand {
 
     ghost first = { 0 };
 }
-
-/// The next sender's seat is made.
-pub(crate) struct Cut<Q, K> {
-    of: PhantomData<(Q, K)>,
-}
-
-impl<Q: Ratifier, K: Seated<SenderCore<Q>>> Split<View<SenderCore<Q>>> for Cut<Q, K> {
-    ghost use Rattle.bus_pageslot.specs.Rule.{cut_left, cut_right};
-
-    ghost left = { cut_left };
-
-    ghost right = { λ _. cut_right K.core K.first };
-}
-
-/// A receiver's seat is made.
-pub(crate) struct CutTap<Q> {
-    of: PhantomData<Q>,
-}
-
-impl<Q: Ratifier> Split<View<SenderCore<Q>>> for CutTap<Q> {
-    ghost use Rattle.bus_pageslot.specs.Rule.{tap_left, tap_right};
-
-    ghost left = { tap_left };
-
-    ghost right = { tap_right };
-}
-
-/// A receiver's seat loaded the length.
-pub(crate) struct LoadsLength<Q> {
-    of: PhantomData<Q>,
-}
-
-impl<Q: Ratifier> Play<Option<OwnedPage>, View<SenderCore<Q>>> for LoadsLength<Q> {
-    ghost use Rattle.bus_pageslot.specs.Steps.{Learns};
-
-    ghost then = { λ _ m got m'. Learns m got m' };
-}
-
-/// A receiver's seat loaded a word that it knows.
-pub(crate) struct LoadsWord<Q> {
-    of: PhantomData<Q>,
-}
-
-impl<Q: Ratifier> Play<Option<OwnedPage>, View<SenderCore<Q>>> for LoadsWord<Q> {
-    ghost use Rattle.bus_pageslot.specs.Steps.{Reads};
-
-    ghost then = { λ step m got m'. Reads m step.word got m' };
-}
-
-/// By a turn of it a receiver's seat loaded the length.
-pub(crate) struct LoadsLengthInTurn<Q> {
-    of: PhantomData<Q>,
-}
-
-impl<Q: Ratifier> Play<Option<OwnedPage>, View<SenderCore<Q>>> for LoadsLengthInTurn<Q> {
-    ghost use Rattle.bus_pageslot.specs.Listening.{FindsLength};
-
-    ghost then = { λ _ m got m'. FindsLength m got m' };
-}
-
-/// By a turn of it a receiver's seat loaded the word at its place.
-pub(crate) struct LoadsWordInTurn<Q> {
-    of: PhantomData<Q>,
-}
-
-impl<Q: Ratifier> Play<Option<OwnedPage>, View<SenderCore<Q>>> for LoadsWordInTurn<Q> {
-    ghost use Rattle.bus_pageslot.specs.Listening.{FindsWord};
-
-    ghost then = { λ _ m got m'. FindsWord m got m' };
-}
-
-/// A receiver's seat goes into another seat.
-pub(crate) struct Meet<Q> {
-    of: PhantomData<Q>,
-}
-
-impl<Q: Ratifier> Join<View<SenderCore<Q>>> for Meet<Q> {
-    ghost use Rattle.bus_pageslot.specs.declared.rule.View.TheVariants.{Spent};
-    ghost use Rattle.bus_pageslot.specs.Rule.{views_joined};
-
-    ghost both = { views_joined };
-
-    ghost spent = { Spent };
-}
-
-/// It comes out of it again.
-pub(crate) struct Part<Q> {
-    of: PhantomData<Q>,
-}
-
-impl<Q: Ratifier> Split<View<SenderCore<Q>>> for Part<Q> {
-    ghost use Rattle.bus_pageslot.specs.Rule.{first_of, second_of};
-
-    ghost left = { first_of };
-
-    ghost right = { second_of };
-}
-
-/// Two joined seats loaded the length.
-pub(crate) struct LoadsJoined<Q> {
-    of: PhantomData<Q>,
-}
-
-impl<Q: Ratifier> Play<Option<OwnedPage>, View<SenderCore<Q>>> for LoadsJoined<Q> {
-    ghost use Rattle.bus_automaton.specs.Buses.{process_with};
-    ghost use Rattle.bus_pageslot.specs.Steps.{Meets};
-
-    ghost then = { λ _ m got m'. Meets (process_with Q.kind_of Q.op Q.fed Q.protocol) m got m' };
-}
-
-pub(crate) type BusTable<Q> = Table<
-    Option<OwnedPage>,
-    View<SenderCore<Q>>,
-    Plan,
-    BusRule<Q>,
-    Global,
->;
-
-pub(crate) type SharedTable<Q> = Shared<Option<OwnedPage>, View<SenderCore<Q>>, Plan, BusRule<Q>>;
 
 pub(crate) type BusSeat<Q> = Seat<Option<OwnedPage>, View<SenderCore<Q>>>;

@@ -8,10 +8,10 @@ ghost use Rattle.bus_pageslot.specs.declared.rule.View.TheVariants.{Maker};
 ghost use Rattle.bus_pageslot.specs.Buses.{IsBusTable, IsNewSeat, AreNewSeats};
 ghost use Rattle.bus_pageslot.specs.Buses.{IsNewTap, AreNewTaps};
 
-use crate::rule::{BusSeat, BusTable, Cut, CutTap, Seated, SharedTable};
+use crate::rule::{BusSeat, Seated};
 use crate::seats::Sender;
 use crate::taps::Tap;
-use atomic_table::Table;
+use crate::words::Words;
 use bus_adoptcommit::Ratifier;
 use bus_automaton::Plan;
 use bus_automaton::laws::threads_may_go_by;
@@ -61,32 +61,29 @@ fn start<Q: Ratifier + Drop>(plan: Plan, me: SenderNo) -> SenderCore<Q>
 pub(crate) fn bus_table<Q: Ratifier + Drop>(
     alloc: Global,
     plan: Plan,
-) -> Result<(BusTable<Q>, BusSeat<Q>), NoMemory>
+) -> Result<(Words<Q>, BusSeat<Q>), NoMemory>
     requires { Serves plan }
     ensures bus_table { IfOk result
-        (λ made. IsBusTable (automaton_by Q.Ratifier plan) made.0.shared.table_id made.1) }
-    ensures plan { IfOk result (λ made. made.0.shared.key ≡ plan) }
+        (λ made. IsBusTable (automaton_by Q.Ratifier plan) made.0.table made.1) }
+    ensures plan { IfOk result (λ made. made.0.plan ≡ plan) }
 {
     threads_may_go_by::<Q>();
     let words = vec![in alloc; 0u64; (log_at::<Q>(plan) + plan.shape.log_words) as usize]?;
     let page = first_page(alloc, plan.bases)?;
     let mut slots = Vec::with_capacity(alloc, 1)?;
     slots.push(Some(page))?;
-    match Table::new(alloc, words.as_slice(), slots, &plan) {
-        Ok(made) => Ok(made),
-        Err(_) => Err(NoMemory),
-    }
+    Words::new(alloc, words.as_slice(), slots, &plan)
 }
 
 /// The next sender, with its seat.
 fn seat_next<Q: Ratifier + Drop, K: Seated<SenderCore<Q>>>(
-    shared: &SharedTable<Q>,
+    words: &Words<Q>,
     maker: &mut BusSeat<Q>,
     plan: Plan,
     me: u64,
 ) -> Sender<Q>
-    requires table { maker.old.table_id ≡ shared.now.table_id }
-    requires key { shared.now.key ≡ plan }
+    requires table { maker.old.table_id ≡ words.now.table }
+    requires key { words.now.plan ≡ plan }
     requires seated { K.core ≡ Some ((automaton_by Q.Ratifier plan).started me) }
     requires first { K.first ≡ base_in (automaton_by Q.Ratifier plan) me }
     requires served { Serves plan }
@@ -104,7 +101,7 @@ fn seat_next<Q: Ratifier + Drop, K: Seated<SenderCore<Q>>>(
         IsNewSeat P A maker.old.table_id me result }
 {
     threads_may_go_by::<Q>();
-    let seat = shared.split_seat::<Cut<Q, K>>(maker);
+    let seat = words.cut_sender::<K>(maker);
     let core = start(plan, SenderNo(me as u8));
     Sender::seated(core, seat)
 }
@@ -113,22 +110,22 @@ fn seat_next<Q: Ratifier + Drop, K: Seated<SenderCore<Q>>>(
 pub(crate) fn seat_all<Q: Ratifier + Drop>(
     alloc: Global,
     plan: Plan,
-    shared: &SharedTable<Q>,
+    words: &Words<Q>,
     mut maker: BusSeat<Q>,
 ) -> Result<(Vec<Sender<Q>>, BusSeat<Q>), NoMemory>
     requires served { Serves plan }
-    requires key { shared.now.key ≡ plan }
-    requires bus_table { IsBusTable (automaton_by Q.Ratifier plan) shared.now.table_id maker }
+    requires key { words.now.plan ≡ plan }
+    requires bus_table { IsBusTable (automaton_by Q.Ratifier plan) words.now.table maker }
     requires senders { plan.shape.senders ≡ (automaton_by Q.Ratifier plan).table_layout.senders }
     ensures senders { let P = process_by Q.Ratifier in let A = automaton_by Q.Ratifier plan in
-        IfOk result (λ made. AreNewSeats P A shared.now.table_id plan.shape.senders made.0.items) }
+        IfOk result (λ made. AreNewSeats P A words.now.table plan.shape.senders made.0.items) }
     ensures maker { let A = automaton_by Q.Ratifier plan in
-        IfOk result (λ made. (made.1.table_id ≡ shared.now.table_id)
+        IfOk result (λ made. (made.1.table_id ≡ words.now.table)
         × (made.1.me ≡ (Maker A.table_layout plan.shape.senders, []))) }
 {
     let mut senders = Vec::new(alloc);
     for me in 0..plan.shape.senders {
-        let sender = seat_next::<Q, Brand>(shared, &mut maker, plan, me);
+        let sender = seat_next::<Q, Brand>(words, &mut maker, plan, me);
         senders.push(sender)?;
     }
     Ok((senders, maker))
@@ -136,13 +133,13 @@ pub(crate) fn seat_all<Q: Ratifier + Drop>(
 
 /// The next receiver, with its seat, of a maker that has made the seats of so many senders.
 fn tap_next<Q: Ratifier + Drop>(
-    shared: &SharedTable<Q>,
+    words: &Words<Q>,
     maker: &mut BusSeat<Q>,
     plan: Plan,
     made: u64,
     log: u64,
 ) -> Tap<Q>
-    requires table { maker.old.table_id ≡ shared.now.table_id }
+    requires table { maker.old.table_id ≡ words.now.table }
     requires room { (automaton_by Q.Ratifier plan).table_layout.words ≤ 2 ^ 63 }
     requires wide { maker.old.table_id.words ≡ (automaton_by Q.Ratifier plan).table_layout.words }
     requires log { log ≡ (automaton_by Q.Ratifier plan).table_layout.log }
@@ -155,7 +152,7 @@ fn tap_next<Q: Ratifier + Drop>(
 {
     let _ = made;
     threads_may_go_by::<Q>();
-    let seat = shared.split_seat::<CutTap<Q>>(maker);
+    let seat = words.cut_tap(maker);
     Tap::seated(seat, log, plan.shape.senders)
 }
 
@@ -163,24 +160,24 @@ fn tap_next<Q: Ratifier + Drop>(
 pub(crate) fn tap_all<Q: Ratifier + Drop>(
     alloc: Global,
     plan: Plan,
-    shared: &SharedTable<Q>,
+    words: &Words<Q>,
     mut maker: BusSeat<Q>,
     log: u64,
 ) -> Result<Vec<Tap<Q>>, NoMemory>
-    requires table { maker.table_id ≡ shared.now.table_id }
+    requires table { maker.table_id ≡ words.now.table }
     requires room { (automaton_by Q.Ratifier plan).table_layout.words ≤ 2 ^ 63 }
-    requires wide { shared.now.table_id.words ≡ (automaton_by Q.Ratifier plan).table_layout.words }
+    requires wide { words.now.table.words ≡ (automaton_by Q.Ratifier plan).table_layout.words }
     requires log { log ≡ (automaton_by Q.Ratifier plan).table_layout.log }
     requires senders { plan.shape.senders ≡ (automaton_by Q.Ratifier plan).table_layout.senders }
     requires maker { maker.me
         ≡ (Maker (automaton_by Q.Ratifier plan).table_layout plan.shape.senders, []) }
     ensures { let A = automaton_by Q.Ratifier plan in
-        IfOk result (λ taps. AreNewTaps A.table_layout shared.now.table_id plan.shape.receivers
+        IfOk result (λ taps. AreNewTaps A.table_layout words.now.table plan.shape.receivers
         taps.items) }
 {
     let mut taps = Vec::new(alloc);
     for _ in 0..plan.shape.receivers {
-        let tap = tap_next(shared, &mut maker, plan, plan.shape.senders, log);
+        let tap = tap_next(words, &mut maker, plan, plan.shape.senders, log);
         taps.push(tap)?;
     }
     Ok(taps)

@@ -2,7 +2,7 @@
 
 ghost use Rattle.std.specs.Prelude.{◌≡◌, ℕ, ◌+◌, ◌<◌, List, [], ◌∷◌, ◌++◌, None};
 ghost use Rattle.std.specs.Prelude.{Some, IfSome, IfNone, IfOk, IfErr, IsSome};
-ghost use Rattle.std.specs.Prelude.{OnOk, OnErr, length, ◌-◌, ◌≤◌, IsTrue, false};
+ghost use Rattle.std.specs.Prelude.{OnOk, OnErr, length, ◌-◌, ◌≤◌, IsTrue, true, false};
 ghost use Rattle.bus_batch.specs.Batches.{next_of, CanPut, IsPutFault, CanClose, IsCloseFault};
 ghost use Rattle.bus_core.specs.Causes.{HasCause};
 ghost use Rattle.bus_core.specs.Telling.{FeedTells, RestTells};
@@ -21,14 +21,14 @@ ghost use Rattle.bus_pageslot.specs.Seats.{first_number_of, actions_of, stored_o
 ghost use Rattle.bus_pageslot.specs.Turns.{tells_by, Sends, is_waiting};
 ghost use Rattle.bus_pageslot.specs.Turns.{SendsAsking, StopsWaiting, DrawsOn, word_drawn};
 ghost use Rattle.bus_automaton.specs.Buses.{process_by};
-ghost use Rattle.bus_automaton.specs.LastAnswers.{is_last};
+ghost use Rattle.bus_automaton.specs.LastAnswers.{is_last, is_refusal};
 ghost use Rattle.bus_pageslot.specs.Sendings.{waiting_of, SendsOff, KeepsFor, FillsBatches};
+ghost use Rattle.bus_pageslot.specs.Sendings.{KeptAfter};
 ghost use Rattle.bus_pageslot.specs.Sendings.{HasSent, StopsAt, HasSentPart};
 ghost use Rattle.bus_pageslot.specs.Sendings.{Carries, CarryRefused};
 ghost use Rattle.bus_pageslot.specs.SendFaults.{send_fault_text};
 
 use crate::buses::Bus;
-use crate::meetings::meeting;
 use crate::rule::BusSeat;
 use crate::steps::{length_after, store_plain, walk};
 use bus_adoptcommit::{Ratifier, ThreeWord};
@@ -326,13 +326,7 @@ impl<Q: Ratifier + Drop> Sender<Q> {
         }
         let store = Op::Store(Reg(at), value);
         self.stored = length_after(store, self.stored);
-        store_plain::<Q, Brand>(
-            &bus.table.shared,
-            &mut self.seat,
-            &mut self.core,
-            store,
-            word,
-        );
+        store_plain::<Q, Brand>(&bus.words, &mut self.seat, &mut self.core, store, word);
         true
     }
 
@@ -349,13 +343,12 @@ impl<Q: Ratifier + Drop> Sender<Q> {
             Q.Ratifier)) self.old word result self.new }
     {
         threads_may_go_by::<Q>();
-        let shared = &bus.table.shared;
         let next = self.core.step();
         let Some(op) = self.core.next_of(next, word) else {
             return self.core.rest_of(next);
         };
         self.stored = length_after(op, self.stored);
-        walk::<Q, Brand>(shared, &mut self.seat, &mut self.core, next, op, word)
+        walk::<Q, Brand>(&bus.words, &mut self.seat, &mut self.core, next, op, word)
     }
 
     /// The word of its next turn: of a vote the next one of `rng`, and else none is drawn.
@@ -368,14 +361,16 @@ impl<Q: Ratifier + Drop> Sender<Q> {
 
     /// Turns, until there is nothing more to do, or nothing more that can be done: Idle, Delivered,
     /// Left, Full, Closed or Spent. What it tells of the last answer is what a turn tells of it: of
-    /// Left, that the leave mark was published in that tenure. Each vote takes one word of `rng`,
-    /// and nothing else takes one. It waits for nothing but its own next turn, and that it ends is
-    /// not promised.
+    /// Left, that the leave mark was published in that tenure. After Full, Closed or Spent the
+    /// batch is kept. Each vote takes one word of `rng`, and nothing else takes one. It waits for
+    /// nothing but its own next turn, and that it ends is not promised.
     pub fn send<W: Wait, R: Rng>(&mut self, wait: &W, bus: &Bus<Q>, rng: &mut R) -> Turn
         requires { table_of self.old ≡ bus.now.table }
         ensures table { table_of self.new ≡ table_of self.old }
         ensures sends { Sends (process_by Q.Ratifier) (tells_by Q.Ratifier) self.old result
             self.new }
+        ensures keeps { is_refusal result ≡ true
+            → KeptAfter (process_by Q.Ratifier) self.old result self.new }
         ensures puts { let P = process_by Q.Ratifier in
             puts (actions_of P self.new) ≡ puts (actions_of P self.old) }
         ensures draws { DrawsOn (process_by Q.Ratifier) (tells_by Q.Ratifier) self.old
@@ -403,6 +398,10 @@ impl<Q: Ratifier + Drop> Sender<Q> {
             turn self.new) }
         ensures stops { IfNone result (StopsWaiting (process_by Q.Ratifier) (tells_by Q.Ratifier)
             F.step self.old go_on self.new) }
+        ensures keeps { let P = process_by Q.Ratifier in
+            IfSome result (λ turn. is_refusal turn ≡ true → KeptAfter P self.old turn self.new) }
+        ensures waits { let P = process_by Q.Ratifier in
+            IfNone result (waiting_of P self.new ≡ waiting_of P self.old) }
         ensures puts { let P = process_by Q.Ratifier in
             puts (actions_of P self.new) ≡ puts (actions_of P self.old) }
         ensures draws { DrawsOn (process_by Q.Ratifier) (tells_by Q.Ratifier) self.old
@@ -568,7 +567,7 @@ impl<Q: Ratifier + Drop> Sender<Q> {
             result.1.me.0) }
     {
         threads_may_go_by::<Q>();
-        meeting(&bus.table.shared, &mut self.seat, tap)
+        bus.words.meet(&mut self.seat, tap)
     }
 }
 

@@ -13,7 +13,8 @@ ghost use Rattle.bus_pageslot.specs.Steps.{laid_at, carried_of, out_with, stored
 ghost use Rattle.bus_pageslot.specs.Steps.{GoesOn, Due, slot_in, slots_emptied};
 ghost use Rattle.bus_pageslot.specs.Seats.{Shows, TookAndTold};
 
-use crate::rule::{BusSeat, Goes, SharedTable, Told};
+use crate::rule::{BusSeat, Told};
+use crate::words::Words;
 use bus_adoptcommit::Ratifier;
 use bus_automaton::laws::threads_may_go_by;
 use bus_core::{SenderCore, Step};
@@ -23,12 +24,12 @@ use bus_tenure::Turn;
 /// A sender that is to give the page back puts it into its slot. What it does next becomes what it
 /// does with the page out of its hands.
 fn put_out<Q: Ratifier + Drop>(
-    shared: &SharedTable<Q>,
+    words: &Words<Q>,
     seat: &mut BusSeat<Q>,
     core: &mut SenderCore<Q>,
     next: &mut Step,
 )
-    requires table { seat.old.table_id ≡ shared.now.table_id }
+    requires table { seat.old.table_id ≡ words.now.table }
     requires next { let X = election_of Q.Ratifier in step_of (situation X core.old) ≡ next.old }
     requires carried { seat.old.me.1 ≡ carried_of ((process_by Q.Ratifier).holds core.old) }
     ensures core { core.new ≡ (process_by Q.Ratifier).handed core.old }
@@ -39,44 +40,13 @@ fn put_out<Q: Ratifier + Drop>(
 {
     threads_may_go_by::<Q>();
     if let Some(page) = core.take_out_of(next) {
-        let _none = shared.exchange(seat, 0, Some(page));
-    }
-}
-
-/// The step itself. At a store it gives what was stored.
-#[inline(always)]
-fn take_step<Q: Ratifier + Drop, K: Told<SenderCore<Q>>>(
-    shared: &SharedTable<Q>,
-    seat: &mut BusSeat<Q>,
-    op: Op,
-) -> u64
-    requires table { seat.old.table_id ≡ shared.now.table_id }
-    requires due { Due (process_by Q.Ratifier) K.core K.word seat.old.me seat.old.table_id.words
-        op }
-    ensures table { (seat.new.table_id ≡ seat.old.table_id) × (seat.new.id ≡ seat.old.id) }
-    ensures goes { GoesOn (process_by Q.Ratifier) K.core K.word seat.old.me result seat.new.me }
-{
-    threads_may_go_by::<Q>();
-    match op {
-        Op::Load(at) => shared.load::<Goes<Q, K>>(seat, at.0 as usize),
-        Op::Store(at, value) => {
-            shared.store::<Goes<Q, K>>(seat, at.0 as usize, value);
-            value
-        }
-        Op::Add(at, value) => shared.fetch_add::<Goes<Q, K>>(seat, at.0 as usize, value),
-        Op::Cas(at, expected, value) => {
-            shared.compare_exchange::<Goes<Q, K>>(seat, at.0 as usize, expected, value)
-        }
+        let _none = words.exchange(seat, Some(page));
     }
 }
 
 /// A sender that has taken the page takes it out of its slot.
-fn take_in<Q: Ratifier + Drop>(
-    shared: &SharedTable<Q>,
-    seat: &mut BusSeat<Q>,
-    core: &mut SenderCore<Q>,
-)
-    requires table { seat.old.table_id ≡ shared.now.table_id }
+fn take_in<Q: Ratifier + Drop>(words: &Words<Q>, seat: &mut BusSeat<Q>, core: &mut SenderCore<Q>)
+    requires table { seat.old.table_id ≡ words.now.table }
     requires page { (process_by Q.Ratifier).awaits core.old ≡ true → (page : _)
         × (seat.old.me.1 ≡ (0, Some page) ∷ []) }
     ensures core { let P = process_by Q.Ratifier in
@@ -86,21 +56,21 @@ fn take_in<Q: Ratifier + Drop>(
         ≡ (seat.old.me.0, slots_emptied ((process_by Q.Ratifier).awaits core.old) seat.old.me.1) }
 {
     if core.awaits_page() {
-        let page = shared.exchange(seat, 0, None).unwrap();
+        let page = words.exchange(seat, None).unwrap();
         core.lay(page);
     }
 }
 
 /// The turn of a sender of which a step is due.
 pub(crate) fn walk<Q: Ratifier + Drop, K: Told<SenderCore<Q>>>(
-    shared: &SharedTable<Q>,
+    words: &Words<Q>,
     seat: &mut BusSeat<Q>,
     core: &mut SenderCore<Q>,
     mut next: Step,
     op: Op,
     word: u32,
 ) -> Turn
-    requires table { seat.old.table_id ≡ shared.now.table_id }
+    requires table { seat.old.table_id ≡ words.now.table }
     requires told { (K.core ≡ Some core.old) × (K.word ≡ word) }
     requires shows { Shows (process_by Q.Ratifier) core.old seat.old }
     requires next { let X = election_of Q.Ratifier in step_of (situation X core.old) ≡ next }
@@ -115,23 +85,23 @@ pub(crate) fn walk<Q: Ratifier + Drop, K: Told<SenderCore<Q>>>(
         }) }
 {
     threads_may_go_by::<Q>();
-    put_out(shared, seat, core, &mut next);
-    let got = take_step::<Q, K>(shared, seat, op);
+    put_out(words, seat, core, &mut next);
+    let got = words.step::<K>(seat, op);
     let turn = core.feed_of(next, got, word);
-    take_in(shared, seat, core);
+    take_in(words, seat, core);
     turn
 }
 
 /// The turn of a sender whose step is a plain store.
 #[inline(always)]
 pub(crate) fn store_plain<Q: Ratifier + Drop, K: Told<SenderCore<Q>>>(
-    shared: &SharedTable<Q>,
+    words: &Words<Q>,
     seat: &mut BusSeat<Q>,
     core: &mut SenderCore<Q>,
     op: Op,
     word: u32,
 )
-    requires table { seat.old.table_id ≡ shared.now.table_id }
+    requires table { seat.old.table_id ≡ words.now.table }
     requires told { (K.core ≡ Some core.old) × (K.word ≡ word) }
     requires shows { Shows (process_by Q.Ratifier) core.old seat.old }
     requires plain { IsPlain (election_of Q.Ratifier) core.old }
@@ -146,7 +116,7 @@ pub(crate) fn store_plain<Q: Ratifier + Drop, K: Told<SenderCore<Q>>>(
         }) }
 {
     threads_may_go_by::<Q>();
-    take_step::<Q, K>(shared, seat, op);
+    words.step::<K>(seat, op);
     core.plain_done();
 }
 

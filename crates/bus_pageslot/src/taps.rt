@@ -11,11 +11,9 @@ ghost use Rattle.bus_pageslot.specs.Listening.{Hears, HearsAfter, answer_of};
 
 use crate::buses::Bus;
 use crate::listening::{ItemTurn, hear, hear_in_place};
-use crate::meetings::meeting;
-use crate::rule::{BusSeat, LoadsLength, LoadsWord};
+use crate::rule::BusSeat;
 use crate::seats::Sender;
 use bus_adoptcommit::{Ratifier, ThreeWord};
-use bus_automaton::laws::threads_may_go_by;
 use bus_batch::Item;
 use bus_deliverylog::{Reader, RecvTurn};
 use bus_register::Reg;
@@ -24,8 +22,8 @@ use std::marker::Model;
 /// A receiver of a bus: its seat, how much of the log it knows, and what it has read of that. One
 /// thread at a time has it, and no call of it waits or takes memory.
 ///
-/// Its seat shows what its turns have answered, and counts a load for each call that loads; only a
-/// step on the table adds to either.
+/// Its seat shows what its turns have answered, and counts its loads, of which a meeting is three
+/// and counts one; only a step on the table adds to either.
 #[derive(Drop)]
 pub struct Tap<Q: Ratifier = ThreeWord> {
     seat: Option<BusSeat<Q>>,
@@ -118,10 +116,10 @@ impl<Q: Ratifier + Drop> Tap<Q> {
             *answer = RecvTurn::End;
             return false;
         }
-        let shared = &bus.table.shared;
+        let words = &bus.words;
         let mut seat = self.seat.take().unwrap();
         let went = hear(
-            shared,
+            words,
             &mut seat,
             self.log,
             &mut self.known,
@@ -145,7 +143,7 @@ impl<Q: Ratifier + Drop> Tap<Q> {
         }
         let mut seat = self.seat.take().unwrap();
         let turn = hear_in_place(
-            &bus.table.shared,
+            &bus.words,
             &mut seat,
             self.log,
             &mut self.known,
@@ -162,9 +160,8 @@ impl<Q: Ratifier + Drop> Tap<Q> {
         ensures table { self.new.table_id ≡ self.old.table_id }
         ensures learns { Learns self.old.me result self.new.me }
     {
-        threads_may_go_by::<Q>();
         let mut seat = self.seat.take().unwrap();
-        let length = bus.table.shared.load::<LoadsLength<Q>>(&mut seat, 0);
+        let length = bus.words.load_length(&mut seat);
         self.seat = Some(seat);
         self.known = length;
         length
@@ -184,10 +181,7 @@ impl<Q: Ratifier + Drop> Tap<Q> {
         ensures word { result ≡ slice_index (known_in self.old.me.0) place }
     {
         let mut seat = self.seat.take().unwrap();
-        let word = bus
-            .table
-            .shared
-            .load::<LoadsWord<Q>>(&mut seat, (self.log + place) as usize);
+        let word = bus.words.load_word(&mut seat, (self.log + place) as usize);
         self.seat = Some(seat);
         word
     }
@@ -207,7 +201,7 @@ impl<Q: Ratifier + Drop> Tap<Q> {
     {
         let mut mine = self.seat.take().unwrap();
         let theirs = other.seat.take().unwrap();
-        let (length, theirs) = meeting(&bus.table.shared, &mut mine, theirs);
+        let (length, theirs) = bus.words.meet(&mut mine, theirs);
         self.seat = Some(mine);
         self.known = length;
         other.seat = Some(theirs);

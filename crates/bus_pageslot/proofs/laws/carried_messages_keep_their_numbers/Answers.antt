@@ -1,4 +1,4 @@
-use Rattle.std.proofs.Common.{◌++◌, sym, ◌∙◌, ap, slice_index}
+use Rattle.std.proofs.Common.{◌++◌, ◌∙◌, ap, slice_index}
 use Rattle.bus_batch.specs.Batches.{next_of}
 use Rattle.bus_ownerbits.specs.Sizes.{election_bound}
 use Rattle.bus_automaton.specs.Buses.{process_with, automaton_with}

@@ -1,5 +1,8 @@
-use Rattle.bus_pageslot.proofs.ReaderLaws.{no_still_turn}
+use Rattle.bus_pageslot.proofs.ReaderLaws.{no_still_turn, no_still_telling}
 use Rattle.bus_pageslot.proofs.laws.no_turn_without_a_load.Goals as goal
 
-pub returns : goal.returns
-returns g c x e answer going within h = no_still_turn x e answer going within h
+pub returns-clause-turns : goal.returns-clause-turns
+returns-clause-turns g c x e answer going within h = no_still_turn x e answer going within h
+
+pub returns-clause-told : goal.returns-clause-told
+returns-clause-told g c x e got h = no_still_telling x e got h

@@ -13,7 +13,7 @@ pub loop-me-preserved : goal.loop-me-preserved
 loop-me-preserved g c =
     let P = process_with g.Q.Machine.kind_of g.Q.Machine.op g.Q.Machine.fed g.Q.Ratifier.protocol in
     let A = automaton_with g.Q.Machine.kind_of g.Q.Machine.op g.Q.Machine.fed g.Q.Ratifier.protocol c.args.plan in
-    let table = c.args.shared.now.table_id in
+    let table = c.args.words.now.table in
     record {
       below = omega arith;
       senders = subst (AreNewSeats P A table (c.loop-me.me + 1)) (sym c.in_ok-push.ensures.items) (one_more P A table c.loop-me.me c.loop-me.senders.items c.seat_next-sender.result c.loop-me.invariant.senders
@@ -27,7 +27,7 @@ returns-clause-senders g c =
     let P = process_with g.Q.Machine.kind_of g.Q.Machine.op g.Q.Machine.fed g.Q.Ratifier.protocol in
     let A = automaton_with g.Q.Machine.kind_of g.Q.Machine.op g.Q.Machine.fed g.Q.Ratifier.protocol c.args.plan in
     let all : c.loop-me.me ≡ c.args.plan.shape.senders = let b = c.loop-me.invariant.below in omega arith in
-    subst (λ n. AreNewSeats P A c.args.shared.now.table_id n c.loop-me.senders.items) all c.loop-me.invariant.senders
+    subst (λ n. AreNewSeats P A c.args.words.now.table n c.loop-me.senders.items) all c.loop-me.invariant.senders
 
 pub returns-clause-maker : goal.returns-clause-maker
 returns-clause-maker g c =

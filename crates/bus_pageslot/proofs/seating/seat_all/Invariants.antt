@@ -8,8 +8,8 @@ use Rattle.bus_pageslot.proofs.seating.seat_all.Given as goal
 abbrev pub invariant-loop-me : goal.invariant-loop-me
 invariant-loop-me g l = record {
   below : l.me ≤ l.plan.shape.senders;
-  senders : AreNewSeats (process_with g.Q.Machine.kind_of g.Q.Machine.op g.Q.Machine.fed g.Q.Ratifier.protocol) (automaton_with g.Q.Machine.kind_of g.Q.Machine.op g.Q.Machine.fed g.Q.Ratifier.protocol l.plan) l.shared.table_id l.me l.senders.items;
-  table : l.maker.table_id ≡ l.shared.table_id;
+  senders : AreNewSeats (process_with g.Q.Machine.kind_of g.Q.Machine.op g.Q.Machine.fed g.Q.Ratifier.protocol) (automaton_with g.Q.Machine.kind_of g.Q.Machine.op g.Q.Machine.fed g.Q.Ratifier.protocol l.plan) l.words.table l.me l.senders.items;
+  table : l.maker.table_id ≡ l.words.table;
   maker : l.maker.me ≡ (Maker (automaton_with g.Q.Machine.kind_of g.Q.Machine.op g.Q.Machine.fed g.Q.Ratifier.protocol l.plan).table_layout l.me, []);
 }
 

@@ -11,7 +11,7 @@ tap_next-tap-requires-clause-wide g c = ap (λ (z : TableId). z.words) c.loop.in
 pub loop-preserved : goal.loop-preserved
 loop-preserved g c =
     let n = (automaton_with g.Q.Machine.kind_of g.Q.Machine.op g.Q.Machine.fed g.Q.Ratifier.protocol c.args.plan).table_layout in
-    let table = c.args.shared.now.table_id in
+    let table = c.args.words.now.table in
     record {
       below = omega arith;
       taps = subst (AreNewTaps n table (c.loop.counter + 1)) (sym c.in_ok-push.ensures.items) (one_more_tap n table c.loop.counter c.loop.taps.items c.tap_next-tap.result c.loop.invariant.taps
@@ -23,4 +23,4 @@ loop-preserved g c =
 pub returns : goal.returns
 returns g c =
     let all : c.loop.counter ≡ c.args.plan.shape.receivers = let b = c.loop.invariant.below in omega arith in
-    subst (λ n. AreNewTaps (automaton_with g.Q.Machine.kind_of g.Q.Machine.op g.Q.Machine.fed g.Q.Ratifier.protocol c.args.plan).table_layout c.args.shared.now.table_id n c.loop.taps.items) all c.loop.invariant.taps
+    subst (λ n. AreNewTaps (automaton_with g.Q.Machine.kind_of g.Q.Machine.op g.Q.Machine.fed g.Q.Ratifier.protocol c.args.plan).table_layout c.args.words.now.table n c.loop.taps.items) all c.loop.invariant.taps

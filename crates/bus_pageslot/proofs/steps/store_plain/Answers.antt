@@ -9,8 +9,8 @@ use Rattle.bus_pageslot.proofs.Plain.{due_staying, shows_staying, told_staying}
 use Rattle.bus_pageslot.proofs.Processes.{plain_moves, plain_handed, plain_answer}
 use Rattle.bus_pageslot.proofs.steps.store_plain.Goals as goal
 
-pub take_step-requires-clause-due : goal.take_step-requires-clause-due
-take_step-requires-clause-due g c =
+pub step-requires-clause-due : goal.step-requires-clause-due
+step-requires-clause-due g c =
     let P = process_with g.Q.Machine.kind_of g.Q.Machine.op g.Q.Machine.fed g.Q.Ratifier.protocol in
     let d = c.args.core.now in
     let stays = plain_moves g.Q.Machine.kind_of g.Q.Machine.op g.Q.Machine.fed g.Q.Ratifier.protocol d c.requires.plain in
@@ -25,8 +25,8 @@ returns-clause-shows g c =
     let d = c.args.core.now in
     let stays = plain_moves g.Q.Machine.kind_of g.Q.Machine.op g.Q.Machine.fed g.Q.Ratifier.protocol d c.requires.plain in
     let handed = plain_handed g.Q.Machine.kind_of g.Q.Machine.op g.Q.Machine.fed g.Q.Ratifier.protocol d c.requires.plain in
-    let gone : Gone P d c.args.word c.args.seat.now.me c.take_step.result c.take_step.new.seat.me = subst (λ (y : Option (Sender (Elector g.row.Q.Denot)) × ℕ). GoesOn P y.0 y.1 c.args.seat.now.me c.take_step.result c.take_step.new.seat.me) (λ i. (c.requires.told.0 i, c.requires.told.1 i)) c.take_step.ensures.goes in
-    shows_staying P d stays K c.args.seat.now c.take_step.new.seat c.args.word c.take_step.result c.requires.shows handed gone c.plain_done.new.self (c.plain_done.ensures.state c.take_step.result c.args.word) c.take_step.ensures.table.0
+    let gone : Gone P d c.args.word c.args.seat.now.me c.step.result c.step.new.seat.me = subst (λ (y : Option (Sender (Elector g.row.Q.Denot)) × ℕ). GoesOn P y.0 y.1 c.args.seat.now.me c.step.result c.step.new.seat.me) (λ i. (c.requires.told.0 i, c.requires.told.1 i)) c.step.ensures.goes in
+    shows_staying P d stays K c.args.seat.now c.step.new.seat c.args.word c.step.result c.requires.shows handed gone c.plain_done.new.self (c.plain_done.ensures.state c.step.result c.args.word) c.step.ensures.table.0
 
 pub returns-clause-took : goal.returns-clause-took
 unfolding process_with
@@ -34,10 +34,10 @@ returns-clause-took g c =
     let P = process_with g.Q.Machine.kind_of g.Q.Machine.op g.Q.Machine.fed g.Q.Ratifier.protocol in
     let K = c.threads_may_go_by.ensures.process in
     let d = c.args.core.now in
-    let got = c.take_step.result in
+    let got = c.step.result in
     let stays = plain_moves g.Q.Machine.kind_of g.Q.Machine.op g.Q.Machine.fed g.Q.Ratifier.protocol d c.requires.plain in
     let handed = plain_handed g.Q.Machine.kind_of g.Q.Machine.op g.Q.Machine.fed g.Q.Ratifier.protocol d c.requires.plain in
     let answer = plain_answer g.Q.Machine.kind_of g.Q.Machine.op g.Q.Machine.fed g.Q.Ratifier.protocol d c.requires.plain got c.args.word in
-    let gone : Gone P d c.args.word c.args.seat.now.me got c.take_step.new.seat.me = subst (λ (y : Option (Sender (Elector g.row.Q.Denot)) × ℕ). GoesOn P y.0 y.1 c.args.seat.now.me got c.take_step.new.seat.me) (λ i. (c.requires.told.0 i, c.requires.told.1 i)) c.take_step.ensures.goes in
-    told_staying P d stays K c.args.seat.now c.take_step.new.seat c.args.word got c.requires.shows handed gone c.plain_done.new.self (c.plain_done.ensures.state got c.args.word) c.take_step.ensures.table.0
+    let gone : Gone P d c.args.word c.args.seat.now.me got c.step.new.seat.me = subst (λ (y : Option (Sender (Elector g.row.Q.Denot)) × ℕ). GoesOn P y.0 y.1 c.args.seat.now.me got c.step.new.seat.me) (λ i. (c.requires.told.0 i, c.requires.told.1 i)) c.step.ensures.goes in
+    told_staying P d stays K c.args.seat.now c.step.new.seat c.args.word got c.requires.shows handed gone c.plain_done.new.self (c.plain_done.ensures.state got c.args.word) c.step.ensures.table.0
     (FeedTells (election_with g.Q.Machine.kind_of g.Q.Machine.op g.Q.Machine.fed g.Q.Ratifier.protocol)) Going answer (c.plain_done.ensures.tells got c.args.word)

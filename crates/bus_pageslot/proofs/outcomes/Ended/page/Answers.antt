@@ -1,4 +1,4 @@
-use Rattle.std.proofs.Common.{◌+◌, Some, ◌∙◌, length, slice_get, slice_index, ap, sym, subst}
+use Rattle.std.proofs.Common.{◌+◌, ◌<◌, Some, ◌∙◌, length, slice_get, slice_index, ap, sym, subst}
 use Rattle.bus_batch.specs.Frames.{Spells, has_gone}
 use Rattle.bus_deliverylog.specs.Orders.{of_sender}
 use Rattle.bus_pageslot.specs.Outcomes.{Outcome}
@@ -23,3 +23,10 @@ returns-clause-next c sender order owners below spells =
     ap (λ p. slice_index p.next sender) c.get.ensures
     ∙ c.self.invariant.counts sender below ∙ ap (λ z. slice_index c.self.inside.bases sender + length (of_sender sender z)) same
     ∙ ap (λ (z : Outcome). slice_index z.bases sender + length (of_sender sender order)) c.self.view_is
+
+pub returns-clause-tenures : goal.returns-clause-tenures
+returns-clause-tenures c order owners place tenure owner spells at =
+    let own = subst (λ z. Spells z.senders z.log order owners) (sym c.self.view_is) spells in
+    let same = (c.spells_one.ensures _ _ c.self.invariant.order order c.self.invariant.owners owners c.self.invariant.spells own).1 in
+    subst (λ p. tenure < p.tenures) (sym c.get.ensures)
+    (c.self.invariant.tenures place tenure owner (ap (λ l. slice_get l place) same ∙ at))

@@ -5,7 +5,8 @@ use Rattle.bus_tenure.specs.declared.turns.Turn.TheVariants.{Going}
 use Rattle.bus_pageslot.specs.Seats.{actions_of}
 use Rattle.bus_pageslot.specs.Turns.{tells_with, Turned, Begins, Goes, Asks, Undrawn, word_drawn}
 use Rattle.bus_pageslot.proofs.Plain.{due_some}
-use Rattle.bus_pageslot.proofs.Sending.{turned_puts, drawn_on, asks_same, draws_same}
+use Rattle.bus_pageslot.proofs.Keeping.{leaves_batch, going_keeps, refused_keeps}
+use Rattle.bus_pageslot.proofs.Sending.{turned_puts, drawn_on, asks_same, draws_same, goes_on, waiting_goes}
 use Rattle.bus_pageslot.proofs.seats.Sender.send_while.Goals as goal
 
 pub returns-then-ends_sending-clause-sends : goal.returns-then-ends_sending-clause-sends
@@ -29,6 +30,33 @@ returns-then-ends_sending-clause-puts g c =
     let same = c.plain_turn.ensures.stays c.if-plain_turn.false in
     let turned : Turned P T c.plain_turn.new.self c.next_word-word.result c.full_turn-turn.result c.full_turn-turn.new.self = record { rests = c.full_turn-turn.ensures.rests; steps = c.full_turn-turn.ensures.steps } in
     turned_puts P T c.threads_may_go_by.ensures.process c.plain_turn.new.self c.next_word-word.result c.full_turn-turn.result c.full_turn-turn.new.self turned ∙ ap (λ y. puts (actions_of P y)) same ∙ c.loop.invariant.3
+
+pub returns-then-ends_sending-clause-keeps : goal.returns-then-ends_sending-clause-keeps
+unfolding tells_with
+returns-then-ends_sending-clause-keeps g c =
+    let P = process_with g.Q.Machine.kind_of g.Q.Machine.op g.Q.Machine.fed g.Q.Ratifier.protocol in
+    let T = tells_with g.Q.Machine.kind_of g.Q.Machine.op g.Q.Machine.fed g.Q.Ratifier.protocol in
+    let same = c.plain_turn.ensures.stays c.if-plain_turn.false in
+    refused_keeps P T (leaves_batch g.Q.Machine.kind_of g.Q.Machine.op g.Q.Machine.fed g.Q.Ratifier.protocol)
+    c.args.self.now c.full_turn-turn.result c.full_turn-turn.new.self (record {
+      old = c.plain_turn.new.self;
+      word = c.next_word-word.result;
+      before = goes_on P T (goal.F-step g) c.args.self.now c.args.go_on c.plain_turn.new.self c.loop.go_on (asks_same same c.loop.invariant.1);
+      turned = record { rests = c.full_turn-turn.ensures.rests; steps = c.full_turn-turn.ensures.steps };
+      last = sym c.ends_sending.ensures ∙ c.if-ends_sending.true;
+    })
+
+pub returns-then-not-go_on-clause-waits : goal.returns-then-not-go_on-clause-waits
+unfolding tells_with
+returns-then-not-go_on-clause-waits g c =
+    let P = process_with g.Q.Machine.kind_of g.Q.Machine.op g.Q.Machine.fed g.Q.Ratifier.protocol in
+    let T = tells_with g.Q.Machine.kind_of g.Q.Machine.op g.Q.Machine.fed g.Q.Ratifier.protocol in
+    let same = c.plain_turn.ensures.stays c.if-plain_turn.false in
+    going_keeps P T (leaves_batch g.Q.Machine.kind_of g.Q.Machine.op g.Q.Machine.fed g.Q.Ratifier.protocol)
+    c.args.self.now c.plain_turn.new.self c.next_word-word.result c.full_turn-turn.result c.full_turn-turn.new.self
+    (goes_on P T (goal.F-step g) c.args.self.now c.args.go_on c.plain_turn.new.self c.loop.go_on (asks_same same c.loop.invariant.1))
+    (record { rests = c.full_turn-turn.ensures.rests; steps = c.full_turn-turn.ensures.steps })
+    (waiting_goes c.full_turn-turn.result (sym c.is_waiting.ensures ∙ c.if-not-is_waiting.false))
 
 pub loop-init : goal.loop-init
 loop-init g c = (c.requires.callable, Begins, refl, refl, Undrawn)

@@ -18,7 +18,7 @@ invariant_of-self g c =
     let there : receiver_seat_of c.other.inside.seat ≡ receiver_seat theirs = ap receiver_seat_of (sym c.take-2.ensures.value ∙ c.unwrap-theirs.ensures) in
     let a : IsTap (receiver_seat mine) c.self.inside.log c.self.inside.known c.self.inside.reader = subst (λ (s : S). IsTap s c.self.inside.log c.self.inside.known c.self.inside.reader) here c.self.invariant in
     let b : IsTap (receiver_seat theirs) c.other.inside.log c.other.inside.known c.other.inside.reader = subst (λ (s : S). IsTap s c.other.inside.log c.other.inside.known c.other.inside.reader) there c.other.invariant in
-    let length = c.meeting-length in
+    let length = c.meet-length in
     let met = met_of (process_with g.Q.Machine.kind_of g.Q.Machine.op g.Q.Machine.fed g.Q.Ratifier.protocol) a.sits.table_layout a.sits.receiver_view b.sits.table_layout b.sits.receiver_view mine.me theirs.me length.result.0 length.new.seat.me length.result.1.me a.sits.me b.sits.me length.ensures.met in
     learned (process_with g.Q.Machine.kind_of g.Q.Machine.op g.Q.Machine.fed g.Q.Ratifier.protocol) (receiver_seat mine) c.self.inside.log c.self.inside.known length.result.0 c.self.inside.reader length.new.seat.me length.new.seat.table_id a met.0 (ap (λ (z : TableId). z.words) length.ensures.table.0)
 
@@ -31,7 +31,7 @@ invariant_of-other g c =
     let there : receiver_seat_of c.other.inside.seat ≡ receiver_seat theirs = ap receiver_seat_of (sym c.take-2.ensures.value ∙ c.unwrap-theirs.ensures) in
     let a : IsTap (receiver_seat mine) c.self.inside.log c.self.inside.known c.self.inside.reader = subst (λ (s : S). IsTap s c.self.inside.log c.self.inside.known c.self.inside.reader) here c.self.invariant in
     let b : IsTap (receiver_seat theirs) c.other.inside.log c.other.inside.known c.other.inside.reader = subst (λ (s : S). IsTap s c.other.inside.log c.other.inside.known c.other.inside.reader) there c.other.invariant in
-    let length = c.meeting-length in
+    let length = c.meet-length in
     let met = met_of (process_with g.Q.Machine.kind_of g.Q.Machine.op g.Q.Machine.fed g.Q.Ratifier.protocol) a.sits.table_layout a.sits.receiver_view b.sits.table_layout b.sits.receiver_view mine.me theirs.me length.result.0 length.new.seat.me length.result.1.me a.sits.me b.sits.me length.ensures.met in
     let table = length.ensures.table.2 ∙ ap (λ (s : S). s.table_id) (sym here ∙ c.self.view_is) ∙ c.requires.table.0 ∙ sym c.requires.table.1 ∙ ap (λ (s : S). s.table_id) (sym c.other.view_is ∙ there) in
     learned (process_with g.Q.Machine.kind_of g.Q.Machine.op g.Q.Machine.fed g.Q.Ratifier.protocol) (receiver_seat theirs) c.other.inside.log c.other.inside.known length.result.0 c.other.inside.reader length.result.1.me length.result.1.table_id b met.1 (ap (λ (z : TableId). z.words) table)
@@ -45,6 +45,6 @@ returns-clause-agree g c =
     let there : receiver_seat_of c.other.inside.seat ≡ receiver_seat theirs = ap receiver_seat_of (sym c.take-2.ensures.value ∙ c.unwrap-theirs.ensures) in
     let a : IsTap (receiver_seat mine) c.self.inside.log c.self.inside.known c.self.inside.reader = subst (λ (s : S). IsTap s c.self.inside.log c.self.inside.known c.self.inside.reader) here c.self.invariant in
     let b : IsTap (receiver_seat theirs) c.other.inside.log c.other.inside.known c.other.inside.reader = subst (λ (s : S). IsTap s c.other.inside.log c.other.inside.known c.other.inside.reader) there c.other.invariant in
-    let length = c.meeting-length in
+    let length = c.meet-length in
     let met = met_of (process_with g.Q.Machine.kind_of g.Q.Machine.op g.Q.Machine.fed g.Q.Ratifier.protocol) a.sits.table_layout a.sits.receiver_view b.sits.table_layout b.sits.receiver_view mine.me theirs.me length.result.0 length.new.seat.me length.result.1.me a.sits.me b.sits.me length.ensures.met in
     subst (λ (y : S × S). Agree (receiver_view_in y.0.me.0) (receiver_view_in y.1.me.0)) (λ i. ((sym here ∙ c.self.view_is) i, (sym there ∙ c.other.view_is) i)) met.3

@@ -1,0 +1,131 @@
+//! What each step on a word makes its seat show. Only `words` can pick one.
+
+use crate::rule::{Seated, Told, View};
+use atomic_table::{Join, Play, Split};
+use bus_adoptcommit::Ratifier;
+use bus_core::SenderCore;
+use bus_tenure::OwnedPage;
+use std::marker::PhantomData;
+
+/// The seat shows the sender that was picked, with the turn that it took.
+pub(super) struct Goes<Q, K> {
+    of: PhantomData<(Q, K)>,
+}
+
+impl<Q: Ratifier, K: Told<SenderCore<Q>>> Play<Option<OwnedPage>, View<SenderCore<Q>>>
+    for Goes<Q, K> {
+    ghost use Rattle.bus_automaton.specs.Buses.{process_with};
+    ghost use Rattle.bus_pageslot.specs.Steps.{GoesOn};
+
+    ghost then = { λ _ m got m'. GoesOn (process_with Q.kind_of Q.op Q.fed Q.protocol)
+        K.core K.word m got m' };
+}
+
+/// The next sender's seat is made.
+pub(super) struct Cut<Q, K> {
+    of: PhantomData<(Q, K)>,
+}
+
+impl<Q: Ratifier, K: Seated<SenderCore<Q>>> Split<View<SenderCore<Q>>> for Cut<Q, K> {
+    ghost use Rattle.bus_pageslot.specs.Rule.{cut_left, cut_right};
+
+    ghost left = { cut_left };
+
+    ghost right = { λ _. cut_right K.core K.first };
+}
+
+/// A receiver's seat is made.
+pub(super) struct CutTap<Q> {
+    of: PhantomData<Q>,
+}
+
+impl<Q: Ratifier> Split<View<SenderCore<Q>>> for CutTap<Q> {
+    ghost use Rattle.bus_pageslot.specs.Rule.{tap_left, tap_right};
+
+    ghost left = { tap_left };
+
+    ghost right = { tap_right };
+}
+
+/// A receiver's seat loaded the length.
+pub(super) struct LoadsLength<Q> {
+    of: PhantomData<Q>,
+}
+
+impl<Q: Ratifier> Play<Option<OwnedPage>, View<SenderCore<Q>>> for LoadsLength<Q> {
+    ghost use Rattle.bus_pageslot.specs.Steps.{Learns};
+
+    ghost then = { λ _ m got m'. Learns m got m' };
+}
+
+/// A receiver's seat loaded a word that it knows.
+pub(super) struct LoadsWord<Q> {
+    of: PhantomData<Q>,
+}
+
+impl<Q: Ratifier> Play<Option<OwnedPage>, View<SenderCore<Q>>> for LoadsWord<Q> {
+    ghost use Rattle.bus_pageslot.specs.Steps.{Reads};
+
+    ghost then = { λ step m got m'. Reads m step.word got m' };
+}
+
+/// By a turn of it a receiver's seat loaded the length.
+pub(super) struct LoadsLengthInTurn<Q> {
+    of: PhantomData<Q>,
+}
+
+impl<Q: Ratifier> Play<Option<OwnedPage>, View<SenderCore<Q>>> for LoadsLengthInTurn<Q> {
+    ghost use Rattle.bus_pageslot.specs.Listening.{FindsLength};
+
+    ghost then = { λ _ m got m'. FindsLength m got m' };
+}
+
+/// By a turn of it a receiver's seat loaded the word at its place.
+pub(super) struct LoadsWordInTurn<Q> {
+    of: PhantomData<Q>,
+}
+
+impl<Q: Ratifier> Play<Option<OwnedPage>, View<SenderCore<Q>>> for LoadsWordInTurn<Q> {
+    ghost use Rattle.bus_pageslot.specs.Listening.{FindsWord};
+
+    ghost then = { λ _ m got m'. FindsWord m got m' };
+}
+
+/// A receiver's seat goes into another seat.
+pub(super) struct Meet<Q> {
+    of: PhantomData<Q>,
+}
+
+impl<Q: Ratifier> Join<View<SenderCore<Q>>> for Meet<Q> {
+    ghost use Rattle.bus_pageslot.specs.declared.rule.View.TheVariants.{Spent};
+    ghost use Rattle.bus_pageslot.specs.Rule.{views_joined};
+
+    ghost both = { views_joined };
+
+    ghost spent = { Spent };
+}
+
+/// It comes out of it again.
+pub(super) struct Part<Q> {
+    of: PhantomData<Q>,
+}
+
+impl<Q: Ratifier> Split<View<SenderCore<Q>>> for Part<Q> {
+    ghost use Rattle.bus_pageslot.specs.Rule.{first_of, second_of};
+
+    ghost left = { first_of };
+
+    ghost right = { second_of };
+}
+
+/// Two joined seats loaded the length.
+pub(super) struct LoadsJoined<Q> {
+    of: PhantomData<Q>,
+}
+
+impl<Q: Ratifier> Play<Option<OwnedPage>, View<SenderCore<Q>>> for LoadsJoined<Q> {
+    ghost use Rattle.bus_automaton.specs.Buses.{process_with};
+    ghost use Rattle.bus_pageslot.specs.Steps.{Meets};
+
+    ghost then = { λ _ m got m'. Meets (process_with Q.kind_of Q.op Q.fed Q.protocol) m got m' };
+}
