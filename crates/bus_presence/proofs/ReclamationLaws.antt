@@ -785,12 +785,23 @@ no_look x p t u trail e s = let after = s.after in elim (cases_eq s.looked 1) [
   | inr ne ↦ none_is_not (looking x s.stage) (sym (ap (λ z. slice_get z s.looked) e ∙ slice_get_past (sees_stage x t ∷ shows_it x p t ∷ []) s.looked (omega arith)) ∙ s.looks)
 ]
 
+-- nor does one whose look found the stage of another
+no_other : (x : ReclamationSizes) (p t u : ℕ) (trail : List Entry) → trail ≡ shows_it x p t ∷ sees_stage x u ∷ [] → t ≢ u → Stands x p trail t → ⊥
+no_other x p t u trail e other s = let after = s.after in let found = s.of_tenure in elim (cases_eq s.looked 1) [
+  | inl one ↦
+      let same : 2 * u ≡ s.stage = ap (λ (e : Entry). e.got) (same_Some _ _ (ap (slice_get (shows_it x p t ∷ sees_stage x u ∷ [])) (sym one) ∙ ap (λ z. slice_get z s.looked) (sym e) ∙ s.looks)) in
+      other (omega arith)
+  | inr ne ↦ none_is_not (looking x s.stage) (sym (ap (λ z. slice_get z s.looked) e ∙ slice_get_past (shows_it x p t ∷ sees_stage x u ∷ []) s.looked (omega arith)) ∙ s.looks)
+]
+
 next_row : (t rows : ℕ) → (t + rows) % rows ≡ t % rows
 next_row t rows = add-mod_right t rows
 
 pub safety_refused : SafetyRefuses
 safety_refused = record {
   unlooked = λ x h T p t at e safe. no_look x p t t (T p) e (safe.stands p t at);
+  another_stage = λ x h T p t u at e other safe. no_other x p t u (T p) e other (safe.stands p t at);
+  shown_away = λ x h T p t below away set safe. let none : 1 + t ≡ 0 = sym set ∙ safe.shows p below ∙ ap number_shown away in omega arith;
   stale = λ x h T p t e late safe. let l = safe.in_time p t (come x p t (T p) e) in omega arith;
   early = λ x h T p t e late safe. let l = safe.opened p t (come x p t (T p) e) in omega arith;
   shared = λ x h T p q t some e e' safe. let same = safe.alone p q t (t + x.rows) (come x p t (T p) e) (come x q (t + x.rows) (T q) e') (sym (next_row t x.rows)) in omega arith;

@@ -6,7 +6,7 @@ use Rattle.bus_presence.specs.Reclaimers.{Reclaiming, reclaim_op, behind_of}
 use Rattle.bus_presence.specs.Reclamation.{ReclamationSizes, Reclamation, Entry, Trails, IsReady, stage_at, presence_at, row_of, tenure_of, number_of_step}
 use Rattle.bus_presence.specs.Standing.{IsSafe}
 use Rattle.bus_presence.specs.declared.reclaimers.Behind.{Behind}
-use Rattle.bus_presence.specs.declared.pins.Pin.TheVariants.{Pinned}
+use Rattle.bus_presence.specs.declared.pins.Pin.TheVariants.{Away, Pinned}
 
 abbrev pub shows_it : ReclamationSizes → ℕ → ℕ → Entry
 shows_it x p t = record { op = Store record { 0 = presence_at x p } (1 + t); got = 0 }
@@ -21,6 +21,10 @@ has_come x p t = shows_it x p t ∷ sees_stage x t ∷ []
 pub record SafetyRefuses : Type 0 where
   -- a sender may step in a tenure whose stage it loaded before it stored its presence
   pub unlooked : (x : ReclamationSizes) (h : Reclamation) (T : Trails) (p t : ℕ) → h.pins p ≡ Pinned t → T p ≡ sees_stage x t ∷ shows_it x p t ∷ [] → ¬ IsSafe x h T
+  -- a sender may step in a tenure though its look at the stage, after it stored its presence, found that of another tenure
+  pub another_stage : (x : ReclamationSizes) (h : Reclamation) (T : Trails) (p t u : ℕ) → h.pins p ≡ Pinned t → T p ≡ shows_it x p t ∷ sees_stage x u ∷ [] → t ≢ u → ¬ IsSafe x h T
+  -- a sender is away, and its presence names a tenure still
+  pub shown_away : (x : ReclamationSizes) (h : Reclamation) (T : Trails) (p t : ℕ) → p < x.senders → h.pins p ≡ Away → h.words (presence_at x p) ≡ 1 + t → ¬ IsSafe x h T
   -- a sender stands in a tenure whose row has gone on
   pub stale : (x : ReclamationSizes) (h : Reclamation) (T : Trails) (p t : ℕ) → T p ≡ has_come x p t → t + x.rows ≤ tenure_of x h → ¬ IsSafe x h T
   -- a sender stands in a tenure that was not opened

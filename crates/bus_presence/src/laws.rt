@@ -39,10 +39,11 @@ pub fn tenures_only_rise()
 {}
 
 /// No reclamation is safe where a sender may step in a tenure whose stage it loaded before it
-/// stored its presence, where one stands in a tenure whose row has gone on, or that was not opened,
-/// where two stand in two tenures of one row, where one stands in the row that a holder clears,
-/// where a holder clears before all presences have passed, or waits without that cause, or where a
-/// page may be given back while a word of the next row is not 0.
+/// stored its presence, or though its look afterwards found another tenure's stage; where one is
+/// away and its presence names a tenure still; where one stands in a tenure whose row has gone on,
+/// or that was not opened, where two stand in two tenures of one row, where one stands in the row
+/// that a holder clears, where a holder clears before all presences have passed, or waits without
+/// that cause, or where a page may be given back while a word of the next row is not 0.
 pub fn safety_refuses()
     ensures { SafetyRefuses }
 {}

@@ -65,7 +65,7 @@ one_below (suc n) k l = elim (eqb_tells k n) [
 ]
 
 -- ---- items, sender by sender
-abbrev Below : ℕ → List Item → Type 0
+abbrev pub Below : ℕ → List Item → Type 0
 Below n [] = Unit {0}
 Below n (i ∷ items) = (i.sender.0 < n) × Below n items
 
@@ -99,7 +99,7 @@ below_body n owner (Messages messages) l = below_messages n owner messages l
 below_body n owner (Marked mark.End) l = tt
 below_body n owner (Marked mark.Leave) l = tt
 
-below_frames : (senders n least : ℕ) (fs : List Frame) → senders ≤ n → AreFramesFrom senders least fs → Below n (items_in (flat_map entries_of fs))
+pub below_frames : (senders n least : ℕ) (fs : List Frame) → senders ≤ n → AreFramesFrom senders least fs → Below n (items_in (flat_map entries_of fs))
 below_frames senders n least [] l h = tt
 below_frames senders n least (f ∷ fs) l h =
     subst (Below n) (sym (flat_map-append item_in (entries_of f) (flat_map entries_of fs)))

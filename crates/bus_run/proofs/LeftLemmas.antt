@@ -1,7 +1,8 @@
 -- What a seat has learnt, and what a bus of a run leaves behind.
 use Rattle.std.proofs.Common.{◌≡◌, ℕ, List, [], ◌∷◌, ◌++◌, ◌+◌, refl, sym, ap, subst, ◌∙◌, append_assoc, append-nil, add-zero, arith, ◌⊎◌, inl, inr, Option, Some, None, map}
-use Rattle.std.specs.Prelude.{slice_get, IfSome}
+use Rattle.std.specs.Prelude.{slice_get, get_or, IfSome, All}
 use Rattle.bus_batch.specs.Frames.{Order, Spells}
+use Rattle.bus_tenure.specs.declared.pages.Page.{Page}
 use Rattle.bus_world.specs.Headline.{IsPrefix}
 use Rattle.bus_automaton.specs.Buses.{automaton_with}
 use Rattle.bus_automaton.specs.declared.plans.Plan.{Plan}
@@ -9,10 +10,13 @@ use Rattle.bus_world.specs.declared.shapes.Shape.{Shape}
 use Rattle.bus_pageslot.specs.declared.rule.View.TheVariants.{Maker, Sender, Tap, Meeting, Telling, Spent}
 use Rattle.bus_pageslot.specs.Outcomes.{Outcome}
 use Rattle.bus_pageslot.specs.Rule.{Sat, receiver_view_in, known_in, with_receiver_view}
+use Rattle.bus_pageslot.specs.Seats.{SenderSeat}
 use Rattle.bus_pageslot.specs.Steps.{Learns}
 use Rattle.bus_run.specs.Audit.{IsSpelled, OfOrder}
-use Rattle.bus_run.specs.Left.{Held, Shown, run_automaton, IsLeftBy, IsLeftBehind, HasLearnt}
+use Rattle.bus_run.specs.Left.{Held, Shown, run_automaton, IsLeftBy, IsLeftBehind, HasLearnt, number_of, senders_of}
 use Rattle.bus_run.specs.Stops.{LeavesNoPage, LeavesOrder, IsOpen}
+use Rattle.bus_run.specs.Told.{HasTold}
+use Rattle.bus_run.proofs.ToldLemmas.{told_of}
 
 -- ---- what a seat has learnt
 
@@ -70,16 +74,26 @@ one_learnt m got m' h = record { known = h.known; now = ap (λ (z : Sat Held). z
 
 -- ---- what is left
 -- how many senders the bus of a plan has
-senders_of : (shape : Shape) (reuse : Option ℕ) (bases : List ℕ) → (run_automaton (record { shape = shape; reuse = reuse; bases = bases })).table_layout.senders ≡ shape.senders
+senders_planned : (shape : Shape) (reuse : Option ℕ) (bases : List ℕ) → (run_automaton (record { shape = shape; reuse = reuse; bases = bases })).table_layout.senders ≡ shape.senders
 unfolding automaton_with
-senders_of shape None bases = refl
-senders_of shape (Some rows) bases = refl
+senders_planned shape None bases = refl
+senders_planned shape (Some rows) bases = refl
 
 -- the words that were left spell an order
 pub spelled_behind : (plan : Plan) (left : Outcome) → IsLeftBehind plan left → left.senders ≡ plan.shape.senders → IsSpelled left
 spelled_behind plan left h of =
     let promised = h.left.promised in
-    (promised.order, promised.owners, subst (λ n. Spells n left.log promised.order promised.owners) (sym of) (subst (λ (z : ℕ × List ℕ). Spells z.0 z.1 promised.order promised.owners) (λ k. (senders_of plan.shape plan.reuse plan.bases k, h.left.log_is k)) promised.spelled))
+    (promised.order, promised.owners, subst (λ n. Spells n left.log promised.order promised.owners) (sym of) (subst (λ (z : ℕ × List ℕ). Spells z.0 z.1 promised.order promised.owners) (λ k. (senders_planned plan.shape plan.reuse plan.bases k, h.left.log_is k)) promised.spelled))
+
+-- what senders have told a seat that ended a bus is a log of the senders of that bus
+pub told_of_bus : {D : Type 0} (sender : D → SenderSeat Held) (a b : Plan) → a ≡ b → (seen : Shown) (log : List ℕ) (home : Option Page) (messages : ℕ) (xs : List D) → IsLeftBy a seen log home
+    → All (λ d. HasTold (senders_of (sender d)) (number_of (sender d)) messages (known_in seen)) xs → All (λ d. HasTold b.shape.senders (number_of (sender d)) messages (known_in seen)) xs
+told_of_bus sender a b same seen log home messages xs left told k d l =
+    let s = sender (get_or xs k d) in
+    let promised = left.promised in
+    let spelled = subst (λ (z : ℕ × List ℕ). Spells z.0 z.1 promised.order promised.owners) (λ j. (senders_planned a.shape a.reuse a.bases j, left.log_is j)) promised.spelled in
+    subst (λ (x : Plan). HasTold x.shape.senders (number_of s) messages (known_in seen)) same
+    (told_of (senders_of s) a.shape.senders (number_of s) messages (known_in seen) log promised.order promised.owners (told k d l) left.front spelled)
 
 -- a bus that a seat has ended with its page at home leaves an order
 pub leaves : (a b : Plan) → a ≡ b → (Ends : Shown → Type 0) (last : Shown) (left : Outcome) (P : Order → Type 0) → Ends last → left.senders ≡ a.shape.senders → IsLeftBy a last left.log (Some left.page) → OfOrder left P → LeavesOrder b Ends P
@@ -88,10 +102,14 @@ leaves a b same Ends last left P ends of by holds =
     let senders : left.senders ≡ b.shape.senders = of ∙ ap (λ (x : Plan). x.shape.senders) same in
     record { left = left; senders = senders; behind = behind; ends = ends; spelled = spelled_behind b left behind senders; holds = holds }
 
--- what is true of the seat that ended a bus which was left open
-pub left_open : (a b : Plan) → a ≡ b → (Ends : Shown → Type 0) (last : Shown) → Ends last → LeavesNoPage a (λ seen. seen ≡ last) ⊎ LeavesOrder a (λ seen. seen ≡ last) IsOpen → LeavesNoPage b Ends ⊎ LeavesOrder b Ends IsOpen
-left_open a b same Ends last ends (inl h) = inl (record { seen = h.seen; ends = subst Ends (sym h.ends) ends; log = h.log; left = subst (λ x. IsLeftBy x h.seen h.log None) same h.left })
-left_open a b same Ends last ends (inr h) = inr (leaves a b same Ends h.behind.seen h.left IsOpen (subst Ends (sym h.ends) ends) h.senders h.behind.left h.holds)
+-- what is true of the seat that ended a bus which was left open, whatever that left
+pub left_open : (a b : Plan) → a ≡ b → (Ends : Shown → Type 0) (last : Shown) → ((log : List ℕ) (home : Option Page) → IsLeftBy a last log home → Ends last)
+    → LeavesNoPage a (λ seen. seen ≡ last) ⊎ LeavesOrder a (λ seen. seen ≡ last) IsOpen → LeavesNoPage b Ends ⊎ LeavesOrder b Ends IsOpen
+left_open a b same Ends last ends (inl h) =
+    inl (record { seen = h.seen; ends = subst Ends (sym h.ends) (ends h.log None (subst (λ v. IsLeftBy a v h.log None) h.ends h.left)); log = h.log; left = subst (λ x. IsLeftBy x h.seen h.log None) same h.left })
+left_open a b same Ends last ends (inr h) =
+    let there = subst (λ v. IsLeftBy a v h.left.log (Some h.left.page)) h.ends h.behind.left in
+    inr (leaves a b same Ends h.behind.seen h.left IsOpen (subst Ends (sym h.ends) (ends h.left.log (Some h.left.page) there)) h.senders h.behind.left h.holds)
 
 -- ---- the first of a list that grows
 stays_first : {A B : Type 0} (f : A → B) (xs : List A) (y : A) (b : B) → slice_get (map f xs) 0 ≡ Some b → slice_get (map f (xs ++ y ∷ [])) 0 ≡ Some b

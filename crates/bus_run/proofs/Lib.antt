@@ -7,3 +7,4 @@ pub mod LeftLemmas
 pub mod PutLemmas
 pub mod CountLemmas
 pub mod NoteLemmas
+pub mod Refusing

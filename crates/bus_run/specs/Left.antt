@@ -56,6 +56,10 @@ number_of s = run_process.me s.core
 abbrev pub batch_of : SenderSeat Held → Pending
 batch_of s = run_process.queue s.core
 
+-- of how many senders it is one
+abbrev pub senders_of : SenderSeat Held → ℕ
+senders_of s = (run_process.table_layout s.core).senders
+
 abbrev pub Shown : Type 0
 Shown = View Held
 
@@ -81,10 +85,10 @@ pub record HasLearnt (times : ℕ) (old new : Shown) : Type 0 where
   pub now : new ≡ with_receiver_view old (record (receiver_view_in old) { known = known; loads = (receiver_view_in old).loads + times })
   pub grows : IsPrefix (known_in old) known
 
--- it is the first receiver's after one load for each sender, and knows a log that has of each just the numbers below this one at its
--- front
-pub record IsToldByAll {D : Type 0} (sender : D → SenderSeat Held) (messages : ℕ) (send_workers : List D) (seats : List Shown) (seen : Shown) : Type 0 where
+-- it is the first receiver's after one load for each sender, and knows a log of a bus of so many senders that has of each just the numbers
+-- below this one at its front
+pub record IsToldByAll {D : Type 0} (sender : D → SenderSeat Held) (senders messages : ℕ) (send_workers : List D) (seats : List Shown) (seen : Shown) : Type 0 where
   pub first : Shown
   pub first_is : slice_get seats 0 ≡ Some first
   pub learnt : HasLearnt (length send_workers) first seen
-  pub told : All (λ d. HasTold (number_of (sender d)) messages (known_in seen)) send_workers
+  pub told : All (λ d. HasTold senders (number_of (sender d)) messages (known_in seen)) send_workers

@@ -8,3 +8,4 @@ pub mod Told
 pub mod Words
 pub mod Left
 pub mod Sending
+pub mod Refused

@@ -97,7 +97,7 @@ module _ {D : Type 0} (sender : D → SenderSeat Held) (shape : Shape) (messages
   Sent d = HasSent messages (sender d)
 
   abbrev pub Ends : Shown → Type 0
-  Ends seen = IsToldByAll sender messages send_workers seats seen
+  Ends seen = IsToldByAll sender shape.senders messages send_workers seats seen
 
   -- all were sent, and the notes have room
   abbrev pub IsSentAndNoted : Type 0

@@ -7,11 +7,10 @@ use Rattle.bus_deliverylog.specs.Orders.{of_sender}
 use Rattle.bus_world.specs.Headline.{IsPrefix}
 use Rattle.bus_run.specs.Numbers.{numbers_below}
 
--- a beginning of these words is a log that has of this sender just the numbers below many
-pub record HasTold (s many : ℕ) (words : List ℕ) : Type 0 where
+-- a beginning of these words is a log of a bus of so many senders, and has of sender s just the numbers below many
+pub record HasTold (senders s many : ℕ) (words : List ℕ) : Type 0 where
   pub front : List ℕ
   pub begins : IsPrefix front words
-  pub senders : ℕ
   pub order : Order
   pub owners : List (ℕ × SenderNo)
   pub spelled : Spells senders front order owners

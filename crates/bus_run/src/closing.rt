@@ -7,7 +7,7 @@ ghost use Rattle.std.specs.Vec.{vec_capacity};
 ghost use Rattle.bus_run.specs.Audit.{OfOrder, IsSpelled, SendsEach, IsClosed, IsSummed};
 ghost use Rattle.bus_run.specs.Reports.{IsRunReport};
 ghost use Rattle.bus_run.specs.Left.{run_plan, IsLeftBy, IsEndedBy, IsToldByAll};
-ghost use Rattle.bus_run.specs.Left.{Shown, HasLearnt, number_of};
+ghost use Rattle.bus_run.specs.Left.{Shown, HasLearnt, number_of, senders_of};
 ghost use Rattle.bus_run.specs.Told.{HasTold};
 ghost use Rattle.bus_pageslot.specs.Rule.{known_in};
 ghost use Rattle.bus_receiver.specs.Listening.{bus_of};
@@ -48,7 +48,7 @@ pub fn end_and_audit<B: OfBus>(
         (AreUnstopped (λ send_worker. send_worker.fault) workers.send_workers.items) }
     ensures report { IfOk result
         (λ report. IsRunReport shape messages report.ended report.heards.items) }
-    ensures by { let Ends = IsToldByAll (λ send_worker. send_worker.sender) messages
+    ensures by { let Ends = IsToldByAll (λ send_worker. send_worker.sender) shape.senders messages
         workers.send_workers.items
         (map (λ receive_worker. receive_worker.receiver.me.0) workers.receive_workers.items) in
         IfOk result (λ report. IsEndedBy (run_plan shape) Ends report.ended) }
@@ -160,7 +160,7 @@ fn end_whole<B: OfBus>(
         receive_workers.items }
     ensures report { IfOk result
         (λ report. IsRunReport shape messages report.ended report.heards.items) }
-    ensures by { let Ends = IsToldByAll (λ send_worker. send_worker.sender) messages
+    ensures by { let Ends = IsToldByAll (λ send_worker. send_worker.sender) shape.senders messages
         send_workers.items
         (map (λ receive_worker. receive_worker.receiver.me.0) receive_workers.items) in
         IfOk result (λ report. IsEndedBy (run_plan shape) Ends report.ended) }
@@ -252,8 +252,8 @@ fn tell_all<B: OfBus>(
     requires sent { All (λ send_worker. HasSent messages send_worker.sender) send_workers.items }
     ensures table { bus_of result ≡ B.table }
     ensures learnt { HasLearnt (length send_workers.items) first.me.0 result.me.0 }
-    ensures told { All (λ send_worker. HasTold (number_of send_worker.sender) messages
-        (known_in result.me.0))
+    ensures told { All (λ send_worker. HasTold (senders_of send_worker.sender)
+        (number_of send_worker.sender) messages (known_in result.me.0))
         send_workers.items }
 {
     let mut first = first;
@@ -274,7 +274,8 @@ fn tell<B: OfBus>(
     requires sent { HasSent messages send_worker.sender }
     ensures table { bus_of receiver.new ≡ B.table }
     ensures learnt { HasLearnt 1 receiver.old.me.0 receiver.new.me.0 }
-    ensures told { HasTold (number_of send_worker.sender) messages (known_in receiver.new.me.0) }
+    ensures told { HasTold (senders_of send_worker.sender) (number_of send_worker.sender) messages
+        (known_in receiver.new.me.0) }
 {
     let SendWorker { mut sender, .. } = send_worker;
     receiver.told(&mut sender, &the.bus);

@@ -21,6 +21,7 @@ pub mod buses;
 pub mod closing;
 pub mod faults;
 pub mod gates;
+pub mod laws;
 pub mod limits;
 pub mod reports;
 pub mod runs;

@@ -1,18 +1,19 @@
-use Rattle.std.proofs.Common.{◌<◌, ◌≤◌, inl, inr, All, Some, length, map, refl, sym, ap, subst, ◌∙◌}
+use Rattle.std.proofs.Common.{ℕ, ◌<◌, ◌≤◌, inl, inr, All, List, Option, Some, length, map, refl, sym, ap, subst, ◌∙◌}
 use Rattle.std.specs.Vec.{vec_capacity}
 use Rattle.std.proofs.lemmas.List.{length-map}
 use Rattle.std.proofs.lemmas.Option.{slice_get_within}
 use Rattle.bus_register.specs.declared.limits.TheConstants.{MOST_SENDERS}
 use Rattle.bus_deliverylog.specs.Orders.{of_sender}
+use Rattle.bus_tenure.specs.declared.pages.Page.{Page}
 use Rattle.bus_pageslot.specs.Rule.{known_in}
 use Rattle.bus_automaton.specs.declared.plans.Plan.{Plan}
 use Rattle.bus_run.specs.Audit.{IsFair, IsFirstFault}
-use Rattle.bus_run.specs.Left.{Shown, run_plan, IsLeftBy, IsToldByAll, number_of}
+use Rattle.bus_run.specs.Left.{Shown, run_plan, IsLeftBy, IsToldByAll, number_of, senders_of}
 use Rattle.bus_run.specs.Stops.{HasSent, IsFirstUnsent, IsFirstMiscount, IsFirstUnfair, IsLate}
 use Rattle.bus_run.specs.Told.{HasTold}
 use Rattle.bus_run.specs.declared.faults.RunFault.{RunFault}
 use Rattle.bus_run.proofs.CountLemmas.{all_counted}
-use Rattle.bus_run.proofs.LeftLemmas.{leaves, left_open}
+use Rattle.bus_run.proofs.LeftLemmas.{leaves, left_open, told_of_bus}
 use Rattle.bus_run.proofs.StopLemmas.{of_each, passed_up}
 use Rattle.bus_run.proofs.ToldLemmas.{carries, still_told, told_all}
 use Rattle.bus_run.proofs.closing.end_whole.Goals as goal
@@ -36,9 +37,14 @@ returns-in_err-ended-clause-late g c =
     let seats = map (λ receive_worker. receive_worker.receiver.me.0) c.args.receive_workers.items in
     let heards = map (λ receive_worker. receive_worker.heard) c.args.receive_workers.items in
     let Late : RunFault → Type 0 = IsLate (λ send_worker. send_worker.sender) c.args.shape c.args.messages (vec_capacity c.args.room) c.args.send_workers.items seats heards in
-    let Ends : Shown → Type 0 = IsToldByAll (λ send_worker. send_worker.sender) c.args.messages c.args.send_workers.items seats in
+    let Ends : Shown → Type 0 = IsToldByAll (λ send_worker. send_worker.sender) c.args.shape.senders c.args.messages c.args.send_workers.items seats in
     let last = c.tell_all-told.result.me.0 in
-    let told : Ends last = record { first = _; first_is = c.in_ok-first.ensures.first; learnt = c.tell_all-told.ensures.learnt; told = c.tell_all-told.ensures.told } in
+    let told : (log : List ℕ) (home : Option Page) → IsLeftBy _ last log home → Ends last = λ log home left. record {
+      first = _;
+      first_is = c.in_ok-first.ensures.first;
+      learnt = c.tell_all-told.ensures.learnt;
+      told = told_of_bus (λ send_worker. send_worker.sender) _ (run_plan c.args.shape) c.requires.bus last log home c.args.messages c.args.send_workers.items left c.tell_all-told.ensures.told;
+    } in
     let sent = subst (All (λ send_worker. HasSent c.args.messages send_worker.sender)) c.as_slice.ensures.value (c.first_unsent.ensures.none c.in_default.is) in
     let room = subst (λ n. n ≤ vec_capacity c.args.room) (sym (length-map c.args.receive_workers.items (λ receive_worker. receive_worker.heard))) c.in_ok-first.ensures.room in
     let stays = c.in_err-ended.ensures.open in
@@ -52,9 +58,14 @@ returns-in_err-all_sent-clause-late g c =
     let seats = map (λ receive_worker. receive_worker.receiver.me.0) c.args.receive_workers.items in
     let heards = map (λ receive_worker. receive_worker.heard) c.args.receive_workers.items in
     let Late : RunFault → Type 0 = IsLate (λ send_worker. send_worker.sender) c.args.shape c.args.messages (vec_capacity c.args.room) c.args.send_workers.items seats heards in
-    let Ends : Shown → Type 0 = IsToldByAll (λ send_worker. send_worker.sender) c.args.messages c.args.send_workers.items seats in
+    let Ends : Shown → Type 0 = IsToldByAll (λ send_worker. send_worker.sender) c.args.shape.senders c.args.messages c.args.send_workers.items seats in
     let last = c.tell_all-told.result.me.0 in
-    let told : Ends last = record { first = _; first_is = c.in_ok-first.ensures.first; learnt = c.tell_all-told.ensures.learnt; told = c.tell_all-told.ensures.told } in
+    let told : Ends last = record {
+      first = _;
+      first_is = c.in_ok-first.ensures.first;
+      learnt = c.tell_all-told.ensures.learnt;
+      told = told_of_bus (λ send_worker. send_worker.sender) _ (run_plan c.args.shape) c.requires.bus last c.in_ok-ended.ended.log (Some c.in_ok-ended.ended.page) c.args.messages c.args.send_workers.items c.in_ok-ended.ensures.left c.tell_all-told.ensures.told;
+    } in
     let sent = subst (All (λ send_worker. HasSent c.args.messages send_worker.sender)) c.as_slice.ensures.value (c.first_unsent.ensures.none c.in_default.is) in
     let room = subst (λ n. n ≤ vec_capacity c.args.room) (sym (length-map c.args.receive_workers.items (λ receive_worker. receive_worker.heard))) c.in_ok-first.ensures.room in
     let ended = c.in_ok-ended in
@@ -72,9 +83,14 @@ returns-in_err-audit-clause-late g c =
     let seats = map (λ receive_worker. receive_worker.receiver.me.0) c.args.receive_workers.items in
     let heards = map (λ receive_worker. receive_worker.heard) c.args.receive_workers.items in
     let Late : RunFault → Type 0 = IsLate (λ send_worker. send_worker.sender) c.args.shape c.args.messages (vec_capacity c.args.room) c.args.send_workers.items seats heards in
-    let Ends : Shown → Type 0 = IsToldByAll (λ send_worker. send_worker.sender) c.args.messages c.args.send_workers.items seats in
+    let Ends : Shown → Type 0 = IsToldByAll (λ send_worker. send_worker.sender) c.args.shape.senders c.args.messages c.args.send_workers.items seats in
     let last = c.tell_all-told.result.me.0 in
-    let told : Ends last = record { first = _; first_is = c.in_ok-first.ensures.first; learnt = c.tell_all-told.ensures.learnt; told = c.tell_all-told.ensures.told } in
+    let told : Ends last = record {
+      first = _;
+      first_is = c.in_ok-first.ensures.first;
+      learnt = c.tell_all-told.ensures.learnt;
+      told = told_of_bus (λ send_worker. send_worker.sender) _ (run_plan c.args.shape) c.requires.bus last c.in_ok-ended.ended.log (Some c.in_ok-ended.ended.page) c.args.messages c.args.send_workers.items c.in_ok-ended.ensures.left c.tell_all-told.ensures.told;
+    } in
     let sent = subst (All (λ send_worker. HasSent c.args.messages send_worker.sender)) c.as_slice.ensures.value (c.first_unsent.ensures.none c.in_default.is) in
     let room = subst (λ n. n ≤ vec_capacity c.args.room) (sym (length-map c.args.receive_workers.items (λ receive_worker. receive_worker.heard))) c.in_ok-first.ensures.room in
     let ended = c.in_ok-ended in
@@ -110,9 +126,10 @@ returns-clause-report g c =
             sends = sends;
             carried = λ s k item lt at.
                 let below : s < length c.args.send_workers.items = subst (λ n. s < n) (sym c.requires.whole.all_send) lt in
-                let told = of_each (λ send_worker. number_of send_worker.sender) (λ send_worker. HasTold (number_of send_worker.sender) many known) c.args.send_workers.items s c.requires.whole.in_order c.tell_all-told.ensures.told below in
-                let has_told = still_told s many known left.log (subst (λ n. HasTold n many known) told.1 told.2) c.in_ok-ended.ensures.front in
-                carries (of_sender s order) many k item (told_all s many left.log left.senders order owners has_told spells (sends s lt)) at;
+                let told = of_each (λ send_worker. number_of send_worker.sender) (λ send_worker. HasTold (senders_of send_worker.sender) (number_of send_worker.sender) many known) c.args.send_workers.items s c.requires.whole.in_order c.tell_all-told.ensures.told below in
+                let its = senders_of told.0.sender in
+                let has_told = still_told its s many known left.log (subst (λ n. HasTold its n many known) told.1 told.2) c.in_ok-ended.ensures.front in
+                carries (of_sender s order) many k item (told_all its s many left.log left.senders order owners has_told spells (sends s lt)) at;
             closed = c.in_ok-ended.ensures.closed order owners spells;
             stay = c.in_ok-audit.ensures.stay order owners spells;
             fair = fair;
@@ -127,5 +144,10 @@ returns-clause-by g c = (
     seen = c.tell_all-told.result.me.0;
     left = subst (λ x. IsLeftBy x c.tell_all-told.result.me.0 c.in_ok-ended.ended.log (Some c.in_ok-ended.ended.page)) c.requires.bus c.in_ok-ended.ensures.left;
   },
-  record { first = _; first_is = c.in_ok-first.ensures.first; learnt = c.tell_all-told.ensures.learnt; told = c.tell_all-told.ensures.told },
+  record {
+    first = _;
+    first_is = c.in_ok-first.ensures.first;
+    learnt = c.tell_all-told.ensures.learnt;
+    told = told_of_bus (λ send_worker. send_worker.sender) _ (run_plan c.args.shape) c.requires.bus c.tell_all-told.result.me.0 c.in_ok-ended.ended.log (Some c.in_ok-ended.ended.page) c.args.messages c.args.send_workers.items c.in_ok-ended.ensures.left c.tell_all-told.ensures.told;
+  },
 )

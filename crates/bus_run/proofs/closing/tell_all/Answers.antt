@@ -1,5 +1,5 @@
 use Rattle.std.proofs.Common.{◌∷◌, [], length, length-append, subst, sym}
-use Rattle.bus_run.specs.Left.{HasLearnt, number_of}
+use Rattle.bus_run.specs.Left.{HasLearnt, number_of, senders_of}
 use Rattle.std.proofs.lemmas.List.Elements.{All-nil, All-push, All-weaker}
 use Rattle.bus_pageslot.specs.Rule.{known_in}
 use Rattle.bus_run.specs.Told.{HasTold}
@@ -11,7 +11,7 @@ pub loop-send_worker-init : goal.loop-send_worker-init
 loop-send_worker-init g c = record {
   table = c.requires.table;
   learnt = none_learnt c.args.first.me.0;
-  told = All-nil (λ send_worker. HasTold (number_of send_worker.sender) c.args.messages (known_in c.args.first.me.0));
+  told = All-nil (λ send_worker. HasTold (senders_of send_worker.sender) (number_of send_worker.sender) c.args.messages (known_in c.args.first.me.0));
 }
 
 pub loop-send_worker-preserved : goal.loop-send_worker-preserved
@@ -24,7 +24,7 @@ loop-send_worker-preserved g c =
           subst (λ n. HasLearnt n c.args.first.me.0 c.tell.new.receiver.me.0) (sym (length-append c.loop-send_worker.yielded (c.in-Some.send_worker ∷ [])))
           (more_learnt (length c.loop-send_worker.yielded) c.args.first.me.0 c.loop-send_worker.first.me.0 c.tell.new.receiver.me.0 c.loop-send_worker.invariant.learnt c.tell.ensures.learnt);
       told =
-          All-push (λ send_worker. HasTold (number_of send_worker.sender) c.args.messages after) c.loop-send_worker.yielded c.in-Some.send_worker
-          (All-weaker (λ send_worker. HasTold (number_of send_worker.sender) c.args.messages before) (λ send_worker. HasTold (number_of send_worker.sender) c.args.messages after) (λ send_worker told. still_told (number_of send_worker.sender) c.args.messages before after told (grown 1 c.loop-send_worker.first.me.0 c.tell.new.receiver.me.0 c.tell.ensures.learnt)) c.loop-send_worker.yielded c.loop-send_worker.invariant.told)
+          All-push (λ send_worker. HasTold (senders_of send_worker.sender) (number_of send_worker.sender) c.args.messages after) c.loop-send_worker.yielded c.in-Some.send_worker
+          (All-weaker (λ send_worker. HasTold (senders_of send_worker.sender) (number_of send_worker.sender) c.args.messages before) (λ send_worker. HasTold (senders_of send_worker.sender) (number_of send_worker.sender) c.args.messages after) (λ send_worker told. still_told (senders_of send_worker.sender) (number_of send_worker.sender) c.args.messages before after told (grown 1 c.loop-send_worker.first.me.0 c.tell.new.receiver.me.0 c.tell.ensures.learnt)) c.loop-send_worker.yielded c.loop-send_worker.invariant.told)
           c.tell.ensures.told;
     }

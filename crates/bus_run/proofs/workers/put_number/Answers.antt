@@ -1,4 +1,4 @@
-use Rattle.std.proofs.Common.{◌≡◌, ◌++◌, ◌∷◌, [], sym, ap, ◌∙◌}
+use Rattle.std.proofs.Common.{◌++◌, ◌∷◌, [], sym, ap, ◌∙◌}
 use Rattle.bus_run.specs.Left.{run_process}
 use Rattle.bus_run.proofs.WaitLemmas.{taken_waits}
 use Rattle.bus_run.proofs.workers.put_number.Goals as goal

@@ -1,4 +1,4 @@
-use Rattle.std.proofs.Common.{◌≡◌, ◌∙◌}
+use Rattle.std.proofs.Common.{◌∙◌}
 use Rattle.bus_run.proofs.NoteLemmas.{note_summed}
 use Rattle.bus_run.proofs.workers.ReceiveWorker.hear.Goals as goal
 
