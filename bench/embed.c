@@ -1,5 +1,6 @@
-/* Tests of the archive through include/kioskbasil.h, and the time of a message through it. bench/embed builds and runs it:
-   `codes`, `storm RUNS`, `time`. It prints what failed, and `N passed, M failed` last. */
+/* Tests of the archive through include/kioskbasil.h, and the time of a message through it.
+   bench/embed builds and runs it: `codes`, `storm RUNS`, `time`, `lines`. The first two print what
+   failed, and `N passed, M failed` last. */
 #include "kioskbasil.h"
 #include "waiting.h"
 #include <pthread.h>
@@ -15,7 +16,8 @@ static void expect(int line, const char *what, uint64_t is, uint64_t wanted) {
         passed++;
     } else {
         failed++;
-        fprintf(stderr, "embed.c:%d: %s: %llu, and not %llu\n", line, what, (unsigned long long)is, (unsigned long long)wanted);
+        fprintf(stderr, "embed.c:%d: %s: %llu, and not %llu\n", line, what,
+                (unsigned long long)is, (unsigned long long)wanted);
     }
 }
 #define EXPECT(call, wanted) expect(__LINE__, #call, (uint64_t)(call), (uint64_t)(wanted))
@@ -53,13 +55,23 @@ static void no_handles(void) {
     kioskbasil_item item;
     kioskbasil_left left;
     kioskbasil_sizes sizes = {1, 2, 16, false};
+    kioskbasil_sender other = KIOSKBASIL_NONE;
+    kioskbasil_receiver ear = KIOSKBASIL_NONE;
+    int32_t order = 7;
     uint64_t number = 7;
     size_t many = 7;
     EXPECT(kioskbasil_put(&s, "x", 1, &number), KIOSKBASIL_EMPTY_HANDLE);
     EXPECT(number, 7);
+    EXPECT(kioskbasil_carry(&s, &other), KIOSKBASIL_EMPTY_HANDLE);
+    EXPECT(kioskbasil_carry(&s, &s), KIOSKBASIL_EMPTY_HANDLE);
+    EXPECT(kioskbasil_tell(&r, &s), KIOSKBASIL_EMPTY_HANDLE);
+    EXPECT(kioskbasil_meet(&r, &ear, &order), KIOSKBASIL_EMPTY_HANDLE);
+    EXPECT(kioskbasil_meet(&r, &r, &order), KIOSKBASIL_EMPTY_HANDLE);
+    EXPECT(order, 7);
     EXPECT(kioskbasil_close(&s), KIOSKBASIL_EMPTY_HANDLE);
     EXPECT(kioskbasil_leave(&s), KIOSKBASIL_EMPTY_HANDLE);
     EXPECT(kioskbasil_turn(&s, 1, &turn), KIOSKBASIL_EMPTY_HANDLE);
+    EXPECT(kioskbasil_turns(&s, 1, &turn), KIOSKBASIL_EMPTY_HANDLE);
     EXPECT(turn.tenure, 7);
     EXPECT(kioskbasil_show_sender(&s, &sender), KIOSKBASIL_EMPTY_HANDLE);
     EXPECT(kioskbasil_hear_once(&r, &heard), KIOSKBASIL_EMPTY_HANDLE);
@@ -79,15 +91,23 @@ static void no_handles(void) {
     EXPECT(kioskbasil_put(&s, NULL, 1, &number), KIOSKBASIL_NULL);
     EXPECT(kioskbasil_close(NULL), KIOSKBASIL_NULL);
     EXPECT(kioskbasil_leave(NULL), KIOSKBASIL_NULL);
+    EXPECT(kioskbasil_carry(NULL, &s), KIOSKBASIL_NULL);
+    EXPECT(kioskbasil_carry(&s, NULL), KIOSKBASIL_NULL);
+    EXPECT(kioskbasil_tell(NULL, &s), KIOSKBASIL_NULL);
+    EXPECT(kioskbasil_tell(&r, NULL), KIOSKBASIL_NULL);
+    EXPECT(kioskbasil_meet(NULL, &r, &order), KIOSKBASIL_NULL);
+    EXPECT(kioskbasil_meet(&r, NULL, &order), KIOSKBASIL_NULL);
     EXPECT(kioskbasil_turn(NULL, 1, &turn), KIOSKBASIL_NULL);
+    EXPECT(kioskbasil_turns(NULL, 1, &turn), KIOSKBASIL_NULL);
     EXPECT(kioskbasil_show_sender(&s, NULL), KIOSKBASIL_NULL);
     EXPECT(kioskbasil_hear_once(&r, NULL), KIOSKBASIL_NULL);
     EXPECT(kioskbasil_hear(&r, NULL, 1, &many), KIOSKBASIL_NULL);
     EXPECT(kioskbasil_show_receiver(NULL, &receiver), KIOSKBASIL_NULL);
     EXPECT(kioskbasil_end(&s, 1, &r, 1, NULL, 1, &left), KIOSKBASIL_NULL);
     EXPECT(kioskbasil_open_after(&sizes, NULL, &s, 1, &r, 1), KIOSKBASIL_NULL);
-    for (uint32_t code = 0; code <= KIOSKBASIL_NUMBERS_USED; code++) {
-        int named = code <= KIOSKBASIL_LEAVE || code >= KIOSKBASIL_BAD_SENDERS;
+    for (uint32_t code = 0; code <= KIOSKBASIL_OTHER_BUS + 1; code++) {
+        int named = code <= KIOSKBASIL_LEAVE ||
+                    (code >= KIOSKBASIL_BAD_SENDERS && code <= KIOSKBASIL_OTHER_BUS);
         EXPECT(strcmp(kioskbasil_text(code), "no code of this version") != 0, named);
         EXPECT(kioskbasil_refused(code), code >= 32);
     }
@@ -263,6 +283,206 @@ static void two_sittings(bool again, bool then) {
     EXPECT(left.ended, true);
 }
 
+/* How many words of the log the receiver knows, and how many it has read. */
+static void expect_known(int line, kioskbasil_receiver *r, uint64_t known, uint64_t place) {
+    kioskbasil_receiver_shown shown = {0, 0, false};
+    expect(line, "show_receiver", kioskbasil_show_receiver(r, &shown), KIOSKBASIL_OK);
+    expect(line, "known", shown.known, known);
+    expect(line, "place", shown.place, place);
+}
+#define EXPECT_KNOWN(receiver, known, place) expect_known(__LINE__, receiver, known, place)
+
+/* How many messages wait with the sender. */
+static uint64_t pending(kioskbasil_sender *s) {
+    kioskbasil_sender_shown shown = {99, 0, 0, 0, 0, false, false};
+    kioskbasil_show_sender(s, &shown);
+    return shown.pending;
+}
+
+/* Several turns in one call: those of a sender alone go on up to its page, and then up to its
+   delivery, or end after so many more. */
+static void several_turns(bool again) {
+    kioskbasil_sender s[2] = {KIOSKBASIL_NONE};
+    kioskbasil_receiver r[1] = {KIOSKBASIL_NONE};
+    kioskbasil_sizes sizes = {4, 8, 256, again};
+    kioskbasil_turn_answer turn = {7, 7, 7, 7};
+    EXPECT(kioskbasil_open(&sizes, s, 2, r, 1), KIOSKBASIL_OK);
+    EXPECT(kioskbasil_turns(s, 0, &turn), KIOSKBASIL_IDLE);
+    EXPECT(turn.tenure + turn.first + turn.last + turn.sender, 0);
+    for (int i = 0; i < 3; i++) EXPECT(kioskbasil_put(s, "x", 1, NULL), KIOSKBASIL_OK);
+    EXPECT(kioskbasil_turns(s, 0, &turn), KIOSKBASIL_OWN);
+    EXPECT(turn.tenure, 0);
+    EXPECT(kioskbasil_put(&s[1], "x", 1, NULL), KIOSKBASIL_OK);
+    EXPECT(kioskbasil_turns(&s[1], 0, NULL), KIOSKBASIL_WAITING);
+    EXPECT(bus_c_turns(s, 0, 2, &turn), KIOSKBASIL_GOING);
+    EXPECT(bus_c_turns(s, 0, 0, &turn), KIOSKBASIL_GOING);
+    EXPECT(kioskbasil_turns(s, 0, &turn), KIOSKBASIL_DELIVERED);
+    EXPECT(turn.first, 0);
+    EXPECT(turn.last, 2);
+    for (int i = 0; i < 2; i++) kioskbasil_free_sender(&s[i]);
+    kioskbasil_free_receiver(r);
+}
+
+/* They stop before each turn that uses a random word, and nowhere else with GOING. Two senders take
+   some single turns each, so that they have to vote in some of these sittings. */
+static void turns_that_vote(bool again) {
+    kioskbasil_sizes sizes = {4, 8, 256, again};
+    kioskbasil_sender_shown shown;
+    uint64_t seed = 37, votes = 0;
+    for (int sitting = 0; sitting < 300; sitting++) {
+        kioskbasil_sender s[2] = {KIOSKBASIL_NONE};
+        kioskbasil_receiver r[1] = {KIOSKBASIL_NONE};
+        uint32_t code[2] = {KIOSKBASIL_GOING, KIOSKBASIL_GOING};
+        EXPECT(kioskbasil_open(&sizes, s, 2, r, 1), KIOSKBASIL_OK);
+        for (int i = 0; i < 2; i++) EXPECT(kioskbasil_put(&s[i], "x", 1, NULL), KIOSKBASIL_OK);
+        for (uint32_t i = 0, single = next_word(&seed) % 64; i < 10000; i++) {
+            int who = i < single ? (int)(next_word(&seed) & 1) : (int)(i & 1);
+            if (code[who] == KIOSKBASIL_DELIVERED) continue;
+            code[who] = i < single ? kioskbasil_turn(&s[who], next_word(&seed), NULL)
+                                   : kioskbasil_turns(&s[who], next_word(&seed), NULL);
+            if (i < single || code[who] != KIOSKBASIL_GOING) continue;
+            kioskbasil_show_sender(&s[who], &shown);
+            EXPECT(shown.wants_word, true);
+            votes++;
+        }
+        for (int i = 0; i < 2; i++) EXPECT(code[i], KIOSKBASIL_DELIVERED);
+        for (int i = 0; i < 2; i++) kioskbasil_free_sender(&s[i]);
+        kioskbasil_free_receiver(r);
+    }
+    EXPECT(votes > 0, true);
+}
+
+/* A receiver is told by a sender, and knows what that has published; two receivers meet. */
+static void telling(bool again) {
+    kioskbasil_sender s[2] = {KIOSKBASIL_NONE};
+    kioskbasil_receiver r[2] = {KIOSKBASIL_NONE};
+    kioskbasil_sizes sizes = {1, 8, 64, again};
+    kioskbasil_item items[4];
+    uint64_t seed = 23;
+    int32_t order = 7;
+    size_t many = 0;
+    EXPECT(kioskbasil_open(&sizes, s, 2, r, 2), KIOSKBASIL_OK);
+    EXPECT(kioskbasil_meet(&r[0], &r[1], &order), KIOSKBASIL_OK);
+    EXPECT(order, 0);
+    EXPECT(kioskbasil_tell(&r[0], &s[0]), KIOSKBASIL_OK);
+    EXPECT_KNOWN(&r[0], 0, 0);
+    send_one(&s[1], 0, &seed);
+    EXPECT_KNOWN(&r[0], 0, 0);
+    EXPECT(kioskbasil_tell(&r[0], &s[1]), KIOSKBASIL_OK);
+    EXPECT_KNOWN(&r[0], 3, 0);
+    EXPECT_KNOWN(&r[1], 0, 0);
+    EXPECT(kioskbasil_hear(&r[0], items, 4, &many), KIOSKBASIL_EMPTY);
+    EXPECT(many, 1);
+    send_one(&s[0], 0, &seed);
+    EXPECT(kioskbasil_meet(&r[0], &r[1], &order), KIOSKBASIL_OK);
+    EXPECT((uint32_t)order, 1);
+    EXPECT_KNOWN(&r[0], 6, 3);
+    EXPECT_KNOWN(&r[1], 6, 0);
+    EXPECT(kioskbasil_meet(&r[1], &r[0], &order), KIOSKBASIL_OK);
+    EXPECT((uint32_t)order, (uint32_t)-1);
+    EXPECT(kioskbasil_meet(&r[1], &r[0], NULL), KIOSKBASIL_OK);
+    order = 7;
+    EXPECT(kioskbasil_meet(&r[1], &r[1], &order), KIOSKBASIL_OK);
+    EXPECT(order, 0);
+    EXPECT(kioskbasil_meet(&r[1], &r[1], NULL), KIOSKBASIL_OK);
+    EXPECT_KNOWN(&r[1], 6, 0);
+    for (int i = 0; i < 2; i++) {
+        EXPECT(kioskbasil_hear(&r[i], items, 4, &many), KIOSKBASIL_EMPTY);
+        EXPECT(many, i + 1);
+    }
+    EXPECT(items[0].sender, 1);
+    EXPECT(items[1].sender, 0);
+    EXPECT(kioskbasil_meet(&r[0], &r[1], &order), KIOSKBASIL_OK);
+    EXPECT(order, 0);
+    for (int i = 0; i < 2; i++) kioskbasil_free_sender(&s[i]), kioskbasil_free_receiver(&r[i]);
+}
+
+/* Two handles of which one is empty, or that are of two buses: they are refused, and nothing of
+   either is changed. */
+static void apart(bool again) {
+    kioskbasil_sender s[2] = {KIOSKBASIL_NONE}, none = KIOSKBASIL_NONE;
+    kioskbasil_receiver r[2] = {KIOSKBASIL_NONE}, deaf = KIOSKBASIL_NONE;
+    kioskbasil_sizes sizes = {1, 8, 64, again};
+    uint64_t seed = 29;
+    int32_t order = 7;
+    for (int i = 0; i < 2; i++) EXPECT(kioskbasil_open(&sizes, &s[i], 1, &r[i], 1), KIOSKBASIL_OK);
+    for (int i = 0; i < 2; i++) send_one(&s[i], 0, &seed);
+    EXPECT(kioskbasil_put(&s[0], "y", 1, NULL), KIOSKBASIL_OK);
+    for (int i = 0; i < 2; i++) {
+        EXPECT(kioskbasil_tell(&r[i], &s[1 - i]), KIOSKBASIL_OTHER_BUS);
+        EXPECT(kioskbasil_meet(&r[i], &r[1 - i], &order), KIOSKBASIL_OTHER_BUS);
+        EXPECT(kioskbasil_meet(&r[i], &r[1 - i], NULL), KIOSKBASIL_OTHER_BUS);
+        EXPECT(kioskbasil_tell(&r[i], &none), KIOSKBASIL_EMPTY_HANDLE);
+        EXPECT(kioskbasil_tell(&deaf, &s[i]), KIOSKBASIL_EMPTY_HANDLE);
+        EXPECT(kioskbasil_meet(&r[i], &deaf, &order), KIOSKBASIL_EMPTY_HANDLE);
+        EXPECT(kioskbasil_meet(&deaf, &r[i], &order), KIOSKBASIL_EMPTY_HANDLE);
+        EXPECT(kioskbasil_carry(&s[i], &none), KIOSKBASIL_EMPTY_HANDLE);
+        EXPECT(kioskbasil_carry(&none, &s[i]), KIOSKBASIL_EMPTY_HANDLE);
+    }
+    EXPECT(order, 7);
+    EXPECT(none.live + deaf.live, 0);
+    for (int i = 0; i < 2; i++) {
+        EXPECT_KNOWN(&r[i], 0, 0);
+        EXPECT(pending(&s[i]), 1 - i);
+        EXPECT(kioskbasil_tell(&r[i], &s[i]), KIOSKBASIL_OK);
+        EXPECT_KNOWN(&r[i], 3, 0);
+        kioskbasil_free_sender(&s[i]), kioskbasil_free_receiver(&r[i]);
+    }
+}
+
+/* What a sender has not sent goes on with another one, or is refused there as a put would be. */
+static void carrying(bool again) {
+    kioskbasil_sender s[3] = {KIOSKBASIL_NONE}, new[2] = {KIOSKBASIL_NONE};
+    kioskbasil_receiver r[1] = {KIOSKBASIL_NONE}, ear[1] = {KIOSKBASIL_NONE};
+    kioskbasil_sizes sizes = {1, 8, 64, again};
+    kioskbasil_item items[4];
+    kioskbasil_left left = {.ended = true}, over;
+    uint64_t seed = 31, number = 0;
+    size_t many = 0;
+    EXPECT(kioskbasil_open(&sizes, s, 3, r, 1), KIOSKBASIL_OK);
+    send_one(&s[0], 0, &seed);
+    EXPECT(kioskbasil_put(&s[0], "two", 3, &number), KIOSKBASIL_OK);
+    EXPECT(kioskbasil_put(&s[0], "three", 5, &number), KIOSKBASIL_OK);
+    EXPECT(number, 2);
+    EXPECT(kioskbasil_carry(&s[0], &s[0]), KIOSKBASIL_OK);
+    EXPECT(pending(&s[0]), 2);
+    EXPECT(kioskbasil_carry(&s[1], &s[0]), KIOSKBASIL_OK);
+    EXPECT(pending(&s[0]), 2);
+    for (int i = 0; i < 15; i++) EXPECT(kioskbasil_put(&s[2], "x", 1, NULL), KIOSKBASIL_OK);
+    EXPECT(kioskbasil_carry(&s[0], &s[2]), KIOSKBASIL_PUT_BATCH_FULL);
+    EXPECT(pending(&s[2]), 15);
+    EXPECT(kioskbasil_turn(&s[2], 0, NULL), KIOSKBASIL_GOING);
+    EXPECT(kioskbasil_carry(&s[0], &s[2]), KIOSKBASIL_PUT_BATCH_FULL);
+    EXPECT(kioskbasil_put(&s[1], "x", 1, NULL), KIOSKBASIL_OK);
+    EXPECT(kioskbasil_turn(&s[1], 0, NULL), KIOSKBASIL_GOING);
+    EXPECT(kioskbasil_carry(&s[0], &s[1]), KIOSKBASIL_PUT_BUSY);
+    EXPECT(send_batch(&s[1], &seed, NULL), KIOSKBASIL_DELIVERED);
+    EXPECT(end_order(&s[1], &seed), KIOSKBASIL_CLOSED);
+    EXPECT(kioskbasil_carry(&s[0], &s[1]), KIOSKBASIL_PUT_CLOSED);
+    EXPECT(send_batch(&s[0], &seed, NULL), KIOSKBASIL_CLOSED);
+    EXPECT(pending(&s[0]), 2);
+
+    /* The old sender keeps its bus. So the next one goes on after what a receiver counted. */
+    EXPECT(kioskbasil_hear(r, items, 4, &many), KIOSKBASIL_END);
+    for (size_t i = 0; i < many; i++) left.next[items[i].sender] = items[i].number + 1;
+    EXPECT(kioskbasil_open_after(&sizes, &left, new, 2, ear, 1), KIOSKBASIL_OK);
+    EXPECT(kioskbasil_carry(&s[0], &new[0]), KIOSKBASIL_OK);
+    EXPECT(pending(&s[0]), 2);
+    EXPECT(pending(&new[0]), 2);
+    EXPECT(kioskbasil_end(s, 3, r, 1, NULL, 0, &over), KIOSKBASIL_OK);
+    EXPECT(memcmp(over.next, left.next, sizeof left.next), 0);
+    EXPECT(kioskbasil_put(&new[0], "four", 4, &number), KIOSKBASIL_OK);
+    EXPECT(number, 3);
+    EXPECT(send_batch(&new[0], &seed, NULL), KIOSKBASIL_DELIVERED);
+    EXPECT(kioskbasil_hear(ear, items, 4, &many), KIOSKBASIL_EMPTY);
+    EXPECT(many, 3);
+    for (size_t i = 0; i < many; i++) EXPECT(items[i].number, i + 1);
+    EXPECT(memcmp(items[0].bytes, "two", 4), 0);
+    EXPECT(memcmp(items[1].bytes, "three", 6), 0);
+    EXPECT(kioskbasil_end(new, 2, ear, 1, NULL, 0, &over), KIOSKBASIL_OK);
+    EXPECT(over.next[0], 4);
+}
+
 /* Of the growths of memory that follow this one is refused, counted from 1; 0 where none is. */
 static long refused;
 
@@ -307,7 +527,8 @@ static void no_memory(bool again, const kioskbasil_left *left) {
     EXPECT(none > 6, true);
 }
 
-/* A sender leaves: nothing of it follows, the other goes on, and the order and its end say so. In the next sitting it is there. */
+/* A sender leaves: nothing of it follows, the other goes on, and the order and its end say so. In
+   the next sitting it is there. */
 static void leaving(bool again) {
     kioskbasil_sender s[2] = {KIOSKBASIL_NONE};
     kioskbasil_receiver r[2] = {KIOSKBASIL_NONE};
@@ -367,7 +588,8 @@ static void leaving(bool again) {
     EXPECT(left.gone[1], true);
 }
 
-/* ---- many short runs of four senders and four receivers, each in a thread of its own; in some the first sender that is done leaves */
+/* ---- many short runs of four senders and four receivers, each in a thread of its own; in some the
+   first sender that is done leaves */
 enum { SIDES = 4, MESSAGES = 24 };
 
 struct side {
@@ -428,15 +650,22 @@ static int storm(unsigned run) {
     for (int i = 0; i < 2 * SIDES; i++) pthread_join(threads[i], NULL);
     uint64_t next[SIDES] = {0};
     const struct side *first = &sides[SIDES];
-    for (int i = SIDES; i < 2 * SIDES; i++)
-        bad |= sides[i].many != SIDES * MESSAGES || sides[i].last != KIOSKBASIL_END || memcmp(sides[i].heard, first->heard, first->many * sizeof *first->heard);
+    for (int i = SIDES; i < 2 * SIDES; i++) {
+        bad |= sides[i].many != SIDES * MESSAGES || sides[i].last != KIOSKBASIL_END;
+        bad |= memcmp(sides[i].heard, first->heard, first->many * sizeof *first->heard) != 0;
+    }
     for (size_t i = 0; i < first->many && !bad; i++) {
         const kioskbasil_item *item = &first->heard[i];
-        bad |= item->sender >= SIDES || item->number != next[item->sender]++ || item->length != item->number * 7 % 57;
-        for (int b = 0; b < 56 && !bad; b++) bad |= item->bytes[b] != (b < item->length ? (uint8_t)(item->sender * 64 + item->number) : 0);
+        bad |= item->sender >= SIDES || item->number != next[item->sender]++;
+        bad |= item->length != item->number * 7 % 57;
+        uint8_t byte = (uint8_t)(item->sender * 64 + item->number);
+        for (int b = 0; b < 56; b++) bad |= item->bytes[b] != (b < item->length ? byte : 0);
     }
     bad |= kioskbasil_end(s, SIDES, r, SIDES, NULL, 0, &ended) != KIOSKBASIL_OK;
-    for (int i = 0; i < SIDES; i++) bad |= ended.counts[i] != MESSAGES || ended.gone[i] != (sides[i].last == KIOSKBASIL_LEFT);
+    for (int i = 0; i < SIDES; i++) {
+        bad |= ended.counts[i] != MESSAGES;
+        bad |= ended.gone[i] != (sides[i].last == KIOSKBASIL_LEFT);
+    }
     return bad;
 }
 
@@ -471,12 +700,161 @@ static void timing(void) {
         kioskbasil_free_sender(s);
         kioskbasil_free_receiver(r);
     }
-    printf("C: %.1f ns a message of 8 bytes, put, sent in batches of 16 and heard in one thread (%llu messages); %.1f ns an idle turn\n", whole / (double)messages, (unsigned long long)messages, calls / (double)turns);
+    printf("C: %.1f ns a message of 8 bytes, put, sent in batches of 16 and heard in one thread "
+           "(%llu messages); %.1f ns an idle turn\n",
+           whole / (double)messages, (unsigned long long)messages, calls / (double)turns);
+}
+
+/* ---- runs as those of `bus_bench lines`: one for each line of the input, SENDERS RECEIVERS
+   MESSAGES BYTES and ROUNDS (4 if left out). Prints the nanoseconds from the opening of a gate, at
+   which all threads wait, to the last item of the last receiver. Waits as the library does, by
+   spinning and then yielding. */
+struct race {
+    atomic_int waiting;
+    atomic_bool open;
+    uint64_t messages;
+    uint64_t items;
+    size_t bytes;
+};
+
+struct racer {
+    struct race *race;
+    kioskbasil_sender *sender;
+    kioskbasil_receiver *receiver;
+    uint64_t seed;
+    uint64_t sum;   /* of the words of its items */
+    uint64_t order; /* a hash of the senders and numbers of its items, in their order */
+    uint64_t next[KIOSKBASIL_MOST_SENDERS];
+    double done;
+};
+
+static double clock_now(void) {
+    struct timespec t;
+    clock_gettime(CLOCK_MONOTONIC, &t);
+    return (double)t.tv_sec * 1e9 + (double)t.tv_nsec;
+}
+
+static void die(const char *why) {
+    fprintf(stderr, "embed: %s\n", why);
+    exit(2);
+}
+
+static void wait_a_little(unsigned *step) {
+    if (*step > 6) sched_yield();
+    else for (volatile unsigned spin = 0, most = 1u << (*step)++; spin < most; spin++) {}
+}
+
+static void pass_gate(struct race *race) {
+    unsigned step = 0;
+    atomic_fetch_add(&race->waiting, 1);
+    while (!atomic_load(&race->open)) wait_a_little(&step);
+}
+
+static void *send_all(void *given) {
+    struct racer *me = given;
+    uint8_t message[56] = {0};
+    pass_gate(me->race);
+    for (uint64_t number = 0; number < me->race->messages;) {
+        uint64_t end = number + 16 < me->race->messages ? number + 16 : me->race->messages;
+        for (; number < end; number++) {
+            memcpy(message, &number, sizeof number);
+            if (kioskbasil_put(me->sender, message, me->race->bytes, NULL)) die("a put is refused");
+        }
+        for (unsigned step = 0;;) {
+            uint32_t code = kioskbasil_turns(me->sender, next_word(&me->seed), NULL);
+            if (code == KIOSKBASIL_DELIVERED) break;
+            if (code == KIOSKBASIL_WAITING || code == KIOSKBASIL_BEHIND) wait_a_little(&step);
+            else if (code >= KIOSKBASIL_GOING && code <= KIOSKBASIL_OWN) step = 0;
+            else die(kioskbasil_text(code));
+        }
+    }
+    return NULL;
+}
+
+static void take_item(struct racer *me, const kioskbasil_item *item) {
+    uint64_t words[7];
+    memcpy(words, item->bytes, sizeof words);
+    for (int i = 0; i < 7; i++) me->sum += words[i];
+    if (item->number != me->next[item->sender]++ || words[0] != item->number) die("another item");
+    if (item->length != me->race->bytes) die("another length");
+    me->order = me->order * UINT64_C(0x9E3779B97F4A7C15) + (item->number << 8 | item->sender);
+}
+
+static void *hear_all(void *given) {
+    struct racer *me = given;
+    kioskbasil_item items[32];
+    unsigned step = 0;
+    pass_gate(me->race);
+    for (uint64_t heard = 0; heard < me->race->items;) {
+        size_t many = 0;
+        uint32_t code = kioskbasil_hear(me->receiver, items, 32, &many);
+        if (code != KIOSKBASIL_EMPTY && code != KIOSKBASIL_GOING) die(kioskbasil_text(code));
+        for (size_t i = 0; i < many; i++) take_item(me, &items[i]);
+        heard += many;
+        if (many) step = 0;
+        else wait_a_little(&step);
+    }
+    me->done = clock_now();
+    return NULL;
+}
+
+/* A run; 0 where the sizes are not those of a bus. */
+static double race(size_t senders, size_t receivers, uint64_t messages, size_t bytes,
+                   uint64_t rounds) {
+    kioskbasil_sender s[KIOSKBASIL_MOST_SENDERS] = {KIOSKBASIL_NONE};
+    kioskbasil_receiver r[KIOSKBASIL_MOST_RECEIVERS] = {KIOSKBASIL_NONE};
+    kioskbasil_sizes sizes = {rounds, 8, 65536, true};
+    struct race race = {.messages = messages, .items = messages * senders, .bytes = bytes};
+    static struct racer racers[KIOSKBASIL_MOST_SENDERS + KIOSKBASIL_MOST_RECEIVERS];
+    pthread_t threads[KIOSKBASIL_MOST_SENDERS + KIOSKBASIL_MOST_RECEIVERS];
+    kioskbasil_left left;
+    unsigned step = 0;
+    double last = 0;
+    if (bytes < 8 || kioskbasil_open(&sizes, s, senders, r, receivers)) return 0;
+    memset(racers, 0, sizeof racers);
+    for (size_t i = 0; i < senders + receivers; i++) {
+        struct racer *racer = &racers[i];
+        racer->race = &race, racer->seed = i + 1;
+        if (i < senders) racer->sender = &s[i];
+        else racer->receiver = &r[i - senders];
+        if (pthread_create(&threads[i], NULL, i < senders ? send_all : hear_all, racer))
+            die("no thread");
+    }
+    while (atomic_load(&race.waiting) < (int)(senders + receivers)) wait_a_little(&step);
+    double opened = clock_now();
+    atomic_store(&race.open, true);
+    for (size_t i = 0; i < senders + receivers; i++) pthread_join(threads[i], NULL);
+    for (size_t i = senders; i < senders + receivers; i++) {
+        if (racers[i].order != racers[senders].order) die("receivers disagree");
+        if (racers[i].sum != senders * (messages * (messages - 1) / 2)) die("another sum");
+        if (racers[i].done > last) last = racers[i].done;
+    }
+    if (kioskbasil_end(s, senders, r, receivers, NULL, 0, &left)) die("no end");
+    for (size_t i = 0; i < senders; i++) if (left.counts[i] != messages) die("another count");
+    return last - opened;
+}
+
+static void lines(void) {
+    unsigned long long senders, receivers, messages, bytes, rounds;
+    char line[200];
+    while (fgets(line, sizeof line, stdin)) {
+        rounds = 4;
+        if (sscanf(line, "%llu %llu %llu %llu %llu", &senders, &receivers, &messages, &bytes,
+                   &rounds) < 4)
+            die("not four numbers");
+        if (senders > KIOSKBASIL_MOST_SENDERS || receivers > KIOSKBASIL_MOST_RECEIVERS)
+            die("too many");
+        double took = race(senders, receivers, messages, bytes, rounds);
+        if (took == 0) die("no bus of these sizes");
+        printf("%.0f\n", took);
+        fflush(stdout);
+    }
 }
 
 int main(int count, char **words) {
     const char *what = count > 1 ? words[1] : "codes";
     if (!strcmp(what, "time")) return timing(), 0;
+    if (!strcmp(what, "lines")) return lines(), 0;
     if (!strcmp(what, "storm")) {
         long runs = count > 2 ? atol(words[2]) : 1000;
         for (long run = 0; run < runs; run++) {
@@ -493,6 +871,10 @@ int main(int count, char **words) {
         for (int kinds = 0; kinds < 4; kinds++) two_sittings(kinds & 1, kinds & 2);
         leaving(false);
         leaving(true);
+        for (int again = 0; again < 2; again++) {
+            several_turns(again), turns_that_vote(again);
+            telling(again), apart(again), carrying(again);
+        }
         kioskbasil_left ended = {.ended = true};
         for (int again = 0; again < 2; again++) no_memory(again, NULL), no_memory(again, &ended);
     }

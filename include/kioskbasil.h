@@ -1,34 +1,40 @@
 /* kioskbasil.h: the broadcast bus of Kioskbasil for C and C++.
  *
- * A bus puts the messages of up to 64 senders into one order, which up to 8 receivers hear, each all of it.
- * No call waits, takes a lock, starts a thread, or (but for kioskbasil_open and kioskbasil_open_after)
- * takes memory. A call that is to wait is a loop of the caller's: examples/c/waiting.h has the usual ones,
- * to be copied.
+ * A bus puts the messages of up to 64 senders into one order, which up to 8 receivers hear, each
+ * all of it. No call waits, takes a lock, starts a thread, or (but for kioskbasil_open and
+ * kioskbasil_open_after) takes memory. A call that is to wait is a loop of the caller's:
+ * examples/c/waiting.h has the usual ones, to be copied.
  *
- * The functions bus_c_.. are those of the archive (crates/bus_c), which are proved against their contracts.
- * The functions kioskbasil_.. stand in this header: they look for NULL and call one of those. A program
- * calls kioskbasil_.. alone.
+ * The functions bus_c_.. are those of the archive (crates/bus_c), which are proved against their
+ * contracts. The functions kioskbasil_.. stand in this header: they look for NULL and call one of
+ * those. A program calls kioskbasil_.. alone.
  *
- * HANDLES. A kioskbasil_sender or kioskbasil_receiver is the caller's. It starts as KIOSKBASIL_NONE, which
- * is all zeros, and kioskbasil_open or kioskbasil_open_after fills it. It is given up by kioskbasil_free_.., which leaves it empty.
- * A call of an empty handle answers KIOSKBASIL_EMPTY_HANDLE and changes nothing; giving up an empty handle
- * is allowed and does nothing. A call changes no other handle.
+ * HANDLES. A kioskbasil_sender or kioskbasil_receiver is the caller's. It starts as
+ * KIOSKBASIL_NONE, which is all zeros, and kioskbasil_open or kioskbasil_open_after fills it. It is
+ * given up by kioskbasil_free_.., which leaves it empty. A call of an empty handle answers
+ * KIOSKBASIL_EMPTY_HANDLE and changes nothing, but for kioskbasil_end; giving up an empty handle is
+ * allowed and does nothing. A call changes no handle but those that it is given.
  *
- * THREADS. Different handles may be used by different threads at once, also of one bus. Each handle is
- * given to one call at a time. It goes to another thread by the start or the join of a thread, or by a lock.
- * No call is made from a signal handler, or in the child of a fork.
+ * TWO HANDLES. kioskbasil_tell and kioskbasil_meet want two handles of one bus, and answer
+ * KIOSKBASIL_OTHER_BUS for those of two. This header sees it by where their buses lie, and says it
+ * to the archive, whose proof rests on that: no proved code can compare the places of two buses.
+ *
+ * THREADS. Different handles may be used by different threads at once, also of one bus. Each handle
+ * is given to one call at a time. It goes to another thread by the start or the join of a thread,
+ * or by a lock. No call is made from a signal handler, or in the child of a fork.
  *
  * WHAT IS TRUSTED OF THE CALLER. Nothing checks that
- *   - a handle starts as zeros, and is not written or copied while it is not empty (moving it and then
- *     zeroing the old one is allowed);
- *   - a handle is given to one call at a time, as said above;
- *   - a pointer that is not NULL points to what its type says, as many of them as the call says, aligned,
- *     that no other pointer of the same call points into and no other thread uses meanwhile;
+ *   - a handle starts as zeros, and is not written or copied while it is not empty (moving it and
+ *     then zeroing the old one is allowed);
+ *   - a handle is given to one call at a time, as said above, and to one place of a call but where
+ *     that says otherwise;
+ *   - a pointer that is not NULL points to what its type says, as many of them as the call says,
+ *     aligned, that no other pointer of the same call points into and no other thread uses
+ *     meanwhile;
  *   - malloc, realloc and free are those of the C library, or as good.
  *
- * ROOM FOR MORE. Answers above KIOSKBASIL_LEAVE, refusals above KIOSKBASIL_NUMBERS_USED and further calls may
- * come. Telling a receiver of a sender or of another receiver (`told`, `meet` of the library) is not offered
- * to C.
+ * ROOM FOR MORE. Answers above KIOSKBASIL_LEAVE, refusals above KIOSKBASIL_OTHER_BUS and further
+ * calls may come.
  */
 #ifndef KIOSKBASIL_H
 #define KIOSKBASIL_H
@@ -52,24 +58,30 @@ enum {
 enum kioskbasil_code {
   KIOSKBASIL_OK = 0,
   /* of a turn of a sender */
-  KIOSKBASIL_IDLE = 1,       /* nothing was pending; no step was taken */
-  KIOSKBASIL_WAITING = 2,    /* another holds the page, or no new tenure is open */
-  KIOSKBASIL_GOING = 3,      /* a step was taken, and more are to come; also of a receiver */
-  KIOSKBASIL_LOST = 4,       /* the election of .tenure chose .sender; the batch waits for another tenure */
-  KIOSKBASIL_OWN = 5,        /* it has taken the page of .tenure */
-  KIOSKBASIL_DELIVERED = 6,  /* its messages from .first to .last stand in the order, in the frame of .tenure */
-  KIOSKBASIL_FULL = 7,       /* its frame does not fit the log; the batch is kept */
-  KIOSKBASIL_CLOSED = 8,     /* the order has ended, by this sender or another, or this sender had left */
-  KIOSKBASIL_SPENT = 9,      /* all tenures are spent; the batch is kept */
-  KIOSKBASIL_BEHIND = 10,    /* rows used again: .sender keeps the row of .tenure, which is to be used next */
+  KIOSKBASIL_IDLE = 1,      /* nothing was pending; no step was taken */
+  KIOSKBASIL_WAITING = 2,   /* another holds the page, or no new tenure is open; rows used again
+                               also: it came too late for the tenure that it had seen */
+  KIOSKBASIL_GOING = 3,     /* a step was taken, and more are to come; also of a receiver */
+  KIOSKBASIL_LOST = 4,      /* the election of .tenure chose .sender; the batch waits for another */
+  KIOSKBASIL_OWN = 5,       /* it has taken the page of .tenure */
+  KIOSKBASIL_DELIVERED = 6, /* its messages from .first to .last stand in the order, in the frame
+                               of .tenure */
+  KIOSKBASIL_FULL = 7,      /* its frame does not fit the log; the batch is kept */
+  KIOSKBASIL_CLOSED = 8,    /* the order has ended, by this sender or another, or this sender had
+                               left */
+  KIOSKBASIL_SPENT = 9,     /* no tenure is left to this sender: all have ended, or it lost the last
+                               one, whose owner may still end the order; the batch is kept */
+  KIOSKBASIL_BEHIND = 10,   /* rows used again: .sender keeps the row of .tenure, which is to be
+                               used next */
   /* of a turn of a receiver */
-  KIOSKBASIL_EMPTY = 11,     /* it has read all up to the length that it found */
-  KIOSKBASIL_HEAD = 12,      /* a frame of .owner begins, of the tenure .tenure */
-  KIOSKBASIL_ITEM = 13,      /* the next message of the order, in .item */
-  KIOSKBASIL_END = 14,       /* the order has ended, and all of it was given; so it answers for good */
+  KIOSKBASIL_EMPTY = 11,    /* it has read all up to the length that it found */
+  KIOSKBASIL_HEAD = 12,     /* a frame of .owner begins, of the tenure .tenure */
+  KIOSKBASIL_ITEM = 13,     /* the next message of the order, in .item */
+  KIOSKBASIL_END = 14,      /* the order has ended, and all of it was given; so it answers for
+                               good */
   /* of leaving */
-  KIOSKBASIL_LEFT = 15,      /* of a sender: it has left, by its frame of .tenure */
-  KIOSKBASIL_LEAVE = 16,     /* of a receiver: .owner has left, and nothing of it follows */
+  KIOSKBASIL_LEFT = 15,     /* of a sender: it has left, by its frame of .tenure */
+  KIOSKBASIL_LEAVE = 16,    /* of a receiver: .owner has left, and nothing of it follows */
   /* refusals */
   KIOSKBASIL_BAD_SENDERS = 32,    /* open: not 1 to 64 senders */
   KIOSKBASIL_BAD_RECEIVERS = 33,  /* open: not 1 to 8 receivers */
@@ -77,11 +89,13 @@ enum kioskbasil_code {
   KIOSKBASIL_BAD_ROWS = 35,       /* open: not 1 to 256 rows; used again, not 2 to 8 */
   KIOSKBASIL_BAD_LOG_WORDS = 36,  /* open: not 16 to 65,536 words */
   KIOSKBASIL_NO_MEMORY = 37,      /* open: memory was refused */
-  KIOSKBASIL_PUT_CLOSED = 38,     /* put: a close or a leave was accepted, or the order is known to have ended */
-  KIOSKBASIL_PUT_BUSY = 39,       /* put: the batch is on its way */
+  KIOSKBASIL_PUT_CLOSED = 38,     /* put, carry: a close or a leave was accepted, or the order is
+                                     known to have ended */
+  KIOSKBASIL_PUT_BUSY = 39,       /* put, carry: the batch is on its way */
   KIOSKBASIL_PUT_TOO_LONG = 40,   /* put: more than 56 bytes */
-  KIOSKBASIL_PUT_BATCH_FULL = 41, /* put: 16 messages wait */
-  KIOSKBASIL_CLOSE_CLOSED = 42,   /* close, leave: one was accepted, or the order is known to have ended */
+  KIOSKBASIL_PUT_BATCH_FULL = 41, /* put, carry: more than 16 messages would wait */
+  KIOSKBASIL_CLOSE_CLOSED = 42,   /* close, leave: one was accepted, or the order is known to have
+                                     ended */
   KIOSKBASIL_CLOSE_BUSY = 43,     /* close, leave: the batch is on its way */
   KIOSKBASIL_CLOSE_PENDING = 44,  /* close, leave: messages wait */
   KIOSKBASIL_IN_USE = 45,         /* end: other handles have the bus still */
@@ -89,10 +103,12 @@ enum kioskbasil_code {
   KIOSKBASIL_EMPTY_HANDLE = 47,   /* the handle is empty */
   KIOSKBASIL_NULL = 48,           /* a pointer is NULL; of this header alone */
   KIOSKBASIL_NOT_ENDED = 49,      /* open_after: the order of the bus before has not ended */
-  KIOSKBASIL_NUMBERS_USED = 50    /* open_after: a next number is 2^48 - 65,536 or more */
+  KIOSKBASIL_NUMBERS_USED = 50,   /* open_after: a next number is 2^48 - 65,536 or more */
+  KIOSKBASIL_OTHER_BUS = 51       /* tell, meet: the two handles are of two buses */
 };
 
-/* A code of 32 or more says that nothing was done. */
+/* A code of 32 or more says that nothing was done, but of kioskbasil_end: after IN_USE and PAGE_OUT
+ * all its handles are empty, and where the first receiver was empty the others are given up. */
 static inline bool kioskbasil_refused(uint32_t code) { return code >= 32; }
 
 /* Handles. Their fields are the library's. */
@@ -111,10 +127,10 @@ typedef struct kioskbasil_receiver {
 /* The sizes of a bus, but for the numbers of its senders and receivers. */
 typedef struct kioskbasil_sizes {
   uint64_t rounds;    /* rounds of one binary decision: 1 to 8; any is right, 4 is usual */
-  uint64_t rows;      /* tenures of the sitting, 1 to 256; where rows are used again 2 to 8; a batch takes one,
-                         a close and a leave too */
-  uint64_t log_words; /* words of the whole order, 16 to 65,536: a batch takes 1, a message 1 and one
-                         for each 8 bytes begun, a close or a leave 2 */
+  uint64_t rows;      /* tenures of the sitting, 1 to 256; where rows are used again 2 to 8; a batch
+                         takes one, a close and a leave too */
+  uint64_t log_words; /* words of the whole order, 16 to 65,536: a batch takes 1, a message 1 and
+                         one for each 8 bytes begun, a close or a leave 2 */
   bool again;         /* rows of words are used again: up to 2^40 tenures */
 } kioskbasil_sizes;
 
@@ -148,7 +164,7 @@ typedef struct kioskbasil_sender_shown {
   uint64_t words;       /* the last length of the log that it has stored */
   uint64_t turns_left;  /* turns of its election, at most; 0 where none is begun */
   uint8_t number;       /* its own number, from 0 on */
-  bool is_closed;       /* it sends nothing more; false as long as its close or leave waits to be sent */
+  bool is_closed;       /* it sends nothing more; false as long as its close or leave waits */
   bool wants_word;      /* its next turn uses its random word */
 } kioskbasil_sender_shown;
 
@@ -159,11 +175,14 @@ typedef struct kioskbasil_receiver_shown {
   bool has_ended; /* the end was among its answers */
 } kioskbasil_receiver_shown;
 
-/* What a bus leaves behind, beside the words of its log. It is plain numbers, which may be copied and kept. */
+/* What a bus leaves behind, beside the words of its log. It is plain numbers, which may be copied
+ * and kept. */
 typedef struct kioskbasil_left {
   uint64_t counts[KIOSKBASIL_MOST_SENDERS]; /* items of each sender in the order */
-  uint64_t bases[KIOSKBASIL_MOST_SENDERS];  /* the number of its first item: 0 after kioskbasil_open */
-  uint64_t next[KIOSKBASIL_MOST_SENDERS];   /* the number that its next item would have: bases + counts */
+  uint64_t bases[KIOSKBASIL_MOST_SENDERS];  /* the number of its first item: 0 after
+                                               kioskbasil_open */
+  uint64_t next[KIOSKBASIL_MOST_SENDERS];   /* the number that its next item would have: its base
+                                               and its count */
   uint64_t words;                           /* words of the log */
   uint64_t tenures;                         /* tenures that have ended */
   bool ended;                               /* the order has ended */
@@ -171,54 +190,72 @@ typedef struct kioskbasil_left {
 } kioskbasil_left;
 
 /* ---- the archive */
-uint32_t bus_c_open(const kioskbasil_sizes *sizes, kioskbasil_sender *senders, size_t sender_count,
+uint32_t bus_c_open(const kioskbasil_sizes *sizes,
+                    kioskbasil_sender *senders, size_t sender_count,
                     kioskbasil_receiver *receivers, size_t receiver_count);
-uint32_t bus_c_open_after(const kioskbasil_sizes *sizes, const kioskbasil_left *left, kioskbasil_sender *senders,
-                          size_t sender_count, kioskbasil_receiver *receivers, size_t receiver_count);
-uint32_t bus_c_put(kioskbasil_sender *sender, const uint8_t *bytes, size_t length, uint64_t *number);
+uint32_t bus_c_open_after(const kioskbasil_sizes *sizes, const kioskbasil_left *left,
+                          kioskbasil_sender *senders, size_t sender_count,
+                          kioskbasil_receiver *receivers, size_t receiver_count);
+uint32_t bus_c_put(kioskbasil_sender *sender, const uint8_t *bytes, size_t length,
+                   uint64_t *number);
 uint32_t bus_c_close(kioskbasil_sender *sender);
 uint32_t bus_c_leave(kioskbasil_sender *sender);
+uint32_t bus_c_carry(kioskbasil_sender *sender, kioskbasil_sender *next);
 uint32_t bus_c_turn(kioskbasil_sender *sender, uint32_t word, kioskbasil_turn_answer *answer);
+uint32_t bus_c_turns(kioskbasil_sender *sender, uint32_t word, uint64_t more,
+                     kioskbasil_turn_answer *answer);
 uint32_t bus_c_sender(kioskbasil_sender *sender, kioskbasil_sender_shown *shown);
+uint32_t bus_c_sender_bus(kioskbasil_sender *sender, const uint8_t **place);
 void bus_c_free_sender(kioskbasil_sender *sender);
 uint32_t bus_c_hear_once(kioskbasil_receiver *receiver, kioskbasil_heard *answer);
-uint32_t bus_c_hear(kioskbasil_receiver *receiver, kioskbasil_item *items, size_t room, uint64_t turns, size_t *many);
+uint32_t bus_c_hear(kioskbasil_receiver *receiver, kioskbasil_item *items, size_t room,
+                    uint64_t turns, size_t *many);
 uint32_t bus_c_receiver(kioskbasil_receiver *receiver, kioskbasil_receiver_shown *shown);
+uint32_t bus_c_receiver_bus(kioskbasil_receiver *receiver, const uint8_t **place);
+uint32_t bus_c_tell(kioskbasil_receiver *receiver, kioskbasil_sender *sender, bool of_one_bus);
+uint32_t bus_c_meet(kioskbasil_receiver *receiver, kioskbasil_receiver *other, bool of_one_bus,
+                    int32_t *order);
 void bus_c_free_receiver(kioskbasil_receiver *receiver);
-uint32_t bus_c_end(kioskbasil_receiver *receiver, uint64_t *log, size_t room, kioskbasil_left *left);
+uint32_t bus_c_end(kioskbasil_receiver *receiver, uint64_t *log, size_t room,
+                   kioskbasil_left *left);
 
-/* Opens a bus of these sizes, with as many senders and receivers as there are handles, and fills these in
- * the order of their numbers. What a handle held is given up. All memory is taken here.
- * KIOSKBASIL_OK, or BAD_SENDERS, BAD_RECEIVERS, BAD_ROUNDS, BAD_ROWS, BAD_LOG_WORDS or NO_MEMORY, the first
- * whose cause holds, and then no handle is changed. */
-static inline uint32_t kioskbasil_open(const kioskbasil_sizes *sizes, kioskbasil_sender *senders, size_t sender_count,
+/* Opens a bus of these sizes, with as many senders and receivers as there are handles, and fills
+ * these in the order of their numbers. What a handle held is given up. All memory is taken here.
+ * KIOSKBASIL_OK, or BAD_SENDERS, BAD_RECEIVERS, BAD_ROUNDS, BAD_ROWS, BAD_LOG_WORDS or NO_MEMORY,
+ * the first whose cause holds, and then no handle is changed. */
+static inline uint32_t kioskbasil_open(const kioskbasil_sizes *sizes,
+                                       kioskbasil_sender *senders, size_t sender_count,
                                        kioskbasil_receiver *receivers, size_t receiver_count) {
   if (!sizes || !senders || !receivers) return KIOSKBASIL_NULL;
   return bus_c_open(sizes, senders, sender_count, receivers, receiver_count);
 }
 
-/* Opens the next sitting, as kioskbasil_open: a bus whose senders go on with the next numbers of the bus
- * that left *left. Nothing else of that bus is carried over: its log and its tenures are not, and a message
- * that waited in a batch has to be put anew. The sizes and the numbers of handles may be others, and either
- * bus may use its rows again or not. *left is only read, and may be used for more buses than one.
- * KIOSKBASIL_OK, or what kioskbasil_open refuses; where the sizes are good NOT_ENDED if left->ended is false,
- * else NUMBERS_USED if one of the 64 next numbers is 2^48 - 65,536 or more, else NO_MEMORY; the first whose
- * cause holds, and then no handle is changed.
- * Nothing checks that kioskbasil_end filled *left: the numbers go on from left->next, whatever it has.
- * left->ended and each of left->gone have to be 0 or 1, and no handle may lie inside *left. Who had left is
- * there again. */
-static inline uint32_t kioskbasil_open_after(const kioskbasil_sizes *sizes, const kioskbasil_left *left,
+/* Opens the next sitting, as kioskbasil_open: a bus whose senders go on with the next numbers of
+ * the bus that left *left. Nothing else of that bus is carried over: its log and its tenures are
+ * not, and a message that waited in a batch has to be put anew, as kioskbasil_carry does. The sizes
+ * and the numbers of handles may be others, and either bus may use its rows again or not. *left is
+ * only read, and may be used for more buses than one.
+ * KIOSKBASIL_OK, or what kioskbasil_open refuses; where the sizes are good NOT_ENDED if left->ended
+ * is false, else NUMBERS_USED if one of the 64 next numbers is 2^48 - 65,536 or more, else
+ * NO_MEMORY; the first whose cause holds, and then no handle is changed.
+ * Nothing checks that kioskbasil_end filled *left: the numbers go on from left->next, whatever it
+ * has. left->ended and each of left->gone have to be 0 or 1, and no handle may lie inside *left.
+ * Who had left is there again. */
+static inline uint32_t kioskbasil_open_after(const kioskbasil_sizes *sizes,
+                                             const kioskbasil_left *left,
                                              kioskbasil_sender *senders, size_t sender_count,
-                                             kioskbasil_receiver *receivers, size_t receiver_count) {
+                                             kioskbasil_receiver *receivers,
+                                             size_t receiver_count) {
   if (!sizes || !left || !senders || !receivers) return KIOSKBASIL_NULL;
   return bus_c_open_after(sizes, left, senders, sender_count, receivers, receiver_count);
 }
 
 /* Appends a message of at most 56 bytes to the sender's batch of at most 16. Takes no step.
- * KIOSKBASIL_OK, and its number among the messages of this sender, from its base on, in *number (which
- * may be NULL); or PUT_CLOSED, PUT_BUSY, PUT_TOO_LONG or PUT_BATCH_FULL, the first whose cause holds, and then
- * nothing is changed. `bytes` may be NULL where `length` is 0. */
-static inline uint32_t kioskbasil_put(kioskbasil_sender *sender, const void *bytes, size_t length, uint64_t *number) {
+ * KIOSKBASIL_OK, and its number among the messages of this sender, from its base on, in *number
+ * (which may be NULL); or PUT_CLOSED, PUT_BUSY, PUT_TOO_LONG or PUT_BATCH_FULL, the first whose
+ * cause holds, and then nothing is changed. `bytes` may be NULL where `length` is 0. */
+static inline uint32_t kioskbasil_put(kioskbasil_sender *sender, const void *bytes, size_t length,
+                                      uint64_t *number) {
   uint64_t own = 0;
   uint8_t none = 0;
   if (!sender || (!bytes && length)) return KIOSKBASIL_NULL;
@@ -226,34 +263,63 @@ static inline uint32_t kioskbasil_put(kioskbasil_sender *sender, const void *byt
 }
 
 /* Lets an end mark wait, which ends the order once turns have sent it. Takes no step.
- * KIOSKBASIL_OK, or CLOSE_CLOSED, CLOSE_BUSY or CLOSE_PENDING, the first whose cause holds, and then
- * nothing is changed. */
+ * KIOSKBASIL_OK, or CLOSE_CLOSED, CLOSE_BUSY or CLOSE_PENDING, the first whose cause holds, and
+ * then nothing is changed. */
 static inline uint32_t kioskbasil_close(kioskbasil_sender *sender) {
   if (!sender) return KIOSKBASIL_NULL;
   return bus_c_close(sender);
 }
 
-/* Lets a leave mark wait, which says in the order that this sender has left once turns have sent it: that is
- * answered KIOSKBASIL_LEFT, and nothing of this sender follows. The others go on. It is there again in a next
- * sitting. Where the order has ended before, turns answer CLOSED and there is no mark. Takes no step.
- * KIOSKBASIL_OK, or CLOSE_CLOSED, CLOSE_BUSY or CLOSE_PENDING, the first whose cause holds, and then
- * nothing is changed. */
+/* Lets a leave mark wait, which says in the order that this sender has left once turns have sent
+ * it: that is answered KIOSKBASIL_LEFT, and nothing of this sender follows. The others go on. It is
+ * there again in a next sitting. Where the order has ended before, turns answer CLOSED and there is
+ * no mark. Takes no step.
+ * KIOSKBASIL_OK, or CLOSE_CLOSED, CLOSE_BUSY or CLOSE_PENDING, the first whose cause holds, and
+ * then nothing is changed. */
 static inline uint32_t kioskbasil_leave(kioskbasil_sender *sender) {
   if (!sender) return KIOSKBASIL_NULL;
   return bus_c_leave(sender);
 }
 
-/* One turn: at most one step on one word of the bus. `word` is a random word, which a vote of a coin uses;
- * other steps do not look at it. No word, however bad, breaks what is promised; bad ones cost steps.
+/* Puts the messages that wait in the batch of `sender` into that of `next`, in their order and
+ * behind what waits there; they wait with `sender` too. So what was not sent in one sitting goes on
+ * in the next: if it is put first into the next sender of this number, each message gets the number
+ * that it was answered before. `next` may be of any bus. Takes no step.
+ * KIOSKBASIL_OK; or PUT_BATCH_FULL where they do not fit beside what waits there, else PUT_CLOSED
+ * or PUT_BUSY as a put into `next` would be, and then nothing is changed. EMPTY_HANDLE where either
+ * is empty. One handle may be given twice: its messages wait there already, and nothing changes. */
+static inline uint32_t kioskbasil_carry(kioskbasil_sender *sender, kioskbasil_sender *next) {
+  kioskbasil_sender_shown own;
+  if (!sender || !next) return KIOSKBASIL_NULL;
+  if (sender == next) return bus_c_sender(sender, &own);
+  return bus_c_carry(sender, next);
+}
+
+/* One turn: at most one step on one word of the bus. `word` is a random word, which a vote of a
+ * coin uses; other steps do not look at it. No word, however bad, breaks what is promised; bad ones
+ * cost steps.
  * The answer, IDLE to BEHIND or LEFT, and what it says in *answer (which may be NULL). */
-static inline uint32_t kioskbasil_turn(kioskbasil_sender *sender, uint32_t word, kioskbasil_turn_answer *answer) {
+static inline uint32_t kioskbasil_turn(kioskbasil_sender *sender, uint32_t word,
+                                       kioskbasil_turn_answer *answer) {
   kioskbasil_turn_answer own;
   if (!sender) return KIOSKBASIL_NULL;
   return bus_c_turn(sender, word, answer ? answer : &own);
 }
 
+/* A turn with this random word, and then turns that use none, up to the first that is not answered
+ * GOING: so the border is crossed once for many of them. The answer of the last turn, and what it
+ * says in *answer (which may be NULL). GOING says that the next turn uses a random word: call again
+ * with another. It waits for nobody. */
+static inline uint32_t kioskbasil_turns(kioskbasil_sender *sender, uint32_t word,
+                                        kioskbasil_turn_answer *answer) {
+  kioskbasil_turn_answer own;
+  if (!sender) return KIOSKBASIL_NULL;
+  return bus_c_turns(sender, word, UINT64_MAX, answer ? answer : &own);
+}
+
 /* What the sender shows. Takes no step, and changes nothing. */
-static inline uint32_t kioskbasil_show_sender(kioskbasil_sender *sender, kioskbasil_sender_shown *shown) {
+static inline uint32_t kioskbasil_show_sender(kioskbasil_sender *sender,
+                                              kioskbasil_sender_shown *shown) {
   if (!sender || !shown) return KIOSKBASIL_NULL;
   return bus_c_sender(sender, shown);
 }
@@ -263,25 +329,62 @@ static inline void kioskbasil_free_sender(kioskbasil_sender *sender) {
   if (sender) bus_c_free_sender(sender);
 }
 
-/* One turn: one load. The answer, EMPTY, HEAD, ITEM, LEAVE, END or GOING, and what it says in *answer. */
-static inline uint32_t kioskbasil_hear_once(kioskbasil_receiver *receiver, kioskbasil_heard *answer) {
+/* One turn: one load. The answer, EMPTY, HEAD, ITEM, LEAVE, END or GOING, and what it says in
+ * *answer. */
+static inline uint32_t kioskbasil_hear_once(kioskbasil_receiver *receiver,
+                                            kioskbasil_heard *answer) {
   if (!receiver || !answer) return KIOSKBASIL_NULL;
   return bus_c_hear_once(receiver, answer);
 }
 
-/* Turns up to the first that is answered EMPTY or END, which is the answer, or GOING where there is no more
- * room. Items are written to items[0], items[1], .. in their order, and how many they are to *many. Places
- * behind these are not changed. That a sender has left is passed over, as the heads of frames are: whoever
- * wants to know at which place of the order calls kioskbasil_hear_once, and kioskbasil_end says it of the whole. */
-static inline uint32_t kioskbasil_hear(kioskbasil_receiver *receiver, kioskbasil_item *items, size_t room, size_t *many) {
+/* Turns up to the first that is answered EMPTY or END, which is the answer, or GOING where there is
+ * no more room. Items are written to items[0], items[1], .. in their order, and how many they are
+ * to *many. Places behind these are not changed. That a sender has left is passed over, as the
+ * heads of frames are: whoever wants to know at which place of the order calls
+ * kioskbasil_hear_once, and kioskbasil_end says it of the whole. */
+static inline uint32_t kioskbasil_hear(kioskbasil_receiver *receiver, kioskbasil_item *items,
+                                       size_t room, size_t *many) {
   if (!receiver || !items || !many) return KIOSKBASIL_NULL;
   return bus_c_hear(receiver, items, room, UINT64_MAX, many);
 }
 
 /* What the receiver shows. Takes no step, and changes nothing. */
-static inline uint32_t kioskbasil_show_receiver(kioskbasil_receiver *receiver, kioskbasil_receiver_shown *shown) {
+static inline uint32_t kioskbasil_show_receiver(kioskbasil_receiver *receiver,
+                                                kioskbasil_receiver_shown *shown) {
   if (!receiver || !shown) return KIOSKBASIL_NULL;
   return bus_c_receiver(receiver, shown);
+}
+
+/* A sender tells a receiver of its bus of the log: from then on the receiver knows all that the
+ * sender has published. Three loads; the sender stays as it was.
+ * KIOSKBASIL_OK; or EMPTY_HANDLE, or OTHER_BUS, and then nothing is changed. */
+static inline uint32_t kioskbasil_tell(kioskbasil_receiver *receiver, kioskbasil_sender *sender) {
+  const uint8_t *hears = NULL, *sends = NULL;
+  if (!receiver || !sender) return KIOSKBASIL_NULL;
+  bus_c_receiver_bus(receiver, &hears);
+  bus_c_sender_bus(sender, &sends);
+  return bus_c_tell(receiver, sender, hears == sends);
+}
+
+/* Two receivers of one bus meet: from then on both know the log up to the length that is loaded.
+ * How their places compare is written to *order (which may be NULL): -1 where `receiver` has read
+ * fewer words than `other`, 0 where they have read as many, 1 where it has read more. Three loads.
+ * KIOSKBASIL_OK; or EMPTY_HANDLE, or OTHER_BUS, and then nothing is changed. One receiver may be
+ * given twice: that is OK with the order 0, and changes nothing else. */
+static inline uint32_t kioskbasil_meet(kioskbasil_receiver *receiver, kioskbasil_receiver *other,
+                                       int32_t *order) {
+  const uint8_t *hears = NULL, *theirs = NULL;
+  int32_t own = 0;
+  if (!receiver || !other) return KIOSKBASIL_NULL;
+  if (receiver == other) {
+    kioskbasil_receiver_shown shown;
+    uint32_t code = bus_c_receiver(receiver, &shown);
+    if (code == KIOSKBASIL_OK && order) *order = 0;
+    return code;
+  }
+  bus_c_receiver_bus(receiver, &hears);
+  bus_c_receiver_bus(other, &theirs);
+  return bus_c_meet(receiver, other, hears == theirs, order ? order : &own);
 }
 
 /* Gives the handle up; it is empty then. */
@@ -289,16 +392,19 @@ static inline void kioskbasil_free_receiver(kioskbasil_receiver *receiver) {
   if (receiver) bus_c_free_receiver(receiver);
 }
 
-/* Ends the bus. Gives up all these handles, which have to be all that are left of one bus, and ends the bus
- * by the first receiver: all handles are empty then, whatever the answer.
- * KIOSKBASIL_OK: the first words of the log stand in `log`, as many as it has room for (`log` may be NULL
- * where `room` is 0; docs/FORMATS.md says what they are), and the rest in *left. IN_USE: other handles had
- * the bus still, and the bus goes with the last of them. PAGE_OUT: a sender that took the page had not given
- * it back, and the bus is gone. EMPTY_HANDLE: the first receiver was empty. */
-static inline uint32_t kioskbasil_end(kioskbasil_sender *senders, size_t sender_count, kioskbasil_receiver *receivers,
-                                      size_t receiver_count, uint64_t *log, size_t room, kioskbasil_left *left) {
+/* Ends the bus. Gives up all these handles, which have to be all that are left of one bus, and ends
+ * the bus by the first receiver: all handles are empty then, whatever the answer.
+ * KIOSKBASIL_OK: the first words of the log stand in `log`, as many as it has room for (`log` may
+ * be NULL where `room` is 0; docs/FORMATS.md says what they are), and the rest in *left. IN_USE:
+ * other handles had the bus still, and the bus goes with the last of them. PAGE_OUT: a sender that
+ * took the page had not given it back, and the bus is gone. EMPTY_HANDLE: the first receiver was
+ * empty. */
+static inline uint32_t kioskbasil_end(kioskbasil_sender *senders, size_t sender_count,
+                                      kioskbasil_receiver *receivers, size_t receiver_count,
+                                      uint64_t *log, size_t room, kioskbasil_left *left) {
   uint64_t none = 0;
-  if ((!senders && sender_count) || !receivers || !receiver_count || (!log && room) || !left) return KIOSKBASIL_NULL;
+  if ((!senders && sender_count) || !receivers || !receiver_count) return KIOSKBASIL_NULL;
+  if ((!log && room) || !left) return KIOSKBASIL_NULL;
   for (size_t i = 0; i < sender_count; i++) bus_c_free_sender(&senders[i]);
   for (size_t i = 1; i < receiver_count; i++) bus_c_free_receiver(&receivers[i]);
   return bus_c_end(&receivers[0], log ? log : &none, log ? room : 0, left);
@@ -343,6 +449,7 @@ static inline const char *kioskbasil_text(uint32_t code) {
   case KIOSKBASIL_NULL: return "a pointer is NULL";
   case KIOSKBASIL_NOT_ENDED: return "the order of the bus before has not ended";
   case KIOSKBASIL_NUMBERS_USED: return "the numbers of a sender are used up";
+  case KIOSKBASIL_OTHER_BUS: return "the handles are of two buses";
   default: return "no code of this version";
   }
 }

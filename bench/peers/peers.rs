@@ -205,6 +205,8 @@ fn main() {
         "channels" => run_bytes::<Channels>,
         #[cfg(feature = "tokio")]
         "tokio" => run_bytes::<Tokio>,
+        #[cfg(feature = "kioskbasil")]
+        "kioskbasil" => run_bytes::<Embedded>,
         _ => panic!("no such peer"),
     };
     for line in stdin().lock().lines() {
@@ -466,6 +468,49 @@ impl<const W: usize> Rx<W> for broadcast::Receiver<Msg<W>> {
         take(&first.unwrap());
         while let Ok(msg) = self.try_recv() {
             take(&msg);
+        }
+    }
+}
+
+/// The bus by its Rust crate, over the archive: as a user has it, with the crate's own calls that
+/// wait.
+#[cfg(feature = "kioskbasil")]
+struct Embedded;
+
+#[cfg(feature = "kioskbasil")]
+impl<const W: usize> Peer<W> for Embedded {
+    type Tx = kioskbasil::Sender;
+    type Rx = kioskbasil::Receiver;
+    fn open(senders: usize, receivers: usize, _total: usize) -> (Vec<Self::Tx>, Vec<Self::Rx>) {
+        kioskbasil::Bus::open(kioskbasil::Shape::of(senders, receivers)).unwrap()
+    }
+}
+
+#[cfg(feature = "kioskbasil")]
+impl<const W: usize> Tx<W> for kioskbasil::Sender {
+    fn send(&mut self, batch: &[Msg<W>]) {
+        for msg in batch {
+            let mut bytes = [0; 56];
+            for (place, word) in bytes.chunks_exact_mut(8).zip(msg) {
+                place.copy_from_slice(&word.to_le_bytes());
+            }
+            self.put(&bytes[..8 * W]).unwrap();
+        }
+        let turn = kioskbasil::Sender::send(self);
+        assert!(matches!(turn, kioskbasil::Turn::Delivered { .. }), "{turn}");
+    }
+}
+
+#[cfg(feature = "kioskbasil")]
+impl<const W: usize> Rx<W> for kioskbasil::Receiver {
+    fn recv(&mut self, mut take: impl FnMut(&Msg<W>)) {
+        let word =
+            |item: &[u8], j: usize| u64::from_le_bytes(item[8 * j..][..8].try_into().unwrap());
+        let mut next = self.next_item();
+        while let Some(item) = next {
+            assert_eq!(item.len(), 8 * W, "another length");
+            take(&from_fn(|j| word(&item, j)));
+            next = self.try_item();
         }
     }
 }

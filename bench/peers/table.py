@@ -1,12 +1,15 @@
-"""table.py RUNS NAME=WORDS=COMMAND ..: lets the entrants run the same jobs in turns, and prints a table.
+"""table.py RUNS [SENDERSxRECEIVERS,BYTES ..] NAME=WORDS=COMMAND ..: lets the entrants run the same jobs in turns, and prints a
+table.
 
 An entrant is a process. For each line that it reads, `SENDERS RECEIVERS MESSAGES BYTES` with WORDS behind, it runs a bus once,
-checks what came, and prints the nanoseconds.
+checks what came, and prints the nanoseconds. Without jobs it has four. Ratios are to the peers of BASES, or else to the first.
 """
 import os, random, subprocess, sys, time
 
 MESSAGES = 400
-JOBS = [(3, 2, 8), (3, 2, 56), (8, 8, 8), (8, 8, 56)]
+WORDS = [word for word in sys.argv[2:] if "=" in word]
+GIVEN = [word.replace("x", ",").split(",") for word in sys.argv[2:] if "=" not in word]
+JOBS = [tuple(map(int, job)) for job in GIVEN] or [(3, 2, 8), (3, 2, 56), (8, 8, 8), (8, 8, 56)]
 BASES = ["mutex log", "simulation"]
 
 
@@ -45,7 +48,7 @@ def others(entrants):
 
 
 def main():
-    runs, entrants = int(sys.argv[1]), [Entrant(spec) for spec in sys.argv[2:]]
+    runs, entrants = int(sys.argv[1]), [Entrant(spec) for spec in WORDS]
     turns, dice = list(entrants), random.Random(1)
     for one in turns:  # the first job of each waits until it is up
         one.run(JOBS[0])
@@ -61,7 +64,7 @@ def main():
     model = next((line.split(": ")[1].strip() for line in open("/proc/cpuinfo") if line.startswith("model name")), "?")
     print(f"{os.cpu_count()} x {model}; meanwhile other processes took {cores:.1f} cores")
     print(f"first quartiles of {runs} runs, ns a message; {MESSAGES} messages a sender, in batches of 16")
-    bases = [one for base in BASES for one in entrants if one.name == base]
+    bases = [one for base in BASES for one in entrants if one.name == base] or entrants[:1]
     print("in brackets: ratio to the " + " and to the ".join(one.name for one in bases))
     print(f"{'senders x receivers, bytes':26}" + "".join(f"{f'{s}x{r}, {b}':>20}" for s, r, b in JOBS))
     for one in entrants:

@@ -1,5 +1,5 @@
-/* Four threads replicate counters over a bus: each sends commands, and applies all that it hears, its own too. Adding and
-   resetting do not commute, so equal counters show one order. */
+/* Four threads replicate counters over a bus: each sends commands, and applies all that it hears,
+   its own too. Adding and resetting do not commute, so equal counters show one order. */
 #include "kioskbasil.h"
 #include "waiting.h"
 #include <pthread.h>
@@ -69,22 +69,25 @@ int main(void) {
     for (int i = 0; i < THREADS; i++) {
         workers[i].sender = &senders[i];
         workers[i].receiver = &receivers[i];
-        if (pthread_create(&threads[i], NULL, work, &workers[i])) return fprintf(stderr, "counters: no thread\n"), 1;
+        if (pthread_create(&threads[i], NULL, work, &workers[i])) {
+            return fprintf(stderr, "counters: no thread\n"), 1;
+        }
     }
     for (int i = 0; i < THREADS; i++) pthread_join(threads[i], NULL);
 
     int differ = 0;
     for (int i = 0; i < THREADS; i++) {
         catch_up(&workers[i]);
-        if (workers[i].failed) fprintf(stderr, "counters: %s\n", kioskbasil_text(workers[i].failed)), differ = 1;
-        if (memcmp(workers[i].counters, workers[0].counters, sizeof workers[0].counters)) differ = 1;
-        if (workers[i].heard != THREADS * BATCHES * (COUNTERS + 1)) differ = 1;
+        const struct worker *w = &workers[i];
+        if (w->failed) fprintf(stderr, "counters: %s\n", kioskbasil_text(w->failed)), differ = 1;
+        if (memcmp(w->counters, workers[0].counters, sizeof w->counters)) differ = 1;
+        if (w->heard != THREADS * BATCHES * (COUNTERS + 1)) differ = 1;
     }
     kioskbasil_left left;
     code = kioskbasil_end(senders, THREADS, receivers, THREADS, NULL, 0, &left);
     if (code != KIOSKBASIL_OK) return fprintf(stderr, "counters: %s\n", kioskbasil_text(code)), 1;
     if (differ) return fprintf(stderr, "counters: they differ\n"), 1;
-    printf("%d replicas, %d commands, %llu tenures: all equal\n", THREADS, THREADS * BATCHES * (COUNTERS + 1),
-           (unsigned long long)left.tenures);
+    printf("%d replicas, %d commands, %llu tenures: all equal\n", THREADS,
+           THREADS * BATCHES * (COUNTERS + 1), (unsigned long long)left.tenures);
     return 0;
 }

@@ -1,4 +1,5 @@
-/* The three functions that the archive asks memory of, over the C library's malloc. Link it once into a program. */
+/* The three functions that the archive asks memory of, over the C library's malloc. Link it once
+   into a program. */
 #include <stdbool.h>
 #include <stddef.h>
 #include <stdlib.h>

@@ -1,4 +1,5 @@
-/* Calls that wait, over kioskbasil.h, to be copied: no call of the library waits. That they end is not promised. */
+/* Calls that wait, over kioskbasil.h, to be copied: no call of the library waits. That they end is
+   not promised. */
 #ifndef KIOSKBASIL_WAITING_H
 #define KIOSKBASIL_WAITING_H
 
@@ -27,12 +28,14 @@ static inline uint32_t next_word(uint64_t *seed) {
     return (uint32_t)(*seed >> 32);
 }
 
-/* Turns, until there is nothing more to do, or nothing more that can be done: KIOSKBASIL_DELIVERED, LEFT, IDLE, FULL, CLOSED
-   or SPENT; or a refusal. Between turns that answer WAITING or BEHIND it backs off. */
-static inline uint32_t send_batch(kioskbasil_sender *sender, uint64_t *seed, kioskbasil_turn_answer *answer) {
+/* Turns, until there is nothing more to do, or nothing more that can be done: KIOSKBASIL_DELIVERED,
+   LEFT, IDLE, FULL, CLOSED or SPENT; or a refusal. Between turns that answer WAITING or BEHIND it
+   backs off. */
+static inline uint32_t send_batch(kioskbasil_sender *sender, uint64_t *seed,
+                                  kioskbasil_turn_answer *answer) {
     unsigned step = 0;
     for (;;) {
-        uint32_t code = kioskbasil_turn(sender, next_word(seed), answer);
+        uint32_t code = kioskbasil_turns(sender, next_word(seed), answer);
         switch (code) {
         case KIOSKBASIL_WAITING:
         case KIOSKBASIL_BEHIND:
@@ -61,8 +64,10 @@ static inline uint32_t leave_order(kioskbasil_sender *sender, uint64_t *seed) {
     return code == KIOSKBASIL_OK ? send_batch(sender, seed, NULL) : code;
 }
 
-/* Hears until there is an item or the end: KIOSKBASIL_GOING or EMPTY with *many above 0, or END, with *many items before it. */
-static inline uint32_t hear_some(kioskbasil_receiver *receiver, kioskbasil_item *items, size_t room, size_t *many) {
+/* Hears until there is an item or the end: KIOSKBASIL_GOING or EMPTY with *many above 0, or END,
+   with *many items before it. */
+static inline uint32_t hear_some(kioskbasil_receiver *receiver, kioskbasil_item *items, size_t room,
+                                 size_t *many) {
     unsigned step = 0;
     for (;;) {
         uint32_t code = kioskbasil_hear(receiver, items, room, many);

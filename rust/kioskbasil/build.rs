@@ -18,7 +18,11 @@ fn archive() -> Result<PathBuf, String> {
     match Command::new("rt").arg("lib").current_dir(&folder).status() {
         Ok(status) if status.success() && path.is_file() => Ok(path),
         Ok(_) => Err("`rt lib` did not build the archive in crates/bus_c".to_string()),
-        Err(_) => Err("there is no libbus_c.a: set KIOSKBASIL_ARCHIVE to it, or build it by `rt lib` in crates/bus_c".to_string()),
+        Err(_) => Err(
+            "there is no libbus_c.a: set KIOSKBASIL_ARCHIVE to it, or build it by `rt lib` \
+                       in crates/bus_c"
+                .to_string(),
+        ),
     }
 }
 

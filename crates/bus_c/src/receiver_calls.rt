@@ -1,16 +1,20 @@
 //! The calls of a receiver. An empty handle stays empty, and nothing else is changed.
 
-ghost use Rattle.std.specs.Prelude.{◌≡◌, None, IfSome, IfNone, IsSomeAnd};
+ghost use Rattle.std.specs.Prelude.{◌≡◌, true, None, IfSome, IfNone, IsSomeAnd};
+ghost use Rattle.bus_pageslot.specs.Seats.{table_of};
 ghost use Rattle.bus_embed.specs.declared.codes.TheConstants.{OK as done};
 ghost use Rattle.bus_embed.specs.declared.codes.TheConstants.{EMPTY_HANDLE as no_handle};
 ghost use Rattle.bus_embed.specs.Calls.{HeardOnce, HearsInto, ShowsReceiver};
+ghost use Rattle.bus_embed.specs.Calls.{TellAnswered, MeetAnswered};
 ghost use Rattle.bus_embed.specs.Ends.{EndAnswered};
 
 use crate::receiver::CReceiver;
 use crate::seats::ReceiverSeat;
+use crate::sender::CSender;
 use bus_embed::codes::{EMPTY_HANDLE, OK};
 use bus_embed::{
-    HeardAnswer, HeardItem, Left, ReceiverShown, end_bus, hear_items, hear_once, show_receiver,
+    HeardAnswer, HeardItem, Left, ReceiverShown, end_bus, hear_items, hear_once, receivers_meet,
+    show_receiver, tell_receiver,
 };
 use std::alloc::Global;
 
@@ -83,6 +87,98 @@ pub extern "C" fn bus_c_receiver(
         }
         None => EMPTY_HANDLE,
     }
+}
+
+/// Where the bus of the receiver lies.
+#[unsafe(no_mangle)]
+pub extern "C" fn bus_c_receiver_bus(
+    alloc: Global,
+    receiver: &mut CReceiver,
+    place: &mut *const u8,
+) -> u32
+    ensures none { IfNone receiver.old.held ((result ≡ no_handle) × (receiver.new.held ≡ None)
+        × (place.new ≡ place.old)) }
+    ensures same { IfSome receiver.old.held (λ _. (result ≡ done)
+        × (receiver.new.held ≡ receiver.old.held)) }
+{
+    match receiver.take(alloc) {
+        Some(seat) => {
+            *place = seat.handle.bus_place() as *const u8;
+            receiver.hold(seat);
+            OK
+        }
+        None => EMPTY_HANDLE,
+    }
+}
+
+/// A sender tells a receiver of the log. That both are of one bus C says, by `of_one_bus`.
+#[unsafe(no_mangle)]
+pub extern "C" fn bus_c_tell(
+    alloc: Global,
+    receiver: &mut CReceiver,
+    sender: &mut CSender,
+    of_one_bus: bool,
+) -> u32
+    requires { of_one_bus ≡ true → IfSome receiver.old.held (λ old. IfSome sender.old.held (λ from.
+        table_of from.handle ≡ old.handle.bus.table)) }
+    ensures none { IfNone receiver.old.held ((result ≡ no_handle) × (receiver.new.held ≡ None)
+        × (sender.new.held ≡ sender.old.held)) }
+    ensures no_sender { IfNone sender.old.held ((result ≡ no_handle) × (sender.new.held ≡ None)
+        × (receiver.new.held ≡ receiver.old.held)) }
+    ensures tells { IfSome receiver.old.held (λ old. IfSome sender.old.held (λ from.
+        IsSomeAnd receiver.new.held (λ new. IsSomeAnd sender.new.held (λ kept.
+        (new.handle.bus ≡ old.handle.bus) × TellAnswered of_one_bus from.handle old.handle.me
+        result kept.handle new.handle.me)))) }
+{
+    let Some(mut seat) = receiver.take(alloc) else {
+        return EMPTY_HANDLE;
+    };
+    let code = match sender.take(alloc) {
+        Some(mut from) => {
+            let code = tell_receiver(&mut seat.handle, &mut from.handle, of_one_bus);
+            sender.hold(from);
+            code
+        }
+        None => EMPTY_HANDLE,
+    };
+    receiver.hold(seat);
+    code
+}
+
+/// Two receivers meet. That both are of one bus C says, by `of_one_bus`.
+#[unsafe(no_mangle)]
+pub extern "C" fn bus_c_meet(
+    alloc: Global,
+    receiver: &mut CReceiver,
+    other: &mut CReceiver,
+    of_one_bus: bool,
+    order: &mut i32,
+) -> u32
+    requires { of_one_bus ≡ true → IfSome receiver.old.held (λ old. IfSome other.old.held (λ theirs.
+        theirs.handle.bus.table ≡ old.handle.bus.table)) }
+    ensures none { IfNone receiver.old.held ((result ≡ no_handle) × (receiver.new.held ≡ None)
+        × (other.new.held ≡ other.old.held) × (order.new ≡ order.old)) }
+    ensures no_other { IfNone other.old.held ((result ≡ no_handle) × (other.new.held ≡ None)
+        × (receiver.new.held ≡ receiver.old.held) × (order.new ≡ order.old)) }
+    ensures meets { IfSome receiver.old.held (λ old. IfSome other.old.held (λ theirs.
+        IsSomeAnd receiver.new.held (λ new. IsSomeAnd other.new.held (λ met.
+        (new.handle.bus ≡ old.handle.bus) × (met.handle.bus ≡ theirs.handle.bus)
+        × MeetAnswered of_one_bus old.handle.me theirs.handle.me result order.old order.new
+        new.handle.me met.handle.me)))) }
+{
+    let Some(mut seat) = receiver.take(alloc) else {
+        return EMPTY_HANDLE;
+    };
+    let code = match other.take(alloc) {
+        Some(mut their) => {
+            let code = receivers_meet(&mut seat.handle, &mut their.handle, of_one_bus, order);
+            other.hold(their);
+            code
+        }
+        None => EMPTY_HANDLE,
+    };
+    receiver.hold(seat);
+    code
 }
 
 /// Gives the handle up: it is empty then.

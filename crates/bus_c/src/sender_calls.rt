@@ -5,11 +5,13 @@ ghost use Rattle.bus_batch.specs.declared.messages.Mark.TheVariants as mark;
 ghost use Rattle.bus_embed.specs.declared.codes.TheConstants.{OK as done};
 ghost use Rattle.bus_embed.specs.declared.codes.TheConstants.{EMPTY_HANDLE as no_handle};
 ghost use Rattle.bus_embed.specs.Calls.{PutAnswered, CloseAnswered, TurnAnswered, ShowsSender};
+ghost use Rattle.bus_embed.specs.Calls.{CarryAnswered, TurnsAnswered};
 
 use crate::sender::CSender;
 use bus_embed::codes::{EMPTY_HANDLE, OK};
 use bus_embed::{
-    SenderShown, TurnAnswer, close_sender, leave_sender, put_message, show_sender, take_turn,
+    SenderShown, TurnAnswer, carry_messages, close_sender, leave_sender, put_message, show_sender,
+    take_turn, take_turns,
 };
 use std::alloc::Global;
 
@@ -70,6 +72,32 @@ pub extern "C" fn bus_c_leave(alloc: Global, sender: &mut CSender) -> u32
     }
 }
 
+/// Puts what waits with a sender into the batch of the next one.
+#[unsafe(no_mangle)]
+pub extern "C" fn bus_c_carry(alloc: Global, sender: &mut CSender, next: &mut CSender) -> u32
+    ensures none { IfNone sender.old.held ((result ≡ no_handle) × (sender.new.held ≡ None)
+        × (next.new.held ≡ next.old.held)) }
+    ensures no_next { IfNone next.old.held ((result ≡ no_handle) × (next.new.held ≡ None)
+        × (sender.new.held ≡ sender.old.held)) }
+    ensures carry { IfSome sender.old.held (λ from. IfSome next.old.held (λ old.
+        (sender.new.held ≡ sender.old.held) × IsSomeAnd next.new.held (λ new.
+        CarryAnswered from.handle old.handle result new.handle))) }
+{
+    let Some(from) = sender.take(alloc) else {
+        return EMPTY_HANDLE;
+    };
+    let code = match next.take(alloc) {
+        Some(mut seat) => {
+            let code = carry_messages(&from.handle, &mut seat.handle);
+            next.hold(seat);
+            code
+        }
+        None => EMPTY_HANDLE,
+    };
+    sender.hold(from);
+    code
+}
+
 /// One turn with this random word.
 #[unsafe(no_mangle)]
 pub extern "C" fn bus_c_turn(
@@ -93,6 +121,30 @@ pub extern "C" fn bus_c_turn(
     }
 }
 
+/// One turn with this random word, and up to so many more that ask for none.
+#[unsafe(no_mangle)]
+pub extern "C" fn bus_c_turns(
+    alloc: Global,
+    sender: &mut CSender,
+    word: u32,
+    more: u64,
+    answer: &mut TurnAnswer,
+) -> u32
+    ensures none { IfNone sender.old.held ((result ≡ no_handle) × (sender.new.held ≡ None)
+        × (answer.new ≡ answer.old)) }
+    ensures turns { IfSome sender.old.held (λ old. IsSomeAnd sender.new.held (λ new.
+        TurnsAnswered old.handle word more result answer.new new.handle)) }
+{
+    match sender.take(alloc) {
+        Some(mut seat) => {
+            let code = take_turns(&mut seat.handle, word, more, answer);
+            sender.hold(seat);
+            code
+        }
+        None => EMPTY_HANDLE,
+    }
+}
+
 /// What the sender shows.
 #[unsafe(no_mangle)]
 pub extern "C" fn bus_c_sender(alloc: Global, sender: &mut CSender, shown: &mut SenderShown) -> u32
@@ -104,6 +156,28 @@ pub extern "C" fn bus_c_sender(alloc: Global, sender: &mut CSender, shown: &mut 
     match sender.take(alloc) {
         Some(seat) => {
             *shown = show_sender(&seat.handle);
+            sender.hold(seat);
+            OK
+        }
+        None => EMPTY_HANDLE,
+    }
+}
+
+/// Where the bus of the sender lies.
+#[unsafe(no_mangle)]
+pub extern "C" fn bus_c_sender_bus(
+    alloc: Global,
+    sender: &mut CSender,
+    place: &mut *const u8,
+) -> u32
+    ensures none { IfNone sender.old.held ((result ≡ no_handle) × (sender.new.held ≡ None)
+        × (place.new ≡ place.old)) }
+    ensures same { IfSome sender.old.held (λ _. (result ≡ done)
+        × (sender.new.held ≡ sender.old.held)) }
+{
+    match sender.take(alloc) {
+        Some(seat) => {
+            *place = seat.handle.bus_place() as *const u8;
             sender.hold(seat);
             OK
         }

@@ -1,5 +1,5 @@
 -- Items that are heard one by one, and written one behind another.
-use Rattle.std.proofs.Common.{◌≡◌, ℕ, suc, ◌+◌, ◌<◌, ◌⊎◌, inl, inr, true, false, List, [], ◌∷◌, ◌++◌, length, map, drop, slice_set, refl, sym, ap, ◌∙◌, append-nil, arith}
+use Rattle.std.proofs.Common.{◌≡◌, ℕ, suc, ◌+◌, ◌<◌, inl, inr, true, false, List, [], ◌∷◌, ◌++◌, length, map, drop, slice_set, refl, sym, ap, ◌∙◌, append-nil, arith}
 use Rattle.std.proofs.lemmas.List.{map-append, length-append, length-map}
 use Rattle.bus_batch.specs.declared.messages.Item.{Item}
 use Rattle.bus_deliverylog.specs.declared.receiving.RecvTurn.{RecvTurn}
@@ -10,7 +10,7 @@ use Rattle.bus_embed.specs.declared.codes.TheConstants.{GOING}
 use Rattle.bus_embed.specs.declared.answers.HeardItem.{HeardItem}
 use Rattle.bus_embed.specs.Answers.{heard_code, item_told}
 use Rattle.bus_embed.specs.Buses.{Held}
-use Rattle.bus_embed.specs.Calls.{goes_on, items_in, HearsOn, Here, More, Hearing, Fills, Stops, HearsInto}
+use Rattle.bus_embed.specs.Calls.{goes_on, items_in, HearsOn, Here, More, Fills, Stops, HearsInto}
 use Rattle.bus_embed.proofs.OverLaws.{one_more, put_next}
 
 -- so many turns gave items, which are written over the first places of a list

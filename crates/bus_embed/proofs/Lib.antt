@@ -1,3 +1,4 @@
 mod FillLaws
 mod HearLaws
 mod OverLaws
+mod TurnLaws

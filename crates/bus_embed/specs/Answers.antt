@@ -1,5 +1,7 @@
 -- Answers and faults as numbers, and what else an answer says.
-use Rattle.std.specs.Prelude.{◌≡◌, ℕ, List, ◌++◌, length, take, drop, replicate, Result, Ok, Err}
+use Rattle.std.specs.Prelude.{ℕ, ℤ, pos, negsuc, Bool, true, false, List, ◌++◌, length, take, drop, replicate, Result, Ok, Err}
+use Rattle.std.specs.declared.cmp.Ordering.{Ordering}
+use Rattle.std.specs.declared.cmp.Ordering.TheVariants.{Less, Equal, Greater}
 use Rattle.bus_register.specs.declared.limits.TheConstants.{MOST_BYTES}
 use Rattle.bus_batch.specs.declared.messages.Item.{Item}
 use Rattle.bus_batch.specs.declared.batches.PutFault.{PutFault}
@@ -51,12 +53,16 @@ make_code make.NotEnded = code.NOT_ENDED
 make_code make.Numbers = code.NUMBERS_USED
 make_code make.NoMemory = code.NO_MEMORY
 
-abbrev pub put_code : Result ℕ PutFault → ℕ
-put_code (Ok number) = code.OK
-put_code (Err put.Closed) = code.PUT_CLOSED
-put_code (Err put.Busy) = code.PUT_BUSY
-put_code (Err put.TooLong) = code.PUT_TOO_LONG
-put_code (Err put.BatchFull) = code.PUT_BATCH_FULL
+abbrev pub put_fault_code : PutFault → ℕ
+put_fault_code put.Closed = code.PUT_CLOSED
+put_fault_code put.Busy = code.PUT_BUSY
+put_fault_code put.TooLong = code.PUT_TOO_LONG
+put_fault_code put.BatchFull = code.PUT_BATCH_FULL
+
+-- of a put, or of messages that are carried on
+abbrev pub put_code : {A : Type 0} → Result A PutFault → ℕ
+put_code (Ok taken) = code.OK
+put_code (Err fault) = put_fault_code fault
 
 abbrev pub close_code : {A : Type 0} → Result A CloseFault → ℕ
 close_code (Ok taken) = code.OK
@@ -68,6 +74,17 @@ abbrev pub end_code : {A : Type 0} → Result A BusNotEnded → ℕ
 end_code (Ok ended) = code.OK
 end_code (Err left.InUse) = code.IN_USE
 end_code (Err left.PageOut) = code.PAGE_OUT
+
+-- of a call that wants two handles of one bus
+abbrev pub one_bus_code : Bool → ℕ
+one_bus_code true = code.OK
+one_bus_code false = code.OTHER_BUS
+
+-- ---- how two places compare
+abbrev pub order_number : Ordering → ℤ
+order_number Less = negsuc 0
+order_number Equal = pos 0
+order_number Greater = pos 1
 
 -- ---- what a place has that is written where a call succeeded, and else stays
 abbrev pub written : {A E : Type 0} → A → Result A E → A

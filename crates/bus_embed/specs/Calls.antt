@@ -1,5 +1,6 @@
 -- What calls of a sender and of a receiver answer, as numbers.
-use Rattle.std.specs.Prelude.{◌≡◌, ℕ, ◌+◌, ◌⊎◌, Bool, true, false, List, [], ◌∷◌, ◌++◌, None, Some, length, drop, map, Result, IfOk, IfErr, OnOk, OnErr}
+use Rattle.std.specs.Prelude.{◌≡◌, ℕ, ℤ, ◌+◌, ◌≤◌, ◌⊎◌, Bool, true, false, List, [], ◌∷◌, ◌++◌, None, Some, length, drop, map, Result, IfOk, IfErr, OnOk, OnErr}
+use Rattle.std.specs.Ordering.{nat_cmp}
 use Rattle.bus_register.specs.declared.registers.Op.{Op}
 use Rattle.bus_batch.specs.Batches.{next_of, CanPut, IsPutFault, CanClose, IsCloseFault}
 use Rattle.bus_batch.specs.declared.messages.Item.{Item}
@@ -10,25 +11,28 @@ use Rattle.bus_deliverylog.specs.declared.receiving.RecvTurn.{RecvTurn}
 use Rattle.bus_deliverylog.specs.declared.receiving.RecvTurn.TheVariants as heard
 use Rattle.bus_tenure.specs.Core.{is_closed}
 use Rattle.bus_tenure.specs.declared.turns.Turn.{Turn}
-use Rattle.bus_core.specs.Telling.{FeedTells}
-use Rattle.bus_world.specs.Headline.{HasPut, HasMarked}
+use Rattle.bus_tenure.specs.declared.turns.Turn.TheVariants as turn
+use Rattle.bus_core.specs.Telling.{FeedTells, RestTells}
+use Rattle.bus_world.specs.Headline.{HasPut, HasMarked, puts}
 use Rattle.bus_pageslot.specs.Listening.{Hears}
 use Rattle.bus_pageslot.specs.Rule.{Sat, receiver_view_in, known_in}
-use Rattle.bus_pageslot.specs.Seats.{SenderSeat, TookAndTold, table_of, actions_of, stored_of}
-use Rattle.bus_pageslot.specs.Sendings.{waiting_of}
+use Rattle.bus_pageslot.specs.Seats.{SenderSeat, TookAndTold, table_of, first_number_of, actions_of, stored_of}
+use Rattle.bus_pageslot.specs.Sendings.{waiting_of, Carries, CarryRefused}
+use Rattle.bus_receiver.specs.Listening.{IsTold, HaveMet}
 use Rattle.bus_embed.specs.declared.codes.TheConstants as code
 use Rattle.bus_embed.specs.declared.answers.TurnAnswer.{TurnAnswer}
 use Rattle.bus_embed.specs.declared.answers.HeardItem.{HeardItem}
 use Rattle.bus_embed.specs.declared.answers.HeardAnswer.{HeardAnswer}
 use Rattle.bus_embed.specs.declared.senders.SenderShown.{SenderShown}
 use Rattle.bus_embed.specs.declared.receivers.ReceiverShown.{ReceiverShown}
-use Rattle.bus_embed.specs.Answers.{turn_code, heard_code, put_code, close_code, written, turn_answer, heard_answer, item_told}
+use Rattle.bus_embed.specs.Answers.{turn_code, heard_code, put_code, close_code, one_bus_code, order_number, written, turn_answer, heard_answer, item_told}
 use Rattle.bus_embed.specs.Buses.{Held, process, election}
 
 -- ---- a sender: what the calls of its handle promise, each in one
 -- a put of these bytes came to this number, or to this fault
 pub record Puts (old : SenderSeat Held) (bytes : List ℕ) (given : Result ℕ PutFault) (new : SenderSeat Held) : Type 0 where
   pub number : IfOk given (λ n. n ≡ next_of (process.queue old.core))
+  pub counts : IfOk given (λ n. n ≡ first_number_of process old + length (puts (actions_of process old)))
   pub taken : OnOk given (new.core ≡ process.with_message old.core bytes)
   pub action : IfOk given (λ n. actions_of process new ≡ actions_of process old ++ HasPut n bytes ∷ [])
   pub could : OnOk given (CanPut (process.queue old.core) (length bytes))
@@ -45,11 +49,38 @@ pub record Closes (asked : Mark) (old : SenderSeat Held) (given : Result (Unit {
   pub refused : OnErr given (new.core ≡ old.core)
   pub seat : new.seat ≡ old.seat
 
+-- what waits with a sender was put into the batch of another, behind what waits there, or came to this fault
+pub record CarriesOn (from old : SenderSeat Held) (given : Result (Unit {0}) PutFault) (new : SenderSeat Held) : Type 0 where
+  pub carried : OnOk given (Carries process from old new)
+  pub fault : IfErr given (CarryRefused process from old)
+  pub refused : OnErr given (new.core ≡ old.core)
+  pub seat : new.seat ≡ old.seat
+
 -- a turn with this random word was answered so
 pub record Turns (old : SenderSeat Held) (word : ℕ) (turn : Turn) (new : SenderSeat Held) : Type 0 where
   pub table : table_of new ≡ table_of old
-  pub rests : process.op old.core word ≡ None → (new ≡ old) × (turn ≡ process.rest old.core)
+  pub rests : process.op old.core word ≡ None → (new ≡ old) × (turn ≡ process.rest old.core) × RestTells old.core turn
   pub steps : (op : Op) → process.op old.core word ≡ Some op → TookAndTold process (FeedTells election) old word turn new
+
+abbrev pub still_goes : Turn → Bool
+still_goes turn.Idle = false
+still_goes turn.Waiting = false
+still_goes turn.Going = true
+still_goes (turn.Lost tenure owner) = false
+still_goes (turn.Own tenure) = false
+still_goes (turn.Delivered tenure first last) = false
+still_goes (turn.Left tenure) = false
+still_goes turn.Full = false
+still_goes turn.Closed = false
+still_goes turn.Spent = false
+still_goes (turn.Behind tenure sender) = false
+
+-- A turn with this random word, and so many more, each behind one that was answered Going, and with a step that asks for no word; the
+-- last one was answered so.
+pub data TurnsOn (first : SenderSeat Held) (word : ℕ) : ℕ → Turn → SenderSeat Held → Type 0 where
+  Once : (answer : Turn) (new : SenderSeat Held) → Turns first word answer new → TurnsOn first word 0 answer new
+  Again : (n : ℕ) (before : Turn) (old : SenderSeat Held) (any : ℕ) (answer : Turn) (new : SenderSeat Held) → TurnsOn first word n before old
+      → still_goes before ≡ true → process.wants_word old.core ≡ false → Turns old any answer new → TurnsOn first word (n + 1) answer new
 
 -- ---- the same with the answer as a code; before is what a place had that the answer is written to
 pub record PutAnswered (old : SenderSeat Held) (bytes : List ℕ) (answer before after : ℕ) (new : SenderSeat Held) : Type 0 where
@@ -63,9 +94,25 @@ pub record CloseAnswered (asked : Mark) (old : SenderSeat Held) (answer : ℕ) (
   pub closes : Closes asked old given new
   pub code : answer ≡ close_code given
 
+pub record CarryAnswered (from old : SenderSeat Held) (answer : ℕ) (new : SenderSeat Held) : Type 0 where
+  pub given : Result (Unit {0}) PutFault
+  pub carries : CarriesOn from old given new
+  pub code : answer ≡ put_code given
+
 pub record TurnAnswered (old : SenderSeat Held) (word answer : ℕ) (told : TurnAnswer) (new : SenderSeat Held) : Type 0 where
   pub turn : Turn
   pub turns : Turns old word turn new
+  pub code : answer ≡ turn_code turn
+  pub says : told ≡ turn_answer turn
+
+-- of several turns: it ended where one was answered otherwise than Going, where the next step asks for a random word, or where so many
+-- more were taken
+pub record TurnsAnswered (old : SenderSeat Held) (word more answer : ℕ) (told : TurnAnswer) (new : SenderSeat Held) : Type 0 where
+  pub n : ℕ
+  pub turn : Turn
+  pub turns : TurnsOn old word n turn new
+  pub few : n ≤ more
+  pub stops : still_goes turn ≡ true → (process.wants_word new.core ≡ true) ⊎ (n ≡ more)
   pub code : answer ≡ turn_code turn
   pub says : told ≡ turn_answer turn
 
@@ -129,3 +176,30 @@ pub record ShowsReceiver (m : Sat Held) (shown : ReceiverShown) : Type 0 where
   pub known : shown.known ≡ length (known_in m.0)
   pub place : shown.place ≡ (receiver_view_in m.0).place
   pub ended : shown.has_ended ≡ (receiver_view_in m.0).ended
+
+-- ---- two handles, of one bus or not
+-- a receiver was told by a sender, which stayed as it was
+pub record IsToldBy (sender : SenderSeat Held) (old : Sat Held) (sender' : SenderSeat Held) (new : Sat Held) : Type 0 where
+  pub told : IsTold process sender.core (actions_of process sender) (stored_of sender) old new
+  pub core : sender'.core ≡ sender.core
+  pub me : sender'.seat.me ≡ sender.seat.me
+  pub table : table_of sender' ≡ table_of sender
+
+-- of one bus it was told, and of two neither changed
+abbrev pub Tells : Bool → SenderSeat Held → Sat Held → SenderSeat Held → Sat Held → Type 0
+Tells true sender old sender' new = IsToldBy sender old sender' new
+Tells false sender old sender' new = (sender' ≡ sender) × (new ≡ old)
+
+pub record TellAnswered (of_one_bus : Bool) (sender : SenderSeat Held) (old : Sat Held) (answer : ℕ) (sender' : SenderSeat Held) (new : Sat Held) : Type 0 where
+  pub tells : Tells of_one_bus sender old sender' new
+  pub code : answer ≡ one_bus_code of_one_bus
+
+-- two receivers of one bus met, and how far each had read is compared; of two nothing changed
+abbrev pub Meets : Bool → Sat Held → Sat Held → ℤ → ℤ → Sat Held → Sat Held → Type 0
+Meets true old theirs before after new theirs' =
+    HaveMet old theirs new theirs' × (after ≡ order_number (nat_cmp (receiver_view_in old.0).place (receiver_view_in theirs.0).place))
+Meets false old theirs before after new theirs' = (new ≡ old) × (theirs' ≡ theirs) × (after ≡ before)
+
+pub record MeetAnswered (of_one_bus : Bool) (old theirs : Sat Held) (answer : ℕ) (before after : ℤ) (new theirs' : Sat Held) : Type 0 where
+  pub meets : Meets of_one_bus old theirs before after new theirs'
+  pub code : answer ≡ one_bus_code of_one_bus

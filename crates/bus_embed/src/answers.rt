@@ -149,6 +149,7 @@ impl HeardItem {
     }
 
     /// This message.
+    #[inline(always)]
     pub(crate) fn of(item: &Item) -> HeardItem
         ensures { result ≡ item_told item.now }
     {

@@ -5,7 +5,7 @@ pub const OK: u32 = 0;
 
 /// A sender: nothing was pending.
 pub const IDLE: u32 = 1;
-/// A sender: another holds the page, or no new tenure is open.
+/// A sender: another holds the page, or no new tenure is open, or it came too late for one.
 pub const WAITING: u32 = 2;
 /// A step was taken, and more are to come.
 pub const GOING: u32 = 3;
@@ -19,7 +19,7 @@ pub const DELIVERED: u32 = 6;
 pub const FULL: u32 = 7;
 /// A sender: the order has ended, or this sender had left.
 pub const CLOSED: u32 = 8;
-/// A sender: all tenures are spent.
+/// A sender: no tenure is left to it.
 pub const SPENT: u32 = 9;
 /// A sender: the presence of another keeps the row that is to be used next.
 pub const BEHIND: u32 = 10;
@@ -74,3 +74,5 @@ pub const EMPTY_HANDLE: u32 = 47;
 pub const NOT_ENDED: u32 = 49;
 /// No bus: a sender's next number is 2^48 - 65,536 or more.
 pub const NUMBERS_USED: u32 = 50;
+/// Two handles are of two buses.
+pub const OTHER_BUS: u32 = 51;

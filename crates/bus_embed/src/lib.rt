@@ -15,5 +15,10 @@ mod writing;
 pub use answers::{HeardAnswer, HeardItem, TurnAnswer};
 pub use bus_handles::{ReceiverHandle, SenderHandle, ThreeWord};
 pub use buses::{Left, Sizes, end_bus, open_bus, open_bus_after, refused_code};
-pub use receivers::{ReceiverShown, hear_items, hear_once, show_receiver};
-pub use senders::{SenderShown, close_sender, leave_sender, put_message, show_sender, take_turn};
+pub use receivers::{
+    ReceiverShown, hear_items, hear_once, receivers_meet, show_receiver, tell_receiver,
+};
+pub use senders::{
+    SenderShown, carry_messages, close_sender, leave_sender, put_message, show_sender, take_turn,
+    take_turns,
+};

@@ -1,13 +1,16 @@
 //! The calls of a receiver.
 
-ghost use Rattle.std.specs.Prelude.{◌≡◌, ◌+◌, ◌<◌, ◌≤◌, [], length, slice_set};
+ghost use Rattle.std.specs.Prelude.{◌≡◌, ◌+◌, ◌<◌, ◌≤◌, true, [], length, slice_set};
 ghost use Rattle.bus_batch.specs.declared.messages.Item.{Item};
-ghost use Rattle.bus_embed.specs.Answers.{item_told};
+ghost use Rattle.bus_pageslot.specs.Seats.{table_of};
+ghost use Rattle.bus_embed.specs.Answers.{item_told, order_number};
 ghost use Rattle.bus_embed.specs.Calls.{HeardOnce, HearsInto, ShowsReceiver, goes_on, items_in};
+ghost use Rattle.bus_embed.specs.Calls.{TellAnswered, MeetAnswered};
 
 use crate::answers::{HeardAnswer, HeardItem, heard_told};
 use crate::codes;
-use bus_handles::{ReceiverHandle, RecvTurn, ThreeWord};
+use bus_handles::{ReceiverHandle, RecvTurn, SenderHandle, ThreeWord};
+use std::cmp::Ordering;
 
 /// What a receiver shows, at no step.
 #[repr(C)]
@@ -61,6 +64,7 @@ pub fn hear_items(
 }
 
 /// More may be there at once.
+#[inline(always)]
 fn may_go_on(turn: &RecvTurn) -> bool
     ensures { result ≡ goes_on turn.now }
 {
@@ -72,6 +76,7 @@ fn may_go_on(turn: &RecvTurn) -> bool
 }
 
 /// Writes the item of an answer, where it has one, to this place: the place of the next item.
+#[inline(always)]
 fn write_item(turn: RecvTurn, items: &mut [HeardItem], place: usize) -> usize
     requires { place < length items.old }
     ensures item { (item : Item) → turn ≡ RecvTurn.Item item → (result ≡ place + 1)
@@ -97,5 +102,56 @@ pub fn show_receiver(receiver: &ReceiverHandle<ThreeWord>) -> ReceiverShown
         known: receiver.known(),
         place: receiver.place(),
         has_ended: receiver.has_ended(),
+    }
+}
+
+/// A sender tells a receiver of the log, as `ReceiverHandle::told`: OK, or OTHER_BUS, and then
+/// nothing changes. Whether both are of one bus the caller says.
+pub fn tell_receiver(
+    receiver: &mut ReceiverHandle<ThreeWord>,
+    sender: &mut SenderHandle<ThreeWord>,
+    of_one_bus: bool,
+) -> u32
+    requires { of_one_bus ≡ true → table_of sender.old ≡ receiver.old.bus.table }
+    ensures bus { receiver.new.bus ≡ receiver.old.bus }
+    ensures tells { TellAnswered of_one_bus sender.old receiver.old.me result sender.new
+        receiver.new.me }
+{
+    if !of_one_bus {
+        return codes::OTHER_BUS;
+    }
+    receiver.told(sender);
+    codes::OK
+}
+
+/// Two receivers meet, as `ReceiverHandle::meet`: OK, and in `order` how the first one's place
+/// compares with the other's; or OTHER_BUS, and then nothing changes. Whether both are of one bus
+/// the caller says.
+pub fn receivers_meet(
+    receiver: &mut ReceiverHandle<ThreeWord>,
+    other: &mut ReceiverHandle<ThreeWord>,
+    of_one_bus: bool,
+    order: &mut i32,
+) -> u32
+    requires { of_one_bus ≡ true → other.old.bus.table ≡ receiver.old.bus.table }
+    ensures bus { (receiver.new.bus ≡ receiver.old.bus) × (other.new.bus ≡ other.old.bus) }
+    ensures meets { MeetAnswered of_one_bus receiver.old.me other.old.me result order.old
+        order.new receiver.new.me other.new.me }
+{
+    if !of_one_bus {
+        return codes::OTHER_BUS;
+    }
+    *order = compared(receiver.meet(other));
+    codes::OK
+}
+
+/// Below 0 where it is less, 0 where it is equal, and above 0 where it is greater.
+fn compared(order: Ordering) -> i32
+    ensures { result ≡ order_number order }
+{
+    match order {
+        Ordering::Less => -1,
+        Ordering::Equal => 0,
+        Ordering::Greater => 1,
     }
 }

@@ -2,12 +2,13 @@
 
 ghost use Rattle.std.specs.Prelude.{◌≡◌};
 ghost use Rattle.bus_batch.specs.declared.messages.Mark.TheVariants as mark;
-ghost use Rattle.bus_embed.specs.Answers.{close_code};
+ghost use Rattle.bus_embed.specs.Answers.{close_code, put_fault_code, turn_code, turn_answer};
 ghost use Rattle.bus_embed.specs.Calls.{PutAnswered, CloseAnswered, TurnAnswered, ShowsSender};
+ghost use Rattle.bus_embed.specs.Calls.{CarryAnswered, TurnsAnswered, still_goes};
 
 use crate::answers::{TurnAnswer, turn_told};
 use crate::codes;
-use bus_handles::{CloseFault, PutFault, SenderHandle, ThreeWord};
+use bus_handles::{CloseFault, PutFault, SenderHandle, ThreeWord, Turn};
 
 /// What a sender shows, at no step.
 #[repr(C)]
@@ -39,10 +40,30 @@ pub fn put_message(sender: &mut SenderHandle<ThreeWord>, bytes: &[u8], number: &
             *number = put;
             codes::OK
         }
-        Err(PutFault::Closed) => codes::PUT_CLOSED,
-        Err(PutFault::Busy) => codes::PUT_BUSY,
-        Err(PutFault::TooLong) => codes::PUT_TOO_LONG,
-        Err(PutFault::BatchFull) => codes::PUT_BATCH_FULL,
+        Err(fault) => put_refused(fault),
+    }
+}
+
+/// The code of what refused a put.
+fn put_refused(fault: PutFault) -> u32
+    ensures { result ≡ put_fault_code fault }
+{
+    match fault {
+        PutFault::Closed => codes::PUT_CLOSED,
+        PutFault::Busy => codes::PUT_BUSY,
+        PutFault::TooLong => codes::PUT_TOO_LONG,
+        PutFault::BatchFull => codes::PUT_BATCH_FULL,
+    }
+}
+
+/// Puts what waits with a sender into the batch of another, as `SenderHandle::carry_to`: OK, or
+/// the code of the fault. The first one keeps it too.
+pub fn carry_messages(sender: &SenderHandle<ThreeWord>, next: &mut SenderHandle<ThreeWord>) -> u32
+    ensures { CarryAnswered sender.now next.old result next.new }
+{
+    match sender.carry_to(next) {
+        Ok(()) => codes::OK,
+        Err(fault) => put_refused(fault),
     }
 }
 
@@ -78,9 +99,46 @@ pub fn take_turn(sender: &mut SenderHandle<ThreeWord>, word: u32, answer: &mut T
     ensures { TurnAnswered sender.old word result answer.new sender.new }
 {
     let turn = sender.turn(word);
+    told_in(turn, answer)
+}
+
+/// The code of an answer, and what that says in `answer`.
+fn told_in(turn: Turn, answer: &mut TurnAnswer) -> u32
+    ensures code { result ≡ turn_code turn }
+    ensures answer { answer.new ≡ turn_answer turn }
+{
     let (code, told) = turn_told(turn);
     *answer = told;
     code
+}
+
+/// One turn with this random word, and as long as the last one is answered Going up to so many
+/// more that ask for no word: the code of the last answer, and what that says in `answer`.
+#[tactic(auto, using(crate::proofs::TurnLaws::once, crate::proofs::TurnLaws::again, crate::proofs::TurnLaws::stops, crate::proofs::TurnLaws::tired))]
+pub fn take_turns(
+    sender: &mut SenderHandle<ThreeWord>,
+    word: u32,
+    more: u64,
+    answer: &mut TurnAnswer,
+) -> u32
+    ensures { TurnsAnswered sender.old word more result answer.new sender.new }
+{
+    let mut turn = sender.turn(word);
+    for _ in 0..more {
+        if !is_going(turn) || sender.wants_word() {
+            return told_in(turn, answer);
+        }
+        turn = sender.turn(0);
+    }
+    told_in(turn, answer)
+}
+
+/// A step was taken, and nothing more is said.
+#[inline(always)]
+fn is_going(turn: Turn) -> bool
+    ensures { result ≡ still_goes turn }
+{
+    matches!(turn, Turn::Going)
 }
 
 /// What a sender shows. Takes no step.

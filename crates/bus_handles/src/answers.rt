@@ -31,7 +31,7 @@ pub enum NotDelivered {
     Full,
     /// The order has ended, by this sender or another, or this sender had left before.
     Closed,
-    /// All rows are spent. The batch is kept.
+    /// No tenure is left to this sender. The batch is kept.
     Spent,
 }
 

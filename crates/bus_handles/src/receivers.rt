@@ -57,6 +57,11 @@ impl<Q: Ratifier + Drop> ReceiverHandle<Q> {
         ReceiverHandle { bus, receiver }
     }
 
+    /// Where its bus lies, as `SenderHandle::bus_place`.
+    pub fn bus_place(&self) -> *const Bus<Q> {
+        Arc::as_ptr(&self.bus)
+    }
+
     /// How many words it has read.
     pub fn place(&self) -> u64
         ensures place { result ≡ (receiver_view_in self.now.me.0).place }
@@ -81,6 +86,7 @@ impl<Q: Ratifier + Drop> ReceiverHandle<Q> {
 
     /// One turn: a load of the length where it has read all that it knows, else a load of the word
     /// at its place. After the end it takes no step.
+    #[inline(always)]
     pub fn turn(&mut self) -> RecvTurn
         ensures bus { self.new.bus ≡ self.old.bus }
         ensures hears { Hears self.old.me result self.new.me }

@@ -1,7 +1,7 @@
 //! A sender with its bus, and with the random words that it votes by.
 
 ghost use Rattle.std.specs.Prelude.{◌≡◌, ℕ, ◌+◌, List, [], ◌∷◌, ◌++◌, length};
-ghost use Rattle.std.specs.Prelude.{Some, None, IfSome, IfNone, IfOk, IfErr, OnOk, OnErr};
+ghost use Rattle.std.specs.Prelude.{Some, None, IfSome, IfNone, IfOk, IfErr, OnOk, OnErr, true};
 ghost use Rattle.std.specs.Arc.{arc_value};
 ghost use Rattle.bus_batch.specs.Batches.{next_of, CanPut, IsPutFault, CanClose, IsCloseFault};
 ghost use Rattle.bus_batch.specs.declared.messages.Mark.TheVariants as mark;
@@ -13,10 +13,11 @@ ghost use Rattle.bus_core.specs.Telling.{FeedTells};
 ghost use Rattle.bus_core.specs.Telling.{RestTells};
 ghost use Rattle.bus_tenure.specs.Elections.{election_of};
 ghost use Rattle.bus_automaton.specs.Buses.{process_by};
+ghost use Rattle.bus_automaton.specs.LastAnswers.{is_refusal};
 ghost use Rattle.bus_pageslot.specs.Seats.{TookAndTold, table_of};
 ghost use Rattle.bus_pageslot.specs.Seats.{first_number_of, actions_of, stored_of};
 ghost use Rattle.bus_pageslot.specs.Turns.{tells_by, Sends, SendsAsking, StopsWaiting};
-ghost use Rattle.bus_pageslot.specs.Sendings.{waiting_of, HasSent, HasSentPart};
+ghost use Rattle.bus_pageslot.specs.Sendings.{waiting_of, HasSent, HasSentPart, KeptAfter};
 ghost use Rattle.bus_pageslot.specs.Sendings.{Carries, CarryRefused};
 ghost use Rattle.bus_handles.specs.Answers.{delivered_turn, not_delivered_turn};
 ghost use Rattle.bus_handles.specs.Closings.{ClosesAndSends, NotEndedFor};
@@ -77,6 +78,12 @@ impl<Q: Ratifier + Drop, R: Rng + Drop> SenderHandle<Q, R> {
         ensures { result.0 ≡ (process_by Q.Ratifier).me self.now.core }
     {
         self.sender.number()
+    }
+
+    /// Where its bus lies. Handles that are there at once have one place if they are of one bus, and
+    /// else two. The allocator keeps that, and no contract says it.
+    pub fn bus_place(&self) -> *const Bus<Q> {
+        Arc::as_ptr(&self.bus)
     }
 
     /// How many messages wait in its batch, at most 16.
@@ -239,6 +246,8 @@ impl<Q: Ratifier + Drop, R: Rng + Drop> SenderHandle<Q, R> {
         ensures table { table_of self.new ≡ table_of self.old }
         ensures sends { Sends (process_by Q.Ratifier) (tells_by Q.Ratifier) self.old result
             self.new }
+        ensures keeps { is_refusal result ≡ true
+            → KeptAfter (process_by Q.Ratifier) self.old result self.new }
         ensures puts { let P = process_by Q.Ratifier in
             puts (actions_of P self.new) ≡ puts (actions_of P self.old) }
     {
@@ -259,6 +268,10 @@ impl<Q: Ratifier + Drop, R: Rng + Drop> SenderHandle<Q, R> {
             turn self.new) }
         ensures stops { IfNone result (StopsWaiting (process_by Q.Ratifier) (tells_by Q.Ratifier)
             F.step self.old go_on self.new) }
+        ensures keeps { let P = process_by Q.Ratifier in
+            IfSome result (λ turn. is_refusal turn ≡ true → KeptAfter P self.old turn self.new) }
+        ensures waits { let P = process_by Q.Ratifier in
+            IfNone result (waiting_of P self.new ≡ waiting_of P self.old) }
         ensures puts { let P = process_by Q.Ratifier in
             puts (actions_of P self.new) ≡ puts (actions_of P self.old) }
     {
@@ -289,6 +302,8 @@ impl<Q: Ratifier + Drop, R: Rng + Drop> SenderHandle<Q, R> {
             (tells_by Q.Ratifier) self.old (delivered_turn done) self.new) }
         ensures not_delivered { IfErr result (λ why. Sends (process_by Q.Ratifier)
             (tells_by Q.Ratifier) self.old (not_delivered_turn why) self.new) }
+        ensures keeps { IfErr result (λ why. is_refusal (not_delivered_turn why) ≡ true
+            → KeptAfter (process_by Q.Ratifier) self.old (not_delivered_turn why) self.new) }
         ensures puts { let P = process_by Q.Ratifier in
             puts (actions_of P self.new) ≡ puts (actions_of P self.old) }
     {

@@ -1,5 +1,6 @@
-//! Four threads replicate counters over a bus: each sends commands, and applies all that it hears, its own too. Adding
-//! and resetting do not commute, so equal counters show one order. `cargo run` in this folder runs it.
+//! Four threads replicate counters over a bus: each sends commands, and applies all that it hears,
+//! its own too. Adding and resetting do not commute, so equal counters show one order. `cargo run`
+//! in this folder runs it.
 
 use kioskbasil::{Bus, Receiver, Sender, Shape};
 use std::error::Error;

@@ -5,7 +5,9 @@ use std::error::Error;
 use std::fmt;
 
 macro_rules! faults {
-    ($(#[$doc:meta])* $name:ident { $($(#[$of:meta])* $fault:ident = $code:literal: $text:literal,)* }) => {
+    ($(#[$doc:meta])* $name:ident {
+        $($(#[$of:meta])* $fault:ident = $code:literal: $text:literal,)*
+    }) => {
         $(#[$doc])*
         #[derive(Clone, Copy, Debug, PartialEq, Eq)]
         pub enum $name { $($(#[$of])* $fault,)* }
@@ -88,6 +90,18 @@ faults! {
         NoReceiver = 47: "there is no receiver to end the bus by",
     }
 }
+
+/// Two handles are of two buses, and tell one another nothing; nothing has changed.
+#[derive(Clone, Copy, Debug, PartialEq, Eq)]
+pub struct OtherBus;
+
+impl fmt::Display for OtherBus {
+    fn fmt(&self, f: &mut fmt::Formatter<'_>) -> fmt::Result {
+        f.write_str("the handles are of two buses")
+    }
+}
+
+impl Error for OtherBus {}
 
 /// Why a sender does not go on.
 #[derive(Clone, Copy, Debug, PartialEq, Eq)]

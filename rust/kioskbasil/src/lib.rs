@@ -1,8 +1,9 @@
 //! A broadcast bus between threads, over the proved archive of `crates/bus_c`.
 //!
-//! Up to 64 senders put messages of up to 56 bytes. All of them stand in one order, and each of up to 8 receivers
-//! hears all of it. The calls that take a turn take no lock and wait for nothing. `send`, `send_all`, `end_order` and
-//! `next_item` go on as long as it takes; that they end is not promised.
+//! Up to 64 senders put messages of up to 56 bytes. All of them stand in one order, and each of up
+//! to 8 receivers hears all of it. The calls that take a turn take no lock and wait for nothing.
+//! `send`, `send_all`, `end_order` and `next_item` go on as long as it takes; that they end is not
+//! promised.
 //!
 //! ```
 //! use kioskbasil::{Bus, Shape};
@@ -24,8 +25,8 @@
 //! # Ok::<(), Box<dyn std::error::Error>>(())
 //! ```
 //!
-//! What is proved is said of the archive's functions (`crates/bus_c`). Trusted besides are this crate, which has the
-//! `unsafe` code so that its users need none, the compilers and the C library.
+//! What is proved is said of the archive's functions (`crates/bus_c`). Trusted besides are this
+//! crate, which has the `unsafe` code so that its users need none, the compilers and the C library.
 
 mod errors;
 mod raw;
@@ -33,7 +34,7 @@ mod receivers;
 mod senders;
 mod waiting;
 
-pub use errors::{CloseError, EndError, OpenError, PutError, SendError, Unsent};
+pub use errors::{CloseError, EndError, OpenError, OtherBus, PutError, SendError, Unsent};
 pub use receivers::{Heard, Item, Receiver};
 pub use senders::{Sender, Turn};
 
@@ -111,8 +112,9 @@ impl Bus {
         Bus::opened(shape, None)
     }
 
-    /// Opens the next sitting: a bus whose senders go on with the next numbers of the bus that left this, once its
-    /// order has ended. Nothing else of it is carried over, and the shape may be another.
+    /// Opens the next sitting: a bus whose senders go on with the next numbers of the bus that left
+    /// this, once its order has ended. Nothing else of it is carried over, and the shape may be
+    /// another.
     ///
     /// ```
     /// use kioskbasil::{Bus, Shape};

@@ -1,4 +1,5 @@
-//! The archive's functions, as include/kioskbasil.h declares them, and the memory that they ask for.
+//! The archive's functions, as include/kioskbasil.h declares them, and the memory that they ask
+//! for.
 
 use crate::MOST_SENDERS;
 use std::ffi::c_void;
@@ -141,8 +142,16 @@ extern "C" {
     ) -> u32;
     pub fn bus_c_close(sender: *mut RawSender) -> u32;
     pub fn bus_c_leave(sender: *mut RawSender) -> u32;
+    pub fn bus_c_carry(sender: *mut RawSender, next: *mut RawSender) -> u32;
     pub fn bus_c_turn(sender: *mut RawSender, word: u32, answer: *mut TurnAnswer) -> u32;
+    pub fn bus_c_turns(
+        sender: *mut RawSender,
+        word: u32,
+        more: u64,
+        answer: *mut TurnAnswer,
+    ) -> u32;
     pub fn bus_c_sender(sender: *mut RawSender, shown: *mut SenderShown) -> u32;
+    pub fn bus_c_sender_bus(sender: *mut RawSender, place: *mut *const u8) -> u32;
     pub fn bus_c_free_sender(sender: *mut RawSender);
     pub fn bus_c_hear_once(receiver: *mut RawReceiver, answer: *mut HeardAnswer) -> u32;
     pub fn bus_c_hear(
@@ -153,6 +162,14 @@ extern "C" {
         many: *mut usize,
     ) -> u32;
     pub fn bus_c_receiver(receiver: *mut RawReceiver, shown: *mut ReceiverShown) -> u32;
+    pub fn bus_c_receiver_bus(receiver: *mut RawReceiver, place: *mut *const u8) -> u32;
+    pub fn bus_c_tell(receiver: *mut RawReceiver, sender: *mut RawSender, of_one_bus: bool) -> u32;
+    pub fn bus_c_meet(
+        receiver: *mut RawReceiver,
+        other: *mut RawReceiver,
+        of_one_bus: bool,
+        order: *mut i32,
+    ) -> u32;
     pub fn bus_c_free_receiver(receiver: *mut RawReceiver);
     pub fn bus_c_end(
         receiver: *mut RawReceiver,
@@ -166,7 +183,8 @@ extern "C" {
     fn free(at: *mut c_void);
 }
 
-/// What the archive is told of memory that it asks for. Where there is none, nobody follows the pointer.
+/// What the archive is told of memory that it asks for. Where there is none, nobody follows the
+/// pointer.
 #[repr(C)]
 pub struct Tried {
     ok: bool,

@@ -1,11 +1,12 @@
 //! Receivers.
 
-use crate::errors::EndError;
+use crate::errors::{EndError, OtherBus};
 use crate::raw::{self, RawItem};
 use crate::waiting::BackOff;
-use crate::Ended;
-use std::fmt;
+use crate::{Ended, Sender};
+use std::cmp::Ordering;
 use std::ops::Deref;
+use std::{fmt, ptr};
 
 /// A message of the order. It is its bytes.
 #[derive(Clone, Copy)]
@@ -230,6 +231,68 @@ impl Receiver {
             }
             back_off.snooze();
         }
+    }
+
+    /// A sender of its bus tells it of the log: it knows from then on all that the sender has
+    /// published. The sender stays as it was.
+    ///
+    /// ```
+    /// use kioskbasil::{Bus, OtherBus, Shape};
+    ///
+    /// let (mut senders, mut receivers) = Bus::open(Shape::of(1, 1))?;
+    /// senders[0].send_all(["one"])?;
+    /// assert_eq!(receivers[0].known(), 0);
+    /// receivers[0].told(&mut senders[0])?;
+    /// assert_eq!(receivers[0].known(), 3);
+    /// let (mut others, _ears) = Bus::open(Shape::of(1, 1))?;
+    /// assert_eq!(receivers[0].told(&mut others[0]), Err(OtherBus));
+    /// # Ok::<(), Box<dyn std::error::Error>>(())
+    /// ```
+    pub fn told(&mut self, sender: &mut Sender) -> Result<(), OtherBus> {
+        let of_one_bus = self.bus_place() == sender.bus_place();
+        // SAFETY: as in `shown`. Both handles hold their buses, so equal places are of one bus.
+        match unsafe { raw::bus_c_tell(&mut self.raw, sender.raw(), of_one_bus) } {
+            0 => Ok(()),
+            51 => Err(OtherBus),
+            code => unreachable!("the archive answered {code}"),
+        }
+    }
+
+    /// Two receivers of one bus meet: from then on both know the log up to the length that is
+    /// loaded. Gives how its place compares with the other's: `Less` where it has read fewer words.
+    /// What it has taken out of the bus counts as read.
+    ///
+    /// ```
+    /// use kioskbasil::{Bus, OtherBus, Shape};
+    /// use std::cmp::Ordering;
+    ///
+    /// let (mut senders, mut receivers) = Bus::open(Shape::of(1, 2))?;
+    /// senders[0].send_all(["one"])?;
+    /// let (anna, bert) = receivers.split_at_mut(1);
+    /// anna[0].next_item();
+    /// assert_eq!(anna[0].meet(&mut bert[0]), Ok(Ordering::Greater));
+    /// assert_eq!(bert[0].known(), anna[0].known());
+    /// let (_others, mut ears) = Bus::open(Shape::of(1, 1))?;
+    /// assert_eq!(anna[0].meet(&mut ears[0]), Err(OtherBus));
+    /// # Ok::<(), Box<dyn std::error::Error>>(())
+    /// ```
+    pub fn meet(&mut self, other: &mut Receiver) -> Result<Ordering, OtherBus> {
+        let of_one_bus = self.bus_place() == other.bus_place();
+        let mut order = 0;
+        // SAFETY: as in `told`.
+        match unsafe { raw::bus_c_meet(&mut self.raw, &mut other.raw, of_one_bus, &mut order) } {
+            0 => Ok(order.cmp(&0)),
+            51 => Err(OtherBus),
+            code => unreachable!("the archive answered {code}"),
+        }
+    }
+
+    /// Where its bus lies.
+    fn bus_place(&mut self) -> *const u8 {
+        let mut place = ptr::null();
+        // SAFETY: as in `shown`.
+        unsafe { raw::bus_c_receiver_bus(&mut self.raw, &mut place) };
+        place
     }
 
     /// Ends the bus by this handle, where it is the last one.

@@ -3,14 +3,15 @@
 use crate::errors::{CloseError, PutError, SendError, Unsent};
 use crate::raw;
 use crate::waiting::{BackOff, Words};
-use std::fmt;
+use std::{fmt, ptr};
 
 /// The answer to a turn of a sender.
 #[derive(Clone, Copy, Debug, PartialEq, Eq)]
 pub enum Turn {
     /// Nothing was pending.
     Idle,
-    /// Another holds the page, or no new tenure is open.
+    /// Another holds the page, or no new tenure is open. Where rows are used again also: it came
+    /// too late for the tenure that it had seen.
     Waiting,
     /// A step was taken, and more are to come.
     Going,
@@ -26,7 +27,8 @@ pub enum Turn {
     Full,
     /// The order has ended, or this sender had left.
     Closed,
-    /// All tenures are spent. The batch is kept.
+    /// No tenure is left to this sender: all have ended, or it lost the last one, whose owner may
+    /// still end the order. The batch is kept.
     Spent,
     /// Where rows are used again: this sender keeps the row of this tenure, which is to be used
     /// next.
@@ -153,7 +155,8 @@ impl Sender {
         self.shown().wants_word
     }
 
-    /// Appends a message of at most 56 bytes to its batch of at most 16, and gives its number. Takes no step.
+    /// Appends a message of at most 56 bytes to its batch of at most 16, and gives its number.
+    /// Takes no step.
     ///
     /// ```
     /// # use kioskbasil::{Bus, PutError, Shape};
@@ -172,6 +175,48 @@ impl Sender {
         }
     }
 
+    /// Puts the messages that wait in its batch into that of `next`, in their order and behind what
+    /// waits there; they wait here too. `next` may be of any bus. Takes no step. So what was not
+    /// sent goes on with another sender: put first into the sender of this number of a next
+    /// sitting, each message gets the number that it was answered before. It gives `BatchFull`
+    /// where they do not fit beside what waits there, and else what a put gives. An error changes
+    /// nothing.
+    ///
+    /// ```
+    /// use kioskbasil::{Bus, PutError, Shape};
+    ///
+    /// let (mut senders, _receivers) = Bus::open(Shape::of(2, 1))?;
+    /// let (mut others, mut receivers) = Bus::open(Shape::of(1, 1))?;
+    /// senders[0].put(b"one")?;
+    /// senders[1].end_order()?;
+    /// assert!(senders[0].send_all(["two"]).is_err());
+    /// senders[0].carry_to(&mut others[0])?;
+    /// others[0].send_all(["three"])?;
+    /// assert_eq!(&receivers[0].next_item().unwrap()[..], b"one");
+    /// others[0].end_order()?;
+    /// assert_eq!(senders[0].carry_to(&mut others[0]), Err(PutError::Closed));
+    /// # Ok::<(), Box<dyn std::error::Error>>(())
+    /// ```
+    pub fn carry_to(&mut self, next: &mut Sender) -> Result<(), PutError> {
+        // SAFETY: as in `shown`; two borrows are of two handles.
+        match unsafe { raw::bus_c_carry(&mut self.raw, &mut next.raw) } {
+            0 => Ok(()),
+            code => Err(PutError::of_code(code)),
+        }
+    }
+
+    /// Where its bus lies.
+    pub(crate) fn bus_place(&mut self) -> *const u8 {
+        let mut place = ptr::null();
+        // SAFETY: as in `shown`.
+        unsafe { raw::bus_c_sender_bus(&mut self.raw, &mut place) };
+        place
+    }
+
+    pub(crate) fn raw(&mut self) -> &mut raw::RawSender {
+        &mut self.raw
+    }
+
     /// Lets an end mark wait, which ends the order once it is sent. Takes no step.
     pub fn close(&mut self) -> Result<(), CloseError> {
         // SAFETY: as in `shown`.
@@ -182,8 +227,8 @@ impl Sender {
     }
 
     /// Lets a leave mark wait, which says in the order that this sender has left, once it is sent:
-    /// then `send` gives `Left`, and nothing of this sender follows. The others go on, and in a next
-    /// sitting it is there again. Takes no step.
+    /// then `send` gives `Left`, and nothing of this sender follows. The others go on, and in a
+    /// next sitting it is there again. Takes no step.
     ///
     /// ```
     /// use kioskbasil::{Bus, CloseError, Heard, PutError, Shape, Turn};
@@ -225,6 +270,26 @@ impl Sender {
         Turn::of(code, told)
     }
 
+    /// A turn with this random word, and then turns that use none, up to the first that does not
+    /// answer `Going`, which is the answer. `Going` says that the next turn uses a random word. It
+    /// waits for nobody.
+    ///
+    /// ```
+    /// use kioskbasil::{Bus, Shape, Turn};
+    ///
+    /// let (mut senders, _receivers) = Bus::open(Shape::of(1, 1))?;
+    /// senders[0].put(b"alone")?;
+    /// assert_eq!(senders[0].turns(0), Turn::Own { tenure: 0 });
+    /// assert!(matches!(senders[0].turns(0), Turn::Delivered { .. }));
+    /// # Ok::<(), Box<dyn std::error::Error>>(())
+    /// ```
+    pub fn turns(&mut self, word: u32) -> Turn {
+        let mut told = raw::TurnAnswer::default();
+        // SAFETY: as in `shown`.
+        let code = unsafe { raw::bus_c_turns(&mut self.raw, word, u64::MAX, &mut told) };
+        Turn::of(code, told)
+    }
+
     /// Turns until Idle, Delivered, Left, Full, Closed or Spent. It backs off while another sender
     /// has to go on first.
     #[must_use = "Full and Spent send nothing"]
@@ -232,7 +297,7 @@ impl Sender {
         let mut back_off = BackOff::default();
         loop {
             let word = self.words.next();
-            match self.turn(word) {
+            match self.turns(word) {
                 Turn::Waiting | Turn::Behind { .. } => back_off.snooze(),
                 Turn::Going | Turn::Lost { .. } | Turn::Own { .. } => back_off.reset(),
                 last => return last,

@@ -1,6 +1,9 @@
-//! Threads over one bus: all receivers hear one order, which has each sender's messages in their order.
+//! Threads over one bus: all receivers hear one order, which has each sender's messages in their
+//! order.
 
-use kioskbasil::{Bus, EndError, Item, OpenError, Shape, Turn};
+use kioskbasil::{Bus, EndError, Ended, Item, OpenError, OtherBus, PutError, Shape, Turn};
+use std::cmp::Ordering;
+use std::error::Error;
 use std::thread;
 
 #[test]
@@ -150,4 +153,91 @@ fn a_sitting_after_another() {
             OpenError::Numbers
         );
     }
+}
+
+#[test]
+fn told_and_meet() {
+    for again in [false, true] {
+        let shape = Shape {
+            again,
+            ..Shape::of(1, 2)
+        };
+        let (mut senders, mut receivers) = Bus::open(shape).unwrap();
+        let (anna, bert) = receivers.split_at_mut(1);
+        assert_eq!(anna[0].meet(&mut bert[0]), Ok(Ordering::Equal));
+        senders[0].send_all(["a"]).unwrap();
+        assert_eq!(anna[0].told(&mut senders[0]), Ok(()));
+        assert_eq!((anna[0].known(), bert[0].known()), (3, 0));
+        assert_eq!(anna[0].next_item().map(|item| item.number), Some(0));
+        senders[0].send_all(["b"]).unwrap();
+        assert_eq!(bert[0].meet(&mut anna[0]), Ok(Ordering::Less));
+        assert_eq!((anna[0].known(), bert[0].known()), (6, 6));
+        assert_eq!(anna[0].meet(&mut bert[0]), Ok(Ordering::Greater));
+        assert_eq!(bert[0].by_ref().take(2).count(), 2);
+    }
+}
+
+#[test]
+fn handles_of_two_buses() {
+    let (mut senders, mut receivers) = Bus::open(Shape::of(1, 1)).unwrap();
+    let (mut others, mut ears) = Bus::open(Shape::of(1, 1)).unwrap();
+    for sender in senders.iter_mut().chain(&mut others) {
+        sender.send_all(["a"]).unwrap();
+    }
+    assert_eq!(receivers[0].told(&mut others[0]), Err(OtherBus));
+    assert_eq!(receivers[0].meet(&mut ears[0]), Err(OtherBus));
+    assert_eq!((receivers[0].known(), ears[0].known()), (0, 0));
+    assert_eq!(receivers[0].told(&mut senders[0]), Ok(()));
+    assert_eq!(receivers[0].known(), 3);
+    let why: Box<dyn Error> = OtherBus.into();
+    assert_eq!(why.to_string(), "the handles are of two buses");
+}
+
+#[test]
+fn what_was_not_sent_goes_on() {
+    let (mut senders, mut receivers) = Bus::open(Shape::of(2, 1)).unwrap();
+    senders[0].send_all(["a"]).unwrap();
+    assert_eq!(senders[0].put(b"b"), Ok(1));
+    senders[1].end_order().unwrap();
+    assert_eq!(senders[0].send(), Turn::Closed);
+    let (first, second) = senders.split_at_mut(1);
+    assert_eq!(first[0].carry_to(&mut second[0]), Err(PutError::Closed));
+
+    // The old sender keeps its bus, so the next numbers are those that a receiver counts.
+    let mut counted = Ended {
+        log: Vec::new(),
+        counts: [0; 64],
+        bases: [0; 64],
+        next: [0; 64],
+        tenures: 0,
+        ended: true,
+        left: [false; 64],
+    };
+    for item in receivers[0].by_ref() {
+        counted.next[usize::from(item.sender)] = item.number + 1;
+    }
+    let (mut after, mut ears) = Bus::open_after(Shape::of(2, 1), &counted).unwrap();
+    assert_eq!(senders[0].carry_to(&mut after[0]), Ok(()));
+    assert_eq!((senders[0].pending(), after[0].pending()), (1, 1));
+    assert_eq!(Bus::end(senders, receivers).unwrap().next, counted.next);
+    assert_eq!(after[0].put(b"c"), Ok(2));
+    assert!(matches!(
+        after[0].send(),
+        Turn::Delivered {
+            first: 1,
+            last: 2,
+            ..
+        }
+    ));
+    let heard: Vec<_> = (0..2).filter_map(|_| ears[0].next_item()).collect();
+    assert_eq!((heard[0].number, &heard[0][..]), (1, &b"b"[..]));
+    assert_eq!((heard[1].number, &heard[1][..]), (2, &b"c"[..]));
+    for _ in 0..16 {
+        after[1].put(b"x").unwrap();
+    }
+    let (one, two) = after.split_at_mut(1);
+    one[0].put(b"y").unwrap();
+    assert_eq!(one[0].carry_to(&mut two[0]), Err(PutError::BatchFull));
+    assert!(matches!(two[0].turn(0), Turn::Going));
+    assert_eq!(two[0].carry_to(&mut one[0]), Err(PutError::BatchFull));
 }

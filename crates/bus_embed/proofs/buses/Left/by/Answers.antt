@@ -1,4 +1,4 @@
-use Rattle.std.proofs.Common.{◌≡◌, ap, arith}
+use Rattle.std.proofs.Common.{ap, arith}
 use Rattle.bus_embed.proofs.buses.Left.by.Goals as goal
 
 pub returns : goal.returns
