@@ -99,7 +99,7 @@ impl Default for Message {
 #[derive(Debug, Drop, PartialEq, Eq)]
 pub struct Item {
     pub sender: SenderNo,
-    /// Counted from 0 for each sender; below 2^48.
+    /// Counted for each sender, from 0 or from where the sitting before left off; below 2^48.
     pub number: u64,
     pub message: Message,
 }

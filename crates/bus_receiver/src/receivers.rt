@@ -31,9 +31,9 @@ pub enum Next {
     Stopped,
 }
 
-/// A receiver of a bus: it reads the log word by word, from the first one on. One thread at a time
-/// has it. No call of it takes memory, and none but `take`, `next_item` and `next_item_while`
-/// waits.
+/// A receiver of a bus: it reads the log word by word, from where its tap has come to, which is the
+/// first one of a new tap. One thread at a time has it. No call of it takes memory, and none but
+/// `take`, `next_item` and `next_item_while` waits.
 #[derive(Drop)]
 pub struct Receiver<Q: Ratifier = ThreeWord> {
     tap: Tap<Q>,

@@ -15,7 +15,8 @@ pub enum Turn {
     /// Nothing is pending, and no mark waits. No step was taken.
     Idle,
     /// The stage shows no tenure that it may enter: another sender holds the page, or it has been
-    /// there.
+    /// there. Or, where rows are used again, it came too late for a tenure, and looks anew with its
+    /// next turn.
     Waiting,
     /// A step was taken, and more are to come.
     Going,
@@ -31,7 +32,8 @@ pub enum Turn {
     Full,
     /// The order has ended, or it has closed or left: nothing more is sent.
     Closed,
-    /// All tenures of the sitting are spent.
+    /// No tenure of the sitting is left to it: all have ended, or it lost the last one, whose owner
+    /// may still end the order.
     Spent,
     /// Where rows are used again: it holds the page, and the presence of this sender names this
     /// tenure, whose row the next tenure is to use. Its next turn loads that presence again.

@@ -13,7 +13,8 @@ pub struct Shape {
     pub receivers: u64,
     /// The rounds of one binary decision: 1 to 8.
     pub rounds: u64,
-    /// The tenures of a sitting: 1 to 256.
+    /// A row of words for each tenure of the sitting: 1 to 256. Where rows are used again they are
+    /// 2 to 8, and the tenures many more.
     pub rows: u64,
     /// 16 to 65,536.
     pub log_words: u64,
