@@ -1,4 +1,5 @@
-//! A sender's end of the log.
+//! A sender's end of the log, by itself: a sender of the bus has no writer, and does the same by
+//! the table of its turns.
 
 ghost use Rattle.std.specs.Prelude.{◌≡◌, ℕ, ◌+◌, ◌<◌, ◌≤◌, ◌^◌, length};
 ghost use Rattle.std.specs.Prelude.{Some, None};
