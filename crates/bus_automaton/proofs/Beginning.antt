@@ -6,18 +6,12 @@ use Rattle.bus_machine.proofs.NewSenders.{no_senders, one_more_sender}
 use Rattle.bus_machine.specs.Machine.{Machine, New, log_place, no_machine_trails}
 use Rattle.bus_machine.specs.Promise.{HasRows}
 use Rattle.bus_machine.specs.Turning.{AreNewSenders}
-use Rattle.bus_automaton.proofs.AgainStates.{opens_again}
-use Rattle.bus_automaton.proofs.ApartStates.{opens_apart}
 use Rattle.bus_automaton.specs.Lawful.{Opens}
 use Rattle.bus_automaton.specs.Processes.{IsCounted}
-use Rattle.bus_automaton.specs.RowsAgain.{process_again, started_again}
-use Rattle.bus_automaton.specs.RowsApart.{process_apart}
 use Rattle.bus_register.specs.Proved.TableLaws.{some_or_none, here_not}
 use Rattle.bus_tenure.specs.Core.{Election, Layout}
 use Rattle.bus_world.specs.Bus.{IsLayout}
 use Rattle.bus_world.specs.World.{AreBases, new_core, first_page, no_stops}
-use Rattle.bus_automaton.proofs.ProcessLawful.{counted_as}
-use Rattle.bus_automaton.proofs.ProcessesAreOne.{process_at_none, process_at_some}
 use Rattle.bus_automaton.specs.OneAutomaton.{bus_of}
 use Rattle.bus_automaton.specs.OneProcess.{process_of}
 
@@ -46,10 +40,8 @@ none_here v e = absurd (let wrong : ⊥ = cc in wrong)
 -- the numbers of messages begin far below their range
 counted : {E : Type 0} (X : Election E) (x : Layout) (reuse : Option ℕ) (bases : List ℕ) → IsLayout x → HasRows reuse → AreBases bases → (p : ℕ)
     → IsCounted (process_of X) (new_sender x p reuse (slice_index bases p))
-counted X x None bases ok has are p = counted_as apart (process_apart X) (process_of X) (process_at_none X) (new_core x (slice_index bases p) p)
-    ((opens_apart X bases are x ok).counted p)
-counted X x (Some rows) bases ok has are p = counted_as again (process_again X) (process_of X) (process_at_some X)
-    (started_again x rows (slice_index bases p) p) ((opens_again X bases are x rows ok has).counted p)
+counted X x None bases ok has are p = record { first = (let low = are.low p in omega arith); few = omega arith }
+counted X x (Some rows) bases ok has are p = record { first = (let low = are.low p in omega arith); few = omega arith }
 
 pub opens : {E : Type 0} (X : Election E) (x : Layout) (reuse : Option ℕ) (bases : List ℕ) → IsLayout x → HasRows reuse → AreBases bases
     → Opens (process_of X) (bus_of X x reuse bases)

@@ -25,9 +25,8 @@ use Rattle.bus_world.specs.World.{Put, Ask, Turn, is_set, no_stops}
 use Rattle.bus_world.specs.CyclicProtocols.{actions_with}
 use Rattle.bus_world.specs.declared.events.Answer.TheVariants as answer
 use Rattle.bus_machine.specs.Machine.{Machine, Trails, Reached, Then, Happens, IsOnWord, going, with_sender, put_in, mark_in, machine_after, found, turn_answer, trails_grown, turn_trails, turn_grown, entered}
-use Rattle.bus_automaton.specs.Lawful.{AcceptsIn}
+use Rattle.bus_automaton.specs.Lawful.{AcceptsIn, StepsIn, LogGrows}
 use Rattle.bus_automaton.specs.SenderTrails.{with_sender_trail}
-use Rattle.bus_automaton.proofs.AutomatonLawful.{Moves, LeadsOn}
 use Rattle.bus_automaton.specs.OneAutomaton.{MachineHistory, IsMachineHistory, trail_of, bus_of}
 use Rattle.bus_automaton.specs.OneProcess.{entries, adds_pin, adds_reclaim, adds_by, process_of}
 
@@ -172,7 +171,7 @@ module _ {E : Type 0} (X : Election E) (x : Layout) (reuse : Option ℕ) (bases 
     home = refl;
   }
 
-  takes_message : (bytes : List ℕ) → CanPut (queue_of v.core.queue v.reuse) (length bytes) → All (λ byte. byte < 256) bytes
+  pub takes_message : (bytes : List ℕ) → CanPut (queue_of v.core.queue v.reuse) (length bytes) → All (λ byte. byte < 256) bytes
       → AcceptsIn (bus_of X x reuse bases) z p (put_in v bytes) (HasPut (next_of (queue_of v.core.queue v.reuse)) bytes ∷ [])
   takes_message bytes can small = subst (λ k. AcceptsIn (bus_of X x reuse bases) z p (put_in v bytes) (HasPut k bytes ∷ []))
       (sym (next_is v.core.queue v.reuse))
@@ -180,7 +179,7 @@ module _ {E : Type 0} (X : Election E) (x : Layout) (reuse : Option ℕ) (bases 
       (Then m (with_sender m p (put_in v bytes)) T (Put p bytes) (answer.Number (next_of v.core.queue)) h.reached
       (record { sender = v; goes = goes; are_bytes = small; can = can; answered = refl; after = refl })))
 
-  takes_mark : (mark : Mark) → CanClose (queue_of v.core.queue v.reuse)
+  pub takes_mark : (mark : Mark) → CanClose (queue_of v.core.queue v.reuse)
       → AcceptsIn (bus_of X x reuse bases) z p (mark_in v mark) (HasMarked mark ∷ [])
   takes_mark End can = accepts (mark_in v End) (HasMarked End ∷ [])
       (Then m (with_sender m p (mark_in v End)) T (Ask p End) answer.Closing h.reached
@@ -216,20 +215,27 @@ module _ {E : Type 0} (X : Election E) (x : Layout) (reuse : Option ℕ) (bases 
     grown_trail = ap (λ U. trail_of bases U p) (sym grown_is) ∙ own_turned bases l p (found m l word) word T (situation X v)
         ∙ ap (λ g. with_sender_trail (trail_of bases T p) (adds_by (situation X v) l g word)) found_is
 
-    moves : Moves (process_of X) (bus_of X x reuse bases) z p v word o
-    moves = record {
-      state = record { machine = machine_after m p l word; trails = grown };
+    -- the machine after it, with all that has happened
+    abbrev pub next : MachineHistory E
+    next = record { machine = machine_after m p l word; trails = grown }
+
+    pub next_reached : IsMachineHistory X x reuse bases next
+    next_reached = record {
+      served = h.served;
+      has_rows = h.has_rows;
+      layout = h.layout;
+      rows_are = h.rows_are;
+      bases_are = h.bases_are;
+      reached = Then m (machine_after m p l word) T (Turn p word) (answer.Turn told) h.reached takes_turn;
+      alone = h.alone;
+      running = h.running;
+    }
+
+    pub takes_step : LogGrows (bus_of X x reuse bases) z next → StepsIn (process_of X) (bus_of X x reuse bases) z p v word o
+    takes_step grows = record {
+      state = next;
       changes = record {
-        reached = record {
-          served = h.served;
-          has_rows = h.has_rows;
-          layout = h.layout;
-          rows_are = h.rows_are;
-          bases_are = h.bases_are;
-          reached = Then m (machine_after m p l word) T (Turn p word) (answer.Turn told) h.reached takes_turn;
-          alone = h.alone;
-          running = h.running;
-        };
+        reached = next_reached;
         here = get_set_same m.senders p _ (slice_get_within m.senders p v at)
             ∙ ap (λ g. Some ((process_of X).after v m.home g word)) found_is;
         others = λ q ne. get_set_other m.senders p _ q ne;
@@ -238,12 +244,5 @@ module _ {E : Type 0} (X : Election E) (x : Layout) (reuse : Option ℕ) (bases 
       };
       words = ap (words_after m.words) due;
       home = refl;
+      grows = grows;
     }
-
-pub leads_on : {E : Type 0} (X : Election E) (x : Layout) (reuse : Option ℕ) (bases : List ℕ) → LeadsOn (process_of X) (bus_of X x reuse bases)
-leads_on X x reuse bases = record {
-  message = λ z p v bytes h at can small. takes_message X x reuse bases z h p v at bytes can small;
-  marked = λ z p v mark h at can. takes_mark X x reuse bases z h p v at mark can;
-  step = λ z p v word o h at due low. moves X x reuse bases z h p v at word o due low;
-  first = λ z p h. refl;
-}

@@ -1,30 +1,32 @@
 -- Who takes a page with its next step was chosen by the election of that tenure, with both kinds of rows.
-use Rattle.std.proofs.Common.{◌≡◌, ℕ, Option, Some, None, List, slice_get, sym, subst}
-use Rattle.bus_core.specs.Senders.{Sender, apart, again}
+use Rattle.std.proofs.Common.{◌≡◌, ℕ, Option, Some, is_some, List, slice_get, inl, inr, sym, ◌∙◌, ap}
+use Rattle.std.proofs.lemmas.Bool.{true≢false}
+use Rattle.bus_core.specs.Senders.{Sender}
 use Rattle.bus_register.specs.Protocol.{Protocol}
-use Rattle.bus_tenure.specs.Core.{Election, Layout}
+use Rattle.bus_register.specs.Proved.TableLaws.{some_or_none}
+use Rattle.bus_tenure.proofs.Situated.{tells}
+use Rattle.bus_tenure.specs.Core.{Core, Election, Layout}
 use Rattle.bus_tenure.specs.Situations.{TakesPage, situation_of}
+use Rattle.bus_tenure.specs.declared.phases.Phase.TheVariants.{Electing}
 use Rattle.bus_world.proofs.Serving.{Serves}
+use Rattle.bus_automaton.proofs.States.{f}
 use Rattle.bus_automaton.specs.OneAutomaton.{MachineHistory, IsMachineHistory}
-use Rattle.bus_automaton.specs.RowsApart.{bus_apart}
-use Rattle.bus_automaton.specs.RowsAgain.{bus_again}
-use Rattle.bus_automaton.proofs.AgainStates.{owner_again}
-use Rattle.bus_automaton.proofs.AutomataAreOne.{bus_at_none, bus_at_some}
-use Rattle.bus_automaton.proofs.AutomatonLawful.{there}
-use Rattle.bus_automaton.proofs.Choosing.{Owns, owner_itself}
-use Rattle.bus_automaton.proofs.Histories.{kept}
+
+-- its election of this tenure runs, and has chosen it
+pub record Owns {E : Type 0} (X : Election E) (p t : ℕ) (c : Core E) : Type 0 where
+  pub election : E
+  pub elects : c.phase ≡ Electing t election
+  pub chosen : X.owner election ≡ Some p
 
 pub owner_at : {E : Type 0} (X : Election E) (P : Protocol E (Unit {0}) ℕ) (x : Layout) → Serves X P x → (reuse : Option ℕ) (bases : List ℕ)
     → (z : MachineHistory E) → IsMachineHistory X x reuse bases z → (p : ℕ) (d : Sender E) → slice_get z.machine.senders p ≡ Some d
     → (t : ℕ) → situation_of X d.core ≡ TakesPage t → Owns X p t d.core
-owner_at {E} X P x y None bases z h p d at t takes =
-    let g = (bus_at_none X bases x).shows z h in
-    let c = there apart ((bus_apart X bases x).sender g.state p) (slice_get z.machine.senders p) d (g.sender p) at in
-    let k = kept X P bases x y g.reached.served g.state.bus g.state.trails g.reached.reached in
-    subst (λ (v : Sender E). situation_of X v.core ≡ TakesPage t → Owns X p t v.core) (sym c.2)
-    (λ i. owner_itself X P x y _ _ _ _ k.frames k.lawful.keeps.sending p c.0 c.1 t i) takes
-owner_at {E} X P x y (Some rows) bases z h p d at t takes =
-    let g = (bus_at_some X bases x rows).shows z h in
-    let c = there again ((bus_again X bases x rows).sender g.state p) (slice_get z.machine.senders p) d (g.sender p) at in
-    subst (λ (v : Sender E). situation_of X v.core ≡ TakesPage t → Owns X p t v.core) (sym c.2)
-    (λ i. owner_again X P bases x rows y g.state g.reached p c.0 c.1 t i) takes
+owner_at X P x y reuse bases z h p d at t takes =
+    let g = f X P x y reuse bases z h in
+    let w = tells X d.core (TakesPage t) takes in
+    elim (some_or_none (X.owner w.0)) [
+      | inl nobody ↦ absurd (true≢false (sym w.2 ∙ ap is_some nobody))
+      | inr own ↦
+          let mine = g.sending.chosen p d.core t w.0 own.0 (g.core_of p d at) w.1 (sym (y.owner_is w.0) ∙ own.1) in
+          record { election = w.0; elects = w.1; chosen = own.1 ∙ ap Some mine }
+    ]

@@ -15,7 +15,7 @@ use Rattle.bus_tenure.proofs.Situated.{tells}
 use Rattle.bus_tenure.specs.Core.{Election}
 use Rattle.bus_tenure.specs.Seen.{AwaitsItsPage}
 use Rattle.bus_tenure.specs.Situations.{Elects, situation_of}
-use Rattle.bus_automaton.specs.RowsApart.{is_taken}
+use Rattle.bus_automaton.specs.OneProcess.{is_taken}
 
 module _ {E : Type 0} (X : Election E) (P : Protocol E (Unit {0}) ℕ) (laws : Laws X.op X.fed P OneOwner)
     (owner_is : (e : E) → X.owner e ≡ P.output e) (v : Sender E) (word : ℕ) where

@@ -2,9 +2,6 @@ pub mod SenderTrails
 pub mod LastAnswers
 pub mod Processes
 pub mod Lawful
-pub mod RowsApart
-pub mod RowsAgain
 pub mod OneProcess
 pub mod OneAutomaton
-pub mod Bridge
 pub mod Buses

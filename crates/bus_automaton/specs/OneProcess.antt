@@ -1,9 +1,11 @@
 -- A sender of either kind of rows as threads go by it: one process, by the one table of its turns.
-use Rattle.std.specs.Prelude.{ℕ, ◌+◌, Option, Some, None, List, [], ◌∷◌}
+use Rattle.std.specs.Prelude.{ℕ, ◌+◌, Bool, true, false, Option, Some, None, List, [], ◌∷◌}
 use Rattle.bus_register.specs.declared.registers.Op.{Op}
 use Rattle.bus_presence.specs.Reclamation.{Entry}
 use Rattle.bus_tenure.specs.Core.{Election, Layout}
 use Rattle.bus_tenure.specs.Seen.{turns_of}
+use Rattle.bus_tenure.specs.declared.phases.Phase.{Phase}
+use Rattle.bus_tenure.specs.declared.phases.Phase.TheVariants as phase
 use Rattle.bus_core.specs.Keeping.{queue_of}
 use Rattle.bus_core.specs.Senders.{Sender, Situation, Does, Announces, Validates, Unpins, Withdraws, Scans, Clears, situation}
 use Rattle.bus_core.specs.Table.{Line, line_now, rest_at}
@@ -13,7 +15,6 @@ use Rattle.bus_world.specs.Turning.{before_step, after_step, laying}
 use Rattle.bus_world.specs.Waiting.{waiting_at}
 use Rattle.bus_machine.specs.Machine.{log_place, moved, put_in, mark_in}
 use Rattle.bus_automaton.specs.Processes.{TableLayout, Process}
-use Rattle.bus_automaton.specs.RowsApart.{is_holding, is_taken}
 use Rattle.bus_automaton.specs.SenderTrails.{SenderTrail, sender_trail_of_actions}
 
 -- how large a bus is: with a row for each tenure, or with so many rows that are used again and a presence for each sender before them
@@ -29,6 +30,23 @@ table_layout_by x reuse = record {
 abbrev pub rows_used : Option Reuse → Option ℕ
 rows_used None = None
 rows_used (Some r) = Some r.rows
+
+-- ---- where it stands
+-- a page stands before it
+abbrev pub is_holding : {E : Type 0} → Phase E → Bool
+is_holding phase.Resting = false
+is_holding (phase.Electing t e) = false
+is_holding (phase.Taken t) = false
+is_holding (phase.Holding t page stored published) = true
+is_holding (phase.Giving t reason) = false
+
+-- it has taken the page, which does not stand before it yet
+abbrev pub is_taken : {E : Type 0} → Phase E → Bool
+is_taken phase.Resting = false
+is_taken (phase.Electing t e) = false
+is_taken (phase.Taken t) = true
+is_taken (phase.Holding t page stored published) = false
+is_taken (phase.Giving t reason) = false
 
 -- ---- what a step adds to the trail
 abbrev pub entries : Option Op → ℕ → List Entry

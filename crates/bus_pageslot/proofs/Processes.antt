@@ -31,7 +31,7 @@ use Rattle.bus_world.specs.Turning.{before_step, laying}
 use Rattle.bus_automaton.specs.Buses.{process_with}
 use Rattle.bus_automaton.specs.OneProcess.{rows_used}
 use Rattle.bus_automaton.specs.Processes.{Process, page_given}
-use Rattle.bus_automaton.specs.RowsApart.{is_taken}
+use Rattle.bus_automaton.specs.OneProcess.{is_taken}
 use Rattle.bus_pageslot.specs.Steps.{out_with}
 
 -- ---- a batch that is on its way

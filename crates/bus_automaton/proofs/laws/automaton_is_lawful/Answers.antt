@@ -1,6 +1,6 @@
 use Rattle.bus_tenure.specs.Elections.{elections, election_with, layout_with}
 use Rattle.bus_world.proofs.Serving.{serves}
-use Rattle.bus_automaton.proofs.Lawful.{automaton_laws}
+use Rattle.bus_automaton.proofs.States.{automaton_laws}
 use Rattle.bus_automaton.proofs.laws.automaton_is_lawful.Goals as goal
 
 pub returns : goal.returns

@@ -1,6 +1,6 @@
 use Rattle.bus_tenure.specs.Elections.{elections, election_with}
 use Rattle.bus_world.proofs.Serving.{serves}
-use Rattle.bus_automaton.proofs.Lawful.{process_laws}
+use Rattle.bus_automaton.proofs.Turns.{process_laws}
 use Rattle.bus_automaton.proofs.laws.process_is_lawful.Goals as goal
 
 pub returns : goal.returns

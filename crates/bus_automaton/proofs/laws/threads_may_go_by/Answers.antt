@@ -6,9 +6,10 @@ use Rattle.bus_world.proofs.Serving.{serves}
 use Rattle.bus_automaton.specs.Buses.{process_with, automaton_with}
 use Rattle.bus_automaton.proofs.Beginning.{opens}
 use Rattle.bus_automaton.proofs.HandedTells.{handed_tells}
-use Rattle.bus_automaton.proofs.Lawful.{process_laws, automaton_laws}
 use Rattle.bus_automaton.proofs.RestingTells.{rest_tells}
 use Rattle.bus_automaton.proofs.ServedPlans.{one_cause_after, is_layout, has_rows}
+use Rattle.bus_automaton.proofs.States.{automaton_laws}
+use Rattle.bus_automaton.proofs.Turns.{process_laws}
 use Rattle.bus_automaton.proofs.laws.threads_may_go_by.Goals as goal
 
 pub returns-clause-process : goal.returns-clause-process
