@@ -1,7 +1,7 @@
 -- The one automaton begins as it should.
 use Rattle.std.proofs.Common.{◌≡◌, ℕ, zero, suc, ◌+◌, ◌<◌, Option, Some, None, List, [], ◌∷◌, ◌++◌, slice_get, slice_index, replicate, inl, inr, arith, refl, ◌∙◌, ap, subst}
 use Rattle.bus_core.specs.Keeping.{new_sender}
-use Rattle.bus_core.specs.Senders.{Sender, apart, again}
+use Rattle.bus_core.specs.Senders.{Sender}
 use Rattle.bus_machine.proofs.NewSenders.{no_senders, one_more_sender}
 use Rattle.bus_machine.specs.Machine.{Machine, New, log_place, no_machine_trails}
 use Rattle.bus_machine.specs.Promise.{HasRows}
@@ -11,7 +11,7 @@ use Rattle.bus_automaton.specs.Processes.{IsCounted}
 use Rattle.bus_register.specs.Proved.TableLaws.{some_or_none, here_not}
 use Rattle.bus_tenure.specs.Core.{Election, Layout}
 use Rattle.bus_world.specs.Bus.{IsLayout}
-use Rattle.bus_world.specs.World.{AreBases, new_core, first_page, no_stops}
+use Rattle.bus_world.specs.World.{AreBases, first_page, no_stops}
 use Rattle.bus_automaton.specs.OneAutomaton.{bus_of}
 use Rattle.bus_automaton.specs.OneProcess.{process_of}
 

@@ -1,5 +1,6 @@
 -- What a sender of the one machine may do leads on, with a row for each tenure and with rows that are used again.
-use Rattle.std.proofs.Common.{◌≡◌, ◌≢◌, ℕ, zero, suc, ◌<◌, cond, eq-eqb, ne_eqb, false, Option, Some, None, List, [], ◌∷◌, ◌++◌, length, slice_get, slice_index, replicate, refl, sym, ◌∙◌, ap, subst}
+use Rattle.std.proofs.Common.{◌≡◌, ◌≢◌, ℕ, zero, suc, ◌<◌, cond, eq-eqb, ne_eqb, false, Option, Some, None, List, [], ◌∷◌, ◌++◌}
+use Rattle.std.proofs.Common.{length, slice_get, slice_index, replicate, refl, sym, ◌∙◌, ap, subst}
 use Rattle.std.specs.Prelude.{All}
 use Rattle.std.proofs.lemmas.List.{append-nil}
 use Rattle.std.proofs.lemmas.Option.{slice_get_within}
@@ -8,11 +9,11 @@ use Rattle.bus_batch.specs.Batches.{Pending, next_of, CanPut, CanClose}
 use Rattle.bus_batch.specs.declared.messages.Mark.{Mark}
 use Rattle.bus_batch.specs.declared.messages.Mark.TheVariants.{End, Leave}
 use Rattle.bus_core.specs.Keeping.{queue_of}
-use Rattle.bus_core.specs.Senders.{Sender, Situation, Does, Announces, Validates, Unpins, Withdraws, Scans, Clears, situation}
+use Rattle.bus_core.specs.Senders.{Sender, Situation, Does, Scans, Clears, situation}
 use Rattle.bus_core.specs.Table.{Line, line_now}
 use Rattle.bus_core.specs.declared.reuses.Reuse.{Reuse}
-use Rattle.bus_machine.proofs.Cyclic.CyclicLaws.{next_seen}
-use Rattle.bus_presence.specs.Reclamation.{Trails as Entries}
+use Rattle.bus_machine.proofs.Bounding.{actions_of_it, actions_of_other}
+use Rattle.bus_presence.specs.Reclamation.{Entry, Trails as Entries}
 use Rattle.bus_register.specs.Proved.TableLaws.{get_set_same, get_set_other}
 use Rattle.bus_register.specs.Words.{register}
 use Rattle.bus_register.specs.declared.registers.Op.{Op}
@@ -24,133 +25,107 @@ use Rattle.bus_world.specs.Turning.{words_after, number_found}
 use Rattle.bus_world.specs.World.{Put, Ask, Turn, is_set, no_stops}
 use Rattle.bus_world.specs.CyclicProtocols.{actions_with}
 use Rattle.bus_world.specs.declared.events.Answer.TheVariants as answer
-use Rattle.bus_machine.specs.Machine.{Machine, Trails, Reached, Then, Happens, IsOnWord, going, with_sender, put_in, mark_in, machine_after, found, turn_answer, trails_grown, turn_trails, turn_grown, entered}
+use Rattle.bus_machine.specs.Machine.{Machine, Trails, Reached, Then, Happens, IsOnWord, going, with_sender, put_in, mark_in, machine_after}
+use Rattle.bus_machine.specs.Machine.{found, turn_answer, trails_grown, turn_trails, turn_grown, entered}
 use Rattle.bus_automaton.specs.Lawful.{AcceptsIn, StepsIn, LogGrows}
 use Rattle.bus_automaton.specs.SenderTrails.{with_sender_trail}
 use Rattle.bus_automaton.specs.OneAutomaton.{MachineHistory, IsMachineHistory, trail_of, bus_of}
-use Rattle.bus_automaton.specs.OneProcess.{entries, adds_pin, adds_reclaim, adds_by, process_of}
+use Rattle.bus_automaton.proofs.Turns.{queue_is}
+use Rattle.bus_automaton.specs.OneProcess.{entries, adds_by, process_of}
 
 -- ---- who goes on
+-- nobody has stopped among those of whom none has
 none_set : (n s : ℕ) → is_set (slice_get (replicate n false) s) ≡ false
 none_set zero s = refl
 none_set (suc n) zero = refl
 none_set (suc n) (suc s) = none_set n s
 
+-- so each sender that there is goes on
 all_go : {E : Type 0} (m : Machine E) → m.stopped ≡ no_stops → (s : ℕ) → going m s ≡ slice_get m.senders s
 all_go m none s = ap (λ t. cond t None (slice_get m.senders s)) (ap (λ l. is_set (slice_get l s)) none ∙ none_set MOST_SENDERS s)
 
 -- the next number of its batch, also while that is on its way
 next_is : (q : Pending) (r : Option Reuse) → next_of (queue_of q r) ≡ next_of q
-next_is q None = refl
-next_is q (Some r) = next_seen q r.pin
+next_is q r = ap next_of (queue_is q r)
 
 -- ---- trails
-own_actions : (s : ℕ) (ds : List Action) (D : ℕ → List Action) → actions_with s ds D s ≡ D s ++ ds
-own_actions s ds D = ap (λ b. D s ++ cond b ds []) (eq-eqb s s refl)
-
-other_actions : (s : ℕ) (ds : List Action) (D : ℕ → List Action) (q : ℕ) → q ≢ s → actions_with s ds D q ≡ D q
-other_actions s ds D q ne = ap (λ b. D q ++ cond b ds []) (ne_eqb q s ne) ∙ append-nil (D q)
-
+-- a step joins the trail of who took it
 own_entered : (T : Entries) (p : ℕ) (o : Option Op) (got : ℕ) → entered T p o got p ≡ T p ++ entries o got
 own_entered T p None got = sym (append-nil (T p))
 own_entered T p (Some o) got = ap (λ b. cond b (T p ++ record { op = o; got = got } ∷ []) (T p)) (eq-eqb p p refl)
 
+-- and no other
 other_entered : (T : Entries) (p : ℕ) (o : Option Op) (got q : ℕ) → q ≢ p → entered T p o got q ≡ T q
 other_entered T p None got q ne = refl
 other_entered T p (Some o) got q ne = ap (λ b. cond b (T q ++ record { op = o; got = got } ∷ []) (T q)) (ne_eqb q p ne)
 
+module _ (bases : List ℕ) (T T' : Trails) (q : ℕ) where
+  -- of who did this
+  own_trail : (ds : List Action) (es rs : List Entry) → T'.actions q ≡ T.actions q ++ ds → T'.pins q ≡ T.pins q ++ es
+      → T'.reclaims q ≡ T.reclaims q ++ rs
+      → trail_of bases T' q ≡ with_sender_trail (trail_of bases T q) (record { first = 0; actions = ds; pins = es; reclaims = rs })
+  own_trail ds es rs a b c = λ n. record { first = slice_index bases q; actions = a n; pins = b n; reclaims = c n }
+
+  -- and of who did nothing
+  other_trail : T'.actions q ≡ T.actions q → T'.pins q ≡ T.pins q → T'.reclaims q ≡ T.reclaims q → trail_of bases T' q ≡ trail_of bases T q
+  other_trail a b c = λ n. record { first = slice_index bases q; actions = a n; pins = b n; reclaims = c n }
+
 module _ {E : Type 0} (bases : List ℕ) (l : Line E) (p got word : ℕ) (T : Trails) where
-  -- after a step of a pin, and after one of a reclamation
-  abbrev pinned : Trails
-  pinned = record T { pins = entered T.pins p (l.op word) got; actions = actions_with p [] T.actions }
-
-  abbrev reclaimed : Trails
-  reclaimed = record T { reclaims = entered T.reclaims p (l.op word) got; actions = actions_with p [] T.actions }
-
-  own_pinned : trail_of bases pinned p ≡ with_sender_trail (trail_of bases T p) (adds_pin (l.op word) got)
-  own_pinned = λ n. record {
-    first = slice_index bases p;
-    actions = own_actions p [] T.actions n;
-    pins = own_entered T.pins p (l.op word) got n;
-    reclaims = sym (append-nil (T.reclaims p)) n;
-  }
-
-  own_reclaimed : trail_of bases reclaimed p ≡ with_sender_trail (trail_of bases T p) (adds_reclaim (l.op word) got)
-  own_reclaimed = λ n. record {
-    first = slice_index bases p;
-    actions = own_actions p [] T.actions n;
-    pins = sym (append-nil (T.pins p)) n;
-    reclaims = own_entered T.reclaims p (l.op word) got n;
-  }
-
-  other_pinned : (q : ℕ) → q ≢ p → trail_of bases pinned q ≡ trail_of bases T q
-  other_pinned q ne = λ n. record {
-    first = slice_index bases q;
-    actions = other_actions p [] T.actions q ne n;
-    pins = other_entered T.pins p (l.op word) got q ne n;
-    reclaims = T.reclaims q;
-  }
-
-  other_reclaimed : (q : ℕ) → q ≢ p → trail_of bases reclaimed q ≡ trail_of bases T q
-  other_reclaimed q ne = λ n. record {
-    first = slice_index bases q;
-    actions = other_actions p [] T.actions q ne n;
-    pins = T.pins q;
-    reclaims = other_entered T.reclaims p (l.op word) got q ne n;
-  }
-
   -- what a step in its tenure is as an action
   abbrev stepped : List Action
   stepped = step_action l.kind l.tenure got (l.chosen got word) (l.answer got word)
 
-  -- after a turn in this situation: all that its sender did by then, and what the others did
+  -- after a turn in this situation
   abbrev turned : Situation E → Trails
   turned s = turn_trails s l p got word (l.answer got word) T
 
+  -- all that its sender did by then
   own_turned : (s : Situation E) → trail_of bases (turned s) p ≡ with_sender_trail (trail_of bases T p) (adds_by s l got word)
-  own_turned (Does z) = λ n. record {
-    first = slice_index bases p;
-    actions = own_actions p stepped T.actions n;
-    pins = sym (append-nil (T.pins p)) n;
-    reclaims = sym (append-nil (T.reclaims p)) n;
-  }
-  own_turned (Announces t) = own_pinned
-  own_turned (Validates t) = own_pinned
-  own_turned (Unpins t) = own_pinned
-  own_turned (Withdraws t) = own_pinned
-  own_turned (Scans r) = own_reclaimed
-  own_turned (Clears r) = own_reclaimed
+  own_turned (Does z) = own_trail bases T (turned (Does z)) p stepped [] [] (actions_of_it p stepped T.actions p refl)
+      (sym (append-nil (T.pins p))) (sym (append-nil (T.reclaims p)))
+  own_turned (Scans r) = own_trail bases T (turned (Scans r)) p [] [] (entries (l.op word) got) (actions_of_it p [] T.actions p refl)
+      (sym (append-nil (T.pins p))) (own_entered T.reclaims p (l.op word) got)
+  own_turned (Clears r) = own_trail bases T (turned (Clears r)) p [] [] (entries (l.op word) got) (actions_of_it p [] T.actions p refl)
+      (sym (append-nil (T.pins p))) (own_entered T.reclaims p (l.op word) got)
+  own_turned s = own_trail bases T (turned s) p [] (entries (l.op word) got) [] (actions_of_it p [] T.actions p refl)
+      (own_entered T.pins p (l.op word) got) (sym (append-nil (T.reclaims p)))
 
+  -- and what the others did
   other_turned : (s : Situation E) (q : ℕ) → q ≢ p → trail_of bases (turned s) q ≡ trail_of bases T q
-  other_turned (Does z) q ne = λ n. record { first = slice_index bases q; actions = other_actions p stepped T.actions q ne n; pins = T.pins q; reclaims = T.reclaims q }
-  other_turned (Announces t) q ne = other_pinned q ne
-  other_turned (Validates t) q ne = other_pinned q ne
-  other_turned (Unpins t) q ne = other_pinned q ne
-  other_turned (Withdraws t) q ne = other_pinned q ne
-  other_turned (Scans r) q ne = other_reclaimed q ne
-  other_turned (Clears r) q ne = other_reclaimed q ne
+  other_turned (Does z) q ne = other_trail bases T (turned (Does z)) q (actions_of_other p stepped T.actions q ne) refl refl
+  other_turned (Scans r) q ne = other_trail bases T (turned (Scans r)) q (actions_of_other p [] T.actions q ne) refl
+      (other_entered T.reclaims p (l.op word) got q ne)
+  other_turned (Clears r) q ne = other_trail bases T (turned (Clears r)) q (actions_of_other p [] T.actions q ne) refl
+      (other_entered T.reclaims p (l.op word) got q ne)
+  other_turned s q ne = other_trail bases T (turned s) q (actions_of_other p [] T.actions q ne)
+      (other_entered T.pins p (l.op word) got q ne) refl
 
 -- a step that is due is on a word
 on_word : {E : Type 0} (m : Machine E) (a : Option Op) (o : Op) → a ≡ Some o → register o < length m.words → IsOnWord m a
 on_word m a o due low = subst (IsOnWord m) (sym due) low
 
 -- ---- what leads on
-module _ {E : Type 0} (X : Election E) (x : Layout) (reuse : Option ℕ) (bases : List ℕ) (z : MachineHistory E) (h : IsMachineHistory X x reuse bases z) (p : ℕ)
-    (v : Sender E) (at : slice_get z.machine.senders p ≡ Some v) where
+module _ {E : Type 0} (X : Election E) (x : Layout) (reuse : Option ℕ) (bases : List ℕ) (z : MachineHistory E)
+    (h : IsMachineHistory X x reuse bases z) (p : ℕ) (v : Sender E) (at : slice_get z.machine.senders p ≡ Some v) where
   abbrev m : Machine E
   m = z.machine
 
   abbrev T : Trails
   T = z.trails
 
+  -- nobody has stopped
   goes : going m p ≡ Some v
   goes = all_go m h.running p ∙ at
 
   -- ---- what it accepts
-  accepts : (w : Sender E) (ds : List Action) → Reached X (with_sender m p w) (record T { actions = actions_with p ds T.actions })
-      → AcceptsIn (bus_of X x reuse bases) z p w ds
+  -- with these actions more
+  abbrev did : List Action → Trails
+  did ds = record T { actions = actions_with p ds T.actions }
+
+  -- events lead to the machine with this sender in its place
+  accepts : (w : Sender E) (ds : List Action) → Reached X (with_sender m p w) (did ds) → AcceptsIn (bus_of X x reuse bases) z p w ds
   accepts w ds reached = record {
-    state = record { machine = with_sender m p w; trails = record T { actions = actions_with p ds T.actions } };
+    state = record { machine = with_sender m p w; trails = did ds };
     changes = record {
       reached = record {
         served = h.served;
@@ -164,13 +139,14 @@ module _ {E : Type 0} (X : Election E) (x : Layout) (reuse : Option ℕ) (bases 
       };
       here = get_set_same m.senders p w (slice_get_within m.senders p v at);
       others = λ q ne. get_set_other m.senders p w q ne;
-      sender_trail = λ n. record { first = slice_index bases p; actions = own_actions p ds T.actions n; pins = T.pins p; reclaims = T.reclaims p };
-      nothing_else = λ q ne. (λ n. record { first = slice_index bases q; actions = other_actions p ds T.actions q ne n; pins = T.pins q; reclaims = T.reclaims q });
+      sender_trail = λ n. record (trail_of bases T p) { actions = actions_of_it p ds T.actions p refl n };
+      nothing_else = λ q ne. other_trail bases T (did ds) q (actions_of_other p ds T.actions q ne) refl refl;
     };
     words = refl;
     home = refl;
   }
 
+  -- it takes a message
   pub takes_message : (bytes : List ℕ) → CanPut (queue_of v.core.queue v.reuse) (length bytes) → All (λ byte. byte < 256) bytes
       → AcceptsIn (bus_of X x reuse bases) z p (put_in v bytes) (HasPut (next_of (queue_of v.core.queue v.reuse)) bytes ∷ [])
   takes_message bytes can small = subst (λ k. AcceptsIn (bus_of X x reuse bases) z p (put_in v bytes) (HasPut k bytes ∷ []))
@@ -179,6 +155,7 @@ module _ {E : Type 0} (X : Election E) (x : Layout) (reuse : Option ℕ) (bases 
       (Then m (with_sender m p (put_in v bytes)) T (Put p bytes) (answer.Number (next_of v.core.queue)) h.reached
       (record { sender = v; goes = goes; are_bytes = small; can = can; answered = refl; after = refl })))
 
+  -- it lets a mark wait
   pub takes_mark : (mark : Mark) → CanClose (queue_of v.core.queue v.reuse)
       → AcceptsIn (bus_of X x reuse bases) z p (mark_in v mark) (HasMarked mark ∷ [])
   takes_mark End can = accepts (mark_in v End) (HasMarked End ∷ [])
@@ -190,18 +167,23 @@ module _ {E : Type 0} (X : Election E) (x : Layout) (reuse : Option ℕ) (bases 
 
   -- ---- its step
   module _ (word : ℕ) (o : Op) (due : (line_now X v).op word ≡ Some o) (low : register o < length m.words) where
+    -- by the line of its situation
     abbrev l : Line E
     l = line_now X v
 
+    -- answered so
     abbrev told : Answered
     told = turn_answer m l word
 
+    -- all that has happened then
     abbrev grown : Trails
     grown = trails_grown X m (Turn p word) (answer.Turn told) T
 
+    -- which is so by its situation
     grown_is : turn_trails (situation X v) l p (found m l word) word told T ≡ grown
     grown_is = ap (λ g. turn_grown X m p g word (answer.Turn told) T) (sym goes)
 
+    -- it finds the number of its word
     found_is : found m l word ≡ slice_index m.words (register o)
     found_is = ap (number_found (slice_index m.words)) due
 
@@ -219,6 +201,7 @@ module _ {E : Type 0} (X : Election E) (x : Layout) (reuse : Option ℕ) (bases 
     abbrev pub next : MachineHistory E
     next = record { machine = machine_after m p l word; trails = grown }
 
+    -- events lead to it
     pub next_reached : IsMachineHistory X x reuse bases next
     next_reached = record {
       served = h.served;
@@ -231,6 +214,7 @@ module _ {E : Type 0} (X : Election E) (x : Layout) (reuse : Option ℕ) (bases 
       running = h.running;
     }
 
+    -- so it is a step, if the log goes on with it
     pub takes_step : LogGrows (bus_of X x reuse bases) z next → StepsIn (process_of X) (bus_of X x reuse bases) z p v word o
     takes_step grows = record {
       state = next;
@@ -240,7 +224,8 @@ module _ {E : Type 0} (X : Election E) (x : Layout) (reuse : Option ℕ) (bases 
             ∙ ap (λ g. Some ((process_of X).after v m.home g word)) found_is;
         others = λ q ne. get_set_other m.senders p _ q ne;
         sender_trail = grown_trail;
-        nothing_else = λ q ne. ap (λ U. trail_of bases U q) (sym grown_is) ∙ other_turned bases l p (found m l word) word T (situation X v) q ne;
+        nothing_else = λ q ne. ap (λ U. trail_of bases U q) (sym grown_is)
+            ∙ other_turned bases l p (found m l word) word T (situation X v) q ne;
       };
       words = ap (words_after m.words) due;
       home = refl;

@@ -9,7 +9,7 @@ use Rattle.bus_tenure.specs.Core.{Core, Election, Layout}
 use Rattle.bus_tenure.specs.Situations.{TakesPage, situation_of}
 use Rattle.bus_tenure.specs.declared.phases.Phase.TheVariants.{Electing}
 use Rattle.bus_world.proofs.Serving.{Serves}
-use Rattle.bus_automaton.proofs.States.{f}
+use Rattle.bus_automaton.proofs.States.{framing}
 use Rattle.bus_automaton.specs.OneAutomaton.{MachineHistory, IsMachineHistory}
 
 -- its election of this tenure runs, and has chosen it
@@ -18,11 +18,12 @@ pub record Owns {E : Type 0} (X : Election E) (p t : ℕ) (c : Core E) : Type 0 
   pub elects : c.phase ≡ Electing t election
   pub chosen : X.owner election ≡ Some p
 
+-- it is that owner
 pub owner_at : {E : Type 0} (X : Election E) (P : Protocol E (Unit {0}) ℕ) (x : Layout) → Serves X P x → (reuse : Option ℕ) (bases : List ℕ)
     → (z : MachineHistory E) → IsMachineHistory X x reuse bases z → (p : ℕ) (d : Sender E) → slice_get z.machine.senders p ≡ Some d
     → (t : ℕ) → situation_of X d.core ≡ TakesPage t → Owns X p t d.core
 owner_at X P x y reuse bases z h p d at t takes =
-    let g = f X P x y reuse bases z h in
+    let g = framing X P x y reuse bases z h in
     let w = tells X d.core (TakesPage t) takes in
     elim (some_or_none (X.owner w.0)) [
       | inl nobody ↦ absurd (true≢false (sym w.2 ∙ ap is_some nobody))

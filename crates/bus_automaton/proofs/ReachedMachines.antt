@@ -1,10 +1,10 @@
 -- What a machine of either kind of rows keeps that some trails lead to: its words, sums in range, and who has done nothing.
-use Rattle.std.proofs.Common.{◌≡◌, ◌≢◌, ℕ, ◌+◌, ◌*◌, ◌<◌, ◌≤◌, Option, Some, None, List, [], ◌++◌, length, slice_get, slice_index}
+use Rattle.std.proofs.Common.{◌≡◌, ℕ, ◌+◌, ◌*◌, ◌<◌, ◌≤◌, Option, Some, None, [], length, slice_get, slice_index}
 use Rattle.std.proofs.Common.{arith, refl, sym, ◌∙◌, ap, subst}
 use Rattle.std.specs.Prelude.{option_map}
 use Rattle.std.proofs.lemmas.Option.{slice_get-map, same_Some}
 use Rattle.bus_core.proofs.Bridged.{at_none, at_some}
-use Rattle.bus_core.specs.Senders.{Sender, apart, again, situation}
+use Rattle.bus_core.specs.Senders.{Sender, apart, situation}
 use Rattle.bus_core.specs.Table.{line_now}
 use Rattle.bus_machine.proofs.AtNone.{reached_at_none, event_reuse}
 use Rattle.bus_machine.proofs.Bounding.{added, added_is, actions_of_other, there_shown}
@@ -22,7 +22,7 @@ use Rattle.bus_register.specs.Words.{register, SumFits}
 use Rattle.bus_register.specs.declared.registers.Op.{Op}
 use Rattle.bus_tenure.proofs.Situated.{tells}
 use Rattle.bus_tenure.specs.Core.{Core, Election, Layout}
-use Rattle.bus_tenure.specs.Situations.{Situation, IsClosed, IsIdle, IsSpent, LooksAtStage, Elects, TakesPage, AwaitsPage, situation_of, op_at}
+use Rattle.bus_tenure.specs.Situations.{Situation, IsClosed, IsIdle, IsSpent, Elects, AwaitsPage, situation_of, op_at}
 use Rattle.bus_world.proofs.CyclicMachineFits as fits
 use Rattle.bus_world.proofs.CyclicMachineLaws.{IsCyclicLayout, IsLed}
 use Rattle.bus_world.proofs.EventTrails as plain
@@ -41,14 +41,17 @@ module _ {E : Type 0} (X : Election E) (P : Protocol E (Unit {0}) ℕ) (m : Mach
 
   -- ---- with a row for each tenure
   module _ (fresh : m.reuse ≡ None) where
+    -- it is such a bus
     i : IsPlain X m T
     i = reached_at_none X m T r fresh
 
-    k : plain.Kept m.bases X P s.serves.laws m.layout s.ok s.serves.width s.serves.starts s.serves.owner_is s.serves.named s.serves.announces
-        s.serves.apart i.bus (plain_trails T)
+    -- which keeps this
+    k : plain.Kept m.bases X P s.serves.laws m.layout s.ok s.serves.width s.serves.starts s.serves.owner_is s.serves.named
+        s.serves.announces s.serves.apart i.bus (plain_trails T)
     k = plain.reached_kept m.bases X P s.serves.laws m.layout s.ok s.serves.width s.serves.starts s.serves.owner_is s.serves.named
         s.serves.announces s.serves.apart i.bus (plain_trails T) i.reached
 
+    -- its words
     abbrev W : ℕ → ℕ
     W = slice_index i.bus.side.words
 
@@ -58,7 +61,8 @@ module _ {E : Type 0} (X : Election E) (P : Protocol E (Unit {0}) ℕ) (m : Mach
     fits_at p c at word o (Elects t e) is due =
         let tenures = k.lawful.keeps.sending.tenures in
         let has = tenures.electing p t e (ap (of_some standing_of) at ∙ ap (λ h. Some (stands_at h)) (tells X c (Elects t e) is).0) in
-        s.serves.laws.fits m.layout.senders (2 + t * P.width m.layout.senders) W (tenures.elections t) p e word o (tenures.kept t has.0) has.2 due
+        s.serves.laws.fits m.layout.senders (2 + t * P.width m.layout.senders) W (tenures.elections t) p e word o
+        (tenures.kept t has.0) has.2 due
     fits_at p c at word o IsClosed is due = absurd cc
     fits_at p c at word o IsIdle is due = absurd cc
     fits_at p c at word o IsSpent is due = absurd cc
@@ -70,6 +74,7 @@ module _ {E : Type 0} (X : Election E) (P : Protocol E (Unit {0}) ℕ) (m : Mach
     core_there v None e = absurd cc
     core_there v (Some c) e = (c, refl, sym (same_Some _ _ e))
 
+    -- what a step adds to stays in range
     sums_at_none : (p : ℕ) (v : Sender E) → slice_get m.senders p ≡ Some v → (word : ℕ) (o : Op) → (line_now X v).op word ≡ Some o
         → SumFits o (slice_index m.words (register o))
     sums_at_none p v at word o due =
@@ -81,21 +86,27 @@ module _ {E : Type 0} (X : Election E) (P : Protocol E (Unit {0}) ℕ) (m : Mach
 
   -- ---- with rows that are used again
   module _ (rows : ℕ) (used : m.reuse ≡ Some rows) where
+    -- it is such a bus
     j : IsLedCyclic X P m T
     j = led_ring X P m T s r rows used
 
+    -- the bus itself
     abbrev b : CyclicMachine E
     b = j.bus.ring
 
+    -- its sizes are served
     y : Serves X P b.layout
     y = ring_serves X P m s j.bus j.is
 
+    -- also those of its rows
     x : IsCyclicLayout X P y.laws y.owner_is y.named y.announces y.apart b.layout b.rows
     x = layout_served X P b.layout b.rows y (ring_ok X P m s j.bus j.is) (ring_two X P m s j.bus j.is)
 
+    -- and the trails lead to it
     l : IsLed X P y.laws y.owner_is y.named y.announces y.apart b (ring_trails T)
     l = led X P j.bus y (ring_ok X P m s j.bus j.is) (ring_two X P m s j.bus j.is) (ring_trails T) j.leads
 
+    -- what a step adds to stays in range
     sums_at_some : (p : ℕ) (v : Sender E) → slice_get m.senders p ≡ Some v → (word : ℕ) (o : Op) → (line_now X v).op word ≡ Some o
         → SumFits o (slice_index m.words (register o))
     sums_at_some p v at word o due =
@@ -105,6 +116,7 @@ module _ {E : Type 0} (X : Election E) (P : Protocol E (Unit {0}) ℕ) (m : Mach
         (sym ((at_some X u.0).op word) ∙ subst (λ w. (line_now X w).op word ≡ Some o) u.2 due))
 
   -- ---- with either
+  -- it has all its words
   pub words_many : HasWords m
   words_many = by m.reuse refl where
     by : (o : Option ℕ) → m.reuse ≡ o → HasWords m

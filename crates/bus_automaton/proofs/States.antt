@@ -1,12 +1,12 @@
 -- A bus of either kind of rows is an automaton: its laws, by what every machine keeps that events lead to.
-use Rattle.std.proofs.Common.{◌≡◌, ◌≢◌, ℕ, ◌+◌, ◌*◌, ◌%◌, ◌<◌, ◌≤◌, Bool, true, false, Option, Some, None, is_some, List, [], ◌∷◌, ◌++◌}
+use Rattle.std.proofs.Common.{◌≡◌, ◌≢◌, ℕ, ◌+◌, ◌%◌, ◌<◌, ◌≤◌, Bool, true, false, Option, Some, None, is_some, List, [], ◌∷◌, ◌++◌}
 use Rattle.std.proofs.Common.{length, map, slice_get, slice_index, append_assoc, inr, arith, refl, sym, ◌∙◌, ap, subst}
 use Rattle.std.proofs.lemmas.Bool.{true≢false}
 use Rattle.bus_batch.proofs.FrameLaws.{same_frame, same_log}
 use Rattle.bus_batch.specs.Batches.{Pending}
 use Rattle.bus_batch.specs.Frames.{Frame, AreFrames, AreFramesFrom, Order, Spells, frame_words, log_words, order_of}
 use Rattle.bus_batch.specs.declared.messages.Item.{Item}
-use Rattle.bus_core.specs.Keeping.{new_reuse, queue_of}
+use Rattle.bus_core.specs.Keeping.{new_reuse}
 use Rattle.bus_core.specs.Senders.{Sender, Validates, situation}
 use Rattle.bus_core.specs.Table.{line_now}
 use Rattle.bus_deliverylog.specs.Orders.{of_sender}
@@ -18,7 +18,7 @@ use Rattle.bus_machine.proofs.Growing.{grows}
 use Rattle.bus_machine.proofs.Knowing.{its_part}
 use Rattle.bus_machine.proofs.Leading.{Sits}
 use Rattle.bus_machine.proofs.Promised.{promised}
-use Rattle.bus_machine.specs.Machine.{Machine, Trails, base_of, log_of, turn_answer}
+use Rattle.bus_machine.specs.Machine.{Machine, Trails, base_of, turn_answer}
 use Rattle.bus_machine.specs.Promise.{HasRows, IsPagedBy, IsPromised}
 use Rattle.bus_register.specs.Protocol.{Protocol}
 use Rattle.bus_register.specs.Words.{register}
@@ -32,7 +32,7 @@ use Rattle.bus_tenure.specs.declared.phases.Phase.TheVariants as phase
 use Rattle.bus_world.proofs.LogLaws.{length-read}
 use Rattle.bus_world.proofs.Serving.{Serves}
 use Rattle.bus_world.specs.Bus.{IsLayout, Fits, Part}
-use Rattle.bus_world.specs.Headline.{Action, IsPrefix, Promises, puts}
+use Rattle.bus_world.specs.Headline.{Action, Promises, puts}
 use Rattle.bus_world.specs.Log.{Knows}
 use Rattle.bus_world.specs.Tenures.Stage.{Open, Held}
 use Rattle.bus_world.specs.Waiting.{waiting_at}
@@ -42,10 +42,10 @@ use Rattle.bus_automaton.proofs.Counting.{first_below}
 use Rattle.bus_automaton.proofs.Leading.{takes_message, takes_mark, takes_turn, next, next_reached, takes_step}
 use Rattle.bus_automaton.proofs.ReachedMachines.{words_many, sums_fit, nobody_did}
 use Rattle.bus_automaton.proofs.Turns.{queue_is, messages_are, two_words, comes, ends}
-use Rattle.bus_automaton.specs.Lawful.{AutomatonLaws, IsSender, StepsIn, LogGrows, HasLog, IsPromisedOf, no_answers}
+use Rattle.bus_automaton.specs.Lawful.{AutomatonLaws, IsSender, StepsIn, HasLog, IsPromisedOf, no_answers}
 use Rattle.bus_automaton.specs.OneAutomaton.{MachineHistory, IsMachineHistory, bus_of}
 use Rattle.bus_automaton.specs.OneProcess.{is_taken, rows_used, table_layout_by, process_of}
-use Rattle.bus_automaton.specs.Processes.{TableLayout, IsCounted, EndsBy, log_below}
+use Rattle.bus_automaton.specs.Processes.{TableLayout, IsCounted, log_below}
 
 -- ---- frames
 -- frames whose words begin those of others begin them
@@ -115,43 +115,52 @@ module _ {E : Type 0} (X : Election E) (P : Protocol E (Unit {0}) ℕ) (x : Layo
     rows = subst HasRows (sym h.rows_are) h.has_rows;
   }
 
-  pub f : IsFramed P m T
-  f = framed X P m T sits h.reached
+  -- it has the frames of its log
+  pub framing : IsFramed P m T
+  framing = framed X P m T sits h.reached
 
+  -- and the promise holds of it
   promise : IsPromised X m T
   promise = promised X P m T sits h.reached
 
+  -- as large as it should be
   sizes_are : table_layout_by m.layout m.reuse ≡ table_layout_by x reuse
   sizes_are = λ n. table_layout_by (h.layout n) (h.rows_are n)
 
+  -- it has all its words
   wide : length m.words ≡ (table_layout_by x reuse).words
   wide = words_many X P m T sits h.reached ∙ ap (λ (t : TableLayout). t.words) sizes_are
 
+  -- who is none of its senders has done nothing
   nobody : (q : ℕ) → x.senders ≤ q → T.actions q ≡ []
   nobody q past = nobody_did X P m T sits h.reached q (subst (λ (l : Layout). l.senders ≤ q) (sym h.layout) past)
 
   -- ---- the log
-  log_is : log_words f.frames ≡ log_below (table_layout_by x reuse) m.words
-  log_is = sym (log_framed P m T f) ∙ ap (λ t. log_below t m.words) sizes_are
+  -- the words of the log are those of its frames ..
+  log_is : log_words framing.frames ≡ log_below (table_layout_by x reuse) m.words
+  log_is = sym (log_framed P m T framing) ∙ ap (λ t. log_below t m.words) sizes_are
 
-  lawful : AreFrames x.senders f.frames
-  lawful = subst (λ (l : Layout). AreFrames l.senders f.frames) h.layout f.sending.log.lawful
+  -- .. which are lawful ..
+  lawful : AreFrames x.senders framing.frames
+  lawful = subst (λ (l : Layout). AreFrames l.senders framing.frames) h.layout framing.sending.log.lawful
 
+  -- .. and fit
   has_log : HasLog (bus_of X x reuse bases) z
   has_log = record {
-    frames = f.frames;
+    frames = framing.frames;
     lawful = lawful;
     words_are = log_is;
     fits = subst (λ (l : Layout). slice_index m.words 0 ≤ l.capacity) h.layout
-        (let same = f.length in let fits = f.sending.log.fits in omega arith);
+        (let same = framing.length in let fits = framing.sending.log.fits in omega arith);
   }
 
   -- any frames of its log are those that it keeps
   same_frames : (frames : List Frame) → AreFrames x.senders frames → log_words frames ≡ log_below (table_layout_by x reuse) m.words
-      → f.frames ≡ frames
-  same_frames frames law words = same_log x.senders 0 0 f.frames frames lawful law (log_is ∙ sym words)
+      → framing.frames ≡ frames
+  same_frames frames law words = same_log x.senders 0 0 framing.frames frames lawful law (log_is ∙ sym words)
 
   -- ---- the page
+  -- by the stage it is known whether it is at home
   at_home : ((slice_index m.words 1 % 2 ≢ 1) → is_some m.home ≡ true) × ((slice_index m.words 1 % 2 ≡ 1) → is_some m.home ≡ false)
   at_home = home_tells (slice_index m.words 1) (slice_index m.words 0) promise.order.ended m.home promise.by.paged
 
@@ -159,12 +168,12 @@ module _ {E : Type 0} (X : Election E) (P : Protocol E (Unit {0}) ℕ) (x : Layo
   page_knows : (page : Page) (frames : List Frame) → m.home ≡ Some page → AreFrames x.senders frames
       → log_words frames ≡ log_below (table_layout_by x reuse) m.words
       → (past : ℕ) × Knows (slice_index bases) page frames past (slice_index m.words 0)
-  page_knows page frames home law words = elim f.sending.tenures.stage_is [
+  page_knows page frames home law words = elim framing.sending.tenures.stage_is [
     | Open stage here many ↦ (
-      f.sending.tenures.ended,
-      subst (λ (u : List ℕ × List Frame × ℕ). Knows (slice_index u.0) page u.1 f.sending.tenures.ended u.2)
-          (λ n. (h.bases_are n, same_frames frames law words n, sym f.length n))
-          (f.sending.page_knows page f.sending.tenures.ended home stage).0,
+      framing.sending.tenures.ended,
+      subst (λ (u : List ℕ × List Frame × ℕ). Knows (slice_index u.0) page u.1 framing.sending.tenures.ended u.2)
+          (λ n. (h.bases_are n, same_frames frames law words n, sym framing.length n))
+          (framing.sending.page_knows page framing.sending.tenures.ended home stage).0,
     )
     | Held holder stage away many holds ↦ absurd (true≢false (sym (ap is_some home) ∙ away))
   ]
@@ -174,38 +183,43 @@ module _ {E : Type 0} (X : Election E) (P : Protocol E (Unit {0}) ℕ) (x : Layo
   promised_of = record {
     order = promise.order;
     owners = promise.owners;
-    spelled = subst (λ (u : ℕ × List ℕ). Spells u.0 u.1 promise.order promise.owners) (λ n. ((h.layout n).senders, log_below (sizes_are n) m.words))
-        promise.by.spelled;
+    spelled = subst (λ (u : ℕ × List ℕ). Spells u.0 u.1 promise.order promise.owners)
+        (λ n. ((h.layout n).senders, log_below (sizes_are n) m.words)) promise.by.spelled;
     promises = subst (λ (l : List ℕ). Promises (slice_index l) T.actions no_answers promise.order promise.owners) h.bases_are
         (silent_page T.actions T.heard promise.order promise.owners promise.by.promises);
   }
 
   -- ---- a sender that is there
   module _ (p : ℕ) (v : Sender E) (at : slice_get m.senders p ≡ Some v) where
-    part : Part (base_of m) m.layout f.V f.frames p v.core
-    part = its_part X P m T f p v at
+    -- what it keeps
+    part : Part (base_of m) m.layout framing.V framing.frames p v.core
+    part = its_part X P m T framing p v at
 
+    -- no page is under way to it
     laid : is_taken v.core.phase ≡ false
-    laid = not_taken (base_of m) f.V f.frames v.core v.core.phase part.fits
+    laid = not_taken (base_of m) framing.V framing.frames v.core v.core.phase part.fits
 
     -- the numbers of its messages stay far below their range
     in_range : IsCounted (process_of X) v
     in_range =
-        let size : length (log_words f.frames) ≡ f.V 0 = sym (ap length f.sending.log.words_are) ∙ length-read f.V (log_at m.layout) (f.V 0) in
-        let first = first_below (base_of m) m.layout.senders f.V f.frames f.sending.log.lawful v.core v.core.phase part.fits in
-        let low = f.sending.log.low v.core.me in
-        let short = f.sending.log.fits in
+        let log = framing.sending.log in
+        let size : length (log_words framing.frames) ≡ framing.V 0 =
+        sym (ap length log.words_are) ∙ length-read framing.V (log_at m.layout) (framing.V 0) in
+        let first = first_below (base_of m) m.layout.senders framing.V framing.frames log.lawful v.core v.core.phase part.fits in
+        let low = log.low v.core.me in
+        let short = log.fits in
         let most = sits.ok.capacity in
         let now = ap (λ (q : Pending). q.first) (queue_is v.core.queue v.reuse) in
         let few = part.queue.few in
         let same = ap length (messages_are v.core.queue v.reuse) in
         record { first = omega arith; few = omega arith }
 
+    -- it is who it is
     is_sender : IsSender (process_of X) (bus_of X x reuse bases) p v
     is_sender = record {
       me = part.me;
       below = subst (λ (l : Layout). p < l.senders) h.layout part.below;
-      table_layout = λ n. table_layout_by ((part.layout ∙ h.layout) n) ((f.rows p v at ∙ h.rows_are) n);
+      table_layout = λ n. table_layout_by ((part.layout ∙ h.layout) n) ((framing.rows p v at ∙ h.rows_are) n);
       counted = in_range;
       laid = laid;
     }
@@ -215,14 +229,15 @@ module _ {E : Type 0} (X : Election E) (P : Protocol E (Unit {0}) ℕ) (x : Layo
         → map (λ (i : Item). i.message) (of_sender p (order_of frames)) ++ waiting_at v.core v.core.phase ≡ puts (T.actions p)
     sent frames law words =
         ap (λ fs. map (λ (i : Item). i.message) (of_sender p (order_of fs)) ++ waiting_at v.core v.core.phase)
-        (sym (same_frames frames law words)) ∙ sym (f.puts p v at)
+        (sym (same_frames frames law words)) ∙ sym (framing.puts p v at)
 
-    -- it has begun no tenure while it pins one
+    -- it rests while it looks at the stage again
     rests : (t : ℕ) → situation X v ≡ Validates t → v.core.phase ≡ phase.Resting
     rests t i =
         (((counted X P m T sits h.reached).each p v at).entering t (inr (validates_of v.reuse (situation_of X v.core) t i))).1
 
     module _ (word : ℕ) (o : Op) (due : (line_now X v).op word ≡ Some o) where
+      -- who takes the page finds it at home
       finds_home : (t : ℕ) → (line_now X v).move ≡ Comes t → is_some m.home ≡ true
       finds_home t is = ap is_some (promise.by.finds p v t at (comes X v (situation X v) word o t due is)).home
 
@@ -234,8 +249,8 @@ steps_in : {E : Type 0} (X : Election E) (P : Protocol E (Unit {0}) ℕ) (x : La
 steps_in X P x y reuse bases z h p v at word o due low =
     let z' = next X x reuse bases z h p v at word o due low in
     let h' = next_reached X x reuse bases z h p v at word o due low in
-    let g = f X P x y reuse bases z h in
-    let g' = f X P x y reuse bases z' h' in
+    let g = framing X P x y reuse bases z h in
+    let g' = framing X P x y reuse bases z' h' in
     let on = grows X P z.machine z'.machine z.trails (Turn p word) (answer.Turn (turn_answer z.machine (line_now X v) word))
     (sits X P x y reuse bases z h) h.reached (takes_turn X x reuse bases z h p v at word o due low) in
     let more = frames_begin z.machine.layout.senders 0 0 g.frames g'.frames on.rest g.sending.log.lawful g'.sending.log.lawful

@@ -1,5 +1,5 @@
 -- A sender of either kind of rows is a process: its laws, by the one table of its turns.
-use Rattle.std.proofs.Common.{◌≡◌, ℕ, ◌+◌, ◌*◌, ◌/◌, ◌<◌, ◌≤◌, ◌==◌, ◌&&◌, Bool, true, false, cond, nat_lt, nat_le, Option, Some, None}
+use Rattle.std.proofs.Common.{◌≡◌, ℕ, ◌+◌, ◌/◌, ◌<◌, ◌≤◌, ◌==◌, ◌&&◌, Bool, true, false, cond, nat_lt, nat_le, Option, Some, None}
 use Rattle.std.proofs.Common.{List, [], ◌∷◌, ◌++◌, length, is_some, arith, refl, sym, ◌∙◌, ap, inl, inr}
 use Rattle.std.specs.Prelude.{◌⊎◌}
 use Rattle.std.proofs.lemmas.Bool.{true≢false}
@@ -8,7 +8,7 @@ use Rattle.bus_batch.specs.declared.batches.Phase.TheVariants.{Marking}
 use Rattle.bus_core.proofs.Situated.{own_is}
 use Rattle.bus_core.specs.Keeping.{queue_of, sender}
 use Rattle.bus_core.specs.Reusing.Turns.{answer_of_loss, answer_of_reclaim}
-use Rattle.bus_core.specs.Senders.{Sender, Situation, Does, Announces, Validates, Unpins, Withdraws, Scans, Clears, situation}
+use Rattle.bus_core.specs.Senders.{Sender, Situation, Does, Validates, Unpins, Scans, Clears, situation}
 use Rattle.bus_core.specs.Table.{line, line_now, rest_at, in_row, seen, answer_elected, reuse_elected, reuse_reclaiming, lost_of}
 use Rattle.bus_core.specs.declared.reuses.Reuse.{Reuse}
 use Rattle.bus_machine.proofs.Clearing.{clearing}
@@ -26,8 +26,9 @@ use Rattle.bus_register.specs.declared.registers.Op.TheVariants.{Load, Store}
 use Rattle.bus_register.specs.declared.registers.SenderNo.{SenderNo}
 use Rattle.bus_tenure.proofs.Situated.{tells}
 use Rattle.bus_tenure.specs.Core.{Core, Election, Layout, is_closed, is_empty, is_marking}
-use Rattle.bus_tenure.specs.Situations.{Situation as Own, IsClosed, IsIdle, IsSpent, LooksAtStage, Elects, TakesPage, AwaitsPage, StoresWord, StoresLength, GivesBack}
-use Rattle.bus_tenure.specs.Situations.{HasHanded, Comes, situation_at, situation_of, core_begun, core_elected, core_at_rest, waits, answer_of_return}
+use Rattle.bus_tenure.specs.Situations.{Situation as Own, IsClosed, IsIdle, IsSpent, LooksAtStage, Elects, TakesPage, AwaitsPage}
+use Rattle.bus_tenure.specs.Situations.{StoresWord, StoresLength, GivesBack, HasHanded, Comes, situation_at, situation_of, waits}
+use Rattle.bus_tenure.specs.Situations.{core_begun, core_elected, core_at_rest, answer_of_return}
 use Rattle.bus_tenure.specs.declared.pages.Page.{Page}
 use Rattle.bus_tenure.specs.declared.phases.Phase.{Phase}
 use Rattle.bus_tenure.specs.declared.phases.Phase.TheVariants as phase
@@ -49,6 +50,7 @@ abbrev busy_pinned : Bool → Pin → Bool
 busy_pinned b Away = b
 busy_pinned b u = true
 
+-- the same with either kind of rows
 abbrev busy_by : Bool → Option Reuse → Bool
 busy_by b None = b
 busy_by b (Some r) = busy_pinned b r.pin
@@ -61,6 +63,7 @@ queue_is q (Some r) = by r.pin where
   by Away = refl
   by u = refl
 
+-- its messages among it
 pub messages_are : (q : Pending) (r : Option Reuse) → (queue_of q r).messages ≡ q.messages
 messages_are q r = ap (λ (k : Pending). k.messages) (queue_is q r)
 
@@ -94,17 +97,11 @@ stores x (Some r) t None q n e = absurd cc
 -- a reclamation that clears does not look at what it found
 cleared_blind : (s : Reclaiming) (r n : ℕ) → reclaim_op s ≡ Some (Store record { 0 = r } n) → (got got' : ℕ)
     → (reclaim_fed s got ≡ reclaim_fed s got') × (behind_of s got ≡ behind_of s got')
-cleared_blind s r n e got got' = by (nat_lt s.scanned s.senders) e where
+cleared_blind s r n e got got' = let all = by (nat_lt s.scanned s.senders) e in (rw all refl, rw all refl) where
   by : (a : Bool) → cond a (Some (Load record { 0 = s.presences + s.scanned }))
-      (cond (nat_lt s.cleared s.width) (Some (Store record { 0 = s.row + s.cleared } 0)) None) ≡ Some (Store record { 0 = r } n)
-      → (cond a (cond (got == 1 + s.past) s (record s { scanned = s.scanned + 1 }))
-      (cond (nat_lt s.cleared s.width) (record s { cleared = s.cleared + 1 }) s)
-      ≡ cond a (cond (got' == 1 + s.past) s (record s { scanned = s.scanned + 1 }))
-      (cond (nat_lt s.cleared s.width) (record s { cleared = s.cleared + 1 }) s))
-      × (cond {A = Option Behind} (a && (got == 1 + s.past)) (Some record { tenure = s.past; sender = s.scanned }) None
-      ≡ cond {A = Option Behind} (a && (got' == 1 + s.past)) (Some record { tenure = s.past; sender = s.scanned }) None)
+      (cond (nat_lt s.cleared s.width) (Some (Store record { 0 = s.row + s.cleared } 0)) None) ≡ Some (Store record { 0 = r } n) → a ≡ false
   by true due = absurd cc
-  by false due = (refl, refl)
+  by false due = refl
 
 -- a step is one action at most
 step_is_one : (k : Option Kind) (t : Option ℕ) (found : ℕ) (chose : Option ℕ) (a : Turn)
@@ -126,15 +123,18 @@ rows_stay X c (Some r) z got word = refl
 abbrev Refused : Turn → List (List ℕ) → Type 0
 Refused a left = is_last a ≡ true → 0 < length left → is_refusal a ≡ true
 
+-- a look at the stage ends so
 stage_refused : (a b : Bool) (left : List (List ℕ)) → Refused (cond a turn.Waiting (cond b turn.Spent turn.Going)) left
 stage_refused true b left last some = absurd (true≢false (sym last))
 stage_refused false true left last some = refl
 stage_refused false false left last some = absurd (true≢false (sym last))
 
+-- who lost a tenure goes on
 loss_goes : (t : ℕ) (l : Option SenderNo) → is_last (answer_of_loss t l) ≡ false
 loss_goes t None = refl
 loss_goes t (Some o) = refl
 
+-- so does who reclaims a row
 reclaim_goes : (b : Option Behind) → is_last (answer_of_reclaim b) ≡ false
 reclaim_goes None = refl
 reclaim_goes (Some b) = refl
@@ -160,45 +160,58 @@ module _ {E : Type 0} (X : Election E) (v : Sender E) where
   abbrev handed : Situation E → Sender E
   handed z = moved (before_step (line X v z).move) None v
 
+  -- ---- what it may leave
+  -- what holds of either holds of one of them
+  of_either : (G : Core E → Type 0) (b : Bool) (s u : Core E) → G s → G u → G (cond b s u)
+  of_either G true s u e f = e
+  of_either G false s u e f = f
+
+  -- after a first look at the stage it is as it was, or finds no tenure left, or begins one
+  after_look : (G : Core E → Type 0) → G v.core → ((t : ℕ) → G (record v.core { least = t })) → ((t : ℕ) → G (core_begun X v.core t))
+      → (r : Option Reuse) (got : ℕ) → G (seen X v.core r got).core
+  after_look G same spent begun None got = of_either G (waits v.core got) v.core
+      (cond (nat_le v.core.layout.rows (got / 2)) (record v.core { least = got / 2 }) (core_begun X v.core (got / 2))) same
+      (of_either G (nat_le v.core.layout.rows (got / 2)) (record v.core { least = got / 2 }) (core_begun X v.core (got / 2))
+      (spent (got / 2)) (begun (got / 2)))
+  after_look G same spent begun (Some r) got = of_either G (waits v.core got) v.core
+      (cond (nat_le v.core.layout.rows (got / 2)) (record v.core { least = got / 2 }) v.core) same
+      (of_either G (nat_le v.core.layout.rows (got / 2)) (record v.core { least = got / 2 }) v.core (spent (got / 2)) same)
+
+  -- after a step of its election that goes on, or it has lost the tenure
+  abbrev lost : ℕ → Core E
+  lost t = record v.core { queue = record v.core.queue { busy = false }; least = t + 1; phase = phase.Resting }
+
+  after_election : (G : Core E → Type 0) (t : ℕ) (e : E) (o : Option ℕ) → G (record v.core { phase = phase.Electing t e }) → G (lost t)
+      → G (core_elected v.core t e o)
+  after_election G t e None runs gone = runs
+  after_election G t e (Some o) runs gone = of_either G (o == v.core.me) (record v.core { phase = phase.Electing t e }) (lost t) runs gone
+
   -- ---- what stays: its layout, and the messages that wait, unless none does any more
   abbrev Kept : Core E → Type 0
   Kept d = (d.layout ≡ v.core.layout) × ((d.queue.messages ≡ v.core.queue.messages) ⊎ (d.queue.messages ≡ []))
 
-  kept_if : (b : Bool) (s u : Core E) → Kept s → Kept u → Kept (cond b s u)
-  kept_if true s u e f = e
-  kept_if false s u e f = f
-
-  kept_seen : (r : Option Reuse) (got : ℕ) → Kept (seen X v.core r got).core
-  kept_seen None got = kept_if (waits v.core got) v.core
-      (cond (nat_le v.core.layout.rows (got / 2)) (record v.core { least = got / 2 }) (core_begun X v.core (got / 2))) (refl, inl refl)
-      (kept_if (nat_le v.core.layout.rows (got / 2)) (record v.core { least = got / 2 }) (core_begun X v.core (got / 2)) (refl, inl refl) (refl, inl refl))
-  kept_seen (Some r) got = kept_if (waits v.core got) v.core
-      (cond (nat_le v.core.layout.rows (got / 2)) (record v.core { least = got / 2 }) v.core) (refl, inl refl)
-      (kept_if (nat_le v.core.layout.rows (got / 2)) (record v.core { least = got / 2 }) v.core (refl, inl refl) (refl, inl refl))
-
-  kept_elected : (t : ℕ) (e : E) (o : Option ℕ) → Kept (core_elected v.core t e o)
-  kept_elected t e None = (refl, inl refl)
-  kept_elected t e (Some o) = kept_if (o == v.core.me) (record v.core { phase = phase.Electing t e })
-      (record v.core { queue = record v.core.queue { busy = false }; least = t + 1; phase = phase.Resting }) (refl, inl refl) (refl, inl refl)
-
+  -- with a page laid before it
   kept_laid : (t : ℕ) (home : Option Page) → Kept (core_with_page v.core t home)
   kept_laid t None = (refl, inl refl)
   kept_laid t (Some page) = (refl, inl refl)
 
+  -- with the page given back
   kept_given : (t : ℕ) (reason : Reason) → Kept (core_at_rest v.core reason t)
   kept_given t Sent = (refl, inr refl)
   kept_given t FoundEnd = (refl, inl refl)
   kept_given t NoRoom = (refl, inl refl)
 
+  -- by the line of any situation
   kept : (z : Situation E) (home : Option Page) (got word : ℕ) → Kept (after z home got word).core
-  kept (Does LooksAtStage) home got word = kept_seen v.reuse got
-  kept (Does (Elects t e)) home got word = kept_elected t (X.fed e got word) (X.owner (X.fed e got word))
+  kept (Does LooksAtStage) home got word = after_look Kept (refl, inl refl) (λ t. (refl, inl refl)) (λ t. (refl, inl refl)) v.reuse got
+  kept (Does (Elects t e)) home got word =
+      after_election Kept t (X.fed e got word) (X.owner (X.fed e got word)) (refl, inl refl) (refl, inl refl)
   kept (Does (TakesPage t)) home got word = kept_laid t home
   kept (Does (AwaitsPage t)) home got word = kept_laid t home
   kept (Does (GivesBack t page reason)) home got word = kept_given t reason
   kept (Does (HasHanded t reason)) home got word = kept_given t reason
   kept (Does z) home got word = (refl, inl refl)
-  kept (Validates t) home got word = kept_if (got / 2 == t) (core_begun X v.core t) v.core (refl, inl refl) (refl, inl refl)
+  kept (Validates t) home got word = of_either Kept (got / 2 == t) (core_begun X v.core t) v.core (refl, inl refl) (refl, inl refl)
   kept z home got word = (refl, inl refl)
 
   -- the same of the batch as it is found
@@ -217,10 +230,13 @@ module _ {E : Type 0} (X : Election E) (v : Sender E) where
   named names z word = refl
 
   -- ---- a store does not look at what it found
+  -- it leaves and answers the same, whatever it found
   abbrev IsBlind : Situation E → ℕ → ℕ → ℕ → Type 0
   IsBlind z word got got' =
-      ((home : Option Page) → after z home got word ≡ after z home got' word) × ((line X v z).answer got word ≡ (line X v z).answer got' word)
+      ((home : Option Page) → after z home got word ≡ after z home got' word)
+      × ((line X v z).answer got word ≡ (line X v z).answer got' word)
 
+  -- by the line of any situation
   blind : (P : Protocol E (Unit {0}) ℕ) → Laws X.op X.fed P OneOwner → (z : Situation E) → situation X v ≡ z → (word r n : ℕ)
       → (line X v z).op word ≡ Some (Store record { 0 = r } n) → (got got' : ℕ) → IsBlind z word got got'
   blind P laws (Does LooksAtStage) i word r n due got got' = absurd cc
@@ -239,6 +255,7 @@ module _ {E : Type 0} (X : Election E) (v : Sender E) where
   blind P laws z i word r n due got got' = (λ home. refl, refl)
 
   -- ---- last answers
+  -- a step of its election is answered by no last answer
   elected_goes : (r : Option Reuse) (t : ℕ) (o : Option ℕ) → is_last (answer_elected v.core r t o) ≡ false
   elected_goes None t None = refl
   elected_goes None t (Some o) = by (o == v.core.me) where
@@ -247,11 +264,14 @@ module _ {E : Type 0} (X : Election E) (v : Sender E) where
     by false = refl
   elected_goes (Some r) t o = refl
 
-  return_refused : (t : ℕ) (reason : Reason) → Refused (answer_of_return v.core.queue t reason) (core_at_rest v.core reason t).queue.messages
+  -- with the page given back
+  return_refused : (t : ℕ) (reason : Reason)
+      → Refused (answer_of_return v.core.queue t reason) (core_at_rest v.core reason t).queue.messages
   return_refused t Sent last some = absurd (omega (arith, some))
   return_refused t FoundEnd last some = refl
   return_refused t NoRoom last some = refl
 
+  -- by the line of any situation
   refused : (z : Situation E) (word : ℕ) (o : Op) → (line X v z).op word ≡ Some o → (home : Option Page) (got : ℕ)
       → Refused ((line X v z).answer got word) (after z home got word).core.queue.messages
   refused (Does LooksAtStage) word o due home got = stage_refused (waits v.core got) (nat_le v.core.layout.rows (got / 2)) _
@@ -271,6 +291,7 @@ module _ {E : Type 0} (X : Election E) (v : Sender E) where
       (nat_le v.core.layout.rows v.core.least) v.core.queue.messages
       (sym (ap (situation_at X v.core) (tells X v.core IsIdle own)) ∙ own)
 
+  -- where no step is due
   rest_refused : (z : Situation E) → situation X v ≡ z → Refused (rest_at (line X v z)) v.core.queue.messages
   rest_refused (Does IsIdle) i = λ last some. absurd (let none = ap length (idle_has_none (own_is X v IsIdle i)) in omega arith)
   rest_refused (Does IsClosed) i = λ last some. refl
@@ -298,52 +319,39 @@ module _ {E : Type 0} (X : Election E) (v : Sender E) where
   line_handed z i = ap (line X v) i
 
   -- a page that goes home stood before it
-  gives_held : (z : Situation E) → situation X v ≡ z → (page : Page) → page_given (line X v z).move ≡ Some page → is_holding v.core.phase ≡ true
+  gives_held : (z : Situation E) → situation X v ≡ z → (page : Page) → page_given (line X v z).move ≡ Some page
+      → is_holding v.core.phase ≡ true
   gives_held (Does (GivesBack t other reason)) i page is =
       ap is_holding (tells X v.core (GivesBack t other reason) (own_is X v (GivesBack t other reason) i)).2
   gives_held (Does z) i page is = absurd cc
   gives_held z i page is = absurd cc
 
   -- a step with which the page comes takes it
-  pub comes : (z : Situation E) (word : ℕ) (o : Op) (t : ℕ) → (line X v z).op word ≡ Some o → (line X v z).move ≡ Comes t → z ≡ Does (TakesPage t)
+  pub comes : (z : Situation E) (word : ℕ) (o : Op) (t : ℕ) → (line X v z).op word ≡ Some o → (line X v z).move ≡ Comes t
+      → z ≡ Does (TakesPage t)
   comes (Does (TakesPage u)) word o t due is = cc
   comes (Does z) word o t due is = absurd cc
   comes z word o t due is = absurd cc
 
   -- ---- how a turn ends, between two of which no page is under way, and where a sender rests that pins a tenure
   module _ (laid : is_taken v.core.phase ≡ false) (rests : (t : ℕ) → situation X v ≡ Validates t → v.core.phase ≡ phase.Resting) where
+    -- no page has moved
     abbrev Plain : Core E → Type 0
     Plain d = (is_taken d.phase ≡ false) × (is_holding d.phase ≡ is_holding v.core.phase)
-
-    plain_if : (b : Bool) (s u : Core E) → Plain s → Plain u → Plain (cond b s u)
-    plain_if true s u e f = e
-    plain_if false s u e f = f
 
     -- a sender that rests begins a tenure
     plain_begun : (t : ℕ) → v.core.phase ≡ phase.Resting → Plain (core_begun X v.core t)
     plain_begun t e = (refl, sym (ap is_holding e))
 
-    plain_seen : (r : Option Reuse) (got : ℕ) → v.core.phase ≡ phase.Resting → Plain (seen X v.core r got).core
-    plain_seen None got e = plain_if (waits v.core got) v.core
-        (cond (nat_le v.core.layout.rows (got / 2)) (record v.core { least = got / 2 }) (core_begun X v.core (got / 2))) (laid, refl)
-        (plain_if (nat_le v.core.layout.rows (got / 2)) (record v.core { least = got / 2 }) (core_begun X v.core (got / 2)) (laid, refl)
-        (plain_begun (got / 2) e))
-    plain_seen (Some r) got e = plain_if (waits v.core got) v.core
-        (cond (nat_le v.core.layout.rows (got / 2)) (record v.core { least = got / 2 }) v.core) (laid, refl)
-        (plain_if (nat_le v.core.layout.rows (got / 2)) (record v.core { least = got / 2 }) v.core (laid, refl) (laid, refl))
-
-    plain_elected : (t : ℕ) (e : E) (o : Option ℕ) → is_holding v.core.phase ≡ false → Plain (core_elected v.core t e o)
-    plain_elected t e None away = (refl, sym away)
-    plain_elected t e (Some o) away = plain_if (o == v.core.me) (record v.core { phase = phase.Electing t e })
-        (record v.core { queue = record v.core.queue { busy = false }; least = t + 1; phase = phase.Resting }) (refl, sym away) (refl, sym away)
-
+    -- the parts of the turn are the whole turn
     pub ends : (z : Situation E) → situation X v ≡ z → (word : ℕ) (o : Op) → (line X v z).op word ≡ Some o → (home : Option Page) (got : ℕ)
         → EndsBy (process_of X) v ((line X v z).fed got word) (after z home got word) home (line X v z).move
     ends (Does LooksAtStage) i word o due home got =
-        let h = plain_seen v.reuse got (tells X v.core LooksAtStage (own_is X v LooksAtStage i)) in (refl, h.0, h.1)
+        let begun = λ (t : ℕ). plain_begun t (tells X v.core LooksAtStage (own_is X v LooksAtStage i)) in
+        let h = after_look Plain (laid, refl) (λ t. (laid, refl)) begun v.reuse got in (refl, h.0, h.1)
     ends (Does (Elects t e)) i word o due home got =
         let away = ap is_holding (tells X v.core (Elects t e) (own_is X v (Elects t e) i)).0 in
-        let h = plain_elected t (X.fed e got word) (X.owner (X.fed e got word)) away in (refl, h.0, h.1)
+        let h = after_election Plain t (X.fed e got word) (X.owner (X.fed e got word)) (refl, sym away) (refl, sym away) in (refl, h.0, h.1)
     ends (Does (TakesPage t)) i word o due home got = (
       refl,
       ap is_holding (tells X v.core (TakesPage t) (own_is X v (TakesPage t) i)).1,
@@ -363,7 +371,7 @@ module _ {E : Type 0} (X : Election E) (v : Sender E) where
         (refl, refl, sym (ap is_holding (tells X v.core (HasHanded t reason) (own_is X v (HasHanded t reason) i))))
     ends (Does z) i word o due home got = (refl, laid, refl)
     ends (Validates t) i word o due home got =
-        let h = plain_if (got / 2 == t) (core_begun X v.core t) v.core (plain_begun t (rests t i)) (laid, refl) in (refl, h.0, h.1)
+        let h = of_either Plain (got / 2 == t) (core_begun X v.core t) v.core (plain_begun t (rests t i)) (laid, refl) in (refl, h.0, h.1)
     ends z i word o due home got = (refl, laid, refl)
 
 -- what a sender of either kind of rows owes threads
