@@ -20,6 +20,7 @@ crowd : {E : Type 0} → Layout → Option ℕ → List ℕ → ℕ → List (Se
 crowd x reuse bases zero = []
 crowd x reuse bases (suc k) = crowd x reuse bases k ++ new_sender x k reuse (slice_index bases k) ∷ []
 
+-- each of them is new
 crowd_new : {E : Type 0} (x : Layout) (reuse : Option ℕ) (bases : List ℕ) (k : ℕ) → AreNewSenders x reuse bases k (crowd {E = E} x reuse bases k)
 unfolding crowd
 crowd_new x reuse bases zero = no_senders x reuse bases [] refl
@@ -27,6 +28,7 @@ crowd_new {E = E} x reuse bases (suc k) = subst (λ z. AreNewSenders x reuse bas
     (let e : k + 1 ≡ suc k = omega arith in e)
     (one_more_sender x reuse bases k (crowd x reuse bases k) (new_sender x k reuse (slice_index bases k)) (crowd_new x reuse bases k) refl)
 
+-- and there
 crowd_has : {E : Type 0} (x : Layout) (reuse : Option ℕ) (bases : List ℕ) (k p : ℕ) → p < k
     → slice_get (crowd {E = E} x reuse bases k) p ≡ Some (new_sender x p reuse (slice_index bases p))
 crowd_has {E = E} x reuse bases k p l = let h = crowd_new {E = E} x reuse bases k in elim (some_or_none (slice_get (crowd {E = E} x reuse bases k) p)) [
@@ -34,15 +36,17 @@ crowd_has {E = E} x reuse bases k p l = let h = crowd_new {E = E} x reuse bases 
   | inl nobody ↦ absurd (here_not (crowd {E = E} x reuse bases k) p (let z = h.many_are in omega arith) nobody)
 ]
 
+-- nobody else is
 none_here : {A : Type 0} {B : Type 0} (v : A) → None ≡ Some v → B
 none_here v e = absurd (let wrong : ⊥ = cc in wrong)
 
 -- the numbers of messages begin far below their range
-counted : {E : Type 0} (X : Election E) (x : Layout) (reuse : Option ℕ) (bases : List ℕ) → IsLayout x → HasRows reuse → AreBases bases → (p : ℕ)
+counted : {E : Type 0} (X : Election E) (x : Layout) (reuse : Option ℕ) (bases : List ℕ) → AreBases bases → (p : ℕ)
     → IsCounted (process_of X) (new_sender x p reuse (slice_index bases p))
-counted X x None bases ok has are p = record { first = (let low = are.low p in omega arith); few = omega arith }
-counted X x (Some rows) bases ok has are p = record { first = (let low = are.low p in omega arith); few = omega arith }
+counted X x None bases are p = record { first = (let low = are.low p in omega arith); few = omega arith }
+counted X x (Some rows) bases are p = record { first = (let low = are.low p in omega arith); few = omega arith }
 
+-- it begins with all at their starts
 pub opens : {E : Type 0} (X : Election E) (x : Layout) (reuse : Option ℕ) (bases : List ℕ) → IsLayout x → HasRows reuse → AreBases bases
     → Opens (process_of X) (bus_of X x reuse bases)
 opens {E} X x reuse bases ok has are =
@@ -81,5 +85,5 @@ opens {E} X x reuse bases ok has are =
       home = refl;
       senders = λ p below. crowd_has {E = E} x reuse bases x.senders p below;
       sender_trail = λ p. refl;
-      counted = counted X x reuse bases ok has are;
+      counted = counted X x reuse bases are;
     }

@@ -24,7 +24,7 @@ use Rattle.bus_register.specs.declared.kinds.Kind.{Kind}
 use Rattle.bus_register.specs.declared.registers.Op.{Op}
 use Rattle.bus_register.specs.declared.registers.Op.TheVariants.{Load, Store}
 use Rattle.bus_register.specs.declared.registers.SenderNo.{SenderNo}
-use Rattle.bus_tenure.proofs.Situated.{tells}
+use Rattle.bus_tenure.proofs.Situated.{Tells, tells}
 use Rattle.bus_tenure.specs.Core.{Core, Election, Layout, is_closed, is_empty, is_marking}
 use Rattle.bus_tenure.specs.Situations.{Situation as Own, IsClosed, IsIdle, IsSpent, LooksAtStage, Elects, TakesPage, AwaitsPage}
 use Rattle.bus_tenure.specs.Situations.{StoresWord, StoresLength, GivesBack, HasHanded, Comes, situation_at, situation_of, waits}
@@ -149,8 +149,9 @@ idle_none false m false (x ∷ left) e = absurd cc
 
 -- ---- a sender in a situation
 module _ {E : Type 0} (X : Election E) (v : Sender E) where
-  abbrev c : Core E
-  c = v.core
+  -- what a situation of its turns tells of its phase
+  told : (z : Own E) → situation X v ≡ Does z → Tells X z v.core.phase
+  told z i = tells X v.core z (own_is X v z i)
 
   -- what it holds after a turn by the line of this situation
   abbrev after : Situation E → Option Page → ℕ → ℕ → Sender E
@@ -177,10 +178,11 @@ module _ {E : Type 0} (X : Election E) (v : Sender E) where
       (cond (nat_le v.core.layout.rows (got / 2)) (record v.core { least = got / 2 }) v.core) same
       (of_either G (nat_le v.core.layout.rows (got / 2)) (record v.core { least = got / 2 }) v.core (spent (got / 2)) same)
 
-  -- after a step of its election that goes on, or it has lost the tenure
+  -- with the tenure lost
   abbrev lost : ℕ → Core E
   lost t = record v.core { queue = record v.core.queue { busy = false }; least = t + 1; phase = phase.Resting }
 
+  -- after a step of its election that goes on, or it has lost the tenure
   after_election : (G : Core E → Type 0) (t : ℕ) (e : E) (o : Option ℕ) → G (record v.core { phase = phase.Electing t e }) → G (lost t)
       → G (core_elected v.core t e o)
   after_election G t e None runs gone = runs
@@ -321,8 +323,7 @@ module _ {E : Type 0} (X : Election E) (v : Sender E) where
   -- a page that goes home stood before it
   gives_held : (z : Situation E) → situation X v ≡ z → (page : Page) → page_given (line X v z).move ≡ Some page
       → is_holding v.core.phase ≡ true
-  gives_held (Does (GivesBack t other reason)) i page is =
-      ap is_holding (tells X v.core (GivesBack t other reason) (own_is X v (GivesBack t other reason) i)).2
+  gives_held (Does (GivesBack t other reason)) i page is = ap is_holding (told (GivesBack t other reason) i).2
   gives_held (Does z) i page is = absurd cc
   gives_held z i page is = absurd cc
 
@@ -347,28 +348,25 @@ module _ {E : Type 0} (X : Election E) (v : Sender E) where
     pub ends : (z : Situation E) → situation X v ≡ z → (word : ℕ) (o : Op) → (line X v z).op word ≡ Some o → (home : Option Page) (got : ℕ)
         → EndsBy (process_of X) v ((line X v z).fed got word) (after z home got word) home (line X v z).move
     ends (Does LooksAtStage) i word o due home got =
-        let begun = λ (t : ℕ). plain_begun t (tells X v.core LooksAtStage (own_is X v LooksAtStage i)) in
+        let begun = λ (t : ℕ). plain_begun t (told LooksAtStage i) in
         let h = after_look Plain (laid, refl) (λ t. (laid, refl)) begun v.reuse got in (refl, h.0, h.1)
     ends (Does (Elects t e)) i word o due home got =
-        let away = ap is_holding (tells X v.core (Elects t e) (own_is X v (Elects t e) i)).0 in
+        let away = ap is_holding (told (Elects t e) i).0 in
         let h = after_election Plain t (X.fed e got word) (X.owner (X.fed e got word)) (refl, sym away) (refl, sym away) in (refl, h.0, h.1)
     ends (Does (TakesPage t)) i word o due home got = (
       refl,
-      ap is_holding (tells X v.core (TakesPage t) (own_is X v (TakesPage t) i)).1,
+      ap is_holding (told (TakesPage t) i).1,
       λ page at. (
         ap (λ (h : Option Page). record ((line X v (Does (TakesPage t))).fed got word) { core = core_with_page v.core t h }) at,
         ap (λ (h : Option Page). is_holding (core_with_page v.core t h).phase) at,
       ),
     )
     ends (Does (AwaitsPage t)) i word o due home got = absurd cc
-    ends (Does (StoresWord t page stored)) i word o due home got =
-        (refl, refl, sym (ap is_holding (tells X v.core (StoresWord t page stored) (own_is X v (StoresWord t page stored) i)).1))
+    ends (Does (StoresWord t page stored)) i word o due home got = (refl, refl, sym (ap is_holding (told (StoresWord t page stored) i).1))
     ends (Does (StoresLength t page stored)) i word o due home got =
-        (refl, refl, sym (ap is_holding (tells X v.core (StoresLength t page stored) (own_is X v (StoresLength t page stored) i)).1))
-    ends (Does (GivesBack t page reason)) i word o due home got =
-        (refl, refl, ap is_holding (tells X v.core (GivesBack t page reason) (own_is X v (GivesBack t page reason) i)).2, refl)
-    ends (Does (HasHanded t reason)) i word o due home got =
-        (refl, refl, sym (ap is_holding (tells X v.core (HasHanded t reason) (own_is X v (HasHanded t reason) i))))
+        (refl, refl, sym (ap is_holding (told (StoresLength t page stored) i).1))
+    ends (Does (GivesBack t page reason)) i word o due home got = (refl, refl, ap is_holding (told (GivesBack t page reason) i).2, refl)
+    ends (Does (HasHanded t reason)) i word o due home got = (refl, refl, sym (ap is_holding (told (HasHanded t reason) i)))
     ends (Does z) i word o due home got = (refl, laid, refl)
     ends (Validates t) i word o due home got =
         let h = of_either Plain (got / 2 == t) (core_begun X v.core t) v.core (plain_begun t (rests t i)) (laid, refl) in (refl, h.0, h.1)

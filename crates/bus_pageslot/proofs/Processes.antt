@@ -29,9 +29,8 @@ use Rattle.bus_tenure.specs.declared.phases.Phase.{Phase}
 use Rattle.bus_tenure.specs.declared.phases.Phase.TheVariants as phase
 use Rattle.bus_world.specs.Turning.{before_step, laying}
 use Rattle.bus_automaton.specs.Buses.{process_with}
-use Rattle.bus_automaton.specs.OneProcess.{rows_used}
+use Rattle.bus_automaton.specs.OneProcess.{rows_used, is_taken}
 use Rattle.bus_automaton.specs.Processes.{Process, page_given}
-use Rattle.bus_automaton.specs.OneProcess.{is_taken}
 use Rattle.bus_pageslot.specs.Steps.{out_with}
 
 -- ---- a batch that is on its way
