@@ -132,7 +132,7 @@ module _ {E : Type 0} (X : Election E) (P : Protocol E (Unit {0}) ℕ) (m : Mach
     by (Some rows) used = sums_at_some rows used p v at word o due
 
   -- who goes on is one of its senders
-  pub sender_below : (p : ℕ) (v : Sender E) → going m p ≡ Some v → p < m.layout.senders
+  sender_below : (p : ℕ) (v : Sender E) → going m p ≡ Some v → p < m.layout.senders
   sender_below p v goes = (its_part X P m T (framed X P m T s r) p v (there_shown (has_stopped m p) (slice_get m.senders p) v goes)).below
 
   -- an event adds nothing to what somebody else did

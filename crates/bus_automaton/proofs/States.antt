@@ -108,7 +108,7 @@ module _ {E : Type 0} (X : Election E) (P : Protocol E (Unit {0}) ℕ) (x : Layo
   T = z.trails
 
   -- its sizes are served
-  pub sits : Sits X P m
+  sits : Sits X P m
   sits = record {
     serves = subst (Serves X P) (sym h.layout) y;
     ok = subst IsLayout (sym h.layout) h.served;
