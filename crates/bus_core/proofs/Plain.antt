@@ -1,23 +1,29 @@
 -- Plain stores: when one is due, and what it leaves.
-use Rattle.std.proofs.Common.{◌≡◌, ℕ, ◌+◌, ◌<◌, ◌==◌, false, cond, Option, Some, None, IsSome, nat_lt, refl, sym, ◌∙◌, ap, subst}
+use Rattle.std.proofs.Common.{◌≡◌, ℕ, ◌+◌, ◌<◌, ◌≤◌, ◌==◌, false, cond, length, slice_index, arith, Option, Some, None, IsSome, nat_lt, refl, sym, ◌∙◌, ap, subst}
 use Rattle.std.proofs.lemmas.Option.{same_Some}
 use Rattle.std.specs.Prelude.{◌&&◌, if◌then◌else◌}
 use Rattle.std.proofs.lemmas.Bool.{lt-ltb, le-ltb}
 use Rattle.bus_presence.specs.Reclaimers.{Reclaiming, IsClearing, reclaim_op, reclaim_fed}
-use Rattle.bus_presence.specs.declared.pins.Pin.TheVariants.{Away}
+use Rattle.bus_presence.specs.declared.pins.Pin.{Pin}
+use Rattle.bus_presence.specs.declared.pins.Pin.TheVariants.{Away, Announcing, Validating, Pinned, Unpinning, Invalidated}
+use Rattle.bus_register.specs.Words.{register}
 use Rattle.bus_register.specs.declared.registers.Op.TheVariants.{Load, Store}
-use Rattle.bus_tenure.specs.Core.{Core, Election}
-use Rattle.bus_tenure.specs.Doings.{doing_of, IsWord}
+use Rattle.bus_batch.specs.Batches.{frame_of}
+use Rattle.bus_batch.specs.Frames.{frame_words}
+use Rattle.bus_tenure.specs.Core.{Core, Election, Layout, frame_len}
+use Rattle.bus_tenure.specs.Doings.{doing_of, IsWord, StoresNext}
+use Rattle.bus_tenure.proofs.Inverted.{word_is}
 use Rattle.bus_tenure.specs.Seen.{HoldsPublished}
 use Rattle.bus_tenure.specs.declared.doings.Doing.TheVariants as doing
 use Rattle.bus_tenure.specs.Situations.{Situation as Own, StoresWord, GivesBack, situation_of as own_situation, situation_at, fed_at, Stays}
 use Rattle.bus_tenure.specs.declared.pages.Page.{Page}
 use Rattle.bus_tenure.specs.declared.phases.Reason.TheVariants.{Sent}
 use Rattle.bus_tenure.specs.declared.turns.Turn.TheVariants.{Going}
-use Rattle.bus_core.specs.Reusing.Turns.{answer_of_reclaim}
+use Rattle.bus_core.specs.Reusing.Turns.{answer_of_reclaim, sizes_of}
 use Rattle.bus_core.specs.Keeping.{ReuseKeeps, IsAway, reclaimer_in, reclaimer_left, sender}
-use Rattle.bus_core.specs.Plain.{IsPlain, Word, Clear}
-use Rattle.bus_core.specs.Senders.{Sender, Does, Scans, Clears, pinning, situation_by, situation, words_all}
+use Rattle.bus_core.specs.Plain.{IsPlain, Word, Clear, StoresPlain}
+use Rattle.bus_core.specs.Reusing.Keeping.{ReclaimerKeeps, IsHeldReclaimer}
+use Rattle.bus_core.specs.Senders.{Sender, Does, Scans, Clears, log_start, pinning, situation_by, situation, words_all, participant_of}
 use Rattle.bus_core.specs.Table.{line, line_now, reuse_reclaiming}
 use Rattle.bus_core.specs.declared.reuses.Reuse.{Reuse}
 use Rattle.bus_core.proofs.Situated.{own_is, clears_pinning}
@@ -54,16 +60,11 @@ module _ {E : Type 0} (X : Election E) where
     by None a i = absurd cc
     by (Some r) a i = ap (situation_by (Some r)) own ∙ clears_again r a s i c h.tenure h.page
 
-  pub plain_clear : (v w : Sender E) → v ≡ w → IsAway w.reuse → HoldsPublished v.core.phase → (s : Reclaiming) → reclaimer_in v.reuse ≡ Some s → IsClearing s
-      → IsPlain X w
-  plain_clear v w same away h s is c =
-      subst (IsPlain X) same (Clear s (clears_by v (subst (λ y. IsAway y.reuse) (sym same) away) h s is c) c h)
-
 -- the word that is cleared is one of the bus
-pub clear_below : {E : Type 0} (width : ℕ) (Belongs : ℕ → E → Type 0) (v w : Sender E) → v ≡ w → ReuseKeeps width Belongs v.core v.reuse
-    → (s : Reclaiming) → reclaimer_in v.reuse ≡ Some s → IsClearing s → (at : ℕ) → at ≡ s.row + s.cleared → at < words_all w
-clear_below width Belongs v w same k s is c at e =
-    subst (λ y. at < words_all y) same (subst (λ n. n < words_all v) (sym e) (by v.reuse k is)) where
+clear_below : {E : Type 0} (width : ℕ) (Belongs : ℕ → E → Type 0) (v : Sender E) → ReuseKeeps width Belongs v.core v.reuse
+    → (s : Reclaiming) → reclaimer_in v.reuse ≡ Some s → IsClearing s → (at : ℕ) → at ≡ s.row + s.cleared → at < words_all v
+clear_below width Belongs v k s is c at e =
+    subst (λ n. n < words_all v) (sym e) (by v.reuse k is) where
       op : reclaim_op s ≡ Some (Store record { 0 = s.row + s.cleared } 0)
       op =
           ap (λ a. cond a (Some (Load record { 0 = s.presences + s.scanned })) (cond (nat_lt s.cleared s.width) (Some (Store record { 0 = s.row + s.cleared } 0)) None)) (le-ltb s.scanned s.senders c.passed)
@@ -130,3 +131,135 @@ module _ {E : Type 0} (X : Election E) (v : Sender E) where
   pub plain_wordless : IsPlain X v → (line_now X v).wants_word ≡ false
   plain_wordless (Word t page stored i) = ap (λ z. (line X v z).wants_word) i
   plain_wordless (Clear s i k p) = ap (λ z. (line X v z).wants_word) i
+
+-- ---- which one is due behind it
+-- whose pin lets it store a word may store any
+word_pinning : {E : Type 0} (u : Pin) (s : Option Reclaiming) (t t' : ℕ) (page page' : Page) (stored stored' : ℕ)
+    → pinning {E = E} u s (StoresWord t page stored) ≡ Does (StoresWord t page stored)
+    → pinning {E = E} u s (StoresWord t' page' stored') ≡ Does (StoresWord t' page' stored')
+word_pinning Away s t t' page page' stored stored' i = refl
+word_pinning (Announcing u) s t t' page page' stored stored' i = absurd cc
+word_pinning (Validating u) s t t' page page' stored stored' i = absurd cc
+word_pinning (Pinned u) s t t' page page' stored stored' i = refl
+word_pinning (Unpinning u) s t t' page page' stored stored' i = absurd cc
+word_pinning (Invalidated u) s t t' page page' stored stored' i = absurd cc
+
+-- the same with both kinds of rows
+word_by : {E : Type 0} (r : Option Reuse) (t t' : ℕ) (page page' : Page) (stored stored' : ℕ)
+    → situation_by {E = E} r (StoresWord t page stored) ≡ Does (StoresWord t page stored)
+    → situation_by {E = E} r (StoresWord t' page' stored') ≡ Does (StoresWord t' page' stored')
+word_by None t t' page page' stored stored' i = refl
+word_by (Some r) t t' page page' stored stored' i = word_pinning r.pin r.reclaimer t t' page page' stored stored' i
+
+-- whose pin lets a reclamation clear lets any clear
+clear_pinning : {E : Type 0} (u : Pin) (s : Option Reclaiming) (t : ℕ) (page : Page) (p q : Reclaiming)
+    → pinning {E = E} u s (GivesBack t page Sent) ≡ Clears p → IsClearing q
+    → pinning {E = E} u (Some q) (GivesBack t page Sent) ≡ Clears q
+clear_pinning Away s t page p q i h = clears_when q (GivesBack t page Sent) h
+clear_pinning (Announcing u) s t page p q i h = absurd cc
+clear_pinning (Validating u) s t page p q i h = absurd cc
+clear_pinning (Pinned u) s t page p q i h = clears_when q (GivesBack t page Sent) h
+clear_pinning (Unpinning u) s t page p q i h = absurd cc
+clear_pinning (Invalidated u) s t page p q i h = absurd cc
+
+-- the same with both kinds of rows
+clear_by : {E : Type 0} (r : Option Reuse) (t : ℕ) (page : Page) (p q : Reclaiming)
+    → situation_by {E = E} r (GivesBack t page Sent) ≡ Clears p → IsClearing q
+    → situation_by {E = E} (reuse_reclaiming r q) (GivesBack t page Sent) ≡ Clears q
+clear_by None t page p q i h = absurd cc
+clear_by (Some r) t page p q i h = clear_pinning r.pin r.reclaimer t page p q i h
+
+-- a word of a frame that fits the log lies within it
+within : (start words stored most len at : ℕ) → at ≡ start + words + stored → words + len ≤ most → stored < len → at < start + most
+within start words stored most len at e room below = omega arith
+
+-- and the one behind it lies one further
+next_place : (start words stored at : ℕ) → at ≡ start + words + stored → at + 1 ≡ start + words + (stored + 1)
+next_place start words stored at e = omega arith
+
+-- the log begins behind the length and the stage
+log_above : (x : Layout) (r : Option Reuse) → 2 ≤ log_start x r
+log_above x None = omega arith
+log_above x (Some r) = omega arith
+
+-- and so do the rows
+clear_above : {E : Type 0} (width : ℕ) (Belongs : ℕ → E → Type 0) (c : Core E) (r : Option Reuse) → ReuseKeeps width Belongs c r
+    → (s : Reclaiming) → reclaimer_in r ≡ Some s → (at : ℕ) → at ≡ s.row + s.cleared → 2 ≤ at
+clear_above width Belongs c None k s is at e = absurd cc
+clear_above width Belongs c (Some r) k s is at e =
+    let h : IsHeldReclaimer (sizes_of (participant_of c r)) c.phase s =
+    subst (ReclaimerKeeps (sizes_of (participant_of c r)) c.phase) is k.reclaimer in
+    let from = h.after.row in
+    omega arith
+
+module _ {E : Type 0} (X : Election E) (v : Sender E) where
+  -- a word of its frame is a plain store
+  pub word_stores : (t words stored : ℕ) → doing_of (own_situation X v.core) ≡ doing.Word t words stored
+      → ((page : Page) → situation_by {E = E} v.reuse (StoresWord t page stored) ≡ Does (StoresWord t page stored)) → (at : ℕ)
+      → at ≡ log_start v.core.layout v.reuse + words + stored → (value : ℕ) → value ≡ slice_index (frame_words (frame_of v.core.queue t)) stored
+      → words + frame_len v.core ≤ v.core.layout.capacity → stored < frame_len v.core → StoresPlain X v at value
+  word_stores t words stored due may at place value word room below =
+      let w = word_is (own_situation X v.core) t words stored due in
+      let now : situation X v ≡ Does (StoresWord t w.0 stored) = ap (situation_by v.reuse) w.2 ∙ may w.0 in
+      let low = log_above v.core.layout v.reuse in
+      record {
+        plain = Word t w.0 stored now;
+        step = λ n. ap (λ z. (line X v z).op n) now
+            ∙ (λ j. Some (Store record { 0 = (ap (λ m. log_start v.core.layout v.reuse + m + stored) w.1 ∙ sym place) j } (sym word j)));
+        behind = omega arith;
+        below = within (log_start v.core.layout v.reuse) words stored v.core.layout.capacity (frame_len v.core) at place room below;
+      }
+
+  -- so is a word of the next row that a reclamation clears
+  pub clear_stores : (width : ℕ) (Belongs : ℕ → E → Type 0) → ReuseKeeps width Belongs v.core v.reuse → (q : Reclaiming)
+      → situation X v ≡ Clears q → reclaimer_in v.reuse ≡ Some q → IsClearing q → HoldsPublished v.core.phase
+      → (at : ℕ) → at ≡ q.row + q.cleared → StoresPlain X v at 0
+  clear_stores width Belongs k q now is c h at e = record {
+    plain = Clear q now c h;
+    step = λ word. ap (λ z. (line X v z).op word) now ∙ ap (λ n. Some (Store record { 0 = n } 0)) (sym e);
+    behind = clear_above width Belongs v.core v.reuse k q is at e;
+    below = clear_below width Belongs v k q is c at e;
+  }
+
+module _ {E : Type 0} (X : Election E) (v : Sender E) where
+  -- where its word goes
+  word_place : (t : ℕ) (page : Page) (stored at value : ℕ) → situation X v ≡ Does (StoresWord t page stored)
+      → ((word : ℕ) → (line_now X v).op word ≡ Some (Store record { 0 = at } value))
+      → at ≡ log_start v.core.layout v.reuse + page.words + stored
+  word_place t page stored at value i step =
+      let e : Store record { 0 = log_start v.core.layout v.reuse + page.words + stored } (slice_index (frame_words (frame_of v.core.queue t)) stored)
+      ≡ Store record { 0 = at } value = same_Some _ _ (ap (λ z. (line X v z).op 0) (sym i) ∙ step 0) in
+      sym (ap register e)
+
+  -- once a word is stored, and another one is to be
+  pub word_behind : IsPlain X v → (HoldsPublished v.core.phase → ⊥) → (at value : ℕ)
+      → ((word : ℕ) → (line_now X v).op word ≡ Some (Store record { 0 = at } value)) → (c : Core E)
+      → ((got word : ℕ) → c ≡ fed_at X v.core (own_situation X v.core) got word) → (next : ℕ)
+      → ((t words stored : ℕ) → doing_of (own_situation X v.core) ≡ doing.Word t words stored → StoresNext X c t words (stored + 1) next)
+      → StoresPlain X (sender c v.reuse) (at + 1) next
+  word_behind (Clear s i k p) none at value step c fed next stores = absurd (none p)
+  word_behind (Word t page stored i) none at value step c fed next stores =
+      let own = own_is X v (StoresWord t page stored) i in
+      let after = stores t page.words stored (ap doing_of own) in
+      let layout : c.layout ≡ v.core.layout = ap (λ (y : Core E). y.layout) (fed 0 0 ∙ ap (λ z. fed_at X v.core z 0 0) own) in
+      let place : at ≡ log_start c.layout v.reuse + page.words + stored =
+      word_place t page stored at value i step ∙ ap (λ (x : Layout). log_start x v.reuse + page.words + stored) (sym layout) in
+      word_stores X (sender c v.reuse) t page.words (stored + 1) after.due
+      (λ other. word_by v.reuse t t page other stored (stored + 1) (ap (situation_by v.reuse) (sym own) ∙ i))
+      (at + 1) (next_place (log_start c.layout v.reuse) page.words stored at place) next after.word after.room after.below
+
+  -- once a word is cleared, and another one is to be
+  pub clear_behind : (width : ℕ) (Belongs : ℕ → E → Type 0) → IsPlain X v → HoldsPublished v.core.phase → (r : Option Reuse)
+      → ((s : Reclaiming) (got : ℕ) → reclaimer_in v.reuse ≡ Some s → r ≡ reuse_reclaiming v.reuse (reclaim_fed s got))
+      → ReuseKeeps width Belongs v.core r → (q : Reclaiming) → reclaimer_in r ≡ Some q → IsClearing q → (at : ℕ) → at ≡ q.row + q.cleared
+      → StoresPlain X (sender v.core r) at 0
+  clear_behind width Belongs (Word t page stored i) h r f k q is c at e = absurd (word_unpublished X v t page stored i h)
+  clear_behind width Belongs (Clear s i d p) h r f k q is c at e =
+      let own : own_situation X v.core ≡ GivesBack h.tenure h.page Sent = ap (situation_at X v.core) h.is in
+      let grown = f s 0 (reclaims X v v.reuse s i) in
+      let same : r ≡ reuse_reclaiming v.reuse q = grown ∙ ap (reuse_reclaiming v.reuse) (held v.reuse s (reclaim_fed s 0) (reclaims X v v.reuse s i) (sym (ap reclaimer_in grown) ∙ is)) in
+      clear_stores X (sender v.core r) width Belongs k q
+      ((λ j. situation_by (same j) (own j)) ∙ clear_by v.reuse h.tenure h.page s q (ap (situation_by v.reuse) (sym own) ∙ i) c) is c h at e where
+        held : (u : Option Reuse) (s n : Reclaiming) → reclaimer_in u ≡ Some s → reclaimer_in (reuse_reclaiming u n) ≡ Some q → n ≡ q
+        held None s n is j = absurd cc
+        held (Some u) s n is j = same_Some n q j

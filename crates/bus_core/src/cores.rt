@@ -4,7 +4,6 @@ ghost use Rattle.std.specs.Prelude.{◌≡◌, ℕ, ◌+◌, ◌*◌, ◌-◌, �
 ghost use Rattle.std.specs.Prelude.{Option, Some, None, IfOk, IfErr, OnOk, OnErr, IfSome, IsSome};
 ghost use Rattle.std.specs.Prelude.{IsTrue, ◌↔◌, ◌⊎◌, false, true, ◌%◌};
 ghost use Rattle.bus_register.specs.Words.{register};
-ghost use Rattle.bus_register.specs.declared.registers.Op.TheVariants as step;
 ghost use Rattle.bus_batch.specs.Batches.{next_of, CanPut, IsPutFault, CanClose, IsCloseFault};
 ghost use Rattle.bus_batch.specs.Batches.{IsShut};
 ghost use Rattle.bus_batch.specs.declared.batches.Phase.TheVariants as queue_phase;
@@ -25,7 +24,7 @@ ghost use Rattle.bus_core.specs.Keeping.{reclaimer_in};
 ghost use Rattle.bus_presence.specs.Reclaimers.{Reclaiming, IsClearing, reclaim_fed};
 ghost use Rattle.bus_core.specs.Keeping.{page_out, core_without, new_sender};
 ghost use Rattle.bus_core.specs.Places.{LiesAt};
-ghost use Rattle.bus_core.specs.Plain.{IsPlain};
+ghost use Rattle.bus_core.specs.Plain.{IsPlain, StoresPlain};
 ghost use Rattle.bus_core.specs.Seen.{pin_of, tenure_begun};
 ghost use Rattle.bus_core.specs.Senders.{Does, situation, log_start, words_all};
 ghost use Rattle.bus_core.specs.Table.{line, line_now, rest_at, reuse_reclaiming};
@@ -273,6 +272,14 @@ impl<Q: Ratifier + Drop> SenderCore<Q> {
             None => self.turns.log_apart(),
             Some(reuse) => 2 + self.turns.senders() + reuse.rows * self.turns.width(),
         }
+    }
+
+    /// The bus has few words.
+    #[inline(always)]
+    fn is_small(&self)
+        ensures { words_all self.now ≤ 2 ^ 63 }
+    {
+        let _ = self.log_start();
     }
 
     /// A step of its election, on the row that its tenure uses.
@@ -629,17 +636,14 @@ impl<Q: Ratifier + Drop> SenderCore<Q> {
     /// say no of any step.
     #[inline(always)]
     pub fn plain(&self, at: &mut u64, value: &mut u64) -> bool
-        ensures plain { let X = election_of Q.Ratifier in IsTrue result → IsPlain X self.now }
-        ensures step { let X = election_of Q.Ratifier in IsTrue result → (word : ℕ)
-            → (line_now X self.now).op word ≡ Some (step.Store (record { 0 = at.new }) value.new) }
-        ensures below { IsTrue result → at.new < words_all self.now }
+        ensures { IsTrue result
+            → StoresPlain (election_of Q.Ratifier) self.now at.new value.new }
     {
         if !self.is_away() {
             return false;
         }
         if self.turns.has_published() {
-            *value = 0;
-            return clears(&self.reuse, at);
+            return clears(&self.reuse, at, value);
         }
         self.stores_word(at, value)
     }
@@ -648,10 +652,8 @@ impl<Q: Ratifier + Drop> SenderCore<Q> {
     #[inline(always)]
     fn stores_word(&self, at: &mut u64, value: &mut u64) -> bool
         requires { IsAway self.now.reuse }
-        ensures plain { let X = election_of Q.Ratifier in IsTrue result → IsPlain X self.now }
-        ensures step { let X = election_of Q.Ratifier in IsTrue result → (word : ℕ)
-            → (line_now X self.now).op word ≡ Some (step.Store (record { 0 = at.new }) value.new) }
-        ensures below { IsTrue result → at.new < words_all self.now }
+        ensures { IsTrue result
+            → StoresPlain (election_of Q.Ratifier) self.now at.new value.new }
     {
         let (mut tenure, mut words, mut stored) = (0, 0, 0);
         if !self.turns.stores_word(&mut tenure, &mut words, &mut stored) {
@@ -662,10 +664,12 @@ impl<Q: Ratifier + Drop> SenderCore<Q> {
         true
     }
 
-    /// The plain store was taken that `plain` told. Its answer is Going, whatever it found.
+    /// The plain store was taken that `plain` told. Its answer is Going, whatever it found. Says
+    /// whether the next step is a plain store too; then it stores `value` in the word at `at`. It
+    /// may say no of any step.
     #[inline(always)]
-    pub fn plain_done(&mut self)
-        requires { let X = election_of Q.Ratifier in IsPlain X self.old }
+    pub fn plain_done(&mut self, at: &mut u64, value: &mut u64) -> bool
+        requires { StoresPlain (election_of Q.Ratifier) self.old at.old value.old }
         ensures state { let X = election_of Q.Ratifier in
             (got : ℕ) (word : ℕ) → self.new ≡ (line_now X self.old).fed got word }
         ensures tells { let X = election_of Q.Ratifier in
@@ -674,13 +678,20 @@ impl<Q: Ratifier + Drop> SenderCore<Q> {
             (got : ℕ) (word : ℕ) → (line_now X self.old).answer got word ≡ turn.Going }
         ensures page { let X = election_of Q.Ratifier in
             (line_now X self.old).move ≡ Stays }
+        ensures stores { IsTrue result
+            → StoresPlain (election_of Q.Ratifier) self.new at.new value.new }
     {
         self.tells_going();
         if self.turns.has_published() {
             clear(&mut self.reuse);
-        } else {
-            self.turns.next_word();
+            return clears(&self.reuse, at, value);
         }
+        if !self.turns.next_word(value) {
+            return false;
+        }
+        self.is_small();
+        *at += 1;
+        true
     }
 
     /// The next step; none where none is due. Takes nothing and changes nothing.
@@ -769,12 +780,13 @@ fn reclaimer_step(reuse: &Option<Reuse>) -> Option<Op>
     }
 }
 
-/// Whether a reclamation clears a word next; then that is the word at `at`.
+/// Whether a reclamation clears a word next; then that is the word at `at`, and `value` is 0.
 #[inline(always)]
-fn clears(reuse: &Option<Reuse>, at: &mut u64) -> bool
+fn clears(reuse: &Option<Reuse>, at: &mut u64, value: &mut u64) -> bool
     ensures { IsTrue result → (s : Reclaiming) × (reclaimer_in reuse.now ≡ Some s)
-        × IsClearing s × (at.new ≡ s.row + s.cleared) }
+        × IsClearing s × (at.new ≡ s.row + s.cleared) × (value.new ≡ 0) }
 {
+    *value = 0;
     match reuse {
         None => false,
         Some(reuse) => match &reuse.reclaimer {

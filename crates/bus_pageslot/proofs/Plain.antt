@@ -1,21 +1,27 @@
 -- The turn of a sender with which no page moves: its step alone.
-use Rattle.std.proofs.Common.{◌≡◌, ℕ, ◌<◌, false, Option, Some, None, IsSome, [], sym, ◌∙◌, ap, subst}
+use Rattle.std.proofs.Common.{◌≡◌, ℕ, ◌<◌, ◌≤◌, ne_eqb, arith, Bool, false, cond, Option, Some, None, IsSome, [], refl, sym, ◌∙◌, ap, subst}
 use Rattle.std.proofs.lemmas.Bool.{true≢false}
 use Rattle.atomic_table.specs.declared.shared.Seat.{Seat}
 use Rattle.bus_register.specs.declared.registers.Op.{Op}
+use Rattle.bus_register.specs.declared.registers.Op.TheVariants.{Store}
 use Rattle.bus_register.specs.Words.{register}
 use Rattle.bus_tenure.specs.Situations.{Stays}
 use Rattle.bus_tenure.specs.declared.pages.Page.{Page}
 use Rattle.bus_tenure.specs.declared.turns.Turn.{Turn}
+use Rattle.bus_tenure.specs.declared.turns.Turn.TheVariants.{Going}
+use Rattle.bus_world.specs.Headline.{puts}
+use Rattle.rand_core.specs.Stream.{Stream}
 use Rattle.bus_automaton.specs.Lawful.{ProcessLaws}
 use Rattle.bus_automaton.specs.Processes.{Process, EndsBy}
 use Rattle.atomic_table.specs.Seated.{TableId}
 use Rattle.bus_pageslot.specs.Rule.{sender_trail_in, stored_in}
 use Rattle.bus_pageslot.specs.declared.rule.View.TheVariants.{Sender}
-use Rattle.bus_pageslot.specs.Seats.{Shows, TookAndTold}
-use Rattle.bus_pageslot.specs.Steps.{Gone, IsDue, carried_of, out_with, laid_at, slot_in, slots_emptied}
+use Rattle.bus_pageslot.specs.Seats.{SenderSeat, Shows, TookAndTold, actions_of}
+use Rattle.bus_pageslot.specs.Steps.{stored_by, Gone, IsDue, carried_of, out_with, laid_at, slot_in, slots_emptied}
 use Rattle.bus_pageslot.specs.Steps.Accepts.{Nothing}
 use Rattle.bus_pageslot.specs.declared.rule.View.{View}
+use Rattle.bus_pageslot.specs.Turns.{Tellings, GoesPlainly, Starts, Stores, AsksOn, Goes, DrawsOn, word_drawn}
+use Rattle.bus_pageslot.proofs.Sending.{turned_puts, drawn_on}
 use Rattle.bus_pageslot.proofs.Walks.{core_is, stored_now, laid_now, numbered_now, me_now, all_now, counted_now, wide_now}
 
 module _ {C : Type 0} (P : Process C) (d : C) (stays : P.move d ≡ Stays) where
@@ -87,3 +93,30 @@ module _ {C : Type 0} (P : Process C) (d : C) (stays : P.move d ≡ Stays) where
 pub due_some : (o : Option Op) → IsSome o → o ≡ None → ⊥
 due_some None some none = absurd (true≢false (sym some))
 due_some (Some o) some none = cc
+
+-- a store behind the length leaves the length that was stored last
+pub stored_behind : (at value before : ℕ) → 2 ≤ at → stored_by (Some (Store record { 0 = at } value)) before ≡ before
+stored_behind at value before behind = ap (λ b. cond b value before) (ne_eqb at 0 (λ e. absurd (omega arith)))
+
+-- ---- turns that are plain stores, one after another
+-- each is one between which nobody asks
+pub goes_asking : {C F : Type 0} (P : Process C) (T : Tellings C) (Tells : F → Bool → F → Type 0) (first : SenderSeat C) (given f : F) (old new : SenderSeat C)
+    → AsksOn P T Tells first given old f → GoesPlainly P T old new → AsksOn P T Tells first given new f
+goes_asking P T Tells first given f old _ before Starts = before
+goes_asking P T Tells first given f old _ before (Stores mid new goes wordless turned) =
+    Goes mid f 0 Going new (goes_asking P T Tells first given f old mid before goes) turned refl refl
+
+-- none draws a word
+pub goes_drawing : {C : Type 0} (P : Process C) (T : Tellings C) (first : SenderSeat C) (given words : Stream) (old new : SenderSeat C)
+    → DrawsOn P T first given old words → GoesPlainly P T old new → DrawsOn P T first given new words
+goes_drawing P T first given words old _ before Starts = before
+goes_drawing P T first given words old _ before (Stores mid new goes wordless turned) =
+    drawn_on P T first given mid words 0 Going new words (ap (λ b. word_drawn b words) (sym wordless))
+    (goes_drawing P T first given words old mid before goes) turned
+
+-- none puts a message
+pub goes_putting : {C : Type 0} (P : Process C) (T : Tellings C) → ProcessLaws P → (old new : SenderSeat C) → GoesPlainly P T old new
+    → puts (actions_of P new) ≡ puts (actions_of P old)
+goes_putting P T K old _ Starts = refl
+goes_putting P T K old _ (Stores mid new goes wordless turned) =
+    turned_puts P T K mid 0 Going new turned ∙ goes_putting P T K old mid goes

@@ -5,6 +5,7 @@ ghost use Rattle.std.specs.Prelude.{Some, IfSome, IfNone, IfOk, IfErr, IsSome};
 ghost use Rattle.std.specs.Prelude.{OnOk, OnErr, length, ◌-◌, ◌≤◌, IsTrue, true, false};
 ghost use Rattle.bus_batch.specs.Batches.{next_of, CanPut, IsPutFault, CanClose, IsCloseFault};
 ghost use Rattle.bus_core.specs.Causes.{HasCause};
+ghost use Rattle.bus_core.specs.Plain.{StoresPlain};
 ghost use Rattle.bus_core.specs.Telling.{FeedTells, RestTells};
 ghost use Rattle.bus_batch.specs.declared.messages.Mark.TheVariants as mark;
 ghost use Rattle.bus_tenure.specs.Core.{is_closed, is_leaving};
@@ -18,7 +19,7 @@ ghost use Rattle.bus_pageslot.specs.Rule.{known_in, stored_in};
 ghost use Rattle.bus_pageslot.specs.Steps.{Learns, KnowsSent};
 ghost use Rattle.bus_pageslot.specs.Seats.{Shows, TookAndTold, table_of};
 ghost use Rattle.bus_pageslot.specs.Seats.{first_number_of, actions_of, stored_of};
-ghost use Rattle.bus_pageslot.specs.Turns.{tells_by, Sends, is_waiting};
+ghost use Rattle.bus_pageslot.specs.Turns.{tells_by, Sends, is_waiting, GoesPlainly};
 ghost use Rattle.bus_pageslot.specs.Turns.{SendsAsking, StopsWaiting, DrawsOn, word_drawn};
 ghost use Rattle.bus_automaton.specs.Buses.{process_by};
 ghost use Rattle.bus_automaton.specs.LastAnswers.{is_last, is_refusal};
@@ -36,7 +37,7 @@ use bus_automaton::laws::threads_may_go_by;
 use bus_batch::{CloseFault, Message, PutFault};
 use bus_core::SenderCore;
 use bus_register::limits::MOST_MESSAGES;
-use bus_register::{Kind, Op, Reg, SenderNo};
+use bus_register::{Kind, SenderNo};
 use bus_tenure::Turn;
 use crossbeam_utils::Backoff;
 use rand_core::Rng;
@@ -87,6 +88,9 @@ impl fmt::Display for Unsent {
         write!(f, "{}", self.fault)
     }
 }
+
+/// How many plain stores `plain_turns` takes at most: a frame has 129 words, and most rows fewer.
+const MOST_PLAIN_TURNS: u32 = 256;
 
 /// A sender of a bus: what it holds, and the seat that it steps with. One thread at a time has it.
 ///
@@ -324,9 +328,44 @@ impl<Q: Ratifier + Drop> Sender<Q> {
         if !self.core.plain(&mut at, &mut value) {
             return false;
         }
-        let store = Op::Store(Reg(at), value);
-        self.stored = length_after(store, self.stored);
-        store_plain::<Q, Brand>(&bus.words, &mut self.seat, &mut self.core, store, word);
+        self.store_on(bus, &mut at, &mut value, word);
+        true
+    }
+
+    /// The turn whose step is this plain store; the answer is Going. Says whether the next step is
+    /// one too, and then of what and where.
+    #[inline(always)]
+    fn store_on(&mut self, bus: &Bus<Q>, at: &mut u64, value: &mut u64, word: u32) -> bool
+        requires table { table_of self.old ≡ bus.now.table }
+        requires stores { StoresPlain (election_of Q.Ratifier) self.old.core at.old value.old }
+        ensures table { table_of self.new ≡ table_of self.old }
+        ensures took { TookAndTold (process_by Q.Ratifier) (FeedTells (election_of Q.Ratifier))
+            self.old word turn.Going self.new }
+        ensures stores { IsTrue result
+            → StoresPlain (election_of Q.Ratifier) self.new.core at.new value.new }
+    {
+        store_plain::<Q, Brand>(&bus.words, &mut self.seat, &mut self.core, at, value, word)
+    }
+
+    /// Turns, as long as their steps are plain stores: says whether it took one. It may stop before
+    /// any step.
+    #[inline(always)]
+    fn plain_turns(&mut self, bus: &Bus<Q>) -> bool
+        requires { table_of self.old ≡ bus.now.table }
+        ensures table { table_of self.new ≡ table_of self.old }
+        ensures stays { result ≡ false → self.new ≡ self.old }
+        ensures goes { GoesPlainly (process_by Q.Ratifier) (tells_by Q.Ratifier) self.old
+            self.new }
+    {
+        let (mut at, mut value) = (0, 0);
+        if !self.core.plain(&mut at, &mut value) {
+            return false;
+        }
+        for _ in 0..MOST_PLAIN_TURNS {
+            if !self.store_on(bus, &mut at, &mut value, 0) {
+                return true;
+            }
+        }
         true
     }
 
@@ -410,7 +449,7 @@ impl<Q: Ratifier + Drop> Sender<Q> {
         threads_may_go_by::<Q>();
         let backoff = Backoff::new();
         for _ in wait.forever() {
-            if self.plain_turn(bus, 0) {
+            if self.plain_turns(bus) {
                 backoff.reset();
                 continue;
             }

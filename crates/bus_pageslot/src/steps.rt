@@ -1,10 +1,10 @@
 //! One step of a sender on one word, with which the page comes to it or goes home.
 
-ghost use Rattle.std.specs.Prelude.{◌≡◌, ◌<◌, ◌∷◌, true, [], Some};
+ghost use Rattle.std.specs.Prelude.{◌≡◌, ◌<◌, ◌∷◌, true, [], Some, IsTrue};
 ghost use Rattle.bus_register.specs.Words.{register};
 ghost use Rattle.bus_tenure.specs.Elections.{election_of};
 ghost use Rattle.bus_core.specs.Doings.{step_of};
-ghost use Rattle.bus_core.specs.Plain.{IsPlain};
+ghost use Rattle.bus_core.specs.Plain.{StoresPlain};
 ghost use Rattle.bus_core.specs.Senders.{situation};
 ghost use Rattle.bus_tenure.specs.declared.turns.Turn.TheVariants as turn;
 ghost use Rattle.bus_core.specs.Telling.{FeedTells};
@@ -92,21 +92,21 @@ pub(crate) fn walk<Q: Ratifier + Drop, K: Told<SenderCore<Q>>>(
     turn
 }
 
-/// The turn of a sender whose step is a plain store.
+/// The turn of a sender whose step is a plain store, of `value` in the word at `at`. Says whether
+/// its next step is one too, and then of what and where.
 #[inline(always)]
 pub(crate) fn store_plain<Q: Ratifier + Drop, K: Told<SenderCore<Q>>>(
     words: &Words<Q>,
     seat: &mut BusSeat<Q>,
     core: &mut SenderCore<Q>,
-    op: Op,
+    at: &mut u64,
+    value: &mut u64,
     word: u32,
-)
+) -> bool
     requires table { seat.old.table_id ≡ words.now.table }
     requires told { (K.core ≡ Some core.old) × (K.word ≡ word) }
     requires shows { Shows (process_by Q.Ratifier) core.old seat.old }
-    requires plain { IsPlain (election_of Q.Ratifier) core.old }
-    requires due { (process_by Q.Ratifier).op core.old word ≡ Some op }
-    requires below { register op < ((process_by Q.Ratifier).table_layout core.old).words }
+    requires stores { StoresPlain (election_of Q.Ratifier) core.old at.old value.old }
     ensures table { (seat.new.table_id ≡ seat.old.table_id) × (seat.new.id ≡ seat.old.id) }
     ensures shows { Shows (process_by Q.Ratifier) core.new seat.new }
     ensures took { TookAndTold (process_by Q.Ratifier) (FeedTells (election_of Q.Ratifier))
@@ -114,10 +114,12 @@ pub(crate) fn store_plain<Q: Ratifier + Drop, K: Told<SenderCore<Q>>>(
           core = core.new;
           seat = seat.new;
         }) }
+    ensures stores { IsTrue result
+        → StoresPlain (election_of Q.Ratifier) core.new at.new value.new }
 {
     threads_may_go_by::<Q>();
-    words.step::<K>(seat, op);
-    core.plain_done();
+    words.step::<K>(seat, Op::Store(Reg(*at), *value));
+    core.plain_done(at, value)
 }
 
 /// The last length that a sender has stored, once it takes this step. `before` is the one that it

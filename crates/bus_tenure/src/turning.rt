@@ -22,7 +22,7 @@ ghost use Rattle.bus_tenure.specs.Situations.{answer_of_stage, answer_of_return,
 ghost use Rattle.bus_tenure.specs.Situations.{wants_at, answer_sent};
 ghost use Rattle.bus_tenure.specs.declared.pages.Page.{Page};
 ghost use Rattle.bus_tenure.specs.declared.phases.Phase.TheVariants as phase;
-ghost use Rattle.bus_tenure.specs.Doings.{doing_of, Ends, IsWord};
+ghost use Rattle.bus_tenure.specs.Doings.{doing_of, Ends, IsWord, StoresNext};
 ghost use Rattle.bus_tenure.specs.declared.doings.Doing.TheVariants as doing;
 
 use super::doings::Doing;
@@ -620,17 +620,35 @@ impl<Q: Ratifier + Drop> Turns<Q> {
         }
     }
 
-    /// The word of its frame is stored that `stores_word` told.
+    /// The word of its frame is stored that `stores_word` told. Says whether it stores the word
+    /// behind that one next; then that is `value`.
     #[inline(always)]
-    pub fn next_word(&mut self)
+    pub fn next_word(&mut self, value: &mut u64) -> bool
         requires { let X = election_of Q.Ratifier in IsWord (doing_of (situation_of X self.old)) }
-        ensures { let X = election_of Q.Ratifier in
+        ensures state { let X = election_of Q.Ratifier in
             (got : ℕ) (word : ℕ)
             → self.new ≡ fed_at X self.old (situation_of X self.old) got word }
+        ensures next { let X = election_of Q.Ratifier in IsTrue result
+            → (tenure words stored : ℕ)
+            → doing_of (situation_of X self.old) ≡ doing.Word tenure words stored
+            → StoresNext X self.new tenure words (stored + 1) value.new }
     {
-        if let Phase::Holding { stored, .. } = &mut self.phase {
-            *stored += 1;
+        let Phase::Holding {
+            tenure,
+            page,
+            stored,
+            ..
+        } = &mut self.phase
+        else {
+            return false;
+        };
+        *stored += 1;
+        let (tenure, words, stored) = (*tenure, page.get().words, *stored);
+        if stored >= self.frame_len() {
+            return false;
         }
+        *value = self.frame_word(tenure, words, stored);
+        true
     }
 
     /// The length is stored.

@@ -1,19 +1,19 @@
+use Rattle.std.proofs.Common.{sym, subst}
 use Rattle.bus_tenure.specs.Elections.{Elector, election_with}
+use Rattle.bus_core.specs.Keeping.{IsAway}
+use Rattle.bus_core.specs.Plain.{StoresPlain}
 use Rattle.bus_core.specs.Senders.{Sender}
-use Rattle.bus_core.proofs.Plain.{plain_clear, clear_below}
+use Rattle.bus_core.proofs.Plain.{clears_by, clear_stores}
 use Rattle.bus_core.proofs.cores.SenderCore.plain.Goals as goal
 
-pub returns-then-has_published-clause-plain : goal.returns-then-has_published-clause-plain
-returns-then-has_published-clause-plain g c is =
+pub returns-then-has_published : goal.returns-then-has_published
+returns-then-has_published g c is =
     let X = election_with g.Q.Machine.kind_of g.Q.Machine.op g.Q.Machine.fed g.Q.Ratifier.protocol in
     let i = c.self.inside in
     let v : Sender (Elector g.row.Q.Denot) = record { core = i.turns; reuse = i.reuse } in
     let s = c.clears.ensures is in
-    plain_clear X v c.args.self.now c.self.view_is (c.is_away.ensures.0 c.if-not-is_away.false) (c.has_published.ensures.0 c.if-has_published.true) s.0 s.1 s.2
-
-pub returns-then-has_published-clause-below : goal.returns-then-has_published-clause-below
-returns-then-has_published-clause-below g c is =
-    let i = c.self.inside in
-    let v : Sender (Elector g.row.Q.Denot) = record { core = i.turns; reuse = i.reuse } in
-    let s = c.clears.ensures is in
-    clear_below _ _ v c.args.self.now c.self.view_is c.self.invariant s.0 s.1 s.2 _ s.3
+    let published = c.has_published.ensures.0 c.if-has_published.true in
+    let away = subst (λ (y : Sender (Elector g.row.Q.Denot)). IsAway y.reuse) (sym c.self.view_is) (c.is_away.ensures.0 c.if-not-is_away.false) in
+    subst (StoresPlain X c.args.self.now c.clears.new.at) (sym s.4)
+    (subst (λ y. StoresPlain X y c.clears.new.at 0) c.self.view_is
+    (clear_stores X v _ _ c.self.invariant s.0 (clears_by X v away published s.0 s.1 s.2) s.1 s.2 published _ s.3))

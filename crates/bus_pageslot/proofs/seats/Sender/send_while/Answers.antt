@@ -1,10 +1,9 @@
 use Rattle.std.proofs.Common.{of_calls, refl, sym, ◌∙◌, ap}
 use Rattle.bus_world.specs.Headline.{puts}
 use Rattle.bus_automaton.specs.Buses.{process_with}
-use Rattle.bus_tenure.specs.declared.turns.Turn.TheVariants.{Going}
 use Rattle.bus_pageslot.specs.Seats.{actions_of}
-use Rattle.bus_pageslot.specs.Turns.{tells_with, Turned, Begins, Goes, Asks, Undrawn, word_drawn}
-use Rattle.bus_pageslot.proofs.Plain.{due_some}
+use Rattle.bus_pageslot.specs.Turns.{tells_with, Turned, Begins, Goes, Asks, Undrawn}
+use Rattle.bus_pageslot.proofs.Plain.{goes_asking, goes_drawing, goes_putting}
 use Rattle.bus_pageslot.proofs.Keeping.{leaves_batch, going_keeps, refused_keeps}
 use Rattle.bus_pageslot.proofs.Sending.{turned_puts, drawn_on, asks_same, draws_same, goes_on, waiting_goes}
 use Rattle.bus_pageslot.proofs.seats.Sender.send_while.Goals as goal
@@ -12,9 +11,9 @@ use Rattle.bus_pageslot.proofs.seats.Sender.send_while.Goals as goal
 pub returns-then-ends_sending-clause-sends : goal.returns-then-ends_sending-clause-sends
 unfolding tells_with
 returns-then-ends_sending-clause-sends g c =
-    let same = c.plain_turn.ensures.stays c.if-plain_turn.false in
+    let same = c.plain_turns.ensures.stays c.if-plain_turns.false in
     record {
-      old = c.plain_turn.new.self;
+      old = c.plain_turns.new.self;
       asked = c.loop.go_on;
       word = c.next_word-word.result;
       before = asks_same same c.loop.invariant.1;
@@ -27,21 +26,21 @@ unfolding tells_with
 returns-then-ends_sending-clause-puts g c =
     let P = process_with g.Q.Machine.kind_of g.Q.Machine.op g.Q.Machine.fed g.Q.Ratifier.protocol in
     let T = tells_with g.Q.Machine.kind_of g.Q.Machine.op g.Q.Machine.fed g.Q.Ratifier.protocol in
-    let same = c.plain_turn.ensures.stays c.if-plain_turn.false in
-    let turned : Turned P T c.plain_turn.new.self c.next_word-word.result c.full_turn-turn.result c.full_turn-turn.new.self = record { rests = c.full_turn-turn.ensures.rests; steps = c.full_turn-turn.ensures.steps } in
-    turned_puts P T c.threads_may_go_by.ensures.process c.plain_turn.new.self c.next_word-word.result c.full_turn-turn.result c.full_turn-turn.new.self turned ∙ ap (λ y. puts (actions_of P y)) same ∙ c.loop.invariant.3
+    let same = c.plain_turns.ensures.stays c.if-plain_turns.false in
+    let turned : Turned P T c.plain_turns.new.self c.next_word-word.result c.full_turn-turn.result c.full_turn-turn.new.self = record { rests = c.full_turn-turn.ensures.rests; steps = c.full_turn-turn.ensures.steps } in
+    turned_puts P T c.threads_may_go_by.ensures.process c.plain_turns.new.self c.next_word-word.result c.full_turn-turn.result c.full_turn-turn.new.self turned ∙ ap (λ y. puts (actions_of P y)) same ∙ c.loop.invariant.3
 
 pub returns-then-ends_sending-clause-keeps : goal.returns-then-ends_sending-clause-keeps
 unfolding tells_with
 returns-then-ends_sending-clause-keeps g c =
     let P = process_with g.Q.Machine.kind_of g.Q.Machine.op g.Q.Machine.fed g.Q.Ratifier.protocol in
     let T = tells_with g.Q.Machine.kind_of g.Q.Machine.op g.Q.Machine.fed g.Q.Ratifier.protocol in
-    let same = c.plain_turn.ensures.stays c.if-plain_turn.false in
+    let same = c.plain_turns.ensures.stays c.if-plain_turns.false in
     refused_keeps P T (leaves_batch g.Q.Machine.kind_of g.Q.Machine.op g.Q.Machine.fed g.Q.Ratifier.protocol)
     c.args.self.now c.full_turn-turn.result c.full_turn-turn.new.self (record {
-      old = c.plain_turn.new.self;
+      old = c.plain_turns.new.self;
       word = c.next_word-word.result;
-      before = goes_on P T (goal.F-step g) c.args.self.now c.args.go_on c.plain_turn.new.self c.loop.go_on (asks_same same c.loop.invariant.1);
+      before = goes_on P T (goal.F-step g) c.args.self.now c.args.go_on c.plain_turns.new.self c.loop.go_on (asks_same same c.loop.invariant.1);
       turned = record { rests = c.full_turn-turn.ensures.rests; steps = c.full_turn-turn.ensures.steps };
       last = sym c.ends_sending.ensures ∙ c.if-ends_sending.true;
     })
@@ -51,34 +50,28 @@ unfolding tells_with
 returns-then-not-go_on-clause-waits g c =
     let P = process_with g.Q.Machine.kind_of g.Q.Machine.op g.Q.Machine.fed g.Q.Ratifier.protocol in
     let T = tells_with g.Q.Machine.kind_of g.Q.Machine.op g.Q.Machine.fed g.Q.Ratifier.protocol in
-    let same = c.plain_turn.ensures.stays c.if-plain_turn.false in
+    let same = c.plain_turns.ensures.stays c.if-plain_turns.false in
     going_keeps P T (leaves_batch g.Q.Machine.kind_of g.Q.Machine.op g.Q.Machine.fed g.Q.Ratifier.protocol)
-    c.args.self.now c.plain_turn.new.self c.next_word-word.result c.full_turn-turn.result c.full_turn-turn.new.self
-    (goes_on P T (goal.F-step g) c.args.self.now c.args.go_on c.plain_turn.new.self c.loop.go_on (asks_same same c.loop.invariant.1))
+    c.args.self.now c.plain_turns.new.self c.next_word-word.result c.full_turn-turn.result c.full_turn-turn.new.self
+    (goes_on P T (goal.F-step g) c.args.self.now c.args.go_on c.plain_turns.new.self c.loop.go_on (asks_same same c.loop.invariant.1))
     (record { rests = c.full_turn-turn.ensures.rests; steps = c.full_turn-turn.ensures.steps })
     (waiting_goes c.full_turn-turn.result (sym c.is_waiting.ensures ∙ c.if-not-is_waiting.false))
 
 pub loop-init : goal.loop-init
 loop-init g c = (c.requires.callable, Begins, refl, refl, Undrawn)
 
--- the plain step was taken
-pub loop-preserved-then-plain_turn : goal.loop-preserved-then-plain_turn
+-- plain steps were taken
+pub loop-preserved-then-plain_turns : goal.loop-preserved-then-plain_turns
 unfolding tells_with
-loop-preserved-then-plain_turn g c =
+loop-preserved-then-plain_turns g c =
     let P = process_with g.Q.Machine.kind_of g.Q.Machine.op g.Q.Machine.fed g.Q.Ratifier.protocol in
     let T = tells_with g.Q.Machine.kind_of g.Q.Machine.op g.Q.Machine.fed g.Q.Ratifier.protocol in
-    let due = c.plain_turn.ensures.due c.if-plain_turn.true in
-    let wordless = c.plain_turn.ensures.wordless c.if-plain_turn.true in
-    let words = g.R.Rng.stream c.loop.rng in
-    let turned : Turned P T c.loop.self 0 Going c.plain_turn.new.self = record {
-      rests = λ none. absurd (due_some (P.op c.loop.self.core 0) due none);
-      steps = λ op e. c.plain_turn.ensures.steps c.if-plain_turn.true;
-    } in (
+    let goes = c.plain_turns.ensures.goes in (
       c.loop.invariant.0,
-      Goes c.loop.self c.loop.go_on 0 Going c.plain_turn.new.self c.loop.invariant.1 turned refl refl,
-      c.plain_turn.ensures.table ∙ c.loop.invariant.2,
-      turned_puts P T c.threads_may_go_by.ensures.process c.loop.self 0 Going c.plain_turn.new.self turned ∙ c.loop.invariant.3,
-      drawn_on P T c.args.self.now (g.R.Rng.stream c.args.rng.now) c.loop.self words 0 Going c.plain_turn.new.self words (ap (λ b. word_drawn b words) (sym wordless)) c.loop.invariant.4 turned,
+      goes_asking P T (goal.F-step g) c.args.self.now c.args.go_on c.loop.go_on c.loop.self c.plain_turns.new.self c.loop.invariant.1 goes,
+      c.plain_turns.ensures.table ∙ c.loop.invariant.2,
+      goes_putting P T c.threads_may_go_by.ensures.process c.loop.self c.plain_turns.new.self goes ∙ c.loop.invariant.3,
+      goes_drawing P T c.args.self.now (g.R.Rng.stream c.args.rng.now) (g.R.Rng.stream c.loop.rng) c.loop.self c.plain_turns.new.self c.loop.invariant.4 goes,
     )
 
 pub returns-then-not-go_on-clause-stops : goal.returns-then-not-go_on-clause-stops
@@ -86,10 +79,10 @@ unfolding tells_with
 returns-then-not-go_on-clause-stops g c =
     let P = process_with g.Q.Machine.kind_of g.Q.Machine.op g.Q.Machine.fed g.Q.Ratifier.protocol in
     let T = tells_with g.Q.Machine.kind_of g.Q.Machine.op g.Q.Machine.fed g.Q.Ratifier.protocol in
-    let same = c.plain_turn.ensures.stays c.if-plain_turn.false in
-    let turned : Turned P T c.plain_turn.new.self c.next_word-word.result c.full_turn-turn.result c.full_turn-turn.new.self = record { rests = c.full_turn-turn.ensures.rests; steps = c.full_turn-turn.ensures.steps } in
+    let same = c.plain_turns.ensures.stays c.if-plain_turns.false in
+    let turned : Turned P T c.plain_turns.new.self c.next_word-word.result c.full_turn-turn.result c.full_turn-turn.new.self = record { rests = c.full_turn-turn.ensures.rests; steps = c.full_turn-turn.ensures.steps } in
     record {
-      old = c.plain_turn.new.self;
+      old = c.plain_turns.new.self;
       asked = c.loop.go_on;
       word = c.next_word-word.result;
       before = asks_same same c.loop.invariant.1;
@@ -105,9 +98,9 @@ unfolding tells_with
 returns-then-not-go_on-clause-puts g c =
     let P = process_with g.Q.Machine.kind_of g.Q.Machine.op g.Q.Machine.fed g.Q.Ratifier.protocol in
     let T = tells_with g.Q.Machine.kind_of g.Q.Machine.op g.Q.Machine.fed g.Q.Ratifier.protocol in
-    let same = c.plain_turn.ensures.stays c.if-plain_turn.false in
-    let turned : Turned P T c.plain_turn.new.self c.next_word-word.result c.full_turn-turn.result c.full_turn-turn.new.self = record { rests = c.full_turn-turn.ensures.rests; steps = c.full_turn-turn.ensures.steps } in
-    turned_puts P T c.threads_may_go_by.ensures.process c.plain_turn.new.self c.next_word-word.result c.full_turn-turn.result c.full_turn-turn.new.self turned ∙ ap (λ y. puts (actions_of P y)) same ∙ c.loop.invariant.3
+    let same = c.plain_turns.ensures.stays c.if-plain_turns.false in
+    let turned : Turned P T c.plain_turns.new.self c.next_word-word.result c.full_turn-turn.result c.full_turn-turn.new.self = record { rests = c.full_turn-turn.ensures.rests; steps = c.full_turn-turn.ensures.steps } in
+    turned_puts P T c.threads_may_go_by.ensures.process c.plain_turns.new.self c.next_word-word.result c.full_turn-turn.result c.full_turn-turn.new.self turned ∙ ap (λ y. puts (actions_of P y)) same ∙ c.loop.invariant.3
 
 -- another sender has to go on first, and the function said yes
 pub loop-preserved : goal.loop-preserved
@@ -115,13 +108,13 @@ unfolding tells_with
 loop-preserved g c =
     let P = process_with g.Q.Machine.kind_of g.Q.Machine.op g.Q.Machine.fed g.Q.Ratifier.protocol in
     let T = tells_with g.Q.Machine.kind_of g.Q.Machine.op g.Q.Machine.fed g.Q.Ratifier.protocol in
-    let same = c.plain_turn.ensures.stays c.if-plain_turn.false in
-    let turned : Turned P T c.plain_turn.new.self c.next_word-word.result c.full_turn-turn.result c.full_turn-turn.new.self = record { rests = c.full_turn-turn.ensures.rests; steps = c.full_turn-turn.ensures.steps } in (
+    let same = c.plain_turns.ensures.stays c.if-plain_turns.false in
+    let turned : Turned P T c.plain_turns.new.self c.next_word-word.result c.full_turn-turn.result c.full_turn-turn.new.self = record { rests = c.full_turn-turn.ensures.rests; steps = c.full_turn-turn.ensures.steps } in (
       search of_calls,
-      Asks c.plain_turn.new.self c.loop.go_on c.next_word-word.result c.full_turn-turn.result c.full_turn-turn.new.self c.go_on.new.self (asks_same same c.loop.invariant.1) turned (sym c.is_waiting.ensures ∙ c.if-not-is_waiting.false) c.if-not-go_on.ensures,
-      c.full_turn-turn.ensures.table ∙ c.plain_turn.ensures.table ∙ c.loop.invariant.2,
-      turned_puts P T c.threads_may_go_by.ensures.process c.plain_turn.new.self c.next_word-word.result c.full_turn-turn.result c.full_turn-turn.new.self turned ∙ ap (λ y. puts (actions_of P y)) same ∙ c.loop.invariant.3,
-      drawn_on P T c.args.self.now (g.R.Rng.stream c.args.rng.now) c.plain_turn.new.self (g.R.Rng.stream c.loop.rng) c.next_word-word.result c.full_turn-turn.result c.full_turn-turn.new.self (g.R.Rng.stream c.next_word-word.new.rng) c.next_word-word.ensures (draws_same same c.loop.invariant.4) turned,
+      Asks c.plain_turns.new.self c.loop.go_on c.next_word-word.result c.full_turn-turn.result c.full_turn-turn.new.self c.go_on.new.self (asks_same same c.loop.invariant.1) turned (sym c.is_waiting.ensures ∙ c.if-not-is_waiting.false) c.if-not-go_on.ensures,
+      c.full_turn-turn.ensures.table ∙ c.plain_turns.ensures.table ∙ c.loop.invariant.2,
+      turned_puts P T c.threads_may_go_by.ensures.process c.plain_turns.new.self c.next_word-word.result c.full_turn-turn.result c.full_turn-turn.new.self turned ∙ ap (λ y. puts (actions_of P y)) same ∙ c.loop.invariant.3,
+      drawn_on P T c.args.self.now (g.R.Rng.stream c.args.rng.now) c.plain_turns.new.self (g.R.Rng.stream c.loop.rng) c.next_word-word.result c.full_turn-turn.result c.full_turn-turn.new.self (g.R.Rng.stream c.next_word-word.new.rng) c.next_word-word.ensures (draws_same same c.loop.invariant.4) turned,
     )
 
 pub loop-preserved-then-not-is_waiting : goal.loop-preserved-then-not-is_waiting
@@ -129,13 +122,13 @@ unfolding tells_with
 loop-preserved-then-not-is_waiting g c =
     let P = process_with g.Q.Machine.kind_of g.Q.Machine.op g.Q.Machine.fed g.Q.Ratifier.protocol in
     let T = tells_with g.Q.Machine.kind_of g.Q.Machine.op g.Q.Machine.fed g.Q.Ratifier.protocol in
-    let same = c.plain_turn.ensures.stays c.if-plain_turn.false in
-    let turned : Turned P T c.plain_turn.new.self c.next_word-word.result c.full_turn-turn.result c.full_turn-turn.new.self = record { rests = c.full_turn-turn.ensures.rests; steps = c.full_turn-turn.ensures.steps } in (
+    let same = c.plain_turns.ensures.stays c.if-plain_turns.false in
+    let turned : Turned P T c.plain_turns.new.self c.next_word-word.result c.full_turn-turn.result c.full_turn-turn.new.self = record { rests = c.full_turn-turn.ensures.rests; steps = c.full_turn-turn.ensures.steps } in (
       c.loop.invariant.0,
-      Goes c.plain_turn.new.self c.loop.go_on c.next_word-word.result c.full_turn-turn.result c.full_turn-turn.new.self (asks_same same c.loop.invariant.1) turned (sym c.ends_sending.ensures ∙ c.if-ends_sending.false) (sym c.is_waiting.ensures ∙ c.if-not-is_waiting.true),
-      c.full_turn-turn.ensures.table ∙ c.plain_turn.ensures.table ∙ c.loop.invariant.2,
-      turned_puts P T c.threads_may_go_by.ensures.process c.plain_turn.new.self c.next_word-word.result c.full_turn-turn.result c.full_turn-turn.new.self turned ∙ ap (λ y. puts (actions_of P y)) same ∙ c.loop.invariant.3,
-      drawn_on P T c.args.self.now (g.R.Rng.stream c.args.rng.now) c.plain_turn.new.self (g.R.Rng.stream c.loop.rng) c.next_word-word.result c.full_turn-turn.result c.full_turn-turn.new.self (g.R.Rng.stream c.next_word-word.new.rng) c.next_word-word.ensures (draws_same same c.loop.invariant.4) turned,
+      Goes c.plain_turns.new.self c.loop.go_on c.next_word-word.result c.full_turn-turn.result c.full_turn-turn.new.self (asks_same same c.loop.invariant.1) turned (sym c.ends_sending.ensures ∙ c.if-ends_sending.false) (sym c.is_waiting.ensures ∙ c.if-not-is_waiting.true),
+      c.full_turn-turn.ensures.table ∙ c.plain_turns.ensures.table ∙ c.loop.invariant.2,
+      turned_puts P T c.threads_may_go_by.ensures.process c.plain_turns.new.self c.next_word-word.result c.full_turn-turn.result c.full_turn-turn.new.self turned ∙ ap (λ y. puts (actions_of P y)) same ∙ c.loop.invariant.3,
+      drawn_on P T c.args.self.now (g.R.Rng.stream c.args.rng.now) c.plain_turns.new.self (g.R.Rng.stream c.loop.rng) c.next_word-word.result c.full_turn-turn.result c.full_turn-turn.new.self (g.R.Rng.stream c.next_word-word.new.rng) c.next_word-word.ensures (draws_same same c.loop.invariant.4) turned,
     )
 
 pub returns-then-ends_sending-clause-draws : goal.returns-then-ends_sending-clause-draws
@@ -143,15 +136,15 @@ unfolding tells_with
 returns-then-ends_sending-clause-draws g c =
     let P = process_with g.Q.Machine.kind_of g.Q.Machine.op g.Q.Machine.fed g.Q.Ratifier.protocol in
     let T = tells_with g.Q.Machine.kind_of g.Q.Machine.op g.Q.Machine.fed g.Q.Ratifier.protocol in
-    let same = c.plain_turn.ensures.stays c.if-plain_turn.false in
-    let turned : Turned P T c.plain_turn.new.self c.next_word-word.result c.full_turn-turn.result c.full_turn-turn.new.self = record { rests = c.full_turn-turn.ensures.rests; steps = c.full_turn-turn.ensures.steps } in
-    drawn_on P T c.args.self.now (g.R.Rng.stream c.args.rng.now) c.plain_turn.new.self (g.R.Rng.stream c.loop.rng) c.next_word-word.result c.full_turn-turn.result c.full_turn-turn.new.self (g.R.Rng.stream c.next_word-word.new.rng) c.next_word-word.ensures (draws_same same c.loop.invariant.4) turned
+    let same = c.plain_turns.ensures.stays c.if-plain_turns.false in
+    let turned : Turned P T c.plain_turns.new.self c.next_word-word.result c.full_turn-turn.result c.full_turn-turn.new.self = record { rests = c.full_turn-turn.ensures.rests; steps = c.full_turn-turn.ensures.steps } in
+    drawn_on P T c.args.self.now (g.R.Rng.stream c.args.rng.now) c.plain_turns.new.self (g.R.Rng.stream c.loop.rng) c.next_word-word.result c.full_turn-turn.result c.full_turn-turn.new.self (g.R.Rng.stream c.next_word-word.new.rng) c.next_word-word.ensures (draws_same same c.loop.invariant.4) turned
 
 pub returns-then-not-go_on-clause-draws : goal.returns-then-not-go_on-clause-draws
 unfolding tells_with
 returns-then-not-go_on-clause-draws g c =
     let P = process_with g.Q.Machine.kind_of g.Q.Machine.op g.Q.Machine.fed g.Q.Ratifier.protocol in
     let T = tells_with g.Q.Machine.kind_of g.Q.Machine.op g.Q.Machine.fed g.Q.Ratifier.protocol in
-    let same = c.plain_turn.ensures.stays c.if-plain_turn.false in
-    let turned : Turned P T c.plain_turn.new.self c.next_word-word.result c.full_turn-turn.result c.full_turn-turn.new.self = record { rests = c.full_turn-turn.ensures.rests; steps = c.full_turn-turn.ensures.steps } in
-    drawn_on P T c.args.self.now (g.R.Rng.stream c.args.rng.now) c.plain_turn.new.self (g.R.Rng.stream c.loop.rng) c.next_word-word.result c.full_turn-turn.result c.full_turn-turn.new.self (g.R.Rng.stream c.next_word-word.new.rng) c.next_word-word.ensures (draws_same same c.loop.invariant.4) turned
+    let same = c.plain_turns.ensures.stays c.if-plain_turns.false in
+    let turned : Turned P T c.plain_turns.new.self c.next_word-word.result c.full_turn-turn.result c.full_turn-turn.new.self = record { rests = c.full_turn-turn.ensures.rests; steps = c.full_turn-turn.ensures.steps } in
+    drawn_on P T c.args.self.now (g.R.Rng.stream c.args.rng.now) c.plain_turns.new.self (g.R.Rng.stream c.loop.rng) c.next_word-word.result c.full_turn-turn.result c.full_turn-turn.new.self (g.R.Rng.stream c.next_word-word.new.rng) c.next_word-word.ensures (draws_same same c.loop.invariant.4) turned
