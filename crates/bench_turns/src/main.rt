@@ -1,4 +1,6 @@
 //! `bench_turns turns` prints nanoseconds a turn for each kind of step, with 1, 3 and 8 senders.
+//! `bench_turns kinds` takes few of these turns, and prints the kind of each in their order, for a
+//! program that counts the instructions between readings of the clock.
 //! `bench_turns storm` runs buses whose workers yield, sleep or stop for good at random turns, in
 //! one thread for each processor and then in eight: 10,000 each, or as many as a further argument
 //! says. `bench_turns elections` prints own steps of elections, with 1 to 8, 16, 32 and 64 senders
@@ -19,7 +21,7 @@ mod workers;
 
 use self::elections::print_elections;
 use self::figures::storm;
-use self::turns::{print_turns, sums_of};
+use self::turns::{FEW_TURNS, print_kinds, print_turns, turns_of};
 use std::alloc::Global;
 use std::env;
 use std::process::ExitCode;
@@ -54,7 +56,7 @@ fn two_storms<R: Threads + Clock + Print + Sync>(
 /// Three runs in four threads, and nine in one, which are the same each time. On false a run has
 /// failed, or the nine did not show all of these.
 fn few_runs<R: Threads + Clock + Print + Sync>(rt: &R, alloc: Global) -> anyhow::Result<bool> {
-    sums_of(rt, alloc, 3, 1)?;
+    turns_of(rt, alloc, 3, 1, FEW_TURNS)?;
     let some = storm(rt, alloc, 3, 4)?;
     println!(rt; "{} runs, {} failed", some.runs, some.failed)?;
     let alone = storm(rt, alloc, 9, 1)?;
@@ -77,6 +79,12 @@ fn main(rt: HostRuntime) -> anyhow::Result<ExitCode> {
         Some("turns") => {
             for senders in [1, 3, 8] {
                 print_turns(&rt, alloc, senders, 60)?;
+            }
+            true
+        }
+        Some("kinds") => {
+            for senders in [1, 3, 8] {
+                print_kinds(&rt, alloc, senders)?;
             }
             true
         }

@@ -17,8 +17,11 @@ use std::io;
 use std::marker::Brand;
 use std::time::{Clock, Instant};
 
-/// More turns than a bus has.
+/// How many turns of a bus are taken at most.
 const MOST_TURNS: u64 = 1_000_000;
+
+/// The same where their instructions are counted one by one.
+pub const FEW_TURNS: u64 = 4_000;
 
 /// A turn of more nanoseconds is left out: another thread ran meanwhile.
 const MOST_NANOSECONDS: u64 = 1_000;
@@ -33,8 +36,22 @@ pub struct Sum {
     nothing: u64,
 }
 
+/// Turns, at most so many of a bus: sums for each kind of step, and the kinds in their order.
+#[derive(Drop)]
+pub struct Turns {
+    most: u64,
+    sums: Vec<Sum>,
+    kinds: Vec<Kind>,
+}
+
 /// Adds a turn, which was taken between the second reading and the third.
-fn add(sums: &mut Vec<Sum>, kind: Kind, readings: [Instant; 3]) -> Result<(), AllocError> {
+fn add(turns: &mut Turns, kind: Kind, readings: [Instant; 3]) -> Result<(), AllocError> {
+    turns.kinds.push(kind)?;
+    add_to(&mut turns.sums, kind, readings)
+}
+
+/// Adds it to the sums.
+fn add_to(sums: &mut Vec<Sum>, kind: Kind, readings: [Instant; 3]) -> Result<(), AllocError> {
     let [before, between, after] = readings;
     let nothing = nanoseconds(between, before);
     let turn = nanoseconds(after, between);
@@ -70,7 +87,7 @@ pub fn print_turns<R: Print + Clock>(
     senders: u64,
     buses: u64,
 ) -> anyhow::Result<()> {
-    for sum in sums_of(rt, alloc, senders, buses)? {
+    for sum in turns_of(rt, alloc, senders, buses, MOST_TURNS)?.sums {
         let (kind, turns) = (sum.kind, sum.turns);
         let took = u128::from(sum.turn.saturating_sub(sum.nothing));
         let tenths = took * 10 / u128::from(turns.max(1));
@@ -83,14 +100,28 @@ pub fn print_turns<R: Print + Clock>(
     Ok(())
 }
 
-/// The turns of so many buses of 8 rows that are used again, with 1 to 4 rounds a bit.
-pub fn sums_of<R: Clock>(
+/// Prints the kind of each turn that is timed, in their order, over two buses.
+pub fn print_kinds<R: Print + Clock>(rt: &R, alloc: Global, senders: u64) -> anyhow::Result<()> {
+    for kind in turns_of(rt, alloc, senders, 2, FEW_TURNS)?.kinds {
+        println!(rt; "{senders} {kind:?}")?;
+    }
+    Ok(())
+}
+
+/// The turns of so many buses of 8 rows that are used again, with 1 to 4 rounds a bit; of each at
+/// most so many.
+pub fn turns_of<R: Clock>(
     rt: &R,
     alloc: Global,
     senders: u64,
     buses: u64,
-) -> anyhow::Result<Vec<Sum>> {
-    let mut sums = Vec::new(alloc);
+    most: u64,
+) -> anyhow::Result<Turns> {
+    let mut turns = Turns {
+        most,
+        sums: Vec::new(alloc),
+        kinds: Vec::new(alloc),
+    };
     for bus in 0..buses {
         let shape = Shape {
             senders,
@@ -100,9 +131,9 @@ pub fn sums_of<R: Clock>(
             log_words: 16_384,
         };
         let made = Bus::cyclic(alloc, shape, None)?;
-        take_turns::<Brand, R>(rt, alloc, made, Pcg32::new(bus, senders), &mut sums)?;
+        take_turns::<Brand, R>(rt, alloc, made, Pcg32::new(bus, senders), &mut turns)?;
     }
-    Ok(sums)
+    Ok(turns)
 }
 
 /// The seats of the bus B take turns as the dice fall, until a sender has no more to do.
@@ -111,7 +142,7 @@ fn take_turns<B: OfBus, R: Clock>(
     alloc: Global,
     made: (Bus, Vec<Sender>, Vec<Tap>),
     mut dice: Pcg32,
-    sums: &mut Vec<Sum>,
+    turns: &mut Turns,
 ) -> anyhow::Result<()>
     requires bus { made.0.table ≡ B.table }
     requires senders { All (λ sender. table_of sender ≡ B.table) made.1.items }
@@ -121,7 +152,7 @@ fn take_turns<B: OfBus, R: Clock>(
     let the = TheBus::<B>::new(bus);
     let mut send_workers = send_workers_of::<B>(alloc, senders)?;
     let mut receive_workers = receive_workers_of::<B>(alloc, taps)?;
-    for _ in 0..MOST_TURNS {
+    for _ in 0..turns.most {
         let seat = dice.next_u32() as usize % (send_workers.len() + 1);
         let (kind, readings) = match (send_workers.get_mut(seat), receive_workers.first_mut()) {
             (Some(send_worker), _) => match send_worker.sender.kind() {
@@ -135,7 +166,7 @@ fn take_turns<B: OfBus, R: Clock>(
             (None, Some(receive_worker)) => time_receive_worker(rt, &the, receive_worker)?,
             (None, None) => return Ok(()),
         };
-        add(sums, kind, readings)?;
+        add(turns, kind, readings)?;
     }
     Ok(())
 }

@@ -1,6 +1,6 @@
 //! How a holder of the page makes the row of the next tenure ready.
 
-ghost use Rattle.std.specs.Prelude.{◌≡◌, ℕ, ◌+◌, ◌≤◌, ◌<◌, ◌^◌, IsTrue};
+ghost use Rattle.std.specs.Prelude.{◌≡◌, ℕ, ◌+◌, ◌≤◌, ◌<◌, ◌^◌, ◌↔◌, IsTrue};
 ghost use Rattle.bus_presence.specs.Reclaimers.{reclaim_op, reclaim_fed, behind_of, is_reclaimed};
 ghost use Rattle.bus_presence.specs.Reclaimers.{IsClearing};
 
@@ -107,7 +107,7 @@ impl Reclaimer {
     /// Whether it clears a word next; then that is the word at `at`.
     #[inline(always)]
     pub fn clears(&self, at: &mut u64) -> bool
-        ensures clearing { IsTrue result → IsClearing self.now }
+        ensures clearing { IsTrue result ↔ IsClearing self.now }
         ensures at { IsTrue result → at.new ≡ self.now.row + self.now.cleared }
     {
         if self.scanned < self.senders || self.cleared >= self.width {
