@@ -1,39 +1,39 @@
 -- Each kind of step has its cause.
-use Rattle.std.proofs.Common.{◌≡◌, inl, inr, ℕ, ◌+◌, Bool, true, false, cond, nat_lt, Option, Some, None, IsSome, IfSome, is_some, refl, sym, ◌∙◌, ap, subst}
-use Rattle.std.proofs.lemmas.Option.{same_Some}
+use Rattle.std.specs.Prelude.{◌⊎◌}
+use Rattle.std.proofs.Common.{◌≡◌, inl, inr, ℕ, Bool, true, Option, Some, None, IfSome, IsSomeAnd, is_some, refl, sym, ◌∙◌, ap, subst}
 use Rattle.bus_register.specs.declared.kinds.Kind.{Kind}
 use Rattle.bus_register.specs.declared.kinds.Kind.TheVariants as kind
 use Rattle.bus_register.specs.declared.registers.Op.{Op}
-use Rattle.bus_register.specs.declared.registers.Op.TheVariants.{Load, Store, Add, Cas}
+use Rattle.bus_register.specs.declared.registers.SenderNo.{SenderNo}
 use Rattle.bus_register.specs.Protocol.{Protocol}
 use Rattle.bus_adoptcommit.specs.declared.verdicts.Verdict.{Verdict}
 use Rattle.bus_adoptcommit.specs.Kinds.{IsOfRatifier, IsNamedFor}
 use Rattle.bus_ownerbits.proofs.ElectionIsLawful.{last_bit as at_last_bit}
 use Rattle.bus_ownerbits.specs.Sizes.{decision_cost}
 use Rattle.bus_binconsensus.specs.Decisions.{decisions}
-use Rattle.bus_presence.specs.Reclaimers.{Reclaiming, reclaim_op}
-use Rattle.bus_tenure.specs.Causes.{HasCause as HasCauseApart, LooksForTenure, IsElected}
+use Rattle.bus_presence.specs.Reclaimers.{Reclaiming}
+use Rattle.bus_presence.specs.declared.pins.Pin.TheVariants.{Announcing, Validating, Unpinning, Invalidated}
+use Rattle.bus_tenure.specs.Causes.{HasCause as HasOwnCause, LooksForTenure, IsElected, LeavesPage, HasHandedOn}
 use Rattle.bus_tenure.specs.Core.{Core, Election, row_at}
 use Rattle.bus_tenure.specs.Elections.{Elector, ElectorKeeps, elections, election_with}
 use Rattle.bus_tenure.specs.Keeping.{SenderInvariant, PhaseKeeps, IsElecting}
-use Rattle.bus_tenure.specs.Situations.{Situation as Own, IsClosed, IsIdle, IsSpent, LooksAtStage, Elects, TakesPage, AwaitsPage, StoresWord, StoresLength, GivesBack, HasHanded, kind_at, situation_at, situation_of}
+use Rattle.bus_tenure.specs.Situations.{Situation as Own, IsClosed, IsIdle, IsSpent, LooksAtStage, Elects, TakesPage, AwaitsPage, StoresWord, StoresLength, GivesBack, HasHanded, situation_at, situation_of}
+use Rattle.bus_tenure.specs.declared.phases.Phase.TheVariants.{Electing, Giving}
+use Rattle.bus_tenure.specs.declared.phases.Reason.{Reason}
 use Rattle.bus_tenure.proofs.Caused.{word_cause, length_cause, back_cause, timely, election_cause}
 use Rattle.bus_tenure.proofs.Looking.{looks_at_rest}
 use Rattle.bus_tenure.proofs.Situated.{tells}
-use Rattle.bus_core.specs.Reusing.Besides.{reclaims_by}
-use Rattle.bus_core.specs.Reusing.Causes.{HasCause as HasCauseAgain}
-use Rattle.bus_core.specs.Reusing.Participants.{Due, Pins, Reclaims, Goes}
-use Rattle.bus_core.specs.Reusing.Keeping.{ParticipantKeeps}
-use Rattle.bus_core.specs.Reusing.Turns.{Participant, due, kind_due, kind_of_reclaim}
-use Rattle.bus_core.proofs.Reusing.Causing.{chooses_itself, pin_caused, reclaimer_caused, own_caused}
-use Rattle.bus_core.proofs.Reusing.Keeps.{goes_beside}
-use Rattle.bus_core.proofs.Reusing.Tells.{ChoosesItself, reclaims_beside}
-use Rattle.bus_core.specs.Causes.{HasCause, IsCaused}
-use Rattle.bus_core.specs.Keeping.{ReuseKeeps, sender}
-use Rattle.bus_core.specs.Senders.{Sender, apart, participant_of}
-use Rattle.bus_core.specs.Table.{line_now}
+use Rattle.bus_core.specs.Causes.{HasCause, IsCaused, StandsInside, StandsInRow, EntersTenure, LooksAgain, LeavesTenure, AsLoser, AsHolder, AsLate, MakesRowReady, AsksSender, ClearsWord, ReturnsPage}
+use Rattle.bus_core.specs.Keeping.{ReuseKeeps, IsAway}
+use Rattle.bus_core.specs.Places.{StandsIn}
+use Rattle.bus_core.specs.Reusing.Keeping.{IsBound, IsOutside, IsRowReady, PinKeeps, LostKeeps, ParticipantKeeps, held_of}
+use Rattle.bus_core.specs.Reusing.Participants.{sizes_with}
+use Rattle.bus_core.specs.Reusing.Telling.{Returns, Gives, Says}
+use Rattle.bus_core.specs.Senders.{Sender, Situation, Does, Announces, Validates, Unpins, Withdraws, Scans, Clears, participant_of, situation}
+use Rattle.bus_core.specs.Table.{line, line_now}
 use Rattle.bus_core.specs.declared.reuses.Reuse.{Reuse}
-use Rattle.bus_core.proofs.Bridged.{at_none, at_some}
+use Rattle.bus_core.proofs.Reusing.Tells.{ChoosesItself}
+use Rattle.bus_core.proofs.Situated.{Reclaims, GoesCalmly, situation_tells, some_kept, stands_in, calm_away, goes_away, held_reclaimer, row_ready}
 
 -- ---- who looks at the stage
 -- it has something to send, and a tenure left to enter
@@ -49,91 +49,93 @@ owner_some None h = absurd cc
 for_kind : (Q : Kind → Type 0) (x : Option Kind) → IfSome x Q → (k : Kind) → x ≡ Some k → Q k
 for_kind Q x h k e = let g : IfSome (Some k) Q = subst (λ y. IfSome y Q) e h in g
 
--- ---- what a reclamation's step is for is seen by the step
-abbrev kind_by : Op → Kind
-kind_by (Load at) = kind.ReadPresence
-kind_by (Store at x) = kind.ClearRow
-kind_by (Add at x) = kind.ClearRow
-kind_by (Cas at x y) = kind.ClearRow
+-- ---- only where rows are used again
+module _ {E : Type 0} (X : Election E) (width : ℕ) (Belongs : ℕ → E → Type 0) (c : Core E) (reuse : Option Reuse)
+    (k : ReuseKeeps width Belongs c reuse) where
+  -- who stores its presence may begin its tenure
+  enters : (t : ℕ) → IsSomeAnd reuse (λ r. r.pin ≡ Announcing t) → IsSomeAnd reuse (λ r. EntersTenure (participant_of c r))
+  enters t w = some_kept width Belongs c (λ r. r.pin ≡ Announcing t) (λ r. EntersTenure (participant_of c r)) reuse k
+      (λ r h e. let may : IsBound c t = subst (PinKeeps Belongs c) e h.pin in record { tenure = t; pin = e; may = may }) w
 
--- a load asks, and another step clears
-kind_told : (a b : Bool) (p q r : ℕ) (s : Op)
-    → cond a (Some (Load record { 0 = p })) (cond b (Some (Store record { 0 = q } r)) None) ≡ Some s
-    → cond a kind.ReadPresence kind.ClearRow ≡ kind_by s
-kind_told true b p q r s e = ap kind_by (same_Some _ _ e)
-kind_told false true p q r s e = ap kind_by (same_Some _ _ e)
-kind_told false false p q r s e = absurd cc
+  -- and so may who looks at the stage again
+  looks_again : (t : ℕ) → IsSomeAnd reuse (λ r. r.pin ≡ Validating t) → IsSomeAnd reuse (λ r. LooksAgain (participant_of c r))
+  looks_again t w = some_kept width Belongs c (λ r. r.pin ≡ Validating t) (λ r. LooksAgain (participant_of c r)) reuse k
+      (λ r h e. let may : IsBound c t = subst (PinKeeps Belongs c) e h.pin in record { tenure = t; pin = e; may = may }) w
 
--- two reclamations with one step have one kind
-named_reclaimer : (s s' : Reclaiming) (o : Op) → reclaim_op s ≡ Some o → reclaim_op s' ≡ Some o → kind_of_reclaim s ≡ kind_of_reclaim s'
-named_reclaimer s s' o e e' =
-    kind_told (nat_lt s.scanned s.senders) (nat_lt s.cleared s.width) (s.presences + s.scanned) (s.row + s.cleared) 0 o e
-    ∙ sym (kind_told (nat_lt s'.scanned s'.senders) (nat_lt s'.cleared s'.width) (s'.presences + s'.scanned) (s'.row + s'.cleared) 0 o e')
+  -- who clears its presence has lost the tenure, or taken its page
+  leaves : (t : ℕ) → IsSomeAnd reuse (λ r. r.pin ≡ Unpinning t) → IsSomeAnd reuse (λ r. LeavesTenure (participant_of c r))
+  leaves t w = some_kept width Belongs c (λ r. r.pin ≡ Unpinning t) (λ r. LeavesTenure (participant_of c r)) reuse k
+      (λ r h e. by r e r.lost refl h.lost) w
+    where
+      by : (r : Reuse) → r.pin ≡ Unpinning t → (l : Option SenderNo) → r.lost ≡ l → LostKeeps c.phase r.pin l → LeavesTenure (participant_of c r)
+      by r e None q kept = AsHolder t e (kept t e)
+      by r e (Some o) q kept = AsLoser t o e q kept.rests
 
--- ---- with a row for each tenure, and with rows that are used again
-module _ {S : Type 0} (P : Protocol S Bool Verdict) where
-  -- a cause of a sender with a row for each tenure is one of the one sender
-  cause_apart : (c : Core (Elector S)) (k : Kind) → HasCauseApart P c k → HasCause P (apart c) k
-  cause_apart c kind.LoadStage h = (tt, h)
-  cause_apart c kind.Announce h = (tt, h)
-  cause_apart c kind.WriteFirst h = (tt, h)
-  cause_apart c kind.ReadFirst h = (tt, h)
-  cause_apart c kind.WriteSecond h = (tt, h)
-  cause_apart c kind.ReadSecond h = (tt, h)
-  cause_apart c kind.SetMark h = (tt, h)
-  cause_apart c kind.ReadOtherMark h = (tt, h)
-  cause_apart c kind.Vote h = (tt, h)
-  cause_apart c kind.ReadVotes h = (tt, h)
-  cause_apart c kind.Fallback h = (tt, h)
-  cause_apart c kind.ReadAnnouncement h = (tt, h)
-  cause_apart c kind.TakePage h = (tt, h)
-  cause_apart c kind.StoreLogWord h = (tt, h)
-  cause_apart c kind.StoreLength h = (tt, h)
-  cause_apart c kind.GivePageBack h = (h, tt)
-  cause_apart c kind.LoadLength h = absurd h
-  cause_apart c kind.LoadLogWord h = absurd h
-  cause_apart c kind.Enter h = absurd h
-  cause_apart c kind.LoadStageAgain h = absurd h
-  cause_apart c kind.Withdraw h = absurd h
-  cause_apart c kind.ReadPresence h = absurd h
-  cause_apart c kind.ClearRow h = absurd h
+  -- or came too late for it
+  leaves_late : (t : ℕ) → IsSomeAnd reuse (λ r. r.pin ≡ Invalidated t) → IsSomeAnd reuse (λ r. LeavesTenure (participant_of c r))
+  leaves_late t w = some_kept width Belongs c (λ r. r.pin ≡ Invalidated t) (λ r. LeavesTenure (participant_of c r)) reuse k
+      (λ r h e. AsLate t e) w
 
-  -- and so is a cause of a participant
-  cause_again : (c : Core (Elector S)) (r : Reuse) (k : Kind) → HasCauseAgain P (participant_of c r) k → HasCause P (sender c (Some r)) k
-  cause_again c r kind.LoadStage h = h
-  cause_again c r kind.Announce h = h
-  cause_again c r kind.WriteFirst h = h
-  cause_again c r kind.ReadFirst h = h
-  cause_again c r kind.WriteSecond h = h
-  cause_again c r kind.ReadSecond h = h
-  cause_again c r kind.SetMark h = h
-  cause_again c r kind.ReadOtherMark h = h
-  cause_again c r kind.Vote h = h
-  cause_again c r kind.ReadVotes h = h
-  cause_again c r kind.Fallback h = h
-  cause_again c r kind.ReadAnnouncement h = h
-  cause_again c r kind.TakePage h = h
-  cause_again c r kind.StoreLogWord h = h
-  cause_again c r kind.StoreLength h = h
-  cause_again c r kind.GivePageBack h = (h.returns, h)
-  cause_again c r kind.LoadLength h = absurd h
-  cause_again c r kind.LoadLogWord h = absurd h
-  cause_again c r kind.Enter h = h
-  cause_again c r kind.LoadStageAgain h = h
-  cause_again c r kind.Withdraw h = h
-  cause_again c r kind.ReadPresence h = h
-  cause_again c r kind.ClearRow h = h
+  -- a holder makes the next row ready before it gives the page back
+  makes_ready : (r : Reuse) → ParticipantKeeps width Belongs (participant_of c r) → (s : Reclaiming) → Reclaims r (situation_of X c) s
+      → MakesRowReady (participant_of c r) s
+  makes_ready r h s w =
+      let at = tells X c (GivesBack w.tenure w.page w.reason) w.gives in
+      let g = held_reclaimer width Belongs c r h s w.is in
+      record {
+        away = calm_away width Belongs c r h (subst IsOutside (sym at.2) tt) w.calm;
+        leaves = back_cause c w.tenure w.page at.0 at.1 at.2 w.reason (sym (ap (situation_at X c) at.2) ∙ w.gives);
+        reclaims = w.is;
+        tenure = g.tenure;
+        held = g.held;
+        after = g.after;
+      }
 
-  -- the same of a step that there may be, with a row for each tenure
-  all_apart : (c : Core (Elector S)) (x : Option Kind) → IfSome x (HasCauseApart P c) → IfSome x (HasCause P (apart c))
-  all_apart c None h = tt
-  all_apart c (Some k) h = cause_apart c k h
+  -- who gives the page back, or has handed it on, has made the next row ready
+  returns_page : (t : ℕ) → Returns t (situation_of X c) → LeavesPage c ⊎ HasHandedOn c → IsOutside c.phase → held_of c.phase ≡ Some t
+      → IfSome reuse (λ r. GoesCalmly r (situation_of X c)) → IfSome reuse (λ r. ReturnsPage (participant_of c r))
+  returns_page t w why out held g =
+      by reuse (goes_away width Belongs c reuse k out _ g)
+      (row_ready width Belongs c reuse k t (situation_of X c) w (λ reason i. tells X c (HasHanded t reason) i) held g)
+    where
+      by : (r : Option Reuse) → IsAway r → IfSome r (λ r. IsRowReady (sizes_with c.layout r.rows) t r.reclaimer)
+          → IfSome r (λ r. ReturnsPage (participant_of c r))
+      by None away ready = tt
+      by (Some r) away ready = record { away = away; returns = why; tenure = t; held = held; ready = ready }
 
-  -- and with rows that are used again
-  all_again : (c : Core (Elector S)) (r : Reuse) (x : Option Kind) → IfSome x (HasCauseAgain P (participant_of c r))
-      → IfSome x (HasCause P (sender c (Some r)))
-  all_again c r None h = tt
-  all_again c r (Some k) h = cause_again c r k h
+-- ---- in an election
+module _ {S : Type 0} (P : Protocol S Bool Verdict) (v : Sender (Elector S)) (t : ℕ) (e : Elector S) (elects : v.core.phase ≡ Electing t e) where
+  -- where rows are used again it stands in its tenure
+  stands_inside : StandsIn v.reuse t → StandsInside v
+  stands_inside w = by v.reuse w where
+    by : (r : Option Reuse) → StandsIn r t → IfSome r (λ r. StandsInRow (participant_of v.core r))
+    by None w = tt
+    by (Some r) w = record { tenure = t; election = e; pin = w; elects = elects }
+
+  -- so what is a cause in a tenure is one; whose election runs holds no page and does not rest
+  standing_cause : StandsInside v → (k : Kind) → HasOwnCause P v.core k → HasCause P v k
+  standing_cause stands kind.LoadStage c = absurd (let bad = sym elects ∙ c.rests in cc)
+  standing_cause stands kind.Announce c = (stands, c)
+  standing_cause stands kind.WriteFirst c = (stands, c)
+  standing_cause stands kind.ReadFirst c = (stands, c)
+  standing_cause stands kind.WriteSecond c = (stands, c)
+  standing_cause stands kind.ReadSecond c = (stands, c)
+  standing_cause stands kind.SetMark c = (stands, c)
+  standing_cause stands kind.ReadOtherMark c = (stands, c)
+  standing_cause stands kind.Vote c = (stands, c)
+  standing_cause stands kind.ReadVotes c = (stands, c)
+  standing_cause stands kind.Fallback c = (stands, c)
+  standing_cause stands kind.ReadAnnouncement c = (stands, c)
+  standing_cause stands kind.TakePage c = (stands, c)
+  standing_cause stands kind.StoreLogWord c = absurd (let bad = sym elects ∙ c.holds.holds in cc)
+  standing_cause stands kind.StoreLength c = absurd (let bad = sym elects ∙ c.holds.holds in cc)
+  standing_cause stands kind.GivePageBack c = absurd (elim c [ inl l ↦ (let bad = sym elects ∙ l.holds in cc) | inr h ↦ (let bad = sym elects ∙ h.gives in cc) ])
+  standing_cause stands k c = absurd c
+
+  -- the same of what its election's step is for
+  election_caused : StandsInside v → (x : Option Kind) → IfSome x (HasOwnCause P v.core) → IfSome x (HasCause P v)
+  election_caused stands None c = tt
+  election_caused stands (Some k) c = standing_cause stands k c
 
 module _ {S : Type 0} (kind_of : S → Option Kind) (op : S → ℕ → Option Op) (fed : S → ℕ → ℕ → S) (P : Protocol S Bool Verdict) (named : (s : S) (word : ℕ) → is_some (kind_of s) ≡ is_some (op s word))
     (own : (s : S) (k : Kind) → kind_of s ≡ Some k → IsOfRatifier k) (named_for : (s : S) (k : Kind) (word : ℕ) (o : Op) → kind_of s ≡ Some k → op s word ≡ Some o → IsNamedFor k o (P.has_begun s)) where
@@ -145,78 +147,93 @@ module _ {S : Type 0} (kind_of : S → Option Kind) (op : S → ℕ → Option O
   abbrev pub TurnsKeep : Core (Elector S) → Type 0
   TurnsKeep c = SenderInvariant ((elections P c.layout.rounds).width c.layout.senders) (ElectorKeeps P c.layout.rounds c.layout.senders c.me) c
 
-  -- who takes a page was elected, at the last bit
-  takes_cause : (c : Core (Elector S)) → TurnsKeep c → (t : ℕ) → situation_of X c ≡ TakesPage t → IsElected P c
-  takes_cause c k t i =
-      let at = tells X c (TakesPage t) i in
-      let h : IsElecting (ElectorKeeps P c.layout.rounds c.layout.senders c.me) c t at.0 = subst (PhaseKeeps (ElectorKeeps P c.layout.rounds c.layout.senders c.me) c) at.1 k.phase in
-      let o = owner_some (X.owner at.0) at.2 in
-      record {
-        tenure = t;
-        election = at.0;
-        elects = at.1;
-        last_bit = at_last_bit (decisions P) (decision_cost P.steps) c.layout.rounds c.layout.senders c.me (row_at c.layout t) o.0 at.0 h.belongs.belongs o.1;
-        spells = o.1 ∙ ap Some (h.belongs.unlost o.0 o.1);
-      }
-
-  -- each situation in a tenure, or before one, has the cause of its kind
-  by_own : (c : Core (Elector S)) → TurnsKeep c → (z : Own (Elector S)) → situation_of X c ≡ z → IfSome (kind_at X c z) (HasCauseApart P c)
-  by_own c k IsClosed i = tt
-  by_own c k IsIdle i = tt
-  by_own c k IsSpent i = tt
-  by_own c k LooksAtStage i = looks_cause X c i
-  by_own c k (Elects t e) i =
-      election_cause P c t e (tells X c (Elects t e) i).0 k kind_of (timely P kind_of op named own named_for) (X.kind_of e) refl
-  by_own c k (TakesPage t) i = takes_cause c k t i
-  by_own c k (AwaitsPage t) i = tt
-  by_own c k (StoresWord t page stored) i =
-      let at = tells X c (StoresWord t page stored) i in
-      word_cause c t page stored at.0 at.1 (sym (ap (situation_at X c) at.1) ∙ i)
-  by_own c k (StoresLength t page stored) i =
-      let at = tells X c (StoresLength t page stored) i in
-      length_cause c t page stored at.0 at.1 _ _ k (sym (ap (situation_at X c) at.1) ∙ i)
-  by_own c k (GivesBack t page reason) i =
-      let at = tells X c (GivesBack t page reason) i in
-      inl (back_cause c t page at.0 at.1 at.2 reason (sym (ap (situation_at X c) at.2) ∙ i))
-  by_own c k (HasHanded t reason) i = inr record { tenure = t; reason = reason; gives = tells X c (HasHanded t reason) i }
-
-  -- and so has the one that it is in
-  own_kind_caused : (c : Core (Elector S)) → TurnsKeep c → IfSome (kind_at X c (situation_of X c)) (HasCauseApart P c)
-  own_kind_caused c k = by_own c k (situation_of X c) refl
-
   -- a page is taken only where the election chose the sender
   pub chooses : (c : Core (Elector S)) → TurnsKeep c → ChoosesItself X c
-  chooses c k = chooses_itself kind_of op fed P c (λ kd e. for_kind (HasCauseApart P c) _ (own_kind_caused c k) kd e)
+  chooses c k t i =
+      let at = tells X c (TakesPage t) i in
+      let h : IsElecting (ElectorKeeps P c.layout.rounds c.layout.senders c.me) c t at.0 =
+      subst (PhaseKeeps (ElectorKeeps P c.layout.rounds c.layout.senders c.me) c) at.1 k.phase in
+      let o = owner_some (X.owner at.0) at.2 in
+      (at.0, at.1, o.1 ∙ ap Some (h.belongs.unlost o.0 o.1))
 
-  module _ (width : ℕ) (Belongs : ℕ → Elector S → Type 0) where
-    -- whatever is due of a participant has its cause
-    participant_caused : (w : Participant (Elector S)) → ParticipantKeeps width Belongs w → TurnsKeep w.core → (d : Due (Elector S)) → due X w ≡ d
-        → IfSome (kind_due X w d) (HasCauseAgain P w)
-    participant_caused w g k (Pins o) i = pin_caused P X w width Belongs g _ refl
-    participant_caused w g k (Reclaims s o) i =
-        let f = reclaims_beside _ _ _ s o i in
-        reclaimer_caused P X w width Belongs g o (i ∙ sym (ap (λ y. reclaims_by y o (situation_of X w.core)) f.0)) (some_of w.reclaimer s f.0) _ (λ s' q. named_reclaimer s s' o f.1 q)
-      where
-        some_of : (x : Option Reclaiming) (s : Reclaiming) → x ≡ Some s → IsSome x
-        some_of x s e = subst IsSome (sym e) refl
-    participant_caused w g k (Goes z) i =
-        let e = goes_beside _ _ _ z i in
-        own_caused P X w width Belongs g (i ∙ ap Goes (sym e)) (kind_at X w.core z) (subst (λ y. IfSome (kind_at X w.core y) (HasCauseApart P w.core)) e (own_kind_caused w.core k))
+  -- at the last bit
+  takes_cause : (c : Core (Elector S)) → TurnsKeep c → (t : ℕ) → situation_of X c ≡ TakesPage t → IsElected P c
+  takes_cause c k t i =
+      let w = chooses c k t i in
+      let h : IsElecting (ElectorKeeps P c.layout.rounds c.layout.senders c.me) c t w.0 =
+      subst (PhaseKeeps (ElectorKeeps P c.layout.rounds c.layout.senders c.me) c) w.1 k.phase in
+      record {
+        tenure = t;
+        election = w.0;
+        elects = w.1;
+        last_bit = at_last_bit (decisions P) (decision_cost P.steps) c.layout.rounds c.layout.senders c.me (row_at c.layout t) c.me w.0 h.belongs.belongs w.2;
+        spells = w.2;
+      }
+
+  module _ (width : ℕ) (Belongs : ℕ → Elector S → Type 0) (v : Sender (Elector S)) (k : TurnsKeep v.core)
+      (g : ReuseKeeps width Belongs v.core v.reuse) where
+    -- who goes on in its tenure, and whose election does not run, pins none
+    away : (z : Own (Elector S)) → situation X v ≡ Does z → IsOutside v.core.phase → IsAway v.reuse
+    away z i out = goes_away width Belongs v.core v.reuse g out _ (situation_tells X v (Does z) i).1
+
+    -- each situation has the cause of its kind
+    by_situation : (z : Situation (Elector S)) → situation X v ≡ z → IfSome (line X v z).kind (HasCause P v)
+    by_situation (Does IsClosed) i = tt
+    by_situation (Does IsIdle) i = tt
+    by_situation (Does IsSpent) i = tt
+    by_situation (Does LooksAtStage) i =
+        let looks = looks_cause X v.core (situation_tells X v (Does LooksAtStage) i).0 in
+        (away LooksAtStage i (subst IsOutside (sym looks.rests) tt), looks)
+    by_situation (Does (Elects t e)) i =
+        let at = (tells X v.core (Elects t e) (situation_tells X v (Does (Elects t e)) i).0).0 in
+        election_caused P v t e at (stands_inside P v t e at (stands_in width Belongs v.core v.reuse g t e at)) (X.kind_of e)
+        (election_cause P v.core t e at k kind_of (timely P kind_of op named own named_for) (X.kind_of e) refl)
+    by_situation (Does (TakesPage t)) i =
+        let w = takes_cause v.core k t (situation_tells X v (Does (TakesPage t)) i).0 in
+        (stands_inside P v w.tenure w.election w.elects (stands_in width Belongs v.core v.reuse g w.tenure w.election w.elects), w)
+    by_situation (Does (AwaitsPage t)) i = tt
+    by_situation (Does (StoresWord t page stored)) i =
+        let here = (situation_tells X v (Does (StoresWord t page stored)) i).0 in
+        let at = tells X v.core (StoresWord t page stored) here in (
+          away (StoresWord t page stored) i (subst IsOutside (sym at.1) tt),
+          word_cause v.core t page stored at.0 at.1 (sym (ap (situation_at X v.core) at.1) ∙ here),
+        )
+    by_situation (Does (StoresLength t page stored)) i =
+        let here = (situation_tells X v (Does (StoresLength t page stored)) i).0 in
+        let at = tells X v.core (StoresLength t page stored) here in (
+          away (StoresLength t page stored) i (subst IsOutside (sym at.1) tt),
+          length_cause v.core t page stored at.0 at.1 _ _ k (sym (ap (situation_at X v.core) at.1) ∙ here),
+        )
+    by_situation (Does (GivesBack t page reason)) i =
+        let s = situation_tells X v (Does (GivesBack t page reason)) i in
+        let at = tells X v.core (GivesBack t page reason) s.0 in
+        let back = back_cause v.core t page at.0 at.1 at.2 reason (sym (ap (situation_at X v.core) at.2) ∙ s.0) in (
+          inl back,
+          returns_page X width Belongs v.core v.reuse g t (subst (Returns t) (sym s.0) (Gives page reason)) (inl back)
+              (subst IsOutside (sym at.2) tt) (ap held_of at.2) s.1,
+        )
+    by_situation (Does (HasHanded t reason)) i =
+        let s = situation_tells X v (Does (HasHanded t reason)) i in
+        let at = tells X v.core (HasHanded t reason) s.0 in
+        let handed : HasHandedOn v.core = record { tenure = t; reason = reason; gives = at } in (
+          inr handed,
+          returns_page X width Belongs v.core v.reuse g t (subst (Returns t) (sym s.0) (Says reason)) (inr handed)
+              (subst IsOutside (sym at) tt) (ap held_of at) s.1,
+        )
+    by_situation (Announces t) i = enters X width Belongs v.core v.reuse g t (situation_tells X v (Announces t) i)
+    by_situation (Validates t) i = looks_again X width Belongs v.core v.reuse g t (situation_tells X v (Validates t) i)
+    by_situation (Unpins t) i = leaves X width Belongs v.core v.reuse g t (situation_tells X v (Unpins t) i)
+    by_situation (Withdraws t) i = leaves_late X width Belongs v.core v.reuse g t (situation_tells X v (Withdraws t) i)
+    by_situation (Scans s) i = some_kept width Belongs v.core _ (λ r. AsksSender (participant_of v.core r)) v.reuse g
+        (λ r h w. record { reclaimer = s; makes = makes_ready X width Belongs v.core v.reuse g r h s w.0; sender_left = w.1 })
+        (situation_tells X v (Scans s) i)
+    by_situation (Clears s) i = some_kept width Belongs v.core _ (λ r. ClearsWord (participant_of v.core r)) v.reuse g
+        (λ r h w. record { reclaimer = s; makes = makes_ready X width Belongs v.core v.reuse g r h s w.0; all_scanned = w.1.passed; word_left = w.1.left })
+        (situation_tells X v (Clears s) i)
 
     -- whatever the next step is for
-    pub line_caused : (v : Sender (Elector S)) → TurnsKeep v.core → ReuseKeeps width Belongs v.core v.reuse
-        → IfSome (line_now X v).kind (HasCause P v)
-    line_caused v k g = by v.reuse g where
-      by : (r : Option Reuse) → ReuseKeeps width Belongs v.core r
-          → IfSome (line_now X (sender v.core r)).kind (HasCause P (sender v.core r))
-      by None g = subst (λ l. IfSome l (HasCause P (apart v.core))) (sym (ap (λ l. l.kind) (at_none X v.core))) (all_apart P v.core _ (own_kind_caused v.core k))
-      by (Some r) g =
-          let w = participant_of v.core r in
-          subst (λ l. IfSome l (HasCause P (sender v.core (Some r)))) (sym (at_some X w).kind) (all_again P v.core r _ (participant_caused w g k (due X w) refl))
-
-    -- the same, kind by kind
-    pub line_is_caused : (v : Sender (Elector S)) → TurnsKeep v.core → ReuseKeeps width Belongs v.core v.reuse → IsCaused X P v
-    line_is_caused v k g kd e = for_kind (HasCause P v) _ (line_caused v k g) kd e
+    pub line_is_caused : IsCaused X P v
+    line_is_caused kd e = for_kind (HasCause P v) _ (by_situation (situation X v) refl) kd e
 
 -- a cause of what a step is told to be for
 pub caused_for : {S : Type 0} (P : Protocol S Bool Verdict) (v : Sender (Elector S)) (x : Option Kind)

@@ -1,26 +1,62 @@
 -- Each of these is no cause.
-use Rattle.std.proofs.Common.{◌≡◌, ℕ, Bool, Option, Some, None, IsSomeAnd, sym, ◌∙◌, ap, subst}
+use Rattle.std.proofs.Common.{◌≡◌, ℕ, ◌+◌, ◌<◌, ◌≤◌, Bool, Option, Some, None, IsSomeAnd, arith, sym, ◌∙◌, ap, subst}
+use Rattle.std.proofs.lemmas.Bool.{true≢false}
 use Rattle.std.proofs.lemmas.Option.{same_Some}
 use Rattle.bus_register.specs.declared.kinds.Kind.{Kind}
 use Rattle.bus_register.specs.declared.kinds.Kind.TheVariants as kind
 use Rattle.bus_register.specs.Protocol.{Protocol}
 use Rattle.bus_adoptcommit.specs.declared.verdicts.Verdict.{Verdict}
+use Rattle.bus_presence.specs.Reclaimers.{Reclaiming}
+use Rattle.bus_presence.specs.Reclamation.{IsReady, row_of}
+use Rattle.bus_presence.specs.declared.pins.Pin.TheVariants.{Away, Announcing, Pinned, Unpinning}
 use Rattle.bus_tenure.specs.Core.{Core}
 use Rattle.bus_tenure.specs.Elections.{Elector, elections}
 use Rattle.bus_tenure.specs.declared.phases.Phase.{Phase}
-use Rattle.bus_tenure.specs.declared.phases.Phase.TheVariants.{Electing}
+use Rattle.bus_tenure.specs.declared.phases.Phase.TheVariants.{Resting, Electing}
 use Rattle.bus_tenure.proofs.Refused.{refuses_causes}
-use Rattle.bus_core.specs.Reusing.Causes.{HasCause as HasCauseAgain}
-use Rattle.bus_core.proofs.Reusing.CausesRefuse.{refused as refused_again}
-use Rattle.bus_core.specs.Causes.{HasCause}
-use Rattle.bus_core.specs.CausesRefuse.{RefusesOwn, RefusesApart, RefusesAgain, RefusesCauses}
+use Rattle.bus_core.specs.Causes.{HasCause, StandsInside, StandsInRow, LeavesTenure, AsLoser, AsHolder, AsLate}
+use Rattle.bus_core.specs.CausesRefuse.{IsOfElection, RefusesOwn, RefusesApart, RefusesAgain, RefusesCauses}
 use Rattle.bus_core.specs.Keeping.{sender}
+use Rattle.bus_core.specs.Reusing.Keeping.{held_of}
+use Rattle.bus_core.specs.Reusing.Participants.{sizes_with}
+use Rattle.bus_core.specs.Reusing.Turns.{Participant}
 use Rattle.bus_core.specs.Senders.{Sender, participant_of}
 use Rattle.bus_core.specs.declared.reuses.Reuse.{Reuse}
 
 -- one phase has one election
 same_election : {E : Type 0} (t u : ℕ) (e f : E) → ◌≡◌ {A = Phase E} (Electing t e) (Electing u f) → e ≡ f
 same_election t u e f i = cc
+
+-- and one tenure
+same_tenure : {E : Type 0} (t u : ℕ) (e f : E) → ◌≡◌ {A = Phase E} (Electing t e) (Electing u f) → t ≡ u
+same_tenure t u e f i = cc
+
+-- one pin has one tenure, where it stands
+same_pinned : (t u : ℕ) → Pinned t ≡ Pinned u → t ≡ u
+same_pinned t u i = cc
+
+-- or is to stand
+same_announcing : (t u : ℕ) → Announcing t ≡ Announcing u → t ≡ u
+same_announcing t u i = cc
+
+module _ {E : Type 0} (v : Participant E) where
+  -- who leaves a tenure does not stand in it
+  leaves_pinned : LeavesTenure v → (t : ℕ) → v.pin ≡ Pinned t → ⊥
+  leaves_pinned (AsLoser u o q l r) t e = let bad = sym e ∙ q in cc
+  leaves_pinned (AsHolder u q h) t e = let bad = sym e ∙ q in cc
+  leaves_pinned (AsLate u q) t e = let bad = sym e ∙ q in cc
+
+  -- and has one
+  leaves_away : LeavesTenure v → v.pin ≡ Away → ⊥
+  leaves_away (AsLoser u o q l r) e = let bad = sym e ∙ q in cc
+  leaves_away (AsHolder u q h) e = let bad = sym e ∙ q in cc
+  leaves_away (AsLate u q) e = let bad = sym e ∙ q in cc
+
+  -- and has lost it, or taken its page
+  leaves_undone : LeavesTenure v → (t : ℕ) → v.pin ≡ Unpinning t → v.lost ≡ None → v.core.phase ≡ Resting → ⊥
+  leaves_undone (AsLoser u o q l r) t e none rests = let bad = sym none ∙ l in cc
+  leaves_undone (AsHolder u q h) t e none rests = let bad = sym (ap held_of rests) ∙ h in cc
+  leaves_undone (AsLate u q) t e none rests = let bad = sym e ∙ q in cc
 
 -- what only rows that are used again have is not there with a row for each tenure
 none_not : (reuse : Option Reuse) (Q : Reuse → Type 0) → reuse ≡ None → ¬ IsSomeAnd reuse Q
@@ -61,54 +97,54 @@ module _ {S : Type 0} (P : Protocol S Bool Verdict) where
     clears = λ none w. none_not v.reuse _ none w;
   }
 
-  -- a cause of a sender whose rows are used again is one of a participant
-  as_participant : (c : Core (Elector S)) (r : Reuse) (k : Kind) → HasCause P (sender c (Some r)) k → HasCauseAgain P (participant_of c r) k
-  as_participant c r kind.LoadStage h = h
-  as_participant c r kind.Announce h = h
-  as_participant c r kind.WriteFirst h = h
-  as_participant c r kind.ReadFirst h = h
-  as_participant c r kind.WriteSecond h = h
-  as_participant c r kind.ReadSecond h = h
-  as_participant c r kind.SetMark h = h
-  as_participant c r kind.ReadOtherMark h = h
-  as_participant c r kind.Vote h = h
-  as_participant c r kind.ReadVotes h = h
-  as_participant c r kind.Fallback h = h
-  as_participant c r kind.ReadAnnouncement h = h
-  as_participant c r kind.TakePage h = h
-  as_participant c r kind.StoreLogWord h = h
-  as_participant c r kind.StoreLength h = h
-  as_participant c r kind.GivePageBack h = h.1
-  as_participant c r kind.LoadLength h = absurd h
-  as_participant c r kind.LoadLogWord h = absurd h
-  as_participant c r kind.Enter h = h
-  as_participant c r kind.LoadStageAgain h = h
-  as_participant c r kind.Withdraw h = h
-  as_participant c r kind.ReadPresence h = h
-  as_participant c r kind.ClearRow h = h
+  -- a step of an election is one of who stands in its tenure
+  stands : (v : Sender (Elector S)) (k : Kind) → IsOfElection k → HasCause P v k → StandsInside v
+  stands v kind.Announce i w = w.0
+  stands v kind.WriteFirst i w = w.0
+  stands v kind.ReadFirst i w = w.0
+  stands v kind.WriteSecond i w = w.0
+  stands v kind.ReadSecond i w = w.0
+  stands v kind.SetMark i w = w.0
+  stands v kind.ReadOtherMark i w = w.0
+  stands v kind.Vote i w = w.0
+  stands v kind.ReadVotes i w = w.0
+  stands v kind.Fallback i w = w.0
+  stands v kind.ReadAnnouncement i w = w.0
+  stands v kind.TakePage i w = w.0
+  stands v k i w = absurd i
 
   -- what none has a cause for with rows that are used again
   again_refused : (c : Core (Elector S)) (r : Reuse) → RefusesAgain P (sender c (Some r)) r
   again_refused c r =
-      let n = refused_again P (participant_of c r) in
+      let x = sizes_with c.layout r.rows in
       record {
-        elects_away = λ k i e w. n.elects_away k i e (as_participant c r k w);
-        elects_unseen = λ k t i e w. n.elects_unseen k t i e (as_participant c r k w);
-        elects_too_soon = λ k t i e w. n.elects_too_soon k t i e (as_participant c r k w);
-        elects_elsewhere = λ k t u e i at runs other w. n.elects_elsewhere k t u e i at runs other (as_participant c r k w);
-        elects_while_unpinning = λ k t i e w. n.elects_while_unpinning k t i e (as_participant c r k w);
-        elects_invalidated = λ k t i e w. n.elects_invalidated k t i e (as_participant c r k w);
-        enters_the_past = λ t e past w. n.enters_the_past t e past w;
-        withdraws_away = λ e w. n.withdraws_away e w;
-        withdraws_pinned = λ t e w. n.withdraws_pinned t e w;
-        withdraws_undone = λ t e none rests w. n.withdraws_undone t e none rests w;
-        asks_at_rest = λ rests w. n.asks_at_rest rests w;
-        clears_before_it_scanned = λ s at left w. n.clears_before_it_scanned s at left w;
-        looks_while_unpinning = λ t e w. n.looks_while_unpinning t e w;
-        publishes_while_unpinning = λ t e w. n.publishes_while_unpinning t e w;
-        gives_back_unready = λ s at unreclaimed w. n.gives_back_unready s at unreclaimed w.1;
-        gives_back_reclaimed_elsewhere = λ s t at held other w. n.gives_back_reclaimed_elsewhere s t at held other w.1;
-        gives_back_unreclaimed = λ t none held late w. n.gives_back_unreclaimed t none held late w.1;
+        elects_away = λ k i e w. let s : StandsInRow (participant_of c r) = stands (sender c (Some r)) k i w in let bad = sym e ∙ s.pin in cc;
+        elects_unseen = λ k t i e w. let s : StandsInRow (participant_of c r) = stands (sender c (Some r)) k i w in let bad = sym e ∙ s.pin in cc;
+        elects_too_soon = λ k t i e w. let s : StandsInRow (participant_of c r) = stands (sender c (Some r)) k i w in let bad = sym e ∙ s.pin in cc;
+        elects_elsewhere = λ k t u e i at runs other w.
+            let s : StandsInRow (participant_of c r) = stands (sender c (Some r)) k i w in
+            other (same_pinned t s.tenure (sym at ∙ s.pin) ∙ same_tenure s.tenure u s.election e (sym s.elects ∙ runs));
+        elects_while_unpinning = λ k t i e w. let s : StandsInRow (participant_of c r) = stands (sender c (Some r)) k i w in let bad = sym e ∙ s.pin in cc;
+        elects_invalidated = λ k t i e w. let s : StandsInRow (participant_of c r) = stands (sender c (Some r)) k i w in let bad = sym e ∙ s.pin in cc;
+        enters_the_past = λ t e past w. let same = same_announcing t w.tenure (sym e ∙ w.pin) in let may = w.may.least in omega arith;
+        withdraws_away = λ e w. leaves_away (participant_of c r) w e;
+        withdraws_pinned = λ t e w. leaves_pinned (participant_of c r) w t e;
+        withdraws_undone = λ t e none rests w. leaves_undone (participant_of c r) w t e none rests;
+        asks_at_rest = λ rests w. let bad = sym (ap held_of rests) ∙ w.makes.held in cc;
+        clears_before_it_scanned = λ s at left w.
+            let same = same_Some _ _ (sym at ∙ w.makes.reclaims) in
+            let scanned = subst (λ (r : Reclaiming). r.senders ≤ r.scanned) (sym same) w.all_scanned in
+            omega arith;
+        looks_while_unpinning = λ t e w. let bad = sym e ∙ w.0 in cc;
+        publishes_while_unpinning = λ t e w. let bad = sym e ∙ w.0 in cc;
+        gives_back_unready = λ s at unreclaimed w. true≢false (sym (subst (IsReady x w.1.tenure) at w.1.ready.ready) ∙ unreclaimed);
+        gives_back_reclaimed_elsewhere = λ s t at held other w.
+            let same = same_Some w.1.tenure t (sym w.1.held ∙ held) in
+            other ((w.1.ready.of s at).row ∙ ap (λ u. row_of x (u + 1)) same);
+        gives_back_unreclaimed = λ t none held late w.
+            let same = same_Some w.1.tenure t (sym w.1.held ∙ held) in
+            let early : w.1.tenure + 1 < r.rows = subst (IsReady x w.1.tenure) none w.1.ready.ready in
+            omega arith;
       }
 
   -- all of it

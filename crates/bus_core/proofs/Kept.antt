@@ -1,46 +1,52 @@
 -- Each line of the table keeps what a sender keeps.
-use Rattle.std.proofs.Common.{◌≡◌, ◌≢◌, ℕ, ◌+◌, ◌/◌, ◌%◌, ◌≤◌, Bool, true, false, Option, Some, None, IsSome, nat_lt, nat_le, ◌==◌, cond, refl, sym, ◌∙◌, ap, subst}
-use Rattle.std.proofs.lemmas.Bool.{leb-false, ltb-false}
+use Rattle.std.proofs.Common.{◌≡◌, ◌≢◌, inl, inr, ℕ, ◌+◌, ◌-◌, ◌/◌, ◌%◌, ◌<◌, ◌≤◌, Bool, true, false, Option, Some, None, IsSome, IfSome, nat_lt, nat_le, ◌==◌, cond, refl, sym, ◌∙◌, ap, subst, arith}
+use Rattle.std.proofs.lemmas.Bool.{leb-false, ltb-false, lt-ltb}
+use Rattle.std.proofs.lemmas.Option.{same_Some}
 use Rattle.bus_register.specs.declared.registers.Op.{Op}
-use Rattle.bus_presence.specs.Reclamation.{ReclamationSizes, presence_at}
-use Rattle.bus_presence.specs.Pins.{step_at}
-use Rattle.bus_presence.specs.Reclaimers.{Reclaiming, reclaim_fed}
+use Rattle.bus_register.specs.declared.registers.SenderNo.{SenderNo}
+use Rattle.bus_batch.specs.Batches.{Pending}
+use Rattle.bus_presence.specs.Reclamation.{ReclamationSizes, presence_at, row_of, reclaimer_after}
+use Rattle.bus_presence.specs.Reclaimers.{Reclaiming, reclaim_fed, is_reclaimed}
 use Rattle.bus_presence.specs.declared.pins.Pin.{Pin}
 use Rattle.bus_presence.specs.declared.pins.Pin.TheVariants.{Away, Announcing, Validating, Pinned, Unpinning, Invalidated}
-use Rattle.bus_tenure.specs.Core.{Election, Layout, stage_at}
-use Rattle.bus_tenure.specs.Situations.{Situation as Own, IsClosed, IsIdle, IsSpent, LooksAtStage, Elects, TakesPage, AwaitsPage, StoresWord, StoresLength, GivesBack, HasHanded, situation_of, situation_at, resting, op_at, waits}
+use Rattle.bus_tenure.specs.Core.{Core, Election, Layout, row_at}
+use Rattle.bus_tenure.specs.Situations.{Situation as Own, IsClosed, IsIdle, IsSpent, LooksAtStage, Elects, TakesPage, AwaitsPage, StoresWord, StoresLength, GivesBack, HasHanded, situation_of, situation_at, resting, waits, core_begun, core_elected}
 use Rattle.bus_tenure.specs.declared.pages.Page.{Page}
 use Rattle.bus_tenure.specs.declared.phases.Phase.{Phase}
-use Rattle.bus_tenure.specs.declared.phases.Phase.TheVariants.{Resting, Giving, Holding}
+use Rattle.bus_tenure.specs.declared.phases.Phase.TheVariants.{Resting, Electing, Taken, Holding, Giving}
 use Rattle.bus_tenure.specs.declared.phases.Reason.{Reason}
 use Rattle.bus_tenure.proofs.Situated.{tells}
-use Rattle.bus_core.specs.Reusing.Participants.{Due, Pins, Reclaims, Goes, due_of, due_beside, due_home, due_reclaimed, reclaim_due, core_seen, pin_seen}
-use Rattle.bus_core.specs.Reusing.Turns.{Participant, sizes_of, due, op_due, participant_due}
-use Rattle.bus_core.specs.Reusing.Keeping.{IsOutside, PinKeeps, ReclaimerKeeps, LostKeeps}
-use Rattle.bus_core.proofs.Reusing.Keeps.{goes_beside, reclaimed_beside, ElectionsKeep}
-use Rattle.bus_core.proofs.Reusing.Steps.{Kept, keeps_pin, went, unparted, gives_page}
-use Rattle.bus_core.proofs.Reusing.Tells.{reclaims_beside}
-use Rattle.bus_core.specs.Senders.{Sender, Does, participant_of, situation_by, situation}
-use Rattle.bus_core.specs.Table.{line_now}
 use Rattle.bus_core.specs.Keeping.{ReuseKeeps, sender}
+use Rattle.bus_core.specs.Reusing.Keeping.{IsBound, IsOutside, PinKeeps, ReclaimerKeeps, LostKeeps, held_of}
+use Rattle.bus_core.specs.Reusing.Participants.{sizes_with, core_seen, pin_seen}
+use Rattle.bus_core.specs.Senders.{Sender, Situation, Does, Announces, Validates, Unpins, Withdraws, Scans, Clears, situation_by, situation}
+use Rattle.bus_core.specs.Table.{line, line_now, in_row, seen, reuse_elected}
 use Rattle.bus_core.specs.declared.reuses.Reuse.{Reuse}
-use Rattle.bus_core.proofs.Bridged.{at_none, at_some, goes_pinning}
+use Rattle.bus_core.proofs.Bridged.{at_none}
+use Rattle.bus_core.proofs.Reusing.Keeps.{ElectionsKeep, runs_pinned}
+use Rattle.bus_core.proofs.Situated.{IsCalm, GoesCalmly, Reclaims, SituationTells, situation_tells, tells_by, calm_away, held_reclaimer}
 
--- only who would give a page back reclamations
-reclaims_gives : {E : Type 0} (o : Option Op) (s : Option Reclaiming) (z : Own E) (r : Reclaiming) (p : Op) → due_beside o s z ≡ Reclaims r p
-    → (t : ℕ) × (page : Page) × (reason : Reason) × (z ≡ GivesBack t page reason)
-reclaims_gives (Some o) s z r p e = absurd cc
-reclaims_gives None s (GivesBack t page reason) r p e = (t, page, reason, refl)
-reclaims_gives None s IsClosed r p e = absurd cc
-reclaims_gives None s IsIdle r p e = absurd cc
-reclaims_gives None s IsSpent r p e = absurd cc
-reclaims_gives None s LooksAtStage r p e = absurd cc
-reclaims_gives None s (Elects t e') r p e = absurd cc
-reclaims_gives None s (TakesPage t) r p e = absurd cc
-reclaims_gives None s (AwaitsPage t) r p e = absurd cc
-reclaims_gives None s (StoresWord t page stored) r p e = absurd cc
-reclaims_gives None s (StoresLength t page stored) r p e = absurd cc
-reclaims_gives None s (HasHanded t reason) r p e = absurd cc
+-- ---- its reclamation
+-- nobody reclaims but a holder
+unreclaimed : {E : Type 0} (x : ReclamationSizes) (p q : Phase E) (s : Option Reclaiming) → ReclaimerKeeps x p s → held_of p ≡ None → held_of q ≡ None → ReclaimerKeeps x q s
+unreclaimed x p q None k h g = λ t e. absurd (let r = sym g ∙ e in cc)
+unreclaimed x p q (Some s) k h g = absurd (let r = sym h ∙ k.held in cc)
+
+-- the reclamation goes on with another phase of the same tenure, and is done where the page is handed on
+rephased : {E : Type 0} (x : ReclamationSizes) (p q : Phase E) (s : Option Reclaiming) → ReclaimerKeeps x p s → held_of q ≡ held_of p → ((t : ℕ) (reason : Reason) → q ≡ Giving t reason → IfSome s (λ y. is_reclaimed y ≡ true)) → ReclaimerKeeps x q s
+rephased x p q None k held done = λ t e. k t (sym held ∙ e)
+rephased x p q (Some s) k held done = record { tenure = k.tenure; held = held ∙ k.held; after = k.after; handed = done }
+
+-- the reclaimer of a holder that has just taken the page
+begins : {E : Type 0} (x : ReclamationSizes) (p : Phase E) (t : ℕ) (b : Bool) → p ≡ Taken t → nat_lt (t + 1) x.rows ≡ b
+    → ReclaimerKeeps x p (cond b None (Some record { past = t + 1 - x.rows; senders = x.senders; presences = presence_at x 0; row = row_of x (t + 1); width = x.width; scanned = 0; cleared = 0 }))
+begins x p t true is e = λ u held.
+    let same : t ≡ u = same_Some _ _ (sym (ap held_of is) ∙ held) in
+    let early : t + 1 < x.rows = grind (arith, lt-ltb, e) in
+    subst (λ w. w + 1 < x.rows) same early
+begins x p t false is e =
+    let late : x.rows ≤ t + 1 = grind (arith, lt-ltb, e) in
+    record { tenure = t; held = ap held_of is; after = record { used = late; past = omega arith; senders = refl; presences = refl; row = refl; width = refl }; handed = λ u reason g. absurd (let r = sym is ∙ g in cc) }
 
 -- who holds a page has not handed it on
 not_giving : {E : Type 0} (p : Phase E) (t : ℕ) (page : Page) (stored : ℕ) (published : Bool) → p ≡ Holding t page stored published
@@ -59,127 +65,196 @@ reclaimed_on x p s got k not = by (nat_lt s.scanned s.senders) (got == 1 + s.pas
   by false b false = k
 
 module _ {E : Type 0} (X : Election E) (W : Layout → ℕ) (B : Layout → ℕ → ℕ → E → Type 0) (law : ElectionsKeep X W B) where
-  -- who looks at the stage pins no tenure
-  looks_away : (v : Participant E) → Kept X W B v → v.core.phase ≡ Resting → ((t : ℕ) → v.pin ≡ Unpinning t → ⊥) → due X v ≡ Goes LooksAtStage
-      → v.pin ≡ Away
-  looks_away v k rests stays d = by v.pin refl k.pin d where
-    by : (u : Pin) → v.pin ≡ u → PinKeeps (B v.core.layout v.core.me) v.core u
-        → due_beside (step_at u (presence_at (sizes_of v) v.core.me) stage_at) v.reclaimer (situation_of X v.core) ≡ Goes LooksAtStage
-        → v.pin ≡ Away
-    by Away i h e = i
-    by (Announcing t) i h e = absurd cc
-    by (Validating t) i h e = absurd cc
-    by (Pinned t) i h e = absurd (let r = sym rests ∙ h.is in cc)
-    by (Unpinning t) i h e = absurd cc
-    by (Invalidated t) i h e = absurd cc
+  -- what a sender keeps beside its turns
+  abbrev pub Keeps : Sender E → Type 0
+  Keeps v = ReuseKeeps (W v.core.layout) (B v.core.layout v.core.me) v.core v.reuse
 
-  -- a first look at the stage
-  seen_keeps : (v : Participant E) (got : ℕ) → Kept X W B v → v.core.phase ≡ Resting → resting v.core ≡ LooksAtStage → v.pin ≡ Away
-      → Kept X W B record v { core = core_seen v.core got; pin = pin_seen v.core got }
-  seen_keeps v got k rests looks away = by (waits v.core got) (nat_le v.core.layout.rows (got / 2)) refl refl where
-    out : IsOutside v.core.phase
-    out = subst IsOutside (sym rests) tt
+  -- ---- where rows are used again
+  module _ (c : Core E) (r : Reuse) (k : Keeps (sender c (Some r))) where
+    abbrev sizes : ReclamationSizes
+    sizes = sizes_with c.layout r.rows
 
-    lost : (u : Pin) → ((t : ℕ) → u ≡ Unpinning t → ⊥) → LostKeeps v.core.phase u v.lost
-    lost u stays = pick v.lost k.lost where
-      pick : (l : Option _) → LostKeeps v.core.phase v.pin l → LostKeeps v.core.phase u l
-      pick None h = λ t e. absurd (stays t e)
-      pick (Some o) h = absurd (let q = sym h.parts ∙ away in cc)
+    -- with its batch, the tenures that are past for it, its phase, its pin, its reclamation and whom it lost to
+    abbrev with : Pending → ℕ → Phase E → Pin → Option Reclaiming → Option SenderNo → Sender E
+    with q least p u s l = sender (record c { queue = q; least = least; phase = p }) (Some record { pin = u; reclaimer = s; lost = l; rows = r.rows })
 
-    bound : (a : Bool) → (got % 2 == 0) ≡ a → cond a (nat_lt (got / 2) v.core.least) true ≡ false → v.core.least ≤ got / 2
-    bound true i w = ltb-false _ _ w
-    bound false i w = absurd cc
-
-    by : (a b : Bool) → waits v.core got ≡ a → nat_le v.core.layout.rows (got / 2) ≡ b
-        → Kept X W B record v { core = cond a v.core (cond b (record v.core { least = got / 2 }) v.core); pin = cond a Away (cond b Away (Announcing (got / 2))) }
-    by true b i j = record { sizes = k.sizes; tenures = k.tenures; rows_some = k.rows_some; rows_few = k.rows_few; me_below = k.me_below; pin = out; reclaimer = k.reclaimer; lost = lost Away (λ t e. cc) }
-    by false true i j = record { sizes = k.sizes; tenures = k.tenures; rows_some = k.rows_some; rows_few = k.rows_few; me_below = k.me_below; pin = out; reclaimer = k.reclaimer; lost = lost Away (λ t e. cc) }
-    by false false i j = record {
+    -- all of which it may be with, if its pin, its reclamation and whom it lost to are kept
+    kept : (q : Pending) (least : ℕ) (p : Phase E) (u : Pin) (s : Option Reclaiming) (l : Option SenderNo)
+        → PinKeeps (B c.layout c.me) (record c { queue = q; least = least; phase = p }) u → ReclaimerKeeps sizes p s → LostKeeps p u l
+        → Keeps (with q least p u s l)
+    kept q least p u s l pin reclaimer lost = record {
       sizes = k.sizes;
       tenures = k.tenures;
       rows_some = k.rows_some;
       rows_few = k.rows_few;
       me_below = k.me_below;
-      pin = record { rests = rests; looks = looks; least = bound (got % 2 == 0) refl i; below = leb-false _ _ j };
-      reclaimer = k.reclaimer;
-      lost = lost (Announcing (got / 2)) (λ t e. cc);
+      pin = pin;
+      reclaimer = reclaimer;
+      lost = lost;
     }
 
-  -- whatever is due
-  keeps_due : (v : Participant E) (got word : ℕ) → Kept X W B v → (d : Due E) → due X v ≡ d → IsSome (op_due X v d word)
-      → Kept X W B (participant_due X v d got word)
-  keeps_due v got word k (Pins o) i h = keeps_pin X W B law v got k
-  keeps_due v got word k (Reclaims s o) i h =
-      let f = reclaims_beside _ _ _ s o i in
-      let z = reclaims_gives _ _ _ s o i in
-      let ph = (tells X v.core (GivesBack z.0 z.1 z.2) z.3).2 in
-      record {
-        sizes = k.sizes;
-        tenures = k.tenures;
-        rows_some = k.rows_some;
-        rows_few = k.rows_few;
-        me_below = k.me_below;
-        pin = k.pin;
-        reclaimer = reclaimed_on (sizes_of v) v.core.phase s got (subst (ReclaimerKeeps (sizes_of v) v.core.phase) f.0 k.reclaimer) (λ t r e. not_giving v.core.phase _ _ _ _ ph t r e);
-        lost = k.lost;
-      }
-  keeps_due v got word k (Goes z) i h = by z (goes_beside _ _ _ z i) i h where
-    stays : (z : Own E) → due X v ≡ Goes z → (t : ℕ) → v.pin ≡ Unpinning t → ⊥
-    stays z d = unparted X v z d
+    -- ---- a step of its pin
+    -- whom it lost to is forgotten, and its presence names no tenure that it lost
+    repinned : (u : Pin) → PinKeeps (B c.layout c.me) c u → ((t : ℕ) → u ≢ Unpinning t) → Keeps (with c.queue c.least c.phase u r.reclaimer None)
+    repinned u pin other = kept c.queue c.least c.phase u r.reclaimer None pin k.reclaimer (λ t e. absurd (other t e))
 
-    goes : (z : Own E) → situation_of X v.core ≡ z → due X v ≡ Goes z → IsSome (op_at X v.core z word) → v.core.phase ≢ Resting
-        → Kept X W B (participant_due X v (Goes z) got word)
-    goes z is d h not = (went X W B law v got word k (stays z d) z is h not).keeps
+    -- its pin is this one
+    pin_at : (u : Pin) → r.pin ≡ u → PinKeeps (B c.layout c.me) c u
+    pin_at u e = subst (PinKeeps (B c.layout c.me) c) e k.pin
 
-    by : (z : Own E) → situation_of X v.core ≡ z → due X v ≡ Goes z → IsSome (op_due X v (Goes z) word)
-        → Kept X W B (participant_due X v (Goes z) got word)
-    by IsClosed is d h = absurd (let q : false ≡ true = h in cc)
-    by IsIdle is d h = absurd (let q : false ≡ true = h in cc)
-    by IsSpent is d h = absurd (let q : false ≡ true = h in cc)
-    by LooksAtStage is d h =
-        let rests = tells X v.core LooksAtStage is in
-        seen_keeps v got k rests (sym (ap (situation_at X v.core) rests) ∙ is) (looks_away v k rests (stays LooksAtStage d) d)
-    by (Elects t e) is d h =
-        goes (Elects t e) is d (some_op (X.op e word) h) (λ r. let q = sym (tells X v.core (Elects t e) is).0 ∙ r in cc)
-      where
-        some_op : (o : Option Op)
-            → IsSome (Rattle.bus_core.specs.Reusing.Turns.op_placed (λ r. Rattle.bus_core.specs.Reusing.Participants.place_for v.core.layout v.rows (Elects t e) r) o)
-            → IsSome o
-        some_op None g = g
-        some_op (Some o) g = g
-    by (TakesPage t) is d h = goes (TakesPage t) is d h (λ r. let q = sym (tells X v.core (TakesPage t) is).1 ∙ r in cc)
-    by (AwaitsPage t) is d h = absurd (let q : false ≡ true = h in cc)
-    by (StoresWord t page stored) is d h =
-        goes (StoresWord t page stored) is d h (λ r. let q = sym (tells X v.core (StoresWord t page stored) is).1 ∙ r in cc)
-    by (StoresLength t page stored) is d h =
-        goes (StoresLength t page stored) is d h (λ r. let q = sym (tells X v.core (StoresLength t page stored) is).1 ∙ r in cc)
-    by (GivesBack t page reason) is d h =
-        goes (GivesBack t page reason) is d h (λ r. let q = sym (tells X v.core (GivesBack t page reason) is).2 ∙ r in cc)
-    by (HasHanded t reason) is d h = goes (HasHanded t reason) is d h (λ r. let q = sym (tells X v.core (HasHanded t reason) is) ∙ r in cc)
+    -- it looks at the stage again
+    validated : (t : ℕ) → IsBound c t → (b : Bool)
+        → Keeps (sender (cond b (core_begun X c t) c) (Some (record r { pin = cond b (Pinned t) (Invalidated t); lost = None })))
+    validated t h true =
+        let started = X.started c.layout.senders c.me c.layout.rounds (row_at c.layout t) in
+        let belongs = law.starts c.layout c.me (row_at c.layout t) k.me_below (let f = k.sizes.few in omega arith) in
+        kept (record c.queue { busy = true }) c.least (Electing t started) (Pinned t) r.reclaimer None
+        record { election = started; is = refl; belongs = belongs; below = h.below }
+        (unreclaimed sizes c.phase (Electing t started) r.reclaimer k.reclaimer (ap held_of h.rests) refl) (λ u e. absurd cc)
+    validated t h false = repinned (Invalidated t) (subst IsOutside (sym h.rests) tt) (λ u e. cc)
 
-  -- what a sender keeps beside its turns
-  abbrev pub Keeps : Sender E → Type 0
-  Keeps v = ReuseKeeps (W v.core.layout) (B v.core.layout v.core.me) v.core v.reuse
+    -- ---- in its tenure
+    -- whose pin asks for no step has lost to nobody
+    unlost : IsCalm r.pin → r.lost ≡ None
+    unlost calm = by r.lost refl k.lost where
+      by : (l : Option SenderNo) → r.lost ≡ l → LostKeeps c.phase r.pin l → r.lost ≡ None
+      by None e h = e
+      by (Some o) e h = absurd (elim calm [ inl a ↦ (let bad = sym a ∙ h.parts in cc) | inr p ↦ (let bad = sym p.1 ∙ h.parts in cc) ])
 
+    -- so whom it lost to is kept with another phase and pin
+    lost_on : IsCalm r.pin → (p : Phase E) (u : Pin) → ((t : ℕ) → u ≡ Unpinning t → held_of p ≡ Some t) → LostKeeps p u r.lost
+    lost_on calm p u holds = subst (LostKeeps p u) (sym (unlost calm)) holds
+
+    -- who goes on, and whose election does not run, stays as it is
+    goes : IsCalm r.pin → IsOutside c.phase → (q : Pending) (least : ℕ) (p : Phase E) (s : Option Reclaiming) → IsOutside p → ReclaimerKeeps sizes p s
+        → Keeps (with q least p r.pin s r.lost)
+    goes calm out q least p s after reclaimer =
+        let away = calm_away (W c.layout) (B c.layout c.me) c r k out calm in
+        kept q least p r.pin s r.lost (subst (PinKeeps (B c.layout c.me) (record c { queue = q; least = least; phase = p })) (sym away) after) reclaimer
+        (lost_on calm p r.pin (λ t e. let bad = sym away ∙ e in absurd cc))
+
+    -- with another phase of the same tenure
+    holds : IsCalm r.pin → IsOutside c.phase → (p : Phase E) → IsOutside p → held_of p ≡ held_of c.phase
+        → ((t : ℕ) (reason : Reason) → p ≡ Giving t reason → IfSome r.reclaimer (λ s. is_reclaimed s ≡ true))
+        → Keeps (with c.queue c.least p r.pin r.reclaimer r.lost)
+    holds calm out p after same done =
+        goes calm out c.queue c.least p r.reclaimer after (rephased sizes c.phase p r.reclaimer k.reclaimer same done)
+
+    -- a first look at the stage
+    looks : (got : ℕ) → IsCalm r.pin → c.phase ≡ Resting → resting c ≡ LooksAtStage → Keeps (seen X c (Some r) got)
+    looks got calm rests left = by (waits c got) (nat_le c.layout.rows (got / 2)) refl refl where
+      out : IsOutside c.phase
+      out = subst IsOutside (sym rests) tt
+
+      away : (least : ℕ) → Keeps (with c.queue least c.phase Away r.reclaimer r.lost)
+      away least = kept c.queue least c.phase Away r.reclaimer r.lost out k.reclaimer (lost_on calm c.phase Away (λ t e. absurd cc))
+
+      bound : (a : Bool) → (got % 2 == 0) ≡ a → cond a (nat_lt (got / 2) c.least) true ≡ false → c.least ≤ got / 2
+      bound true i w = ltb-false _ _ w
+      bound false i w = absurd cc
+
+      by : (a b : Bool) → waits c got ≡ a → nat_le c.layout.rows (got / 2) ≡ b
+          → Keeps (sender (cond a c (cond b (record c { least = got / 2 }) c)) (Some (record r { pin = cond a Away (cond b Away (Announcing (got / 2))) })))
+      by true b i j = away c.least
+      by false true i j = away (got / 2)
+      by false false i j = kept c.queue c.least c.phase (Announcing (got / 2)) r.reclaimer r.lost
+          record { rests = rests; looks = left; least = bound (got % 2 == 0) refl i; below = leb-false _ _ j } k.reclaimer
+          (lost_on calm c.phase (Announcing (got / 2)) (λ t e. absurd cc))
+
+    -- a step of its election
+    elects : (t : ℕ) (e next : E) → IsCalm r.pin → c.phase ≡ Electing t e → B c.layout c.me (row_at c.layout t) next → (o : Option ℕ)
+        → Keeps (sender (core_elected c t next o) (reuse_elected c (Some r) t o))
+    elects t e next calm at belongs o = by o where
+      outside : (p : Phase E) → held_of p ≡ None → ReclaimerKeeps sizes p r.reclaimer
+      outside p none = unreclaimed sizes c.phase p r.reclaimer k.reclaimer (ap held_of at) none
+
+      runs : Keeps (with c.queue c.least (Electing t next) (Pinned t) r.reclaimer r.lost)
+      runs = kept c.queue c.least (Electing t next) (Pinned t) r.reclaimer r.lost
+          record { election = next; is = refl; belongs = belongs; below = (runs_pinned (B c.layout c.me) c r.pin t e k.pin at).2 }
+          (outside (Electing t next) refl) (lost_on calm (Electing t next) (Pinned t) (λ u e. absurd cc))
+
+      ends : (o : ℕ) (b : Bool)
+          → Keeps (sender (cond b (record c { phase = Electing t next }) (record c { queue = record c.queue { busy = false }; least = t + 1; phase = Resting }))
+          (Some (record r { pin = cond b (Pinned t) (Unpinning t); lost = cond b r.lost (Some record { 0 = o }) })))
+      ends o true = runs
+      ends o false = kept (record c.queue { busy = false }) (t + 1) Resting (Unpinning t) r.reclaimer (Some record { 0 = o }) tt
+          (outside Resting refl) record { tenure = t; parts = refl; rests = refl }
+
+      by : (o : Option ℕ) → Keeps (sender (core_elected c t next o) (reuse_elected c (Some r) t o))
+      by None = runs
+      by (Some o) = ends o (o == c.me)
+
+    -- the page is taken
+    takes : (t : ℕ) → IsCalm r.pin → Keeps (with c.queue c.least (Taken t) (Unpinning t) (reclaimer_after sizes t) r.lost)
+    takes t calm = kept c.queue c.least (Taken t) (Unpinning t) (reclaimer_after sizes t) r.lost tt
+        (begins sizes (Taken t) t (nat_lt (t + 1) r.rows) refl refl)
+        (lost_on calm (Taken t) (Unpinning t) (λ u e. let same : t ≡ u = cc in ap Some same))
+
+    -- a reclamation goes on
+    reclaims : (s : Reclaiming) (got : ℕ) → Reclaims r (situation_of X c) s
+        → Keeps (with c.queue c.least c.phase r.pin (Some (reclaim_fed s got)) r.lost)
+    reclaims s got w =
+        let at = (tells X c (GivesBack w.tenure w.page w.reason) w.gives).2 in
+        kept c.queue c.least c.phase r.pin (Some (reclaim_fed s got)) r.lost k.pin
+        (reclaimed_on sizes c.phase s got (held_reclaimer (W c.layout) (B c.layout c.me) c r k s w.is)
+        (λ t reason e. not_giving c.phase _ _ _ _ at t reason e))
+        k.lost
+
+    -- ---- each situation
+    module _ (got word : ℕ) where
+      by_situation : (z : Situation E) → SituationTells z (Some r) (situation_of X c) → IsSome ((line X (sender c (Some r)) z).op word)
+          → Keeps ((line X (sender c (Some r)) z).fed got word)
+      by_situation (Does IsClosed) w h = k
+      by_situation (Does IsIdle) w h = k
+      by_situation (Does IsSpent) w h = k
+      by_situation (Does LooksAtStage) w h =
+          let rests = tells X c LooksAtStage w.0 in looks got w.1.calm rests (sym (ap (situation_at X c) rests) ∙ w.0)
+      by_situation (Does (Elects t e)) w h =
+          let at = (tells X c (Elects t e) w.0).0 in
+          let o = some_op (X.op e word) h in
+          elects t e (X.fed e got word) w.1.calm at
+          (law.goes c.layout c.me (row_at c.layout t) e got word o.0 (runs_pinned (B c.layout c.me) c r.pin t e k.pin at).1 o.1) (X.owner (X.fed e got word))
+        where
+          some_op : (x : Option Op) → IsSome (in_row c.layout (Some r) t x) → (o : Op) × (x ≡ Some o)
+          some_op None g = absurd (let q : false ≡ true = g in cc)
+          some_op (Some o) g = (o, refl)
+      by_situation (Does (TakesPage t)) w h = takes t w.1.calm
+      by_situation (Does (AwaitsPage t)) w h = k
+      by_situation (Does (StoresWord t page stored)) w h =
+          let at = (tells X c (StoresWord t page stored) w.0).1 in
+          holds w.1.calm (subst IsOutside (sym at) tt) (Holding t page (stored + 1) false) tt (sym (ap held_of at)) (λ u reason e. absurd cc)
+      by_situation (Does (StoresLength t page stored)) w h =
+          let at = (tells X c (StoresLength t page stored) w.0).1 in
+          holds w.1.calm (subst IsOutside (sym at) tt) (Holding t page stored true) tt (sym (ap held_of at)) (λ u reason e. absurd cc)
+      by_situation (Does (GivesBack t page reason)) w h =
+          let at = (tells X c (GivesBack t page reason) w.0).2 in
+          goes w.1.calm (subst IsOutside (sym at) tt) _ (t + 1) Resting None tt (λ u e. absurd cc)
+      by_situation (Does (HasHanded t reason)) w h =
+          let at = tells X c (HasHanded t reason) w.0 in
+          goes w.1.calm (subst IsOutside (sym at) tt) _ (t + 1) Resting None tt (λ u e. absurd cc)
+      by_situation (Announces t) w h = repinned (Validating t) (pin_at (Announcing t) w) (λ u e. cc)
+      by_situation (Validates t) w h = validated t (pin_at (Validating t) w) (got / 2 == t)
+      by_situation (Unpins t) w h = repinned Away (pin_at (Unpinning t) w) (λ u e. cc)
+      by_situation (Withdraws t) w h = repinned Away (pin_at (Invalidated t) w) (λ u e. cc)
+      by_situation (Scans s) w h = reclaims s got w.0
+      by_situation (Clears s) w h = reclaims s got w.0
+
+  -- ---- with both kinds of rows
   -- the sender after its line
   pub keeps_line : (v : Sender E) (got word : ℕ) → Keeps v → IsSome ((line_now X v).op word) → Keeps ((line_now X v).fed got word)
   keeps_line v got word k h = by v.reuse k h where
     by : (r : Option Reuse) → Keeps (sender v.core r) → IsSome ((line_now X (sender v.core r)).op word)
         → Keeps ((line_now X (sender v.core r)).fed got word)
     by None k h = subst Keeps (sym (ap (λ l. l.fed got word) (at_none X v.core))) tt
-    by (Some r) k h =
-        let w = participant_of v.core r in
-        let s = at_some X w in
-        subst Keeps (sym (s.fed got word)) (keeps_due w got word k (due X w) refl (subst IsSome (s.op word) h))
+    by (Some r) k h = by_situation v.core r k got word (situation X (sender v.core (Some r))) (situation_tells X (sender v.core (Some r)) _ refl) h
 
   -- the page goes out of its hands
   pub keeps_out : (v : Sender E) → Keeps v → (t : ℕ) (page : Page) (reason : Reason) → situation_of X v.core ≡ GivesBack t page reason
       → situation X v ≡ Does (GivesBack t page reason) → Keeps record v { core = record v.core { phase = Giving t reason } }
-  keeps_out v k t page reason is d = by v.reuse k (d ∙ ap Does (sym is)) where
-    by : (r : Option Reuse) → Keeps (sender v.core r) → situation_by r (situation_of X v.core) ≡ Does (situation_of X v.core)
+  keeps_out v k t page reason is d = by v.reuse k (situation_tells X v (Does (GivesBack t page reason)) d).1 where
+    by : (r : Option Reuse) → Keeps (sender v.core r) → IfSome r (λ r. GoesCalmly r (situation_of X v.core))
         → Keeps (sender (record v.core { phase = Giving t reason }) r)
-    by None k e = tt
-    by (Some r) k e =
-        let w = participant_of v.core r in
-        let g = goes_pinning r.pin r.reclaimer (situation_of X v.core) (situation_of X v.core) (presence_at (sizes_of w) v.core.me) stage_at e in
-        gives_page X W B law w k t page reason is (reclaimed_beside _ _ _ _ g t page reason is)
+    by None k g = tt
+    by (Some r) k g =
+        let at = (tells X v.core (GivesBack t page reason) is).2 in
+        holds v.core r k g.calm (subst IsOutside (sym at) tt) (Giving t reason) tt (sym (ap held_of at)) (λ u w e. g.done t page reason is)

@@ -1,23 +1,22 @@
 -- A sender that has begun no tenure, by what it holds: whether it looks at the stage, and why it has nothing to do.
 use Rattle.std.specs.Prelude.{◌⊎◌, ◌≢◌}
-use Rattle.std.proofs.Common.{◌≡◌, inl, inr, ℕ, ◌/◌, ◌%◌, ◌<◌, ◌≤◌, Bool, true, false, cond, Option, Some, None, List, [], ◌∷◌, length, nat_lt, nat_le, ◌==◌, ◌&&◌, refl, sym, ◌∙◌, ap, arith}
+use Rattle.std.proofs.Common.{◌≡◌, inl, inr, ℕ, ◌/◌, ◌%◌, ◌<◌, ◌≤◌, Bool, true, false, cond, Option, Some, None, List, [], ◌∷◌, length, nat_lt, nat_le, ◌==◌, ◌&&◌, refl, sym, ◌∙◌, ap, subst, arith}
 use Rattle.std.proofs.lemmas.Bool.{leb-true, lt-leb, ltb-true, ltb-false, lt-ltb, eqb-true, eqb-false, eq-eqb, ne_eqb, le-ltb, true≢false}
 use Rattle.bus_batch.specs.declared.batches.Phase.{Phase as BatchPhase}
 use Rattle.bus_batch.specs.declared.batches.Phase.TheVariants.{Open, Marking, Closed}
 use Rattle.bus_batch.specs.declared.messages.Mark.{Mark}
-use Rattle.bus_presence.specs.declared.pins.Pin.{Pin}
-use Rattle.bus_presence.specs.declared.pins.Pin.TheVariants.{Away, Announcing, Validating, Pinned, Unpinning, Invalidated}
+use Rattle.bus_presence.specs.declared.pins.Pin.TheVariants.{Away}
 use Rattle.bus_tenure.specs.Core.{Core, Election, is_empty, is_marking, is_closed}
 use Rattle.bus_tenure.specs.Situations.{Situation as Own, IsClosed, IsIdle, IsSpent, LooksAtStage, situation_at, situation_of as own_situation, waits}
 use Rattle.bus_tenure.specs.declared.phases.Phase.TheVariants.{Resting}
 use Rattle.bus_tenure.proofs.Situated.{tells}
 use Rattle.bus_core.specs.Keeping.{ReuseKeeps, IsAway}
-use Rattle.bus_core.specs.Reusing.Keeping.{PinKeeps}
+use Rattle.bus_core.specs.Reusing.Keeping.{IsOutside}
 use Rattle.bus_core.specs.Senders.{Sender, Does, pinning, situation_by, situation}
 use Rattle.bus_core.specs.Telling.{HasBegunNone, LooksFirst, RestsIdle, RestsClosed, RestsSpent}
 use Rattle.bus_core.specs.declared.reuses.Reuse.{Reuse}
 use Rattle.bus_core.proofs.Caused.{looks_cause}
-use Rattle.bus_core.proofs.Situated.{own_is}
+use Rattle.bus_core.proofs.Situated.{situation_tells, own_is, goes_away}
 
 -- ---- what waits in its batch, and whether a tenure is left
 abbrev rest_by : {E : Type 0} → BatchPhase → List (List ℕ) → Bool → Own E
@@ -125,18 +124,7 @@ module _ {E : Type 0} (X : Election E) (v : Sender E) where
   module _ (width : ℕ) (Belongs : ℕ → E → Type 0) (k : ReuseKeeps width Belongs v.core v.reuse) where
     -- who goes on at rest as a sender in its turns pins none
     away_of : (z : Own E) → v.core.phase ≡ Resting → situation X v ≡ Does z → IsAway v.reuse
-    away_of z rests i = at v.reuse k i where
-      by : (r : Reuse) (u : Pin) → r.pin ≡ u → PinKeeps Belongs v.core u → pinning u r.reclaimer (own_situation X v.core) ≡ Does z → r.pin ≡ Away
-      by r Away e h i = e
-      by r (Announcing t) e h i = absurd cc
-      by r (Validating t) e h i = absurd cc
-      by r (Pinned t) e h i = absurd (let bad = sym rests ∙ h.is in cc)
-      by r (Unpinning t) e h i = absurd cc
-      by r (Invalidated t) e h i = absurd cc
-
-      at : (r : Option Reuse) → ReuseKeeps width Belongs v.core r → situation_by r (own_situation X v.core) ≡ Does z → IsAway r
-      at None h i = tt
-      at (Some r) h i = by r r.pin refl h.pin i
+    away_of z rests i = goes_away width Belongs v.core v.reuse k (subst IsOutside (sym rests) tt) _ (situation_tells X v (Does z) i).1
 
     -- who looks at the stage has something to send, and a tenure left to enter
     pub looks_first : situation X v ≡ Does LooksAtStage → LooksFirst v

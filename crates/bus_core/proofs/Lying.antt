@@ -11,14 +11,12 @@ use Rattle.bus_tenure.specs.Situations.{IsClosed, IsIdle, IsSpent, LooksAtStage,
 use Rattle.bus_tenure.specs.declared.phases.Phase.TheVariants.{Electing}
 use Rattle.bus_tenure.proofs.Situated.{tells}
 use Rattle.bus_core.specs.Reusing.Participants.{sizes_with}
-use Rattle.bus_core.specs.Reusing.Keeping.{ReclaimerKeeps, IsHeldReclaimer}
-use Rattle.bus_core.proofs.Reusing.Keeps.{runs_pinned}
 use Rattle.bus_core.specs.Keeping.{ReuseKeeps}
 use Rattle.bus_core.specs.Places.{IsInRow, StandsIn, IsAsked, IsInNextRow, LiesAt}
-use Rattle.bus_core.specs.Senders.{Sender, Situation, Does, Announces, Validates, Unpins, Withdraws, Scans, Clears, situation_by, situation}
+use Rattle.bus_core.specs.Senders.{Sender, Situation, Does, Announces, Validates, Unpins, Withdraws, Scans, Clears, situation}
 use Rattle.bus_core.specs.Table.{line, line_now, in_row}
 use Rattle.bus_core.specs.declared.reuses.Reuse.{Reuse}
-use Rattle.bus_core.proofs.Situated.{own_is, scans_pinning, clears_pinning}
+use Rattle.bus_core.proofs.Situated.{SituationTells, situation_tells, own_is, stands_in, held_reclaimer}
 
 -- ---- a step of an election, on the row that its tenure uses
 placed : (x : Layout) (r : Reuse) (t at : ℕ) → row_at x t ≤ at → at < row_at x t + x.width
@@ -47,22 +45,14 @@ pub electing_below : {E : Type 0} (width : ℕ) (Belongs : ℕ → E → Type 0)
 electing_below width Belongs c k t e at = let h : IsElecting Belongs c t e = subst (PhaseKeeps Belongs c) at k.phase in h.in_tenure.below
 
 module _ {E : Type 0} (X : Election E) (width : ℕ) (Belongs : ℕ → E → Type 0) (v : Sender E) (k : ReuseKeeps width Belongs v.core v.reuse) where
-  -- who goes through an election stands in its tenure
-  stands : (t : ℕ) (e : E) → v.core.phase ≡ Electing t e → StandsIn v.reuse t
-  stands t e at = by v.reuse k where
-    by : (r : Option Reuse) → ReuseKeeps width Belongs v.core r → StandsIn r t
-    by None h = tt
-    by (Some r) h = (runs_pinned Belongs v.core r.pin t e h.pin at).0
-
   -- who asks loads the presence of a sender
   scans_lies : (s : Reclaiming) → situation X v ≡ Scans s → IsAsked v.core.layout s (s.presences + s.scanned)
-  scans_lies s i = by v.reuse k i where
-    by : (r : Option Reuse) → ReuseKeeps width Belongs v.core r → situation_by r (own_situation X v.core) ≡ Scans s
+  scans_lies s i = by v.reuse k (situation_tells X v (Scans s) i) where
+    by : (r : Option Reuse) → ReuseKeeps width Belongs v.core r → SituationTells (Scans s) r (own_situation X v.core)
         → IsAsked v.core.layout s (s.presences + s.scanned)
-    by None h i = absurd cc
-    by (Some r) h i =
-        let w = scans_pinning r.pin r.reclaimer s (own_situation X v.core) i in
-        let g : IsHeldReclaimer (sizes_with v.core.layout r.rows) v.core.phase s = subst (ReclaimerKeeps (sizes_with v.core.layout r.rows) v.core.phase) w.0 h.reclaimer in
+    by None h w = absurd w
+    by (Some r) h w =
+        let g = held_reclaimer width Belongs v.core r h s w.0.is in
         let many = g.after.senders in
         let from = g.after.presences in
         let left = w.1 in
@@ -70,16 +60,16 @@ module _ {E : Type 0} (X : Election E) (width : ℕ) (Belongs : ℕ → E → Ty
 
   -- who clears stores into the next row
   clears_lies : (s : Reclaiming) → situation X v ≡ Clears s → IsInNextRow v (s.row + s.cleared)
-  clears_lies s i = by v.reuse refl k i where
-    by : (r : Option Reuse) → v.reuse ≡ r → ReuseKeeps width Belongs v.core r → situation_by r (own_situation X v.core) ≡ Clears s
+  clears_lies s i = by v.reuse refl k (situation_tells X v (Clears s) i) where
+    by : (r : Option Reuse) → v.reuse ≡ r → ReuseKeeps width Belongs v.core r → SituationTells (Clears s) r (own_situation X v.core)
         → IsInNextRow v (s.row + s.cleared)
-    by None e h i = absurd cc
-    by (Some r) e h i =
-        let w = clears_pinning r.pin r.reclaimer s (own_situation X v.core) i in
-        let g : IsHeldReclaimer (sizes_with v.core.layout r.rows) v.core.phase s = subst (ReclaimerKeeps (sizes_with v.core.layout r.rows) v.core.phase) w.0 h.reclaimer in
+    by None e h w = absurd w
+    by (Some r) e h w =
+        let g = held_reclaimer width Belongs v.core r h s w.0.is in
         let wide = g.after.width in
-        let left = w.1 in
-        let row : IsInRow v.core.layout (Some r) (g.tenure + 1) (s.row + s.cleared) = record { place = s.cleared; below = omega arith; is = ap (λ y. y + s.cleared) g.after.row } in
+        let left = w.1.left in
+        let row : IsInRow v.core.layout (Some r) (g.tenure + 1) (s.row + s.cleared) =
+        record { place = s.cleared; below = omega arith; is = ap (λ y. y + s.cleared) g.after.row } in
         record { tenure = g.tenure; held = g.held; row = subst (λ y. IsInRow v.core.layout y (g.tenure + 1) (s.row + s.cleared)) (sym e) row }
 
   module _ (within : (t : ℕ) (e : E) → v.core.phase ≡ Electing t e → t < v.core.layout.rows) (near : (t : ℕ) (e : E) → v.core.phase ≡ Electing t e → (word : ℕ) → IfSome (X.op e word) (λ o. row_at v.core.layout t ≤ register o) × IfSome (X.op e word) (λ o. register o < row_at v.core.layout t + v.core.layout.width)) where
@@ -93,8 +83,8 @@ module _ {E : Type 0} (X : Election E) (width : ℕ) (Belongs : ℕ → E → Ty
         let at = (tells X v.core (Elects t e) (own_is X v (Elects t e) i)).0 in
         let n = near t e at word in
         with_facts (t < v.core.layout.rows) (StandsIn v.reuse t) (λ o. IsInRow v.core.layout v.reuse t (register o)) (in_row v.core.layout v.reuse t (X.op e word))
-        (within t e at) (stands t e at) (in_row_lies v.core.layout v.reuse t (X.op e word) n.0 n.1)
-    by_line word (Does (TakesPage t)) i = let at = tells X v.core (TakesPage t) (own_is X v (TakesPage t) i) in (within t at.0 at.1, stands t at.0 at.1, refl)
+        (within t e at) (stands_in width Belongs v.core v.reuse k t e at) (in_row_lies v.core.layout v.reuse t (X.op e word) n.0 n.1)
+    by_line word (Does (TakesPage t)) i = let at = tells X v.core (TakesPage t) (own_is X v (TakesPage t) i) in (within t at.0 at.1, stands_in width Belongs v.core v.reuse k t at.0 at.1, refl)
     by_line word (Does (AwaitsPage t)) i = tt
     by_line word (Does (StoresWord t page stored)) i = omega arith
     by_line word (Does (StoresLength t page stored)) i = refl

@@ -26,7 +26,7 @@ use Rattle.bus_core.specs.Reusing.Keeping.{ReclaimerKeeps, IsHeldReclaimer}
 use Rattle.bus_core.specs.Senders.{Sender, Does, Scans, Clears, log_start, pinning, situation_by, situation, words_all, participant_of}
 use Rattle.bus_core.specs.Table.{line, line_now, reuse_reclaiming}
 use Rattle.bus_core.specs.declared.reuses.Reuse.{Reuse}
-use Rattle.bus_core.proofs.Situated.{own_is, clears_pinning}
+use Rattle.bus_core.proofs.Situated.{SituationTells, tells_by, own_is}
 use Rattle.bus_core.proofs.Stepped.{fed_word, reclaimed_below}
 
 -- ---- when one is due
@@ -84,8 +84,10 @@ module _ {E : Type 0} (X : Election E) (v : Sender E) where
 
   -- whose reclamation clears has that one
   reclaims : (u : Option Reuse) (s : Reclaiming) → situation_by u (own_situation X v.core) ≡ Clears s → reclaimer_in u ≡ Some s
-  reclaims None s j = absurd cc
-  reclaims (Some u) s j = (clears_pinning u.pin u.reclaimer s (own_situation X v.core) j).0
+  reclaims u s j = by u (tells_by u (own_situation X v.core) (Clears s) j) where
+    by : (u : Option Reuse) → SituationTells (Clears s) u (own_situation X v.core) → reclaimer_in u ≡ Some s
+    by None w = absurd w
+    by (Some r) w = w.0.is
 
   pub plain_clearing : IsPlain X v → HoldsPublished v.core.phase → (s : Reclaiming) → reclaimer_in v.reuse ≡ Some s → IsClearing s
   plain_clearing (Word t page stored i) h s e = absurd (word_unpublished t page stored i h)

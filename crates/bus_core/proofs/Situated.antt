@@ -1,114 +1,141 @@
 -- What the situation of a sender tells.
-use Rattle.std.proofs.Common.{◌≡◌, ◌<◌, Bool, true, false, cond, Option, Some, None, nat_lt, refl, sym, ◌∙◌, ap, subst}
-use Rattle.std.proofs.lemmas.Bool.{ltb-true}
-use Rattle.bus_presence.specs.Reclaimers.{Reclaiming}
+use Rattle.std.specs.Prelude.{◌⊎◌}
+use Rattle.std.proofs.Common.{◌≡◌, inl, inr, ℕ, ◌<◌, Bool, true, false, cond, Option, Some, None, IfSome, IsSomeAnd, nat_lt, arith, refl, sym, ◌∙◌, ap, subst}
+use Rattle.std.proofs.lemmas.Bool.{ltb-true, ltb-false, lt-ltb}
+use Rattle.bus_presence.specs.Reclaimers.{Reclaiming, IsClearing, is_reclaimed}
 use Rattle.bus_presence.specs.declared.pins.Pin.{Pin}
 use Rattle.bus_presence.specs.declared.pins.Pin.TheVariants.{Away, Announcing, Validating, Pinned, Unpinning, Invalidated}
-use Rattle.bus_tenure.specs.Core.{Election}
-use Rattle.bus_tenure.specs.Situations.{Situation as Own, IsClosed, IsIdle, IsSpent, LooksAtStage, Elects, TakesPage, AwaitsPage, StoresWord, StoresLength, GivesBack, HasHanded, situation_of as own_situation}
+use Rattle.bus_tenure.specs.Core.{Core, Election}
+use Rattle.bus_tenure.specs.Situations.{Situation as Own, GivesBack, HasHanded, situation_of as own_situation}
 use Rattle.bus_tenure.specs.declared.doings.Doing.{Doing}
+use Rattle.bus_tenure.specs.declared.pages.Page.{Page}
+use Rattle.bus_tenure.specs.declared.phases.Phase.TheVariants.{Electing, Giving}
+use Rattle.bus_tenure.specs.declared.phases.Reason.{Reason}
 use Rattle.bus_core.specs.Doings.{step_of}
-use Rattle.bus_core.specs.Senders.{Sender, Situation, Does, Announces, Validates, Unpins, Withdraws, Scans, Clears, reclaiming, at_home, pinning, situation_by, situation}
+use Rattle.bus_core.specs.Keeping.{ReuseKeeps, IsAway}
+use Rattle.bus_core.specs.Places.{StandsIn}
+use Rattle.bus_core.specs.Reusing.Participants.{sizes_with}
+use Rattle.bus_core.specs.Reusing.Keeping.{IsOutside, IsPinned, PinKeeps, IsHeldReclaimer, ReclaimerKeeps, IsRowReady, ParticipantKeeps, held_of}
+use Rattle.bus_core.specs.Reusing.Telling.{Returns, Gives, Says}
+use Rattle.bus_core.specs.Senders.{Sender, Situation, Does, Announces, Validates, Unpins, Withdraws, Scans, Clears, reclaiming, at_home, pinning, situation_by, situation, participant_of}
 use Rattle.bus_core.specs.declared.reuses.Reuse.{Reuse}
 use Rattle.bus_core.specs.declared.steps.Step.TheVariants as step
+use Rattle.bus_core.proofs.Reusing.Keeps.{runs_pinned}
+use Rattle.bus_core.proofs.Reusing.Tells.{ready_of, handed_of}
 
--- ---- what is done in its tenure, or before it
--- nothing of a reclamation is left
-does_reclaimed : {E : Type 0} (s : Reclaiming) (z w : Own E) (a b : Bool) → cond a (Scans s) (cond b (Clears s) (Does z)) ≡ Does w → z ≡ w
-does_reclaimed s z w true b i = absurd cc
-does_reclaimed s z w false true i = absurd cc
-does_reclaimed s z w false false i = cc
+-- ---- with rows that are used again
+-- its pin asks for no step
+abbrev pub IsCalm : Pin → Type 0
+IsCalm u = (u ≡ Away) ⊎ ((t : ℕ) × (u ≡ Pinned t))
 
--- the same of a reclamation that there may be
-does_reclaiming : {E : Type 0} (s : Option Reclaiming) (z w : Own E) → reclaiming s z ≡ Does w → z ≡ w
-does_reclaiming None z w i = cc
-does_reclaiming (Some s) z w i = does_reclaimed s z w (nat_lt s.scanned s.senders) (nat_lt s.cleared s.width) i
+-- it goes on in its tenure: no step of its pin is due, and none of a reclamation where it gives the page back
+pub record GoesCalmly {E : Type 0} (r : Reuse) (z : Own E) : Type 0 where
+  pub calm : IsCalm r.pin
+  pub done : (t : ℕ) (page : Page) (reason : Reason) → z ≡ GivesBack t page reason → IfSome r.reclaimer (λ s. is_reclaimed s ≡ true)
 
--- the same of who takes no step of a pin
-does_home : {E : Type 0} (s : Option Reclaiming) (z w : Own E) → at_home s z ≡ Does w → z ≡ w
-does_home s (GivesBack t page reason) w i = does_reclaiming s (GivesBack t page reason) w i
-does_home s IsClosed w i = cc
-does_home s IsIdle w i = cc
-does_home s IsSpent w i = cc
-does_home s LooksAtStage w i = cc
-does_home s (Elects t e) w i = cc
-does_home s (TakesPage t) w i = cc
-does_home s (AwaitsPage t) w i = cc
-does_home s (StoresWord t page stored) w i = cc
-does_home s (StoresLength t page stored) w i = cc
-does_home s (HasHanded t reason) w i = cc
+-- it would give the page of a tenure back, and goes on with this reclamation first
+pub record Reclaims {E : Type 0} (r : Reuse) (z : Own E) (s : Reclaiming) : Type 0 where
+  pub calm : IsCalm r.pin
+  pub is : r.reclaimer ≡ Some s
+  pub tenure : ℕ
+  pub page : Page
+  pub reason : Reason
+  pub gives : z ≡ GivesBack tenure page reason
 
--- the same with a pin
-does_pinning : {E : Type 0} (u : Pin) (s : Option Reclaiming) (z w : Own E) → pinning u s z ≡ Does w → z ≡ w
-does_pinning Away s z w i = does_home s z w i
-does_pinning (Announcing t) s z w i = absurd cc
-does_pinning (Validating t) s z w i = absurd cc
-does_pinning (Pinned t) s z w i = does_home s z w i
-does_pinning (Unpinning t) s z w i = absurd cc
-does_pinning (Invalidated t) s z w i = absurd cc
+-- ---- what a situation tells of what is done in its tenure, of its pin and of its reclamation
+abbrev pub SituationTells : {E : Type 0} → Situation E → Option Reuse → Own E → Type 0
+SituationTells (Does w) reuse z = (z ≡ w) × IfSome reuse (λ r. GoesCalmly r z)
+SituationTells (Announces t) reuse z = IsSomeAnd reuse (λ r. r.pin ≡ Announcing t)
+SituationTells (Validates t) reuse z = IsSomeAnd reuse (λ r. r.pin ≡ Validating t)
+SituationTells (Unpins t) reuse z = IsSomeAnd reuse (λ r. r.pin ≡ Unpinning t)
+SituationTells (Withdraws t) reuse z = IsSomeAnd reuse (λ r. r.pin ≡ Invalidated t)
+SituationTells (Scans s) reuse z = IsSomeAnd reuse (λ r. Reclaims r z s × (s.scanned < s.senders))
+SituationTells (Clears s) reuse z = IsSomeAnd reuse (λ r. Reclaims r z s × IsClearing s)
 
--- the same with both kinds of rows
-pub does_situation : {E : Type 0} (reuse : Option Reuse) (z w : Own E) → situation_by reuse z ≡ Does w → z ≡ w
-does_situation None z w i = cc
-does_situation (Some r) z w i = does_pinning r.pin r.reclaimer z w i
+-- of who takes no step of a pin
+home_tells : {E : Type 0} (r : Reuse) (z : Own E) → IsCalm r.pin → SituationTells (at_home r.reclaimer z) (Some r) z
+home_tells {E} r (GivesBack t page reason) calm = by r.reclaimer refl where
+  by : (l : Option Reclaiming) → r.reclaimer ≡ l → SituationTells {E = E} (reclaiming l (GivesBack t page reason)) (Some r) (GivesBack t page reason)
+  by None e = (refl, record { calm = calm; done = λ u p w i. subst (λ y. IfSome y (λ s. is_reclaimed s ≡ true)) (sym e) tt })
+  by (Some s) e = at (nat_lt s.scanned s.senders) (nat_lt s.cleared s.width) refl refl where
+    goes_on : Reclaims {E = E} r (GivesBack t page reason) s
+    goes_on = record { calm = calm; is = e; tenure = t; page = page; reason = reason; gives = refl }
+
+    at : (a b : Bool) → nat_lt s.scanned s.senders ≡ a → nat_lt s.cleared s.width ≡ b
+        → SituationTells {E = E} (cond a (Scans s) (cond b (Clears s) (Does (GivesBack t page reason)))) (Some r) (GivesBack t page reason)
+    at true b p q = (goes_on, ltb-true _ _ p)
+    at false true p q = (goes_on, record { passed = ltb-false _ _ p; left = ltb-true _ _ q })
+    at false false p q =
+        let over : is_reclaimed s ≡ true = grind (arith, lt-ltb, p, q) in
+        (refl, record { calm = calm; done = λ u g w i. subst (λ y. IfSome y (λ s. is_reclaimed s ≡ true)) (sym e) over })
+home_tells r z calm = (refl, record { calm = calm; done = λ t page reason i. absurd cc })
+
+-- of whatever it holds
+pinning_tells : {E : Type 0} (r : Reuse) (z : Own E) (u : Pin) → r.pin ≡ u → SituationTells (pinning u r.reclaimer z) (Some r) z
+pinning_tells r z Away e = home_tells r z (inl e)
+pinning_tells r z (Announcing t) e = e
+pinning_tells r z (Validating t) e = e
+pinning_tells r z (Pinned t) e = home_tells r z (inr (t, e))
+pinning_tells r z (Unpinning t) e = e
+pinning_tells r z (Invalidated t) e = e
+
+-- with both kinds of rows
+pub tells_by : {E : Type 0} (reuse : Option Reuse) (z : Own E) (y : Situation E) → situation_by reuse z ≡ y → SituationTells y reuse z
+tells_by {E} reuse z y i = subst (λ y. SituationTells y reuse z) i (by reuse) where
+  by : (reuse : Option Reuse) → SituationTells {E = E} (situation_by reuse z) reuse z
+  by None = (refl, tt)
+  by (Some r) = pinning_tells r z r.pin refl
+
+-- the situation that it is in
+pub situation_tells : {E : Type 0} (X : Election E) (v : Sender E) (y : Situation E) → situation X v ≡ y
+    → SituationTells y v.reuse (own_situation X v.core)
+situation_tells X v y i = tells_by v.reuse (own_situation X v.core) y i
 
 -- what it does in its tenure is the situation of its turns
 pub own_is : {E : Type 0} (X : Election E) (v : Sender E) (z : Own E) → situation X v ≡ Does z → own_situation X v.core ≡ z
-own_is X v z i = does_situation v.reuse (own_situation X v.core) z i
+own_is X v z i = (situation_tells X v (Does z) i).0
 
--- ---- which reclamation goes on
-scans_reclaimed : {E : Type 0} (s q : Reclaiming) (z : Own E) (a b : Bool) → nat_lt s.scanned s.senders ≡ a
-    → cond a (Scans s) (cond b (Clears s) (Does z)) ≡ Scans q → (s ≡ q) × (nat_lt s.scanned s.senders ≡ true)
-scans_reclaimed s q z true b p i = (cc, p)
-scans_reclaimed s q z false true p i = absurd cc
-scans_reclaimed s q z false false p i = absurd cc
+-- ---- with what a sender keeps
+module _ {E : Type 0} (width : ℕ) (Belongs : ℕ → E → Type 0) (c : Core E) where
+  -- what holds of rows that are used again leads to what follows with what is kept of them
+  pub some_kept : (A B : Reuse → Type 0) (reuse : Option Reuse) → ReuseKeeps width Belongs c reuse
+      → ((r : Reuse) → ParticipantKeeps width Belongs (participant_of c r) → A r → B r) → IsSomeAnd reuse A → IsSomeAnd reuse B
+  some_kept A B None k f a = a
+  some_kept A B (Some r) k f a = f r k a
 
--- a reclamation that clears has a word left
-clears_reclaimed : {E : Type 0} (s q : Reclaiming) (z : Own E) (a b : Bool) → nat_lt s.cleared s.width ≡ b
-    → cond a (Scans s) (cond b (Clears s) (Does z)) ≡ Clears q → (s ≡ q) × (nat_lt s.cleared s.width ≡ true)
-clears_reclaimed s q z true b p i = absurd cc
-clears_reclaimed s q z false true p i = (cc, p)
-clears_reclaimed s q z false false p i = absurd cc
+  -- who goes through an election stands in its tenure
+  pub stands_in : (reuse : Option Reuse) → ReuseKeeps width Belongs c reuse → (t : ℕ) (e : E) → c.phase ≡ Electing t e → StandsIn reuse t
+  stands_in None k t e at = tt
+  stands_in (Some r) k t e at = (runs_pinned Belongs c r.pin t e k.pin at).0
 
--- the same of a reclamation that there may be: it asks
-scans_reclaiming : {E : Type 0} (s : Option Reclaiming) (q : Reclaiming) (z : Own E) → reclaiming s z ≡ Scans q → (s ≡ Some q)
-    × (q.scanned < q.senders)
-scans_reclaiming None q z i = absurd cc
-scans_reclaiming (Some s) q z i =
-    let w = scans_reclaimed s q z (nat_lt s.scanned s.senders) (nat_lt s.cleared s.width) refl i in
-    (ap Some w.0, subst (λ (y : Reclaiming). y.scanned < y.senders) w.0 (ltb-true _ _ w.1))
+  -- whose pin asks for no step, and whose election does not run, pins none
+  pub calm_away : (r : Reuse) → ParticipantKeeps width Belongs (participant_of c r) → IsOutside c.phase → IsCalm r.pin → r.pin ≡ Away
+  calm_away r k out (inl away) = away
+  calm_away r k out (inr p) =
+      let h : IsPinned Belongs c p.0 = subst (PinKeeps Belongs c) p.1 k.pin in
+      absurd (let bad : IsOutside (Electing p.0 h.election) = subst IsOutside h.is out in cc)
 
--- or clears
-clears_reclaiming : {E : Type 0} (s : Option Reclaiming) (q : Reclaiming) (z : Own E) → reclaiming s z ≡ Clears q → (s ≡ Some q)
-    × (q.cleared < q.width)
-clears_reclaiming None q z i = absurd cc
-clears_reclaiming (Some s) q z i =
-    let w = clears_reclaimed s q z (nat_lt s.scanned s.senders) (nat_lt s.cleared s.width) refl i in
-    (ap Some w.0, subst (λ (y : Reclaiming). y.cleared < y.width) w.0 (ltb-true _ _ w.1))
+  -- the same of who goes on in its tenure
+  pub goes_away : (reuse : Option Reuse) → ReuseKeeps width Belongs c reuse → IsOutside c.phase → (z : Own E) → IfSome reuse (λ r. GoesCalmly r z)
+      → IsAway reuse
+  goes_away None k out z g = tt
+  goes_away (Some r) k out z g = calm_away r k out g.calm
 
--- who takes no step of a pin asks with its own reclamation
-scans_home : {E : Type 0} (s : Option Reclaiming) (q : Reclaiming) (z : Own E) → at_home s z ≡ Scans q → (s ≡ Some q) × (q.scanned < q.senders)
-scans_home s q (GivesBack t page reason) i = scans_reclaiming s q (GivesBack t page reason) i
-scans_home s q z i = absurd cc
+  -- a reclamation is this holder's
+  pub held_reclaimer : (r : Reuse) → ParticipantKeeps width Belongs (participant_of c r) → (s : Reclaiming) → r.reclaimer ≡ Some s
+      → IsHeldReclaimer (sizes_with c.layout r.rows) c.phase s
+  held_reclaimer r k s e = subst (ReclaimerKeeps (sizes_with c.layout r.rows) c.phase) e k.reclaimer
 
--- and clears with it
-clears_home : {E : Type 0} (s : Option Reclaiming) (q : Reclaiming) (z : Own E) → at_home s z ≡ Clears q → (s ≡ Some q) × (q.cleared < q.width)
-clears_home s q (GivesBack t page reason) i = clears_reclaiming s q (GivesBack t page reason) i
-clears_home s q z i = absurd cc
-
--- the same with a pin: it asks
-pub scans_pinning : {E : Type 0} (u : Pin) (s : Option Reclaiming) (q : Reclaiming) (z : Own E) → pinning u s z ≡ Scans q → (s ≡ Some q)
-    × (q.scanned < q.senders)
-scans_pinning Away s q z i = scans_home s q z i
-scans_pinning (Pinned t) s q z i = scans_home s q z i
-scans_pinning u s q z i = absurd cc
-
--- or clears
-pub clears_pinning : {E : Type 0} (u : Pin) (s : Option Reclaiming) (q : Reclaiming) (z : Own E) → pinning u s z ≡ Clears q → (s ≡ Some q)
-    × (q.cleared < q.width)
-clears_pinning Away s q z i = clears_home s q z i
-clears_pinning (Pinned t) s q z i = clears_home s q z i
-clears_pinning u s q z i = absurd cc
+  -- who gives the page of a tenure back, or has handed it on, has the row of the next one ready
+  pub row_ready : (reuse : Option Reuse) → ReuseKeeps width Belongs c reuse → (t : ℕ) (z : Own E) → Returns t z
+      → ((reason : Reason) → z ≡ HasHanded t reason → c.phase ≡ Giving t reason) → held_of c.phase ≡ Some t
+      → IfSome reuse (λ r. GoesCalmly r z) → IfSome reuse (λ r. IsRowReady (sizes_with c.layout r.rows) t r.reclaimer)
+  row_ready None k t z w handed held g = tt
+  row_ready (Some r) k t z (Gives page reason) handed held g =
+      ready_of (sizes_with c.layout r.rows) c.phase r.reclaimer t k.reclaimer held (g.done t page reason refl)
+  row_ready (Some r) k t z (Says reason) handed held g =
+      ready_of (sizes_with c.layout r.rows) c.phase r.reclaimer t k.reclaimer held
+      (handed_of (sizes_with c.layout r.rows) c.phase r.reclaimer t reason k.reclaimer (handed reason refl))
 
 -- ---- from what code sees of it
 module _ {E : Type 0} where
@@ -124,4 +151,4 @@ module _ {E : Type 0} where
 
   -- who is seen to go on as a sender is in the situation of its turns
   pub does_by : (r : Option Reuse) (z : Own E) (d : Doing) → step_of (situation_by r z) ≡ step.Does d → situation_by r z ≡ Does z
-  does_by r z d i = let w = is_does (situation_by r z) d i in w.1 ∙ ap Does (sym (does_situation r z w.0 w.1))
+  does_by r z d i = let w = is_does (situation_by r z) d i in w.1 ∙ ap Does (sym (tells_by r z (Does w.0) w.1).0)

@@ -1,248 +1,325 @@
--- What the answer of a step tells, of the one table.
+-- What the answer of a step tells.
 use Rattle.std.specs.Prelude.{◌⊎◌}
-use Rattle.std.proofs.Common.{◌≡◌, ◌≢◌, inl, inr, ℕ, ◌/◌, ◌≤◌, Bool, true, false, cond, Option, Some, None, IsSome, is_some, nat_le, ◌==◌, refl, sym, ◌∙◌, ap, subst, arith}
-use Rattle.std.proofs.lemmas.Bool.{leb-false, leb-true, true≢false}
-use Rattle.std.proofs.lemmas.Bool.Decides.{eqb_tells}
+use Rattle.std.proofs.Common.{◌≡◌, ◌≢◌, inl, inr, ℕ, ◌+◌, ◌/◌, ◌<◌, ◌≤◌, Bool, true, false, cond, Option, Some, None, IsSome, IfSome, IsSomeAnd, nat_lt, nat_le, ◌==◌, ◌&&◌, refl, sym, ◌∙◌, ap, subst, arith}
+use Rattle.std.proofs.lemmas.Bool.{leb-false, leb-true, lt-ltb, le-ltb, eqb-true, eqb-false, true≢false}
 use Rattle.std.proofs.lemmas.Option.{same_Some}
+use Rattle.bus_register.specs.Words.{register}
+use Rattle.bus_register.specs.declared.registers.Op.TheVariants.{Load}
+use Rattle.bus_register.specs.declared.registers.SenderNo.{SenderNo}
 use Rattle.bus_batch.specs.declared.batches.Phase.{Phase as BatchPhase}
 use Rattle.bus_batch.specs.declared.batches.Phase.TheVariants.{Open, Marking, Closed}
 use Rattle.bus_batch.specs.declared.messages.Mark.TheVariants as mark
-use Rattle.bus_presence.specs.Reclaimers.{behind_of}
+use Rattle.bus_presence.specs.Reclaimers.{Reclaiming, behind_of}
+use Rattle.bus_presence.specs.Reclamation.{presence_at}
+use Rattle.bus_presence.specs.declared.pins.Pin.TheVariants.{Away, Announcing, Pinned, Unpinning, Invalidated}
 use Rattle.bus_tenure.specs.Core.{Core, Election, is_marking, is_closing, is_leaving, row_at}
-use Rattle.bus_tenure.specs.Situations.{Situation as Own, IsClosed, IsIdle, IsSpent, LooksAtStage, Elects, TakesPage, AwaitsPage, StoresWord, StoresLength, GivesBack, HasHanded, situation_of, situation_at, waits, core_begun, op_at, answer_at, answer_of_election, answer_sent, answer_of_return}
+use Rattle.bus_tenure.specs.Seen.{HasElection, AwaitsItsPage}
+use Rattle.bus_tenure.specs.Situations.{Situation as Own, IsClosed, IsIdle, IsSpent, LooksAtStage, Elects, TakesPage, AwaitsPage, StoresWord, StoresLength, GivesBack, HasHanded, situation_of, waits, core_begun, answer_of_stage, answer_of_election, answer_sent, answer_of_return}
 use Rattle.bus_tenure.specs.declared.pages.Page.{Page}
 use Rattle.bus_tenure.specs.declared.phases.Reason.{Reason}
 use Rattle.bus_tenure.specs.declared.phases.Reason.TheVariants.{Sent, FoundEnd, NoRoom}
-use Rattle.bus_tenure.specs.declared.phases.Phase.TheVariants.{Electing, Giving}
-use Rattle.bus_tenure.specs.declared.turns.Turn.{Turn}
 use Rattle.bus_tenure.specs.declared.turns.Turn.TheVariants as turn
 use Rattle.bus_tenure.proofs.Situated.{tells}
-use Rattle.bus_tenure.specs.Seen.{HasElection, AwaitsItsPage}
-use Rattle.bus_core.proofs.Situated.{own_is}
-use Rattle.bus_core.specs.Reusing.Besides.{reclaims_by}
-use Rattle.bus_core.specs.Reusing.Participants.{Due, Pins, Reclaims, Goes, answer_going}
-use Rattle.bus_core.specs.Reusing.Keeping.{ParticipantKeeps}
-use Rattle.bus_core.specs.Reusing.Telling.{FeedTells as TellsAgain, Returns, Gives, Says, GivesReady as GivesAgain, HasPublished, HandsOnSent, HandsOnEnd, HandsOnFull}
-use Rattle.bus_core.specs.Reusing.Turns.{Participant, due, op_due, answer_due, answer_of_reclaim}
-use Rattle.bus_core.proofs.Reusing.Keeps.{goes_beside}
-use Rattle.bus_core.proofs.Reusing.Tells.{ChoosesItself, Shows, reclaims_beside, gives_shows, told_pin, told_reclaimer, told_own}
-use Rattle.bus_core.specs.Keeping.{ReuseKeeps, sender}
-use Rattle.bus_core.specs.Senders.{Sender, Situation, Does, Announces, Validates, Unpins, Withdraws, Scans, Clears, apart, again, participant_of, situation}
-use Rattle.bus_core.specs.Table.{line, line_now, rest_at}
-use Rattle.bus_core.specs.Telling.{LooksFirst, FeedTells, RestTells, RestIsTold, GivesReady, Begins, TellsNoMore}
+use Rattle.bus_core.specs.Keeping.{ReuseKeeps}
+use Rattle.bus_core.specs.Reusing.Keeping.{LostKeeps, held_of}
+use Rattle.bus_core.specs.Reusing.Participants.{sizes_with}
+use Rattle.bus_core.specs.Reusing.Telling.{Returns, Gives, Says, HasPublished}
+use Rattle.bus_core.specs.Reusing.Turns.{answer_of_loss, answer_of_reclaim}
+use Rattle.bus_core.specs.Senders.{Sender, Situation, Does, Announces, Validates, Unpins, Withdraws, Scans, Clears, pinning, situation_by, situation}
+use Rattle.bus_core.specs.Table.{line, line_now, rest_at, seen, lost_of, answer_elected}
+use Rattle.bus_core.specs.Telling.{LooksFirst, FeedTells, RestTells, RestIsTold, IsInvalidated, Loses, LosesBy, IsChosen, GivesReady, IsBehind, Begins, TellsNoMore}
 use Rattle.bus_core.specs.declared.reuses.Reuse.{Reuse}
-use Rattle.bus_core.proofs.Bridged.{at_none, at_some, does_goes, goes_does}
-use Rattle.bus_core.proofs.Looking.{vain_of, waits_of, opened_of, enters_of, first_looks, looks_first, rests_idle, rests_closed, rests_spent}
+use Rattle.bus_core.proofs.Looking.{vain_of, waits_of, opened_of, first_looks, looks_first, rests_idle, rests_closed, rests_spent}
+use Rattle.bus_core.proofs.Reusing.Tells.{ChoosesItself, Shows, takes_page, gives_shows, shown_handed}
+use Rattle.bus_core.proofs.Situated.{SituationTells, situation_tells, own_is, some_kept, stands_in, held_reclaimer, row_ready}
 
--- ---- with rows that are used again
--- what the answer of a participant's step tells
-pub told_at_some : {E : Type 0} (X : Election E) (width : ℕ) (Belongs : ℕ → E → Type 0) (v : Participant E) (got word : ℕ)
-    → ParticipantKeeps width Belongs v → ChoosesItself X v.core → IsSome ((line_now X (again v)).op word)
-    → TellsAgain X v got word ((line_now X (again v)).answer got word)
-told_at_some {E} X width Belongs v got word k own h =
-    let s = at_some X v in subst (TellsAgain X v got word) (sym (s.answer got word)) (by (due X v) refl (subst IsSome (s.op word) h))
-  where
-    is_some_of : {A : Type 0} (x : Option A) (a : A) → x ≡ Some a → IsSome x
-    is_some_of x a e = subst IsSome (sym e) refl
+-- ---- situations
+-- its step may be answered by Going
+abbrev IsGoing : {E : Type 0} → Situation E → Type 0
+IsGoing (Does (TakesPage t)) = ⊥
+IsGoing (Does (GivesBack t page reason)) = ⊥
+IsGoing (Does (HasHanded t reason)) = ⊥
+IsGoing (Withdraws t) = ⊥
+IsGoing z = Unit {0}
 
-    by : (d : Due E) → due X v ≡ d → IsSome (op_due X v d word) → TellsAgain X v got word (answer_due X v d got word)
-    by (Pins o) i h = told_pin X v got word width Belongs k _ o i refl
-    by (Reclaims s o) i h =
-        let f = reclaims_beside _ _ _ s o i in
-        told_reclaimer X v got word width Belongs k _ o (i ∙ sym (ap (λ y. reclaims_by y o (situation_of X v.core)) f.0)) (is_some_of v.reclaimer s f.0) (λ r e. ap (λ y. answer_of_reclaim (behind_of y got)) (same_Some _ _ (sym f.0 ∙ e)))
-    by (Goes z) i h =
-        let e = goes_beside _ _ _ z i in
-        told_own X v got word width Belongs k _ (i ∙ ap Goes (sym e)) own (ap (λ y. answer_going X v.core y got word) (sym e)) (subst (λ d. IsSome (op_due X v d word)) (sym i) h)
+-- with its step no tenure is lost
+abbrev LosesNone : {E : Type 0} → Situation E → Type 0
+LosesNone (Does (Elects t e)) = ⊥
+LosesNone (Unpins t) = ⊥
+LosesNone z = Unit {0}
 
-module _ {E : Type 0} (X : Election E) (v : Participant E) (got word : ℕ) where
-  -- who gives a page back as a participant does so as a sender
-  gives_ready : (t : ℕ) → GivesAgain X v t → GivesReady X (again v) t
-  gives_ready t w = record { does = goes_does X v (situation_of X v.core) w.due_is; returns = w.returns; ready = w.ready }
-
-  -- and back
-  gives_again : (t : ℕ) → GivesReady X (again v) t → GivesAgain X v t
-  gives_again t w = record { due_is = does_goes X v (situation_of X v.core) w.does; returns = w.returns; ready = w.ready }
-
-  module _ (width : ℕ) (Belongs : ℕ → E → Type 0) (k : ParticipantKeeps width Belongs v) where
-    -- a first look at the stage
-    first_again : due X v ≡ Goes LooksAtStage → LooksFirst (again v)
-    first_again i = looks_first X (again v) width Belongs k (goes_does X v LooksAtStage i)
-
-  -- and back
-  again_first : LooksFirst (again v) → due X v ≡ Goes LooksAtStage
-  again_first w = does_goes X v LooksAtStage (first_looks X (again v) w)
-
-  -- the same, of the one sender
-  tells_again : (width : ℕ) (Belongs : ℕ → E → Type 0) → ParticipantKeeps width Belongs v → (a : Turn) → TellsAgain X v got word a → FeedTells X (again v) got word a
-  tells_again width Belongs k turn.Idle w = w
-  tells_again width Belongs k turn.Waiting w = elim w [
-    | inl l ↦ inl record { looks = first_again width Belongs k l.looks; vain = vain_of v.core got l.waits }
-    | inr b ↦ inr record { tenure = b.tenure; is = b.is }
-  ]
-  tells_again width Belongs k turn.Going w =
-      let s = at_some X v in
-      record {
-        loses = λ t o l. w.loses t o record { parts = l.parts; lost = l.lost };
-        holds = λ t i. w.holds t i;
-        invalidated = λ b. w.invalidated record { tenure = b.tenure; is = b.is };
-        takes = λ t c. w.takes t record { pinned = c.pinned; election = c.election; elects = c.elects; chosen = c.chosen };
-        gives = λ t g. w.gives t (gives_again t g);
-        waits = λ l. w.waits record { looks = again_first l.looks; waits = waits_of v.core got l.vain };
-        spent = λ l. w.spent record { looks = again_first l.looks; enters = enters_of v.core got l.opened l.may; past = l.past };
-        begins = λ i. subst (λ y. Begins y (got / 2)) (sym (s.fed got word)) (w.begins (again_first i));
-        behind = λ t p b. w.behind t p record { loads = sym (s.op word) ∙ b.loads; found = b.found; below = b.below; tenure = b.tenure; held = b.held; past = b.past };
-      }
-  tells_again width Belongs k (turn.Lost t o) w = record { parts = w.parts; lost = w.lost }
-  tells_again width Belongs k (turn.Own t) w = record { pinned = w.pinned; election = w.election; elects = w.elects; chosen = w.chosen }
-  tells_again width Belongs k (turn.Delivered t first last) w =
-      record { gives = gives_ready t w.gives; published = w.published; sends = w.sends; first_is = w.first_is; last_is = w.last_is }
-  tells_again width Belongs k (turn.Left t) w = record { gives = gives_ready t w.gives; published = w.published; leaves = w.leaves }
-  tells_again width Belongs k turn.Full w = record { tenure = w.tenure; gives = gives_ready w.tenure w.gives; lacks = w.lacks }
-  tells_again width Belongs k turn.Closed w = record { tenure = w.tenure; gives = gives_ready w.tenure w.gives; why = w.why }
-  tells_again width Belongs k turn.Spent w =
-      let o = opened_of v.core got w.enters in record { looks = first_again width Belongs k w.looks; opened = o.0; may = o.1; past = w.past }
-  tells_again width Belongs k (turn.Behind t p) w =
-      record { loads = (at_some X v).op word ∙ w.loads; found = w.found; below = w.below; tenure = w.tenure; held = w.held; past = w.past }
-
--- ---- with a row for each tenure
--- where the election chose it, the page is taken next
-takes_page : {E : Type 0} (X : Election E) (c : Core E) (t : ℕ) (e : E) (o : ℕ) → c.phase ≡ Electing t e → X.owner e ≡ Some o
-    → situation_of X c ≡ TakesPage t
-takes_page X c t e o elects owned = ap (situation_at X c) elects ∙ ap (λ w. cond (is_some w) (TakesPage t) (Elects t e)) owned
+-- the step that gives the page back, or says that it is handed on, is not answered so
+returns_not : {E : Type 0} (t : ℕ) (z : Own E) → Returns t z → ¬ IsGoing (Does z)
+returns_not t z (Gives page reason) g = g
+returns_not t z (Says reason) g = g
 
 -- one situation has one election
-same_election : {E : Type 0} (t u : ℕ) (e f : E) → ◌≡◌ {A = Own E} (Elects t e) (Elects u f) → e ≡ f
+same_election : {E : Type 0} (t u : ℕ) (e f : E) → ◌≡◌ {A = Situation E} (Does (Elects t e)) (Does (Elects u f)) → e ≡ f
 same_election t u e f i = cc
 
--- who has handed the page on shows why
-handed_shows : {E : Type 0} (X : Election E) (c : Core E) (t : ℕ) (reason : Reason) → situation_of X c ≡ HasHanded t reason
-    → Shows c t c.phase reason
-handed_shows X c t reason i = subst (λ p. Shows c t p reason) (sym (tells X c (HasHanded t reason) i)) (by reason) where
-  by : (r : Reason) → Shows c t (Giving t r) r
-  by Sent = HandsOnSent
-  by FoundEnd = HandsOnEnd
-  by NoRoom = HandsOnFull
+module _ {E : Type 0} (X : Election E) (v : Sender E) (got word : ℕ) where
+  -- what it does in its tenure
+  abbrev own : Own E
+  own = situation_of X v.core
 
-module _ {E : Type 0} (X : Election E) (c : Core E) (got word : ℕ) where
-  -- what is done as a sender is one situation
-  own_of : (z w : Own E) → Does z ≡ Does w → z ≡ w
-  own_of z w e = cc
+  -- ---- what is told of it tells its situation
+  -- it is to clear its presence
+  unpins_by : (t : ℕ) (reuse : Option Reuse) → IsSomeAnd reuse (λ r. r.pin ≡ Unpinning t) → situation_by reuse own ≡ Unpins t
+  unpins_by t None p = absurd p
+  unpins_by t (Some r) p = ap (λ u. pinning u r.reclaimer own) p
 
-  -- a first look at the stage
-  own_looks : LooksFirst (apart c) → situation_of X c ≡ LooksAtStage
-  own_looks w = own_of (situation_of X c) LooksAtStage (first_looks X (apart c) w)
+  -- or came too late
+  withdraws_by : (reuse : Option Reuse) → IsSomeAnd reuse (λ r. IsInvalidated r) → (t : ℕ) × (situation_by reuse own ≡ Withdraws t)
+  withdraws_by None w = absurd w
+  withdraws_by (Some r) w = (w.tenure, ap (λ u. pinning u r.reclaimer own) w.is)
 
-  -- and back
-  looks_apart : situation_of X c ≡ LooksAtStage → LooksFirst (apart c)
-  looks_apart i = looks_first X (apart c) 0 (λ at e. Unit {0}) tt (ap Does i)
+  -- its election chose it
+  takes_by : (t : ℕ) → IsChosen X v t → situation X v ≡ Does (TakesPage t)
+  takes_by t w =
+      ap (situation_by v.reuse) (takes_page X v.core t w.election v.core.me w.elects w.chosen) ∙ by v.reuse w.pinned
+    where
+      by : (reuse : Option Reuse) → IfSome reuse (λ r. r.pin ≡ Pinned t) → situation_by {E = E} reuse (TakesPage t) ≡ Does (TakesPage t)
+      by None p = refl
+      by (Some r) p = ap (λ u. pinning u r.reclaimer (TakesPage t)) p
 
-  -- nothing else is told of a step in this situation
-  quiet : (z : Own E) → situation_of X c ≡ z → ((t : ℕ) (e : E) → z ≡ Elects t e → (o : ℕ) → X.owner (X.fed e got word) ≡ Some o → o ≡ c.me)
-      → ((t : ℕ) → z ≢ TakesPage t) → ((t : ℕ) → ¬ Returns t z)
-      → (z ≡ LooksAtStage → waits c got ≡ true → ⊥) → (z ≡ LooksAtStage → c.layout.rows ≤ got / 2 → ⊥) → (z ≡ LooksAtStage → Begins ((line_now X (apart c)).fed got word) (got / 2)) → TellsNoMore X (apart c) got word
-  quiet z i own takes returns vain past begins = record {
-    loses = λ t o w. w.other (own t w.election (sym i ∙ own_of (situation_of X c) (Elects t w.election) w.elects) o.0 w.chosen);
-    holds = λ t n. absurd n;
-    invalidated = λ n. n;
-    takes = λ t w. takes t (sym i ∙ takes_page X c t w.election c.me w.elects w.chosen);
-    gives = λ t w. returns t (subst (Returns t) i w.returns);
-    waits = λ w. vain (sym i ∙ own_looks w.looks) (waits_of c got w.vain);
-    spent = λ w. past (sym i ∙ own_looks w.looks) w.past;
-    begins = λ w. begins (sym i ∙ own_looks w);
-    behind = λ t p n. n;
-  }
+  -- ---- a step with which nothing is told
+  module _ (z : Situation E) (i : situation X v ≡ z) where
+    -- who loads no presence is behind nobody
+    unasked : ((rows p : ℕ) → (line X v z).op word ≢ Some (Load record { 0 = presence_at (sizes_with v.core.layout rows) p }))
+        → (t p : ℕ) → ¬ IsSomeAnd v.reuse (λ r. IsBehind X v got word t p r)
+    unasked other t p w = by v.reuse w where
+      by : (reuse : Option Reuse) → ¬ IsSomeAnd reuse (λ r. IsBehind X v got word t p r)
+      by None w = w
+      by (Some r) w = other r.rows p (sym (ap (λ y. (line X v y).op word) i) ∙ w.loads)
 
-  -- who gives the page back does nothing else
-  returns_not : (z : Own E) (t : ℕ) → Returns t z → (z ≢ LooksAtStage)
-      × (((u : ℕ) (e : E) → z ≢ Elects u e) × (((u : ℕ) (page : Page) (stored : ℕ) → z ≢ StoresWord u page stored) × ((u : ℕ) (page : Page) (stored : ℕ) → z ≢ StoresLength u page stored)))
-  returns_not z t (Gives page reason) = ((λ e. cc), ((λ u f e. cc), ((λ u q stored e. cc), (λ u q stored e. cc))))
-  returns_not z t (Says reason) = ((λ e. cc), ((λ u f e. cc), ((λ u q stored e. cc), (λ u q stored e. cc))))
+    -- no tenure is lost but with a step of an election, or one that clears a presence
+    lost_not : LosesNone z → (t : ℕ) (o : SenderNo) → ¬ Loses X v got word t o
+    lost_not none t o w = by v.reuse refl w where
+      by : (reuse : Option Reuse) → v.reuse ≡ reuse → ¬ LosesBy X v got word t o reuse
+      by None e w = subst LosesNone (sym i ∙ w.elects) none
+      by (Some r) e w = subst LosesNone (sym i ∙ ap (λ y. situation_by y own) e ∙ unpins_by t (Some r) w.parts) none
 
-  -- the tenure that the stage shows has begun
-  begun : waits c got ≡ false → nat_le c.layout.rows (got / 2) ≡ false → situation_of X c ≡ LooksAtStage
-      → Begins ((line_now X (apart c)).fed got word) (got / 2)
-  begun e f i = subst (λ z. Begins ((line X (apart c) (Does z)).fed got word) (got / 2)) (sym i) (
-    X.started c.layout.senders c.me c.layout.rounds (row_at c.layout (got / 2)),
-    ap (λ a. (cond a c (cond (nat_le c.layout.rows (got / 2)) (record c { least = got / 2 }) (core_begun X c (got / 2)))).phase) e
-        ∙ ap (λ a. (cond a (record c { least = got / 2 }) (core_begun X c (got / 2))).phase) f,
-  )
+    -- nothing else is told
+    quiet : IsGoing z → ((t : ℕ) (o : SenderNo) → ¬ Loses X v got word t o) → ((t : ℕ) → z ≡ Unpins t → held_of v.core.phase ≡ Some t)
+        → (z ≡ Does LooksAtStage → (waits v.core got ≡ false) × (got / 2 < v.core.layout.rows) × Begins ((line_now X v).fed got word) (got / 2))
+        → ((t p : ℕ) → ¬ IsSomeAnd v.reuse (λ r. IsBehind X v got word t p r)) → TellsNoMore X v got word
+    quiet going loses holds looks behind = record {
+      loses = loses;
+      holds = λ t p. holds t (sym i ∙ unpins_by t v.reuse p);
+      invalidated = λ w. subst IsGoing (sym i ∙ (withdraws_by v.reuse w).1) going;
+      takes = λ t w. subst IsGoing (sym i ∙ takes_by t w) going;
+      gives = λ t w. returns_not t own w.returns (subst IsGoing (sym i ∙ w.does) going);
+      waits = λ w. true≢false (sym (waits_of v.core got w.vain) ∙ (looks (sym i ∙ first_looks X v w.looks)).0);
+      spent = λ w. let below = (looks (sym i ∙ first_looks X v w.looks)).1 in let past = w.past in omega arith;
+      begins = λ w. (looks (sym i ∙ first_looks X v w)).2;
+      behind = behind;
+    }
 
-  -- a first look at the stage
-  looks : (a b : Bool) → waits c got ≡ a → nat_le c.layout.rows (got / 2) ≡ b → situation_of X c ≡ LooksAtStage
-      → FeedTells X (apart c) got word (cond a turn.Waiting (cond b turn.Spent turn.Going))
-  looks true b e f i = inl record { looks = looks_apart i; vain = vain_of c got e }
-  looks false true e f i =
-      let o = opened_of c got e in record { looks = looks_apart i; opened = o.0; may = o.1; past = leb-true c.layout.rows (got / 2) f }
-  looks false false e f i = quiet LooksAtStage i (λ t x w. absurd cc) (λ t w. cc) (λ t w. (returns_not LooksAtStage t w).0 refl)
-      (λ w y. true≢false (sym y ∙ e)) (λ w y. let n = leb-false c.layout.rows (got / 2) f in omega arith) (λ w. begun e f i)
+  module _ (width : ℕ) (Belongs : ℕ → E → Type 0) (k : ReuseKeeps width Belongs v.core v.reuse) where
+    -- ---- a first look at the stage
+    -- the tenure that the stage shows has begun
+    begun : situation X v ≡ Does LooksAtStage → waits v.core got ≡ false → nat_le v.core.layout.rows (got / 2) ≡ false
+        → Begins ((line_now X v).fed got word) (got / 2)
+    begun i e f = subst (λ y. Begins ((line X v y).fed got word) (got / 2)) (sym i) (by v.reuse) where
+      by : (reuse : Option Reuse) → Begins (seen X v.core reuse got) (got / 2)
+      by None = (
+        X.started v.core.layout.senders v.core.me v.core.layout.rounds (row_at v.core.layout (got / 2)),
+        ap (λ a. (cond a v.core (cond (nat_le v.core.layout.rows (got / 2)) (record v.core { least = got / 2 }) (core_begun X v.core (got / 2)))).phase) e
+            ∙ ap (λ a. (cond a (record v.core { least = got / 2 }) (core_begun X v.core (got / 2))).phase) f,
+      )
+      by (Some r) =
+          ap (λ a. cond a Away (cond (nat_le v.core.layout.rows (got / 2)) Away (Announcing (got / 2)))) e
+          ∙ ap (λ a. cond a Away (Announcing (got / 2))) f
 
-  -- a step of an election that goes on, chose this sender, or another
-  elects_quiet : (t : ℕ) (e : E) → situation_of X c ≡ Elects t e → ((o : ℕ) → X.owner (X.fed e got word) ≡ Some o → o ≡ c.me)
-      → TellsNoMore X (apart c) got word
-  elects_quiet t e i own =
-      quiet (Elects t e) i (λ u f w o q. own o (ap (λ y. X.owner (X.fed y got word)) (same_election t u e f w) ∙ q)) (λ u w. cc)
-      (λ u w. (returns_not (Elects t e) u w).1.0 t e refl) (λ w y. absurd cc) (λ w y. absurd cc) (λ w. absurd cc)
+    looks : situation X v ≡ Does LooksAtStage → (a b : Bool) → waits v.core got ≡ a → nat_le v.core.layout.rows (got / 2) ≡ b
+        → FeedTells X v got word (cond a turn.Waiting (cond b turn.Spent turn.Going))
+    looks i true b e f = inl record { looks = looks_first X v width Belongs k i; vain = vain_of v.core got e }
+    looks i false true e f =
+        let o = opened_of v.core got e in
+        record { looks = looks_first X v width Belongs k i; opened = o.0; may = o.1; past = leb-true v.core.layout.rows (got / 2) f }
+    looks i false false e f =
+        quiet (Does LooksAtStage) i tt (lost_not (Does LooksAtStage) i tt) (λ t q. absurd cc)
+        (λ q. (e, leb-false v.core.layout.rows (got / 2) f, begun i e f))
+        (unasked (Does LooksAtStage) i (λ rows p q. let n = ap register (same_Some _ _ q) in omega arith))
 
-  -- each step of an election
-  elects : (t : ℕ) (e : E) → situation_of X c ≡ Elects t e → (own : Option ℕ) → X.owner (X.fed e got word) ≡ own
-      → FeedTells X (apart c) got word (answer_of_election c t own)
-  elects t e i None q = elects_quiet t e i (λ o p. let bad = sym q ∙ p in absurd cc)
-  elects t e i (Some o) q = by (o == c.me) refl where
-    by : (b : Bool) → (o == c.me) ≡ b → FeedTells X (apart c) got word (cond b turn.Going (turn.Lost t record { 0 = o }))
-    by true own = elects_quiet t e i (λ p w. elim (eqb_tells o c.me) [ inl y ↦ same_Some _ _ (sym w ∙ q) ∙ y.1 | inr n ↦ absurd (true≢false (sym own ∙ n.0)) ])
-    by false own = record { election = e; elects = ap Does i; chosen = q; other = λ same. elim (eqb_tells o c.me) [ inl y ↦ true≢false (sym y.0 ∙ own) | inr n ↦ n.1 same ] }
+    -- ---- a step of an election
+    -- it goes on, or has chosen this sender, or its loss is told later
+    elects_on : (t : ℕ) (e : E) → situation X v ≡ Does (Elects t e)
+        → (v.reuse ≡ None → (o : ℕ) → X.owner (X.fed e got word) ≡ Some o → o ≡ v.core.me) → TellsNoMore X v got word
+    elects_on t e i itself =
+        quiet (Does (Elects t e)) i tt (λ u o w. loses u o v.reuse refl w) (λ u q. absurd cc) (λ q. absurd cc) (λ u p w. behind u p v.reuse w)
+      where
+        loses : (u : ℕ) (o : SenderNo) (reuse : Option Reuse) → v.reuse ≡ reuse → ¬ LosesBy X v got word u o reuse
+        loses u o None q w =
+            w.other (itself q o.0 (ap (λ y. X.owner (X.fed y got word)) (same_election t u e w.election (sym i ∙ w.elects)) ∙ w.chosen))
+        loses u o (Some r) q w = let bad = sym i ∙ ap (λ y. situation_by y own) q ∙ unpins_by u (Some r) w.parts in cc
 
-  -- a step of a holder with which the page stays
-  stores : (z : Own E) → situation_of X c ≡ z → ((t : ℕ) → ¬ Returns t z) → z ≢ LooksAtStage → ((t : ℕ) → z ≢ TakesPage t)
-      → ((t : ℕ) (e : E) → z ≢ Elects t e) → TellsNoMore X (apart c) got word
-  stores z i returns looks takes elects =
-      quiet z i (λ t e w. absurd (elects t e w)) takes returns (λ w y. looks w) (λ w y. looks w) (λ w. absurd (looks w))
+        behind : (u p : ℕ) (reuse : Option Reuse) → ¬ IsSomeAnd reuse (λ r. IsBehind X v got word u p r)
+        behind u p None w = w
+        behind u p (Some r) w = let bad = sym (ap held_of (tells X v.core (Elects t e) (own_is X v (Elects t e) i)).0) ∙ w.held in cc
 
-  -- the page goes back, and its frame stands in the log
-  sent : (p : BatchPhase) → c.queue.phase ≡ p → (t : ℕ) → GivesReady X (apart c) t → HasPublished t c.phase
-      → FeedTells X (apart c) got word (answer_sent c.queue t p)
-  sent Open e t g w = record { gives = g; published = w; sends = ap is_marking e; first_is = refl; last_is = refl }
-  sent (Marking mark.End) e t g w = record { tenure = t; gives = g; why = inl (ap is_closing e, w) }
-  sent (Marking mark.Leave) e t g w = record { gives = g; published = w; leaves = ap is_leaving e }
-  sent Closed e t g w = record { gives = g; published = w; sends = ap is_marking e; first_is = refl; last_is = refl }
+    -- with each owner that it may have
+    elects : (t : ℕ) (e : E) → situation X v ≡ Does (Elects t e) → (reuse : Option Reuse) → v.reuse ≡ reuse → (o : Option ℕ)
+        → X.owner (X.fed e got word) ≡ o → FeedTells X v got word (answer_elected v.core reuse t o)
+    elects t e i (Some r) q o chosen = elects_on t e i (λ none. let bad = sym none ∙ q in absurd cc)
+    elects t e i None q None chosen = elects_on t e i (λ none o w. let bad = sym chosen ∙ w in absurd cc)
+    elects t e i None q (Some o) chosen = by (o == v.core.me) refl where
+      by : (b : Bool) → (o == v.core.me) ≡ b → FeedTells X v got word (cond b turn.Going (turn.Lost t record { 0 = o }))
+      by true same = elects_on t e i (λ none p w. same_Some _ _ (sym w ∙ chosen) ∙ eqb-true o v.core.me same)
+      by false other = subst (LosesBy X v got word t record { 0 = o }) (sym q) record { election = e; elects = i; chosen = chosen; other = eqb-false o v.core.me other }
 
-  -- the page is given back for this reason
-  returned : (t : ℕ) (reason : Reason) → GivesReady X (apart c) t → Shows c t c.phase reason
-      → FeedTells X (apart c) got word (answer_of_return c.queue t reason)
-  returned t Sent g w = sent c.queue.phase refl t g w
-  returned t FoundEnd g w = record { tenure = t; gives = g; why = inr w }
-  returned t NoRoom g w = record { tenure = t; gives = g; lacks = w }
+    -- ---- the page goes back
+    -- its frame stands in the log
+    sent : (p : BatchPhase) → v.core.queue.phase ≡ p → (t : ℕ) → GivesReady X v t → HasPublished t v.core.phase
+        → FeedTells X v got word (answer_sent v.core.queue t p)
+    sent Open e t g w = record { gives = g; published = w; sends = ap is_marking e; first_is = refl; last_is = refl }
+    sent (Marking mark.End) e t g w = record { tenure = t; gives = g; why = inl (ap is_closing e, w) }
+    sent (Marking mark.Leave) e t g w = record { gives = g; published = w; leaves = ap is_leaving e }
+    sent Closed e t g w = record { gives = g; published = w; sends = ap is_marking e; first_is = refl; last_is = refl }
 
-  -- each situation, with a row for each tenure
-  tells_apart : ChoosesItself X c → (z : Own E) → situation_of X c ≡ z → IsSome (op_at X c z word)
-      → FeedTells X (apart c) got word (answer_at X c z got word)
-  tells_apart own IsClosed i h = absurd (let q : false ≡ true = h in cc)
-  tells_apart own IsIdle i h = absurd (let q : false ≡ true = h in cc)
-  tells_apart own IsSpent i h = absurd (let q : false ≡ true = h in cc)
-  tells_apart own LooksAtStage i h = looks (waits c got) (nat_le c.layout.rows (got / 2)) refl refl i
-  tells_apart own (Elects t e) i h = elects t e i (X.owner (X.fed e got word)) refl
-  tells_apart own (TakesPage t) i h = let o = own t i in record { pinned = tt; election = o.0; elects = o.1; chosen = o.2 }
-  tells_apart own (AwaitsPage t) i h = absurd (let q : false ≡ true = h in cc)
-  tells_apart own (StoresWord t page stored) i h = stores (StoresWord t page stored) i (λ u w. (returns_not (StoresWord t page stored) u w).1.1.0 t page stored refl) (λ e. cc) (λ u e. cc) (λ u f e. cc)
-  tells_apart own (StoresLength t page stored) i h = stores (StoresLength t page stored) i (λ u w. (returns_not (StoresLength t page stored) u w).1.1.1 t page stored refl) (λ e. cc) (λ u e. cc) (λ u f e. cc)
-  tells_apart own (GivesBack t page reason) i h =
-      returned t reason record { does = refl; returns = subst (Returns t) (sym i) (Gives page reason); ready = tt } (gives_shows X c t page reason i)
-  tells_apart own (HasHanded t reason) i h =
-      returned t reason record { does = refl; returns = subst (Returns t) (sym i) (Says reason); ready = tt } (handed_shows X c t reason i)
+    -- for each reason
+    returned : (t : ℕ) (reason : Reason) → GivesReady X v t → Shows v.core t v.core.phase reason
+        → FeedTells X v got word (answer_of_return v.core.queue t reason)
+    returned t Sent g w = sent v.core.queue.phase refl t g w
+    returned t FoundEnd g w = record { tenure = t; gives = g; why = inr w }
+    returned t NoRoom g w = record { tenure = t; gives = g; lacks = w }
 
--- ---- with both kinds of rows
--- whatever rows there are
+    -- the row of the next tenure is ready
+    gives_ready : (t : ℕ) (z : Own E) → situation X v ≡ Does z → Returns t z → held_of v.core.phase ≡ Some t → GivesReady X v t
+    gives_ready t z i w held =
+        let s = situation_tells X v (Does z) i in
+        let here = subst (Returns t) (sym s.0) w in
+        record {
+          does = i ∙ ap Does (sym s.0);
+          returns = here;
+          ready = row_ready width Belongs v.core v.reuse k t own here (λ reason e. tells X v.core (HasHanded t reason) e) held s.1;
+        }
+
+    -- ---- its presence is cleared
+    parts : (t : ℕ) → situation X v ≡ Unpins t → (l : Option SenderNo) → lost_of v.reuse ≡ l → FeedTells X v got word (answer_of_loss t l)
+    parts t i None e =
+        quiet (Unpins t) i tt (λ u o w. loses u o v.reuse refl w)
+        (λ u q. holds u v.reuse k (situation_tells X v (Unpins u) (i ∙ q)) e) (λ q. absurd cc) (unasked (Unpins t) i (λ rows p q. cc))
+      where
+        loses : (u : ℕ) (o : SenderNo) (reuse : Option Reuse) → v.reuse ≡ reuse → ¬ LosesBy X v got word u o reuse
+        loses u o None q w = let bad = sym i ∙ w.elects in cc
+        loses u o (Some r) q w = let bad = sym e ∙ ap lost_of q ∙ w.lost in cc
+
+        holds : (u : ℕ) (reuse : Option Reuse) → ReuseKeeps width Belongs v.core reuse → IsSomeAnd reuse (λ r. r.pin ≡ Unpinning u)
+            → lost_of reuse ≡ None → held_of v.core.phase ≡ Some u
+        holds u None h p q = absurd p
+        holds u (Some r) h p q = let kept : LostKeeps v.core.phase r.pin None = subst (LostKeeps v.core.phase r.pin) q h.lost in kept u p
+    parts t i (Some o) e = by v.reuse (situation_tells X v (Unpins t) i) e where
+      by : (reuse : Option Reuse) → IsSomeAnd reuse (λ r. r.pin ≡ Unpinning t) → lost_of reuse ≡ Some o → LosesBy X v got word t o reuse
+      by None p q = absurd p
+      by (Some r) p q = record { parts = p; lost = q }
+
+    -- of a tenure that it came too late for
+    late : (t : ℕ) → situation X v ≡ Withdraws t → IsSomeAnd v.reuse (λ r. IsInvalidated r)
+    late t i = some_kept width Belongs v.core (λ r. r.pin ≡ Invalidated t) (λ r. IsInvalidated r) v.reuse k
+        (λ r h e. record { tenure = t; is = e }) (situation_tells X v (Withdraws t) i)
+
+    -- ---- a presence is asked
+    module _ (s : Reclaiming) (i : situation X v ≡ Scans s) where
+      -- one is left to ask
+      left : s.scanned < s.senders
+      left = by v.reuse (situation_tells X v (Scans s) i) where
+        by : (reuse : Option Reuse) → SituationTells (Scans s) reuse own → s.scanned < s.senders
+        by None w = absurd w
+        by (Some r) w = w.1
+
+      -- the sender whose presence names the past tenure is behind
+      names_past : got ≡ 1 + s.past → IsSomeAnd v.reuse (λ r. IsBehind X v got word s.past s.scanned r)
+      names_past e = some_kept width Belongs v.core _ (λ r. IsBehind X v got word s.past s.scanned r) v.reuse k
+          (λ r h w.
+          let g = held_reclaimer width Belongs v.core r h s w.0.is in
+          let from = g.after.presences in
+          let many = g.after.senders in
+          let place : s.presences + s.scanned ≡ presence_at (sizes_with v.core.layout r.rows) s.scanned = omega arith in
+          record {
+            loads = ap (λ y. (line X v y).op word) i ∙ ap (λ at. Some (Load record { 0 = at })) place;
+            found = e;
+            below = omega arith;
+            tenure = g.tenure;
+            held = g.held;
+            past = g.after.past;
+          })
+          (situation_tells X v (Scans s) i)
+
+      -- nobody else is
+      passes : got ≢ 1 + s.past → (t p : ℕ) → ¬ IsSomeAnd v.reuse (λ r. IsBehind X v got word t p r)
+      passes other t p w = by v.reuse k (situation_tells X v (Scans s) i) w where
+        by : (reuse : Option Reuse) → ReuseKeeps width Belongs v.core reuse → SituationTells (Scans s) reuse own
+            → ¬ IsSomeAnd reuse (λ r. IsBehind X v got word t p r)
+        by None h q w = w
+        by (Some r) h q w =
+            let g = held_reclaimer width Belongs v.core r h s q.0.is in
+            let same : g.tenure ≡ w.tenure = same_Some _ _ (sym g.held ∙ w.held) in
+            let mine = g.after.past in
+            let its = w.past in
+            let found = w.found in
+            other (omega arith)
+
+      scans : FeedTells X v got word (answer_of_reclaim (behind_of s got))
+      scans = subst (λ a. FeedTells X v got word (answer_of_reclaim (cond (a && (got == 1 + s.past)) (Some record { tenure = s.past; sender = s.scanned }) None)))
+          (sym (lt-ltb _ _ left)) (by (got == 1 + s.past) refl)
+        where
+          by : (b : Bool) → (got == 1 + s.past) ≡ b
+              → FeedTells X v got word (answer_of_reclaim (cond b (Some record { tenure = s.past; sender = s.scanned }) None))
+          by true e = names_past (eqb-true _ _ e)
+          by false e = quiet (Scans s) i tt (lost_not (Scans s) i tt) (λ t q. absurd cc) (λ q. absurd cc) (passes (eqb-false _ _ e))
+
+    -- a word of a row is cleared
+    clears : (s : Reclaiming) → situation X v ≡ Clears s → FeedTells X v got word (answer_of_reclaim (behind_of s got))
+    clears s i = subst (λ a. FeedTells X v got word (answer_of_reclaim (cond (a && (got == 1 + s.past)) (Some record { tenure = s.past; sender = s.scanned }) None)))
+        (sym (le-ltb _ _ (by v.reuse (situation_tells X v (Clears s) i))))
+        (quiet (Clears s) i tt (lost_not (Clears s) i tt) (λ t q. absurd cc) (λ q. absurd cc) (unasked (Clears s) i (λ rows p q. cc)))
+      where
+        by : (reuse : Option Reuse) → SituationTells (Clears s) reuse own → s.senders ≤ s.scanned
+        by None w = absurd w
+        by (Some r) w = w.1.passed
+
+    -- ---- each situation
+    by_situation : ChoosesItself X v.core → (z : Situation E) → situation X v ≡ z → IsSome ((line X v z).op word)
+        → FeedTells X v got word ((line X v z).answer got word)
+    by_situation itself (Does IsClosed) i h = absurd (let q : false ≡ true = h in cc)
+    by_situation itself (Does IsIdle) i h = absurd (let q : false ≡ true = h in cc)
+    by_situation itself (Does IsSpent) i h = absurd (let q : false ≡ true = h in cc)
+    by_situation itself (Does LooksAtStage) i h = looks i (waits v.core got) (nat_le v.core.layout.rows (got / 2)) refl refl
+    by_situation itself (Does (Elects t e)) i h = elects t e i v.reuse refl (X.owner (X.fed e got word)) refl
+    by_situation itself (Does (TakesPage t)) i h =
+        let c = itself t (own_is X v (TakesPage t) i) in
+        record { pinned = stands_in width Belongs v.core v.reuse k t c.0 c.1; election = c.0; elects = c.1; chosen = c.2 }
+    by_situation itself (Does (AwaitsPage t)) i h = absurd (let q : false ≡ true = h in cc)
+    by_situation itself (Does (StoresWord t page stored)) i h =
+        let z = Does (StoresWord t page stored) in
+        quiet z i tt (lost_not z i tt) (λ u q. absurd cc) (λ q. absurd cc) (unasked z i (λ rows p q. cc))
+    by_situation itself (Does (StoresLength t page stored)) i h =
+        let z = Does (StoresLength t page stored) in
+        quiet z i tt (lost_not z i tt) (λ u q. absurd cc) (λ q. absurd cc) (unasked z i (λ rows p q. cc))
+    by_situation itself (Does (GivesBack t page reason)) i h =
+        let here = own_is X v (GivesBack t page reason) i in
+        returned t reason (gives_ready t (GivesBack t page reason) i (Gives page reason) (ap held_of (tells X v.core (GivesBack t page reason) here).2))
+        (gives_shows X v.core t page reason here)
+    by_situation itself (Does (HasHanded t reason)) i h =
+        let at = tells X v.core (HasHanded t reason) (own_is X v (HasHanded t reason) i) in
+        returned t reason (gives_ready t (HasHanded t reason) i (Says reason) (ap held_of at))
+        (subst (λ p. Shows v.core t p reason) (sym at) (shown_handed v.core t reason))
+    by_situation itself (Announces t) i h =
+        quiet (Announces t) i tt (lost_not (Announces t) i tt) (λ u q. absurd cc) (λ q. absurd cc) (unasked (Announces t) i (λ rows p q. cc))
+    by_situation itself (Validates t) i h =
+        quiet (Validates t) i tt (lost_not (Validates t) i tt) (λ u q. absurd cc) (λ q. absurd cc)
+        (unasked (Validates t) i (λ rows p q. let n = ap register (same_Some _ _ q) in omega arith))
+    by_situation itself (Unpins t) i h = parts t i (lost_of v.reuse) refl
+    by_situation itself (Withdraws t) i h = inr (late t i)
+    by_situation itself (Scans s) i h = scans s i
+    by_situation itself (Clears s) i h = clears s i
+
+-- the one that it is in
 pub line_told : {E : Type 0} (X : Election E) (width : ℕ) (Belongs : ℕ → E → Type 0) (v : Sender E) (got word : ℕ)
     → ReuseKeeps width Belongs v.core v.reuse → ChoosesItself X v.core → IsSome ((line_now X v).op word)
     → FeedTells X v got word ((line_now X v).answer got word)
-line_told {E} X width Belongs v got word k own h = by v.reuse k h where
-  by : (r : Option Reuse) → ReuseKeeps width Belongs v.core r → IsSome ((line_now X (sender v.core r)).op word)
-      → FeedTells X (sender v.core r) got word ((line_now X (sender v.core r)).answer got word)
-  by None k h =
-      let n = at_none X v.core in
-      subst (FeedTells X (apart v.core) got word) (sym (ap (λ l. l.answer got word) n))
-      (tells_apart X v.core got word own (situation_of X v.core) refl (subst IsSome (ap (λ l. l.op word) n) h))
-  by (Some r) k h = tells_again X (participant_of v.core r) got word width Belongs k _ (told_at_some X width Belongs (participant_of v.core r) got word k own h)
+line_told X width Belongs v got word k itself h = by_situation X v got word width Belongs k itself (situation X v) refl h
 
 -- what the answer tells where no step is due: Going where a page is to be laid
 pub rest_told : {E : Type 0} (X : Election E) (width : ℕ) (Belongs : ℕ → E → Type 0) (v : Sender E) → ReuseKeeps width Belongs v.core v.reuse

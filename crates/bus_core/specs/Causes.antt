@@ -1,20 +1,83 @@
 -- Why a sender takes a step of each kind: what holds of it before the step, read off what it holds. In a tenure the causes are the same
 -- with both kinds of rows. Where rows are used again it stands in that tenure besides, and five kinds come only there.
-use Rattle.std.specs.Prelude.{◌≡◌, ◌⊎◌, Bool, true, false, Some, IfSome, IsSomeAnd}
+use Rattle.std.specs.Prelude.{◌≡◌, ◌⊎◌, ℕ, ◌<◌, ◌≤◌, Bool, true, false, Some, IfSome, IsSomeAnd}
 use Rattle.bus_register.specs.declared.kinds.Kind.{Kind}
 use Rattle.bus_register.specs.declared.kinds.Kind.TheVariants as kind
+use Rattle.bus_register.specs.declared.registers.SenderNo.{SenderNo}
 use Rattle.bus_register.specs.Protocol.{Protocol}
 use Rattle.bus_adoptcommit.specs.declared.verdicts.Verdict.{Verdict}
+use Rattle.bus_presence.specs.Reclaimers.{Reclaiming}
+use Rattle.bus_presence.specs.declared.pins.Pin.TheVariants.{Away, Announcing, Validating, Pinned, Unpinning, Invalidated}
 use Rattle.bus_tenure.specs.Causes.{LooksForTenure, BeginsElection, IsInRatifier, IsInConciliator, AsksCoin, CountsVotes, IsAtFallback, SearchesCandidate, IsElected, HasWordLeft, HasStoredAll, LeavesPage, HasHandedOn}
 use Rattle.bus_tenure.specs.Core.{Election}
 use Rattle.bus_tenure.specs.Elections.{Elector}
+use Rattle.bus_tenure.specs.declared.phases.Phase.TheVariants.{Resting, Electing}
 use Rattle.bus_coinconc.specs.declared.conciliators.Stage.TheVariants.{SetMark, ReadOtherMark}
 use Rattle.bus_walkcoin.specs.declared.coins.Phase.TheVariants.{Vote}
-use Rattle.bus_core.specs.Reusing.Causes.{EntersTenure, LooksAgain, LeavesTenure, AsksSender, ClearsWord, ReturnsPage, StandsInside as StandsInRow}
+use Rattle.bus_core.specs.Reusing.Keeping.{IsBound, IsReclaimerAfter, IsRowReady, held_of}
+use Rattle.bus_core.specs.Reusing.Turns.{Participant, sizes_of}
 use Rattle.bus_core.specs.Senders.{Sender, participant_of}
 use Rattle.bus_core.specs.Table.{line_now}
 use Rattle.bus_core.specs.Keeping.{IsAway}
 
+-- ---- only where rows are used again: its pin
+-- it may begin a tenure, which is not past for it, and which its presence does not name yet
+pub record EntersTenure {E : Type 0} (v : Participant E) : Type 0 where
+  pub tenure : ℕ
+  pub pin : v.pin ≡ Announcing tenure
+  pub may : IsBound v.core tenure
+
+-- its presence names a tenure that it may begin, whose stage it has not seen since
+pub record LooksAgain {E : Type 0} (v : Participant E) : Type 0 where
+  pub tenure : ℕ
+  pub pin : v.pin ≡ Validating tenure
+  pub may : IsBound v.core tenure
+
+-- its presence names a tenure that it remembers to have lost, or whose page it has taken, or that it may not stand in
+pub data LeavesTenure {E : Type 0} (v : Participant E) : Type 0 where
+  AsLoser : (tenure : ℕ) (owner : SenderNo) → v.pin ≡ Unpinning tenure → v.lost ≡ Some owner → v.core.phase ≡ Resting → LeavesTenure v
+  AsHolder : (tenure : ℕ) → v.pin ≡ Unpinning tenure → held_of v.core.phase ≡ Some tenure → LeavesTenure v
+  AsLate : (tenure : ℕ) → v.pin ≡ Invalidated tenure → LeavesTenure v
+
+-- it stands in the very tenure whose election it goes through
+pub record StandsInRow {E : Type 0} (v : Participant E) : Type 0 where
+  pub tenure : ℕ
+  pub election : E
+  pub pin : v.pin ≡ Pinned tenure
+  pub elects : v.core.phase ≡ Electing tenure election
+
+-- ---- its reclamation
+-- it would give back the page of a tenure, and first makes the row of the next one ready
+pub record MakesRowReady {E : Type 0} (v : Participant E) (s : Reclaiming) : Type 0 where
+  pub away : v.pin ≡ Away
+  pub leaves : LeavesPage v.core
+  pub reclaims : v.reclaimer ≡ Some s
+  pub tenure : ℕ
+  pub held : held_of v.core.phase ≡ Some tenure
+  pub after : IsReclaimerAfter (sizes_of v) tenure s
+
+-- the presence of a sender has not passed yet
+pub record AsksSender {E : Type 0} (v : Participant E) : Type 0 where
+  pub reclaimer : Reclaiming
+  pub makes : MakesRowReady v reclaimer
+  pub sender_left : reclaimer.scanned < reclaimer.senders
+
+-- each sender's presence has passed, and a word of the row is not cleared yet
+pub record ClearsWord {E : Type 0} (v : Participant E) : Type 0 where
+  pub reclaimer : Reclaiming
+  pub makes : MakesRowReady v reclaimer
+  pub all_scanned : reclaimer.senders ≤ reclaimer.scanned
+  pub word_left : reclaimer.cleared < reclaimer.width
+
+-- it would give the page of a tenure back, or has handed it on, and the row of the next one is ready
+pub record ReturnsPage {E : Type 0} (v : Participant E) : Type 0 where
+  pub away : v.pin ≡ Away
+  pub returns : LeavesPage v.core ⊎ HasHandedOn v.core
+  pub tenure : ℕ
+  pub held : held_of v.core.phase ≡ Some tenure
+  pub ready : IsRowReady (sizes_of v) tenure v.reclaimer
+
+-- ---- with both kinds of rows
 -- where rows are used again, it stands in the very tenure whose election it goes through
 abbrev pub StandsInside : {E : Type 0} → Sender E → Type 0
 StandsInside v = IfSome v.reuse (λ r. StandsInRow (participant_of v.core r))

@@ -12,12 +12,37 @@ use Rattle.bus_tenure.specs.Causes.{IsInRatifier, IsInConciliator, CountsVotes}
 use Rattle.bus_tenure.specs.Elections.{Elector, elections}
 use Rattle.bus_tenure.specs.declared.pages.Page.{Page}
 use Rattle.bus_tenure.specs.declared.phases.Phase.TheVariants.{Resting, Electing, Holding}
-use Rattle.bus_core.specs.Reusing.CausesRefuse.{IsOfElection}
 use Rattle.bus_core.specs.Reusing.Participants.{sizes_with}
 use Rattle.bus_core.specs.Reusing.Keeping.{held_of}
 use Rattle.bus_core.specs.declared.reuses.Reuse.{Reuse}
 use Rattle.bus_core.specs.Causes.{HasCause}
 use Rattle.bus_core.specs.Senders.{Sender}
+
+-- a step of an election, or the one that takes the page
+abbrev pub IsOfElection : Kind → Type 0
+IsOfElection kind.Announce = Unit {0}
+IsOfElection kind.WriteFirst = Unit {0}
+IsOfElection kind.ReadFirst = Unit {0}
+IsOfElection kind.WriteSecond = Unit {0}
+IsOfElection kind.ReadSecond = Unit {0}
+IsOfElection kind.SetMark = Unit {0}
+IsOfElection kind.ReadOtherMark = Unit {0}
+IsOfElection kind.Vote = Unit {0}
+IsOfElection kind.ReadVotes = Unit {0}
+IsOfElection kind.Fallback = Unit {0}
+IsOfElection kind.ReadAnnouncement = Unit {0}
+IsOfElection kind.TakePage = Unit {0}
+IsOfElection kind.LoadStage = ⊥
+IsOfElection kind.Enter = ⊥
+IsOfElection kind.LoadStageAgain = ⊥
+IsOfElection kind.Withdraw = ⊥
+IsOfElection kind.ReadPresence = ⊥
+IsOfElection kind.ClearRow = ⊥
+IsOfElection kind.StoreLogWord = ⊥
+IsOfElection kind.StoreLength = ⊥
+IsOfElection kind.GivePageBack = ⊥
+IsOfElection kind.LoadLength = ⊥
+IsOfElection kind.LoadLogWord = ⊥
 
 -- in its tenures, with both kinds of rows
 pub record RefusesOwn {S : Type 0} (P : Protocol S Bool Verdict) (v : Sender (Elector S)) : Type 0 where

@@ -2,8 +2,4 @@
 pub mod Participants
 pub mod Keeping
 pub mod Turns
-pub mod Besides
-pub mod Following
 pub mod Telling
-pub mod Causes
-pub mod CausesRefuse

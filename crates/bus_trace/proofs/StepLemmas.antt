@@ -29,7 +29,7 @@ use Rattle.bus_tenure.specs.declared.phases.Phase.{Phase}
 use Rattle.bus_tenure.specs.declared.phases.Phase.TheVariants as phase
 use Rattle.bus_tenure.specs.declared.phases.Reason.{Reason}
 use Rattle.bus_tenure.specs.declared.phases.Reason.TheVariants.{Sent, FoundEnd, NoRoom}
-use Rattle.bus_core.specs.Reusing.Causes.{LeavesTenure, AsLoser, AsHolder, AsLate, StandsInside as StandsInRow}
+use Rattle.bus_core.specs.Causes.{LeavesTenure, AsLoser, AsHolder, AsLate, StandsInRow}
 use Rattle.bus_core.specs.Reusing.Turns.{tenure_begun_by}
 use Rattle.bus_world.specs.Turning.{words_after}
 use Rattle.bus_world.specs.World.{Event, Put, Ask, Turn, Recv, Stop}
