@@ -18,8 +18,7 @@ use Rattle.bus_tenure.specs.Core.{Core, Election, row_at}
 use Rattle.bus_tenure.specs.Elections.{Elector, ElectorKeeps, elections, election_with}
 use Rattle.bus_tenure.specs.Keeping.{SenderInvariant, PhaseKeeps, IsElecting}
 use Rattle.bus_tenure.specs.Situations.{Situation as Own, IsClosed, IsIdle, IsSpent, LooksAtStage, Elects, TakesPage, AwaitsPage, StoresWord, StoresLength, GivesBack, HasHanded, situation_at, situation_of}
-use Rattle.bus_tenure.specs.declared.phases.Phase.TheVariants.{Electing, Giving}
-use Rattle.bus_tenure.specs.declared.phases.Reason.{Reason}
+use Rattle.bus_tenure.specs.declared.phases.Phase.TheVariants.{Electing}
 use Rattle.bus_tenure.proofs.Caused.{word_cause, length_cause, back_cause, timely, election_cause}
 use Rattle.bus_tenure.proofs.Looking.{looks_at_rest}
 use Rattle.bus_tenure.proofs.Situated.{tells}
@@ -30,7 +29,7 @@ use Rattle.bus_core.specs.Reusing.Keeping.{IsBound, IsOutside, IsRowReady, PinKe
 use Rattle.bus_core.specs.Reusing.Participants.{sizes_with}
 use Rattle.bus_core.specs.Reusing.Telling.{Returns, Gives, Says}
 use Rattle.bus_core.specs.Senders.{Sender, Situation, Does, Announces, Validates, Unpins, Withdraws, Scans, Clears, participant_of, situation}
-use Rattle.bus_core.specs.Table.{line, line_now}
+use Rattle.bus_core.specs.Table.{line}
 use Rattle.bus_core.specs.declared.reuses.Reuse.{Reuse}
 use Rattle.bus_core.proofs.Reusing.Tells.{ChoosesItself}
 use Rattle.bus_core.proofs.Situated.{Reclaims, GoesCalmly, situation_tells, some_kept, stands_in, calm_away, goes_away, held_reclaimer, row_ready}

@@ -1,5 +1,5 @@
 -- Each of these is no cause.
-use Rattle.std.proofs.Common.{◌≡◌, ℕ, ◌+◌, ◌<◌, ◌≤◌, Bool, Option, Some, None, IsSomeAnd, arith, sym, ◌∙◌, ap, subst}
+use Rattle.std.proofs.Common.{◌≡◌, ℕ, ◌+◌, ◌<◌, ◌≤◌, Bool, Some, None, arith, sym, ◌∙◌, ap, subst}
 use Rattle.std.proofs.lemmas.Bool.{true≢false}
 use Rattle.std.proofs.lemmas.Option.{same_Some}
 use Rattle.bus_register.specs.declared.kinds.Kind.{Kind}
@@ -11,8 +11,7 @@ use Rattle.bus_presence.specs.Reclamation.{IsReady, row_of}
 use Rattle.bus_presence.specs.declared.pins.Pin.TheVariants.{Away, Announcing, Pinned, Unpinning}
 use Rattle.bus_tenure.specs.Core.{Core}
 use Rattle.bus_tenure.specs.Elections.{Elector, elections}
-use Rattle.bus_tenure.specs.declared.phases.Phase.{Phase}
-use Rattle.bus_tenure.specs.declared.phases.Phase.TheVariants.{Resting, Electing}
+use Rattle.bus_tenure.specs.declared.phases.Phase.TheVariants.{Resting}
 use Rattle.bus_tenure.proofs.Refused.{refuses_causes}
 use Rattle.bus_core.specs.Causes.{HasCause, StandsInside, StandsInRow, LeavesTenure, AsLoser, AsHolder, AsLate}
 use Rattle.bus_core.specs.CausesRefuse.{IsOfElection, RefusesOwn, RefusesApart, RefusesAgain, RefusesCauses}
@@ -22,14 +21,7 @@ use Rattle.bus_core.specs.Reusing.Participants.{sizes_with}
 use Rattle.bus_core.specs.Reusing.Turns.{Participant}
 use Rattle.bus_core.specs.Senders.{Sender, participant_of}
 use Rattle.bus_core.specs.declared.reuses.Reuse.{Reuse}
-
--- one phase has one election
-same_election : {E : Type 0} (t u : ℕ) (e f : E) → ◌≡◌ {A = Phase E} (Electing t e) (Electing u f) → e ≡ f
-same_election t u e f i = cc
-
--- and one tenure
-same_tenure : {E : Type 0} (t u : ℕ) (e f : E) → ◌≡◌ {A = Phase E} (Electing t e) (Electing u f) → t ≡ u
-same_tenure t u e f i = cc
+use Rattle.bus_core.proofs.Refused.{same_election, none_not}
 
 -- one pin has one tenure, where it stands
 same_pinned : (t u : ℕ) → Pinned t ≡ Pinned u → t ≡ u
@@ -58,10 +50,6 @@ module _ {E : Type 0} (v : Participant E) where
   leaves_undone (AsHolder u q h) t e none rests = let bad = sym (ap held_of rests) ∙ h in cc
   leaves_undone (AsLate u q) t e none rests = let bad = sym e ∙ q in cc
 
--- what only rows that are used again have is not there with a row for each tenure
-none_not : (reuse : Option Reuse) (Q : Reuse → Type 0) → reuse ≡ None → ¬ IsSomeAnd reuse Q
-none_not reuse Q e w = let h : IsSomeAnd None Q = subst (λ y. IsSomeAnd y Q) e w in h
-
 module _ {S : Type 0} (P : Protocol S Bool Verdict) where
   -- what no sender has a cause for in its tenures
   own_refused : (v : Sender (Elector S)) → RefusesOwn P v
@@ -80,10 +68,10 @@ module _ {S : Type 0} (P : Protocol S Bool Verdict) where
         unread_votes = λ is w. n.unread_votes v.core is w.1;
         counting_votes = λ is w. n.counting_votes v.core is w.1;
         takes_undecided = λ t e runs open_still w.
-            let same = same_election t w.1.tenure e w.1.election (sym runs ∙ w.1.elects) in
+            let same = (same_election t w.1.tenure e w.1.election (sym runs ∙ w.1.elects)).1 in
             let bad = sym open_still ∙ ap (elections P v.core.layout.rounds).output same ∙ w.1.spells in cc;
         takes_what_it_lost = λ t o e runs spells other w.
-            let same = same_election t w.1.tenure e w.1.election (sym runs ∙ w.1.elects) in
+            let same = (same_election t w.1.tenure e w.1.election (sym runs ∙ w.1.elects)).1 in
             other (same_Some _ _ (sym spells ∙ ap (elections P v.core.layout.rounds).output same ∙ w.1.spells));
       }
 
@@ -123,7 +111,7 @@ module _ {S : Type 0} (P : Protocol S Bool Verdict) where
         elects_too_soon = λ k t i e w. let s : StandsInRow (participant_of c r) = stands (sender c (Some r)) k i w in let bad = sym e ∙ s.pin in cc;
         elects_elsewhere = λ k t u e i at runs other w.
             let s : StandsInRow (participant_of c r) = stands (sender c (Some r)) k i w in
-            other (same_pinned t s.tenure (sym at ∙ s.pin) ∙ same_tenure s.tenure u s.election e (sym s.elects ∙ runs));
+            other (same_pinned t s.tenure (sym at ∙ s.pin) ∙ (same_election s.tenure u s.election e (sym s.elects ∙ runs)).0);
         elects_while_unpinning = λ k t i e w. let s : StandsInRow (participant_of c r) = stands (sender c (Some r)) k i w in let bad = sym e ∙ s.pin in cc;
         elects_invalidated = λ k t i e w. let s : StandsInRow (participant_of c r) = stands (sender c (Some r)) k i w in let bad = sym e ∙ s.pin in cc;
         enters_the_past = λ t e past w. let same = same_announcing t w.tenure (sym e ∙ w.pin) in let may = w.may.least in omega arith;

@@ -10,7 +10,7 @@ use Rattle.bus_presence.specs.Reclaimers.{Reclaiming, reclaim_fed, is_reclaimed}
 use Rattle.bus_presence.specs.declared.pins.Pin.{Pin}
 use Rattle.bus_presence.specs.declared.pins.Pin.TheVariants.{Away, Announcing, Validating, Pinned, Unpinning, Invalidated}
 use Rattle.bus_tenure.specs.Core.{Core, Election, Layout, row_at}
-use Rattle.bus_tenure.specs.Situations.{Situation as Own, IsClosed, IsIdle, IsSpent, LooksAtStage, Elects, TakesPage, AwaitsPage, StoresWord, StoresLength, GivesBack, HasHanded, situation_of, situation_at, resting, waits, core_begun, core_elected}
+use Rattle.bus_tenure.specs.Situations.{IsClosed, IsIdle, IsSpent, LooksAtStage, Elects, TakesPage, AwaitsPage, StoresWord, StoresLength, GivesBack, HasHanded, situation_of, situation_at, resting, waits, core_begun, core_elected}
 use Rattle.bus_tenure.specs.declared.pages.Page.{Page}
 use Rattle.bus_tenure.specs.declared.phases.Phase.{Phase}
 use Rattle.bus_tenure.specs.declared.phases.Phase.TheVariants.{Resting, Electing, Taken, Holding, Giving}
@@ -18,13 +18,13 @@ use Rattle.bus_tenure.specs.declared.phases.Reason.{Reason}
 use Rattle.bus_tenure.proofs.Situated.{tells}
 use Rattle.bus_core.specs.Keeping.{ReuseKeeps, sender}
 use Rattle.bus_core.specs.Reusing.Keeping.{IsBound, IsOutside, PinKeeps, ReclaimerKeeps, LostKeeps, held_of}
-use Rattle.bus_core.specs.Reusing.Participants.{sizes_with, core_seen, pin_seen}
-use Rattle.bus_core.specs.Senders.{Sender, Situation, Does, Announces, Validates, Unpins, Withdraws, Scans, Clears, situation_by, situation}
+use Rattle.bus_core.specs.Reusing.Participants.{sizes_with}
+use Rattle.bus_core.specs.Senders.{Sender, Situation, Does, Announces, Validates, Unpins, Withdraws, Scans, Clears, situation}
 use Rattle.bus_core.specs.Table.{line, line_now, in_row, seen, reuse_elected}
 use Rattle.bus_core.specs.declared.reuses.Reuse.{Reuse}
 use Rattle.bus_core.proofs.Bridged.{at_none}
 use Rattle.bus_core.proofs.Reusing.Keeps.{ElectionsKeep, runs_pinned}
-use Rattle.bus_core.proofs.Situated.{IsCalm, GoesCalmly, Reclaims, SituationTells, situation_tells, tells_by, calm_away, held_reclaimer}
+use Rattle.bus_core.proofs.Situated.{IsCalm, GoesCalmly, Reclaims, SituationTells, situation_tells, calm_away, held_reclaimer}
 
 -- ---- its reclamation
 -- nobody reclaims but a holder

@@ -1,7 +1,7 @@
 -- A sender that has begun no tenure, by what it holds: whether it looks at the stage, and why it has nothing to do.
 use Rattle.std.specs.Prelude.{◌⊎◌, ◌≢◌}
 use Rattle.std.proofs.Common.{◌≡◌, inl, inr, ℕ, ◌/◌, ◌%◌, ◌<◌, ◌≤◌, Bool, true, false, cond, Option, Some, None, List, [], ◌∷◌, length, nat_lt, nat_le, ◌==◌, ◌&&◌, refl, sym, ◌∙◌, ap, subst, arith}
-use Rattle.std.proofs.lemmas.Bool.{leb-true, lt-leb, ltb-true, ltb-false, lt-ltb, eqb-true, eqb-false, eq-eqb, ne_eqb, le-ltb, true≢false}
+use Rattle.std.proofs.lemmas.Bool.{leb-true, lt-leb, ltb-true, ltb-false, lt-ltb, eqb-true, eqb-false, ne_eqb, true≢false}
 use Rattle.bus_batch.specs.declared.batches.Phase.{Phase as BatchPhase}
 use Rattle.bus_batch.specs.declared.batches.Phase.TheVariants.{Open, Marking, Closed}
 use Rattle.bus_batch.specs.declared.messages.Mark.{Mark}
@@ -89,10 +89,6 @@ opened_of c got e = by (got % 2 == 0) refl e where
   by : (b : Bool) → (got % 2 == 0) ≡ b → cond b (nat_lt (got / 2) c.least) true ≡ false → (got % 2 ≡ 0) × (c.least ≤ got / 2)
   by true i h = (eqb-true (got % 2) 0 i, ltb-false _ _ h)
   by false i h = absurd (true≢false h)
-
--- and back
-pub enters_of : {E : Type 0} (c : Core E) (got : ℕ) → got % 2 ≡ 0 → c.least ≤ got / 2 → waits c got ≡ false
-enters_of c got even may = ap (λ b. cond b (nat_lt (got / 2) c.least) true) (eq-eqb (got % 2) 0 even) ∙ le-ltb _ _ may
 
 module _ {E : Type 0} (X : Election E) (v : Sender E) where
   -- a phase that rests has the situation of rest

@@ -1,11 +1,10 @@
 -- Plain stores: when one is due, and what it leaves.
-use Rattle.std.proofs.Common.{◌≡◌, ℕ, ◌+◌, ◌<◌, ◌≤◌, ◌==◌, false, cond, length, slice_index, arith, Option, Some, None, IsSome, nat_lt, refl, sym, ◌∙◌, ap, subst}
+use Rattle.std.proofs.Common.{◌≡◌, ℕ, ◌+◌, ◌<◌, ◌≤◌, ◌==◌, false, cond, slice_index, arith, Option, Some, None, IsSome, IfSome, nat_lt, refl, sym, ◌∙◌, ap, subst}
 use Rattle.std.proofs.lemmas.Option.{same_Some}
 use Rattle.std.specs.Prelude.{◌&&◌, if◌then◌else◌}
 use Rattle.std.proofs.lemmas.Bool.{lt-ltb, le-ltb}
 use Rattle.bus_presence.specs.Reclaimers.{Reclaiming, IsClearing, reclaim_op, reclaim_fed}
-use Rattle.bus_presence.specs.declared.pins.Pin.{Pin}
-use Rattle.bus_presence.specs.declared.pins.Pin.TheVariants.{Away, Announcing, Validating, Pinned, Unpinning, Invalidated}
+use Rattle.bus_presence.specs.declared.pins.Pin.TheVariants.{Away}
 use Rattle.bus_register.specs.Words.{register}
 use Rattle.bus_register.specs.declared.registers.Op.TheVariants.{Load, Store}
 use Rattle.bus_batch.specs.Batches.{frame_of}
@@ -19,14 +18,13 @@ use Rattle.bus_tenure.specs.Situations.{Situation as Own, StoresWord, GivesBack,
 use Rattle.bus_tenure.specs.declared.pages.Page.{Page}
 use Rattle.bus_tenure.specs.declared.phases.Reason.TheVariants.{Sent}
 use Rattle.bus_tenure.specs.declared.turns.Turn.TheVariants.{Going}
-use Rattle.bus_core.specs.Reusing.Turns.{answer_of_reclaim, sizes_of}
+use Rattle.bus_core.specs.Reusing.Turns.{answer_of_reclaim}
 use Rattle.bus_core.specs.Keeping.{ReuseKeeps, IsAway, reclaimer_in, reclaimer_left, sender}
 use Rattle.bus_core.specs.Plain.{IsPlain, Word, Clear, StoresPlain}
-use Rattle.bus_core.specs.Reusing.Keeping.{ReclaimerKeeps, IsHeldReclaimer}
-use Rattle.bus_core.specs.Senders.{Sender, Does, Scans, Clears, log_start, pinning, situation_by, situation, words_all, participant_of}
+use Rattle.bus_core.specs.Senders.{Sender, Does, Scans, Clears, log_start, pinning, situation_by, situation, words_all}
 use Rattle.bus_core.specs.Table.{line, line_now, reuse_reclaiming}
 use Rattle.bus_core.specs.declared.reuses.Reuse.{Reuse}
-use Rattle.bus_core.proofs.Situated.{SituationTells, tells_by, own_is}
+use Rattle.bus_core.proofs.Situated.{GoesCalmly, SituationTells, tells_by, situation_tells, own_is, calm_home, held_reclaimer}
 use Rattle.bus_core.proofs.Stepped.{fed_word, reclaimed_below}
 
 -- ---- when one is due
@@ -43,6 +41,7 @@ clears_when s z h =
     ap (λ a. cond a (Scans s) (cond (nat_lt s.cleared s.width) (Clears s) (Does z))) (le-ltb s.scanned s.senders h.passed)
     ∙ ap (λ b. cond b (Clears s) (Does z)) (lt-ltb s.cleared s.width h.left)
 
+-- the same of whose page has its frame in the log
 clears_again : {E : Type 0} (r : Reuse) → r.pin ≡ Away → (s : Reclaiming) → r.reclaimer ≡ Some s → IsClearing s → (t : ℕ) (page : Page)
     → situation_by {E = E} (Some r) (GivesBack t page Sent) ≡ Clears s
 clears_again r away s is h t page =
@@ -89,10 +88,12 @@ module _ {E : Type 0} (X : Election E) (v : Sender E) where
     by None w = absurd w
     by (Some r) w = w.0.is
 
+  -- the reclamation of whose next step is plain clears, once the frame stands in the log
   pub plain_clearing : IsPlain X v → HoldsPublished v.core.phase → (s : Reclaiming) → reclaimer_in v.reuse ≡ Some s → IsClearing s
   plain_clearing (Word t page stored i) h s e = absurd (word_unpublished t page stored i h)
   plain_clearing (Clear q i k p) h s e = subst IsClearing (same_Some q s (sym (reclaims v.reuse q i) ∙ e)) k
 
+  -- and its step leaves what the line says
   pub plain_cleared : IsPlain X v → HoldsPublished v.core.phase → (r : Option Reuse)
       → ((s : Reclaiming) (got : ℕ) → reclaimer_in v.reuse ≡ Some s → r ≡ reuse_reclaiming v.reuse (reclaim_fed s got))
       → (got word : ℕ) → sender v.core r ≡ (line_now X v).fed got word
@@ -100,10 +101,12 @@ module _ {E : Type 0} (X : Election E) (v : Sender E) where
   plain_cleared (Clear s i k p) h r f got word =
       ap (sender v.core) (f s got (reclaims v.reuse s i)) ∙ ap (λ z. (line X v z).fed got word) (sym i)
 
+  -- before that it stores a word
   pub plain_is_word : IsPlain X v → (HoldsPublished v.core.phase → ⊥) → IsWord (doing_of (own_situation X v.core))
   plain_is_word (Word t page stored i) none = record { tenure = t; words = page.words; stored = stored; is = ap doing_of (own_is X v (StoresWord t page stored) i) }
   plain_is_word (Clear s i k p) none = absurd (none p)
 
+  -- which leaves what the line says
   pub plain_worded : IsPlain X v → (HoldsPublished v.core.phase → ⊥) → (c : Core E)
       → ((got word : ℕ) → c ≡ fed_at X v.core (own_situation X v.core) got word) → (got word : ℕ) → sender c v.reuse ≡ (line_now X v).fed got word
   plain_worded (Word t page stored i) none c f got word =
@@ -135,41 +138,18 @@ module _ {E : Type 0} (X : Election E) (v : Sender E) where
   plain_wordless (Clear s i k p) = ap (λ z. (line X v z).wants_word) i
 
 -- ---- which one is due behind it
--- whose pin lets it store a word may store any
-word_pinning : {E : Type 0} (u : Pin) (s : Option Reclaiming) (t t' : ℕ) (page page' : Page) (stored stored' : ℕ)
-    → pinning {E = E} u s (StoresWord t page stored) ≡ Does (StoresWord t page stored)
-    → pinning {E = E} u s (StoresWord t' page' stored') ≡ Does (StoresWord t' page' stored')
-word_pinning Away s t t' page page' stored stored' i = refl
-word_pinning (Announcing u) s t t' page page' stored stored' i = absurd cc
-word_pinning (Validating u) s t t' page page' stored stored' i = absurd cc
-word_pinning (Pinned u) s t t' page page' stored stored' i = refl
-word_pinning (Unpinning u) s t t' page page' stored stored' i = absurd cc
-word_pinning (Invalidated u) s t t' page page' stored stored' i = absurd cc
+-- who goes on in its tenure may store any word
+word_by : {E : Type 0} (reuse : Option Reuse) (z : Own E) → IfSome reuse (λ r. GoesCalmly r z) → (t : ℕ) (page : Page) (stored : ℕ)
+    → situation_by {E = E} reuse (StoresWord t page stored) ≡ Does (StoresWord t page stored)
+word_by None z g t page stored = refl
+word_by (Some r) z g t page stored = calm_home r (StoresWord t page stored) g.calm
 
--- the same with both kinds of rows
-word_by : {E : Type 0} (r : Option Reuse) (t t' : ℕ) (page page' : Page) (stored stored' : ℕ)
-    → situation_by {E = E} r (StoresWord t page stored) ≡ Does (StoresWord t page stored)
-    → situation_by {E = E} r (StoresWord t' page' stored') ≡ Does (StoresWord t' page' stored')
-word_by None t t' page page' stored stored' i = refl
-word_by (Some r) t t' page page' stored stored' i = word_pinning r.pin r.reclaimer t t' page page' stored stored' i
-
--- whose pin lets a reclamation clear lets any clear
-clear_pinning : {E : Type 0} (u : Pin) (s : Option Reclaiming) (t : ℕ) (page : Page) (p q : Reclaiming)
-    → pinning {E = E} u s (GivesBack t page Sent) ≡ Clears p → IsClearing q
-    → pinning {E = E} u (Some q) (GivesBack t page Sent) ≡ Clears q
-clear_pinning Away s t page p q i h = clears_when q (GivesBack t page Sent) h
-clear_pinning (Announcing u) s t page p q i h = absurd cc
-clear_pinning (Validating u) s t page p q i h = absurd cc
-clear_pinning (Pinned u) s t page p q i h = clears_when q (GivesBack t page Sent) h
-clear_pinning (Unpinning u) s t page p q i h = absurd cc
-clear_pinning (Invalidated u) s t page p q i h = absurd cc
-
--- the same with both kinds of rows
-clear_by : {E : Type 0} (r : Option Reuse) (t : ℕ) (page : Page) (p q : Reclaiming)
-    → situation_by {E = E} r (GivesBack t page Sent) ≡ Clears p → IsClearing q
-    → situation_by {E = E} (reuse_reclaiming r q) (GivesBack t page Sent) ≡ Clears q
-clear_by None t page p q i h = absurd cc
-clear_by (Some r) t page p q i h = clear_pinning r.pin r.reclaimer t page p q i h
+-- whose reclamation clears lets any clear
+clear_by : {E : Type 0} (reuse : Option Reuse) (z : Own E) (p q : Reclaiming) → SituationTells (Clears p) reuse z → IsClearing q
+    → (t : ℕ) (page : Page) → situation_by {E = E} (reuse_reclaiming reuse q) (GivesBack t page Sent) ≡ Clears q
+clear_by None z p q w h t page = absurd w
+clear_by (Some r) z p q w h t page =
+    calm_home (record r { reclaimer = Some q }) (GivesBack t page Sent) w.0.calm ∙ clears_when q (GivesBack t page Sent) h
 
 -- a word of a frame that fits the log lies within it
 within : (start words stored most len at : ℕ) → at ≡ start + words + stored → words + len ≤ most → stored < len → at < start + most
@@ -189,9 +169,7 @@ clear_above : {E : Type 0} (width : ℕ) (Belongs : ℕ → E → Type 0) (c : C
     → (s : Reclaiming) → reclaimer_in r ≡ Some s → (at : ℕ) → at ≡ s.row + s.cleared → 2 ≤ at
 clear_above width Belongs c None k s is at e = absurd cc
 clear_above width Belongs c (Some r) k s is at e =
-    let h : IsHeldReclaimer (sizes_of (participant_of c r)) c.phase s =
-    subst (ReclaimerKeeps (sizes_of (participant_of c r)) c.phase) is k.reclaimer in
-    let from = h.after.row in
+    let from = (held_reclaimer width Belongs c r k s is).after.row in
     omega arith
 
 module _ {E : Type 0} (X : Election E) (v : Sender E) where
@@ -247,7 +225,7 @@ module _ {E : Type 0} (X : Election E) (v : Sender E) where
       let place : at ≡ log_start c.layout v.reuse + page.words + stored =
       word_place t page stored at value i step ∙ ap (λ (x : Layout). log_start x v.reuse + page.words + stored) (sym layout) in
       word_stores X (sender c v.reuse) t page.words (stored + 1) after.due
-      (λ other. word_by v.reuse t t page other stored (stored + 1) (ap (situation_by v.reuse) (sym own) ∙ i))
+      (λ other. word_by v.reuse (own_situation X v.core) (situation_tells X v (Does (StoresWord t page stored)) i).1 t other (stored + 1))
       (at + 1) (next_place (log_start c.layout v.reuse) page.words stored at place) next after.word after.room after.below
 
   -- once a word is cleared, and another one is to be
@@ -261,7 +239,7 @@ module _ {E : Type 0} (X : Election E) (v : Sender E) where
       let grown = f s 0 (reclaims X v v.reuse s i) in
       let same : r ≡ reuse_reclaiming v.reuse q = grown ∙ ap (reuse_reclaiming v.reuse) (held v.reuse s (reclaim_fed s 0) (reclaims X v v.reuse s i) (sym (ap reclaimer_in grown) ∙ is)) in
       clear_stores X (sender v.core r) width Belongs k q
-      ((λ j. situation_by (same j) (own j)) ∙ clear_by v.reuse h.tenure h.page s q (ap (situation_by v.reuse) (sym own) ∙ i) c) is c h at e where
+      ((λ j. situation_by (same j) (own j)) ∙ clear_by v.reuse (own_situation X v.core) s q (situation_tells X v (Clears s) i) c h.tenure h.page) is c h at e where
         held : (u : Option Reuse) (s n : Reclaiming) → reclaimer_in u ≡ Some s → reclaimer_in (reuse_reclaiming u n) ≡ Some q → n ≡ q
         held None s n is j = absurd cc
         held (Some u) s n is j = same_Some n q j

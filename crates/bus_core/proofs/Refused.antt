@@ -35,7 +35,7 @@ same_page : {E : Type 0} (t u : ℕ) (p q : Page) (a b : ℕ) (c d : Bool) → �
 same_page t u p q a b c d e = (cc, (cc, cc))
 
 -- and one election
-same_election : {E : Type 0} (t u : ℕ) (e f : E) → ◌≡◌ {A = Phase E} (Electing t e) (Electing u f) → (t ≡ u) × (e ≡ f)
+pub same_election : {E : Type 0} (t u : ℕ) (e f : E) → ◌≡◌ {A = Phase E} (Electing t e) (Electing u f) → (t ≡ u) × (e ≡ f)
 same_election t u e f i = (cc, cc)
 
 -- one step is of one election
@@ -85,7 +85,7 @@ some_is : (reuse : Option Reuse) (r : Reuse) (Q : Reuse → Type 0) → reuse �
 some_is reuse r Q e w = let h : IsSomeAnd (Some r) Q = subst (λ y. IsSomeAnd y Q) e w in h
 
 -- of rows that are used again, with a row for each tenure
-none_not : (reuse : Option Reuse) (Q : Reuse → Type 0) → reuse ≡ None → ¬ IsSomeAnd reuse Q
+pub none_not : (reuse : Option Reuse) (Q : Reuse → Type 0) → reuse ≡ None → ¬ IsSomeAnd reuse Q
 none_not reuse Q e w = let h : IsSomeAnd None Q = subst (λ y. IsSomeAnd y Q) e w in h
 
 -- of whatever rows those are

@@ -95,6 +95,11 @@ situation_tells X v y i = tells_by v.reuse (own_situation X v.core) y i
 pub own_is : {E : Type 0} (X : Election E) (v : Sender E) (z : Own E) → situation X v ≡ Does z → own_situation X v.core ≡ z
 own_is X v z i = (situation_tells X v (Does z) i).0
 
+-- whose pin asks for no step does what it would do without a pin
+pub calm_home : {E : Type 0} (r : Reuse) (z : Own E) → IsCalm r.pin → pinning r.pin r.reclaimer z ≡ at_home r.reclaimer z
+calm_home r z (inl away) = ap (λ u. pinning u r.reclaimer z) away
+calm_home r z (inr p) = ap (λ u. pinning u r.reclaimer z) p.1
+
 -- ---- with what a sender keeps
 module _ {E : Type 0} (width : ℕ) (Belongs : ℕ → E → Type 0) (c : Core E) where
   -- what holds of rows that are used again leads to what follows with what is kept of them

@@ -1,10 +1,13 @@
 -- What a step of a sender leaves, by what the calls gave.
-use Rattle.std.proofs.Common.{◌≡◌, ℕ, ◌<◌, ◌==◌, Bool, true, false, cond, Option, Some, None, IfSome, refl, sym, ◌∙◌, ap, subst}
+use Rattle.std.proofs.Common.{◌≡◌, ℕ, ◌+◌, ◌%◌, ◌<◌, ◌==◌, nat_lt, arith, Bool, true, false, cond, Option, Some, None, IfSome, refl, sym, ◌∙◌, ap, subst}
+use Rattle.std.proofs.Math.Nat.{mod-lt}
+use Rattle.std.proofs.lemmas.Bool.{ltb-true}
 use Rattle.bus_register.specs.declared.registers.Op.{Op}
+use Rattle.bus_register.specs.declared.registers.Op.TheVariants.{Load, Store}
 use Rattle.bus_register.specs.Words.{register}
+use Rattle.bus_ownerbits.proofs.ElectionSteps.{row_within}
 use Rattle.bus_presence.specs.Reclaimers.{Reclaiming}
-use Rattle.bus_presence.specs.declared.pins.Pin.{Pin}
-use Rattle.bus_presence.specs.declared.pins.Pin.TheVariants.{Away, Announcing, Validating, Pinned, Unpinning, Invalidated}
+use Rattle.bus_presence.specs.declared.pins.Pin.TheVariants.{Pinned, Unpinning}
 use Rattle.bus_tenure.specs.Core.{Core, Election}
 use Rattle.bus_tenure.specs.Situations.{Situation as Own, IsClosed, IsIdle, IsSpent, LooksAtStage, Elects, TakesPage, AwaitsPage, StoresWord, StoresLength, GivesBack, HasHanded, situation_of as own_situation, answer_of_election, fed_at, answer_at, wants_at}
 use Rattle.bus_tenure.specs.declared.pages.Page.{Page}
@@ -12,29 +15,50 @@ use Rattle.bus_tenure.specs.declared.phases.Reason.{Reason}
 use Rattle.bus_tenure.specs.declared.phases.Phase.TheVariants.{Giving}
 use Rattle.bus_tenure.specs.declared.turns.Turn.{Turn}
 use Rattle.bus_tenure.specs.declared.turns.Turn.TheVariants as turn
-use Rattle.bus_core.proofs.Reusing.Lies.{reclaimer_below}
-use Rattle.bus_core.proofs.Situated.{does_by}
-use Rattle.bus_core.specs.Senders.{Sender, Situation, Does, Announces, Validates, Unpins, Withdraws, Scans, Clears, pinning, situation_by, situation, words_all, participant_of}
+use Rattle.bus_core.proofs.Situated.{GoesCalmly, situation_tells, does_by, calm_home, held_reclaimer}
+use Rattle.bus_core.specs.Reusing.Keeping.{IsHeldReclaimer}
+use Rattle.bus_core.specs.Reusing.Participants.{sizes_with}
+use Rattle.bus_core.specs.Senders.{Sender, Situation, Does, Announces, Validates, Unpins, Withdraws, Scans, Clears, situation_by, situation, words_all}
 use Rattle.bus_core.specs.Table.{reuse_elected, line}
 use Rattle.bus_tenure.specs.Doings.{doing_of}
 use Rattle.bus_core.specs.Doings.{step_of, ending_of}
 use Rattle.bus_core.specs.declared.steps.Ending.{Ending}
 use Rattle.std.proofs.lemmas.Option.{same_Some}
-use Rattle.bus_core.specs.Keeping.{ReuseKeeps, reclaimer_op_of, sender, page_out, core_without, reuse_answered}
+use Rattle.bus_core.specs.Keeping.{ReuseKeeps, reclaimer_left, reclaimer_op_of, sender, page_out, core_without, reuse_answered}
 use Rattle.bus_tenure.specs.declared.doings.Doing.TheVariants as doing
 use Rattle.bus_core.specs.declared.reuses.Reuse.{Reuse}
 use Rattle.bus_core.specs.declared.steps.Step.TheVariants as step
 
 module _ {E : Type 0} where
-  -- a reclamation goes on
+  -- the step of a reclamation lies on a word of the bus
   pub reclaimed_below : (width : ℕ) (Belongs : ℕ → E → Type 0) (c : Core E) (reuse : Option Reuse) → ReuseKeeps width Belongs c reuse → (o : Op)
-      → reclaimer_op_of reuse ≡ Some o → register o < words_all (record { core = c; reuse = reuse })
+      → reclaimer_op_of reuse ≡ Some o → register o < words_all (sender c reuse)
   reclaimed_below width Belongs c None k o i = absurd cc
   reclaimed_below width Belongs c (Some r) k o i = by r.reclaimer refl i where
-    by : (s : Option Reclaiming) → r.reclaimer ≡ s → reclaimer_op_of (Some (record r { reclaimer = s })) ≡ Some o
-        → register o < words_all (record { core = c; reuse = Some r })
-    by None is j = absurd cc
-    by (Some s) is j = reclaimer_below (participant_of c r) k.rows_some k.reclaimer s is o j
+    by : (l : Option Reclaiming) → r.reclaimer ≡ l → reclaimer_left l ≡ Some o → register o < words_all (sender c (Some r))
+    by None e j = absurd cc
+    by (Some s) e j = lies (nat_lt s.scanned s.senders) (nat_lt s.cleared s.width) refl refl j where
+      h : IsHeldReclaimer (sizes_with c.layout r.rows) c.phase s
+      h = held_reclaimer width Belongs c r k s e
+
+      lies : (a b : Bool) → nat_lt s.scanned s.senders ≡ a → nat_lt s.cleared s.width ≡ b
+          → cond a (Some (Load record { 0 = s.presences + s.scanned })) (cond b (Some (Store record { 0 = s.row + s.cleared } 0)) None) ≡ Some o
+          → register o < words_all (sender c (Some r))
+      lies true b p q j =
+          let at : s.presences + s.scanned ≡ register o = ap register (same_Some _ _ j) in
+          let from = h.after.presences in
+          let many = h.after.senders in
+          let below : s.scanned < s.senders = ltb-true _ _ p in
+          omega arith
+      lies false true p q j =
+          let at : s.row + s.cleared ≡ register o = ap register (same_Some _ _ j) in
+          let from = h.after.row in
+          let wide = h.after.width in
+          let below : s.cleared < s.width = ltb-true _ _ q in
+          let some = k.rows_some in
+          let row = row_within ((h.tenure + 1) % r.rows) r.rows c.layout.width (mod-lt (h.tenure + 1) (omega arith)) in
+          omega arith
+      lies false false p q j = absurd cc
 
   -- an election's step is answered
   pub elected_reuse : (c : Core E) (t : ℕ) (own : Option ℕ) (reuse : Option Reuse)
@@ -151,25 +175,14 @@ module _ {E : Type 0} (X : Election E) (v : Sender E) where
 
 -- ---- with the page handed on
 -- who gave the page back says so next
-handed_pinning : {E : Type 0} (u : Pin) (s : Option Reclaiming) (t : ℕ) (page : Page) (reason : Reason)
-    → pinning {E = E} u s (GivesBack t page reason) ≡ Does (GivesBack t page reason)
-    → pinning {E = E} u s (HasHanded t reason) ≡ Does (HasHanded t reason)
-handed_pinning Away s t page reason i = refl
-handed_pinning (Announcing u) s t page reason i = absurd cc
-handed_pinning (Validating u) s t page reason i = absurd cc
-handed_pinning (Pinned u) s t page reason i = refl
-handed_pinning (Unpinning u) s t page reason i = absurd cc
-handed_pinning (Invalidated u) s t page reason i = absurd cc
-
--- the same with both kinds of rows
-handed_by : {E : Type 0} (reuse : Option Reuse) (t : ℕ) (page : Page) (reason : Reason)
-    → situation_by {E = E} reuse (GivesBack t page reason) ≡ Does (GivesBack t page reason)
+handed_by : {E : Type 0} (reuse : Option Reuse) (z : Own E) → IfSome reuse (λ r. GoesCalmly r z) → (t : ℕ) (reason : Reason)
     → situation_by {E = E} reuse (HasHanded t reason) ≡ Does (HasHanded t reason)
-handed_by None t page reason i = refl
-handed_by (Some r) t page reason i = handed_pinning r.pin r.reclaimer t page reason i
+handed_by None z g t reason = refl
+handed_by (Some r) z g t reason = calm_home r (HasHanded t reason) g.calm
 
 -- its step is to say so
 pub handed_step : {E : Type 0} (X : Election E) (v : Sender E) (t : ℕ) (page : Page) (reason : Reason)
     → situation X v ≡ Does (GivesBack t page reason) → own_situation X v.core ≡ GivesBack t page reason
     → step_of (situation X (record { core = record v.core { phase = Giving t reason }; reuse = v.reuse })) ≡ step.Does (doing.Handed t reason)
-handed_step {E} X v t page reason i own = ap (step_of {E = E}) (handed_by v.reuse t page reason (sym (ap (situation_by v.reuse) own) ∙ i))
+handed_step {E} X v t page reason i own =
+    ap (step_of {E = E}) (handed_by v.reuse (own_situation X v.core) (situation_tells X v (Does (GivesBack t page reason)) i).1 t reason)

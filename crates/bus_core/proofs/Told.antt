@@ -1,6 +1,6 @@
 -- What the answer of a step tells.
 use Rattle.std.specs.Prelude.{◌⊎◌}
-use Rattle.std.proofs.Common.{◌≡◌, ◌≢◌, inl, inr, ℕ, ◌+◌, ◌/◌, ◌<◌, ◌≤◌, Bool, true, false, cond, Option, Some, None, IsSome, IfSome, IsSomeAnd, nat_lt, nat_le, ◌==◌, ◌&&◌, refl, sym, ◌∙◌, ap, subst, arith}
+use Rattle.std.proofs.Common.{◌≡◌, ◌≢◌, inl, inr, ℕ, ◌+◌, ◌/◌, ◌<◌, ◌≤◌, Bool, true, false, cond, Option, Some, None, IsSome, IfSome, IsSomeAnd, nat_le, ◌==◌, ◌&&◌, refl, sym, ◌∙◌, ap, subst, arith}
 use Rattle.std.proofs.lemmas.Bool.{leb-false, leb-true, lt-ltb, le-ltb, eqb-true, eqb-false, true≢false}
 use Rattle.std.proofs.lemmas.Option.{same_Some}
 use Rattle.bus_register.specs.Words.{register}
@@ -12,10 +12,9 @@ use Rattle.bus_batch.specs.declared.messages.Mark.TheVariants as mark
 use Rattle.bus_presence.specs.Reclaimers.{Reclaiming, behind_of}
 use Rattle.bus_presence.specs.Reclamation.{presence_at}
 use Rattle.bus_presence.specs.declared.pins.Pin.TheVariants.{Away, Announcing, Pinned, Unpinning, Invalidated}
-use Rattle.bus_tenure.specs.Core.{Core, Election, is_marking, is_closing, is_leaving, row_at}
+use Rattle.bus_tenure.specs.Core.{Election, is_marking, is_closing, is_leaving, row_at}
 use Rattle.bus_tenure.specs.Seen.{HasElection, AwaitsItsPage}
-use Rattle.bus_tenure.specs.Situations.{Situation as Own, IsClosed, IsIdle, IsSpent, LooksAtStage, Elects, TakesPage, AwaitsPage, StoresWord, StoresLength, GivesBack, HasHanded, situation_of, waits, core_begun, answer_of_stage, answer_of_election, answer_sent, answer_of_return}
-use Rattle.bus_tenure.specs.declared.pages.Page.{Page}
+use Rattle.bus_tenure.specs.Situations.{Situation as Own, IsClosed, IsIdle, IsSpent, LooksAtStage, Elects, TakesPage, AwaitsPage, StoresWord, StoresLength, GivesBack, HasHanded, situation_of, waits, core_begun, answer_sent, answer_of_return}
 use Rattle.bus_tenure.specs.declared.phases.Reason.{Reason}
 use Rattle.bus_tenure.specs.declared.phases.Reason.TheVariants.{Sent, FoundEnd, NoRoom}
 use Rattle.bus_tenure.specs.declared.turns.Turn.TheVariants as turn
@@ -27,7 +26,7 @@ use Rattle.bus_core.specs.Reusing.Telling.{Returns, Gives, Says, HasPublished}
 use Rattle.bus_core.specs.Reusing.Turns.{answer_of_loss, answer_of_reclaim}
 use Rattle.bus_core.specs.Senders.{Sender, Situation, Does, Announces, Validates, Unpins, Withdraws, Scans, Clears, pinning, situation_by, situation}
 use Rattle.bus_core.specs.Table.{line, line_now, rest_at, seen, lost_of, answer_elected}
-use Rattle.bus_core.specs.Telling.{LooksFirst, FeedTells, RestTells, RestIsTold, IsInvalidated, Loses, LosesBy, IsChosen, GivesReady, IsBehind, Begins, TellsNoMore}
+use Rattle.bus_core.specs.Telling.{FeedTells, RestTells, RestIsTold, IsInvalidated, Loses, LosesBy, IsChosen, GivesReady, IsBehind, Begins, TellsNoMore}
 use Rattle.bus_core.specs.declared.reuses.Reuse.{Reuse}
 use Rattle.bus_core.proofs.Looking.{vain_of, waits_of, opened_of, first_looks, looks_first, rests_idle, rests_closed, rests_spent}
 use Rattle.bus_core.proofs.Reusing.Tells.{ChoosesItself, Shows, takes_page, gives_shows, shown_handed}

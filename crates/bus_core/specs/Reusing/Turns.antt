@@ -1,6 +1,6 @@
 -- The turns of a participant: its next step, and on which word; what it holds after that step, and what it answers. It goes by the
 -- definitions of a participant, and the table of a sender's turns.
-use Rattle.std.specs.Prelude.{◌≡◌, ℕ, ◌+◌, Bool, true, false, Option, Some, None, nat_lt, if◌then◌else◌}
+use Rattle.std.specs.Prelude.{ℕ, ◌+◌, Bool, true, false, Option, Some, None, nat_lt, if◌then◌else◌}
 use Rattle.bus_register.specs.declared.kinds.Kind.{Kind}
 use Rattle.bus_register.specs.declared.kinds.Kind.TheVariants as kind
 use Rattle.bus_register.specs.declared.registers.Op.{Op}
@@ -113,9 +113,6 @@ participant_due X v (Goes z) got word = record {
   rows = v.rows;
 }
 
-abbrev pub participant_after : {E : Type 0} → Election E → Participant E → ℕ → ℕ → Participant E
-participant_after X v got word = participant_due X v (due X v) got word
-
 -- ---- its answers
 -- The answer Lost comes once, with the step that clears the presence: the batch comes back then. Likewise a sender that saw another
 -- tenure's stage answers Waiting with the step that clears its presence.
@@ -140,9 +137,6 @@ abbrev pub answer_due : {E : Type 0} → Election E → Participant E → Due E 
 answer_due X v (Pins o) got word = answer_of_pin v.pin v.lost
 answer_due X v (Reclaims s o) got word = answer_of_reclaim (behind_of s got)
 answer_due X v (Goes z) got word = answer_going X v.core z got word
-
-abbrev pub answer_after : {E : Type 0} → Election E → Participant E → ℕ → ℕ → Turn
-answer_after X v got word = answer_due X v (due X v) got word
 
 -- ---- puts, marks and the page
 -- its batch, which is on its way from the load of the stage that begins a tenure until the answer that ends it
