@@ -1,6 +1,7 @@
 -- Each kind of step has its cause.
 use Rattle.std.specs.Prelude.{◌⊎◌}
 use Rattle.std.proofs.Common.{◌≡◌, inl, inr, ℕ, Bool, true, Option, Some, None, IfSome, IsSomeAnd, is_some, refl, sym, ◌∙◌, ap, subst}
+use Rattle.std.proofs.lemmas.Option.{IfSome_then}
 use Rattle.bus_register.specs.declared.kinds.Kind.{Kind}
 use Rattle.bus_register.specs.declared.kinds.Kind.TheVariants as kind
 use Rattle.bus_register.specs.declared.registers.Op.{Op}
@@ -66,7 +67,8 @@ module _ {E : Type 0} (X : Election E) (width : ℕ) (Belongs : ℕ → E → Ty
   leaves t w = some_kept width Belongs c (λ r. r.pin ≡ Unpinning t) (λ r. LeavesTenure (participant_of c r)) reuse k
       (λ r h e. by r e r.lost refl h.lost) w
     where
-      by : (r : Reuse) → r.pin ≡ Unpinning t → (l : Option SenderNo) → r.lost ≡ l → LostKeeps c.phase r.pin l → LeavesTenure (participant_of c r)
+      by : (r : Reuse) → r.pin ≡ Unpinning t → (l : Option SenderNo) → r.lost ≡ l → LostKeeps c.phase r.pin l
+          → LeavesTenure (participant_of c r)
       by r e None q kept = AsHolder t e (kept t e)
       by r e (Some o) q kept = AsLoser t o e q kept.rests
 
@@ -103,7 +105,8 @@ module _ {E : Type 0} (X : Election E) (width : ℕ) (Belongs : ℕ → E → Ty
       by (Some r) away ready = record { away = away; returns = why; tenure = t; held = held; ready = ready }
 
 -- ---- in an election
-module _ {S : Type 0} (P : Protocol S Bool Verdict) (v : Sender (Elector S)) (t : ℕ) (e : Elector S) (elects : v.core.phase ≡ Electing t e) where
+module _ {S : Type 0} (P : Protocol S Bool Verdict) (v : Sender (Elector S)) (t : ℕ) (e : Elector S)
+    (elects : v.core.phase ≡ Electing t e) where
   -- where rows are used again it stands in its tenure
   stands_inside : StandsIn v.reuse t → StandsInside v
   stands_inside w = by v.reuse w where
@@ -128,23 +131,23 @@ module _ {S : Type 0} (P : Protocol S Bool Verdict) (v : Sender (Elector S)) (t 
   standing_cause stands kind.TakePage c = (stands, c)
   standing_cause stands kind.StoreLogWord c = absurd (let bad = sym elects ∙ c.holds.holds in cc)
   standing_cause stands kind.StoreLength c = absurd (let bad = sym elects ∙ c.holds.holds in cc)
-  standing_cause stands kind.GivePageBack c = absurd (elim c [ inl l ↦ (let bad = sym elects ∙ l.holds in cc) | inr h ↦ (let bad = sym elects ∙ h.gives in cc) ])
+  standing_cause stands kind.GivePageBack c =
+      absurd (elim c [ inl l ↦ (let bad = sym elects ∙ l.holds in cc) | inr h ↦ (let bad = sym elects ∙ h.gives in cc) ])
   standing_cause stands k c = absurd c
 
-  -- the same of what its election's step is for
-  election_caused : StandsInside v → (x : Option Kind) → IfSome x (HasOwnCause P v.core) → IfSome x (HasCause P v)
-  election_caused stands None c = tt
-  election_caused stands (Some k) c = standing_cause stands k c
-
-module _ {S : Type 0} (kind_of : S → Option Kind) (op : S → ℕ → Option Op) (fed : S → ℕ → ℕ → S) (P : Protocol S Bool Verdict) (named : (s : S) (word : ℕ) → is_some (kind_of s) ≡ is_some (op s word))
-    (own : (s : S) (k : Kind) → kind_of s ≡ Some k → IsOfRatifier k) (named_for : (s : S) (k : Kind) (word : ℕ) (o : Op) → kind_of s ≡ Some k → op s word ≡ Some o → IsNamedFor k o (P.has_begun s)) where
+-- ---- each situation
+module _ {S : Type 0} (kind_of : S → Option Kind) (op : S → ℕ → Option Op) (fed : S → ℕ → ℕ → S) (P : Protocol S Bool Verdict)
+    (named : (s : S) (word : ℕ) → is_some (kind_of s) ≡ is_some (op s word))
+    (own : (s : S) (k : Kind) → kind_of s ≡ Some k → IsOfRatifier k)
+    (named_for : (s : S) (k : Kind) (word : ℕ) (o : Op) → kind_of s ≡ Some k → op s word ≡ Some o → IsNamedFor k o (P.has_begun s)) where
   -- the election that it goes by
   abbrev X : Election (Elector S)
   X = election_with kind_of op fed P
 
   -- what a sender keeps in its tenures
   abbrev pub TurnsKeep : Core (Elector S) → Type 0
-  TurnsKeep c = SenderInvariant ((elections P c.layout.rounds).width c.layout.senders) (ElectorKeeps P c.layout.rounds c.layout.senders c.me) c
+  TurnsKeep c =
+      SenderInvariant ((elections P c.layout.rounds).width c.layout.senders) (ElectorKeeps P c.layout.rounds c.layout.senders c.me) c
 
   -- a page is taken only where the election chose the sender
   pub chooses : (c : Core (Elector S)) → TurnsKeep c → ChoosesItself X c
@@ -165,7 +168,8 @@ module _ {S : Type 0} (kind_of : S → Option Kind) (op : S → ℕ → Option O
         tenure = t;
         election = w.0;
         elects = w.1;
-        last_bit = at_last_bit (decisions P) (decision_cost P.steps) c.layout.rounds c.layout.senders c.me (row_at c.layout t) c.me w.0 h.belongs.belongs w.2;
+        last_bit = at_last_bit (decisions P) (decision_cost P.steps) c.layout.rounds c.layout.senders c.me (row_at c.layout t) c.me w.0
+            h.belongs.belongs w.2;
         spells = w.2;
       }
 
@@ -185,8 +189,8 @@ module _ {S : Type 0} (kind_of : S → Option Kind) (op : S → ℕ → Option O
         (away LooksAtStage i (subst IsOutside (sym looks.rests) tt), looks)
     by_situation (Does (Elects t e)) i =
         let at = (tells X v.core (Elects t e) (situation_tells X v (Does (Elects t e)) i).0).0 in
-        election_caused P v t e at (stands_inside P v t e at (stands_in width Belongs v.core v.reuse g t e at)) (X.kind_of e)
-        (election_cause P v.core t e at k kind_of (timely P kind_of op named own named_for) (X.kind_of e) refl)
+        IfSome_then (X.kind_of e) (election_cause P v.core t e at k kind_of (timely P kind_of op named own named_for) (X.kind_of e) refl)
+        (standing_cause P v t e at (stands_inside P v t e at (stands_in width Belongs v.core v.reuse g t e at)))
     by_situation (Does (TakesPage t)) i =
         let w = takes_cause v.core k t (situation_tells X v (Does (TakesPage t)) i).0 in
         (stands_inside P v w.tenure w.election w.elects (stands_in width Belongs v.core v.reuse g w.tenure w.election w.elects), w)
@@ -227,7 +231,12 @@ module _ {S : Type 0} (kind_of : S → Option Kind) (op : S → ℕ → Option O
         (λ r h w. record { reclaimer = s; makes = makes_ready X width Belongs v.core v.reuse g r h s w.0; sender_left = w.1 })
         (situation_tells X v (Scans s) i)
     by_situation (Clears s) i = some_kept width Belongs v.core _ (λ r. ClearsWord (participant_of v.core r)) v.reuse g
-        (λ r h w. record { reclaimer = s; makes = makes_ready X width Belongs v.core v.reuse g r h s w.0; all_scanned = w.1.passed; word_left = w.1.left })
+        (λ r h w. record {
+          reclaimer = s;
+          makes = makes_ready X width Belongs v.core v.reuse g r h s w.0;
+          all_scanned = w.1.passed;
+          word_left = w.1.left;
+        })
         (situation_tells X v (Clears s) i)
 
     -- whatever the next step is for

@@ -101,19 +101,24 @@ module _ {S : Type 0} (P : Protocol S Bool Verdict) where
   stands v kind.TakePage i w = w.0
   stands v k i w = absurd i
 
+  -- where rows are used again, on the row of that tenure
+  stands_again : (c : Core (Elector S)) (r : Reuse) (k : Kind) → IsOfElection k → HasCause P (sender c (Some r)) k
+      → StandsInRow (participant_of c r)
+  stands_again c r k i w = stands (sender c (Some r)) k i w
+
   -- what none has a cause for with rows that are used again
   again_refused : (c : Core (Elector S)) (r : Reuse) → RefusesAgain P (sender c (Some r)) r
   again_refused c r =
       let x = sizes_with c.layout r.rows in
       record {
-        elects_away = λ k i e w. let s : StandsInRow (participant_of c r) = stands (sender c (Some r)) k i w in let bad = sym e ∙ s.pin in cc;
-        elects_unseen = λ k t i e w. let s : StandsInRow (participant_of c r) = stands (sender c (Some r)) k i w in let bad = sym e ∙ s.pin in cc;
-        elects_too_soon = λ k t i e w. let s : StandsInRow (participant_of c r) = stands (sender c (Some r)) k i w in let bad = sym e ∙ s.pin in cc;
+        elects_away = λ k i e w. let s = stands_again c r k i w in let bad = sym e ∙ s.pin in cc;
+        elects_unseen = λ k t i e w. let s = stands_again c r k i w in let bad = sym e ∙ s.pin in cc;
+        elects_too_soon = λ k t i e w. let s = stands_again c r k i w in let bad = sym e ∙ s.pin in cc;
         elects_elsewhere = λ k t u e i at runs other w.
-            let s : StandsInRow (participant_of c r) = stands (sender c (Some r)) k i w in
+            let s = stands_again c r k i w in
             other (same_pinned t s.tenure (sym at ∙ s.pin) ∙ (same_election s.tenure u s.election e (sym s.elects ∙ runs)).0);
-        elects_while_unpinning = λ k t i e w. let s : StandsInRow (participant_of c r) = stands (sender c (Some r)) k i w in let bad = sym e ∙ s.pin in cc;
-        elects_invalidated = λ k t i e w. let s : StandsInRow (participant_of c r) = stands (sender c (Some r)) k i w in let bad = sym e ∙ s.pin in cc;
+        elects_while_unpinning = λ k t i e w. let s = stands_again c r k i w in let bad = sym e ∙ s.pin in cc;
+        elects_invalidated = λ k t i e w. let s = stands_again c r k i w in let bad = sym e ∙ s.pin in cc;
         enters_the_past = λ t e past w. let same = same_announcing t w.tenure (sym e ∙ w.pin) in let may = w.may.least in omega arith;
         withdraws_away = λ e w. leaves_away (participant_of c r) w e;
         withdraws_pinned = λ t e w. leaves_pinned (participant_of c r) w t e;

@@ -28,25 +28,40 @@ use Rattle.bus_core.proofs.Situated.{IsCalm, GoesCalmly, Reclaims, SituationTell
 
 -- ---- its reclamation
 -- nobody reclaims but a holder
-unreclaimed : {E : Type 0} (x : ReclamationSizes) (p q : Phase E) (s : Option Reclaiming) → ReclaimerKeeps x p s → held_of p ≡ None → held_of q ≡ None → ReclaimerKeeps x q s
+unreclaimed : {E : Type 0} (x : ReclamationSizes) (p q : Phase E) (s : Option Reclaiming) → ReclaimerKeeps x p s → held_of p ≡ None
+    → held_of q ≡ None → ReclaimerKeeps x q s
 unreclaimed x p q None k h g = λ t e. absurd (let r = sym g ∙ e in cc)
 unreclaimed x p q (Some s) k h g = absurd (let r = sym h ∙ k.held in cc)
 
 -- the reclamation goes on with another phase of the same tenure, and is done where the page is handed on
-rephased : {E : Type 0} (x : ReclamationSizes) (p q : Phase E) (s : Option Reclaiming) → ReclaimerKeeps x p s → held_of q ≡ held_of p → ((t : ℕ) (reason : Reason) → q ≡ Giving t reason → IfSome s (λ y. is_reclaimed y ≡ true)) → ReclaimerKeeps x q s
+rephased : {E : Type 0} (x : ReclamationSizes) (p q : Phase E) (s : Option Reclaiming) → ReclaimerKeeps x p s → held_of q ≡ held_of p
+    → ((t : ℕ) (reason : Reason) → q ≡ Giving t reason → IfSome s (λ y. is_reclaimed y ≡ true)) → ReclaimerKeeps x q s
 rephased x p q None k held done = λ t e. k t (sym held ∙ e)
 rephased x p q (Some s) k held done = record { tenure = k.tenure; held = held ∙ k.held; after = k.after; handed = done }
 
 -- the reclaimer of a holder that has just taken the page
 begins : {E : Type 0} (x : ReclamationSizes) (p : Phase E) (t : ℕ) (b : Bool) → p ≡ Taken t → nat_lt (t + 1) x.rows ≡ b
-    → ReclaimerKeeps x p (cond b None (Some record { past = t + 1 - x.rows; senders = x.senders; presences = presence_at x 0; row = row_of x (t + 1); width = x.width; scanned = 0; cleared = 0 }))
+    → ReclaimerKeeps x p (cond b None (Some record {
+      past = t + 1 - x.rows;
+      senders = x.senders;
+      presences = presence_at x 0;
+      row = row_of x (t + 1);
+      width = x.width;
+      scanned = 0;
+      cleared = 0;
+    }))
 begins x p t true is e = λ u held.
     let same : t ≡ u = same_Some _ _ (sym (ap held_of is) ∙ held) in
     let early : t + 1 < x.rows = grind (arith, lt-ltb, e) in
     subst (λ w. w + 1 < x.rows) same early
 begins x p t false is e =
     let late : x.rows ≤ t + 1 = grind (arith, lt-ltb, e) in
-    record { tenure = t; held = ap held_of is; after = record { used = late; past = omega arith; senders = refl; presences = refl; row = refl; width = refl }; handed = λ u reason g. absurd (let r = sym is ∙ g in cc) }
+    record {
+      tenure = t;
+      held = ap held_of is;
+      after = record { used = late; past = omega arith; senders = refl; presences = refl; row = refl; width = refl };
+      handed = λ u reason g. absurd (let r = sym is ∙ g in cc);
+    }
 
 -- who holds a page has not handed it on
 not_giving : {E : Type 0} (p : Phase E) (t : ℕ) (page : Page) (stored : ℕ) (published : Bool) → p ≡ Holding t page stored published
@@ -57,11 +72,22 @@ not_giving p t page stored published i u reason e = let q : Holding t page store
 reclaimed_on : {E : Type 0} (x : ReclamationSizes) (p : Phase E) (s : Reclaiming) (got : ℕ) → ReclaimerKeeps x p (Some s)
     → ((t : ℕ) (reason : Reason) → p ≢ Giving t reason) → ReclaimerKeeps x p (Some (reclaim_fed s got))
 reclaimed_on x p s got k not = by (nat_lt s.scanned s.senders) (got == 1 + s.past) (nat_lt s.cleared s.width) where
+  -- of the same row
+  on : (n m : ℕ) → ReclaimerKeeps x p (Some (record s { scanned = n; cleared = m }))
+  on n m =
+      let a = k.after in
+      record {
+        tenure = k.tenure;
+        held = k.held;
+        after = record { used = a.used; past = a.past; senders = a.senders; presences = a.presences; row = a.row; width = a.width };
+        handed = λ t r e. absurd (not t r e);
+      }
+
   by : (a b d : Bool)
       → ReclaimerKeeps x p (Some (cond a (cond b s (record s { scanned = s.scanned + 1 })) (cond d (record s { cleared = s.cleared + 1 }) s)))
   by true true d = k
-  by true false d = record { tenure = k.tenure; held = k.held; after = record { used = k.after.used; past = k.after.past; senders = k.after.senders; presences = k.after.presences; row = k.after.row; width = k.after.width }; handed = λ t r e. absurd (not t r e) }
-  by false b true = record { tenure = k.tenure; held = k.held; after = record { used = k.after.used; past = k.after.past; senders = k.after.senders; presences = k.after.presences; row = k.after.row; width = k.after.width }; handed = λ t r e. absurd (not t r e) }
+  by true false d = on (s.scanned + 1) s.cleared
+  by false b true = on s.scanned (s.cleared + 1)
   by false b false = k
 
 module _ {E : Type 0} (X : Election E) (W : Layout → ℕ) (B : Layout → ℕ → ℕ → E → Type 0) (law : ElectionsKeep X W B) where
@@ -71,12 +97,14 @@ module _ {E : Type 0} (X : Election E) (W : Layout → ℕ) (B : Layout → ℕ 
 
   -- ---- where rows are used again
   module _ (c : Core E) (r : Reuse) (k : Keeps (sender c (Some r))) where
+    -- its sizes
     abbrev sizes : ReclamationSizes
     sizes = sizes_with c.layout r.rows
 
     -- with its batch, the tenures that are past for it, its phase, its pin, its reclamation and whom it lost to
     abbrev with : Pending → ℕ → Phase E → Pin → Option Reclaiming → Option SenderNo → Sender E
-    with q least p u s l = sender (record c { queue = q; least = least; phase = p }) (Some record { pin = u; reclaimer = s; lost = l; rows = r.rows })
+    with q least p u s l =
+        sender (record c { queue = q; least = least; phase = p }) (Some record { pin = u; reclaimer = s; lost = l; rows = r.rows })
 
     -- all of which it may be with, if its pin, its reclamation and whom it lost to are kept
     kept : (q : Pending) (least : ℕ) (p : Phase E) (u : Pin) (s : Option Reclaiming) (l : Option SenderNo)
@@ -95,7 +123,8 @@ module _ {E : Type 0} (X : Election E) (W : Layout → ℕ) (B : Layout → ℕ 
 
     -- ---- a step of its pin
     -- whom it lost to is forgotten, and its presence names no tenure that it lost
-    repinned : (u : Pin) → PinKeeps (B c.layout c.me) c u → ((t : ℕ) → u ≢ Unpinning t) → Keeps (with c.queue c.least c.phase u r.reclaimer None)
+    repinned : (u : Pin) → PinKeeps (B c.layout c.me) c u → ((t : ℕ) → u ≢ Unpinning t)
+        → Keeps (with c.queue c.least c.phase u r.reclaimer None)
     repinned u pin other = kept c.queue c.least c.phase u r.reclaimer None pin k.reclaimer (λ t e. absurd (other t e))
 
     -- its pin is this one
@@ -126,11 +155,12 @@ module _ {E : Type 0} (X : Election E) (W : Layout → ℕ) (B : Layout → ℕ 
     lost_on calm p u holds = subst (LostKeeps p u) (sym (unlost calm)) holds
 
     -- who goes on, and whose election does not run, stays as it is
-    goes : IsCalm r.pin → IsOutside c.phase → (q : Pending) (least : ℕ) (p : Phase E) (s : Option Reclaiming) → IsOutside p → ReclaimerKeeps sizes p s
-        → Keeps (with q least p r.pin s r.lost)
+    goes : IsCalm r.pin → IsOutside c.phase → (q : Pending) (least : ℕ) (p : Phase E) (s : Option Reclaiming) → IsOutside p
+        → ReclaimerKeeps sizes p s → Keeps (with q least p r.pin s r.lost)
     goes calm out q least p s after reclaimer =
         let away = calm_away (W c.layout) (B c.layout c.me) c r k out calm in
-        kept q least p r.pin s r.lost (subst (PinKeeps (B c.layout c.me) (record c { queue = q; least = least; phase = p })) (sym away) after) reclaimer
+        kept q least p r.pin s r.lost
+        (subst (PinKeeps (B c.layout c.me) (record c { queue = q; least = least; phase = p })) (sym away) after) reclaimer
         (lost_on calm p r.pin (λ t e. let bad = sym away ∙ e in absurd cc))
 
     -- with another phase of the same tenure
@@ -154,7 +184,8 @@ module _ {E : Type 0} (X : Election E) (W : Layout → ℕ) (B : Layout → ℕ 
       bound false i w = absurd cc
 
       by : (a b : Bool) → waits c got ≡ a → nat_le c.layout.rows (got / 2) ≡ b
-          → Keeps (sender (cond a c (cond b (record c { least = got / 2 }) c)) (Some (record r { pin = cond a Away (cond b Away (Announcing (got / 2))) })))
+          → Keeps (sender (cond a c (cond b (record c { least = got / 2 }) c))
+          (Some (record r { pin = cond a Away (cond b Away (Announcing (got / 2))) })))
       by true b i j = away c.least
       by false true i j = away (got / 2)
       by false false i j = kept c.queue c.least c.phase (Announcing (got / 2)) r.reclaimer r.lost
@@ -174,7 +205,8 @@ module _ {E : Type 0} (X : Election E) (W : Layout → ℕ) (B : Layout → ℕ 
           (outside (Electing t next) refl) (lost_on calm (Electing t next) (Pinned t) (λ u e. absurd cc))
 
       ends : (o : ℕ) (b : Bool)
-          → Keeps (sender (cond b (record c { phase = Electing t next }) (record c { queue = record c.queue { busy = false }; least = t + 1; phase = Resting }))
+          → Keeps (sender
+          (cond b (record c { phase = Electing t next }) (record c { queue = record c.queue { busy = false }; least = t + 1; phase = Resting }))
           (Some (record r { pin = cond b (Pinned t) (Unpinning t); lost = cond b r.lost (Some record { 0 = o }) })))
       ends o true = runs
       ends o false = kept (record c.queue { busy = false }) (t + 1) Resting (Unpinning t) r.reclaimer (Some record { 0 = o }) tt
@@ -200,8 +232,8 @@ module _ {E : Type 0} (X : Election E) (W : Layout → ℕ) (B : Layout → ℕ 
         (λ t reason e. not_giving c.phase _ _ _ _ at t reason e))
         k.lost
 
-    -- ---- each situation
     module _ (got word : ℕ) where
+      -- ---- each situation
       by_situation : (z : Situation E) → SituationTells z (Some r) (situation_of X c) → IsSome ((line X (sender c (Some r)) z).op word)
           → Keeps ((line X (sender c (Some r)) z).fed got word)
       by_situation (Does IsClosed) w h = k
@@ -213,7 +245,8 @@ module _ {E : Type 0} (X : Election E) (W : Layout → ℕ) (B : Layout → ℕ 
           let at = (tells X c (Elects t e) w.0).0 in
           let o = some_op (X.op e word) h in
           elects t e (X.fed e got word) w.1.calm at
-          (law.goes c.layout c.me (row_at c.layout t) e got word o.0 (runs_pinned (B c.layout c.me) c r.pin t e k.pin at).1 o.1) (X.owner (X.fed e got word))
+          (law.goes c.layout c.me (row_at c.layout t) e got word o.0 (runs_pinned (B c.layout c.me) c r.pin t e k.pin at).1 o.1)
+          (X.owner (X.fed e got word))
         where
           some_op : (x : Option Op) → IsSome (in_row c.layout (Some r) t x) → (o : Op) × (x ≡ Some o)
           some_op None g = absurd (let q : false ≡ true = g in cc)
@@ -222,7 +255,8 @@ module _ {E : Type 0} (X : Election E) (W : Layout → ℕ) (B : Layout → ℕ 
       by_situation (Does (AwaitsPage t)) w h = k
       by_situation (Does (StoresWord t page stored)) w h =
           let at = (tells X c (StoresWord t page stored) w.0).1 in
-          holds w.1.calm (subst IsOutside (sym at) tt) (Holding t page (stored + 1) false) tt (sym (ap held_of at)) (λ u reason e. absurd cc)
+          holds w.1.calm (subst IsOutside (sym at) tt) (Holding t page (stored + 1) false) tt (sym (ap held_of at))
+          (λ u reason e. absurd cc)
       by_situation (Does (StoresLength t page stored)) w h =
           let at = (tells X c (StoresLength t page stored) w.0).1 in
           holds w.1.calm (subst IsOutside (sym at) tt) (Holding t page stored true) tt (sym (ap held_of at)) (λ u reason e. absurd cc)
@@ -246,7 +280,8 @@ module _ {E : Type 0} (X : Election E) (W : Layout → ℕ) (B : Layout → ℕ 
     by : (r : Option Reuse) → Keeps (sender v.core r) → IsSome ((line_now X (sender v.core r)).op word)
         → Keeps ((line_now X (sender v.core r)).fed got word)
     by None k h = subst Keeps (sym (ap (λ l. l.fed got word) (at_none X v.core))) tt
-    by (Some r) k h = by_situation v.core r k got word (situation X (sender v.core (Some r))) (situation_tells X (sender v.core (Some r)) _ refl) h
+    by (Some r) k h =
+        let w = sender v.core (Some r) in by_situation v.core r k got word (situation X w) (situation_tells X w _ refl) h
 
   -- the page goes out of its hands
   pub keeps_out : (v : Sender E) → Keeps v → (t : ℕ) (page : Page) (reason : Reason) → situation_of X v.core ≡ GivesBack t page reason

@@ -1,22 +1,20 @@
 -- A sender that has begun no tenure, by what it holds: whether it looks at the stage, and why it has nothing to do.
 use Rattle.std.specs.Prelude.{◌⊎◌, ◌≢◌}
-use Rattle.std.proofs.Common.{◌≡◌, inl, inr, ℕ, ◌/◌, ◌%◌, ◌<◌, ◌≤◌, Bool, true, false, cond, Option, Some, None, List, [], ◌∷◌, length, nat_lt, nat_le, ◌==◌, ◌&&◌, refl, sym, ◌∙◌, ap, subst, arith}
+use Rattle.std.proofs.Common.{◌≡◌, inl, inr, ℕ, ◌/◌, ◌%◌, ◌<◌, ◌≤◌, Bool, true, false, cond, List, [], ◌∷◌, length, nat_lt, nat_le, ◌==◌, ◌&&◌, refl, sym, ◌∙◌, ap, subst, arith}
 use Rattle.std.proofs.lemmas.Bool.{leb-true, lt-leb, ltb-true, ltb-false, lt-ltb, eqb-true, eqb-false, ne_eqb, true≢false}
 use Rattle.bus_batch.specs.declared.batches.Phase.{Phase as BatchPhase}
 use Rattle.bus_batch.specs.declared.batches.Phase.TheVariants.{Open, Marking, Closed}
 use Rattle.bus_batch.specs.declared.messages.Mark.{Mark}
-use Rattle.bus_presence.specs.declared.pins.Pin.TheVariants.{Away}
 use Rattle.bus_tenure.specs.Core.{Core, Election, is_empty, is_marking, is_closed}
 use Rattle.bus_tenure.specs.Situations.{Situation as Own, IsClosed, IsIdle, IsSpent, LooksAtStage, situation_at, situation_of as own_situation, waits}
 use Rattle.bus_tenure.specs.declared.phases.Phase.TheVariants.{Resting}
 use Rattle.bus_tenure.proofs.Situated.{tells}
 use Rattle.bus_core.specs.Keeping.{ReuseKeeps, IsAway}
 use Rattle.bus_core.specs.Reusing.Keeping.{IsOutside}
-use Rattle.bus_core.specs.Senders.{Sender, Does, pinning, situation_by, situation}
+use Rattle.bus_core.specs.Senders.{Sender, Does, situation_by, situation}
 use Rattle.bus_core.specs.Telling.{HasBegunNone, LooksFirst, RestsIdle, RestsClosed, RestsSpent}
-use Rattle.bus_core.specs.declared.reuses.Reuse.{Reuse}
 use Rattle.bus_core.proofs.Caused.{looks_cause}
-use Rattle.bus_core.proofs.Situated.{situation_tells, own_is, goes_away}
+use Rattle.bus_core.proofs.Situated.{situation_tells, own_is, goes_away, away_does}
 
 -- ---- what waits in its batch, and whether a tenure is left
 abbrev rest_by : {E : Type 0} → BatchPhase → List (List ℕ) → Bool → Own E
@@ -92,7 +90,8 @@ opened_of c got e = by (got % 2 == 0) refl e where
 
 module _ {E : Type 0} (X : Election E) (v : Sender E) where
   -- a phase that rests has the situation of rest
-  rest_is : (z : Own E) → v.core.phase ≡ Resting → own_situation X v.core ≡ z → rest_by v.core.queue.phase v.core.queue.messages (nat_le v.core.layout.rows v.core.least) ≡ z
+  rest_is : (z : Own E) → v.core.phase ≡ Resting → own_situation X v.core ≡ z
+      → rest_by v.core.queue.phase v.core.queue.messages (nat_le v.core.layout.rows v.core.least) ≡ z
   rest_is z rests i = sym (ap (situation_at X v.core) rests) ∙ i
 
   -- who is closed is so by its batch
@@ -103,19 +102,16 @@ module _ {E : Type 0} (X : Election E) (v : Sender E) where
   pub spent_at : own_situation X v.core ≡ IsSpent → v.core.layout.rows ≤ v.core.least
   spent_at own = leb-true _ _ (spent_by {E = E} _ _ _ (rest_is IsSpent (tells X v.core IsSpent own) own)).2
 
-  -- it pins none, and what it does is of its turns
-  does_by : (r : Option Reuse) (z : Own E) → IsAway r → ((s : Option Rattle.bus_presence.specs.Reclaimers.Reclaiming) → pinning Away s z ≡ Does z) → situation_by r z ≡ Does z
-  does_by None z away home = refl
-  does_by (Some r) z away home = ap (λ u. pinning u r.reclaimer z) away ∙ home r.reclaimer
-
   -- who has something to send, and a tenure left to enter, looks at the stage
   pub first_looks : LooksFirst v → situation X v ≡ Does LooksAtStage
   first_looks w =
       let l = w.looks in
       let left = l.tenure_left in
       let own : own_situation X v.core ≡ LooksAtStage =
-      ap (situation_at X v.core) l.rests ∙ looks_where v.core.queue.phase v.core.queue.messages (nat_le v.core.layout.rows v.core.least) l.not_closed l.something (lt-leb _ _ left) in
-      ap (situation_by v.reuse) own ∙ does_by v.reuse LooksAtStage w.away (λ s. refl)
+      ap (situation_at X v.core) l.rests
+      ∙ looks_where v.core.queue.phase v.core.queue.messages (nat_le v.core.layout.rows v.core.least) l.not_closed l.something
+      (lt-leb _ _ left) in
+      ap (situation_by v.reuse) own ∙ away_does v.reuse LooksAtStage w.away (λ s. refl)
 
   module _ (width : ℕ) (Belongs : ℕ → E → Type 0) (k : ReuseKeeps width Belongs v.core v.reuse) where
     -- who goes on at rest as a sender in its turns pins none

@@ -1,5 +1,6 @@
 -- The next step lies where its line says.
 use Rattle.std.proofs.Common.{◌≡◌, ℕ, ◌+◌, ◌-◌, ◌<◌, ◌≤◌, Option, Some, None, IfSome, refl, sym, ap, subst, arith}
+use Rattle.std.proofs.lemmas.Option.{IfSome_then}
 use Rattle.bus_register.specs.Words.{register}
 use Rattle.bus_register.specs.declared.registers.Op.{Op}
 use Rattle.bus_register.specs.declared.registers.Op.TheVariants.{Load, Store, Add, Cas}
@@ -12,7 +13,7 @@ use Rattle.bus_tenure.specs.declared.phases.Phase.TheVariants.{Electing}
 use Rattle.bus_tenure.proofs.Situated.{tells}
 use Rattle.bus_core.specs.Reusing.Participants.{sizes_with}
 use Rattle.bus_core.specs.Keeping.{ReuseKeeps}
-use Rattle.bus_core.specs.Places.{IsInRow, StandsIn, IsAsked, IsInNextRow, LiesAt}
+use Rattle.bus_core.specs.Places.{IsInRow, IsAsked, IsInNextRow, LiesAt}
 use Rattle.bus_core.specs.Senders.{Sender, Situation, Does, Announces, Validates, Unpins, Withdraws, Scans, Clears, situation}
 use Rattle.bus_core.specs.Table.{line, line_now, in_row}
 use Rattle.bus_core.specs.declared.reuses.Reuse.{Reuse}
@@ -33,11 +34,6 @@ in_row_lies x (Some r) t (Some (Load at)) above below = placed x r t at.0 above 
 in_row_lies x (Some r) t (Some (Store at n)) above below = placed x r t at.0 above below
 in_row_lies x (Some r) t (Some (Add at n)) above below = placed x r t at.0 above below
 in_row_lies x (Some r) t (Some (Cas at n m)) above below = placed x r t at.0 above below
-
--- with two facts beside it
-with_facts : (A B : Type 0) (Q : Op → Type 0) (o : Option Op) → A → B → IfSome o Q → IfSome o (λ o. A × B × Q o)
-with_facts A B Q None a b h = tt
-with_facts A B Q (Some o) a b h = (a, b, h)
 
 -- the tenure of an election that runs is one of those of the bus
 pub electing_below : {E : Type 0} (width : ℕ) (Belongs : ℕ → E → Type 0) (c : Core E) → SenderInvariant width Belongs c → (t : ℕ) (e : E)
@@ -82,9 +78,12 @@ module _ {E : Type 0} (X : Election E) (width : ℕ) (Belongs : ℕ → E → Ty
     by_line word (Does (Elects t e)) i =
         let at = (tells X v.core (Elects t e) (own_is X v (Elects t e) i)).0 in
         let n = near t e at word in
-        with_facts (t < v.core.layout.rows) (StandsIn v.reuse t) (λ o. IsInRow v.core.layout v.reuse t (register o)) (in_row v.core.layout v.reuse t (X.op e word))
-        (within t e at) (stands_in width Belongs v.core v.reuse k t e at) (in_row_lies v.core.layout v.reuse t (X.op e word) n.0 n.1)
-    by_line word (Does (TakesPage t)) i = let at = tells X v.core (TakesPage t) (own_is X v (TakesPage t) i) in (within t at.0 at.1, stands_in width Belongs v.core v.reuse k t at.0 at.1, refl)
+        let stands = stands_in width Belongs v.core v.reuse k t e at in
+        IfSome_then (in_row v.core.layout v.reuse t (X.op e word)) (in_row_lies v.core.layout v.reuse t (X.op e word) n.0 n.1)
+        (λ o lies. (within t e at, stands, lies))
+    by_line word (Does (TakesPage t)) i =
+        let at = tells X v.core (TakesPage t) (own_is X v (TakesPage t) i) in
+        (within t at.0 at.1, stands_in width Belongs v.core v.reuse k t at.0 at.1, refl)
     by_line word (Does (AwaitsPage t)) i = tt
     by_line word (Does (StoresWord t page stored)) i = omega arith
     by_line word (Does (StoresLength t page stored)) i = refl

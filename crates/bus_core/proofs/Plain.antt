@@ -1,5 +1,5 @@
 -- Plain stores: when one is due, and what it leaves.
-use Rattle.std.proofs.Common.{◌≡◌, ℕ, ◌+◌, ◌<◌, ◌≤◌, ◌==◌, false, cond, slice_index, arith, Option, Some, None, IsSome, IfSome, nat_lt, refl, sym, ◌∙◌, ap, subst}
+use Rattle.std.proofs.Common.{◌≡◌, ℕ, ◌+◌, ◌<◌, ◌≤◌, ◌==◌, false, cond, slice_index, arith, Option, Some, None, IsSome, nat_lt, refl, sym, ◌∙◌, ap, subst}
 use Rattle.std.proofs.lemmas.Option.{same_Some}
 use Rattle.std.specs.Prelude.{◌&&◌, if◌then◌else◌}
 use Rattle.std.proofs.lemmas.Bool.{lt-ltb, le-ltb}
@@ -24,15 +24,14 @@ use Rattle.bus_core.specs.Plain.{IsPlain, Word, Clear, StoresPlain}
 use Rattle.bus_core.specs.Senders.{Sender, Does, Scans, Clears, log_start, pinning, situation_by, situation, words_all}
 use Rattle.bus_core.specs.Table.{line, line_now, reuse_reclaiming}
 use Rattle.bus_core.specs.declared.reuses.Reuse.{Reuse}
-use Rattle.bus_core.proofs.Situated.{GoesCalmly, SituationTells, tells_by, situation_tells, own_is, calm_home, held_reclaimer}
+use Rattle.bus_core.proofs.Situated.{SituationTells, tells_by, situation_tells, own_is, calm_home, goes_does, away_does, held_reclaimer}
 use Rattle.bus_core.proofs.Stepped.{fed_word, reclaimed_below}
 
 -- ---- when one is due
 -- who has no pin stores a word as its turns do
 pub away_word : {E : Type 0} (r : Option Reuse) → IsAway r → (t : ℕ) (page : Page) (stored : ℕ)
     → situation_by {E = E} r (StoresWord t page stored) ≡ Does (StoresWord t page stored)
-away_word None away t page stored = refl
-away_word (Some r) away t page stored = ap (λ u. pinning u r.reclaimer (StoresWord t page stored)) away
+away_word r away t page stored = away_does r (StoresWord t page stored) away (λ s. refl)
 
 -- a reclamation that is to clear does so
 clears_when : {E : Type 0} (s : Reclaiming) (z : Own E) → IsClearing s
@@ -138,12 +137,6 @@ module _ {E : Type 0} (X : Election E) (v : Sender E) where
   plain_wordless (Clear s i k p) = ap (λ z. (line X v z).wants_word) i
 
 -- ---- which one is due behind it
--- who goes on in its tenure may store any word
-word_by : {E : Type 0} (reuse : Option Reuse) (z : Own E) → IfSome reuse (λ r. GoesCalmly r z) → (t : ℕ) (page : Page) (stored : ℕ)
-    → situation_by {E = E} reuse (StoresWord t page stored) ≡ Does (StoresWord t page stored)
-word_by None z g t page stored = refl
-word_by (Some r) z g t page stored = calm_home r (StoresWord t page stored) g.calm
-
 -- whose reclamation clears lets any clear
 clear_by : {E : Type 0} (reuse : Option Reuse) (z : Own E) (p q : Reclaiming) → SituationTells (Clears p) reuse z → IsClearing q
     → (t : ℕ) (page : Page) → situation_by {E = E} (reuse_reclaiming reuse q) (GivesBack t page Sent) ≡ Clears q
@@ -225,7 +218,8 @@ module _ {E : Type 0} (X : Election E) (v : Sender E) where
       let place : at ≡ log_start c.layout v.reuse + page.words + stored =
       word_place t page stored at value i step ∙ ap (λ (x : Layout). log_start x v.reuse + page.words + stored) (sym layout) in
       word_stores X (sender c v.reuse) t page.words (stored + 1) after.due
-      (λ other. word_by v.reuse (own_situation X v.core) (situation_tells X v (Does (StoresWord t page stored)) i).1 t other (stored + 1))
+      (λ other. goes_does v.reuse (own_situation X v.core) (StoresWord t other (stored + 1))
+      (situation_tells X v (Does (StoresWord t page stored)) i).1 (λ s. refl))
       (at + 1) (next_place (log_start c.layout v.reuse) page.words stored at place) next after.word after.room after.below
 
   -- once a word is cleared, and another one is to be
@@ -239,7 +233,9 @@ module _ {E : Type 0} (X : Election E) (v : Sender E) where
       let grown = f s 0 (reclaims X v v.reuse s i) in
       let same : r ≡ reuse_reclaiming v.reuse q = grown ∙ ap (reuse_reclaiming v.reuse) (held v.reuse s (reclaim_fed s 0) (reclaims X v v.reuse s i) (sym (ap reclaimer_in grown) ∙ is)) in
       clear_stores X (sender v.core r) width Belongs k q
-      ((λ j. situation_by (same j) (own j)) ∙ clear_by v.reuse (own_situation X v.core) s q (situation_tells X v (Clears s) i) c h.tenure h.page) is c h at e where
+      ((λ j. situation_by (same j) (own j))
+      ∙ clear_by v.reuse (own_situation X v.core) s q (situation_tells X v (Clears s) i) c h.tenure h.page)
+      is c h at e where
         held : (u : Option Reuse) (s n : Reclaiming) → reclaimer_in u ≡ Some s → reclaimer_in (reuse_reclaiming u n) ≡ Some q → n ≡ q
         held None s n is j = absurd cc
         held (Some u) s n is j = same_Some n q j

@@ -55,7 +55,8 @@ SituationTells (Clears s) reuse z = IsSomeAnd reuse (λ r. Reclaims r z s × IsC
 -- of who takes no step of a pin
 home_tells : {E : Type 0} (r : Reuse) (z : Own E) → IsCalm r.pin → SituationTells (at_home r.reclaimer z) (Some r) z
 home_tells {E} r (GivesBack t page reason) calm = by r.reclaimer refl where
-  by : (l : Option Reclaiming) → r.reclaimer ≡ l → SituationTells {E = E} (reclaiming l (GivesBack t page reason)) (Some r) (GivesBack t page reason)
+  by : (l : Option Reclaiming) → r.reclaimer ≡ l
+      → SituationTells {E = E} (reclaiming l (GivesBack t page reason)) (Some r) (GivesBack t page reason)
   by None e = (refl, record { calm = calm; done = λ u p w i. subst (λ y. IfSome y (λ s. is_reclaimed s ≡ true)) (sym e) tt })
   by (Some s) e = at (nat_lt s.scanned s.senders) (nat_lt s.cleared s.width) refl refl where
     goes_on : Reclaims {E = E} r (GivesBack t page reason) s
@@ -100,6 +101,18 @@ pub calm_home : {E : Type 0} (r : Reuse) (z : Own E) → IsCalm r.pin → pinnin
 calm_home r z (inl away) = ap (λ u. pinning u r.reclaimer z) away
 calm_home r z (inr p) = ap (λ u. pinning u r.reclaimer z) p.1
 
+-- so who goes on in its tenure does anything else there that waits for no reclamation
+pub goes_does : {E : Type 0} (reuse : Option Reuse) (w z : Own E) → IfSome reuse (λ r. GoesCalmly r w)
+    → ((s : Option Reclaiming) → at_home s z ≡ Does z) → situation_by reuse z ≡ Does z
+goes_does None w z g home = refl
+goes_does (Some r) w z g home = calm_home r z g.calm ∙ home r.reclaimer
+
+-- and so does who pins none
+pub away_does : {E : Type 0} (reuse : Option Reuse) (z : Own E) → IsAway reuse → ((s : Option Reclaiming) → at_home s z ≡ Does z)
+    → situation_by reuse z ≡ Does z
+away_does None z away home = refl
+away_does (Some r) z away home = calm_home r z (inl away) ∙ home r.reclaimer
+
 -- ---- with what a sender keeps
 module _ {E : Type 0} (width : ℕ) (Belongs : ℕ → E → Type 0) (c : Core E) where
   -- what holds of rows that are used again leads to what follows with what is kept of them
@@ -121,8 +134,8 @@ module _ {E : Type 0} (width : ℕ) (Belongs : ℕ → E → Type 0) (c : Core E
       absurd (let bad : IsOutside (Electing p.0 h.election) = subst IsOutside h.is out in cc)
 
   -- the same of who goes on in its tenure
-  pub goes_away : (reuse : Option Reuse) → ReuseKeeps width Belongs c reuse → IsOutside c.phase → (z : Own E) → IfSome reuse (λ r. GoesCalmly r z)
-      → IsAway reuse
+  pub goes_away : (reuse : Option Reuse) → ReuseKeeps width Belongs c reuse → IsOutside c.phase → (z : Own E)
+      → IfSome reuse (λ r. GoesCalmly r z) → IsAway reuse
   goes_away None k out z g = tt
   goes_away (Some r) k out z g = calm_away r k out g.calm
 

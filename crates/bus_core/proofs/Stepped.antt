@@ -15,10 +15,10 @@ use Rattle.bus_tenure.specs.declared.phases.Reason.{Reason}
 use Rattle.bus_tenure.specs.declared.phases.Phase.TheVariants.{Giving}
 use Rattle.bus_tenure.specs.declared.turns.Turn.{Turn}
 use Rattle.bus_tenure.specs.declared.turns.Turn.TheVariants as turn
-use Rattle.bus_core.proofs.Situated.{GoesCalmly, situation_tells, does_by, calm_home, held_reclaimer}
+use Rattle.bus_core.proofs.Situated.{situation_tells, does_by, goes_does, held_reclaimer}
 use Rattle.bus_core.specs.Reusing.Keeping.{IsHeldReclaimer}
 use Rattle.bus_core.specs.Reusing.Participants.{sizes_with}
-use Rattle.bus_core.specs.Senders.{Sender, Situation, Does, Announces, Validates, Unpins, Withdraws, Scans, Clears, situation_by, situation, words_all}
+use Rattle.bus_core.specs.Senders.{Sender, Situation, Does, Announces, Validates, Unpins, Withdraws, Scans, Clears, situation, words_all}
 use Rattle.bus_core.specs.Table.{reuse_elected, line}
 use Rattle.bus_tenure.specs.Doings.{doing_of}
 use Rattle.bus_core.specs.Doings.{step_of, ending_of}
@@ -31,8 +31,8 @@ use Rattle.bus_core.specs.declared.steps.Step.TheVariants as step
 
 module _ {E : Type 0} where
   -- the step of a reclamation lies on a word of the bus
-  pub reclaimed_below : (width : ℕ) (Belongs : ℕ → E → Type 0) (c : Core E) (reuse : Option Reuse) → ReuseKeeps width Belongs c reuse → (o : Op)
-      → reclaimer_op_of reuse ≡ Some o → register o < words_all (sender c reuse)
+  pub reclaimed_below : (width : ℕ) (Belongs : ℕ → E → Type 0) (c : Core E) (reuse : Option Reuse) → ReuseKeeps width Belongs c reuse
+      → (o : Op) → reclaimer_op_of reuse ≡ Some o → register o < words_all (sender c reuse)
   reclaimed_below width Belongs c None k o i = absurd cc
   reclaimed_below width Belongs c (Some r) k o i = by r.reclaimer refl i where
     by : (l : Option Reclaiming) → r.reclaimer ≡ l → reclaimer_left l ≡ Some o → register o < words_all (sender c (Some r))
@@ -42,7 +42,8 @@ module _ {E : Type 0} where
       h = held_reclaimer width Belongs c r k s e
 
       lies : (a b : Bool) → nat_lt s.scanned s.senders ≡ a → nat_lt s.cleared s.width ≡ b
-          → cond a (Some (Load record { 0 = s.presences + s.scanned })) (cond b (Some (Store record { 0 = s.row + s.cleared } 0)) None) ≡ Some o
+          → cond a (Some (Load record { 0 = s.presences + s.scanned })) (cond b (Some (Store record { 0 = s.row + s.cleared } 0)) None)
+          ≡ Some o
           → register o < words_all (sender c (Some r))
       lies true b p q j =
           let at : s.presences + s.scanned ≡ register o = ap register (same_Some _ _ j) in
@@ -175,14 +176,9 @@ module _ {E : Type 0} (X : Election E) (v : Sender E) where
 
 -- ---- with the page handed on
 -- who gave the page back says so next
-handed_by : {E : Type 0} (reuse : Option Reuse) (z : Own E) → IfSome reuse (λ r. GoesCalmly r z) → (t : ℕ) (reason : Reason)
-    → situation_by {E = E} reuse (HasHanded t reason) ≡ Does (HasHanded t reason)
-handed_by None z g t reason = refl
-handed_by (Some r) z g t reason = calm_home r (HasHanded t reason) g.calm
-
--- its step is to say so
 pub handed_step : {E : Type 0} (X : Election E) (v : Sender E) (t : ℕ) (page : Page) (reason : Reason)
     → situation X v ≡ Does (GivesBack t page reason) → own_situation X v.core ≡ GivesBack t page reason
     → step_of (situation X (record { core = record v.core { phase = Giving t reason }; reuse = v.reuse })) ≡ step.Does (doing.Handed t reason)
 handed_step {E} X v t page reason i own =
-    ap (step_of {E = E}) (handed_by v.reuse (own_situation X v.core) (situation_tells X v (Does (GivesBack t page reason)) i).1 t reason)
+    ap (step_of {E = E})
+    (goes_does v.reuse (own_situation X v.core) (HasHanded t reason) (situation_tells X v (Does (GivesBack t page reason)) i).1 (λ s. refl))

@@ -11,6 +11,7 @@ use Rattle.bus_batch.specs.declared.batches.Phase.TheVariants.{Open, Marking, Cl
 use Rattle.bus_batch.specs.declared.messages.Mark.TheVariants as mark
 use Rattle.bus_presence.specs.Reclaimers.{Reclaiming, behind_of}
 use Rattle.bus_presence.specs.Reclamation.{presence_at}
+use Rattle.bus_presence.specs.declared.reclaimers.Behind.{Behind}
 use Rattle.bus_presence.specs.declared.pins.Pin.TheVariants.{Away, Announcing, Pinned, Unpinning, Invalidated}
 use Rattle.bus_tenure.specs.Core.{Election, is_marking, is_closing, is_leaving, row_at}
 use Rattle.bus_tenure.specs.Seen.{HasElection, AwaitsItsPage}
@@ -100,7 +101,8 @@ module _ {E : Type 0} (X : Election E) (v : Sender E) (got word : ℕ) where
 
     -- nothing else is told
     quiet : IsGoing z → ((t : ℕ) (o : SenderNo) → ¬ Loses X v got word t o) → ((t : ℕ) → z ≡ Unpins t → held_of v.core.phase ≡ Some t)
-        → (z ≡ Does LooksAtStage → (waits v.core got ≡ false) × (got / 2 < v.core.layout.rows) × Begins ((line_now X v).fed got word) (got / 2))
+        → (z ≡ Does LooksAtStage
+        → (waits v.core got ≡ false) × (got / 2 < v.core.layout.rows) × Begins ((line_now X v).fed got word) (got / 2))
         → ((t p : ℕ) → ¬ IsSomeAnd v.reuse (λ r. IsBehind X v got word t p r)) → TellsNoMore X v got word
     quiet going loses holds looks behind = record {
       loses = loses;
@@ -121,15 +123,18 @@ module _ {E : Type 0} (X : Election E) (v : Sender E) (got word : ℕ) where
         → Begins ((line_now X v).fed got word) (got / 2)
     begun i e f = subst (λ y. Begins ((line X v y).fed got word) (got / 2)) (sym i) (by v.reuse) where
       by : (reuse : Option Reuse) → Begins (seen X v.core reuse got) (got / 2)
-      by None = (
-        X.started v.core.layout.senders v.core.me v.core.layout.rounds (row_at v.core.layout (got / 2)),
-        ap (λ a. (cond a v.core (cond (nat_le v.core.layout.rows (got / 2)) (record v.core { least = got / 2 }) (core_begun X v.core (got / 2)))).phase) e
-            ∙ ap (λ a. (cond a (record v.core { least = got / 2 }) (core_begun X v.core (got / 2))).phase) f,
-      )
+      by None =
+          let past = record v.core { least = got / 2 } in
+          let begins = core_begun X v.core (got / 2) in (
+            X.started v.core.layout.senders v.core.me v.core.layout.rounds (row_at v.core.layout (got / 2)),
+            ap (λ a. (cond a v.core (cond (nat_le v.core.layout.rows (got / 2)) past begins)).phase) e
+                ∙ ap (λ a. (cond a past begins).phase) f,
+          )
       by (Some r) =
           ap (λ a. cond a Away (cond (nat_le v.core.layout.rows (got / 2)) Away (Announcing (got / 2)))) e
           ∙ ap (λ a. cond a Away (Announcing (got / 2))) f
 
+    -- which is answered by what it found
     looks : situation X v ≡ Does LooksAtStage → (a b : Bool) → waits v.core got ≡ a → nat_le v.core.layout.rows (got / 2) ≡ b
         → FeedTells X v got word (cond a turn.Waiting (cond b turn.Spent turn.Going))
     looks i true b e f = inl record { looks = looks_first X v width Belongs k i; vain = vain_of v.core got e }
@@ -146,7 +151,8 @@ module _ {E : Type 0} (X : Election E) (v : Sender E) (got word : ℕ) where
     elects_on : (t : ℕ) (e : E) → situation X v ≡ Does (Elects t e)
         → (v.reuse ≡ None → (o : ℕ) → X.owner (X.fed e got word) ≡ Some o → o ≡ v.core.me) → TellsNoMore X v got word
     elects_on t e i itself =
-        quiet (Does (Elects t e)) i tt (λ u o w. loses u o v.reuse refl w) (λ u q. absurd cc) (λ q. absurd cc) (λ u p w. behind u p v.reuse w)
+        quiet (Does (Elects t e)) i tt (λ u o w. loses u o v.reuse refl w) (λ u q. absurd cc) (λ q. absurd cc)
+        (λ u p w. behind u p v.reuse w)
       where
         loses : (u : ℕ) (o : SenderNo) (reuse : Option Reuse) → v.reuse ≡ reuse → ¬ LosesBy X v got word u o reuse
         loses u o None q w =
@@ -165,7 +171,8 @@ module _ {E : Type 0} (X : Election E) (v : Sender E) (got word : ℕ) where
     elects t e i None q (Some o) chosen = by (o == v.core.me) refl where
       by : (b : Bool) → (o == v.core.me) ≡ b → FeedTells X v got word (cond b turn.Going (turn.Lost t record { 0 = o }))
       by true same = elects_on t e i (λ none p w. same_Some _ _ (sym w ∙ chosen) ∙ eqb-true o v.core.me same)
-      by false other = subst (LosesBy X v got word t record { 0 = o }) (sym q) record { election = e; elects = i; chosen = chosen; other = eqb-false o v.core.me other }
+      by false other = subst (LosesBy X v got word t record { 0 = o }) (sym q)
+          record { election = e; elects = i; chosen = chosen; other = eqb-false o v.core.me other }
 
     -- ---- the page goes back
     -- its frame stands in the log
@@ -219,6 +226,10 @@ module _ {E : Type 0} (X : Election E) (v : Sender E) (got word : ℕ) where
         (λ r h e. record { tenure = t; is = e }) (situation_tells X v (Withdraws t) i)
 
     -- ---- a presence is asked
+    -- who is behind, if presences are left to ask
+    abbrev found_behind : Reclaiming → Bool → Option Behind
+    found_behind s a = cond (a && (got == 1 + s.past)) (Some record { tenure = s.past; sender = s.scanned }) None
+
     module _ (s : Reclaiming) (i : situation X v ≡ Scans s) where
       -- one is left to ask
       left : s.scanned < s.senders
@@ -259,9 +270,9 @@ module _ {E : Type 0} (X : Election E) (v : Sender E) (got word : ℕ) where
             let found = w.found in
             other (omega arith)
 
+      -- and so it answers
       scans : FeedTells X v got word (answer_of_reclaim (behind_of s got))
-      scans = subst (λ a. FeedTells X v got word (answer_of_reclaim (cond (a && (got == 1 + s.past)) (Some record { tenure = s.past; sender = s.scanned }) None)))
-          (sym (lt-ltb _ _ left)) (by (got == 1 + s.past) refl)
+      scans = subst (λ a. FeedTells X v got word (answer_of_reclaim (found_behind s a))) (sym (lt-ltb _ _ left)) (by (got == 1 + s.past) refl)
         where
           by : (b : Bool) → (got == 1 + s.past) ≡ b
               → FeedTells X v got word (answer_of_reclaim (cond b (Some record { tenure = s.past; sender = s.scanned }) None))
@@ -270,7 +281,7 @@ module _ {E : Type 0} (X : Election E) (v : Sender E) (got word : ℕ) where
 
     -- a word of a row is cleared
     clears : (s : Reclaiming) → situation X v ≡ Clears s → FeedTells X v got word (answer_of_reclaim (behind_of s got))
-    clears s i = subst (λ a. FeedTells X v got word (answer_of_reclaim (cond (a && (got == 1 + s.past)) (Some record { tenure = s.past; sender = s.scanned }) None)))
+    clears s i = subst (λ a. FeedTells X v got word (answer_of_reclaim (found_behind s a)))
         (sym (le-ltb _ _ (by v.reuse (situation_tells X v (Clears s) i))))
         (quiet (Clears s) i tt (lost_not (Clears s) i tt) (λ t q. absurd cc) (λ q. absurd cc) (unasked (Clears s) i (λ rows p q. cc)))
       where
@@ -298,14 +309,16 @@ module _ {E : Type 0} (X : Election E) (v : Sender E) (got word : ℕ) where
         quiet z i tt (lost_not z i tt) (λ u q. absurd cc) (λ q. absurd cc) (unasked z i (λ rows p q. cc))
     by_situation itself (Does (GivesBack t page reason)) i h =
         let here = own_is X v (GivesBack t page reason) i in
-        returned t reason (gives_ready t (GivesBack t page reason) i (Gives page reason) (ap held_of (tells X v.core (GivesBack t page reason) here).2))
+        let at = (tells X v.core (GivesBack t page reason) here).2 in
+        returned t reason (gives_ready t (GivesBack t page reason) i (Gives page reason) (ap held_of at))
         (gives_shows X v.core t page reason here)
     by_situation itself (Does (HasHanded t reason)) i h =
         let at = tells X v.core (HasHanded t reason) (own_is X v (HasHanded t reason) i) in
         returned t reason (gives_ready t (HasHanded t reason) i (Says reason) (ap held_of at))
         (subst (λ p. Shows v.core t p reason) (sym at) (shown_handed v.core t reason))
     by_situation itself (Announces t) i h =
-        quiet (Announces t) i tt (lost_not (Announces t) i tt) (λ u q. absurd cc) (λ q. absurd cc) (unasked (Announces t) i (λ rows p q. cc))
+        quiet (Announces t) i tt (lost_not (Announces t) i tt) (λ u q. absurd cc) (λ q. absurd cc)
+        (unasked (Announces t) i (λ rows p q. cc))
     by_situation itself (Validates t) i h =
         quiet (Validates t) i tt (lost_not (Validates t) i tt) (λ u q. absurd cc) (λ q. absurd cc)
         (unasked (Validates t) i (λ rows p q. let n = ap register (same_Some _ _ q) in omega arith))
@@ -321,16 +334,19 @@ pub line_told : {E : Type 0} (X : Election E) (width : ℕ) (Belongs : ℕ → E
 line_told X width Belongs v got word k itself h = by_situation X v got word width Belongs k itself (situation X v) refl h
 
 -- what the answer tells where no step is due: Going where a page is to be laid
-pub rest_told : {E : Type 0} (X : Election E) (width : ℕ) (Belongs : ℕ → E → Type 0) (v : Sender E) → ReuseKeeps width Belongs v.core v.reuse
-    → RestIsTold X v (rest_at (line_now X v))
+pub rest_told : {E : Type 0} (X : Election E) (width : ℕ) (Belongs : ℕ → E → Type 0) (v : Sender E)
+    → ReuseKeeps width Belongs v.core v.reuse → RestIsTold X v (rest_at (line_now X v))
 rest_told {E} X width Belongs v k = by (situation X v) refl where
   by : (z : Situation E) → situation X v ≡ z
-      → ((rest_at (line X v z) ≡ turn.Going) × (IsSome (line X v z).kind ⊎ (HasElection v.core.phase ⊎ AwaitsItsPage v.core.phase))) ⊎ RestTells v (rest_at (line X v z))
+      → ((rest_at (line X v z) ≡ turn.Going) × (IsSome (line X v z).kind ⊎ (HasElection v.core.phase ⊎ AwaitsItsPage v.core.phase)))
+      ⊎ RestTells v (rest_at (line X v z))
   by (Does IsClosed) i = inr (rests_closed X v width Belongs k i)
   by (Does IsIdle) i = inr (rests_idle X v width Belongs k i)
   by (Does IsSpent) i = inr (rests_spent X v width Belongs k i)
   by (Does LooksAtStage) i = inl (refl, inl refl)
-  by (Does (Elects t e)) i = inl (refl, inr (inl record { tenure = t; election = e; is = (tells X v.core (Elects t e) (own_is X v (Elects t e) i)).0 }))
+  by (Does (Elects t e)) i =
+      let at = (tells X v.core (Elects t e) (own_is X v (Elects t e) i)).0 in
+      inl (refl, inr (inl record { tenure = t; election = e; is = at }))
   by (Does (TakesPage t)) i = inl (refl, inl refl)
   by (Does (AwaitsPage t)) i = inl (refl, inr (inr record { tenure = t; is = tells X v.core (AwaitsPage t) (own_is X v (AwaitsPage t) i) }))
   by (Does (StoresWord t page stored)) i = inl (refl, inl refl)
