@@ -9,10 +9,9 @@ use Rattle.bus_core.specs.Table.{line_now}
 use Rattle.bus_machine.proofs.AtNone.{reached_at_none, event_reuse}
 use Rattle.bus_machine.proofs.Bounding.{added, added_is, actions_of_other, there_shown}
 use Rattle.bus_machine.proofs.Cyclic.CyclicLaws.{layout_served, led}
-use Rattle.bus_machine.proofs.Framed.{framed}
+use Rattle.bus_machine.proofs.Framed.{framed, participant_at}
 use Rattle.bus_machine.proofs.Knowing.{its_part}
 use Rattle.bus_machine.proofs.Leading.{Sits, IsLedCyclic, sits_before, led_ring, ring_serves, ring_ok, ring_two}
-use Rattle.bus_machine.proofs.Promised.{participant_at}
 use Rattle.bus_machine.specs.Machine.{Machine, Trails, Reached, New, Then, Happens, going, has_stopped, found, turn_answer, log_place}
 use Rattle.bus_machine.specs.Machine.{trails_grown, turn_grown}
 use Rattle.bus_machine.specs.Proved.Bridge.{IsPlain, plain_trails, ring_trails}

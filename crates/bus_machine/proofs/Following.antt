@@ -55,11 +55,11 @@ use Rattle.bus_machine.proofs.AtNone as none
 use Rattle.bus_machine.proofs.AtSome as some
 use Rattle.bus_machine.proofs.Bounding.{actions_of_it, there_shown}
 use Rattle.bus_machine.proofs.Ending.{ended_of, published_ends, found_ends, none_left}
-use Rattle.bus_machine.proofs.Framed.{IsFramed, framed}
+use Rattle.bus_machine.proofs.Framed.{IsFramed, framed, participant_at}
 use Rattle.bus_machine.proofs.Growing.{grows, rises}
 use Rattle.bus_machine.proofs.Joining.{event_words, event_joins}
 use Rattle.bus_machine.proofs.Leading.{Sits, sits_after, led_ring, ring_serves, ring_ok, ring_two}
-use Rattle.bus_machine.proofs.Promised.{promised, participant_at}
+use Rattle.bus_machine.proofs.Promised.{promised}
 use Rattle.bus_machine.proofs.Staying.{promise_stays, grown_longer}
 use Rattle.bus_machine.specs.Proved.Bridge.{of_bus, of_cyclic, plain_trails, ring_trails, IsPlainEvent, IsCyclicEvent}
 use Rattle.bus_machine.specs.Machine.{base_of, Machine, Trails, Reached, Then, Happens, TakesTurn, trails_grown, going, has_stopped, found, log_of, stage_of}

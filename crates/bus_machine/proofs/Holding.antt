@@ -36,7 +36,7 @@ use Rattle.bus_world.specs.World.{Bus, Event, Put, Ask, Turn, Recv, Stop, given_
 use Rattle.bus_world.specs.declared.events.Answer.{Answer}
 use Rattle.bus_machine.proofs.AtNone as none
 use Rattle.bus_machine.proofs.Leading.{Sits, led_ring, ring_serves, ring_ok, ring_two}
-use Rattle.bus_machine.proofs.Promised.{participant_at}
+use Rattle.bus_machine.proofs.Framed.{participant_at}
 use Rattle.bus_machine.specs.Proved.Bridge.{of_bus, of_cyclic, plain_trails, ring_trails}
 use Rattle.bus_machine.specs.Machine.{base_of, Machine, Trails, Reached, Then, Happens, trails_grown, log_place, log_of, turn_answer, going}
 use Rattle.bus_machine.specs.Playing.{IsHeld, AreRows}

@@ -1,5 +1,10 @@
 -- The page and the stage, and who takes and holds the page, by what senders, words and page always keep.
-use Rattle.std.proofs.Common.{◌≡◌, ℕ, ◌+◌, ◌*◌, true, is_some, Option, Some, None, List, refl, sym, ◌∙◌, ap}
+use Rattle.std.proofs.Common.{◌≡◌, ℕ, ◌+◌, ◌*◌, true, is_some, Option, Some, None, List, slice_get, slice_index, refl, sym, ◌∙◌, ap, subst}
+use Rattle.bus_core.proofs.Situated.{own_is}
+use Rattle.bus_core.specs.Senders.{Sender, Does, situation}
+use Rattle.bus_machine.proofs.Framed.{IsFramed}
+use Rattle.bus_machine.proofs.Leading.{Sits}
+use Rattle.bus_machine.specs.Machine.{Machine, Trails, stage_of}
 use Rattle.std.proofs.lemmas.Bool.{true≢false}
 use Rattle.std.proofs.lemmas.Option.{same_Some}
 use Rattle.bus_batch.specs.Frames.{Frame, has_end}
@@ -18,7 +23,7 @@ use Rattle.bus_world.proofs.TurningLaws.{at_home}
 use Rattle.bus_world.specs.Bus.{IsLayout, Sending, standing_of, stands_at, least_of}
 use Rattle.bus_world.specs.Tenures.Stage.{Open, Held}
 use Rattle.bus_world.specs.Tenures.Standing.{Runs, Holds}
-use Rattle.bus_machine.specs.Promise.{IsPagedBy}
+use Rattle.bus_machine.specs.Promise.{FindsPage, IsPagedBy}
 
 some_is : {A : Type 0} (o : Option A) → is_some o ≡ true → (a : A) × (o ≡ Some a)
 some_is None e = absurd (true≢false (sym e))
@@ -60,3 +65,29 @@ module _ {base : ℕ → ℕ} {E : Type 0} (X : Election E) (P : Protocol E (Uni
 
     pub holds_page : held_of c.phase ≡ Some t → words 1 ≡ 2 * t + 1
     holds_page e = (h.tenures.holding p t (ap (of_some standing_of) old ∙ ap Some (held_stands c.phase e))).1
+
+-- ---- of a machine, by the frames of its log
+module _ {E : Type 0} (X : Election E) (P : Protocol E (Unit {0}) ℕ) (m : Machine E) (T : Trails) (s : Sits X P m)
+    (f : IsFramed P m T) where
+  -- who takes a page finds it
+  pub takes_it : (p : ℕ) (v : Sender E) (t : ℕ) → slice_get m.senders p ≡ Some v → situation X v ≡ Does (TakesPage t) → FindsPage m t
+  takes_it p v t at takes =
+      let q = s.serves in
+      let g = finds_page X P q.laws m.layout s.ok q.width q.starts q.owner_is f.V m.home f.cores f.owners f.frames f.sending p v.core
+      (f.core_of p v at) t (own_is X v (TakesPage t) takes) in
+      record { page = g.0; home = g.1; stage = f.stage ∙ g.2 }
+
+  -- who holds it holds that of the tenure
+  pub holds_it : (p : ℕ) (v : Sender E) (t : ℕ) → slice_get m.senders p ≡ Some v → held_of v.core.phase ≡ Some t → stage_of m ≡ 2 * t + 1
+  holds_it p v t at held =
+      let q = s.serves in
+      f.stage ∙ holds_page X P q.laws m.layout s.ok q.width q.starts q.owner_is f.V m.home f.cores f.owners f.frames f.sending p v.core
+      (f.core_of p v at) t held
+
+  -- it knows stage and length
+  pub paged_it : IsPagedBy (stage_of m) (slice_index m.words 0) (has_end f.frames) m.home
+  paged_it =
+      let q = s.serves in
+      subst (λ n. IsPagedBy n (slice_index m.words 0) (has_end f.frames) m.home) (sym f.stage)
+      (subst (λ n. IsPagedBy (f.V 1) n (has_end f.frames) m.home) (sym f.length)
+      (paged X P q.laws m.layout s.ok q.width q.starts q.owner_is f.V m.home f.cores f.owners f.frames f.sending))
