@@ -1,9 +1,5 @@
 pub mod CyclicLaws
-pub mod LogGrowing
 pub mod ViewLaws
-pub mod StartingLaws
 pub mod LastTakers
 pub mod LossLaws
 pub mod TruthLaws
-pub mod SameActions
-pub mod Staying

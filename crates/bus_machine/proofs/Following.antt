@@ -24,10 +24,8 @@ use Rattle.bus_tenure.specs.declared.phases.Reason.{Reason}
 use Rattle.bus_tenure.specs.declared.phases.Reason.TheVariants.{Sent, FoundEnd, NoRoom}
 use Rattle.bus_world.specs.Bus.{Part, Fits}
 use Rattle.bus_machine.proofs.Cyclic.CyclicLaws.{led, layout_served}
-use Rattle.bus_machine.proofs.Cyclic.Staying as cyclic
 use Rattle.bus_machine.proofs.Cyclic.TruthLaws.{event_true, seen}
 use Rattle.bus_machine.specs.Proved.Cyclic.{OwnedCyclicMachine}
-use Rattle.bus_machine.specs.Proved.Staying as staying
 use Rattle.bus_machine.specs.Proved.Truth as truth
 use Rattle.bus_core.specs.Reusing.Turns.{Participant}
 use Rattle.bus_register.specs.Protocol.{Protocol}
@@ -55,27 +53,17 @@ use Rattle.bus_machine.proofs.AtNone as none
 use Rattle.bus_machine.proofs.AtSome as some
 use Rattle.bus_machine.proofs.Bounding.{actions_of_it, there_shown}
 use Rattle.bus_machine.proofs.Ending.{ended_of, published_ends, found_ends, none_left}
-use Rattle.bus_machine.proofs.Framed.{IsFramed, framed, participant_at}
-use Rattle.bus_machine.proofs.Growing.{grows, rises}
-use Rattle.bus_machine.proofs.Joining.{event_words, event_joins}
+use Rattle.bus_machine.proofs.Framed.{IsFramed, framed, participant_at, reuses}
+use Rattle.bus_machine.proofs.Growing.{joins, grows, rises}
+use Rattle.bus_machine.proofs.Gone.{event_stays}
 use Rattle.bus_machine.proofs.Leading.{Sits, sits_after, led_ring, ring_serves, ring_ok, ring_two}
 use Rattle.bus_machine.proofs.Promised.{promised}
 use Rattle.bus_machine.proofs.Staying.{promise_stays, grown_longer}
 use Rattle.bus_machine.specs.Proved.Bridge.{of_bus, of_cyclic, plain_trails, ring_trails, IsPlainEvent, IsCyclicEvent}
 use Rattle.bus_machine.specs.Machine.{base_of, Machine, Trails, Reached, Then, Happens, TakesTurn, trails_grown, going, has_stopped, found, log_of, stage_of}
 use Rattle.bus_machine.specs.Remembering.{NoneIsLeft, Remembers}
-use Rattle.bus_machine.specs.Promise.{HasGoneOn, is_in, actions_in, Follows, ReusesSafely, words_joined}
+use Rattle.bus_machine.specs.Promise.{HasGoneOn, HasRows, actions_in, Follows, ReusesSafely}
 use Rattle.bus_machine.specs.Telling.{TurnTells, ClosedTells, PutTells, SenderTells, EventTells, Tells, LossesAreSeen}
-
--- ---- actions in a tenure
-in_same : (t : ℕ) (d : Action) → is_in t d ≡ staying.is_in t d
-in_same t (HasPut number bytes) = refl
-in_same t (HasMarked asked) = refl
-in_same t (Stepped None k found chose told) = refl
-in_same t (Stepped (Some u) k found chose told) = refl
-
-pub actions_same : (t : ℕ) (ds : List Action) → actions_in t ds ≡ staying.actions_in t ds
-actions_same t ds = ap (λ f. filter f ds) (fun_ext (in_same t))
 
 -- ---- what an answer tells
 -- of a turn that is answered Closed or Spent
@@ -324,25 +312,6 @@ module _ {E : Type 0} (X : Election E) (P : Protocol E (Unit {0}) ℕ) (m m' : M
     kept : Rattle.bus_world.proofs.EventTrails.Kept m.bases X P s.serves.laws m.layout s.ok s.serves.width s.serves.starts s.serves.owner_is s.serves.named s.serves.announces s.serves.apart i.bus (plain_trails T)
     kept = reached_kept m.bases X P s.serves.laws m.layout s.ok s.serves.width s.serves.starts s.serves.owner_is s.serves.named s.serves.announces s.serves.apart i.bus (plain_trails T) i.reached
 
-    after : Rattle.bus_world.proofs.WorldLaws.After X P s.serves.laws m.layout s.ok s.serves.width s.serves.starts s.serves.owner_is
-        (slice_index m.bases) kept.frames (event_frames X i.bus e kept.frames) k.bus
-    after = event_left X P s.serves.laws m.layout s.ok s.serves.width s.serves.starts s.serves.owner_is i.bus kept.frames kept.lawful k.bus
-        e k.event k.happens
-
-    left : Rattle.bus_world.proofs.WorldLaws.Left X P s.serves.laws m.layout s.ok s.serves.width s.serves.starts s.serves.owner_is (slice_index m.bases) kept.frames k.bus
-    left = after.left
-
-    both_plain : (C : Machine E → Machine E → Type 0) → C (of_bus m.bases m.layout i.bus) (of_bus m.bases m.layout k.bus) → C m m'
-    both_plain C c = subst (λ y. C y m') (sym i.is) (subst (C (of_bus m.bases m.layout i.bus)) (sym k.is) c)
-
-    -- the frame of who stores the length joins
-    plain_joins : log_of m' ≡ log_of m ++ words_joined X m e
-    unfolding left after
-    plain_joins = both_plain (λ y z. log_of z ≡ log_of y ++ words_joined X y e) (
-        left.lawful.keeps.sending.log.words_are ∙ ap log_words after.now_is ∙ event_words X m.bases m.layout i.bus kept.frames e
-        ∙ ap (λ w. w ++ words_joined X (of_bus m.bases m.layout i.bus) e) (sym kept.lawful.keeps.sending.log.words_are)
-        )
-
     plain_told : EventTells m e a (trails_grown X m e a T)
     plain_told =
         let q = s.serves in
@@ -366,37 +335,12 @@ module _ {E : Type 0} (X : Election E) (P : Protocol E (Unit {0}) ℕ) (m m' : M
     c : Rattle.bus_world.proofs.Serving.Serves X P z.ring.layout
     c = ring_serves X P m s z j.is
 
-    x : Rattle.bus_world.proofs.CyclicMachineLaws.IsCyclicLayout X P c.laws c.owner_is c.named c.announces c.apart z.ring.layout z.ring.rows
-    x = layout_served X P z.ring.layout z.ring.rows c (ring_ok X P m s z j.is) (ring_two X P m s z j.is)
-
-    l : Rattle.bus_world.proofs.CyclicMachineLaws.IsLed X P c.laws c.owner_is c.named c.announces c.apart z.ring (ring_trails T)
-    l = led X P z c (ring_ok X P m s z j.is) (ring_two X P m s z j.is) (ring_trails T) j.leads
-
-    -- and so here
-    cyclic_joins : log_of m' ≡ log_of m ++ words_joined X m e
-    cyclic_joins = event_joins X P m m' T (framed X P m T s r) e a h (grows X P m m' T e a s r h) rows used
-        (subst (ReusesSafely X m T) used (promised X P m T s r).by.reuse)
-
     cyclic_told : EventTells m e a (trails_grown X m e a T)
     cyclic_told =
         let so = event_true X P z c (ring_ok X P m s z j.is) (ring_two X P m s z j.is) (ring_trails T) j.leads e a d.bus d.steps in
         subst (λ y. EventTells y e a (trails_grown X y e a T)) (sym j.is)
         (tells_at_some z e a (trails_grown X (of_cyclic z) e a T) (subst (λ y. PutIsTold y e a (trails_grown X y e a T)) j.is put_is_told)
         (subst (truth.EventIsTrue z.ring e a) (d.trails T) so))
-
-    cyclic_stays : (t q : ℕ) → t + rows ≤ stage_of m / 2 → actions_in t ((trails_grown X m e a T).actions q) ≡ actions_in t (T.actions q)
-    cyclic_stays t q gone =
-        let many : rows ≡ z.ring.rows = same_Some _ _ (sym used ∙ ap (λ (y : Machine E). y.reuse) j.is) in
-        let here = subst (λ n. t + n ≤ stage_of (of_cyclic z) / 2) many (subst (λ y. t + rows ≤ stage_of y / 2) j.is gone) in
-        actions_same t ((trails_grown X m e a T).actions q) ∙ ap (λ y. staying.actions_in t ((trails_grown X y e a T).actions q)) j.is ∙ ap (λ (U : Rattle.bus_world.specs.CyclicMachines.CyclicTrails). staying.actions_in t (U.actions q)) (sym (d.trails T))
-        ∙ cyclic.event_stays X P c.laws c.owner_is c.named c.announces c.apart z.ring x (ring_trails T) l t here e a q ∙ sym (actions_same t (T.actions q))
-
-  -- what joins the log with an event
-  pub joins : log_of m' ≡ log_of m ++ words_joined X m e
-  joins = by m.reuse refl where
-    by : (o : Option ℕ) → m.reuse ≡ o → log_of m' ≡ log_of m ++ words_joined X m e
-    by None fresh = plain_joins fresh
-    by (Some rows) used = cyclic_joins rows used
 
   pub told : EventTells m e a (trails_grown X m e a T)
   told = by m.reuse refl where
@@ -408,7 +352,8 @@ module _ {E : Type 0} (X : Election E) (P : Protocol E (Unit {0}) ℕ) (m m' : M
   stays t q = by m.reuse refl where
     by : (o : Option ℕ) → m.reuse ≡ o → HasGoneOn m o t → actions_in t ((trails_grown X m e a T).actions q) ≡ actions_in t (T.actions q)
     by None fresh gone = absurd gone
-    by (Some rows) used gone = cyclic_stays rows used t q gone
+    by (Some rows) used gone = event_stays X P m T s (framed X P m T s r) rows (subst HasRows used s.rows)
+        (subst (ReusesSafely X m T) used (reuses X P m T s r)) t gone e a m' h q
 
 module _ {E : Type 0} (X : Election E) (P : Protocol E (Unit {0}) ℕ) (m : Machine E) (T₀ : Trails) (s : Sits X P m) (r₀ : Reached X m T₀) where
   pub follows : (m' : Machine E) (e : Event) (a : Answer) → Happens X m e a m' → Follows X m e a m'

@@ -1,105 +1,67 @@
--- With a turn that stores a length the frame of its sender joins the log, and with no other event does any word.
-use Rattle.std.proofs.Common.{◌≡◌, ◌≢◌, ℕ, ◌+◌, ◌-◌, ◌*◌, ◌<◌, ◌≤◌, Bool, true, false, cond, Option, Some, None, List, [], ◌∷◌, ◌++◌}
-use Rattle.std.proofs.Common.{length, take, map, nat_lt, slice_get, slice_index, slice_set, arith, refl, sym, ◌∙◌, ap, subst}
-use Rattle.std.specs.Prelude.{option_map}
-use Rattle.std.proofs.lemmas.Bool.{ltb-false}
-use Rattle.std.proofs.lemmas.List.{append-nil, length-append, get_or-set_same, get_or-set_other}
-use Rattle.std.proofs.lemmas.Option.{slice_get-map}
+-- With a turn that stores a length the frame of its sender joins the log, and with no other event does any word; and the stage never falls.
+use Rattle.std.proofs.Common.{◌≡◌, ◌≢◌, ◌⊎◌, inl, inr, ℕ, ◌+◌, ◌-◌, ◌*◌, ◌<◌, ◌≤◌, Bool, true, false, cond, is_some, Option, Some, None, List, [], ◌∷◌, ◌++◌}
+use Rattle.std.proofs.Common.{length, take, nat_lt, slice_get, slice_index, slice_set, arith, refl, sym, ◌∙◌, ap, subst}
+use Rattle.std.proofs.lemmas.Bool.{cases_eq, cases_lt, ltb-false}
+use Rattle.std.proofs.lemmas.List.{append-nil, get_or-set_same, get_or-set_other}
+use Rattle.std.proofs.lemmas.Option.{same_Some}
 use Rattle.std.proofs.Math.Seq.{take-length}
 use Rattle.bus_batch.specs.Batches.{frame_of}
-use Rattle.bus_batch.specs.Frames.{Frame, body_words, head_word, frame_words, log_words}
-use Rattle.bus_core.proofs.Bridged.{at_none}
+use Rattle.bus_batch.specs.Frames.{Frame, body_words, head_word, frame_words}
 use Rattle.bus_core.proofs.Situated.{own_is}
-use Rattle.bus_core.specs.Senders.{Sender, Situation, Does, Announces, Validates, Unpins, Withdraws, Scans, Clears, apart, log_start, situation}
-use Rattle.bus_core.specs.Table.{Line, line, in_row, presence_of}
+use Rattle.bus_core.specs.Reusing.Keeping.{held_of}
+use Rattle.bus_core.specs.Reusing.Participants.{log_from, sizes_with}
+use Rattle.bus_core.specs.Senders.{Sender, Situation, Does, Announces, Validates, Unpins, Withdraws, Scans, Clears, log_start, situation_by, situation}
+use Rattle.bus_core.specs.Table.{Line, line, line_now, in_row, presence_of}
 use Rattle.bus_core.specs.declared.reuses.Reuse.{Reuse}
-use Rattle.bus_machine.proofs.Cyclic.LogGrowing.{loads_same}
-use Rattle.bus_core.specs.Reusing.Participants.{sizes_with}
-use Rattle.bus_core.specs.Reusing.Turns.{on_place}
-use Rattle.bus_presence.specs.Reclamation.{row_of}
+use Rattle.bus_ownerbits.proofs.ElectionSteps.{row_within}
+use Rattle.bus_presence.proofs.ReclamationLaws.{no_row}
+use Rattle.bus_presence.specs.Reclamation.{row_of, tenure_of}
 use Rattle.bus_presence.specs.Reclaimers.{Reclaiming}
 use Rattle.bus_register.specs.Protocol.{Protocol}
+use Rattle.bus_register.specs.Tables.{of_some}
 use Rattle.bus_register.specs.Words.{register}
 use Rattle.bus_register.specs.declared.registers.Op.{Op}
 use Rattle.bus_register.specs.declared.registers.Op.TheVariants.{Load, Store}
 use Rattle.bus_tenure.proofs.Situated.{tells}
-use Rattle.bus_tenure.specs.Core.{Core, Election, Layout, stage_at, row_at, log_at, frame_len, has_room}
-use Rattle.bus_tenure.specs.Situations.{Situation as Own, IsClosed, IsIdle, IsSpent, LooksAtStage, Elects, TakesPage, AwaitsPage, StoresWord, StoresLength, GivesBack, HasHanded, situation_at, situation_of, line_of}
+use Rattle.bus_tenure.specs.Core.{Core, Election, Layout, stage_at, log_at, frame_len, has_room}
+use Rattle.bus_tenure.specs.Situations.{Situation as Own, IsClosed, IsIdle, IsSpent, LooksAtStage, Elects, TakesPage, AwaitsPage, StoresWord, StoresLength, GivesBack, HasHanded, situation_at, situation_of}
 use Rattle.bus_tenure.specs.declared.pages.Page.{Page}
 use Rattle.bus_tenure.specs.declared.phases.Reason.TheVariants.{Sent, FoundEnd, NoRoom}
 use Rattle.bus_tenure.specs.declared.phases.Phase.TheVariants as phase
-use Rattle.bus_world.proofs.LogLaws.{read-agree, read-add, length-read, log_words-append}
-use Rattle.bus_world.proofs.CyclicMachineLaws.{same_register}
-use Rattle.bus_world.proofs.Waiting.{with_frame, frames_by, event_frames}
-use Rattle.bus_world.specs.Headline.{IsPrefix}
+use Rattle.bus_world.proofs.LogLaws.{read-agree, read-add}
+use Rattle.bus_world.proofs.TenuresLaws as tenures
+use Rattle.bus_world.specs.Bus.{Fits, IsWriting, standing_of, stands_at, least_of}
 use Rattle.bus_world.specs.Log.{words_read_from}
 use Rattle.bus_world.specs.Turning.{words_after}
-use Rattle.bus_world.specs.World.{Bus, Event, Put, Ask, Turn, Recv, Stop, is_set, going as plain_going}
+use Rattle.bus_world.specs.World.{Event, Put, Ask, Turn, Recv, Stop}
 use Rattle.bus_world.specs.declared.events.Answer.{Answer}
+use Rattle.bus_machine.proofs.Bounding.{there_shown}
 use Rattle.bus_machine.proofs.Clearing.{clearing, clears_at}
 use Rattle.bus_machine.proofs.Framed.{IsFramed, read_alike}
-use Rattle.bus_machine.proofs.Knowing.{its_part, writes}
-use Rattle.bus_machine.specs.Proved.Bridge.{of_bus}
-use Rattle.bus_machine.specs.Machine.{base_of, Machine, Trails, TakesTurn, Happens, IsOnWord, has_stopped, going, log_place, log_of, machine_after}
-use Rattle.bus_machine.specs.Promise.{ReusesRows, reclamation_of, frame_next, words_of_frame, words_joined}
+use Rattle.bus_machine.proofs.Knowing.{its_part, past, writes}
+use Rattle.bus_machine.proofs.Leading.{Sits}
+use Rattle.bus_machine.proofs.Paging.{takes_it, holds_it}
+use Rattle.bus_machine.specs.Machine.{base_of, Machine, Trails, TakesTurn, Happens, IsOnWord, has_stopped, log_place, log_of, machine_after, stage_of}
+use Rattle.bus_machine.specs.Remembering.{rows_in}
+use Rattle.bus_machine.specs.Promise.{HasRows, ReusesRows, ReusesSafely, reclamation_of, frame_next, words_of_frame, words_joined}
 
--- ---- with a row for each tenure
--- a frame that joins adds its words
-with_words : (o : Option Frame) (frames : List Frame) → log_words (with_frame o frames) ≡ log_words frames ++ words_of_frame o
-with_words None frames = sym (append-nil (log_words frames))
-with_words (Some f) frames = log_words-append frames f
+-- a load leaves all words
+loads_same : (xs : List ℕ) (r q : ℕ) → r < length xs → slice_index (slice_set xs r (slice_index xs r)) q ≡ slice_index xs q
+loads_same xs r q l = elim (cases_eq q r) [
+  | inl i ↦ ap (slice_index (slice_set xs r (slice_index xs r))) i ∙ get_or-set_same xs r (slice_index xs r) 0 l ∙ ap (slice_index xs) (sym i)
+  | inr ne ↦ get_or-set_other xs r q (slice_index xs r) 0 ne
+]
 
-module _ {E : Type 0} (X : Election E) (bases : List ℕ) (x : Layout) (b : Bus E) (frames : List Frame) where
-  -- a sender that goes on
-  going_is : (s : ℕ) → going (of_bus bases x b) s ≡ option_map apart (plain_going b s)
-  going_is s = by (is_set (slice_get b.stopped s)) where
-    by : (t : Bool) → cond t None (slice_get (map apart b.side.senders) s) ≡ option_map apart (cond t None (slice_get b.side.senders s))
-    by true = refl
-    by false = slice_get-map apart b.side.senders s
-
-  -- what joins with its turn
-  sender_words : (o : Option (Core E)) (g : Option (Sender E)) → g ≡ option_map apart o
-      → log_words (frames_by X o frames) ≡ log_words frames ++ words_of_frame (frame_next X g)
-  sender_words None g e = sym (append-nil (log_words frames)) ∙ ap (λ y. log_words frames ++ words_of_frame (frame_next X y)) (sym e)
-  sender_words (Some c) g e =
-      with_words (line_of X c (situation_of X c)).publishes frames ∙ ap (λ (l : Line E). log_words frames ++ words_of_frame l.publishes)
-      (sym (at_none X c))
-      ∙ ap (λ y. log_words frames ++ words_of_frame (frame_next X y)) (sym e)
-
-  -- what joins with an event
-  pub event_words : (e : Event) → log_words (event_frames X b e frames) ≡ log_words frames ++ words_joined X (of_bus bases x b) e
-  event_words (Put s bytes) = sym (append-nil (log_words frames))
-  event_words (Ask s asked) = sym (append-nil (log_words frames))
-  event_words (Turn s word) = sender_words (plain_going b s) (going (of_bus bases x b) s) (going_is s)
-  event_words (Recv r) = sym (append-nil (log_words frames))
-  event_words (Stop s) = sym (append-nil (log_words frames))
-
--- ---- words
--- a step on another word leaves the length
-beside_length : (xs : List ℕ) (o : Op) → register o ≢ 0 → slice_index (words_after xs (Some o)) 0 ≡ slice_index xs 0
-beside_length xs o ne = get_or-set_other xs (register o) 0 _ 0 (λ e. ne (sym e))
-
--- nothing is added that adds no length
-nothing_more : (n : ℕ) (xs : List ℕ) → n + length xs ≡ n → xs ≡ []
-nothing_more n [] e = refl
-nothing_more n (x ∷ xs) e = absurd (omega arith)
-
--- a front of the same length is the whole
-front_whole : (front whole : List ℕ) → IsPrefix front whole → length whole ≡ length front → whole ≡ front ++ []
-front_whole front whole p same =
-    let many = length-append front p.rest in
-    let all = ap length p.together in
-    sym p.together ∙ ap (λ r. front ++ r) (nothing_more (length front) p.rest (omega arith))
-
--- the log begins behind the length
-log_behind : (x : Layout) (o : Option ℕ) → 0 < log_place x o
+-- the log begins behind length and stage
+log_behind : (x : Layout) (o : Option ℕ) → 2 ≤ log_place x o
 log_behind x None = omega arith
 log_behind x (Some rows) = omega arith
 
--- so does the log of a sender
-start_behind : (x : Layout) (o : Option Reuse) → 0 < log_start x o
-start_behind x None = omega arith
-start_behind x (Some r) = omega arith
+-- in another situation than those of its tenure a sender uses rows again
+reused : {E : Type 0} (o : Option Reuse) (y : Own E) (w : Situation E) → situation_by o y ≡ w → ((z : Own E) → Does z ≡ w → ⊥)
+    → (r : Reuse) × (o ≡ Some r)
+reused None y w i other = absurd (other y i)
+reused (Some r) y w i other = (r, refl)
 
 -- a frame has a word
 some_words : (x : ℕ) (xs : List ℕ) → 0 < length (x ∷ xs)
@@ -122,8 +84,8 @@ length_tests false false true false t u stored stored' page page' e = (refl, ref
 length_tests false false false less t u stored stored' page page' e = absurd cc
 
 -- ---- a turn of sender s, by its line
-module _ {E : Type 0} (X : Election E) (P : Protocol E (Unit {0}) ℕ) (m m' : Machine E) (T : Trails) (f : IsFramed P m T) (s word : ℕ)
-    (a : Answer) (h : TakesTurn X m s word a m') (grows : IsPrefix (log_of m) (log_of m')) where
+module _ {E : Type 0} (X : Election E) (P : Protocol E (Unit {0}) ℕ) (m m' : Machine E) (T : Trails) (sits : Sits X P m) (f : IsFramed P m T)
+    (u : ReusesSafely X m T m.reuse) (s word : ℕ) (a : Answer) (h : TakesTurn X m s word a m') where
   abbrev v : Sender E
   v = h.sender
 
@@ -133,43 +95,66 @@ module _ {E : Type 0} (X : Election E) (P : Protocol E (Unit {0}) ℕ) (m m' : M
   abbrev length_now : ℕ
   length_now = slice_index m.words 0
 
-  there_shown : (t : Bool) (o : Option (Sender E)) → cond t None o ≡ Some v → o ≡ Some v
-  there_shown true o e = absurd (let bad : None ≡ Some v = e in cc)
-  there_shown false o e = e
-
   at : slice_get m.senders s ≡ Some v
-  at = there_shown (has_stopped m s) (slice_get m.senders s) h.goes
+  at = there_shown (has_stopped m s) (slice_get m.senders s) v h.goes
 
-  -- the log afterwards
+  -- log and stage afterwards
   abbrev Now : Line E → List ℕ
   Now l = log_of (machine_after m s l word)
 
-  abbrev Joins : Situation E → Type 0
-  Joins z = Now (line X v z) ≡ log_of m ++ words_of_frame (line X v z).publishes
+  record Turned (z : Situation E) : Type 0 where
+    joins : Now (line X v z) ≡ log_of m ++ words_of_frame (line X v z).publishes
+    rises : stage_of m ≤ stage_of (machine_after m s (line X v z) word)
 
   on_word : (z : Situation E) → situation X v ≡ z → IsOnWord m ((line X v z).op word)
   on_word z i = subst (λ y. IsOnWord m ((line X v y).op word)) i h.within
 
-  -- it leaves the length
-  quiet : (z : Situation E) → situation X v ≡ z → (line X v z).publishes ≡ None
-      → slice_index (words_after m.words ((line X v z).op word)) 0 ≡ length_now → Joins z
-  quiet z i none same =
-      let longer : IsPrefix (log_of m) (Now (line X v z)) = subst (λ y. IsPrefix (log_of m) (Now (line X v y))) i
-      (subst (IsPrefix (log_of m)) (ap log_of h.after) grows) in
-      let many : length (Now (line X v z)) ≡ length (log_of m) =
-      length-read (slice_index (words_after m.words ((line X v z).op word))) from
-      (slice_index (words_after m.words ((line X v z).op word)) 0) ∙ same ∙ sym (length-read (slice_index m.words) from length_now) in
-      front_whole (log_of m) (Now (line X v z)) longer many ∙ ap (λ o. log_of m ++ words_of_frame o) (sym none)
+  -- the log stays, and the stage does not fall
+  quiet : (z : Situation E) → (line X v z).publishes ≡ None → (w : List ℕ) → words_after m.words ((line X v z).op word) ≡ w
+      → ((q : ℕ) → (q ≡ 0) ⊎ ((from ≤ q) × (q < from + length_now)) → slice_index w q ≡ slice_index m.words q)
+      → stage_of m ≤ slice_index w stage_at
+      → Turned z
+  quiet z none w is same up = record {
+    joins = ap (λ y. words_read_from (slice_index y) from (slice_index y 0)) is ∙ ap (words_read_from (slice_index w) from) (same 0 (inl refl))
+        ∙ read-agree (slice_index m.words) (slice_index w) from length_now (λ q low high. same q (inr (low, high)))
+        ∙ sym (append-nil (log_of m)) ∙ ap (λ o. log_of m ++ words_of_frame o) (sym none);
+    rises = subst (λ y. stage_of m ≤ slice_index y stage_at) (sym is) up;
+  }
 
-  loads : (z : Situation E) (r : ℕ) → situation X v ≡ z → (line X v z).publishes ≡ None
-      → (line X v z).op word ≡ Some (Load record { 0 = r }) → Joins z
-  loads z r i none due = quiet z i none (ap (λ o. slice_index (words_after m.words o) 0) due
-      ∙ loads_same m.words r 0 (subst (IsOnWord m) due (on_word z i)))
+  -- without a step
+  idles : (z : Situation E) → (line X v z).publishes ≡ None → (line X v z).op word ≡ None → Turned z
+  idles z none due = quiet z none m.words (ap (words_after m.words) due) (λ q here. refl) (omega arith)
 
-  stores : (z : Situation E) (r n : ℕ) → situation X v ≡ z → (line X v z).publishes ≡ None
-      → (line X v z).op word ≡ Some (Store record { 0 = r } n) → r ≢ 0 → Joins z
-  stores z r n i none due ne = quiet z i none (ap (λ o. slice_index (words_after m.words o) 0) due
-      ∙ beside_length m.words (Store record { 0 = r } n) ne)
+  -- with a load
+  loads : (z : Situation E) (r : ℕ) → situation X v ≡ z → (line X v z).publishes ≡ None → (line X v z).op word ≡ Some (Load record { 0 = r })
+      → Turned z
+  loads z r i none due =
+      let low : r < length m.words = subst (IsOnWord m) due (on_word z i) in
+      quiet z none (slice_set m.words r (slice_index m.words r)) (ap (words_after m.words) due) (λ q here. loads_same m.words r q low)
+      (let same = loads_same m.words r stage_at low in omega arith)
+
+  -- with a step on a word that is neither length nor stage, nor one of the log below the length
+  beside : (z : Situation E) (o : Op) → (line X v z).publishes ≡ None → (line X v z).op word ≡ Some o → 2 ≤ register o
+      → (register o < from) ⊎ (from + length_now ≤ register o) → Turned z
+  beside z o none due two apart =
+      let behind = log_behind m.layout m.reuse in
+      quiet z none (words_after m.words (Some o)) (ap (words_after m.words) due)
+      (λ q here. get_or-set_other m.words (register o) q _ 0 (λ e. elim here [
+        | inl first ↦ omega arith
+        | inr log ↦ let low = log.0 in let high = log.1 in elim apart [ inl before ↦ omega arith | inr behind ↦ omega arith ]
+      ]))
+      (let same : slice_index (words_after m.words (Some o)) stage_at ≡ stage_of m = get_or-set_other m.words (register o) stage_at _ 0 (λ e. omega arith) in
+      omega arith)
+
+  -- with a store of the stage
+  stages : (z : Situation E) (n : ℕ) → situation X v ≡ z → (line X v z).publishes ≡ None → (line X v z).op word ≡ Some (Store record { 0 = stage_at } n)
+      → stage_of m ≤ n → Turned z
+  stages z n i none due up =
+      let behind = log_behind m.layout m.reuse in
+      let low : stage_at < length m.words = subst (IsOnWord m) due (on_word z i) in
+      quiet z none (slice_set m.words stage_at n) (ap (words_after m.words) due)
+      (λ q here. get_or-set_other m.words stage_at q n 0 (λ e. elim here [ inl first ↦ omega arith | inr log ↦ let low = log.0 in omega arith ]))
+      (let now = get_or-set_same m.words stage_at n 0 low in omega arith)
 
   -- ---- it stores the length
   module _ (t : ℕ) (page : Page) (stored : ℕ) (i : situation X v ≡ Does (StoresLength t page stored)) where
@@ -186,7 +171,7 @@ module _ {E : Type 0} (X : Election E) (P : Protocol E (Unit {0}) ℕ) (m m' : M
     tests = length_tests held.0 page.ended (has_room v.core page) (nat_lt stored (frame_len v.core)) t t stored stored page page
         (sym (ap (situation_at X v.core) held.1) ∙ own)
 
-    writing : Rattle.bus_world.specs.Bus.IsWriting (base_of m) f.V f.frames v.core t page stored
+    writing : IsWriting (base_of m) f.V f.frames v.core t page stored
     writing = writes X P m T f s v at t page stored (held.1 ∙ ap (phase.Holding t page stored) tests.0)
 
     all_stored : stored ≡ frame_len v.core
@@ -222,76 +207,147 @@ module _ {E : Type 0} (X : Election E) (P : Protocol E (Unit {0}) ℕ) (m m' : M
     raised_is : raised ≡ length_now + length (frame_words frame)
     raised_is = ap (λ n. n + frame_len v.core) (writing.page_knows.words ∙ sym f.length)
 
-    publishes : Joins (Does (StoresLength t page stored))
+    publishes : Turned (Does (StoresLength t page stored))
     publishes =
         let low = on_word (Does (StoresLength t page stored)) i in
         let behind = log_behind m.layout m.reuse in
-        ap (words_read_from (slice_index (slice_set m.words 0 raised)) from) (get_or-set_same m.words 0 raised 0 low)
-        ∙ read-agree (slice_index m.words) (slice_index (slice_set m.words 0 raised)) from raised
-        (λ q over under. get_or-set_other m.words 0 q raised 0 (λ e. omega arith))
-        ∙ ap (words_read_from (slice_index m.words) from) raised_is
-        ∙ read-add (slice_index m.words) from length_now (length (frame_words frame))
-        ∙ ap (λ r. log_of m ++ r) (read_alike (length (frame_words frame)) (slice_index m.words) f.V (from + length_now)
-        (log_at m.layout + f.V 0) stored_alike ∙ whole)
+        record {
+          joins = ap (words_read_from (slice_index (slice_set m.words 0 raised)) from) (get_or-set_same m.words 0 raised 0 low)
+              ∙ read-agree (slice_index m.words) (slice_index (slice_set m.words 0 raised)) from raised
+              (λ q over under. get_or-set_other m.words 0 q raised 0 (λ e. omega arith))
+              ∙ ap (words_read_from (slice_index m.words) from) raised_is
+              ∙ read-add (slice_index m.words) from length_now (length (frame_words frame))
+              ∙ ap (λ r. log_of m ++ r) (read_alike (length (frame_words frame)) (slice_index m.words) f.V (from + length_now)
+              (log_at m.layout + f.V 0) stored_alike ∙ whole);
+          rises = (let same = get_or-set_other m.words 0 1 raised 0 (λ e. omega arith) in omega arith);
+        }
 
   -- ---- where rows are used again
-  module _ (rows : ℕ) (used : m.reuse ≡ Some rows) (u : ReusesRows X m T rows) where
-    again_is : (r : Reuse) × (v.reuse ≡ Some r)
-    again_is = f.again_of s v rows at used
+  module _ (r : Reuse) (again : v.reuse ≡ Some r) where
+    same_rows : Some r.rows ≡ m.reuse
+    same_rows = sym (ap rows_in again) ∙ f.rows s v at
 
-    -- a step of an election is on a word of a row
-    placed_stays : (x : Layout) (r : Reuse) (t : ℕ) (d : Option Op)
-        → slice_index (words_after m.words (in_row x (Some r) t d)) 0 ≡ length_now
-    placed_stays x r t None = refl
-    placed_stays x r t (Some q) =
-        let place : ℕ → ℕ = λ at. row_of (sizes_with x r.rows) t + (at - row_at x t) in
-        let same = same_register place q in
-        beside_length m.words (on_place place q) (λ e. omega arith)
+    its : ReusesRows X m T r.rows
+    its = subst (ReusesSafely X m T) (sym same_rows) u
 
-    elects : (t : ℕ) (e : E) → situation X v ≡ Does (Elects t e) → Joins (Does (Elects t e))
-    elects t e i =
-        quiet (Does (Elects t e)) i refl (ap (λ y. slice_index (words_after m.words (in_row v.core.layout y t (X.op e word))) 0) again_is.1
-        ∙ placed_stays v.core.layout again_is.0 t (X.op e word))
+    two : 2 ≤ r.rows
+    two = subst HasRows (sym same_rows) sits.rows
 
-    clears : (r : Reclaiming) → situation X v ≡ Clears r → Joins (Clears r)
-    clears r i =
-        let c = clearing X v r i in
-        let mine : u.reclaimer ≡ Some r = sym (u.holder s v c.tenure at c.held) ∙ c.reclaims in
-        let place = clears_at (sizes_with m.layout rows) (reclamation_of m u.reclaimer) T.pins u.safe r mine c.step in
-        stores (Clears r) (r.row + r.cleared) 0 i refl refl (λ e. let is = place.1 in omega arith)
+    from_is : from ≡ log_from m.layout r.rows
+    from_is = ap (log_place m.layout) (sym same_rows)
 
-    by_turn : (z : Situation E) → situation X v ≡ z → Joins z
-    by_turn (Does IsClosed) i = quiet (Does IsClosed) i refl refl
-    by_turn (Does IsIdle) i = quiet (Does IsIdle) i refl refl
-    by_turn (Does IsSpent) i = quiet (Does IsSpent) i refl refl
-    by_turn (Does LooksAtStage) i = loads (Does LooksAtStage) stage_at i refl refl
-    by_turn (Does (Elects t e)) i = elects t e i
-    by_turn (Does (TakesPage t)) i = stores (Does (TakesPage t)) stage_at (2 * t + 1) i refl refl (λ e. omega arith)
-    by_turn (Does (AwaitsPage t)) i = quiet (Does (AwaitsPage t)) i refl refl
-    by_turn (Does (StoresWord t page stored)) i =
-        let behind = start_behind v.core.layout v.reuse in
-        stores (Does (StoresWord t page stored)) (log_start v.core.layout v.reuse + page.words + stored)
-        (slice_index (frame_words (frame_of v.core.queue t)) stored) i refl refl (λ e. omega arith)
-    by_turn (Does (StoresLength t page stored)) i = publishes t page stored i
-    by_turn (Does (GivesBack t page reason)) i = stores (Does (GivesBack t page reason)) stage_at (2 * t + 2) i refl refl (λ e. omega arith)
-    by_turn (Does (HasHanded t reason)) i = stores (Does (HasHanded t reason)) stage_at (2 * t + 2) i refl refl (λ e. omega arith)
-    by_turn (Announces t) i = stores (Announces t) (presence_of v.core) (1 + t) i refl refl (λ e. omega arith)
-    by_turn (Validates t) i = loads (Validates t) stage_at i refl refl
-    by_turn (Unpins t) i = stores (Unpins t) (presence_of v.core) 0 i refl refl (λ e. omega arith)
-    by_turn (Withdraws t) i = stores (Withdraws t) (presence_of v.core) 0 i refl refl (λ e. omega arith)
-    by_turn (Scans r) i = loads (Scans r) (r.presences + r.scanned) i refl refl
-    by_turn (Clears r) i = clears r i
+    -- a word of a row lies before the log
+    row_before : (t n : ℕ) → row_of (sizes_with m.layout r.rows) t ≤ n → n < row_of (sizes_with m.layout r.rows) t + m.layout.width → n < from
+    row_before t n low high = elim (cases_lt n from) [
+      | inl before ↦ before
+      | inr past ↦
+          absurd (no_row (sizes_with m.layout r.rows) two t (n - row_of (sizes_with m.layout r.rows) t) n (omega arith)
+          (inr (let place = from_is in omega arith)) (omega arith))
+    ]
 
-    pub turn_joins : log_of m' ≡ log_of m ++ words_joined X m (Turn s word)
-    turn_joins = ap log_of h.after ∙ by_turn (situation X v) refl ∙ ap (λ o. log_of m ++ words_of_frame (frame_next X o)) (sym h.goes)
+    presence_before : presence_of v.core < from
+    presence_before =
+        let its = its_part X P m T f s v at in
+        let me = its.me in let low = its.below in let place = from_is in omega arith
 
--- what joins with an event where rows are used again
-pub event_joins : {E : Type 0} (X : Election E) (P : Protocol E (Unit {0}) ℕ) (m m' : Machine E) (T : Trails) (f : IsFramed P m T)
-    (e : Event) (a : Answer) → Happens X m e a m'
-    → IsPrefix (log_of m) (log_of m') → (rows : ℕ) → m.reuse ≡ Some rows → ReusesRows X m T rows
-    → log_of m' ≡ log_of m ++ words_joined X m e
-event_joins X P m m' T f (Put s bytes) a h grows rows used u = ap log_of h.after ∙ sym (append-nil (log_of m))
-event_joins X P m m' T f (Ask s asked) a h grows rows used u = ap log_of h.after ∙ sym (append-nil (log_of m))
-event_joins X P m m' T f (Turn s word) a h grows rows used u = turn_joins X P m m' T f s word a h grows rows used u
-event_joins X P m m' T f (Recv r) a h grows rows used u = ap log_of h.after ∙ sym (append-nil (log_of m))
-event_joins X P m m' T f (Stop s) a h grows rows used u = ap log_of h.after ∙ sym (append-nil (log_of m))
+    clears : (q : Reclaiming) → situation X v ≡ Clears q → Turned (Clears q)
+    clears q i =
+        let c = clearing X v q i in
+        let mine : its.reclaimer ≡ Some q = sym (its.holder s v c.tenure at c.held) ∙ c.reclaims in
+        let w = clears_at (sizes_with m.layout r.rows) (reclamation_of m its.reclaimer) T.pins its.safe q mine c.step in
+        let place = w.1 in
+        let low = w.2 in
+        beside (Clears q) (Store record { 0 = q.row + q.cleared } 0) refl refl (omega arith)
+        (inl (row_before (tenure_of (sizes_with m.layout r.rows) (reclamation_of m its.reclaimer) + 1) (q.row + q.cleared) (omega arith) (omega arith)))
+
+  -- ---- a step of its election
+  module _ (t : ℕ) (e : E) (i : situation X v ≡ Does (Elects t e)) where
+    runs : v.core.phase ≡ phase.Electing t e
+    runs = (tells X v.core (Elects t e) (own_is X v (Elects t e) i)).0
+
+    by_op : (d : Option Op) → (line X v (Does (Elects t e))).op word ≡ d → Turned (Does (Elects t e))
+    by_op None due = idles (Does (Elects t e)) refl due
+    by_op (Some o) due = by_reuse v.reuse refl where
+      by_reuse : (r : Option Reuse) → v.reuse ≡ r → Turned (Does (Elects t e))
+      by_reuse None apart =
+          let none : m.reuse ≡ None = sym (f.rows s v at) ∙ ap rows_in apart in
+          let place : from ≡ log_at m.layout = ap (log_place m.layout) none in
+          let next : X.op e word ≡ Some o = sym (ap (λ y. in_row v.core.layout y t (X.op e word)) apart) ∙ due in
+          let stands = ap (of_some standing_of) (f.core_of s v at) ∙ ap (λ y. Some (stands_at y)) runs in
+          let row = tenures.within_its_row X.op X.fed P sits.serves.laws m.layout.senders m.layout.rows 2 f.V (f.V 1) (is_some m.home)
+          (λ q. of_some standing_of (f.cores q)) (λ q. least_of (f.cores q)) f.owners f.sending.tenures s t e word o stands next in
+          let low = row.1 in
+          let high = row.2 in
+          let room = row_within t m.layout.rows (P.width m.layout.senders) row.0 in
+          let width = ap (λ n. m.layout.rows * n) sits.serves.width in
+          beside (Does (Elects t e)) o refl due (omega arith) (inl (omega arith))
+      by_reuse (Some r) again =
+          let row = (its r again).within s t word v e o at i (ap (λ z. (line X v z).op word) i ∙ due) in
+          let low = row.0 in
+          beside (Does (Elects t e)) o refl due (omega arith) (inl (row_before r again t (register o) row.0 row.1))
+
+  -- ---- whatever the turn is
+  -- its presence is stored
+  presences : (z : Situation E) (n : ℕ) → situation X v ≡ z → ((y : Own E) → Does y ≡ z → ⊥) → (line X v z).publishes ≡ None
+      → (line X v z).op word ≡ Some (Store record { 0 = presence_of v.core } n) → Turned z
+  presences z n i other none due =
+      let r = reused v.reuse (situation_of X v.core) z i other in
+      beside z (Store record { 0 = presence_of v.core } n) none due (omega arith) (inl (presence_before r.0 r.1))
+
+  by_turn : (z : Situation E) → situation X v ≡ z → Turned z
+  by_turn (Does IsClosed) i = idles (Does IsClosed) refl refl
+  by_turn (Does IsIdle) i = idles (Does IsIdle) refl refl
+  by_turn (Does IsSpent) i = idles (Does IsSpent) refl refl
+  by_turn (Does LooksAtStage) i = loads (Does LooksAtStage) stage_at i refl refl
+  by_turn (Does (Elects t e)) i = by_op t e i ((line X v (Does (Elects t e))).op word) refl
+  by_turn (Does (TakesPage t)) i =
+      let open_now = (takes_it X P m T sits f s v t at i).stage in stages (Does (TakesPage t)) (2 * t + 1) i refl refl (omega arith)
+  by_turn (Does (AwaitsPage t)) i = idles (Does (AwaitsPage t)) refl refl
+  by_turn (Does (StoresWord t page stored)) i =
+      let behind = log_behind m.layout m.reuse in
+      let o : Op = Store record { 0 = log_start v.core.layout v.reuse + page.words + stored } (slice_index (frame_words (frame_of v.core.queue t)) stored) in
+      let place = past X P m T f s v at t page stored word o i (ap (λ z. (line X v z).op word) i) in
+      beside (Does (StoresWord t page stored)) o refl refl (omega arith) (inr (omega arith))
+  by_turn (Does (StoresLength t page stored)) i = publishes t page stored i
+  by_turn (Does (GivesBack t page reason)) i =
+      let held = ap held_of (tells X v.core (GivesBack t page reason) (own_is X v (GivesBack t page reason) i)).2 in
+      let stage = holds_it X P m T sits f s v t at held in
+      stages (Does (GivesBack t page reason)) (2 * t + 2) i refl refl (omega arith)
+  by_turn (Does (HasHanded t reason)) i =
+      absurd (subst (Fits (base_of m) f.V f.frames v.core) (tells X v.core (HasHanded t reason) (own_is X v (HasHanded t reason) i))
+      (its_part X P m T f s v at).fits)
+  by_turn (Announces t) i = presences (Announces t) (1 + t) i (λ y e. cc) refl refl
+  by_turn (Validates t) i = loads (Validates t) stage_at i refl refl
+  by_turn (Unpins t) i = presences (Unpins t) 0 i (λ y e. cc) refl refl
+  by_turn (Withdraws t) i = presences (Withdraws t) 0 i (λ y e. cc) refl refl
+  by_turn (Scans q) i = loads (Scans q) (q.presences + q.scanned) i refl refl
+  by_turn (Clears q) i = let r = reused v.reuse (situation_of X v.core) (Clears q) i (λ y e. cc) in clears r.0 r.1 q i
+
+  turned : (log_of m' ≡ log_of m ++ words_joined X m (Turn s word)) × (stage_of m ≤ stage_of m')
+  turned =
+      let w = by_turn (situation X v) refl in
+      (ap log_of h.after ∙ w.joins ∙ ap (λ o. log_of m ++ words_of_frame (frame_next X o)) (sym h.goes),
+      subst (λ y. stage_of m ≤ stage_of y) (sym h.after) w.rises)
+
+-- ---- whatever happens
+module _ {E : Type 0} (X : Election E) (P : Protocol E (Unit {0}) ℕ) (m m' : Machine E) (T : Trails) (sits : Sits X P m) (f : IsFramed P m T)
+    (u : ReusesSafely X m T m.reuse) where
+  -- words that are as before
+  same_words : m'.words ≡ m.words → stage_of m ≤ stage_of m'
+  same_words is = let same = ap (λ w. slice_index w stage_at) is in omega arith
+
+  -- what joins the log
+  pub event_joins : (e : Event) (a : Answer) → Happens X m e a m' → log_of m' ≡ log_of m ++ words_joined X m e
+  event_joins (Put s bytes) a h = ap log_of h.after ∙ sym (append-nil (log_of m))
+  event_joins (Ask s asked) a h = ap log_of h.after ∙ sym (append-nil (log_of m))
+  event_joins (Turn s word) a h = (turned X P m m' T sits f u s word a h).0
+  event_joins (Recv r) a h = ap log_of h.after ∙ sym (append-nil (log_of m))
+  event_joins (Stop s) a h = ap log_of h.after ∙ sym (append-nil (log_of m))
+
+  -- the stage does not fall
+  pub event_rises : (e : Event) (a : Answer) → Happens X m e a m' → stage_of m ≤ stage_of m'
+  event_rises (Put s bytes) a h = same_words (ap (λ (y : Machine E). y.words) h.after)
+  event_rises (Ask s asked) a h = same_words (ap (λ (y : Machine E). y.words) h.after)
+  event_rises (Turn s word) a h = (turned X P m m' T sits f u s word a h).1
+  event_rises (Recv r) a h = same_words (ap (λ (y : Machine E). y.words) h.after)
+  event_rises (Stop s) a h = same_words (ap (λ (y : Machine E). y.words) h.after)

@@ -11,8 +11,8 @@ pub mod Knowing
 pub mod Joining
 pub mod Bounding
 pub mod Staying
-pub mod Rising
 pub mod Growing
+pub mod Gone
 pub mod Ending
 pub mod Remembering
 pub mod Promised
@@ -28,6 +28,7 @@ pub mod Served
 pub mod NewSenders
 pub mod PlayLaws
 pub mod Calls
+pub mod SameActions
 pub mod RefusalLaws
 mod PromiseRefused
 mod LogRefused

@@ -9,7 +9,6 @@ use Rattle.bus_batch.specs.declared.batches.Phase.TheVariants as batch
 use Rattle.bus_batch.specs.declared.messages.Mark.TheVariants as mark
 use Rattle.bus_batch.specs.declared.messages.Item.{Item}
 use Rattle.bus_core.specs.Senders.{Sender}
-use Rattle.bus_machine.proofs.Cyclic.SameActions as same_actions
 use Rattle.bus_deliverylog.specs.Orders.{of_sender}
 use Rattle.bus_core.specs.Reusing.Keeping.{held_of}
 use Rattle.bus_presence.specs.declared.pins.Pin.TheVariants.{Unpinning}
@@ -32,7 +31,7 @@ use Rattle.bus_world.specs.declared.events.Answer.{Answer}
 use Rattle.bus_world.specs.declared.events.Answer.TheVariants as answer
 use Rattle.bus_machine.proofs.Bounding.{there_shown}
 use Rattle.bus_machine.proofs.Ending.{has_gone_last}
-use Rattle.bus_machine.proofs.Following.{actions_same}
+use Rattle.bus_machine.proofs.SameActions.{says_no_more}
 use Rattle.bus_register.specs.Proved.TableLaws.{get_set_same}
 use Rattle.bus_machine.specs.Bounding.{steps_towards, steps_of_pin, IsNamedFirst}
 use Rattle.bus_machine.specs.Machine.{base_of, Machine, Trails, TakesMark, has_stopped, mark_in, log_of, stage_of}
@@ -233,11 +232,7 @@ bounds_refused X bound m T = record {
   unnamed = λ s e entries are none b. let w = subst IsNamedFirst are (b.first s) in let bad : None ≡ Some w.0 = sym none ∙ w.1 in cc;
 }
 
-pub says_no_more : (t : ℕ) (before after : List Action) → actions_in t after ≡ actions_in t before → SaysNoMore t before after
-says_no_more t before after same =
-    let w = same_actions.says_no_more t before after (sym (actions_same t after) ∙ same ∙ actions_same t before) in
-    record { announced = w.announced; elected = w.elected; took = w.took }
-
+-- who did more in a tenure did not do the same
 pub says_more : (t : ℕ) (before after : List Action) → SaysMore t before after
 says_more t before after = record {
   elected_late = λ o never late same. never ((says_no_more t before after same).elected o late);

@@ -2,8 +2,6 @@
 -- passed over.
 pub mod Cyclic
 pub mod Happening
-pub mod Starting
 pub mod Following
-pub mod Staying
 pub mod Truth
 pub mod Bridge

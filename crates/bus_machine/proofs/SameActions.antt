@@ -1,7 +1,8 @@
 -- Who did the same in a tenure says the same of it.
 use Rattle.std.proofs.Common.{◌≡◌, ℕ, zero, suc, ◌==◌, Bool, true, false, cond, eq-eqb, Some, List, [], ◌∷◌, filter, slice_get, refl, sym, ◌∙◌, ap}
 use Rattle.bus_world.specs.Headline.{Action}
-use Rattle.bus_machine.specs.Proved.Staying.{actions_in, is_in, SaysNoMore}
+use Rattle.bus_machine.specs.Promise.{actions_in, is_in}
+use Rattle.bus_machine.specs.Refusals.{SaysNoMore}
 
 -- ---- what passes a test
 module _ {A : Type 0} (p : A → Bool) where
