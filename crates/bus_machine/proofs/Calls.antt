@@ -17,7 +17,8 @@ use Rattle.bus_machine.proofs.PinBounds.{pins_bounded}
 use Rattle.bus_machine.specs.Bounding.{AreBounded, PinsAreBounded}
 use Rattle.bus_machine.proofs.Leading.{sits_after}
 use Rattle.bus_machine.proofs.Leaving.{opens_only}
-use Rattle.bus_machine.proofs.Following.{follows, tells, losses}
+use Rattle.bus_machine.proofs.Following.{follows, tells}
+use Rattle.bus_machine.proofs.Losing.{losses}
 use Rattle.bus_machine.proofs.Holding.{sits}
 use Rattle.bus_machine.proofs.Holding as holding
 use Rattle.bus_machine.proofs.PlayLaws as playing

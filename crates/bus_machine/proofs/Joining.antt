@@ -58,7 +58,7 @@ log_behind x None = omega arith
 log_behind x (Some rows) = omega arith
 
 -- in another situation than those of its tenure a sender uses rows again
-reused : {E : Type 0} (o : Option Reuse) (y : Own E) (w : Situation E) → situation_by o y ≡ w → ((z : Own E) → Does z ≡ w → ⊥)
+pub reused : {E : Type 0} (o : Option Reuse) (y : Own E) (w : Situation E) → situation_by o y ≡ w → ((z : Own E) → Does z ≡ w → ⊥)
     → (r : Reuse) × (o ≡ Some r)
 reused None y w i other = absurd (other y i)
 reused (Some r) y w i other = (r, refl)

@@ -15,6 +15,8 @@ pub mod Growing
 pub mod Gone
 pub mod Ending
 pub mod Remembering
+pub mod Losing
+pub mod Telling
 pub mod Promised
 pub mod Following
 pub mod PinBounds

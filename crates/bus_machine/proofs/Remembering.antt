@@ -160,12 +160,12 @@ module _ {E : Type 0} (P : Protocol E (Unit {0}) ℕ) (m : Machine E) (T : Trail
   idle_resting e = idle_at v.core.phase part.fits e
 
 -- ---- by what happened
-record Recalls {E : Type 0} (m : Machine E) (s : ℕ) (c : Core E) (actions : List Action) : Type 0 where
+pub record Recalls {E : Type 0} (m : Machine E) (s : ℕ) (c : Core E) (actions : List Action) : Type 0 where
   closed : c.queue.phase ≡ batch.Closed → HasEnded m ⊎ HasLeftIt m s
   asked : (asked : Mark) → Asked asked actions → IsShut c.queue
   past : (t : ℕ) → t < c.least → IsPastFor (stage_of m) s actions t
 
-abbrev AllRecall : {E : Type 0} → Machine E → Trails → Type 0
+abbrev pub AllRecall : {E : Type 0} → Machine E → Trails → Type 0
 AllRecall {E} m T = (s : ℕ) (v : Sender E) → slice_get m.senders s ≡ Some v → Recalls m s v.core (T.actions s)
 
 -- a batch of this phase is shut
@@ -294,7 +294,7 @@ module _ {E : Type 0} (X : Election E) (P : Protocol E (Unit {0}) ℕ) (m m' : M
   abbrev did : Situation E → List Action
   did z = added z (line X v z) (got z) word (turn_answer m (line X v z) word)
 
-  done : (z : Situation E) → situation X v ≡ z → U.actions s ≡ T.actions s ++ did z
+  pub done : (z : Situation E) → situation X v ≡ z → U.actions s ≡ T.actions s ++ did z
   done z i =
       ap (λ o. (trails_grown X m (Turn s word) o T).actions s) h.answered
       ∙ ap (λ o. (turn_grown X m s o word (answer.Turn (turn_answer m (line_now X v) word)) T).actions s) h.goes
@@ -354,7 +354,7 @@ module _ {E : Type 0} (X : Election E) (P : Protocol E (Unit {0}) ℕ) (m m' : M
     runs = tells X v.core (Elects t e) (own_is X v (Elects t e) i)
 
     -- it has a kind
-    has_kind : (q : Kind) × (X.kind_of e ≡ Some q)
+    pub has_kind : (q : Kind) × (X.kind_of e ≡ Some q)
     has_kind = elim (some_or_none (X.kind_of e)) [
       | inr q ↦ q
       | inl missing ↦ absurd (elim (some_or_none (X.op e word)) [
@@ -367,7 +367,7 @@ module _ {E : Type 0} (X : Election E) (P : Protocol E (Unit {0}) ℕ) (m m' : M
     e' = X.fed e (got (Does (Elects t e))) word
 
     -- with it it saw the election end
-    saw : (o : ℕ) → X.owner e' ≡ Some o → Elected (U.actions s) t o
+    pub saw : (o : ℕ) → X.owner e' ≡ Some o → Elected (U.actions s) t o
     saw o owned =
         let q = has_kind in
         let told = turn_answer m (line X v (Does (Elects t e))) word in
@@ -517,7 +517,7 @@ module _ {E : Type 0} (X : Election E) (P : Protocol E (Unit {0}) ℕ) where
     past = λ t small. absurd (omega arith);
   }
 
-  all_recall : (m : Machine E) (T : Trails) → Sits X P m → Reached X m T → AllRecall m T
+  pub all_recall : (m : Machine E) (T : Trails) → Sits X P m → Reached X m T → AllRecall m T
   all_recall m T sits (Start n new) = new_recalls n new
   all_recall m T sits (Next n m' U e a before h) =
       let t = sits_before X P n m' e a h sits in event_recalls n m' U e a t before h (all_recall n U t before)

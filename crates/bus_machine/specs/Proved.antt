@@ -3,5 +3,4 @@
 pub mod Cyclic
 pub mod Happening
 pub mod Following
-pub mod Truth
 pub mod Bridge

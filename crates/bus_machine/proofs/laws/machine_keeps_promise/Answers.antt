@@ -3,7 +3,7 @@ use Rattle.bus_tenure.specs.Elections.{elections, election_with}
 use Rattle.bus_world.proofs.Serving.{Serves, serves}
 use Rattle.bus_world.specs.Bus.{IsLayout}
 use Rattle.bus_machine.proofs.Leading.{Sits}
-use Rattle.bus_machine.proofs.Following.{losses}
+use Rattle.bus_machine.proofs.Losing.{losses}
 use Rattle.bus_machine.proofs.Promised.{promised}
 use Rattle.bus_machine.proofs.laws.machine_keeps_promise.Goals as goal
 
