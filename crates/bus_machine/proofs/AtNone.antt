@@ -206,14 +206,6 @@ module _ {E : Type 0} (X : Election E) where
   event_reuse w m (Recv r) a h = (ap (λ (y : Machine E). y.layout) h.after, ap (λ (y : Machine E). y.reuse) h.after)
   event_reuse w m (Stop s) a h = (ap (λ (y : Machine E). y.layout) h.after, ap (λ (y : Machine E). y.reuse) h.after)
 
-  -- the numbers that the sitting began with stay
-  pub event_bases : (w m : Machine E) (e : Event) (a : Answer) → Happens X w e a m → m.bases ≡ w.bases
-  event_bases w m (Put s bytes) a h = ap (λ (y : Machine E). y.bases) h.after
-  event_bases w m (Ask s asked) a h = ap (λ (y : Machine E). y.bases) h.after
-  event_bases w m (Turn s word) a h = ap (λ (y : Machine E). y.bases) h.after
-  event_bases w m (Recv r) a h = ap (λ (y : Machine E). y.bases) h.after
-  event_bases w m (Stop s) a h = ap (λ (y : Machine E). y.bases) h.after
-
   -- whatever leads to it, leads to the bus with a row for each tenure
   pub reached_at_none : (m : Machine E) (T : Trails) → Reached X m T → m.reuse ≡ None → IsPlain X m T
   reached_at_none m T (Start w new) e = new_plain w new e

@@ -17,7 +17,7 @@ use Rattle.bus_core.specs.Senders.{Sender, Situation, Does, Scans, Clears, again
 use Rattle.bus_core.specs.Table.{line, line_now}
 use Rattle.bus_machine.proofs.Cyclic.CyclicLaws.{next_seen}
 use Rattle.bus_machine.specs.Proved.Cyclic.{OwnedCyclicMachine}
-use Rattle.bus_machine.specs.Proved.Following.{Steps, ring_trails_grown, TurnsWithin}
+use Rattle.bus_machine.specs.Proved.Following.{ring_trails_grown, TurnsWithin}
 use Rattle.bus_machine.specs.Proved.Following as following
 use Rattle.bus_machine.specs.Proved.Happening.{ParticipantDoes, ReaderDoes, TurnAnswers, RecvAnswers, core_found}
 use Rattle.bus_core.specs.Reusing.Participants.{Due, Pins, Reclaims, Goes, place_for, log_from, due_beside, due_home, due_reclaimed, reclaim_due, core_looked, core_going}
@@ -38,15 +38,15 @@ use Rattle.bus_world.specs.CyclicMachines.{CyclicMachine, CyclicTrails, CyclicRe
 use Rattle.bus_world.specs.CyclicMachines as rings
 use Rattle.bus_world.specs.Trails.{step_action, put_actions, mark_actions}
 use Rattle.bus_world.specs.Turning.{words_after, number_found, home_moved, core_moved, after_step, owners_by}
-use Rattle.bus_world.specs.World.{Event, Put, Ask, Turn, Recv, Stop, is_set, new_core, IsNewReceiver}
-use Rattle.bus_world.specs.CyclicProtocols.{word_found, actions_with, answers_with}
+use Rattle.bus_world.specs.World.{Put, Ask, Turn, Recv, Stop, is_set, new_core, IsNewReceiver}
+use Rattle.bus_world.specs.CyclicProtocols.{word_found, actions_with}
 use Rattle.bus_world.specs.declared.events.Answer.{Answer}
 use Rattle.bus_world.specs.declared.events.Answer.TheVariants as answer
-use Rattle.bus_machine.proofs.AtNone.{close_taken, event_reuse}
+use Rattle.bus_machine.proofs.AtNone.{close_taken}
 use Rattle.bus_machine.proofs.Cyclic.LastTakers.{mark_action}
 use Rattle.bus_machine.proofs.Takes.{takes_told}
 use Rattle.bus_machine.specs.Proved.Bridge.{of_ring, of_cyclic, ring_trails, AreSized, IsCyclicEvent, HappensAtSome, IsCyclicOf}
-use Rattle.bus_machine.specs.Machine.{base_of, Machine, Trails, Reached, New as Start, Then as Next, TakesTurn, TakesPut, TakesMark, StopsNow, Hears, Happens, IsNew, IsOnWord, no_machine_trails, log_place, last_of, going, with_sender, put_in, mark_in, moved, machine_after, found, turn_answer, turn_trails, turn_grown, trails_grown}
+use Rattle.bus_machine.specs.Machine.{base_of, Machine, Trails, TakesTurn, TakesPut, TakesMark, StopsNow, Hears, IsNew, IsOnWord, no_machine_trails, log_place, last_of, going, with_sender, put_in, mark_in, moved, machine_after, found, turn_answer, turn_trails, turn_grown, trails_grown}
 
 -- ---- layout and rows stay
 moved_layout : {E : Type 0} (m : PageMove) (home : Option Page) (c : Core E) → (core_moved m home c).layout ≡ c.layout
@@ -411,18 +411,3 @@ module _ {E : Type 0} (X : Election E) where
     participant_new : (p : ℕ) (v : Participant E) (o : Option (Sender E)) → slice_get w.senders p ≡ o → option_map (new_participant rows) o ≡ Some v → (p < w.layout.senders) × (v ≡ record { core = new_core w.layout (base_of w p) p; pin = Away; reclaimer = None; lost = None; rows = rows })
     participant_new p v None i j = absurd cc
     participant_new p v (Some y) i j = let n = new.senders p y i in (n.0, sym (same_Some _ _ j) ∙ ap (new_participant rows) n.1)
-
-  pub next_ring : (w m : Machine E) (T : Trails) (e : Event) (a : Answer) → Happens X w e a m → IsCyclicOf X w T → IsCyclicOf X m (trails_grown X w e a T)
-  next_ring w m T e a h i =
-      let k = happens_at_some X i.bus e a m i.sized (subst (λ y. Happens X y e a m) i.is h) in
-      record {
-        bus = k.bus;
-        is = k.is;
-        sized = k.sized;
-        reached = subst (λ y. CyclicReached X k.bus.ring (ring_trails (trails_grown X y e a T))) (sym i.is) (subst (CyclicReached X k.bus.ring) (k.trails T) (k.reached (ring_trails T) i.reached));
-      }
-
-  -- whatever leads to it, leads to the bus whose rows are used again
-  pub reached_at_some : (m : Machine E) (T : Trails) → Reached X m T → (rows : ℕ) → m.reuse ≡ Some rows → IsCyclicOf X m T
-  reached_at_some m T (Start w new) rows e = new_ring w new rows e
-  reached_at_some m T (Next w v U f a before h) rows e = next_ring w v U f a h (reached_at_some w U before rows (sym (event_reuse X w v f a h).1 ∙ e))

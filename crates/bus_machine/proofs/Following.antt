@@ -1,5 +1,5 @@
 -- Whatever happens, the new machine follows the old one, and what is answered is so.
-use Rattle.std.proofs.Common.{◌≡◌, ℕ, ◌+◌, ◌/◌, ◌≤◌, Option, Some, None, refl, ap, subst}
+use Rattle.std.proofs.Common.{◌≡◌, ℕ, Option, Some, None, refl, ap, subst}
 use Rattle.bus_register.specs.Protocol.{Protocol}
 use Rattle.bus_tenure.specs.Core.{Election}
 use Rattle.bus_world.specs.World.{Event}
@@ -12,7 +12,7 @@ use Rattle.bus_machine.proofs.Leading.{Sits, sits_after}
 use Rattle.bus_machine.proofs.Promised.{promised}
 use Rattle.bus_machine.proofs.Staying.{promise_stays, grown_longer}
 use Rattle.bus_machine.proofs.Telling.{told}
-use Rattle.bus_machine.specs.Machine.{Machine, Trails, Reached, Then, Happens, stage_of, trails_grown}
+use Rattle.bus_machine.specs.Machine.{Machine, Trails, Reached, Then, Happens, trails_grown}
 use Rattle.bus_machine.specs.Promise.{Follows, HasGoneOn, HasRows, ReusesSafely, actions_in}
 use Rattle.bus_machine.specs.Telling.{Tells}
 

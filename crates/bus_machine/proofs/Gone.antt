@@ -1,6 +1,6 @@
 -- In a tenure whose row has gone on to a later one nobody has an action more.
-use Rattle.std.proofs.Common.{◌≡◌, inl, inr, ℕ, ◌+◌, ◌*◌, ◌/◌, ◌<◌, ◌≤◌, ◌==◌, Bool, true, false, cond, Option, Some, None, List, [], ◌∷◌, ◌++◌, slice_get, arith}
-use Rattle.std.proofs.Common.{refl, sym, ◌∙◌, ap, subst}
+use Rattle.std.proofs.Common.{◌≡◌, inl, inr, ℕ, ◌+◌, ◌/◌, ◌<◌, ◌≤◌, ◌==◌, Bool, true, false, cond, Option, Some, None, List, [], ◌++◌, slice_get, arith}
+use Rattle.std.proofs.Common.{refl, ◌∙◌, ap, subst}
 use Rattle.std.proofs.lemmas.Bool.Decides.{eqb_tells}
 use Rattle.std.proofs.lemmas.List.{append-nil}
 use Rattle.std.proofs.lemmas.List.Elements.{filter-append}
@@ -26,8 +26,8 @@ use Rattle.bus_machine.proofs.Bounding.{added, added_is, there_shown}
 use Rattle.bus_machine.proofs.Framed.{IsFramed}
 use Rattle.bus_machine.proofs.Leading.{Sits}
 use Rattle.bus_machine.proofs.Paging.{takes_it, holds_it}
-use Rattle.bus_machine.specs.Machine.{base_of, Machine, Trails, Happens, TakesTurn, found, has_stopped, stage_of, trails_grown, turn_answer, turn_grown}
-use Rattle.bus_machine.specs.Promise.{HasRows, ReusesRows, actions_in, is_in}
+use Rattle.bus_machine.specs.Machine.{base_of, Machine, Trails, Happens, found, has_stopped, stage_of, trails_grown, turn_answer, turn_grown}
+use Rattle.bus_machine.specs.Promise.{ReusesRows, actions_in, is_in}
 
 -- ---- actions
 module _ (t : ℕ) where

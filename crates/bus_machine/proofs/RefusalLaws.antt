@@ -35,8 +35,8 @@ use Rattle.bus_machine.proofs.SameActions.{says_no_more}
 use Rattle.bus_register.specs.Proved.TableLaws.{get_set_same}
 use Rattle.bus_machine.specs.Bounding.{steps_towards, steps_of_pin, IsNamedFirst}
 use Rattle.bus_machine.specs.Machine.{base_of, Machine, Trails, TakesMark, has_stopped, mark_in, log_of, stage_of}
-use Rattle.bus_machine.specs.Promise.{IsPagedBy, ReusesSafely, actions_in, words_of_frame}
-use Rattle.bus_machine.specs.Refusals.{LossesRefuse, AnswersRefuse, SaysNoMore, SaysMore, NumbersRefuse, BoundsRefuse, FollowsRefuse, PagesRefuse, MemoriesRefuse, WordsRefuse, MarksRefuse}
+use Rattle.bus_machine.specs.Promise.{IsPagedBy, ReusesSafely, words_of_frame}
+use Rattle.bus_machine.specs.Refusals.{LossesRefuse, AnswersRefuse, SaysMore, NumbersRefuse, BoundsRefuse, FollowsRefuse, PagesRefuse, MemoriesRefuse, WordsRefuse, MarksRefuse}
 use Rattle.bus_machine.specs.Remembering.{HasEnded, HasLeftIt, rows_in}
 use Rattle.bus_machine.specs.Telling.{ClosedTells, IsReused}
 

@@ -16,7 +16,7 @@ use Rattle.bus_core.proofs.Situated.{own_is}
 use Rattle.bus_core.specs.Reusing.Telling.{HasPublished, Published, HandsOnSent, LacksRoom, FindsNoRoom, HandsOnFull}
 use Rattle.bus_core.specs.Reusing.Turns.{answer_of_loss, answer_of_reclaim}
 use Rattle.bus_core.specs.Senders.{Sender, Situation, Does, Announces, Validates, Unpins, Withdraws, Scans, Clears, pinning, situation_by, situation}
-use Rattle.bus_core.specs.Table.{lost_of, line, line_now, answer_elected}
+use Rattle.bus_core.specs.Table.{lost_of, line, answer_elected}
 use Rattle.bus_core.specs.declared.reuses.Reuse.{Reuse}
 use Rattle.bus_presence.specs.Reclaimers.{behind_of}
 use Rattle.bus_presence.specs.declared.pins.Pin.TheVariants.{Unpinning}
@@ -26,10 +26,9 @@ use Rattle.bus_register.specs.Proved.TableLaws.{push_here}
 use Rattle.bus_register.specs.declared.kinds.Kind.TheVariants as kind
 use Rattle.bus_register.specs.declared.registers.SenderNo.{SenderNo}
 use Rattle.bus_tenure.proofs.Situated.{tells as tells_phase}
-use Rattle.bus_tenure.specs.Core.{Core, Election, Layout, frame_len, is_marking}
+use Rattle.bus_tenure.specs.Core.{Core, Election, Layout, is_marking}
 use Rattle.bus_tenure.specs.Situations.{Situation as Own, IsClosed, IsIdle, IsSpent, LooksAtStage, Elects, TakesPage, AwaitsPage, StoresWord, StoresLength, GivesBack, HasHanded, waits, answer_sent, answer_of_return, situation_of}
 use Rattle.bus_tenure.specs.declared.phases.Phase.{Phase}
-use Rattle.bus_tenure.specs.declared.phases.Phase.TheVariants as phase
 use Rattle.bus_tenure.specs.declared.phases.Reason.{Reason}
 use Rattle.bus_tenure.specs.declared.phases.Reason.TheVariants.{Sent, FoundEnd, NoRoom}
 use Rattle.bus_tenure.specs.declared.turns.Turn.{Turn as Answered}
@@ -37,7 +36,7 @@ use Rattle.bus_tenure.specs.declared.turns.Turn.TheVariants as turn
 use Rattle.bus_world.proofs.FrameOfBatch.{counted_frame, length-items}
 use Rattle.bus_world.proofs.LogLaws.{length-read}
 use Rattle.bus_world.specs.Bus.{Part, Fits}
-use Rattle.bus_world.specs.Headline.{Action, HasPut, Stepped, Elected, Took, IsPrefix, put_of, puts}
+use Rattle.bus_world.specs.Headline.{HasPut, Stepped, Elected, Took, IsPrefix, put_of, puts}
 use Rattle.bus_world.specs.Telling.{HasDelivered, HasLeft}
 use Rattle.bus_world.specs.World.{Event, Put, Ask, Turn, Recv, Stop}
 use Rattle.bus_world.specs.declared.events.Answer.{Answer}
@@ -53,7 +52,7 @@ use Rattle.bus_machine.proofs.Staying.{grown_longer}
 use Rattle.bus_machine.specs.Machine.{base_of, Machine, Trails, Reached, Then, Happens, TakesPut, TakesTurn, found, has_stopped, log_of, log_place, stage_of, trails_grown, turn_answer}
 use Rattle.bus_machine.specs.Promise.{pin_of}
 use Rattle.bus_machine.specs.Remembering.{NoneIsLeft, Remembers, rows_in}
-use Rattle.bus_machine.specs.Telling.{TurnTells, ClosedTells, PutTells, SenderTells, EventTells, IsReused, LossesAreSeen}
+use Rattle.bus_machine.specs.Telling.{TurnTells, ClosedTells, PutTells, SenderTells, EventTells, IsReused}
 
 -- whose frame is no mark has messages to send
 some_messages : (ph : BatchPhase) (n : ℕ) → (0 < n) ⊎ ((m : Mark) × (ph ≡ batch.Marking m)) → is_marking ph ≡ false → 0 < n

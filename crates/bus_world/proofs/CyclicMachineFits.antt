@@ -114,9 +114,6 @@ module _ {E : Type 0} (X : Election E) (P : Protocol E (Unit {0}) ℕ) (laws : L
     pub layout_is : v.core.layout ≡ b.layout
     layout_is = part.layout
 
-    pub me_is : v.core.me ≡ s
-    me_is = part.me
-
     pub numbers_fit : next_of v.core.queue < 2 ^ 48
     numbers_fit = accepting.numbers_fit X P laws b.layout x.ok x.width k.V b.home h.leads.owners k.frames s y.senders k.kept.sending v.core old
 

@@ -37,14 +37,14 @@ use Rattle.bus_tenure.proofs.Situated.{tells}
 use Rattle.bus_world.specs.Bus.{IsLayout, Part, Fits, standing_of, stands_at, least_of}
 use Rattle.bus_tenure.specs.declared.turns.Turn.TheVariants as turn
 use Rattle.bus_world.specs.Headline.{Action, HasPut, HasMarked}
-use Rattle.bus_world.specs.CyclicMachines.{CyclicMachine, yard_of, pin_in, core_in, Leads, IsCyclic, IsNewCyclic, IsOnWord, IsKeptCyclic, CyclicTrails, CyclicReached, NewCyclic, TurnTaken, PutTaken, MarkTaken, RecvTaken, StopTaken, participant_going, with_participant, participant_put, participant_marked, move_due, participant_moved, ring_after, ring_trails, ring_reclaims, ring_actions}
+use Rattle.bus_world.specs.CyclicMachines.{CyclicMachine, yard_of, pin_in, core_in, Leads, IsCyclic, IsNewCyclic, IsOnWord, CyclicTrails, CyclicReached, NewCyclic, TurnTaken, PutTaken, MarkTaken, RecvTaken, StopTaken, participant_going, with_participant, participant_put, participant_marked, move_due, participant_moved, ring_after, ring_trails, ring_reclaims, ring_actions}
 use Rattle.bus_world.specs.Tenures.Standing.{Holds}
 use Rattle.bus_world.specs.Turning.{words_after, number_found, core_moved, after_step, home_after, owners_after}
 use Rattle.bus_world.specs.CyclicProtocols.{CyclicProtocol, Led, NewProtocol, Turned, PutIn, MarkedIn, Heard, AnswersDue, due_in, due_actions, actions_with, no_actions, no_answers, answers_with, trails_with, yard_after, words_stepped, word_found}
 use Rattle.bus_world.specs.World.{RecvDoes, is_set, is_open, can_put, can_close, new_core}
 use Rattle.bus_world.proofs.Beginning.{zeros}
 use Rattle.bus_world.proofs.TenuresLaws as tenures
-use Rattle.bus_world.proofs.CyclicProtocolLaws.{HasKept, led_kept, yard_promised}
+use Rattle.bus_world.proofs.CyclicProtocolLaws.{HasKept, led_kept}
 use Rattle.bus_world.proofs.CyclicProtocolWords.{put_is}
 
 -- ---- lists as tables
@@ -613,11 +613,3 @@ module _ {E : Type 0} (X : Election E) (P : Protocol E (Unit {0}) ℕ) (laws : L
   ring_led b x T (MarkTaken w U s v m before goes) = mark_led w x U (ring_led w x U before) s v m (participant_there w s v goes)
   ring_led b x T (RecvTaken w U r v next answer before at does) = recv_led w x U (ring_led w x U before) r v next answer at does
   ring_led b x T (StopTaken w U s v before goes) = stop_led w x U (ring_led w x U before) s
-
-  pub ring_kept : (b : CyclicMachine E) → IsCyclicLayout b.layout b.rows → (T : CyclicTrails) → CyclicReached X b T → IsKeptCyclic X b T
-  ring_kept b x T r =
-      let h = ring_led b x T r in
-      record {
-        leads = h.leads;
-        kept = yard_promised X P laws b.layout x.ok x.width x.starts owner_is named announces apart b.rows x.two (yard_of b h.leads.reclaimer h.leads.owners) T.pins T.actions T.heard h.leads.led;
-      }

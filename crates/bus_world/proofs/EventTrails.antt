@@ -1,5 +1,5 @@
 -- Every event keeps what ties the trails to the bus, and the promise follows from it.
-use Rattle.std.proofs.Common.{◌≡◌, ℕ, zero, suc, ◌+◌, ◌*◌, ◌<◌, ◌≤◌, Bool, true, false, cond, ◌&&◌, ◌==◌, nat_lt, nat_le, Option, Some, None, is_some, inl, inr, List, [], ◌∷◌, ◌++◌, length, map, take, flat_map, slice_get, slice_index, slice_set, arith, refl, sym, ◌∙◌, ap, subst}
+use Rattle.std.proofs.Common.{◌≡◌, ℕ, zero, suc, ◌+◌, ◌*◌, ◌<◌, ◌≤◌, Bool, true, false, cond, ◌&&◌, ◌==◌, nat_lt, nat_le, Option, Some, None, is_some, inl, inr, List, [], ◌∷◌, ◌++◌, length, map, take, slice_get, slice_index, slice_set, arith, refl, sym, ◌∙◌, ap, subst}
 use mathlib.Core.Path.{fun_ext}
 use Rattle.std.proofs.lemmas.Bool.Decides.{eqb_tells}
 use Rattle.std.proofs.lemmas.Grind.{flat_map-append}
@@ -16,8 +16,8 @@ use Rattle.bus_batch.specs.Batches.{next_of}
 use Rattle.bus_batch.specs.declared.batches.Phase.TheVariants.{Marking}
 use Rattle.bus_batch.specs.declared.messages.Mark.{Mark}
 use Rattle.bus_batch.specs.declared.messages.Mark.TheVariants as mark
-use Rattle.bus_batch.specs.Frames.{Frame, Order, Leaves, AreFrames, log_words, log_pieces, order_of, owners_in, order_in, tenure_and_owner}
-use Rattle.bus_deliverylog.specs.Orders.{IsPrefixOfOrder, of_sender}
+use Rattle.bus_batch.specs.Frames.{Frame, Leaves, AreFrames, log_words, log_pieces, order_of, owners_in, order_in, tenure_and_owner}
+use Rattle.bus_deliverylog.specs.Orders.{of_sender}
 use Rattle.bus_deliverylog.specs.Receiving.{Receiving}
 use Rattle.bus_deliverylog.specs.declared.receiving.RecvTurn.{RecvTurn}
 use Rattle.bus_tenure.specs.Core.{Core, Election, Layout, log_at, words_of}
@@ -35,15 +35,12 @@ use Rattle.bus_batch.specs.Batches.{Pending, CanPut}
 use Rattle.bus_batch.specs.declared.batches.Phase.TheVariants.{Open}
 use Rattle.bus_batch.proofs.FrameLaws.{same_log}
 use Rattle.std.proofs.lemmas.List.{map-append}
-use Rattle.std.proofs.lemmas.List.Folds.{list_any-append}
 use Rattle.std.proofs.lemmas.Bool.Decides.{nat_tests}
-use Rattle.std.specs.Prelude.{◌||◌}
-use Rattle.std.specs.List.{list_any}
 use Rattle.bus_world.specs.Bus.{IsLayout, Fits}
 use Rattle.bus_world.proofs.FrameOwners.{owner_took, rise}
 use Rattle.bus_world.proofs.Beginning.{zeros}
 use Rattle.bus_world.proofs.BusLaws as bus
-use Rattle.bus_world.specs.Headline.{Action, HasPut, HasMarked, Stepped, puts, Took, Asked, entry_heard, end_heard, order_given, IsPrefix, Promises}
+use Rattle.bus_world.specs.Headline.{Action, HasPut, HasMarked, Stepped, puts, Took, Asked, order_given, IsPrefix, Promises}
 use Rattle.bus_world.specs.Log.{next_number, sent_count}
 use Rattle.bus_world.proofs.LogLaws.{length-read}
 use Rattle.bus_world.specs.Turning.{Side, side_after, core_after, number_found}
@@ -53,7 +50,7 @@ use Rattle.bus_world.proofs.WorldLaws.{counted_at, event_left, event_puts, new_i
 use Rattle.bus_world.specs.Playing.{Answers, PutGives, CloseGives, TurnAnswers, RecvAnswers, asked_answer, log_of}
 use Rattle.bus_world.specs.declared.events.Answer.{Answer}
 use Rattle.bus_world.specs.declared.events.Answer.TheVariants as answer
-use Rattle.bus_world.specs.Trails.{Trails, no_trails, trails_grown, actions_of, put_actions, mark_actions, turning_actions, step_action, heard_of, answer_heard, IsPromisedBy, IsPromised, StaysPromised, Follows, Reached}
+use Rattle.bus_world.specs.Trails.{Trails, no_trails, trails_grown, actions_of, put_actions, mark_actions, turning_actions, step_action, heard_of, answer_heard, IsPromisedBy, Reached}
 use Rattle.bus_world.specs.Trails.Reached.{New, Then}
 use Rattle.bus_world.proofs.Stopping.{is_there}
 use Rattle.bus_world.proofs.Waiting.{frames_after, put_by, waiting_of, waiting_at, accepted, accepted_by, event_frames, frames_by}
@@ -64,27 +61,10 @@ use Rattle.bus_world.proofs.TurnTrails.{Ties, turn_ties, batch_ties}
 use Rattle.bus_world.proofs.HearTrails.{IsTold, hears_later, hears_more, delivered_to, heads_to, silent_to}
 use Rattle.bus_world.proofs.Asking.{Askings, still_asked, askings_after, one_waits, frames_later, own_asked, own_asks, turn_waiting, turn_frames}
 use Rattle.bus_world.proofs.PutLaws.{nothing_left}
-use Rattle.bus_world.proofs.Framing.{framed, entry_of, has_left, gone_for_good, last_frame, order_grows, owners_grow}
-use Rattle.bus_world.proofs.Growing.{event_takers}
+use Rattle.bus_world.proofs.Framing.{framed, entry_of, has_left, gone_for_good, last_frame}
 
 open_apart : (m : Mark) → Open ≡ Marking m → ⊥
 open_apart m e = cc
-
-true_or : (a b : Bool) → a ≡ true → (a || b) ≡ true
-true_or true b e = refl
-true_or false b e = absurd (let z : false ≡ true = e in cc)
-
--- what was given grows with the answers
-given_more : (trail trail' : List RecvTurn) → IsPrefix trail trail' → (q q' : Order) → IsPrefixOfOrder (order_given trail) q → IsPrefixOfOrder (order_given trail') q' → IsPrefixOfOrder q q' → IsPrefixOfOrder (order_given trail) (order_given trail')
-given_more trail trail' more q q' front front' grown = record {
-  later = flat_map entry_heard more.rest;
-  entries = ap (flat_map entry_heard) (sym more.together) ∙ flat_map-append entry_heard trail more.rest;
-  ended = λ e.
-      let q_is = front.ended e in
-      let q_ended : q.ended ≡ true = ap (λ (z : Order). z.ended) (sym q_is) ∙ e in
-      let also : (order_given trail').ended ≡ true = ap (list_any end_heard) (sym more.together) ∙ list_any-append end_heard trail more.rest ∙ true_or (list_any end_heard trail) (list_any end_heard more.rest) e in
-      q_is ∙ grown.ended q_ended ∙ sym (front'.ended also);
-}
 
 none_some : {A : Type 0} (v : A) → ◌≡◌ {A = Option A} None (Some v) → ⊥
 none_some v e = cc
@@ -483,36 +463,6 @@ module _ (bases : List ℕ) {E : Type 0} (X : Election E) (P : Protocol E (Unit 
   pub reached_kept : (b : Bus E) (T : Trails) → Reached X bases x b T → Kept b T
   reached_kept b T (New start new) = start_kept start new
   reached_kept b T (Then old new T' e a r is d w) = event_kept old new e a T' (reached_kept old T' r) is d w
-
-  pub promised : (b : Bus E) (T : Trails) → Reached X bases x b T → IsPromised bases x b T
-  promised b T r = let k = reached_kept b T r in record { order = order_of k.frames; owners = map tenure_and_owner k.frames; by = by_frames b T k }
-
-  -- the promise stays, where trails and frames have grown
-  module _ (old new : Bus E) (T T' : Trails) (k : Kept old T) (m : KeptOn k.frames new T') (more : (r : ℕ) → IsPrefix (T.heard r) (T'.heard r)) (takers : IsPrefix old.side.owners new.side.owners) where
-    abbrev later : Kept new T'
-    later = kept_of k.frames new T' m
-
-    grown : IsPrefixOfOrder (order_of k.frames) (order_of (k.frames ++ m.more))
-    grown = order_grows x.senders k.frames m.more m.lawful.keeps.sending.log.lawful
-
-    heard_grows : (r : ℕ) → IsPrefixOfOrder (order_given (T.heard r)) (order_given (T'.heard r))
-    heard_grows r = given_more (T.heard r) (T'.heard r) (more r) (order_of k.frames) (order_of (k.frames ++ m.more)) ((page old T k).delivered r) ((page new T' later).delivered r) grown
-
-    pub stays : StaysPromised bases x old T new T'
-    stays = record {
-      before = record { order = order_of k.frames; owners = map tenure_and_owner k.frames; by = by_frames old T k };
-      after = record { order = order_of (k.frames ++ m.more); owners = map tenure_and_owner (k.frames ++ m.more); by = by_frames new T' later };
-      order = grown;
-      owners = owners_grow k.frames m.more;
-      takers = takers;
-      given = heard_grows;
-    }
-
-  pub follows : (old new : Bus E) (e : Event) (a : Answer) → IsEvent e → Happens X old e new → Answers X old e a new → Follows X bases x old e a new
-  follows old new e a is d w = record {
-    reached = λ T r. Then old new T e a r is d w;
-    promised = λ T r. let k = reached_kept old T r in stays old new T (trails_grown X old e a T) k (event_on old new e a T k is d w) (λ q. record { rest = heard_of e a q; together = refl }) (event_takers X old new e d);
-  }
 
   -- what each receiver was given is what stands below its place
   pub given_below : (b : Bus E) (T : Trails) (r : Reached X bases x b T) (frames : List Frame) → AreFrames x.senders frames → log_of (record { layout = x; bus = b }) ≡ log_words frames → (q : ℕ) (v : Receiving) → slice_get b.receivers q ≡ Some v → order_given (T.heard q) ≡ given_at frames v

@@ -23,7 +23,6 @@ pub mod Framing
 pub mod Growing
 pub mod Serving
 pub mod EventTrails
-pub mod Tellings
 pub mod Refused
 pub mod FrameOwners
 pub mod Beginning

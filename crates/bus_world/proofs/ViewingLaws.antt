@@ -1,9 +1,9 @@
 -- What is read from the words of a bus, and what a new one is made of.
-use Rattle.std.proofs.Common.{◌≡◌, ℕ, zero, suc, ◌+◌, ◌≤◌, Some, List, [], ◌∷◌, ◌++◌, length, map, take, drop, slice_get, slice_index, arith, refl, sym, ◌∙◌, ap}
+use Rattle.std.proofs.Common.{◌≡◌, ℕ, zero, suc, ◌+◌, ◌≤◌, Some, List, [], ◌∷◌, ◌++◌, length, take, drop, slice_get, slice_index, arith, refl, sym, ◌∙◌, ap}
 use Rattle.std.proofs.lemmas.List.{get_or-drop, take_more, length-take, length-drop, take-append-drop, take-append-le, take_all}
 use Rattle.bus_register.specs.declared.registers.SenderNo.{SenderNo}
 use Rattle.bus_register.specs.Protocol.{Protocol}
-use Rattle.bus_batch.specs.Frames.{Frame, AreFrames, Order, Spells, log_words, log_pieces, order_of, order_in, tenure_and_owner}
+use Rattle.bus_batch.specs.Frames.{Frame, AreFrames, Order, log_words, log_pieces, order_in}
 use Rattle.bus_deliverylog.specs.Logs.{HasGiven}
 use Rattle.bus_deliverylog.specs.Receiving.{Receiving}
 use Rattle.bus_tenure.specs.Core.{Election, log_at}
@@ -27,10 +27,6 @@ module _ {E : Type 0} {X : Election E} (P : Protocol E (Unit {0}) ℕ) (z : Size
   -- a receiver's place is in it
   pub place_within : (r : ℕ) (v : Receiving) → slice_get z.bus.receivers r ≡ Some v → v.place ≤ length (log_of z)
   place_within r v e = let a = (h.lawful.keeps.receiving r v e).receives in let b = a.place_below in let d = a.known_below in let s = length-log in omega arith
-
--- frames are what their words spell
-pub frames_spell : (n : ℕ) (frames : List Frame) (words : List ℕ) → AreFrames n frames → words ≡ log_words frames → Spells n words (order_of frames) (map tenure_and_owner frames)
-frames_spell n frames words lawful e = record { frames = frames; lawful = lawful; words_are = sym e; order_is = refl; owners_are = refl }
 
 -- the first words of frames give their first pieces
 pub front_given : (n k : ℕ) (frames : List Frame) (words : List ℕ) (order : Order) (owners : List (ℕ × SenderNo)) → AreFrames n frames → words ≡ log_words frames → k ≤ length words → HasGiven n (take k words) order owners → order ≡ order_in (take k (log_pieces frames))

@@ -22,7 +22,7 @@ use Rattle.bus_tenure.specs.declared.turns.Turn.{Turn as Answered}
 use Rattle.bus_world.specs.Headline.{Action, HasPut, HasMarked}
 use Rattle.bus_world.specs.Turning.{words_after, number_found, home_moved, core_moved, after_step}
 use Rattle.bus_world.specs.World.{is_set, can_put, can_close, no_stops, AreBases, first_page, new_core, IsNewReceiver, RecvDoes}
-use Rattle.bus_world.specs.CyclicProtocols.{CyclicProtocol, Led, IsKeptProtocol, no_actions, no_answers, trails_with, due_actions, actions_with, answers_with}
+use Rattle.bus_world.specs.CyclicProtocols.{CyclicProtocol, Led, no_actions, no_answers, trails_with, due_actions, actions_with, answers_with}
 
 -- its sizes, how many rows there are, and of each sender whether it has stopped
 pub record CyclicMachine (E : Type 0) : Type 0 where
@@ -153,9 +153,3 @@ pub data CyclicReached {E : Type 0} (X : Election E) : CyclicMachine E → Cycli
 pub record IsCyclic {E : Type 0} (b : CyclicMachine E) : Type 0 where
   pub rows : (p : ℕ) (v : Participant E) → slice_get b.participants p ≡ Some v → v.rows ≡ b.rows
   pub words : length b.words ≡ log_from b.layout b.rows + b.layout.capacity
-
--- ---- what is promised of it
--- with the reclaimer of who holds the page, and some list of who took the pages, of which the words below the length are the log
-pub record IsKeptCyclic {E : Type 0} (X : Election E) (b : CyclicMachine E) (T : CyclicTrails) : Type 0 where
-  pub leads : Leads X b T.pins T.actions T.heard
-  pub kept : IsKeptProtocol X b.layout b.rows (yard_of b leads.reclaimer leads.owners) T.pins T.actions T.heard

@@ -1,6 +1,5 @@
 -- The bus as a program holds it, and what it answers to each event.
 use Rattle.std.specs.Prelude.{◌≡◌, ℕ, ◌<◌, ◌≤◌, ◌⊎◌, Option, Some, None, List, length, slice_get, slice_index, slice_set}
-use Rattle.bus_register.specs.declared.limits.TheConstants.{MOST_SENDERS, MOST_RECEIVERS, MOST_ROUNDS, MOST_ROWS, LEAST_LOG_WORDS, MOST_LOG_WORDS}
 use Rattle.bus_batch.specs.Batches.{next_of, CanPut, CanClose}
 use Rattle.bus_batch.specs.declared.messages.Mark.{Mark}
 use Rattle.bus_batch.specs.declared.messages.Mark.TheVariants.{End, Leave}
@@ -10,14 +9,13 @@ use Rattle.bus_tenure.specs.Core.{Core, Election, Layout, log_at}
 use Rattle.bus_tenure.specs.Situations.{situation_of, op_at, answer_at}
 use Rattle.bus_world.specs.Log.{words_read_from}
 use Rattle.bus_world.specs.Turning.{number_found}
-use Rattle.bus_world.specs.World.{Bus, Event, Put, Ask, Turn, Recv, Stop, going, RecvDoes, IsNew}
+use Rattle.bus_world.specs.World.{Bus, Event, Put, Ask, Turn, Recv, Stop, going, RecvDoes}
 use Rattle.bus_world.specs.declared.events.Event.{Event as Told}
 use Rattle.bus_world.specs.declared.events.Event.TheVariants as told
 use Rattle.bus_world.specs.declared.events.Answer.{Answer}
 use Rattle.bus_world.specs.declared.events.Answer.TheVariants as answer
 use Rattle.bus_world.specs.declared.events.StepFault.{StepFault}
 use Rattle.bus_world.specs.declared.events.StepFault.TheVariants as fault
-use Rattle.bus_world.specs.declared.shapes.Shape.{Shape}
 
 -- a bus with its sizes
 pub record SizedBus (E : Type 0) : Type 0 where
@@ -35,22 +33,6 @@ Within low high n = (low ≤ n) × (n ≤ high)
 
 abbrev pub Beyond : ℕ → ℕ → ℕ → Type 0
 Beyond low high n = (n < low) ⊎ (high < n)
-
--- a bus of this shape is served
-pub record IsServed (shape : Shape) : Type 0 where
-  pub senders : Within 1 MOST_SENDERS shape.senders
-  pub receivers : Within 1 MOST_RECEIVERS shape.receivers
-  pub rounds : Within 1 MOST_ROUNDS shape.rounds
-  pub rows : Within 1 MOST_ROWS shape.rows
-  pub log_words : Within LEAST_LOG_WORDS MOST_LOG_WORDS shape.log_words
-
--- a new bus of this shape
-pub record IsMade {E : Type 0} (bases : List ℕ) (x : Layout) (shape : Shape) (z : SizedBus E) : Type 0 where
-  pub served : IsServed shape
-  pub layout : z.layout ≡ x
-  pub new : IsNew bases x z.bus
-  pub senders : length z.bus.side.senders ≡ shape.senders
-  pub receivers : length z.bus.receivers ≡ shape.receivers
 
 -- the event that a program tells
 abbrev pub event_told : Told → Event

@@ -1,14 +1,7 @@
 -- Senders and receivers at their starts.
-use Rattle.std.specs.Prelude.{◌≡◌, ℕ, ◌<◌, false, Some, List, [], length, slice_get, slice_index}
+use Rattle.std.specs.Prelude.{◌≡◌, ℕ, false, Some, List, [], length, slice_get}
 use Rattle.bus_batch.specs.Reading.{HasRead}
 use Rattle.bus_deliverylog.specs.Receiving.{Receiving}
-use Rattle.bus_tenure.specs.Core.{Core, Layout}
-use Rattle.bus_world.specs.World.{new_core}
-
--- so many senders, each at its start
-pub record AreNewCores {E : Type 0} (x : Layout) (bases : List ℕ) (many : ℕ) (senders : List (Core E)) : Type 0 where
-  pub many_are : length senders ≡ many
-  pub each : (p : ℕ) (c : Core E) → slice_get senders p ≡ Some c → (p < many) × (c ≡ new_core x (slice_index bases p) p)
 
 -- a receiver at its start
 pub record IsNewReader (senders log capacity : ℕ) (v : Receiving) : Type 0 where

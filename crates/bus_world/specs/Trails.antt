@@ -7,11 +7,10 @@ use Rattle.bus_register.specs.Protocol.{Protocol}
 use Rattle.bus_batch.specs.declared.messages.Mark.TheVariants as mark
 use Rattle.bus_batch.specs.Frames.{Frame, Order, Spells}
 use Rattle.bus_deliverylog.specs.declared.receiving.RecvTurn.{RecvTurn}
-use Rattle.bus_deliverylog.specs.Orders.{IsPrefixOfOrder}
 use Rattle.bus_tenure.specs.Core.{Core, Election, Layout}
 use Rattle.bus_tenure.specs.Situations.{Situation, situation_of, tenure_at, kind_at, op_at, chosen_at}
 use Rattle.bus_tenure.specs.declared.turns.Turn.{Turn as Answered}
-use Rattle.bus_world.specs.Headline.{Action, HasPut, HasMarked, Stepped, Took, order_given, IsPrefix, Promises}
+use Rattle.bus_world.specs.Headline.{Action, HasPut, HasMarked, Stepped, Took, Promises}
 use Rattle.bus_world.specs.Turning.{number_found}
 use Rattle.bus_world.specs.World.{Bus, Event, Put, Ask, Turn, Recv, Stop, going, IsEvent, Happens, IsNew, LawfulBus}
 use Rattle.bus_world.specs.Playing.{SizedBus, Answers, log_of}
@@ -105,26 +104,6 @@ pub record IsPromisedBy {E : Type 0} (bases : List ℕ) (x : Layout) (b : Bus E)
   pub spelled : Spells x.senders (log_of record { layout = x; bus = b }) order owners
   pub takers : Takers b.side.owners T.actions
   pub promises : Promises (slice_index bases) T.actions T.heard order owners
-
-pub record IsPromised {E : Type 0} (bases : List ℕ) (x : Layout) (b : Bus E) (T : Trails) : Type 0 where
-  pub order : Order
-  pub owners : List (ℕ × SenderNo)
-  pub by : IsPromisedBy bases x b T order owners
-
--- As it held before, so it holds after, of more trails: the order, the owners of frames and of pages, and what each receiver was
--- given are extended, and never otherwise changed.
-pub record StaysPromised {E : Type 0} (bases : List ℕ) (x : Layout) (old : Bus E) (T : Trails) (new : Bus E) (T' : Trails) : Type 0 where
-  pub before : IsPromised bases x old T
-  pub after : IsPromised bases x new T'
-  pub order : IsPrefixOfOrder before.order after.order
-  pub owners : IsPrefix before.owners after.owners
-  pub takers : IsPrefix old.side.owners new.side.owners
-  pub given : (r : ℕ) → IsPrefixOfOrder (order_given (T.heard r)) (order_given (T'.heard r))
-
--- Whatever trails led to the old bus, with what this event and its answer add they lead to the new one, and the promise stays.
-pub record Follows {E : Type 0} (X : Election E) (bases : List ℕ) (x : Layout) (old : Bus E) (e : Event) (a : Answer) (new : Bus E) : Type 0 where
-  pub reached : (T : Trails) → Reached X bases x old T → Reached X bases x new (trails_grown X old e a T)
-  pub promised : (T : Trails) → Reached X bases x old T → StaysPromised bases x old T new (trails_grown X old e a T)
 
 -- what every bus that a program holds keeps: some trails lead to it
 pub record MachineInvariant {E : Type 0} (X : Election E) (bases : List ℕ) (P : Protocol E (Unit {0}) ℕ) (z : SizedBus E) : Type 0 where

@@ -1,7 +1,6 @@
 -- What a program holds stays a bus whose rows are used again.
 use Rattle.std.proofs.Common.{◌≡◌, ℕ, ◌+◌, ◌<◌, ◌≤◌, ◌^◌, Bool, true, false, cond, ◌&&◌, Option, Some, None, List, [], ◌∷◌, length, slice_get, slice_index, slice_set, refl, sym, ◌∙◌, ap, subst, arith}
 use Rattle.std.specs.Prelude.{All, IfSome}
-use Rattle.std.proofs.Math.ListN.{length-set}
 use Rattle.bus_register.specs.declared.registers.Op.{Op}
 use Rattle.bus_register.specs.Protocol.{Protocol}
 use Rattle.bus_register.specs.Words.{register, SumFits}
@@ -22,7 +21,7 @@ use Rattle.bus_tenure.specs.declared.turns.Turn.{Turn as Answered}
 use Rattle.bus_world.specs.Bus.{IsLayout}
 use Rattle.bus_world.specs.Headline.{Action, HasPut, HasMarked}
 use Rattle.bus_world.specs.Playing.{PutGives, CloseGives, StopGives, asked_answer}
-use Rattle.bus_world.specs.CyclicMachines.{CyclicMachine, CyclicTrails, CyclicReached, TurnTaken, PutTaken, MarkTaken, RecvTaken, StopTaken, IsKeptCyclic, IsOnWord, participant_going, ring_after, ring_trails, ring_reclaims, ring_actions, with_participant, participant_put, participant_marked}
+use Rattle.bus_world.specs.CyclicMachines.{CyclicMachine, CyclicTrails, CyclicReached, TurnTaken, PutTaken, MarkTaken, RecvTaken, StopTaken, IsOnWord, participant_going, ring_after, ring_trails, ring_reclaims, ring_actions, with_participant, participant_put, participant_marked}
 use Rattle.bus_world.specs.Turning.{number_found, owners_by, owners_after}
 use Rattle.bus_world.specs.World.{Event, Put, Ask, Turn, Recv, Stop, can_put, can_close, is_open, is_set}
 use Rattle.bus_world.specs.CyclicProtocols.{actions_with}
@@ -31,12 +30,12 @@ use Rattle.bus_world.specs.declared.events.Answer.TheVariants as answer
 use Rattle.bus_world.proofs.EventTrails.{put_taken}
 use Rattle.bus_world.proofs.PlayingLaws.{owners_told}
 use Rattle.bus_world.proofs.CyclicMachineFits as fits
-use Rattle.bus_world.proofs.CyclicMachineLaws.{IsCyclicLayout, IsLed, ring_led, ring_kept, turn_led, turn_owners, owners_due}
+use Rattle.bus_world.proofs.CyclicMachineLaws.{IsCyclicLayout, IsLed, ring_led, turn_led, turn_owners, owners_due}
 use Rattle.bus_world.proofs.Serving.{Serves}
 use Rattle.bus_machine.specs.Proved.Cyclic.{OwnedCyclicMachine, LeadTo, AreLastTakers, IsServedCyclic, last_of}
-use Rattle.bus_machine.specs.Proved.Following.{Steps, ring_trails_grown, turn_grown, heard_grown, TurnsWithin}
+use Rattle.bus_machine.specs.Proved.Following.{Steps, ring_trails_grown, turn_grown, TurnsWithin}
 use Rattle.bus_machine.specs.Proved.Following as following
-use Rattle.bus_machine.specs.Proved.Happening.{Happens, ParticipantDoes, ReaderDoes, TurnAnswers, RecvAnswers, core_found}
+use Rattle.bus_machine.specs.Proved.Happening.{ParticipantDoes, TurnAnswers, RecvAnswers, core_found}
 use Rattle.bus_machine.proofs.Cyclic.LastTakers.{takers_one, last_told, last_beside, put_takes, mark_takes, mark_action}
 
 -- ---- what an answer tells of who took the page
@@ -213,30 +212,6 @@ module _ {E : Type 0} (X : Election E) (P : Protocol E (Unit {0}) ℕ) where
     leads_on (Turn p word) a z' d = turn_leads p word a z' d.owners (participant_going b p) refl d.within d.happens d.answers
     leads_on (Recv r) a z' d = recv_leads r a z' d.owners (slice_get b.receivers r) refl d.answers
     leads_on (Stop p) a z' d = stop_leads p a z' d.owners (participant_going b p) refl d.happens d.answers.0
-
-  pub kept_at : (z : OwnedCyclicMachine E) → Serves X P z.ring.layout → IsLayout z.ring.layout → 2 ≤ z.ring.rows → (T : CyclicTrails) → LeadTo X z T → IsKeptCyclic X z.ring T
-  kept_at z s ok two T l = ring_kept X P s.laws s.owner_is s.named s.announces s.apart z.ring (layout_served z.ring.layout z.ring.rows s ok two) T l.reached
-
-  -- the sizes stay
-  pub record SameSizes (b b' : CyclicMachine E) : Type 0 where
-    pub layout : b'.layout ≡ b.layout
-    pub rows : b'.rows ≡ b.rows
-    pub participants : length b'.participants ≡ length b.participants
-
-  participant_sizes : (b b' : CyclicMachine E) (o : Option (Participant E)) (f : Participant E → CyclicMachine E) → ((v : Participant E) → SameSizes b (f v)) → ParticipantDoes b o f b' → SameSizes b b'
-  participant_sizes b b' None f same d = subst (SameSizes b) (sym d) record { layout = refl; rows = refl; participants = refl }
-  participant_sizes b b' (Some v) f same d = subst (SameSizes b) (sym d) (same v)
-
-  reader_sizes : (b b' : CyclicMachine E) (r : ℕ) (o : Option Receiving) → ReaderDoes b r o b' → SameSizes b b'
-  reader_sizes b b' r None d = subst (SameSizes b) (sym d) record { layout = refl; rows = refl; participants = refl }
-  reader_sizes b b' r (Some v) d = subst (SameSizes b) (sym d.3) record { layout = refl; rows = refl; participants = refl }
-
-  pub event_sizes : (b b' : CyclicMachine E) (e : Event) → Happens X b e b' → SameSizes b b'
-  event_sizes b b' (Put p bytes) d = participant_sizes b b' (participant_going b p) _ (λ v. record { layout = refl; rows = refl; participants = length-set b.participants p _ }) d
-  event_sizes b b' (Ask p asked) d = participant_sizes b b' (participant_going b p) _ (λ v. record { layout = refl; rows = refl; participants = length-set b.participants p _ }) d
-  event_sizes b b' (Turn p word) d = participant_sizes b b' (participant_going b p) _ (λ v. record { layout = refl; rows = refl; participants = length-set b.participants p _ }) d
-  event_sizes b b' (Recv r) d = reader_sizes b b' r (slice_get b.receivers r) d
-  event_sizes b b' (Stop p) d = participant_sizes b b' (participant_going b p) _ (λ v. record { layout = refl; rows = refl; participants = refl }) d
 
   -- ---- of what a program holds
   module _ (z : OwnedCyclicMachine E) (s : Serves X P z.ring.layout) (h : IsServedCyclic X z) where

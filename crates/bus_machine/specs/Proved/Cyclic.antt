@@ -1,15 +1,13 @@
 -- The bus whose rows of words are used again, as a program holds it.
 use Rattle.std.specs.Prelude.{◌≡◌, ℕ, ◌-◌, ◌≤◌, List, drop, length, slice_index}
-use Rattle.bus_register.specs.declared.limits.TheConstants.{MOST_SENDERS, MOST_RECEIVERS, MOST_ROUNDS, LEAST_LOG_WORDS, MOST_LOG_WORDS, TENURES}
+use Rattle.bus_register.specs.declared.limits.TheConstants.{MOST_SENDERS, MOST_LOG_WORDS, TENURES}
 use Rattle.bus_core.specs.declared.limits.TheConstants.{LEAST_ROWS_AGAIN, MOST_ROWS_AGAIN}
 use Rattle.bus_core.specs.Reusing.Participants.{log_from}
 use Rattle.bus_tenure.specs.Core.{Election}
 use Rattle.bus_world.specs.Headline.{Action}
 use Rattle.bus_world.specs.Log.{words_read_from}
-use Rattle.bus_world.specs.Playing.{Within}
 use Rattle.bus_world.specs.CyclicMachines.{CyclicMachine, CyclicTrails, CyclicReached, IsCyclic}
 use Rattle.bus_world.specs.Trails.{Takers}
-use Rattle.bus_world.specs.declared.shapes.Shape.{Shape}
 
 -- with who took the last pages, the oldest first
 pub record OwnedCyclicMachine (E : Type 0) : Type 0 where
@@ -21,14 +19,6 @@ abbrev pub log_of : {E : Type 0} → CyclicMachine E → List ℕ
 log_of b = words_read_from (slice_index b.words) (log_from b.layout b.rows) (slice_index b.words 0)
 
 -- ---- shapes
--- a bus of this shape is served
-pub record IsServed (shape : Shape) : Type 0 where
-  pub senders : Within 1 MOST_SENDERS shape.senders
-  pub receivers : Within 1 MOST_RECEIVERS shape.receivers
-  pub rounds : Within 1 MOST_ROUNDS shape.rounds
-  pub rows : Within LEAST_ROWS_AGAIN MOST_ROWS_AGAIN shape.rows
-  pub log_words : Within LEAST_LOG_WORDS MOST_LOG_WORDS shape.log_words
-
 -- ---- who took the last pages
 -- the last of a list, at most so many
 abbrev pub last_of : ℕ → List ℕ → List ℕ
