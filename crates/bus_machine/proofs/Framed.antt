@@ -260,8 +260,7 @@ module _ {E : Type 0} (X : Election E) (P : Protocol E (Unit {0}) ℕ) where
             ∙ ap (λ r. place_for z.ring.layout r (Elects t e)) rows in
             let where_is : register o ≡ place_for z.ring.layout z.ring.rows (Elects t e) (register w) = sym (ap register (same_Some _ _ q))
             ∙ same_register f w ∙ ap (λ g. g (register w)) same in
-            let b = keeps.by.within p u.core t e word w there runs n in
-            (
+            let b = keeps.by.within p u.core t e word w there runs n in (
               subst (λ n. row_of (sizes_with z.ring.layout z.ring.rows) t ≤ n) (sym where_is) b.0,
               subst (λ n. n < row_of (sizes_with z.ring.layout z.ring.rows) t + z.ring.layout.width) (sym where_is) b.1,
             )

@@ -324,9 +324,10 @@ module _ {E : Type 0} (X : Election E) (P : Protocol E (Unit {0}) ℕ) (m m' : M
 
   turned : (log_of m' ≡ log_of m ++ words_joined X m (Turn s word)) × (stage_of m ≤ stage_of m')
   turned =
-      let w = by_turn (situation X v) refl in
-      (ap log_of h.after ∙ w.joins ∙ ap (λ o. log_of m ++ words_of_frame (frame_next X o)) (sym h.goes),
-      subst (λ y. stage_of m ≤ stage_of y) (sym h.after) w.rises)
+      let w = by_turn (situation X v) refl in (
+        ap log_of h.after ∙ w.joins ∙ ap (λ o. log_of m ++ words_of_frame (frame_next X o)) (sym h.goes),
+        subst (λ y. stage_of m ≤ stage_of y) (sym h.after) w.rises,
+      )
 
 -- ---- whatever happens
 module _ {E : Type 0} (X : Election E) (P : Protocol E (Unit {0}) ℕ) (m m' : Machine E) (T : Trails) (sits : Sits X P m) (f : IsFramed P m T)
