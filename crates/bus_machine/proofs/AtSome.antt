@@ -11,15 +11,12 @@ use Rattle.bus_batch.specs.Batches.{frame_of, next_of, CanPut, CanClose}
 use Rattle.bus_batch.specs.Frames.{frame_words}
 use Rattle.bus_batch.specs.declared.batches.Phase.TheVariants.{Marking}
 use Rattle.bus_batch.specs.declared.messages.Mark.{Mark}
+use Rattle.bus_batch.specs.declared.messages.Mark.TheVariants as mark
 use Rattle.bus_core.proofs.Bridged.{at_some}
 use Rattle.bus_core.specs.Keeping.{new_sender, queue_of}
 use Rattle.bus_core.specs.Senders.{Sender, Situation, Does, Scans, Clears, again, situation, at_home, pinning, reclaiming}
-use Rattle.bus_core.specs.Table.{line, line_now}
-use Rattle.bus_machine.proofs.Cyclic.CyclicLaws.{next_seen}
+use Rattle.bus_core.specs.Table.{Line, line, line_now}
 use Rattle.bus_machine.specs.Proved.Cyclic.{OwnedCyclicMachine}
-use Rattle.bus_machine.specs.Proved.Following.{ring_trails_grown, TurnsWithin}
-use Rattle.bus_machine.specs.Proved.Following as following
-use Rattle.bus_machine.specs.Proved.Happening.{ParticipantDoes, ReaderDoes, TurnAnswers, RecvAnswers, core_found}
 use Rattle.bus_core.specs.Reusing.Participants.{Due, Pins, Reclaims, Goes, place_for, log_from, due_beside, due_home, due_reclaimed, reclaim_due, core_looked, core_going}
 use Rattle.bus_core.specs.Reusing.Turns.{Participant, due, op_due, op_placed, participant_due, sizes_of, queue_seen, answer_due}
 use Rattle.bus_presence.specs.Reclamation.{presence_at}
@@ -33,18 +30,16 @@ use Rattle.bus_tenure.specs.declared.pages.Page.{Page}
 use Rattle.bus_tenure.specs.declared.turns.Turn.{Turn as Answered}
 use Rattle.bus_world.proofs.EventTrails.{put_taken}
 use Rattle.bus_world.specs.Headline.{HasPut, HasMarked}
-use Rattle.bus_world.specs.Playing.{PutGives, CloseGives, StopGives}
+use Rattle.bus_world.specs.Playing.{asked_answer}
 use Rattle.bus_world.specs.CyclicMachines.{CyclicMachine, CyclicTrails, CyclicReached, NewCyclic, TurnTaken, PutTaken, MarkTaken, RecvTaken, StopTaken, ring_after, ring_actions, ring_reclaims, participant_moved}
 use Rattle.bus_world.specs.CyclicMachines as rings
 use Rattle.bus_world.specs.Trails.{step_action, put_actions, mark_actions}
-use Rattle.bus_world.specs.Turning.{words_after, number_found, home_moved, core_moved, after_step, owners_by}
+use Rattle.bus_world.specs.Turning.{words_after, number_found, home_moved, core_moved, after_step}
 use Rattle.bus_world.specs.World.{Put, Ask, Turn, Recv, Stop, is_set, new_core, IsNewReceiver}
 use Rattle.bus_world.specs.CyclicProtocols.{word_found, actions_with}
 use Rattle.bus_world.specs.declared.events.Answer.{Answer}
 use Rattle.bus_world.specs.declared.events.Answer.TheVariants as answer
 use Rattle.bus_machine.proofs.AtNone.{close_taken}
-use Rattle.bus_machine.proofs.Cyclic.LastTakers.{mark_action}
-use Rattle.bus_machine.proofs.Takes.{takes_told}
 use Rattle.bus_machine.specs.Proved.Bridge.{of_ring, of_cyclic, ring_trails, AreSized, IsCyclicEvent, HappensAtSome, IsCyclicOf}
 use Rattle.bus_machine.specs.Machine.{base_of, Machine, Trails, TakesTurn, TakesPut, TakesMark, StopsNow, Hears, IsNew, IsOnWord, no_machine_trails, log_place, last_of, going, with_sender, put_in, mark_in, moved, machine_after, found, turn_answer, turn_trails, turn_grown, trails_grown}
 
@@ -222,6 +217,11 @@ module _ {E : Type 0} where
   rebuilt rows [] h = refl
   rebuilt rows (v ∷ l) h = ap (λ y. y ∷ map again (map (new_participant rows) l)) (h 0 v refl) ∙ ap (λ y. v ∷ y) (rebuilt rows l (λ p w e. h (suc p) w e))
 
+-- a mark that is taken is an action
+mark_action : (asked : Mark) → mark_actions (asked_answer asked) ≡ HasMarked asked ∷ []
+mark_action mark.End = refl
+mark_action mark.Leave = refl
+
 -- ---- one event
 module _ {E : Type 0} (X : Election E) (z : OwnedCyclicMachine E) (sized : AreSized z.ring) where
   abbrev b : CyclicMachine E
@@ -231,7 +231,7 @@ module _ {E : Type 0} (X : Election E) (z : OwnedCyclicMachine E) (sized : AreSi
   got_by v word = number_found (slice_index b.words) (op_due X v (due X v) word)
 
   abbrev cyclic_after : Participant E → ℕ → ℕ → OwnedCyclicMachine E
-  cyclic_after v s word = record { ring = ring_after X b s v (due X v) word; owners = last_of b.rows (owners_by (answer_due X v (due X v) (got_by v word) word) s z.owners) }
+  cyclic_after v s word = record { ring = ring_after X b s v (due X v) word; owners = last_of b.rows (cond (line_now X (again v)).takes (z.owners ++ s ∷ []) z.owners) }
 
   turn_is : (v : Participant E) (s word : ℕ) → machine_after (of_cyclic z) s (line_now X (again v)) word ≡ of_cyclic (cyclic_after v s word)
   turn_is v s word =
@@ -239,16 +239,14 @@ module _ {E : Type 0} (X : Election E) (z : OwnedCyclicMachine E) (sized : AreSi
       let i = at_some X v in
       let d = due X v in
       let got = got_by v word in
-      let joins = takes_told X (again v) (situation X (again v)) s z.owners got word ∙ ap (λ t. owners_by t s z.owners) (i.answer got word) in
-      ap (λ o. after o l.move (l.fed (number_found (slice_index b.words) o) word) (cond l.takes (z.owners ++ s ∷ []) z.owners)) (i.op word)
-      ∙ ap (λ w. after (op_due X v d word) l.move (l.fed got word) w) joins
-      ∙ ap (λ m. after (op_due X v d word) m (l.fed got word) (owners_by (answer_due X v d got word) s z.owners)) i.move
-      ∙ ap (λ f. after (op_due X v d word) (rings.move_due X v d) f (owners_by (answer_due X v d got word) s z.owners)) (i.fed got word)
-      ∙ ap (λ g. record (of_cyclic z) { words = words_after b.words (op_due X v d word); home = home_moved (rings.move_due X v d) b.home; senders = g; owners = last_of b.rows (owners_by (answer_due X v d got word) s z.owners) })
+      ap (λ o. after o l.move (l.fed (number_found (slice_index b.words) o) word)) (i.op word)
+      ∙ ap (λ m. after (op_due X v d word) m (l.fed got word)) i.move
+      ∙ ap (λ f. after (op_due X v d word) (rings.move_due X v d) f) (i.fed got word)
+      ∙ ap (λ g. record (of_cyclic (cyclic_after v s word)) { senders = g })
       (sym (map-set again b.participants s (rings.participant_moved (after_step (rings.move_due X v d)) b.home (participant_due X v d got word))))
     where
-      after : Option Op → PageMove → Sender E → List ℕ → Machine E
-      after o m f w = record (of_cyclic z) { words = words_after b.words o; home = home_moved m b.home; senders = slice_set (of_cyclic z).senders s (moved (after_step m) b.home f); owners = last_of b.rows w }
+      after : Option Op → PageMove → Sender E → Machine E
+      after o m f = record (of_cyclic (cyclic_after v s word)) { words = words_after b.words o; home = home_moved m b.home; senders = slice_set (of_cyclic z).senders s (moved (after_step m) b.home f) }
 
   answer_is : (v : Participant E) (word : ℕ) → turn_answer (of_cyclic z) (line_now X (again v)) word ≡ answer_due X v (due X v) (got_by v word) word
   answer_is v word =
@@ -256,11 +254,10 @@ module _ {E : Type 0} (X : Election E) (z : OwnedCyclicMachine E) (sized : AreSi
       let i = at_some X v in
       ap (λ o. l.answer (number_found (slice_index b.words) o) word) (i.op word) ∙ i.answer (got_by v word) word
 
-  turn_adds : (s word : ℕ) (a : Answer) (t : Answered) (v : Participant E) → a ≡ answer.Turn t → rings.participant_going b s ≡ Some v → going (of_cyclic z) s ≡ Some (again v) → slice_get b.participants s ≡ Some v → (T : Trails) → ring_trails_grown X b (Turn s word) a (ring_trails T) ≡ ring_trails (trails_grown X (of_cyclic z) (Turn s word) a T)
-  turn_adds s word a t v told g h at T =
-      ap (λ w. ring_trails_grown X b (Turn s word) w (ring_trails T)) told
-      ∙ ap (λ o. following.turn_grown X b s o word (answer.Turn t) (ring_trails T)) g
-      ∙ sym (grown_is X b s word T t v (sized s v at).0 (sized s v at).1)
+  turn_adds : (s word : ℕ) (a : Answer) (t : Answered) (v : Participant E) → a ≡ answer.Turn t → going (of_cyclic z) s ≡ Some (again v) → slice_get b.participants s ≡ Some v → (T : Trails)
+      → ring_grown X b s word T t v (due X v) ≡ ring_trails (trails_grown X (of_cyclic z) (Turn s word) a T)
+  turn_adds s word a t v told h at T =
+      sym (grown_is X b s word T t v (sized s v at).0 (sized s v at).1)
       ∙ ap (λ o. ring_trails (turn_grown X (of_cyclic z) s o word (answer.Turn t) T)) (sym h)
       ∙ ap (λ w. ring_trails (trails_grown X (of_cyclic z) (Turn s word) w T)) (sym told)
 
@@ -278,18 +275,8 @@ module _ {E : Type 0} (X : Election E) (z : OwnedCyclicMachine E) (sized : AreSi
         bus = new;
         is = h.after ∙ ap (λ y. machine_after (of_cyclic z) s (line_now X y) word) o.2 ∙ turn_is v s word;
         sized = fit_after b sized s v _ o.3 (due_layout X v d (after_step (rings.move_due X v d)) b.home (got_by v word) word) (due_rows X v d (after_step (rings.move_due X v d)) b.home (got_by v word) word);
-        steps = record {
-          is = tt;
-          within = subst (λ k. TurnsWithin X b k word) (sym o.1) low;
-          happens = subst (λ k. ParticipantDoes b k (λ y. ring_after X b s y (due X y) word) new.ring) (sym o.1) refl;
-          answers = subst (λ k. TurnAnswers X b.words k word a) (sym o.1) told;
-          owners = ap (following.owners_told z s) (sym told);
-        };
-        trails = turn_adds s word a t v told o.1 (h.goes ∙ ap Some o.2) o.3;
-        reached = λ T r.
-            subst (λ w. CyclicReached X new.ring (ring_trails_grown X b (Turn s word) w T)) (sym told)
-            (subst (λ k. CyclicReached X new.ring (following.turn_grown X b s k word (answer.Turn t) T)) (sym o.1)
-            (TurnTaken b T s v word t r o.1 low refl));
+        reached = λ T r. subst (CyclicReached X new.ring) (turn_adds s word a t v told (h.goes ∙ ap Some o.2) o.3 T)
+            (TurnTaken b (ring_trails T) s v word t r o.1 low refl);
       }
 
   puts : (s : ℕ) (bytes : List ℕ) (a : Answer) (m : Machine E) → TakesPut (of_cyclic z) s bytes a m → IsCyclicEvent X z (Put s bytes) a m
@@ -305,17 +292,9 @@ module _ {E : Type 0} (X : Election E) (z : OwnedCyclicMachine E) (sized : AreSi
         bus = new;
         is = h.after ∙ ap (λ y. with_sender (of_cyclic z) s (put_in y bytes)) o.2 ∙ ap (λ l. record (of_cyclic z) { senders = l }) (sym (map-set again b.participants s put));
         sized = fit_after b sized s v put o.3 refl refl;
-        steps = record {
-          is = h.are_bytes;
-          within = tt;
-          happens = subst (λ k. ParticipantDoes b k (λ y. rings.with_participant b s (rings.participant_put y bytes)) new.ring) (sym o.1) (ap (λ t. rings.with_participant b s (cond t put v)) (sym may));
-          answers = (next_of v.core.queue, subst (λ k. PutGives (core_found k) (length bytes) (next_of v.core.queue)) (sym o.1) (can, sym (next_seen v.core.queue v.pin)), told);
-          owners = refl;
-        };
-        trails = λ T. refl;
         reached = λ T r.
-            subst (λ w. CyclicReached X new.ring (record T { actions = actions_with s (put_actions bytes w) T.actions })) (sym told)
-            (subst (λ t. CyclicReached X (rings.with_participant b s (cond t put v)) (record T { actions = actions_with s (cond t (HasPut (next_of v.core.queue) bytes ∷ []) []) T.actions })) may (PutTaken b T s v bytes r o.1 h.are_bytes));
+            subst (λ w. CyclicReached X new.ring (record (ring_trails T) { actions = actions_with s (put_actions bytes w) T.actions })) (sym told)
+            (subst (λ t. CyclicReached X (rings.with_participant b s (cond t put v)) (record (ring_trails T) { actions = actions_with s (cond t (HasPut (next_of v.core.queue) bytes ∷ []) []) T.actions })) may (PutTaken b (ring_trails T) s v bytes r o.1 h.are_bytes));
       }
 
   marks : (s : ℕ) (asked : Mark) (a : Answer) (m : Machine E) → TakesMark (of_cyclic z) s asked a m → IsCyclicEvent X z (Ask s asked) a m
@@ -330,18 +309,10 @@ module _ {E : Type 0} (X : Election E) (z : OwnedCyclicMachine E) (sized : AreSi
         bus = new;
         is = h.after ∙ ap (λ y. with_sender (of_cyclic z) s (mark_in y asked)) o.2 ∙ ap (λ l. record (of_cyclic z) { senders = l }) (sym (map-set again b.participants s marked));
         sized = fit_after b sized s v marked o.3 refl refl;
-        steps = record {
-          is = tt;
-          within = tt;
-          happens = subst (λ k. ParticipantDoes b k (λ y. rings.with_participant b s (rings.participant_marked y asked)) new.ring) (sym o.1) (ap (λ t. rings.with_participant b s (cond t marked v)) (sym may));
-          answers = (subst (λ k. CloseGives (core_found k)) (sym o.1) can, h.answered);
-          owners = refl;
-        };
-        trails = λ T. refl;
         reached = λ T r.
-            subst (λ w. CyclicReached X new.ring (record T { actions = actions_with s (mark_actions w) T.actions })) (sym h.answered)
-            (subst (λ l. CyclicReached X new.ring (record T { actions = actions_with s l T.actions })) (sym (mark_action asked))
-            (subst (λ t. CyclicReached X (rings.with_participant b s (cond t marked v)) (record T { actions = actions_with s (cond t (HasMarked asked ∷ []) []) T.actions })) may (MarkTaken b T s v asked r o.1)));
+            subst (λ w. CyclicReached X new.ring (record (ring_trails T) { actions = actions_with s (mark_actions w) T.actions })) (sym h.answered)
+            (subst (λ l. CyclicReached X new.ring (record (ring_trails T) { actions = actions_with s l T.actions })) (sym (mark_action asked))
+            (subst (λ t. CyclicReached X (rings.with_participant b s (cond t marked v)) (record (ring_trails T) { actions = actions_with s (cond t (HasMarked asked ∷ []) []) T.actions })) may (MarkTaken b (ring_trails T) s v asked r o.1)));
       }
 
   stops : (s : ℕ) (a : Answer) (m : Machine E) → StopsNow (of_cyclic z) s a m → IsCyclicEvent X z (Stop s) a m
@@ -352,15 +323,7 @@ module _ {E : Type 0} (X : Election E) (z : OwnedCyclicMachine E) (sized : AreSi
         bus = new;
         is = h.after;
         sized = sized;
-        steps = record {
-          is = tt;
-          within = tt;
-          happens = subst (λ k. ParticipantDoes b k (λ y. record b { stopped = slice_set b.stopped s true }) new.ring) (sym o.1) refl;
-          answers = (subst (λ k. StopGives (core_found k)) (sym o.1) tt, h.answered);
-          owners = refl;
-        };
-        trails = λ T. refl;
-        reached = λ T r. StopTaken b T s o.0 r o.1;
+        reached = λ T r. StopTaken b (ring_trails T) s o.0 r o.1;
       }
 
   hears : (r : ℕ) (a : Answer) (m : Machine E) → Hears (of_cyclic z) r a m → IsCyclicEvent X z (Recv r) a m
@@ -370,15 +333,8 @@ module _ {E : Type 0} (X : Election E) (z : OwnedCyclicMachine E) (sized : AreSi
         bus = new;
         is = h.after;
         sized = sized;
-        steps = record {
-          is = tt;
-          within = tt;
-          happens = subst (λ k. ReaderDoes b r k new.ring) (sym h.there) (h.next, h.heard, h.does, refl);
-          answers = subst (λ k. RecvAnswers b r k a new.ring) (sym h.there) (h.next, h.heard, h.does, refl, h.answered);
-          owners = refl;
-        };
-        trails = λ T. ap (λ w. ring_trails_grown X b (Recv r) w (ring_trails T)) h.answered ∙ ap (λ w. ring_trails (trails_grown X (of_cyclic z) (Recv r) w T)) (sym h.answered);
-        reached = λ T before. subst (λ w. CyclicReached X new.ring (ring_trails_grown X b (Recv r) w T)) (sym h.answered) (RecvTaken b T r h.receiver h.next h.heard before h.there h.does);
+        reached = λ T before. subst (λ w. CyclicReached X new.ring (ring_trails (trails_grown X (of_cyclic z) (Recv r) w T))) (sym h.answered)
+            (RecvTaken b (ring_trails T) r h.receiver h.next h.heard before h.there h.does);
       }
 
 pub happens_at_some : {E : Type 0} (X : Election E) → HappensAtSome X

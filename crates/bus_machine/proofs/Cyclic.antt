@@ -1,3 +1,2 @@
 pub mod CyclicLaws
 pub mod ViewLaws
-pub mod LastTakers

@@ -14,8 +14,7 @@ use Rattle.bus_core.specs.Senders.{Sender, Does, Clears, apart, again, reuse_of,
 use Rattle.bus_core.specs.declared.reuses.Reuse.{Reuse}
 use Rattle.bus_machine.proofs.Clearing.{clearing, spared}
 use Rattle.bus_machine.proofs.Cyclic.CyclicLaws.{layout_served, led}
-use Rattle.bus_machine.proofs.Cyclic.LastTakers.{takers_one}
-use Rattle.bus_machine.specs.Proved.Cyclic.{OwnedCyclicMachine, LeadTo}
+use Rattle.bus_machine.specs.Proved.Cyclic.{OwnedCyclicMachine}
 use Rattle.bus_core.specs.Reusing.Participants.{log_from, sizes_with, place_for}
 use Rattle.bus_core.specs.Reusing.Turns.{Participant}
 use Rattle.bus_deliverylog.specs.Orders.{of_sender}
@@ -39,7 +38,7 @@ use Rattle.bus_world.proofs.Serving.{Serves}
 use Rattle.bus_world.proofs.CyclicProtocolLaws.{HasKept, led_kept, yard_promised}
 use Rattle.bus_world.specs.Bus.{IsLayout, Sending}
 use Rattle.bus_world.specs.Log.{words_read_from}
-use Rattle.bus_world.specs.CyclicMachines.{yard_of, core_in}
+use Rattle.bus_world.specs.CyclicMachines.{CyclicReached, yard_of, core_in}
 use Rattle.bus_world.specs.CyclicMachines as rings
 use Rattle.bus_world.specs.Trails.{Reached as PlainReached, Takers}
 use Rattle.bus_world.specs.World.{Bus}
@@ -47,7 +46,7 @@ use Rattle.bus_world.specs.CyclicProtocols.{CyclicProtocol, IsKeptProtocol}
 use Rattle.bus_machine.proofs.AtNone.{reached_at_none}
 use Rattle.bus_machine.proofs.Leading.{Sits, led_ring, ring_serves, ring_ok, ring_two}
 use Rattle.bus_machine.specs.Proved.Bridge.{of_bus, of_cyclic, plain_trails, ring_trails, AreSized}
-use Rattle.bus_machine.specs.Machine.{base_of, Machine, Trails, Reached, last_of, log_place, log_of, owners_told, stage_of}
+use Rattle.bus_machine.specs.Machine.{base_of, Machine, Trails, Reached, log_place, log_of, stage_of}
 use Rattle.bus_machine.specs.Promise.{ReusesRows, ReusesSafely, pin_in, reclamation_of}
 use Rattle.bus_machine.specs.Remembering.{rows_in}
 
@@ -76,7 +75,6 @@ pub record IsFramed {E : Type 0} (P : Protocol E (Unit {0}) ℕ) (m : Machine E)
   pub stage : stage_of m ≡ V 1
   pub log : (j : ℕ) → j < m.layout.capacity → slice_index m.words (log_place m.layout m.reuse + j) ≡ V (log_at m.layout + j)
   pub takers : Takers owners T.actions
-  pub told : m.owners ≡ owners_told m.reuse owners
   pub promises : Promises (base_of m) T.actions T.heard (order_of frames) (map tenure_and_owner frames)
 
 -- the log has the words of these frames
@@ -134,13 +132,12 @@ module _ {E : Type 0} (X : Election E) (P : Protocol E (Unit {0}) ℕ) where
       stage = refl;
       log = λ j low. refl;
       takers = (plain.by_frames bases X P q.laws x ok q.width q.starts q.owner_is q.named q.announces q.apart b (plain_trails T) k).takers;
-      told = refl;
       promises = (plain.by_frames bases X P q.laws x ok q.width q.starts q.owner_is q.named q.announces q.apart b (plain_trails T) k).promises;
     }
 
   -- ---- with rows that are used again
   module _ (z : OwnedCyclicMachine E) (q : Serves X P z.ring.layout) (ok : IsLayout z.ring.layout) (two : 2 ≤ z.ring.rows) (sized : AreSized z.ring)
-      (T : Trails) (l : LeadTo X z (ring_trails T)) where
+      (T : Trails) (l : CyclicReached X z.ring (ring_trails T)) where
     x : IsCyclicLayout X P q.laws q.owner_is q.named q.announces q.apart z.ring.layout z.ring.rows
     x = layout_served X P z.ring.layout z.ring.rows q ok two
 
@@ -212,8 +209,6 @@ module _ {E : Type 0} (X : Election E) (P : Protocol E (Unit {0}) ℕ) where
       stage = kept.kept.laid.stage;
       log = λ j low. kept.kept.laid.log j low;
       takers = keeps.by.takers;
-      told = l.owners.last_are
-          ∙ ap (last_of z.ring.rows) (takers_one l.owners.all h.leads.owners T.actions l.owners.takers keeps.by.takers);
       promises = subst (λ o. Promises (slice_index z.ring.bases) T.actions T.heard o (map tenure_and_owner kept.frames)) order_same.0
           (subst (Promises (slice_index z.ring.bases) T.actions T.heard keeps.order) order_same.1 keeps.by.promises);
     }

@@ -37,8 +37,9 @@ use Rattle.bus_world.specs.declared.events.Answer.{Answer}
 use Rattle.bus_machine.proofs.AtNone as none
 use Rattle.bus_machine.proofs.Leading.{Sits, led_ring, ring_serves, ring_ok, ring_two}
 use Rattle.bus_machine.proofs.Framed.{participant_at}
+use Rattle.bus_machine.proofs.Taking.{takers_told}
 use Rattle.bus_machine.specs.Proved.Bridge.{of_bus, of_cyclic, plain_trails, ring_trails}
-use Rattle.bus_machine.specs.Machine.{base_of, Machine, Trails, Reached, Then, Happens, trails_grown, log_place, log_of, turn_answer, going}
+use Rattle.bus_machine.specs.Machine.{base_of, Machine, Trails, Reached, Then, Happens, trails_grown, log_place, log_of, owners_told, turn_answer, going}
 use Rattle.bus_machine.specs.Playing.{IsHeld, AreRows}
 use Rattle.bus_machine.specs.Promise.{HasRows}
 
@@ -114,7 +115,6 @@ module _ {E : Type 0} (X : Election E) (P : Protocol E (Unit {0}) ℕ) where
         let i = led_ring X P m h.trails t h.reached rows used in
         let z = i.bus in
         let r = subst (λ (y : Machine E). AreRows y.layout y.reuse) i.is h.rows in
-        let few : length z.owners ≤ z.ring.rows = let a = ap length i.leads.owners.last_are in let b = length-drop (length i.leads.owners.all - z.ring.rows) i.leads.owners.all in omega arith in
         record {
           bus = z;
           is = i.is;
@@ -125,7 +125,6 @@ module _ {E : Type 0} (X : Election E) (P : Protocol E (Unit {0}) ℕ) where
             capacity_few = subst (λ (y : Machine E). y.layout.capacity ≤ 65536) i.is h.capacity_few;
             tenures = r.1;
             senders = sym (length-map z.ring.participants again) ∙ subst (λ (y : Machine E). length y.senders ≡ y.layout.senders) i.is h.senders;
-            owners_few = few;
             is = (cyclic.led X P z (ring_serves X P m t z i.is) (ring_ok X P m t z i.is) (ring_two X P m t z i.is) (ring_trails h.trails) i.leads).is;
             trails = ring_trails h.trails;
             leads = i.leads;
@@ -180,9 +179,10 @@ module _ {E : Type 0} (X : Election E) (P : Protocol E (Unit {0}) ℕ) where
     -- at most so many owners are told
     pub owners_few : (rows : ℕ) → m.reuse ≡ Some rows → length m.owners ≤ rows
     owners_few rows used =
-        let k = held_ring rows used in
-        let same : k.bus.ring.rows ≡ rows = same_Some _ _ (sym (ap (λ (y : Machine E). y.reuse) k.is) ∙ used) in
-        let mine = ap (λ (y : Machine E). length y.owners) k.is in let few = k.served.owners_few in omega arith
+        let k = takers_told X P m h.trails (sits m s h) h.reached in
+        let is = ap length (k.told ∙ ap (λ o. owners_told o k.all) used) in
+        let left = length-drop (length k.all - rows) k.all in
+        omega arith
 
     pub rows_within : (rows : ℕ) → m.reuse ≡ Some rows → (2 ≤ rows) × (rows ≤ 8)
     rows_within rows used = (subst (AreRows m.layout) used h.rows).0

@@ -12,7 +12,7 @@ use Rattle.bus_core.proofs.Situated.{own_is}
 use Rattle.bus_core.specs.Reusing.Keeping.{held_of}
 use Rattle.bus_core.specs.Senders.{Sender, Does, log_start, situation}
 use Rattle.bus_core.specs.Table.{line, line_now}
-use Rattle.bus_machine.proofs.Cyclic.LastTakers.{takers_one}
+use Rattle.bus_machine.proofs.Taking.{takers_one}
 use Rattle.bus_deliverylog.specs.Orders.{of_sender}
 use Rattle.bus_register.specs.Protocol.{Protocol}
 use Rattle.bus_register.specs.Tables.{of_some}

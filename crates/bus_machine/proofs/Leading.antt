@@ -1,8 +1,7 @@
 -- What leads to a machine of sizes that are served, as each of the two kinds of rows has it.
-use Rattle.std.proofs.Common.{◌≡◌, ℕ, ◌≤◌, Some, [], sym, ◌∙◌, ap, subst}
-use Rattle.bus_machine.proofs.Cyclic.CyclicLaws.{leads_on}
-use Rattle.bus_machine.proofs.Cyclic.LastTakers.{none_took}
-use Rattle.bus_machine.specs.Proved.Cyclic.{OwnedCyclicMachine, LeadTo, AreLastTakers}
+use Rattle.std.proofs.Common.{◌≡◌, ℕ, ◌≤◌, Some, sym, ◌∙◌, ap, subst}
+use Rattle.bus_machine.specs.Proved.Cyclic.{OwnedCyclicMachine}
+use Rattle.bus_world.specs.CyclicMachines.{CyclicReached}
 use Rattle.bus_register.specs.Protocol.{Protocol}
 use Rattle.bus_tenure.specs.Core.{Election}
 use Rattle.bus_world.proofs.Serving.{Serves}
@@ -39,21 +38,21 @@ module _ {E : Type 0} (X : Election E) (P : Protocol E (Unit {0}) ℕ) where
     pub ring_two : 2 ≤ z.ring.rows
     ring_two = subst HasRows (ap (λ (y : Machine E). y.reuse) is) s.rows
 
-  -- with who took the last pages
+  -- the trails lead to it
   pub record IsLedCyclic (m : Machine E) (T : Trails) : Type 0 where
     pub bus : OwnedCyclicMachine E
     pub is : m ≡ of_cyclic bus
     pub sized : AreSized bus.ring
-    pub leads : LeadTo X bus (ring_trails T)
+    pub leads : CyclicReached X bus.ring (ring_trails T)
 
   pub led_ring : (m : Machine E) (T : Trails) → Sits m → Reached X m T → (rows : ℕ) → m.reuse ≡ Some rows → IsLedCyclic m T
-  led_ring m T s (Start w new) rows e =
-      let i = new_ring X w new rows e in
-      let none : [] ≡ i.bus.owners = sym new.owners ∙ ap (λ (y : Machine E). y.owners) i.is in
-      record { bus = i.bus; is = i.is; sized = i.sized; leads = record { reached = i.reached; owners = subst (λ o. AreLastTakers i.bus.ring.rows o (λ q. [])) none (none_took i.bus.ring.rows) } }
+  led_ring m T s (Start w new) rows e = let i = new_ring X w new rows e in record { bus = i.bus; is = i.is; sized = i.sized; leads = i.reached }
   led_ring m T s (Next w v U f a before h) rows e =
-      let t = sits_before w v f a h s in
-      let i = led_ring w U t before rows (sym (event_reuse X w v f a h).1 ∙ e) in
+      let i = led_ring w U (sits_before w v f a h s) before rows (sym (event_reuse X w v f a h).1 ∙ e) in
       let k = happens_at_some X i.bus f a v i.sized (subst (λ y. Happens X y f a v) i.is h) in
-      let l = leads_on X P i.bus (ring_serves w t i.bus i.is) (ring_ok w t i.bus i.is) (ring_two w t i.bus i.is) (ring_trails U) i.leads f a k.bus k.steps in
-      record { bus = k.bus; is = k.is; sized = k.sized; leads = subst (λ y. LeadTo X k.bus (ring_trails (trails_grown X y f a U))) (sym i.is) (subst (LeadTo X k.bus) (k.trails U) l) }
+      record {
+        bus = k.bus;
+        is = k.is;
+        sized = k.sized;
+        leads = subst (λ y. CyclicReached X k.bus.ring (ring_trails (trails_grown X y f a U))) (sym i.is) (k.reached U i.leads);
+      }

@@ -7,6 +7,7 @@ pub mod Leading
 pub mod Paging
 pub mod Framed
 pub mod Clearing
+pub mod Taking
 pub mod Knowing
 pub mod Joining
 pub mod Bounding

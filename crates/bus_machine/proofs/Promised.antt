@@ -8,6 +8,7 @@ use Rattle.bus_machine.proofs.Knowing.{knows, out, past, owns, counts}
 use Rattle.bus_machine.proofs.Leading.{Sits}
 use Rattle.bus_machine.proofs.Paging.{paged_it, takes_it, holds_it}
 use Rattle.bus_machine.proofs.Remembering.{remembered}
+use Rattle.bus_machine.proofs.Taking.{takers_told}
 use Rattle.bus_machine.specs.Machine.{Machine, Trails, Reached, log_of}
 use Rattle.bus_machine.specs.Promise.{IsPromised, TakersTold}
 
@@ -26,8 +27,8 @@ module _ {E : Type 0} (X : Election E) (P : Protocol E (Unit {0}) ℕ) (m : Mach
   }
 
   -- who took the pages
-  takers_told : TakersTold m.reuse m.owners T.actions
-  takers_told = record { all = f.owners; takers = f.takers; told = f.told }
+  told : TakersTold m.reuse m.owners T.actions
+  told = takers_told X P m T s r
 
   pub promised : IsPromised X m T
   promised = record {
@@ -35,15 +36,15 @@ module _ {E : Type 0} (X : Election E) (P : Protocol E (Unit {0}) ℕ) (m : Mach
     owners = map tenure_and_owner f.frames;
     by = record {
       spelled = spelled;
-      takers = takers_told;
+      takers = told;
       promises = f.promises;
       paged = paged_it X P m T s f;
       finds = takes_it X P m T s f;
       holds = holds_it X P m T s f;
-      owns = owns X P m T f takers_told;
-      counts = counts X P m T f takers_told;
+      owns = owns X P m T f told;
+      counts = counts X P m T f told;
       knows = knows X P m T f (order_of f.frames) (map tenure_and_owner f.frames) spelled;
-      out = out X P m T f takers_told;
+      out = out X P m T f told;
       past = λ p v t page stored word o at. past X P m T f p v at t page stored word o;
       sent = f.puts;
       remembers = remembered X P m T s r;

@@ -34,15 +34,14 @@ use Rattle.bus_world.specs.Headline.{order_given}
 use Rattle.bus_world.specs.Log.{words_read_from}
 use Rattle.bus_world.specs.CyclicMachines.{CyclicMachine, CyclicTrails, yard_of, core_in}
 use Rattle.bus_world.specs.Tenures.Standing.{Runs}
-use Rattle.bus_world.specs.Trails.{Takers}
 use Rattle.bus_world.specs.World.{given_at}
-use Rattle.bus_world.specs.CyclicProtocols.{CyclicProtocol, IsKeptProtocol}
+use Rattle.bus_world.specs.CyclicProtocols.{CyclicProtocol}
 use Rattle.bus_world.proofs.Accepting as accepting
 use Rattle.bus_world.proofs.LogLaws.{length-read}
 use Rattle.bus_world.proofs.CyclicMachineLaws.{IsCyclicLayout, IsLed, same_register}
 use Rattle.bus_world.proofs.TenuresLaws as tenures
 use Rattle.bus_world.proofs.CyclicProtocolHears.{HearsCyclic}
-use Rattle.bus_world.proofs.CyclicProtocolLaws.{HasKept, led_kept, words_read, yard_promised}
+use Rattle.bus_world.proofs.CyclicProtocolLaws.{HasKept, led_kept, words_read}
 
 -- ---- steps that add nothing
 pin_fits : (v : Pin) (word stage n : ℕ) (o : Op) → step_at v word stage ≡ Some o → SumFits o n
@@ -80,9 +79,6 @@ module _ {E : Type 0} (X : Election E) (P : Protocol E (Unit {0}) ℕ) (laws : L
   k : HasKept X P laws b.layout x.ok x.width x.starts owner_is named announces apart b.rows x.two T.heard y T.pins T.actions
   k = led_kept X P laws b.layout x.ok x.width x.starts owner_is named announces apart b.rows x.two T.heard y T.pins T.actions h.leads.led
 
-  promised : IsKeptProtocol X b.layout b.rows y T.pins T.actions T.heard
-  promised = yard_promised X P laws b.layout x.ok x.width x.starts owner_is named announces apart b.rows x.two y T.pins T.actions T.heard h.leads.led
-
   -- ---- the words
   pub words_are : length b.words ≡ log_from b.layout b.rows + b.layout.capacity
   words_are = h.is.words
@@ -99,9 +95,6 @@ module _ {E : Type 0} (X : Election E) (P : Protocol E (Unit {0}) ℕ) (laws : L
 
   pub frames_there : (frames : List Frame) × AreFrames b.layout.senders frames × (words_read_from (slice_index b.words) (log_from b.layout b.rows) (slice_index b.words 0) ≡ log_words frames)
   frames_there = (k.frames, k.kept.sending.log.lawful, log_read)
-
-  pub takers_are : Takers h.leads.owners T.actions
-  takers_are = promised.by.takers
 
   -- ---- a sender
   module _ (s : ℕ) (v : Participant E) (at : slice_get b.participants s ≡ Some v) where

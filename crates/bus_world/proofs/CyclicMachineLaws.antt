@@ -39,7 +39,7 @@ use Rattle.bus_tenure.specs.declared.turns.Turn.TheVariants as turn
 use Rattle.bus_world.specs.Headline.{Action, HasPut, HasMarked}
 use Rattle.bus_world.specs.CyclicMachines.{CyclicMachine, yard_of, pin_in, core_in, Leads, IsCyclic, IsNewCyclic, IsOnWord, CyclicTrails, CyclicReached, NewCyclic, TurnTaken, PutTaken, MarkTaken, RecvTaken, StopTaken, participant_going, with_participant, participant_put, participant_marked, move_due, participant_moved, ring_after, ring_trails, ring_reclaims, ring_actions}
 use Rattle.bus_world.specs.Tenures.Standing.{Holds}
-use Rattle.bus_world.specs.Turning.{words_after, number_found, core_moved, after_step, home_after, owners_after}
+use Rattle.bus_world.specs.Turning.{words_after, number_found, core_moved, after_step, home_after}
 use Rattle.bus_world.specs.CyclicProtocols.{CyclicProtocol, Led, NewProtocol, Turned, PutIn, MarkedIn, Heard, AnswersDue, due_in, due_actions, actions_with, no_actions, no_answers, answers_with, trails_with, yard_after, words_stepped, word_found}
 use Rattle.bus_world.specs.World.{RecvDoes, is_set, is_open, can_put, can_close, new_core}
 use Rattle.bus_world.proofs.Beginning.{zeros}
@@ -127,12 +127,6 @@ due_reclaims {E} None s z t o e = by_home (reclaim_due z s) refl e
     by_home : (d : Option Reclaiming) → reclaim_due z s ≡ d → due_home d z ≡ Reclaims t o → IsReclaiming z s t
     by_home None is e = absurd cc
     by_home (Some r) is e = by_step r is (reclaim_op r) e
-
--- who took the pages, after the turn that was due
-abbrev pub owners_due : {E : Type 0} → Election E → Participant E → ℕ → Due E → List ℕ → List ℕ
-owners_due X v s (Pins o) owners = owners
-owners_due X v s (Reclaims r o) owners = owners
-owners_due X v s (Goes z) owners = owners_after X v.core z s owners
 
 -- ---- a turn of sender s, which holds v
 module _ {E : Type 0} (X : Election E) (P : Protocol E (Unit {0}) ℕ) (laws : Laws X.op X.fed P OneOwner) (b : CyclicMachine E) (ok : IsLayout b.layout) (width : b.layout.width ≡ P.width b.layout.senders)
@@ -361,21 +355,6 @@ module _ {E : Type 0} (X : Election E) (P : Protocol E (Unit {0}) ℕ) (laws : L
     goes_lead (GivesBack t page reason) here e = goes_as (GivesBack t page reason) here e (λ r f. refl) (nobody_else t (gives_held t page reason here) None)
     goes_lead (HasHanded t reason) here e = absurd (subst (Fits (slice_index b.bases) k.V k.frames v.core) (tells X v.core (HasHanded t reason) here) part.fits)
 
-    goes_owners : (z : Situation E) (here : situation_of X v.core ≡ z) (e : due X v ≡ Goes z) (low : (o : Op) → op_due X v (Goes z) word ≡ Some o → register o < length b.words)
-        (told : answer ≡ answer_going X v.core z (number_found (slice_index b.words) (op_due X v (Goes z) word)) word) → (goes_lead z here e low told).owners ≡ owners_after X v.core z s l.owners
-    unfolding goes_lead goes_as
-    goes_owners IsClosed here e low told = refl
-    goes_owners IsIdle here e low told = refl
-    goes_owners IsSpent here e low told = refl
-    goes_owners LooksAtStage here e low told = refl
-    goes_owners (Elects t g) here e low told = refl
-    goes_owners (TakesPage t) here e low told = refl
-    goes_owners (AwaitsPage t) here e low told = absurd (subst (Fits (slice_index b.bases) k.V k.frames v.core) (tells X v.core (AwaitsPage t) here) part.fits)
-    goes_owners (StoresWord t page stored) here e low told = refl
-    goes_owners (StoresLength t page stored) here e low told = refl
-    goes_owners (GivesBack t page reason) here e low told = refl
-    goes_owners (HasHanded t reason) here e low told = absurd (subst (Fits (slice_index b.bases) k.V k.frames v.core) (tells X v.core (HasHanded t reason) here) part.fits)
-
 -- ---- who goes on as a sender is in its situation
 pub due_goes : {E : Type 0} (v : Option Op) (s : Option Reclaiming) (z w : Situation E) → due_beside v s z ≡ Goes w → z ≡ w
 due_goes (Some p) s z w e = absurd cc
@@ -515,13 +494,6 @@ module _ {E : Type 0} (X : Election E) (P : Protocol E (Unit {0}) ℕ) (laws : L
       by_due (Reclaims r o) e low told = reclaims_lead X P laws b x.ok x.width x.starts owner_is named announces apart x.two h.is T.pins T.actions T.heard h.leads s v at word answer r o e low
       by_due (Goes z) e low told = goes_lead X P laws b x.ok x.width x.starts owner_is named announces apart x.two h.is T.pins T.actions T.heard h.leads s v at word answer z
           (due_goes _ v.reclaimer (situation_of X v.core) z e) e (on_word (op_due X v (Goes z) word) low) told
-
-    pub turn_owners : (s : ℕ) (v : Participant E) (word : ℕ) (answer : Answered) (at : slice_get b.participants s ≡ Some v) (d : Due E) (e : due X v ≡ d) (low : IsOnWord b (op_due X v d word)) (told : answer ≡ answer_due X v d (number_found (slice_index b.words) (op_due X v d word)) word)
-        → (turn_led s v word answer at d e low told).leads.owners ≡ owners_due X v s d h.leads.owners
-    unfolding turn_led pins_lead reclaims_lead
-    turn_owners s v word answer at (Pins o) e low told = refl
-    turn_owners s v word answer at (Reclaims r o) e low told = refl
-    turn_owners s v word answer at (Goes z) e low told = goes_owners X P laws b x.ok x.width x.starts owner_is named announces apart x.two h.is T.pins T.actions T.heard h.leads s v at word answer z (due_goes _ v.reclaimer (situation_of X v.core) z e) e _ told
 
     abbrev here : CyclicProtocol E
     here = yard_of b h.leads.reclaimer h.leads.owners

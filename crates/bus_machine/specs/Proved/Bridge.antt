@@ -9,7 +9,6 @@ use Rattle.bus_world.specs.Trails.{Trails as PlainTrails, Reached as PlainReache
 use Rattle.bus_world.specs.World.{Bus, Event, IsEvent, Happens as PlainHappens}
 use Rattle.bus_world.specs.declared.events.Answer.{Answer}
 use Rattle.bus_machine.specs.Proved.Cyclic.{OwnedCyclicMachine}
-use Rattle.bus_machine.specs.Proved.Following.{Steps, ring_trails_grown}
 use Rattle.bus_machine.specs.Machine.{Machine, Happens, Trails, trails_grown}
 
 -- the bus with a row for each tenure, of a sitting that began with these numbers
@@ -46,14 +45,12 @@ HappensAtNone {E} X = (bases : List ℕ) (x : Layout) (b : Bus E) (e : Event) (a
 abbrev pub AreSized : {E : Type 0} → CyclicMachine E → Type 0
 AreSized {E} b = (p : ℕ) (v : Participant E) → slice_get b.participants p ≡ Some v → (v.core.layout ≡ b.layout) × (v.rows ≡ b.rows)
 
--- and so with rows that are used again
+-- and so with rows that are used again: what led to the bus leads to it with what the event adds
 pub record IsCyclicEvent {E : Type 0} (X : Election E) (z : OwnedCyclicMachine E) (e : Event) (a : Answer) (m : Machine E) : Type 0 where
   pub bus : OwnedCyclicMachine E
   pub is : m ≡ of_cyclic bus
   pub sized : AreSized bus.ring
-  pub steps : Steps X z e a bus
-  pub trails : (T : Trails) → ring_trails_grown X z.ring e a (ring_trails T) ≡ ring_trails (trails_grown X (of_cyclic z) e a T)
-  pub reached : (T : CyclicTrails) → CyclicReached X z.ring T → CyclicReached X bus.ring (ring_trails_grown X z.ring e a T)
+  pub reached : (T : Trails) → CyclicReached X z.ring (ring_trails T) → CyclicReached X bus.ring (ring_trails (trails_grown X (of_cyclic z) e a T))
 
 abbrev pub HappensAtSome : {E : Type 0} → Election E → Type 0
 HappensAtSome {E} X = (z : OwnedCyclicMachine E) (e : Event) (a : Answer) (m : Machine E) → AreSized z.ring → Happens X (of_cyclic z) e a m → IsCyclicEvent X z e a m
