@@ -28,6 +28,7 @@ module _ {E : Type 0} (X : Election E) (P : Protocol E (Unit {0}) ℕ) (m m' : M
         (subst (ReusesSafely X m T) used (reuses X P m T s r)) t gone e a m' h q
 
 module _ {E : Type 0} (X : Election E) (P : Protocol E (Unit {0}) ℕ) (m : Machine E) (T₀ : Trails) (s : Sits X P m) (r₀ : Reached X m T₀) where
+  -- the new machine follows the old one
   pub follows : (m' : Machine E) (e : Event) (a : Answer) → Happens X m e a m' → Follows X m e a m'
   follows m' e a h = record {
     joins = joins X P m m' T₀ e a s r₀ h;
@@ -40,5 +41,6 @@ module _ {E : Type 0} (X : Election E) (P : Protocol E (Unit {0}) ℕ) (m : Mach
     stays = λ T r t q gone. stays X P m m' T e a s r h t q gone;
   }
 
+  -- what is answered is so
   pub tells : (m' : Machine E) (e : Event) (a : Answer) → Happens X m e a m' → Tells X m e a
   tells m' e a h = λ T r. told X P m m' T e a s r h

@@ -32,7 +32,8 @@ use Rattle.bus_machine.specs.Promise.{ReusesRows, actions_in, is_in}
 -- ---- actions
 module _ (t : ℕ) where
   -- what joins the actions is no step in this tenure
-  beside_stays : (s : ℕ) (ds : List Action) (D : ℕ → List Action) → actions_in t ds ≡ [] → (q : ℕ) → actions_in t (actions_with s ds D q) ≡ actions_in t (D q)
+  beside_stays : (s : ℕ) (ds : List Action) (D : ℕ → List Action) → actions_in t ds ≡ [] → (q : ℕ)
+      → actions_in t (actions_with s ds D q) ≡ actions_in t (D q)
   beside_stays s ds D none q =
       filter-append (is_in t) (D q) (cond (q == s) ds []) ∙ ap (λ rest. actions_in t (D q) ++ rest) (by_test (q == s)) ∙ append-nil (actions_in t (D q))
     where
@@ -41,7 +42,8 @@ module _ (t : ℕ) where
       by_test false = refl
 
   -- a step in a later tenure
-  later_step : (k : Option Kind) (u : ℕ) (got : ℕ) (chose : Option ℕ) (told : Answered) → t < u → actions_in t (step_action k (Some u) got chose told) ≡ []
+  later_step : (k : Option Kind) (u : ℕ) (got : ℕ) (chose : Option ℕ) (told : Answered) → t < u
+      → actions_in t (step_action k (Some u) got chose told) ≡ []
   later_step None u got chose told later = refl
   later_step (Some k) u got chose told later = elim (eqb_tells u t) [
     | inl same ↦ absurd (let e = same.1 in omega arith)
@@ -85,6 +87,7 @@ module _ {E : Type 0} (X : Election E) (P : Protocol E (Unit {0}) ℕ) (m : Mach
         ap (λ y. actions_in t (step_action (line X v z).kind y got ((line X v z).chosen got word) told)) is
         ∙ later_step t (line X v z).kind n got ((line X v z).chosen got word) told later
 
+    -- whatever the turn is
     added_stays : (z : Situation E) → situation X v ≡ z → actions_in t (added z (line X v z) got word told) ≡ []
     added_stays (Does IsClosed) i = refl
     added_stays (Does IsIdle) i = refl

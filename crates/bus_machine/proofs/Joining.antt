@@ -66,6 +66,7 @@ reused (Some r) y w i other = (r, refl)
 some_words : (x : ℕ) (xs : List ℕ) → 0 < length (x ∷ xs)
 some_words x xs = omega arith
 
+-- so has each frame
 frame_some : (f : Frame) → 0 < length (frame_words f)
 frame_some f = some_words (head_word f.owner.0 (length (body_words f.body)) f.tenure) (body_words f.body)
 
@@ -94,6 +95,7 @@ module _ {E : Type 0} (X : Election E) (P : Protocol E (Unit {0}) ℕ) (m m' : M
   abbrev length_now : ℕ
   length_now = slice_index m.words 0
 
+  -- the sender is there
   at : slice_get m.senders s ≡ Some v
   at = there_shown (has_stopped m s) (slice_get m.senders s) v h.goes
 
@@ -105,6 +107,7 @@ module _ {E : Type 0} (X : Election E) (P : Protocol E (Unit {0}) ℕ) (m m' : M
     joins : Now (line X v z) ≡ log_of m ++ words_of_frame (line X v z).publishes
     rises : stage_of m ≤ stage_of (machine_after m s (line X v z) word)
 
+  -- its step is on a word
   on_word : (z : Situation E) → situation X v ≡ z → IsOnWord m ((line X v z).op word)
   on_word z i = subst (λ y. IsOnWord m ((line X v y).op word)) i h.within
 
@@ -125,7 +128,8 @@ module _ {E : Type 0} (X : Election E) (P : Protocol E (Unit {0}) ℕ) (m m' : M
   idles z none due = quiet z none m.words (ap (words_after m.words) due) (λ q here. refl) (omega arith)
 
   -- with a load
-  loads : (z : Situation E) (r : ℕ) → situation X v ≡ z → (line X v z).publishes ≡ None → (line X v z).op word ≡ Some (Load record { 0 = r })
+  loads : (z : Situation E) (r : ℕ) → situation X v ≡ z → (line X v z).publishes ≡ None
+      → (line X v z).op word ≡ Some (Load record { 0 = r })
       → Turned z
   loads z r i none due =
       let low : r < length m.words = subst (IsOnWord m) due (on_word z i) in
@@ -146,7 +150,8 @@ module _ {E : Type 0} (X : Election E) (P : Protocol E (Unit {0}) ℕ) (m m' : M
       omega arith)
 
   -- with a store of the stage
-  stages : (z : Situation E) (n : ℕ) → situation X v ≡ z → (line X v z).publishes ≡ None → (line X v z).op word ≡ Some (Store record { 0 = stage_at } n)
+  stages : (z : Situation E) (n : ℕ) → situation X v ≡ z → (line X v z).publishes ≡ None
+      → (line X v z).op word ≡ Some (Store record { 0 = stage_at } n)
       → stage_of m ≤ n → Turned z
   stages z n i none due up =
       let behind = log_behind m.layout m.reuse in
@@ -163,16 +168,20 @@ module _ {E : Type 0} (X : Election E) (P : Protocol E (Unit {0}) ℕ) (m m' : M
     abbrev frame : Frame
     frame = frame_of v.core.queue t
 
+    -- it holds the page
     held : (published : Bool) × (v.core.phase ≡ phase.Holding t page stored published)
     held = tells X v.core (StoresLength t page stored) own
 
+    -- and has stored all words
     tests : (held.0 ≡ false) × (nat_lt stored (frame_len v.core) ≡ false)
     tests = length_tests held.0 page.ended (has_room v.core page) (nat_lt stored (frame_len v.core)) t t stored stored page page
         (sym (ap (situation_at X v.core) held.1) ∙ own)
 
+    -- they stand past the length
     writing : IsWriting (base_of m) f.V f.frames v.core t page stored
     writing = writes X P m T f s v at t page stored (held.1 ∙ ap (phase.Holding t page stored) tests.0)
 
+    -- as many as its frame has
     all_stored : stored ≡ frame_len v.core
     all_stored = let below = writing.stored_below in let past = ltb-false stored (frame_len v.core) tests.1 in omega arith
 
@@ -183,6 +192,7 @@ module _ {E : Type 0} (X : Election E) (P : Protocol E (Unit {0}) ℕ) (m m' : M
         ∙ ap (words_read_from f.V (log_at v.core.layout + f.V 0)) (sym all_stored) ∙ writing.words_are
         ∙ ap (λ z. take z (frame_words frame)) all_stored ∙ take-length (frame_words frame)
 
+    -- there is room for them
     room : f.V 0 + length (frame_words frame) ≤ m.layout.capacity
     room =
         let some : 0 < length (frame_words frame) = frame_some frame in
@@ -192,6 +202,7 @@ module _ {E : Type 0} (X : Election E) (P : Protocol E (Unit {0}) ℕ) (m m' : M
         let same = ap (λ (z : Layout). z.capacity) (its_part X P m T f s v at).layout in
         omega arith
 
+    -- they stand in the log of the machine
     stored_alike : (j : ℕ) → j < length (frame_words frame) → slice_index m.words (from + length_now + j) ≡ f.V
         (log_at m.layout + f.V 0 + j)
     stored_alike j low =
@@ -203,9 +214,11 @@ module _ {E : Type 0} (X : Election E) (P : Protocol E (Unit {0}) ℕ) (m m' : M
     abbrev raised : ℕ
     raised = page.words + frame_len v.core
 
+    -- the length is raised by as many
     raised_is : raised ≡ length_now + length (frame_words frame)
     raised_is = ap (λ n. n + frame_len v.core) (writing.page_knows.words ∙ sym f.length)
 
+    -- the frame joins the log
     publishes : Turned (Does (StoresLength t page stored))
     publishes =
         let low = on_word (Does (StoresLength t page stored)) i in
@@ -226,17 +239,21 @@ module _ {E : Type 0} (X : Election E) (P : Protocol E (Unit {0}) ℕ) (m m' : M
     same_rows : Some r.rows ≡ m.reuse
     same_rows = sym (ap rows_in again) ∙ f.rows s v at
 
+    -- they are used again as is promised
     its : ReusesRows X m T r.rows
     its = subst (ReusesSafely X m T) (sym same_rows) u
 
+    -- there are two or more
     two : 2 ≤ r.rows
     two = subst HasRows (sym same_rows) sits.rows
 
+    -- the log begins behind them
     from_is : from ≡ log_from m.layout r.rows
     from_is = ap (log_place m.layout) (sym same_rows)
 
     -- a word of a row lies before the log
-    row_before : (t n : ℕ) → row_of (sizes_with m.layout r.rows) t ≤ n → n < row_of (sizes_with m.layout r.rows) t + m.layout.width → n < from
+    row_before : (t n : ℕ) → row_of (sizes_with m.layout r.rows) t ≤ n → n < row_of (sizes_with m.layout r.rows) t + m.layout.width
+        → n < from
     row_before t n low high = elim (cases_lt n from) [
       | inl before ↦ before
       | inr past ↦
@@ -244,11 +261,13 @@ module _ {E : Type 0} (X : Election E) (P : Protocol E (Unit {0}) ℕ) (m m' : M
           (inr (let place = from_is in omega arith)) (omega arith))
     ]
 
+    -- and behind its presence
     presence_before : presence_of v.core < from
     presence_before =
         let its = its_part X P m T f s v at in
         let me = its.me in let low = its.below in let place = from_is in omega arith
 
+    -- it clears a word of a row
     clears : (q : Reclaiming) → situation X v ≡ Clears q → Turned (Clears q)
     clears q i =
         let c = clearing X v q i in
@@ -264,6 +283,7 @@ module _ {E : Type 0} (X : Election E) (P : Protocol E (Unit {0}) ℕ) (m m' : M
     runs : v.core.phase ≡ phase.Electing t e
     runs = (tells X v.core (Elects t e) (own_is X v (Elects t e) i)).0
 
+    -- with a step or without
     by_op : (d : Option Op) → (line X v (Does (Elects t e))).op word ≡ d → Turned (Does (Elects t e))
     by_op None due = idles (Does (Elects t e)) refl due
     by_op (Some o) due = by_reuse v.reuse refl where
@@ -293,6 +313,7 @@ module _ {E : Type 0} (X : Election E) (P : Protocol E (Unit {0}) ℕ) (m m' : M
       let r = reused v.reuse (situation_of X v.core) z i other in
       beside z (Store record { 0 = presence_of v.core } n) none due (omega arith) (inl (presence_before r.0 r.1))
 
+  -- whatever the turn is
   by_turn : (z : Situation E) → situation X v ≡ z → Turned z
   by_turn (Does IsClosed) i = idles (Does IsClosed) refl refl
   by_turn (Does IsIdle) i = idles (Does IsIdle) refl refl
@@ -322,6 +343,7 @@ module _ {E : Type 0} (X : Election E) (P : Protocol E (Unit {0}) ℕ) (m m' : M
   by_turn (Scans q) i = loads (Scans q) (q.presences + q.scanned) i refl refl
   by_turn (Clears q) i = let r = reused v.reuse (situation_of X v.core) (Clears q) i (λ y e. cc) in clears r.0 r.1 q i
 
+  -- so of the turn that it takes
   turned : (log_of m' ≡ log_of m ++ words_joined X m (Turn s word)) × (stage_of m ≤ stage_of m')
   turned =
       let w = by_turn (situation X v) refl in (

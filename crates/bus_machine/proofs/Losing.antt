@@ -31,18 +31,22 @@ use Rattle.bus_machine.specs.Promise.{pin_of}
 use Rattle.bus_machine.specs.Telling.{HasSeenLoss, LossesAreSeen}
 
 -- ---- what is remembered after a step was remembered before
-looked_lost : {E : Type 0} (X : Election E) (c : Core E) (q : Option Reuse) (got : ℕ) (o : SenderNo) → lost_of (seen X c q got).reuse ≡ Some o → lost_of q ≡ Some o
+looked_lost : {E : Type 0} (X : Election E) (c : Core E) (q : Option Reuse) (got : ℕ) (o : SenderNo)
+    → lost_of (seen X c q got).reuse ≡ Some o → lost_of q ≡ Some o
 looked_lost X c None got o lost = lost
 looked_lost X c (Some q) got o lost = lost
 
+-- with the page
 taken_lost : (x : Layout) (q : Option Reuse) (t : ℕ) (o : SenderNo) → lost_of (reuse_taken x q t) ≡ Some o → lost_of q ≡ Some o
 taken_lost x None t o lost = lost
 taken_lost x (Some q) t o lost = lost
 
+-- without it
 given_lost : (q : Option Reuse) (o : SenderNo) → lost_of (reuse_given q) ≡ Some o → lost_of q ≡ Some o
 given_lost None o lost = lost
 given_lost (Some q) o lost = lost
 
+-- with a row that is cleared
 reclaiming_lost : (q : Option Reuse) (r : Reclaiming) (o : SenderNo) → lost_of (reuse_reclaiming q r) ≡ Some o → lost_of q ≡ Some o
 reclaiming_lost None r o lost = lost
 reclaiming_lost (Some q) r o lost = lost
@@ -67,6 +71,7 @@ module _ {E : Type 0} (X : Election E) (m m' : Machine E) (T : Trails) (e : Even
   abbrev T' : Trails
   T' = trails_grown X m e a T
 
+  -- a loss that was seen is seen
   still : (pin : Pin) (s : ℕ) (o : SenderNo) → HasSeenLoss pin s o (T.actions s) → HasSeenLoss pin s o (T'.actions s)
   still pin s o h = record {
     tenure = h.tenure;
@@ -102,6 +107,7 @@ module _ {E : Type 0} (X : Election E) (P : Protocol E (Unit {0}) ℕ) (m m' : M
   abbrev U : Trails
   U = trails_grown X m (Turn s word) a T
 
+  -- the sender is there
   at : slice_get m.senders s ≡ Some v
   at = there_shown (has_stopped m s) (slice_get m.senders s) v h.goes
 
@@ -137,6 +143,7 @@ module _ {E : Type 0} (X : Election E) (P : Protocol E (Unit {0}) ℕ) (m m' : M
       other = λ same. how.1 (same ∙ sym (its_part X P m T (framed X P m T sits r) s v at).me);
     }
 
+  -- whatever the turn is
   by_turn : (z : Situation E) → situation X v ≡ z → Seen ((line X v z).fed (got z) word).reuse
   by_turn (Does IsClosed) i = kept (Does IsClosed) i (λ t e. cc) v.reuse (λ o lost. lost)
   by_turn (Does IsIdle) i = kept (Does IsIdle) i (λ t e. cc) v.reuse (λ o lost. lost)
@@ -156,6 +163,7 @@ module _ {E : Type 0} (X : Election E) (P : Protocol E (Unit {0}) ℕ) (m m' : M
   by_turn (Scans q) i = kept (Scans q) i (λ u e. cc) (reuse_reclaiming v.reuse (reclaim_fed q (got (Scans q)))) (reclaiming_lost v.reuse (reclaim_fed q (got (Scans q))))
   by_turn (Clears q) i = kept (Clears q) i (λ u e. cc) (reuse_reclaiming v.reuse (reclaim_fed q (got (Clears q)))) (reclaiming_lost v.reuse (reclaim_fed q (got (Clears q))))
 
+  -- after it
   turn_losses : LossesAreSeen m' U.actions
   turn_losses =
       let y = line_now X v in
@@ -178,10 +186,12 @@ module _ {E : Type 0} (X : Election E) (P : Protocol E (Unit {0}) ℕ) where
   event_losses m m' T (Recv q) a sits r h l = none_other X m m' T (Recv q) a l (ap (λ (y : Machine E). y.senders) h.after)
   event_losses m m' T (Stop s) a sits r h l = none_other X m m' T (Stop s) a l (ap (λ (y : Machine E). y.senders) h.after)
 
+  -- nobody has lost a tenure at the start
   new_losses : (m : Machine E) → IsNew m → LossesAreSeen m (λ q. [])
   new_losses m new s w o at lost =
       absurd (new_lost m.reuse o (ap (λ (y : Sender E). lost_of y.reuse) (sym (new.senders s w at).1) ∙ lost))
 
+  -- whatever leads to a machine
   pub losses : (m : Machine E) (T : Trails) → Sits X P m → Reached X m T → LossesAreSeen m T.actions
   losses m T sits (Start n new) = new_losses n new
   losses m T sits (Next n m' B e a before h) =

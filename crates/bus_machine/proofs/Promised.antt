@@ -30,6 +30,7 @@ module _ {E : Type 0} (X : Election E) (P : Protocol E (Unit {0}) ℕ) (m : Mach
   told : TakersTold m.reuse m.owners T.actions
   told = takers_told X P m T s r
 
+  -- the promise
   pub promised : IsPromised X m T
   promised = record {
     order = order_of f.frames;

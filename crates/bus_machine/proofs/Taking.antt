@@ -57,6 +57,7 @@ drop_more zero m l = ap (λ k. drop k l) (let e : m ≡ zero + m = omega arith i
 drop_more (suc k) m [] = drop-nil m ∙ sym (drop-nil (suc k + m))
 drop_more (suc k) m (x ∷ l) = drop_more k m l ∙ ap (λ j. drop j (x ∷ l)) (let e : suc (k + m) ≡ suc k + m = omega arith in e)
 
+-- the last of the last and more are the last of all and more
 last_last : (r : ℕ) (xs ys : List ℕ) → last_of r (last_of r xs ++ ys) ≡ last_of r (xs ++ ys)
 last_last r xs ys = elim (cases_lt (length xs) r) [
   | inl few ↦ let none : length xs - r ≡ 0 = omega arith in ap (λ k. last_of r (drop k xs ++ ys)) none
@@ -72,6 +73,7 @@ last_last r xs ys = elim (cases_lt (length xs) r) [
       ∙ ap (λ j. drop j (xs ++ ys)) more
 ]
 
+-- the last of the last are the last
 last_again : (r : ℕ) (xs : List ℕ) → last_of r (last_of r xs) ≡ last_of r xs
 last_again r xs = ap (last_of r) (sym (append-nil (last_of r xs))) ∙ last_last r xs [] ∙ ap (last_of r) (append-nil xs)
 
@@ -86,18 +88,23 @@ told_more (Some r) false s all = last_again r all
 abbrev pub TakesNone : List Action → Type 0
 TakesNone ds = (t place : ℕ) → Took ds t place → ⊥
 
+-- none does
 pub nothing_takes : TakesNone []
 nothing_takes t place h = let bad = h.at in cc
 
+-- a put
 pub put_takes : (number : ℕ) (bytes : List ℕ) → TakesNone (HasPut number bytes ∷ [])
 put_takes number bytes t zero h = let bad = h.at in cc
 put_takes number bytes t (suc place) h = let bad = h.at in cc
 
+-- a mark
 mark_takes : (asked : Mark) → TakesNone (HasMarked asked ∷ [])
 mark_takes asked t zero h = let bad = h.at in cc
 mark_takes asked t (suc place) h = let bad = h.at in cc
 
-takers_beside : (all : List ℕ) (D : ℕ → List Action) (p : ℕ) (ds : List Action) → TakesNone ds → Takers all D → Takers all (actions_with p ds D)
+-- beside them all is as before
+takers_beside : (all : List ℕ) (D : ℕ → List Action) (p : ℕ) (ds : List Action) → TakesNone ds → Takers all D
+    → Takers all (actions_with p ds D)
 takers_beside all D p ds none h = record {
   took = λ t s at. let w = h.took t s at in (w.0, record { found = w.1.found; chose = w.1.chose; answer = w.1.answer; at = got_before (D s) (cond (s == p) ds []) w.0 _ w.1.at });
   only = λ t s place took. elim (got_split (D s) (cond (s == p) ds []) place _ took.at) [
@@ -120,10 +127,12 @@ module _ (all : List ℕ) (D : ℕ → List Action) (p t : ℕ) (here : t ≡ le
   its_action true n (suc place) w = absurd (let bad = w.at in cc)
   its_action false n place w = absurd (nothing_takes n place w)
 
+  -- its place is the last
   last_of_all : (n q j : ℕ) → n ≡ length all + j → slice_get (p ∷ []) j ≡ Some q → (n ≡ t) × (p ≡ q)
   last_of_all n q zero i at = (omega arith, same_Some _ _ at)
   last_of_all n q (suc j) i at = absurd (let bad = at in cc)
 
+  -- with it this sender is the last of all
   takers_push : Takers (all ++ p ∷ []) (actions_with p ds D)
   takers_push = record {
     took = λ n q at. elim (got_split all (p ∷ []) n q at) [
@@ -155,11 +164,13 @@ module _ (all : List ℕ) (D : ℕ → List Action) (p t : ℕ) (here : t ≡ le
   }
 
 -- ---- a turn of sender s
-step_takes : (k : Option Kind) (n : Option ℕ) (got : ℕ) (chose : Option ℕ) (told : Answered) → (k ≡ Some kind.TakePage → ⊥) → TakesNone (step_action k n got chose told)
+step_takes : (k : Option Kind) (n : Option ℕ) (got : ℕ) (chose : Option ℕ) (told : Answered) → (k ≡ Some kind.TakePage → ⊥)
+    → TakesNone (step_action k n got chose told)
 step_takes None n got chose told other t place w = nothing_takes t place w
 step_takes (Some k) n got chose told other t zero w = let at = w.at in other (let same : k ≡ kind.TakePage = cc in ap Some same)
 step_takes (Some k) n got chose told other t (suc place) w = let bad = w.at in cc
 
+-- what a put adds
 put_none : (bytes : List ℕ) (a : Answer) → TakesNone (put_actions bytes a)
 put_none bytes (answer.Number n) t place w = put_takes n bytes t place w
 put_none bytes answer.Closing t place w = nothing_takes t place w
@@ -168,6 +179,7 @@ put_none bytes (answer.Turn told) t place w = nothing_takes t place w
 put_none bytes (answer.Recv told) t place w = nothing_takes t place w
 put_none bytes answer.Stopped t place w = nothing_takes t place w
 
+-- what a mark adds
 mark_none : (a : Answer) → TakesNone (mark_actions a)
 mark_none (answer.Number n) t place w = nothing_takes t place w
 mark_none answer.Closing t place w = mark_takes End t place w
@@ -190,6 +202,7 @@ module _ {E : Type 0} (X : Election E) (P : Protocol E (Unit {0}) ℕ) (m : Mach
         | Held holder is away owners holds ↦ absurd (let same = f.stage in omega arith)
       ]
 
+  -- whatever the turn is
   taken : (z : Situation E) → situation X v ≡ z → Taken z
   taken (Does IsClosed) i = takers_beside all T.actions s [] nothing_takes h
   taken (Does IsIdle) i = takers_beside all T.actions s [] nothing_takes h
@@ -218,7 +231,8 @@ module _ {E : Type 0} (X : Election E) (P : Protocol E (Unit {0}) ℕ) (m : Mach
 -- ---- whatever leads to a machine
 module _ {E : Type 0} (X : Election E) (P : Protocol E (Unit {0}) ℕ) where
   -- who took pages before is told still
-  beside_told : (m m' : Machine E) (T T' : Trails) (s : ℕ) (ds : List Action) → m'.reuse ≡ m.reuse → m'.owners ≡ m.owners → T'.actions ≡ actions_with s ds T.actions
+  beside_told : (m m' : Machine E) (T T' : Trails) (s : ℕ) (ds : List Action) → m'.reuse ≡ m.reuse → m'.owners ≡ m.owners
+      → T'.actions ≡ actions_with s ds T.actions
       → TakesNone ds → TakersTold m.reuse m.owners T.actions → TakersTold m'.reuse m'.owners T'.actions
   beside_told m m' T T' s ds reuse owners did none k = record {
     all = k.all;
@@ -226,7 +240,9 @@ module _ {E : Type 0} (X : Election E) (P : Protocol E (Unit {0}) ℕ) where
     told = owners ∙ k.told ∙ ap (λ o. owners_told o k.all) (sym reuse);
   }
 
-  event_told : (m m' : Machine E) (T : Trails) (e : Event) (a : Answer) → Sits X P m → Reached X m T → Happens X m e a m' → TakersTold m.reuse m.owners T.actions
+  -- after an event
+  event_told : (m m' : Machine E) (T : Trails) (e : Event) (a : Answer) → Sits X P m → Reached X m T → Happens X m e a m'
+      → TakersTold m.reuse m.owners T.actions
       → TakersTold m'.reuse m'.owners (trails_grown X m e a T).actions
   event_told m m' T (Put s bytes) a sits r h k =
       beside_told m m' T (trails_grown X m (Put s bytes) a T) s (put_actions bytes a) (event_reuse X m m' (Put s bytes) a h).1 (ap (λ (y : Machine E). y.owners) h.after) refl (put_none bytes a) k
@@ -251,10 +267,12 @@ module _ {E : Type 0} (X : Election E) (P : Protocol E (Unit {0}) ℕ) where
   event_told m m' T (Recv q) a sits r h k = record { all = k.all; takers = k.takers; told = ap (λ (y : Machine E). y.owners) h.after ∙ k.told ∙ ap (λ o. owners_told o k.all) (sym (event_reuse X m m' (Recv q) a h).1) }
   event_told m m' T (Stop s) a sits r h k = record { all = k.all; takers = k.takers; told = ap (λ (y : Machine E). y.owners) h.after ∙ k.told ∙ ap (λ o. owners_told o k.all) (sym (event_reuse X m m' (Stop s) a h).1) }
 
+  -- of none none is told
   none_told : (o : Option ℕ) → owners_told o [] ≡ []
   none_told None = refl
   none_told (Some rows) = drop-nil (0 - rows)
 
+  -- at the start
   new_told : (m : Machine E) → IsNew m → TakersTold m.reuse m.owners (λ s. [])
   new_told m new = record {
     all = [];
@@ -262,6 +280,7 @@ module _ {E : Type 0} (X : Election E) (P : Protocol E (Unit {0}) ℕ) where
     told = new.owners ∙ sym (none_told m.reuse);
   }
 
+  -- whatever leads to a machine, its owners are those that took the last pages
   pub takers_told : (m : Machine E) (T : Trails) → Sits X P m → Reached X m T → TakersTold m.reuse m.owners T.actions
   takers_told m T sits (Start n new) = new_told n new
   takers_told m T sits (Next n m' U e a before h) =

@@ -79,18 +79,23 @@ module _ {E : Type 0} (X : Election E) (P : Protocol E (Unit {0}) ℕ) (m m' : M
   abbrev Told : Answered → Type 0
   Told t = TurnTells m s v (U.actions s) t
 
+  -- the sender is there
   at : slice_get m.senders s ≡ Some v
   at = there_shown (has_stopped m s) (slice_get m.senders s) v h.goes
 
+  -- by the frames of the log
   f : IsFramed P m T
   f = framed X P m T sits r
 
+  -- its part of them
   part : Part (base_of m) m.layout f.V f.frames s c
   part = f.sending.parts s c (f.core_of s v at)
 
+  -- what it goes by
   k : Remembers m s v (T.actions s)
   k = remembered X P m T sits r s v at
 
+  -- it has done more
   more : IsPrefix (T.actions s) (U.actions s)
   more = (grown_longer X m T (Turn s word) a).actions s
 
@@ -137,6 +142,7 @@ module _ {E : Type 0} (X : Election E) (P : Protocol E (Unit {0}) ℕ) (m m' : M
     its_words : log_words (front ++ frame_of c.queue t ∷ []) ≡ log_of m
     its_words = ap log_words (sym last) ∙ sym (log_framed P m T f)
 
+    -- it delivers its messages
     delivers : 0 < length c.queue.messages → HasDelivered m.layout.senders (log_of m) s t c.queue.first (next_of c.queue - 1)
     delivers some = record {
       earlier = front;
@@ -150,6 +156,7 @@ module _ {E : Type 0} (X : Election E) (P : Protocol E (Unit {0}) ℕ) (m m' : M
       many = (let size = length-items c.queue t part.queue in omega arith);
     }
 
+    -- or its leave mark
     leaves : c.queue.phase ≡ batch.Marking mark.Leave → HasLeft m.layout.senders (log_of m) s t
     leaves leaving = record {
       earlier = front;
@@ -182,6 +189,7 @@ module _ {E : Type 0} (X : Election E) (P : Protocol E (Unit {0}) ℕ) (m m' : M
       omega arith
   full t ph HandsOnFull fits = absurd fits
 
+  -- of whom the page goes back
   returned : (t : ℕ) (reason : Reason) → Shows c t c.phase reason → Told (answer_of_return c.queue t reason)
   returned t Sent w = sent t c.phase w part.fits c.queue.phase refl
       (λ i. inl (ended_of P m T f (published_ends (base_of m) f.V f.frames c t c.phase w i part.fits)))
@@ -207,6 +215,7 @@ module _ {E : Type 0} (X : Election E) (P : Protocol E (Unit {0}) ℕ) (m m' : M
       let again = reused v.reuse (situation_of X c) z i other in
       subst IsReused (sym (ap rows_in again.1) ∙ f.rows s v at) tt
 
+  -- whatever the turn is
   by_turn : (z : Situation E) → situation X v ≡ z → Told (turn_answer m (line X v z) word)
   by_turn (Does IsClosed) i = closed_told (closed_at X v (own_is X v IsClosed i))
   by_turn (Does IsIdle) i = tt
@@ -227,6 +236,7 @@ module _ {E : Type 0} (X : Election E) (P : Protocol E (Unit {0}) ℕ) (m m' : M
   by_turn (Scans q) i = behind (Scans q) i (λ y e. cc) (behind_of q (found m (line X v (Scans q)) word))
   by_turn (Clears q) i = behind (Clears q) i (λ y e. cc) (behind_of q (found m (line X v (Clears q)) word))
 
+  -- so its answer tells what is so
   turn_told : EventTells m (Turn s word) a U
   turn_told =
       subst (λ o. SenderTells m s o (U.actions s) a) (sym h.goes)
