@@ -36,7 +36,7 @@ use Rattle.bus_world.specs.World.{Bus, Event, Put, Ask, Turn, Recv, Stop, given_
 use Rattle.bus_world.specs.declared.events.Answer.{Answer}
 use Rattle.bus_machine.proofs.AtNone as none
 use Rattle.bus_machine.proofs.Leading.{Sits, led_ring, ring_serves, ring_ok, ring_two}
-use Rattle.bus_machine.proofs.Framed.{participant_at}
+use Rattle.bus_machine.proofs.Framed.{IsFramed, framed, participant_at}
 use Rattle.bus_machine.proofs.Taking.{takers_told}
 use Rattle.bus_machine.specs.Proved.Bridge.{of_bus, of_cyclic, plain_trails, ring_trails}
 use Rattle.bus_machine.specs.Machine.{base_of, Machine, Trails, Reached, Then, Happens, trails_grown, log_place, log_of, owners_told, turn_answer, going}
@@ -141,11 +141,12 @@ module _ {E : Type 0} (X : Election E) (P : Protocol E (Unit {0}) ℕ) where
       by None fresh = let k = held_plain fresh in subst (λ (y : Machine E). length y.words ≡ log_place y.layout y.reuse + y.layout.capacity) (sym k.is) k.served.lawful.words
       by (Some rows) used = let k = held_ring rows used in subst (λ (y : Machine E). length y.words ≡ log_place y.layout y.reuse + y.layout.capacity) (sym k.is) k.served.is.words
 
+    -- by the frames of its log
+    its_frames : IsFramed P m h.trails
+    its_frames = framed X P m h.trails (sits m s h) h.reached
+
     pub log_below : slice_index m.words 0 ≤ m.layout.capacity
-    log_below = by m.reuse refl where
-      by : (o : Option ℕ) → m.reuse ≡ o → slice_index m.words 0 ≤ m.layout.capacity
-      by None fresh = let k = held_plain fresh in subst (λ (y : Machine E). slice_index y.words 0 ≤ y.layout.capacity) (sym k.is) k.served.lawful.keeps.sending.log.fits
-      by (Some rows) used = let k = held_ring rows used in subst (λ (y : Machine E). slice_index y.words 0 ≤ y.layout.capacity) (sym k.is) (cyclic_views.log_below X P k.bus (ring_served k) k.served)
+    log_below = subst (λ n. n ≤ m.layout.capacity) (sym its_frames.length) its_frames.sending.log.fits
 
     two_words : (x : Layout) (o : Option ℕ) → 2 ≤ log_place x o
     two_words x None = omega arith
@@ -218,13 +219,8 @@ module _ {E : Type 0} (X : Election E) (P : Protocol E (Unit {0}) ℕ) where
             (cyclic.sums X P k.bus (ring_served k) k.served p u.0 u.1 word o (sym ((at_some X u.0).op word) ∙ subst (λ w. (line_now X w).op word ≡ Some o) u.2 next))
 
       pub laid : AwaitsItsPage v.core.phase → ⊥
-      laid waits = by m.reuse refl where
-        by : (r : Option ℕ) → m.reuse ≡ r → ⊥
-        by None fresh = let k = held_plain fresh in let c = plain_at k in
-            let f = (k.served.lawful.keeps.sending.parts p c.0 c.1).fits in
-            subst (Fits (base_of m) (slice_index k.bus.side.words) k.served.frames c.0) (sym (ap (λ (w : Sender E). w.core.phase) c.2) ∙ waits.is) f
-        by (Some rows) used = let k = held_ring rows used in let u = ring_at k in
-            cyclic.laid X P k.bus (ring_served k) k.served p u.0 u.1 (subst (λ (w : Sender E). AwaitsItsPage w.core.phase) u.2 waits)
+      laid waits = subst (Fits (base_of m) its_frames.V its_frames.frames v.core) waits.is
+          (its_frames.sending.parts p v.core (its_frames.core_of p v at)).fits
 
       pub numbers : next_of v.core.queue < 2 ^ 48
       numbers = by m.reuse refl where

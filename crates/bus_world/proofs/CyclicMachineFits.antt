@@ -29,7 +29,7 @@ use Rattle.bus_tenure.specs.declared.phases.Phase.TheVariants as phase
 use Rattle.bus_tenure.proofs.Situated.{tells}
 use Rattle.bus_core.specs.Reusing.Participants.{Goes, sizes_with, log_from, place_for, reclaim_due, due_reclaimed, due_home, due_beside}
 use Rattle.bus_core.specs.Reusing.Turns.{Participant, due, op_due, on_place, op_placed}
-use Rattle.bus_world.specs.Bus.{Part, Fits, standing_of, stands_at, least_of}
+use Rattle.bus_world.specs.Bus.{Part, standing_of, stands_at, least_of}
 use Rattle.bus_world.specs.Headline.{order_given}
 use Rattle.bus_world.specs.Log.{words_read_from}
 use Rattle.bus_world.specs.CyclicMachines.{CyclicMachine, CyclicTrails, yard_of, core_in}
@@ -109,10 +109,6 @@ module _ {E : Type 0} (X : Election E) (P : Protocol E (Unit {0}) ℕ) (laws : L
 
     pub numbers_fit : next_of v.core.queue < 2 ^ 48
     numbers_fit = accepting.numbers_fit X P laws b.layout x.ok x.width k.V b.home h.leads.owners k.frames s y.senders k.kept.sending v.core old
-
-    -- between turns no page is under way
-    pub no_wait : (t : ℕ) → situation_of X v.core ≡ AwaitsPage t → ⊥
-    no_wait t here = subst (Fits (slice_index b.bases) k.V k.frames v.core) (tells X v.core (AwaitsPage t) here) part.fits
 
     -- ---- what it adds
     place_same : (w : Situation E) → place_for v.core.layout v.rows w ≡ place_for b.layout b.rows w

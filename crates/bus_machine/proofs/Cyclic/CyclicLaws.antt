@@ -9,8 +9,6 @@ use Rattle.bus_deliverylog.specs.Receiving.{Receiving, receiving_op}
 use Rattle.bus_core.specs.Reusing.Participants.{log_from}
 use Rattle.bus_core.specs.Reusing.Turns.{Participant, op_next, words_with}
 use Rattle.bus_tenure.specs.Core.{Election, Layout}
-use Rattle.bus_tenure.specs.Seen.{AwaitsItsPage}
-use Rattle.bus_tenure.specs.Situations.{situation_at}
 use Rattle.bus_world.specs.Bus.{IsLayout}
 use Rattle.bus_world.specs.CyclicMachines.{CyclicTrails, CyclicReached}
 use Rattle.bus_world.proofs.CyclicMachineFits as fits
@@ -45,9 +43,6 @@ module _ {E : Type 0} (X : Election E) (P : Protocol E (Unit {0}) ℕ) where
 
       pub sums : (word : ℕ) (o : Op) → op_next X v word ≡ Some o → SumFits o (slice_index z.ring.words (register o))
       sums word o e = fits.sums_fit X P s.laws s.owner_is s.named s.announces s.apart z.ring layout_h h.trails led_h p v at word o e
-
-      pub laid : AwaitsItsPage v.core.phase → ⊥
-      laid a = fits.no_wait X P s.laws s.owner_is s.named s.announces s.apart z.ring layout_h h.trails led_h p v at a.tenure (ap (situation_at X v.core) a.is)
 
       pub numbers : next_of v.core.queue < 2 ^ 48
       numbers = fits.numbers_fit X P s.laws s.owner_is s.named s.announces s.apart z.ring layout_h h.trails led_h p v at

@@ -15,9 +15,6 @@ module _ {E : Type 0} (X : Election E) (P : Protocol E (Unit {0}) ℕ) (z : Owne
   abbrev b : CyclicMachine E
   b = z.ring
 
-  pub log_below : slice_index b.words 0 ≤ b.layout.capacity
-  log_below = fits.log_below X P s.laws s.owner_is s.named s.announces s.apart b (layout_served X P b.layout b.rows s (ok X P z s h) h.rows_some) h.trails (led X P z s (ok X P z s h) h.rows_some h.trails h.leads)
-
   pub length-log : length (log_of b) ≡ slice_index b.words 0
   length-log = length-read (slice_index b.words) (log_from b.layout b.rows) (slice_index b.words 0)
 
