@@ -1,5 +1,5 @@
 -- A bus of either kind of rows is an automaton: its laws, by what every machine keeps that events lead to.
-use Rattle.std.proofs.Common.{◌≡◌, ◌≢◌, ℕ, ◌+◌, ◌%◌, ◌<◌, ◌≤◌, Bool, true, false, Option, Some, None, is_some, List, [], ◌∷◌, ◌++◌}
+use Rattle.std.proofs.Common.{◌≡◌, ◌≢◌, ℕ, ◌+◌, ◌*◌, ◌%◌, ◌<◌, ◌≤◌, Bool, true, false, Option, Some, None, is_some, List, [], ◌∷◌, ◌++◌}
 use Rattle.std.proofs.Common.{length, map, slice_get, slice_index, append_assoc, inr, arith, refl, sym, ◌∙◌, ap, subst}
 use Rattle.std.proofs.lemmas.Bool.{true≢false}
 use Rattle.bus_batch.proofs.FrameLaws.{same_frame, same_log}
@@ -167,10 +167,11 @@ module _ {E : Type 0} (X : Election E) (P : Protocol E (Unit {0}) ℕ) (x : Layo
   -- it is at home only while a tenure is open, and then it knows the frames
   page_knows : (page : Page) (frames : List Frame) → m.home ≡ Some page → AreFrames x.senders frames
       → log_words frames ≡ log_below (table_layout_by x reuse) m.words
-      → (past : ℕ) × Knows (slice_index bases) page frames past (slice_index m.words 0)
+      → (past : ℕ) × (slice_index m.words 1 ≡ 2 * past) × Knows (slice_index bases) page frames past (slice_index m.words 0)
   page_knows page frames home law words = elim framing.sending.tenures.stage_is [
     | Open stage here many ↦ (
       framing.sending.tenures.ended,
+      framing.stage ∙ stage,
       subst (λ (u : List ℕ × List Frame × ℕ). Knows (slice_index u.0) page u.1 framing.sending.tenures.ended u.2)
           (λ n. (h.bases_are n, same_frames frames law words n, sym framing.length n))
           (framing.sending.page_knows page framing.sending.tenures.ended home stage).0,

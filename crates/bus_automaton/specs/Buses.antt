@@ -1,5 +1,5 @@
 -- A sender of any ratifier as a process, and a bus of any plan that has such senders as an automaton. Neither unfolds of itself, so that what
--- threads do is said, and proved, by their laws alone.
+-- calls of senders and receivers do is said, and proved, by their laws alone.
 use Rattle.std.specs.Prelude.{ℕ, Bool, Option, Some, None}
 use Rattle.bus_register.specs.declared.kinds.Kind.{Kind}
 use Rattle.bus_register.specs.declared.registers.Op.{Op}

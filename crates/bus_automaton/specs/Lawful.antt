@@ -1,5 +1,5 @@
 -- What processes and automata owe, so that threads may go by them.
-use Rattle.std.specs.Prelude.{◌≡◌, ◌≢◌, ◌⊎◌, ℕ, ◌+◌, ◌%◌, ◌<◌, ◌≤◌, true, false, Option, Some, is_some, List, [], ◌∷◌, ◌++◌, All, length, map, replicate, slice_index}
+use Rattle.std.specs.Prelude.{◌≡◌, ◌≢◌, ◌⊎◌, ℕ, ◌+◌, ◌*◌, ◌%◌, ◌<◌, ◌≤◌, true, false, Option, Some, is_some, List, [], ◌∷◌, ◌++◌, All, length, map, replicate, slice_index}
 use Rattle.bus_register.specs.declared.kinds.Kind.{Kind}
 use Rattle.bus_register.specs.declared.registers.Op.{Op}
 use Rattle.bus_register.specs.declared.registers.Op.TheVariants.{Store}
@@ -151,7 +151,8 @@ pub record AutomatonLaws {C : Type 0} (P : Process C) (A : Automaton C) : Type 0
   pub finds_home : (z : A.State) (p : ℕ) (c : C) (word : ℕ) (o : Op) (t : ℕ) → A.IsReached z → A.sender z p ≡ Some c → P.op c word ≡ Some o → P.move c ≡ Comes t → is_some (A.home z) ≡ true
   pub even_at_home : (z : A.State) → A.IsReached z → slice_index (A.words z) 1 % 2 ≢ 1 → is_some (A.home z) ≡ true
   pub odd_away : (z : A.State) → A.IsReached z → slice_index (A.words z) 1 % 2 ≡ 1 → is_some (A.home z) ≡ false
-  pub page_knows : (z : A.State) (page : Page) (frames : List Frame) → A.IsReached z → A.home z ≡ Some page → AreFrames A.table_layout.senders frames → log_words frames ≡ log_in A z → (past : ℕ) × Knows (base_in A) page frames past (slice_index (A.words z) 0)
+  pub page_knows : (z : A.State) (page : Page) (frames : List Frame) → A.IsReached z → A.home z ≡ Some page → AreFrames A.table_layout.senders frames → log_words frames ≡ log_in A z
+      → (past : ℕ) × (slice_index (A.words z) 1 ≡ 2 * past) × Knows (base_in A) page frames past (slice_index (A.words z) 0)
   pub log : (z : A.State) → A.IsReached z → HasLog A z
   -- of each sender it has what that put, but for what waits
   pub sent : (z : A.State) (p : ℕ) (c : C) (frames : List Frame) → A.IsReached z → A.sender z p ≡ Some c → AreFrames A.table_layout.senders frames → log_words frames ≡ log_in A z

@@ -58,7 +58,7 @@ module _ {C : Type 0} (P : Process C) (A : Automaton C) (L : AutomatonLaws P A) 
       let same : slot_of (A.home z) ∷ [] ≡ slot_of (Some page) ∷ [] = sym h.shown.slot ∙ h.home_is in
       let home : A.home z ≡ Some page = slot_is (A.home z) page (some-injective _ _ (ap (λ (hs : List (maybe.Option (Option Page))). get_elem? hs 0) same)) in
       let s = q.spelled in
-      let knows = (L.page_knows z page s.frames h.shown.reached home s.lawful s.words_are).1 in
+      let knows = (L.page_knows z page s.frames h.shown.reached home s.lawful s.words_are).2 in
       let spells = subst (λ ws. Spells A.table_layout.senders ws q.order q.owners) log_is s in
       record {
         order = q.order;

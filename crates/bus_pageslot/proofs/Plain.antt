@@ -1,5 +1,5 @@
 -- The turn of a sender with which no page moves: its step alone.
-use Rattle.std.proofs.Common.{◌≡◌, ℕ, ◌<◌, ◌≤◌, ne_eqb, arith, Bool, false, cond, Option, Some, None, IsSome, [], refl, sym, ◌∙◌, ap, subst}
+use Rattle.std.proofs.Common.{◌≡◌, ℕ, ◌<◌, ◌≤◌, ne_eqb, arith, Bool, true, false, cond, Option, Some, None, IsSome, [], refl, sym, ◌∙◌, ap, subst}
 use Rattle.std.proofs.lemmas.Bool.{true≢false}
 use Rattle.atomic_table.specs.declared.shared.Seat.{Seat}
 use Rattle.bus_register.specs.declared.registers.Op.{Op}
@@ -20,7 +20,7 @@ use Rattle.bus_pageslot.specs.Seats.{SenderSeat, Shows, TookAndTold, actions_of}
 use Rattle.bus_pageslot.specs.Steps.{stored_by, Gone, IsDue, carried_of, out_with, laid_at, slot_in, slots_emptied}
 use Rattle.bus_pageslot.specs.Steps.Accepts.{Nothing}
 use Rattle.bus_pageslot.specs.declared.rule.View.{View}
-use Rattle.bus_pageslot.specs.Turns.{Tellings, GoesPlainly, Starts, Stores, AsksOn, Goes, DrawsOn, word_drawn}
+use Rattle.bus_pageslot.specs.Turns.{Tellings, TurnsPlainly, GoesPlainly, First, Next, AsksOn, Goes, DrawsOn, word_drawn}
 use Rattle.bus_pageslot.proofs.Sending.{turned_puts, drawn_on}
 use Rattle.bus_pageslot.proofs.Walks.{core_is, stored_now, laid_now, numbered_now, me_now, all_now, counted_now, wide_now}
 
@@ -98,25 +98,45 @@ due_some (Some o) some none = cc
 pub stored_behind : (at value before : ℕ) → 2 ≤ at → stored_by (Some (Store record { 0 = at } value)) before ≡ before
 stored_behind at value before behind = ap (λ b. cond b value before) (ne_eqb at 0 (λ e. absurd (omega arith)))
 
--- ---- turns that are plain stores, one after another
--- each is one between which nobody asks
+-- ---- turns that answer Going and draw no word, one after another
+-- nobody asks behind one
+plain_asking : {C F : Type 0} (P : Process C) (T : Tellings C) (Tells : F → Bool → F → Type 0) (first : SenderSeat C) (given f : F) (old new : SenderSeat C)
+    → AsksOn P T Tells first given old f → TurnsPlainly P T old new → AsksOn P T Tells first given new f
+plain_asking P T Tells first given f old new before one = Goes old f 0 Going new before one.turned refl refl
+
+-- nor behind more
 pub goes_asking : {C F : Type 0} (P : Process C) (T : Tellings C) (Tells : F → Bool → F → Type 0) (first : SenderSeat C) (given f : F) (old new : SenderSeat C)
     → AsksOn P T Tells first given old f → GoesPlainly P T old new → AsksOn P T Tells first given new f
-goes_asking P T Tells first given f old _ before Starts = before
-goes_asking P T Tells first given f old _ before (Stores mid new goes wordless turned) =
-    Goes mid f 0 Going new (goes_asking P T Tells first given f old mid before goes) turned refl refl
+goes_asking P T Tells first given f old _ before (First new one) = plain_asking P T Tells first given f old new before one
+goes_asking P T Tells first given f old _ before (Next mid new goes one) =
+    plain_asking P T Tells first given f mid new (goes_asking P T Tells first given f old mid before goes) one
 
--- none draws a word
+-- one draws no word
+plain_drawing : {C : Type 0} (P : Process C) (T : Tellings C) (first : SenderSeat C) (given words : Stream) (old new : SenderSeat C)
+    → DrawsOn P T first given old words → TurnsPlainly P T old new → DrawsOn P T first given new words
+plain_drawing P T first given words old new before one =
+    drawn_on P T first given old words 0 Going new words (ap (λ b. word_drawn b words) (sym one.wordless)) before one.turned
+
+-- nor do more
 pub goes_drawing : {C : Type 0} (P : Process C) (T : Tellings C) (first : SenderSeat C) (given words : Stream) (old new : SenderSeat C)
     → DrawsOn P T first given old words → GoesPlainly P T old new → DrawsOn P T first given new words
-goes_drawing P T first given words old _ before Starts = before
-goes_drawing P T first given words old _ before (Stores mid new goes wordless turned) =
-    drawn_on P T first given mid words 0 Going new words (ap (λ b. word_drawn b words) (sym wordless))
-    (goes_drawing P T first given words old mid before goes) turned
+goes_drawing P T first given words old _ before (First new one) = plain_drawing P T first given words old new before one
+goes_drawing P T first given words old _ before (Next mid new goes one) =
+    plain_drawing P T first given words mid new (goes_drawing P T first given words old mid before goes) one
 
 -- none puts a message
 pub goes_putting : {C : Type 0} (P : Process C) (T : Tellings C) → ProcessLaws P → (old new : SenderSeat C) → GoesPlainly P T old new
     → puts (actions_of P new) ≡ puts (actions_of P old)
-goes_putting P T K old _ Starts = refl
-goes_putting P T K old _ (Stores mid new goes wordless turned) =
-    turned_puts P T K mid 0 Going new turned ∙ goes_putting P T K old mid goes
+goes_putting P T K old _ (First new one) = turned_puts P T K old 0 Going new one.turned
+goes_putting P T K old _ (Next mid new goes one) = turned_puts P T K mid 0 Going new one.turned ∙ goes_putting P T K old mid goes
+
+-- none, or one or more, by whether one was taken
+abbrev pub Taken : {C : Type 0} → Process C → Tellings C → SenderSeat C → SenderSeat C → Bool → Type 0
+Taken P T first new false = new ≡ first
+Taken P T first new true = GoesPlainly P T first new
+
+-- and then one more
+pub taken_next : {C : Type 0} (P : Process C) (T : Tellings C) (first old new : SenderSeat C) (b : Bool) → Taken P T first old b
+    → TurnsPlainly P T old new → GoesPlainly P T first new
+taken_next P T first old new false same one = First new (subst (λ y. TurnsPlainly P T y new) same one)
+taken_next P T first old new true goes one = Next old new goes one

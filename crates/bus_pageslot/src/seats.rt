@@ -347,26 +347,28 @@ impl<Q: Ratifier + Drop> Sender<Q> {
         store_plain::<Q, Brand>(&bus.words, &mut self.seat, &mut self.core, at, value, word)
     }
 
-    /// Turns, as long as their steps are plain stores: says whether it took one. It may stop before
-    /// any step.
+    /// Turns, one after another, whose steps are plain stores: says whether it took one. It may stop
+    /// before any step.
     #[inline(always)]
     fn plain_turns(&mut self, bus: &Bus<Q>) -> bool
         requires { table_of self.old ≡ bus.now.table }
         ensures table { table_of self.new ≡ table_of self.old }
         ensures stays { result ≡ false → self.new ≡ self.old }
-        ensures goes { GoesPlainly (process_by Q.Ratifier) (tells_by Q.Ratifier) self.old
-            self.new }
+        ensures goes { IsTrue result
+            → GoesPlainly (process_by Q.Ratifier) (tells_by Q.Ratifier) self.old self.new }
     {
         let (mut at, mut value) = (0, 0);
         if !self.core.plain(&mut at, &mut value) {
             return false;
         }
+        let mut taken = false;
         for _ in 0..MOST_PLAIN_TURNS {
             if !self.store_on(bus, &mut at, &mut value, 0) {
                 return true;
             }
+            taken = true;
         }
-        true
+        taken
     }
 
     /// A turn by the table of situations.

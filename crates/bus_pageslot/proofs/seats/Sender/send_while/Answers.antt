@@ -66,7 +66,7 @@ unfolding tells_with
 loop-preserved-then-plain_turns g c =
     let P = process_with g.Q.Machine.kind_of g.Q.Machine.op g.Q.Machine.fed g.Q.Ratifier.protocol in
     let T = tells_with g.Q.Machine.kind_of g.Q.Machine.op g.Q.Machine.fed g.Q.Ratifier.protocol in
-    let goes = c.plain_turns.ensures.goes in (
+    let goes = c.plain_turns.ensures.goes c.if-plain_turns.true in (
       c.loop.invariant.0,
       goes_asking P T (goal.F-step g) c.args.self.now c.args.go_on c.loop.go_on c.loop.self c.plain_turns.new.self c.loop.invariant.1 goes,
       c.plain_turns.ensures.table ∙ c.loop.invariant.2,
