@@ -347,8 +347,8 @@ impl<Q: Ratifier + Drop> Sender<Q> {
         store_plain::<Q, Brand>(&bus.words, &mut self.seat, &mut self.core, at, value, word)
     }
 
-    /// Turns, one after another, whose steps are plain stores: says whether it took one. It may stop
-    /// before any step.
+    /// Turns, one after another, whose steps are plain stores: says whether it took one. It may
+    /// stop before any step.
     #[inline(always)]
     fn plain_turns(&mut self, bus: &Bus<Q>) -> bool
         requires { table_of self.old ≡ bus.now.table }
