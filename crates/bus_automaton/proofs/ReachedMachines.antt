@@ -11,10 +11,10 @@ use Rattle.bus_machine.proofs.Bounding.{added, added_is, actions_of_other, there
 use Rattle.bus_machine.proofs.Cyclic.CyclicLaws.{layout_served, led}
 use Rattle.bus_machine.proofs.Framed.{framed, participant_at}
 use Rattle.bus_machine.proofs.Knowing.{its_part}
-use Rattle.bus_machine.proofs.Leading.{Sits, IsLedCyclic, sits_before, led_ring, ring_serves, ring_ok, ring_two}
+use Rattle.bus_machine.proofs.Leading.{Sits, IsLedCyclic, sits_before, led_cyclic, cyclic_serves, cyclic_ok, cyclic_two}
 use Rattle.bus_machine.specs.Machine.{Machine, Trails, Reached, New, Then, Happens, going, has_stopped, found, turn_answer, log_place}
 use Rattle.bus_machine.specs.Machine.{trails_grown, turn_grown}
-use Rattle.bus_machine.specs.Proved.Bridge.{IsPlain, plain_trails, ring_trails}
+use Rattle.bus_machine.specs.Proved.Bridge.{IsPlain, plain_trails, cyclic_trails}
 use Rattle.bus_register.specs.Protocol.{Protocol}
 use Rattle.bus_register.specs.Tables.{of_some}
 use Rattle.bus_register.specs.Words.{register, SumFits}
@@ -87,23 +87,23 @@ module _ {E : Type 0} (X : Election E) (P : Protocol E (Unit {0}) ℕ) (m : Mach
   module _ (rows : ℕ) (used : m.reuse ≡ Some rows) where
     -- it is such a bus
     j : IsLedCyclic X P m T
-    j = led_ring X P m T s r rows used
+    j = led_cyclic X P m T s r rows used
 
     -- the bus itself
     abbrev b : CyclicMachine E
-    b = j.bus.ring
+    b = j.bus.machine
 
     -- its sizes are served
     y : Serves X P b.layout
-    y = ring_serves X P m s j.bus j.is
+    y = cyclic_serves X P m s j.bus j.is
 
     -- also those of its rows
     x : IsCyclicLayout X P y.laws y.owner_is y.named y.announces y.apart b.layout b.rows
-    x = layout_served X P b.layout b.rows y (ring_ok X P m s j.bus j.is) (ring_two X P m s j.bus j.is)
+    x = layout_served X P b.layout b.rows y (cyclic_ok X P m s j.bus j.is) (cyclic_two X P m s j.bus j.is)
 
     -- and the trails lead to it
-    l : IsLed X P y.laws y.owner_is y.named y.announces y.apart b (ring_trails T)
-    l = led X P j.bus y (ring_ok X P m s j.bus j.is) (ring_two X P m s j.bus j.is) (ring_trails T) j.leads
+    l : IsLed X P y.laws y.owner_is y.named y.announces y.apart b (cyclic_trails T)
+    l = led X P j.bus y (cyclic_ok X P m s j.bus j.is) (cyclic_two X P m s j.bus j.is) (cyclic_trails T) j.leads
 
     -- what a step adds to stays in range
     sums_at_some : (p : ℕ) (v : Sender E) → slice_get m.senders p ≡ Some v → (word : ℕ) (o : Op) → (line_now X v).op word ≡ Some o
@@ -111,7 +111,7 @@ module _ {E : Type 0} (X : Election E) (P : Protocol E (Unit {0}) ℕ) (m : Mach
     sums_at_some p v at word o due =
         let u = participant_at X j.bus p v (subst (λ (w : Machine E). slice_get w.senders p ≡ Some v) j.is at) in
         subst (λ (w : Machine E). SumFits o (slice_index w.words (register o))) (sym j.is)
-        (fits.sums_fit X P y.laws y.owner_is y.named y.announces y.apart b x (ring_trails T) l p u.0 u.1 word o
+        (fits.sums_fit X P y.laws y.owner_is y.named y.announces y.apart b x (cyclic_trails T) l p u.0 u.1 word o
         (sym ((at_some X u.0).op word) ∙ subst (λ w. (line_now X w).op word ≡ Some o) u.2 due))
 
   -- ---- with either

@@ -31,8 +31,8 @@ use Rattle.bus_tenure.specs.declared.turns.Turn.{Turn as Answered}
 use Rattle.bus_world.proofs.EventTrails.{put_taken}
 use Rattle.bus_world.specs.Headline.{HasPut, HasMarked}
 use Rattle.bus_world.specs.Playing.{asked_answer}
-use Rattle.bus_world.specs.CyclicMachines.{CyclicMachine, CyclicTrails, CyclicReached, NewCyclic, TurnTaken, PutTaken, MarkTaken, RecvTaken, StopTaken, ring_after, ring_actions, ring_reclaims, participant_moved}
-use Rattle.bus_world.specs.CyclicMachines as rings
+use Rattle.bus_world.specs.CyclicMachines.{CyclicMachine, CyclicTrails, CyclicReached, NewCyclic, TurnTaken, PutTaken, MarkTaken, RecvTaken, StopTaken, cyclic_turned, cyclic_actions, cyclic_reclaims, participant_moved}
+use Rattle.bus_world.specs.CyclicMachines as cyclic_machines
 use Rattle.bus_world.specs.Trails.{step_action, put_actions, mark_actions}
 use Rattle.bus_world.specs.Turning.{words_after, number_found, home_moved, core_moved, after_step}
 use Rattle.bus_world.specs.World.{Put, Ask, Turn, Recv, Stop, is_set, new_core, IsNewReceiver}
@@ -40,7 +40,7 @@ use Rattle.bus_world.specs.CyclicProtocols.{word_found, actions_with}
 use Rattle.bus_world.specs.declared.events.Answer.{Answer}
 use Rattle.bus_world.specs.declared.events.Answer.TheVariants as answer
 use Rattle.bus_machine.proofs.AtNone.{close_taken}
-use Rattle.bus_machine.specs.Proved.Bridge.{of_ring, of_cyclic, ring_trails, AreSized, IsCyclicEvent, HappensAtSome, IsCyclicOf}
+use Rattle.bus_machine.specs.Proved.Bridge.{of_cyclic_machine, of_cyclic, cyclic_trails, AreSized, IsCyclicEvent, HappensAtSome, IsCyclicOf}
 use Rattle.bus_machine.specs.Machine.{base_of, Machine, Trails, TakesTurn, TakesPut, TakesMark, StopsNow, Hears, IsNew, IsOnWord, no_machine_trails, log_place, last_of, going, with_sender, put_in, mark_in, moved, machine_after, found, turn_answer, turn_trails, turn_grown, trails_grown}
 
 -- ---- layout and rows stay
@@ -138,32 +138,32 @@ module _ {E : Type 0} (X : Election E) where
 
   -- ---- the trails of a turn
   module _ (b : CyclicMachine E) (s word : ℕ) (T : Trails) (a : Answered) where
-    abbrev ring_grown : Participant E → Due E → CyclicTrails
-    ring_grown v d = record { pins = rings.ring_trails b s d T.pins; reclaims = ring_reclaims b s d T.reclaims; actions = ring_actions X b s v d word a T.actions; heard = T.heard }
+    abbrev cyclic_grown : Participant E → Due E → CyclicTrails
+    cyclic_grown v d = record { pins = cyclic_machines.cyclic_trails b s d T.pins; reclaims = cyclic_reclaims b s d T.reclaims; actions = cyclic_actions X b s v d word a T.actions; heard = T.heard }
 
     abbrev grown_by : Participant E → Situation E → CyclicTrails
-    grown_by v z = ring_trails (turn_trails z (line X (again v) z) s (found (of_ring b []) (line X (again v) z) word) word a T)
+    grown_by v z = cyclic_trails (turn_trails z (line X (again v) z) s (found (of_cyclic_machine b []) (line X (again v) z) word) word a T)
 
-    grown_own : (v : Participant E) (z : Own E) → v.core.layout ≡ b.layout → v.rows ≡ b.rows → grown_by v (Does z) ≡ ring_grown v (Goes z)
+    grown_own : (v : Participant E) (z : Own E) → v.core.layout ≡ b.layout → v.rows ≡ b.rows → grown_by v (Does z) ≡ cyclic_grown v (Goes z)
     grown_own v z i j =
         let words = slice_index b.words in
-        let got : found (of_ring b []) (line X (again v) (Does z)) word ≡ word_found (place_for b.layout b.rows z) words (op_at X v.core z word) =
+        let got : found (of_cyclic_machine b []) (line X (again v) (Does z)) word ≡ word_found (place_for b.layout b.rows z) words (op_at X v.core z word) =
         ap (number_found words) (op_own v z word) ∙ found_placed (place_for v.core.layout v.rows z) words (op_at X v.core z word)
         ∙ ap (λ x. word_found (place_for x v.rows z) words (op_at X v.core z word)) i ∙ ap (λ r. word_found (place_for b.layout r z) words (op_at X v.core z word)) j in
-        ap (λ d. record (ring_trails T) { actions = Rattle.bus_world.specs.CyclicProtocols.actions_with s d T.actions })
+        ap (λ d. record (cyclic_trails T) { actions = Rattle.bus_world.specs.CyclicProtocols.actions_with s d T.actions })
         (ap (λ g. step_action (line X (again v) (Does z)).kind (line X (again v) (Does z)).tenure g ((line X (again v) (Does z)).chosen g word) a) got ∙ action_own v z _ word a)
 
     grown_reclaimed : (v : Participant E) (r : Reclaiming) (z : Own E) (p q : Bool) → v.core.layout ≡ b.layout → v.rows ≡ b.rows
-        → grown_by v (cond p (Scans r) (cond q (Clears r) (Does z))) ≡ ring_grown v (due_reclaimed r (cond p (Some (Load record { 0 = r.presences + r.scanned })) (cond q (Some (Store record { 0 = r.row + r.cleared } 0)) None)) z)
+        → grown_by v (cond p (Scans r) (cond q (Clears r) (Does z))) ≡ cyclic_grown v (due_reclaimed r (cond p (Some (Load record { 0 = r.presences + r.scanned })) (cond q (Some (Store record { 0 = r.row + r.cleared } 0)) None)) z)
     grown_reclaimed v r z true q i j = refl
     grown_reclaimed v r z false true i j = refl
     grown_reclaimed v r z false false i j = grown_own v z i j
 
-    grown_reclaiming : (v : Participant E) (r : Option Reclaiming) (z : Own E) → v.core.layout ≡ b.layout → v.rows ≡ b.rows → grown_by v (reclaiming r z) ≡ ring_grown v (due_home r z)
+    grown_reclaiming : (v : Participant E) (r : Option Reclaiming) (z : Own E) → v.core.layout ≡ b.layout → v.rows ≡ b.rows → grown_by v (reclaiming r z) ≡ cyclic_grown v (due_home r z)
     grown_reclaiming v None z i j = grown_own v z i j
     grown_reclaiming v (Some r) z i j = grown_reclaimed v r z (nat_lt r.scanned r.senders) (nat_lt r.cleared r.width) i j
 
-    grown_home : (v : Participant E) (r : Option Reclaiming) (z : Own E) → v.core.layout ≡ b.layout → v.rows ≡ b.rows → grown_by v (at_home r z) ≡ ring_grown v (due_home (reclaim_due z r) z)
+    grown_home : (v : Participant E) (r : Option Reclaiming) (z : Own E) → v.core.layout ≡ b.layout → v.rows ≡ b.rows → grown_by v (at_home r z) ≡ cyclic_grown v (due_home (reclaim_due z r) z)
     grown_home v r (GivesBack t page reason) i j = grown_reclaiming v r (GivesBack t page reason) i j
     grown_home v r IsClosed i j = grown_own v IsClosed i j
     grown_home v r IsIdle i j = grown_own v IsIdle i j
@@ -176,7 +176,7 @@ module _ {E : Type 0} (X : Election E) where
     grown_home v r (StoresLength t page stored) i j = grown_own v (StoresLength t page stored) i j
     grown_home v r (HasHanded t reason) i j = grown_own v (HasHanded t reason) i j
 
-    grown_pinning : (v : Participant E) (u : Pin) (z : Own E) → v.core.layout ≡ b.layout → v.rows ≡ b.rows → grown_by v (pinning u v.reclaimer z) ≡ ring_grown v (due_beside (step_at u (presence_at (sizes_of v) v.core.me) stage_at) v.reclaimer z)
+    grown_pinning : (v : Participant E) (u : Pin) (z : Own E) → v.core.layout ≡ b.layout → v.rows ≡ b.rows → grown_by v (pinning u v.reclaimer z) ≡ cyclic_grown v (due_beside (step_at u (presence_at (sizes_of v) v.core.me) stage_at) v.reclaimer z)
     grown_pinning v Away z i j = grown_home v v.reclaimer z i j
     grown_pinning v (Announcing t) z i j = refl
     grown_pinning v (Validating t) z i j = refl
@@ -184,7 +184,7 @@ module _ {E : Type 0} (X : Election E) where
     grown_pinning v (Unpinning t) z i j = refl
     grown_pinning v (Invalidated t) z i j = refl
 
-    pub grown_is : (v : Participant E) → v.core.layout ≡ b.layout → v.rows ≡ b.rows → grown_by v (situation X (again v)) ≡ ring_grown v (due X v)
+    pub grown_is : (v : Participant E) → v.core.layout ≡ b.layout → v.rows ≡ b.rows → grown_by v (situation X (again v)) ≡ cyclic_grown v (due X v)
     grown_is v i j = grown_pinning v v.pin (situation_of X v.core) i j
 
 -- ---- a sender that goes on
@@ -203,10 +203,10 @@ module _ {E : Type 0} where
   opened_at false xs None v e g = absurd (let q : None ≡ Some v = sym e ∙ g in cc)
   opened_at false xs (Some u) v e g = (u, refl, same_Some _ _ (sym g ∙ e), refl)
 
-  pub opened : (z : OwnedCyclicMachine E) (s : ℕ) (v : Sender E) → going (of_cyclic z) s ≡ Some v → (u : Participant E) × (rings.participant_going z.ring s ≡ Some u) × (v ≡ again u) × (slice_get z.ring.participants s ≡ Some u)
-  opened z s v g = opened_at (is_set (slice_get z.ring.stopped s)) (slice_get (map again z.ring.participants) s) (slice_get z.ring.participants s) v (slice_get-map again z.ring.participants s) g
+  pub opened : (z : OwnedCyclicMachine E) (s : ℕ) (v : Sender E) → going (of_cyclic z) s ≡ Some v → (u : Participant E) × (cyclic_machines.participant_going z.machine s ≡ Some u) × (v ≡ again u) × (slice_get z.machine.participants s ≡ Some u)
+  opened z s v g = opened_at (is_set (slice_get z.machine.stopped s)) (slice_get (map again z.machine.participants) s) (slice_get z.machine.participants s) v (slice_get-map again z.machine.participants s) g
 
-  on_word : (z : OwnedCyclicMachine E) (o : Option Op) → IsOnWord (of_cyclic z) o → rings.IsOnWord z.ring o
+  on_word : (z : OwnedCyclicMachine E) (o : Option Op) → IsOnWord (of_cyclic z) o → cyclic_machines.IsOnWord z.machine o
   on_word z None h = h
   on_word z (Some o) h = h
 
@@ -223,15 +223,15 @@ mark_action mark.End = refl
 mark_action mark.Leave = refl
 
 -- ---- one event
-module _ {E : Type 0} (X : Election E) (z : OwnedCyclicMachine E) (sized : AreSized z.ring) where
+module _ {E : Type 0} (X : Election E) (z : OwnedCyclicMachine E) (sized : AreSized z.machine) where
   abbrev b : CyclicMachine E
-  b = z.ring
+  b = z.machine
 
   abbrev got_by : Participant E → ℕ → ℕ
   got_by v word = number_found (slice_index b.words) (op_due X v (due X v) word)
 
   abbrev cyclic_after : Participant E → ℕ → ℕ → OwnedCyclicMachine E
-  cyclic_after v s word = record { ring = ring_after X b s v (due X v) word; owners = last_of b.rows (cond (line_now X (again v)).takes (z.owners ++ s ∷ []) z.owners) }
+  cyclic_after v s word = record { machine = cyclic_turned X b s v (due X v) word; owners = last_of b.rows (cond (line_now X (again v)).takes (z.owners ++ s ∷ []) z.owners) }
 
   turn_is : (v : Participant E) (s word : ℕ) → machine_after (of_cyclic z) s (line_now X (again v)) word ≡ of_cyclic (cyclic_after v s word)
   turn_is v s word =
@@ -241,9 +241,9 @@ module _ {E : Type 0} (X : Election E) (z : OwnedCyclicMachine E) (sized : AreSi
       let got = got_by v word in
       ap (λ o. after o l.move (l.fed (number_found (slice_index b.words) o) word)) (i.op word)
       ∙ ap (λ m. after (op_due X v d word) m (l.fed got word)) i.move
-      ∙ ap (λ f. after (op_due X v d word) (rings.move_due X v d) f) (i.fed got word)
+      ∙ ap (λ f. after (op_due X v d word) (cyclic_machines.move_due X v d) f) (i.fed got word)
       ∙ ap (λ g. record (of_cyclic (cyclic_after v s word)) { senders = g })
-      (sym (map-set again b.participants s (rings.participant_moved (after_step (rings.move_due X v d)) b.home (participant_due X v d got word))))
+      (sym (map-set again b.participants s (cyclic_machines.participant_moved (after_step (cyclic_machines.move_due X v d)) b.home (participant_due X v d got word))))
     where
       after : Option Op → PageMove → Sender E → Machine E
       after o m f = record (of_cyclic (cyclic_after v s word)) { words = words_after b.words o; home = home_moved m b.home; senders = slice_set (of_cyclic z).senders s (moved (after_step m) b.home f) }
@@ -255,11 +255,11 @@ module _ {E : Type 0} (X : Election E) (z : OwnedCyclicMachine E) (sized : AreSi
       ap (λ o. l.answer (number_found (slice_index b.words) o) word) (i.op word) ∙ i.answer (got_by v word) word
 
   turn_adds : (s word : ℕ) (a : Answer) (t : Answered) (v : Participant E) → a ≡ answer.Turn t → going (of_cyclic z) s ≡ Some (again v) → slice_get b.participants s ≡ Some v → (T : Trails)
-      → ring_grown X b s word T t v (due X v) ≡ ring_trails (trails_grown X (of_cyclic z) (Turn s word) a T)
+      → cyclic_grown X b s word T t v (due X v) ≡ cyclic_trails (trails_grown X (of_cyclic z) (Turn s word) a T)
   turn_adds s word a t v told h at T =
       sym (grown_is X b s word T t v (sized s v at).0 (sized s v at).1)
-      ∙ ap (λ o. ring_trails (turn_grown X (of_cyclic z) s o word (answer.Turn t) T)) (sym h)
-      ∙ ap (λ w. ring_trails (trails_grown X (of_cyclic z) (Turn s word) w T)) (sym told)
+      ∙ ap (λ o. cyclic_trails (turn_grown X (of_cyclic z) s o word (answer.Turn t) T)) (sym h)
+      ∙ ap (λ w. cyclic_trails (trails_grown X (of_cyclic z) (Turn s word) w T)) (sym told)
 
   turns : (s word : ℕ) (a : Answer) (m : Machine E) → TakesTurn X (of_cyclic z) s word a m → IsCyclicEvent X z (Turn s word) a m
   turns s word a m h =
@@ -269,14 +269,14 @@ module _ {E : Type 0} (X : Election E) (z : OwnedCyclicMachine E) (sized : AreSi
       let t = answer_due X v d (got_by v word) word in
       let told : a ≡ answer.Turn t = h.answered ∙ ap (λ y. answer.Turn (turn_answer (of_cyclic z) (line_now X y) word)) o.2 ∙ ap answer.Turn (answer_is v word) in
       let i = at_some X v in
-      let low = subst (rings.IsOnWord b) (i.op word) (on_word z _ (subst (λ y. IsOnWord (of_cyclic z) ((line_now X y).op word)) o.2 h.within)) in
+      let low = subst (cyclic_machines.IsOnWord b) (i.op word) (on_word z _ (subst (λ y. IsOnWord (of_cyclic z) ((line_now X y).op word)) o.2 h.within)) in
       let new = cyclic_after v s word in
       record {
         bus = new;
         is = h.after ∙ ap (λ y. machine_after (of_cyclic z) s (line_now X y) word) o.2 ∙ turn_is v s word;
-        sized = fit_after b sized s v _ o.3 (due_layout X v d (after_step (rings.move_due X v d)) b.home (got_by v word) word) (due_rows X v d (after_step (rings.move_due X v d)) b.home (got_by v word) word);
-        reached = λ T r. subst (CyclicReached X new.ring) (turn_adds s word a t v told (h.goes ∙ ap Some o.2) o.3 T)
-            (TurnTaken b (ring_trails T) s v word t r o.1 low refl);
+        sized = fit_after b sized s v _ o.3 (due_layout X v d (after_step (cyclic_machines.move_due X v d)) b.home (got_by v word) word) (due_rows X v d (after_step (cyclic_machines.move_due X v d)) b.home (got_by v word) word);
+        reached = λ T r. subst (CyclicReached X new.machine) (turn_adds s word a t v told (h.goes ∙ ap Some o.2) o.3 T)
+            (TurnTaken b (cyclic_trails T) s v word t r o.1 low refl);
       }
 
   puts : (s : ℕ) (bytes : List ℕ) (a : Answer) (m : Machine E) → TakesPut (of_cyclic z) s bytes a m → IsCyclicEvent X z (Put s bytes) a m
@@ -286,15 +286,15 @@ module _ {E : Type 0} (X : Election E) (z : OwnedCyclicMachine E) (sized : AreSi
       let can = subst (λ (y : Sender E). CanPut (queue_of y.core.queue y.reuse) (length bytes)) o.2 h.can in
       let may = put_taken (queue_seen v.core.queue v.pin) (length bytes) can in
       let put = record v { core = record v.core { queue = record v.core.queue { messages = v.core.queue.messages ++ bytes ∷ [] } } } in
-      let new : OwnedCyclicMachine E = record { ring = rings.with_participant b s put; owners = z.owners } in
+      let new : OwnedCyclicMachine E = record { machine = cyclic_machines.with_participant b s put; owners = z.owners } in
       let told : a ≡ answer.Number (next_of v.core.queue) = h.answered ∙ ap (λ (y : Sender E). answer.Number (next_of y.core.queue)) o.2 in
       record {
         bus = new;
         is = h.after ∙ ap (λ y. with_sender (of_cyclic z) s (put_in y bytes)) o.2 ∙ ap (λ l. record (of_cyclic z) { senders = l }) (sym (map-set again b.participants s put));
         sized = fit_after b sized s v put o.3 refl refl;
         reached = λ T r.
-            subst (λ w. CyclicReached X new.ring (record (ring_trails T) { actions = actions_with s (put_actions bytes w) T.actions })) (sym told)
-            (subst (λ t. CyclicReached X (rings.with_participant b s (cond t put v)) (record (ring_trails T) { actions = actions_with s (cond t (HasPut (next_of v.core.queue) bytes ∷ []) []) T.actions })) may (PutTaken b (ring_trails T) s v bytes r o.1 h.are_bytes));
+            subst (λ w. CyclicReached X new.machine (record (cyclic_trails T) { actions = actions_with s (put_actions bytes w) T.actions })) (sym told)
+            (subst (λ t. CyclicReached X (cyclic_machines.with_participant b s (cond t put v)) (record (cyclic_trails T) { actions = actions_with s (cond t (HasPut (next_of v.core.queue) bytes ∷ []) []) T.actions })) may (PutTaken b (cyclic_trails T) s v bytes r o.1 h.are_bytes));
       }
 
   marks : (s : ℕ) (asked : Mark) (a : Answer) (m : Machine E) → TakesMark (of_cyclic z) s asked a m → IsCyclicEvent X z (Ask s asked) a m
@@ -304,37 +304,37 @@ module _ {E : Type 0} (X : Election E) (z : OwnedCyclicMachine E) (sized : AreSi
       let can = subst (λ (y : Sender E). CanClose (queue_of y.core.queue y.reuse)) o.2 h.can in
       let may = close_taken (queue_seen v.core.queue v.pin) can in
       let marked = record v { core = record v.core { queue = record v.core.queue { phase = Marking asked } } } in
-      let new : OwnedCyclicMachine E = record { ring = rings.with_participant b s marked; owners = z.owners } in
+      let new : OwnedCyclicMachine E = record { machine = cyclic_machines.with_participant b s marked; owners = z.owners } in
       record {
         bus = new;
         is = h.after ∙ ap (λ y. with_sender (of_cyclic z) s (mark_in y asked)) o.2 ∙ ap (λ l. record (of_cyclic z) { senders = l }) (sym (map-set again b.participants s marked));
         sized = fit_after b sized s v marked o.3 refl refl;
         reached = λ T r.
-            subst (λ w. CyclicReached X new.ring (record (ring_trails T) { actions = actions_with s (mark_actions w) T.actions })) (sym h.answered)
-            (subst (λ l. CyclicReached X new.ring (record (ring_trails T) { actions = actions_with s l T.actions })) (sym (mark_action asked))
-            (subst (λ t. CyclicReached X (rings.with_participant b s (cond t marked v)) (record (ring_trails T) { actions = actions_with s (cond t (HasMarked asked ∷ []) []) T.actions })) may (MarkTaken b (ring_trails T) s v asked r o.1)));
+            subst (λ w. CyclicReached X new.machine (record (cyclic_trails T) { actions = actions_with s (mark_actions w) T.actions })) (sym h.answered)
+            (subst (λ l. CyclicReached X new.machine (record (cyclic_trails T) { actions = actions_with s l T.actions })) (sym (mark_action asked))
+            (subst (λ t. CyclicReached X (cyclic_machines.with_participant b s (cond t marked v)) (record (cyclic_trails T) { actions = actions_with s (cond t (HasMarked asked ∷ []) []) T.actions })) may (MarkTaken b (cyclic_trails T) s v asked r o.1)));
       }
 
   stops : (s : ℕ) (a : Answer) (m : Machine E) → StopsNow (of_cyclic z) s a m → IsCyclicEvent X z (Stop s) a m
   stops s a m h =
       let o = opened z s h.sender h.goes in
-      let new : OwnedCyclicMachine E = record { ring = record b { stopped = slice_set b.stopped s true }; owners = z.owners } in
+      let new : OwnedCyclicMachine E = record { machine = record b { stopped = slice_set b.stopped s true }; owners = z.owners } in
       record {
         bus = new;
         is = h.after;
         sized = sized;
-        reached = λ T r. StopTaken b (ring_trails T) s o.0 r o.1;
+        reached = λ T r. StopTaken b (cyclic_trails T) s o.0 r o.1;
       }
 
   hears : (r : ℕ) (a : Answer) (m : Machine E) → Hears (of_cyclic z) r a m → IsCyclicEvent X z (Recv r) a m
   hears r a m h =
-      let new : OwnedCyclicMachine E = record { ring = record b { receivers = slice_set b.receivers r h.next }; owners = z.owners } in
+      let new : OwnedCyclicMachine E = record { machine = record b { receivers = slice_set b.receivers r h.next }; owners = z.owners } in
       record {
         bus = new;
         is = h.after;
         sized = sized;
-        reached = λ T before. subst (λ w. CyclicReached X new.ring (ring_trails (trails_grown X (of_cyclic z) (Recv r) w T))) (sym h.answered)
-            (RecvTaken b (ring_trails T) r h.receiver h.next h.heard before h.there h.does);
+        reached = λ T before. subst (λ w. CyclicReached X new.machine (cyclic_trails (trails_grown X (of_cyclic z) (Recv r) w T))) (sym h.answered)
+            (RecvTaken b (cyclic_trails T) r h.receiver h.next h.heard before h.there h.does);
       }
 
 pub happens_at_some : {E : Type 0} (X : Election E) → HappensAtSome X
@@ -346,9 +346,9 @@ happens_at_some X z (Stop s) a m sized h = stops X z sized s a m h
 
 -- ---- what is reached
 module _ {E : Type 0} (X : Election E) where
-  pub new_ring : (w : Machine E) → IsNew w → (rows : ℕ) → w.reuse ≡ Some rows → IsCyclicOf X w no_machine_trails
-  new_ring w new rows e = record {
-    bus = record { ring = b; owners = [] };
+  pub new_cyclic : (w : Machine E) → IsNew w → (rows : ℕ) → w.reuse ≡ Some rows → IsCyclicOf X w no_machine_trails
+  new_cyclic w new rows e = record {
+    bus = record { machine = b; owners = [] };
     is = ap (λ r. record w { reuse = r }) e ∙ ap (λ l. record w { reuse = Some rows; senders = l }) (sym (rebuilt rows w.senders (λ p v at. let i = (new.senders p v at).1 in ap (λ y. again (new_participant rows y)) i ∙ ap (λ r. new_sender w.layout p r (base_of w p)) (sym e) ∙ sym i)))
         ∙ ap (λ o. record w { reuse = Some rows; senders = map again b.participants; owners = o }) new.owners;
     sized = λ p v at. let n = participant_new p v (slice_get w.senders p) refl (sym (slice_get-map (new_participant rows) w.senders p) ∙ at) in (ap (λ y. y.core.layout) n.1, ap (λ y. y.rows) n.1);

@@ -35,17 +35,17 @@ use Rattle.bus_tenure.specs.Core.{Core, Election, Layout, log_at}
 use Rattle.bus_world.proofs.EventTrails as plain
 use Rattle.bus_world.proofs.CyclicMachineLaws.{IsCyclicLayout, IsLed, same_register}
 use Rattle.bus_world.proofs.Serving.{Serves}
-use Rattle.bus_world.proofs.CyclicProtocolLaws.{HasKept, led_kept, yard_promised}
+use Rattle.bus_world.proofs.CyclicProtocolLaws.{HasKept, led_kept, protocol_promised}
 use Rattle.bus_world.specs.Bus.{IsLayout, Sending}
 use Rattle.bus_world.specs.Log.{words_read_from}
-use Rattle.bus_world.specs.CyclicMachines.{CyclicReached, yard_of, core_in}
-use Rattle.bus_world.specs.CyclicMachines as rings
+use Rattle.bus_world.specs.CyclicMachines.{CyclicReached, protocol_of, core_in}
+use Rattle.bus_world.specs.CyclicMachines as cyclic_machines
 use Rattle.bus_world.specs.Trails.{Reached as PlainReached, Takers}
 use Rattle.bus_world.specs.World.{Bus}
 use Rattle.bus_world.specs.CyclicProtocols.{CyclicProtocol, IsKeptProtocol}
 use Rattle.bus_machine.proofs.AtNone.{reached_at_none}
-use Rattle.bus_machine.proofs.Leading.{Sits, led_ring, ring_serves, ring_ok, ring_two}
-use Rattle.bus_machine.specs.Proved.Bridge.{of_bus, of_cyclic, plain_trails, ring_trails, AreSized}
+use Rattle.bus_machine.proofs.Leading.{Sits, led_cyclic, cyclic_serves, cyclic_ok, cyclic_two}
+use Rattle.bus_machine.specs.Proved.Bridge.{of_bus, of_cyclic, plain_trails, cyclic_trails, AreSized}
 use Rattle.bus_machine.specs.Machine.{base_of, Machine, Trails, Reached, log_place, log_of, stage_of}
 use Rattle.bus_machine.specs.Promise.{ReusesRows, ReusesSafely, pin_in, reclamation_of}
 use Rattle.bus_machine.specs.Remembering.{rows_in}
@@ -93,9 +93,9 @@ module _ {E : Type 0} (X : Election E) (z : OwnedCyclicMachine E) where
   participant_there v (Some u) e = (u, refl, sym (same_Some _ _ e))
 
   -- the same by its number
-  pub participant_at : (p : ℕ) (v : Sender E) → slice_get (of_cyclic z).senders p ≡ Some v → (u : Participant E) × (slice_get z.ring.participants p ≡ Some u)
+  pub participant_at : (p : ℕ) (v : Sender E) → slice_get (of_cyclic z).senders p ≡ Some v → (u : Participant E) × (slice_get z.machine.participants p ≡ Some u)
       × (v ≡ again u)
-  participant_at p v at = participant_there v (slice_get z.ring.participants p) (sym (slice_get-map again z.ring.participants p) ∙ at)
+  participant_at p v at = participant_there v (slice_get z.machine.participants p) (sym (slice_get-map again z.machine.participants p) ∙ at)
 
 module _ {E : Type 0} (X : Election E) (P : Protocol E (Unit {0}) ℕ) where
   -- ---- with a row for each tenure
@@ -136,51 +136,51 @@ module _ {E : Type 0} (X : Election E) (P : Protocol E (Unit {0}) ℕ) where
     }
 
   -- ---- with rows that are used again
-  module _ (z : OwnedCyclicMachine E) (q : Serves X P z.ring.layout) (ok : IsLayout z.ring.layout) (two : 2 ≤ z.ring.rows) (sized : AreSized z.ring)
-      (T : Trails) (l : CyclicReached X z.ring (ring_trails T)) where
-    x : IsCyclicLayout X P q.laws q.owner_is q.named q.announces q.apart z.ring.layout z.ring.rows
-    x = layout_served X P z.ring.layout z.ring.rows q ok two
+  module _ (z : OwnedCyclicMachine E) (q : Serves X P z.machine.layout) (ok : IsLayout z.machine.layout) (two : 2 ≤ z.machine.rows) (sized : AreSized z.machine)
+      (T : Trails) (l : CyclicReached X z.machine (cyclic_trails T)) where
+    x : IsCyclicLayout X P q.laws q.owner_is q.named q.announces q.apart z.machine.layout z.machine.rows
+    x = layout_served X P z.machine.layout z.machine.rows q ok two
 
-    h : IsLed X P q.laws q.owner_is q.named q.announces q.apart z.ring (ring_trails T)
-    h = led X P z q ok two (ring_trails T) l
+    h : IsLed X P q.laws q.owner_is q.named q.announces q.apart z.machine (cyclic_trails T)
+    h = led X P z q ok two (cyclic_trails T) l
 
     abbrev y : CyclicProtocol E
-    y = yard_of z.ring h.leads.reclaimer h.leads.owners
+    y = protocol_of z.machine h.leads.reclaimer h.leads.owners
 
-    kept : HasKept X P q.laws z.ring.layout x.ok x.width x.starts q.owner_is q.named q.announces q.apart z.ring.rows x.two T.heard y T.pins
+    kept : HasKept X P q.laws z.machine.layout x.ok x.width x.starts q.owner_is q.named q.announces q.apart z.machine.rows x.two T.heard y T.pins
         T.actions
-    kept = led_kept X P q.laws z.ring.layout x.ok x.width x.starts q.owner_is q.named q.announces q.apart z.ring.rows x.two T.heard y T.pins
+    kept = led_kept X P q.laws z.machine.layout x.ok x.width x.starts q.owner_is q.named q.announces q.apart z.machine.rows x.two T.heard y T.pins
         T.actions h.leads.led
 
-    keeps : IsKeptProtocol X z.ring.layout z.ring.rows y T.pins T.actions T.heard
-    keeps = yard_promised X P q.laws z.ring.layout x.ok x.width x.starts q.owner_is q.named q.announces q.apart z.ring.rows x.two y T.pins
+    keeps : IsKeptProtocol X z.machine.layout z.machine.rows y T.pins T.actions T.heard
+    keeps = protocol_promised X P q.laws z.machine.layout x.ok x.width x.starts q.owner_is q.named q.announces q.apart z.machine.rows x.two y T.pins
         T.actions T.heard h.leads.led
 
     -- what is known of its core is known of a sender
-    sender_there : (p : ℕ) (c : Core E) (o : Option (Participant E)) → slice_get z.ring.participants p ≡ o → core_in o ≡ Some c
+    sender_there : (p : ℕ) (c : Core E) (o : Option (Participant E)) → slice_get z.machine.participants p ≡ o → core_in o ≡ Some c
         → (v : Sender E) × (slice_get (of_cyclic z).senders p ≡ Some v) × (v.core ≡ c)
     sender_there p c None i e = absurd cc
-    sender_there p c (Some u) i e = (again u, slice_get-map again z.ring.participants p ∙ ap (option_map again) i, same_Some _ _ e)
+    sender_there p c (Some u) i e = (again u, slice_get-map again z.machine.participants p ∙ ap (option_map again) i, same_Some _ _ e)
 
     -- its log begins where that of the machine does
     starts_at : (p : ℕ) (v : Sender E) → slice_get (of_cyclic z).senders p ≡ Some v
-        → log_start z.ring.layout v.reuse ≡ log_place z.ring.layout (Some z.ring.rows)
+        → log_start z.machine.layout v.reuse ≡ log_place z.machine.layout (Some z.machine.rows)
     starts_at p v at =
         let u = participant_at X z p v at in
-        ap (λ (w : Sender E). log_start z.ring.layout w.reuse) u.2 ∙ ap (log_from z.ring.layout) (sized p u.0 u.1).1
+        ap (λ (w : Sender E). log_start z.machine.layout w.reuse) u.2 ∙ ap (log_from z.machine.layout) (sized p u.0 u.1).1
 
     -- the words of its log are those of the frames
     log_read : log_of (of_cyclic z) ≡ log_words kept.frames
     log_read =
         let fits = kept.kept.sending.log.fits in
-        ap (words_read_from (slice_index z.ring.words) (log_from z.ring.layout z.ring.rows)) kept.kept.laid.length
-        ∙ read_alike (kept.V 0) (slice_index z.ring.words) kept.V (log_from z.ring.layout z.ring.rows) (log_at z.ring.layout)
+        ap (words_read_from (slice_index z.machine.words) (log_from z.machine.layout z.machine.rows)) kept.kept.laid.length
+        ∙ read_alike (kept.V 0) (slice_index z.machine.words) kept.V (log_from z.machine.layout z.machine.rows) (log_at z.machine.layout)
         (λ j low. kept.kept.laid.log j (omega arith))
         ∙ kept.kept.sending.log.words_are
 
     -- so these spell the order of which the promise holds
     order_same : (keeps.order ≡ order_of kept.frames) × (keeps.owners ≡ map tenure_and_owner kept.frames)
-    order_same = spells_one z.ring.layout.senders (log_of (of_cyclic z)) keeps.order (order_of kept.frames) keeps.owners
+    order_same = spells_one z.machine.layout.senders (log_of (of_cyclic z)) keeps.order (order_of kept.frames) keeps.owners
         (map tenure_and_owner kept.frames) keeps.by.spelled record {
           frames = kept.frames;
           lawful = kept.kept.sending.log.lawful;
@@ -198,7 +198,7 @@ module _ {E : Type 0} (X : Election E) (P : Protocol E (Unit {0}) ℕ) where
       owners = h.leads.owners;
       sending = kept.kept.sending;
       core_of = λ p v at. let u = participant_at X z p v at in ap core_in u.1 ∙ ap (λ (w : Sender E). Some w.core) (sym u.2);
-      sender_of = λ p c at. sender_there p c (slice_get z.ring.participants p) refl at;
+      sender_of = λ p c at. sender_there p c (slice_get z.machine.participants p) refl at;
       starts = starts_at;
       rows = λ p v at. let u = participant_at X z p v at in ap (λ (w : Sender E). rows_in w.reuse) u.2 ∙ ap Some (sized p u.0 u.1).1;
       puts = λ p v at. let u = participant_at X z p v at in
@@ -209,21 +209,21 @@ module _ {E : Type 0} (X : Election E) (P : Protocol E (Unit {0}) ℕ) where
       stage = kept.kept.laid.stage;
       log = λ j low. kept.kept.laid.log j low;
       takers = keeps.by.takers;
-      promises = subst (λ o. Promises (slice_index z.ring.bases) T.actions T.heard o (map tenure_and_owner kept.frames)) order_same.0
-          (subst (Promises (slice_index z.ring.bases) T.actions T.heard keeps.order) order_same.1 keeps.by.promises);
+      promises = subst (λ o. Promises (slice_index z.machine.bases) T.actions T.heard o (map tenure_and_owner kept.frames)) order_same.0
+          (subst (Promises (slice_index z.machine.bases) T.actions T.heard keeps.order) order_same.1 keeps.by.promises);
     }
 
     -- ---- its rows
     pin_same : (p : ℕ) (o : Option (Participant E)) → slice_get (of_cyclic z).senders p ≡ option_map again o
-        → rings.pin_in o ≡ pin_in (slice_get (of_cyclic z).senders p)
+        → cyclic_machines.pin_in o ≡ pin_in (slice_get (of_cyclic z).senders p)
     pin_same p None i = sym (ap pin_in i)
     pin_same p (Some u) i = sym (ap pin_in i)
 
     -- the reclamation is that of the machine
     reclamation_is : y.reclamation ≡ reclamation_of (of_cyclic z) h.leads.reclaimer
     reclamation_is =
-        ap (λ f. record { words = slice_index z.ring.words; pins = f; reclaimer = h.leads.reclaimer })
-        (fun_ext (λ p. pin_same p (slice_get z.ring.participants p) (slice_get-map again z.ring.participants p)))
+        ap (λ f. record { words = slice_index z.machine.words; pins = f; reclaimer = h.leads.reclaimer })
+        (fun_ext (λ p. pin_same p (slice_get z.machine.participants p) (slice_get-map again z.machine.participants p)))
 
     -- who holds the page has its reclaimer
     holder : (p : ℕ) (v : Sender E) (t : ℕ) → slice_get (of_cyclic z).senders p ≡ Some v → held_of v.core.phase ≡ Some t
@@ -236,7 +236,7 @@ module _ {E : Type 0} (X : Election E) (P : Protocol E (Unit {0}) ℕ) where
     -- each step of an election is on a word of the row that its tenure uses
     within : (p t word : ℕ) (v : Sender E) (e : E) (o : Op) → slice_get (of_cyclic z).senders p ≡ Some v → situation X v ≡ Does (Elects t e)
         → (line_now X v).op word ≡ Some o
-        → (row_of (sizes_with z.ring.layout z.ring.rows) t ≤ register o) × (register o < row_of (sizes_with z.ring.layout z.ring.rows) t + z.ring.layout.width)
+        → (row_of (sizes_with z.machine.layout z.machine.rows) t ≤ register o) × (register o < row_of (sizes_with z.machine.layout z.machine.rows) t + z.machine.layout.width)
     within p t word v e o at i next =
         let u = participant_at X z p v at in
         let there = ap core_in u.1 in
@@ -245,40 +245,40 @@ module _ {E : Type 0} (X : Election E) (P : Protocol E (Unit {0}) ℕ) where
         by u.0 there (kept.kept.sending.parts p u.0.core there).layout (sized p u.0 u.1).1 runs (X.op e word) refl
         (subst (λ (w : Sender E). in_row w.core.layout w.reuse t (X.op e word) ≡ Some o) u.2 due)
       where
-        by : (u : Participant E) → y.senders p ≡ Some u.core → u.core.layout ≡ z.ring.layout → u.rows ≡ z.ring.rows → u.core.phase ≡ Electing t e
+        by : (u : Participant E) → y.senders p ≡ Some u.core → u.core.layout ≡ z.machine.layout → u.rows ≡ z.machine.rows → u.core.phase ≡ Electing t e
             → (d : Option Op) → X.op e word ≡ d → in_row u.core.layout (Some (reuse_of u)) t d ≡ Some o
-            → (row_of (sizes_with z.ring.layout z.ring.rows) t ≤ register o) × (register o < row_of (sizes_with z.ring.layout z.ring.rows) t + z.ring.layout.width)
+            → (row_of (sizes_with z.machine.layout z.machine.rows) t ≤ register o) × (register o < row_of (sizes_with z.machine.layout z.machine.rows) t + z.machine.layout.width)
         by u there layout rows runs None n q = absurd cc
         by u there layout rows runs (Some w) n q =
             let f = place_for {E = E} u.core.layout u.rows (Elects t e) in
-            let same : f ≡ place_for z.ring.layout z.ring.rows (Elects t e) = ap (λ g. place_for g u.rows (Elects t e)) layout
-            ∙ ap (λ r. place_for z.ring.layout r (Elects t e)) rows in
-            let where_is : register o ≡ place_for z.ring.layout z.ring.rows (Elects t e) (register w) = sym (ap register (same_Some _ _ q))
+            let same : f ≡ place_for z.machine.layout z.machine.rows (Elects t e) = ap (λ g. place_for g u.rows (Elects t e)) layout
+            ∙ ap (λ r. place_for z.machine.layout r (Elects t e)) rows in
+            let where_is : register o ≡ place_for z.machine.layout z.machine.rows (Elects t e) (register w) = sym (ap register (same_Some _ _ q))
             ∙ same_register f w ∙ ap (λ g. g (register w)) same in
             let b = keeps.by.within p u.core t e word w there runs n in (
-              subst (λ n. row_of (sizes_with z.ring.layout z.ring.rows) t ≤ n) (sym where_is) b.0,
-              subst (λ n. n < row_of (sizes_with z.ring.layout z.ring.rows) t + z.ring.layout.width) (sym where_is) b.1,
+              subst (λ n. row_of (sizes_with z.machine.layout z.machine.rows) t ≤ n) (sym where_is) b.0,
+              subst (λ n. n < row_of (sizes_with z.machine.layout z.machine.rows) t + z.machine.layout.width) (sym where_is) b.1,
             )
 
     -- no step clears a word of a row in which anybody stands
     spares : (p q t place word : ℕ) (v : Sender E) (s : Reclaiming) (o : Op) → slice_get (of_cyclic z).senders p ≡ Some v
-        → situation X v ≡ Clears s → (line_now X v).op word ≡ Some o → Stands (sizes_with z.ring.layout z.ring.rows) q (T.pins q) t
-        → place < z.ring.layout.width
-        → register o ≢ row_of (sizes_with z.ring.layout z.ring.rows) t + place
+        → situation X v ≡ Clears s → (line_now X v).op word ≡ Some o → Stands (sizes_with z.machine.layout z.machine.rows) q (T.pins q) t
+        → place < z.machine.layout.width
+        → register o ≢ row_of (sizes_with z.machine.layout z.machine.rows) t + place
     spares p q t place word v s o at i next stands low same =
         let c = clearing X v s i in
         let mine : h.leads.reclaimer ≡ Some s = sym (holder p v c.tenure at c.held) ∙ c.reclaims in
         let due : Some (Store record { 0 = s.row + s.cleared } 0) ≡ Some o = sym (ap (λ w. (line X v w).op word) i) ∙ next in
-        spared (sizes_with z.ring.layout z.ring.rows) y.reclamation T.pins keeps.by.safe s mine c.step q t place stands low
+        spared (sizes_with z.machine.layout z.machine.rows) y.reclamation T.pins keeps.by.safe s mine c.step q t place stands low
         (ap register (same_Some _ _ due) ∙ same)
 
     -- they are used again as is promised
-    pub reuses_at_some : ReusesRows X (of_cyclic z) T z.ring.rows
+    pub reuses_at_some : ReusesRows X (of_cyclic z) T z.machine.rows
     reuses_at_some = record {
       reclaimer = h.leads.reclaimer;
       holder = holder;
-      reached = subst (λ g. ReclamationReached (sizes_with z.ring.layout z.ring.rows) g T.pins) reclamation_is keeps.by.reached;
-      safe = subst (λ g. IsSafe (sizes_with z.ring.layout z.ring.rows) g T.pins) reclamation_is keeps.by.safe;
+      reached = subst (λ g. ReclamationReached (sizes_with z.machine.layout z.machine.rows) g T.pins) reclamation_is keeps.by.reached;
+      safe = subst (λ g. IsSafe (sizes_with z.machine.layout z.machine.rows) g T.pins) reclamation_is keeps.by.safe;
       ready = keeps.by.ready;
       stands = λ p v t e at ph. let u = participant_at X z p v at in
           keeps.by.stands p u.0.core t e (ap core_in u.1) (sym (ap (λ (w : Sender E). w.core.phase) u.2) ∙ ph);
@@ -294,9 +294,9 @@ module _ {E : Type 0} (X : Election E) (P : Protocol E (Unit {0}) ℕ) where
         let i = reached_at_none X m T r e in
         subst (λ y. IsFramed P y T) (sym i.is) (framed_at_none m.bases m.layout s.serves s.ok i.bus T i.reached)
     by (Some rows) e =
-        let i = led_ring X P m T s r rows e in
+        let i = led_cyclic X P m T s r rows e in
         subst (λ y. IsFramed P y T) (sym i.is)
-        (framed_at_some i.bus (ring_serves X P m s i.bus i.is) (ring_ok X P m s i.bus i.is) (ring_two X P m s i.bus i.is) i.sized T i.leads)
+        (framed_at_some i.bus (cyclic_serves X P m s i.bus i.is) (cyclic_ok X P m s i.bus i.is) (cyclic_two X P m s i.bus i.is) i.sized T i.leads)
 
   -- and its rows are used again as is promised
   pub reuses : (m : Machine E) (T : Trails) → Sits X P m → Reached X m T → ReusesSafely X m T m.reuse
@@ -304,7 +304,7 @@ module _ {E : Type 0} (X : Election E) (P : Protocol E (Unit {0}) ℕ) where
     by : (o : Option ℕ) → m.reuse ≡ o → ReusesSafely X m T o
     by None e = tt
     by (Some rows) e =
-        let i = led_ring X P m T s r rows e in
+        let i = led_cyclic X P m T s r rows e in
         subst (ReusesSafely X m T) (sym (ap (λ (y : Machine E). y.reuse) i.is) ∙ e)
-        (subst (λ y. ReusesRows X y T i.bus.ring.rows) (sym i.is)
-        (reuses_at_some i.bus (ring_serves X P m s i.bus i.is) (ring_ok X P m s i.bus i.is) (ring_two X P m s i.bus i.is) i.sized T i.leads))
+        (subst (λ y. ReusesRows X y T i.bus.machine.rows) (sym i.is)
+        (reuses_at_some i.bus (cyclic_serves X P m s i.bus i.is) (cyclic_ok X P m s i.bus i.is) (cyclic_two X P m s i.bus i.is) i.sized T i.leads))

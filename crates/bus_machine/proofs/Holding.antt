@@ -35,10 +35,10 @@ use Rattle.bus_world.specs.Trails.{MachineInvariant}
 use Rattle.bus_world.specs.World.{Bus, Event, Put, Ask, Turn, Recv, Stop, given_at}
 use Rattle.bus_world.specs.declared.events.Answer.{Answer}
 use Rattle.bus_machine.proofs.AtNone as none
-use Rattle.bus_machine.proofs.Leading.{Sits, led_ring, ring_serves, ring_ok, ring_two}
+use Rattle.bus_machine.proofs.Leading.{Sits, led_cyclic, cyclic_serves, cyclic_ok, cyclic_two}
 use Rattle.bus_machine.proofs.Framed.{IsFramed, framed, participant_at}
 use Rattle.bus_machine.proofs.Taking.{takers_told}
-use Rattle.bus_machine.specs.Proved.Bridge.{of_bus, of_cyclic, plain_trails, ring_trails}
+use Rattle.bus_machine.specs.Proved.Bridge.{of_bus, of_cyclic, plain_trails, cyclic_trails}
 use Rattle.bus_machine.specs.Machine.{base_of, Machine, Trails, Reached, Then, Happens, trails_grown, log_place, log_of, owners_told, turn_answer, going}
 use Rattle.bus_machine.specs.Playing.{IsHeld, AreRows}
 use Rattle.bus_machine.specs.Promise.{HasRows}
@@ -109,10 +109,10 @@ module _ {E : Type 0} (X : Election E) (P : Protocol E (Unit {0}) ℕ) where
           };
         }
 
-    pub held_ring : (rows : ℕ) → m.reuse ≡ Some rows → HeldCyclic m
-    held_ring rows used =
+    pub held_cyclic : (rows : ℕ) → m.reuse ≡ Some rows → HeldCyclic m
+    held_cyclic rows used =
         let t = sits m s h in
-        let i = led_ring X P m h.trails t h.reached rows used in
+        let i = led_cyclic X P m h.trails t h.reached rows used in
         let z = i.bus in
         let r = subst (λ (y : Machine E). AreRows y.layout y.reuse) i.is h.rows in
         record {
@@ -124,22 +124,22 @@ module _ {E : Type 0} (X : Election E) (P : Protocol E (Unit {0}) ℕ) where
             rows_few = r.0.1;
             capacity_few = subst (λ (y : Machine E). y.layout.capacity ≤ 65536) i.is h.capacity_few;
             tenures = r.1;
-            senders = sym (length-map z.ring.participants again) ∙ subst (λ (y : Machine E). length y.senders ≡ y.layout.senders) i.is h.senders;
-            is = (cyclic.led X P z (ring_serves X P m t z i.is) (ring_ok X P m t z i.is) (ring_two X P m t z i.is) (ring_trails h.trails) i.leads).is;
-            trails = ring_trails h.trails;
+            senders = sym (length-map z.machine.participants again) ∙ subst (λ (y : Machine E). length y.senders ≡ y.layout.senders) i.is h.senders;
+            is = (cyclic.led X P z (cyclic_serves X P m t z i.is) (cyclic_ok X P m t z i.is) (cyclic_two X P m t z i.is) (cyclic_trails h.trails) i.leads).is;
+            trails = cyclic_trails h.trails;
             leads = i.leads;
           };
         }
 
-    ring_served : (k : HeldCyclic m) → Serves X P k.bus.ring.layout
-    ring_served k = subst (Serves X P) (ap (λ (y : Machine E). y.layout) k.is) s
+    cyclic_served : (k : HeldCyclic m) → Serves X P k.bus.machine.layout
+    cyclic_served k = subst (Serves X P) (ap (λ (y : Machine E). y.layout) k.is) s
 
     -- ---- where there are this many words
     pub words_many : length m.words ≡ log_place m.layout m.reuse + m.layout.capacity
     words_many = by m.reuse refl where
       by : (o : Option ℕ) → m.reuse ≡ o → length m.words ≡ log_place m.layout m.reuse + m.layout.capacity
       by None fresh = let k = held_plain fresh in subst (λ (y : Machine E). length y.words ≡ log_place y.layout y.reuse + y.layout.capacity) (sym k.is) k.served.lawful.words
-      by (Some rows) used = let k = held_ring rows used in subst (λ (y : Machine E). length y.words ≡ log_place y.layout y.reuse + y.layout.capacity) (sym k.is) k.served.is.words
+      by (Some rows) used = let k = held_cyclic rows used in subst (λ (y : Machine E). length y.words ≡ log_place y.layout y.reuse + y.layout.capacity) (sym k.is) k.served.is.words
 
     -- by the frames of its log
     its_frames : IsFramed P m h.trails
@@ -197,16 +197,16 @@ module _ {E : Type 0} (X : Election E) (P : Protocol E (Unit {0}) ℕ) where
       plain_at : (k : HeldPlain m) → (c : Core E) × (slice_get k.bus.side.senders p ≡ Some c) × (v ≡ apart c)
       plain_at k = core_there (slice_get k.bus.side.senders p) (sym (slice_get-map apart k.bus.side.senders p) ∙ subst (λ (y : Machine E). slice_get y.senders p ≡ Some v) k.is at)
 
-      ring_at : (k : HeldCyclic m) → (u : _) × (slice_get k.bus.ring.participants p ≡ Some u) × (v ≡ again u)
-      ring_at k = participant_at X k.bus p v (subst (λ (y : Machine E). slice_get y.senders p ≡ Some v) k.is at)
+      cyclic_at : (k : HeldCyclic m) → (u : _) × (slice_get k.bus.machine.participants p ≡ Some u) × (v ≡ again u)
+      cyclic_at k = participant_at X k.bus p v (subst (λ (y : Machine E). slice_get y.senders p ≡ Some v) k.is at)
 
       pub room : length m.words ≡ words_all v
       room = by m.reuse refl where
         by : (o : Option ℕ) → m.reuse ≡ o → length m.words ≡ words_all v
         by None fresh = let k = held_plain fresh in let c = plain_at k in
             subst (λ (y : Machine E). length y.words ≡ words_all v) (sym k.is) (subst (λ u. length k.bus.side.words ≡ words_all u) (sym c.2) (plain.words_enough X P m.layout s.laws s.width s.starts s.owner_is k.bus k.served _ refl p c.0 c.1))
-        by (Some rows) used = let k = held_ring rows used in let u = ring_at k in
-            subst (λ (y : Machine E). length y.words ≡ words_all v) (sym k.is) (subst (λ w. length k.bus.ring.words ≡ words_all w) (sym u.2) (cyclic.room X P k.bus (ring_served k) k.served p u.0 u.1))
+        by (Some rows) used = let k = held_cyclic rows used in let u = cyclic_at k in
+            subst (λ (y : Machine E). length y.words ≡ words_all v) (sym k.is) (subst (λ w. length k.bus.machine.words ≡ words_all w) (sym u.2) (cyclic.room X P k.bus (cyclic_served k) k.served p u.0 u.1))
 
       pub sums : (word : ℕ) (o : Op) → (line_now X v).op word ≡ Some o → SumFits o (slice_index m.words (register o))
       sums word o next = by m.reuse refl where
@@ -214,9 +214,9 @@ module _ {E : Type 0} (X : Election E) (P : Protocol E (Unit {0}) ℕ) where
         by None fresh = let k = held_plain fresh in let c = plain_at k in
             subst (λ (y : Machine E). SumFits o (slice_index y.words (register o))) (sym k.is)
             (plain.sums_fit X P m.layout s.laws s.width s.starts s.owner_is k.bus k.served _ refl p c.0 c.1 word o (sym (ap (λ l. l.op word) (at_none X c.0)) ∙ subst (λ w. (line_now X w).op word ≡ Some o) c.2 next))
-        by (Some rows) used = let k = held_ring rows used in let u = ring_at k in
+        by (Some rows) used = let k = held_cyclic rows used in let u = cyclic_at k in
             subst (λ (y : Machine E). SumFits o (slice_index y.words (register o))) (sym k.is)
-            (cyclic.sums X P k.bus (ring_served k) k.served p u.0 u.1 word o (sym ((at_some X u.0).op word) ∙ subst (λ w. (line_now X w).op word ≡ Some o) u.2 next))
+            (cyclic.sums X P k.bus (cyclic_served k) k.served p u.0 u.1 word o (sym ((at_some X u.0).op word) ∙ subst (λ w. (line_now X w).op word ≡ Some o) u.2 next))
 
       pub laid : AwaitsItsPage v.core.phase → ⊥
       laid waits = subst (Fits (base_of m) its_frames.V its_frames.frames v.core) waits.is
@@ -227,8 +227,8 @@ module _ {E : Type 0} (X : Election E) (P : Protocol E (Unit {0}) ℕ) where
         by : (r : Option ℕ) → m.reuse ≡ r → next_of v.core.queue < 2 ^ 48
         by None fresh = let k = held_plain fresh in let c = plain_at k in
             subst (λ (w : Sender E). next_of w.core.queue < 2 ^ 48) (sym c.2) (numbers_fit X P s.laws m.layout (sits m s h).ok s.width s.starts s.owner_is k.bus.side k.served.frames (side_of k.served.lawful) p c.0 c.1)
-        by (Some rows) used = let k = held_ring rows used in let u = ring_at k in
-            subst (λ (w : Sender E). next_of w.core.queue < 2 ^ 48) (sym u.2) (cyclic.numbers X P k.bus (ring_served k) k.served p u.0 u.1)
+        by (Some rows) used = let k = held_cyclic rows used in let u = cyclic_at k in
+            subst (λ (w : Sender E). next_of w.core.queue < 2 ^ 48) (sym u.2) (cyclic.numbers X P k.bus (cyclic_served k) k.served p u.0 u.1)
 
     -- there is room for one owner more
     pub owner_fits : (p : ℕ) (v : Sender E) → going m p ≡ Some v → (word t : ℕ) → turn_answer m (line_now X v) word ≡ turn.Own t → length m.owners < 256
@@ -251,17 +251,17 @@ module _ {E : Type 0} (X : Election E) (P : Protocol E (Unit {0}) ℕ) where
         by None fresh = let k = held_plain fresh in
             subst (λ (y : Machine E). IfSome (receiving_op v) (λ o. register o < length y.words)) (sym k.is)
             (plain.loads_within X P m.layout s.laws s.width s.starts s.owner_is k.bus k.served _ refl r v (subst (λ (y : Machine E). slice_get y.receivers r ≡ Some v) k.is at))
-        by (Some rows) used = let k = held_ring rows used in
+        by (Some rows) used = let k = held_cyclic rows used in
             subst (λ (y : Machine E). IfSome (receiving_op v) (λ o. register o < length y.words)) (sym k.is)
-            (cyclic.loads_within X P k.bus (ring_served k) k.served r v (subst (λ (y : Machine E). slice_get y.receivers r ≡ Some v) k.is at))
+            (cyclic.loads_within X P k.bus (cyclic_served k) k.served r v (subst (λ (y : Machine E). slice_get y.receivers r ≡ Some v) k.is at))
 
       pub place_within : v.place ≤ length (log_of m)
       place_within = by m.reuse refl where
         by : (o : Option ℕ) → m.reuse ≡ o → v.place ≤ length (log_of m)
         by None fresh = let k = held_plain fresh in
             subst (λ (y : Machine E). v.place ≤ length (log_of y)) (sym k.is) (plain_views.place_within {X = X} P _ k.served r v (subst (λ (y : Machine E). slice_get y.receivers r ≡ Some v) k.is at))
-        by (Some rows) used = let k = held_ring rows used in
-            subst (λ (y : Machine E). v.place ≤ length (log_of y)) (sym k.is) (cyclic_views.place_within X P k.bus (ring_served k) k.served r v (subst (λ (y : Machine E). slice_get y.receivers r ≡ Some v) k.is at))
+        by (Some rows) used = let k = held_cyclic rows used in
+            subst (λ (y : Machine E). v.place ≤ length (log_of y)) (sym k.is) (cyclic_views.place_within X P k.bus (cyclic_served k) k.served r v (subst (λ (y : Machine E). slice_get y.receivers r ≡ Some v) k.is at))
 
     -- what stands below the place of a receiver is what it was given
     pub heard : (r : ℕ) → r < length m.receivers → (order : Order)
@@ -281,11 +281,11 @@ module _ {E : Type 0} (X : Election E) (P : Protocol E (Unit {0}) ℕ) where
           ∙ sym (plain_trails_of.given_below m.bases X P s.laws m.layout ok s.width s.starts s.owner_is s.named s.announces s.apart i.bus (plain_trails T) i.reached k.frames k.lawful.keeps.sending.log.lawful k.lawful.keeps.sending.log.words_are r there.0 (subst (λ (y : Machine E). slice_get y.receivers r ≡ Some there.0) i.is there.1))
       by (Some rows) used =
           let t = sits m s h in
-          let i = led_ring X P m T t reached rows used in
+          let i = led_cyclic X P m T t reached rows used in
           let z = i.bus in
-          let c = ring_serves X P m t z i.is in
-          let x = cyclic.layout_served X P z.ring.layout z.ring.rows c (ring_ok X P m t z i.is) (ring_two X P m t z i.is) in
-          let l = cyclic.led X P z c (ring_ok X P m t z i.is) (ring_two X P m t z i.is) (ring_trails T) i.leads in
-          let f = fits.frames_there X P c.laws c.owner_is c.named c.announces c.apart z.ring x (ring_trails T) l in
+          let c = cyclic_serves X P m t z i.is in
+          let x = cyclic.layout_served X P z.machine.layout z.machine.rows c (cyclic_ok X P m t z i.is) (cyclic_two X P m t z i.is) in
+          let l = cyclic.led X P z c (cyclic_ok X P m t z i.is) (cyclic_two X P m t z i.is) (cyclic_trails T) i.leads in
+          let f = fits.frames_there X P c.laws c.owner_is c.named c.announces c.apart z.machine x (cyclic_trails T) l in
           stands f.0 there.0 (subst (λ (y : Machine E). AreFrames y.layout.senders f.0) (sym i.is) f.1) (subst (λ (y : Machine E). log_of y ≡ log_words f.0) (sym i.is) f.2) there.1
-          ∙ sym (fits.given_is X P c.laws c.owner_is c.named c.announces c.apart z.ring x (ring_trails T) l r there.0 (subst (λ (y : Machine E). slice_get y.receivers r ≡ Some there.0) i.is there.1) f.0 f.1 f.2)
+          ∙ sym (fits.given_is X P c.laws c.owner_is c.named c.announces c.apart z.machine x (cyclic_trails T) l r there.0 (subst (λ (y : Machine E). slice_get y.receivers r ≡ Some there.0) i.is there.1) f.0 f.1 f.2)

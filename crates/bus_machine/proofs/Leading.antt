@@ -9,8 +9,8 @@ use Rattle.bus_world.specs.Bus.{IsLayout}
 use Rattle.bus_world.specs.World.{Event}
 use Rattle.bus_world.specs.declared.events.Answer.{Answer}
 use Rattle.bus_machine.proofs.AtNone.{event_reuse}
-use Rattle.bus_machine.proofs.AtSome.{happens_at_some, new_ring}
-use Rattle.bus_machine.specs.Proved.Bridge.{of_cyclic, ring_trails, AreSized}
+use Rattle.bus_machine.proofs.AtSome.{happens_at_some, new_cyclic}
+use Rattle.bus_machine.specs.Proved.Bridge.{of_cyclic, cyclic_trails, AreSized}
 use Rattle.bus_machine.specs.Machine.{Machine, Trails, Reached, New as Start, Then as Next, Happens, trails_grown}
 use Rattle.bus_machine.specs.Promise.{HasRows}
 
@@ -29,30 +29,30 @@ module _ {E : Type 0} (X : Election E) (P : Protocol E (Unit {0}) ℕ) where
 
   -- ---- rows that are used again
   module _ (m : Machine E) (s : Sits m) (z : OwnedCyclicMachine E) (is : m ≡ of_cyclic z) where
-    pub ring_serves : Serves X P z.ring.layout
-    ring_serves = subst (Serves X P) (ap (λ (y : Machine E). y.layout) is) s.serves
+    pub cyclic_serves : Serves X P z.machine.layout
+    cyclic_serves = subst (Serves X P) (ap (λ (y : Machine E). y.layout) is) s.serves
 
-    pub ring_ok : IsLayout z.ring.layout
-    ring_ok = subst IsLayout (ap (λ (y : Machine E). y.layout) is) s.ok
+    pub cyclic_ok : IsLayout z.machine.layout
+    cyclic_ok = subst IsLayout (ap (λ (y : Machine E). y.layout) is) s.ok
 
-    pub ring_two : 2 ≤ z.ring.rows
-    ring_two = subst HasRows (ap (λ (y : Machine E). y.reuse) is) s.rows
+    pub cyclic_two : 2 ≤ z.machine.rows
+    cyclic_two = subst HasRows (ap (λ (y : Machine E). y.reuse) is) s.rows
 
   -- the trails lead to it
   pub record IsLedCyclic (m : Machine E) (T : Trails) : Type 0 where
     pub bus : OwnedCyclicMachine E
     pub is : m ≡ of_cyclic bus
-    pub sized : AreSized bus.ring
-    pub leads : CyclicReached X bus.ring (ring_trails T)
+    pub sized : AreSized bus.machine
+    pub leads : CyclicReached X bus.machine (cyclic_trails T)
 
-  pub led_ring : (m : Machine E) (T : Trails) → Sits m → Reached X m T → (rows : ℕ) → m.reuse ≡ Some rows → IsLedCyclic m T
-  led_ring m T s (Start w new) rows e = let i = new_ring X w new rows e in record { bus = i.bus; is = i.is; sized = i.sized; leads = i.reached }
-  led_ring m T s (Next w v U f a before h) rows e =
-      let i = led_ring w U (sits_before w v f a h s) before rows (sym (event_reuse X w v f a h).1 ∙ e) in
+  pub led_cyclic : (m : Machine E) (T : Trails) → Sits m → Reached X m T → (rows : ℕ) → m.reuse ≡ Some rows → IsLedCyclic m T
+  led_cyclic m T s (Start w new) rows e = let i = new_cyclic X w new rows e in record { bus = i.bus; is = i.is; sized = i.sized; leads = i.reached }
+  led_cyclic m T s (Next w v U f a before h) rows e =
+      let i = led_cyclic w U (sits_before w v f a h s) before rows (sym (event_reuse X w v f a h).1 ∙ e) in
       let k = happens_at_some X i.bus f a v i.sized (subst (λ y. Happens X y f a v) i.is h) in
       record {
         bus = k.bus;
         is = k.is;
         sized = k.sized;
-        leads = subst (λ y. CyclicReached X k.bus.ring (ring_trails (trails_grown X y f a U))) (sym i.is) (k.reached U i.leads);
+        leads = subst (λ y. CyclicReached X k.bus.machine (cyclic_trails (trails_grown X y f a U))) (sym i.is) (k.reached U i.leads);
       }

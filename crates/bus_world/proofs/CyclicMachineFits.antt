@@ -1,4 +1,4 @@
--- What a machine that holds a ring goes by: numbers and sums that fit, loads of receivers on words that there are, no page under way
+-- What a machine that holds a machine goes by: numbers and sums that fit, loads of receivers on words that there are, no page under way
 -- between turns, and what receivers were given.
 use Rattle.std.proofs.Common.{◌≡◌, ◌≢◌, inl, inr, ◌⊎◌, ℕ, ◌+◌, ◌-◌, ◌*◌, ◌<◌, ◌≤◌, ◌^◌, Bool, true, false, cond, ◌==◌, nat_lt, Option, Some, None, List, is_some, length, slice_get, slice_index, arith, refl, sym, ◌∙◌, ap, subst}
 use Rattle.std.specs.Prelude.{IfSome}
@@ -32,7 +32,7 @@ use Rattle.bus_core.specs.Reusing.Turns.{Participant, due, op_due, on_place, op_
 use Rattle.bus_world.specs.Bus.{Part, standing_of, stands_at, least_of}
 use Rattle.bus_world.specs.Headline.{order_given}
 use Rattle.bus_world.specs.Log.{words_read_from}
-use Rattle.bus_world.specs.CyclicMachines.{CyclicMachine, CyclicTrails, yard_of, core_in}
+use Rattle.bus_world.specs.CyclicMachines.{CyclicMachine, CyclicTrails, protocol_of, core_in}
 use Rattle.bus_world.specs.Tenures.Standing.{Runs}
 use Rattle.bus_world.specs.World.{given_at}
 use Rattle.bus_world.specs.CyclicProtocols.{CyclicProtocol}
@@ -71,7 +71,7 @@ module _ {E : Type 0} (X : Election E) (P : Protocol E (Unit {0}) ℕ) (laws : L
     (named : (e : E) (word : ℕ) → is_some (X.kind_of e) ≡ is_some (X.op e word)) (announces : (e : E) → P.has_begun e ≡ false → X.kind_of e ≡ Some kind.Announce) (apart : (e : E) → X.kind_of e ≡ Some kind.TakePage → ⊥)
     (b : CyclicMachine E) (x : IsCyclicLayout X P laws owner_is named announces apart b.layout b.rows) (T : CyclicTrails) (h : IsLed X P laws owner_is named announces apart b T) where
   abbrev y : CyclicProtocol E
-  y = yard_of b h.leads.reclaimer h.leads.owners
+  y = protocol_of b h.leads.reclaimer h.leads.owners
 
   abbrev z : ReclamationSizes
   z = sizes_with b.layout b.rows

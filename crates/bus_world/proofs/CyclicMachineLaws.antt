@@ -1,4 +1,4 @@
--- A turn of the bus whose rows are used again, as its yard's.
+-- A turn of the bus whose rows are used again, as a turn of its protocol.
 use Rattle.std.proofs.Common.{◌≡◌, ◌≢◌, inl, inr, ℕ, zero, suc, ◌+◌, ◌<◌, ◌≤◌, Bool, true, false, cond, ◌&&◌, ◌==◌, nat_le, All, ◌/◌, Option, Some, None, List, [], ◌∷◌, ◌++◌, is_some, length, slice_get, slice_index, slice_set, arith, refl, sym, ◌∙◌, ap, subst}
 use mathlib.Core.Path.{fun_ext}
 use Rattle.std.proofs.lemmas.Bool.{cases_eq, true≢false}
@@ -37,10 +37,10 @@ use Rattle.bus_tenure.proofs.Situated.{tells}
 use Rattle.bus_world.specs.Bus.{IsLayout, Part, Fits, standing_of, stands_at, least_of}
 use Rattle.bus_tenure.specs.declared.turns.Turn.TheVariants as turn
 use Rattle.bus_world.specs.Headline.{Action, HasPut, HasMarked}
-use Rattle.bus_world.specs.CyclicMachines.{CyclicMachine, yard_of, pin_in, core_in, Leads, IsCyclic, IsNewCyclic, IsOnWord, CyclicTrails, CyclicReached, NewCyclic, TurnTaken, PutTaken, MarkTaken, RecvTaken, StopTaken, participant_going, with_participant, participant_put, participant_marked, move_due, participant_moved, ring_after, ring_trails, ring_reclaims, ring_actions}
+use Rattle.bus_world.specs.CyclicMachines.{CyclicMachine, protocol_of, pin_in, core_in, Leads, IsCyclic, IsNewCyclic, IsOnWord, CyclicTrails, CyclicReached, NewCyclic, TurnTaken, PutTaken, MarkTaken, RecvTaken, StopTaken, participant_going, with_participant, participant_put, participant_marked, move_due, participant_moved, cyclic_turned, cyclic_trails, cyclic_reclaims, cyclic_actions}
 use Rattle.bus_world.specs.Tenures.Standing.{Holds}
 use Rattle.bus_world.specs.Turning.{words_after, number_found, core_moved, after_step, home_after}
-use Rattle.bus_world.specs.CyclicProtocols.{CyclicProtocol, Led, NewProtocol, Turned, PutIn, MarkedIn, Heard, AnswersDue, due_in, due_actions, actions_with, no_actions, no_answers, answers_with, trails_with, yard_after, words_stepped, word_found}
+use Rattle.bus_world.specs.CyclicProtocols.{CyclicProtocol, Led, NewProtocol, Turned, PutIn, MarkedIn, Heard, AnswersDue, due_in, due_actions, actions_with, no_actions, no_answers, answers_with, trails_with, protocol_after, words_stepped, word_found}
 use Rattle.bus_world.specs.World.{RecvDoes, is_set, is_open, can_put, can_close, new_core}
 use Rattle.bus_world.proofs.Beginning.{zeros}
 use Rattle.bus_world.proofs.TenuresLaws as tenures
@@ -85,10 +85,10 @@ placed_found : (f : ℕ → ℕ) (w : ℕ → ℕ) (d : Option Op) → number_fo
 placed_found f w None = refl
 placed_found f w (Some o) = ap w (same_register f o)
 
--- ---- yards alike
-yards_same : {E : Type 0} (bases : List ℕ) (w w' : ℕ → ℕ) (v v' : ℕ → Pin) (c c' : ℕ → Option (Core E)) (reclaimer : Option Reclaiming) (home : Option Page) (receivers : ℕ → Option Receiving) (owners : List ℕ) → w ≡ w' → v ≡ v' → c ≡ c'
+-- ---- protocols alike
+protocols_same : {E : Type 0} (bases : List ℕ) (w w' : ℕ → ℕ) (v v' : ℕ → Pin) (c c' : ℕ → Option (Core E)) (reclaimer : Option Reclaiming) (home : Option Page) (receivers : ℕ → Option Receiving) (owners : List ℕ) → w ≡ w' → v ≡ v' → c ≡ c'
     → ◌≡◌ {A = CyclicProtocol E} record { bases = bases; reclamation = record { words = w; pins = v; reclaimer = reclaimer }; home = home; senders = c; receivers = receivers; owners = owners } record { bases = bases; reclamation = record { words = w'; pins = v'; reclaimer = reclaimer }; home = home; senders = c'; receivers = receivers; owners = owners }
-yards_same bases w w' v v' c c' reclaimer home receivers owners i j k =
+protocols_same bases w w' v v' c c' reclaimer home receivers owners i j k =
     ap (λ a. record { bases = bases; reclamation = record { words = a; pins = v; reclaimer = reclaimer }; home = home; senders = c; receivers = receivers; owners = owners }) i
     ∙ ap (λ a. record { bases = bases; reclamation = record { words = w'; pins = a; reclaimer = reclaimer }; home = home; senders = c; receivers = receivers; owners = owners }) j
     ∙ ap (λ a. record { bases = bases; reclamation = record { words = w'; pins = v'; reclaimer = reclaimer }; home = home; senders = a; receivers = receivers; owners = owners }) k
@@ -134,7 +134,7 @@ module _ {E : Type 0} (X : Election E) (P : Protocol E (Unit {0}) ℕ) (laws : L
     (named : (e : E) (word : ℕ) → is_some (X.kind_of e) ≡ is_some (X.op e word)) (announces : (e : E) → P.has_begun e ≡ false → X.kind_of e ≡ Some kind.Announce) (apart : (e : E) → X.kind_of e ≡ Some kind.TakePage → ⊥)
     (two : 2 ≤ b.rows) (is : IsCyclic b) (T : Trails) (D : ℕ → List Action) (H : ℕ → List RecvTurn) (l : Leads X b T D H) where
   abbrev y : CyclicProtocol E
-  y = yard_of b l.reclaimer l.owners
+  y = protocol_of b l.reclaimer l.owners
 
   k : HasKept X P laws b.layout ok width starts owner_is named announces apart b.rows two H y T D
   k = led_kept X P laws b.layout ok width starts owner_is named announces apart b.rows two H y T D l.led
@@ -173,7 +173,7 @@ module _ {E : Type 0} (X : Election E) (P : Protocol E (Unit {0}) ℕ) (laws : L
     gives_held : (t : ℕ) (page : Page) (reason : Reason) → situation_of X v.core ≡ GivesBack t page reason → held_of v.core.phase ≡ Some t
     gives_held t page reason e = let f = tells X v.core (GivesBack t page reason) e in ap held_of f.2
 
-    -- ---- what is due in its yard
+    -- ---- what is due in its protocol
     reclaims_same : (z : Situation E) → situation_of X v.core ≡ z → reclaim_due z v.reclaimer ≡ reclaim_due z l.reclaimer
     reclaims_same IsClosed e = refl
     reclaims_same IsIdle e = refl
@@ -199,8 +199,8 @@ module _ {E : Type 0} (X : Election E) (P : Protocol E (Unit {0}) ℕ) (laws : L
         ∙ ap (λ w. due_of X b.layout b.rows s v.core w v.reclaimer) (sym pin_is)
         ∙ beside_same (step_at (y.reclamation.pins s) (presence_at (sizes_with b.layout b.rows) s) stage_at)
 
-    led_as : (d : Due E) → due X v ≡ d → AnswersDue X b.layout b.rows y v.core d word answer → Led X b.layout b.rows (yard_after X b.layout b.rows y s v.core d word) (trails_with y s d T) (actions_with s (due_actions X b.layout b.rows y v.core d word answer) D) H
-    led_as d e = subst (λ w. AnswersDue X b.layout b.rows y v.core w word answer → Led X b.layout b.rows (yard_after X b.layout b.rows y s v.core w word) (trails_with y s w T) (actions_with s (due_actions X b.layout b.rows y v.core w word answer) D) H) (sym due_same ∙ e)
+    led_as : (d : Due E) → due X v ≡ d → AnswersDue X b.layout b.rows y v.core d word answer → Led X b.layout b.rows (protocol_after X b.layout b.rows y s v.core d word) (trails_with y s d T) (actions_with s (due_actions X b.layout b.rows y v.core d word answer) D) H
+    led_as d e = subst (λ w. AnswersDue X b.layout b.rows y v.core w word answer → Led X b.layout b.rows (protocol_after X b.layout b.rows y s v.core w word) (trails_with y s w T) (actions_with s (due_actions X b.layout b.rows y v.core w word answer) D) H) (sym due_same ∙ e)
         (λ told. Turned y T D H s v.core word answer l.led old told)
 
     -- ---- who holds the page afterwards
@@ -233,7 +233,7 @@ module _ {E : Type 0} (X : Election E) (P : Protocol E (Unit {0}) ℕ) (laws : L
     looked_held (Unpinning r) got t e = e
     looked_held (Invalidated r) got t e = e
 
-    pins_lead : (o : Op) → due X v ≡ Pins o → register o < length b.words → Leads X (ring_after X b s v (Pins o) word) (ring_trails b s (Pins o) T) (ring_actions X b s v (Pins o) word answer D) H
+    pins_lead : (o : Op) → due X v ≡ Pins o → register o < length b.words → Leads X (cyclic_turned X b s v (Pins o) word) (cyclic_trails b s (Pins o) T) (cyclic_actions X b s v (Pins o) word answer D) H
     pins_lead o e low =
         let got = slice_index b.words (register o) in
         let v' = participant_due X v (Pins o) got word in
@@ -241,8 +241,8 @@ module _ {E : Type 0} (X : Election E) (P : Protocol E (Unit {0}) ℕ) (laws : L
           owners = l.owners;
           reclaimer = l.reclaimer;
           holder = holder_after v' l.reclaimer (λ t f. l.holder s v t at (looked_held v.pin got t f)) (λ p w t ne here f. refl);
-          led = subst (λ yy. Led X b.layout b.rows yy (ring_trails b s (Pins o) T) (ring_actions X b s v (Pins o) word answer D) H)
-              (yards_same b.bases _ _ _ _ _ _ l.reclaimer b.home y.receivers l.owners
+          led = subst (λ yy. Led X b.layout b.rows yy (cyclic_trails b s (Pins o) T) (cyclic_actions X b s v (Pins o) word answer D) H)
+              (protocols_same b.bases _ _ _ _ _ _ l.reclaimer b.home y.receivers l.owners
               (sym (index_put b.words (register o) (after o got) low))
               (ap (λ u. put s (pin_fed u got) y.reclamation.pins) pin_is ∙ sym (list_put pin_in b.participants s v' within))
               (ap (λ u. put s (Some (core_looked X v.core u got)) y.senders) pin_is ∙ sym (list_put core_in b.participants s v' within)))
@@ -250,7 +250,7 @@ module _ {E : Type 0} (X : Election E) (P : Protocol E (Unit {0}) ℕ) (laws : L
         }
 
     -- ---- a step of its reclamation
-    reclaims_lead : (r : Reclaiming) (o : Op) → due X v ≡ Reclaims r o → register o < length b.words → Leads X (ring_after X b s v (Reclaims r o) word) (ring_trails b s (Reclaims r o) T) (ring_actions X b s v (Reclaims r o) word answer D) H
+    reclaims_lead : (r : Reclaiming) (o : Op) → due X v ≡ Reclaims r o → register o < length b.words → Leads X (cyclic_turned X b s v (Reclaims r o) word) (cyclic_trails b s (Reclaims r o) T) (cyclic_actions X b s v (Reclaims r o) word answer D) H
     reclaims_lead r o e low =
         let got = slice_index b.words (register o) in
         let v' = participant_due X v (Reclaims r o) got word in
@@ -260,8 +260,8 @@ module _ {E : Type 0} (X : Election E) (P : Protocol E (Unit {0}) ℕ) (laws : L
           owners = l.owners;
           reclaimer = Some (reclaim_fed r got);
           holder = holder_after v' (Some (reclaim_fed r got)) (λ t f. refl) (nobody_else by.tenure held (Some (reclaim_fed r got)));
-          led = subst (λ yy. Led X b.layout b.rows yy (ring_trails b s (Reclaims r o) T) (ring_actions X b s v (Reclaims r o) word answer D) H)
-              (yards_same b.bases _ _ _ _ _ _ (Some (reclaim_fed r got)) b.home y.receivers l.owners
+          led = subst (λ yy. Led X b.layout b.rows yy (cyclic_trails b s (Reclaims r o) T) (cyclic_actions X b s v (Reclaims r o) word answer D) H)
+              (protocols_same b.bases _ _ _ _ _ _ (Some (reclaim_fed r got)) b.home y.receivers l.owners
               (sym (index_put b.words (register o) (after o got) low))
               (sym (put_is s v.pin y.reclamation.pins pin_is) ∙ sym (list_put pin_in b.participants s v' within))
               (sym (put_is s (Some v.core) y.senders old) ∙ sym (list_put core_in b.participants s v' within)))
@@ -289,13 +289,13 @@ module _ {E : Type 0} (X : Election E) (P : Protocol E (Unit {0}) ℕ) (laws : L
       got_is = ap (λ f. number_found (slice_index b.words) (op_placed f step)) (place_same z) ∙ placed_found (place_for b.layout b.rows z) (slice_index b.words) step
 
       goes_as : ((t : ℕ) → held_of v'.core.phase ≡ Some t → v'.reclaimer ≡ reclaimer') → ((p : ℕ) (w : Participant E) (t : ℕ) → p ≢ s → slice_get b.participants p ≡ Some w → held_of w.core.phase ≡ Some t → l.reclaimer ≡ reclaimer')
-          → ((o : Op) → op_due X v (Goes z) word ≡ Some o → register o < length b.words) → answer ≡ answer_going X v.core z got word → Leads X (ring_after X b s v (Goes z) word) (ring_trails b s (Goes z) T) (ring_actions X b s v (Goes z) word answer D) H
+          → ((o : Op) → op_due X v (Goes z) word ≡ Some o → register o < length b.words) → answer ≡ answer_going X v.core z got word → Leads X (cyclic_turned X b s v (Goes z) word) (cyclic_trails b s (Goes z) T) (cyclic_actions X b s v (Goes z) word answer D) H
       goes_as own others low told = record {
-        owners = (yard_after X b.layout b.rows y s v.core (Goes z) word).owners;
+        owners = (protocol_after X b.layout b.rows y s v.core (Goes z) word).owners;
         reclaimer = reclaimer';
         holder = holder_after v' reclaimer' own others;
-        led = subst (λ yy. Led X b.layout b.rows yy (ring_trails b s (Goes z) T) (ring_actions X b s v (Goes z) word answer D) H)
-            (yards_same b.bases _ _ _ _ _ _ reclaimer' (home_after X v.core z b.home) y.receivers (yard_after X b.layout b.rows y s v.core (Goes z) word).owners
+        led = subst (λ yy. Led X b.layout b.rows yy (cyclic_trails b s (Goes z) T) (cyclic_actions X b s v (Goes z) word answer D) H)
+            (protocols_same b.bases _ _ _ _ _ _ reclaimer' (home_after X v.core z b.home) y.receivers (protocol_after X b.layout b.rows y s v.core (Goes z) word).owners
             (sym (ap (λ f. slice_index (words_after b.words (op_placed f step))) (place_same z) ∙ placed_words (place_for b.layout b.rows z) b.words step (λ o i. low o (ap (λ f. op_placed f step) (place_same z) ∙ i))))
             (ap (λ u. put s (pin_going X v.core u z (word_found (place_for b.layout b.rows z) y.reclamation.words step) word) y.reclamation.pins) pin_is ∙ ap (λ g. put s (pin_going X v.core v.pin z g word) y.reclamation.pins) (sym got_is) ∙ sym (list_put pin_in b.participants s v' within))
             (ap (λ g. put s (Some (core_moved (after_step (line_of X v.core z).move) b.home (core_going X v.core z g word))) y.senders) (sym got_is) ∙ sym (list_put core_in b.participants s v' within)))
@@ -341,7 +341,7 @@ module _ {E : Type 0} (X : Election E) (P : Protocol E (Unit {0}) ℕ) (laws : L
 
     goes_lead : (z : Situation E) → situation_of X v.core ≡ z → due X v ≡ Goes z → ((o : Op) → op_due X v (Goes z) word ≡ Some o → register o < length b.words)
         → answer ≡ answer_going X v.core z (number_found (slice_index b.words) (op_due X v (Goes z) word)) word
-        → Leads X (ring_after X b s v (Goes z) word) (ring_trails b s (Goes z) T) (ring_actions X b s v (Goes z) word answer D) H
+        → Leads X (cyclic_turned X b s v (Goes z) word) (cyclic_trails b s (Goes z) T) (cyclic_actions X b s v (Goes z) word answer D) H
     goes_lead IsClosed here e = goes_as IsClosed here e (λ t f. kept_reclaimer t f) (λ p w t ne there f. refl)
     goes_lead IsIdle here e = goes_as IsIdle here e (λ t f. kept_reclaimer t f) (λ p w t ne there f. refl)
     goes_lead IsSpent here e = goes_as IsSpent here e (λ t f. kept_reclaimer t f) (λ p w t ne there f. refl)
@@ -445,7 +445,7 @@ module _ {E : Type 0} (X : Election E) (b : CyclicMachine E) (new : IsNewCyclic 
     owners = [];
     reclaimer = None;
     holder = λ p v t e held. absurd (let bad : None ≡ Some t = ap (λ (u : Participant E). held_of u.core.phase) (sym (new.participants p v e).1) ∙ held in cc);
-    led = NewProtocol (yard_of b None []) record {
+    led = NewProtocol (protocol_of b None []) record {
       reclamation = ap (λ w. record { words = w; pins = λ p. pin_in (slice_get b.participants p); reclaimer = None }) no_word ∙ ap (λ v. record { words = λ r. 0; pins = v; reclaimer = None }) (fun_ext (λ p. new_pin p (slice_get b.participants p) refl));
       bases_are = new.bases_are;
       home = new.home;
@@ -455,8 +455,8 @@ module _ {E : Type 0} (X : Election E) (b : CyclicMachine E) (new : IsNewCyclic 
     };
   }
 
-  pub new_ring : IsCyclic b
-  new_ring = record {
+  pub new_cyclic : IsCyclic b
+  new_cyclic = record {
     rows = λ p v e. ap (λ (u : Participant E). u.rows) (new.participants p v e).1;
     words = ap length new.words ∙ length-replicate (log_from b.layout b.rows + b.layout.capacity) 0;
   }
@@ -477,7 +477,7 @@ module _ {E : Type 0} (X : Election E) (P : Protocol E (Unit {0}) ℕ) (laws : L
 
   module _ (b : CyclicMachine E) (x : IsCyclicLayout b.layout b.rows) (T : CyclicTrails) (h : IsLed b T) where
     pub turn_led : (s : ℕ) (v : Participant E) (word : ℕ) (answer : Answered) → slice_get b.participants s ≡ Some v → (d : Due E) → due X v ≡ d → IsOnWord b (op_due X v d word) → answer ≡ answer_due X v d (number_found (slice_index b.words) (op_due X v d word)) word
-        → IsLed (ring_after X b s v d word) (record T { pins = ring_trails b s d T.pins; reclaims = ring_reclaims b s d T.reclaims; actions = ring_actions X b s v d word answer T.actions })
+        → IsLed (cyclic_turned X b s v d word) (record T { pins = cyclic_trails b s d T.pins; reclaims = cyclic_reclaims b s d T.reclaims; actions = cyclic_actions X b s v d word answer T.actions })
     turn_led s v word answer at d e low told = record {
       is = record {
         rows = rows_after b h.is s v _ at (due_rows X v d (after_step (move_due X v d)) b.home (number_found (slice_index b.words) (op_due X v d word)) word);
@@ -489,14 +489,14 @@ module _ {E : Type 0} (X : Election E) (P : Protocol E (Unit {0}) ℕ) (laws : L
       on_word None low p i = absurd (let bad : None ≡ Some p = i in cc)
       on_word (Some o) low p i = subst (λ q. register q < length b.words) (same_Some _ _ i) low
 
-      by_due : (d : Due E) → due X v ≡ d → IsOnWord b (op_due X v d word) → answer ≡ answer_due X v d (number_found (slice_index b.words) (op_due X v d word)) word → Leads X (ring_after X b s v d word) (ring_trails b s d T.pins) (ring_actions X b s v d word answer T.actions) T.heard
+      by_due : (d : Due E) → due X v ≡ d → IsOnWord b (op_due X v d word) → answer ≡ answer_due X v d (number_found (slice_index b.words) (op_due X v d word)) word → Leads X (cyclic_turned X b s v d word) (cyclic_trails b s d T.pins) (cyclic_actions X b s v d word answer T.actions) T.heard
       by_due (Pins o) e low told = pins_lead X P laws b x.ok x.width x.starts owner_is named announces apart x.two h.is T.pins T.actions T.heard h.leads s v at word answer o e low
       by_due (Reclaims r o) e low told = reclaims_lead X P laws b x.ok x.width x.starts owner_is named announces apart x.two h.is T.pins T.actions T.heard h.leads s v at word answer r o e low
       by_due (Goes z) e low told = goes_lead X P laws b x.ok x.width x.starts owner_is named announces apart x.two h.is T.pins T.actions T.heard h.leads s v at word answer z
           (due_goes _ v.reclaimer (situation_of X v.core) z e) e (on_word (op_due X v (Goes z) word) low) told
 
     abbrev here : CyclicProtocol E
-    here = yard_of b h.leads.reclaimer h.leads.owners
+    here = protocol_of b h.leads.reclaimer h.leads.owners
 
     abbrev queue_with : Participant E → List ℕ → Pending
     queue_with v bytes = record v.core.queue { messages = v.core.queue.messages ++ bytes ∷ [] }
@@ -504,12 +504,12 @@ module _ {E : Type 0} (X : Election E) (P : Protocol E (Unit {0}) ℕ) (laws : L
     abbrev queue_marking : Participant E → Mark → Pending
     queue_marking v m = record v.core.queue { phase = Marking m }
 
-    -- a batch in its place, as the yard has it
+    -- a batch in its place, as the protocol has it
     batch_leads : (s : ℕ) (v : Participant E) (q : Pending) (ds : List Action) → slice_get b.participants s ≡ Some v
-        → Led X b.layout b.rows (record (yard_of b h.leads.reclaimer h.leads.owners) { senders = put s (Some (record v.core { queue = q })) (yard_of b h.leads.reclaimer h.leads.owners).senders }) T.pins (actions_with s ds T.actions) T.heard
+        → Led X b.layout b.rows (record (protocol_of b h.leads.reclaimer h.leads.owners) { senders = put s (Some (record v.core { queue = q })) (protocol_of b h.leads.reclaimer h.leads.owners).senders }) T.pins (actions_with s ds T.actions) T.heard
         → Leads X (with_participant b s (record v { core = record v.core { queue = q } })) T.pins (actions_with s ds T.actions) T.heard
     batch_leads s v q ds at led =
-        let y = yard_of b h.leads.reclaimer h.leads.owners in
+        let y = protocol_of b h.leads.reclaimer h.leads.owners in
         let v' : Participant E = record v { core = record v.core { queue = q } } in
         let within = slice_get_within b.participants s v at in
         record {
@@ -517,7 +517,7 @@ module _ {E : Type 0} (X : Election E) (P : Protocol E (Unit {0}) ℕ) (laws : L
           reclaimer = h.leads.reclaimer;
           holder = holder_after X P laws b x.ok x.width x.starts owner_is named announces apart x.two h.is T.pins T.actions T.heard h.leads s v at 0 turn.Going v' h.leads.reclaimer (λ t e. h.leads.holder s v t at e) (λ p w t ne here e. refl);
           led = subst (λ yy. Led X b.layout b.rows yy T.pins (actions_with s ds T.actions) T.heard)
-              (yards_same b.bases _ _ _ _ _ _ h.leads.reclaimer b.home y.receivers h.leads.owners refl
+              (protocols_same b.bases _ _ _ _ _ _ h.leads.reclaimer b.home y.receivers h.leads.owners refl
               (sym (put_is s v.pin y.reclamation.pins (ap pin_in at)) ∙ sym (list_put pin_in b.participants s v' within))
               (sym (list_put core_in b.participants s v' within)))
               led;
@@ -567,8 +567,8 @@ module _ {E : Type 0} (X : Election E) (P : Protocol E (Unit {0}) ℕ) (laws : L
         owners = h.leads.owners;
         reclaimer = h.leads.reclaimer;
         holder = h.leads.holder;
-        led = subst (λ rs. Led X b.layout b.rows (record (yard_of b h.leads.reclaimer h.leads.owners) { receivers = rs }) T.pins T.actions (answers_with r answer T.heard)) (sym (list_put (λ o. o) b.receivers r next (slice_get_within b.receivers r v at)))
-            (Heard (yard_of b h.leads.reclaimer h.leads.owners) T.pins T.actions T.heard r v next answer h.leads.led at does);
+        led = subst (λ rs. Led X b.layout b.rows (record (protocol_of b h.leads.reclaimer h.leads.owners) { receivers = rs }) T.pins T.actions (answers_with r answer T.heard)) (sym (list_put (λ o. o) b.receivers r next (slice_get_within b.receivers r v at)))
+            (Heard (protocol_of b h.leads.reclaimer h.leads.owners) T.pins T.actions T.heard r v next answer h.leads.led at does);
       };
     }
 
@@ -578,10 +578,10 @@ module _ {E : Type 0} (X : Election E) (P : Protocol E (Unit {0}) ℕ) (laws : L
       leads = record { owners = h.leads.owners; reclaimer = h.leads.reclaimer; holder = h.leads.holder; led = h.leads.led };
     }
 
-  pub ring_led : (b : CyclicMachine E) → IsCyclicLayout b.layout b.rows → (T : CyclicTrails) → CyclicReached X b T → IsLed b T
-  ring_led b x T (NewCyclic w new) = record { is = new_ring X w new; leads = new_leads X w new }
-  ring_led b x T (TurnTaken w U s v word answer before goes low told) = turn_led w x U (ring_led w x U before) s v word answer (participant_there w s v goes) (due X v) refl low told
-  ring_led b x T (PutTaken w U s v bytes before goes small) = put_led w x U (ring_led w x U before) s v bytes (participant_there w s v goes) small
-  ring_led b x T (MarkTaken w U s v m before goes) = mark_led w x U (ring_led w x U before) s v m (participant_there w s v goes)
-  ring_led b x T (RecvTaken w U r v next answer before at does) = recv_led w x U (ring_led w x U before) r v next answer at does
-  ring_led b x T (StopTaken w U s v before goes) = stop_led w x U (ring_led w x U before) s
+  pub cyclic_led : (b : CyclicMachine E) → IsCyclicLayout b.layout b.rows → (T : CyclicTrails) → CyclicReached X b T → IsLed b T
+  cyclic_led b x T (NewCyclic w new) = record { is = new_cyclic X w new; leads = new_leads X w new }
+  cyclic_led b x T (TurnTaken w U s v word answer before goes low told) = turn_led w x U (cyclic_led w x U before) s v word answer (participant_there w s v goes) (due X v) refl low told
+  cyclic_led b x T (PutTaken w U s v bytes before goes small) = put_led w x U (cyclic_led w x U before) s v bytes (participant_there w s v goes) small
+  cyclic_led b x T (MarkTaken w U s v m before goes) = mark_led w x U (cyclic_led w x U before) s v m (participant_there w s v goes)
+  cyclic_led b x T (RecvTaken w U r v next answer before at does) = recv_led w x U (cyclic_led w x U before) r v next answer at does
+  cyclic_led b x T (StopTaken w U s v before goes) = stop_led w x U (cyclic_led w x U before) s

@@ -39,7 +39,7 @@ use Rattle.bus_tenure.proofs.Situated.{tells}
 use Rattle.bus_world.specs.Bus.{IsLayout, Part, Fits, Sending, standing_of, least_of, stands_at}
 use Rattle.bus_core.specs.Reusing.Participants.{Due, sizes_with, log_from, place_for, reclaim_due, due_reclaimed, due_home, due_beside, core_looked, core_seen, pin_seen, pin_elected}
 use Rattle.bus_world.specs.Turning.{number_found, core_with_page, core_after, home_after, owners_after}
-use Rattle.bus_world.specs.CyclicProtocols.{CyclicProtocol, IsNewProtocol, Led, IsKeptProtocol, NewProtocol, Turned, PutIn, MarkedIn, Heard, no_answers, answers_with, going_actions, due_actions, actions_with, no_actions, due_in, words_stepped, word_found, yard_pin_stepped, yard_reclaimed, yard_after_going, yard_after, trails_with}
+use Rattle.bus_world.specs.CyclicProtocols.{CyclicProtocol, IsNewProtocol, Led, IsKeptProtocol, NewProtocol, Turned, PutIn, MarkedIn, Heard, no_answers, answers_with, going_actions, due_actions, actions_with, no_actions, due_in, words_stepped, word_found, protocol_pin_stepped, protocol_reclaimed, protocol_after_going, protocol_after, trails_with}
 use Rattle.bus_world.specs.World.{first_page, RecvDoes, can_put, can_close}
 use Rattle.bus_world.proofs.Accepting.{Accepted, Puts, Asks, AreAccepted, accept, grows}
 use Rattle.bus_world.proofs.Beginning.{new_sending}
@@ -239,7 +239,7 @@ module _ {E : Type 0} (X : Election E) (P : Protocol E (Unit {0}) ℕ) (laws : L
       ready' t held none = k.ready t (k.laid.stage ∙ sym laid'.stage ∙ held) none
 
       -- the sender's part is as it was
-      pin_over : (v : Pin) → y.reclamation.pins p ≡ v → core_looked X c v got ≡ c → IsParticipant (pin_fed v got) c → HasKept H (yard_pin_stepped X y p c o) trail' same_actions
+      pin_over : (v : Pin) → y.reclamation.pins p ≡ v → core_looked X c v got ≡ c → IsParticipant (pin_fed v got) c → HasKept H (protocol_pin_stepped X y p c o) trail' same_actions
       pin_over v at same is = record {
         V = V;
         frames = frames;
@@ -258,7 +258,7 @@ module _ {E : Type 0} (X : Election E) (P : Protocol E (Unit {0}) ℕ) (laws : L
       }
 
       -- it begins the tenure
-      pin_begins : (t : ℕ) → y.reclamation.pins p ≡ Validating t → (got / 2 == t) ≡ true → got / 2 ≡ t → HasKept H (yard_pin_stepped X y p c o) trail' same_actions
+      pin_begins : (t : ℕ) → y.reclamation.pins p ≡ Validating t → (got / 2 == t) ≡ true → got / 2 ≡ t → HasKept H (protocol_pin_stepped X y p c o) trail' same_actions
       pin_begins t at told same =
           let v_now : pin_fed (y.reclamation.pins p) got ≡ Pinned t = ap (λ w. pin_fed w got) at ∙ ap (λ b. cond b (Pinned t) (Invalidated t)) told in
           let c_now : core_looked X c (y.reclamation.pins p) got ≡ core_begun X c t = ap (λ w. core_looked X c w got) at ∙ ap (λ b. cond b (core_begun X c t) c) told in
@@ -291,7 +291,7 @@ module _ {E : Type 0} (X : Election E) (P : Protocol E (Unit {0}) ℕ) (laws : L
       unelected : (v : Pin) → y.reclamation.pins p ≡ v → ((t : ℕ) → v ≡ Pinned t → ⊥) → (t : ℕ) (e : E) → c.phase ≡ phase.Electing t e → ⊥
       unelected v at out t e i = out t (sym at ∙ participant.electing t e i)
 
-      pin_kept : (v : Pin) → y.reclamation.pins p ≡ v → HasKept H (yard_pin_stepped X y p c o) trail' same_actions
+      pin_kept : (v : Pin) → y.reclamation.pins p ≡ v → HasKept H (protocol_pin_stepped X y p c o) trail' same_actions
       pin_kept Away at = absurd (let bad = sym (ap (λ w. step_at w (presence_at z p) 1) at) ∙ due in cc)
       pin_kept (Announcing t) at = pin_over (Announcing t) at refl record {
         pinned = λ u i. absurd cc;
@@ -319,7 +319,7 @@ module _ {E : Type 0} (X : Election E) (P : Protocol E (Unit {0}) ℕ) (laws : L
       }
 
     -- ---- a step of a reclamation
-    reclaimer_kept : (s : Reclaiming) (o : Op) → y.reclamation.reclaimer ≡ Some s → reclaim_op s ≡ Some o → HasKept H (yard_reclaimed y s o) T same_actions
+    reclaimer_kept : (s : Reclaiming) (o : Op) → y.reclamation.reclaimer ≡ Some s → reclaim_op s ≡ Some o → HasKept H (protocol_reclaimed y s o) T same_actions
     reclaimer_kept s o is due =
         let reclamation' : Reclamation = record y.reclamation { words = words_after y.reclamation o; reclaimer = Some (reclaim_fed s (number_of_step y.reclamation o)) } in
         record {
@@ -364,10 +364,10 @@ module _ {E : Type 0} (X : Election E) (P : Protocol E (Unit {0}) ℕ) (laws : L
 
     module _ (word : ℕ) (answer : Answered) (free : step_at (y.reclamation.pins p) (presence_at z p) 1 ≡ None) where
       -- nothing happens
-      abbrev beside_yard : (ℕ → ℕ) → Pin → Core E → CyclicProtocol E
-      beside_yard words v c' = record y { reclamation = record { words = words; pins = put p v y.reclamation.pins; reclaimer = y.reclamation.reclaimer }; senders = put p (Some c') y.senders }
+      abbrev beside_protocol : (ℕ → ℕ) → Pin → Core E → CyclicProtocol E
+      beside_protocol words v c' = record y { reclamation = record { words = words; pins = put p v y.reclamation.pins; reclaimer = y.reclamation.reclaimer }; senders = put p (Some c') y.senders }
 
-      idle_kept : (ds : List Action) → IsPlain ds → PutsNothing ds → HasKept H (beside_yard y.reclamation.words (y.reclamation.pins p) c) T (actions_with p ds D)
+      idle_kept : (ds : List Action) → IsPlain ds → PutsNothing ds → HasKept H (beside_protocol y.reclamation.words (y.reclamation.pins p) c) T (actions_with p ds D)
       idle_kept ds plain nothing = record {
         V = V;
         frames = frames;
@@ -413,10 +413,10 @@ module _ {E : Type 0} (X : Election E) (P : Protocol E (Unit {0}) ℕ) (laws : L
           announcing = enters;
         }
 
-        waiting_kept : HasKept H (beside_yard y.reclamation.words Away c) T looked_actions
-        waiting_kept = subst (λ v. HasKept H (beside_yard y.reclamation.words v c) T looked_actions) away (idle_kept looked looked_plain looked_nothing)
+        waiting_kept : HasKept H (beside_protocol y.reclamation.words Away c) T looked_actions
+        waiting_kept = subst (λ v. HasKept H (beside_protocol y.reclamation.words v c) T looked_actions) away (idle_kept looked looked_plain looked_nothing)
 
-        spent_kept : c.least ≤ stage / 2 → HasKept H (beside_yard y.reclamation.words Away (record c { least = stage / 2 })) T looked_actions
+        spent_kept : c.least ≤ stage / 2 → HasKept H (beside_protocol y.reclamation.words Away (record c { least = stage / 2 })) T looked_actions
         spent_kept more =
             let c' : Core E = record c { least = stage / 2 } in
             let pins_same = put_is p Away y.reclamation.pins away in
@@ -437,7 +437,7 @@ module _ {E : Type 0} (X : Election E) (P : Protocol E (Unit {0}) ℕ) (laws : L
               };
             }
 
-        enters_kept : c.least ≤ stage / 2 → stage / 2 < x.rows → HasKept H (beside_yard y.reclamation.words (Announcing (stage / 2)) c) T looked_actions
+        enters_kept : c.least ≤ stage / 2 → stage / 2 < x.rows → HasKept H (beside_protocol y.reclamation.words (Announcing (stage / 2)) c) T looked_actions
         enters_kept more room =
             let t : ℕ = stage / 2 in
             let reclamation' : Reclamation = record { words = y.reclamation.words; pins = put p (Announcing t) y.reclamation.pins; reclaimer = y.reclamation.reclaimer } in
@@ -459,14 +459,14 @@ module _ {E : Type 0} (X : Election E) (P : Protocol E (Unit {0}) ℕ) (laws : L
               };
             }
 
-        looks_kept : HasKept H (yard_after_going X x rows y p c LooksAtStage word) T looked_actions
-        looks_kept = subst (λ w. HasKept H (beside_yard w (pin_seen c stage) (core_seen c stage)) T looked_actions) (sym (put_same 1 y.reclamation.words)) (by_waits (waits c stage) refl)
+        looks_kept : HasKept H (protocol_after_going X x rows y p c LooksAtStage word) T looked_actions
+        looks_kept = subst (λ w. HasKept H (beside_protocol w (pin_seen c stage) (core_seen c stage)) T looked_actions) (sym (put_same 1 y.reclamation.words)) (by_waits (waits c stage) refl)
           where
-            by_room : (b : Bool) → nat_le c.layout.rows (stage / 2) ≡ b → waits c stage ≡ false → HasKept H (beside_yard y.reclamation.words (cond b Away (Announcing (stage / 2))) (cond b (record c { least = stage / 2 }) c)) T looked_actions
+            by_room : (b : Bool) → nat_le c.layout.rows (stage / 2) ≡ b → waits c stage ≡ false → HasKept H (beside_protocol y.reclamation.words (cond b Away (Announcing (stage / 2))) (cond b (record c { least = stage / 2 }) c)) T looked_actions
             by_room true e w = spent_kept (open_stage c stage w).1
             by_room false e w = enters_kept (open_stage c stage w).1 (let a = leb-false c.layout.rows (stage / 2) e in let b = ap (λ (l : Layout). l.rows) part.layout in omega arith)
 
-            by_waits : (b : Bool) → waits c stage ≡ b → HasKept H (beside_yard y.reclamation.words (cond b Away (cond (nat_le c.layout.rows (stage / 2)) Away (Announcing (stage / 2)))) (cond b c (cond (nat_le c.layout.rows (stage / 2)) (record c { least = stage / 2 }) c))) T looked_actions
+            by_waits : (b : Bool) → waits c stage ≡ b → HasKept H (beside_protocol y.reclamation.words (cond b Away (cond (nat_le c.layout.rows (stage / 2)) Away (Announcing (stage / 2)))) (cond b c (cond (nat_le c.layout.rows (stage / 2)) (record c { least = stage / 2 }) c))) T looked_actions
             by_waits true e = waiting_kept
             by_waits false e = by_room (nat_le c.layout.rows (stage / 2)) refl e
 
@@ -611,7 +611,7 @@ module _ {E : Type 0} (X : Election E) (P : Protocol E (Unit {0}) ℕ) (laws : L
         abbrev elected_actions : Option Op → ℕ → List Action
         elected_actions d = let g = word_found (place_for x rows (Elects t e)) y.reclamation.words d in actions_with p (step_action (X.kind_of e) (Some t) g (X.owner (X.fed e g word)) answer) D
 
-        elects_kept : is_some (X.owner e) ≡ false → HasKept H (yard_after_going X x rows y p c (Elects t e) word) T (actions_with p (going_actions X x rows y c (Elects t e) word answer) D)
+        elects_kept : is_some (X.owner e) ≡ false → HasKept H (protocol_after_going X x rows y p c (Elects t e) word) T (actions_with p (going_actions X x rows y c (Elects t e) word answer) D)
         elects_kept unowned = elim (some_or_none (X.op e word)) [
           | inr o ↦ subst (λ d. HasKept H (elected d) T (elected_actions d)) (sym o.1) (by_owner o.0 o.1 (X.owner (X.fed e (y.reclamation.words (row_of z t + (register o.0 - row_at x t))) word)) refl)
           | inl stop ↦ absurd (true≢false (sym (laws.ends e word stop).0 ∙ sym (ap is_some (owner_is e)) ∙ unowned))
@@ -625,7 +625,7 @@ module _ {E : Type 0} (X : Election E) (P : Protocol E (Unit {0}) ℕ) (laws : L
         abbrev reclamation_taken : (ℕ → Pin) → Reclamation
         reclamation_taken pins = record { words = put 1 (2 * t + 1) y.reclamation.words; pins = pins; reclaimer = reclaimer_after z t }
 
-        takes_kept : (u : ℕ) → X.owner e ≡ Some u → HasKept H (yard_after_going X x rows y p c (TakesPage t) word) T (actions_with p (going_actions X x rows y c (TakesPage t) word answer) D)
+        takes_kept : (u : ℕ) → X.owner e ≡ Some u → HasKept H (protocol_after_going X x rows y p c (TakesPage t) word) T (actions_with p (going_actions X x rows y c (TakesPage t) word answer) D)
         takes_kept u own =
             let out : P.output e ≡ Some u = sym (owner_is e) ∙ own in
             let mine : P.output e ≡ Some p = out ∙ ap Some (k.sending.chosen p c t e u old elects out) in
@@ -699,7 +699,7 @@ module _ {E : Type 0} (X : Election E) (P : Protocol E (Unit {0}) ℕ) (laws : L
               let within = turn_within X P laws x ok width starts owner_is V y.home y.senders y.owners frames k.sending p c old word V y.senders (λ q ne. refl) (Store record { 0 = r } number) (ap (λ s. op_at X c s word) at) in
               omega arith
 
-          stores_kept : HasKept H (yard_after_going X x rows y p c (StoresWord t page stored) word) T (actions_with p (going_actions X x rows y c (StoresWord t page stored) word answer) D)
+          stores_kept : HasKept H (protocol_after_going X x rows y p c (StoresWord t page stored) word) T (actions_with p (going_actions X x rows y c (StoresWord t page stored) word answer) D)
           stores_kept = record {
             V = put (log_at x + spot) number V;
             frames = frames;
@@ -718,7 +718,7 @@ module _ {E : Type 0} (X : Election E) (P : Protocol E (Unit {0}) ℕ) (laws : L
           }
 
         -- it stores the length
-        tells_kept : published ≡ false → situation_of X c ≡ StoresLength t page stored → HasKept H (yard_after_going X x rows y p c (StoresLength t page stored) word) T (actions_with p (going_actions X x rows y c (StoresLength t page stored) word answer) D)
+        tells_kept : published ≡ false → situation_of X c ≡ StoresLength t page stored → HasKept H (protocol_after_going X x rows y p c (StoresLength t page stored) word) T (actions_with p (going_actions X x rows y c (StoresLength t page stored) word answer) D)
         tells_kept unpublished at =
             let n = page.words + frame_len c in
             let c' : Core E = record c { phase = phase.Holding t page stored true } in
@@ -745,8 +745,8 @@ module _ {E : Type 0} (X : Election E) (P : Protocol E (Unit {0}) ℕ) (laws : L
             }
 
         -- it gives the page back, where the row of the next tenure is ready
-        gives_kept : (reason : Reason) → situation_of X c ≡ GivesBack t page reason → ((s : Reclaiming) → y.reclamation.reclaimer ≡ Some s → reclaim_op s ≡ None) → HasKept H (yard_after_going X x rows y p c (GivesBack t page reason) word) T (actions_with p (going_actions X x rows y c (GivesBack t page reason) word answer) D)
-        gives_kept reason at yard_reclaimed =
+        gives_kept : (reason : Reason) → situation_of X c ≡ GivesBack t page reason → ((s : Reclaiming) → y.reclamation.reclaimer ≡ Some s → reclaim_op s ≡ None) → HasKept H (protocol_after_going X x rows y p c (GivesBack t page reason) word) T (actions_with p (going_actions X x rows y c (GivesBack t page reason) word answer) D)
+        gives_kept reason at protocol_reclaimed =
             let c' : Core E = core_at_rest c reason t in
             let is_ready : IsReady z t y.reclamation.reclaimer = by_reclaimer y.reclamation.reclaimer refl in
             record {
@@ -767,29 +767,29 @@ module _ {E : Type 0} (X : Election E) (P : Protocol E (Unit {0}) ℕ) (laws : L
           where
             by_reclaimer : (s : Option Reclaiming) → y.reclamation.reclaimer ≡ s → IsReady z t s
             by_reclaimer None e = k.ready t stage_held e
-            by_reclaimer (Some s) e = reclaimed_is s (yard_reclaimed s e)
+            by_reclaimer (Some s) e = reclaimed_is s (protocol_reclaimed s e)
 
       -- ---- any situation
-      goes_kept : (zz : Situation E) → situation_of X c ≡ zz → ((t : ℕ) (page : Page) (reason : Reason) → zz ≡ GivesBack t page reason → (s : Reclaiming) → y.reclamation.reclaimer ≡ Some s → reclaim_op s ≡ None) → HasKept H (yard_after_going X x rows y p c zz word) T (actions_with p (going_actions X x rows y c zz word answer) D)
-      goes_kept IsClosed at yard_reclaimed = idle_kept [] plain_none nothing_put
-      goes_kept IsIdle at yard_reclaimed = idle_kept [] plain_none nothing_put
-      goes_kept IsSpent at yard_reclaimed = idle_kept [] plain_none nothing_put
-      goes_kept LooksAtStage at yard_reclaimed = let rests = tells X c LooksAtStage at in looks_kept rests (sym (ap (situation_at X c) rests) ∙ at)
-      goes_kept (Elects t e) at yard_reclaimed = let f = tells X c (Elects t e) at in elects_kept t e at f.0 f.1
-      goes_kept (TakesPage t) at yard_reclaimed = let f = tells X c (TakesPage t) at in let o = owner_of (X.owner f.0) f.2 in takes_kept t f.0 at f.1 o.0 o.1
+      goes_kept : (zz : Situation E) → situation_of X c ≡ zz → ((t : ℕ) (page : Page) (reason : Reason) → zz ≡ GivesBack t page reason → (s : Reclaiming) → y.reclamation.reclaimer ≡ Some s → reclaim_op s ≡ None) → HasKept H (protocol_after_going X x rows y p c zz word) T (actions_with p (going_actions X x rows y c zz word answer) D)
+      goes_kept IsClosed at protocol_reclaimed = idle_kept [] plain_none nothing_put
+      goes_kept IsIdle at protocol_reclaimed = idle_kept [] plain_none nothing_put
+      goes_kept IsSpent at protocol_reclaimed = idle_kept [] plain_none nothing_put
+      goes_kept LooksAtStage at protocol_reclaimed = let rests = tells X c LooksAtStage at in looks_kept rests (sym (ap (situation_at X c) rests) ∙ at)
+      goes_kept (Elects t e) at protocol_reclaimed = let f = tells X c (Elects t e) at in elects_kept t e at f.0 f.1
+      goes_kept (TakesPage t) at protocol_reclaimed = let f = tells X c (TakesPage t) at in let o = owner_of (X.owner f.0) f.2 in takes_kept t f.0 at f.1 o.0 o.1
         where
           owner_of : (o : Option ℕ) → is_some o ≡ true → (u : ℕ) × (o ≡ Some u)
           owner_of None i = absurd (true≢false (sym i))
           owner_of (Some u) i = (u, refl)
-      goes_kept (AwaitsPage t) at yard_reclaimed = absurd (subst (Fits (slice_index y.bases) V frames c) (tells X c (AwaitsPage t) at) part.fits)
-      goes_kept (StoresWord t page stored) at yard_reclaimed = let f = tells X c (StoresWord t page stored) at in stores_kept t page stored f.0 f.1 (stores_unpublished t page stored f.0 page.ended (has_room c page) (nat_lt stored (frame_len c)) (sym (ap (situation_at X c) f.1) ∙ at)) at
-      goes_kept (StoresLength t page stored) at yard_reclaimed = let f = tells X c (StoresLength t page stored) at in tells_kept t page stored f.0 f.1 (tells_unpublished t page stored f.0 page.ended (has_room c page) (nat_lt stored (frame_len c)) (sym (ap (situation_at X c) f.1) ∙ at)) at
-      goes_kept (GivesBack t page reason) at yard_reclaimed = let f = tells X c (GivesBack t page reason) at in gives_kept t page f.0 f.1 f.2 reason at (yard_reclaimed t page reason refl)
-      goes_kept (HasHanded t reason) at yard_reclaimed = absurd (subst (Fits (slice_index y.bases) V frames c) (tells X c (HasHanded t reason) at) part.fits)
+      goes_kept (AwaitsPage t) at protocol_reclaimed = absurd (subst (Fits (slice_index y.bases) V frames c) (tells X c (AwaitsPage t) at) part.fits)
+      goes_kept (StoresWord t page stored) at protocol_reclaimed = let f = tells X c (StoresWord t page stored) at in stores_kept t page stored f.0 f.1 (stores_unpublished t page stored f.0 page.ended (has_room c page) (nat_lt stored (frame_len c)) (sym (ap (situation_at X c) f.1) ∙ at)) at
+      goes_kept (StoresLength t page stored) at protocol_reclaimed = let f = tells X c (StoresLength t page stored) at in tells_kept t page stored f.0 f.1 (tells_unpublished t page stored f.0 page.ended (has_room c page) (nat_lt stored (frame_len c)) (sym (ap (situation_at X c) f.1) ∙ at)) at
+      goes_kept (GivesBack t page reason) at protocol_reclaimed = let f = tells X c (GivesBack t page reason) at in gives_kept t page f.0 f.1 f.2 reason at (protocol_reclaimed t page reason refl)
+      goes_kept (HasHanded t reason) at protocol_reclaimed = absurd (subst (Fits (slice_index y.bases) V frames c) (tells X c (HasHanded t reason) at) part.fits)
 
     -- ---- any turn
     abbrev KeptDue : ℕ → Answered → Due E → Type 0
-    KeptDue word answer d = HasKept H (yard_after X x rows y p c d word) (trails_with y p d T) (actions_with p (due_actions X x rows y c d word answer) D)
+    KeptDue word answer d = HasKept H (protocol_after X x rows y p c d word) (trails_with y p d T) (actions_with p (due_actions X x rows y c d word answer) D)
 
     turn_kept : (word : ℕ) (answer : Answered) → KeptDue word answer (due_in X x rows y p c)
     turn_kept word answer = by_pin (step_at (y.reclamation.pins p) (presence_at z p) 1) refl
@@ -885,7 +885,7 @@ module _ {E : Type 0} (X : Election E) (P : Protocol E (Unit {0}) ℕ) (laws : L
       accepted_ties (Puts bytes) = by_can (can_put c.queue (length bytes)) (record c.queue { messages = c.queue.messages ++ bytes ∷ [] }) (HasPut (next_of c.queue) bytes) (plain_put (next_of c.queue) bytes)
       accepted_ties (Asks m) = by_can (can_close c.queue) (record c.queue { phase = Marking m }) (HasMarked m) (plain_mark m)
 
-  -- ---- a new yard
+  -- ---- a new protocol
   no_owner : (t s : ℕ) → slice_get [] t ≡ Some s → ⊥
   no_owner t s e = cc
 
@@ -971,8 +971,8 @@ module _ {E : Type 0} (X : Election E) (P : Protocol E (Unit {0}) ℕ) (laws : L
   words_read zero w v a b same = refl
   words_read (suc n) w v a b same = ap (λ r. r ++ w (a + n) ∷ []) (words_read n w v a b (λ j l. same j (omega arith))) ∙ ap (λ r. words_read_from v b n ++ r ∷ []) (same n (omega arith))
 
-  pub yard_promised : (y : CyclicProtocol E) (T : Trails) (D : ℕ → List Action) (H : ℕ → List RecvTurn) → Led X x rows y T D H → IsKeptProtocol X x rows y T D H
-  yard_promised y T D H led =
+  pub protocol_promised : (y : CyclicProtocol E) (T : Trails) (D : ℕ → List Action) (H : ℕ → List RecvTurn) → Led X x rows y T D H → IsKeptProtocol X x rows y T D H
+  protocol_promised y T D H led =
       let k = led_kept H y T D led in
       let h = k.kept in
       let lawful = h.sending.log.lawful in

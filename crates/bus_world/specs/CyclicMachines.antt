@@ -46,8 +46,8 @@ core_in None = None
 core_in (Some v) = Some v.core
 
 -- with the reclaimer of who holds the page, and who took the pages
-abbrev pub yard_of : {E : Type 0} → CyclicMachine E → Option Reclaiming → List ℕ → CyclicProtocol E
-yard_of b reclaimer owners = record {
+abbrev pub protocol_of : {E : Type 0} → CyclicMachine E → Option Reclaiming → List ℕ → CyclicProtocol E
+protocol_of b reclaimer owners = record {
   bases = b.bases;
   reclamation = record { words = slice_index b.words; pins = λ p. pin_in (slice_get b.participants p); reclaimer = reclaimer };
   home = b.home;
@@ -61,7 +61,7 @@ pub record Leads {E : Type 0} (X : Election E) (b : CyclicMachine E) (T : Trails
   pub owners : List ℕ
   pub reclaimer : Option Reclaiming
   pub holder : (p : ℕ) (v : Participant E) (t : ℕ) → slice_get b.participants p ≡ Some v → held_of v.core.phase ≡ Some t → v.reclaimer ≡ reclaimer
-  pub led : Led X b.layout b.rows (yard_of b reclaimer owners) T D H
+  pub led : Led X b.layout b.rows (protocol_of b reclaimer owners) T D H
 
 -- ---- a turn of sender s, which held v, with this random word
 -- how the page moves
@@ -74,8 +74,8 @@ move_due X v (Goes z) = (line_of X v.core z).move
 abbrev pub participant_moved : {E : Type 0} → PageMove → Option Page → Participant E → Participant E
 participant_moved move home v = record v { core = core_moved move home v.core }
 
-abbrev pub ring_after : {E : Type 0} → Election E → CyclicMachine E → ℕ → Participant E → Due E → ℕ → CyclicMachine E
-ring_after X b s v d word =
+abbrev pub cyclic_turned : {E : Type 0} → Election E → CyclicMachine E → ℕ → Participant E → Due E → ℕ → CyclicMachine E
+cyclic_turned X b s v d word =
     let got = number_found (slice_index b.words) (op_due X v d word) in
     record b {
       words = words_after b.words (op_due X v d word);
@@ -84,16 +84,16 @@ ring_after X b s v d word =
     }
 
 -- what it adds to the trails of pins and of reclamations, and to the actions
-abbrev pub ring_trails : {E : Type 0} → CyclicMachine E → ℕ → Due E → Trails → Trails
-ring_trails b s d = trails_with (yard_of b None []) s d
+abbrev pub cyclic_trails : {E : Type 0} → CyclicMachine E → ℕ → Due E → Trails → Trails
+cyclic_trails b s d = trails_with (protocol_of b None []) s d
 
-abbrev pub ring_reclaims : {E : Type 0} → CyclicMachine E → ℕ → Due E → Trails → Trails
-ring_reclaims b s (Pins o) T = T
-ring_reclaims b s (Reclaims r o) T = trails_with_entry T s record { op = o; got = slice_index b.words (register o) }
-ring_reclaims b s (Goes z) T = T
+abbrev pub cyclic_reclaims : {E : Type 0} → CyclicMachine E → ℕ → Due E → Trails → Trails
+cyclic_reclaims b s (Pins o) T = T
+cyclic_reclaims b s (Reclaims r o) T = trails_with_entry T s record { op = o; got = slice_index b.words (register o) }
+cyclic_reclaims b s (Goes z) T = T
 
-abbrev pub ring_actions : {E : Type 0} → Election E → CyclicMachine E → ℕ → Participant E → Due E → ℕ → Answered → (ℕ → List Action) → ℕ → List Action
-ring_actions X b s v d word answer = actions_with s (due_actions X b.layout b.rows (yard_of b None []) v.core d word answer)
+abbrev pub cyclic_actions : {E : Type 0} → Election E → CyclicMachine E → ℕ → Participant E → Due E → ℕ → Answered → (ℕ → List Action) → ℕ → List Action
+cyclic_actions X b s v d word answer = actions_with s (due_actions X b.layout b.rows (protocol_of b None []) v.core d word answer)
 
 -- ---- what may happen next
 -- the sender s, if there is one and it has not stopped
@@ -122,8 +122,8 @@ pub record CyclicTrails : Type 0 where
   pub actions : ℕ → List Action
   pub heard : ℕ → List RecvTurn
 
-abbrev pub no_ring_trails : CyclicTrails
-no_ring_trails = record { pins = no_trails; reclaims = no_trails; actions = no_actions; heard = no_answers }
+abbrev pub no_cyclic_trails : CyclicTrails
+no_cyclic_trails = record { pins = no_trails; reclaims = no_trails; actions = no_actions; heard = no_answers }
 
 -- nothing has happened: words of zero, the page at home, senders and receivers at their starts, none of which has stopped
 pub record IsNewCyclic {E : Type 0} (b : CyclicMachine E) : Type 0 where
@@ -137,10 +137,10 @@ pub record IsNewCyclic {E : Type 0} (b : CyclicMachine E) : Type 0 where
 -- One after another: any sender that has not stopped takes a turn with any random word, whose step is on a word of the bus, or puts a
 -- message, closes, leaves, or stops; or any receiver takes a turn. A turn of a sender answers what is due of what its step found.
 pub data CyclicReached {E : Type 0} (X : Election E) : CyclicMachine E → CyclicTrails → Type 0 where
-  NewCyclic : (b : CyclicMachine E) → IsNewCyclic b → CyclicReached X b no_ring_trails
+  NewCyclic : (b : CyclicMachine E) → IsNewCyclic b → CyclicReached X b no_cyclic_trails
   TurnTaken : (b : CyclicMachine E) (T : CyclicTrails) (s : ℕ) (v : Participant E) (word : ℕ) (answer : Answered) → CyclicReached X b T → participant_going b s ≡ Some v → IsOnWord b (op_due X v (due X v) word)
       → answer ≡ answer_due X v (due X v) (number_found (slice_index b.words) (op_due X v (due X v) word)) word
-      → CyclicReached X (ring_after X b s v (due X v) word) (record T { pins = ring_trails b s (due X v) T.pins; reclaims = ring_reclaims b s (due X v) T.reclaims; actions = ring_actions X b s v (due X v) word answer T.actions })
+      → CyclicReached X (cyclic_turned X b s v (due X v) word) (record T { pins = cyclic_trails b s (due X v) T.pins; reclaims = cyclic_reclaims b s (due X v) T.reclaims; actions = cyclic_actions X b s v (due X v) word answer T.actions })
   PutTaken : (b : CyclicMachine E) (T : CyclicTrails) (s : ℕ) (v : Participant E) (bytes : List ℕ) → CyclicReached X b T → participant_going b s ≡ Some v → All (λ byte. byte < 256) bytes
       → CyclicReached X (with_participant b s (participant_put v bytes)) (record T { actions = actions_with s (if can_put (queue_seen v.core.queue v.pin) (length bytes) then HasPut (next_of v.core.queue) bytes ∷ [] else []) T.actions })
   MarkTaken : (b : CyclicMachine E) (T : CyclicTrails) (s : ℕ) (v : Participant E) (mark : Mark) → CyclicReached X b T → participant_going b s ≡ Some v

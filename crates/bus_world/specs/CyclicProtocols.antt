@@ -47,18 +47,18 @@ word_found place words None = 0
 word_found place words (Some o) = words (place (register o))
 
 -- ---- a turn of sender p, which held this, with this random word
-abbrev pub yard_pin_stepped : {E : Type 0} → Election E → CyclicProtocol E → ℕ → Core E → Op → CyclicProtocol E
-yard_pin_stepped X y p c o = record y {
+abbrev pub protocol_pin_stepped : {E : Type 0} → Election E → CyclicProtocol E → ℕ → Core E → Op → CyclicProtocol E
+protocol_pin_stepped X y p c o = record y {
   reclamation = record y.reclamation { words = reclamation_words y.reclamation o; pins = put p (pin_fed (y.reclamation.pins p) (number_of_step y.reclamation o)) y.reclamation.pins };
   senders = put p (Some (core_looked X c (y.reclamation.pins p) (number_of_step y.reclamation o))) y.senders;
 }
 
-abbrev pub yard_reclaimed : {E : Type 0} → CyclicProtocol E → Reclaiming → Op → CyclicProtocol E
-yard_reclaimed y s o = record y { reclamation = record y.reclamation { words = reclamation_words y.reclamation o; reclaimer = Some (reclaim_fed s (number_of_step y.reclamation o)) } }
+abbrev pub protocol_reclaimed : {E : Type 0} → CyclicProtocol E → Reclaiming → Op → CyclicProtocol E
+protocol_reclaimed y s o = record y { reclamation = record y.reclamation { words = reclamation_words y.reclamation o; reclaimer = Some (reclaim_fed s (number_of_step y.reclamation o)) } }
 
 -- as a sender that has a row for each tenure, in this situation
-abbrev pub yard_after_going : {E : Type 0} → Election E → Layout → ℕ → CyclicProtocol E → ℕ → Core E → Situation E → ℕ → CyclicProtocol E
-yard_after_going X x rows y p c z word = record y {
+abbrev pub protocol_after_going : {E : Type 0} → Election E → Layout → ℕ → CyclicProtocol E → ℕ → Core E → Situation E → ℕ → CyclicProtocol E
+protocol_after_going X x rows y p c z word = record y {
   reclamation = record {
     words = words_stepped (place_for x rows z) y.reclamation.words (op_at X c z word);
     pins = put p (pin_going X c (y.reclamation.pins p) z (word_found (place_for x rows z) y.reclamation.words (op_at X c z word)) word) y.reclamation.pins;
@@ -69,10 +69,10 @@ yard_after_going X x rows y p c z word = record y {
   owners = owners_after X c z p y.owners;
 }
 
-abbrev pub yard_after : {E : Type 0} → Election E → Layout → ℕ → CyclicProtocol E → ℕ → Core E → Due E → ℕ → CyclicProtocol E
-yard_after X x rows y p c (Pins o) word = yard_pin_stepped X y p c o
-yard_after X x rows y p c (Reclaims s o) word = yard_reclaimed y s o
-yard_after X x rows y p c (Goes z) word = yard_after_going X x rows y p c z word
+abbrev pub protocol_after : {E : Type 0} → Election E → Layout → ℕ → CyclicProtocol E → ℕ → Core E → Due E → ℕ → CyclicProtocol E
+protocol_after X x rows y p c (Pins o) word = protocol_pin_stepped X y p c o
+protocol_after X x rows y p c (Reclaims s o) word = protocol_reclaimed y s o
+protocol_after X x rows y p c (Goes z) word = protocol_after_going X x rows y p c z word
 
 -- the step of a pin joins the trail of its sender
 abbrev pub trails_with : {E : Type 0} → CyclicProtocol E → ℕ → Due E → Trails → Trails
@@ -129,7 +129,7 @@ due_in X x rows y p c = due_of X x rows p c (y.reclamation.pins p) y.reclamation
 pub data Led {E : Type 0} (X : Election E) (x : Layout) (rows : ℕ) : CyclicProtocol E → Trails → (ℕ → List Action) → (ℕ → List RecvTurn) → Type 0 where
   NewProtocol : (y : CyclicProtocol E) → IsNewProtocol x rows y → Led X x rows y no_trails no_actions no_answers
   Turned : (y : CyclicProtocol E) (T : Trails) (D : ℕ → List Action) (H : ℕ → List RecvTurn) (p : ℕ) (c : Core E) (word : ℕ) (answer : Answered) → Led X x rows y T D H → y.senders p ≡ Some c → AnswersDue X x rows y c (due_in X x rows y p c) word answer
-      → Led X x rows (yard_after X x rows y p c (due_in X x rows y p c) word) (trails_with y p (due_in X x rows y p c) T) (actions_with p (due_actions X x rows y c (due_in X x rows y p c) word answer) D) H
+      → Led X x rows (protocol_after X x rows y p c (due_in X x rows y p c) word) (trails_with y p (due_in X x rows y p c) T) (actions_with p (due_actions X x rows y c (due_in X x rows y p c) word answer) D) H
   PutIn : (y : CyclicProtocol E) (T : Trails) (D : ℕ → List Action) (H : ℕ → List RecvTurn) (p : ℕ) (c : Core E) (bytes : List ℕ) → Led X x rows y T D H → y.senders p ≡ Some c → y.reclamation.pins p ≡ Away → All (λ byte. byte < 256) bytes
       → Led X x rows (record y { senders = put p (Some (put_in c bytes)) y.senders }) T (actions_with p (if can_put c.queue (length bytes) then HasPut (next_of c.queue) bytes ∷ [] else []) D) H
   MarkedIn : (y : CyclicProtocol E) (T : Trails) (D : ℕ → List Action) (H : ℕ → List RecvTurn) (p : ℕ) (c : Core E) (mark : Mark) → Led X x rows y T D H → y.senders p ≡ Some c → y.reclamation.pins p ≡ Away

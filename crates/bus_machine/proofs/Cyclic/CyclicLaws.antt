@@ -12,7 +12,7 @@ use Rattle.bus_tenure.specs.Core.{Election, Layout}
 use Rattle.bus_world.specs.Bus.{IsLayout}
 use Rattle.bus_world.specs.CyclicMachines.{CyclicTrails, CyclicReached}
 use Rattle.bus_world.proofs.CyclicMachineFits as fits
-use Rattle.bus_world.proofs.CyclicMachineLaws.{IsCyclicLayout, IsLed, ring_led}
+use Rattle.bus_world.proofs.CyclicMachineLaws.{IsCyclicLayout, IsLed, cyclic_led}
 use Rattle.bus_world.proofs.Serving.{Serves}
 use Rattle.bus_machine.specs.Proved.Cyclic.{OwnedCyclicMachine, IsServedCyclic}
 
@@ -21,32 +21,32 @@ module _ {E : Type 0} (X : Election E) (P : Protocol E (Unit {0}) ℕ) where
   layout_served x rows s ok two = record { ok = ok; width = s.width; starts = s.starts; two = two }
 
   -- what it keeps
-  pub led : (z : OwnedCyclicMachine E) (s : Serves X P z.ring.layout) → IsLayout z.ring.layout → 2 ≤ z.ring.rows → (T : CyclicTrails) → CyclicReached X z.ring T
-      → IsLed X P s.laws s.owner_is s.named s.announces s.apart z.ring T
-  led z s ok two T r = ring_led X P s.laws s.owner_is s.named s.announces s.apart z.ring (layout_served z.ring.layout z.ring.rows s ok two) T r
+  pub led : (z : OwnedCyclicMachine E) (s : Serves X P z.machine.layout) → IsLayout z.machine.layout → 2 ≤ z.machine.rows → (T : CyclicTrails) → CyclicReached X z.machine T
+      → IsLed X P s.laws s.owner_is s.named s.announces s.apart z.machine T
+  led z s ok two T r = cyclic_led X P s.laws s.owner_is s.named s.announces s.apart z.machine (layout_served z.machine.layout z.machine.rows s ok two) T r
 
   -- ---- of what a program holds
-  module _ (z : OwnedCyclicMachine E) (s : Serves X P z.ring.layout) (h : IsServedCyclic X z) where
-    pub ok : IsLayout z.ring.layout
+  module _ (z : OwnedCyclicMachine E) (s : Serves X P z.machine.layout) (h : IsServedCyclic X z) where
+    pub ok : IsLayout z.machine.layout
     ok = record { senders = h.senders_few; rows = (let a = h.tenures in omega arith); capacity = (let a = h.capacity_few in omega arith) }
 
-    layout_h : IsCyclicLayout X P s.laws s.owner_is s.named s.announces s.apart z.ring.layout z.ring.rows
-    layout_h = layout_served z.ring.layout z.ring.rows s ok h.rows_some
+    layout_h : IsCyclicLayout X P s.laws s.owner_is s.named s.announces s.apart z.machine.layout z.machine.rows
+    layout_h = layout_served z.machine.layout z.machine.rows s ok h.rows_some
 
-    led_h : IsLed X P s.laws s.owner_is s.named s.announces s.apart z.ring h.trails
+    led_h : IsLed X P s.laws s.owner_is s.named s.announces s.apart z.machine h.trails
     led_h = led z s ok h.rows_some h.trails h.leads
 
     -- ---- a sender that there is
-    module _ (p : ℕ) (v : Participant E) (at : slice_get z.ring.participants p ≡ Some v) where
-      pub room : length z.ring.words ≡ words_with v
-      room = h.is.words ∙ sym (ap (λ x. log_from x v.rows + x.capacity) (fits.layout_is X P s.laws s.owner_is s.named s.announces s.apart z.ring layout_h h.trails led_h p v at) ∙ ap (λ r. log_from z.ring.layout r + z.ring.layout.capacity) (h.is.rows p v at))
+    module _ (p : ℕ) (v : Participant E) (at : slice_get z.machine.participants p ≡ Some v) where
+      pub room : length z.machine.words ≡ words_with v
+      room = h.is.words ∙ sym (ap (λ x. log_from x v.rows + x.capacity) (fits.layout_is X P s.laws s.owner_is s.named s.announces s.apart z.machine layout_h h.trails led_h p v at) ∙ ap (λ r. log_from z.machine.layout r + z.machine.layout.capacity) (h.is.rows p v at))
 
-      pub sums : (word : ℕ) (o : Op) → op_next X v word ≡ Some o → SumFits o (slice_index z.ring.words (register o))
-      sums word o e = fits.sums_fit X P s.laws s.owner_is s.named s.announces s.apart z.ring layout_h h.trails led_h p v at word o e
+      pub sums : (word : ℕ) (o : Op) → op_next X v word ≡ Some o → SumFits o (slice_index z.machine.words (register o))
+      sums word o e = fits.sums_fit X P s.laws s.owner_is s.named s.announces s.apart z.machine layout_h h.trails led_h p v at word o e
 
       pub numbers : next_of v.core.queue < 2 ^ 48
-      numbers = fits.numbers_fit X P s.laws s.owner_is s.named s.announces s.apart z.ring layout_h h.trails led_h p v at
+      numbers = fits.numbers_fit X P s.laws s.owner_is s.named s.announces s.apart z.machine layout_h h.trails led_h p v at
 
     -- ---- a receiver that there is
-    pub loads_within : (r : ℕ) (v : Receiving) → slice_get z.ring.receivers r ≡ Some v → IfSome (receiving_op v) (λ o. register o < length z.ring.words)
-    loads_within r v at = fits.reader_within X P s.laws s.owner_is s.named s.announces s.apart z.ring layout_h h.trails led_h r v at
+    pub loads_within : (r : ℕ) (v : Receiving) → slice_get z.machine.receivers r ≡ Some v → IfSome (receiving_op v) (λ o. register o < length z.machine.words)
+    loads_within r v at = fits.reader_within X P s.laws s.owner_is s.named s.announces s.apart z.machine layout_h h.trails led_h r v at

@@ -11,9 +11,9 @@ use Rattle.bus_world.proofs.Serving.{Serves}
 use Rattle.bus_machine.specs.Proved.Cyclic.{OwnedCyclicMachine, IsServedCyclic, log_of}
 use Rattle.bus_machine.proofs.Cyclic.CyclicLaws.{led, layout_served, ok}
 
-module _ {E : Type 0} (X : Election E) (P : Protocol E (Unit {0}) ℕ) (z : OwnedCyclicMachine E) (s : Serves X P z.ring.layout) (h : IsServedCyclic X z) where
+module _ {E : Type 0} (X : Election E) (P : Protocol E (Unit {0}) ℕ) (z : OwnedCyclicMachine E) (s : Serves X P z.machine.layout) (h : IsServedCyclic X z) where
   abbrev b : CyclicMachine E
-  b = z.ring
+  b = z.machine
 
   pub length-log : length (log_of b) ≡ slice_index b.words 0
   length-log = length-read (slice_index b.words) (log_from b.layout b.rows) (slice_index b.words 0)

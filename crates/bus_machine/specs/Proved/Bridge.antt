@@ -16,17 +16,17 @@ abbrev pub of_bus : {E : Type 0} → List ℕ → Layout → Bus E → Machine E
 of_bus bases x b = record { layout = x; reuse = None; bases = bases; words = b.side.words; home = b.side.home; senders = map apart b.side.senders; receivers = b.receivers; stopped = b.stopped; owners = b.side.owners }
 
 -- the bus whose rows are used again, with who took the last pages
-abbrev pub of_ring : {E : Type 0} → CyclicMachine E → List ℕ → Machine E
-of_ring b owners = record { layout = b.layout; reuse = Some b.rows; bases = b.bases; words = b.words; home = b.home; senders = map again b.participants; receivers = b.receivers; stopped = b.stopped; owners = owners }
+abbrev pub of_cyclic_machine : {E : Type 0} → CyclicMachine E → List ℕ → Machine E
+of_cyclic_machine b owners = record { layout = b.layout; reuse = Some b.rows; bases = b.bases; words = b.words; home = b.home; senders = map again b.participants; receivers = b.receivers; stopped = b.stopped; owners = owners }
 
 abbrev pub of_cyclic : {E : Type 0} → OwnedCyclicMachine E → Machine E
-of_cyclic z = of_ring z.ring z.owners
+of_cyclic z = of_cyclic_machine z.machine z.owners
 
 abbrev pub plain_trails : Trails → PlainTrails
 plain_trails T = record { actions = T.actions; heard = T.heard }
 
-abbrev pub ring_trails : Trails → CyclicTrails
-ring_trails T = record { pins = T.pins; reclaims = T.reclaims; actions = T.actions; heard = T.heard }
+abbrev pub cyclic_trails : Trails → CyclicTrails
+cyclic_trails T = record { pins = T.pins; reclaims = T.reclaims; actions = T.actions; heard = T.heard }
 
 -- ---- one event
 -- with a row for each tenure it happens to that bus, is answered alike, and adds the same to the trails
@@ -49,11 +49,11 @@ AreSized {E} b = (p : ℕ) (v : Participant E) → slice_get b.participants p �
 pub record IsCyclicEvent {E : Type 0} (X : Election E) (z : OwnedCyclicMachine E) (e : Event) (a : Answer) (m : Machine E) : Type 0 where
   pub bus : OwnedCyclicMachine E
   pub is : m ≡ of_cyclic bus
-  pub sized : AreSized bus.ring
-  pub reached : (T : Trails) → CyclicReached X z.ring (ring_trails T) → CyclicReached X bus.ring (ring_trails (trails_grown X (of_cyclic z) e a T))
+  pub sized : AreSized bus.machine
+  pub reached : (T : Trails) → CyclicReached X z.machine (cyclic_trails T) → CyclicReached X bus.machine (cyclic_trails (trails_grown X (of_cyclic z) e a T))
 
 abbrev pub HappensAtSome : {E : Type 0} → Election E → Type 0
-HappensAtSome {E} X = (z : OwnedCyclicMachine E) (e : Event) (a : Answer) (m : Machine E) → AreSized z.ring → Happens X (of_cyclic z) e a m → IsCyclicEvent X z e a m
+HappensAtSome {E} X = (z : OwnedCyclicMachine E) (e : Event) (a : Answer) (m : Machine E) → AreSized z.machine → Happens X (of_cyclic z) e a m → IsCyclicEvent X z e a m
 
 -- ---- what is reached
 pub record IsPlain {E : Type 0} (X : Election E) (m : Machine E) (T : Trails) : Type 0 where
@@ -64,5 +64,5 @@ pub record IsPlain {E : Type 0} (X : Election E) (m : Machine E) (T : Trails) : 
 pub record IsCyclicOf {E : Type 0} (X : Election E) (m : Machine E) (T : Trails) : Type 0 where
   pub bus : OwnedCyclicMachine E
   pub is : m ≡ of_cyclic bus
-  pub sized : AreSized bus.ring
-  pub reached : CyclicReached X bus.ring (ring_trails T)
+  pub sized : AreSized bus.machine
+  pub reached : CyclicReached X bus.machine (cyclic_trails T)

@@ -9,7 +9,7 @@ use Rattle.bus_world.specs.CyclicMachines.{CyclicMachine, CyclicTrails, CyclicRe
 
 -- with who took the last pages, the oldest first
 pub record OwnedCyclicMachine (E : Type 0) : Type 0 where
-  pub ring : CyclicMachine E
+  pub machine : CyclicMachine E
   pub owners : List ℕ
 
 -- the words of its log below the length
@@ -18,12 +18,12 @@ log_of b = words_read_from (slice_index b.words) (log_from b.layout b.rows) (sli
 
 -- what every such bus that a program holds keeps: some trails lead to it
 pub record IsServedCyclic {E : Type 0} (X : Election E) (z : OwnedCyclicMachine E) : Type 0 where
-  pub senders_few : z.ring.layout.senders ≤ MOST_SENDERS
-  pub rows_some : LEAST_ROWS_AGAIN ≤ z.ring.rows
-  pub rows_few : z.ring.rows ≤ MOST_ROWS_AGAIN
-  pub capacity_few : z.ring.layout.capacity ≤ MOST_LOG_WORDS
-  pub tenures : z.ring.layout.rows ≡ TENURES
-  pub senders : length z.ring.participants ≡ z.ring.layout.senders
-  pub is : IsCyclic z.ring
+  pub senders_few : z.machine.layout.senders ≤ MOST_SENDERS
+  pub rows_some : LEAST_ROWS_AGAIN ≤ z.machine.rows
+  pub rows_few : z.machine.rows ≤ MOST_ROWS_AGAIN
+  pub capacity_few : z.machine.layout.capacity ≤ MOST_LOG_WORDS
+  pub tenures : z.machine.layout.rows ≡ TENURES
+  pub senders : length z.machine.participants ≡ z.machine.layout.senders
+  pub is : IsCyclic z.machine
   pub trails : CyclicTrails
-  pub leads : CyclicReached X z.ring trails
+  pub leads : CyclicReached X z.machine trails
