@@ -31,8 +31,8 @@ use Rattle.bus_tenure.specs.declared.turns.Turn.{Turn as Answered}
 use Rattle.bus_world.proofs.EventTrails.{put_taken}
 use Rattle.bus_world.specs.Headline.{HasPut, HasMarked}
 use Rattle.bus_world.specs.Playing.{asked_answer}
-use Rattle.bus_world.specs.CyclicMachines.{CyclicMachine, CyclicTrails, CyclicReached, NewCyclic, TurnTaken, PutTaken, MarkTaken, RecvTaken, StopTaken, cyclic_turned, cyclic_actions, cyclic_reclaims, participant_moved}
-use Rattle.bus_world.specs.CyclicMachines as cyclic_machines
+use Rattle.bus_world.specs.Proved.CyclicMachines.{CyclicMachine, CyclicTrails, CyclicReached, NewCyclic, TurnTaken, PutTaken, MarkTaken, RecvTaken, StopTaken, cyclic_turned, cyclic_actions, cyclic_reclaims, participant_moved}
+use Rattle.bus_world.specs.Proved.CyclicMachines as cyclic_machines
 use Rattle.bus_world.specs.Trails.{step_action, put_actions, mark_actions}
 use Rattle.bus_world.specs.Turning.{words_after, number_found, home_moved, core_moved, after_step}
 use Rattle.bus_world.specs.World.{Put, Ask, Turn, Recv, Stop, is_set, new_core, IsNewReceiver}

@@ -9,9 +9,10 @@ use Rattle.bus_tenure.specs.Core.{Election, Layout}
 use Rattle.bus_tenure.specs.Elections.{Elector}
 use Rattle.bus_world.proofs.Serving.{Serves}
 use Rattle.bus_world.specs.Headline.{order_given}
-use Rattle.bus_world.specs.World.{Event, given_at}
+use Rattle.bus_world.specs.World.{Event}
 use Rattle.bus_world.specs.declared.events.Answer.{Answer}
 use Rattle.bus_world.specs.declared.events.StepFault.{StepFault}
+use Rattle.bus_world.specs.Proved.Invariants.{given_at}
 use Rattle.bus_machine.proofs.Bounding.{bounded}
 use Rattle.bus_machine.proofs.PinBounds.{pins_bounded}
 use Rattle.bus_machine.specs.Bounding.{AreBounded, PinsAreBounded}

@@ -38,11 +38,12 @@ use Rattle.bus_world.proofs.Serving.{Serves}
 use Rattle.bus_world.proofs.CyclicProtocolLaws.{HasKept, led_kept, protocol_promised}
 use Rattle.bus_world.specs.Bus.{IsLayout, Sending}
 use Rattle.bus_world.specs.Log.{words_read_from}
-use Rattle.bus_world.specs.CyclicMachines.{CyclicReached, protocol_of, core_in}
-use Rattle.bus_world.specs.CyclicMachines as cyclic_machines
+use Rattle.bus_world.specs.Proved.CyclicMachines.{CyclicReached, protocol_of, core_in}
+use Rattle.bus_world.specs.Proved.CyclicMachines as cyclic_machines
 use Rattle.bus_world.specs.Trails.{Reached as PlainReached, Takers}
 use Rattle.bus_world.specs.World.{Bus}
-use Rattle.bus_world.specs.CyclicProtocols.{CyclicProtocol, IsKeptProtocol}
+use Rattle.bus_world.specs.CyclicProtocols.{CyclicProtocol}
+use Rattle.bus_world.specs.Proved.KeptProtocols.{IsKeptProtocol}
 use Rattle.bus_machine.proofs.AtNone.{reached_at_none}
 use Rattle.bus_machine.proofs.Leading.{Sits, led_cyclic, cyclic_serves, cyclic_ok, cyclic_two}
 use Rattle.bus_machine.specs.Proved.Bridge.{of_bus, of_cyclic, plain_trails, cyclic_trails, AreSized}

@@ -31,9 +31,9 @@ use Rattle.bus_world.proofs.ViewingLaws as plain_views
 use Rattle.bus_world.proofs.WorldLaws.{numbers_fit}
 use Rattle.bus_world.specs.Bus.{IsLayout, Fits}
 use Rattle.bus_world.specs.Headline.{order_given}
-use Rattle.bus_world.specs.Trails.{MachineInvariant}
-use Rattle.bus_world.specs.World.{Bus, Event, Put, Ask, Turn, Recv, Stop, given_at}
+use Rattle.bus_world.specs.World.{Bus, Event, Put, Ask, Turn, Recv, Stop}
 use Rattle.bus_world.specs.declared.events.Answer.{Answer}
+use Rattle.bus_world.specs.Proved.Invariants.{given_at, MachineInvariant}
 use Rattle.bus_machine.proofs.AtNone as none
 use Rattle.bus_machine.proofs.Leading.{Sits, led_cyclic, cyclic_serves, cyclic_ok, cyclic_two}
 use Rattle.bus_machine.proofs.Framed.{IsFramed, framed, participant_at}

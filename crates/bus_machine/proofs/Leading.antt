@@ -1,7 +1,7 @@
 -- What leads to a machine of sizes that are served, as each of the two kinds of rows has it.
 use Rattle.std.proofs.Common.{◌≡◌, ℕ, ◌≤◌, Some, sym, ◌∙◌, ap, subst}
 use Rattle.bus_machine.specs.Proved.Cyclic.{OwnedCyclicMachine}
-use Rattle.bus_world.specs.CyclicMachines.{CyclicReached}
+use Rattle.bus_world.specs.Proved.CyclicMachines.{CyclicReached}
 use Rattle.bus_register.specs.Protocol.{Protocol}
 use Rattle.bus_tenure.specs.Core.{Election}
 use Rattle.bus_world.proofs.Serving.{Serves}

@@ -32,10 +32,10 @@ use Rattle.bus_core.specs.Reusing.Turns.{Participant, due, op_due, on_place, op_
 use Rattle.bus_world.specs.Bus.{Part, standing_of, stands_at, least_of}
 use Rattle.bus_world.specs.Headline.{order_given}
 use Rattle.bus_world.specs.Log.{words_read_from}
-use Rattle.bus_world.specs.CyclicMachines.{CyclicMachine, CyclicTrails, protocol_of, core_in}
+use Rattle.bus_world.specs.Proved.CyclicMachines.{CyclicMachine, CyclicTrails, protocol_of, core_in}
 use Rattle.bus_world.specs.Tenures.Standing.{Runs}
-use Rattle.bus_world.specs.World.{given_at}
 use Rattle.bus_world.specs.CyclicProtocols.{CyclicProtocol}
+use Rattle.bus_world.specs.Proved.Invariants.{given_at}
 use Rattle.bus_world.proofs.Accepting as accepting
 use Rattle.bus_world.proofs.LogLaws.{length-read}
 use Rattle.bus_world.proofs.CyclicMachineLaws.{IsCyclicLayout, IsLed, same_register}

@@ -39,7 +39,7 @@ use Rattle.bus_tenure.proofs.Situated.{tells}
 use Rattle.bus_world.specs.Bus.{IsLayout, Part, Fits, Sending, standing_of, least_of, stands_at}
 use Rattle.bus_core.specs.Reusing.Participants.{Due, sizes_with, log_from, place_for, reclaim_due, due_reclaimed, due_home, due_beside, core_looked, core_seen, pin_seen, pin_elected}
 use Rattle.bus_world.specs.Turning.{number_found, core_with_page, core_after, home_after, owners_after}
-use Rattle.bus_world.specs.CyclicProtocols.{CyclicProtocol, IsNewProtocol, Led, IsKeptProtocol, NewProtocol, Turned, PutIn, MarkedIn, Heard, no_answers, answers_with, going_actions, due_actions, actions_with, no_actions, due_in, words_stepped, word_found, protocol_pin_stepped, protocol_reclaimed, protocol_after_going, protocol_after, trails_with}
+use Rattle.bus_world.specs.CyclicProtocols.{CyclicProtocol, IsNewProtocol, Led, NewProtocol, Turned, PutIn, MarkedIn, Heard, no_answers, answers_with, going_actions, due_actions, actions_with, no_actions, due_in, words_stepped, word_found, protocol_pin_stepped, protocol_reclaimed, protocol_after_going, protocol_after, trails_with}
 use Rattle.bus_world.specs.World.{first_page, RecvDoes, can_put, can_close}
 use Rattle.bus_world.proofs.Accepting.{Accepted, Puts, Asks, AreAccepted, accept, grows}
 use Rattle.bus_world.proofs.Beginning.{new_sending}
@@ -58,6 +58,7 @@ use Rattle.bus_world.proofs.Tying.{next_at, next_tenure, Tables, PageTies}
 use Rattle.bus_world.proofs.TableTrails.{IsPlain, plain_none, plain_put, plain_mark, plain_step, none_in}
 use Rattle.bus_world.proofs.TurnTrails.{TiesOf, calm, begins, turn_tied, batch_tied}
 use Rattle.bus_world.specs.Headline.{Asked}
+use Rattle.bus_world.specs.Proved.KeptProtocols.{IsKeptProtocol}
 use Rattle.bus_world.proofs.Waiting.{waiting_at, waiting_of}
 use Rattle.bus_world.proofs.Asking.{turn_waiting, turn_frames, frames_later, own_asked}
 use Rattle.bus_world.proofs.PutLaws.{elected_waits, laid_waits, publish_puts, nothing_left}

@@ -44,7 +44,7 @@ use Rattle.bus_world.specs.Headline.{Action, HasPut, HasMarked, Stepped, puts, T
 use Rattle.bus_world.specs.Log.{next_number, sent_count}
 use Rattle.bus_world.proofs.LogLaws.{length-read}
 use Rattle.bus_world.specs.Turning.{Side, side_after, core_after, number_found}
-use Rattle.bus_world.specs.World.{Bus, Event, Put, Ask, Turn, Recv, Stop, going, IsEvent, Happens, SenderDoes, with_sender, can_put, can_close, put_in, mark_in, LawfulBus, IsNew, is_open, given_at}
+use Rattle.bus_world.specs.World.{Bus, Event, Put, Ask, Turn, Recv, Stop, going, IsEvent, Happens, SenderDoes, with_sender, can_put, can_close, put_in, mark_in, IsNew, is_open}
 use Rattle.bus_world.proofs.TurningLaws.{side_of}
 use Rattle.bus_world.proofs.WorldLaws.{counted_at, event_left, event_puts, new_is_lawful}
 use Rattle.bus_world.specs.Playing.{Answers, PutGives, CloseGives, TurnAnswers, RecvAnswers, asked_answer, log_of}
@@ -52,6 +52,7 @@ use Rattle.bus_world.specs.declared.events.Answer.{Answer}
 use Rattle.bus_world.specs.declared.events.Answer.TheVariants as answer
 use Rattle.bus_world.specs.Trails.{Trails, no_trails, trails_grown, actions_of, put_actions, mark_actions, turning_actions, step_action, heard_of, answer_heard, IsPromisedBy, Reached}
 use Rattle.bus_world.specs.Trails.Reached.{New, Then}
+use Rattle.bus_world.specs.Proved.Invariants.{LawfulBus, given_at}
 use Rattle.bus_world.proofs.Stopping.{is_there}
 use Rattle.bus_world.proofs.Waiting.{frames_after, put_by, waiting_of, waiting_at, accepted, accepted_by, event_frames, frames_by}
 use Rattle.bus_world.proofs.Tying.{AreNumbered, Hears, Tied}

@@ -23,7 +23,8 @@ use Rattle.bus_world.proofs.ReceivingLaws.{given_is_prefix, length-log_pieces}
 use Rattle.bus_world.specs.Headline.{entry_heard, end_heard, head_heard, order_given, heads, IsPrefix}
 use Rattle.bus_world.proofs.Places.{got_split}
 use Rattle.bus_world.proofs.Tying.{Hears, IsSilent}
-use Rattle.bus_world.specs.World.{RecvDoes, RecvStep, recv_found, IsReceiver, given_at}
+use Rattle.bus_world.specs.World.{RecvDoes, RecvStep, recv_found, IsReceiver}
+use Rattle.bus_world.specs.Proved.Invariants.{given_at}
 use Rattle.bus_world.proofs.WorldLaws.{received}
 
 -- ---- what one answer adds

@@ -30,8 +30,8 @@ use Rattle.bus_world.proofs.Waiting.{frames_after}
 use Rattle.bus_world.proofs.TurningLaws.{turn_lawful, IsSide, side_of}
 use Rattle.bus_world.specs.World.{Bus, has_stopped, IsReceiver}
 use Rattle.bus_tenure.proofs.Situated.{tells}
-use Rattle.bus_world.specs.Trails.{MachineInvariant}
 use Rattle.bus_world.specs.Playing.{SizedBus}
+use Rattle.bus_world.specs.Proved.Invariants.{MachineInvariant}
 
 -- a list with the same element in its place
 pub set_same : {A : Type 0} (xs : List A) (p : ℕ) (x : A) → slice_get xs p ≡ Some x → slice_set xs p x ≡ xs

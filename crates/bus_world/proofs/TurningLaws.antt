@@ -32,7 +32,8 @@ use Rattle.bus_world.proofs.TenuresLaws as tenures
 use Rattle.bus_world.specs.Bus.{IsLayout, least_of, standing_of, Part, Fits, GoesOn, HasBegun, Sending, stands_at}
 use Rattle.bus_world.proofs.BusLaws as bus
 use Rattle.bus_world.specs.Turning.{Side, words_after, number_found, core_with_page, home_after, core_after, owners_after, side_after}
-use Rattle.bus_world.specs.World.{Bus, LawfulBus}
+use Rattle.bus_world.specs.World.{Bus}
+use Rattle.bus_world.specs.Proved.Invariants.{LawfulBus}
 use Rattle.bus_world.proofs.Waiting.{frames_after}
 
 open_apart : Open ≡ Closed → ⊥

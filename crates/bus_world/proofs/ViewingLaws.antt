@@ -10,7 +10,7 @@ use Rattle.bus_tenure.specs.Core.{Election, log_at}
 use Rattle.bus_world.specs.Log.{words_read_from}
 use Rattle.bus_world.proofs.LogLaws.{length-read}
 use Rattle.bus_world.specs.Playing.{SizedBus, log_of}
-use Rattle.bus_world.specs.Trails.{MachineInvariant}
+use Rattle.bus_world.specs.Proved.Invariants.{MachineInvariant}
 
 -- words of a list, from a place on
 pub read-list : (words : List ℕ) (at k : ℕ) → at + k ≤ length words → words_read_from (slice_index words) at k ≡ take k (drop at words)

@@ -38,7 +38,8 @@ use Rattle.bus_world.proofs.Accepting as accepting
 use Rattle.bus_world.proofs.Accepting.{Accepted, Puts, Asks, accept, AreAccepted, open_is, not_busy, empty_is, idle_rests}
 use Rattle.bus_tenure.specs.declared.phases.Reason.{Reason}
 use Rattle.bus_register.specs.Proved.TableLaws.{get_set_same, get_set_other}
-use Rattle.bus_world.specs.World.{Event, Put, Ask, Turn, Recv, Stop, going, IsEvent, Happens, SenderDoes, ReceiverDoes, recv_found, Bus, is_open, can_put, can_close, put_in, mark_in, with_sender, LawfulBus, IsReceiver, RecvStep, RecvDoes, IsNew, first_page}
+use Rattle.bus_world.specs.World.{Event, Put, Ask, Turn, Recv, Stop, going, IsEvent, Happens, SenderDoes, ReceiverDoes, recv_found, Bus, is_open, can_put, can_close, put_in, mark_in, with_sender, IsReceiver, RecvStep, RecvDoes, IsNew, first_page}
+use Rattle.bus_world.specs.Proved.Invariants.{LawfulBus}
 use Rattle.bus_world.proofs.Waiting.{with_frame, frames_after, frames_by, event_frames, accepted_by, accepted, waiting_at, put_by, waiting_of}
 
 -- ---- numbers

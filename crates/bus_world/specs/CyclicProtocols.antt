@@ -2,29 +2,24 @@
 -- of the bus, with the page, the senders, the receivers and who took the pages. Tenure t uses row t mod rows.
 use Rattle.std.specs.Prelude.{◌≡◌, ℕ, ◌+◌, ◌*◌, ◌<◌, ◌≤◌, Option, Some, None, List, [], ◌∷◌, ◌++◌, All, length, slice_index, ◌==◌, if◌then◌else◌}
 use Rattle.bus_register.specs.declared.registers.Op.{Op}
-use Rattle.bus_register.specs.declared.registers.SenderNo.{SenderNo}
 use Rattle.bus_register.specs.Words.{register, after}
 use Rattle.bus_register.specs.Tables.{put}
 use Rattle.bus_batch.specs.Batches.{next_of}
 use Rattle.bus_batch.specs.declared.messages.Mark.{Mark}
-use Rattle.bus_batch.specs.Frames.{Order, Spells}
 use Rattle.bus_deliverylog.specs.Receiving.{Receiving}
 use Rattle.bus_deliverylog.specs.declared.receiving.RecvTurn.{RecvTurn}
 use Rattle.bus_presence.specs.Pins.{pin_fed}
-use Rattle.bus_presence.specs.Standing.{IsSafe, Stands}
 use Rattle.bus_presence.specs.Reclaimers.{Reclaiming, reclaim_fed}
-use Rattle.bus_presence.specs.Reclamation.{Reclamation, Trails, row_of, no_trails, new_reclamation, trails_with_entry, number_of_step, words_after as reclamation_words, Reached}
+use Rattle.bus_presence.specs.Reclamation.{Reclamation, Trails, no_trails, new_reclamation, trails_with_entry, number_of_step, words_after as reclamation_words}
 use Rattle.bus_presence.specs.declared.pins.Pin.TheVariants.{Away}
-use Rattle.bus_tenure.specs.Core.{Core, Election, Layout, stage_at}
-use Rattle.bus_tenure.specs.Situations.{Situation, Elects, line_of, op_at, kind_at, tenure_at, chosen_at}
+use Rattle.bus_tenure.specs.Core.{Core, Election, Layout}
+use Rattle.bus_tenure.specs.Situations.{Situation, line_of, op_at, kind_at, tenure_at, chosen_at}
 use Rattle.bus_tenure.specs.declared.pages.Page.{Page}
-use Rattle.bus_tenure.specs.declared.phases.Phase.TheVariants.{Electing}
 use Rattle.bus_tenure.specs.declared.turns.Turn.{Turn as Answered}
-use Rattle.bus_core.specs.Reusing.Participants.{sizes_with, log_from, Due, Pins, Reclaims, Goes, due_of, place_for, core_looked, core_going, pin_going, reclaimer_going, answer_going}
+use Rattle.bus_core.specs.Reusing.Participants.{log_from, Due, Pins, Reclaims, Goes, due_of, place_for, core_looked, core_going, pin_going, reclaimer_going, answer_going}
 use Rattle.bus_world.specs.Turning.{core_moved, after_step, home_after, owners_after}
-use Rattle.bus_world.specs.Headline.{Action, HasPut, HasMarked, Promises}
-use Rattle.bus_world.specs.Log.{words_read_from}
-use Rattle.bus_world.specs.Trails.{step_action, Takers}
+use Rattle.bus_world.specs.Headline.{Action, HasPut, HasMarked}
+use Rattle.bus_world.specs.Trails.{step_action}
 use Rattle.bus_world.specs.World.{AreBases, first_page, new_core, IsNewReceiver, RecvDoes, can_put, can_close, put_in, mark_in}
 
 pub record CyclicProtocol (E : Type 0) : Type 0 where
@@ -136,28 +131,3 @@ pub data Led {E : Type 0} (X : Election E) (x : Layout) (rows : ℕ) : CyclicPro
       → Led X x rows (record y { senders = put p (Some (mark_in c mark)) y.senders }) T (actions_with p (if can_close c.queue then HasMarked mark ∷ [] else []) D) H
   Heard : (y : CyclicProtocol E) (T : Trails) (D : ℕ → List Action) (H : ℕ → List RecvTurn) (r : ℕ) (v next : Receiving) (answer : RecvTurn) → Led X x rows y T D H → y.receivers r ≡ Some v → RecvDoes y.reclamation.words v answer next
       → Led X x rows (record y { receivers = put r (Some next) y.receivers }) T D (answers_with r answer H)
-
--- ---- what is promised of it
--- of its trails, actions and answers, with one order and one list of tenures and owners
-pub record KeepsPromises {E : Type 0} (X : Election E) (x : Layout) (rows : ℕ) (y : CyclicProtocol E) (T : Trails) (D : ℕ → List Action) (H : ℕ → List RecvTurn) (order : Order) (owners : List (ℕ × SenderNo)) : Type 0 where
-  -- its trails lead to its reclamation by moves of a reclamation: so no row is cleared while somebody stands in a tenure of it, ..
-  pub reached : Reached (sizes_with x rows) y.reclamation T
-  pub safe : IsSafe (sizes_with x rows) y.reclamation T
-  -- .. and while a page is out, the row of the next tenure was never used, or it is reclaimed
-  pub ready : (t : ℕ) → y.reclamation.words stage_at ≡ 2 * t + 1 → y.reclamation.reclaimer ≡ None → t + 1 < rows
-  -- whose election runs stands in its tenure: it stored its presence, then loaded the stage of that tenure, and has not cleared it since
-  pub stands : (p : ℕ) (c : Core E) (t : ℕ) (e : E) → y.senders p ≡ Some c → c.phase ≡ Electing t e → Stands (sizes_with x rows) p (T p) t
-  -- and its next step is on a word of the row that this tenure uses
-  pub within : (p : ℕ) (c : Core E) (t : ℕ) (e : E) (word : ℕ) (o : Op) → y.senders p ≡ Some c → c.phase ≡ Electing t e → X.op e word ≡ Some o
-      → (row_of (sizes_with x rows) t ≤ place_for x rows (Elects t e) (register o)) × (place_for x rows (Elects t e) (register o) < row_of (sizes_with x rows) t + x.width)
-  -- who took the pages is who did so by its actions
-  pub takers : Takers y.owners D
-  -- the words below the length spell the order and the owners
-  pub spelled : Spells x.senders (words_read_from y.reclamation.words (log_from x rows) (y.reclamation.words 0)) order owners
-  -- the headline's promise, also of tenures whose rows have gone on to others
-  pub promises : Promises (slice_index y.bases) D H order owners
-
-pub record IsKeptProtocol {E : Type 0} (X : Election E) (x : Layout) (rows : ℕ) (y : CyclicProtocol E) (T : Trails) (D : ℕ → List Action) (H : ℕ → List RecvTurn) : Type 0 where
-  pub order : Order
-  pub owners : List (ℕ × SenderNo)
-  pub by : KeepsPromises X x rows y T D H order owners

@@ -13,4 +13,4 @@ pub mod Telling
 pub mod Refusals
 pub mod Waiting
 pub mod CyclicProtocols
-pub mod CyclicMachines
+pub mod Proved

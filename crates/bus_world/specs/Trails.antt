@@ -1,19 +1,17 @@
 -- How events extend the trails, which trails lead to a bus, and what is promised of it then.
 use Rattle.std.specs.Prelude.{◌≡◌, ℕ, ◌≤◌, Option, Some, None, List, [], ◌∷◌, ◌++◌, length, slice_get, slice_index, if◌then◌else◌, ◌==◌}
-use Rattle.bus_register.specs.declared.limits.TheConstants.{MOST_SENDERS, MOST_ROWS, MOST_LOG_WORDS}
 use Rattle.bus_register.specs.declared.kinds.Kind.{Kind}
 use Rattle.bus_register.specs.declared.registers.SenderNo.{SenderNo}
-use Rattle.bus_register.specs.Protocol.{Protocol}
 use Rattle.bus_batch.specs.declared.messages.Mark.TheVariants as mark
-use Rattle.bus_batch.specs.Frames.{Frame, Order, Spells}
+use Rattle.bus_batch.specs.Frames.{Order, Spells}
 use Rattle.bus_deliverylog.specs.declared.receiving.RecvTurn.{RecvTurn}
 use Rattle.bus_tenure.specs.Core.{Core, Election, Layout}
 use Rattle.bus_tenure.specs.Situations.{Situation, situation_of, tenure_at, kind_at, op_at, chosen_at}
 use Rattle.bus_tenure.specs.declared.turns.Turn.{Turn as Answered}
 use Rattle.bus_world.specs.Headline.{Action, HasPut, HasMarked, Stepped, Took, Promises}
 use Rattle.bus_world.specs.Turning.{number_found}
-use Rattle.bus_world.specs.World.{Bus, Event, Put, Ask, Turn, Recv, Stop, going, IsEvent, Happens, IsNew, LawfulBus}
-use Rattle.bus_world.specs.Playing.{SizedBus, Answers, log_of}
+use Rattle.bus_world.specs.World.{Bus, Event, Put, Ask, Turn, Recv, Stop, going, IsEvent, Happens, IsNew}
+use Rattle.bus_world.specs.Playing.{Answers, log_of}
 use Rattle.bus_world.specs.declared.events.Answer.{Answer}
 use Rattle.bus_world.specs.declared.events.Answer.TheVariants as answer
 
@@ -104,14 +102,3 @@ pub record IsPromisedBy {E : Type 0} (bases : List ℕ) (x : Layout) (b : Bus E)
   pub spelled : Spells x.senders (log_of record { layout = x; bus = b }) order owners
   pub takers : Takers b.side.owners T.actions
   pub promises : Promises (slice_index bases) T.actions T.heard order owners
-
--- what every bus that a program holds keeps: some trails lead to it
-pub record MachineInvariant {E : Type 0} (X : Election E) (bases : List ℕ) (P : Protocol E (Unit {0}) ℕ) (z : SizedBus E) : Type 0 where
-  pub senders_few : z.layout.senders ≤ MOST_SENDERS
-  pub rows_few : z.layout.rows ≤ MOST_ROWS
-  pub capacity_few : z.layout.capacity ≤ MOST_LOG_WORDS
-  pub senders : length z.bus.side.senders ≡ z.layout.senders
-  pub frames : List Frame
-  pub lawful : LawfulBus (slice_index bases) P z.layout z.bus frames
-  pub trails : Trails
-  pub reached : Reached X bases z.layout z.bus trails

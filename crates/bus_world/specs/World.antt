@@ -1,12 +1,12 @@
 -- The bus as a machine that plays events, and what it always keeps.
-use Rattle.std.specs.Prelude.{◌≡◌, ◌≢◌, ℕ, ◌+◌, ◌<◌, Bool, true, false, ◌&&◌, Option, Some, None, List, [], ◌∷◌, ◌++◌, length, take, replicate, nat_lt, nat_le, slice_get, slice_index, slice_set, All, if◌then◌else◌, ◌==◌}
+use Rattle.std.specs.Prelude.{◌≡◌, ◌≢◌, ℕ, ◌+◌, ◌<◌, Bool, true, false, ◌&&◌, Option, Some, None, List, [], ◌∷◌, ◌++◌, length, replicate, nat_lt, nat_le, slice_get, slice_index, slice_set, All, if◌then◌else◌, ◌==◌}
 use Rattle.bus_register.specs.declared.limits.TheConstants.{MOST_BYTES, MOST_MESSAGES, MOST_SENDERS}
 use Rattle.bus_register.specs.Protocol.{Protocol}
 use Rattle.bus_batch.specs.declared.batches.Phase.{Phase}
 use Rattle.bus_batch.specs.declared.batches.Phase.TheVariants.{Open, Marking, Closed}
 use Rattle.bus_batch.specs.declared.messages.Mark.{Mark}
 use Rattle.bus_batch.specs.Batches.{Pending}
-use Rattle.bus_batch.specs.Frames.{Frame, Order, order_in, log_pieces}
+use Rattle.bus_batch.specs.Frames.{Frame}
 use Rattle.bus_deliverylog.specs.declared.receiving.RecvTurn.{RecvTurn}
 use Rattle.bus_deliverylog.specs.declared.receiving.RecvTurn.TheVariants.{End as RecvEnd}
 use Rattle.bus_deliverylog.specs.Receiving.{Receiving, HasReceived, TakesLength, TakesWord}
@@ -127,15 +127,6 @@ pub record IsReceiver (x : Layout) (frames : List Frame) (len : ℕ) (v : Receiv
 pub record Lawful {E : Type 0} (base : ℕ → ℕ) (P : Protocol E (Unit {0}) ℕ) (x : Layout) (words : ℕ → ℕ) (home : Option Page) (senders : ℕ → Option (Core E)) (receivers : ℕ → Option Receiving) (owners : List ℕ) (frames : List Frame) : Type 0 where
   pub sending : Sending base P x words home senders owners frames
   pub receiving : (r : ℕ) (v : Receiving) → receivers r ≡ Some v → IsReceiver x frames (words 0) v
-
--- a machine has just the words of its layout
-pub record LawfulBus {E : Type 0} (base : ℕ → ℕ) (P : Protocol E (Unit {0}) ℕ) (x : Layout) (bus : Bus E) (frames : List Frame) : Type 0 where
-  pub words : length bus.side.words ≡ words_of x
-  pub keeps : Lawful base P x (slice_index bus.side.words) bus.side.home (slice_get bus.side.senders) (slice_get bus.receivers) bus.side.owners frames
-
--- what a receiver was given: the items, the leave marks and the end among the pieces below its place
-abbrev pub given_at : List Frame → Receiving → Order
-given_at frames v = order_in (take v.place (log_pieces frames))
 
 -- ---- a new bus
 -- the numbers that a sitting begins with, by sender: each is below its range by a whole log at least

@@ -10,7 +10,7 @@ use Rattle.bus_core.specs.Reusing.Participants.{log_from}
 use Rattle.bus_core.specs.Reusing.Turns.{Participant, op_next, words_with}
 use Rattle.bus_tenure.specs.Core.{Election, Layout}
 use Rattle.bus_world.specs.Bus.{IsLayout}
-use Rattle.bus_world.specs.CyclicMachines.{CyclicTrails, CyclicReached}
+use Rattle.bus_world.specs.Proved.CyclicMachines.{CyclicTrails, CyclicReached}
 use Rattle.bus_world.proofs.CyclicMachineFits as fits
 use Rattle.bus_world.proofs.CyclicMachineLaws.{IsCyclicLayout, IsLed, cyclic_led}
 use Rattle.bus_world.proofs.Serving.{Serves}

@@ -4,7 +4,7 @@ use Rattle.bus_register.specs.Protocol.{Protocol}
 use Rattle.bus_deliverylog.specs.Receiving.{Receiving}
 use Rattle.bus_core.specs.Reusing.Participants.{log_from}
 use Rattle.bus_tenure.specs.Core.{Election}
-use Rattle.bus_world.specs.CyclicMachines.{CyclicMachine}
+use Rattle.bus_world.specs.Proved.CyclicMachines.{CyclicMachine}
 use Rattle.bus_world.proofs.LogLaws.{length-read}
 use Rattle.bus_world.proofs.CyclicMachineFits as fits
 use Rattle.bus_world.proofs.Serving.{Serves}

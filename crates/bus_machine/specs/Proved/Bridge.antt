@@ -4,7 +4,7 @@ use Rattle.bus_tenure.specs.Core.{Election, Layout}
 use Rattle.bus_core.specs.Reusing.Turns.{Participant}
 use Rattle.bus_core.specs.Senders.{apart, again}
 use Rattle.bus_world.specs.Playing.{Answers}
-use Rattle.bus_world.specs.CyclicMachines.{CyclicMachine, CyclicTrails, CyclicReached}
+use Rattle.bus_world.specs.Proved.CyclicMachines.{CyclicMachine, CyclicTrails, CyclicReached}
 use Rattle.bus_world.specs.Trails.{Trails as PlainTrails, Reached as PlainReached, trails_grown as plain_grown}
 use Rattle.bus_world.specs.World.{Bus, Event, IsEvent, Happens as PlainHappens}
 use Rattle.bus_world.specs.declared.events.Answer.{Answer}

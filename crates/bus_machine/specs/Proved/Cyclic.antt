@@ -5,7 +5,7 @@ use Rattle.bus_core.specs.declared.limits.TheConstants.{LEAST_ROWS_AGAIN, MOST_R
 use Rattle.bus_core.specs.Reusing.Participants.{log_from}
 use Rattle.bus_tenure.specs.Core.{Election}
 use Rattle.bus_world.specs.Log.{words_read_from}
-use Rattle.bus_world.specs.CyclicMachines.{CyclicMachine, CyclicTrails, CyclicReached, IsCyclic}
+use Rattle.bus_world.specs.Proved.CyclicMachines.{CyclicMachine, CyclicTrails, CyclicReached, IsCyclic}
 
 -- with who took the last pages, the oldest first
 pub record OwnedCyclicMachine (E : Type 0) : Type 0 where

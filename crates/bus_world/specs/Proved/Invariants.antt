@@ -1,0 +1,30 @@
+-- What every bus with a row for each tenure keeps.
+use Rattle.std.specs.Prelude.{◌≡◌, ℕ, List, length, take, slice_get, slice_index, ◌≤◌}
+use Rattle.bus_register.specs.declared.limits.TheConstants.{MOST_SENDERS, MOST_ROWS, MOST_LOG_WORDS}
+use Rattle.bus_register.specs.Protocol.{Protocol}
+use Rattle.bus_batch.specs.Frames.{Frame, Order, order_in, log_pieces}
+use Rattle.bus_deliverylog.specs.Receiving.{Receiving}
+use Rattle.bus_tenure.specs.Core.{Election, Layout, words_of}
+use Rattle.bus_world.specs.Playing.{SizedBus}
+use Rattle.bus_world.specs.World.{Bus, Lawful}
+use Rattle.bus_world.specs.Trails.{Trails, Reached}
+
+-- a machine has just the words of its layout
+pub record LawfulBus {E : Type 0} (base : ℕ → ℕ) (P : Protocol E (Unit {0}) ℕ) (x : Layout) (bus : Bus E) (frames : List Frame) : Type 0 where
+  pub words : length bus.side.words ≡ words_of x
+  pub keeps : Lawful base P x (slice_index bus.side.words) bus.side.home (slice_get bus.side.senders) (slice_get bus.receivers) bus.side.owners frames
+
+-- what a receiver was given: the items, the leave marks and the end among the pieces below its place
+abbrev pub given_at : List Frame → Receiving → Order
+given_at frames v = order_in (take v.place (log_pieces frames))
+
+-- what every bus that a program holds keeps: some trails lead to it
+pub record MachineInvariant {E : Type 0} (X : Election E) (bases : List ℕ) (P : Protocol E (Unit {0}) ℕ) (z : SizedBus E) : Type 0 where
+  pub senders_few : z.layout.senders ≤ MOST_SENDERS
+  pub rows_few : z.layout.rows ≤ MOST_ROWS
+  pub capacity_few : z.layout.capacity ≤ MOST_LOG_WORDS
+  pub senders : length z.bus.side.senders ≡ z.layout.senders
+  pub frames : List Frame
+  pub lawful : LawfulBus (slice_index bases) P z.layout z.bus frames
+  pub trails : Trails
+  pub reached : Reached X bases z.layout z.bus trails
