@@ -1,5 +1,5 @@
 -- Each of these is no cause.
-use Rattle.std.proofs.Common.{◌≡◌, inl, inr, ℕ, ◌+◌, ◌<◌, ◌≤◌, Bool, false, Some, None, arith, sym, ◌∙◌, ap, subst}
+use Rattle.std.proofs.Common.{◌≡◌, inl, inr, ℕ, ◌+◌, ◌<◌, ◌≤◌, Bool, true, false, Some, None, arith, sym, ◌∙◌, ap, subst}
 use Rattle.std.proofs.lemmas.Bool.{true≢false}
 use Rattle.std.proofs.lemmas.Option.{same_Some}
 use Rattle.bus_register.specs.declared.kinds.Kind.{Kind}
@@ -10,13 +10,13 @@ use Rattle.bus_presence.specs.Reclaimers.{Reclaiming}
 use Rattle.bus_presence.specs.Reclamation.{IsReady, row_of}
 use Rattle.bus_presence.specs.declared.pins.Pin.TheVariants.{Away, Pinned, Validating, Unpinning}
 use Rattle.bus_ownerbits.specs.Election.{fits_bits}
-use Rattle.bus_tenure.specs.Causes.{LeavesPage}
+use Rattle.bus_coinconc.specs.declared.conciliators.Stage.{Stage}
+use Rattle.bus_tenure.specs.Causes.{IsInRatifier, IsInConciliator, LeavesPage}
 use Rattle.bus_tenure.specs.Core.{Core, frame_len}
 use Rattle.bus_tenure.specs.declared.pages.Page.{Page}
 use Rattle.bus_tenure.specs.declared.phases.Phase.{Phase}
 use Rattle.bus_tenure.specs.Elections.{Elector, elections}
 use Rattle.bus_tenure.specs.declared.phases.Phase.TheVariants.{Resting, Holding}
-use Rattle.bus_tenure.proofs.Refused.{refuses_causes}
 use Rattle.bus_core.specs.Causes.{HasCause, StandsInside, StandsInRow, LeavesTenure, AsLoser, AsHolder, AsLate}
 use Rattle.bus_core.specs.CausesRefuse.{IsOfElection, RefusesOwn, RefusesApart, RefusesAgain, RefusesCauses}
 use Rattle.bus_core.specs.Keeping.{sender}
@@ -53,6 +53,33 @@ unsent_stays c t page stored at goes fits l =
       ]
     ]
 
+-- ---- an election
+-- it is at one stage of one conciliator
+same_stage : {S : Type 0} (c : Core (Elector S)) (a b : Stage) → IsInConciliator c a → IsInConciliator c b → a ≡ b
+same_stage c a b x y =
+    let f = x.deciding.elects in
+    let g = y.deciding.elects in
+    let p = x.deciding.proposes in
+    let q = y.deciding.proposes in
+    let m = x.here in
+    let n = y.here in
+    let s = x.stands in
+    let t = y.stands in
+    cc
+
+-- it is in one ratifier, where it has begun or has not
+not_both : {S : Type 0} (P : Protocol S Bool Verdict) (c : Core (Elector S)) → IsInRatifier P c true → IsInRatifier P c false → ⊥
+not_both P c x y =
+    let f = x.deciding.elects in
+    let g = y.deciding.elects in
+    let p = x.deciding.proposes in
+    let q = y.deciding.proposes in
+    let m = x.here in
+    let n = y.here in
+    let same : x.ratifier ≡ y.ratifier = cc in
+    true≢false (sym x.stands ∙ ap P.has_begun same ∙ y.stands)
+
+-- ---- a presence
 module _ {E : Type 0} (v : Participant E) where
   -- who leaves a tenure does not stand in it
   leaves_pinned : LeavesTenure v → (t : ℕ) → v.pin ≡ Pinned t → ⊥
@@ -75,36 +102,38 @@ module _ {E : Type 0} (v : Participant E) where
 module _ {S : Type 0} (P : Protocol S Bool Verdict) where
   -- what no sender has a cause for in its tenures
   own_refused : (v : Sender (Elector S)) → RefusesOwn P v
-  own_refused v =
-      let n = refuses_causes P in
-      record {
-        resting_takes = λ rests w. n.resting_takes v.core rests w.1;
-        resting_stores = λ rests w. n.resting_stores v.core rests w.1;
-        resting_falls_back = λ rests w. n.resting_falls_back v.core rests w.1;
-        ended_publishes = λ tenure page stored at ended w. n.ended_publishes v.core tenure page stored at ended w.1;
-        unstored_publishes = λ tenure page stored at left w.
-            let same = same_stored tenure _ page _ stored _ false false (sym at ∙ w.1.holds.holds) in omega arith;
-        unsent_gives_back = λ tenure page stored at goes fits w. elim w.0 [
-          | inl l ↦ unsent_stays v.core tenure page stored at goes fits l
-          | inr h ↦ (let bad = sym at ∙ h.gives in cc)
-        ];
-        unbrought_reads_first = λ is w. n.unbrought_reads_first v.core is w.1;
-        unbrought_writes_second = λ is w. n.unbrought_writes_second v.core is w.1;
-        unbrought_reads_second = λ is w. n.unbrought_reads_second v.core is w.1;
-        brings_again = λ is w. n.brings_again v.core is w.1;
-        unmarked_reads = λ is w. n.unmarked_reads v.core is w.1;
-        unread_votes = λ is w. n.unread_votes v.core is w.1;
-        counting_votes = λ is w. n.counting_votes v.core is w.1;
-        fitting_searches = λ t e runs fits w.
-            let same = (same_election t w.1.tenure e w.1.election (sym runs ∙ w.1.elects)).1 in
-            true≢false (sym fits ∙ ap (λ z. fits_bits z z.candidate) same ∙ w.1.unfit);
-        takes_undecided = λ t e runs open_still w.
-            let same = (same_election t w.1.tenure e w.1.election (sym runs ∙ w.1.elects)).1 in
-            let bad = sym open_still ∙ ap (elections P v.core.layout.rounds).output same ∙ w.1.spells in cc;
-        takes_what_it_lost = λ t o e runs spells other w.
-            let same = (same_election t w.1.tenure e w.1.election (sym runs ∙ w.1.elects)).1 in
-            other (same_Some _ _ (sym spells ∙ ap (elections P v.core.layout.rounds).output same ∙ w.1.spells));
-      }
+  own_refused v = record {
+    resting_takes = λ rests w. let x = w.1.elects in absurd cc;
+    resting_stores = λ rests w. let x = w.1.holds.holds in absurd cc;
+    resting_falls_back = λ rests w. let x = w.1.deciding.elects in absurd cc;
+    ended_publishes = λ tenure page stored at ended w. let x = w.1.holds.holds in let y = w.1.holds.not_ended in absurd cc;
+    unstored_publishes = λ tenure page stored at left w.
+        let same = same_stored tenure _ page _ stored _ false false (sym at ∙ w.1.holds.holds) in omega arith;
+    unsent_gives_back = λ tenure page stored at goes fits w. elim w.0 [
+      | inl l ↦ unsent_stays v.core tenure page stored at goes fits l
+      | inr h ↦ (let bad = sym at ∙ h.gives in cc)
+    ];
+    unbrought_reads_first = λ is w. not_both P v.core w.1 is;
+    unbrought_writes_second = λ is w. not_both P v.core w.1 is;
+    unbrought_reads_second = λ is w. not_both P v.core w.1 is;
+    brings_again = λ is w. not_both P v.core is w.1;
+    unmarked_reads = λ is w. let x = same_stage v.core _ _ is w.1 in absurd cc;
+    unread_votes = λ is w. let x = same_stage v.core _ _ is w.1.asks in absurd cc;
+    counting_votes = λ is w.
+        let x = same_stage v.core _ _ is.asks w.1.asks in
+        let y = is.stands in
+        let z = w.1.stands in
+        absurd cc;
+    fitting_searches = λ t e runs fits w.
+        let same = (same_election t w.1.tenure e w.1.election (sym runs ∙ w.1.elects)).1 in
+        true≢false (sym fits ∙ ap (λ z. fits_bits z z.candidate) same ∙ w.1.unfit);
+    takes_undecided = λ t e runs open_still w.
+        let same = (same_election t w.1.tenure e w.1.election (sym runs ∙ w.1.elects)).1 in
+        let bad = sym open_still ∙ ap (elections P v.core.layout.rounds).output same ∙ w.1.spells in cc;
+    takes_what_it_lost = λ t o e runs spells other w.
+        let same = (same_election t w.1.tenure e w.1.election (sym runs ∙ w.1.elects)).1 in
+        other (same_Some _ _ (sym spells ∙ ap (elections P v.core.layout.rounds).output same ∙ w.1.spells));
+  }
 
   -- what none has a cause for with a row for each tenure
   apart_refused : (v : Sender (Elector S)) → RefusesApart P v
