@@ -81,7 +81,7 @@ placed_words f xs (Some o) low =
     ∙ ap (λ q. put q (after (on_place f o) (slice_index xs q)) (slice_index xs)) (same_register f o)
     ∙ ap (λ n. put (f (register o)) n (slice_index xs)) (same_after f o (slice_index xs (f (register o))))
 
-placed_found : (f : ℕ → ℕ) (w : ℕ → ℕ) (d : Option Op) → number_found w (op_placed f d) ≡ word_found f w d
+pub placed_found : (f : ℕ → ℕ) (w : ℕ → ℕ) (d : Option Op) → number_found w (op_placed f d) ≡ word_found f w d
 placed_found f w None = refl
 placed_found f w (Some o) = ap w (same_register f o)
 

@@ -140,7 +140,7 @@ last_frame senders least [] lawful e = absurd (false≢true e)
 last_frame senders least (f ∷ fs) lawful e = last_by f fs f.body refl lawful.2 e (last_frame senders (f.tenure + 1) fs lawful.3)
 
 -- ---- the frames before the last one
-not_nil : (front : List Frame) (f : Frame) → front ++ f ∷ [] ≡ [] → ⊥
+pub not_nil : (front : List Frame) (f : Frame) → front ++ f ∷ [] ≡ [] → ⊥
 not_nil [] f e = cc
 not_nil (g ∷ front) f e = cc
 

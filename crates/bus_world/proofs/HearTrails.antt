@@ -34,36 +34,36 @@ more_order o entries ended = record { entries = o.entries ++ entries; ended = o.
 order_so : (entries entries' : List Entry) (a b : Bool) → entries ≡ entries' → a ≡ b → ◌≡◌ {A = Order} (record { entries = entries; ended = a }) (record { entries = entries'; ended = b })
 order_so entries entries' a b e f = ap (λ z. record { entries = z; ended = a }) e ∙ ap (λ z. record { entries = entries'; ended = z }) f
 
-given_more : (trail : List RecvTurn) (a : RecvTurn) → order_given (trail ++ a ∷ []) ≡ more_order (order_given trail) (entry_heard a) (end_heard a)
+pub given_more : (trail : List RecvTurn) (a : RecvTurn) → order_given (trail ++ a ∷ []) ≡ more_order (order_given trail) (entry_heard a) (end_heard a)
 given_more trail a = order_so _ _ _ _ (flat_map-append entry_heard trail (a ∷ []) ∙ ap (λ z. flat_map entry_heard trail ++ z) (append-nil (entry_heard a)))
     (list_any-append end_heard trail (a ∷ []) ∙ ap (λ z. list_any end_heard trail || z) (or-false (end_heard a)))
 
-heads_more : (trail : List RecvTurn) (a : RecvTurn) → heads (trail ++ a ∷ []) ≡ heads trail ++ head_heard a
+pub heads_more : (trail : List RecvTurn) (a : RecvTurn) → heads (trail ++ a ∷ []) ≡ heads trail ++ head_heard a
 heads_more trail a = flat_map-append head_heard trail (a ∷ []) ∙ ap (λ z. flat_map head_heard trail ++ z) (append-nil (head_heard a))
 
-order_more : (pieces : List (Option Piece)) (p : Option Piece) → order_in (pieces ++ p ∷ []) ≡ more_order (order_in pieces) (piece_entries p) (is_end p)
+pub order_more : (pieces : List (Option Piece)) (p : Option Piece) → order_in (pieces ++ p ∷ []) ≡ more_order (order_in pieces) (piece_entries p) (is_end p)
 order_more pieces p = order_so _ _ _ _ (flat_map-append piece_entries pieces (p ∷ []) ∙ ap (λ z. flat_map piece_entries pieces ++ z) (append-nil (piece_entries p)))
     (list_any-append is_end pieces (p ∷ []) ∙ ap (λ z. list_any is_end pieces || z) (or-false (is_end p)))
 
-owners_more : (pieces : List (Option Piece)) (p : Option Piece) → owners_in (pieces ++ p ∷ []) ≡ owners_in pieces ++ piece_owners p
+pub owners_more : (pieces : List (Option Piece)) (p : Option Piece) → owners_in (pieces ++ p ∷ []) ≡ owners_in pieces ++ piece_owners p
 owners_more pieces p = flat_map-append piece_owners pieces (p ∷ []) ∙ ap (λ z. flat_map piece_owners pieces ++ z) (append-nil (piece_owners p))
 
 -- an answer tells its piece
-entry_told : (p : Option Piece) → entry_heard (turn_of p) ≡ piece_entries p
+pub entry_told : (p : Option Piece) → entry_heard (turn_of p) ≡ piece_entries p
 entry_told None = refl
 entry_told (Some (piece.Head t o)) = refl
 entry_told (Some (piece.Item i)) = refl
 entry_told (Some (piece.Leave s)) = refl
 entry_told (Some piece.End) = refl
 
-end_told : (p : Option Piece) → end_heard (turn_of p) ≡ is_end p
+pub end_told : (p : Option Piece) → end_heard (turn_of p) ≡ is_end p
 end_told None = refl
 end_told (Some (piece.Head t o)) = refl
 end_told (Some (piece.Item i)) = refl
 end_told (Some (piece.Leave s)) = refl
 end_told (Some piece.End) = refl
 
-head_told : (p : Option Piece) → head_heard (turn_of p) ≡ piece_owners p
+pub head_told : (p : Option Piece) → head_heard (turn_of p) ≡ piece_owners p
 head_told None = refl
 head_told (Some (piece.Head t o)) = refl
 head_told (Some (piece.Item i)) = refl
@@ -82,7 +82,7 @@ or_left true b e = refl
 or_left false b e = absurd cc
 
 -- ---- words of the log
-index-read : (words : ℕ → ℕ) (at k i : ℕ) → i < k → slice_index (words_read_from words at k) i ≡ words (at + i)
+pub index-read : (words : ℕ → ℕ) (at k i : ℕ) → i < k → slice_index (words_read_from words at k) i ≡ words (at + i)
 index-read words at zero i l = absurd (omega arith)
 index-read words at (suc k) i l = elim (cases_lt i k) [
   | inl below ↦ get_or_append_left (words_read_from words at k) (words (at + k) ∷ []) 0 i (let z = length-read words at k in omega arith) ∙ index-read words at k i below
@@ -94,7 +94,7 @@ index-read words at (suc k) i l = elim (cases_lt i k) [
   last : (xs : List ℕ) (w : ℕ) → slice_index (xs ++ w ∷ []) (length xs) ≡ w
   last xs w = grind (arith, common_steps)
 
-next_word : (xs : List ℕ) (k w : ℕ) → k < length xs → slice_index xs k ≡ w → xs ≡ take k xs ++ w ∷ drop (suc k) xs
+pub next_word : (xs : List ℕ) (k w : ℕ) → k < length xs → slice_index xs k ≡ w → xs ≡ take k xs ++ w ∷ drop (suc k) xs
 next_word [] k w l e = absurd (omega arith)
 next_word (x ∷ xs) zero w l e = ap (λ z. z ∷ xs) e
 next_word (x ∷ xs) (suc k) w l e = ap (λ z. x ∷ z) (next_word xs k w (omega arith) e)
