@@ -1,8 +1,7 @@
 -- What a sender accepts between its turns keeps what senders, words, page and owners keep: said of words and senders by number.
-use Rattle.std.proofs.Common.{◌+◌, ◌*◌, ◌≡◌, ℕ, suc, ◌<◌, ◌≤◌, ◌^◌, Bool, true, false, cond, ◌&&◌, ◌==◌, nat_lt, nat_le, Option, Some, inl, inr, List, [], ◌∷◌, ◌++◌, length, filter, arith, refl, sym, ◌∙◌, ap, subst}
-use mathlib.Core.Path.{fun_ext}
+use Rattle.std.proofs.Common.{◌+◌, ◌*◌, ◌≡◌, ℕ, suc, ◌<◌, ◌≤◌, ◌^◌, Bool, true, false, cond, ◌&&◌, ◌==◌, nat_lt, nat_le, Option, Some, List, [], ◌∷◌, ◌++◌, length, filter, arith, refl, sym, ◌∙◌, ap, subst}
 use Rattle.std.specs.Prelude.{All}
-use Rattle.std.proofs.lemmas.Bool.{and_parts, cases_eq, leb-true, ltb-true, true≢false}
+use Rattle.std.proofs.lemmas.Bool.{and_parts, leb-true, ltb-true, true≢false}
 use Rattle.std.proofs.lemmas.List.{length-append}
 use Rattle.std.proofs.lemmas.List.Elements.{All-append, All-from_recursion}
 use Rattle.bus_register.specs.declared.registers.SenderNo.{SenderNo}
@@ -28,6 +27,7 @@ use Rattle.bus_world.proofs.BusLaws as bus
 use Rattle.bus_world.proofs.Framing.{front_lawful}
 use Rattle.bus_world.proofs.Bounds.{items_few}
 use Rattle.bus_world.specs.World.{is_open, can_put, can_close, put_in, mark_in}
+use Rattle.bus_world.proofs.TurningLaws.{open_apart}
 
 -- ---- what a sender accepts
 pub data Accepted : Type 0 where
@@ -74,9 +74,6 @@ pub empty_is : {A : Type 0} (xs : List A) → is_empty xs ≡ true → xs ≡ []
 empty_is [] e = refl
 empty_is (x ∷ xs) e = absurd (true≢false (sym e))
 
-open_apart : Open ≡ Closed → ⊥
-open_apart e = cc
-
 -- a batch that is not on its way is that of a sender that has begun no tenure
 pub idle_rests : (base : ℕ → ℕ) {E : Type 0} (words : ℕ → ℕ) (frames : List Frame) (c : Core E) (ph : SenderPhase E) → Fits base words frames c ph → c.queue.busy ≡ false → ph ≡ phase.Resting
 idle_rests base words frames c phase.Resting f e = refl
@@ -112,13 +109,7 @@ module _ {E : Type 0} (X : Election E) (P : Protocol E (Unit {0}) ℕ) (laws : L
 
     module _ (senders' : ℕ → Option (Core E)) (beside : Beside p senders senders') where
       unchanged : senders' p ≡ Some c → Sending base P x words home senders' owners frames
-      unchanged new = subst (λ z. Sending base P x words home z owners frames) (sym (fun_ext same)) h
-        where
-          same : (q : ℕ) → senders' q ≡ senders q
-          same q = elim (cases_eq q p) [
-            | inl i ↦ ap senders' i ∙ new ∙ sym old ∙ ap senders (sym i)
-            | inr ne ↦ beside q ne
-          ]
+      unchanged new = subst (λ z. Sending base P x words home z owners frames) (sym (bus.same_senders p c senders senders' old new beside)) h
 
       replaced : (q : Pending) → c.queue.busy ≡ false → q.busy ≡ false → q.sender ≡ c.queue.sender → q.first ≡ c.queue.first → ((c.queue.phase ≡ Closed) × (c.queue.messages ≡ []) → (q.phase ≡ Closed) × (q.messages ≡ [])) → IsKept q → senders' p ≡ Some (record c { queue = q }) → Sending base P x words home senders' owners frames
       replaced q idle idle' sender first closed kept new =

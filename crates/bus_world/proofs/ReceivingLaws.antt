@@ -64,7 +64,7 @@ pub Receives-known : (n : ℕ) (frames : List Frame) (len place known : ℕ) (re
 Receives-known n frames len place known reading h l = record { place_below = l; known_below = omega arith; has_read = h.has_read }
 
 -- the next word
-next_word : (xs : List ℕ) (k w : ℕ) → k < length xs → slice_index xs k ≡ w → take k xs ++ w ∷ drop (suc k) xs ≡ xs
+pub next_word : (xs : List ℕ) (k w : ℕ) → k < length xs → slice_index xs k ≡ w → take k xs ++ w ∷ drop (suc k) xs ≡ xs
 next_word [] k w l e = absurd (omega arith)
 next_word (x ∷ xs) zero w l e = ap (λ z. z ∷ xs) (sym e)
 next_word (x ∷ xs) (suc k) w l e = ap (λ z. x ∷ z) (next_word xs k w (omega arith) e)

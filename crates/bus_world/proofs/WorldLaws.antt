@@ -3,8 +3,7 @@ use Rattle.std.proofs.Common.{◌≡◌, ◌≢◌, ℕ, zero, suc, ◌+◌, ◌
 use Rattle.std.specs.Prelude.{All}
 use Rattle.std.proofs.lemmas.Bool.{and_parts, cases_eq, cases_lt}
 use Rattle.std.proofs.lemmas.Bool.Decides.{eqb_tells}
-use Rattle.std.proofs.lemmas.Grind.{common_steps}
-use Rattle.std.proofs.lemmas.List.{append-nil, length-append, length-replicate, length-take, get_or_append_left}
+use Rattle.std.proofs.lemmas.List.{append-nil, length-append, length-replicate, length-take}
 use Rattle.std.proofs.Math.Seq.{take-nil}
 use Rattle.std.proofs.lemmas.Option.{same_Some, slice_get_within}
 use Rattle.bus_register.specs.Protocol.{Protocol, Laws}
@@ -18,9 +17,9 @@ use Rattle.bus_tenure.specs.Situations.{situation_of, line_of}
 use Rattle.bus_tenure.specs.declared.phases.Phase.{Phase as SenderPhase}
 use Rattle.bus_tenure.specs.declared.phases.Phase.TheVariants as phase
 use Rattle.bus_deliverylog.specs.Orders.{of_sender}
-use Rattle.bus_world.specs.Log.{words_read_from, AreCounted, Logged}
+use Rattle.bus_world.specs.Log.{AreCounted, Logged}
 use Rattle.bus_world.proofs.Stopping.{is_there}
-use Rattle.bus_world.proofs.LogLaws.{length-read, log_words-append}
+use Rattle.bus_world.proofs.LogLaws.{length-read, log_words-append, index-read}
 use Rattle.bus_world.proofs.ReceivingLaws.{goes_on, Receives-known, Receives-word, Receives-append}
 use Rattle.bus_world.specs.Receiving.{Receives}
 use Rattle.bus_batch.specs.Reading.{HasRead}
@@ -35,7 +34,7 @@ use Rattle.bus_world.proofs.TurningLaws.{IsSide, side_of}
 use Rattle.bus_world.proofs.TurningLaws as turning
 use Rattle.bus_world.proofs.PutLaws as puts
 use Rattle.bus_world.proofs.Accepting as accepting
-use Rattle.bus_world.proofs.Accepting.{Accepted, Puts, Asks, accept, AreAccepted, open_is, not_busy, empty_is, idle_rests}
+use Rattle.bus_world.proofs.Accepting.{Accepted, Puts, Asks, accept, AreAccepted, not_busy, idle_rests}
 use Rattle.bus_tenure.specs.declared.phases.Reason.{Reason}
 use Rattle.bus_register.specs.Proved.TableLaws.{get_set_same, get_set_other}
 use Rattle.bus_world.specs.World.{Event, Put, Ask, Turn, Recv, Stop, going, IsEvent, Happens, SenderDoes, ReceiverDoes, recv_found, Bus, is_open, can_put, can_close, put_in, mark_in, with_sender, IsReceiver, RecvStep, RecvDoes, IsNew, first_page}
@@ -66,18 +65,6 @@ module _ {E : Type 0} (X : Election E) (P : Protocol E (Unit {0}) ℕ) (laws : L
     }
 
 -- ---- receivers
-index-read : (words : ℕ → ℕ) (at k i : ℕ) → i < k → slice_index (words_read_from words at k) i ≡ words (at + i)
-index-read words at zero i l = absurd (omega arith)
-index-read words at (suc k) i l = elim (cases_lt i k) [
-  | inl below ↦ get_or_append_left (words_read_from words at k) (words (at + k) ∷ []) 0 i (let z = length-read words at k in omega arith) ∙ index-read words at k i below
-  | inr past ↦
-      let size = length-read words at k in
-      let e : i ≡ length (words_read_from words at k) = omega arith in
-      ap (slice_index (words_read_from words at k ++ words (at + k) ∷ [])) e ∙ last (words_read_from words at k) (words (at + k)) ∙ ap words (omega arith)
-] where
-  last : (xs : List ℕ) (w : ℕ) → slice_index (xs ++ w ∷ []) (length xs) ≡ w
-  last xs w = grind (arith, common_steps)
-
 module _ {base : ℕ → ℕ} (x : Layout) (frames : List Frame) (words : ℕ → ℕ) (log : Logged base x.senders x.capacity (log_at x) words (words 0) frames) (v : Receiving) (h : IsReceiver x frames (words 0) v) where
   size_is : length (log_words frames) ≡ words 0
   size_is = sym (ap length log.words_are) ∙ length-read words (log_at x) (words 0)
