@@ -15,13 +15,13 @@ use Rattle.bus_batch.specs.declared.messages.Item.{Item}
 use Rattle.bus_batch.specs.Messages.{IsMessage}
 use Rattle.bus_batch.specs.Batches.{Pending, IsKept, next_of, frame_of}
 use Rattle.bus_batch.specs.Frames.{AreFrames, Frame, order_of, items_in, log_words, frame_words}
-use Rattle.bus_tenure.specs.Core.{Core, Election, Layout, log_at, is_empty}
+use Rattle.bus_tenure.specs.Core.{Core, Election, Layout, is_empty}
 use Rattle.bus_tenure.specs.declared.pages.Page.{Page}
 use Rattle.bus_tenure.specs.declared.phases.Phase.{Phase as SenderPhase}
 use Rattle.bus_tenure.specs.declared.phases.Phase.TheVariants as phase
 use Rattle.bus_ownerbits.specs.OneOwner.{OneOwner}
 use Rattle.bus_world.specs.Log.{sent_count}
-use Rattle.bus_world.proofs.LogLaws.{length-read, log_words-append}
+use Rattle.bus_world.proofs.LogLaws.{length-logged, log_words-append}
 use Rattle.bus_world.specs.Bus.{IsLayout, Part, Fits, Sending}
 use Rattle.bus_world.proofs.BusLaws as bus
 use Rattle.bus_world.proofs.Framing.{front_lawful}
@@ -104,7 +104,7 @@ module _ {E : Type 0} (X : Election E) (P : Protocol E (Unit {0}) ℕ) (laws : L
     pub numbers_fit : next_of c.queue < 2 ^ 48
     numbers_fit =
         let few = own.queue.few in let low = h.log.low c.me in let first = first_below c.phase own.fits in let cap = ok.capacity in let within = h.log.fits in
-        let size : length (log_words frames) ≡ words 0 = sym (ap length h.log.words_are) ∙ length-read words (log_at x) (words 0) in
+        let size = length-logged h.log in
         omega arith
 
     module _ (senders' : ℕ → Option (Core E)) (beside : Beside p senders senders') where

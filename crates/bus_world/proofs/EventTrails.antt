@@ -20,7 +20,7 @@ use Rattle.bus_batch.specs.Frames.{Frame, Leaves, AreFrames, log_words, log_piec
 use Rattle.bus_deliverylog.specs.Orders.{of_sender}
 use Rattle.bus_deliverylog.specs.Receiving.{Receiving}
 use Rattle.bus_deliverylog.specs.declared.receiving.RecvTurn.{RecvTurn}
-use Rattle.bus_tenure.specs.Core.{Core, Election, Layout, log_at, words_of}
+use Rattle.bus_tenure.specs.Core.{Core, Election, Layout}
 use Rattle.bus_tenure.specs.Situations.{kind_at, situation_of, op_at, answer_at}
 use Rattle.bus_tenure.specs.declared.turns.Turn.{Turn as Answered}
 use Rattle.bus_tenure.specs.declared.phases.Phase.TheVariants as phase
@@ -38,11 +38,11 @@ use Rattle.std.proofs.lemmas.Bool.Decides.{nat_tests}
 use Rattle.std.proofs.lemmas.Bool.{le-leb}
 use Rattle.bus_world.specs.Bus.{IsLayout, Fits}
 use Rattle.bus_world.proofs.FrameOwners.{owner_took, rise}
-use Rattle.bus_world.proofs.Beginning.{zeros}
+use Rattle.bus_world.proofs.Beginning.{words_zero}
 use Rattle.bus_world.proofs.BusLaws as bus
 use Rattle.bus_world.specs.Headline.{Action, HasPut, HasMarked, Stepped, puts, Took, Asked, order_given, IsPrefix, Promises}
 use Rattle.bus_world.specs.Log.{next_number, sent_count}
-use Rattle.bus_world.proofs.LogLaws.{length-read}
+use Rattle.bus_world.proofs.LogLaws.{length-logged}
 use Rattle.bus_world.specs.Turning.{Side, side_after, core_after, number_found}
 use Rattle.bus_world.specs.World.{Bus, Event, Put, Ask, Turn, Recv, Stop, going, IsEvent, Happens, SenderDoes, with_sender, can_put, can_close, put_in, mark_in, IsNew, is_open}
 use Rattle.bus_world.proofs.TurningLaws.{side_of}
@@ -207,7 +207,7 @@ module _ (bases : List ℕ) {E : Type 0} (X : Election E) (P : Protocol E (Unit 
     below r v i =
         let own = (h.keeps.receiving r v i).receives in
         let log = h.keeps.sending.log in
-        let size : length (log_words frames) ≡ slice_index b.side.words 0 = sym (ap length log.words_are) ∙ length-read (slice_index b.side.words) (log_at x) (slice_index b.side.words 0) in
+        let size = length-logged log in
         let a = own.place_below in let d = own.known_below in omega arith
 
     nobody_hears : b'.receivers ≡ b.receivers → Heard (frames ++ more) b'.receivers (λ r. A r ++ [])
@@ -241,7 +241,7 @@ module _ (bases : List ℕ) {E : Type 0} (X : Election E) (P : Protocol E (Unit 
       next_below j =
           let own = (lawful.keeps.receiving q w.0 j).receives in
           let log = h.keeps.sending.log in
-          let size : length (log_words frames) ≡ slice_index b.side.words 0 = sym (ap length log.words_are) ∙ length-read (slice_index b.side.words) (log_at x) (slice_index b.side.words 0) in
+          let size = length-logged log in
           let same : slice_index b'.side.words 0 ≡ slice_index b.side.words 0 = ap (λ (z : Side E). slice_index z.words 0) side in
           let a = own.place_below in let d = own.known_below in omega arith
 
@@ -345,9 +345,6 @@ module _ (bases : List ℕ) {E : Type 0} (X : Election E) (P : Protocol E (Unit 
 
   -- ---- a new bus
   module _ (b : Bus E) (new : IsNew bases x b) where
-    zero_at : (r : ℕ) → slice_index b.side.words r ≡ 0
-    zero_at r = ap (λ z. slice_index z r) new.words ∙ zeros (words_of x) r
-
     new_puts : (s : ℕ) → put_by b [] s ≡ []
     new_puts s = waiting_new (slice_get b.side.senders s) refl
       where
@@ -362,7 +359,7 @@ module _ (bases : List ℕ) {E : Type 0} (X : Election E) (P : Protocol E (Unit 
       tied = record {
         tables = record {
           elections = λ t p. None;
-          kept = λ t l. let apart = row_within t x.rows (P.width x.senders) l in laws.fresh x.senders (2 + t * P.width x.senders) (slice_index b.side.words) (λ r u v. zero_at r);
+          kept = λ t l. let apart = row_within t x.rows (P.width x.senders) l in laws.fresh x.senders (2 + t * P.width x.senders) (slice_index b.side.words) (λ r u v. words_zero b new r);
           ahead = λ p c t e l. refl;
           electing = λ p c t e i j. absurd (bus.resting_apart t e (sym (ap (λ (z : Core E). z.phase) (new.senders p c i).1) ∙ j));
           announced = λ t s e. absurd (none-some tt e);

@@ -18,7 +18,7 @@ use Rattle.bus_deliverylog.specs.declared.receiving.RecvTurn.{RecvTurn}
 use Rattle.bus_deliverylog.specs.declared.receiving.RecvTurn.TheVariants as heard
 use Rattle.bus_tenure.specs.Core.{Layout, log_at}
 use Rattle.bus_world.specs.Log.{Logged}
-use Rattle.bus_world.proofs.LogLaws.{length-read, index-read}
+use Rattle.bus_world.proofs.LogLaws.{length-logged, index-read}
 use Rattle.bus_world.proofs.ReceivingLaws.{given_is_prefix, length-log_pieces, next_word}
 use Rattle.bus_world.specs.Headline.{entry_heard, end_heard, head_heard, order_given, heads, IsPrefix}
 use Rattle.bus_world.proofs.Places.{got_split, only_one}
@@ -155,7 +155,7 @@ module _ (frames : List Frame) (v : Receiving) (trail : List RecvTurn) (h : Hear
 
 module _ {base : ℕ → ℕ} (x : Layout) (frames : List Frame) (words : ℕ → ℕ) (log : Logged base x.senders x.capacity (log_at x) words (words 0) frames) (v : Receiving) (own : IsReceiver x frames (words 0) v) (trail : List RecvTurn) (h : Hears frames v trail) (answer : RecvTurn) (next : Receiving) where
   size_is : length (log_words frames) ≡ words 0
-  size_is = sym (ap length log.words_are) ∙ length-read words (log_at x) (words 0)
+  size_is = length-logged log
 
   hears_step : v.ended ≡ false → RecvStep v (recv_found words v) answer next → Hears frames next (trail ++ answer ∷ [])
   hears_step on step = elim (cases_eq v.place v.known) [

@@ -33,6 +33,9 @@ pub length-read : (words : ℕ → ℕ) (at k : ℕ) → length (words_read_from
 length-read words at zero = refl
 length-read words at (suc k) = length-append (words_read_from words at k) (words (at + k) ∷ []) ∙ (let z = length-read words at k in omega arith)
 
+pub length-logged : {base : ℕ → ℕ} {n capacity at len : ℕ} {words : ℕ → ℕ} {frames : List Frame} → Logged base n capacity at words len frames → length (log_words frames) ≡ len
+length-logged {base} {n} {capacity} {at} {len} {words} log = sym (ap length log.words_are) ∙ length-read words at len
+
 pub index-read : (words : ℕ → ℕ) (at k i : ℕ) → i < k → slice_index (words_read_from words at k) i ≡ words (at + i)
 index-read words at zero i l = absurd (omega arith)
 index-read words at (suc k) i l = elim (cases_lt i k) [

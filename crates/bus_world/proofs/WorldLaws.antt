@@ -19,7 +19,7 @@ use Rattle.bus_tenure.specs.declared.phases.Phase.TheVariants as phase
 use Rattle.bus_deliverylog.specs.Orders.{of_sender}
 use Rattle.bus_world.specs.Log.{AreCounted, Logged}
 use Rattle.bus_world.proofs.Stopping.{is_there}
-use Rattle.bus_world.proofs.LogLaws.{length-read, log_words-append, index-read}
+use Rattle.bus_world.proofs.LogLaws.{length-logged, log_words-append, index-read}
 use Rattle.bus_world.proofs.ReceivingLaws.{goes_on, Receives-known, Receives-word, Receives-append}
 use Rattle.bus_world.specs.Receiving.{Receives}
 use Rattle.bus_batch.specs.Reading.{HasRead}
@@ -27,7 +27,6 @@ use Rattle.bus_deliverylog.specs.declared.receiving.RecvTurn.{RecvTurn}
 use Rattle.bus_deliverylog.specs.Receiving.{Receiving, HasReceived}
 use Rattle.bus_ownerbits.specs.OneOwner.{OneOwner}
 use Rattle.bus_world.proofs.Beginning as beginning
-use Rattle.bus_world.proofs.Beginning.{zeros}
 use Rattle.bus_world.specs.Bus.{IsLayout, Part, Fits, Sending}
 use Rattle.bus_world.specs.Turning.{Side, side_after}
 use Rattle.bus_world.proofs.TurningLaws.{IsSide, side_of}
@@ -67,7 +66,7 @@ module _ {E : Type 0} (X : Election E) (P : Protocol E (Unit {0}) ℕ) (laws : L
 -- ---- receivers
 module _ {base : ℕ → ℕ} (x : Layout) (frames : List Frame) (words : ℕ → ℕ) (log : Logged base x.senders x.capacity (log_at x) words (words 0) frames) (v : Receiving) (h : IsReceiver x frames (words 0) v) where
   size_is : length (log_words frames) ≡ words 0
-  size_is = sym (ap length log.words_are) ∙ length-read words (log_at x) (words 0)
+  size_is = length-logged log
 
   pub received : HasReceived (take v.place (log_words frames)) (take v.place (log_pieces frames)) v
   received = record {
@@ -131,15 +130,15 @@ module _ {base : ℕ → ℕ} (x : Layout) (frames : List Frame) (words : ℕ �
 -- receivers, where the log has grown
 module _ {base : ℕ → ℕ} (x : Layout) (frames : List Frame) (words words' : ℕ → ℕ) (log : Logged base x.senders x.capacity (log_at x) words (words 0) frames) where
   same_len : (log' : Logged base x.senders x.capacity (log_at x) words' (words' 0) frames) → words' 0 ≡ words 0
-  same_len log' = sym (length-read words' (log_at x) (words' 0)) ∙ ap length log'.words_are ∙ sym (ap length log.words_are) ∙ length-read words (log_at x) (words 0)
+  same_len log' = sym (length-logged log') ∙ length-logged log
 
   receiver_stays : (log' : Logged base x.senders x.capacity (log_at x) words' (words' 0) frames) (v : Receiving) → IsReceiver x frames (words 0) v → IsReceiver x frames (words' 0) v
   receiver_stays log' v h = subst (λ z. IsReceiver x frames z v) (sym (same_len log')) h
 
   receiver_follows : (f : Frame) (log' : Logged base x.senders x.capacity (log_at x) words' (words' 0) (frames ++ f ∷ [])) (v : Receiving) → IsReceiver x frames (words 0) v → IsReceiver x (frames ++ f ∷ []) (words' 0) v
   receiver_follows f log' v h =
-      let size : length (log_words frames) ≡ words 0 = sym (ap length log.words_are) ∙ length-read words (log_at x) (words 0) in
-      let size' : length (log_words (frames ++ f ∷ [])) ≡ words' 0 = sym (ap length log'.words_are) ∙ length-read words' (log_at x) (words' 0) in
+      let size = length-logged log in
+      let size' = length-logged log' in
       let more = ap length (log_words-append frames f) ∙ length-append (log_words frames) (frame_words f) in
       record { senders = h.senders; log = h.log; len_at = h.len_at; log_words = h.log_words; receives = Receives-append x.senders frames f (words 0) (words' 0) v.place v.known v.frames size (omega arith) h.receives }
 
@@ -315,13 +314,10 @@ module _ {E : Type 0} (X : Election E) (P : Protocol E (Unit {0}) ℕ) (laws : L
 
   -- ---- a new bus is lawful
   module _ (bases : List ℕ) (b : Bus E) (new : IsNew bases x b) where
-    zero_at : (r : ℕ) → slice_index b.side.words r ≡ 0
-    zero_at r = ap (λ z. slice_index z r) new.words ∙ zeros (words_of x) r
-
     new_sending : Sending (slice_index bases) P x (slice_index b.side.words) b.side.home (slice_get b.side.senders) b.side.owners []
     new_sending = subst (λ z. Sending (slice_index bases) P x (slice_index b.side.words) z (slice_get b.side.senders) b.side.owners []) (sym new.home)
         (subst (λ z. Sending (slice_index bases) P x (slice_index b.side.words) (Some (first_page bases)) (slice_get b.side.senders) z []) (sym new.owners)
-        (beginning.new_sending X P laws x ok bases new.bases_are (slice_index b.side.words) zero_at (slice_get b.side.senders) new.senders))
+        (beginning.new_sending X P laws x ok bases new.bases_are (slice_index b.side.words) (beginning.words_zero b new) (slice_get b.side.senders) new.senders))
 
     pub new_is_lawful : LawfulBus (slice_index bases) P x b []
     new_is_lawful = lawful_of (record { words = ap length new.words ∙ length-replicate (words_of x) 0; sending = new_sending }) (λ r v e.
