@@ -22,11 +22,12 @@ use Rattle.bus_tenure.specs.declared.phases.Phase.TheVariants as phase
 use Rattle.bus_ownerbits.specs.OneOwner.{OneOwner}
 use Rattle.bus_world.specs.Log.{sent_count}
 use Rattle.bus_world.proofs.LogLaws.{length-logged, log_words-append}
-use Rattle.bus_world.specs.Bus.{IsLayout, Part, Fits, Sending}
+use Rattle.bus_world.specs.World.{IsLayout}
+use Rattle.bus_world.specs.Proved.Sending.{Part, Fits, Sending}
 use Rattle.bus_world.proofs.BusLaws as bus
 use Rattle.bus_world.proofs.Framing.{front_lawful}
 use Rattle.bus_world.proofs.Bounds.{items_few}
-use Rattle.bus_world.specs.World.{is_open, can_put, can_close, put_in, mark_in}
+use Rattle.bus_world.specs.Proved.Machines.{is_open, can_put, can_close, put_in, mark_in}
 use Rattle.bus_world.proofs.TurningLaws.{open_apart}
 
 -- ---- what a sender accepts

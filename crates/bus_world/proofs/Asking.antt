@@ -17,7 +17,8 @@ use Rattle.bus_tenure.specs.declared.phases.Reason.{Reason}
 use Rattle.bus_tenure.specs.declared.phases.Reason.TheVariants.{Sent, FoundEnd, NoRoom}
 use Rattle.bus_tenure.specs.declared.phases.Phase.TheVariants as phase
 use Rattle.bus_world.specs.Headline.{Action, HasMarked, Asked}
-use Rattle.bus_world.specs.Turning.{core_after, core_with_page}
+use Rattle.bus_world.specs.Proved.Machines.{core_after}
+use Rattle.bus_world.specs.Turning.{core_with_page}
 use Rattle.bus_world.proofs.Waiting.{frames_after}
 use Rattle.bus_world.proofs.Places.{got_before, got_after, got_split}
 

@@ -11,11 +11,12 @@ use Rattle.bus_register.specs.Protocol.{Protocol, Laws}
 use Rattle.bus_batch.specs.Messages.{IsMessage}
 use Rattle.bus_ownerbits.specs.OneOwner.{OneOwner}
 use Rattle.bus_tenure.specs.Core.{Core, Election, Layout, log_at, words_of}
-use Rattle.bus_world.specs.Bus.{IsLayout, Part, Sending, standing_of, stands_at, least_of}
-use Rattle.bus_world.specs.Log.{Logged, Knows}
-use Rattle.bus_world.specs.Tenures.{Standing}
-use Rattle.bus_world.specs.Tenures.Standing.{Rests}
-use Rattle.bus_world.specs.World.{Bus, AreBases, IsNew, no_bases, first_page, new_core}
+use Rattle.bus_world.specs.World.{IsLayout, AreBases, no_bases, first_page}
+use Rattle.bus_world.specs.Proved.Sending.{Part, Sending, standing_of, stands_at, least_of, Logged}
+use Rattle.bus_world.specs.Log.{Knows}
+use Rattle.bus_world.specs.Proved.Tenures.{Standing}
+use Rattle.bus_world.specs.Proved.Tenures.Standing.{Rests}
+use Rattle.bus_world.specs.Proved.Machines.{Bus, IsNew, new_core}
 use Rattle.bus_world.proofs.BusLaws as bus
 use Rattle.bus_world.proofs.TenuresLaws as tenures
 

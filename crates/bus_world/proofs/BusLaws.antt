@@ -25,7 +25,8 @@ use Rattle.bus_tenure.specs.declared.phases.Reason.TheVariants.{Sent, FoundEnd, 
 use Rattle.bus_tenure.specs.declared.pages.Page.{Page}
 use Rattle.bus_tenure.specs.declared.phases.Phase.{Phase}
 use Rattle.bus_tenure.specs.declared.phases.Phase.TheVariants as phase
-use Rattle.bus_world.specs.Log.{words_read_from, next_number, AreCounted, AreEarlier, Logged, Knows}
+use Rattle.bus_world.specs.Log.{words_read_from, next_number, AreCounted, Knows}
+use Rattle.bus_world.specs.Proved.Sending.{AreEarlier, Logged, stands_at, standing_of, least_of, GoesOn, IsWriting, HasBegun, Fits, Part, AreOwned, Sending}
 use Rattle.bus_register.specs.Tables.{put}
 use Rattle.bus_register.specs.Proved.TableLaws.{put_here, put_beside, some_or_none, push_beside, get_set_same, get_set_other}
 use Rattle.bus_world.proofs.LogLaws.{read-agree, Logged-agree, Logged-publish, next-append_other, next-append_owner, gone-append_owner, gone-append_other, SaySame, say_same, has_end-append, AreEarlier-append, AreEarlier-later}
@@ -33,10 +34,10 @@ use Rattle.bus_batch.proofs.BatchLaws.{is_frame}
 use Rattle.bus_world.proofs.FrameOfBatch.{counted_frame, length-items, ends-body, leaves-body}
 use Rattle.bus_ownerbits.specs.OneOwner.{OneOwner}
 use Rattle.bus_ownerbits.proofs.ElectionSteps.{row_within}
-use Rattle.bus_world.specs.Tenures.{Standing}
-use Rattle.bus_world.specs.Tenures.Standing.{Runs, Holds}
+use Rattle.bus_world.specs.Proved.Tenures.{Standing}
+use Rattle.bus_world.specs.Proved.Tenures.Standing.{Runs, Holds}
 use Rattle.bus_world.proofs.TenuresLaws as tenures
-use Rattle.bus_world.specs.Bus.{IsLayout, stands_at, standing_of, least_of, GoesOn, IsWriting, HasBegun, Fits, Part, AreOwned, Sending}
+use Rattle.bus_world.specs.World.{IsLayout}
 use mathlib.Core.Path.{fun_ext}
 
 -- one step on the words: the step's own word has changed and no other

@@ -34,14 +34,16 @@ use Rattle.bus_tenure.specs.declared.phases.Phase.{Phase}
 use Rattle.bus_tenure.specs.declared.phases.Phase.TheVariants as phase
 use Rattle.bus_tenure.specs.declared.turns.Turn.{Turn as Answered}
 use Rattle.bus_tenure.proofs.Situated.{tells}
-use Rattle.bus_world.specs.Bus.{IsLayout, Part, Fits, standing_of, stands_at, least_of}
+use Rattle.bus_world.specs.World.{IsLayout, RecvDoes, is_set}
+use Rattle.bus_world.specs.Proved.Sending.{Part, Fits, standing_of, stands_at, least_of}
 use Rattle.bus_tenure.specs.declared.turns.Turn.TheVariants as turn
 use Rattle.bus_world.specs.Headline.{Action, HasPut, HasMarked}
 use Rattle.bus_world.specs.Proved.CyclicMachines.{CyclicMachine, protocol_of, pin_in, core_in, Leads, IsCyclic, IsNewCyclic, IsOnWord, CyclicTrails, CyclicReached, NewCyclic, TurnTaken, PutTaken, MarkTaken, RecvTaken, StopTaken, participant_going, with_participant, participant_put, participant_marked, move_due, participant_moved, cyclic_turned, cyclic_trails, cyclic_reclaims, cyclic_actions}
-use Rattle.bus_world.specs.Tenures.Standing.{Holds}
-use Rattle.bus_world.specs.Turning.{words_after, number_found, core_moved, after_step, home_after}
-use Rattle.bus_world.specs.CyclicProtocols.{CyclicProtocol, Led, NewProtocol, Turned, PutIn, MarkedIn, Heard, AnswersDue, due_in, due_actions, actions_with, no_actions, no_answers, answers_with, trails_with, protocol_after, words_stepped, word_found}
-use Rattle.bus_world.specs.World.{RecvDoes, is_set, is_open, can_put, can_close, new_core}
+use Rattle.bus_world.specs.Proved.Tenures.Standing.{Holds}
+use Rattle.bus_world.specs.Turning.{words_after, number_found, core_moved, after_step}
+use Rattle.bus_world.specs.Proved.Machines.{home_after, is_open, can_put, can_close, new_core}
+use Rattle.bus_world.specs.Proved.CyclicProtocols.{CyclicProtocol, Led, NewProtocol, Turned, PutIn, MarkedIn, Heard, AnswersDue, due_in, due_actions, trails_with, protocol_after, words_stepped, word_found}
+use Rattle.bus_world.specs.Trails.{actions_with, no_actions, no_answers, answers_with}
 use Rattle.bus_world.proofs.Beginning.{zeros}
 use Rattle.bus_world.proofs.TenuresLaws as tenures
 use Rattle.bus_world.proofs.CyclicProtocolLaws.{HasKept, led_kept, owner_of}

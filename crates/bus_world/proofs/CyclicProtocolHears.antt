@@ -12,9 +12,10 @@ use Rattle.bus_deliverylog.specs.Receiving.{Receiving}
 use Rattle.bus_deliverylog.specs.declared.receiving.RecvTurn.{RecvTurn}
 use Rattle.bus_tenure.specs.Core.{Layout, log_at}
 use Rattle.bus_core.specs.Reusing.Participants.{log_from}
-use Rattle.bus_world.specs.Log.{Logged}
-use Rattle.bus_world.specs.World.{IsReceiver, IsNewReceiver, RecvStep, RecvDoes, recv_found}
-use Rattle.bus_world.specs.CyclicProtocols.{answers_with, no_answers}
+use Rattle.bus_world.specs.Proved.Sending.{Logged}
+use Rattle.bus_world.specs.Proved.Receiving.{IsReceiver}
+use Rattle.bus_world.specs.World.{IsNewReceiver, RecvStep, RecvDoes, recv_found}
+use Rattle.bus_world.specs.Trails.{answers_with, no_answers}
 use Rattle.bus_world.proofs.HearTrails.{IsTold, hears_later, hears_more}
 use Rattle.bus_world.proofs.LogLaws.{length-logged, log_words-append}
 use Rattle.bus_world.proofs.ReceivingLaws.{Receives-append}

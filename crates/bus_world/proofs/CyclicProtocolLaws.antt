@@ -36,28 +36,28 @@ use Rattle.bus_tenure.specs.declared.phases.Phase.{Phase}
 use Rattle.bus_tenure.specs.declared.phases.Phase.TheVariants as phase
 use Rattle.bus_tenure.specs.declared.turns.Turn.{Turn as Answered}
 use Rattle.bus_tenure.proofs.Situated.{tells}
-use Rattle.bus_world.specs.Bus.{IsLayout, Part, Fits, Sending, standing_of, least_of, stands_at}
+use Rattle.bus_world.specs.World.{IsLayout, first_page, RecvDoes}
+use Rattle.bus_world.specs.Proved.Sending.{Part, Fits, Sending, standing_of, least_of, stands_at}
 use Rattle.bus_core.specs.Reusing.Participants.{Due, sizes_with, log_from, place_for, reclaim_due, due_reclaimed, due_home, due_beside, core_looked, core_seen, pin_seen, pin_elected}
-use Rattle.bus_world.specs.Turning.{number_found, core_with_page, core_after, home_after, owners_after}
-use Rattle.bus_world.specs.CyclicProtocols.{CyclicProtocol, IsNewProtocol, Led, NewProtocol, Turned, PutIn, MarkedIn, Heard, no_answers, answers_with, going_actions, due_actions, actions_with, no_actions, due_in, words_stepped, word_found, protocol_pin_stepped, protocol_reclaimed, protocol_after_going, protocol_after, trails_with}
-use Rattle.bus_world.specs.World.{first_page, RecvDoes, can_put, can_close}
+use Rattle.bus_world.specs.Turning.{number_found, core_with_page}
+use Rattle.bus_world.specs.Proved.Machines.{core_after, home_after, owners_after, can_put, can_close}
+use Rattle.bus_world.specs.Proved.CyclicProtocols.{CyclicProtocol, IsNewProtocol, Led, NewProtocol, Turned, PutIn, MarkedIn, Heard, going_actions, due_actions, due_in, words_stepped, word_found, protocol_pin_stepped, protocol_reclaimed, protocol_after_going, protocol_after, trails_with}
+use Rattle.bus_world.specs.Trails.{no_answers, answers_with, actions_with, no_actions, step_action}
 use Rattle.bus_world.proofs.Accepting.{Accepted, Puts, Asks, AreAccepted, accept, grows}
 use Rattle.bus_world.proofs.Beginning.{new_sending}
 use Rattle.bus_world.proofs.BusLaws as bus
 use Rattle.bus_world.proofs.TenuresLaws as tenures
 use Rattle.bus_world.proofs.TurningLaws.{Steps, open_stage, begins_opened, turn_keeps, turn_within, at_home}
 use Rattle.bus_world.proofs.Waiting.{frames_after}
-use Rattle.bus_world.specs.Headline.{Action, HasPut, HasMarked, Stepped, Took, IsPrefix}
+use Rattle.bus_world.specs.Headline.{Action, HasPut, HasMarked, Stepped, Took, IsPrefix, Asked}
 use Rattle.bus_world.specs.Log.{words_read_from}
 use Rattle.bus_world.proofs.WorldLaws.{counted_at}
 use Rattle.bus_world.proofs.FrameOwners.{owner_took, rise}
 use Rattle.bus_world.proofs.Framing.{framed, entry_of, has_left, gone_for_good, last_frame}
 use Rattle.std.proofs.lemmas.List.{append-nil, map-append}
-use Rattle.bus_world.specs.Trails.{step_action}
 use Rattle.bus_world.proofs.Tying.{next_at, next_tenure, Tables, PageTies}
 use Rattle.bus_world.proofs.TableTrails.{IsPlain, plain_none, plain_put, plain_mark, plain_step}
 use Rattle.bus_world.proofs.TurnTrails.{TiesOf, calm, begins, turn_tied, batch_tied}
-use Rattle.bus_world.specs.Headline.{Asked}
 use Rattle.bus_world.specs.Proved.KeptProtocols.{IsKeptProtocol}
 use Rattle.bus_world.proofs.Waiting.{waiting_at, waiting_of}
 use Rattle.bus_world.proofs.Asking.{turn_waiting, turn_frames, frames_later, own_asked, open_no_marking}

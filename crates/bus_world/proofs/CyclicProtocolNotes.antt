@@ -14,16 +14,15 @@ use Rattle.bus_batch.specs.Frames.{Frame, Marked, order_of}
 use Rattle.bus_deliverylog.specs.Orders.{of_sender}
 use Rattle.bus_tenure.specs.Core.{Core, is_empty}
 use Rattle.bus_tenure.specs.declared.phases.Phase.TheVariants as phase
-use Rattle.bus_world.specs.Bus.{Fits}
+use Rattle.bus_world.specs.Proved.Sending.{Fits}
 use Rattle.bus_world.specs.Headline.{Action, HasPut, HasMarked, Asked, put_of, puts}
 use Rattle.bus_world.specs.Log.{next_number}
 use Rattle.bus_world.proofs.Waiting.{waiting_at, waiting_of}
-use Rattle.bus_world.specs.World.{is_open, can_put, can_close}
-use Rattle.bus_world.specs.CyclicProtocols.{actions_with}
+use Rattle.bus_world.specs.Proved.Machines.{is_open, can_put, can_close}
+use Rattle.bus_world.specs.Trails.{actions_with, step_action}
 use Rattle.bus_world.proofs.Accepting.{idle_rests, not_busy}
 use Rattle.bus_world.proofs.Asking.{Askings, askings_on, one_waits, frames_later, own_asked, own_asks}
 use Rattle.bus_world.proofs.EventTrails.{numbered_more, same_number, marked_apart, stepped_apart}
-use Rattle.bus_world.specs.Trails.{step_action}
 use Rattle.bus_tenure.specs.declared.turns.Turn.{Turn as Answered}
 use Rattle.bus_register.specs.declared.kinds.Kind.{Kind}
 use Rattle.bus_world.proofs.Tying.{AreNumbered}

@@ -36,22 +36,25 @@ use Rattle.bus_batch.proofs.FrameLaws.{same_log}
 use Rattle.std.proofs.lemmas.List.{map-append}
 use Rattle.std.proofs.lemmas.Bool.Decides.{nat_tests}
 use Rattle.std.proofs.lemmas.Bool.{le-leb}
-use Rattle.bus_world.specs.Bus.{IsLayout, Fits}
+use Rattle.bus_world.specs.World.{IsLayout, Event, Put, Ask, Turn, Recv, Stop}
+use Rattle.bus_world.specs.Proved.Sending.{Fits}
 use Rattle.bus_world.proofs.FrameOwners.{owner_took, rise}
 use Rattle.bus_world.proofs.Beginning.{words_zero}
 use Rattle.bus_world.proofs.BusLaws as bus
 use Rattle.bus_world.specs.Headline.{Action, HasPut, HasMarked, Stepped, puts, Took, Asked, order_given, IsPrefix, Promises}
 use Rattle.bus_world.specs.Log.{next_number, sent_count}
 use Rattle.bus_world.proofs.LogLaws.{length-logged}
-use Rattle.bus_world.specs.Turning.{Side, side_after, core_after, number_found}
-use Rattle.bus_world.specs.World.{Bus, Event, Put, Ask, Turn, Recv, Stop, going, IsEvent, Happens, SenderDoes, with_sender, can_put, can_close, put_in, mark_in, IsNew, is_open}
+use Rattle.bus_world.specs.Proved.Machines.{Side, side_after, core_after, Bus, going, IsEvent, Happens, SenderDoes, with_sender, can_put, can_close, put_in, mark_in, IsNew, is_open}
+use Rattle.bus_world.specs.Turning.{number_found}
 use Rattle.bus_world.proofs.TurningLaws.{side_of}
 use Rattle.bus_world.proofs.WorldLaws.{counted_at, event_left, event_puts, new_is_lawful}
-use Rattle.bus_world.specs.Playing.{Answers, PutGives, CloseGives, TurnAnswers, RecvAnswers, asked_answer, log_of}
+use Rattle.bus_world.specs.Proved.Answers.{Answers, PutGives, CloseGives, TurnAnswers, RecvAnswers, log_of}
+use Rattle.bus_world.specs.Playing.{asked_answer}
 use Rattle.bus_world.specs.declared.events.Answer.{Answer}
 use Rattle.bus_world.specs.declared.events.Answer.TheVariants as answer
-use Rattle.bus_world.specs.Trails.{Trails, no_trails, trails_grown, actions_of, put_actions, mark_actions, turning_actions, step_action, heard_of, answer_heard, IsPromisedBy, Reached}
-use Rattle.bus_world.specs.Trails.Reached.{New, Then}
+use Rattle.bus_world.specs.Proved.Trails.{Trails, no_trails, trails_grown, actions_of, turning_actions, heard_of, answer_heard, IsPromisedBy, Reached}
+use Rattle.bus_world.specs.Trails.{put_actions, mark_actions, step_action}
+use Rattle.bus_world.specs.Proved.Trails.Reached.{New, Then}
 use Rattle.bus_world.specs.Proved.Invariants.{LawfulBus, given_at}
 use Rattle.bus_world.proofs.Stopping.{is_there}
 use Rattle.bus_world.proofs.Waiting.{frames_after, put_by, waiting_of, waiting_at, accepted, accepted_by, event_frames, frames_by}

@@ -17,13 +17,14 @@ use Rattle.bus_deliverylog.specs.Receiving.{Receiving, turn_of}
 use Rattle.bus_deliverylog.specs.declared.receiving.RecvTurn.{RecvTurn}
 use Rattle.bus_deliverylog.specs.declared.receiving.RecvTurn.TheVariants as heard
 use Rattle.bus_tenure.specs.Core.{Layout, log_at}
-use Rattle.bus_world.specs.Log.{Logged}
+use Rattle.bus_world.specs.Proved.Sending.{Logged}
 use Rattle.bus_world.proofs.LogLaws.{length-logged, index-read}
 use Rattle.bus_world.proofs.ReceivingLaws.{given_is_prefix, length-log_pieces, next_word}
 use Rattle.bus_world.specs.Headline.{entry_heard, end_heard, head_heard, order_given, heads, IsPrefix}
 use Rattle.bus_world.proofs.Places.{got_split, only_one}
 use Rattle.bus_world.proofs.Tying.{Hears, IsSilent}
-use Rattle.bus_world.specs.World.{RecvDoes, RecvStep, recv_found, IsReceiver}
+use Rattle.bus_world.specs.World.{RecvDoes, RecvStep, recv_found}
+use Rattle.bus_world.specs.Proved.Receiving.{IsReceiver}
 use Rattle.bus_world.specs.Proved.Invariants.{given_at}
 use Rattle.bus_world.proofs.WorldLaws.{received}
 

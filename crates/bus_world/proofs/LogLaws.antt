@@ -15,7 +15,8 @@ use Rattle.bus_batch.specs.Messages.{Numbered}
 use Rattle.bus_batch.proofs.PieceLaws.{entries_are_items}
 use Rattle.bus_register.specs.declared.registers.SenderNo.{SenderNo}
 use Rattle.bus_deliverylog.specs.Orders.{of_sender}
-use Rattle.bus_world.specs.Log.{words_read_from, sent_count, next_number, AreCounted, AreEarlier, Logged}
+use Rattle.bus_world.specs.Log.{words_read_from, sent_count, next_number, AreCounted}
+use Rattle.bus_world.specs.Proved.Sending.{AreEarlier, Logged}
 
 -- ---- words
 pub read-agree : (words words' : ℕ → ℕ) (at k : ℕ) → Agree at k words words' → words_read_from words' at k ≡ words_read_from words at k

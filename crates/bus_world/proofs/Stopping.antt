@@ -2,7 +2,8 @@
 use Rattle.std.proofs.Common.{◌≡◌, ℕ, zero, suc, Bool, true, false, cond, Option, Some, None, List, [], ◌∷◌, get_or, slice_get, refl}
 use Rattle.std.proofs.lemmas.Option.{none-some}
 use Rattle.bus_tenure.specs.Core.{Core}
-use Rattle.bus_world.specs.World.{Bus, is_set, has_stopped, going}
+use Rattle.bus_world.specs.Proved.Machines.{Bus, has_stopped, going}
+use Rattle.bus_world.specs.World.{is_set}
 
 pub shown_there : {A : Type 0} (t : Bool) (o : Option A) (v : A) → cond t None o ≡ Some v → o ≡ Some v
 shown_there true o v e = absurd (none-some v e)

@@ -24,15 +24,18 @@ use Rattle.bus_batch.specs.Batches.{frame_of}
 use Rattle.bus_batch.specs.Frames.{Frame, frame_words}
 use Rattle.bus_ownerbits.specs.OneOwner.{OneOwner}
 use Rattle.bus_ownerbits.proofs.ElectionSteps.{row_within}
-use Rattle.bus_world.specs.Tenures.Standing.{Runs}
+use Rattle.bus_world.specs.Proved.Tenures.Standing.{Runs}
 use Rattle.bus_world.proofs.TenuresLaws as tenures
-use Rattle.bus_world.specs.Bus.{IsLayout, least_of, Part, Fits, Sending, stands_at}
-use Rattle.bus_world.specs.Turning.{Side, words_after, number_found, core_with_page, core_after, owners_after, side_after}
+use Rattle.bus_world.specs.World.{IsLayout}
+use Rattle.bus_world.specs.Proved.Sending.{least_of, Part, Fits, Sending, stands_at}
+use Rattle.bus_world.specs.Proved.Machines.{Side, core_after, owners_after, side_after}
+use Rattle.bus_world.specs.Turning.{words_after, number_found, core_with_page}
 use Rattle.bus_world.proofs.BusLaws as bus
 use Rattle.bus_world.proofs.TurningLaws.{IsSide, Steps, stepped-steps, turn_within, open_stage}
 use Rattle.bus_world.specs.declared.events.Answer.TheVariants as answer
 use Rattle.bus_world.specs.Headline.{Action, Stepped, Announced, Elected}
-use Rattle.bus_world.specs.Trails.{step_action, turn_actions}
+use Rattle.bus_world.specs.Trails.{step_action}
+use Rattle.bus_world.specs.Proved.Trails.{turn_actions}
 use Rattle.bus_world.proofs.Tying.{next_at, next_tenure, Tables, PageTies}
 use Rattle.bus_world.proofs.Places.{got_after}
 use Rattle.bus_world.proofs.TableTrails.{IsPlain, plain_none, plain_step, one_elected, one_took, Longer, announced_still, takers_stay, takers_more, GoesOn, tables_stay, tables_step}

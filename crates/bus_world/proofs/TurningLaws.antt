@@ -27,12 +27,13 @@ use Rattle.bus_tenure.specs.declared.phases.Phase.{Phase}
 use Rattle.bus_tenure.specs.declared.phases.Phase.TheVariants as phase
 use Rattle.bus_ownerbits.specs.OneOwner.{OneOwner}
 use Rattle.bus_ownerbits.proofs.ElectionSteps.{row_within}
-use Rattle.bus_world.specs.Tenures.Standing.{Runs}
+use Rattle.bus_world.specs.Proved.Tenures.Standing.{Runs}
 use Rattle.bus_world.proofs.TenuresLaws as tenures
-use Rattle.bus_world.specs.Bus.{IsLayout, least_of, standing_of, Part, Fits, GoesOn, HasBegun, Sending, stands_at}
+use Rattle.bus_world.specs.World.{IsLayout}
+use Rattle.bus_world.specs.Proved.Sending.{least_of, standing_of, Part, Fits, GoesOn, HasBegun, Sending, stands_at}
 use Rattle.bus_world.proofs.BusLaws as bus
-use Rattle.bus_world.specs.Turning.{Side, words_after, number_found, core_with_page, home_after, core_after, owners_after, side_after}
-use Rattle.bus_world.specs.World.{Bus}
+use Rattle.bus_world.specs.Proved.Machines.{Side, home_after, core_after, owners_after, side_after, Bus}
+use Rattle.bus_world.specs.Turning.{words_after, number_found, core_with_page}
 use Rattle.bus_world.specs.Proved.Invariants.{LawfulBus}
 use Rattle.bus_world.proofs.Waiting.{frames_after}
 

@@ -17,18 +17,19 @@ use Rattle.bus_tenure.specs.Situations.{situation_of, line_of}
 use Rattle.bus_tenure.specs.declared.phases.Phase.{Phase as SenderPhase}
 use Rattle.bus_tenure.specs.declared.phases.Phase.TheVariants as phase
 use Rattle.bus_deliverylog.specs.Orders.{of_sender}
-use Rattle.bus_world.specs.Log.{AreCounted, Logged}
+use Rattle.bus_world.specs.Log.{AreCounted}
+use Rattle.bus_world.specs.Proved.Sending.{Logged, Part, Fits, Sending}
 use Rattle.bus_world.proofs.Stopping.{is_there}
 use Rattle.bus_world.proofs.LogLaws.{length-logged, log_words-append, index-read}
 use Rattle.bus_world.proofs.ReceivingLaws.{goes_on, Receives-known, Receives-word, Receives-append}
-use Rattle.bus_world.specs.Receiving.{Receives}
+use Rattle.bus_world.specs.Proved.Receiving.{Receives, IsReceiver}
 use Rattle.bus_batch.specs.Reading.{HasRead}
 use Rattle.bus_deliverylog.specs.declared.receiving.RecvTurn.{RecvTurn}
 use Rattle.bus_deliverylog.specs.Receiving.{Receiving, HasReceived}
 use Rattle.bus_ownerbits.specs.OneOwner.{OneOwner}
 use Rattle.bus_world.proofs.Beginning as beginning
-use Rattle.bus_world.specs.Bus.{IsLayout, Part, Fits, Sending}
-use Rattle.bus_world.specs.Turning.{Side, side_after}
+use Rattle.bus_world.specs.World.{IsLayout, Event, Put, Ask, Turn, Recv, Stop, recv_found, RecvStep, RecvDoes, first_page}
+use Rattle.bus_world.specs.Proved.Machines.{Side, side_after, going, IsEvent, Happens, SenderDoes, ReceiverDoes, Bus, is_open, can_put, can_close, put_in, mark_in, with_sender, IsNew}
 use Rattle.bus_world.proofs.TurningLaws.{IsSide, side_of}
 use Rattle.bus_world.proofs.TurningLaws as turning
 use Rattle.bus_world.proofs.PutLaws as puts
@@ -36,7 +37,6 @@ use Rattle.bus_world.proofs.Accepting as accepting
 use Rattle.bus_world.proofs.Accepting.{Accepted, Puts, Asks, accept, AreAccepted, not_busy, idle_rests}
 use Rattle.bus_tenure.specs.declared.phases.Reason.{Reason}
 use Rattle.bus_register.specs.Proved.TableLaws.{get_set_same, get_set_other}
-use Rattle.bus_world.specs.World.{Event, Put, Ask, Turn, Recv, Stop, going, IsEvent, Happens, SenderDoes, ReceiverDoes, recv_found, Bus, is_open, can_put, can_close, put_in, mark_in, with_sender, IsReceiver, RecvStep, RecvDoes, IsNew, first_page}
 use Rattle.bus_world.specs.Proved.Invariants.{LawfulBus}
 use Rattle.bus_world.proofs.Waiting.{with_frame, frames_after, frames_by, event_frames, accepted_by, accepted, waiting_at, put_by, waiting_of}
 

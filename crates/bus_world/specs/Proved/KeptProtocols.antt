@@ -14,7 +14,7 @@ use Rattle.bus_core.specs.Reusing.Participants.{sizes_with, log_from, place_for}
 use Rattle.bus_world.specs.Headline.{Action, Promises}
 use Rattle.bus_world.specs.Log.{words_read_from}
 use Rattle.bus_world.specs.Trails.{Takers}
-use Rattle.bus_world.specs.CyclicProtocols.{CyclicProtocol}
+use Rattle.bus_world.specs.Proved.CyclicProtocols.{CyclicProtocol}
 
 -- ---- what is promised of it
 -- of its trails, actions and answers, with one order and one list of tenures and owners
