@@ -17,7 +17,8 @@ use Rattle.bus_tenure.specs.declared.phases.Reason.{Reason}
 use Rattle.bus_tenure.specs.declared.phases.Reason.TheVariants.{Sent, FoundEnd, NoRoom}
 use Rattle.bus_tenure.specs.declared.phases.Phase.TheVariants as phase
 use Rattle.bus_world.specs.Headline.{Action, HasMarked, Asked}
-use Rattle.bus_world.specs.Turning.{core_after, core_with_page}
+use Rattle.bus_world.specs.Proved.Machines.{core_after}
+use Rattle.bus_world.specs.Turning.{core_with_page}
 use Rattle.bus_world.proofs.Waiting.{frames_after}
 use Rattle.bus_world.proofs.Places.{got_before, got_after, got_split}
 
@@ -38,6 +39,9 @@ sent_apart m Shut e = cc
 
 shut_apart : (m : Mark) → Shut ≡ Marking m → ⊥
 shut_apart m e = cc
+
+pub open_no_marking : (m : Mark) → Open ≡ Marking m → ⊥
+open_no_marking m e = cc
 
 left_waiting : (m : Mark) (reason : Reason) (q : Pending) → (queue_after reason q).phase ≡ Marking m → q.phase ≡ Marking m
 left_waiting m Sent q e = absurd (sent_apart m q.phase e)

@@ -29,12 +29,12 @@ use Rattle.bus_tenure.specs.declared.phases.Phase.TheVariants as phase
 use Rattle.bus_tenure.proofs.Situated.{tells}
 use Rattle.bus_core.specs.Reusing.Participants.{Goes, sizes_with, log_from, place_for, reclaim_due, due_reclaimed, due_home, due_beside}
 use Rattle.bus_core.specs.Reusing.Turns.{Participant, due, op_due, on_place, op_placed}
-use Rattle.bus_world.specs.Bus.{Part, standing_of, stands_at, least_of}
+use Rattle.bus_world.specs.Proved.Sending.{Part, standing_of, stands_at, least_of}
 use Rattle.bus_world.specs.Headline.{order_given}
 use Rattle.bus_world.specs.Log.{words_read_from}
 use Rattle.bus_world.specs.Proved.CyclicMachines.{CyclicMachine, CyclicTrails, protocol_of, core_in}
-use Rattle.bus_world.specs.Tenures.Standing.{Runs}
-use Rattle.bus_world.specs.CyclicProtocols.{CyclicProtocol}
+use Rattle.bus_world.specs.Proved.Tenures.Standing.{Runs}
+use Rattle.bus_world.specs.Proved.CyclicProtocols.{CyclicProtocol}
 use Rattle.bus_world.specs.Proved.Invariants.{given_at}
 use Rattle.bus_world.proofs.Accepting as accepting
 use Rattle.bus_world.proofs.LogLaws.{length-read}

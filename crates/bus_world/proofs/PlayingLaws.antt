@@ -23,14 +23,16 @@ use Rattle.bus_tenure.specs.declared.phases.Reason.{Reason}
 use Rattle.bus_tenure.specs.declared.phases.Reason.TheVariants.{Sent, FoundEnd, NoRoom}
 use Rattle.bus_tenure.specs.declared.turns.Turn.{Turn as Answered}
 use Rattle.bus_tenure.specs.declared.turns.Turn.TheVariants as turn
-use Rattle.bus_world.specs.Bus.{IsLayout, Part, stands_at, standing_of}
+use Rattle.bus_world.specs.World.{IsLayout}
+use Rattle.bus_world.specs.Proved.Sending.{Part, stands_at, standing_of}
 use Rattle.bus_register.specs.Proved.TableLaws.{push_here}
-use Rattle.bus_world.specs.Turning.{side_after, number_found, owners_after, owners_by}
+use Rattle.bus_world.specs.Proved.Machines.{side_after, owners_after, Bus, has_stopped}
+use Rattle.bus_world.specs.Turning.{number_found, owners_by}
 use Rattle.bus_world.proofs.Waiting.{frames_after}
 use Rattle.bus_world.proofs.TurningLaws.{turn_lawful, IsSide, side_of}
-use Rattle.bus_world.specs.World.{Bus, has_stopped, IsReceiver}
+use Rattle.bus_world.specs.Proved.Receiving.{IsReceiver}
 use Rattle.bus_tenure.proofs.Situated.{tells}
-use Rattle.bus_world.specs.Playing.{SizedBus}
+use Rattle.bus_world.specs.Proved.Answers.{SizedBus}
 use Rattle.bus_world.specs.Proved.Invariants.{MachineInvariant}
 
 -- a list with the same element in its place

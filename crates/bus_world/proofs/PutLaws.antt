@@ -21,8 +21,9 @@ use Rattle.bus_tenure.specs.declared.phases.Phase.{Phase}
 use Rattle.bus_tenure.specs.declared.phases.Phase.TheVariants as phase
 use Rattle.bus_deliverylog.specs.Orders.{of_sender}
 use Rattle.bus_world.proofs.LogLaws.{of_sender-append, owned_items, others_items}
-use Rattle.bus_world.specs.Bus.{Part, Fits}
-use Rattle.bus_world.specs.Turning.{Side, number_found, core_with_page, core_after, side_after}
+use Rattle.bus_world.specs.Proved.Sending.{Part, Fits}
+use Rattle.bus_world.specs.Proved.Machines.{Side, core_after, side_after}
+use Rattle.bus_world.specs.Turning.{number_found, core_with_page}
 use Rattle.bus_world.proofs.Waiting.{frames_after, waiting_at, waiting_of}
 
 -- the messages of a frame are those of the batch

@@ -11,14 +11,14 @@ use Rattle.bus_register.specs.Proved.TableLaws.{put_here, put_beside, some_or_no
 use Rattle.bus_register.specs.Protocol.{Protocol, Laws, inputs, outputs}
 use Rattle.bus_ownerbits.specs.OneOwner.{OneOwner}
 use Rattle.bus_ownerbits.proofs.ElectionSteps.{row_within}
-use Rattle.bus_world.specs.Tenures.{Standing, Tenures}
-use Rattle.bus_world.specs.Tenures.Standing.{Rests, Runs, Holds}
-use Rattle.bus_world.specs.Tenures.Stage.{Open, Held}
+use Rattle.bus_world.specs.Proved.Tenures.{Standing, Tenures}
+use Rattle.bus_world.specs.Proved.Tenures.Standing.{Rests, Runs, Holds}
+use Rattle.bus_world.specs.Proved.Tenures.Stage.{Open, Held}
 
 same_Electing : {E : Type 0} (t u : ℕ) (e f : E) → Runs t e ≡ Runs u f → (t ≡ u) × (e ≡ f)
 same_Electing t u e f h = (cc, cc)
 
-same_Holding : {E : Type 0} (t u : ℕ) → ◌≡◌ {A = Standing E} (Holds t) (Holds u) → t ≡ u
+pub same_Holding : {E : Type 0} (t u : ℕ) → ◌≡◌ {A = Standing E} (Holds t) (Holds u) → t ≡ u
 same_Holding t u h = cc
 
 electing_no_holding : {E : Type 0} (t u : ℕ) (e : E) → Runs t e ≡ Holds u → ⊥

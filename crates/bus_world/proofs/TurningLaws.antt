@@ -27,16 +27,17 @@ use Rattle.bus_tenure.specs.declared.phases.Phase.{Phase}
 use Rattle.bus_tenure.specs.declared.phases.Phase.TheVariants as phase
 use Rattle.bus_ownerbits.specs.OneOwner.{OneOwner}
 use Rattle.bus_ownerbits.proofs.ElectionSteps.{row_within}
-use Rattle.bus_world.specs.Tenures.Standing.{Runs}
+use Rattle.bus_world.specs.Proved.Tenures.Standing.{Runs}
 use Rattle.bus_world.proofs.TenuresLaws as tenures
-use Rattle.bus_world.specs.Bus.{IsLayout, least_of, standing_of, Part, Fits, GoesOn, HasBegun, Sending, stands_at}
+use Rattle.bus_world.specs.World.{IsLayout}
+use Rattle.bus_world.specs.Proved.Sending.{least_of, standing_of, Part, Fits, GoesOn, HasBegun, Sending, stands_at}
 use Rattle.bus_world.proofs.BusLaws as bus
-use Rattle.bus_world.specs.Turning.{Side, words_after, number_found, core_with_page, home_after, core_after, owners_after, side_after}
-use Rattle.bus_world.specs.World.{Bus}
+use Rattle.bus_world.specs.Proved.Machines.{Side, home_after, core_after, owners_after, side_after, Bus}
+use Rattle.bus_world.specs.Turning.{words_after, number_found, core_with_page}
 use Rattle.bus_world.specs.Proved.Invariants.{LawfulBus}
 use Rattle.bus_world.proofs.Waiting.{frames_after}
 
-open_apart : Open ≡ Closed → ⊥
+pub open_apart : Open ≡ Closed → ⊥
 open_apart h = cc
 
 marking_apart : (m : Mark) → Marking m ≡ Closed → ⊥
@@ -127,13 +128,7 @@ module _ {base : ℕ → ℕ} {E : Type 0} (X : Election E) (P : Protocol E (Uni
 
     -- nothing happens
     unchanged : senders' p ≡ Some c → Sending base P x words home senders' owners frames
-    unchanged new = subst (λ z. Sending base P x words home z owners frames) (sym (fun_ext same)) h
-      where
-        same : (q : ℕ) → senders' q ≡ senders q
-        same q = elim (cases_eq q p) [
-          | inl i ↦ ap senders' i ∙ new ∙ sym old ∙ ap senders (sym i)
-          | inr ne ↦ beside q ne
-        ]
+    unchanged new = subst (λ z. Sending base P x words home z owners frames) (sym (bus.same_senders p c senders senders' old new beside)) h
 
     idle : ((o : Op) → None ≡ Some o → register o < words_of x) × (Steps None words words' → senders' p ≡ Some c → Sending base P x words' home senders' owners frames)
     idle = (λ o bad. absurd cc, λ same new. subst (λ w. Sending base P x w home senders' owners frames) (sym (fun_ext same)) (unchanged new))

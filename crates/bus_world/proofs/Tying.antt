@@ -9,8 +9,8 @@ use Rattle.bus_tenure.specs.Core.{Core, Layout}
 use Rattle.bus_tenure.specs.declared.phases.Phase.{Phase}
 use Rattle.bus_tenure.specs.declared.phases.Phase.TheVariants as phase
 use Rattle.bus_world.specs.Headline.{Action, HasPut, puts, Announced, Elected, Took, order_given, heads}
-use Rattle.bus_world.specs.Trails.{Trails}
-use Rattle.bus_world.specs.World.{Bus}
+use Rattle.bus_world.specs.Proved.Trails.{Trails}
+use Rattle.bus_world.specs.Proved.Machines.{Bus}
 use Rattle.bus_world.specs.Proved.Invariants.{given_at}
 use Rattle.bus_world.proofs.Waiting.{put_by}
 use Rattle.bus_world.proofs.Asking.{Askings}

@@ -9,7 +9,7 @@ use Rattle.bus_deliverylog.specs.Receiving.{Receiving}
 use Rattle.bus_tenure.specs.Core.{Election, log_at}
 use Rattle.bus_world.specs.Log.{words_read_from}
 use Rattle.bus_world.proofs.LogLaws.{length-read}
-use Rattle.bus_world.specs.Playing.{SizedBus, log_of}
+use Rattle.bus_world.specs.Proved.Answers.{SizedBus, log_of}
 use Rattle.bus_world.specs.Proved.Invariants.{MachineInvariant}
 
 -- words of a list, from a place on

@@ -5,7 +5,8 @@ use Rattle.bus_deliverylog.specs.Orders.{of_sender}
 use Rattle.bus_tenure.specs.Core.{Core, Election}
 use Rattle.bus_tenure.specs.Situations.{Situation, situation_of, line_of}
 pub use Rattle.bus_world.specs.Waiting.{waiting_at}
-use Rattle.bus_world.specs.World.{Bus, Event, Put, Ask, Turn, Recv, Stop, going, can_put}
+use Rattle.bus_world.specs.Proved.Machines.{Bus, going, can_put}
+use Rattle.bus_world.specs.World.{Event, Put, Ask, Turn, Recv, Stop}
 
 -- ---- the frames of the log
 abbrev pub with_frame : Option Frame → List Frame → List Frame

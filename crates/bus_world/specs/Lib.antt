@@ -1,9 +1,6 @@
 pub mod Headline
-pub mod Tenures
 pub mod Log
-pub mod Bus
 pub mod Turning
-pub mod Receiving
 pub mod World
 pub mod Starting
 pub mod Playing
@@ -12,5 +9,4 @@ pub mod Trails
 pub mod Telling
 pub mod Refusals
 pub mod Waiting
-pub mod CyclicProtocols
 pub mod Proved

@@ -1,11 +1,10 @@
--- The log that words hold below the length, and the page that knows of it.
-use Rattle.std.specs.Prelude.{◌≡◌, ℕ, zero, suc, ◌+◌, ◌<◌, ◌≤◌, List, [], ◌∷◌, ◌++◌, length, Some, slice_get, slice_index}
+-- The words of a log, the numbers of its items, and the page that knows of it.
+use Rattle.std.specs.Prelude.{◌≡◌, ℕ, zero, suc, ◌+◌, ◌<◌, List, [], ◌∷◌, ◌++◌, length, Some, slice_get, slice_index}
 use Rattle.bus_register.specs.declared.limits.TheConstants.{MOST_SENDERS}
 use Rattle.bus_batch.specs.declared.messages.Item.{Item}
-use Rattle.bus_batch.specs.Frames.{Frame, AreFrames, log_words, order_of, has_end, has_gone}
+use Rattle.bus_batch.specs.Frames.{Frame, order_of, has_end, has_gone}
 use Rattle.bus_deliverylog.specs.Orders.{of_sender}
 use Rattle.bus_tenure.specs.declared.pages.Page.{Page}
-use Rattle.bus_world.specs.declared.limits.TheConstants.{FIRST_NUMBERS}
 
 -- so many words of a table, from a place on
 abbrev pub words_read_from : (ℕ → ℕ) → ℕ → ℕ → List ℕ
@@ -21,22 +20,9 @@ abbrev pub AreCounted : ℕ → List Item → Type 0
 AreCounted first [] = Unit {0}
 AreCounted first (i ∷ items) = (i.number ≡ first) × AreCounted (first + 1) items
 
--- frames of tenures below this one
-abbrev pub AreEarlier : ℕ → List Frame → Type 0
-AreEarlier tenure [] = Unit {0}
-AreEarlier tenure (f ∷ frames) = (f.tenure < tenure) × AreEarlier tenure frames
-
 -- the number of the next item of a sender, whose first one in these frames has the number base s
 abbrev pub next_number : (ℕ → ℕ) → ℕ → List Frame → ℕ
 next_number base s frames = base s + sent_count s frames
-
--- the words below the length are frames, and each sender's numbers count from its base, which leaves room for a whole log
-pub record Logged (base : ℕ → ℕ) (n capacity at : ℕ) (words : ℕ → ℕ) (len : ℕ) (frames : List Frame) : Type 0 where
-  pub lawful : AreFrames n frames
-  pub words_are : words_read_from words at len ≡ log_words frames
-  pub fits : len ≤ capacity
-  pub low : (s : ℕ) → base s < FIRST_NUMBERS
-  pub counted : (s : ℕ) → AreCounted (base s) (of_sender s (order_of frames))
 
 -- the page knows the next number of each sender behind these frames, who has left in them, whether they have ended, the tenures, the length
 pub record Knows (base : ℕ → ℕ) (page : Page) (frames : List Frame) (past len : ℕ) : Type 0 where

@@ -1,22 +1,14 @@
--- One turn of one sender, on the words, the page, the senders and the owners.
-use Rattle.std.specs.Prelude.{ℕ, false, Option, Some, None, List, [], ◌∷◌, ◌++◌, slice_index, slice_set, if◌then◌else◌}
+-- One turn of one sender: the words, the page, and who took it.
+use Rattle.std.specs.Prelude.{ℕ, false, Option, Some, None, List, [], ◌∷◌, ◌++◌, slice_index, slice_set}
 use Rattle.bus_register.specs.declared.registers.Op.{Op}
 use Rattle.bus_register.specs.Words.{register, after}
-use Rattle.bus_tenure.specs.Core.{Core, Election}
-use Rattle.bus_tenure.specs.Situations.{Situation, PageMove, Stays, Comes, Returns, line_of, op_at, fed_at}
+use Rattle.bus_tenure.specs.Core.{Core}
+use Rattle.bus_tenure.specs.Situations.{PageMove, Stays, Comes, Returns}
 use Rattle.bus_tenure.specs.declared.pages.Page.{Page}
 use Rattle.bus_tenure.specs.declared.phases.Phase.{Phase}
 use Rattle.bus_tenure.specs.declared.phases.Phase.TheVariants as phase
 use Rattle.bus_tenure.specs.declared.turns.Turn.{Turn as Answered}
 use Rattle.bus_tenure.specs.declared.turns.Turn.TheVariants as turn
-
--- what senders share, and the senders
-pub record Side (E : Type 0) : Type 0 where
-  pub words : List ℕ
-  pub home : Option Page
-  pub senders : List (Core E)
-  -- who took the page, by tenure
-  pub owners : List ℕ
 
 -- the words after a step
 abbrev pub words_after : List ℕ → Option Op → List ℕ
@@ -64,27 +56,6 @@ laying (phase.Electing t e) = Stays
 laying (phase.Taken t) = Comes t
 laying (phase.Holding t page stored published) = Stays
 laying (phase.Giving t reason) = Stays
-
--- ---- after a turn in a situation
-abbrev pub home_after : {E : Type 0} → Election E → Core E → Situation E → Option Page → Option Page
-home_after X c z home = home_moved (line_of X c z).move home
-
--- the sender, with the page laid before it where it has taken it
-abbrev pub core_after : {E : Type 0} → Election E → Core E → Situation E → Option Page → ℕ → ℕ → Core E
-core_after X c z home got word = core_moved (after_step (line_of X c z).move) home (fed_at X c z got word)
-
-abbrev pub owners_after : {E : Type 0} → Election E → Core E → Situation E → ℕ → List ℕ → List ℕ
-owners_after X c z p owners = if (line_of X c z).takes then owners ++ p ∷ [] else owners
-
--- after a turn of sender p, which held c and was in this situation
-abbrev pub side_after : {E : Type 0} → Election E → Side E → ℕ → Core E → Situation E → ℕ → Side E
-side_after X side p c situation word =
-    record {
-      words = words_after side.words (op_at X c situation word);
-      home = home_after X c situation side.home;
-      senders = slice_set side.senders p (core_after X c situation side.home (number_found (slice_index side.words) (op_at X c situation word)) word);
-      owners = owners_after X c situation p side.owners;
-    }
 
 -- who took the pages, as the answer of a turn tells it
 abbrev pub owners_by : Answered → ℕ → List ℕ → List ℕ

@@ -21,8 +21,10 @@ use Rattle.bus_tenure.specs.declared.pages.Page.{Page}
 use Rattle.bus_tenure.specs.declared.turns.Turn.{Turn as Answered}
 use Rattle.bus_world.specs.Headline.{Action, HasPut, HasMarked}
 use Rattle.bus_world.specs.Turning.{words_after, number_found, home_moved, core_moved, after_step}
-use Rattle.bus_world.specs.World.{is_set, can_put, can_close, no_stops, AreBases, first_page, new_core, IsNewReceiver, RecvDoes}
-use Rattle.bus_world.specs.CyclicProtocols.{CyclicProtocol, Led, no_actions, no_answers, trails_with, due_actions, actions_with, answers_with}
+use Rattle.bus_world.specs.World.{is_set, no_stops, AreBases, first_page, IsNewReceiver, RecvDoes}
+use Rattle.bus_world.specs.Proved.Machines.{can_put, can_close, new_core}
+use Rattle.bus_world.specs.Proved.CyclicProtocols.{CyclicProtocol, Led, trails_with, due_actions}
+use Rattle.bus_world.specs.Trails.{no_actions, no_answers, actions_with, answers_with}
 
 -- its sizes, how many rows there are, and of each sender whether it has stopped
 pub record CyclicMachine (E : Type 0) : Type 0 where

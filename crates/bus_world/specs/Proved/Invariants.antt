@@ -1,13 +1,21 @@
 -- What every bus with a row for each tenure keeps.
-use Rattle.std.specs.Prelude.{◌≡◌, ℕ, List, length, take, slice_get, slice_index, ◌≤◌}
+use Rattle.std.specs.Prelude.{◌≡◌, ℕ, List, length, take, slice_get, slice_index, ◌≤◌, Option, Some}
 use Rattle.bus_register.specs.declared.limits.TheConstants.{MOST_SENDERS, MOST_ROWS, MOST_LOG_WORDS}
 use Rattle.bus_register.specs.Protocol.{Protocol}
 use Rattle.bus_batch.specs.Frames.{Frame, Order, order_in, log_pieces}
 use Rattle.bus_deliverylog.specs.Receiving.{Receiving}
-use Rattle.bus_tenure.specs.Core.{Election, Layout, words_of}
-use Rattle.bus_world.specs.Playing.{SizedBus}
-use Rattle.bus_world.specs.World.{Bus, Lawful}
-use Rattle.bus_world.specs.Trails.{Trails, Reached}
+use Rattle.bus_tenure.specs.Core.{Election, Layout, words_of, Core}
+use Rattle.bus_world.specs.Proved.Answers.{SizedBus}
+use Rattle.bus_world.specs.Proved.Machines.{Bus}
+use Rattle.bus_world.specs.Proved.Trails.{Trails, Reached}
+use Rattle.bus_world.specs.Proved.Sending.{Sending}
+use Rattle.bus_world.specs.Proved.Receiving.{IsReceiver}
+use Rattle.bus_tenure.specs.declared.pages.Page.{Page}
+
+-- words, page, senders and receivers by number, whatever holds them, with who took the pages and the frames of the log
+pub record Lawful {E : Type 0} (base : ℕ → ℕ) (P : Protocol E (Unit {0}) ℕ) (x : Layout) (words : ℕ → ℕ) (home : Option Page) (senders : ℕ → Option (Core E)) (receivers : ℕ → Option Receiving) (owners : List ℕ) (frames : List Frame) : Type 0 where
+  pub sending : Sending base P x words home senders owners frames
+  pub receiving : (r : ℕ) (v : Receiving) → receivers r ≡ Some v → IsReceiver x frames (words 0) v
 
 -- a machine has just the words of its layout
 pub record LawfulBus {E : Type 0} (base : ℕ → ℕ) (P : Protocol E (Unit {0}) ℕ) (x : Layout) (bus : Bus E) (frames : List Frame) : Type 0 where

@@ -1,5 +1,5 @@
 -- What is promised of senders and receivers of a bus whose rows are used again.
-use Rattle.std.specs.Prelude.{◌≡◌, ℕ, ◌+◌, ◌*◌, ◌<◌, ◌≤◌, Some, None, List, length, slice_index}
+use Rattle.std.specs.Prelude.{◌≡◌, ℕ, ◌+◌, ◌*◌, ◌<◌, ◌≤◌, Some, None, List, slice_index}
 use Rattle.bus_register.specs.declared.registers.Op.{Op}
 use Rattle.bus_register.specs.declared.registers.SenderNo.{SenderNo}
 use Rattle.bus_register.specs.Words.{register}
@@ -14,7 +14,7 @@ use Rattle.bus_core.specs.Reusing.Participants.{sizes_with, log_from, place_for}
 use Rattle.bus_world.specs.Headline.{Action, Promises}
 use Rattle.bus_world.specs.Log.{words_read_from}
 use Rattle.bus_world.specs.Trails.{Takers}
-use Rattle.bus_world.specs.CyclicProtocols.{CyclicProtocol}
+use Rattle.bus_world.specs.Proved.CyclicProtocols.{CyclicProtocol}
 
 -- ---- what is promised of it
 -- of its trails, actions and answers, with one order and one list of tenures and owners

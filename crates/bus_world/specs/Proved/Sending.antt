@@ -1,24 +1,32 @@
--- A lawful bus: words, page and local states fit one order and one list of owners.
+-- What words, the page, senders and owners keep: they fit one list of frames.
 use Rattle.std.specs.Prelude.{◌≡◌, ℕ, ◌+◌, ◌*◌, ◌<◌, ◌≤◌, true, false, Option, Some, None, List, [], ◌∷◌, ◌++◌, take, is_some, slice_get}
-use Rattle.bus_register.specs.declared.limits.TheConstants.{MOST_SENDERS, MOST_LOG_WORDS, TENURES}
 use Rattle.bus_register.specs.Tables.{of_some}
 use Rattle.bus_register.specs.Protocol.{Protocol}
 use Rattle.bus_batch.specs.Batches.{Pending, IsKept, HasSomething, frame_of}
 use Rattle.bus_batch.specs.declared.batches.Phase.TheVariants.{Closed}
-use Rattle.bus_batch.specs.Frames.{Frame, frame_words, order_of, has_gone}
+use Rattle.bus_batch.specs.Frames.{Frame, frame_words, order_of, has_gone, AreFrames, log_words}
 use Rattle.bus_tenure.specs.Core.{Core, Layout, log_at, frame_len}
 use Rattle.bus_tenure.specs.declared.pages.Page.{Page}
 use Rattle.bus_tenure.specs.declared.phases.Phase.{Phase}
 use Rattle.bus_tenure.specs.declared.phases.Phase.TheVariants as phase
-use Rattle.bus_world.specs.Log.{words_read_from, next_number, AreEarlier, Logged, Knows}
-use Rattle.bus_world.specs.Tenures.{Standing, Tenures}
-use Rattle.bus_world.specs.Tenures.Standing.{Rests, Runs, Holds}
+use Rattle.bus_world.specs.Log.{words_read_from, AreCounted, next_number, Knows}
+use Rattle.bus_world.specs.Proved.Tenures.{Standing, Tenures}
+use Rattle.bus_world.specs.Proved.Tenures.Standing.{Rests, Runs, Holds}
+use Rattle.bus_deliverylog.specs.Orders.{of_sender}
+use Rattle.bus_world.specs.declared.limits.TheConstants.{FIRST_NUMBERS}
 
--- sizes that are served
-pub record IsLayout (x : Layout) : Type 0 where
-  pub senders : x.senders ≤ MOST_SENDERS
-  pub rows : x.rows ≤ TENURES
-  pub capacity : x.capacity ≤ MOST_LOG_WORDS
+-- frames of tenures below this one
+abbrev pub AreEarlier : ℕ → List Frame → Type 0
+AreEarlier tenure [] = Unit {0}
+AreEarlier tenure (f ∷ frames) = (f.tenure < tenure) × AreEarlier tenure frames
+
+-- the words below the length are frames, and each sender's numbers count from its base, which leaves room for a whole log
+pub record Logged (base : ℕ → ℕ) (n capacity at : ℕ) (words : ℕ → ℕ) (len : ℕ) (frames : List Frame) : Type 0 where
+  pub lawful : AreFrames n frames
+  pub words_are : words_read_from words at len ≡ log_words frames
+  pub fits : len ≤ capacity
+  pub low : (s : ℕ) → base s < FIRST_NUMBERS
+  pub counted : (s : ℕ) → AreCounted (base s) (of_sender s (order_of frames))
 
 -- what a sender stands in, as far as tenures go
 abbrev pub stands_at : {E : Type 0} → Phase E → Standing E

@@ -1,6 +1,6 @@
 -- Senders and receivers of a bus whose rows are used again, in any order: the reclamation, with its pins and the holder's reclaimer, whose words are those
 -- of the bus, with the page, the senders, the receivers and who took the pages. Tenure t uses row t mod rows.
-use Rattle.std.specs.Prelude.{◌≡◌, ℕ, ◌+◌, ◌*◌, ◌<◌, ◌≤◌, Option, Some, None, List, [], ◌∷◌, ◌++◌, All, length, slice_index, ◌==◌, if◌then◌else◌}
+use Rattle.std.specs.Prelude.{◌≡◌, ℕ, ◌<◌, Option, Some, None, List, [], ◌∷◌, All, length, slice_index, if◌then◌else◌}
 use Rattle.bus_register.specs.declared.registers.Op.{Op}
 use Rattle.bus_register.specs.Words.{register, after}
 use Rattle.bus_register.specs.Tables.{put}
@@ -17,10 +17,11 @@ use Rattle.bus_tenure.specs.Situations.{Situation, line_of, op_at, kind_at, tenu
 use Rattle.bus_tenure.specs.declared.pages.Page.{Page}
 use Rattle.bus_tenure.specs.declared.turns.Turn.{Turn as Answered}
 use Rattle.bus_core.specs.Reusing.Participants.{log_from, Due, Pins, Reclaims, Goes, due_of, place_for, core_looked, core_going, pin_going, reclaimer_going, answer_going}
-use Rattle.bus_world.specs.Turning.{core_moved, after_step, home_after, owners_after}
+use Rattle.bus_world.specs.Turning.{core_moved, after_step}
+use Rattle.bus_world.specs.Proved.Machines.{home_after, owners_after, new_core, can_put, can_close, put_in, mark_in}
 use Rattle.bus_world.specs.Headline.{Action, HasPut, HasMarked}
-use Rattle.bus_world.specs.Trails.{step_action}
-use Rattle.bus_world.specs.World.{AreBases, first_page, new_core, IsNewReceiver, RecvDoes, can_put, can_close, put_in, mark_in}
+use Rattle.bus_world.specs.Trails.{step_action, no_actions, no_answers, actions_with, answers_with}
+use Rattle.bus_world.specs.World.{AreBases, first_page, IsNewReceiver, RecvDoes}
 
 pub record CyclicProtocol (E : Type 0) : Type 0 where
   -- the number of each sender's first message
@@ -91,19 +92,6 @@ abbrev pub AnswersDue : {E : Type 0} → Election E → Layout → ℕ → Cycli
 AnswersDue X x rows y c (Pins o) word answer = Unit {0}
 AnswersDue X x rows y c (Reclaims s o) word answer = Unit {0}
 AnswersDue X x rows y c (Goes z) word answer = answer ≡ answer_going X c z (word_found (place_for x rows z) y.reclamation.words (op_at X c z word)) word
-
-abbrev pub actions_with : ℕ → List Action → (ℕ → List Action) → ℕ → List Action
-actions_with p ds D q = D q ++ (if q == p then ds else [])
-
-abbrev pub no_actions : ℕ → List Action
-no_actions q = []
-
-abbrev pub no_answers : ℕ → List RecvTurn
-no_answers r = []
-
--- this answer joins the trail of receiver r
-abbrev pub answers_with : ℕ → RecvTurn → (ℕ → List RecvTurn) → ℕ → List RecvTurn
-answers_with r answer H q = H q ++ (if q == r then answer ∷ [] else [])
 
 -- ---- what leads to such a protocol
 -- nothing has happened: words of zero, the page at home, senders and receivers at their starts

@@ -1,0 +1,76 @@
+-- How events extend the trails, which trails lead to a bus with a row for each tenure, and what is promised of it then.
+use Rattle.std.specs.Prelude.{ℕ, Option, Some, None, List, [], ◌∷◌, ◌++◌, slice_index, if◌then◌else◌, ◌==◌}
+use Rattle.bus_register.specs.declared.registers.SenderNo.{SenderNo}
+use Rattle.bus_batch.specs.Frames.{Order, Spells}
+use Rattle.bus_deliverylog.specs.declared.receiving.RecvTurn.{RecvTurn}
+use Rattle.bus_tenure.specs.Core.{Core, Election, Layout}
+use Rattle.bus_tenure.specs.Situations.{Situation, situation_of, tenure_at, kind_at, op_at, chosen_at}
+use Rattle.bus_world.specs.Headline.{Action, Promises}
+use Rattle.bus_world.specs.Turning.{number_found}
+use Rattle.bus_world.specs.Proved.Machines.{Bus, going, IsEvent, Happens, IsNew}
+use Rattle.bus_world.specs.World.{Event, Put, Ask, Turn, Recv, Stop}
+use Rattle.bus_world.specs.Proved.Answers.{Answers, log_of}
+use Rattle.bus_world.specs.declared.events.Answer.{Answer}
+use Rattle.bus_world.specs.declared.events.Answer.TheVariants as answer
+use Rattle.bus_world.specs.Trails.{step_action, put_actions, mark_actions, Takers}
+
+-- what a turn of a sender in this situation adds to its trail, where its step found this number and this is its answer
+abbrev pub turn_actions : {E : Type 0} → Election E → Core E → Situation E → ℕ → ℕ → Answer → List Action
+turn_actions X c z got word (answer.Number n) = []
+turn_actions X c z got word answer.Closing = []
+turn_actions X c z got word answer.Leaving = []
+turn_actions X c z got word (answer.Turn t) = step_action (kind_at X c z) (tenure_at X c z) got (chosen_at X c z got word) t
+turn_actions X c z got word (answer.Recv t) = []
+turn_actions X c z got word answer.Stopped = []
+
+-- of the sender that there is
+abbrev pub turning_actions : {E : Type 0} → Election E → List ℕ → Option (Core E) → ℕ → Answer → List Action
+turning_actions X words None word a = []
+turning_actions X words (Some c) word a = turn_actions X c (situation_of X c) (number_found (slice_index words) (op_at X c (situation_of X c) word)) word a
+
+-- what an event with this answer adds to the trail of sender q: a stop is no action
+abbrev pub actions_of : {E : Type 0} → Election E → Bus E → Event → Answer → ℕ → List Action
+actions_of X b (Put s bytes) a q = if q == s then put_actions bytes a else []
+actions_of X b (Ask s asked) a q = if q == s then mark_actions a else []
+actions_of X b (Turn s word) a q = if q == s then turning_actions X b.side.words (going b s) word a else []
+actions_of X b (Recv r) a q = []
+actions_of X b (Stop s) a q = []
+
+abbrev pub answer_heard : Answer → List RecvTurn
+answer_heard (answer.Number n) = []
+answer_heard answer.Closing = []
+answer_heard answer.Leaving = []
+answer_heard (answer.Turn t) = []
+answer_heard (answer.Recv t) = t ∷ []
+answer_heard answer.Stopped = []
+
+-- what an event and its answer add to the trail of a receiver
+abbrev pub heard_of : Event → Answer → ℕ → List RecvTurn
+heard_of (Put s bytes) a q = []
+heard_of (Ask s asked) a q = []
+heard_of (Turn s word) a q = []
+heard_of (Recv r) a q = if q == r then answer_heard a else []
+heard_of (Stop s) a q = []
+
+-- ---- the trails of all
+pub record Trails : Type 0 where
+  pub actions : ℕ → List Action
+  pub heard : ℕ → List RecvTurn
+
+abbrev pub no_trails : Trails
+no_trails = record { actions = λ s. []; heard = λ r. [] }
+
+abbrev pub trails_grown : {E : Type 0} → Election E → Bus E → Event → Answer → Trails → Trails
+trails_grown X b e a T = record { actions = λ s. T.actions s ++ actions_of X b e a s; heard = λ r. T.heard r ++ heard_of e a r }
+
+-- these trails lead to this bus: from a new one, of which nothing has happened, by one event after another
+pub data Reached {E : Type 0} (X : Election E) (bases : List ℕ) (x : Layout) : Bus E → Trails → Type 0 where
+  New : (b : Bus E) → IsNew bases x b → Reached X bases x b no_trails
+  Then : (b b' : Bus E) (T : Trails) (e : Event) (a : Answer) → Reached X bases x b T → IsEvent e → Happens X b e b' → Answers X b e a b' → Reached X bases x b' (trails_grown X b e a T)
+
+-- ---- what is promised of a bus
+-- the promise holds of these trails, with the order and the owners that the words below the length spell
+pub record IsPromisedBy {E : Type 0} (bases : List ℕ) (x : Layout) (b : Bus E) (T : Trails) (order : Order) (owners : List (ℕ × SenderNo)) : Type 0 where
+  pub spelled : Spells x.senders (log_of record { layout = x; bus = b }) order owners
+  pub takers : Takers b.side.owners T.actions
+  pub promises : Promises (slice_index bases) T.actions T.heard order owners
