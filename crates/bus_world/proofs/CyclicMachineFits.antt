@@ -28,7 +28,8 @@ use Rattle.bus_tenure.specs.Situations.{Situation, IsClosed, IsIdle, IsSpent, Lo
 use Rattle.bus_tenure.specs.declared.phases.Phase.TheVariants as phase
 use Rattle.bus_tenure.proofs.Situated.{tells}
 use Rattle.bus_core.specs.Reusing.Participants.{Goes, sizes_with, log_from, place_for, reclaim_due, due_reclaimed, due_home, due_beside}
-use Rattle.bus_core.specs.Reusing.Turns.{Participant, due, op_due, on_place, op_placed}
+use Rattle.bus_core.specs.Proved.ParticipantTurns.{due, op_due}
+use Rattle.bus_core.specs.Reusing.Turns.{Participant, on_place, op_placed}
 use Rattle.bus_world.specs.Proved.Sending.{Part, standing_of, stands_at, least_of}
 use Rattle.bus_world.specs.Headline.{order_given}
 use Rattle.bus_world.specs.Log.{words_read_from}

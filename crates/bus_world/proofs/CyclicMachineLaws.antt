@@ -25,7 +25,8 @@ use Rattle.bus_presence.specs.declared.pins.Pin.{Pin}
 use Rattle.bus_presence.specs.declared.pins.Pin.TheVariants.{Away, Announcing, Validating, Pinned, Unpinning, Invalidated}
 use Rattle.bus_core.specs.Reusing.Participants.{log_from, Due, Pins, Reclaims, Goes, due_of, due_beside, due_home, due_reclaimed, reclaim_due, sizes_with, place_for, core_looked, core_seen, core_going, pin_going, reclaimer_going, answer_going}
 use Rattle.bus_core.specs.Reusing.Keeping.{held_of}
-use Rattle.bus_core.specs.Reusing.Turns.{Participant, due, op_due, on_place, op_placed, participant_due, answer_due, queue_seen}
+use Rattle.bus_core.specs.Proved.ParticipantTurns.{due, op_due, participant_due, answer_due}
+use Rattle.bus_core.specs.Reusing.Turns.{Participant, on_place, op_placed, queue_seen}
 use Rattle.bus_tenure.specs.Core.{Core, Election, Layout, stage_at}
 use Rattle.bus_tenure.specs.Situations.{Situation, IsClosed, IsIdle, IsSpent, LooksAtStage, Elects, TakesPage, AwaitsPage, StoresWord, StoresLength, GivesBack, HasHanded, PageMove, situation_of, line_of, op_at, core_begun, core_elected, waits}
 use Rattle.bus_tenure.specs.declared.pages.Page.{Page}

@@ -14,7 +14,8 @@ use Rattle.bus_presence.specs.declared.pins.Pin.{Pin}
 use Rattle.bus_presence.specs.declared.pins.Pin.TheVariants.{Away}
 use Rattle.bus_core.specs.Reusing.Participants.{Due, Pins, Reclaims, Goes, log_from}
 use Rattle.bus_core.specs.Reusing.Keeping.{held_of}
-use Rattle.bus_core.specs.Reusing.Turns.{Participant, due, op_due, participant_due, answer_due, queue_seen}
+use Rattle.bus_core.specs.Proved.ParticipantTurns.{due, op_due, participant_due, answer_due}
+use Rattle.bus_core.specs.Reusing.Turns.{Participant, queue_seen}
 use Rattle.bus_tenure.specs.Core.{Core, Election, Layout}
 use Rattle.bus_tenure.specs.Situations.{PageMove, Stays, line_of}
 use Rattle.bus_tenure.specs.declared.pages.Page.{Page}
