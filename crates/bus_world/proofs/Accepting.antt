@@ -1,8 +1,7 @@
 -- What a sender accepts between its turns keeps what senders, words, page and owners keep: said of words and senders by number.
-use Rattle.std.proofs.Common.{◌+◌, ◌*◌, ◌≡◌, ℕ, suc, ◌<◌, ◌≤◌, ◌^◌, Bool, true, false, cond, ◌&&◌, ◌==◌, nat_lt, nat_le, Option, Some, inl, inr, List, [], ◌∷◌, ◌++◌, length, filter, arith, refl, sym, ◌∙◌, ap, subst}
-use mathlib.Core.Path.{fun_ext}
+use Rattle.std.proofs.Common.{◌+◌, ◌*◌, ◌≡◌, ℕ, suc, ◌<◌, ◌≤◌, ◌^◌, Bool, true, false, cond, ◌&&◌, ◌==◌, nat_lt, nat_le, Option, Some, List, [], ◌∷◌, ◌++◌, length, filter, arith, refl, sym, ◌∙◌, ap, subst}
 use Rattle.std.specs.Prelude.{All}
-use Rattle.std.proofs.lemmas.Bool.{and_parts, cases_eq, leb-true, ltb-true, true≢false}
+use Rattle.std.proofs.lemmas.Bool.{and_parts, leb-true, ltb-true, true≢false}
 use Rattle.std.proofs.lemmas.List.{length-append}
 use Rattle.std.proofs.lemmas.List.Elements.{All-append, All-from_recursion}
 use Rattle.bus_register.specs.declared.registers.SenderNo.{SenderNo}
@@ -16,18 +15,19 @@ use Rattle.bus_batch.specs.declared.messages.Item.{Item}
 use Rattle.bus_batch.specs.Messages.{IsMessage}
 use Rattle.bus_batch.specs.Batches.{Pending, IsKept, next_of, frame_of}
 use Rattle.bus_batch.specs.Frames.{AreFrames, Frame, order_of, items_in, log_words, frame_words}
-use Rattle.bus_tenure.specs.Core.{Core, Election, Layout, log_at, is_empty}
+use Rattle.bus_tenure.specs.Core.{Core, Election, Layout, is_empty}
 use Rattle.bus_tenure.specs.declared.pages.Page.{Page}
 use Rattle.bus_tenure.specs.declared.phases.Phase.{Phase as SenderPhase}
 use Rattle.bus_tenure.specs.declared.phases.Phase.TheVariants as phase
 use Rattle.bus_ownerbits.specs.OneOwner.{OneOwner}
 use Rattle.bus_world.specs.Log.{sent_count}
-use Rattle.bus_world.proofs.LogLaws.{length-read, log_words-append}
+use Rattle.bus_world.proofs.LogLaws.{length-logged, log_words-append}
 use Rattle.bus_world.specs.Bus.{IsLayout, Part, Fits, Sending}
 use Rattle.bus_world.proofs.BusLaws as bus
 use Rattle.bus_world.proofs.Framing.{front_lawful}
 use Rattle.bus_world.proofs.Bounds.{items_few}
 use Rattle.bus_world.specs.World.{is_open, can_put, can_close, put_in, mark_in}
+use Rattle.bus_world.proofs.TurningLaws.{open_apart}
 
 -- ---- what a sender accepts
 pub data Accepted : Type 0 where
@@ -74,9 +74,6 @@ pub empty_is : {A : Type 0} (xs : List A) → is_empty xs ≡ true → xs ≡ []
 empty_is [] e = refl
 empty_is (x ∷ xs) e = absurd (true≢false (sym e))
 
-open_apart : Open ≡ Closed → ⊥
-open_apart e = cc
-
 -- a batch that is not on its way is that of a sender that has begun no tenure
 pub idle_rests : (base : ℕ → ℕ) {E : Type 0} (words : ℕ → ℕ) (frames : List Frame) (c : Core E) (ph : SenderPhase E) → Fits base words frames c ph → c.queue.busy ≡ false → ph ≡ phase.Resting
 idle_rests base words frames c phase.Resting f e = refl
@@ -107,18 +104,12 @@ module _ {E : Type 0} (X : Election E) (P : Protocol E (Unit {0}) ℕ) (laws : L
     pub numbers_fit : next_of c.queue < 2 ^ 48
     numbers_fit =
         let few = own.queue.few in let low = h.log.low c.me in let first = first_below c.phase own.fits in let cap = ok.capacity in let within = h.log.fits in
-        let size : length (log_words frames) ≡ words 0 = sym (ap length h.log.words_are) ∙ length-read words (log_at x) (words 0) in
+        let size = length-logged h.log in
         omega arith
 
     module _ (senders' : ℕ → Option (Core E)) (beside : Beside p senders senders') where
       unchanged : senders' p ≡ Some c → Sending base P x words home senders' owners frames
-      unchanged new = subst (λ z. Sending base P x words home z owners frames) (sym (fun_ext same)) h
-        where
-          same : (q : ℕ) → senders' q ≡ senders q
-          same q = elim (cases_eq q p) [
-            | inl i ↦ ap senders' i ∙ new ∙ sym old ∙ ap senders (sym i)
-            | inr ne ↦ beside q ne
-          ]
+      unchanged new = subst (λ z. Sending base P x words home z owners frames) (sym (bus.same_senders p c senders senders' old new beside)) h
 
       replaced : (q : Pending) → c.queue.busy ≡ false → q.busy ≡ false → q.sender ≡ c.queue.sender → q.first ≡ c.queue.first → ((c.queue.phase ≡ Closed) × (c.queue.messages ≡ []) → (q.phase ≡ Closed) × (q.messages ≡ [])) → IsKept q → senders' p ≡ Some (record c { queue = q }) → Sending base P x words home senders' owners frames
       replaced q idle idle' sender first closed kept new =

@@ -39,6 +39,9 @@ sent_apart m Shut e = cc
 shut_apart : (m : Mark) → Shut ≡ Marking m → ⊥
 shut_apart m e = cc
 
+pub open_no_marking : (m : Mark) → Open ≡ Marking m → ⊥
+open_no_marking m e = cc
+
 left_waiting : (m : Mark) (reason : Reason) (q : Pending) → (queue_after reason q).phase ≡ Marking m → q.phase ≡ Marking m
 left_waiting m Sent q e = absurd (sent_apart m q.phase e)
 left_waiting m FoundEnd q e = absurd (shut_apart m e)

@@ -10,17 +10,20 @@ use Rattle.bus_register.specs.Proved.TableLaws.{some_of}
 use Rattle.bus_register.specs.Protocol.{Protocol, Laws}
 use Rattle.bus_batch.specs.Messages.{IsMessage}
 use Rattle.bus_ownerbits.specs.OneOwner.{OneOwner}
-use Rattle.bus_tenure.specs.Core.{Core, Election, Layout, log_at}
+use Rattle.bus_tenure.specs.Core.{Core, Election, Layout, log_at, words_of}
 use Rattle.bus_world.specs.Bus.{IsLayout, Part, Sending, standing_of, stands_at, least_of}
 use Rattle.bus_world.specs.Log.{Logged, Knows}
 use Rattle.bus_world.specs.Tenures.{Standing}
 use Rattle.bus_world.specs.Tenures.Standing.{Rests}
-use Rattle.bus_world.specs.World.{AreBases, no_bases, first_page, new_core}
+use Rattle.bus_world.specs.World.{Bus, AreBases, IsNew, no_bases, first_page, new_core}
 use Rattle.bus_world.proofs.BusLaws as bus
 use Rattle.bus_world.proofs.TenuresLaws as tenures
 
 pub zeros : (n r : ℕ) → slice_index (replicate n 0) r ≡ 0
 zeros n r = elim (cases_lt r n) [ inl l ↦ get_or-replicate n r 0 0 l | inr g ↦ get_or_past (replicate n 0) r 0 (omega (arith, length-replicate {A = ℕ} n 0)) ]
+
+pub words_zero : {E : Type 0} {bases : List ℕ} {x : Layout} (b : Bus E) → IsNew bases x b → (r : ℕ) → slice_index b.side.words r ≡ 0
+words_zero {E} {bases} {x} b new r = ap (λ z. slice_index z r) new.words ∙ zeros (words_of x) r
 
 pub no_bases_are : AreBases no_bases
 no_bases_are = record { many = length-replicate {A = ℕ} MOST_SENDERS 0; low = λ s. let z = zeros MOST_SENDERS s in omega arith }

@@ -37,6 +37,7 @@ use Rattle.bus_world.specs.Tenures.{Standing}
 use Rattle.bus_world.specs.Tenures.Standing.{Runs, Holds}
 use Rattle.bus_world.proofs.TenuresLaws as tenures
 use Rattle.bus_world.specs.Bus.{IsLayout, stands_at, standing_of, least_of, GoesOn, IsWriting, HasBegun, Fits, Part, AreOwned, Sending}
+use mathlib.Core.Path.{fun_ext}
 
 -- one step on the words: the step's own word has changed and no other
 pub record Changes (o : Op) (words words' : ℕ → ℕ) : Type 0 where
@@ -124,14 +125,21 @@ Part-rests {base} x words words' frames frames' p c free e h = record {
 pub part_of : {base : ℕ → ℕ} {E : Type 0} (x : Layout) (words words' : ℕ → ℕ) (frames frames' : List Frame) (p : ℕ) (c : Core E) (ph : Phase E) → Part base x words frames p c → Fits base words' frames' (record c { phase = ph }) ph → Part base x words' frames' p (record c { phase = ph })
 part_of x words words' frames frames' p c ph h f = record { layout = h.layout; me = h.me; below = h.below; sender = h.sender; queue = h.queue; fits = f }
 
+-- a sender that is as before, beside others that are
+pub same_senders : {E : Type 0} (p : ℕ) (c : Core E) (senders senders' : ℕ → Option (Core E)) → senders p ≡ Some c → senders' p ≡ Some c → Beside p senders senders' → senders' ≡ senders
+same_senders p c senders senders' old new beside = fun_ext (λ q. elim (cases_eq q p) [
+  | inl i ↦ ap senders' i ∙ new ∙ sym old ∙ ap senders (sym i)
+  | inr ne ↦ beside q ne
+])
+
 pub resting_apart : {E : Type 0} (t : ℕ) (e : E) → phase.Resting ≡ phase.Electing t e → ⊥
 resting_apart t e h = cc
 
-holding_apart : {E : Type 0} (u : ℕ) (page : Page) (k : ℕ) (published : Bool) (t : ℕ) (e : E) → phase.Holding u page k published ≡ phase.Electing t e → ⊥
+pub holding_apart : {E : Type 0} (u : ℕ) (page : Page) (k : ℕ) (published : Bool) (t : ℕ) (e : E) → phase.Holding u page k published ≡ phase.Electing t e → ⊥
 holding_apart u page k published t e h = cc
 
-same_electing : {E : Type 0} (t u : ℕ) (e f : E) → phase.Electing t e ≡ phase.Electing u f → e ≡ f
-same_electing t u e f h = cc
+pub same_electing : {E : Type 0} (t u : ℕ) (e f : E) → phase.Electing t e ≡ phase.Electing u f → (t ≡ u) × (e ≡ f)
+same_electing t u e f h = (cc, cc)
 
 not_busy : (reason : Reason) (q : Pending) → (queue_after reason q).busy ≡ false
 not_busy Sent q = refl
@@ -282,7 +290,7 @@ module _ {E : Type 0} (X : Election E) (P : Protocol E (Unit {0}) ℕ) (laws : L
         page_knows = h.page_knows;
         parts = parts_from words frames (λ q d ne e. h.parts q d e) part;
         chosen = chosen_from (λ u e o a b. absurd (
-            let e_is = same_electing t u (P.started x.senders p tt (2 + t * P.width x.senders)) e (sym began ∙ a) in
+            let e_is = (same_electing t u (P.started x.senders p tt (2 + t * P.width x.senders)) e (sym began ∙ a)).1 in
             let bad : None ≡ Some o = sym (unstarted p (2 + t * P.width x.senders) below) ∙ ap P.output e_is ∙ b in
             let wrong : ⊥ = cc in wrong));
       }
@@ -327,7 +335,7 @@ module _ {E : Type 0} (X : Election E) (P : Protocol E (Unit {0}) ℕ) (laws : L
           owned = h.owned;
           page_knows = knows_row;
           parts = parts_from words' frames (others_agree words' log_agrees (outside 0 (inl (omega arith)))) part;
-          chosen = chosen_from (λ u f v a b. mine v (ap P.output (same_electing t u later f (sym goes ∙ a)) ∙ b));
+          chosen = chosen_from (λ u f v a b. mine v (ap P.output (same_electing t u later f (sym goes ∙ a)).1 ∙ b));
         }
 
         -- ── its last step, which chooses another ──

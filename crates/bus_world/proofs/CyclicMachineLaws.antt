@@ -1,7 +1,7 @@
 -- A turn of the bus whose rows are used again, as a turn of its protocol.
-use Rattle.std.proofs.Common.{◌≡◌, ◌≢◌, inl, inr, ℕ, zero, suc, ◌+◌, ◌<◌, ◌≤◌, Bool, true, false, cond, ◌&&◌, ◌==◌, nat_le, All, ◌/◌, Option, Some, None, List, [], ◌∷◌, ◌++◌, is_some, length, slice_get, slice_index, slice_set, arith, refl, sym, ◌∙◌, ap, subst}
+use Rattle.std.proofs.Common.{◌≡◌, ◌≢◌, inl, inr, ℕ, ◌+◌, ◌<◌, ◌≤◌, Bool, true, false, cond, ◌&&◌, ◌==◌, nat_le, All, ◌/◌, Option, Some, None, List, [], ◌∷◌, ◌++◌, is_some, length, slice_get, slice_index, slice_set, arith, refl, sym, ◌∙◌, ap, subst}
 use mathlib.Core.Path.{fun_ext}
-use Rattle.std.proofs.lemmas.Bool.{cases_eq, true≢false}
+use Rattle.std.proofs.lemmas.Bool.{cases_eq}
 use Rattle.std.proofs.lemmas.List.{append-nil, length-replicate, get_or-set_same, get_or-set_other}
 use Rattle.std.proofs.Math.ListN.{length-set}
 use Rattle.std.proofs.lemmas.Option.{same_Some, slice_get_within}
@@ -44,8 +44,10 @@ use Rattle.bus_world.specs.CyclicProtocols.{CyclicProtocol, Led, NewProtocol, Tu
 use Rattle.bus_world.specs.World.{RecvDoes, is_set, is_open, can_put, can_close, new_core}
 use Rattle.bus_world.proofs.Beginning.{zeros}
 use Rattle.bus_world.proofs.TenuresLaws as tenures
-use Rattle.bus_world.proofs.CyclicProtocolLaws.{HasKept, led_kept}
+use Rattle.bus_world.proofs.CyclicProtocolLaws.{HasKept, led_kept, owner_of}
 use Rattle.bus_world.proofs.CyclicProtocolWords.{put_is}
+use Rattle.bus_world.proofs.PlayingLaws.{set_same}
+use Rattle.bus_world.proofs.Stopping.{shown_there}
 
 -- ---- lists as tables
 list_put : {A B : Type 0} (f : Option A → B) (xs : List A) (s : ℕ) (a : A) → s < length xs → (λ p. f (slice_get (slice_set xs s a) p)) ≡ put s (f (Some a)) (λ p. f (slice_get xs p))
@@ -81,7 +83,7 @@ placed_words f xs (Some o) low =
     ∙ ap (λ q. put q (after (on_place f o) (slice_index xs q)) (slice_index xs)) (same_register f o)
     ∙ ap (λ n. put (f (register o)) n (slice_index xs)) (same_after f o (slice_index xs (f (register o))))
 
-placed_found : (f : ℕ → ℕ) (w : ℕ → ℕ) (d : Option Op) → number_found w (op_placed f d) ≡ word_found f w d
+pub placed_found : (f : ℕ → ℕ) (w : ℕ → ℕ) (d : Option Op) → number_found w (op_placed f d) ≡ word_found f w d
 placed_found f w None = refl
 placed_found f w (Some o) = ap w (same_register f o)
 
@@ -334,10 +336,6 @@ module _ {E : Type 0} (X : Election E) (P : Protocol E (Unit {0}) ℕ) (laws : L
         let finds = tenures.finds_home X.op X.fed P laws b.layout.senders b.layout.rows 2 k.V (k.V 1) (is_some y.home) (λ q. of_some standing_of (y.senders q)) (λ q. least_of (y.senders q)) y.owners h.sending.tenures s t by.0 runs mine in
         let held = h.sending.tenures.holding p r (holds p w r there f) in
         absurd (let a = finds.0 in let c = held.1 in omega arith)
-      where
-        owner_of : (o : Option ℕ) → is_some o ≡ true → (u : ℕ) × (o ≡ Some u)
-        owner_of None i = absurd (true≢false (sym i))
-        owner_of (Some u) i = (u, refl)
 
     goes_lead : (z : Situation E) → situation_of X v.core ≡ z → due X v ≡ Goes z → ((o : Op) → op_due X v (Goes z) word ≡ Some o → register o < length b.words)
         → answer ≡ answer_going X v.core z (number_found (slice_index b.words) (op_due X v (Goes z) word)) word
@@ -391,10 +389,6 @@ away_closes q (Unpinning t) e = absurd (busy_puts (is_open q.phase) e)
 away_closes q (Invalidated t) e = absurd (busy_puts (is_open q.phase) e)
 
 -- ---- a sender that there is
-shown_there : {A : Type 0} (t : Bool) (o : Option A) (v : A) → cond t None o ≡ Some v → o ≡ Some v
-shown_there true o v e = absurd (let bad : None ≡ Some v = e in cc)
-shown_there false o v e = e
-
 pub participant_there : {E : Type 0} (b : CyclicMachine E) (s : ℕ) (v : Participant E) → participant_going b s ≡ Some v → slice_get b.participants s ≡ Some v
 participant_there b s v e = shown_there (is_set (slice_get b.stopped s)) (slice_get b.participants s) v e
 
@@ -409,11 +403,6 @@ actions_same s D = fun_ext (λ q. by_test (q == s) (D q))
 words_many : (xs : List ℕ) (d : Option Op) → length (words_after xs d) ≡ length xs
 words_many xs None = refl
 words_many xs (Some o) = length-set xs (register o) (after o (slice_index xs (register o)))
-
-set_same : {A : Type 0} (xs : List A) (s : ℕ) (a : A) → slice_get xs s ≡ Some a → slice_set xs s a ≡ xs
-set_same [] s a e = absurd (let bad : None ≡ Some a = e in cc)
-set_same (x ∷ xs) zero a e = ap (λ z. z ∷ xs) (sym (same_Some _ _ e))
-set_same (x ∷ xs) (suc s) a e = ap (λ z. x ∷ z) (set_same xs s a e)
 
 -- ---- a participant in its place
 rows_after : {E : Type 0} (b : CyclicMachine E) (is : IsCyclic b) (s : ℕ) (v v' : Participant E) → slice_get b.participants s ≡ Some v → v'.rows ≡ v.rows → (p : ℕ) (w : Participant E) → slice_get (slice_set b.participants s v') p ≡ Some w → w.rows ≡ b.rows

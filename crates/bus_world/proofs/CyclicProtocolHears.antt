@@ -16,7 +16,7 @@ use Rattle.bus_world.specs.Log.{Logged}
 use Rattle.bus_world.specs.World.{IsReceiver, IsNewReceiver, RecvStep, RecvDoes, recv_found}
 use Rattle.bus_world.specs.CyclicProtocols.{answers_with, no_answers}
 use Rattle.bus_world.proofs.HearTrails.{IsTold, hears_later, hears_more}
-use Rattle.bus_world.proofs.LogLaws.{length-read, log_words-append}
+use Rattle.bus_world.proofs.LogLaws.{length-logged, log_words-append}
 use Rattle.bus_world.proofs.ReceivingLaws.{Receives-append}
 use Rattle.bus_world.proofs.Tying.{Hears}
 use Rattle.bus_world.proofs.WorldLaws.{received, receiver_more}
@@ -84,7 +84,7 @@ all_after x rows receivers frames f H h = record { each = λ r v e. hears_after 
 module _ {base : ℕ → ℕ} (x : Layout) (rows : ℕ) (frames : List Frame) (W V : ℕ → ℕ) (log : Logged base x.senders x.capacity (log_at x) V (V 0) frames) (first : W 0 ≡ V 0) (same : (k : ℕ) → k < x.capacity → W (log_from x rows + k) ≡ V (log_at x + k))
     (v : Receiving) (trail : List RecvTurn) (h : HearsCyclic x rows frames v trail) (answer : RecvTurn) (next : Receiving) where
   size_is : length (log_words frames) ≡ V 0
-  size_is = sym (ap length log.words_are) ∙ length-read V (log_at x) (V 0)
+  size_is = length-logged log
 
   own : IsReceiver x frames (V 0) (placed x v)
   own = subst (λ k. IsReceiver x frames k (placed x v)) size_is h.own

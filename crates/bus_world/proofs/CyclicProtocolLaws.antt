@@ -1,7 +1,7 @@
 -- Whatever senders do whose rows are used again, it is as if each tenure had a row for itself.
-use Rattle.std.proofs.Common.{◌≡◌, ◌⊎◌, inl, inr, ℕ, zero, suc, ◌+◌, ◌-◌, ◌*◌, ◌/◌, ◌<◌, ◌≤◌, Bool, true, false, cond, ◌&&◌, nat_lt, nat_le, ◌==◌, Option, Some, None, List, [], ◌∷◌, ◌++◌, is_some, length, map, slice_get, slice_index, arith, refl, sym, ◌∙◌, ap, subst}
-use Rattle.std.proofs.lemmas.Bool.{cases_eq, leb-false, true≢false}
-use Rattle.std.proofs.lemmas.Bool.Decides.{eqb_tells, leb_tells}
+use Rattle.std.proofs.Common.{◌≡◌, ◌⊎◌, inl, inr, ℕ, zero, suc, ◌+◌, ◌-◌, ◌*◌, ◌/◌, ◌<◌, ◌≤◌, Bool, true, false, cond, nat_lt, nat_le, ◌==◌, Option, Some, None, List, [], ◌∷◌, ◌++◌, is_some, length, map, slice_index, arith, refl, sym, ◌∙◌, ap, subst}
+use Rattle.std.proofs.lemmas.Bool.{cases_eq, leb-false, true≢false, and_from, le-leb}
+use Rattle.std.proofs.lemmas.Bool.Decides.{eqb_tells}
 use Rattle.std.proofs.lemmas.Option.{same_Some}
 use Rattle.bus_register.specs.declared.kinds.Kind.TheVariants as kind
 use Rattle.bus_register.specs.declared.registers.Op.{Op}
@@ -12,7 +12,7 @@ use Rattle.bus_register.specs.Tables.{Beside, Agree, put, of_some}
 use Rattle.bus_register.specs.Proved.TableLaws.{put_here, put_beside, some_or_none}
 use Rattle.bus_register.specs.Protocol.{Protocol, Laws, inputs, outputs}
 use Rattle.bus_batch.specs.Batches.{Pending, next_of, frame_of}
-use Rattle.bus_batch.specs.declared.batches.Phase.TheVariants.{Open, Marking}
+use Rattle.bus_batch.specs.declared.batches.Phase.TheVariants.{Marking}
 use Rattle.bus_batch.specs.declared.messages.Mark.{Mark}
 use Rattle.bus_batch.specs.declared.messages.Mark.TheVariants as mark
 use Rattle.bus_batch.specs.Frames.{Frame, Leaves, frame_words, order_of, tenure_and_owner}
@@ -55,30 +55,22 @@ use Rattle.bus_world.proofs.Framing.{framed, entry_of, has_left, gone_for_good, 
 use Rattle.std.proofs.lemmas.List.{append-nil, map-append}
 use Rattle.bus_world.specs.Trails.{step_action}
 use Rattle.bus_world.proofs.Tying.{next_at, next_tenure, Tables, PageTies}
-use Rattle.bus_world.proofs.TableTrails.{IsPlain, plain_none, plain_put, plain_mark, plain_step, none_in}
+use Rattle.bus_world.proofs.TableTrails.{IsPlain, plain_none, plain_put, plain_mark, plain_step}
 use Rattle.bus_world.proofs.TurnTrails.{TiesOf, calm, begins, turn_tied, batch_tied}
 use Rattle.bus_world.specs.Headline.{Asked}
 use Rattle.bus_world.specs.Proved.KeptProtocols.{IsKeptProtocol}
 use Rattle.bus_world.proofs.Waiting.{waiting_at, waiting_of}
-use Rattle.bus_world.proofs.Asking.{turn_waiting, turn_frames, frames_later, own_asked}
+use Rattle.bus_world.proofs.Asking.{turn_waiting, turn_frames, frames_later, own_asked, open_no_marking}
 use Rattle.bus_world.proofs.PutLaws.{elected_waits, laid_waits, publish_puts, nothing_left}
 use Rattle.bus_world.proofs.HearTrails.{delivered_to, heads_to, silent_to}
 use Rattle.bus_world.proofs.CyclicProtocolHears.{AllHear, all_new, all_after, turn_hears, one_hears, told_in}
 use Rattle.bus_world.proofs.CyclicProtocolNotes.{sent_by, IsNoted, PutsNothing, noted_turn, noted_over, noted_put, noted_mark, steps_put_nothing, nothing_put}
 use Rattle.bus_world.proofs.CyclicProtocolWords.{Laid, put_is, laid_quiet, quiet_same, quiet_pin, quiet_reclaimer, laid_worked, laid_logged, laid_told, laid_taken, laid_given}
+use Rattle.bus_world.proofs.Places.{none_in}
 
 -- ---- what is no other
-resting_no_electing : {E : Type 0} (t : ℕ) (e : E) → phase.Resting ≡ phase.Electing t e → ⊥
-resting_no_electing t e h = cc
-
 resting_no_holding : {E : Type 0} (t : ℕ) (page : Page) (k : ℕ) (b : Bool) → ◌≡◌ {A = Phase E} phase.Resting (phase.Holding t page k b) → ⊥
 resting_no_holding t page k b h = cc
-
-holding_no_electing : {E : Type 0} (t : ℕ) (page : Page) (k : ℕ) (b : Bool) (u : ℕ) (e : E) → phase.Holding t page k b ≡ phase.Electing u e → ⊥
-holding_no_electing t page k b u e h = cc
-
-electing_is : {E : Type 0} (t u : ℕ) (e f : E) → phase.Electing t e ≡ phase.Electing u f → (t ≡ u) × (e ≡ f)
-electing_is t u e f h = (cc, cc)
 
 pinned_is : (t u : ℕ) → Pinned t ≡ Pinned u → t ≡ u
 pinned_is t u h = cc
@@ -88,6 +80,10 @@ announcing_is t u h = cc
 
 validating_is : (t u : ℕ) → Validating t ≡ Validating u → t ≡ u
 validating_is t u h = cc
+
+pub owner_of : (o : Option ℕ) → is_some o ≡ true → (u : ℕ) × (o ≡ Some u)
+owner_of None i = absurd (true≢false (sym i))
+owner_of (Some u) i = (u, refl)
 
 -- ---- what a holder's situation tells of its phase
 module _ {E : Type 0} (t : ℕ) (page : Page) (stored : ℕ) where
@@ -126,14 +122,9 @@ reclaimed_is s = elim (lt_tells s.scanned s.senders) [
   | inr a ↦ elim (lt_tells s.cleared s.width) [
     | inl b ↦ λ none. absurd (let bad = sym (ap (λ y. cond y (Some (Store record { 0 = s.row + s.cleared } 0)) None) b.0)
         ∙ sym (ap (λ y. cond y (Some (Load record { 0 = s.presences + s.scanned })) (cond (nat_lt s.cleared s.width) (Some (Store record { 0 = s.row + s.cleared } 0)) None)) a.0) ∙ none in cc)
-    | inr b ↦ λ none. both (nat_le s.senders s.scanned) (nat_le s.width s.cleared) (le_true s.senders s.scanned a.1) (le_true s.width s.cleared b.1)
+    | inr b ↦ λ none. and_from (nat_le s.senders s.scanned) (nat_le s.width s.cleared) (le-leb s.senders s.scanned a.1) (le-leb s.width s.cleared b.1)
   ]
-] where
-  le_true : (a b : ℕ) → a ≤ b → nat_le a b ≡ true
-  le_true a b l = elim (leb_tells a b) [ inl h ↦ h.0 | inr h ↦ absurd (let m = h.1 in omega arith) ]
-
-  both : (a b : Bool) → a ≡ true → b ≡ true → (a && b) ≡ true
-  both a b e f = ap (λ y. y && b) e ∙ f
+]
 
 -- a tenure whose next row was not used needs no reclamation
 no_reclaimer : (x : ReclamationSizes) (t : ℕ) → reclaimer_after x t ≡ None → t + 1 < x.rows
@@ -281,7 +272,7 @@ module _ {E : Type 0} (X : Election E) (P : Protocol E (Unit {0}) ℕ) (laws : L
                   (put_here p (Some (core_looked X c (y.reclamation.pins p) got)) y.senders ∙ ap Some c_now) [] nothing_put (sym (ap (waiting_at c) e.rests)) (λ m i. i);
               participants = participants_on (pin_fed (y.reclamation.pins p) got) (core_looked X c (y.reclamation.pins p) got) (subst (λ w. IsParticipant w (core_looked X c (y.reclamation.pins p) got)) (sym v_now) (subst (IsParticipant (Pinned t)) (sym c_now) record {
                 pinned = λ u i. (X.started c.layout.senders c.me c.layout.rounds (row_at c.layout t), ap (λ w. phase.Electing w (X.started c.layout.senders c.me c.layout.rounds (row_at c.layout t))) (pinned_is t u i));
-                electing = λ u f i. ap Pinned (electing_is t u (X.started c.layout.senders c.me c.layout.rounds (row_at c.layout t)) f i).0;
+                electing = λ u f i. ap Pinned (bus.same_electing t u (X.started c.layout.senders c.me c.layout.rounds (row_at c.layout t)) f i).0;
                 announcing = λ u i. absurd (elim i [ inl a ↦ cc | inr a ↦ cc ]);
               }));
               ready = ready';
@@ -358,7 +349,7 @@ module _ {E : Type 0} (X : Election E) (P : Protocol E (Unit {0}) ℕ) (laws : L
     -- a holder is in no election and enters none
     held_participant : (t : ℕ) (page : Page) (stored : ℕ) (published : Bool) → c.phase ≡ phase.Holding t page stored published → (c' : Core E) → ((u : ℕ) (e : E) → c'.phase ≡ phase.Electing u e → ⊥) → IsParticipant (y.reclamation.pins p) c'
     held_participant t page stored published holds c' out = record {
-      pinned = λ u i. absurd (let e = participant.pinned u i in holding_no_electing t page stored published u e.0 (sym holds ∙ e.1));
+      pinned = λ u i. absurd (let e = participant.pinned u i in bus.holding_apart t page stored published u e.0 (sym holds ∙ e.1));
       electing = λ u e i. absurd (out u e i);
       announcing = λ u i. absurd (resting_no_holding t page stored published (sym (participant.announcing u i).rests ∙ holds));
     }
@@ -389,7 +380,7 @@ module _ {E : Type 0} (X : Election E) (P : Protocol E (Unit {0}) ℕ) (laws : L
         away : y.reclamation.pins p ≡ Away
         away = elim (away_or_pinned (y.reclamation.pins p) free) [
           | inl e ↦ e
-          | inr i ↦ absurd (let e = participant.pinned i.0 i.1 in resting_no_electing i.0 e.0 (sym rests ∙ e.1))
+          | inr i ↦ absurd (let e = participant.pinned i.0 i.1 in bus.resting_apart i.0 e.0 (sym rests ∙ e.1))
         ]
 
         abbrev stage : ℕ
@@ -410,7 +401,7 @@ module _ {E : Type 0} (X : Election E) (P : Protocol E (Unit {0}) ℕ) (laws : L
         rested_participant : (v : Pin) (c' : Core E) → c'.phase ≡ phase.Resting → ((t : ℕ) → v ≡ Pinned t → ⊥) → ((t : ℕ) → (v ≡ Announcing t) ⊎ (v ≡ Validating t) → IsAnnouncing c' t) → IsParticipant v c'
         rested_participant v c' calm out enters = record {
           pinned = λ t i. absurd (out t i);
-          electing = λ t e i. absurd (resting_no_electing t e (sym calm ∙ i));
+          electing = λ t e i. absurd (bus.resting_apart t e (sym calm ∙ i));
           announcing = enters;
         }
 
@@ -575,7 +566,7 @@ module _ {E : Type 0} (X : Election E) (P : Protocol E (Unit {0}) ℕ) (laws : L
               (done_kept (Pinned t) (subst (λ v. Reached z (reclamation_with v) T) (sym (put_is p (Pinned t) y.reclamation.pins stands)) worked)
               (subst (IsParticipant (Pinned t)) (sym c_is) record {
                 pinned = λ u i. (later, ap (λ w. phase.Electing w later) (pinned_is t u i));
-                electing = λ u f i. ap Pinned (electing_is t u later f i).0;
+                electing = λ u f i. ap Pinned (bus.same_electing t u later f i).0;
                 announcing = λ u i. absurd (elim i [ inl a ↦ cc | inr a ↦ cc ]);
               }))
 
@@ -584,7 +575,7 @@ module _ {E : Type 0} (X : Election E) (P : Protocol E (Unit {0}) ℕ) (laws : L
           parts v_is rests = subst (λ v. HasKept H (done v) T done_actions) (sym v_is)
               (done_kept (Unpinning t) (Then (reclamation_with y.reclamation.pins) (reclamation_with (put p (Unpinning t) y.reclamation.pins)) T T worked (Parts (reclamation_with y.reclamation.pins) T p t stands)) record {
                 pinned = λ u i. absurd cc;
-                electing = λ u f i. absurd (resting_no_electing u f (sym rests ∙ i));
+                electing = λ u f i. absurd (bus.resting_apart u f (sym rests ∙ i));
                 announcing = λ u i. absurd (elim i [ inl a ↦ cc | inr a ↦ cc ]);
               })
 
@@ -649,7 +640,7 @@ module _ {E : Type 0} (X : Election E) (P : Protocol E (Unit {0}) ℕ) (laws : L
                 laid = laid_taken x rows y.reclamation T reclamation_keeps (put p (Unpinning t) y.reclamation.pins) V k.laid t open_now;
                 participants = participants_on (Unpinning t) taker record {
                   pinned = λ v i. absurd cc;
-                  electing = λ v f i. absurd (holding_no_electing t page.0 0 false v f (sym (ap (λ (d : Core E). d.phase) held) ∙ i));
+                  electing = λ v f i. absurd (bus.holding_apart t page.0 0 false v f (sym (ap (λ (d : Core E). d.phase) held) ∙ i));
                   announcing = λ v i. absurd (elim i [ inl a ↦ cc | inr a ↦ cc ]);
                 };
                 ready = λ v is none. let l = no_reclaimer z t none in let now = put_here 1 (2 * t + 1) y.reclamation.words in omega arith;
@@ -710,10 +701,10 @@ module _ {E : Type 0} (X : Election E) (P : Protocol E (Unit {0}) ℕ) (laws : L
                   (Then y.reclamation (record y.reclamation { words = put (log_from x rows + spot) number y.reclamation.words }) T T k.reached (Stores y.reclamation T (log_from x rows + spot) number (inr (omega arith))));
               sending = turn_on (StoresWord t page stored) at (put (log_at x + spot) number V) writer (changes_put (Store record { 0 = r } number) (log_at x + spot) number (sym spot_is) refl) refl;
               ties = tied_put (put (log_at x + spot) number V) writer (Stepped (Some t) kind.StoreLogWord (y.reclamation.words (log_from x rows + spot)) None answer ∷ []) (beside_rows (log_at x + spot) number (inr (omega arith))) (let a = held_next in omega arith)
-                  (λ u e i. absurd (holding_no_electing t page (stored + 1) false u e i)) (plain_step _ _ _ _ (λ i. cc));
+                  (λ u e i. absurd (bus.holding_apart t page (stored + 1) false u e i)) (plain_step _ _ _ _ (λ i. cc));
               notes = noted_as writer (Stepped (Some t) kind.StoreLogWord (y.reclamation.words (log_from x rows + spot)) None answer ∷ []) (steps_put_nothing (Some kind.StoreLogWord) (Some t) (y.reclamation.words (log_from x rows + spot)) None answer) (sym (ap (waiting_at c) (holds ∙ ap (phase.Holding t page stored) unpublished))) (λ m i. i);
               laid = laid_logged x rows y.reclamation pins_on V k.laid spot number two spot_low;
-              participants = participants_on (y.reclamation.pins p) writer (held_participant t page stored published holds writer (λ u e. holding_no_electing t page (stored + 1) false u e));
+              participants = participants_on (y.reclamation.pins p) writer (held_participant t page stored published holds writer (λ u e. bus.holding_apart t page (stored + 1) false u e));
               ready = λ u held none. k.ready u (sym (put_beside (log_from x rows + spot) number y.reclamation.words 1 (λ i. omega arith)) ∙ held) none;
             };
           }
@@ -731,7 +722,7 @@ module _ {E : Type 0} (X : Election E) (P : Protocol E (Unit {0}) ℕ) (laws : L
                 reached = subst (λ v. Reached z (record { words = put 0 n y.reclamation.words; pins = v; reclaimer = y.reclamation.reclaimer }) T) (sym pins_same)
                     (Then y.reclamation (record y.reclamation { words = put 0 n y.reclamation.words }) T T k.reached (Stores y.reclamation T 0 n (inl (omega arith))));
                 sending = turn_on (StoresLength t page stored) at (put 0 n V) c' (changes_put (Store record { 0 = 0 } n) 0 n refl refl) refl;
-                ties = tied_put (put 0 n V) c' (Stepped (Some t) kind.StoreLength (y.reclamation.words 0) None answer ∷ []) (beside_rows 0 n (inl (omega arith))) (let a = held_next in omega arith) (λ u e i. absurd (holding_no_electing t page stored true u e i)) (plain_step _ _ _ _ (λ i. cc));
+                ties = tied_put (put 0 n V) c' (Stepped (Some t) kind.StoreLength (y.reclamation.words 0) None answer ∷ []) (beside_rows 0 n (inl (omega arith))) (let a = held_next in omega arith) (λ u e i. absurd (bus.holding_apart t page stored true u e i)) (plain_step _ _ _ _ (λ i. cc));
                 notes = noted_turn y.senders frames D k.notes p c old (put p (Some c') y.senders) (put_beside p (Some c') y.senders) c' (put_here p (Some c') y.senders) (frames_after X c (StoresLength t page stored) frames)
                     (Stepped (Some t) kind.StoreLength (y.reclamation.words 0) None answer ∷ []) (steps_put_nothing (Some kind.StoreLength) (Some t) (y.reclamation.words 0) None answer)
                     (publish_puts X y.senders (put p (Some c') y.senders) frames p (put_beside p (Some c') y.senders) c old part.queue part.sender t page stored (holds ∙ ap (phase.Holding t page stored) unpublished) (put_here p (Some c') y.senders))
@@ -740,7 +731,7 @@ module _ {E : Type 0} (X : Election E) (P : Protocol E (Unit {0}) ℕ) (laws : L
                     (frames_later y.senders frames D k.notes.askings p c old (Stepped (Some t) kind.StoreLength (y.reclamation.words 0) None answer ∷ []))
                     (λ u m i. subst (λ q. Asked m (actions_with p (Stepped (Some t) kind.StoreLength (y.reclamation.words 0) None answer ∷ []) D q)) (sym part.sender) (own_asked y.senders frames D k.notes.askings p c old (Stepped (Some t) kind.StoreLength (y.reclamation.words 0) None answer ∷ []) m i)));
                 laid = laid_told x rows y.reclamation pins_on V k.laid 0 n;
-                participants = participants_on (y.reclamation.pins p) c' (held_participant t page stored published holds c' (λ u e. holding_no_electing t page stored true u e));
+                participants = participants_on (y.reclamation.pins p) c' (held_participant t page stored published holds c' (λ u e. bus.holding_apart t page stored true u e));
                 ready = λ u held none. k.ready u (sym (put_beside 0 n y.reclamation.words 1 (λ i. omega arith)) ∙ held) none;
               };
             }
@@ -758,10 +749,10 @@ module _ {E : Type 0} (X : Election E) (P : Protocol E (Unit {0}) ℕ) (laws : L
                 reached = subst (λ v. Reached z (record { words = put 1 (2 * t + 2) y.reclamation.words; pins = v; reclaimer = None }) T) (sym pins_same)
                     (Then y.reclamation (record y.reclamation { words = put 1 (2 * t + 2) y.reclamation.words; reclaimer = None }) T T k.reached (GaveBack y.reclamation T t stage_held is_ready));
                 sending = turn_on (GivesBack t page reason) at (put 1 (2 * t + 2) V) c' (changes_put (Store record { 0 = 1 } (2 * t + 2)) 1 (2 * t + 2) refl refl) refl;
-                ties = tied_put (put 1 (2 * t + 2) V) c' (Stepped (Some t) kind.GivePageBack (y.reclamation.words 1) None answer ∷ []) (beside_rows 1 (2 * t + 2) (inl (omega arith))) (let a = held_next in omega arith) (λ u e i. absurd (resting_no_electing u e i)) (plain_step _ _ _ _ (λ i. cc));
+                ties = tied_put (put 1 (2 * t + 2) V) c' (Stepped (Some t) kind.GivePageBack (y.reclamation.words 1) None answer ∷ []) (beside_rows 1 (2 * t + 2) (inl (omega arith))) (let a = held_next in omega arith) (λ u e i. absurd (bus.resting_apart u e i)) (plain_step _ _ _ _ (λ i. cc));
                 notes = noted_as c' (Stepped (Some t) kind.GivePageBack (y.reclamation.words 1) None answer ∷ []) (steps_put_nothing (Some kind.GivePageBack) (Some t) (y.reclamation.words 1) None answer) (gives_waits t page stored c published page.ended (has_room c page) (nat_lt stored (frame_len c)) holds reason (sym (ap (situation_at X c) holds) ∙ at)) (λ m. turn_waiting X c m (GivesBack t page reason) y.home (y.reclamation.words 1) word);
                 laid = laid_given x rows y.reclamation T reclamation_keeps pins_on V k.laid t stage_held (λ j low. (safe z two y.reclamation T reclamation_keeps).clean t j stage_held is_ready low);
-                participants = participants_on (y.reclamation.pins p) c' (held_participant t page stored published holds c' (λ u e. resting_no_electing u e));
+                participants = participants_on (y.reclamation.pins p) c' (held_participant t page stored published holds c' (λ u e. bus.resting_apart u e));
                 ready = λ u held none. absurd (let now = put_here 1 (2 * t + 2) y.reclamation.words in omega arith);
               };
             }
@@ -778,10 +769,6 @@ module _ {E : Type 0} (X : Election E) (P : Protocol E (Unit {0}) ℕ) (laws : L
       goes_kept LooksAtStage at protocol_reclaimed = let rests = tells X c LooksAtStage at in looks_kept rests (sym (ap (situation_at X c) rests) ∙ at)
       goes_kept (Elects t e) at protocol_reclaimed = let f = tells X c (Elects t e) at in elects_kept t e at f.0 f.1
       goes_kept (TakesPage t) at protocol_reclaimed = let f = tells X c (TakesPage t) at in let o = owner_of (X.owner f.0) f.2 in takes_kept t f.0 at f.1 o.0 o.1
-        where
-          owner_of : (o : Option ℕ) → is_some o ≡ true → (u : ℕ) × (o ≡ Some u)
-          owner_of None i = absurd (true≢false (sym i))
-          owner_of (Some u) i = (u, refl)
       goes_kept (AwaitsPage t) at protocol_reclaimed = absurd (subst (Fits (slice_index y.bases) V frames c) (tells X c (AwaitsPage t) at) part.fits)
       goes_kept (StoresWord t page stored) at protocol_reclaimed = let f = tells X c (StoresWord t page stored) at in stores_kept t page stored f.0 f.1 (stores_unpublished t page stored f.0 page.ended (has_room c page) (nat_lt stored (frame_len c)) (sym (ap (situation_at X c) f.1) ∙ at)) at
       goes_kept (StoresLength t page stored) at protocol_reclaimed = let f = tells X c (StoresLength t page stored) at in tells_kept t page stored f.0 f.1 (tells_unpublished t page stored f.0 page.ended (has_room c page) (nat_lt stored (frame_len c)) (sym (ap (situation_at X c) f.1) ∙ at)) at
@@ -887,12 +874,6 @@ module _ {E : Type 0} (X : Election E) (P : Protocol E (Unit {0}) ℕ) (laws : L
       accepted_ties (Asks m) = by_can (can_close c.queue) (record c.queue { phase = Marking m }) (HasMarked m) (plain_mark m)
 
   -- ---- a new protocol
-  no_owner : (t s : ℕ) → slice_get [] t ≡ Some s → ⊥
-  no_owner t s e = cc
-
-  open_apart : (m : Mark) → Open ≡ Marking m → ⊥
-  open_apart m e = cc
-
   nothing_waits : (o : Option (Core E)) → ((c : Core E) → o ≡ Some c → waiting_of (Some c) ≡ []) → [] ≡ waiting_of o
   nothing_waits None none = refl
   nothing_waits (Some c) none = sym (none c refl)
@@ -902,7 +883,7 @@ module _ {E : Type 0} (X : Election E) (P : Protocol E (Unit {0}) ℕ) (laws : L
     elections = λ t p. None;
     kept = λ t l. laws.fresh x.senders (2 + t * P.width x.senders) (λ r. 0) (λ r u v. refl);
     ahead = λ p c t e l. refl;
-    electing = λ p c t e i a. absurd (resting_no_electing t e (sym (ap (λ (d : Core E). d.phase) (new.senders p c i).1) ∙ a));
+    electing = λ p c t e i a. absurd (bus.resting_apart t e (sym (ap (λ (d : Core E). d.phase) (new.senders p c i).1) ∙ a));
     announced = λ t s e. absurd cc;
     elected = λ t s o e. absurd cc;
     only_elected = λ t s o a. absurd (none_in a.place _ a.at);
@@ -920,16 +901,16 @@ module _ {E : Type 0} (X : Election E) (P : Protocol E (Unit {0}) ℕ) (laws : L
       laid = subst (λ w. Laid x rows w (λ r. 0)) (sym new.reclamation) record { length = refl; stage = refl; log = λ j low. refl; row = λ t j room low live. refl; late = λ t j late room low. refl };
       ties = record {
         tables = start_tables y new;
-        takers = subst (λ w. PageTies w no_actions) (sym new.owners) record { took = λ t s e. absurd (no_owner t s e); elected = λ t s e. absurd (no_owner t s e); only = λ t s i a. absurd (none_in i _ a.at); once = λ t s i j a b. absurd (none_in i _ a.at) };
+        takers = subst (λ w. PageTies w no_actions) (sym new.owners) record { took = λ t s e. absurd (none_in t s e); elected = λ t s e. absurd (none_in t s e); only = λ t s i a. absurd (none_in i _ a.at); once = λ t s i j a b. absurd (none_in i _ a.at) };
       };
       notes = record {
         put = λ s. nothing_waits (y.senders s) (λ c i. ap (λ (d : Core E). waiting_of (Some d)) (new.senders s c i).1);
         counted = λ s place number bytes e. absurd (none_in place _ e);
-        askings = record { waiting = λ q c m i waits. absurd (open_apart m (sym (ap (λ (d : Core E). d.queue.phase) (new.senders q c i).1) ∙ waits)); logged = λ j f m at says. absurd (none_in j f at) };
+        askings = record { waiting = λ q c m i waits. absurd (open_no_marking m (sym (ap (λ (d : Core E). d.queue.phase) (new.senders q c i).1) ∙ waits)); logged = λ j f m at says. absurd (none_in j f at) };
       };
       participants = λ p c e. let s = new.senders p c e in subst (λ w. IsParticipant (w.pins p) c) (sym new.reclamation) (subst (IsParticipant Away) (sym s.1) record {
         pinned = λ t j. absurd cc;
-        electing = λ t u j. absurd (resting_no_electing t u j);
+        electing = λ t u j. absurd (bus.resting_apart t u j);
         announcing = λ t j. absurd (elim j [ inl b ↦ cc | inr b ↦ cc ]);
       });
       ready = λ t held none. absurd (let bad : 0 ≡ 2 * t + 1 = ap (λ (w : Reclamation). w.words 1) (sym new.reclamation) ∙ held in omega arith);

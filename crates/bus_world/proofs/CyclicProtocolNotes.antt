@@ -22,12 +22,12 @@ use Rattle.bus_world.specs.World.{is_open, can_put, can_close}
 use Rattle.bus_world.specs.CyclicProtocols.{actions_with}
 use Rattle.bus_world.proofs.Accepting.{idle_rests, not_busy}
 use Rattle.bus_world.proofs.Asking.{Askings, askings_on, one_waits, frames_later, own_asked, own_asks}
-use Rattle.bus_world.proofs.EventTrails.{numbered_more, only_action, same_number, marked_apart, stepped_apart}
-use Rattle.bus_world.proofs.TableTrails.{none_in}
+use Rattle.bus_world.proofs.EventTrails.{numbered_more, same_number, marked_apart, stepped_apart}
 use Rattle.bus_world.specs.Trails.{step_action}
 use Rattle.bus_tenure.specs.declared.turns.Turn.{Turn as Answered}
 use Rattle.bus_register.specs.declared.kinds.Kind.{Kind}
 use Rattle.bus_world.proofs.Tying.{AreNumbered}
+use Rattle.bus_world.proofs.Places.{none_in, only_one}
 
 abbrev pub sent_by : List Frame → ℕ → List (List ℕ)
 sent_by frames q = map (λ (i : Item). i.message) (of_sender q (order_of frames))
@@ -93,7 +93,7 @@ module _ {base : ℕ → ℕ} {E : Type 0} (senders : ℕ → Option (Core E)) (
       ];
       counted = λ q. elim (cases_eq q p) [
         | inl e ↦ subst (AreNumbered (base q)) (sym (noted_own ds q e)) (numbered_more (base q) (D q) ds (n.counted q) (λ j m b at.
-            let one = only_action (HasPut (next_of c.queue) bytes) j (HasPut m b) at in
+            let one = only_one (HasPut (next_of c.queue) bytes) j (HasPut m b) at in
             (one.0, sym (same_number (next_of c.queue) m bytes b one.1) ∙ number ∙ sym (ap (λ z. base z + length (puts (D z))) e))))
         | inr ne ↦ subst (AreNumbered (base q)) (sym (noted_other ds q ne)) (n.counted q)
       ];
@@ -135,7 +135,7 @@ module _ {base : ℕ → ℕ} {E : Type 0} (senders : ℕ → Option (Core E)) (
         | inr ne ↦ ap puts (noted_other (HasMarked m ∷ []) q ne) ∙ n.put q ∙ sym (ap (λ z. sent_by frames q ++ waiting_of z) (put_beside p (Some c') senders q ne))
       ];
       counted = λ q. elim (cases_eq q p) [
-        | inl e ↦ subst (AreNumbered (base q)) (sym (noted_own (HasMarked m ∷ []) q e)) (numbered_more (base q) (D q) (HasMarked m ∷ []) (n.counted q) (λ j k b at. absurd (marked_apart m k b (only_action (HasMarked m) j (HasPut k b) at).1)))
+        | inl e ↦ subst (AreNumbered (base q)) (sym (noted_own (HasMarked m ∷ []) q e)) (numbered_more (base q) (D q) (HasMarked m ∷ []) (n.counted q) (λ j k b at. absurd (marked_apart m k b (only_one (HasMarked m) j (HasPut k b) at).1)))
         | inr ne ↦ subst (AreNumbered (base q)) (sym (noted_other (HasMarked m ∷ []) q ne)) (n.counted q)
       ];
       askings = askings_on senders frames D n.askings p c old (HasMarked m ∷ []) later (put_beside p (Some c') senders) c' (put_here p (Some c') senders) frames (λ k e. own_asks senders frames D n.askings p c old (HasMarked m ∷ []) k (one_waits m k e)) (frames_later senders frames D n.askings p c old (HasMarked m ∷ []));
@@ -154,7 +154,7 @@ module _ {base : ℕ → ℕ} {E : Type 0} (senders : ℕ → Option (Core E)) (
 -- a turn's actions are steps
 pub steps_put_nothing : (k : Option Kind) (tenure : Option ℕ) (got : ℕ) (chose : Option ℕ) (a : Answered) → PutsNothing (step_action k tenure got chose a)
 steps_put_nothing None tenure got chose a = record { none = refl; never = λ j n bytes e. none_in j _ e }
-steps_put_nothing (Some k) tenure got chose a = record { none = refl; never = λ j n bytes e. stepped_apart tenure k got chose a n bytes (only_action _ j _ e).1 }
+steps_put_nothing (Some k) tenure got chose a = record { none = refl; never = λ j n bytes e. stepped_apart tenure k got chose a n bytes (only_one _ j _ e).1 }
 
 pub nothing_put : PutsNothing []
 nothing_put = record { none = refl; never = λ j n bytes e. none_in j _ e }

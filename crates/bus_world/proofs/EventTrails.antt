@@ -1,11 +1,11 @@
 -- Every event keeps what ties the trails to the bus, and the promise follows from it.
-use Rattle.std.proofs.Common.{◌≡◌, ℕ, zero, suc, ◌+◌, ◌*◌, ◌<◌, ◌≤◌, Bool, true, false, cond, ◌&&◌, ◌==◌, nat_lt, nat_le, Option, Some, None, is_some, inl, inr, List, [], ◌∷◌, ◌++◌, length, map, take, slice_get, slice_index, slice_set, arith, refl, sym, ◌∙◌, ap, subst}
+use Rattle.std.proofs.Common.{◌≡◌, ℕ, ◌+◌, ◌*◌, ◌<◌, ◌≤◌, Bool, true, false, cond, ◌&&◌, ◌==◌, nat_lt, nat_le, Option, Some, None, is_some, inl, inr, List, [], ◌∷◌, ◌++◌, length, map, take, slice_get, slice_index, slice_set, arith, refl, sym, ◌∙◌, ap, subst}
 use mathlib.Core.Path.{fun_ext}
 use Rattle.std.proofs.lemmas.Bool.Decides.{eqb_tells}
 use Rattle.std.proofs.lemmas.Grind.{flat_map-append}
 use Rattle.std.proofs.lemmas.List.{append-nil, length-append, length-map, take_at, take-append-le}
 use Rattle.std.proofs.Math.Seq.{take-nil}
-use Rattle.std.proofs.lemmas.Option.{same_Some, slice_get_within}
+use Rattle.std.proofs.lemmas.Option.{same_Some, slice_get_within, none-some}
 use Rattle.bus_register.specs.declared.kinds.Kind.{Kind}
 use Rattle.bus_register.specs.declared.kinds.Kind.TheVariants as kind
 use Rattle.bus_register.specs.Protocol.{Protocol, Laws, inputs, outputs}
@@ -20,7 +20,7 @@ use Rattle.bus_batch.specs.Frames.{Frame, Leaves, AreFrames, log_words, log_piec
 use Rattle.bus_deliverylog.specs.Orders.{of_sender}
 use Rattle.bus_deliverylog.specs.Receiving.{Receiving}
 use Rattle.bus_deliverylog.specs.declared.receiving.RecvTurn.{RecvTurn}
-use Rattle.bus_tenure.specs.Core.{Core, Election, Layout, log_at, words_of}
+use Rattle.bus_tenure.specs.Core.{Core, Election, Layout}
 use Rattle.bus_tenure.specs.Situations.{kind_at, situation_of, op_at, answer_at}
 use Rattle.bus_tenure.specs.declared.turns.Turn.{Turn as Answered}
 use Rattle.bus_tenure.specs.declared.phases.Phase.TheVariants as phase
@@ -32,17 +32,17 @@ use Rattle.bus_ownerbits.specs.declared.stages.Stage.TheVariants as stage
 use Rattle.bus_ownerbits.specs.Election.{kind_at as election_kind_at}
 use Rattle.bus_tenure.specs.declared.phases.Phase.{Phase as SenderPhase}
 use Rattle.bus_batch.specs.Batches.{Pending, CanPut}
-use Rattle.bus_batch.specs.declared.batches.Phase.TheVariants.{Open}
 use Rattle.bus_batch.proofs.FrameLaws.{same_log}
 use Rattle.std.proofs.lemmas.List.{map-append}
 use Rattle.std.proofs.lemmas.Bool.Decides.{nat_tests}
+use Rattle.std.proofs.lemmas.Bool.{le-leb}
 use Rattle.bus_world.specs.Bus.{IsLayout, Fits}
 use Rattle.bus_world.proofs.FrameOwners.{owner_took, rise}
-use Rattle.bus_world.proofs.Beginning.{zeros}
+use Rattle.bus_world.proofs.Beginning.{words_zero}
 use Rattle.bus_world.proofs.BusLaws as bus
 use Rattle.bus_world.specs.Headline.{Action, HasPut, HasMarked, Stepped, puts, Took, Asked, order_given, IsPrefix, Promises}
 use Rattle.bus_world.specs.Log.{next_number, sent_count}
-use Rattle.bus_world.proofs.LogLaws.{length-read}
+use Rattle.bus_world.proofs.LogLaws.{length-logged}
 use Rattle.bus_world.specs.Turning.{Side, side_after, core_after, number_found}
 use Rattle.bus_world.specs.World.{Bus, Event, Put, Ask, Turn, Recv, Stop, going, IsEvent, Happens, SenderDoes, with_sender, can_put, can_close, put_in, mark_in, IsNew, is_open}
 use Rattle.bus_world.proofs.TurningLaws.{side_of}
@@ -56,26 +56,13 @@ use Rattle.bus_world.specs.Proved.Invariants.{LawfulBus, given_at}
 use Rattle.bus_world.proofs.Stopping.{is_there}
 use Rattle.bus_world.proofs.Waiting.{frames_after, put_by, waiting_of, waiting_at, accepted, accepted_by, event_frames, frames_by}
 use Rattle.bus_world.proofs.Tying.{AreNumbered, Hears, Tied}
-use Rattle.bus_world.proofs.Places.{got_split}
+use Rattle.bus_world.proofs.Places.{got_split, none_in, only_one}
 use Rattle.bus_world.proofs.TableTrails.{plain_put, plain_mark}
 use Rattle.bus_world.proofs.TurnTrails.{Ties, turn_ties, batch_ties}
 use Rattle.bus_world.proofs.HearTrails.{IsTold, hears_later, hears_more, delivered_to, heads_to, silent_to}
-use Rattle.bus_world.proofs.Asking.{Askings, still_asked, askings_after, one_waits, frames_later, own_asked, own_asks, turn_waiting, turn_frames}
+use Rattle.bus_world.proofs.Asking.{Askings, still_asked, askings_after, one_waits, frames_later, own_asked, own_asks, turn_waiting, turn_frames, open_no_marking}
 use Rattle.bus_world.proofs.PutLaws.{nothing_left}
 use Rattle.bus_world.proofs.Framing.{framed, entry_of, has_left, gone_for_good, last_frame}
-
-open_apart : (m : Mark) → Open ≡ Marking m → ⊥
-open_apart m e = cc
-
-none_some : {A : Type 0} (v : A) → ◌≡◌ {A = Option A} None (Some v) → ⊥
-none_some v e = cc
-
-none_in : {A : Type 0} (i : ℕ) (x : A) → slice_get [] i ≡ Some x → ⊥
-none_in i x e = cc
-
-pub only_action : (d : Action) (i : ℕ) (x : Action) → slice_get (d ∷ []) i ≡ Some x → (i ≡ 0) × (d ≡ x)
-only_action d zero x e = (refl, same_Some _ _ e)
-only_action d (suc i) x e = absurd (none_in i x e)
 
 pub same_number : (n m : ℕ) (xs ys : List ℕ) → HasPut n xs ≡ HasPut m ys → n ≡ m
 same_number n m xs ys e = cc
@@ -102,16 +89,13 @@ pub step_puts : (k : Option Kind) (tn : Option ℕ) (got : ℕ) (ch : Option ℕ
 step_puts None tn got ch a = refl
 step_puts (Some k) tn got ch a = refl
 
-within : (len most : ℕ) → len ≤ most → nat_le len most ≡ true
-within len most l = grind (arith, nat_tests)
-
 below_most : (len most : ℕ) → len < most → nat_lt len most ≡ true
 below_most len most l = grind (arith, nat_tests)
 
 pub put_taken : (q : Pending) (len : ℕ) → CanPut q len → can_put q len ≡ true
 put_taken q len can =
     ap (λ z. is_open z && (cond q.busy false true && (nat_le len 56 && nat_lt (length q.messages) 16))) can.is_open ∙ ap (λ z. cond z false true && (nat_le len 56 && nat_lt (length q.messages) 16)) can.idle
-    ∙ ap (λ z. z && nat_lt (length q.messages) 16) (within len 56 can.short) ∙ below_most (length q.messages) 16 can.room
+    ∙ ap (λ z. z && nat_lt (length q.messages) 16) (le-leb len 56 can.short) ∙ below_most (length q.messages) 16 can.room
 
 module _ {E : Type 0} (X : Election E) where
   put_puts_at : (t : Bool) (o : Option (Core E)) (bytes : List ℕ) (n : ℕ) → PutGives o (length bytes) n → puts (cond t (HasPut n bytes ∷ []) []) ≡ cond t (accepted_by o bytes) []
@@ -223,7 +207,7 @@ module _ (bases : List ℕ) {E : Type 0} (X : Election E) (P : Protocol E (Unit 
     below r v i =
         let own = (h.keeps.receiving r v i).receives in
         let log = h.keeps.sending.log in
-        let size : length (log_words frames) ≡ slice_index b.side.words 0 = sym (ap length log.words_are) ∙ length-read (slice_index b.side.words) (log_at x) (slice_index b.side.words 0) in
+        let size = length-logged log in
         let a = own.place_below in let d = own.known_below in omega arith
 
     nobody_hears : b'.receivers ≡ b.receivers → Heard (frames ++ more) b'.receivers (λ r. A r ++ [])
@@ -245,7 +229,7 @@ module _ (bases : List ℕ) {E : Type 0} (X : Election E) (P : Protocol E (Unit 
             subst (λ t. Hears (frames ++ more) u (A r ++ cond t (w.1 ∷ []) [])) (sym y.0) (subst (Hears (frames ++ more) u) (sym (append-nil (A r))) (hears_later frames more u (A r) (below r u was) (H.each r u was)))
       ];
       silent = λ r j. elim (eqb_tells r q) [
-        | inl y ↦ absurd (none_some w.0 (sym j ∙ ap (slice_get b'.receivers) y.1 ∙ ap (λ z. slice_get z q) w.3 ∙ get_set_same b.receivers q w.0 there))
+        | inl y ↦ absurd (none-some w.0 (sym j ∙ ap (slice_get b'.receivers) y.1 ∙ ap (λ z. slice_get z q) w.3 ∙ get_set_same b.receivers q w.0 there))
         | inr y ↦ ap (λ t. A r ++ cond t (w.1 ∷ []) []) y.0 ∙ append-nil (A r) ∙ H.silent r (sym (get_set_other b.receivers q w.0 r y.1) ∙ ap (λ z. slice_get z r) (sym w.3) ∙ j)
       ];
     } where
@@ -257,7 +241,7 @@ module _ (bases : List ℕ) {E : Type 0} (X : Election E) (P : Protocol E (Unit 
       next_below j =
           let own = (lawful.keeps.receiving q w.0 j).receives in
           let log = h.keeps.sending.log in
-          let size : length (log_words frames) ≡ slice_index b.side.words 0 = sym (ap length log.words_are) ∙ length-read (slice_index b.side.words) (log_at x) (slice_index b.side.words 0) in
+          let size = length-logged log in
           let same : slice_index b'.side.words 0 ≡ slice_index b.side.words 0 = ap (λ (z : Side E). slice_index z.words 0) side in
           let a = own.place_below in let d = own.known_below in omega arith
 
@@ -296,20 +280,20 @@ module _ (bases : List ℕ) {E : Type 0} (X : Election E) (P : Protocol E (Unit 
     numbers : (b' : Bus E) (e : Event) (a : Answer) → Answers X b e a b' → (q j n : ℕ) (bytes : List ℕ) → slice_get (actions_of X b e a q) j ≡ Some (HasPut n bytes) → (j ≡ 0) × (n ≡ slice_index bases q + length (put_by b frames q))
     numbers b' (Put s bytes') a w q j n bytes e = elim (eqb_tells q s) [
       | inl y ↦
-          let one = only_action (HasPut w.0 bytes') j _ (ap (λ t. slice_get (put_actions bytes' t) j) (sym w.2) ∙ ap (λ t. slice_get (cond t (put_actions bytes' a) []) j) (sym y.0) ∙ e) in
+          let one = only_one (HasPut w.0 bytes') j _ (ap (λ t. slice_get (put_actions bytes' t) j) (sym w.2) ∙ ap (λ t. slice_get (cond t (put_actions bytes' a) []) j) (sym y.0) ∙ e) in
           (one.0, sym (same_number _ _ _ _ one.1) ∙ subst (λ z. w.0 ≡ slice_index bases z + length (put_by b frames z)) (sym y.1) (put_number s (going b s) refl (length bytes') w.0 w.1))
       | inr y ↦ absurd (none_in j _ (ap (λ t. slice_get (cond t (put_actions bytes' a) []) j) (sym y.0) ∙ e))
     ]
     numbers b' (Ask s m) a w q j n bytes e = absurd (by_test (q == s) (ap (λ t. slice_get (cond (q == s) t []) j) (sym (ap mark_actions w.1 ∙ mark_adds m)) ∙ e))
       where
         by_test : (t : Bool) → slice_get (cond t (HasMarked m ∷ []) []) j ≡ Some (HasPut n bytes) → ⊥
-        by_test true f = marked_apart m n bytes (only_action (HasMarked m) j _ f).1
+        by_test true f = marked_apart m n bytes (only_one (HasMarked m) j _ f).1
         by_test false f = none_in j _ f
     numbers b' (Turn s word) a w q j n bytes e = absurd (turning (q == s) (going b s) w e)
       where
         by_kind : (k : Option Kind) (tn : Option ℕ) (got : ℕ) (ch : Option ℕ) (t : Answered) → slice_get (step_action k tn got ch t) j ≡ Some (HasPut n bytes) → ⊥
         by_kind None tn got ch t f = none_in j _ f
-        by_kind (Some k) tn got ch t f = stepped_apart tn k got ch t n bytes (only_action (Stepped tn k got ch t) j _ f).1
+        by_kind (Some k) tn got ch t f = stepped_apart tn k got ch t n bytes (only_one (Stepped tn k got ch t) j _ f).1
 
         turning : (t : Bool) (o : Option (Core E)) → TurnAnswers X b.side.words o word a → slice_get (cond t (turning_actions X b.side.words o word a) []) j ≡ Some (HasPut n bytes) → ⊥
         turning t None told f = absurd told
@@ -361,9 +345,6 @@ module _ (bases : List ℕ) {E : Type 0} (X : Election E) (P : Protocol E (Unit 
 
   -- ---- a new bus
   module _ (b : Bus E) (new : IsNew bases x b) where
-    zero_at : (r : ℕ) → slice_index b.side.words r ≡ 0
-    zero_at r = ap (λ z. slice_index z r) new.words ∙ zeros (words_of x) r
-
     new_puts : (s : ℕ) → put_by b [] s ≡ []
     new_puts s = waiting_new (slice_get b.side.senders s) refl
       where
@@ -378,11 +359,11 @@ module _ (bases : List ℕ) {E : Type 0} (X : Election E) (P : Protocol E (Unit 
       tied = record {
         tables = record {
           elections = λ t p. None;
-          kept = λ t l. let apart = row_within t x.rows (P.width x.senders) l in laws.fresh x.senders (2 + t * P.width x.senders) (slice_index b.side.words) (λ r u v. zero_at r);
+          kept = λ t l. let apart = row_within t x.rows (P.width x.senders) l in laws.fresh x.senders (2 + t * P.width x.senders) (slice_index b.side.words) (λ r u v. words_zero b new r);
           ahead = λ p c t e l. refl;
           electing = λ p c t e i j. absurd (bus.resting_apart t e (sym (ap (λ (z : Core E). z.phase) (new.senders p c i).1) ∙ j));
-          announced = λ t s e. absurd (none_some tt e);
-          elected = λ t s o e. absurd (none_some o e);
+          announced = λ t s e. absurd (none-some tt e);
+          elected = λ t s o e. absurd (none-some o e);
           only_elected = λ t s o a. absurd (none_in a.place _ a.at);
         };
         takers = record {
@@ -398,7 +379,7 @@ module _ (bases : List ℕ) {E : Type 0} (X : Election E) (P : Protocol E (Unit 
             let nothing : take v.place (log_pieces []) ≡ [] = take-nil v.place in
             record { given_is = ap order_in (sym nothing); heads_are = ap owners_in (sym nothing); ended = λ e. absurd (let z = sym n.6 ∙ e in cc); going = λ e. refl; silent = λ j k a e l f. absurd (none_in j _ e) };
         silent = λ r i. refl;
-        askings = record { waiting = λ q c m i waits. absurd (open_apart m (ap (λ (z : Core E). z.queue.phase) (sym (new.senders q c i).1) ∙ waits)); logged = λ j f m at says. absurd (none_in j f at) };
+        askings = record { waiting = λ q c m i waits. absurd (open_no_marking m (ap (λ (z : Core E). z.queue.phase) (sym (new.senders q c i).1) ∙ waits)); logged = λ j f m at says. absurd (none_in j f at) };
       };
     }
 

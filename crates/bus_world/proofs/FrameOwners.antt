@@ -4,7 +4,7 @@ use Rattle.std.proofs.lemmas.Option.{same_Some}
 use Rattle.bus_register.specs.declared.registers.SenderNo.{SenderNo}
 use Rattle.bus_batch.specs.Frames.{Frame, AreFramesFrom, tenure_and_owner}
 use Rattle.bus_world.specs.Bus.{AreOwned}
-use Rattle.bus_world.proofs.TableTrails.{none_in}
+use Rattle.bus_world.proofs.Places.{none_in}
 
 pub owner_took : (owners : List ℕ) (fs : List Frame) → AreOwned owners fs → (j t : ℕ) (o : SenderNo) → slice_get (map tenure_and_owner fs) j ≡ Some (t, o) → slice_get owners t ≡ Some o.0
 owner_took owners [] a j t o e = absurd (none_in j (t, o) e)

@@ -1,8 +1,8 @@
 -- The frames of a log, as owners and items that belong to each other.
-use Rattle.std.proofs.Common.{◌≡◌, ◌≢◌, ℕ, zero, suc, ◌+◌, ◌<◌, Bool, true, false, inl, inr, List, [], ◌∷◌, ◌++◌, get_or, map, Some, slice_get, arith, refl, sym, ◌∙◌, ap, subst}
+use Rattle.std.proofs.Common.{◌≡◌, ◌≢◌, ℕ, zero, suc, ◌+◌, ◌<◌, true, false, inl, inr, List, [], ◌∷◌, ◌++◌, get_or, map, Some, slice_get, arith, refl, sym, ◌∙◌, ap, subst}
 use Rattle.std.specs.Prelude.{All, ◌||◌}
 use Rattle.std.specs.List.{list_any}
-use Rattle.std.proofs.lemmas.Bool.{eq-eqb, false≢true}
+use Rattle.std.proofs.lemmas.Bool.{eq-eqb, false≢true, or_right}
 use Rattle.std.proofs.lemmas.Grind.{flat_map-append}
 use Rattle.std.proofs.lemmas.List.{length-append, length-map, map-append, get_or_append_left}
 use Rattle.std.proofs.lemmas.Option.{same_Some, slice_get_within, get_or_from_slice_get}
@@ -15,7 +15,8 @@ use Rattle.bus_batch.proofs.PieceLaws.{order_in-log}
 use Rattle.bus_deliverylog.specs.Orders.{IsPrefixOfOrder}
 use Rattle.bus_deliverylog.proofs.PrefixLaws.{order_in-prefix}
 use Rattle.bus_world.specs.Headline.{AreFramed, Nothing, TheEnd, Batch, LastOf, IsPrefix}
-use Rattle.bus_world.proofs.Places.{got_split}
+use Rattle.bus_world.proofs.Places.{got_split, none_in}
+use Rattle.bus_batch.specs.declared.messages.Item.{Item}
 
 own_items : (o : SenderNo) (ms : List Numbered) → All (λ i. i.sender ≡ o) (map (item_of o) ms)
 own_items o ms = All-map (λ i. i.sender ≡ o) (item_of o) ms (λ k d l. refl)
@@ -45,15 +46,12 @@ pub record IsOf (fs : List Frame) (e : Entry) : Type 0 where
   -- a leave mark's frame says that alone
   pub left : (s : SenderNo) → e ≡ Leaves s → frame.body ≡ Marked mark.Leave
 
-none_in : {A : Type 0} (i : ℕ) (x : A) → slice_get [] i ≡ Some x → ⊥
-none_in i x e = cc
-
 -- of a frame that entry is its owner's, and where it is a leave mark it is the only one
 record IsEntryOf (o : SenderNo) (b : Body) (k : ℕ) (e : Entry) : Type 0 where
   own : sender_of e ≡ o
   left : (s : SenderNo) → e ≡ Leaves s → b ≡ Marked mark.Leave
 
-says_apart : (i : _) (s : SenderNo) → Says i ≡ Leaves s → ⊥
+pub says_apart : (i : Item) (s : SenderNo) → Says i ≡ Leaves s → ⊥
 says_apart i s e = cc
 
 said_at : (o : SenderNo) (b : Body) (ms : List Numbered) (k : ℕ) (e : Entry) → slice_get (map (λ m. Says (item_of o m)) ms) k ≡ Some e → IsEntryOf o b k e
@@ -77,15 +75,11 @@ entry_of (f ∷ fs) k e at = elim (got_split (entries_of f) (order_of fs).entrie
 ]
 
 -- whoever has a leave mark has left
-or_second : (a b : Bool) → b ≡ true → (a || b) ≡ true
-or_second true b e = refl
-or_second false b e = e
-
 marked_gone : (entries : List Entry) (k : ℕ) (s : SenderNo) → slice_get entries k ≡ Some (Leaves s) → list_any (is_leave_of s.0) entries ≡ true
 marked_gone [] k s at = absurd (none_in k (Leaves s) at)
 marked_gone (e ∷ entries) zero s at =
     ap (λ z. is_leave_of s.0 z || list_any (is_leave_of s.0) entries) (same_Some e (Leaves s) at) ∙ ap (λ b. b || list_any (is_leave_of s.0) entries) (eq-eqb s.0 s.0 refl)
-marked_gone (e ∷ entries) (suc k) s at = or_second (is_leave_of s.0 e) (list_any (is_leave_of s.0) entries) (marked_gone entries k s at)
+marked_gone (e ∷ entries) (suc k) s at = or_right (is_leave_of s.0 e) (list_any (is_leave_of s.0) entries) (marked_gone entries k s at)
 
 pub has_left : (fs : List Frame) (k : ℕ) (s : SenderNo) → slice_get (order_of fs).entries k ≡ Some (Leaves s) → has_gone s.0 (order_of fs) ≡ true
 has_left fs k s at = marked_gone (order_of fs).entries k s at
@@ -140,7 +134,7 @@ last_frame senders least [] lawful e = absurd (false≢true e)
 last_frame senders least (f ∷ fs) lawful e = last_by f fs f.body refl lawful.2 e (last_frame senders (f.tenure + 1) fs lawful.3)
 
 -- ---- the frames before the last one
-not_nil : (front : List Frame) (f : Frame) → front ++ f ∷ [] ≡ [] → ⊥
+pub not_nil : (front : List Frame) (f : Frame) → front ++ f ∷ [] ≡ [] → ⊥
 not_nil [] f e = cc
 not_nil (g ∷ front) f e = cc
 

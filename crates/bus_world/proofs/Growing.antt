@@ -9,7 +9,7 @@ use Rattle.bus_world.specs.declared.events.Event.{Event as Told}
 use Rattle.bus_world.specs.Playing.{event_told}
 
 -- ---- owners
-nothing_more : {A : Type 0} (xs : List A) → IsPrefix xs xs
+pub nothing_more : {A : Type 0} (xs : List A) → IsPrefix xs xs
 nothing_more xs = record { rest = []; together = no_rest xs }
   where
     no_rest : {A : Type 0} (xs : List A) → xs ++ [] ≡ xs

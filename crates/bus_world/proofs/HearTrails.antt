@@ -2,10 +2,10 @@
 use Rattle.std.proofs.Common.{◌≡◌, ℕ, zero, suc, ◌+◌, ◌<◌, ◌≤◌, Bool, true, false, cond, ◌||◌, Option, Some, None, ◌⊎◌, inl, inr, List, [], ◌∷◌, ◌++◌, length, map, flat_map, take, drop, slice_get, slice_index, arith, refl, sym, ◌∙◌, ap, subst}
 use Rattle.std.specs.List.{list_any}
 use Rattle.std.proofs.Math.Bool.{or-false}
-use Rattle.std.proofs.lemmas.Bool.{cases_eq, cases_lt}
+use Rattle.std.proofs.lemmas.Bool.{cases_eq, cases_lt, or_right}
 use Rattle.std.proofs.lemmas.Bool.Decides.{eqb_tells}
-use Rattle.std.proofs.lemmas.Grind.{common_steps, flat_map-append}
-use Rattle.std.proofs.lemmas.List.{append-nil, take-append-le, take-append-drop, take_more, get_or_append_left}
+use Rattle.std.proofs.lemmas.Grind.{flat_map-append}
+use Rattle.std.proofs.lemmas.List.{append-nil, take-append-le, take-append-drop, take_more}
 use Rattle.std.proofs.lemmas.List.Folds.{list_any-append}
 use Rattle.std.proofs.lemmas.Option.{same_Some, slice_get_within, get_or_from_slice_get}
 use Rattle.bus_batch.specs.declared.messages.Piece.{Piece}
@@ -17,11 +17,11 @@ use Rattle.bus_deliverylog.specs.Receiving.{Receiving, turn_of}
 use Rattle.bus_deliverylog.specs.declared.receiving.RecvTurn.{RecvTurn}
 use Rattle.bus_deliverylog.specs.declared.receiving.RecvTurn.TheVariants as heard
 use Rattle.bus_tenure.specs.Core.{Layout, log_at}
-use Rattle.bus_world.specs.Log.{words_read_from, Logged}
-use Rattle.bus_world.proofs.LogLaws.{length-read}
-use Rattle.bus_world.proofs.ReceivingLaws.{given_is_prefix, length-log_pieces}
+use Rattle.bus_world.specs.Log.{Logged}
+use Rattle.bus_world.proofs.LogLaws.{length-logged, index-read}
+use Rattle.bus_world.proofs.ReceivingLaws.{given_is_prefix, length-log_pieces, next_word}
 use Rattle.bus_world.specs.Headline.{entry_heard, end_heard, head_heard, order_given, heads, IsPrefix}
-use Rattle.bus_world.proofs.Places.{got_split}
+use Rattle.bus_world.proofs.Places.{got_split, only_one}
 use Rattle.bus_world.proofs.Tying.{Hears, IsSilent}
 use Rattle.bus_world.specs.World.{RecvDoes, RecvStep, recv_found, IsReceiver}
 use Rattle.bus_world.specs.Proved.Invariants.{given_at}
@@ -34,36 +34,36 @@ more_order o entries ended = record { entries = o.entries ++ entries; ended = o.
 order_so : (entries entries' : List Entry) (a b : Bool) → entries ≡ entries' → a ≡ b → ◌≡◌ {A = Order} (record { entries = entries; ended = a }) (record { entries = entries'; ended = b })
 order_so entries entries' a b e f = ap (λ z. record { entries = z; ended = a }) e ∙ ap (λ z. record { entries = entries'; ended = z }) f
 
-given_more : (trail : List RecvTurn) (a : RecvTurn) → order_given (trail ++ a ∷ []) ≡ more_order (order_given trail) (entry_heard a) (end_heard a)
+pub given_more : (trail : List RecvTurn) (a : RecvTurn) → order_given (trail ++ a ∷ []) ≡ more_order (order_given trail) (entry_heard a) (end_heard a)
 given_more trail a = order_so _ _ _ _ (flat_map-append entry_heard trail (a ∷ []) ∙ ap (λ z. flat_map entry_heard trail ++ z) (append-nil (entry_heard a)))
     (list_any-append end_heard trail (a ∷ []) ∙ ap (λ z. list_any end_heard trail || z) (or-false (end_heard a)))
 
-heads_more : (trail : List RecvTurn) (a : RecvTurn) → heads (trail ++ a ∷ []) ≡ heads trail ++ head_heard a
+pub heads_more : (trail : List RecvTurn) (a : RecvTurn) → heads (trail ++ a ∷ []) ≡ heads trail ++ head_heard a
 heads_more trail a = flat_map-append head_heard trail (a ∷ []) ∙ ap (λ z. flat_map head_heard trail ++ z) (append-nil (head_heard a))
 
-order_more : (pieces : List (Option Piece)) (p : Option Piece) → order_in (pieces ++ p ∷ []) ≡ more_order (order_in pieces) (piece_entries p) (is_end p)
+pub order_more : (pieces : List (Option Piece)) (p : Option Piece) → order_in (pieces ++ p ∷ []) ≡ more_order (order_in pieces) (piece_entries p) (is_end p)
 order_more pieces p = order_so _ _ _ _ (flat_map-append piece_entries pieces (p ∷ []) ∙ ap (λ z. flat_map piece_entries pieces ++ z) (append-nil (piece_entries p)))
     (list_any-append is_end pieces (p ∷ []) ∙ ap (λ z. list_any is_end pieces || z) (or-false (is_end p)))
 
-owners_more : (pieces : List (Option Piece)) (p : Option Piece) → owners_in (pieces ++ p ∷ []) ≡ owners_in pieces ++ piece_owners p
+pub owners_more : (pieces : List (Option Piece)) (p : Option Piece) → owners_in (pieces ++ p ∷ []) ≡ owners_in pieces ++ piece_owners p
 owners_more pieces p = flat_map-append piece_owners pieces (p ∷ []) ∙ ap (λ z. flat_map piece_owners pieces ++ z) (append-nil (piece_owners p))
 
 -- an answer tells its piece
-entry_told : (p : Option Piece) → entry_heard (turn_of p) ≡ piece_entries p
+pub entry_told : (p : Option Piece) → entry_heard (turn_of p) ≡ piece_entries p
 entry_told None = refl
 entry_told (Some (piece.Head t o)) = refl
 entry_told (Some (piece.Item i)) = refl
 entry_told (Some (piece.Leave s)) = refl
 entry_told (Some piece.End) = refl
 
-end_told : (p : Option Piece) → end_heard (turn_of p) ≡ is_end p
+pub end_told : (p : Option Piece) → end_heard (turn_of p) ≡ is_end p
 end_told None = refl
 end_told (Some (piece.Head t o)) = refl
 end_told (Some (piece.Item i)) = refl
 end_told (Some (piece.Leave s)) = refl
 end_told (Some piece.End) = refl
 
-head_told : (p : Option Piece) → head_heard (turn_of p) ≡ piece_owners p
+pub head_told : (p : Option Piece) → head_heard (turn_of p) ≡ piece_owners p
 head_told None = refl
 head_told (Some (piece.Head t o)) = refl
 head_told (Some (piece.Item i)) = refl
@@ -73,31 +73,9 @@ head_told (Some piece.End) = refl
 nothing_more : (o : Order) → more_order o [] false ≡ o
 nothing_more o = order_so _ _ _ _ (append-nil o.entries) (or-false o.ended)
 
-or_true : (a b : Bool) → b ≡ true → (a || b) ≡ true
-or_true true b e = refl
-or_true false b e = e
-
 or_left : (a b : Bool) → a ≡ true → (a || b) ≡ a
 or_left true b e = refl
 or_left false b e = absurd cc
-
--- ---- words of the log
-index-read : (words : ℕ → ℕ) (at k i : ℕ) → i < k → slice_index (words_read_from words at k) i ≡ words (at + i)
-index-read words at zero i l = absurd (omega arith)
-index-read words at (suc k) i l = elim (cases_lt i k) [
-  | inl below ↦ get_or_append_left (words_read_from words at k) (words (at + k) ∷ []) 0 i (let z = length-read words at k in omega arith) ∙ index-read words at k i below
-  | inr past ↦
-      let size = length-read words at k in
-      let e : i ≡ length (words_read_from words at k) = omega arith in
-      ap (slice_index (words_read_from words at k ++ words (at + k) ∷ [])) e ∙ last (words_read_from words at k) (words (at + k)) ∙ ap words (omega arith)
-] where
-  last : (xs : List ℕ) (w : ℕ) → slice_index (xs ++ w ∷ []) (length xs) ≡ w
-  last xs w = grind (arith, common_steps)
-
-next_word : (xs : List ℕ) (k w : ℕ) → k < length xs → slice_index xs k ≡ w → xs ≡ take k xs ++ w ∷ drop (suc k) xs
-next_word [] k w l e = absurd (omega arith)
-next_word (x ∷ xs) zero w l e = ap (λ z. z ∷ xs) e
-next_word (x ∷ xs) (suc k) w l e = ap (λ z. x ∷ z) (next_word xs k w (omega arith) e)
 
 -- ---- a log that has grown
 pub hears_later : (frames more : List Frame) (v : Receiving) (trail : List RecvTurn) → v.place ≤ length (log_words frames) → Hears frames v trail → Hears (frames ++ more) v trail
@@ -110,14 +88,7 @@ hears_later frames more v trail l h =
 end_given : (trail : List RecvTurn) (j : ℕ) → slice_get trail j ≡ Some heard.End → (order_given trail).ended ≡ true
 end_given [] j e = absurd cc
 end_given (x ∷ trail) zero e = ap (λ z. end_heard z || list_any end_heard trail) (same_Some _ _ e)
-end_given (x ∷ trail) (suc j) e = or_true (end_heard x) (list_any end_heard trail) (end_given trail j e)
-
-only_one : (answer : RecvTurn) (i : ℕ) (a : RecvTurn) → slice_get (answer ∷ []) i ≡ Some a → (i ≡ 0) × (a ≡ answer)
-only_one answer zero a e = (refl, sym (same_Some _ _ e))
-only_one answer (suc i) a e = absurd (none_there i a e)
-  where
-    none_there : (i : ℕ) (a : RecvTurn) → slice_get [] i ≡ Some a → ⊥
-    none_there i a e = cc
+end_given (x ∷ trail) (suc j) e = or_right (end_heard x) (list_any end_heard trail) (end_given trail j e)
 
 silent_more : (trail : List RecvTurn) (answer : RecvTurn) → IsSilent trail → (answer ≡ heard.End) ⊎ ((order_given trail).ended ≡ false) → IsSilent (trail ++ answer ∷ [])
 silent_more trail answer h how j k a at l here = elim (got_split trail (answer ∷ []) k a here) [
@@ -128,7 +99,7 @@ silent_more trail answer h how j k a at l here = elim (got_split trail (answer �
   | inr new ↦
       let one = only_one answer new.0 a new.2 in
       elim (got_split trail (answer ∷ []) j heard.End at) [
-        | inl first ↦ elim how [ inl ends ↦ one.1 ∙ ends | inr goes ↦ absurd (let z = sym (end_given trail j first) ∙ goes in cc) ]
+        | inl first ↦ elim how [ inl ends ↦ sym one.1 ∙ ends | inr goes ↦ absurd (let z = sym (end_given trail j first) ∙ goes in cc) ]
         | inr r ↦ absurd (let a' = (only_one answer r.0 heard.End r.2).0 in let b = one.0 in let p = r.1 in let q = new.1 in omega arith)
       ]
 ]
@@ -164,7 +135,7 @@ module _ (frames : List Frame) (v : Receiving) (trail : List RecvTurn) (h : Hear
         given_is = given_more trail answer ∙ ap (λ z. more_order z (entry_heard answer) (end_heard answer)) h.given_is ∙ ap (λ z. more_order (given_at frames v) z (end_heard answer)) entries ∙ ap (more_order (given_at frames v) (piece_entries found)) ends
             ∙ sym (order_more (take v.place (log_pieces frames)) found) ∙ ap order_in (sym pieces);
         heads_are = heads_more trail answer ∙ ap (λ z. z ++ head_heard answer) h.heads_are ∙ ap (λ z. owners_in (take v.place (log_pieces frames)) ++ z) (ap head_heard told ∙ head_told found) ∙ sym (owners_more (take v.place (log_pieces frames)) found) ∙ ap owners_in (sym pieces);
-        ended = λ e. ap (λ (z : Order). z.ended) (given_more trail answer) ∙ or_true (order_given trail).ended (end_heard answer) (ends ∙ sym ended_is ∙ e);
+        ended = λ e. ap (λ (z : Order). z.ended) (given_more trail answer) ∙ or_right (order_given trail).ended (end_heard answer) (ends ∙ sym ended_is ∙ e);
         going = λ e. ap (λ (z : Order). z.ended) (given_more trail answer) ∙ ap (λ z. z || end_heard answer) (h.going on) ∙ ends ∙ sym ended_is ∙ e;
         silent = silent_more trail answer h.silent (inr (h.going on));
       }
@@ -184,7 +155,7 @@ module _ (frames : List Frame) (v : Receiving) (trail : List RecvTurn) (h : Hear
 
 module _ {base : ℕ → ℕ} (x : Layout) (frames : List Frame) (words : ℕ → ℕ) (log : Logged base x.senders x.capacity (log_at x) words (words 0) frames) (v : Receiving) (own : IsReceiver x frames (words 0) v) (trail : List RecvTurn) (h : Hears frames v trail) (answer : RecvTurn) (next : Receiving) where
   size_is : length (log_words frames) ≡ words 0
-  size_is = sym (ap length log.words_are) ∙ length-read words (log_at x) (words 0)
+  size_is = length-logged log
 
   hears_step : v.ended ≡ false → RecvStep v (recv_found words v) answer next → Hears frames next (trail ++ answer ∷ [])
   hears_step on step = elim (cases_eq v.place v.known) [
@@ -214,7 +185,7 @@ module _ {base : ℕ → ℕ} (x : Layout) (frames : List Frame) (words : ℕ �
               ] in
               let word_is : slice_index (log_words frames) v.place ≡ recv_found words v = ap (λ z. slice_index z v.place) (sym log.words_are) ∙ index-read words (log_at x) (words 0) v.place more ∙ sym got_is in
               let size = size_is in
-              let split = next_word (log_words frames) v.place (recv_found words v) (omega arith) word_is in
+              let split = sym (next_word (log_words frames) v.place (recv_found words v) (omega arith) word_is) in
               let at = ok.gives frames (drop (suc v.place) (log_words frames)) (subst (λ z. AreFrames z frames) (sym own.senders) log.lawful) split in
               good frames v trail h answer next on ok.found (ap (slice_get (log_pieces frames)) had.place ∙ at) ok.answer_is (ap (λ (z : Receiving). z.place) ok.new_is) (ap (λ (z : Receiving). z.ended) ok.new_is)
         ]

@@ -1,9 +1,9 @@
 -- What a new frame, and a word past the length, do to the log.
-use Rattle.std.proofs.Common.{◌≡◌, ◌≢◌, ℕ, zero, suc, ◌+◌, ◌<◌, ◌≤◌, true, false, inl, inr, List, [], ◌∷◌, ◌++◌, length, filter, map, flat_map, ◌==◌, ◌||◌, cond, arith, refl, sym, ◌∙◌, ap, subst, append_assoc}
+use Rattle.std.proofs.Common.{◌≡◌, ◌≢◌, ℕ, zero, suc, ◌+◌, ◌<◌, ◌≤◌, true, false, inl, inr, List, [], ◌∷◌, ◌++◌, length, filter, map, flat_map, ◌==◌, ◌||◌, cond, arith, refl, sym, ◌∙◌, ap, subst, append_assoc, slice_index}
 use Rattle.std.proofs.Math.Bool.{or-false}
-use Rattle.std.proofs.lemmas.Bool.{cases_eq, eq-eqb, ne_eqb, or_parts, true≢false}
+use Rattle.std.proofs.lemmas.Bool.{cases_eq, eq-eqb, ne_eqb, or_parts, true≢false, cases_lt}
 use Rattle.std.proofs.lemmas.Grind.{common_steps, flat_map-append}
-use Rattle.std.proofs.lemmas.List.{append-nil, length-append}
+use Rattle.std.proofs.lemmas.List.{append-nil, length-append, get_or_append_left}
 use Rattle.std.proofs.lemmas.List.Elements.{All-append, All-nil, All-from_recursion, filter-append}
 use Rattle.std.proofs.lemmas.List.Folds.{list_any-append}
 use Rattle.std.specs.List.{list_any}
@@ -32,6 +32,21 @@ read-add words at j (suc k) =
 pub length-read : (words : ℕ → ℕ) (at k : ℕ) → length (words_read_from words at k) ≡ k
 length-read words at zero = refl
 length-read words at (suc k) = length-append (words_read_from words at k) (words (at + k) ∷ []) ∙ (let z = length-read words at k in omega arith)
+
+pub length-logged : {base : ℕ → ℕ} {n capacity at len : ℕ} {words : ℕ → ℕ} {frames : List Frame} → Logged base n capacity at words len frames → length (log_words frames) ≡ len
+length-logged {base} {n} {capacity} {at} {len} {words} log = sym (ap length log.words_are) ∙ length-read words at len
+
+pub index-read : (words : ℕ → ℕ) (at k i : ℕ) → i < k → slice_index (words_read_from words at k) i ≡ words (at + i)
+index-read words at zero i l = absurd (omega arith)
+index-read words at (suc k) i l = elim (cases_lt i k) [
+  | inl below ↦ get_or_append_left (words_read_from words at k) (words (at + k) ∷ []) 0 i (let z = length-read words at k in omega arith) ∙ index-read words at k i below
+  | inr past ↦
+      let size = length-read words at k in
+      let e : i ≡ length (words_read_from words at k) = omega arith in
+      ap (slice_index (words_read_from words at k ++ words (at + k) ∷ [])) e ∙ last (words_read_from words at k) (words (at + k)) ∙ ap words (omega arith)
+] where
+  last : (xs : List ℕ) (w : ℕ) → slice_index (xs ++ w ∷ []) (length xs) ≡ w
+  last xs w = grind (arith, common_steps)
 
 -- ---- items
 pub AreCounted-append : (first : ℕ) (xs ys : List Item) → AreCounted first xs → AreCounted (first + length xs) ys → AreCounted first (xs ++ ys)

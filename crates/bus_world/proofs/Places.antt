@@ -1,5 +1,13 @@
--- What stands at a place of a list that another follows.
-use Rattle.std.proofs.Common.{◌≡◌, ℕ, zero, suc, ◌+◌, Some, ◌⊎◌, inl, inr, List, [], ◌∷◌, ◌++◌, length, slice_get, arith, ◌∙◌, ap}
+-- What stands at a place of a list: of none, of one element, and of one that another follows.
+use Rattle.std.proofs.Common.{◌≡◌, ℕ, zero, suc, ◌+◌, Some, ◌⊎◌, inl, inr, List, [], ◌∷◌, ◌++◌, length, slice_get, arith, refl, ◌∙◌, ap}
+use Rattle.std.proofs.lemmas.Option.{same_Some}
+
+pub none_in : {A : Type 0} (i : ℕ) (x : A) → slice_get [] i ≡ Some x → ⊥
+none_in i x e = cc
+
+pub only_one : {A : Type 0} (d : A) (i : ℕ) (x : A) → slice_get (d ∷ []) i ≡ Some x → (i ≡ 0) × (d ≡ x)
+only_one d zero x e = (refl, same_Some _ _ e)
+only_one d (suc i) x e = absurd (none_in i x e)
 
 pub got_before : {A : Type 0} (xs ys : List A) (i : ℕ) (x : A) → slice_get xs i ≡ Some x → slice_get (xs ++ ys) i ≡ Some x
 got_before [] ys i x e = absurd cc

@@ -16,12 +16,12 @@ use Rattle.bus_batch.specs.Frames.{order_in}
 use Rattle.bus_world.proofs.LogLaws.{log_words-append}
 use Rattle.bus_world.specs.Receiving.{Receives}
 
-length-item_pieces : (n : ℕ) (item : Item) → length (item_pieces n item) ≡ suc n
+pub length-item_pieces : (n : ℕ) (item : Item) → length (item_pieces n item) ≡ suc n
 length-item_pieces zero item = refl
 length-item_pieces (suc n) item = ap suc (length-item_pieces n item)
 
 -- each word has its piece
-pieces_of_messages : (owner : SenderNo) (ms : List Numbered) → length (flat_map (message_pieces owner) ms) ≡ length (flat_map message_words ms)
+pub pieces_of_messages : (owner : SenderNo) (ms : List Numbered) → length (flat_map (message_pieces owner) ms) ≡ length (flat_map message_words ms)
 pieces_of_messages owner [] = refl
 pieces_of_messages owner (m ∷ ms) =
     length-append (message_pieces owner m) (flat_map (message_pieces owner) ms)
@@ -29,7 +29,7 @@ pieces_of_messages owner (m ∷ ms) =
     let d : length (message_pieces owner m) ≡ length (message_words m) = a ∙ sym (ap suc b) in omega arith)
     ∙ sym (length-append (message_words m) (flat_map message_words ms))
 
-pieces_of_body : (owner : SenderNo) (b : Body) → length (body_pieces owner b) ≡ length (body_words b)
+pub pieces_of_body : (owner : SenderNo) (b : Body) → length (body_pieces owner b) ≡ length (body_words b)
 pieces_of_body owner (Messages ms) = pieces_of_messages owner ms
 pieces_of_body owner (Marked mark.End) = refl
 pieces_of_body owner (Marked mark.Leave) = refl
@@ -64,7 +64,7 @@ pub Receives-known : (n : ℕ) (frames : List Frame) (len place known : ℕ) (re
 Receives-known n frames len place known reading h l = record { place_below = l; known_below = omega arith; has_read = h.has_read }
 
 -- the next word
-next_word : (xs : List ℕ) (k w : ℕ) → k < length xs → slice_index xs k ≡ w → take k xs ++ w ∷ drop (suc k) xs ≡ xs
+pub next_word : (xs : List ℕ) (k w : ℕ) → k < length xs → slice_index xs k ≡ w → take k xs ++ w ∷ drop (suc k) xs ≡ xs
 next_word [] k w l e = absurd (omega arith)
 next_word (x ∷ xs) zero w l e = ap (λ z. z ∷ xs) (sym e)
 next_word (x ∷ xs) (suc k) w l e = ap (λ z. x ∷ z) (next_word xs k w (omega arith) e)

@@ -13,9 +13,8 @@ use Rattle.bus_tenure.specs.declared.turns.Turn.TheVariants as turn
 use Rattle.bus_world.specs.Headline.{puts, Action, HasMarked, Stepped, Elected, Took, IsPrefix, AreFramed, Nothing, TheEnd, Batch, LastOf}
 use Rattle.bus_world.specs.Refusals.{FromZero, ItemsAlone, each_of, elects, announces, takes, owns, item, sender, PromiseRefuses}
 use Rattle.bus_deliverylog.specs.declared.receiving.RecvTurn.TheVariants as recv
-
-none_at : {A : Type 0} (i : ℕ) (x : A) → slice_get [] i ≡ Some x → ⊥
-none_at i x e = cc
+use Rattle.bus_world.proofs.Places.{none_in}
+use Rattle.bus_world.proofs.Framing.{says_apart}
 
 elected_second : (s : ℕ) (d : ℕ → List Action) (o : ℕ) → slice_get (d s) 1 ≡ Some (elects o) → Elected (d s) 0 o
 elected_second s d o e = record { place = 1; step = kind.Fallback; found = 0; answer = turn.Going; at = e }
@@ -33,9 +32,6 @@ first_of x y xs ys e = cc
 
 same_item : (i j : Item) → Says i ≡ Says j → i ≡ j
 same_item i j e = cc
-
-says_apart : (i : Item) (s : SenderNo) → Leaves s ≡ Says i → ⊥
-says_apart i s e = cc
 
 -- ---- what receivers were given
 
@@ -78,8 +74,8 @@ never_asked : (m : Mark) (s i : ℕ) → slice_get (each_of owns [] s) i ≡ Som
 never_asked m zero zero e = cc
 never_asked m zero (suc zero) e = cc
 never_asked m zero (suc (suc zero)) e = cc
-never_asked m zero (suc (suc (suc i))) e = none_at i _ e
-never_asked m (suc s) i e = none_at i _ e
+never_asked m zero (suc (suc (suc i))) e = none_in i _ e
+never_asked m (suc s) i e = none_in i _ e
 
 -- of a sender of whom nothing follows there are no items
 none_behind : (entries : List Entry) → ((k : ℕ) (e : Entry) → slice_get entries k ≡ Some e → sender_of e ≢ sender 0) → filter (λ (i : Item). i.sender.0 == 0) (items_in entries) ≡ []
@@ -103,7 +99,7 @@ foreign : (owners : List (ℕ × SenderNo)) (entries : List Entry) (ended : Bool
 foreign owners entries ended Nothing e f g = absurd (let z : [] ≡ (0, sender 1) ∷ [] = e in cc)
 foreign owners entries ended (TheEnd t o) e f g = absurd (let z : true ≡ false = g in cc)
 foreign owners entries ended (Batch t o [] rest later over some all framed) e f g = absurd (let none : 0 < 0 = some in omega arith)
-foreign owners entries ended (LastOf t o rest later over none framed) e f g = says_apart (item 0 0) o (first_of (Leaves o) (Says (item 0 0)) later [] f)
+foreign owners entries ended (LastOf t o rest later over none framed) e f g = says_apart (item 0 0) o (sym (first_of (Leaves o) (Says (item 0 0)) later [] f))
 foreign owners entries ended (Batch t o (i ∷ own) rest later over some all framed) e f g =
     let owner_is : o ≡ sender 1 = second (same_head t 0 o (sender 1) rest [] e) in
     let first : i ≡ item 0 0 = same_item i (item 0 0) (first_of (Says i) (Says (item 0 0)) (map Says own ++ later) [] f) in
@@ -117,7 +113,7 @@ foreign_mark : (owners : List (ℕ × SenderNo)) (entries : List Entry) (ended :
 foreign_mark owners entries ended Nothing e f g = absurd (let z : [] ≡ (0, sender 1) ∷ [] = e in cc)
 foreign_mark owners entries ended (TheEnd t o) e f g = absurd (let z : true ≡ false = g in cc)
 foreign_mark owners entries ended (Batch t o [] rest later over some all framed) e f g = absurd (let none : 0 < 0 = some in omega arith)
-foreign_mark owners entries ended (Batch t o (i ∷ own) rest later over some all framed) e f g = says_apart i (sender 0) (sym (first_of (Says i) (Leaves (sender 0)) (map Says own ++ later) [] f))
+foreign_mark owners entries ended (Batch t o (i ∷ own) rest later over some all framed) e f g = says_apart i (sender 0) (first_of (Says i) (Leaves (sender 0)) (map Says own ++ later) [] f)
 foreign_mark owners entries ended (LastOf t o rest later over none framed) e f g =
     let owner_is : o ≡ sender 1 = second (same_head t 0 o (sender 1) rest [] e) in
     let left : o ≡ sender 0 = same_leave o (sender 0) (first_of (Leaves o) (Leaves (sender 0)) later [] f) in
@@ -130,7 +126,7 @@ back_again : (owners : List (ℕ × SenderNo)) (entries : List Entry) (ended : B
 back_again owners entries ended Nothing e f = absurd (let z : [] ≡ (0, sender 0) ∷ (1, sender 0) ∷ [] = e in cc)
 back_again owners entries ended (TheEnd t o) e f = absurd (let z : [] ≡ Leaves (sender 0) ∷ [] = f in cc)
 back_again owners entries ended (Batch t o [] rest later over some all framed) e f = absurd (let none : 0 < 0 = some in omega arith)
-back_again owners entries ended (Batch t o (i ∷ own) rest later over some all framed) e f = says_apart i (sender 0) (sym (first_of (Says i) (Leaves (sender 0)) (map Says own ++ later) [] f))
+back_again owners entries ended (Batch t o (i ∷ own) rest later over some all framed) e f = says_apart i (sender 0) (first_of (Says i) (Leaves (sender 0)) (map Says own ++ later) [] f)
 back_again owners entries ended (LastOf t o rest later over none framed) e f =
     let owner_is : o ≡ sender 0 = second (same_head t 0 o (sender 0) rest ((1, sender 0) ∷ []) e) in
     let rest_is : rest ≡ (1, sender 0) ∷ [] = same_tail (t, o) (0, sender 0) rest ((1, sender 0) ∷ []) e in
@@ -156,7 +152,7 @@ refuses = record {
   two_owners = λ heard order owners p.
       let d = each_of (announces ∷ elects 0 ∷ []) (announces ∷ elects 1 ∷ []) in
       zero_one (p.one_owner 0 0 1 0 1 (elected_second 0 d 0 refl) (elected_second 1 d 1 refl));
-  unannounced = λ heard order owners p. let a = p.announced 0 0 1 (elected_second 0 (each_of (announces ∷ elects 1 ∷ []) []) 1 refl) in none_at a.place _ a.at;
+  unannounced = λ heard order owners p. let a = p.announced 0 0 1 (elected_second 0 (each_of (announces ∷ elects 1 ∷ []) []) 1 refl) in none_in a.place _ a.at;
   two_takers = λ heard order owners p.
       let d = each_of (announces ∷ elects 0 ∷ takes ∷ []) (announces ∷ elects 1 ∷ takes ∷ []) in
       zero_one (p.took_once 0 0 1 2 2 (took_at 0 2 d refl) (took_at 1 2 d refl)).0;

@@ -1,17 +1,15 @@
 -- Who goes on, and who has stopped.
 use Rattle.std.proofs.Common.{◌≡◌, ℕ, zero, suc, Bool, true, false, cond, Option, Some, None, List, [], ◌∷◌, get_or, slice_get, refl}
+use Rattle.std.proofs.lemmas.Option.{none-some}
 use Rattle.bus_tenure.specs.Core.{Core}
 use Rattle.bus_world.specs.World.{Bus, is_set, has_stopped, going}
 
-no_one : {A : Type 0} (v : A) → ◌≡◌ {A = Option A} None (Some v) → ⊥
-no_one v e = cc
-
-shown_there : {A : Type 0} (t : Bool) (o : Option A) (v : A) → cond t None o ≡ Some v → o ≡ Some v
-shown_there true o v e = absurd (no_one v e)
+pub shown_there : {A : Type 0} (t : Bool) (o : Option A) (v : A) → cond t None o ≡ Some v → o ≡ Some v
+shown_there true o v e = absurd (none-some v e)
 shown_there false o v e = e
 
 shown_free : {A : Type 0} (t : Bool) (o : Option A) (v : A) → cond t None o ≡ Some v → t ≡ false
-shown_free true o v e = absurd (no_one v e)
+shown_free true o v e = absurd (none-some v e)
 shown_free false o v e = refl
 
 -- who goes on is there

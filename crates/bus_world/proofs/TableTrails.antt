@@ -1,7 +1,7 @@
 -- What a step does to trails, and to the tables that are as the trails tell.
-use Rattle.std.proofs.Common.{◌≡◌, ◌≢◌, ℕ, zero, suc, ◌+◌, ◌*◌, ◌<◌, ◌≤◌, Option, Some, None, ◌⊎◌, inl, inr, List, [], ◌∷◌, ◌++◌, length, slice_get, arith, refl, sym, ◌∙◌, ap, subst}
+use Rattle.std.proofs.Common.{◌≡◌, ◌≢◌, ℕ, ◌+◌, ◌*◌, ◌<◌, ◌≤◌, Option, Some, None, ◌⊎◌, inl, inr, List, [], ◌∷◌, ◌++◌, length, slice_get, arith, refl, sym, ◌∙◌, ap, subst}
 use Rattle.std.proofs.lemmas.Bool.{cases_eq}
-use Rattle.std.proofs.lemmas.Option.{same_Some, slice_get_within}
+use Rattle.std.proofs.lemmas.Option.{none-some, same_Some, slice_get_within}
 use Rattle.bus_register.specs.declared.kinds.Kind.{Kind}
 use Rattle.bus_register.specs.declared.kinds.Kind.TheVariants as kind
 use Rattle.bus_register.specs.Tables.{of_some, Beside, put, Agree}
@@ -13,20 +13,9 @@ use Rattle.bus_tenure.specs.declared.phases.Phase.TheVariants as phase
 use Rattle.bus_tenure.specs.declared.turns.Turn.{Turn as Answered}
 use Rattle.bus_ownerbits.specs.OneOwner.{OneOwner}
 use Rattle.bus_ownerbits.proofs.ElectionSteps.{row_within}
-use Rattle.bus_world.proofs.Places.{got_before, got_after, got_split}
+use Rattle.bus_world.proofs.Places.{none_in, only_one, got_before, got_after, got_split}
 use Rattle.bus_world.specs.Headline.{Action, HasPut, HasMarked, Stepped, Announced, Elected, Took}
 use Rattle.bus_world.proofs.Tying.{next_tenure, Tables, PageTies}
-
--- ---- lists
-only_one : {A : Type 0} (d : A) (i : ℕ) (x : A) → slice_get (d ∷ []) i ≡ Some x → (i ≡ 0) × (d ≡ x)
-only_one d zero x e = (refl, same_Some _ _ e)
-only_one d (suc i) x e = absurd (none_there i x e)
-  where
-    none_there : {A : Type 0} (i : ℕ) (x : A) → slice_get [] i ≡ Some x → ⊥
-    none_there i x e = cc
-
-pub none_in : {A : Type 0} (i : ℕ) (x : A) → slice_get [] i ≡ Some x → ⊥
-none_in i x e = cc
 
 -- ---- trails
 pub Announced-before : (xs ys : List Action) (t : ℕ) → Announced xs t → Announced (xs ++ ys) t
@@ -79,12 +68,9 @@ one_elected tn k f ch a t o el = let s = same_step _ _ _ _ _ _ _ _ _ _ (only_one
 pub one_took : (tn : Option ℕ) (k : Kind) (f : ℕ) (ch : Option ℕ) (a : Answered) (t i : ℕ) → Took (Stepped tn k f ch a ∷ []) t i → (i ≡ 0) × (tn ≡ Some t) × (k ≡ kind.TakePage)
 one_took tn k f ch a t i el = let o = only_one (Stepped tn k f ch a) i _ el.at in let s = same_step _ _ _ _ _ _ _ _ _ _ o.1 in (o.0, s.0, s.1)
 
-no_owner : (o : ℕ) → ◌≡◌ {A = Option ℕ} None (Some o) → ⊥
-no_owner o e = cc
-
 pub plain_step : (tn : Option ℕ) (k : Kind) (f : ℕ) (a : Answered) → (k ≡ kind.TakePage → ⊥) → IsPlain (Stepped tn k f None a ∷ [])
 plain_step tn k f a other = record {
-  none_elected = λ t o el. no_owner o (one_elected tn k f None a t o el).1;
+  none_elected = λ t o el. none-some o (one_elected tn k f None a t o el).1;
   none_took = λ t i el. other (one_took tn k f None a t i el).2;
 }
 

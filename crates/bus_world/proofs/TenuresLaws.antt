@@ -18,7 +18,7 @@ use Rattle.bus_world.specs.Tenures.Stage.{Open, Held}
 same_Electing : {E : Type 0} (t u : ℕ) (e f : E) → Runs t e ≡ Runs u f → (t ≡ u) × (e ≡ f)
 same_Electing t u e f h = (cc, cc)
 
-same_Holding : {E : Type 0} (t u : ℕ) → ◌≡◌ {A = Standing E} (Holds t) (Holds u) → t ≡ u
+pub same_Holding : {E : Type 0} (t u : ℕ) → ◌≡◌ {A = Standing E} (Holds t) (Holds u) → t ≡ u
 same_Holding t u h = cc
 
 electing_no_holding : {E : Type 0} (t u : ℕ) (e : E) → Runs t e ≡ Holds u → ⊥

@@ -3,7 +3,7 @@ use Rattle.std.proofs.Common.{◌≡◌, ◌≢◌, ℕ, ◌+◌, ◌*◌, ◌/�
 use Rattle.std.proofs.lemmas.Bool.{cases_lt, leb-false, true≢false}
 use Rattle.std.proofs.lemmas.Bool.Decides.{eqb_tells}
 use Rattle.std.proofs.lemmas.List.{append-nil}
-use Rattle.std.proofs.lemmas.Option.{same_Some, slice_get_within}
+use Rattle.std.proofs.lemmas.Option.{same_Some, slice_get_within, none-some}
 use Rattle.bus_register.specs.declared.kinds.Kind.{Kind}
 use Rattle.bus_register.specs.declared.kinds.Kind.TheVariants as kind
 use Rattle.bus_register.specs.declared.registers.Op.{Op}
@@ -52,20 +52,8 @@ longer_by p ds D = record {
   others = λ q ne. elim (eqb_tells q p) [ inl y ↦ absurd (ne y.1) | inr n ↦ ap (λ t. D q ++ cond t ds []) n.0 ∙ append-nil (D q) ];
 }
 
-same_phase : {E : Type 0} (t u : ℕ) (e f : E) → phase.Electing t e ≡ phase.Electing u f → (t ≡ u) × (e ≡ f)
-same_phase t u e f i = (cc, cc)
-
-rests_apart : {E : Type 0} (u : ℕ) (f : E) → phase.Resting ≡ phase.Electing u f → ⊥
-rests_apart u f i = cc
-
 taken_apart : {E : Type 0} (t u : ℕ) (f : E) → phase.Taken t ≡ phase.Electing u f → ⊥
 taken_apart t u f i = cc
-
-holds_apart : {E : Type 0} (t : ℕ) (page : Page) (k : ℕ) (b : Bool) (u : ℕ) (f : E) → phase.Holding t page k b ≡ phase.Electing u f → ⊥
-holds_apart t page k b u f i = cc
-
-none_some : {A : Type 0} (v : A) → ◌≡◌ {A = Option A} None (Some v) → ⊥
-none_some v e = cc
 
 module _ {E : Type 0} (c : Core E) (t : ℕ) (later : E) where
   elected_next : (owner : Option ℕ) → next_tenure (core_elected c t later owner) ≡ t + 1
@@ -77,12 +65,12 @@ module _ {E : Type 0} (c : Core E) (t : ℕ) (later : E) where
       by_test false = refl
 
   elected_phase : (owner : Option ℕ) (u : ℕ) (f : E) → (core_elected c t later owner).phase ≡ phase.Electing u f → (t ≡ u) × (later ≡ f)
-  elected_phase None u f i = same_phase t u later f i
+  elected_phase None u f i = bus.same_electing t u later f i
   elected_phase (Some o) u f i = by_test (o == c.me) i
     where
       by_test : (b : Bool) → (cond b (record c { phase = phase.Electing t later }) (record c { queue = record c.queue { busy = false }; least = t + 1; phase = phase.Resting })).phase ≡ phase.Electing u f → (t ≡ u) × (later ≡ f)
-      by_test true j = same_phase t u later f j
-      by_test false j = absurd (rests_apart u f j)
+      by_test true j = bus.same_electing t u later f j
+      by_test false j = absurd (bus.resting_apart u f j)
 
 module _ {base : ℕ → ℕ} {E : Type 0} (X : Election E) (P : Protocol E (Unit {0}) ℕ) (laws : Laws X.op X.fed P OneOwner) (x : Layout) (ok : IsLayout x) (width : x.width ≡ P.width x.senders)
     (starts : (n me at : ℕ) → X.started n me x.rounds at ≡ P.started n me tt at) (owner_is : (e : E) → X.owner e ≡ P.output e)
@@ -138,7 +126,7 @@ module _ {base : ℕ → ℕ} {E : Type 0} (X : Election E) (P : Protocol E (Uni
 
     not_begun : (b : Bool) → b ≡ false → cond b (Some (P.input start)) None ≡ Some tt → ⊥
     not_begun true i j = true≢false i
-    not_begun false i j = none_some tt j
+    not_begun false i j = none-some tt j
 
     absent : T.tables.elections t p ≡ None
     absent = T.tables.ahead p c t old (let a = next_was_least in omega arith)
@@ -152,8 +140,8 @@ module _ {base : ℕ → ℕ} {E : Type 0} (X : Election E) (P : Protocol E (Uni
         (in_row t room) (λ q. refl) in
         record {
           tables = tables_step X P laws x words words' D (with_actions ds) p ds (longer_by p ds D) senders senders' c (core_begun X c t) (follows (core_begun X c t) new (let a = next_was_least in omega arith)) T.tables
-              t room start kept_now (λ u l ne. in_row u l) (omega arith) (λ u f i. let s = same_phase t u (X.started c.layout.senders c.me c.layout.rounds (row_at c.layout t)) f i in (s.0, start_is ∙ s.1))
-              (λ o i. none_some o (ap (of_some P.output) (sym absent) ∙ i)) (λ i. absurd (not_begun (P.has_begun start) fresh.fresh i)) (λ o i. absurd (none_some o (sym unstarted ∙ i))) (λ u o a. absurd (plain.none_elected u o a));
+              t room start kept_now (λ u l ne. in_row u l) (omega arith) (λ u f i. let s = bus.same_electing t u (X.started c.layout.senders c.me c.layout.rounds (row_at c.layout t)) f i in (s.0, start_is ∙ s.1))
+              (λ o i. none-some o (ap (of_some P.output) (sym absent) ∙ i)) (λ i. absurd (not_begun (P.has_begun start) fresh.fresh i)) (λ o i. absurd (none-some o (sym unstarted ∙ i))) (λ u o a. absurd (plain.none_elected u o a));
           takers = takers_stay p ds D (with_actions ds) (longer_by p ds D) owners plain.none_took T.takers;
         }
 
@@ -225,7 +213,7 @@ module _ {base : ℕ → ℕ} {E : Type 0} (X : Election E) (P : Protocol E (Uni
       take_kept : (o : ℕ) → X.owner e ≡ Some o → KeptTies (TakesPage t)
       take_kept o own step new = record {
         tables = tables_stay X P laws x words words' D (with_actions taking) p taking (longer_by p taking D) senders senders' c (core_with_page c t home) (follows (core_with_page c t home) (new ∙ ap Some (with_page home)) (let a = next_was in let b = laid_next home in omega arith)) T.tables
-            (outside (Store record { 0 = 1 } (2 * t + 1)) step (inl (omega arith))) (λ u f i. absurd (laid_apart home u f i)) (λ u v a. none_some v (one_elected (Some t) kind.TakePage got None answer u v a).1);
+            (outside (Store record { 0 = 1 } (2 * t + 1)) step (inl (omega arith))) (λ u f i. absurd (laid_apart home u f i)) (λ u v a. none-some v (one_elected (Some t) kind.TakePage got None answer u v a).1);
         takers = takers_more p taking D (with_actions taking) (longer_by p taking D) owners t got None answer refl many (T.tables.elected t p p (ap (of_some P.output) local ∙ out ∙ ap Some mine)) T.takers;
       } where
         out : P.output e ≡ Some o
@@ -247,7 +235,7 @@ module _ {base : ℕ → ℕ} {E : Type 0} (X : Election E) (P : Protocol E (Uni
 
         laid_apart : (z : Option Page) (u : ℕ) (f : E) → (core_with_page c t z).phase ≡ phase.Electing u f → ⊥
         laid_apart None u f i = taken_apart t u f i
-        laid_apart (Some page) u f i = holds_apart t page 0 false u f i
+        laid_apart (Some page) u f i = bus.holding_apart t page 0 false u f i
 
       -- it takes a step of its election
       module _ (o : Op) (next : X.op e word ≡ Some o) (k : Kind) (kind_is : X.kind_of e ≡ Some k) (step : bus.Changes o words words') where
@@ -297,7 +285,7 @@ module _ {base : ℕ → ℕ} {E : Type 0} (X : Election E) (P : Protocol E (Uni
         step_kept : senders' p ≡ Some c' → TiesOf P x words' senders' owners (with_actions ds)
         step_kept new = record {
           tables = tables_step X P laws x words words' D (with_actions ds) p ds (longer_by p ds D) senders senders' c c' (follows c' new (let a = next_was in let b = elected_next c t later (X.owner later) in omega arith)) T.tables
-              t row.0 later kept_then other_row (let b = elected_next c t later (X.owner later) in omega arith) (elected_phase c t later (X.owner later)) (λ v i. none_some v (sym (laws.unended e word o next) ∙ ap (of_some P.output) (sym local) ∙ i))
+              t row.0 later kept_then other_row (let b = elected_next c t later (X.owner later) in omega arith) (elected_phase c t later (X.owner later)) (λ v i. none-some v (sym (laws.unended e word o next) ∙ ap (of_some P.output) (sym local) ∙ i))
               announced_now elected_now (λ u v a. let one = one_elected (Some t) k found_now (X.owner later) answer u v a in (same_Some _ _ one.0, sym (owner_is later) ∙ one.1));
           takers = takers_stay p ds D (with_actions ds) (longer_by p ds D) owners (λ u i a. apart e (kind_is ∙ ap Some (one_took (Some t) k found_now (X.owner later) answer u i a).2)) T.takers;
         }
@@ -336,14 +324,14 @@ module _ {base : ℕ → ℕ} {E : Type 0} (X : Election E) (P : Protocol E (Uni
       next_held = ap (next_at c) holds
 
       gives : (reason : Reason) → KeptTies (GivesBack t page reason)
-      gives reason step new = calm (core_at_rest c reason t) new _ (outside (Store record { 0 = 1 } (2 * t + 2)) step (inl (omega arith))) (let a = next_held in omega arith) (λ u f i. absurd (rests_apart u f i)) (plain_step _ _ _ _ (λ e. cc))
+      gives reason step new = calm (core_at_rest c reason t) new _ (outside (Store record { 0 = 1 } (2 * t + 2)) step (inl (omega arith))) (let a = next_held in omega arith) (λ u f i. absurd (bus.resting_apart u f i)) (plain_step _ _ _ _ (λ e. cc))
 
       stores : KeptTies (StoresWord t page stored)
       stores step new = calm (record c { phase = phase.Holding t page (stored + 1) false }) new _ (outside (Store record { 0 = log_at c.layout + page.words + stored } (slice_index (frame_words (frame_of c.queue t)) stored)) step (inr (let l = ap log_at part.layout in let w = ap (λ z. x.rows * z) width in omega arith)))
-          (let a = next_held in omega arith) (λ u f i. absurd (holds_apart t page (stored + 1) false u f i)) (plain_step _ _ _ _ (λ e. cc))
+          (let a = next_held in omega arith) (λ u f i. absurd (bus.holding_apart t page (stored + 1) false u f i)) (plain_step _ _ _ _ (λ e. cc))
 
       publishes : KeptTies (StoresLength t page stored)
-      publishes step new = calm (record c { phase = phase.Holding t page stored true }) new _ (outside (Store record { 0 = 0 } (page.words + frame_len c)) step (inl (omega arith))) (let a = next_held in omega arith) (λ u f i. absurd (holds_apart t page stored true u f i)) (plain_step _ _ _ _ (λ e. cc))
+      publishes step new = calm (record c { phase = phase.Holding t page stored true }) new _ (outside (Store record { 0 = 0 } (page.words + frame_len c)) step (inl (omega arith))) (let a = next_held in omega arith) (λ u f i. absurd (bus.holding_apart t page stored true u f i)) (plain_step _ _ _ _ (λ e. cc))
 
       hold_kept : KeptTies (holding c t page stored published)
       hold_kept = choose published (GivesBack t page Sent) _ (gives Sent) (choose page.ended (GivesBack t page FoundEnd) _ (gives FoundEnd)

@@ -36,7 +36,7 @@ use Rattle.bus_world.specs.World.{Bus}
 use Rattle.bus_world.specs.Proved.Invariants.{LawfulBus}
 use Rattle.bus_world.proofs.Waiting.{frames_after}
 
-open_apart : Open ≡ Closed → ⊥
+pub open_apart : Open ≡ Closed → ⊥
 open_apart h = cc
 
 marking_apart : (m : Mark) → Marking m ≡ Closed → ⊥
@@ -127,13 +127,7 @@ module _ {base : ℕ → ℕ} {E : Type 0} (X : Election E) (P : Protocol E (Uni
 
     -- nothing happens
     unchanged : senders' p ≡ Some c → Sending base P x words home senders' owners frames
-    unchanged new = subst (λ z. Sending base P x words home z owners frames) (sym (fun_ext same)) h
-      where
-        same : (q : ℕ) → senders' q ≡ senders q
-        same q = elim (cases_eq q p) [
-          | inl i ↦ ap senders' i ∙ new ∙ sym old ∙ ap senders (sym i)
-          | inr ne ↦ beside q ne
-        ]
+    unchanged new = subst (λ z. Sending base P x words home z owners frames) (sym (bus.same_senders p c senders senders' old new beside)) h
 
     idle : ((o : Op) → None ≡ Some o → register o < words_of x) × (Steps None words words' → senders' p ≡ Some c → Sending base P x words' home senders' owners frames)
     idle = (λ o bad. absurd cc, λ same new. subst (λ w. Sending base P x w home senders' owners frames) (sym (fun_ext same)) (unchanged new))

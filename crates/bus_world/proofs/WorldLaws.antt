@@ -3,8 +3,7 @@ use Rattle.std.proofs.Common.{◌≡◌, ◌≢◌, ℕ, zero, suc, ◌+◌, ◌
 use Rattle.std.specs.Prelude.{All}
 use Rattle.std.proofs.lemmas.Bool.{and_parts, cases_eq, cases_lt}
 use Rattle.std.proofs.lemmas.Bool.Decides.{eqb_tells}
-use Rattle.std.proofs.lemmas.Grind.{common_steps}
-use Rattle.std.proofs.lemmas.List.{append-nil, length-append, length-replicate, length-take, get_or_append_left}
+use Rattle.std.proofs.lemmas.List.{append-nil, length-append, length-replicate, length-take}
 use Rattle.std.proofs.Math.Seq.{take-nil}
 use Rattle.std.proofs.lemmas.Option.{same_Some, slice_get_within}
 use Rattle.bus_register.specs.Protocol.{Protocol, Laws}
@@ -18,9 +17,9 @@ use Rattle.bus_tenure.specs.Situations.{situation_of, line_of}
 use Rattle.bus_tenure.specs.declared.phases.Phase.{Phase as SenderPhase}
 use Rattle.bus_tenure.specs.declared.phases.Phase.TheVariants as phase
 use Rattle.bus_deliverylog.specs.Orders.{of_sender}
-use Rattle.bus_world.specs.Log.{words_read_from, AreCounted, Logged}
+use Rattle.bus_world.specs.Log.{AreCounted, Logged}
 use Rattle.bus_world.proofs.Stopping.{is_there}
-use Rattle.bus_world.proofs.LogLaws.{length-read, log_words-append}
+use Rattle.bus_world.proofs.LogLaws.{length-logged, log_words-append, index-read}
 use Rattle.bus_world.proofs.ReceivingLaws.{goes_on, Receives-known, Receives-word, Receives-append}
 use Rattle.bus_world.specs.Receiving.{Receives}
 use Rattle.bus_batch.specs.Reading.{HasRead}
@@ -28,14 +27,13 @@ use Rattle.bus_deliverylog.specs.declared.receiving.RecvTurn.{RecvTurn}
 use Rattle.bus_deliverylog.specs.Receiving.{Receiving, HasReceived}
 use Rattle.bus_ownerbits.specs.OneOwner.{OneOwner}
 use Rattle.bus_world.proofs.Beginning as beginning
-use Rattle.bus_world.proofs.Beginning.{zeros}
 use Rattle.bus_world.specs.Bus.{IsLayout, Part, Fits, Sending}
 use Rattle.bus_world.specs.Turning.{Side, side_after}
 use Rattle.bus_world.proofs.TurningLaws.{IsSide, side_of}
 use Rattle.bus_world.proofs.TurningLaws as turning
 use Rattle.bus_world.proofs.PutLaws as puts
 use Rattle.bus_world.proofs.Accepting as accepting
-use Rattle.bus_world.proofs.Accepting.{Accepted, Puts, Asks, accept, AreAccepted, open_is, not_busy, empty_is, idle_rests}
+use Rattle.bus_world.proofs.Accepting.{Accepted, Puts, Asks, accept, AreAccepted, not_busy, idle_rests}
 use Rattle.bus_tenure.specs.declared.phases.Reason.{Reason}
 use Rattle.bus_register.specs.Proved.TableLaws.{get_set_same, get_set_other}
 use Rattle.bus_world.specs.World.{Event, Put, Ask, Turn, Recv, Stop, going, IsEvent, Happens, SenderDoes, ReceiverDoes, recv_found, Bus, is_open, can_put, can_close, put_in, mark_in, with_sender, IsReceiver, RecvStep, RecvDoes, IsNew, first_page}
@@ -66,21 +64,9 @@ module _ {E : Type 0} (X : Election E) (P : Protocol E (Unit {0}) ℕ) (laws : L
     }
 
 -- ---- receivers
-index-read : (words : ℕ → ℕ) (at k i : ℕ) → i < k → slice_index (words_read_from words at k) i ≡ words (at + i)
-index-read words at zero i l = absurd (omega arith)
-index-read words at (suc k) i l = elim (cases_lt i k) [
-  | inl below ↦ get_or_append_left (words_read_from words at k) (words (at + k) ∷ []) 0 i (let z = length-read words at k in omega arith) ∙ index-read words at k i below
-  | inr past ↦
-      let size = length-read words at k in
-      let e : i ≡ length (words_read_from words at k) = omega arith in
-      ap (slice_index (words_read_from words at k ++ words (at + k) ∷ [])) e ∙ last (words_read_from words at k) (words (at + k)) ∙ ap words (omega arith)
-] where
-  last : (xs : List ℕ) (w : ℕ) → slice_index (xs ++ w ∷ []) (length xs) ≡ w
-  last xs w = grind (arith, common_steps)
-
 module _ {base : ℕ → ℕ} (x : Layout) (frames : List Frame) (words : ℕ → ℕ) (log : Logged base x.senders x.capacity (log_at x) words (words 0) frames) (v : Receiving) (h : IsReceiver x frames (words 0) v) where
   size_is : length (log_words frames) ≡ words 0
-  size_is = sym (ap length log.words_are) ∙ length-read words (log_at x) (words 0)
+  size_is = length-logged log
 
   pub received : HasReceived (take v.place (log_words frames)) (take v.place (log_pieces frames)) v
   received = record {
@@ -144,15 +130,15 @@ module _ {base : ℕ → ℕ} (x : Layout) (frames : List Frame) (words : ℕ �
 -- receivers, where the log has grown
 module _ {base : ℕ → ℕ} (x : Layout) (frames : List Frame) (words words' : ℕ → ℕ) (log : Logged base x.senders x.capacity (log_at x) words (words 0) frames) where
   same_len : (log' : Logged base x.senders x.capacity (log_at x) words' (words' 0) frames) → words' 0 ≡ words 0
-  same_len log' = sym (length-read words' (log_at x) (words' 0)) ∙ ap length log'.words_are ∙ sym (ap length log.words_are) ∙ length-read words (log_at x) (words 0)
+  same_len log' = sym (length-logged log') ∙ length-logged log
 
   receiver_stays : (log' : Logged base x.senders x.capacity (log_at x) words' (words' 0) frames) (v : Receiving) → IsReceiver x frames (words 0) v → IsReceiver x frames (words' 0) v
   receiver_stays log' v h = subst (λ z. IsReceiver x frames z v) (sym (same_len log')) h
 
   receiver_follows : (f : Frame) (log' : Logged base x.senders x.capacity (log_at x) words' (words' 0) (frames ++ f ∷ [])) (v : Receiving) → IsReceiver x frames (words 0) v → IsReceiver x (frames ++ f ∷ []) (words' 0) v
   receiver_follows f log' v h =
-      let size : length (log_words frames) ≡ words 0 = sym (ap length log.words_are) ∙ length-read words (log_at x) (words 0) in
-      let size' : length (log_words (frames ++ f ∷ [])) ≡ words' 0 = sym (ap length log'.words_are) ∙ length-read words' (log_at x) (words' 0) in
+      let size = length-logged log in
+      let size' = length-logged log' in
       let more = ap length (log_words-append frames f) ∙ length-append (log_words frames) (frame_words f) in
       record { senders = h.senders; log = h.log; len_at = h.len_at; log_words = h.log_words; receives = Receives-append x.senders frames f (words 0) (words' 0) v.place v.known v.frames size (omega arith) h.receives }
 
@@ -328,13 +314,10 @@ module _ {E : Type 0} (X : Election E) (P : Protocol E (Unit {0}) ℕ) (laws : L
 
   -- ---- a new bus is lawful
   module _ (bases : List ℕ) (b : Bus E) (new : IsNew bases x b) where
-    zero_at : (r : ℕ) → slice_index b.side.words r ≡ 0
-    zero_at r = ap (λ z. slice_index z r) new.words ∙ zeros (words_of x) r
-
     new_sending : Sending (slice_index bases) P x (slice_index b.side.words) b.side.home (slice_get b.side.senders) b.side.owners []
     new_sending = subst (λ z. Sending (slice_index bases) P x (slice_index b.side.words) z (slice_get b.side.senders) b.side.owners []) (sym new.home)
         (subst (λ z. Sending (slice_index bases) P x (slice_index b.side.words) (Some (first_page bases)) (slice_get b.side.senders) z []) (sym new.owners)
-        (beginning.new_sending X P laws x ok bases new.bases_are (slice_index b.side.words) zero_at (slice_get b.side.senders) new.senders))
+        (beginning.new_sending X P laws x ok bases new.bases_are (slice_index b.side.words) (beginning.words_zero b new) (slice_get b.side.senders) new.senders))
 
     pub new_is_lawful : LawfulBus (slice_index bases) P x b []
     new_is_lawful = lawful_of (record { words = ap length new.words ∙ length-replicate (words_of x) 0; sending = new_sending }) (λ r v e.
