@@ -17,7 +17,7 @@ use Rattle.bus_logtext.specs.declared.faults.LineFault.TheVariants.{TooManyWords
 use Rattle.bus_logtext.specs.declared.faults.Refusal.{Refusal}
 use Rattle.bus_logtext.specs.Words.{word_of, word_at, then_words, words_from, refused_at}
 use Rattle.bus_logtext.specs.Lines.{IsWordLine, AreWordLines}
-use Rattle.bus_logtext.proofs.PrintLemmas.{small_bytes}
+use Rattle.bus_logtext.proofs.PrintLemmas.{word_bytes}
 
 -- ---- one digit
 
@@ -150,7 +150,7 @@ line_spelled line word e =
 
 pub line_read : (line : List ℕ) (word : ℕ) → IsWordLine line word → word_of line ≡ Some word
 line_read line word h =
-    let pairs : decode_pairs 0 line ≡ Ok (to_be_bytes w64 word) = pairs_read 0 line (to_be_bytes w64 word) (small_bytes 8 word) h.spelled in
+    let pairs : decode_pairs 0 line ≡ Ok (to_be_bytes w64 word) = pairs_read 0 line (to_be_bytes w64 word) (word_bytes word) h.spelled in
     let ok = decode_pairs-ok 0 line (to_be_bytes w64 word) pairs in
     let eight : length (to_be_bytes w64 word) ≡ 8 = refl in
     let long : length line ≡ 2 * 8 = omega (arith, ok.1, eight) in

@@ -1,16 +1,18 @@
 -- Printed words, read again.
-use Rattle.std.proofs.Common.{◌≡◌, ◌≢◌, ℕ, zero, suc, ◌+◌, ◌/◌, ◌%◌, ◌^◌, ◌<◌, ◌≤◌, false, cond, not, List, [], ◌∷◌, ◌++◌, length, get_or, map, Some, None, Result, Ok, Err, refl, sym, ap, ◌∙◌, inl, slice_index, arith}
+use Rattle.std.proofs.Common.{◌≡◌, ◌≢◌, ℕ, suc, ◌+◌, ◌/◌, ◌%◌, ◌^◌, ◌<◌, ◌≤◌, false, cond, not, List, [], ◌∷◌, ◌++◌, length, get_or, map, Some, None, Result, Ok, Err, refl, sym, ap, ◌∙◌, subst, inl, inr, slice_index, arith}
 use Rattle.std.specs.Prelude.{filter}
-use Rattle.std.specs.Int.{w64, from_be_bytes, to_be_bytes, bytes_high_first, byte_at}
+use Rattle.std.specs.Int.{w64, from_be_bytes, to_be_bytes}
 use Rattle.std.specs.List.{AllByRecursion, enumerate_from}
 use Rattle.std.specs.Option.{option_map}
 use Rattle.std.specs.Result.{result_ok}
-use Rattle.std.proofs.lemmas.Bool.{lt-ltb, ne_eqb}
-use Rattle.std.proofs.lemmas.Nat.{mod_below, from_be_bytes-to_be_bytes_8}
+use Rattle.std.proofs.lemmas.Bool.{cases_lt, lt-ltb, ne_eqb}
+use Rattle.std.proofs.lemmas.List.{get_or_past}
+use Rattle.std.proofs.lemmas.Nat.{from_be_bytes-to_be_bytes_8}
 use Rattle.hex.specs.Hex.{IsBytes, encode_with, lower_digits, hex_digit_value}
 use Rattle.hex.specs.declared.error.FromHexError.{FromHexError}
 use Rattle.hex.proofs.HexLemmas.{IsDigits-lower_digits, decode_sized-encode_lower, length-encode_with}
 use Rattle.bus_register.specs.declared.limits.TheConstants.{MOST_LOG_WORDS}
+use Rattle.bus_batch.proofs.Bytes.{spread_small}
 use Rattle.bus_script.specs.Grammar.{lines_of, is_passed_over}
 use Rattle.bus_script.specs.Spelled.{IsLine, ended_lines}
 use Rattle.bus_script.proofs.TextLemmas.{text_read}
@@ -19,18 +21,15 @@ use Rattle.bus_logtext.specs.Words.{word_of, word_text, words_text, word_at, the
 
 -- ---- one word
 
-small_byte : (k n : ℕ) → byte_at k n < 256
-small_byte zero n = omega arith
-small_byte (suc k) n = mod_below (n / 256 ^ suc k) 256 (omega arith)
-
-pub small_bytes : (k n : ℕ) → IsBytes (bytes_high_first k n)
-small_bytes zero n i = omega arith
-small_bytes (suc k) n zero = small_byte k n
-small_bytes (suc k) n (suc i) = small_bytes k n i
+pub word_bytes : (word : ℕ) → IsBytes (to_be_bytes w64 word)
+word_bytes word i = elim (cases_lt i 8) [
+  | inl within ↦ spread_small word i 0 within
+  | inr past ↦ subst (λ b. b < 256) (sym (get_or_past (to_be_bytes w64 word) i 0 past)) (omega arith)
+]
 
 word_read_again : (word : ℕ) → word < 2 ^ 64 → word_of (word_text word) ≡ Some word
 word_read_again word fits =
-    ap (λ (r : Result (List ℕ) FromHexError). option_map (from_be_bytes w64) (result_ok r)) (decode_sized-encode_lower (to_be_bytes w64 word) 8 refl (small_bytes 8 word))
+    ap (λ (r : Result (List ℕ) FromHexError). option_map (from_be_bytes w64) (result_ok r)) (decode_sized-encode_lower (to_be_bytes w64 word) 8 refl (word_bytes word))
     ∙ ap (λ n. Some n) (from_be_bytes-to_be_bytes_8 word fits)
 
 -- no digit is a byte that is none
@@ -45,7 +44,7 @@ digits_alone (b ∷ bytes) other small none =
     (no_digit (b / 16) other (omega arith) none, (no_digit (b % 16) other (omega arith) none, digits_alone bytes other (λ i. small (suc i)) none))
 
 word_line_plain : (word other : ℕ) → hex_digit_value other ≡ None → AllByRecursion (λ b. b ≢ other) (word_text word)
-word_line_plain word other none = digits_alone (to_be_bytes w64 word) other (small_bytes 8 word) none
+word_line_plain word other none = digits_alone (to_be_bytes w64 word) other (word_bytes word) none
 
 says_something : (line : List ℕ) → 0 < length line → AllByRecursion (λ b. b ≢ 35) line → is_passed_over line ≡ false
 says_something [] some plain = absurd (omega arith)

@@ -8,8 +8,9 @@ use Rattle.bus_batch.specs.declared.messages.Item.{Item}
 use Rattle.bus_batch.specs.declared.messages.Mark.TheVariants as mark
 use Rattle.bus_batch.specs.declared.messages.Piece.{Piece}
 use Rattle.bus_batch.specs.Messages.{Numbered}
-use Rattle.bus_batch.specs.Frames.{Frame, Body, Messages, Marked, Spells, item_pieces, message_pieces, body_pieces, frame_pieces, log_pieces, words_of_bytes, message_words, body_words, frame_words, log_words, data_len, item_of, order_in, owners_in}
+use Rattle.bus_batch.specs.Frames.{Frame, Body, Messages, Marked, Spells, item_pieces, message_pieces, body_pieces, frame_pieces, log_pieces, message_words, body_words, frame_words, log_words, data_len, item_of, order_in, owners_in}
 use Rattle.bus_batch.specs.Reading.{Reading, HasRead}
+use Rattle.bus_batch.proofs.WordLaws.{length-words_of_bytes}
 use Rattle.bus_logtext.specs.Text.{piece_line}
 use Rattle.bus_logtext.specs.Answers.{TellsLog}
 
@@ -37,15 +38,11 @@ item_long : (n : ℕ) (item : Item) → length (item_pieces n item) ≡ suc n
 item_long zero item = refl
 item_long (suc n) item = ap suc (item_long n item)
 
-bytes_long : (n : ℕ) (bytes : List ℕ) → length (words_of_bytes n bytes) ≡ n
-bytes_long zero bytes = refl
-bytes_long (suc n) bytes = ap suc (bytes_long n _)
-
 messages_long : (owner : SenderNo) (messages : List Numbered) → length (flat_map (message_pieces owner) messages) ≡ length (flat_map message_words messages)
 messages_long owner [] = refl
 messages_long owner (m ∷ messages) =
     let n = data_len (length m.message) in
-    let here : length (message_pieces owner m) ≡ length (message_words m) = item_long n (item_of owner m) ∙ ap suc (sym (bytes_long n m.message)) in
+    let here : length (message_pieces owner m) ≡ length (message_words m) = item_long n (item_of owner m) ∙ ap suc (sym (length-words_of_bytes n m.message)) in
     length-append (message_pieces owner m) (flat_map (message_pieces owner) messages)
     ∙ ap (λ k. k + length (flat_map (message_pieces owner) messages)) here ∙ ap (λ k. length (message_words m) + k) (messages_long owner messages)
     ∙ sym (length-append (message_words m) (flat_map message_words messages))

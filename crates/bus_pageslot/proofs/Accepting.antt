@@ -1,6 +1,6 @@
 -- What a sender accepts between its steps: its actions as its batch shows them.
-use Rattle.std.proofs.Common.{◌≡◌, ℕ, zero, suc, ◌+◌, ◌≤◌, false, cond, List, [], ◌∷◌, ◌++◌, length, drop, arith, refl, sym, ◌∙◌, ap}
-use Rattle.std.proofs.lemmas.List.{append-nil, length-append, length-drop, drop-append-le}
+use Rattle.std.proofs.Common.{◌≡◌, ℕ, ◌+◌, ◌≤◌, false, cond, List, [], ◌∷◌, ◌++◌, length, drop, arith, refl, sym, ◌∙◌, ap}
+use Rattle.std.proofs.lemmas.List.{append-nil, length-append, length-drop, drop_all, drop-append-le}
 use Rattle.bus_batch.specs.Batches.{Pending, next_of, CanPut, CanClose}
 use Rattle.bus_batch.specs.declared.batches.Phase.{Phase}
 use Rattle.bus_batch.specs.declared.batches.Phase.TheVariants.{Open, Marking, Closed}
@@ -50,12 +50,6 @@ puts_from-snoc n (x ∷ xs) bytes k e = ap (λ z. HasPut n x ∷ z) (puts_from-s
 open_is : (ph : Phase) → ph ≡ Open → is_marking ph ≡ false
 open_is ph e = ap is_marking e
 
-none_left : {A : Type 0} (k : ℕ) (xs : List A) → length xs ≤ k → drop k xs ≡ []
-none_left zero [] l = refl
-none_left (suc k) [] l = refl
-none_left zero (x ∷ xs) l = absurd (omega arith)
-none_left (suc k) (x ∷ xs) l = none_left k xs (omega arith)
-
 -- a mark before, and none
 marked_once : (ph : Phase) → marks_since ph ph ≡ []
 marked_once Open = refl
@@ -98,7 +92,7 @@ module _ {C : Type 0} (P : Process C) (L : ProcessLaws P) (c : C) where
   pub since_is : (d : C) (actions : List Action) → Accepts P c d actions → accepted_since (P.queue c) (P.queue d) ≡ actions
   since_is d actions Nothing =
       ap (λ z. puts_from (next_of (P.queue c)) z ++ marks_since (P.queue c).phase (P.queue c).phase)
-      (none_left (length (P.queue c).messages) (P.queue c).messages (omega arith)) ∙ marked_once (P.queue c).phase
+      (drop_all (length (P.queue c).messages) (P.queue c).messages (omega arith)) ∙ marked_once (P.queue c).phase
   since_is f all (Message d actions bytes more can small) =
       let h = stays P L c d actions more in
       ap (accepted_since (P.queue c)) (L.message_waits d bytes) ∙ since_message (P.queue c) (P.queue d) bytes h.first h.longer can ∙ ap (λ z. z ++ HasPut (next_of (P.queue d)) bytes ∷ []) (since_is d actions more)

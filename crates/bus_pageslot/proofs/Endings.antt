@@ -1,5 +1,5 @@
 -- What the close of a table tells of the bus that it was.
-use Rattle.std.proofs.Common.{◌≡◌, ◌≢◌, ℕ, zero, suc, ◌+◌, ◌%◌, ◌<◌, ◌≤◌, true, false, Option, Some, None, is_some, List, [], ◌∷◌, ◌++◌, length, slice_get, slice_index, arith, refl, sym, ◌∙◌, ap, subst}
+use Rattle.std.proofs.Common.{◌≡◌, ◌≢◌, ℕ, zero, suc, ◌+◌, ◌%◌, ◌<◌, ◌≤◌, false, Option, Some, None, is_some, List, [], ◌∷◌, ◌++◌, length, slice_get, slice_index, arith, refl, sym, ◌∙◌, ap, subst}
 use mathlib.Core.Option.{some, none, some-injective, some-ne-none}
 use mathlib.Core.Option as maybe
 use lib.ListN.{get_elem?}
@@ -9,6 +9,7 @@ use Rattle.bus_register.specs.declared.registers.SenderNo.{SenderNo}
 use Rattle.bus_batch.specs.Frames.{Order, Spells, has_gone}
 use Rattle.bus_deliverylog.specs.Orders.{of_sender}
 use Rattle.bus_tenure.specs.declared.pages.Page.{Page}
+use Rattle.bus_machine.proofs.Paging.{some_is}
 use Rattle.bus_world.specs.Headline.{IsPrefix}
 use Rattle.bus_world.specs.Log.{words_read_from}
 use Rattle.bus_world.proofs.LogLaws.{length-read}
@@ -32,13 +33,9 @@ word_at (v ∷ ws) (suc i) w e = word_at ws i w e
 pub read-next : (words : ℕ → ℕ) (at k w : ℕ) → words (at + k) ≡ w → words_read_from words at k ++ w ∷ [] ≡ words_read_from words at (k + 1)
 read-next words at k w e = ap (λ z. words_read_from words at k ++ z ∷ []) (sym e) ∙ ap (words_read_from words at) (let one : suc k ≡ k + 1 = omega arith in one)
 
-none_of : (home : Option Page) → is_some home ≡ false → home ≡ None
-none_of None e = refl
-none_of (Some page) e = absurd (true≢false e)
-
-some_of : (home : Option Page) → is_some home ≡ true → (page : Page) × (home ≡ Some page)
-some_of None e = absurd (true≢false (sym e))
-some_of (Some page) e = (page, refl)
+pub nothing_there : {A : Type 0} (o : Option A) → is_some o ≡ false → o ≡ None
+nothing_there None e = refl
+nothing_there (Some x) e = absurd (true≢false e)
 
 -- what is in the slot
 pub slot_is : (home : Option Page) (page : Page) → slot_of home ≡ slot_of (Some page) → home ≡ Some page
@@ -106,12 +103,12 @@ module _ {C : Type 0} (P : Process C) (A : Automaton C) (L : AutomatonLaws P A) 
     pub left_out : (stage : ℕ) → slice_index ws 1 ≡ stage → stage % 2 ≡ 1 → (log : List ℕ) × IsLeft P A v log None
     left_out stage at odd =
         let away = L.odd_away shown.state shown.reached (ap (λ n. n % 2) (stage_is stage at) ∙ odd) in
-        (_, left None (none_of (A.home shown.state) away) (words_read_from (slice_index ws) A.table_layout.log (slice_index ws 0)) refl)
+        (_, left None (nothing_there (A.home shown.state) away) (words_read_from (slice_index ws) A.table_layout.log (slice_index ws 0)) refl)
 
     pub left_home : (stage : ℕ) → slice_index ws 1 ≡ stage → stage % 2 ≢ 1 → (slot : Option Page) → get_elem? xs 0 ≡ some slot → (log : List ℕ) → log ≡ words_read_from (slice_index ws) A.table_layout.log (slice_index ws 0) → (page : Page) × (slot ≡ Some page) × IsLeft P A v log (Some page)
     left_home stage at even slot in_slot log log_is =
         let there = L.even_at_home shown.state shown.reached (λ odd. even (ap (λ n. n % 2) (sym (stage_is stage at)) ∙ odd)) in
-        let h = some_of (A.home shown.state) there in
+        let h = some_is (A.home shown.state) there in
         let there : get_elem? f.0.homes 0 ≡ some (some (Some h.0)) = ap (λ (hs : List (maybe.Option (Option Page))). get_elem? hs 0) (shown.slot ∙ ap (λ (u : Option Page). slot_of u ∷ []) h.1) in
         let same : slot ≡ Some h.0 = some-injective slot (Some h.0) (sym in_slot ∙ f.4 0 (Some h.0) there) in
         (h.0, same, left (Some h.0) h.1 log log_is)

@@ -2,13 +2,12 @@
 use Rattle.std.proofs.Common.{◌≡◌, ℕ, zero, suc, ◌+◌, ◌≤◌, Bool, true, false, cond, ◌==◌, ◌||◌, Option, Some, None, inl, inr, List, [], ◌∷◌, ◌++◌, length, map, flat_map, take, drop, slice_get, arith, refl, sym, ◌∙◌, ap, subst}
 use Rattle.std.specs.List.{list_any}
 use Rattle.std.proofs.Math.Bool.{or-false}
+use Rattle.std.proofs.lemmas.Bool.{or_right}
 use Rattle.std.proofs.lemmas.Grind.{flat_map-append}
 use Rattle.std.proofs.lemmas.List.{append-nil, length-append, length-drop, take-append-drop, take-append-le, take-take, take_all, take_more}
-use Rattle.std.proofs.lemmas.List.Folds.{list_any-append}
 use Rattle.std.proofs.lemmas.Option.{same_Some, slice_get_within, get_or_from_slice_get}
 use Rattle.bus_batch.specs.declared.messages.Piece.{Piece}
-use Rattle.bus_batch.specs.declared.messages.Piece.TheVariants as piece
-use Rattle.bus_batch.specs.Frames.{Frame, Entry, Order, AreFrames, log_words, log_pieces, frame_pieces, order_of, tenure_and_owner, order_in, owners_in, piece_entries, piece_owners, is_end}
+use Rattle.bus_batch.specs.Frames.{Frame, Order, AreFrames, log_words, log_pieces, frame_pieces, order_of, tenure_and_owner, order_in, owners_in, piece_entries, piece_owners, is_end}
 use Rattle.bus_batch.proofs.PieceLaws.{owners_in-log}
 use Rattle.bus_deliverylog.specs.Orders.{IsPrefixOfOrder}
 use Rattle.bus_deliverylog.specs.Receiving.{turn_of}
@@ -16,61 +15,16 @@ use Rattle.bus_deliverylog.specs.declared.receiving.RecvTurn.{RecvTurn}
 use Rattle.bus_deliverylog.specs.declared.receiving.RecvTurn.TheVariants as turn
 use Rattle.bus_deliverylog.proofs.PrefixLaws.{end_last}
 use Rattle.bus_world.specs.Headline.{IsPrefix, entry_heard, end_heard, head_heard, order_given, heads}
-use Rattle.bus_world.proofs.HearTrails.{more_order}
+use Rattle.bus_world.proofs.HearTrails.{more_order, given_more, heads_more, order_more, owners_more, entry_told, end_told, head_told}
 use Rattle.bus_world.proofs.Places.{got_split}
 use Rattle.bus_world.proofs.ReceivingLaws.{length-log_pieces, given_is_prefix}
 use Rattle.bus_pageslot.specs.ReceiverViews.{ReceiverView, new_receiver_view, receiver_view_after_load, receiver_view_knowing, heard_length, heard_word, length_turn, IsSilent, HasHeard, Begins, Agree}
-
--- ---- what one answer adds
-order_so : (entries entries' : List Entry) (a b : Bool) → entries ≡ entries' → a ≡ b
-    → ◌≡◌ {A = Order} (record { entries = entries; ended = a }) (record { entries = entries'; ended = b })
-order_so entries entries' a b e f = ap (λ z. record { entries = z; ended = a }) e ∙ ap (λ z. record { entries = entries'; ended = z }) f
-
-given_more : (trail : List RecvTurn) (a : RecvTurn) → order_given (trail ++ a ∷ []) ≡ more_order (order_given trail) (entry_heard a) (end_heard a)
-given_more trail a = order_so _ _ _ _ (flat_map-append entry_heard trail (a ∷ []) ∙ ap (λ z. flat_map entry_heard trail ++ z) (append-nil (entry_heard a)))
-    (list_any-append end_heard trail (a ∷ []) ∙ ap (λ z. list_any end_heard trail || z) (or-false (end_heard a)))
-
-heads_more : (trail : List RecvTurn) (a : RecvTurn) → heads (trail ++ a ∷ []) ≡ heads trail ++ head_heard a
-heads_more trail a = flat_map-append head_heard trail (a ∷ []) ∙ ap (λ z. flat_map head_heard trail ++ z) (append-nil (head_heard a))
-
-order_more : (pieces : List (Option Piece)) (p : Option Piece) → order_in (pieces ++ p ∷ []) ≡ more_order (order_in pieces) (piece_entries p) (is_end p)
-order_more pieces p = order_so _ _ _ _ (flat_map-append piece_entries pieces (p ∷ []) ∙ ap (λ z. flat_map piece_entries pieces ++ z) (append-nil (piece_entries p)))
-    (list_any-append is_end pieces (p ∷ []) ∙ ap (λ z. list_any is_end pieces || z) (or-false (is_end p)))
-
-owners_more : (pieces : List (Option Piece)) (p : Option Piece) → owners_in (pieces ++ p ∷ []) ≡ owners_in pieces ++ piece_owners p
-owners_more pieces p = flat_map-append piece_owners pieces (p ∷ []) ∙ ap (λ z. flat_map piece_owners pieces ++ z) (append-nil (piece_owners p))
-
--- an answer tells its piece
-entry_told : (p : Option Piece) → entry_heard (turn_of p) ≡ piece_entries p
-entry_told None = refl
-entry_told (Some (piece.Head t o)) = refl
-entry_told (Some (piece.Item i)) = refl
-entry_told (Some (piece.Leave o)) = refl
-entry_told (Some piece.End) = refl
-
-end_told : (p : Option Piece) → end_heard (turn_of p) ≡ is_end p
-end_told None = refl
-end_told (Some (piece.Head t o)) = refl
-end_told (Some (piece.Item i)) = refl
-end_told (Some (piece.Leave o)) = refl
-end_told (Some piece.End) = refl
-
-head_told : (p : Option Piece) → head_heard (turn_of p) ≡ piece_owners p
-head_told None = refl
-head_told (Some (piece.Head t o)) = refl
-head_told (Some (piece.Item i)) = refl
-head_told (Some (piece.Leave o)) = refl
-head_told (Some piece.End) = refl
-
-or_true : (a b : Bool) → b ≡ true → (a || b) ≡ true
-or_true true b e = refl
-or_true false b e = e
 
 -- ---- after the end
 end_given : (trail : List RecvTurn) (j : ℕ) → slice_get trail j ≡ Some turn.End → (order_given trail).ended ≡ true
 end_given [] j e = absurd cc
 end_given (x ∷ trail) zero e = ap (λ z. end_heard z || list_any end_heard trail) (same_Some _ _ e)
-end_given (x ∷ trail) (suc j) e = or_true (end_heard x) (list_any end_heard trail) (end_given trail j e)
+end_given (x ∷ trail) (suc j) e = or_right (end_heard x) (list_any end_heard trail) (end_given trail j e)
 
 -- a trail without the end, and one answer more
 silent_more : (trail : List RecvTurn) (answer : RecvTurn) → (order_given trail).ended ≡ false → IsSilent (trail ++ answer ∷ [])
@@ -99,7 +53,7 @@ module _ (frames : List Frame) where
     quiet : (known : List ℕ) (answer : RecvTurn) → e.ended ≡ false → entry_heard answer ≡ [] → end_heard answer ≡ false → head_heard answer ≡ [] → HasHeard frames (heard_length e known answer)
     quiet known answer going entries ends head =
         let same : order_given (e.answers ++ answer ∷ []) ≡ order_given e.answers =
-        given_more e.answers answer ∙ ap (λ z. more_order (order_given e.answers) z (end_heard answer)) entries ∙ ap (more_order (order_given e.answers) []) ends ∙ order_so _ _ _ _ (append-nil (order_given e.answers).entries) (or-false (order_given e.answers).ended) in
+        given_more e.answers answer ∙ ap (λ z. more_order (order_given e.answers) z (end_heard answer)) entries ∙ ap (more_order (order_given e.answers) []) ends ∙ (λ i. record { entries = append-nil (order_given e.answers).entries i; ended = or-false (order_given e.answers).ended i }) in
         record {
           given_is = same ∙ h.given_is;
           heads_are = heads_more e.answers answer ∙ ap (λ z. heads e.answers ++ z) head ∙ append-nil (heads e.answers) ∙ h.heads_are;

@@ -19,8 +19,8 @@ use Rattle.bus_register.specs.Protocol.{Protocol}
 use Rattle.bus_register.specs.declared.kinds.Kind.{Kind}
 use Rattle.bus_register.specs.declared.registers.Op.{Op}
 use Rattle.bus_tenure.specs.Core.{Core, Election, is_closing}
-use Rattle.bus_tenure.specs.Elections.{Elector, election_with}
-use Rattle.bus_tenure.specs.Situations.{IsClosed, IsIdle, IsSpent, LooksAtStage, Elects, TakesPage, AwaitsPage, StoresWord, StoresLength, GivesBack, HasHanded, waits, core_begun, core_after_stage, core_elected, core_at_rest, answer_sent, answer_of_return}
+use Rattle.bus_tenure.specs.Elections.{election_with}
+use Rattle.bus_tenure.specs.Situations.{IsClosed, IsIdle, IsSpent, LooksAtStage, Elects, TakesPage, AwaitsPage, StoresWord, StoresLength, GivesBack, HasHanded, waits, core_begun, core_elected, core_at_rest, answer_sent, answer_of_return}
 use Rattle.bus_tenure.specs.declared.pages.Page.{Page}
 use Rattle.bus_tenure.specs.declared.phases.Phase.TheVariants as phase
 use Rattle.bus_tenure.specs.declared.phases.Reason.{Reason}

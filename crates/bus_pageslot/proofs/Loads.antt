@@ -1,9 +1,7 @@
 -- A receiver's loads are allowed.
-use Rattle.std.proofs.Common.{◌≡◌, ◌≢◌, ℕ, zero, suc, ◌+◌, ◌-◌, ◌<◌, ◌≤◌, Option, List, [], ◌∷◌, ◌++◌, length, false, set, slice_get, slice_index, slice_set, arith, refl, sym, ◌∙◌, ap, subst, ⊎_elim, inl, inr}
+use Rattle.std.proofs.Common.{◌≡◌, ◌≢◌, ℕ, ◌+◌, ◌-◌, ◌<◌, ◌≤◌, Option, List, [], ◌++◌, length, false, set, slice_get, slice_index, slice_set, arith, refl, sym, ◌∙◌, ap, subst, ⊎_elim, inl, inr}
 use mathlib.Core.Option.{some}
 use lib.ListN.{get_elem?}
-use Rattle.std.proofs.lemmas.Bool.{cases_lt}
-use Rattle.std.proofs.lemmas.Grind.{common_steps}
 use Rattle.std.proofs.lemmas.List.{append-nil, length-append, get_or_append_left, set-get_or}
 use Rattle.atomic_table.specs.Table.{State, keeps, Allows}
 use Rattle.atomic_table.proofs.Lists.{at_set}
@@ -12,8 +10,7 @@ use Rattle.bus_batch.specs.Frames.{AreFrames, log_pieces}
 use Rattle.bus_deliverylog.specs.Receiving.{turn_of}
 use Rattle.bus_tenure.specs.declared.pages.Page.{Page}
 use Rattle.bus_world.specs.Headline.{IsPrefix}
-use Rattle.bus_world.specs.Log.{words_read_from}
-use Rattle.bus_world.proofs.LogLaws.{length-read}
+use Rattle.bus_world.proofs.LogLaws.{length-read, index-read}
 use Rattle.bus_world.proofs.ReceivingLaws.{length-log_pieces}
 use Rattle.bus_pageslot.specs.ReceiverViews.{ReceiverView, receiver_view_after_load, receiver_view_knowing, heard_length, heard_word, length_turn, HasHeard}
 use Rattle.bus_pageslot.specs.declared.rule.View.{View}
@@ -25,18 +22,6 @@ use Rattle.bus_pageslot.specs.Steps.{Learns, Reads}
 use Rattle.bus_pageslot.specs.Listening.{FindsLength, FindsWord}
 use Rattle.bus_pageslot.proofs.AllSeats.{still_seen}
 use Rattle.bus_pageslot.proofs.Hearing.{heard_loaded, heard_learnt, heard_quiet, heard_good}
-
-index-read : (words : ℕ → ℕ) (at k i : ℕ) → i < k → slice_index (words_read_from words at k) i ≡ words (at + i)
-index-read words at zero i l = absurd (omega arith)
-index-read words at (suc k) i l = elim (cases_lt i k) [
-  | inl below ↦ get_or_append_left (words_read_from words at k) (words (at + k) ∷ []) 0 i (let z = length-read words at k in omega arith) ∙ index-read words at k i below
-  | inr past ↦
-      let size = length-read words at k in
-      let e : i ≡ length (words_read_from words at k) = omega arith in
-      ap (slice_index (words_read_from words at k ++ words (at + k) ∷ [])) e ∙ last (words_read_from words at k) (words (at + k)) ∙ ap words (omega arith)
-] where
-  last : (xs : List ℕ) (w : ℕ) → slice_index (xs ++ w ∷ []) (length xs) ≡ w
-  last xs w = grind (arith, common_steps)
 
 -- one view replaced, after a load
 pub reloaded : {C : Type 0} (P : Process C) (A : Automaton C) (s : State (Option Page) (View C)) (r : TableInvariant P A s) (i id : ℕ) (v w : View C) → get_elem? s.views id ≡ some v → ((p : ℕ) → Seats P p v → Seats P p w) → IsTrueOf P A r.state r.seat id w

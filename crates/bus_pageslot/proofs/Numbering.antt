@@ -1,5 +1,6 @@
 -- A sender numbers the messages that it accepts by how many it has put, from its first number on, since the page of promises holds of what it does.
-use Rattle.std.proofs.Common.{◌≡◌, ℕ, ◌+◌, ◌<◌, Some, List, [], ◌∷◌, ◌++◌, length, take, slice_get, arith, refl, sym, ◌∙◌, ap, subst}
+use Rattle.std.proofs.Common.{◌≡◌, ℕ, ◌+◌, ◌<◌, Some, [], ◌∷◌, ◌++◌, length, take, slice_get, arith, refl, sym, ◌∙◌, ap, subst}
+use Rattle.std.proofs.Math.Seq.{take-append_seam}
 use Rattle.std.proofs.lemmas.List.Elements.{All-nil}
 use Rattle.bus_batch.specs.Batches.{next_of, CanPut}
 use Rattle.bus_register.specs.Proved.TableLaws.{push_here}
@@ -9,10 +10,6 @@ use Rattle.bus_automaton.specs.Processes.{Process, Automaton, base_in, actions_a
 use Rattle.bus_automaton.specs.SenderTrails.{SenderTrail}
 use Rattle.bus_pageslot.specs.Steps.{Numbers}
 use Rattle.bus_pageslot.proofs.Reaching.{accepted}
-
-take_front : {A : Type 0} (xs ys : List A) → take (length xs) (xs ++ ys) ≡ xs
-take_front [] ys = refl
-take_front (x ∷ xs) ys = ap (λ l. x ∷ l) (take_front xs ys)
 
 module _ {C : Type 0} (P : Process C) (A : Automaton C) (L : AutomatonLaws P A) where
   numbers_at : (z : A.State) → A.IsReached z → (c : C) → A.sender z (P.me c) ≡ Some c → Numbers P c (A.sender_trail z (P.me c))
@@ -25,7 +22,7 @@ module _ {C : Type 0} (P : Process C) (A : Automaton C) (L : AutomatonLaws P A) 
       let all : actions_at A n.state (P.me c) ≡ did ++ put ∷ [] = ap (λ (t : SenderTrail). t.actions) n.changes.sender_trail ∙ ap (λ (t : SenderTrail). t.actions ++ put ∷ []) m.changes.sender_trail in
       (L.promised n.state n.changes.reached).promises.numbered (P.me c) (length did) (next_of (P.queue d)) [] (ap (λ l. slice_get l (length did)) all ∙ push_here did put (length did) refl)
       ∙ ap (λ l. base_in A (P.me c) + length (puts (take (length did) l))) all
-      ∙ ap (λ l. base_in A (P.me c) + length (puts l)) (take_front did (put ∷ []))
+      ∙ ap (λ l. base_in A (P.me c) + length (puts l)) (take-append_seam did (put ∷ []))
       ∙ ap (λ n. n + length (puts did)) (sym (L.first z (P.me c) reached))
 
   pub numbers_next : (z : A.State) → A.IsReached z → (p : ℕ) (c : C) → P.me c ≡ p → A.sender z p ≡ Some c → (did : SenderTrail) → A.sender_trail z p ≡ did → Numbers P c did

@@ -1,16 +1,16 @@
 -- The table at its start, and how senders get their seats.
-use Rattle.std.proofs.Common.{◌≡◌, ◌≢◌, ℕ, zero, suc, ◌+◌, ◌<◌, eqb, cond, Bool, false, eq-eqb, ne_eqb, length-set, Option, Some, List, [], ◌∷◌, ◌++◌, length, set, slice_get, replicate, arith, refl, sym, ◌∙◌, ap, subst, ⊎_elim, inl, inr, ◌⊎◌}
+use Rattle.std.proofs.Common.{◌≡◌, ◌≢◌, ℕ, zero, suc, ◌+◌, ◌<◌, false, length-set, Option, Some, List, [], ◌∷◌, ◌++◌, length, set, slice_get, get_or, replicate, arith, refl, sym, ◌∙◌, ap, subst, ⊎_elim, inl, inr, ◌⊎◌}
 use mathlib.Core.Option.{some, some-injective, some-ne-none}
 use lib.ListN.{get_elem?}
 use Rattle.std.proofs.lemmas.Bool.{cases_eq, cases_lt}
 use Rattle.std.proofs.lemmas.List.{length-append}
-use Rattle.std.proofs.lemmas.Option.{same_Some, slice_get_within}
+use Rattle.std.proofs.lemmas.Option.{same_Some, slice_get_within, slice_get-get_or}
 use Rattle.std.specs.Prelude.{All}
-use Rattle.std.proofs.lemmas.List.Elements.{All-nil, All-cons}
 use Rattle.atomic_table.specs.declared.shared.Seat.{Seat}
 use Rattle.atomic_table.specs.Table.{Splits, opening}
 use Rattle.atomic_table.proofs.Lists.{at_set, at_last}
-use Rattle.bus_register.specs.Proved.TableLaws.{push_here, push_beside}
+use Rattle.bus_register.specs.Tables.{put}
+use Rattle.bus_register.specs.Proved.TableLaws.{put_here, put_beside, push_here, push_beside}
 use Rattle.bus_batch.specs.Frames.{Frame, AreFrames, log_words}
 use Rattle.bus_tenure.specs.declared.pages.Page.{Page}
 use Rattle.bus_world.specs.World.{first_page}
@@ -29,18 +29,6 @@ use Rattle.bus_pageslot.proofs.AllSeats.{still_seen, seen_longer}
 use Rattle.bus_pageslot.proofs.Hearing.{heard_new}
 use Rattle.bus_pageslot.proofs.Numbering.{numbers_next}
 use Rattle.atomic_table.specs.Seated.{TableId}
-
--- one seat replaced
-sit : (ℕ → ℕ) → ℕ → ℕ → ℕ → ℕ
-sit f k c p = cond (eqb p k) c (f p)
-
-sit_here : (f : ℕ → ℕ) (k c : ℕ) → sit f k c k ≡ c
-unfolding sit
-sit_here f k c = ap (λ (b : Bool). cond b c (f k)) (eq-eqb k k refl)
-
-sit_else : (f : ℕ → ℕ) (k c p : ℕ) → p ≢ k → sit f k c p ≡ f p
-unfolding sit
-sit_else f k c p n = ap (λ (b : Bool). cond b c (f p)) (ne_eqb p k n)
 
 at_end : {A : Type 0} (l : List A) (a b : A) (j : ℕ) → get_elem? (l ++ a ∷ []) j ≡ some b → (get_elem? l j ≡ some b) ⊎ ((j ≡ length l) × (a ≡ b))
 at_end [] a b zero e = inr (refl, some-injective a b e)
@@ -73,10 +61,10 @@ module _ {C : Type 0} (P : Process C) (A : Automaton C) (L : AutomatonLaws P A) 
     }
 
   module _ (z : A.State) (seat : ℕ → ℕ) (k id count : ℕ) (mine : seat k ≡ id) (j : ℕ) (other : j ≢ id) where
-    seats_still : (q : ℕ) → seat q ≡ j → sit seat k count q ≡ j
-    seats_still q at = sit_else seat k count q (λ e. other (sym at ∙ ap seat e ∙ mine)) ∙ at
+    seats_still : (q : ℕ) → seat q ≡ j → put k count seat q ≡ j
+    seats_still q at = put_beside k count seat q (λ e. other (sym at ∙ ap seat e ∙ mine)) ∙ at
 
-    cut_others : (v : View C) → IsTrueOf P A z seat j v → IsTrueOf P A z (sit seat k count) j v
+    cut_others : (v : View C) → IsTrueOf P A z seat j v → IsTrueOf P A z (put k count seat) j v
     cut_others (Maker x made) h = (h.0, λ q low high. let u = h.1 q low high in record { here = seats_still q u.here; core = u.core; sender_trail_is = u.sender_trail_is })
     cut_others (Sender c t stored) h = record { here = seats_still (P.me c) h.here; core = h.core; sender_trail_is = h.sender_trail_is; reached = h.reached }
     cut_others (Tap x e) h = h
@@ -92,7 +80,7 @@ module _ {C : Type 0} (P : Process C) (A : Automaton C) (L : AutomatonLaws P A) 
       let me : P.me c ≡ made = L.started_me made in
       let mine = old.1 made (omega arith) below in
       let count : ℕ = length s.views in
-      let seat : ℕ → ℕ = sit r.seat made count in
+      let seat : ℕ → ℕ = put made count r.seat in
       let left : View C = Maker x (made + 1) in
       let right : View C = Sender c (new_sender_trail (base_in A made)) 0 in
       record {
@@ -108,12 +96,12 @@ module _ {C : Type 0} (P : Process C) (A : Automaton C) (L : AutomatonLaws P A) 
         views = λ j v e. elim (at_end (set s.views id left) right v j e) [
           | inl u ↦ ⊎_elim
               (λ (y : (j ≡ id) × (left ≡ v)). subst (λ (z : ℕ × View C). IsTrueOf P A r.state seat z.0 z.1) (λ i. (sym y.0 i, y.1 i))
-              (old.0, λ q low high. let w = old.1 q (omega arith) high in record { here = sit_else r.seat made count q (λ y. omega (arith, y)) ∙ w.here; core = w.core; sender_trail_is = w.sender_trail_is }))
+              (old.0, λ q low high. let w = old.1 q (omega arith) high in record { here = put_beside made count r.seat q (λ y. omega (arith, y)) ∙ w.here; core = w.core; sender_trail_is = w.sender_trail_is }))
               (λ (y : (j ≢ id) × (get_elem? s.views j ≡ some v)). cut_others r.state r.seat made id count mine.here j y.0 v (r.views j v y.1))
               (at_set s.views id j left v u)
           | inr u ↦ subst (λ (z : ℕ × View C). IsTrueOf P A r.state seat z.0 z.1) (λ i. (sym (u.0 ∙ length-set s.views id left) i, u.1 i))
               (record {
-                here = ap seat me ∙ sit_here r.seat made count;
+                here = ap seat me ∙ put_here made count r.seat;
                 core = ap (A.sender r.state) me ∙ mine.core;
                 sender_trail_is = ap (A.sender_trail r.state) me ∙ mine.sender_trail_is;
                 reached = omega arith;
@@ -189,13 +177,8 @@ one_more_tap x table many taps t h new = record {
       ];
 }
 
--- what each has, all have
-by_each : {A : Type 0} (P : A → Type 0) (xs : List A) → ((p : ℕ) (x : A) → slice_get xs p ≡ Some x → P x) → All P xs
-by_each P [] each = All-nil P
-by_each P (x ∷ xs) each = All-cons P x xs (each 0 x refl) (by_each P xs (λ p. each (suc p)))
-
 pub all_here : {C : Type 0} (P : Process C) (A : Automaton C) (table : TableId) (many : ℕ) (senders : List (SenderSeat C)) → AreNewSeats P A table many senders → All (λ s. table_of s ≡ table) senders
-all_here P A table many senders h = by_each (λ s. table_of s ≡ table) senders (λ p s e. (h.each p s e).table_is)
+all_here P A table many senders h p other within = (h.each p (get_or senders p other) (slice_get-get_or senders p other within)).table_is
 
 pub all_taps_here : {C : Type 0} (x : TableLayout) (table : TableId) (many : ℕ) (taps : List (ReceiverSeat C)) → AreNewTaps x table many taps → All (λ t. t.table_id ≡ table) taps
-all_taps_here x table many taps h = by_each (λ t. t.table_id ≡ table) taps (λ r t e. (h.each r t e).table_is)
+all_taps_here x table many taps h r other within = (h.each r (get_or taps r other) (slice_get-get_or taps r other within)).table_is

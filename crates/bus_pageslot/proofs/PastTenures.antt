@@ -1,5 +1,7 @@
 -- No step of a sender lowers the stage; and where rows of words are used again, none is an action in a tenure whose row has gone on.
-use Rattle.std.proofs.Common.{◌≡◌, ℕ, ◌≤◌, Bool, true, false, cond, Option, Some, None, List, [], ◌∷◌, ◌++◌, filter, slice_index, refl, sym, ◌∙◌, ap, subst}
+use Rattle.std.proofs.Common.{◌≡◌, ℕ, ◌≤◌, Option, Some, None, List, [], ◌++◌, slice_index, sym, ◌∙◌, ap, subst}
+use Rattle.std.proofs.lemmas.List.{append-nil, append_cancel_left}
+use Rattle.std.proofs.lemmas.List.Elements.{filter-append}
 use mathlib.Core.Option.{some}
 use lib.ListN.{get_elem?}
 use Rattle.atomic_table.specs.Table.{State}
@@ -23,22 +25,8 @@ use Rattle.bus_pageslot.specs.declared.rule.View.{View}
 use Rattle.bus_pageslot.proofs.Stepping as stepping
 
 -- ---- what leaves the actions of a tenure as they are adds none to them
-filter_append : {A : Type 0} (f : A → Bool) (xs ys : List A) → filter f (xs ++ ys) ≡ filter f xs ++ filter f ys
-filter_append f [] ys = refl
-filter_append f (x ∷ xs) ys = by (f x) (filter_append f xs ys) where
-  by : (b : Bool) → filter f (xs ++ ys) ≡ filter f xs ++ filter f ys
-      → cond b (x ∷ filter f (xs ++ ys)) (filter f (xs ++ ys)) ≡ cond b (x ∷ filter f xs) (filter f xs) ++ filter f ys
-  by true e = ap (λ l. x ∷ l) e
-  by false e = e
-
-nothing_more : {A : Type 0} (xs ys : List A) → xs ++ ys ≡ xs → ys ≡ []
-nothing_more [] ys e = e
-nothing_more (x ∷ xs) ys e = nothing_more xs ys (same_tail x (xs ++ ys) xs e) where
-  same_tail : {A : Type 0} (x : A) (us vs : List A) → x ∷ us ≡ x ∷ vs → us ≡ vs
-  same_tail x us vs e = cc
-
 none_added : (t : ℕ) (xs ys : List Action) → actions_in t (xs ++ ys) ≡ actions_in t xs → actions_in t ys ≡ []
-none_added t xs ys e = nothing_more (actions_in t xs) (actions_in t ys) (sym (filter_append (is_in t) xs ys) ∙ e)
+none_added t xs ys e = append_cancel_left (actions_in t xs) (actions_in t ys) [] (sym (filter-append (is_in t) xs ys) ∙ e ∙ sym (append-nil (actions_in t xs)))
 
 gone_in : {E : Type 0} (m : Machine E) (reuse : Option ℕ) (t : ℕ) → HasGoneOn reuse m.words t → HasGoneOnIn m reuse t
 gone_in m None t h = h

@@ -14,6 +14,7 @@ use Rattle.bus_tenure.specs.declared.pages.Page.{Page}
 use Rattle.bus_world.specs.Log.{words_read_from}
 use Rattle.bus_world.specs.Turning.{words_after}
 use Rattle.bus_world.specs.World.{is_set}
+use Rattle.bus_world.proofs.Stopping.{shown_there}
 use Rattle.bus_automaton.specs.Lawful.{AutomatonLaws}
 use Rattle.bus_automaton.specs.OneAutomaton.{bus_of}
 use Rattle.bus_automaton.specs.OneProcess.{process_of, table_layout_by}
@@ -22,7 +23,6 @@ use Rattle.bus_automaton.proofs.Leading.{takes_turn}
 use Rattle.bus_pageslot.specs.Rule.{Sat, TableInvariant}
 use Rattle.bus_pageslot.specs.Steps.{IsDue}
 use Rattle.bus_pageslot.specs.declared.rule.View.{View}
-use Rattle.bus_pageslot.proofs.Truths.{there}
 use Rattle.bus_pageslot.proofs.Stepping as stepping
 
 -- the log of a machine is that of its words
@@ -47,7 +47,7 @@ joins_frame {E} X x reuse bases L s r id m at d word many o is_due law =
     let low = stepping.low X x reuse bases L s r id m at d word many o is_due in
     let same = stepping.words_are X x reuse bases L s r id m at d word many o is_due in
     let turn = takes_turn X x reuse bases z h p d here word o is_due.due low in
-    let goes : going b p ≡ Some d = turn.goes ∙ ap Some (same_Some _ _ (sym (there (is_set (slice_get b.stopped p)) (slice_get b.senders p) turn.sender turn.goes) ∙ here)) in
+    let goes : going b p ≡ Some d = turn.goes ∙ ap Some (same_Some _ _ (sym (shown_there (is_set (slice_get b.stopped p)) (slice_get b.senders p) turn.sender turn.goes) ∙ here)) in
     let follows = stepping.turn_is X x reuse bases L s r id m at d word many o is_due (Follows X) law in
     let before : log_of b ≡ log_below (table_layout_by x reuse) s.words =
     log_is b x reuse h.layout h.rows_are ∙ ap (log_below (table_layout_by x reuse)) (sym same) in

@@ -3,7 +3,7 @@ use Rattle.std.proofs.Common.{◌≡◌, ◌≢◌, ℕ, ◌+◌, ◌<◌, ◌�
 use Rattle.std.specs.Prelude.{Option, Some, None}
 use Rattle.std.proofs.lemmas.Bool.{cases_eq, cases_lt}
 use Rattle.std.proofs.lemmas.Bool.Decides.{eqb_tells}
-use Rattle.std.proofs.lemmas.List.{length-append, length-take, take-append-drop, take-append-le, take_more}
+use Rattle.std.proofs.lemmas.List.{length-take, take-append-drop, take-append-le, take_more}
 use Rattle.std.proofs.lemmas.Option.{same_Some}
 use Rattle.bus_batch.specs.declared.messages.Piece.{Piece}
 use Rattle.bus_batch.specs.declared.messages.Piece.TheVariants as piece
@@ -19,11 +19,9 @@ use Rattle.bus_pageslot.specs.Rule.{Sat, receiver_view_in, known_in}
 use Rattle.bus_pageslot.specs.Seats.{knows, IsFit, IsReceiverView}
 use Rattle.bus_pageslot.specs.Steps.{Learns}
 use Rattle.bus_pageslot.specs.Listening.{FindsLength, FindsWord, HearsLength, HearsWord, Hears}
+use Rattle.bus_pageslot.proofs.Ties.{no_shorter}
 
 -- ---- a reader beside a receiver's view that knows more
-not_longer : (known more : List ℕ) → IsPrefix known more → length known ≤ length more
-not_longer known more h = let a = length-append known h.rest in let b = ap length h.together in omega arith
-
 front_of : (known more : List ℕ) (p : ℕ) → IsPrefix known more → p ≤ length known → take p more ≡ take p known
 front_of known more p h l = ap (take p) (sym h.together) ∙ take-append-le p known h.rest l
 
@@ -35,7 +33,7 @@ fits_learnt senders e e' r h place ended grows =
       ended = h.ended ∙ sym ended;
       senders_are = h.senders_are;
       within = h.within;
-      below = (let a = h.below in let b = not_longer e.known e'.known grows in omega arith);
+      below = (let a = h.below in let b = no_shorter e.known e'.known grows in omega arith);
       believes = h.believes;
       pieces = h.pieces;
       received = subst (λ z. HasReceived z h.pieces r) (sym (front_of e.known e'.known r.place grows read)) h.received;
@@ -63,7 +61,7 @@ at_length place known got answer at same other = elim (eqb_tells got place) [
 
 module _ (x : TableLayout) (e : ReceiverView) (r r' : Receiving) (got : ℕ) (answer : RecvTurn) (fit : IsFit x.senders e r) (known : r.known ≡ length e.known) (at : r.place ≡ r.known) (small : got < 2 ^ 64) (takes : TakesLength r got answer r') where
   more_known : (ws : List ℕ) → IsPrefix e.known ws → length ws ≡ got → r.known ≤ got
-  more_known ws grows long = let l = not_longer e.known ws grows in omega arith
+  more_known ws grows long = let l = no_shorter e.known ws grows in omega arith
 
   taken : r.known ≤ got → (r' ≡ knows got r) × (answer ≡ length_turn e.place got)
   taken more =

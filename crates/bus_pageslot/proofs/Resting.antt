@@ -1,8 +1,7 @@
 -- What a sender answers without a step is so: it is a turn of the machine behind the table, which adds no action.
-use Rattle.std.proofs.Common.{◌≡◌, ℕ, zero, suc, ◌+◌, ◌*◌, ◌<◌, cond, eq-eqb, false, Option, Some, None, inl, inr, List, [], ◌++◌, slice_get, slice_index, replicate, arith, refl, sym, ◌∙◌, ap, subst}
+use Rattle.std.proofs.Common.{◌≡◌, ℕ, ◌+◌, ◌*◌, ◌<◌, cond, eq-eqb, Option, Some, inl, inr, List, [], ◌++◌, slice_get, slice_index, arith, refl, sym, ◌∙◌, ap, subst}
 use Rattle.std.proofs.lemmas.List.{append-nil}
 use Rattle.atomic_table.specs.Table.{State}
-use Rattle.bus_register.specs.declared.limits.TheConstants.{MOST_SENDERS}
 use Rattle.bus_core.specs.Senders.{Sender, Situation, Does, Announces, Validates, Unpins, Withdraws, Scans, Clears, situation}
 use Rattle.bus_core.specs.Table.{Line, line, line_now, rests, rest_at}
 use Rattle.bus_machine.specs.Machine.{Machine, Trails, Happens, IsOnWord, going, found, log_of, log_place, stage_of, machine_after, turn_answer, turn_grown, turn_trails}
@@ -18,27 +17,19 @@ use Rattle.bus_tenure.specs.declared.turns.Turn.TheVariants as turn
 use Rattle.bus_world.specs.Trails.{actions_with}
 use Rattle.bus_world.specs.Headline.{Action}
 use Rattle.bus_world.specs.Log.{words_read_from}
-use Rattle.bus_world.specs.World.{Turn, is_set, no_stops}
+use Rattle.bus_world.specs.World.{Turn}
 use Rattle.bus_world.specs.declared.events.Answer.TheVariants as answer
 use Rattle.bus_automaton.specs.Lawful.{AutomatonLaws, AcceptsIn, IsSender}
 use Rattle.bus_automaton.specs.OneAutomaton.{MachineHistory, IsMachineHistory, bus_of}
 use Rattle.bus_automaton.specs.OneProcess.{process_of}
 use Rattle.bus_automaton.specs.SenderTrails.{SenderTrail, with_actions}
+use Rattle.bus_automaton.proofs.Leading.{all_go}
 use Rattle.bus_pageslot.specs.Histories.{Shown, HasHistory}
 use Rattle.bus_pageslot.specs.Steps.{Accepts}
 use Rattle.bus_pageslot.specs.Truths.{IsTrueAnswer}
 use Rattle.bus_pageslot.specs.declared.rule.View.{View}
 use Rattle.bus_pageslot.proofs.Reaching.{accepted}
 use Rattle.bus_pageslot.proofs.Stepping.{OfEvents}
-
--- ---- who goes on
-none_set : (n s : ℕ) → is_set (slice_get (replicate n false) s) ≡ false
-none_set zero s = refl
-none_set (suc n) zero = refl
-none_set (suc n) (suc s) = none_set n s
-
-all_go : {E : Type 0} (m : Machine E) → m.stopped ≡ no_stops → (s : ℕ) → going m s ≡ slice_get m.senders s
-all_go m none s = ap (λ t. cond t None (slice_get m.senders s)) (ap (λ l. is_set (slice_get l s)) none ∙ none_set MOST_SENDERS s)
 
 -- no action more
 none_more : (s : ℕ) (D : ℕ → List Action) → actions_with s [] D s ≡ D s

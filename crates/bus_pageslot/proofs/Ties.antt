@@ -1,9 +1,9 @@
 -- How what leads to a state becomes the rule of the table: each step of a sender is allowed.
-use Rattle.std.proofs.Common.{◌≡◌, ◌≢◌, ℕ, ◌<◌, ◌≤◌, ◌==◌, cond, eq-eqb, ne_eqb, is_some, true, Option, Some, None, List, [], ◌∷◌, ◌++◌, length, set, slice_index, slice_set, arith, refl, sym, ◌∙◌, ap, subst, ⊎_elim, inl, inr}
+use Rattle.std.proofs.Common.{◌≡◌, ◌≢◌, ℕ, ◌<◌, ◌≤◌, ◌==◌, cond, eq-eqb, ne_eqb, is_some, Option, Some, List, [], ◌∷◌, ◌++◌, length, set, slice_index, slice_set, arith, sym, ◌∙◌, ap, subst, ⊎_elim, inl, inr}
 use mathlib.Core.Option.{some, none}
 use mathlib.Core.Option as maybe
 use lib.ListN.{get_elem?}
-use Rattle.std.proofs.lemmas.Bool.{true≢false, cases_eq}
+use Rattle.std.proofs.lemmas.Bool.{cases_eq}
 use Rattle.std.proofs.lemmas.Grind.{flat_map-append}
 use Rattle.std.proofs.lemmas.List.{length-append, get_or-set_same}
 use Rattle.std.proofs.lemmas.Option.{same_Some}
@@ -15,6 +15,7 @@ use Rattle.bus_register.specs.declared.registers.Reg.{Reg}
 use Rattle.bus_register.specs.Words.{register, after, SumFits}
 use Rattle.bus_batch.specs.Frames.{frame_words, log_words}
 use Rattle.bus_batch.proofs.FrameLaws.{same_log}
+use Rattle.bus_machine.proofs.Paging.{some_is}
 use Rattle.bus_tenure.specs.Situations.{Comes}
 use Rattle.bus_tenure.specs.declared.pages.Page.{Page}
 use Rattle.bus_world.specs.Headline.{IsPrefix}
@@ -125,10 +126,6 @@ stored_long (Store at value) words before now within is l = store_long at value 
 stored_long (Add at value) words before now within is l = l
 stored_long (Cas at expected value) words before now within is l = l
 
-pub is_there : {A : Type 0} (o : Option A) → is_some o ≡ true → (x : A) × (o ≡ Some x)
-is_there None e = absurd (true≢false (sym e))
-is_there (Some x) e = (x, refl)
-
 module _ {C : Type 0} (P : Process C) (A : Automaton C) (K : ProcessLaws P) (L : AutomatonLaws P A) where
   -- of a sender d, which its seat shows as it was before it accepted more
   module _ (id : ℕ) (m : Sat C) (d : C) (word : ℕ) (o : Op) (many : ℕ) (due : IsDue P d word m many o)
@@ -223,7 +220,7 @@ module _ {C : Type 0} (P : Process C) (A : Automaton C) (K : ProcessLaws P) (L :
 
     -- the page is at home where it is taken
     taken : (t : ℕ) → P.move d ≡ Comes t → (page : Page) × (A.home r.state ≡ Some page)
-    taken t is = is_there (A.home r.state) (ap is_some (sym grown.home) ∙ L.finds_home z p d word o t grown.changes.reached grown.changes.here due.due is)
+    taken t is = some_is (A.home r.state) (ap is_some (sym grown.home) ∙ L.finds_home z p d word o t grown.changes.reached grown.changes.here due.due is)
 
     moved : Moved (P.move d) (A.home r.state) s.homes m.1
     moved = moves (A.home r.state) s.homes m.1 _ r.slot (P.move d) (ap (λ (y : Sat C). y.1) due.me) taken

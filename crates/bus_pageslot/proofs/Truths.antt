@@ -1,5 +1,5 @@
 -- What a sender is answered is so.
-use Rattle.std.proofs.Common.{◌≡◌, ℕ, Bool, true, false, cond, Option, Some, None, List, slice_get, slice_index, sym, ◌∙◌, ap, subst}
+use Rattle.std.proofs.Common.{◌≡◌, ℕ, Option, Some, List, slice_get, slice_index, sym, ◌∙◌, ap, subst}
 use Rattle.std.proofs.lemmas.Option.{same_Some}
 use mathlib.Core.Option.{some}
 use lib.ListN.{get_elem?}
@@ -15,6 +15,7 @@ use Rattle.bus_tenure.specs.declared.pages.Page.{Page}
 use Rattle.bus_world.specs.Turning.{number_found}
 use Rattle.bus_world.specs.World.{Turn, is_set}
 use Rattle.bus_world.specs.declared.events.Answer.TheVariants as answer
+use Rattle.bus_world.proofs.Stopping.{shown_there}
 use Rattle.bus_automaton.specs.Lawful.{ProcessLaws, AutomatonLaws}
 use Rattle.bus_automaton.specs.OneAutomaton.{bus_of, trail_of}
 use Rattle.bus_automaton.specs.OneProcess.{process_of}
@@ -26,11 +27,6 @@ use Rattle.bus_pageslot.specs.Truths.{IsTrueAnswer}
 use Rattle.bus_pageslot.specs.declared.rule.View.{View}
 use Rattle.bus_pageslot.proofs.Accepting.{since_is}
 use Rattle.bus_pageslot.proofs.Stepping as stepping
-
--- who goes on is there
-pub there : {A : Type 0} (t : Bool) (o : Option A) (v : A) → cond t None o ≡ Some v → o ≡ Some v
-there true o v e = absurd (let bad = e in cc)
-there false o v e = e
 
 pub told_truly : {E : Type 0} (X : Election E) (x : Layout) (reuse : Option ℕ) (bases : List ℕ) (K : ProcessLaws (process_of X))
     (L : AutomatonLaws (process_of X) (bus_of X x reuse bases)) (s : State (Option Page) (View (Sender E)))
@@ -55,7 +51,7 @@ told_truly {E} X x reuse bases K L s r id m at d word many o is_due law =
     let given = turn_answer b l word in
     let after = trails_grown X b (Turn p word) (answer.Turn given) z.trails in
     let turn = takes_turn X x reuse bases z h p d here word o is_due.due low in
-    let goes : going b p ≡ Some d = turn.goes ∙ ap Some (same_Some _ _ (sym (there (is_set (slice_get b.stopped p)) (slice_get b.senders p) turn.sender turn.goes) ∙ here)) in
+    let goes : going b p ≡ Some d = turn.goes ∙ ap Some (same_Some _ _ (sym (shown_there (is_set (slice_get b.stopped p)) (slice_get b.senders p) turn.sender turn.goes) ∙ here)) in
     let tells : TurnTells b p d (after.actions p) given =
     subst (λ g. SenderTells b p g (after.actions p) (answer.Turn given)) goes
     (stepping.turn_is X x reuse bases L s r id m at d word many o is_due (λ old e a new. Tells X old e a) law z.trails h.reached) in

@@ -1,7 +1,7 @@
 -- The arrows that a picture has are those that it is to have.
-use Rattle.std.proofs.Common.{◌≡◌, ◌≢◌, ◌⊎◌, inl, inr, ℕ, zero, suc, ◌+◌, ◌<◌, Bool, true, false, cond, ◌&&◌, List, [], ◌∷◌, length, take, Option, Some, None, slice_get, refl, sym, ap, ◌∙◌, subst, eqb-true, length-take, arith}
+use Rattle.std.proofs.Common.{◌≡◌, ◌≢◌, ◌⊎◌, inl, inr, ℕ, zero, suc, ◌+◌, ◌<◌, Bool, true, false, cond, List, [], ◌∷◌, length, take, Option, Some, None, slice_get, refl, sym, ap, ◌∙◌, subst, eqb-true, length-take, arith}
 use Rattle.std.specs.Option.{option_and_then}
-use Rattle.std.proofs.lemmas.Bool.{false≢true, cases_order}
+use Rattle.std.proofs.lemmas.Bool.{false≢true, false_from_ne_true, and_from, and_parts, cases_order}
 use Rattle.std.proofs.lemmas.Bool.Decides.{Decides-eqb}
 use Rattle.std.proofs.lemmas.Slice.Eq.{bytes_eq-Decides}
 use Rattle.std.proofs.lemmas.Option.{none-some, same_Some, slice_get_within, option_and_then_some}
@@ -26,24 +26,11 @@ itself : (p : Process) → is_same p p ≡ true
 itself (Sender a) = (Decides-eqb a a).1 refl
 itself (Receiver a) = (Decides-eqb a a).1 refl
 
-from_cases : (b : Bool) → (b ≡ true → ⊥) → b ≡ false
-from_cases true h = absurd (h refl)
-from_cases false h = refl
-
 other_process : (p q : Process) → p ≢ q → is_same p q ≡ false
-other_process p q other = from_cases (is_same p q) (λ e. other (same_process p q e))
-
-both : (a b : Bool) → a ≡ true → b ≡ true → (a && b) ≡ true
-both true true e f = refl
-both true false e f = f
-both false b e f = e
-
-parts : (a b : Bool) → (a && b) ≡ true → (a ≡ true) × (b ≡ true)
-parts true b e = (refl, e)
-parts false b e = absurd (false≢true e)
+other_process p q other = false_from_ne_true (is_same p q) (λ e. other (same_process p q e))
 
 stored : (word : List ℕ) (s : Shown) → writes s ≡ true → s.word ≡ word → stores_in word s ≡ true
-stored word s w e = both (writes s) (bytes_eq s.word word) w ((bytes_eq-Decides s.word word).1 e)
+stored word s w e = and_from (writes s) (bytes_eq s.word word) w ((bytes_eq-Decides s.word word).1 e)
 
 taken : (n : ℕ) (rows : List Shown) (k : ℕ) → k < n → slice_get (take n rows) k ≡ slice_get rows k
 taken zero rows k lt = absurd (omega arith)
@@ -122,7 +109,7 @@ module _ (rows : List Shown) (to : ℕ) (load : Shown) (is : slice_get rows to �
   latest_store last =
       let here : source.place ≡ last.index = omega (arith, last.place_is) in
       let below = within to rows last.index last.row last.stands in
-      let both_are = parts (writes last.row) (bytes_eq last.row.word load.word) last.passed in
+      let both_are = and_parts (writes last.row) (bytes_eq last.row.word load.word) last.passed in
       record {
         store = last.row;
         stands = ap (slice_get rows) here ∙ sym (taken to rows last.index below) ∙ last.stands;
@@ -158,7 +145,7 @@ module _ (rows : List Shown) (word : List ℕ) (to : ℕ) (source : Found) (h : 
   same_place : (f : Found) (last : IsLast (stores_in word) 0 (take to rows) f) → f.place ≡ source.place
   same_place f last =
       let at : f.place ≡ last.index = omega (arith, last.place_is) in
-      let both_are = parts (writes last.row) (bytes_eq last.row.word word) last.passed in
+      let both_are = and_parts (writes last.row) (bytes_eq last.row.word word) last.passed in
       let below = within to rows last.index last.row last.stands in
       elim (cases_order f.place source.place) [
         | inl same ↦ same

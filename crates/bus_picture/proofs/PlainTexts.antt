@@ -1,8 +1,8 @@
 -- Texts with no byte below a space: they have no tab, and no end of a line.
-use Rattle.std.proofs.Common.{◌≡◌, ℕ, zero, suc, ◌+◌, ◌/◌, ◌%◌, ◌≤◌, Bool, true, false, cond, ◌&&◌, List, [], ◌∷◌, ◌++◌, ◌==◌, All, decimal, refl, eqb-true, leb-true, nat_lt, nat_le, arith}
+use Rattle.std.proofs.Common.{◌≡◌, ℕ, zero, suc, ◌+◌, ◌/◌, ◌%◌, ◌≤◌, Bool, true, false, cond, List, [], ◌∷◌, ◌++◌, ◌==◌, All, decimal, eqb-true, leb-true, nat_lt, nat_le, arith}
 use Rattle.std.specs.Fmt.{digits, digits_onto, digit_glyph}
 use Rattle.std.specs.List.{list_all}
-use Rattle.std.proofs.lemmas.Bool.{false≢true}
+use Rattle.std.proofs.lemmas.Bool.{false_from_ne_true, and_parts}
 use Rattle.std.proofs.lemmas.List.Elements.{All-nil, All-cons, All-append, All-weaker}
 
 abbrev pub IsPlain : List ℕ → Type 0
@@ -15,25 +15,17 @@ HasNoTab text = All (λ b. (b == 9) ≡ false) text
 abbrev pub HasNoEnd : List ℕ → Type 0
 HasNoEnd text = All (λ b. (b == 10) ≡ false) text
 
-from_cases : (b : Bool) → (b ≡ true → ⊥) → b ≡ false
-from_cases true h = absurd (h refl)
-from_cases false h = refl
-
 pub no_tab : (text : List ℕ) → IsPlain text → HasNoTab text
-no_tab text = All-weaker (λ b. 32 ≤ b) (λ b. (b == 9) ≡ false) (λ b h. from_cases (b == 9) (λ e. let same : b ≡ 9 = eqb-true b 9 e in omega arith)) text
+no_tab text = All-weaker (λ b. 32 ≤ b) (λ b. (b == 9) ≡ false) (λ b h. false_from_ne_true (b == 9) (λ e. let same : b ≡ 9 = eqb-true b 9 e in omega arith)) text
 
 pub no_end : (text : List ℕ) → IsPlain text → HasNoEnd text
-no_end text = All-weaker (λ b. 32 ≤ b) (λ b. (b == 10) ≡ false) (λ b h. from_cases (b == 10) (λ e. let same : b ≡ 10 = eqb-true b 10 e in omega arith)) text
+no_end text = All-weaker (λ b. 32 ≤ b) (λ b. (b == 10) ≡ false) (λ b h. false_from_ne_true (b == 10) (λ e. let same : b ≡ 10 = eqb-true b 10 e in omega arith)) text
 
 -- ---- what is plain
-all_parts : (a b : Bool) → (a && b) ≡ true → (a ≡ true) × (b ≡ true)
-all_parts true b e = (refl, e)
-all_parts false b e = absurd (false≢true e)
-
 -- by a test, which a text of the program's own passes
 pub plain_by : (text : List ℕ) → list_all (λ b. nat_le 32 b) text ≡ true → IsPlain text
 plain_by [] e = All-nil (λ b. 32 ≤ b)
-plain_by (b ∷ text) e = let h = all_parts (nat_le 32 b) (list_all (λ c. nat_le 32 c) text) e in All-cons (λ b. 32 ≤ b) b text (leb-true 32 b h.0) (plain_by text h.1)
+plain_by (b ∷ text) e = let h = and_parts (nat_le 32 b) (list_all (λ c. nat_le 32 c) text) e in All-cons (λ b. 32 ≤ b) b text (leb-true 32 b h.0) (plain_by text h.1)
 
 pub plain_append : (a b : List ℕ) → IsPlain a → IsPlain b → IsPlain (a ++ b)
 plain_append a b = All-append (λ b. 32 ≤ b) a b
@@ -45,7 +37,7 @@ pub plain_cond : (test : Bool) (a b : List ℕ) → IsPlain a → IsPlain b → 
 plain_cond true a b h k = h
 plain_cond false a b h k = k
 
-glyph_cases : (test : Bool) (d : ℕ) → 32 ≤ cond test (48 + d) (87 + d)
+pub glyph_cases : (test : Bool) (d : ℕ) → 32 ≤ cond test (48 + d) (87 + d)
 glyph_cases true d = omega arith
 glyph_cases false d = omega arith
 

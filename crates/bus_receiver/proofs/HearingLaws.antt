@@ -1,6 +1,8 @@
 -- A listener counts just what it takes, and notes who has left.
-use Rattle.std.proofs.Common.{◌≡◌, ℕ, ◌+◌, ◌<◌, Bool, true, false, cond, ◌&&◌, ◌||◌, ◌==◌, nat_lt, inl, inr, List, [], ◌∷◌, length, slice_index, slice_index_or, slice_set, slice_get, Some, arith, refl, sym, ◌∙◌, ap}
+use Rattle.std.proofs.Common.{◌≡◌, ℕ, ◌+◌, ◌<◌, Bool, true, false, cond, ◌&&◌, ◌||◌, ◌==◌, nat_lt, inl, inr, List, [], ◌∷◌, length, slice_index, slice_set, slice_get, Some, arith, refl, sym, ◌∙◌, ap}
 use Rattle.std.specs.Prelude.{count_by, replicate}
+use Rattle.std.proofs.Math.Bool.{or-false, or-true, or_assoc}
+use Rattle.std.proofs.lemmas.Bool.{and_parts}
 use Rattle.std.proofs.lemmas.Bool.Decides.{nat_tests, eqb_tells}
 use Rattle.std.proofs.lemmas.List.{get_or-set_same, get_or-set_other, get_or-replicate, length-append}
 use Rattle.std.proofs.lemmas.List.Sums.{sum_by-append}
@@ -23,22 +25,14 @@ nothing_more : (s : ℕ) (h : Hearing) → length h.counts ≡ MOST_SENDERS → 
 nothing_more s h e true = (omega arith, e, omega arith)
 nothing_more s h e false = (omega arith, e, omega arith)
 
-both : (a b : Bool) → (a && b) ≡ true → b ≡ true
-both true b h = h
-both false b h = absurd (let no : false ≡ true = h in cc)
-
-first : (a b : Bool) → (a && b) ≡ true → a ≡ true
-first true b h = refl
-first false b h = h
-
 below_most : (h : Hearing) (sender : ℕ) → is_there h sender ≡ true → sender < MOST_SENDERS
-below_most h sender is = let t = first (nat_lt sender MOST_SENDERS) _ is in grind (arith, nat_tests, t)
+below_most h sender is = let t = (and_parts (nat_lt sender MOST_SENDERS) _ is).0 in grind (arith, nat_tests, t)
 
 one_item : (s : ℕ) (h : Hearing) (item : Item) → length h.counts ≡ MOST_SENDERS → (b : Bool) → takes h (turn.Item item) ≡ b → CountsOne s h (cond b (hearing_after h (turn.Item item)) h) (cond b (item ∷ []) [])
 one_item s h item e false is = (omega arith, e, omega arith)
 one_item s h item e true is =
-    let fits = both (goes_on h && has_room h) (is_there h item.sender.0 && (item.number == expected h item.sender.0)) is in
-    let below = below_most h item.sender.0 (first (is_there h item.sender.0) (item.number == expected h item.sender.0) fits) in
+    let fits = (and_parts (goes_on h && has_room h) (is_there h item.sender.0 && (item.number == expected h item.sender.0)) is).1 in
+    let below = below_most h item.sender.0 (and_parts (is_there h item.sender.0) (item.number == expected h item.sender.0) fits).0 in
     let now : ℕ = slice_index h.counts item.sender.0 + 1 in
     let many = length-set h.counts item.sender.0 now in
     elim (eqb_tells item.sender.0 s) [
@@ -92,24 +86,12 @@ module _ (bases : List ℕ) (turns : List RecvTurn) where
   counts_items = let all = (counts_all 0 turns (nothing_after bases) refl).1 in omega arith
 
 -- ---- who has left
-or_false : (b : Bool) → b || false ≡ b
-or_false true = refl
-or_false false = refl
-
-or_true : (b : Bool) → b || true ≡ true
-or_true true = refl
-or_true false = refl
-
-or_or : (a b c : Bool) → (a || b) || c ≡ a || (b || c)
-or_or true b c = refl
-or_or false b c = refl
-
 -- one answer more, which says of a sender that it has left, or does not
 abbrev NotesOne : ℕ → Bool → Hearing → Hearing → Bool → Type 0
 NotesOne s b old new says = (slice_get new.left s ≡ Some (b || says)) × (length new.left ≡ length old.left)
 
 notes_none : (s : ℕ) (b : Bool) (old new : Hearing) → slice_get old.left s ≡ Some b → new.left ≡ old.left → NotesOne s b old new false
-notes_none s b old new is same = (ap (λ l. slice_get l s) same ∙ is ∙ ap Some (sym (or_false b)), ap length same)
+notes_none s b old new is same = (ap (λ l. slice_get l s) same ∙ is ∙ ap Some (sym (or-false b)), ap length same)
 
 notes_nothing : (s : ℕ) (b : Bool) (old new : Hearing) → slice_get old.left s ≡ Some b → new.left ≡ old.left → (c : Bool) → NotesOne s b old (cond c new old) (c && false)
 notes_nothing s b old new is same true = notes_none s b old new is same
@@ -119,17 +101,17 @@ one_leave : (s o : ℕ) (b : Bool) (h : Hearing) → slice_get h.left s ≡ Some
 one_leave s o b h is within = elim (eqb_tells o s) [
   | inl own ↦
       let here = get_set_same h.left o true within in
-      (ap (slice_get (slice_set h.left o true)) (sym own.1) ∙ here ∙ ap Some (sym (ap (λ d. b || d) own.0 ∙ or_true b)), length-set h.left o true)
+      (ap (slice_get (slice_set h.left o true)) (sym own.1) ∙ here ∙ ap Some (sym (ap (λ d. b || d) own.0 ∙ or-true b)), length-set h.left o true)
   | inr other ↦
       let there = get_set_other h.left o true s (λ e. other.1 (sym e)) in
-      (there ∙ is ∙ ap Some (sym (ap (λ d. b || d) other.0 ∙ or_false b)), length-set h.left o true)
+      (there ∙ is ∙ ap Some (sym (ap (λ d. b || d) other.0 ∙ or-false b)), length-set h.left o true)
 ]
 
 maybe_leaves : (s : ℕ) (o : SenderNo) (b : Bool) (h : Hearing) → slice_get h.left s ≡ Some b → length h.left ≡ MOST_SENDERS → (c : Bool) → takes h (turn.Leave o) ≡ c
     → NotesOne s b h (cond c (record h { left = slice_set h.left o.0 true }) h) (c && (o.0 == s))
 maybe_leaves s o b h is many false taken = notes_none s b h h is refl
 maybe_leaves s o b h is many true taken =
-    let below = below_most h o.0 (both (goes_on h) (is_there h o.0) taken) in one_leave s o.0 b h is (omega (arith, below, many))
+    let below = below_most h o.0 (and_parts (goes_on h) (is_there h o.0) taken).1 in one_leave s o.0 b h is (omega (arith, below, many))
 
 notes_one : (s : ℕ) (b : Bool) (h : Hearing) (t : RecvTurn) → slice_get h.left s ≡ Some b → length h.left ≡ MOST_SENDERS → NotesOne s b h (hears h t) (takes h t && is_leave_of s t)
 notes_one s b h turn.Going is many = notes_nothing s b h h is refl (goes_on h)
@@ -140,10 +122,10 @@ notes_one s b h (turn.Leave o) is many = maybe_leaves s o b h is many (takes h (
 notes_one s b h turn.End is many = notes_none s b h (hearing_after h turn.End) is refl
 
 notes_all : (s : ℕ) (b : Bool) (turns : List RecvTurn) (h : Hearing) → slice_get h.left s ≡ Some b → length h.left ≡ MOST_SENDERS → slice_get (hearing_after_all h turns).left s ≡ Some (b || takes_leave s h turns)
-notes_all s b [] h is many = is ∙ ap Some (sym (or_false b))
+notes_all s b [] h is many = is ∙ ap Some (sym (or-false b))
 notes_all s b (t ∷ turns) h is many =
     let one = notes_one s b h t is many in
-    notes_all s (b || (takes h t && is_leave_of s t)) turns (hears h t) one.0 (one.1 ∙ many) ∙ ap Some (or_or b (takes h t && is_leave_of s t) (takes_leave s (hears h t) turns))
+    notes_all s (b || (takes h t && is_leave_of s t)) turns (hears h t) one.0 (one.1 ∙ many) ∙ ap Some (or_assoc b (takes h t && is_leave_of s t) (takes_leave s (hears h t) turns))
 
 pub notes_leaves : (bases : List ℕ) (turns : List RecvTurn) (s : ℕ) → s < MOST_SENDERS → slice_get (hearing_after_all (nothing_after bases) turns).left s ≡ Some (takes_leave s (nothing_after bases) turns)
 notes_leaves bases turns s l = notes_all s false turns (nothing_after bases) (slice_get_read (replicate MOST_SENDERS false) MOST_SENDERS s false refl l (sym (get_or-replicate MOST_SENDERS s false false l))) refl

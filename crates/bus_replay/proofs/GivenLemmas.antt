@@ -1,9 +1,9 @@
 -- The lines of what receivers were given, one by one.
-use Rattle.std.proofs.Common.{◌≡◌, ℕ, zero, suc, ◌+◌, ◌<◌, ◌≤◌, Some, List, [], ◌∷◌, ◌++◌, map, length, drop, slice_get, refl, sym, ap, ◌∙◌, append_assoc, inl, inr, arith}
+use Rattle.std.proofs.Common.{◌≡◌, ℕ, zero, suc, ◌+◌, ◌<◌, ◌≤◌, Some, List, [], ◌∷◌, ◌++◌, map, length, drop, slice_get, sym, ap, ◌∙◌, append_assoc, inl, inr, arith}
 use Rattle.std.specs.Prelude.{flat_map}
 use Rattle.std.specs.List.{enumerate_from, range_with_len}
 use Rattle.std.proofs.lemmas.Option.{same_Some, slice_get_cases}
-use Rattle.std.proofs.lemmas.List.{append-nil, drop_more}
+use Rattle.std.proofs.lemmas.List.{append-nil, drop_all, drop_more}
 use Rattle.std.proofs.lemmas.List.FromFn.{length-map-range_with_len}
 use Rattle.bus_batch.specs.Frames.{Order}
 use Rattle.bus_replay.specs.Text.{given_line}
@@ -17,12 +17,6 @@ found xs r lt = elim (slice_get_cases xs r).1 [
 
 abbrev pub lines_from : ℕ → List Order → List ℕ
 lines_from r given = flat_map (λ g. given_line g.0 g.1) (enumerate_from r given)
-
-drop_all : {A : Type 0} (r : ℕ) (xs : List A) → length xs ≤ r → drop r xs ≡ []
-drop_all zero [] l = refl
-drop_all (suc r) [] l = refl
-drop_all zero (x ∷ xs) l = absurd (omega arith)
-drop_all (suc r) (x ∷ xs) l = drop_all r xs (omega arith)
 
 numbered_at : (f : ℕ → Order) (k n r : ℕ) (q : Order) → slice_get (map f (range_with_len k n)) r ≡ Some q → q ≡ f (k + r)
 numbered_at f k zero r q e = absurd cc

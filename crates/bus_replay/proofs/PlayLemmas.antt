@@ -1,7 +1,6 @@
 -- The lines of a script of `replay`, obeyed one by one.
-use Rattle.std.specs.Prelude.{OnOk}
-use Rattle.std.proofs.Common.{◌≡◌, ℕ, Bool, Some, List, [], ◌∷◌, ◌++◌, length, Result, Ok, Err, IfOk, refl, sym, ap, subst, ◌∙◌, append_assoc, inr}
-use Rattle.std.proofs.lemmas.List.{append_cancel_left}
+use Rattle.std.proofs.Common.{◌≡◌, ℕ, Bool, Some, List, [], ◌∷◌, ◌++◌, length, refl, sym, ap, subst, ◌∙◌, append_assoc, inr}
+use Rattle.std.proofs.lemmas.List.{append-nil, append_cancel_left}
 use Rattle.bus_register.specs.Protocol.{Protocol}
 use Rattle.bus_register.specs.declared.registers.SenderNo.{SenderNo}
 use Rattle.bus_adoptcommit.specs.declared.verdicts.Verdict.{Verdict}
@@ -19,20 +18,6 @@ use Rattle.bus_replay.specs.Lines.{shape_in, reuse_in}
 use Rattle.bus_replay.specs.Text.{owners_line, order_text, given_text}
 use Rattle.bus_replay.specs.Answers.{given_by, End, Left, Stopped, Prints, Closes, Ends, Begins}
 use Rattle.bus_replay.specs.Told.{IsObeyed, ArePlayed}
-
-all_of : (bytes : List ℕ) → bytes ++ [] ≡ bytes
-all_of [] = refl
-all_of (b ∷ bytes) = ap (λ (l : List ℕ). b ∷ l) (all_of bytes)
-
--- what follows where all went well
-pub on_done : {F : Type 0} (r : Result (Unit {0}) F) (P Q : Type 0) → OnOk r P → (P → Q) → OnOk r Q
-on_done (Ok a) P Q h f = f h
-on_done (Err e) P Q h f = tt
-
--- what follows from a fact of a value
-pub if_ok : {A F : Type 0} (P Q : A → Type 0) (r : Result A F) → ((a : A) → P a → Q a) → IfOk r P → IfOk r Q
-if_ok P Q (Ok a) f h = f a h
-if_ok P Q (Err e) f h = tt
 
 module _ {S : Type 0} (X : Election (Elector S)) (P : Protocol S Bool Verdict) where
   -- ---- all lines
@@ -62,7 +47,7 @@ module _ {S : Type 0} (X : Election (Elector S)) (P : Protocol S Bool Verdict) w
         → (added : List ℕ) × ArePlayed X P b lines outcome.Done added now × (new ≡ old ++ added)
     all_played left old new now h none = (
       h.printed,
-      subst (λ l. Prints X P b lines l (Left now)) (all_of h.printed) (h.from_first [] (Left now)
+      subst (λ l. Prints X P b lines l (Left now)) (append-nil h.printed) (h.from_first [] (Left now)
           (subst (λ l. Prints X P now l [] (Left now)) (sym none) (refl, refl))),
       h.text_is,
     )
@@ -77,7 +62,7 @@ module _ {S : Type 0} (X : Election (Elector S)) (P : Protocol S Bool Verdict) w
         let stops : IsObeyed X P now line outcome.Refused added next = subst (λ r. IsObeyed X P now line r added next) refused obeyed.1 in
         let whole = h.from_first [] (Stopped added) (subst (λ l. Prints X P now l [] (Stopped added)) (sym is) (stops behind)) in (
           h.printed ++ added,
-          (h.printed, added, subst (λ l. Prints X P b lines l (Stopped added)) (all_of h.printed) whole, refl),
+          (h.printed, added, subst (λ l. Prints X P b lines l (Stopped added)) (append-nil h.printed) whole, refl),
           obeyed.2 ∙ ap (λ (l : List ℕ). l ++ added) h.text_is ∙ append_assoc old h.printed added,
         )
 

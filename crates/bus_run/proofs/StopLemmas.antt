@@ -1,14 +1,16 @@
 -- Workers of senders in order, and what the fault of workers that have ended tells of the run.
-use Rattle.std.proofs.Common.{◌≡◌, ℕ, zero, suc, ◌+◌, ◌<◌, ◌⊎◌, inl, inr, Bool, true, false, ◌||◌, None, is_some, refl, List, [], ◌∷◌, length, take, Option, Some, slice_index_or, sym, ap, subst, ◌∙◌, arith}
-use Rattle.std.specs.Prelude.{slice_get, All, Result, Ok, Err, IsErr, IsErrAnd, IfErr}
+use Rattle.std.proofs.Common.{◌≡◌, ℕ, zero, suc, ◌+◌, ◌<◌, ◌⊎◌, inl, inr, true, false, None, is_some, refl, List, [], ◌∷◌, length, take, Option, Some, slice_index_or, sym, ap, subst, ◌∙◌, arith}
+use Rattle.std.specs.Prelude.{slice_get, All}
 use Rattle.std.proofs.lemmas.List.{take_more, length-take}
-use Rattle.std.proofs.lemmas.Bool.{true≢false}
+use Rattle.std.proofs.lemmas.Bool.{true≢false, or_parts}
 use Rattle.std.proofs.lemmas.Option.{slice_get_within, same_Some, get_or_from_slice_get}
 use Rattle.bus_batch.specs.Frames.{Order}
 use Rattle.bus_pageslot.specs.Outcomes.{Outcome}
 use Rattle.bus_pageslot.specs.Seats.{SenderSeat}
 use Rattle.bus_receiver.specs.Hearing.{Hearing}
 use Rattle.bus_world.specs.declared.shapes.Shape.{Shape}
+use Rattle.bus_world.proofs.PlayingLaws.{one_there}
+pub use Rattle.bus_world.proofs.PlayingLaws.{passed_up}
 use Rattle.bus_run.specs.Audit.{IsSpelled, IsFirstFault}
 use Rattle.bus_run.specs.Left.{Held, Shown}
 use Rattle.bus_run.specs.Stops.{AreInOrder, IsWhole, is_gate, has_gate, AreUnstopped, IsFirstStop, IsLate, IsTextFault, IsNamed, IsStop}
@@ -30,14 +32,10 @@ one_more_in_order number xs i x within is before here k d at =
     ]
 
 -- ---- what a sender's worker noted
-either : (a b : Bool) → a || b ≡ false → (a ≡ false) × (b ≡ false)
-either true b e = absurd (true≢false e)
-either false b e = (refl, e)
-
 no_gate : {D : Type 0} (noted : D → Option SenderFault) (xs : List D) (i : ℕ) (x : D) → has_gate noted xs ≡ false → slice_get xs i ≡ Some x → is_gate (noted x) ≡ false
 no_gate noted [] i x none at = absurd (let no = at in cc)
-no_gate noted (y ∷ ys) zero x none at = ap (λ z. is_gate (noted z)) (sym (same_Some y x at)) ∙ (either (is_gate (noted y)) (has_gate noted ys) none).0
-no_gate noted (y ∷ ys) (suc i) x none at = no_gate noted ys i x (either (is_gate (noted y)) (has_gate noted ys) none).1 at
+no_gate noted (y ∷ ys) zero x none at = ap (λ z. is_gate (noted z)) (sym (same_Some y x at)) ∙ (or_parts (is_gate (noted y)) (has_gate noted ys) none).0
+no_gate noted (y ∷ ys) (suc i) x none at = no_gate noted ys i x (or_parts (is_gate (noted y)) (has_gate noted ys) none).1 at
 
 is_stop : (o : Option SenderFault) → is_gate o ≡ false → is_some o ≡ true → o ≡ Some Stopped
 is_stop None e some = absurd (true≢false (sym some))
@@ -47,10 +45,6 @@ is_stop (Some Stopped) e some = refl
 -- a worker that noted something noted a stop, where none noted a gate
 pub stopped_at : {D : Type 0} (noted : D → Option SenderFault) (xs : List D) (i : ℕ) (x : D) → has_gate noted xs ≡ false → slice_get xs i ≡ Some x → is_some (noted x) ≡ true → noted x ≡ Some Stopped
 stopped_at noted xs i x none at some = is_stop (noted x) (no_gate noted xs i x none at) some
-
-pub unstopped : (o : Option SenderFault) → is_some o ≡ false → o ≡ None
-unstopped None e = refl
-unstopped (Some fault) e = absurd (true≢false e)
 
 -- ---- who is named
 -- a receiver among those that noted, and a sender of a bus
@@ -102,23 +96,9 @@ text_stop senders left heards run.Spawn spelled h = absurd h
 text_stop senders left heards run.Gate spelled h = absurd h
 text_stop senders left heards (run.Stopped s) spelled h = absurd h
 
--- ---- faults that are passed on
-pub passed_up : {T E : Type 0} (r : Result T E) (e : E) (P : E → Type 0) → IsErr r × IsErrAnd r (λ y. y ≡ e) → P e → IfErr r P
-passed_up (Ok x) e P h p = absurd h.1
-passed_up (Err y) e P h p = subst P (sym h.1) p
-
-pub err_weaker : {T E : Type 0} (r : Result T E) (P Q : E → Type 0) → ((e : E) → P e → Q e) → IfErr r P → IfErr r Q
-err_weaker (Ok x) P Q weaker h = tt
-err_weaker (Err e) P Q weaker h = weaker e h
-
 -- ---- a fact of each sender's worker
-get_at : {D : Type 0} (xs : List D) (i : ℕ) → i < length xs → (d : D) × (slice_get xs i ≡ Some d)
-get_at [] i l = absurd (omega arith)
-get_at (x ∷ xs) zero l = (x, refl)
-get_at (x ∷ xs) (suc i) l = get_at xs i (omega arith)
-
 -- what holds of all workers of senders holds of that of each sender
 pub of_each : {D : Type 0} (number : D → ℕ) (P : D → Type 0) (xs : List D) (s : ℕ) → AreInOrder number xs → All P xs → s < length xs → (d : D) × (number d ≡ s) × P d
 of_each number P xs s order all below =
-    let there = get_at xs s below in
+    let there = one_there xs s below in
     (there.0, order s there.0 there.1, subst P (get_or_from_slice_get xs s there.0 there.0 there.1) (all s there.0 below))

@@ -1,15 +1,11 @@
 -- Of a sender of a run with nothing in its batch nothing waits, and a message that it takes waits behind the others.
-use Rattle.std.proofs.Common.{◌≡◌, ℕ, List, Result, Ok, Err, OnOk, Option, Some, None, [], ◌∷◌, ◌++◌, length, true, false, refl, sym, ap, ◌∙◌}
+use Rattle.std.proofs.Common.{◌≡◌, ℕ, List, Result, Ok, Err, OnOk, [], ◌∷◌, ◌++◌, length, true, false, refl, sym, ap, ◌∙◌}
 use Rattle.std.specs.Result.{is_ok}
 use Rattle.std.proofs.lemmas.Bool.{true≢false}
 use Rattle.std.proofs.lemmas.List.{nil_from_length}
 use Rattle.bus_batch.specs.Batches.{Pending}
 use Rattle.bus_automaton.specs.Buses.{process_with}
-use Rattle.bus_core.specs.Keeping.{queue_of}
-use Rattle.bus_core.specs.declared.reuses.Reuse.{Reuse}
-use Rattle.bus_core.specs.Reusing.Turns.{queue_seen}
-use Rattle.bus_presence.specs.declared.pins.Pin.{Pin}
-use Rattle.bus_presence.specs.declared.pins.Pin.TheVariants.{Away, Announcing, Validating, Pinned, Unpinning, Invalidated}
+use Rattle.bus_automaton.proofs.Turns.{messages_are}
 use Rattle.bus_tenure.specs.Core.{Core}
 use Rattle.bus_tenure.specs.declared.phases.Phase.{Phase}
 use Rattle.bus_tenure.specs.declared.phases.Phase.TheVariants as phase
@@ -24,28 +20,16 @@ waits_not c (phase.Holding t page stored true) e = refl
 waits_not c (phase.Holding t page stored false) e = e
 waits_not c (phase.Giving t reason) e = refl
 
-seen_same : (q : Pending) (u : Pin) → (queue_seen q u).messages ≡ q.messages
-seen_same q Away = refl
-seen_same q (Announcing t) = refl
-seen_same q (Validating t) = refl
-seen_same q (Pinned t) = refl
-seen_same q (Unpinning t) = refl
-seen_same q (Invalidated t) = refl
-
-seen_by : (q : Pending) (r : Option Reuse) → (queue_of q r).messages ≡ q.messages
-seen_by q None = refl
-seen_by q (Some r) = seen_same q r.pin
-
 pub none_waits : (v : Held) → length (run_process.queue v).messages ≡ 0 → run_process.waiting v ≡ []
 unfolding process_with
 none_waits v none =
-    waits_not v.core v.core.phase (sym (seen_by v.core.queue v.reuse) ∙ nil_from_length (run_process.queue v).messages none)
+    waits_not v.core v.core.phase (sym (messages_are v.core.queue v.reuse) ∙ nil_from_length (run_process.queue v).messages none)
 
 one_waits : (v : Held) (bytes : List ℕ) → (run_process.queue (run_process.with_message v bytes)).messages ≡ (run_process.queue v).messages ++ bytes ∷ []
 unfolding process_with
 one_waits v bytes =
     let q : Pending = record v.core.queue { messages = v.core.queue.messages ++ bytes ∷ [] } in
-    seen_by q v.reuse ∙ ap (λ z. z ++ bytes ∷ []) (sym (seen_by v.core.queue v.reuse))
+    messages_are q v.reuse ∙ ap (λ z. z ++ bytes ∷ []) (sym (messages_are v.core.queue v.reuse))
 
 pub taken_waits : {T F : Type 0} (r : Result T F) (old new : Held) (bytes : List ℕ) → OnOk r (new ≡ run_process.with_message old bytes) → is_ok r ≡ true → (run_process.queue new).messages ≡ (run_process.queue old).messages ++ bytes ∷ []
 taken_waits (Ok x) old new bytes taken is = ap (λ (v : Held). (run_process.queue v).messages) taken ∙ one_waits old bytes

@@ -1,8 +1,8 @@
 -- All lines of a trace are rows of its picture: along a run of events, each of a sender or a receiver that there is.
-use Rattle.std.proofs.Common.{◌≡◌, inl, inr, ℕ, zero, suc, ◌+◌, ◌-◌, ◌<◌, ◌≤◌, Bool, true, false, not, ◌&&◌, Option, Some, None, List, [], ◌∷◌, ◌++◌, ◌==◌, codes, decimal, length, slice_get, append_assoc, length-set, refl, sym, ap, ◌∙◌, subst, arith}
+use Rattle.std.proofs.Common.{◌≡◌, inl, inr, ℕ, zero, suc, ◌+◌, ◌-◌, ◌<◌, ◌≤◌, Bool, true, false, not, Option, Some, None, List, [], ◌∷◌, ◌++◌, ◌==◌, codes, decimal, length, slice_get, append_assoc, length-set, refl, sym, ap, ◌∙◌, subst, arith}
 use Rattle.std.specs.Prelude.{Contains, IsSome, slice_set}
 use Rattle.std.specs.List.{slice_split, list_all}
-use Rattle.std.proofs.lemmas.Bool.{false≢true}
+use Rattle.std.proofs.lemmas.Bool.{and_parts, not-true}
 use Rattle.std.proofs.lemmas.List.Splits.{slice_split_at}
 use Rattle.std.proofs.lemmas.List.Elements.{All-nil, All-cons}
 use Rattle.std.proofs.lemmas.Option.{slice_get_within}
@@ -100,17 +100,9 @@ rows_read from (row ∷ rows) rest h k =
 names : List ℕ
 names = column (codes "number") ++ column (codes "line") ++ column (codes "who") ++ column (codes "tenure") ++ column (codes "kind") ++ column (codes "word") ++ column (codes "found") ++ column (codes "after") ++ codes "answer"
 
-both_parts : (a b : Bool) → (a && b) ≡ true → (a ≡ true) × (b ≡ true)
-both_parts true b e = (refl, e)
-both_parts false b e = absurd (false≢true e)
-
-is_false : (b : Bool) → not b ≡ true → b ≡ false
-is_false true e = absurd (false≢true e)
-is_false false e = refl
-
 ends_none_by : (text : List ℕ) → list_all (λ b. not (b == 10)) text ≡ true → HasNoEnd text
 ends_none_by [] e = All-nil (λ b. (b == 10) ≡ false)
-ends_none_by (b ∷ text) e = let h = both_parts (not (b == 10)) (list_all (λ c. not (c == 10)) text) e in All-cons (λ b. (b == 10) ≡ false) b text (is_false (b == 10) h.0) (ends_none_by text h.1)
+ends_none_by (b ∷ text) e = let h = and_parts (not (b == 10)) (list_all (λ c. not (c == 10)) text) e in All-cons (λ b. (b == 10) ≡ false) b text (not-true (b == 10) h.0) (ends_none_by text h.1)
 
 behind_first : (first : List ℕ) (lines : List (List ℕ)) → AreRows lines → (place : ℕ) (line : List ℕ) → 0 < place → slice_get (first ∷ lines) place ≡ Some line → Contains line 9 → IsSome (row_of (slice_split (λ b. b == 9) line))
 behind_first first lines h zero line lt e tab = absurd (omega arith)

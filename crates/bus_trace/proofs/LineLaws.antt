@@ -1,5 +1,5 @@
 -- Each line of a trace has nine columns, of which the third names who is asked and the fifth a kind, a call or nothing.
-use Rattle.std.proofs.Common.{◌≡◌, ℕ, ◌+◌, ◌-◌, ◌/◌, ◌%◌, ◌==◌, ◌<◌, ◌≤◌, true, false, cond, Option, Some, None, List, [], ◌∷◌, ◌++◌, codes, decimal, flat_map, nat_lt, nat_le, slice_get, slice_index, refl, arith}
+use Rattle.std.proofs.Common.{◌≡◌, ℕ, ◌+◌, ◌-◌, ◌/◌, ◌%◌, ◌==◌, ◌<◌, ◌≤◌, cond, Option, Some, None, List, [], ◌∷◌, ◌++◌, codes, decimal, flat_map, nat_lt, nat_le, slice_get, slice_index, refl, arith}
 use Rattle.std.proofs.lemmas.List.Elements.{All-nil}
 use Rattle.bus_register.specs.declared.kinds.Kind.{Kind}
 use Rattle.bus_register.specs.declared.kinds.Kind.TheVariants as kind
@@ -31,7 +31,7 @@ use Rattle.bus_picture.specs.declared.families.Family.TheVariants as family
 use Rattle.bus_picture.specs.declared.processes.Process.TheVariants.{Sender, Receiver}
 use Rattle.bus_picture.specs.Families.{family_of, family_at}
 use Rattle.bus_picture.proofs.FamilyLaws.{has_family}
-use Rattle.bus_picture.proofs.PlainTexts.{IsPlain, plain_by, plain_append, plain_cons, plain_cond, plain_decimal}
+use Rattle.bus_picture.proofs.PlainTexts.{IsPlain, plain_by, plain_append, plain_cons, plain_cond, glyph_cases, plain_decimal}
 use Rattle.bus_picture.proofs.ReadingLaws.{IsMiddle, IsWho, IsReadable, readable, sender_known, receiver_known}
 use Rattle.bus_trace.specs.Words.{TraceSizes, ratifier_word, round_word, decision_word, row_word, word_name}
 use Rattle.bus_trace.specs.Rows.{tenure_text, no_step, step_text, action_text, actions_text, due_text, receiving_text, sender_text, columns, row_text}
@@ -134,12 +134,8 @@ plain_turn turn.Closed = plain_by (codes "closed") refl
 plain_turn turn.Spent = plain_by (codes "spent") refl
 plain_turn (turn.Behind t s) = then_another (codes "behind " ++ decimal t) s.0 (then_number (codes "behind ") t (plain_by (codes "behind ") refl))
 
-digit_cases : (test : _) (n : ℕ) → 32 ≤ cond test (48 + n) (87 + n)
-digit_cases true n = omega arith
-digit_cases false n = omega arith
-
 digit_plain : (n : ℕ) → 32 ≤ hex_digit n
-digit_plain n = digit_cases (nat_lt n 10) n
+digit_plain n = glyph_cases (nat_lt n 10) n
 
 pair_plain : (byte : ℕ) → IsPlain (hex_pair byte)
 pair_plain byte = plain_cons (hex_digit (byte / 16)) (hex_digit (byte % 16) ∷ []) (digit_plain (byte / 16)) (plain_cons (hex_digit (byte % 16)) [] (digit_plain (byte % 16)) (All-nil (λ b. 32 ≤ b)))

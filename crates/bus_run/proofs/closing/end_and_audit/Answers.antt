@@ -1,7 +1,7 @@
 use Rattle.std.proofs.Common.{inr, map, subst}
 use Rattle.std.specs.Vec.{vec_capacity}
+use Rattle.std.proofs.lemmas.Result.{IfErr-weaker}
 use Rattle.bus_run.specs.Stops.{AreUnstopped, IsLate, IsWhole}
-use Rattle.bus_run.proofs.StopLemmas.{err_weaker}
 use Rattle.bus_run.specs.Left.{number_of}
 use Rattle.bus_run.proofs.closing.end_and_audit.Goals as goal
 
@@ -11,4 +11,4 @@ returns-clause-fault g c =
     let here = c.is_whole.ensures.whole c.if-not-is_whole.false in
     let whole = subst (λ es. IsWhole (λ send_worker. number_of send_worker.sender) c.args.shape c.args.workers.send_workers.items es) c.as_slice-2.ensures.value (subst (λ ds. IsWhole (λ send_worker. number_of send_worker.sender) c.args.shape ds c.as_slice-2.result.now) c.as_slice.ensures.value here) in
     let unstopped = subst (AreUnstopped (λ send_worker. send_worker.fault)) c.as_slice-3.ensures.value (c.first_stop.ensures.none c.in_default.is) in
-    err_weaker c.end_whole.result Late _ (λ fault late. inr (inr (whole, unstopped, late))) c.end_whole.ensures.late
+    IfErr-weaker c.end_whole.result Late _ (λ fault late. inr (inr (whole, unstopped, late))) c.end_whole.ensures.late

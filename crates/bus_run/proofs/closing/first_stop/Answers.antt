@@ -1,9 +1,10 @@
 use Rattle.std.proofs.Common.{◌≡◌, length, None, refl, sym, ◌∙◌, subst}
 use Rattle.std.proofs.lemmas.List.{take_all}
 use Rattle.std.proofs.lemmas.Option.{slice_get_read}
+use Rattle.bus_pageslot.proofs.Endings.{nothing_there}
 use Rattle.bus_run.specs.Stops.{AreUnstopped}
 use Rattle.bus_run.proofs.AuditLemmas.{one_more_fair}
-use Rattle.bus_run.proofs.StopLemmas.{stopped_at, unstopped}
+use Rattle.bus_run.proofs.StopLemmas.{stopped_at}
 use Rattle.bus_run.proofs.closing.first_stop.Goals as goal
 
 pub returns-then-is_some-clause-stop : goal.returns-then-is_some-clause-stop
@@ -14,7 +15,7 @@ returns-then-is_some-clause-stop g c =
 
 pub loop-place-preserved : goal.loop-place-preserved
 loop-place-preserved g c =
-    one_more_fair (λ send_worker. send_worker.fault ≡ None) c.args.send_workers.now c.loop-place.place c.index-send_workers-place.result c.loop-place-test.true c.index-send_workers-place.is c.loop-place.invariant (unstopped c.index-send_workers-place.result.fault (sym c.is_some.ensures ∙ c.if-is_some.false))
+    one_more_fair (λ send_worker. send_worker.fault ≡ None) c.args.send_workers.now c.loop-place.place c.index-send_workers-place.result c.loop-place-test.true c.index-send_workers-place.is c.loop-place.invariant (nothing_there c.index-send_workers-place.result.fault (sym c.is_some.ensures ∙ c.if-is_some.false))
 
 pub returns-clause-none : goal.returns-clause-none
 returns-clause-none g c = λ is. subst (AreUnstopped (λ send_worker. send_worker.fault)) (take_all c.loop-place.place c.args.send_workers.now c.loop-place-test.false) c.loop-place.invariant

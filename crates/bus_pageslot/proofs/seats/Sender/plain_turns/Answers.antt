@@ -1,4 +1,4 @@
-use Rattle.std.proofs.Common.{◌≡◌, refl, ◌∙◌, subst}
+use Rattle.std.proofs.Common.{refl, ◌∙◌, subst}
 use Rattle.bus_automaton.specs.Buses.{process_with}
 use Rattle.bus_core.specs.Plain.{StoresPlain}
 use Rattle.bus_tenure.specs.Elections.{election_with}
