@@ -15,7 +15,7 @@ use Rattle.bus_batch.specs.declared.messages.Mark.TheVariants as mark
 use Rattle.bus_core.proofs.Bridged.{at_some}
 use Rattle.bus_core.specs.Keeping.{new_sender, queue_of}
 use Rattle.bus_core.specs.Senders.{Sender, Situation, Does, Scans, Clears, again, situation, at_home, pinning, reclaiming}
-use Rattle.bus_core.specs.Table.{Line, line, line_now}
+use Rattle.bus_core.specs.Table.{line, line_now}
 use Rattle.bus_machine.specs.Proved.Cyclic.{OwnedCyclicMachine}
 use Rattle.bus_core.specs.Reusing.Participants.{Due, Pins, Reclaims, Goes, place_for, log_from, due_beside, due_home, due_reclaimed, reclaim_due, core_looked, core_going}
 use Rattle.bus_core.specs.Reusing.Turns.{Participant, due, op_due, op_placed, participant_due, sizes_of, queue_seen, answer_due}
