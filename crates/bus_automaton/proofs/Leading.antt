@@ -35,13 +35,13 @@ use Rattle.bus_automaton.specs.OneProcess.{entries, adds_by, process_of}
 
 -- ---- who goes on
 -- nobody has stopped among those of whom none has
-none_set : (n s : ℕ) → is_set (slice_get (replicate n false) s) ≡ false
+pub none_set : (n s : ℕ) → is_set (slice_get (replicate n false) s) ≡ false
 none_set zero s = refl
 none_set (suc n) zero = refl
 none_set (suc n) (suc s) = none_set n s
 
 -- so each sender that there is goes on
-all_go : {E : Type 0} (m : Machine E) → m.stopped ≡ no_stops → (s : ℕ) → going m s ≡ slice_get m.senders s
+pub all_go : {E : Type 0} (m : Machine E) → m.stopped ≡ no_stops → (s : ℕ) → going m s ≡ slice_get m.senders s
 all_go m none s = ap (λ t. cond t None (slice_get m.senders s)) (ap (λ l. is_set (slice_get l s)) none ∙ none_set MOST_SENDERS s)
 
 -- the next number of its batch, also while that is on its way

@@ -7,7 +7,7 @@ use Rattle.bus_core.proofs.Bridged.{at_none, at_some}
 use Rattle.bus_core.specs.Senders.{Sender, apart, situation}
 use Rattle.bus_core.specs.Table.{line_now}
 use Rattle.bus_machine.proofs.AtNone.{reached_at_none, event_reuse}
-use Rattle.bus_machine.proofs.Bounding.{added, added_is, actions_of_other, there_shown}
+use Rattle.bus_machine.proofs.Bounding.{added, added_is, actions_of_other}
 use Rattle.bus_machine.proofs.Cyclic.CyclicLaws.{layout_served, led}
 use Rattle.bus_machine.proofs.Framed.{framed, participant_at}
 use Rattle.bus_machine.proofs.Knowing.{its_part}
@@ -23,7 +23,7 @@ use Rattle.bus_tenure.proofs.Situated.{tells}
 use Rattle.bus_tenure.specs.Core.{Core, Election, Layout}
 use Rattle.bus_tenure.specs.Situations.{Situation, IsClosed, IsIdle, IsSpent, Elects, AwaitsPage, situation_of, op_at}
 use Rattle.bus_world.proofs.CyclicMachineFits as fits
-use Rattle.bus_world.proofs.CyclicMachineLaws.{IsCyclicLayout, IsLed}
+use Rattle.bus_world.proofs.CyclicMachineLaws.{IsCyclicLayout, IsLed, shown_there}
 use Rattle.bus_world.proofs.EventTrails as plain
 use Rattle.bus_world.proofs.Serving.{Serves}
 use Rattle.bus_world.specs.Bus.{standing_of, stands_at}
@@ -132,7 +132,7 @@ module _ {E : Type 0} (X : Election E) (P : Protocol E (Unit {0}) ℕ) (m : Mach
 
   -- who goes on is one of its senders
   sender_below : (p : ℕ) (v : Sender E) → going m p ≡ Some v → p < m.layout.senders
-  sender_below p v goes = (its_part X P m T (framed X P m T s r) p v (there_shown (has_stopped m p) (slice_get m.senders p) v goes)).below
+  sender_below p v goes = (its_part X P m T (framed X P m T s r) p v (shown_there (has_stopped m p) (slice_get m.senders p) v goes)).below
 
   -- an event adds nothing to what somebody else did
   adds_none : (q : ℕ) → m.layout.senders ≤ q → (e : Event) (a : Answer) (m' : Machine E) → Happens X m e a m'

@@ -18,6 +18,7 @@ use Rattle.bus_machine.proofs.Growing.{grows}
 use Rattle.bus_machine.proofs.Knowing.{its_part}
 use Rattle.bus_machine.proofs.Leading.{Sits}
 use Rattle.bus_machine.proofs.Promised.{promised}
+use Rattle.bus_machine.proofs.Joining.{log_behind}
 use Rattle.bus_machine.specs.Machine.{Machine, Trails, base_of, turn_answer}
 use Rattle.bus_machine.specs.Promise.{HasRows, IsPagedBy, IsPromised}
 use Rattle.bus_register.specs.Protocol.{Protocol}
@@ -41,7 +42,7 @@ use Rattle.bus_world.specs.declared.events.Answer.TheVariants as answer
 use Rattle.bus_automaton.proofs.Counting.{first_below}
 use Rattle.bus_automaton.proofs.Leading.{takes_message, takes_mark, takes_turn, next, next_reached, takes_step}
 use Rattle.bus_automaton.proofs.ReachedMachines.{words_many, sums_fit, nobody_did}
-use Rattle.bus_automaton.proofs.Turns.{queue_is, messages_are, two_words, comes, ends}
+use Rattle.bus_automaton.proofs.Turns.{queue_is, messages_are, comes, ends}
 use Rattle.bus_automaton.specs.Lawful.{AutomatonLaws, IsSender, StepsIn, HasLog, IsPromisedOf, no_answers}
 use Rattle.bus_automaton.specs.OneAutomaton.{MachineHistory, IsMachineHistory, bus_of}
 use Rattle.bus_automaton.specs.OneProcess.{is_taken, rows_used, table_layout_by, process_of}
@@ -270,7 +271,7 @@ pub automaton_laws : {E : Type 0} (X : Election E) (P : Protocol E (Unit {0}) �
     (bases : List ℕ) → AutomatonLaws (process_of X) (bus_of X x reuse bases)
 automaton_laws X P x y reuse bases = record {
   room = omega arith;
-  behind = two_words x reuse;
+  behind = log_behind x reuse;
   started_me = λ p. refl;
   started_table_layout = λ p. ap (table_layout_by x) (new_rows reuse);
   started_away = λ p. refl;

@@ -6,12 +6,11 @@ use Rattle.std.proofs.lemmas.List.{map-set}
 use Rattle.std.proofs.lemmas.Option.{slice_get-map, same_Some, slice_get_within}
 use Rattle.bus_register.specs.Proved.TableLaws.{get_set_same, get_set_other}
 use Rattle.bus_register.specs.declared.registers.Op.{Op}
-use Rattle.bus_register.specs.declared.registers.Op.TheVariants.{Load, Store, Add, Cas}
+use Rattle.bus_register.specs.declared.registers.Op.TheVariants.{Load, Store}
 use Rattle.bus_batch.specs.Batches.{frame_of, next_of, CanPut, CanClose}
 use Rattle.bus_batch.specs.Frames.{frame_words}
 use Rattle.bus_batch.specs.declared.batches.Phase.TheVariants.{Marking}
 use Rattle.bus_batch.specs.declared.messages.Mark.{Mark}
-use Rattle.bus_batch.specs.declared.messages.Mark.TheVariants as mark
 use Rattle.bus_core.proofs.Bridged.{at_some}
 use Rattle.bus_core.specs.Keeping.{new_sender, queue_of}
 use Rattle.bus_core.specs.Senders.{Sender, Situation, Does, Scans, Clears, again, situation, at_home, pinning, reclaiming}
@@ -28,9 +27,9 @@ use Rattle.bus_tenure.specs.Core.{Core, Election, stage_at, log_at}
 use Rattle.bus_tenure.specs.Situations.{Situation as Own, IsClosed, IsIdle, IsSpent, LooksAtStage, Elects, TakesPage, AwaitsPage, StoresWord, StoresLength, GivesBack, HasHanded, PageMove, Stays, Comes, Returns, situation_of, op_at, kind_at, tenure_at, chosen_at, waits, core_elected, core_begun}
 use Rattle.bus_tenure.specs.declared.pages.Page.{Page}
 use Rattle.bus_tenure.specs.declared.turns.Turn.{Turn as Answered}
-use Rattle.bus_world.proofs.EventTrails.{put_taken}
+use Rattle.bus_world.proofs.EventTrails.{put_taken, mark_adds}
+use Rattle.bus_world.proofs.CyclicMachineLaws.{placed_found}
 use Rattle.bus_world.specs.Headline.{HasPut, HasMarked}
-use Rattle.bus_world.specs.Playing.{asked_answer}
 use Rattle.bus_world.specs.Proved.CyclicMachines.{CyclicMachine, CyclicTrails, CyclicReached, NewCyclic, TurnTaken, PutTaken, MarkTaken, RecvTaken, StopTaken, cyclic_turned, cyclic_actions, cyclic_reclaims, participant_moved}
 use Rattle.bus_world.specs.Proved.CyclicMachines as cyclic_machines
 use Rattle.bus_world.specs.Trails.{step_action, put_actions, mark_actions}
@@ -98,14 +97,6 @@ module _ {E : Type 0} (X : Election E) where
   due_rows v (Reclaims s o) m home got word = refl
   due_rows v (Goes z) m home got word = refl
 
--- what a step finds that lies at another place
-found_placed : (place : ℕ → ℕ) (words : ℕ → ℕ) (o : Option Op) → number_found words (op_placed place o) ≡ word_found place words o
-found_placed place words None = refl
-found_placed place words (Some (Load r)) = refl
-found_placed place words (Some (Store r n)) = refl
-found_placed place words (Some (Add r n)) = refl
-found_placed place words (Some (Cas r a b)) = refl
-
 beside_log : (from at words stored : ℕ) → from + words + stored ≡ from + (at + words + stored - at)
 beside_log from at words stored = omega arith
 
@@ -148,7 +139,7 @@ module _ {E : Type 0} (X : Election E) where
     grown_own v z i j =
         let words = slice_index b.words in
         let got : found (of_cyclic_machine b []) (line X (again v) (Does z)) word ≡ word_found (place_for b.layout b.rows z) words (op_at X v.core z word) =
-        ap (number_found words) (op_own v z word) ∙ found_placed (place_for v.core.layout v.rows z) words (op_at X v.core z word)
+        ap (number_found words) (op_own v z word) ∙ placed_found (place_for v.core.layout v.rows z) words (op_at X v.core z word)
         ∙ ap (λ x. word_found (place_for x v.rows z) words (op_at X v.core z word)) i ∙ ap (λ r. word_found (place_for b.layout r z) words (op_at X v.core z word)) j in
         ap (λ d. record (cyclic_trails T) { actions = Rattle.bus_world.specs.CyclicProtocols.actions_with s d T.actions })
         (ap (λ g. step_action (line X (again v) (Does z)).kind (line X (again v) (Does z)).tenure g ((line X (again v) (Does z)).chosen g word) a) got ∙ action_own v z _ word a)
@@ -216,11 +207,6 @@ module _ {E : Type 0} where
   rebuilt : (rows : ℕ) (l : List (Sender E)) → ((p : ℕ) (v : Sender E) → slice_get l p ≡ Some v → again (new_participant rows v) ≡ v) → map again (map (new_participant rows) l) ≡ l
   rebuilt rows [] h = refl
   rebuilt rows (v ∷ l) h = ap (λ y. y ∷ map again (map (new_participant rows) l)) (h 0 v refl) ∙ ap (λ y. v ∷ y) (rebuilt rows l (λ p w e. h (suc p) w e))
-
--- a mark that is taken is an action
-mark_action : (asked : Mark) → mark_actions (asked_answer asked) ≡ HasMarked asked ∷ []
-mark_action mark.End = refl
-mark_action mark.Leave = refl
 
 -- ---- one event
 module _ {E : Type 0} (X : Election E) (z : OwnedCyclicMachine E) (sized : AreSized z.machine) where
@@ -311,7 +297,7 @@ module _ {E : Type 0} (X : Election E) (z : OwnedCyclicMachine E) (sized : AreSi
         sized = fit_after b sized s v marked o.3 refl refl;
         reached = λ T r.
             subst (λ w. CyclicReached X new.machine (record (cyclic_trails T) { actions = actions_with s (mark_actions w) T.actions })) (sym h.answered)
-            (subst (λ l. CyclicReached X new.machine (record (cyclic_trails T) { actions = actions_with s l T.actions })) (sym (mark_action asked))
+            (subst (λ l. CyclicReached X new.machine (record (cyclic_trails T) { actions = actions_with s l T.actions })) (sym (mark_adds asked))
             (subst (λ t. CyclicReached X (cyclic_machines.with_participant b s (cond t marked v)) (record (cyclic_trails T) { actions = actions_with s (cond t (HasMarked asked ∷ []) []) T.actions })) may (MarkTaken b (cyclic_trails T) s v asked r o.1)));
       }
 

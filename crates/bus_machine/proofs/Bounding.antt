@@ -43,6 +43,8 @@ use Rattle.bus_machine.proofs.Leading.{Sits, sits_before}
 use Rattle.bus_machine.specs.Bounding.{is_of_holder, is_towards, steps_towards, AreBounded}
 use Rattle.bus_machine.specs.Machine.{base_of, Machine, Trails, Reached, New as Start, Then as Next, Happens, TakesTurn, IsNew, trails_grown, turn_trails, turn_grown, turn_answer, found, has_stopped, moved, put_in, mark_in, no_machine_trails}
 use Rattle.bus_machine.specs.Promise.{pin_of}
+use Rattle.bus_world.proofs.CyclicMachineLaws.{shown_there}
+use Rattle.bus_world.proofs.TableTrails.{no_owner}
 
 -- ---- how many steps
 -- those of more actions
@@ -188,9 +190,6 @@ module _ {E : Type 0} (left : E → ℕ) (bound : ℕ) where
     entering = λ s i. absurd (away s i);
   }
 
-  none_some : (t : ℕ) → ◌≡◌ {A = Option ℕ} None (Some t) → ⊥
-  none_some t e = cc
-
   -- a tenure is over, and the sender rests
   at_rest : (ph : Phase E) (least t : ℕ) (u w : Pin) (D : List Action) → tenure_of ph ≡ Some t → ((s : ℕ) → IsOnWay w s → ⊥)
       → Counts ph least u D → Counts phase.Resting (t + 1) w D
@@ -221,12 +220,12 @@ module _ {E : Type 0} (left : E → ℕ) (bound : ℕ) where
     most = c.most;
     running = λ s f i.
         let same : t ≡ s = same_tenure t s e f i in
-        let none = c.ahead t low (none_some t) in
+        let none = c.ahead t low (no_owner t) in
         let now : steps_towards s D ≡ 0 = ap (λ n. steps_towards n D) (sym same) ∙ none in
         let its : left f ≡ left e = ap left (sym (same_election t s e f i)) in
         omega arith;
     begun = λ s i. let same : t ≡ s = same_Some _ _ i in omega arith;
-    ahead = λ s more other. c.ahead s more (none_some s);
+    ahead = λ s more other. c.ahead s more (no_owner s);
     entering = λ s i. absurd (away s i);
   } where
     same_tenure : (t s : ℕ) (e f : E) → phase.Electing t e ≡ phase.Electing s f → t ≡ s
@@ -652,10 +651,6 @@ module _ {E : Type 0} (P : Protocol E (Unit {0}) ℕ) (m : Machine E) (T : Trail
       (adds_none P.left limit v.core.phase v.core.least (pin_of v.reuse) D ds none k)))
 
 -- ---- one event
-pub there_shown : {A : Type 0} (t : Bool) (o : Option A) (v : A) → cond t None o ≡ Some v → o ≡ Some v
-there_shown true o v e = absurd (let bad : None ≡ Some v = e in cc)
-there_shown false o v e = e
-
 module _ {E : Type 0} (X : Election E) (P : Protocol E (Unit {0}) ℕ) (m m' : Machine E) (T : Trails) (sits : Sits X P m)
     (f : IsFramed P m T) (c : AreCounted P m T) where
   turn_counts : (s word : ℕ) (a : Answer) → TakesTurn X m s word a m' → AreCounted P m' (trails_grown X m (Turn s word) a T)
@@ -663,7 +658,7 @@ module _ {E : Type 0} (X : Election E) (P : Protocol E (Unit {0}) ℕ) (m m' : M
       let v = h.sender in
       let z = situation X v in
       let l = line_now X v in
-      let at = there_shown (has_stopped m s) (slice_get m.senders s) v h.goes in
+      let at = shown_there (has_stopped m s) (slice_get m.senders s) v h.goes in
       let told = turn_answer m l word in
       let got = found m l word in
       one_more P m T c m' (trails_grown X m (Turn s word) a T) s v (moved (after_step l.move) m.home (l.fed got word))
@@ -675,13 +670,13 @@ module _ {E : Type 0} (X : Election E) (P : Protocol E (Unit {0}) ℕ) (m m' : M
 
   pub event_counts : (e : Event) (a : Answer) → Happens X m e a m' → AreCounted P m' (trails_grown X m e a T)
   event_counts (Put s bytes) a h =
-      let at = there_shown (has_stopped m s) (slice_get m.senders s) h.sender h.goes in
+      let at = shown_there (has_stopped m s) (slice_get m.senders s) h.sender h.goes in
       one_more P m T c m' (trails_grown X m (Put s bytes) a T) s h.sender (put_in h.sender bytes) (put_actions bytes a)
       (ap (λ (y : Machine E). y.layout) h.after) at (ap (λ (y : Machine E). y.senders) h.after) refl
       (same_sender P m T c h.sender (put_in h.sender bytes) (T.actions s) (put_actions bytes a) refl refl refl (λ t. put_adds t bytes a)
       (c.each s h.sender at))
   event_counts (Ask s asked) a h =
-      let at = there_shown (has_stopped m s) (slice_get m.senders s) h.sender h.goes in
+      let at = shown_there (has_stopped m s) (slice_get m.senders s) h.sender h.goes in
       one_more P m T c m' (trails_grown X m (Ask s asked) a T) s h.sender (mark_in h.sender asked) (mark_actions a)
       (ap (λ (y : Machine E). y.layout) h.after) at (ap (λ (y : Machine E). y.senders) h.after) refl
       (same_sender P m T c h.sender (mark_in h.sender asked) (T.actions s) (mark_actions a) refl refl refl (λ t. mark_adds t a)

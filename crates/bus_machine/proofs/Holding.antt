@@ -38,6 +38,7 @@ use Rattle.bus_machine.proofs.AtNone as none
 use Rattle.bus_machine.proofs.Leading.{Sits, led_cyclic, cyclic_serves, cyclic_ok, cyclic_two}
 use Rattle.bus_machine.proofs.Framed.{IsFramed, framed, participant_at}
 use Rattle.bus_machine.proofs.Taking.{takers_told}
+use Rattle.bus_machine.proofs.Joining.{log_behind}
 use Rattle.bus_machine.specs.Proved.Bridge.{of_bus, of_cyclic, plain_trails, cyclic_trails}
 use Rattle.bus_machine.specs.Machine.{base_of, Machine, Trails, Reached, Then, Happens, trails_grown, log_place, log_of, owners_told, turn_answer, going}
 use Rattle.bus_machine.specs.Playing.{IsHeld, AreRows}
@@ -148,15 +149,11 @@ module _ {E : Type 0} (X : Election E) (P : Protocol E (Unit {0}) ℕ) where
     pub log_below : slice_index m.words 0 ≤ m.layout.capacity
     log_below = subst (λ n. n ≤ m.layout.capacity) (sym its_frames.length) its_frames.sending.log.fits
 
-    two_words : (x : Layout) (o : Option ℕ) → 2 ≤ log_place x o
-    two_words x None = omega arith
-    two_words x (Some rows) = omega arith
-
     -- there is a first word, and the log is among the words
     pub word_there : (words : List ℕ) → words ≡ m.words → (capacity : ℕ) → capacity ≡ m.layout.capacity → (1 ≤ length words) × (capacity ≤ length words)
     word_there words words_are capacity capacity_is =
         let size : length words ≡ log_place m.layout m.reuse + m.layout.capacity = ap length words_are ∙ words_many in
-        let two = two_words m.layout m.reuse in
+        let two = log_behind m.layout m.reuse in
         (omega arith, omega arith)
 
     pub log_within : (words : List ℕ) → words ≡ m.words → (capacity : ℕ) → capacity ≡ m.layout.capacity → length words - capacity + slice_index words 0 ≤ length words

@@ -28,6 +28,7 @@ use Rattle.bus_tenure.specs.declared.phases.Phase.{Phase}
 use Rattle.bus_tenure.specs.declared.phases.Phase.TheVariants as phase
 use Rattle.bus_world.proofs.Framing.{front_lawful}
 use Rattle.bus_world.proofs.LogLaws.{length-read, log_words-append}
+use Rattle.bus_world.proofs.TenuresLaws.{same_Holding}
 use Rattle.bus_world.specs.Bus.{Part, Fits, IsWriting, standing_of, stands_at}
 use Rattle.bus_world.specs.Tenures.Stage.{Open, Held}
 use Rattle.bus_world.specs.Tenures.{Standing}
@@ -43,9 +44,6 @@ pub record HasPage {E : Type 0} (t : ℕ) (ph : Phase E) : Type 0 where
   pub stored : ℕ
   pub published : Bool
   pub has : ph ≡ phase.Holding t page stored published
-
-holds_one : {E : Type 0} (t u : ℕ) → ◌≡◌ {A = Standing E} (Holds t) (Holds u) → t ≡ u
-holds_one t u e = cc
 
 -- who has taken a page, and not given it back
 held_stands : {E : Type 0} (ph : Phase E) (t : ℕ) → held_of ph ≡ Some t → stands_at ph ≡ Holds t
@@ -67,7 +65,7 @@ module _ (base : ℕ → ℕ) {E : Type 0} (words : ℕ → ℕ) (frames : List 
         stored = stored;
         published = published;
         has = ap (λ n. phase.Holding n page stored published)
-            (holds_one u t e);
+            (same_Holding u t e);
       }
   page_held t (phase.Giving u reason) fits e = absurd fits
 

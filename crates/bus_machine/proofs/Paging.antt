@@ -25,7 +25,7 @@ use Rattle.bus_world.specs.Tenures.Stage.{Open, Held}
 use Rattle.bus_world.specs.Tenures.Standing.{Runs, Holds}
 use Rattle.bus_machine.specs.Promise.{FindsPage, IsPagedBy}
 
-some_is : {A : Type 0} (o : Option A) → is_some o ≡ true → (a : A) × (o ≡ Some a)
+pub some_is : {A : Type 0} (o : Option A) → is_some o ≡ true → (a : A) × (o ≡ Some a)
 some_is None e = absurd (true≢false (sym e))
 some_is (Some a) e = (a, refl)
 

@@ -30,6 +30,7 @@ use Rattle.bus_world.specs.declared.events.StepFault.TheVariants as fault
 use Rattle.bus_machine.specs.Machine.{Machine, Trails, Reached, New as Start, Then as Next, Happens, IsOnWord, trails_grown, turn_grown, turn_trails, entered, going, has_stopped, found}
 use Rattle.bus_machine.specs.Playing.{Refused, SenderRefused, PutRefused, CloseRefused, AllAnswered, trails_after}
 use Rattle.bus_machine.specs.Stopping.{IsOfOther, with_stop_of, JustStopped, StaysStopped, StopsAreForGood, StopRefuses}
+use Rattle.bus_world.proofs.CyclicMachineLaws.{shown_there}
 
 -- ---- of each machine that is reached
 module _ {E : Type 0} (X : Election E) where
@@ -67,10 +68,6 @@ module _ {E : Type 0} where
   shown_free : (t : Bool) (o : Option (Sender E)) (v : Sender E) → cond t None o ≡ Some v → t ≡ false
   shown_free true o v e = absurd (let bad : None ≡ Some v = e in cc)
   shown_free false o v e = refl
-
-  shown_there : (t : Bool) (o : Option (Sender E)) (v : Sender E) → cond t None o ≡ Some v → o ≡ Some v
-  shown_there true o v e = absurd (let bad : None ≡ Some v = e in cc)
-  shown_there false o v e = e
 
   not_stopped : (m : Machine E) (s : ℕ) (v : Sender E) → going m s ≡ Some v → has_stopped m s ≡ false
   not_stopped m s v e = shown_free (has_stopped m s) (slice_get m.senders s) v e

@@ -12,6 +12,7 @@ use Rattle.bus_world.specs.Headline.{Action, HasPut, HasMarked, Took}
 use Rattle.bus_world.specs.Trails.{Takers, mark_actions}
 use Rattle.bus_world.specs.CyclicProtocols.{actions_with}
 use Rattle.bus_world.proofs.Places.{got_before, got_split}
+use Rattle.bus_world.proofs.CyclicMachineLaws.{shown_there}
 use Rattle.bus_core.specs.Senders.{Sender, Situation, Does, Announces, Validates, Unpins, Withdraws, Scans, Clears, situation}
 use Rattle.bus_core.specs.Table.{line, line_now}
 use Rattle.bus_register.specs.Protocol.{Protocol}
@@ -28,23 +29,17 @@ use Rattle.bus_world.specs.World.{Event, Put, Ask, Turn, Recv, Stop}
 use Rattle.bus_world.specs.declared.events.Answer.{Answer}
 use Rattle.bus_world.specs.declared.events.Answer.TheVariants as answer
 use Rattle.bus_machine.proofs.AtNone.{event_reuse}
-use Rattle.bus_machine.proofs.Bounding.{actions_of_it, added, added_is, there_shown}
+use Rattle.bus_machine.proofs.Bounding.{actions_of_it, added, added_is}
 use Rattle.bus_machine.proofs.Framed.{IsFramed, framed}
 use Rattle.bus_machine.proofs.Leading.{Sits, sits_before}
 use Rattle.bus_machine.proofs.Paging.{takes_it}
 use Rattle.bus_machine.specs.Machine.{Machine, Trails, Reached, New as Start, Then as Next, Happens, IsNew, found, has_stopped, last_of, owners_told, stage_of, trails_grown, turn_answer, turn_grown}
 use Rattle.bus_machine.specs.Promise.{TakersTold}
-
--- ---- lists with the same elements
-lists_same : {A : Type 0} (xs ys : List A) → ((k : ℕ) → slice_get xs k ≡ slice_get ys k) → xs ≡ ys
-lists_same [] [] e = refl
-lists_same [] (y ∷ ys) e = absurd (let bad : None ≡ Some y = e 0 in cc)
-lists_same (x ∷ xs) [] e = absurd (let bad : Some x ≡ None = e 0 in cc)
-lists_same (x ∷ xs) (y ∷ ys) e = ap (λ a. a ∷ xs) (same_Some _ _ (e 0)) ∙ ap (λ l. y ∷ l) (lists_same xs ys (λ k. e (suc k)))
+use Rattle.bus_adoptcommit.proofs.Moves.{same_lists}
 
 -- actions tell who took the pages
 pub takers_one : (a b : List ℕ) (D : ℕ → List Action) → Takers a D → Takers b D → a ≡ b
-takers_one a b D h k = lists_same a b (λ t. by_both t (slice_get a t) (slice_get b t) refl refl)
+takers_one a b D h k = same_lists a b (λ t. by_both t (slice_get a t) (slice_get b t) refl refl)
   where
     by_both : (t : ℕ) (o p : Option ℕ) → slice_get a t ≡ o → slice_get b t ≡ p → slice_get a t ≡ slice_get b t
     by_both t None None i j = i ∙ sym j
@@ -253,7 +248,7 @@ module _ {E : Type 0} (X : Election E) (P : Protocol E (Unit {0}) ℕ) where
       let z = situation X v in
       let l = line_now X v in
       let told = turn_answer m l word in
-      let at = there_shown (has_stopped m s) (slice_get m.senders s) v h.goes in
+      let at = shown_there (has_stopped m s) (slice_get m.senders s) v h.goes in
       let did : (trails_grown X m (Turn s word) a T).actions ≡ actions_with s (added z l (found m l word) word told) T.actions =
       ap (λ d. (trails_grown X m (Turn s word) d T).actions) h.answered
       ∙ ap (λ o. (turn_grown X m s o word (answer.Turn told) T).actions) h.goes
