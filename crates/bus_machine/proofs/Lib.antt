@@ -1,4 +1,3 @@
-pub mod Cyclic
 pub mod Takes
 pub mod Own
 pub mod AtNone

@@ -183,19 +183,20 @@ mark_none (answer.Turn told) t place w = nothing_takes t place w
 mark_none (answer.Recv told) t place w = nothing_takes t place w
 mark_none answer.Stopped t place w = nothing_takes t place w
 
+-- as many have taken pages as tenures were opened
+pub counted : {E : Type 0} {P : Protocol E (Unit {0}) ℕ} (m : Machine E) (T : Trails) (f : IsFramed P m T) (all : List ℕ) → Takers all T.actions → (t : ℕ)
+    → stage_of m ≡ 2 * t → t ≡ length all
+counted m T f all h t stage =
+    let many = ap length (takers_one f.owners all T.actions f.takers h) in
+    elim f.sending.tenures.stage_is [
+      | Open is here owners ↦ (let same = f.stage in omega arith)
+      | Held holder is away owners holds ↦ absurd (let same = f.stage in omega arith)
+    ]
+
 module _ {E : Type 0} (X : Election E) (P : Protocol E (Unit {0}) ℕ) (m : Machine E) (T : Trails) (sits : Sits X P m) (f : IsFramed P m T) (all : List ℕ)
     (h : Takers all T.actions) (s : ℕ) (v : Sender E) (at : slice_get m.senders s ≡ Some v) (got word : ℕ) (told : Answered) where
   abbrev Taken : Situation E → Type 0
   Taken z = Takers (cond (line X v z).takes (all ++ s ∷ []) all) (actions_with s (added z (line X v z) got word told) T.actions)
-
-  -- as many have taken pages as tenures were opened
-  counted : (t : ℕ) → stage_of m ≡ 2 * t → t ≡ length all
-  counted t stage =
-      let many = ap length (takers_one f.owners all T.actions f.takers h) in
-      elim f.sending.tenures.stage_is [
-        | Open is here owners ↦ (let same = f.stage in omega arith)
-        | Held holder is away owners holds ↦ absurd (let same = f.stage in omega arith)
-      ]
 
   -- whatever the turn is
   taken : (z : Situation E) → situation X v ≡ z → Taken z
@@ -206,7 +207,7 @@ module _ {E : Type 0} (X : Election E) (P : Protocol E (Unit {0}) ℕ) (m : Mach
   taken (Does (Elects t e)) i =
       takers_beside all T.actions s (added (Does (Elects t e)) (line X v (Does (Elects t e))) got word told)
       (step_takes (X.kind_of e) (Some t) got (X.owner (X.fed e got word)) told (sits.serves.apart e)) h
-  taken (Does (TakesPage t)) i = takers_push all T.actions s t (counted t (takes_it X P m T sits f s v t at i).stage) got None told h
+  taken (Does (TakesPage t)) i = takers_push all T.actions s t (counted m T f all h t (takes_it X P m T sits f s v t at i).stage) got None told h
   taken (Does (AwaitsPage t)) i = takers_beside all T.actions s [] nothing_takes h
   taken (Does (StoresWord t page stored)) i =
       takers_beside all T.actions s (added (Does (StoresWord t page stored)) (line X v (Does (StoresWord t page stored))) got word told) (step_takes (Some kind.StoreLogWord) (Some t) got None told (λ e. cc)) h

@@ -8,7 +8,6 @@ use Rattle.bus_world.specs.Proved.CyclicMachines.{CyclicMachine, CyclicTrails, C
 use Rattle.bus_world.specs.Trails.{Trails as PlainTrails, Reached as PlainReached, trails_grown as plain_grown}
 use Rattle.bus_world.specs.World.{Bus, Event, IsEvent, Happens as PlainHappens}
 use Rattle.bus_world.specs.declared.events.Answer.{Answer}
-use Rattle.bus_machine.specs.Proved.Cyclic.{OwnedCyclicMachine}
 use Rattle.bus_machine.specs.Machine.{Machine, Happens, Trails, trails_grown}
 
 -- the bus with a row for each tenure, of a sitting that began with these numbers
@@ -16,11 +15,8 @@ abbrev pub of_bus : {E : Type 0} → List ℕ → Layout → Bus E → Machine E
 of_bus bases x b = record { layout = x; reuse = None; bases = bases; words = b.side.words; home = b.side.home; senders = map apart b.side.senders; receivers = b.receivers; stopped = b.stopped; owners = b.side.owners }
 
 -- the bus whose rows are used again, with who took the last pages
-abbrev pub of_cyclic_machine : {E : Type 0} → CyclicMachine E → List ℕ → Machine E
-of_cyclic_machine b owners = record { layout = b.layout; reuse = Some b.rows; bases = b.bases; words = b.words; home = b.home; senders = map again b.participants; receivers = b.receivers; stopped = b.stopped; owners = owners }
-
-abbrev pub of_cyclic : {E : Type 0} → OwnedCyclicMachine E → Machine E
-of_cyclic z = of_cyclic_machine z.machine z.owners
+abbrev pub of_cyclic : {E : Type 0} → CyclicMachine E → List ℕ → Machine E
+of_cyclic b owners = record { layout = b.layout; reuse = Some b.rows; bases = b.bases; words = b.words; home = b.home; senders = map again b.participants; receivers = b.receivers; stopped = b.stopped; owners = owners }
 
 abbrev pub plain_trails : Trails → PlainTrails
 plain_trails T = record { actions = T.actions; heard = T.heard }
@@ -46,14 +42,14 @@ abbrev pub AreSized : {E : Type 0} → CyclicMachine E → Type 0
 AreSized {E} b = (p : ℕ) (v : Participant E) → slice_get b.participants p ≡ Some v → (v.core.layout ≡ b.layout) × (v.rows ≡ b.rows)
 
 -- and so with rows that are used again: what led to the bus leads to it with what the event adds
-pub record IsCyclicEvent {E : Type 0} (X : Election E) (z : OwnedCyclicMachine E) (e : Event) (a : Answer) (m : Machine E) : Type 0 where
-  pub bus : OwnedCyclicMachine E
-  pub is : m ≡ of_cyclic bus
-  pub sized : AreSized bus.machine
-  pub reached : (T : Trails) → CyclicReached X z.machine (cyclic_trails T) → CyclicReached X bus.machine (cyclic_trails (trails_grown X (of_cyclic z) e a T))
+pub record IsCyclicEvent {E : Type 0} (X : Election E) (b : CyclicMachine E) (told : List ℕ) (e : Event) (a : Answer) (m : Machine E) : Type 0 where
+  pub bus : CyclicMachine E
+  pub owners : List ℕ
+  pub is : m ≡ of_cyclic bus owners
+  pub reached : (T : Trails) → CyclicReached X b (cyclic_trails T) → CyclicReached X bus (cyclic_trails (trails_grown X (of_cyclic b told) e a T))
 
 abbrev pub HappensAtSome : {E : Type 0} → Election E → Type 0
-HappensAtSome {E} X = (z : OwnedCyclicMachine E) (e : Event) (a : Answer) (m : Machine E) → AreSized z.machine → Happens X (of_cyclic z) e a m → IsCyclicEvent X z e a m
+HappensAtSome {E} X = (b : CyclicMachine E) (told : List ℕ) (e : Event) (a : Answer) (m : Machine E) → AreSized b → Happens X (of_cyclic b told) e a m → IsCyclicEvent X b told e a m
 
 -- ---- what is reached
 pub record IsPlain {E : Type 0} (X : Election E) (m : Machine E) (T : Trails) : Type 0 where
@@ -62,7 +58,7 @@ pub record IsPlain {E : Type 0} (X : Election E) (m : Machine E) (T : Trails) : 
   pub reached : PlainReached X m.bases m.layout bus (plain_trails T)
 
 pub record IsCyclicOf {E : Type 0} (X : Election E) (m : Machine E) (T : Trails) : Type 0 where
-  pub bus : OwnedCyclicMachine E
-  pub is : m ≡ of_cyclic bus
-  pub sized : AreSized bus.machine
-  pub reached : CyclicReached X bus.machine (cyclic_trails T)
+  pub bus : CyclicMachine E
+  pub owners : List ℕ
+  pub is : m ≡ of_cyclic bus owners
+  pub reached : CyclicReached X bus (cyclic_trails T)
