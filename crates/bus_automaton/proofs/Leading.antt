@@ -1,5 +1,5 @@
 -- What a sender of the one machine may do leads on, with a row for each tenure and with rows that are used again.
-use Rattle.std.proofs.Common.{◌≡◌, ◌≢◌, ℕ, zero, suc, ◌<◌, cond, eq-eqb, ne_eqb, false, Option, Some, None, List, [], ◌∷◌, ◌++◌}
+use Rattle.std.proofs.Common.{◌≡◌, ◌≢◌, ℕ, zero, suc, ◌<◌, cond, eq-eqb, false, Option, Some, None, List, [], ◌∷◌, ◌++◌}
 use Rattle.std.proofs.Common.{length, slice_get, slice_index, replicate, refl, sym, ◌∙◌, ap, subst}
 use Rattle.std.specs.Prelude.{All}
 use Rattle.std.proofs.lemmas.List.{append-nil}
@@ -12,7 +12,7 @@ use Rattle.bus_core.specs.Keeping.{queue_of}
 use Rattle.bus_core.specs.Senders.{Sender, Situation, Does, Scans, Clears, situation}
 use Rattle.bus_core.specs.Table.{Line, line_now}
 use Rattle.bus_core.specs.declared.reuses.Reuse.{Reuse}
-use Rattle.bus_machine.proofs.Bounding.{actions_of_it, actions_of_other}
+use Rattle.bus_machine.proofs.Bounding.{actions_of_it, actions_of_other, entered_beside}
 use Rattle.bus_presence.specs.Reclamation.{Entry, Trails as Entries}
 use Rattle.bus_register.specs.Proved.TableLaws.{get_set_same, get_set_other}
 use Rattle.bus_register.specs.Words.{register}
@@ -54,11 +54,6 @@ own_entered : (T : Entries) (p : ℕ) (o : Option Op) (got : ℕ) → entered T 
 own_entered T p None got = sym (append-nil (T p))
 own_entered T p (Some o) got = ap (λ b. cond b (T p ++ record { op = o; got = got } ∷ []) (T p)) (eq-eqb p p refl)
 
--- and no other
-other_entered : (T : Entries) (p : ℕ) (o : Option Op) (got q : ℕ) → q ≢ p → entered T p o got q ≡ T q
-other_entered T p None got q ne = refl
-other_entered T p (Some o) got q ne = ap (λ b. cond b (T q ++ record { op = o; got = got } ∷ []) (T q)) (ne_eqb q p ne)
-
 module _ (bases : List ℕ) (T T' : Trails) (q : ℕ) where
   -- of who did this
   own_trail : (ds : List Action) (es rs : List Entry) → T'.actions q ≡ T.actions q ++ ds → T'.pins q ≡ T.pins q ++ es
@@ -94,11 +89,11 @@ module _ {E : Type 0} (bases : List ℕ) (l : Line E) (p got word : ℕ) (T : Tr
   other_turned : (s : Situation E) (q : ℕ) → q ≢ p → trail_of bases (turned s) q ≡ trail_of bases T q
   other_turned (Does z) q ne = other_trail bases T (turned (Does z)) q (actions_of_other p stepped T.actions q ne) refl refl
   other_turned (Scans r) q ne = other_trail bases T (turned (Scans r)) q (actions_of_other p [] T.actions q ne) refl
-      (other_entered T.reclaims p (l.op word) got q ne)
+      (entered_beside T.reclaims p q (l.op word) got ne)
   other_turned (Clears r) q ne = other_trail bases T (turned (Clears r)) q (actions_of_other p [] T.actions q ne) refl
-      (other_entered T.reclaims p (l.op word) got q ne)
+      (entered_beside T.reclaims p q (l.op word) got ne)
   other_turned s q ne = other_trail bases T (turned s) q (actions_of_other p [] T.actions q ne)
-      (other_entered T.pins p (l.op word) got q ne) refl
+      (entered_beside T.pins p q (l.op word) got ne) refl
 
 -- a step that is due is on a word
 on_word : {E : Type 0} (m : Machine E) (a : Option Op) (o : Op) → a ≡ Some o → register o < length m.words → IsOnWord m a

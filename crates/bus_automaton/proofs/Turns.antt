@@ -69,7 +69,7 @@ pub messages_are : (q : Pending) (r : Option Reuse) → (queue_of q r).messages 
 messages_are q r = ap (λ (k : Pending). k.messages) (queue_is q r)
 
 -- of a sender with nothing in its batch nothing waits
-none_hidden : {E : Type 0} (c : Core E) (ph : Phase E) → c.queue.messages ≡ [] → waiting_at c ph ≡ []
+pub none_hidden : {E : Type 0} (c : Core E) (ph : Phase E) → c.queue.messages ≡ [] → waiting_at c ph ≡ []
 none_hidden c (phase.Holding t page stored true) e = refl
 none_hidden c (phase.Holding t page stored false) e = e
 none_hidden c (phase.Giving t reason) e = refl

@@ -12,6 +12,7 @@ use Rattle.bus_core.specs.Senders.{Sender, Situation, Does, Announces, Validates
 use Rattle.bus_core.specs.Table.{Line, line, line_now, seen, reuse_elected, reuse_taken, reuse_given, reuse_pinning, reuse_reclaiming}
 use Rattle.bus_core.specs.declared.reuses.Reuse.{Reuse}
 use Rattle.bus_core.proofs.Situated.{own_is}
+use Rattle.bus_presence.specs.Reclamation.{Trails as Entries}
 use Rattle.bus_presence.specs.Reclaimers.{Reclaiming}
 use Rattle.bus_presence.specs.declared.pins.Pin.{Pin}
 use Rattle.bus_presence.specs.declared.pins.Pin.TheVariants.{Away, Announcing, Validating, Pinned, Unpinning, Invalidated}
@@ -41,7 +42,7 @@ use Rattle.bus_world.specs.declared.events.Answer.TheVariants as answer
 use Rattle.bus_machine.proofs.Framed.{IsFramed, framed}
 use Rattle.bus_machine.proofs.Leading.{Sits, sits_before}
 use Rattle.bus_machine.specs.Bounding.{is_of_holder, is_towards, steps_towards, AreBounded}
-use Rattle.bus_machine.specs.Machine.{base_of, Machine, Trails, Reached, New as Start, Then as Next, Happens, TakesTurn, IsNew, trails_grown, turn_trails, turn_grown, turn_answer, found, has_stopped, moved, put_in, mark_in, no_machine_trails}
+use Rattle.bus_machine.specs.Machine.{base_of, Machine, Trails, Reached, New as Start, Then as Next, Happens, TakesTurn, IsNew, trails_grown, turn_trails, turn_grown, turn_answer, found, has_stopped, moved, put_in, mark_in, no_machine_trails, entered}
 use Rattle.bus_machine.specs.Promise.{pin_of}
 use Rattle.bus_world.proofs.CyclicMachineLaws.{shown_there}
 use Rattle.bus_world.proofs.TableTrails.{no_owner}
@@ -596,6 +597,14 @@ pub actions_of_other : (s : ℕ) (ds : List Action) (D : ℕ → List Action) (q
 actions_of_other s ds D q ne = elim (eqb_tells q s) [
   | inl i ↦ absurd (ne i.1)
   | inr i ↦ ap (λ b. D q ++ cond b ds []) i.0 ∙ append-nil (D q)
+]
+
+-- a step joins the steps of its sender, and of nobody else
+pub entered_beside : (T : Entries) (s q : ℕ) (o : Option Op) (got : ℕ) → q ≢ s → entered T s o got q ≡ T q
+entered_beside T s q None got ne = refl
+entered_beside T s q (Some o) got ne = elim (eqb_tells q s) [
+  | inl same ↦ absurd (ne same.1)
+  | inr other ↦ ap (λ b. cond b (T q ++ record { op = o; got = got } ∷ []) (T q)) other.0
 ]
 
 module _ {E : Type 0} (P : Protocol E (Unit {0}) ℕ) (m : Machine E) (T : Trails) (c : AreCounted P m T) where

@@ -11,7 +11,6 @@ use Rattle.bus_core.specs.Keeping.{reclaimer_in}
 use Rattle.bus_core.specs.Reusing.Keeping.{held_of}
 use Rattle.bus_core.specs.Table.{line, line_now, in_row}
 use Rattle.bus_core.specs.Senders.{Sender, Does, Clears, apart, again, reuse_of, log_start, situation}
-use Rattle.bus_core.specs.declared.reuses.Reuse.{Reuse}
 use Rattle.bus_machine.proofs.Clearing.{clearing, spared}
 use Rattle.bus_core.specs.Reusing.Participants.{log_from, sizes_with, place_for}
 use Rattle.bus_core.specs.Reusing.Turns.{Participant, on_place}
@@ -76,7 +75,6 @@ pub record IsFramed {E : Type 0} (P : Protocol E (Unit {0}) ℕ) (m : Machine E)
   pub rows : (p : ℕ) (v : Sender E) → slice_get m.senders p ≡ Some v → rows_in v.reuse ≡ m.reuse
   pub puts : (p : ℕ) (v : Sender E) → slice_get m.senders p ≡ Some v
       → puts (T.actions p) ≡ map (λ i. i.message) (of_sender p (order_of frames)) ++ waiting_at v.core v.core.phase
-  pub again_of : (p : ℕ) (v : Sender E) (rows : ℕ) → slice_get m.senders p ≡ Some v → m.reuse ≡ Some rows → (r : Reuse) × (v.reuse ≡ Some r)
   pub length : slice_index m.words 0 ≡ V 0
   pub stage : stage_of m ≡ V 1
   pub log : (j : ℕ) → j < m.layout.capacity → slice_index m.words (log_place m.layout m.reuse + j) ≡ V (log_at m.layout + j)
@@ -139,7 +137,6 @@ module _ {E : Type 0} (X : Election E) (P : Protocol E (Unit {0}) ℕ) where
       starts = λ p v at. ap (log_start x) (core_at p v at).1;
       rows = λ p v at. ap rows_in (core_at p v at).1;
       puts = λ p v at. k.tied.puts p ∙ ap (λ o. map (λ i. i.message) (of_sender p (order_of k.frames)) ++ waiting_of o) (core_at p v at).0;
-      again_of = λ p v rows at used. absurd cc;
       length = refl;
       stage = refl;
       log = λ j low. refl;
@@ -253,7 +250,6 @@ module _ {E : Type 0} (X : Election E) (P : Protocol E (Unit {0}) ℕ) where
       puts = λ p v at. let u = participant_at b told p v at in
           kept.kept.notes.put p ∙ ap (λ o. map (λ i. i.message) (of_sender p (order_of kept.frames)) ++ waiting_of o) (ap core_in u.1)
           ∙ ap (λ (w : Sender E). map (λ i. i.message) (of_sender p (order_of kept.frames)) ++ waiting_at w.core w.core.phase) (sym u.2);
-      again_of = λ p v rows at used. let u = participant_at b told p v at in (reuse_of u.0, ap (λ (w : Sender E). w.reuse) u.2);
       length = kept.kept.laid.length;
       stage = kept.kept.laid.stage;
       log = λ j low. kept.kept.laid.log j low;

@@ -29,6 +29,14 @@ pub some_is : {A : Type 0} (o : Option A) → is_some o ≡ true → (a : A) × 
 some_is None e = absurd (true≢false (sym e))
 some_is (Some a) e = (a, refl)
 
+-- who has taken a page, and not given it back
+pub held_stands : {E : Type 0} (ph : Phase E) (t : ℕ) → held_of ph ≡ Some t → stands_at ph ≡ Holds t
+held_stands phase.Resting t e = absurd cc
+held_stands (phase.Electing u f) t e = absurd cc
+held_stands (phase.Taken u) t e = ap Holds (same_Some _ _ e)
+held_stands (phase.Holding u page stored published) t e = ap Holds (same_Some _ _ e)
+held_stands (phase.Giving u reason) t e = ap Holds (same_Some _ _ e)
+
 module _ {base : ℕ → ℕ} {E : Type 0} (X : Election E) (P : Protocol E (Unit {0}) ℕ) (laws : Laws X.op X.fed P OneOwner) (x : Layout) (ok : IsLayout x) (width : x.width ≡ P.width x.senders)
     (starts : (n me at : ℕ) → X.started n me x.rounds at ≡ P.started n me tt at) (owner_is : (e : E) → X.owner e ≡ P.output e)
     (words : ℕ → ℕ) (home : Option Page) (senders : ℕ → Option (Core E)) (owners : List ℕ) (frames : List Frame) (h : Sending base P x words home senders owners frames) where
@@ -56,15 +64,8 @@ module _ {base : ℕ → ℕ} {E : Type 0} (X : Election E) (P : Protocol E (Uni
         let page = at_home X P laws x ok width starts owner_is words home senders owners frames h p c old 0 t k.0 k.1 o.0 o.1 in
         (page.0, page.1, f.0)
 
-    held_stands : (ph : Phase E) → held_of ph ≡ Some t → stands_at ph ≡ Holds t
-    held_stands phase.Resting e = absurd cc
-    held_stands (phase.Electing u f) e = absurd cc
-    held_stands (phase.Taken u) e = ap Holds (same_Some _ _ e)
-    held_stands (phase.Holding u page stored published) e = ap Holds (same_Some _ _ e)
-    held_stands (phase.Giving u reason) e = ap Holds (same_Some _ _ e)
-
     pub holds_page : held_of c.phase ≡ Some t → words 1 ≡ 2 * t + 1
-    holds_page e = (h.tenures.holding p t (ap (of_some standing_of) old ∙ ap Some (held_stands c.phase e))).1
+    holds_page e = (h.tenures.holding p t (ap (of_some standing_of) old ∙ ap Some (held_stands c.phase t e))).1
 
 -- ---- of a machine, by the frames of its log
 module _ {E : Type 0} (X : Election E) (P : Protocol E (Unit {0}) ℕ) (m : Machine E) (T : Trails) (s : Sits X P m)

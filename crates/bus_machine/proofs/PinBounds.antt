@@ -30,7 +30,7 @@ use Rattle.bus_world.specs.Turning.{after_step, number_found}
 use Rattle.bus_world.specs.World.{Event, Put, Ask, Turn, Recv, Stop}
 use Rattle.bus_world.specs.declared.events.Answer.{Answer}
 use Rattle.bus_world.specs.declared.events.Answer.TheVariants as answer
-use Rattle.bus_machine.proofs.Bounding.{Counts, counted, may_enter, announces_of, validates_of}
+use Rattle.bus_machine.proofs.Bounding.{Counts, counted, may_enter, announces_of, validates_of, entered_beside}
 use Rattle.bus_machine.proofs.Growing.{rises}
 use Rattle.bus_machine.proofs.Leading.{Sits, sits_before}
 use Rattle.bus_machine.specs.Bounding.{named_by, named_from, is_tenure, pins_from, steps_of_pin, IsNamedFirst, PinsAreBounded}
@@ -742,13 +742,6 @@ entered_here T s None got = sym (append-nil (T s))
 entered_here T s (Some o) got = elim (eqb_tells s s) [
   | inl same ↦ ap (λ b. cond b (T s ++ record { op = o; got = got } ∷ []) (T s)) same.0
   | inr other ↦ absurd (other.1 refl)
-]
-
-entered_beside : (T : Entries) (s q : ℕ) (o : Option Op) (got : ℕ) → q ≢ s → entered T s o got q ≡ T q
-entered_beside T s q None got ne = refl
-entered_beside T s q (Some o) got ne = elim (eqb_tells q s) [
-  | inl same ↦ absurd (ne same.1)
-  | inr other ↦ ap (λ b. cond b (T q ++ record { op = o; got = got } ∷ []) (T q)) other.0
 ]
 
 pins_here : {E : Type 0} (z : Situation E) (l : Line E) (s got word : ℕ) (told : Answered) (T : Trails)
