@@ -2,11 +2,11 @@
 use Rattle.std.proofs.Common.{◌≡◌, ℕ, ◌+◌, ◌*◌, true, is_some, Option, Some, None, List, slice_get, slice_index, refl, sym, ◌∙◌, ap, subst}
 use Rattle.bus_core.proofs.Situated.{own_is}
 use Rattle.bus_core.specs.Senders.{Sender, Does, situation}
+use Rattle.bus_machine.proofs.CyclicTurns.{held_stands}
 use Rattle.bus_machine.proofs.Framed.{IsFramed}
 use Rattle.bus_machine.proofs.Leading.{Sits}
 use Rattle.bus_machine.specs.Machine.{Machine, Trails, stage_of}
 use Rattle.std.proofs.lemmas.Bool.{true≢false}
-use Rattle.std.proofs.lemmas.Option.{same_Some}
 use Rattle.bus_batch.specs.Frames.{Frame, has_end}
 use Rattle.bus_core.specs.Reusing.Keeping.{held_of}
 use Rattle.bus_ownerbits.specs.OneOwner.{OneOwner}
@@ -16,26 +16,16 @@ use Rattle.bus_tenure.proofs.Situated.{tells}
 use Rattle.bus_tenure.specs.Core.{Core, Election, Layout}
 use Rattle.bus_tenure.specs.Situations.{TakesPage, situation_of}
 use Rattle.bus_tenure.specs.declared.pages.Page.{Page}
-use Rattle.bus_tenure.specs.declared.phases.Phase.{Phase}
-use Rattle.bus_tenure.specs.declared.phases.Phase.TheVariants as phase
 use Rattle.bus_world.proofs.TenuresLaws as tenures
 use Rattle.bus_world.proofs.TurningLaws.{at_home}
 use Rattle.bus_world.specs.Bus.{IsLayout, Sending, standing_of, stands_at, least_of}
 use Rattle.bus_world.specs.Tenures.Stage.{Open, Held}
-use Rattle.bus_world.specs.Tenures.Standing.{Runs, Holds}
+use Rattle.bus_world.specs.Tenures.Standing.{Runs}
 use Rattle.bus_machine.specs.Promise.{FindsPage, IsPagedBy}
 
 pub some_is : {A : Type 0} (o : Option A) → is_some o ≡ true → (a : A) × (o ≡ Some a)
 some_is None e = absurd (true≢false (sym e))
 some_is (Some a) e = (a, refl)
-
--- who has taken a page, and not given it back
-pub held_stands : {E : Type 0} (ph : Phase E) (t : ℕ) → held_of ph ≡ Some t → stands_at ph ≡ Holds t
-held_stands phase.Resting t e = absurd cc
-held_stands (phase.Electing u f) t e = absurd cc
-held_stands (phase.Taken u) t e = ap Holds (same_Some _ _ e)
-held_stands (phase.Holding u page stored published) t e = ap Holds (same_Some _ _ e)
-held_stands (phase.Giving u reason) t e = ap Holds (same_Some _ _ e)
 
 module _ {base : ℕ → ℕ} {E : Type 0} (X : Election E) (P : Protocol E (Unit {0}) ℕ) (laws : Laws X.op X.fed P OneOwner) (x : Layout) (ok : IsLayout x) (width : x.width ≡ P.width x.senders)
     (starts : (n me at : ℕ) → X.started n me x.rounds at ≡ P.started n me tt at) (owner_is : (e : E) → X.owner e ≡ P.output e)
