@@ -27,7 +27,6 @@ use Rattle.bus_presence.specs.declared.pins.Pin.TheVariants.{Away, Announcing, V
 use Rattle.bus_tenure.specs.Core.{Core, Election, stage_at}
 use Rattle.bus_tenure.specs.Situations.{Situation as Own, IsClosed, IsIdle, IsSpent, LooksAtStage, Elects, TakesPage, AwaitsPage, StoresWord, StoresLength, GivesBack, HasHanded, PageMove, situation_of, op_at, kind_at, tenure_at, chosen_at}
 use Rattle.bus_tenure.specs.declared.turns.Turn.{Turn as Answered}
-use Rattle.bus_tenure.specs.declared.turns.Turn.TheVariants as turn
 use Rattle.bus_world.proofs.Beginning.{zeros}
 use Rattle.bus_world.proofs.EventTrails.{put_taken, mark_adds}
 use Rattle.bus_world.proofs.CyclicMachineLaws.{placed_found, shown_there}
@@ -41,10 +40,11 @@ use Rattle.bus_world.specs.CyclicProtocols.{CyclicProtocol, Led, NewProtocol, Pu
 use Rattle.bus_world.specs.declared.events.Answer.{Answer}
 use Rattle.bus_world.specs.declared.events.Answer.TheVariants as answer
 use Rattle.bus_machine.proofs.AtNone.{close_taken}
-use Rattle.bus_machine.proofs.CyclicTurns.{k, participant_moved, turn_led, batch_led, list_put, away_puts, away_closes}
+use Rattle.bus_machine.proofs.CyclicTurns.{protocol_kept, participant_moved, turn_led, batch_led, list_put, away_puts, away_closes}
 use Rattle.bus_machine.specs.Proved.Bridge.{core_in, protocol_of, IsLed}
 use Rattle.bus_machine.specs.Machine.{base_of, Machine, Trails, Happens, TakesTurn, TakesPut, TakesMark, StopsNow, Hears, IsNew, IsOnWord, no_machine_trails, log_place, owners_told, has_stopped, going, with_sender, put_in, mark_in, moved, machine_after, found, turn_answer, turn_trails, turn_grown, trails_grown}
 use Rattle.bus_machine.specs.Promise.{pin_in}
+
 module _ {E : Type 0} (X : Election E) where
   action_own : (v : Participant E) (z : Own E) (got word : ℕ) (a : Answered) → step_action (line X (again v) (Does z)).kind (line X (again v) (Does z)).tenure got ((line X (again v) (Does z)).chosen got word) a ≡ step_action (kind_at X v.core z) (tenure_at X v.core z) got (chosen_at X v.core z got word) a
   action_own v IsClosed got word a = refl
@@ -186,7 +186,7 @@ module _ {E : Type 0} (X : Election E) (P : Protocol E (Unit {0}) ℕ) (rows : �
       let i = at_some X v in
       let t = answer_due X v (due X v) (got_by v word) word in
       let told : a ≡ answer.Turn t = h.answered ∙ ap (λ w. answer.Turn (turn_answer m (line_now X w) word)) o.is ∙ ap answer.Turn (answer_is v word) in
-      let part = (k X P rows m T q ok two l).kept.sending.parts s v.core (ap core_in o.at) in
+      let part = (protocol_kept X P rows m T q ok two l).kept.sending.parts s v.core (ap core_in o.at) in
       let g = grown_is X m rows l.reclaimer l.owners s word T t v part.layout o.same_rows in
       let low = subst (IsOnWord m) (i.op word) (subst (λ w. IsOnWord m ((line_now X w).op word)) o.is h.within) in
       let U = turn_trails (situation X (again v)) (line_now X (again v)) s (found m (line_now X (again v)) word) word t T in
@@ -204,7 +204,7 @@ module _ {E : Type 0} (X : Election E) (P : Protocol E (Unit {0}) ℕ) (rows : �
       let batch = record v.core.queue { messages = v.core.queue.messages ++ bytes ∷ [] } in
       let new = with_sender m s (again (record v { core = record v.core { queue = batch } })) in
       let told : a ≡ answer.Number (next_of v.core.queue) = h.answered ∙ ap (λ (w : Sender E). answer.Number (next_of w.core.queue)) o.is in
-      let led = batch_led X P rows m T q ok two l s v o.at o.same_rows 0 turn.Going [] batch (HasPut (next_of v.core.queue) bytes ∷ [])
+      let led = batch_led X P rows m T q ok two l s v o.at o.same_rows batch (HasPut (next_of v.core.queue) bytes ∷ [])
       (subst (λ t. Led X m.layout rows (record its_protocol { senders = put s (Some (cond t (record v.core { queue = batch }) v.core)) its_protocol.senders }) T.pins (actions_with s (cond t (HasPut (next_of v.core.queue) bytes ∷ []) []) T.actions) T.heard) may.1
       (PutIn its_protocol T.pins T.actions T.heard s v.core bytes l.led (ap core_in o.at) (ap pin_in o.at ∙ may.0) h.are_bytes)) in
       let is : m' ≡ new = h.after ∙ ap (λ w. with_sender m s (put_in w bytes)) o.is in
@@ -219,7 +219,7 @@ module _ {E : Type 0} (X : Election E) (P : Protocol E (Unit {0}) ℕ) (rows : �
       let may = away_closes v.core.queue v.pin (close_taken (queue_seen v.core.queue v.pin) can) in
       let batch = record v.core.queue { phase = Marking asked } in
       let new = with_sender m s (again (record v { core = record v.core { queue = batch } })) in
-      let led = batch_led X P rows m T q ok two l s v o.at o.same_rows 0 turn.Going [] batch (HasMarked asked ∷ [])
+      let led = batch_led X P rows m T q ok two l s v o.at o.same_rows batch (HasMarked asked ∷ [])
       (subst (λ t. Led X m.layout rows (record its_protocol { senders = put s (Some (cond t (record v.core { queue = batch }) v.core)) its_protocol.senders }) T.pins (actions_with s (cond t (HasMarked asked ∷ []) []) T.actions) T.heard) may.1
       (MarkedIn its_protocol T.pins T.actions T.heard s v.core asked l.led (ap core_in o.at) (ap pin_in o.at ∙ may.0))) in
       let is : m' ≡ new = h.after ∙ ap (λ w. with_sender m s (mark_in w asked)) o.is in

@@ -46,6 +46,7 @@ use Rattle.bus_world.proofs.CyclicProtocolWords.{put_is}
 use Rattle.bus_machine.specs.Proved.Bridge.{core_in, protocol_of, IsLed}
 use Rattle.bus_machine.specs.Machine.{Machine, Trails, IsOnWord, with_sender}
 use Rattle.bus_machine.specs.Promise.{pin_in}
+
 -- ---- lists as tables
 pub list_put : {A B : Type 0} (f : Option A → B) (xs : List A) (s : ℕ) (a : A) → s < length xs → (λ p. f (slice_get (slice_set xs s a) p)) ≡ put s (f (Some a)) (λ p. f (slice_get xs p))
 list_put f xs s a l = fun_ext (λ p. elim (cases_eq p s) [
@@ -138,7 +139,6 @@ away_closes q (Pinned t) e = absurd (busy_puts (is_open q.phase) e)
 away_closes q (Unpinning t) e = absurd (busy_puts (is_open q.phase) e)
 away_closes q (Invalidated t) e = absurd (busy_puts (is_open q.phase) e)
 
-
 -- ---- senders in their places
 abbrev pub participant_moved : {E : Type 0} → PageMove → Option Page → Participant E → Participant E
 participant_moved move home v = record v { core = core_moved move home v.core }
@@ -164,11 +164,11 @@ held_stands (phase.Giving u reason) t e = ap Holds (same_Some _ _ e)
 
 -- ---- a machine that some trails lead to
 module _ {E : Type 0} (X : Election E) (P : Protocol E (Unit {0}) ℕ) (rows : ℕ) (m : Machine E) (T : Trails) (q : Serves X P m.layout) (ok : IsLayout m.layout) (two : 2 ≤ rows) (l : IsLed X rows m T) where
-  abbrev pub y : CyclicProtocol E
+  abbrev y : CyclicProtocol E
   y = protocol_of m l.reclaimer l.owners
 
-  pub k : HasKept X P q.laws m.layout ok q.width q.starts q.owner_is q.named q.announces q.apart rows two T.heard y T.pins T.actions
-  k = led_kept X P q.laws m.layout ok q.width q.starts q.owner_is q.named q.announces q.apart rows two T.heard y T.pins T.actions l.led
+  pub protocol_kept : HasKept X P q.laws m.layout ok q.width q.starts q.owner_is q.named q.announces q.apart rows two T.heard y T.pins T.actions
+  protocol_kept = led_kept X P q.laws m.layout ok q.width q.starts q.owner_is q.named q.announces q.apart rows two T.heard y T.pins T.actions l.led
 
   -- ---- who holds the page
   holds : (p : ℕ) (w : Sender E) (t : ℕ) → slice_get m.senders p ≡ Some w → held_of w.core.phase ≡ Some t → of_some standing_of (y.senders p) ≡ Some (Holds t)
@@ -177,37 +177,19 @@ module _ {E : Type 0} (X : Election E) (P : Protocol E (Unit {0}) ℕ) (rows : �
   -- one alone
   alone : (p q : ℕ) (w u : Sender E) (t r : ℕ) → slice_get m.senders p ≡ Some w → held_of w.core.phase ≡ Some t → slice_get m.senders q ≡ Some u → held_of u.core.phase ≡ Some r → p ≡ q
   alone p q w u t r at e here f =
-      let one = k.kept.sending.tenures.holding p t (holds p w t at e) in
-      let other = k.kept.sending.tenures.holding q r (holds q u r here f) in
+      let one = protocol_kept.kept.sending.tenures.holding p t (holds p w t at e) in
+      let other = protocol_kept.kept.sending.tenures.holding q r (holds q u r here f) in
       same_Some _ _ (sym one.2 ∙ ap (slice_get l.owners) (one.0 ∙ sym other.0) ∙ other.2)
 
-  module _ (s : ℕ) (v : Participant E) (at : slice_get m.senders s ≡ Some (again v)) (same_rows : v.rows ≡ rows) (word : ℕ) (answer : Answered) (told : List ℕ) where
-    -- the machine afterwards, of which these owners are told
-    abbrev turned : Due E → Machine E
-    turned d =
-        let got = number_found (slice_index m.words) (op_due X v d word) in
-        record m {
-          words = words_after m.words (op_due X v d word);
-          home = home_moved (move_of X v.core d) m.home;
-          senders = slice_set m.senders s (again (participant_moved (after_step (move_of X v.core d)) m.home (participant_due X v d got word)));
-          owners = told;
-        }
-
-    -- what leads to it with what the turn adds
-    record HasLed (n : Machine E) (d : Due E) : Type 0 where
-      owners : List ℕ
-      reclaimer : Option Reclaiming
-      holder : (p : ℕ) (w : Sender E) (t : ℕ) → slice_get n.senders p ≡ Some w → held_of w.core.phase ≡ Some t → reclaimer_in w.reuse ≡ reclaimer
-      led : Led X n.layout rows (protocol_of n reclaimer owners) (trails_with y s d T.pins) (actions_with s (due_actions X m.layout rows y v.core d word answer) T.actions) T.heard
-
+  module _ (s : ℕ) (v : Participant E) (at : slice_get m.senders s ≡ Some (again v)) (same_rows : v.rows ≡ rows) where
     old : y.senders s ≡ Some v.core
     old = ap core_in at
 
     within : s < length m.senders
     within = slice_get_within m.senders s (again v) at
 
-    part : Part (slice_index m.bases) m.layout k.V k.frames s v.core
-    part = k.kept.sending.parts s v.core old
+    part : Part (slice_index m.bases) m.layout protocol_kept.V protocol_kept.frames s v.core
+    part = protocol_kept.kept.sending.parts s v.core old
 
     pin_is : y.reclamation.pins s ≡ v.pin
     pin_is = ap pin_in at
@@ -241,10 +223,6 @@ module _ {E : Type 0} (X : Election E) (P : Protocol E (Unit {0}) ℕ) (rows : �
         ∙ ap (λ w. due_of X m.layout rows s v.core w v.reclaimer) (sym pin_is)
         ∙ beside_same (step_at (y.reclamation.pins s) (presence_at (sizes_with m.layout rows) s) stage_at)
 
-    led_as : (d : Due E) → due X v ≡ d → AnswersDue X m.layout rows y v.core d word answer → Led X m.layout rows (protocol_after X m.layout rows y s v.core d word) (trails_with y s d T.pins) (actions_with s (due_actions X m.layout rows y v.core d word answer) T.actions) T.heard
-    led_as d e = subst (λ w. AnswersDue X m.layout rows y v.core w word answer → Led X m.layout rows (protocol_after X m.layout rows y s v.core w word) (trails_with y s w T.pins) (actions_with s (due_actions X m.layout rows y v.core w word answer) T.actions) T.heard) (sym due_same ∙ e)
-        (λ due. Turned y T.pins T.actions T.heard s v.core word answer l.led old due)
-
     -- ---- who holds the page afterwards
     holder_after : (v' : Participant E) (reclaimer : Option Reclaiming) → ((t : ℕ) → held_of v'.core.phase ≡ Some t → v'.reclaimer ≡ reclaimer)
         → ((p : ℕ) (w : Sender E) (t : ℕ) → p ≢ s → slice_get m.senders p ≡ Some w → held_of w.core.phase ≡ Some t → l.reclaimer ≡ reclaimer)
@@ -275,74 +253,9 @@ module _ {E : Type 0} (X : Election E) (P : Protocol E (Unit {0}) ℕ) (rows : �
     looked_held (Unpinning r) got t e = e
     looked_held (Invalidated r) got t e = e
 
-    pins_lead : (o : Op) → due X v ≡ Pins o → register o < length m.words → HasLed (turned (Pins o)) (Pins o)
-    pins_lead o e low =
-        let got = slice_index m.words (register o) in
-        let v' = participant_due X v (Pins o) got word in
-        record {
-          owners = l.owners;
-          reclaimer = l.reclaimer;
-          holder = holder_after v' l.reclaimer (λ t f. l.holder s (again v) t at (looked_held v.pin got t f)) (λ p w t ne here f. refl);
-          led = subst (λ yy. Led X m.layout rows yy (trails_with y s (Pins o) T.pins) (actions_with s (due_actions X m.layout rows y v.core (Pins o) word answer) T.actions) T.heard)
-              (protocols_same m.bases _ _ _ _ _ _ l.reclaimer m.home y.receivers l.owners
-              (sym (index_put m.words (register o) (after o got) low))
-              (ap (λ u. put s (pin_fed u got) y.reclamation.pins) pin_is ∙ sym (list_put pin_in m.senders s (again v') within))
-              (ap (λ u. put s (Some (core_looked X v.core u got)) y.senders) pin_is ∙ sym (list_put core_in m.senders s (again v') within)))
-              (led_as (Pins o) e tt);
-        }
-
-    -- ---- a step of its reclamation
-    reclaims_lead : (r : Reclaiming) (o : Op) → due X v ≡ Reclaims r o → register o < length m.words → HasLed (turned (Reclaims r o)) (Reclaims r o)
-    reclaims_lead r o e low =
-        let got = slice_index m.words (register o) in
-        let v' = participant_due X v (Reclaims r o) got word in
-        let by = due_reclaims _ v.reclaimer (situation_of X v.core) r o e in
-        let held = gives_held by.tenure by.page by.reason by.is in
-        record {
-          owners = l.owners;
-          reclaimer = Some (reclaim_fed r got);
-          holder = holder_after v' (Some (reclaim_fed r got)) (λ t f. refl) (nobody_else by.tenure held (Some (reclaim_fed r got)));
-          led = subst (λ yy. Led X m.layout rows yy (trails_with y s (Reclaims r o) T.pins) (actions_with s (due_actions X m.layout rows y v.core (Reclaims r o) word answer) T.actions) T.heard)
-              (protocols_same m.bases _ _ _ _ _ _ (Some (reclaim_fed r got)) m.home y.receivers l.owners
-              (sym (index_put m.words (register o) (after o got) low))
-              (sym (put_is s v.pin y.reclamation.pins pin_is) ∙ sym (list_put pin_in m.senders s (again v') within))
-              (sym (put_is s (Some v.core) y.senders old) ∙ sym (list_put core_in m.senders s (again v') within)))
-              (led_as (Reclaims r o) e tt);
-        }
-
     -- ---- as a sender that has a row for each tenure
     place_same : (z : Situation E) → place_for v.core.layout v.rows z ≡ place_for m.layout rows z
     place_same z = ap (λ x. place_for x v.rows z) part.layout ∙ ap (λ r. place_for m.layout r z) same_rows
-
-    module _ (z : Situation E) (here : situation_of X v.core ≡ z) (e : due X v ≡ Goes z) where
-      abbrev step : Option Op
-      step = op_at X v.core z word
-
-      abbrev got : ℕ
-      got = number_found (slice_index m.words) (op_due X v (Goes z) word)
-
-      abbrev v' : Participant E
-      v' = participant_moved (after_step (line_of X v.core z).move) m.home (participant_due X v (Goes z) got word)
-
-      abbrev reclaimer' : Option Reclaiming
-      reclaimer' = reclaimer_going m.layout rows l.reclaimer z
-
-      got_is : got ≡ word_found (place_for m.layout rows z) y.reclamation.words step
-      got_is = ap (λ f. number_found (slice_index m.words) (op_placed f step)) (place_same z) ∙ placed_found (place_for m.layout rows z) (slice_index m.words) step
-
-      goes_as : ((t : ℕ) → held_of v'.core.phase ≡ Some t → v'.reclaimer ≡ reclaimer') → ((p : ℕ) (w : Sender E) (t : ℕ) → p ≢ s → slice_get m.senders p ≡ Some w → held_of w.core.phase ≡ Some t → l.reclaimer ≡ reclaimer')
-          → ((o : Op) → op_due X v (Goes z) word ≡ Some o → register o < length m.words) → answer ≡ answer_going X v.core z got word → HasLed (turned (Goes z)) (Goes z)
-      goes_as own others low given = record {
-        owners = (protocol_after X m.layout rows y s v.core (Goes z) word).owners;
-        reclaimer = reclaimer';
-        holder = holder_after v' reclaimer' own others;
-        led = subst (λ yy. Led X m.layout rows yy (trails_with y s (Goes z) T.pins) (actions_with s (due_actions X m.layout rows y v.core (Goes z) word answer) T.actions) T.heard)
-            (protocols_same m.bases _ _ _ _ _ _ reclaimer' (home_after X v.core z m.home) y.receivers (protocol_after X m.layout rows y s v.core (Goes z) word).owners
-            (sym (ap (λ f. slice_index (words_after m.words (op_placed f step))) (place_same z) ∙ placed_words (place_for m.layout rows z) m.words step (λ o i. low o (ap (λ f. op_placed f step) (place_same z) ∙ i))))
-            (ap (λ u. put s (pin_going X v.core u z (word_found (place_for m.layout rows z) y.reclamation.words step) word) y.reclamation.pins) pin_is ∙ ap (λ g. put s (pin_going X v.core v.pin z g word) y.reclamation.pins) (sym got_is) ∙ sym (list_put pin_in m.senders s (again v') within))
-            (ap (λ g. put s (Some (core_moved (after_step (line_of X v.core z).move) m.home (core_going X v.core z g word))) y.senders) (sym got_is) ∙ sym (list_put core_in m.senders s (again v') within)))
-            (led_as (Goes z) e (given ∙ ap (λ g. answer_going X v.core z g word) got_is));
-      }
 
     -- who held the page before, and holds it still
     kept_reclaimer : (t : ℕ) → held_of v.core.phase ≡ Some t → v.reclaimer ≡ l.reclaimer
@@ -367,13 +280,13 @@ module _ {E : Type 0} (X : Election E) (P : Protocol E (Unit {0}) ℕ) (rows : �
     -- nobody holds the page while a sender takes it
     at_home : (t : ℕ) → situation_of X v.core ≡ TakesPage t → (reclaimer : Option Reclaiming) (p : ℕ) (w : Sender E) (r : ℕ) → p ≢ s → slice_get m.senders p ≡ Some w → held_of w.core.phase ≡ Some r → l.reclaimer ≡ reclaimer
     at_home t here reclaimer p w r ne there f =
-        let h = k.kept in
+        let h = protocol_kept.kept in
         let by = tells X v.core (TakesPage t) here in
         let own = owner_of (X.owner by.0) by.2 in
         let out : P.output by.0 ≡ Some own.0 = sym (q.owner_is by.0) ∙ own.1 in
         let mine : P.output by.0 ≡ Some s = out ∙ ap Some (h.sending.chosen s v.core t by.0 own.0 old by.1 out) in
         let runs = ap (of_some standing_of) old ∙ ap (λ u. Some (stands_at u)) by.1 in
-        let finds = tenures.finds_home X.op X.fed P q.laws m.layout.senders m.layout.rows 2 k.V (k.V 1) (is_some y.home) (λ q. of_some standing_of (y.senders q)) (λ q. least_of (y.senders q)) y.owners h.sending.tenures s t by.0 runs mine in
+        let finds = tenures.finds_home X.op X.fed P q.laws m.layout.senders m.layout.rows 2 protocol_kept.V (protocol_kept.V 1) (is_some y.home) (λ q. of_some standing_of (y.senders q)) (λ q. least_of (y.senders q)) y.owners h.sending.tenures s t by.0 runs mine in
         let held = h.sending.tenures.holding p r (holds p w r there f) in
         absurd (let a = finds.0 in let c = held.1 in omega arith)
       where
@@ -381,57 +294,14 @@ module _ {E : Type 0} (X : Election E) (P : Protocol E (Unit {0}) ℕ) (rows : �
         owner_of None i = absurd (true≢false (sym i))
         owner_of (Some u) i = (u, refl)
 
-    goes_lead : (z : Situation E) → situation_of X v.core ≡ z → due X v ≡ Goes z → ((o : Op) → op_due X v (Goes z) word ≡ Some o → register o < length m.words)
-        → answer ≡ answer_going X v.core z (number_found (slice_index m.words) (op_due X v (Goes z) word)) word
-        → HasLed (turned (Goes z)) (Goes z)
-    goes_lead IsClosed here e = goes_as IsClosed here e (λ t f. kept_reclaimer t f) (λ p w t ne there f. refl)
-    goes_lead IsIdle here e = goes_as IsIdle here e (λ t f. kept_reclaimer t f) (λ p w t ne there f. refl)
-    goes_lead IsSpent here e = goes_as IsSpent here e (λ t f. kept_reclaimer t f) (λ p w t ne there f. refl)
-    goes_lead LooksAtStage here e = goes_as LooksAtStage here e (λ t f. kept_reclaimer t (seen_held (slice_index m.words 1) t f)) (λ p w t ne there f. refl)
-    goes_lead (Elects t g) here e = goes_as (Elects t g) here e (λ r f. absurd (elected_held t (X.fed g (got (Elects t g) here e) word) (X.owner (X.fed g (got (Elects t g) here e) word)) r f)) (λ p w r ne there f. refl)
-    goes_lead (TakesPage t) here e = goes_as (TakesPage t) here e
-        (λ r f. ap (λ x. reclaimer_after (sizes_with x v.rows) t) part.layout ∙ ap (λ n. reclaimer_after (sizes_with m.layout n) t) same_rows) (at_home t here (reclaimer_after (sizes_with m.layout rows) t))
-    goes_lead (AwaitsPage t) here e = absurd (subst (Fits (slice_index m.bases) k.V k.frames v.core) (tells X v.core (AwaitsPage t) here) part.fits)
-    goes_lead (StoresWord t page stored) here e = let f = tells X v.core (StoresWord t page stored) here in goes_as (StoresWord t page stored) here e (λ r g. kept_reclaimer t (ap held_of f.1)) (λ p w r ne there g. refl)
-    goes_lead (StoresLength t page stored) here e = let f = tells X v.core (StoresLength t page stored) here in goes_as (StoresLength t page stored) here e (λ r g. kept_reclaimer t (ap held_of f.1)) (λ p w r ne there g. refl)
-    goes_lead (GivesBack t page reason) here e = goes_as (GivesBack t page reason) here e (λ r f. refl) (nobody_else t (gives_held t page reason here) None)
-    goes_lead (HasHanded t reason) here e = absurd (subst (Fits (slice_index m.bases) k.V k.frames v.core) (tells X v.core (HasHanded t reason) here) part.fits)
+    due_rows : (d : Due E) (move : PageMove) (got word : ℕ) → (participant_moved move m.home (participant_due X v d got word)).rows ≡ v.rows
+    due_rows (Pins o) move got word = refl
+    due_rows (Reclaims r o) move got word = refl
+    due_rows (Goes z) move got word = refl
 
-    -- ---- all of it
     on_word : (o : Option Op) → IsOnWord m o → (p : Op) → o ≡ Some p → register p < length m.words
     on_word None low p i = absurd (let bad : None ≡ Some p = i in cc)
     on_word (Some o) low p i = subst (λ w. register w < length m.words) (same_Some _ _ i) low
-
-    by_due : (d : Due E) → due X v ≡ d → IsOnWord m (op_due X v d word) → answer ≡ answer_due X v d (number_found (slice_index m.words) (op_due X v d word)) word → HasLed (turned d) d
-    by_due (Pins o) e low given = pins_lead o e low
-    by_due (Reclaims r o) e low given = reclaims_lead r o e low
-    by_due (Goes z) e low given = goes_lead z (due_goes _ v.reclaimer (situation_of X v.core) z e) e (on_word (op_due X v (Goes z) word) low) given
-
-    due_rows : (d : Due E) (move : PageMove) (got : ℕ) → (participant_moved move m.home (participant_due X v d got word)).rows ≡ v.rows
-    due_rows (Pins o) move got = refl
-    due_rows (Reclaims r o) move got = refl
-    due_rows (Goes z) move got = refl
-
-    -- whoever holds these trails
-    pub turn_led : (U : Trails) → IsOnWord m (op_due X v (due X v) word) → answer ≡ answer_due X v (due X v) (number_found (slice_index m.words) (op_due X v (due X v) word)) word
-        → U.pins ≡ trails_with y s (due X v) T.pins → U.actions ≡ actions_with s (due_actions X m.layout rows y v.core (due X v) word answer) T.actions → U.heard ≡ T.heard
-        → IsLed X rows (turned (due X v)) U
-    turn_led U low given pins actions heard =
-        let d = due X v in
-        let k = by_due d refl low given in
-        let got = number_found (slice_index m.words) (op_due X v d word) in
-        let v' = participant_moved (after_step (move_of X v.core d)) m.home (participant_due X v d got word) in
-        record {
-          reuse = l.reuse;
-          words = words_many m.words (op_due X v d word) ∙ l.words;
-          participants = participants_after rows m.senders l.participants s v' within (due_rows d (after_step (move_of X v.core d)) got ∙ same_rows);
-          owners = k.owners;
-          reclaimer = k.reclaimer;
-          holder = k.holder;
-          led = subst (λ w. Led X m.layout rows (protocol_of (turned d) k.reclaimer k.owners) w U.actions U.heard) (sym pins)
-              (subst (λ w. Led X m.layout rows (protocol_of (turned d) k.reclaimer k.owners) (trails_with y s d T.pins) w U.heard) (sym actions)
-              (subst (λ w. Led X m.layout rows (protocol_of (turned d) k.reclaimer k.owners) (trails_with y s d T.pins) (actions_with s (due_actions X m.layout rows y v.core d word answer) T.actions) w) (sym heard) k.led));
-        }
 
     -- a batch in its place, as the protocol has it
     pub batch_led : (b : Pending) (ds : List Action)
@@ -452,3 +322,134 @@ module _ {E : Type 0} (X : Election E) (P : Protocol E (Unit {0}) ℕ) (rows : �
               (sym (list_put core_in m.senders s (again v') within)))
               led;
         }
+
+    -- ---- its turn, with this random word, which answers this; these owners are told then
+    module _ (word : ℕ) (answer : Answered) (told : List ℕ) where
+      -- the machine afterwards, of which these owners are told
+      abbrev turned : Due E → Machine E
+      turned d =
+          let got = number_found (slice_index m.words) (op_due X v d word) in
+          record m {
+            words = words_after m.words (op_due X v d word);
+            home = home_moved (move_of X v.core d) m.home;
+            senders = slice_set m.senders s (again (participant_moved (after_step (move_of X v.core d)) m.home (participant_due X v d got word)));
+            owners = told;
+          }
+
+      -- what leads to it with what the turn adds
+      record HasLed (n : Machine E) (d : Due E) : Type 0 where
+        owners : List ℕ
+        reclaimer : Option Reclaiming
+        holder : (p : ℕ) (w : Sender E) (t : ℕ) → slice_get n.senders p ≡ Some w → held_of w.core.phase ≡ Some t → reclaimer_in w.reuse ≡ reclaimer
+        led : Led X n.layout rows (protocol_of n reclaimer owners) (trails_with y s d T.pins) (actions_with s (due_actions X m.layout rows y v.core d word answer) T.actions) T.heard
+
+      led_as : (d : Due E) → due X v ≡ d → AnswersDue X m.layout rows y v.core d word answer → Led X m.layout rows (protocol_after X m.layout rows y s v.core d word) (trails_with y s d T.pins) (actions_with s (due_actions X m.layout rows y v.core d word answer) T.actions) T.heard
+      led_as d e = subst (λ w. AnswersDue X m.layout rows y v.core w word answer → Led X m.layout rows (protocol_after X m.layout rows y s v.core w word) (trails_with y s w T.pins) (actions_with s (due_actions X m.layout rows y v.core w word answer) T.actions) T.heard) (sym due_same ∙ e)
+          (λ due. Turned y T.pins T.actions T.heard s v.core word answer l.led old due)
+
+      pins_lead : (o : Op) → due X v ≡ Pins o → register o < length m.words → HasLed (turned (Pins o)) (Pins o)
+      pins_lead o e low =
+          let got = slice_index m.words (register o) in
+          let v' = participant_due X v (Pins o) got word in
+          record {
+            owners = l.owners;
+            reclaimer = l.reclaimer;
+            holder = holder_after v' l.reclaimer (λ t f. l.holder s (again v) t at (looked_held v.pin got t f)) (λ p w t ne here f. refl);
+            led = subst (λ yy. Led X m.layout rows yy (trails_with y s (Pins o) T.pins) (actions_with s (due_actions X m.layout rows y v.core (Pins o) word answer) T.actions) T.heard)
+                (protocols_same m.bases _ _ _ _ _ _ l.reclaimer m.home y.receivers l.owners
+                (sym (index_put m.words (register o) (after o got) low))
+                (ap (λ u. put s (pin_fed u got) y.reclamation.pins) pin_is ∙ sym (list_put pin_in m.senders s (again v') within))
+                (ap (λ u. put s (Some (core_looked X v.core u got)) y.senders) pin_is ∙ sym (list_put core_in m.senders s (again v') within)))
+                (led_as (Pins o) e tt);
+          }
+
+      -- ---- a step of its reclamation
+      reclaims_lead : (r : Reclaiming) (o : Op) → due X v ≡ Reclaims r o → register o < length m.words → HasLed (turned (Reclaims r o)) (Reclaims r o)
+      reclaims_lead r o e low =
+          let got = slice_index m.words (register o) in
+          let v' = participant_due X v (Reclaims r o) got word in
+          let by = due_reclaims _ v.reclaimer (situation_of X v.core) r o e in
+          let held = gives_held by.tenure by.page by.reason by.is in
+          record {
+            owners = l.owners;
+            reclaimer = Some (reclaim_fed r got);
+            holder = holder_after v' (Some (reclaim_fed r got)) (λ t f. refl) (nobody_else by.tenure held (Some (reclaim_fed r got)));
+            led = subst (λ yy. Led X m.layout rows yy (trails_with y s (Reclaims r o) T.pins) (actions_with s (due_actions X m.layout rows y v.core (Reclaims r o) word answer) T.actions) T.heard)
+                (protocols_same m.bases _ _ _ _ _ _ (Some (reclaim_fed r got)) m.home y.receivers l.owners
+                (sym (index_put m.words (register o) (after o got) low))
+                (sym (put_is s v.pin y.reclamation.pins pin_is) ∙ sym (list_put pin_in m.senders s (again v') within))
+                (sym (put_is s (Some v.core) y.senders old) ∙ sym (list_put core_in m.senders s (again v') within)))
+                (led_as (Reclaims r o) e tt);
+          }
+
+      module _ (z : Situation E) (here : situation_of X v.core ≡ z) (e : due X v ≡ Goes z) where
+        abbrev step : Option Op
+        step = op_at X v.core z word
+
+        abbrev got : ℕ
+        got = number_found (slice_index m.words) (op_due X v (Goes z) word)
+
+        abbrev v' : Participant E
+        v' = participant_moved (after_step (line_of X v.core z).move) m.home (participant_due X v (Goes z) got word)
+
+        abbrev reclaimer' : Option Reclaiming
+        reclaimer' = reclaimer_going m.layout rows l.reclaimer z
+
+        got_is : got ≡ word_found (place_for m.layout rows z) y.reclamation.words step
+        got_is = ap (λ f. number_found (slice_index m.words) (op_placed f step)) (place_same z) ∙ placed_found (place_for m.layout rows z) (slice_index m.words) step
+
+        goes_as : ((t : ℕ) → held_of v'.core.phase ≡ Some t → v'.reclaimer ≡ reclaimer') → ((p : ℕ) (w : Sender E) (t : ℕ) → p ≢ s → slice_get m.senders p ≡ Some w → held_of w.core.phase ≡ Some t → l.reclaimer ≡ reclaimer')
+            → ((o : Op) → op_due X v (Goes z) word ≡ Some o → register o < length m.words) → answer ≡ answer_going X v.core z got word → HasLed (turned (Goes z)) (Goes z)
+        goes_as own others low given = record {
+          owners = (protocol_after X m.layout rows y s v.core (Goes z) word).owners;
+          reclaimer = reclaimer';
+          holder = holder_after v' reclaimer' own others;
+          led = subst (λ yy. Led X m.layout rows yy (trails_with y s (Goes z) T.pins) (actions_with s (due_actions X m.layout rows y v.core (Goes z) word answer) T.actions) T.heard)
+              (protocols_same m.bases _ _ _ _ _ _ reclaimer' (home_after X v.core z m.home) y.receivers (protocol_after X m.layout rows y s v.core (Goes z) word).owners
+              (sym (ap (λ f. slice_index (words_after m.words (op_placed f step))) (place_same z) ∙ placed_words (place_for m.layout rows z) m.words step (λ o i. low o (ap (λ f. op_placed f step) (place_same z) ∙ i))))
+              (ap (λ u. put s (pin_going X v.core u z (word_found (place_for m.layout rows z) y.reclamation.words step) word) y.reclamation.pins) pin_is ∙ ap (λ g. put s (pin_going X v.core v.pin z g word) y.reclamation.pins) (sym got_is) ∙ sym (list_put pin_in m.senders s (again v') within))
+              (ap (λ g. put s (Some (core_moved (after_step (line_of X v.core z).move) m.home (core_going X v.core z g word))) y.senders) (sym got_is) ∙ sym (list_put core_in m.senders s (again v') within)))
+              (led_as (Goes z) e (given ∙ ap (λ g. answer_going X v.core z g word) got_is));
+        }
+
+      goes_lead : (z : Situation E) → situation_of X v.core ≡ z → due X v ≡ Goes z → ((o : Op) → op_due X v (Goes z) word ≡ Some o → register o < length m.words)
+          → answer ≡ answer_going X v.core z (number_found (slice_index m.words) (op_due X v (Goes z) word)) word
+          → HasLed (turned (Goes z)) (Goes z)
+      goes_lead IsClosed here e = goes_as IsClosed here e (λ t f. kept_reclaimer t f) (λ p w t ne there f. refl)
+      goes_lead IsIdle here e = goes_as IsIdle here e (λ t f. kept_reclaimer t f) (λ p w t ne there f. refl)
+      goes_lead IsSpent here e = goes_as IsSpent here e (λ t f. kept_reclaimer t f) (λ p w t ne there f. refl)
+      goes_lead LooksAtStage here e = goes_as LooksAtStage here e (λ t f. kept_reclaimer t (seen_held (slice_index m.words 1) t f)) (λ p w t ne there f. refl)
+      goes_lead (Elects t g) here e = goes_as (Elects t g) here e (λ r f. absurd (elected_held t (X.fed g (got (Elects t g) here e) word) (X.owner (X.fed g (got (Elects t g) here e) word)) r f)) (λ p w r ne there f. refl)
+      goes_lead (TakesPage t) here e = goes_as (TakesPage t) here e
+          (λ r f. ap (λ x. reclaimer_after (sizes_with x v.rows) t) part.layout ∙ ap (λ n. reclaimer_after (sizes_with m.layout n) t) same_rows) (at_home t here (reclaimer_after (sizes_with m.layout rows) t))
+      goes_lead (AwaitsPage t) here e = absurd (subst (Fits (slice_index m.bases) protocol_kept.V protocol_kept.frames v.core) (tells X v.core (AwaitsPage t) here) part.fits)
+      goes_lead (StoresWord t page stored) here e = let f = tells X v.core (StoresWord t page stored) here in goes_as (StoresWord t page stored) here e (λ r g. kept_reclaimer t (ap held_of f.1)) (λ p w r ne there g. refl)
+      goes_lead (StoresLength t page stored) here e = let f = tells X v.core (StoresLength t page stored) here in goes_as (StoresLength t page stored) here e (λ r g. kept_reclaimer t (ap held_of f.1)) (λ p w r ne there g. refl)
+      goes_lead (GivesBack t page reason) here e = goes_as (GivesBack t page reason) here e (λ r f. refl) (nobody_else t (gives_held t page reason here) None)
+      goes_lead (HasHanded t reason) here e = absurd (subst (Fits (slice_index m.bases) protocol_kept.V protocol_kept.frames v.core) (tells X v.core (HasHanded t reason) here) part.fits)
+
+      by_due : (d : Due E) → due X v ≡ d → IsOnWord m (op_due X v d word) → answer ≡ answer_due X v d (number_found (slice_index m.words) (op_due X v d word)) word → HasLed (turned d) d
+      by_due (Pins o) e low given = pins_lead o e low
+      by_due (Reclaims r o) e low given = reclaims_lead r o e low
+      by_due (Goes z) e low given = goes_lead z (due_goes _ v.reclaimer (situation_of X v.core) z e) e (on_word (op_due X v (Goes z) word) low) given
+
+      -- whoever holds these trails
+      pub turn_led : (U : Trails) → IsOnWord m (op_due X v (due X v) word) → answer ≡ answer_due X v (due X v) (number_found (slice_index m.words) (op_due X v (due X v) word)) word
+          → U.pins ≡ trails_with y s (due X v) T.pins → U.actions ≡ actions_with s (due_actions X m.layout rows y v.core (due X v) word answer) T.actions → U.heard ≡ T.heard
+          → IsLed X rows (turned (due X v)) U
+      turn_led U low given pins actions heard =
+          let d = due X v in
+          let has = by_due d refl low given in
+          let got = number_found (slice_index m.words) (op_due X v d word) in
+          let v' = participant_moved (after_step (move_of X v.core d)) m.home (participant_due X v d got word) in
+          record {
+            reuse = l.reuse;
+            words = words_many m.words (op_due X v d word) ∙ l.words;
+            participants = participants_after rows m.senders l.participants s v' within (due_rows d (after_step (move_of X v.core d)) got word ∙ same_rows);
+            owners = has.owners;
+            reclaimer = has.reclaimer;
+            holder = has.holder;
+            led = subst (λ w. Led X m.layout rows (protocol_of (turned d) has.reclaimer has.owners) w U.actions U.heard) (sym pins)
+                (subst (λ w. Led X m.layout rows (protocol_of (turned d) has.reclaimer has.owners) (trails_with y s d T.pins) w U.heard) (sym actions)
+                (subst (λ w. Led X m.layout rows (protocol_of (turned d) has.reclaimer has.owners) (trails_with y s d T.pins) (actions_with s (due_actions X m.layout rows y v.core d word answer) T.actions) w) (sym heard) has.led));
+          }

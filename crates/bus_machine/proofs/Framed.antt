@@ -43,7 +43,7 @@ use Rattle.bus_world.specs.CyclicProtocols.{CyclicProtocol}
 use Rattle.bus_world.specs.Proved.Invariants.{given_at}
 use Rattle.bus_world.specs.Proved.KeptProtocols.{IsKeptProtocol}
 use Rattle.bus_machine.proofs.AtNone.{made_there, reached_at_none}
-use Rattle.bus_machine.proofs.CyclicTurns.{k as protocol_kept}
+use Rattle.bus_machine.proofs.CyclicTurns.{protocol_kept}
 use Rattle.bus_machine.proofs.Leading.{Sits, two_rows, led_some}
 use Rattle.bus_machine.specs.Proved.Bridge.{of_bus, plain_trails, core_in, protocol_of, IsLed}
 use Rattle.bus_machine.specs.Machine.{base_of, Machine, Trails, Reached, log_place, log_of, stage_of}
