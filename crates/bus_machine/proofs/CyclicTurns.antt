@@ -1,7 +1,7 @@
 -- A turn of a machine whose rows are used again, as a turn of its protocol.
-use Rattle.std.proofs.Common.{◌≡◌, ◌≢◌, inl, inr, ℕ, ◌+◌, ◌<◌, ◌≤◌, Bool, true, false, cond, ◌&&◌, ◌==◌, nat_le, ◌/◌, Option, Some, None, List, is_some, length, slice_get, slice_index, slice_set, arith, refl, sym, ◌∙◌, ap, subst}
+use Rattle.std.proofs.Common.{◌≡◌, ◌≢◌, inl, inr, ℕ, ◌+◌, ◌<◌, ◌≤◌, Bool, true, false, cond, ◌&&◌, ◌==◌, nat_le, ◌/◌, Option, Some, None, List, length, slice_get, slice_index, slice_set, arith, refl, sym, ◌∙◌, ap, subst}
 use mathlib.Core.Path.{fun_ext}
-use Rattle.std.proofs.lemmas.Bool.{cases_eq, true≢false}
+use Rattle.std.proofs.lemmas.Bool.{cases_eq}
 use Rattle.std.proofs.lemmas.List.{get_or-set_same, get_or-set_other}
 use Rattle.std.proofs.Math.ListN.{length-set}
 use Rattle.std.proofs.lemmas.Option.{same_Some, slice_get_within}
@@ -28,21 +28,20 @@ use Rattle.bus_tenure.specs.Core.{Core, Election, stage_at}
 use Rattle.bus_tenure.specs.Situations.{Situation, IsClosed, IsIdle, IsSpent, LooksAtStage, Elects, TakesPage, AwaitsPage, StoresWord, StoresLength, GivesBack, HasHanded, PageMove, situation_of, line_of, op_at, core_begun, core_elected, waits}
 use Rattle.bus_tenure.specs.declared.pages.Page.{Page}
 use Rattle.bus_tenure.specs.declared.phases.Reason.{Reason}
-use Rattle.bus_tenure.specs.declared.phases.Phase.{Phase}
 use Rattle.bus_tenure.specs.declared.phases.Phase.TheVariants as phase
 use Rattle.bus_tenure.specs.declared.turns.Turn.{Turn as Answered}
 use Rattle.bus_tenure.proofs.Situated.{tells}
-use Rattle.bus_world.specs.Bus.{IsLayout, Part, Fits, standing_of, stands_at, least_of}
+use Rattle.bus_world.specs.Bus.{IsLayout, Part, Fits, standing_of}
 use Rattle.bus_world.specs.Headline.{Action}
 use Rattle.bus_world.specs.Tenures.Standing.{Holds}
 use Rattle.bus_world.specs.Turning.{words_after, number_found, home_moved, core_moved, after_step, home_after}
 use Rattle.bus_world.specs.CyclicProtocols.{CyclicProtocol, Led, Turned, AnswersDue, due_in, due_actions, actions_with, trails_with, protocol_after, words_stepped, word_found}
 use Rattle.bus_world.specs.World.{is_open, can_put, can_close}
 use Rattle.bus_world.proofs.Serving.{Serves}
-use Rattle.bus_world.proofs.TenuresLaws as tenures
 use Rattle.bus_world.proofs.CyclicMachineLaws.{same_register, placed_found, due_goes}
 use Rattle.bus_world.proofs.CyclicProtocolLaws.{HasKept, led_kept}
 use Rattle.bus_world.proofs.CyclicProtocolWords.{put_is}
+use Rattle.bus_machine.proofs.AtHome.{held_stands, finds_page, holds_page}
 use Rattle.bus_machine.specs.Proved.Bridge.{core_in, protocol_of, IsLed}
 use Rattle.bus_machine.specs.Machine.{Machine, Trails, IsOnWord, with_sender}
 use Rattle.bus_machine.specs.Promise.{pin_in}
@@ -153,14 +152,6 @@ participants_after rows xs all s v' within same p v here = elim (cases_eq p s) [
   | inl i ↦ (v', same_Some _ _ (sym here ∙ ap (slice_get (slice_set xs s (again v'))) i ∙ get_set_same xs s (again v') within), same)
   | inr ne ↦ all p v (sym (get_set_other xs s (again v') p ne) ∙ here)
 ]
-
--- who has taken a page, and not given it back
-pub held_stands : {E : Type 0} (ph : Phase E) (t : ℕ) → held_of ph ≡ Some t → stands_at ph ≡ Holds t
-held_stands phase.Resting t e = absurd cc
-held_stands (phase.Electing u f) t e = absurd cc
-held_stands (phase.Taken u) t e = ap Holds (same_Some _ _ e)
-held_stands (phase.Holding u page stored published) t e = ap Holds (same_Some _ _ e)
-held_stands (phase.Giving u reason) t e = ap Holds (same_Some _ _ e)
 
 -- ---- a machine that some trails lead to
 module _ {E : Type 0} (X : Election E) (P : Protocol E (Unit {0}) ℕ) (rows : ℕ) (m : Machine E) (T : Trails) (q : Serves X P m.layout) (ok : IsLayout m.layout) (two : 2 ≤ rows) (l : IsLed X rows m T) where
@@ -280,19 +271,10 @@ module _ {E : Type 0} (X : Election E) (P : Protocol E (Unit {0}) ℕ) (rows : �
     -- nobody holds the page while a sender takes it
     at_home : (t : ℕ) → situation_of X v.core ≡ TakesPage t → (reclaimer : Option Reclaiming) (p : ℕ) (w : Sender E) (r : ℕ) → p ≢ s → slice_get m.senders p ≡ Some w → held_of w.core.phase ≡ Some r → l.reclaimer ≡ reclaimer
     at_home t here reclaimer p w r ne there f =
-        let h = protocol_kept.kept in
-        let by = tells X v.core (TakesPage t) here in
-        let own = owner_of (X.owner by.0) by.2 in
-        let out : P.output by.0 ≡ Some own.0 = sym (q.owner_is by.0) ∙ own.1 in
-        let mine : P.output by.0 ≡ Some s = out ∙ ap Some (h.sending.chosen s v.core t by.0 own.0 old by.1 out) in
-        let runs = ap (of_some standing_of) old ∙ ap (λ u. Some (stands_at u)) by.1 in
-        let finds = tenures.finds_home X.op X.fed P q.laws m.layout.senders m.layout.rows 2 protocol_kept.V (protocol_kept.V 1) (is_some y.home) (λ q. of_some standing_of (y.senders q)) (λ q. least_of (y.senders q)) y.owners h.sending.tenures s t by.0 runs mine in
-        let held = h.sending.tenures.holding p r (holds p w r there f) in
-        absurd (let a = finds.0 in let c = held.1 in omega arith)
-      where
-        owner_of : (o : Option ℕ) → is_some o ≡ true → (u : ℕ) × (o ≡ Some u)
-        owner_of None i = absurd (true≢false (sym i))
-        owner_of (Some u) i = (u, refl)
+        let sending = protocol_kept.kept.sending in
+        let found = finds_page X P q.laws m.layout ok q.width q.starts q.owner_is protocol_kept.V m.home y.senders l.owners protocol_kept.frames sending s v.core old t here in
+        let held = holds_page X P q.laws m.layout ok q.width q.starts q.owner_is protocol_kept.V m.home y.senders l.owners protocol_kept.frames sending p w.core (ap core_in there) r f in
+        absurd (let a = found.2 in omega arith)
 
     due_rows : (d : Due E) (move : PageMove) (got word : ℕ) → (participant_moved move m.home (participant_due X v d got word)).rows ≡ v.rows
     due_rows (Pins o) move got word = refl

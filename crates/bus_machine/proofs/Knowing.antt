@@ -34,7 +34,7 @@ use Rattle.bus_world.specs.Tenures.Stage.{Open, Held}
 use Rattle.bus_world.specs.Tenures.{Standing}
 use Rattle.bus_world.specs.Tenures.Standing.{Holds}
 use Rattle.bus_machine.proofs.Framed.{IsFramed, log_framed}
-use Rattle.bus_machine.proofs.CyclicTurns.{held_stands}
+use Rattle.bus_machine.proofs.AtHome.{held_stands}
 use Rattle.bus_machine.specs.Machine.{base_of, Machine, Trails, log_place, log_of}
 use Rattle.bus_machine.specs.Promise.{TakersTold, KnowsOrder, KnowsFront, IsWithOwner}
 

@@ -1,6 +1,7 @@
 pub mod Takes
 pub mod Own
 pub mod AtNone
+pub mod AtHome
 pub mod CyclicTurns
 pub mod AtSome
 pub mod Leading
