@@ -12,11 +12,11 @@ use Rattle.bus_machine.specs.Machine.{Machine, Trails, Reached, New, Then, Happe
 use Rattle.bus_machine.specs.Machine.{trails_grown, turn_grown}
 use Rattle.bus_register.specs.Protocol.{Protocol}
 use Rattle.bus_tenure.specs.Core.{Election, Layout}
-use Rattle.bus_world.proofs.CyclicMachineLaws.{shown_there}
 use Rattle.bus_world.specs.Trails.{put_actions, mark_actions}
 use Rattle.bus_world.specs.World.{Event, Put, Ask, Turn, Recv, Stop}
 use Rattle.bus_world.specs.declared.events.Answer.{Answer}
 use Rattle.bus_world.specs.declared.events.Answer.TheVariants as answer
+use Rattle.bus_world.proofs.Stopping.{shown_there}
 
 module _ {E : Type 0} (X : Election E) (P : Protocol E (Unit {0}) ℕ) (m : Machine E) (T : Trails) (s : Sits X P m) (r : Reached X m T) where
   -- who goes on is one of its senders

@@ -29,8 +29,9 @@ use Rattle.bus_tenure.specs.Situations.{Situation as Own, IsClosed, IsIdle, IsSp
 use Rattle.bus_tenure.specs.declared.turns.Turn.{Turn as Answered}
 use Rattle.bus_world.proofs.Beginning.{zeros}
 use Rattle.bus_world.proofs.EventTrails.{put_taken, mark_adds}
-use Rattle.bus_world.proofs.CyclicMachineLaws.{placed_found, shown_there}
+use Rattle.bus_world.proofs.CyclicMachineLaws.{placed_found}
 use Rattle.bus_world.proofs.Serving.{Serves}
+use Rattle.bus_world.proofs.Stopping.{shown_there}
 use Rattle.bus_world.specs.Bus.{IsLayout}
 use Rattle.bus_world.specs.Headline.{HasPut, HasMarked}
 use Rattle.bus_world.specs.Trails.{step_action, put_actions, mark_actions}

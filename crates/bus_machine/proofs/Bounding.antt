@@ -6,7 +6,7 @@ use Rattle.std.proofs.lemmas.Bool.{true≢false, ltb-false, cases_eq}
 use Rattle.std.proofs.lemmas.Bool.Decides.{eqb_tells}
 use Rattle.std.proofs.lemmas.List.{append-nil, length-append}
 use Rattle.std.proofs.lemmas.List.Elements.{filter-append}
-use Rattle.std.proofs.lemmas.Option.{same_Some, slice_get_within}
+use Rattle.std.proofs.lemmas.Option.{same_Some, slice_get_within, none-some}
 use Rattle.bus_core.specs.Keeping.{new_reuse}
 use Rattle.bus_core.specs.Senders.{Sender, Situation, Does, Announces, Validates, Unpins, Withdraws, Scans, Clears, at_home, pinning, situation_by, situation}
 use Rattle.bus_core.specs.Table.{Line, line, line_now, seen, reuse_elected, reuse_taken, reuse_given, reuse_pinning, reuse_reclaiming}
@@ -44,8 +44,7 @@ use Rattle.bus_machine.proofs.Leading.{Sits, sits_before}
 use Rattle.bus_machine.specs.Bounding.{is_of_holder, is_towards, steps_towards, AreBounded}
 use Rattle.bus_machine.specs.Machine.{base_of, Machine, Trails, Reached, New as Start, Then as Next, Happens, TakesTurn, IsNew, trails_grown, turn_trails, turn_grown, turn_answer, found, has_stopped, moved, put_in, mark_in, no_machine_trails, entered}
 use Rattle.bus_machine.specs.Promise.{pin_of}
-use Rattle.bus_world.proofs.CyclicMachineLaws.{shown_there}
-use Rattle.bus_world.proofs.TableTrails.{no_owner}
+use Rattle.bus_world.proofs.Stopping.{shown_there}
 
 -- ---- how many steps
 -- those of more actions
@@ -221,12 +220,12 @@ module _ {E : Type 0} (left : E → ℕ) (bound : ℕ) where
     most = c.most;
     running = λ s f i.
         let same : t ≡ s = same_tenure t s e f i in
-        let none = c.ahead t low (no_owner t) in
+        let none = c.ahead t low (none-some t) in
         let now : steps_towards s D ≡ 0 = ap (λ n. steps_towards n D) (sym same) ∙ none in
         let its : left f ≡ left e = ap left (sym (same_election t s e f i)) in
         omega arith;
     begun = λ s i. let same : t ≡ s = same_Some _ _ i in omega arith;
-    ahead = λ s more other. c.ahead s more (no_owner s);
+    ahead = λ s more other. c.ahead s more (none-some s);
     entering = λ s i. absurd (away s i);
   } where
     same_tenure : (t s : ℕ) (e f : E) → phase.Electing t e ≡ phase.Electing s f → t ≡ s

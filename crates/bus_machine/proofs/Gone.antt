@@ -28,7 +28,7 @@ use Rattle.bus_machine.proofs.Leading.{Sits}
 use Rattle.bus_machine.proofs.Paging.{takes_it, holds_it}
 use Rattle.bus_machine.specs.Machine.{base_of, Machine, Trails, Happens, found, has_stopped, stage_of, trails_grown, turn_answer, turn_grown}
 use Rattle.bus_machine.specs.Promise.{ReusesRows, actions_in, is_in}
-use Rattle.bus_world.proofs.CyclicMachineLaws.{shown_there}
+use Rattle.bus_world.proofs.Stopping.{shown_there}
 
 -- ---- actions
 module _ (t : ℕ) where

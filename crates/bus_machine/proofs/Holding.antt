@@ -26,13 +26,13 @@ use Rattle.bus_tenure.specs.Situations.{IsClosed, IsIdle, IsSpent, Elects, Takes
 use Rattle.bus_tenure.specs.declared.phases.Phase.TheVariants as phase
 use Rattle.bus_tenure.specs.declared.turns.Turn.TheVariants as turn
 use Rattle.bus_world.proofs.Accepting.{numbers_fit}
-use Rattle.bus_world.proofs.CyclicMachineLaws.{shown_there}
 use Rattle.bus_world.proofs.CyclicProtocolHears.{placed}
 use Rattle.bus_world.proofs.LogLaws.{length-read}
 use Rattle.bus_world.proofs.PlayingLaws.{one_there}
 use Rattle.bus_world.proofs.Serving.{Serves}
 use Rattle.bus_world.proofs.TenuresLaws.{within_its_row}
 use Rattle.bus_world.proofs.ViewingLaws.{read-list}
+use Rattle.bus_world.proofs.Stopping.{shown_there}
 use Rattle.bus_world.specs.Bus.{IsLayout, Part, Fits, standing_of, stands_at, least_of}
 use Rattle.bus_world.specs.Headline.{order_given}
 use Rattle.bus_world.specs.Tenures.Standing.{Runs}

@@ -17,7 +17,7 @@ use Rattle.bus_world.specs.Turning.{home_moved, words_after}
 use Rattle.bus_world.specs.World.{Event, Put, Ask, Turn, Recv, Stop}
 use Rattle.bus_world.specs.declared.events.Answer.{Answer}
 use Rattle.bus_world.specs.declared.events.Answer.TheVariants as answer
-use Rattle.bus_world.proofs.CyclicMachineLaws.{shown_there}
+use Rattle.bus_world.proofs.Stopping.{shown_there}
 
 -- an even number is no odd one
 even_odd : (n a b : ℕ) → n ≡ 2 * a → n ≡ 2 * b + 1 → ⊥

@@ -28,7 +28,7 @@ use Rattle.bus_machine.proofs.Staying.{grown_longer}
 use Rattle.bus_machine.specs.Machine.{Machine, Trails, Reached, New as Start, Then as Next, Happens, IsNew, TakesTurn, found, has_stopped, mark_in, moved, put_in, stage_of, trails_grown}
 use Rattle.bus_machine.specs.Promise.{pin_of}
 use Rattle.bus_machine.specs.Telling.{HasSeenLoss, LossesAreSeen}
-use Rattle.bus_world.proofs.CyclicMachineLaws.{shown_there}
+use Rattle.bus_world.proofs.Stopping.{shown_there}
 
 -- ---- what is remembered after a step was remembered before
 looked_lost : {E : Type 0} (X : Election E) (c : Core E) (q : Option Reuse) (got : ℕ) (o : SenderNo)

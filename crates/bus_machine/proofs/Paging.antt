@@ -3,6 +3,7 @@ use Rattle.std.proofs.Common.{◌≡◌, ℕ, ◌+◌, ◌*◌, Some, slice_get,
 use Rattle.bus_core.proofs.Situated.{own_is}
 use Rattle.bus_core.specs.Senders.{Sender, Does, situation}
 use Rattle.bus_machine.proofs.AtHome.{paged, finds_page, holds_page}
+pub use Rattle.bus_machine.proofs.AtHome.{some_is}
 use Rattle.bus_machine.proofs.Framed.{IsFramed}
 use Rattle.bus_machine.proofs.Leading.{Sits}
 use Rattle.bus_machine.specs.Machine.{Machine, Trails, stage_of}

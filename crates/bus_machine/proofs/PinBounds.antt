@@ -4,7 +4,7 @@ use Rattle.std.proofs.Common.{Option, Some, None, List, [], ◌∷◌, ◌++◌,
 use Rattle.std.proofs.lemmas.Bool.{cases_eq}
 use Rattle.std.proofs.lemmas.Bool.Decides.{eqb_tells}
 use Rattle.std.proofs.lemmas.List.{append-nil}
-use Rattle.std.proofs.lemmas.Option.{same_Some, slice_get_within}
+use Rattle.std.proofs.lemmas.Option.{same_Some, slice_get_within, none-some}
 use Rattle.bus_core.specs.Keeping.{new_sender, new_reuse}
 use Rattle.bus_core.specs.Senders.{Sender, Situation, Does, Announces, Validates, Unpins, Withdraws, Scans, Clears, at_home, pinning, situation}
 use Rattle.bus_core.specs.Table.{Line, line, line_now, presence_of}
@@ -36,8 +36,7 @@ use Rattle.bus_machine.proofs.Leading.{Sits, sits_before}
 use Rattle.bus_machine.specs.Bounding.{named_by, named_from, is_tenure, pins_from, steps_of_pin, IsNamedFirst, PinsAreBounded}
 use Rattle.bus_machine.specs.Machine.{base_of, Machine, Trails, Reached, New as Start, Then as Next, Happens, TakesTurn, trails_grown, turn_trails, turn_grown, turn_answer, entered, found, has_stopped, moved, put_in, mark_in, stage_of}
 use Rattle.bus_machine.specs.Promise.{pin_of}
-use Rattle.bus_world.proofs.CyclicMachineLaws.{shown_there}
-use Rattle.bus_world.proofs.TableTrails.{no_owner}
+use Rattle.bus_world.proofs.Stopping.{shown_there}
 
 -- ---- lists of steps
 -- what is named after one more
@@ -247,7 +246,7 @@ module _ {E : Type 0} (ph : Phase E) (least : ℕ) (u : Pin) (stage : ℕ) (es :
   -- ---- at rest
   module _ (rests : ph ≡ phase.Resting) where
     no_tenure : (s : ℕ) → tenure_of ph ≡ Some s → ⊥
-    no_tenure s i = no_owner s (sym (ap tenure_of rests) ∙ i)
+    no_tenure s i = none-some s (sym (ap tenure_of rests) ∙ i)
 
     no_election : (s : ℕ) (e : E) → ph ≡ phase.Electing s e → ⊥
     no_election s e i = let bad = sym rests ∙ i in cc
@@ -259,14 +258,14 @@ module _ {E : Type 0} (ph : Phase E) (least : ℕ) (u : Pin) (stage : ℕ) (es :
     announces_on : (t : ℕ) → u ≡ Away → least ≤ t → t ≡ stage / 2 → Pins ph least (Announcing t) stage es
     announces_on t away low now = record {
       most = k.most;
-      fresh = λ s more up other apart. k.fresh s more up other (λ i. no_owner s (sym (ap pin_named away) ∙ i));
+      fresh = λ s more up other apart. k.fresh s more up other (λ i. none-some s (sym (ap pin_named away) ∙ i));
       announcing = λ s i. let same : t ≡ s = cc in (
         ap (λ n. steps_of_pin n es) (sym same) ∙ k.fresh t low (omega arith) (no_tenure t)
-            (λ i. no_owner t (sym (ap pin_named away) ∙ i)),
+            (λ i. none-some t (sym (ap pin_named away) ∙ i)),
         omega arith,
       );
       validating = λ s i. absurd cc;
-      named = λ s i. absurd (no_owner s i);
+      named = λ s i. absurd (none-some s i);
       late = λ s i. absurd cc;
       parted = λ s i. absurd cc;
       pinned = λ s i. absurd cc;
@@ -278,10 +277,10 @@ module _ {E : Type 0} (ph : Phase E) (least : ℕ) (u : Pin) (stage : ℕ) (es :
     waits_on : (n : ℕ) → u ≡ Away → least ≤ n → Pins ph n Away stage es
     waits_on n away low = record {
       most = k.most;
-      fresh = λ s more up other apart. k.fresh s (omega arith) up other (λ i. no_owner s (sym (ap pin_named away) ∙ i));
+      fresh = λ s more up other apart. k.fresh s (omega arith) up other (λ i. none-some s (sym (ap pin_named away) ∙ i));
       announcing = λ s i. absurd cc;
       validating = λ s i. absurd cc;
-      named = λ s i. absurd (no_owner s i);
+      named = λ s i. absurd (none-some s i);
       late = λ s i. absurd cc;
       parted = λ s i. absurd cc;
       pinned = λ s i. absurd cc;
@@ -295,7 +294,7 @@ module _ {E : Type 0} (ph : Phase E) (least : ℕ) (u : Pin) (stage : ℕ) (es :
       joins = record { now = ap (λ o. named_by o (named_from None es)) op.1 ∙ names op.0 t (named_from None es) }
 
       unnamed : (s : ℕ) → pin_named u ≡ Some s → ⊥
-      unnamed s i = no_owner s (sym (ap pin_named here) ∙ i)
+      unnamed s i = none-some s (sym (ap pin_named here) ∙ i)
 
       enters_on : Pins ph least (Validating t) stage (es ++ e ∷ [])
       enters_on =
@@ -328,7 +327,7 @@ module _ {E : Type 0} (ph : Phase E) (least : ℕ) (u : Pin) (stage : ℕ) (es :
 
     -- it is no first step
     still_first : IsNamedFirst (es ++ e ∷ [])
-    still_first = first_more es e k.first (λ none. absurd (no_owner t (sym (ap (named_from None) none) ∙ (k.named t named).0)))
+    still_first = first_more es e k.first (λ none. absurd (none-some t (sym (ap (named_from None) none) ∙ (k.named t named).0)))
 
     most_with : pin_taken u ≤ 2 → (s : ℕ) → steps_of_pin s (es ++ e ∷ []) ≤ 3
     most_with few s = elim (cases_eq t s) [
@@ -400,7 +399,7 @@ module _ {E : Type 0} (ph : Phase E) (least : ℕ) (u : Pin) (stage : ℕ) (es :
       ];
       announcing = λ s i. absurd cc;
       validating = λ s i. absurd cc;
-      named = λ s i. absurd (no_owner s i);
+      named = λ s i. absurd (none-some s i);
       late = λ s i. absurd cc;
       parted = λ s i. absurd cc;
       pinned = λ s i. absurd cc;
@@ -866,7 +865,7 @@ new_kept w q (Some rows) first = record {
   fresh = λ t low up other apart. refl;
   announcing = λ t i. absurd cc;
   validating = λ t i. absurd cc;
-  named = λ t i. absurd (no_owner t i);
+  named = λ t i. absurd (none-some t i);
   late = λ t i. absurd cc;
   parted = λ t i. absurd cc;
   pinned = λ t i. absurd cc;

@@ -38,8 +38,8 @@ use Rattle.bus_machine.specs.Promise.{IsPagedBy, ReusesSafely, words_of_frame}
 use Rattle.bus_machine.specs.Refusals.{LossesRefuse, AnswersRefuse, SaysMore, NumbersRefuse, BoundsRefuse, FollowsRefuse, PagesRefuse, MemoriesRefuse, WordsRefuse, MarksRefuse}
 use Rattle.bus_machine.specs.Remembering.{HasEnded, HasLeftIt, rows_in}
 use Rattle.bus_machine.specs.Telling.{ClosedTells, IsReused}
-use Rattle.bus_world.proofs.CyclicMachineLaws.{shown_there}
 use Rattle.bus_world.proofs.Framing.{not_nil}
+use Rattle.bus_world.proofs.Stopping.{shown_there}
 
 nothing_there : (i : ℕ) (d : Action) → slice_get [] i ≡ Some d → ⊥
 nothing_there i d e = cc

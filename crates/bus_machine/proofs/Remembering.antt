@@ -40,7 +40,7 @@ use Rattle.bus_world.proofs.LogLaws.{next-append_owner}
 use Rattle.bus_world.specs.Tenures.Stage.{Open, Held}
 use Rattle.bus_world.specs.Tenures.Standing.{Holds}
 use Rattle.bus_world.proofs.Places.{got_split}
-use Rattle.bus_world.proofs.CyclicMachineLaws.{shown_there}
+use Rattle.bus_world.proofs.Stopping.{shown_there}
 use Rattle.bus_world.specs.Trails.{step_action, put_actions, mark_actions}
 use Rattle.bus_world.specs.Turning.{after_step, core_with_page, words_after}
 use Rattle.bus_world.specs.CyclicProtocols.{actions_with}

@@ -27,8 +27,8 @@ use Rattle.bus_world.specs.declared.events.StepFault.TheVariants as fault
 use Rattle.bus_machine.specs.Machine.{Machine, Trails, Reached, New as Start, Then as Next, Happens, IsOnWord, trails_grown, turn_grown, turn_trails, going, has_stopped, found}
 use Rattle.bus_machine.specs.Playing.{Refused, SenderRefused, PutRefused, CloseRefused, AllAnswered, trails_after}
 use Rattle.bus_machine.specs.Stopping.{IsOfOther, with_stop_of, JustStopped, StaysStopped, StopsAreForGood, StopRefuses}
-use Rattle.bus_world.proofs.CyclicMachineLaws.{shown_there}
 use Rattle.bus_machine.proofs.Bounding.{actions_of_other, entered_beside}
+use Rattle.bus_world.proofs.Stopping.{shown_there}
 
 -- ---- of each machine that is reached
 module _ {E : Type 0} (X : Election E) where

@@ -12,7 +12,7 @@ use Rattle.bus_world.specs.Headline.{Action, HasPut, HasMarked, Took}
 use Rattle.bus_world.specs.Trails.{Takers, mark_actions}
 use Rattle.bus_world.specs.CyclicProtocols.{actions_with}
 use Rattle.bus_world.proofs.Places.{got_before, got_split}
-use Rattle.bus_world.proofs.CyclicMachineLaws.{shown_there}
+use Rattle.bus_world.proofs.Stopping.{shown_there}
 use Rattle.bus_core.specs.Senders.{Sender, Situation, Does, Announces, Validates, Unpins, Withdraws, Scans, Clears, situation}
 use Rattle.bus_core.specs.Table.{line, line_now}
 use Rattle.bus_register.specs.Protocol.{Protocol}
