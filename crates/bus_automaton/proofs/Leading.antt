@@ -1,5 +1,5 @@
 -- What a sender of the one machine may do leads on, with a row for each tenure and with rows that are used again.
-use Rattle.std.proofs.Common.{◌≡◌, ◌≢◌, ℕ, zero, suc, ◌<◌, cond, eq-eqb, ne_eqb, false, Option, Some, None, List, [], ◌∷◌, ◌++◌}
+use Rattle.std.proofs.Common.{◌≡◌, ◌≢◌, ℕ, zero, suc, ◌<◌, cond, eq-eqb, false, Option, Some, None, List, [], ◌∷◌, ◌++◌}
 use Rattle.std.proofs.Common.{length, slice_get, slice_index, replicate, refl, sym, ◌∙◌, ap, subst}
 use Rattle.std.specs.Prelude.{All}
 use Rattle.std.proofs.lemmas.List.{append-nil}
@@ -12,7 +12,7 @@ use Rattle.bus_core.specs.Keeping.{queue_of}
 use Rattle.bus_core.specs.Senders.{Sender, Situation, Does, Scans, Clears, situation}
 use Rattle.bus_core.specs.Table.{Line, line_now}
 use Rattle.bus_core.specs.declared.reuses.Reuse.{Reuse}
-use Rattle.bus_machine.proofs.Bounding.{actions_of_it, actions_of_other}
+use Rattle.bus_machine.proofs.Bounding.{actions_of_it, actions_of_other, entered_beside}
 use Rattle.bus_presence.specs.Reclamation.{Entry, Trails as Entries}
 use Rattle.bus_register.specs.Proved.TableLaws.{get_set_same, get_set_other}
 use Rattle.bus_register.specs.Words.{register}
@@ -20,9 +20,10 @@ use Rattle.bus_register.specs.declared.registers.Op.{Op}
 use Rattle.bus_tenure.specs.Core.{Election, Layout}
 use Rattle.bus_tenure.specs.declared.turns.Turn.{Turn as Answered}
 use Rattle.bus_world.specs.Headline.{Action, HasPut, HasMarked}
-use Rattle.bus_world.specs.Trails.{step_action, actions_with}
+use Rattle.bus_world.specs.Trails.{step_action}
 use Rattle.bus_world.specs.Turning.{words_after, number_found}
 use Rattle.bus_world.specs.World.{Put, Ask, Turn, is_set, no_stops}
+use Rattle.bus_world.specs.CyclicProtocols.{actions_with}
 use Rattle.bus_world.specs.declared.events.Answer.TheVariants as answer
 use Rattle.bus_machine.specs.Machine.{Machine, Trails, Reached, Then, Happens, IsOnWord, going, with_sender, put_in, mark_in, machine_after}
 use Rattle.bus_machine.specs.Machine.{found, turn_answer, trails_grown, turn_trails, turn_grown, entered}
@@ -34,13 +35,13 @@ use Rattle.bus_automaton.specs.OneProcess.{entries, adds_by, process_of}
 
 -- ---- who goes on
 -- nobody has stopped among those of whom none has
-none_set : (n s : ℕ) → is_set (slice_get (replicate n false) s) ≡ false
+pub none_set : (n s : ℕ) → is_set (slice_get (replicate n false) s) ≡ false
 none_set zero s = refl
 none_set (suc n) zero = refl
 none_set (suc n) (suc s) = none_set n s
 
 -- so each sender that there is goes on
-all_go : {E : Type 0} (m : Machine E) → m.stopped ≡ no_stops → (s : ℕ) → going m s ≡ slice_get m.senders s
+pub all_go : {E : Type 0} (m : Machine E) → m.stopped ≡ no_stops → (s : ℕ) → going m s ≡ slice_get m.senders s
 all_go m none s = ap (λ t. cond t None (slice_get m.senders s)) (ap (λ l. is_set (slice_get l s)) none ∙ none_set MOST_SENDERS s)
 
 -- the next number of its batch, also while that is on its way
@@ -52,11 +53,6 @@ next_is q r = ap next_of (queue_is q r)
 own_entered : (T : Entries) (p : ℕ) (o : Option Op) (got : ℕ) → entered T p o got p ≡ T p ++ entries o got
 own_entered T p None got = sym (append-nil (T p))
 own_entered T p (Some o) got = ap (λ b. cond b (T p ++ record { op = o; got = got } ∷ []) (T p)) (eq-eqb p p refl)
-
--- and no other
-other_entered : (T : Entries) (p : ℕ) (o : Option Op) (got q : ℕ) → q ≢ p → entered T p o got q ≡ T q
-other_entered T p None got q ne = refl
-other_entered T p (Some o) got q ne = ap (λ b. cond b (T q ++ record { op = o; got = got } ∷ []) (T q)) (ne_eqb q p ne)
 
 module _ (bases : List ℕ) (T T' : Trails) (q : ℕ) where
   -- of who did this
@@ -93,11 +89,11 @@ module _ {E : Type 0} (bases : List ℕ) (l : Line E) (p got word : ℕ) (T : Tr
   other_turned : (s : Situation E) (q : ℕ) → q ≢ p → trail_of bases (turned s) q ≡ trail_of bases T q
   other_turned (Does z) q ne = other_trail bases T (turned (Does z)) q (actions_of_other p stepped T.actions q ne) refl refl
   other_turned (Scans r) q ne = other_trail bases T (turned (Scans r)) q (actions_of_other p [] T.actions q ne) refl
-      (other_entered T.reclaims p (l.op word) got q ne)
+      (entered_beside T.reclaims p q (l.op word) got ne)
   other_turned (Clears r) q ne = other_trail bases T (turned (Clears r)) q (actions_of_other p [] T.actions q ne) refl
-      (other_entered T.reclaims p (l.op word) got q ne)
+      (entered_beside T.reclaims p q (l.op word) got ne)
   other_turned s q ne = other_trail bases T (turned s) q (actions_of_other p [] T.actions q ne)
-      (other_entered T.pins p (l.op word) got q ne) refl
+      (entered_beside T.pins p q (l.op word) got ne) refl
 
 -- a step that is due is on a word
 on_word : {E : Type 0} (m : Machine E) (a : Option Op) (o : Op) → a ≡ Some o → register o < length m.words → IsOnWord m a

@@ -18,6 +18,8 @@ use Rattle.bus_machine.proofs.Growing.{grows}
 use Rattle.bus_machine.proofs.Knowing.{its_part}
 use Rattle.bus_machine.proofs.Leading.{Sits}
 use Rattle.bus_machine.proofs.Promised.{promised}
+use Rattle.bus_machine.proofs.Holding.{sums_fit}
+use Rattle.bus_machine.proofs.Joining.{log_behind}
 use Rattle.bus_machine.specs.Machine.{Machine, Trails, base_of, turn_answer}
 use Rattle.bus_machine.specs.Promise.{HasRows, IsPagedBy, IsPromised}
 use Rattle.bus_register.specs.Protocol.{Protocol}
@@ -31,17 +33,17 @@ use Rattle.bus_tenure.specs.declared.phases.Phase.{Phase}
 use Rattle.bus_tenure.specs.declared.phases.Phase.TheVariants as phase
 use Rattle.bus_world.proofs.LogLaws.{length-read}
 use Rattle.bus_world.proofs.Serving.{Serves}
-use Rattle.bus_world.specs.World.{IsLayout, Turn}
-use Rattle.bus_world.specs.Proved.Sending.{Fits, Part}
+use Rattle.bus_world.specs.Bus.{IsLayout, Fits, Part}
 use Rattle.bus_world.specs.Headline.{Action, Promises, puts}
 use Rattle.bus_world.specs.Log.{Knows}
-use Rattle.bus_world.specs.Proved.Tenures.Stage.{Open, Held}
+use Rattle.bus_world.specs.Tenures.Stage.{Open, Held}
 use Rattle.bus_world.specs.Waiting.{waiting_at}
+use Rattle.bus_world.specs.World.{Turn}
 use Rattle.bus_world.specs.declared.events.Answer.TheVariants as answer
 use Rattle.bus_automaton.proofs.Counting.{first_below}
 use Rattle.bus_automaton.proofs.Leading.{takes_message, takes_mark, takes_turn, next, next_reached, takes_step}
-use Rattle.bus_automaton.proofs.ReachedMachines.{words_many, sums_fit, nobody_did}
-use Rattle.bus_automaton.proofs.Turns.{queue_is, messages_are, two_words, comes, ends}
+use Rattle.bus_automaton.proofs.ReachedMachines.{nobody_did}
+use Rattle.bus_automaton.proofs.Turns.{queue_is, messages_are, comes, ends}
 use Rattle.bus_automaton.specs.Lawful.{AutomatonLaws, IsSender, StepsIn, HasLog, IsPromisedOf, no_answers}
 use Rattle.bus_automaton.specs.OneAutomaton.{MachineHistory, IsMachineHistory, bus_of}
 use Rattle.bus_automaton.specs.OneProcess.{is_taken, rows_used, table_layout_by, process_of}
@@ -129,7 +131,7 @@ module _ {E : Type 0} (X : Election E) (P : Protocol E (Unit {0}) ℕ) (x : Layo
 
   -- it has all its words
   wide : length m.words ≡ (table_layout_by x reuse).words
-  wide = words_many X P m T sits h.reached ∙ ap (λ (t : TableLayout). t.words) sizes_are
+  wide = framing.room ∙ ap (λ (t : TableLayout). t.words) sizes_are
 
   -- who is none of its senders has done nothing
   nobody : (q : ℕ) → x.senders ≤ q → T.actions q ≡ []
@@ -270,7 +272,7 @@ pub automaton_laws : {E : Type 0} (X : Election E) (P : Protocol E (Unit {0}) �
     (bases : List ℕ) → AutomatonLaws (process_of X) (bus_of X x reuse bases)
 automaton_laws X P x y reuse bases = record {
   room = omega arith;
-  behind = two_words x reuse;
+  behind = log_behind x reuse;
   started_me = λ p. refl;
   started_table_layout = λ p. ap (table_layout_by x) (new_rows reuse);
   started_away = λ p. refl;
@@ -284,7 +286,7 @@ automaton_laws X P x y reuse bases = record {
       steps_in X P x y reuse bases z h p v at word o due (subst (λ n. register o < n) (sym (wide X P x y reuse bases z h)) low);
   ends = λ z p v word o h at due home got. ends X v (laid X P x y reuse bases z h p v at) (rests X P x y reuse bases z h p v at)
       (situation X v) refl word o due home got;
-  fits = λ z p v word o h at due. sums_fit X P z.machine z.trails (sits X P x y reuse bases z h) h.reached p v at word o due;
+  fits = λ z p v word o h at due. sums_fit X P z.machine z.trails (sits X P x y reuse bases z h).serves (framing X P x y reuse bases z h) p v at word o due;
   finds_home = λ z p v word o t h at due is. finds_home X P x y reuse bases z h p v at word o due t is;
   even_at_home = λ z h even. (at_home X P x y reuse bases z h).0 even;
   odd_away = λ z h odd. (at_home X P x y reuse bases z h).1 odd;

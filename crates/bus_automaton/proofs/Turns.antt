@@ -1,5 +1,5 @@
 -- A sender of either kind of rows is a process: its laws, by the one table of its turns.
-use Rattle.std.proofs.Common.{◌≡◌, ℕ, ◌+◌, ◌/◌, ◌<◌, ◌≤◌, ◌==◌, ◌&&◌, Bool, true, false, cond, nat_lt, nat_le, Option, Some, None}
+use Rattle.std.proofs.Common.{◌≡◌, ℕ, ◌+◌, ◌/◌, ◌<◌, ◌==◌, ◌&&◌, Bool, true, false, cond, nat_lt, nat_le, Option, Some, None}
 use Rattle.std.proofs.Common.{List, [], ◌∷◌, ◌++◌, length, is_some, arith, refl, sym, ◌∙◌, ap, inl, inr}
 use Rattle.std.specs.Prelude.{◌⊎◌}
 use Rattle.std.proofs.lemmas.Bool.{true≢false}
@@ -13,7 +13,8 @@ use Rattle.bus_core.specs.Table.{line, line_now, rest_at, in_row, seen, answer_e
 use Rattle.bus_core.specs.declared.reuses.Reuse.{Reuse}
 use Rattle.bus_machine.proofs.Clearing.{clearing}
 use Rattle.bus_machine.proofs.TurnLaws.{handed_by}
-use Rattle.bus_machine.specs.Machine.{log_place, moved}
+use Rattle.bus_machine.proofs.Joining.{log_behind}
+use Rattle.bus_machine.specs.Machine.{moved}
 use Rattle.bus_ownerbits.specs.OneOwner.{OneOwner}
 use Rattle.bus_presence.specs.Reclaimers.{Reclaiming, reclaim_op, reclaim_fed, behind_of}
 use Rattle.bus_presence.specs.declared.pins.Pin.{Pin}
@@ -68,16 +69,11 @@ pub messages_are : (q : Pending) (r : Option Reuse) → (queue_of q r).messages 
 messages_are q r = ap (λ (k : Pending). k.messages) (queue_is q r)
 
 -- of a sender with nothing in its batch nothing waits
-none_hidden : {E : Type 0} (c : Core E) (ph : Phase E) → c.queue.messages ≡ [] → waiting_at c ph ≡ []
+pub none_hidden : {E : Type 0} (c : Core E) (ph : Phase E) → c.queue.messages ≡ [] → waiting_at c ph ≡ []
 none_hidden c (phase.Holding t page stored true) e = refl
 none_hidden c (phase.Holding t page stored false) e = e
 none_hidden c (phase.Giving t reason) e = refl
 none_hidden c ph e = e
-
--- a bus has two words before its log
-pub two_words : (x : Layout) (o : Option ℕ) → 2 ≤ log_place x o
-two_words x None = omega arith
-two_words x (Some rows) = omega arith
 
 -- ---- steps
 -- the step of an election is due where it lies as where it would lie
@@ -376,7 +372,7 @@ module _ {E : Type 0} (X : Election E) (v : Sender E) where
 pub process_laws : {E : Type 0} (X : Election E) (P : Protocol E (Unit {0}) ℕ) → Laws X.op X.fed P OneOwner
     → ((e : E) (word : ℕ) → is_some (X.kind_of e) ≡ is_some (X.op e word)) → ProcessLaws (process_of X)
 process_laws X P laws names = record {
-  some_words = λ v. let two = two_words v.core.layout (rows_used v.reuse) in omega arith;
+  some_words = λ v. let two = log_behind v.core.layout (rows_used v.reuse) in omega arith;
   same_table_layout = λ v home got word.
       (λ n. table_layout_by ((kept X v (situation X v) home got word).0 n) (rows_stay X v.core v.reuse (situation X v) got word n));
   named = λ v word. named X v names (situation X v) word;

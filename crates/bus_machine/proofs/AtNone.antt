@@ -17,12 +17,11 @@ use Rattle.bus_tenure.specs.Situations.{situation_of, op_at, answer_at}
 use Rattle.bus_tenure.specs.declared.turns.Turn.{Turn as Answered}
 use Rattle.bus_world.proofs.EventTrails.{put_taken}
 use Rattle.bus_world.specs.Headline.{Action}
-use Rattle.bus_world.specs.Proved.Answers.{TurnAnswers, PutGives, CloseGives, RecvAnswers, StopGives}
-use Rattle.bus_world.specs.Proved.Trails.{New, Then, turning_actions, turn_actions, heard_of, trails_grown as plain_grown, Reached as PlainReached}
-use Rattle.bus_world.specs.Proved.Machines.{side_after, core_after, home_after, owners_after, Bus, SenderDoes, ReceiverDoes, StopDoes, can_close, is_open, new_core, going as plain_going, with_sender as plain_with, put_in as plain_put, mark_in as plain_mark}
-use Rattle.bus_world.specs.Turning.{words_after, number_found}
-use Rattle.bus_world.specs.World.{Event, Put, Ask, Turn, Recv, Stop, IsNewReceiver, is_set}
-use Rattle.bus_world.specs.Trails.{actions_with}
+use Rattle.bus_world.specs.Playing.{TurnAnswers, PutGives, CloseGives, RecvAnswers, StopGives}
+use Rattle.bus_world.specs.Trails.{New, Then, turning_actions, turn_actions, heard_of, trails_grown as plain_grown, Reached as PlainReached}
+use Rattle.bus_world.specs.Turning.{side_after, core_after, words_after, number_found, home_after, owners_after}
+use Rattle.bus_world.specs.World.{Bus, Event, Put, Ask, Turn, Recv, Stop, SenderDoes, ReceiverDoes, StopDoes, IsNewReceiver, is_set, can_close, is_open, new_core, going as plain_going, with_sender as plain_with, put_in as plain_put, mark_in as plain_mark}
+use Rattle.bus_world.specs.CyclicProtocols.{actions_with}
 use Rattle.bus_world.specs.declared.events.Answer.{Answer}
 use Rattle.bus_world.specs.declared.events.Answer.TheVariants as answer
 use Rattle.bus_machine.specs.Proved.Bridge.{of_bus, plain_trails, IsPlainEvent, HappensAtNone, IsPlain}
@@ -34,20 +33,26 @@ closed_by o b xs i j k = ap (λ y. y && ((cond b false true) && is_empty xs)) i 
 pub close_taken : (q : Pending) → CanClose q → can_close q ≡ true
 close_taken q c = closed_by (is_open q.phase) q.busy q.messages (ap is_open c.is_open) c.idle c.none
 
--- ---- a sender that goes on
-module _ {E : Type 0} where
-  opened_at : (t : Bool) (xs : Option (Sender E)) (o : Option (Core E)) (v : Sender E) → xs ≡ option_map apart o → cond t None xs ≡ Some v → (c : Core E) × (cond t None o ≡ Some c) × (v ≡ apart c)
-  opened_at true xs o v e g = absurd cc
-  opened_at false xs None v e g = absurd (let q : None ≡ Some v = sym e ∙ g in cc)
-  opened_at false xs (Some c) v e g = (c, refl, same_Some _ _ (sym g ∙ e))
+-- ---- senders by what they are made of
+module _ {A B : Type 0} (f : A → B) where
+  -- who is there is made of one
+  pub made_there : (o : Option A) (v : B) → option_map f o ≡ Some v → (u : A) × (o ≡ Some u) × (v ≡ f u)
+  made_there None v e = absurd (let bad : None ≡ Some v = e in cc)
+  made_there (Some u) v e = (u, refl, sym (same_Some _ _ e))
 
-  pub opened : (bases : List ℕ) (x : Layout) (b : Bus E) (s : ℕ) (v : Sender E) → going (of_bus bases x b) s ≡ Some v → (c : Core E) × (plain_going b s ≡ Some c) × (v ≡ apart c)
-  opened bases x b s v g = opened_at (is_set (slice_get b.stopped s)) (slice_get (map apart b.side.senders) s) (slice_get b.side.senders s) v (slice_get-map apart b.side.senders s) g
+  -- and goes on where that does
+  pub opened_at : (t : Bool) (xs : Option B) (o : Option A) (v : B) → xs ≡ option_map f o → cond t None xs ≡ Some v → (u : A) × (cond t None o ≡ Some u) × (v ≡ f u) × (o ≡ Some u)
+  opened_at true xs o v e g = absurd (let bad : None ≡ Some v = g in cc)
+  opened_at false xs o v e g = let u = made_there o v (sym e ∙ g) in (u.0, u.1, u.2, u.1)
 
-  -- a list of senders, with what is left of them put back
-  rebuilt : (l : List (Sender E)) → ((p : ℕ) (v : Sender E) → slice_get l p ≡ Some v → apart v.core ≡ v) → map apart (map (λ v. v.core) l) ≡ l
-  rebuilt [] h = refl
-  rebuilt (v ∷ l) h = ap (λ y. y ∷ map apart (map (λ v. v.core) l)) (h 0 v refl) ∙ ap (λ y. v ∷ y) (rebuilt l (λ p w e. h (suc p) w e))
+  -- a list of them, made again of what is left of each
+  pub rebuilt : (g : B → A) (l : List B) → ((p : ℕ) (v : B) → slice_get l p ≡ Some v → f (g v) ≡ v) → map f (map g l) ≡ l
+  rebuilt g [] h = refl
+  rebuilt g (v ∷ l) h = ap (λ y. y ∷ map f (map g l)) (h 0 v refl) ∙ ap (λ y. v ∷ y) (rebuilt g l (λ p w e. h (suc p) w e))
+
+-- a sender that goes on
+opened : {E : Type 0} (bases : List ℕ) (x : Layout) (b : Bus E) (s : ℕ) (v : Sender E) → going (of_bus bases x b) s ≡ Some v → (c : Core E) × (plain_going b s ≡ Some c) × (v ≡ apart c) × (slice_get b.side.senders s ≡ Some c)
+opened bases x b s v g = opened_at apart (is_set (slice_get b.stopped s)) (slice_get (map apart b.side.senders) s) (slice_get b.side.senders s) v (slice_get-map apart b.side.senders s) g
 
 -- ---- one event
 nothing_heard : (H : ℕ → List RecvTurn) → (λ (r : ℕ). H r ++ []) ≡ H
@@ -169,13 +174,13 @@ module _ {E : Type 0} (X : Election E) where
   new_plain : (w : Machine E) → IsNew w → w.reuse ≡ None → IsPlain X w no_machine_trails
   new_plain w new e = record {
     bus = b;
-    is = ap (λ r. record w { reuse = r }) e ∙ ap (λ l. record w { reuse = None; senders = l }) (sym (rebuilt w.senders (λ p v at. let i = (new.senders p v at).1 in ap (λ (y : Sender E). apart y.core) i ∙ ap (λ r. new_sender w.layout p r (base_of w p)) (sym e) ∙ sym i)))
+    is = ap (λ r. record w { reuse = r }) e ∙ ap (λ l. record w { reuse = None; senders = l }) (sym (rebuilt apart (λ (v : Sender E). v.core) w.senders (λ p v at. let i = (new.senders p v at).1 in ap (λ (y : Sender E). apart y.core) i ∙ ap (λ r. new_sender w.layout p r (base_of w p)) (sym e) ∙ sym i)))
         ∙ ap (λ o. record w { reuse = None; senders = map apart b.side.senders; owners = o }) new.owners;
     reached = New b record {
       bases_are = new.bases_are;
       words = new.words ∙ ap (λ r. replicate (log_place w.layout r + w.layout.capacity) 0) e;
       home = new.home;
-      senders = λ p c at. core_new p c (slice_get w.senders p) refl (sym (slice_get-map (λ v. v.core) w.senders p) ∙ at);
+      senders = core_new;
       owners = refl;
       stopped = new.stopped;
       receivers = λ r v at. subst (λ u. IsNewReceiver w.layout (log_place w.layout u) v) e (new.receivers r v at);
@@ -184,9 +189,11 @@ module _ {E : Type 0} (X : Election E) where
     b : Bus E
     b = record { side = record { words = w.words; home = w.home; senders = map (λ v. v.core) w.senders; owners = [] }; receivers = w.receivers; stopped = w.stopped }
 
-    core_new : (p : ℕ) (c : Core E) (o : Option (Sender E)) → slice_get w.senders p ≡ o → option_map (λ v. v.core) o ≡ Some c → (p < w.layout.senders) × (c ≡ new_core w.layout (base_of w p) p)
-    core_new p c None i j = absurd cc
-    core_new p c (Some v) i j = let n = new.senders p v i in (n.0, sym (same_Some _ _ j) ∙ ap (λ (y : Sender E). y.core) n.1)
+    core_new : (p : ℕ) (c : Core E) → slice_get b.side.senders p ≡ Some c → (p < w.layout.senders) × (c ≡ new_core w.layout (base_of w p) p)
+    core_new p c at =
+        let v = made_there (λ (y : Sender E). y.core) (slice_get w.senders p) c (sym (slice_get-map (λ (y : Sender E). y.core) w.senders p) ∙ at) in
+        let n = new.senders p v.0 v.1 in
+        (n.0, v.2 ∙ ap (λ (y : Sender E). y.core) n.1)
 
   pub next_plain : (w m : Machine E) (T : Trails) (e : Event) (a : Answer) → Happens X w e a m → IsPlain X w T → IsPlain X m (trails_grown X w e a T)
   next_plain w m T e a h i =

@@ -6,12 +6,13 @@ use Rattle.std.proofs.lemmas.Bool.{true≢false, ltb-false, cases_eq}
 use Rattle.std.proofs.lemmas.Bool.Decides.{eqb_tells}
 use Rattle.std.proofs.lemmas.List.{append-nil, length-append}
 use Rattle.std.proofs.lemmas.List.Elements.{filter-append}
-use Rattle.std.proofs.lemmas.Option.{same_Some, slice_get_within}
+use Rattle.std.proofs.lemmas.Option.{same_Some, slice_get_within, none-some}
 use Rattle.bus_core.specs.Keeping.{new_reuse}
 use Rattle.bus_core.specs.Senders.{Sender, Situation, Does, Announces, Validates, Unpins, Withdraws, Scans, Clears, at_home, pinning, situation_by, situation}
 use Rattle.bus_core.specs.Table.{Line, line, line_now, seen, reuse_elected, reuse_taken, reuse_given, reuse_pinning, reuse_reclaiming}
 use Rattle.bus_core.specs.declared.reuses.Reuse.{Reuse}
 use Rattle.bus_core.proofs.Situated.{own_is}
+use Rattle.bus_presence.specs.Reclamation.{Trails as Entries}
 use Rattle.bus_presence.specs.Reclaimers.{Reclaiming}
 use Rattle.bus_presence.specs.declared.pins.Pin.{Pin}
 use Rattle.bus_presence.specs.declared.pins.Pin.TheVariants.{Away, Announcing, Validating, Pinned, Unpinning, Invalidated}
@@ -29,19 +30,21 @@ use Rattle.bus_tenure.specs.declared.pages.Page.{Page}
 use Rattle.bus_tenure.specs.declared.phases.Phase.{Phase}
 use Rattle.bus_tenure.specs.declared.phases.Phase.TheVariants as phase
 use Rattle.bus_tenure.specs.declared.turns.Turn.{Turn as Answered}
-use Rattle.bus_world.specs.Proved.Sending.{Part, standing_of, stands_at}
+use Rattle.bus_world.specs.Bus.{Part, standing_of, stands_at}
 use Rattle.bus_world.specs.Headline.{Action}
-use Rattle.bus_world.specs.Proved.Tenures.Standing.{Runs}
-use Rattle.bus_world.specs.Trails.{step_action, put_actions, mark_actions, actions_with}
+use Rattle.bus_world.specs.Tenures.Standing.{Runs}
+use Rattle.bus_world.specs.Trails.{step_action, put_actions, mark_actions}
 use Rattle.bus_world.specs.Turning.{after_step}
 use Rattle.bus_world.specs.World.{Event, Put, Ask, Turn, Recv, Stop}
+use Rattle.bus_world.specs.CyclicProtocols.{actions_with}
 use Rattle.bus_world.specs.declared.events.Answer.{Answer}
 use Rattle.bus_world.specs.declared.events.Answer.TheVariants as answer
 use Rattle.bus_machine.proofs.Framed.{IsFramed, framed}
 use Rattle.bus_machine.proofs.Leading.{Sits, sits_before}
 use Rattle.bus_machine.specs.Bounding.{is_of_holder, is_towards, steps_towards, AreBounded}
-use Rattle.bus_machine.specs.Machine.{base_of, Machine, Trails, Reached, New as Start, Then as Next, Happens, TakesTurn, IsNew, trails_grown, turn_trails, turn_grown, turn_answer, found, has_stopped, moved, put_in, mark_in, no_machine_trails}
+use Rattle.bus_machine.specs.Machine.{base_of, Machine, Trails, Reached, New as Start, Then as Next, Happens, TakesTurn, IsNew, trails_grown, turn_trails, turn_grown, turn_answer, found, has_stopped, moved, put_in, mark_in, no_machine_trails, entered}
 use Rattle.bus_machine.specs.Promise.{pin_of}
+use Rattle.bus_world.proofs.Stopping.{shown_there}
 
 -- ---- how many steps
 -- those of more actions
@@ -187,9 +190,6 @@ module _ {E : Type 0} (left : E → ℕ) (bound : ℕ) where
     entering = λ s i. absurd (away s i);
   }
 
-  none_some : (t : ℕ) → ◌≡◌ {A = Option ℕ} None (Some t) → ⊥
-  none_some t e = cc
-
   -- a tenure is over, and the sender rests
   at_rest : (ph : Phase E) (least t : ℕ) (u w : Pin) (D : List Action) → tenure_of ph ≡ Some t → ((s : ℕ) → IsOnWay w s → ⊥)
       → Counts ph least u D → Counts phase.Resting (t + 1) w D
@@ -220,12 +220,12 @@ module _ {E : Type 0} (left : E → ℕ) (bound : ℕ) where
     most = c.most;
     running = λ s f i.
         let same : t ≡ s = same_tenure t s e f i in
-        let none = c.ahead t low (none_some t) in
+        let none = c.ahead t low (none-some t) in
         let now : steps_towards s D ≡ 0 = ap (λ n. steps_towards n D) (sym same) ∙ none in
         let its : left f ≡ left e = ap left (sym (same_election t s e f i)) in
         omega arith;
     begun = λ s i. let same : t ≡ s = same_Some _ _ i in omega arith;
-    ahead = λ s more other. c.ahead s more (none_some s);
+    ahead = λ s more other. c.ahead s more (none-some s);
     entering = λ s i. absurd (away s i);
   } where
     same_tenure : (t s : ℕ) (e f : E) → phase.Electing t e ≡ phase.Electing s f → t ≡ s
@@ -598,6 +598,14 @@ actions_of_other s ds D q ne = elim (eqb_tells q s) [
   | inr i ↦ ap (λ b. D q ++ cond b ds []) i.0 ∙ append-nil (D q)
 ]
 
+-- a step joins the steps of its sender, and of nobody else
+pub entered_beside : (T : Entries) (s q : ℕ) (o : Option Op) (got : ℕ) → q ≢ s → entered T s o got q ≡ T q
+entered_beside T s q None got ne = refl
+entered_beside T s q (Some o) got ne = elim (eqb_tells q s) [
+  | inl same ↦ absurd (ne same.1)
+  | inr other ↦ ap (λ b. cond b (T q ++ record { op = o; got = got } ∷ []) (T q)) other.0
+]
+
 module _ {E : Type 0} (P : Protocol E (Unit {0}) ℕ) (m : Machine E) (T : Trails) (c : AreCounted P m T) where
   abbrev limit : ℕ
   limit = P.steps m.layout.senders + 1
@@ -651,10 +659,6 @@ module _ {E : Type 0} (P : Protocol E (Unit {0}) ℕ) (m : Machine E) (T : Trail
       (adds_none P.left limit v.core.phase v.core.least (pin_of v.reuse) D ds none k)))
 
 -- ---- one event
-pub there_shown : {A : Type 0} (t : Bool) (o : Option A) (v : A) → cond t None o ≡ Some v → o ≡ Some v
-there_shown true o v e = absurd (let bad : None ≡ Some v = e in cc)
-there_shown false o v e = e
-
 module _ {E : Type 0} (X : Election E) (P : Protocol E (Unit {0}) ℕ) (m m' : Machine E) (T : Trails) (sits : Sits X P m)
     (f : IsFramed P m T) (c : AreCounted P m T) where
   turn_counts : (s word : ℕ) (a : Answer) → TakesTurn X m s word a m' → AreCounted P m' (trails_grown X m (Turn s word) a T)
@@ -662,7 +666,7 @@ module _ {E : Type 0} (X : Election E) (P : Protocol E (Unit {0}) ℕ) (m m' : M
       let v = h.sender in
       let z = situation X v in
       let l = line_now X v in
-      let at = there_shown (has_stopped m s) (slice_get m.senders s) v h.goes in
+      let at = shown_there (has_stopped m s) (slice_get m.senders s) v h.goes in
       let told = turn_answer m l word in
       let got = found m l word in
       one_more P m T c m' (trails_grown X m (Turn s word) a T) s v (moved (after_step l.move) m.home (l.fed got word))
@@ -674,13 +678,13 @@ module _ {E : Type 0} (X : Election E) (P : Protocol E (Unit {0}) ℕ) (m m' : M
 
   pub event_counts : (e : Event) (a : Answer) → Happens X m e a m' → AreCounted P m' (trails_grown X m e a T)
   event_counts (Put s bytes) a h =
-      let at = there_shown (has_stopped m s) (slice_get m.senders s) h.sender h.goes in
+      let at = shown_there (has_stopped m s) (slice_get m.senders s) h.sender h.goes in
       one_more P m T c m' (trails_grown X m (Put s bytes) a T) s h.sender (put_in h.sender bytes) (put_actions bytes a)
       (ap (λ (y : Machine E). y.layout) h.after) at (ap (λ (y : Machine E). y.senders) h.after) refl
       (same_sender P m T c h.sender (put_in h.sender bytes) (T.actions s) (put_actions bytes a) refl refl refl (λ t. put_adds t bytes a)
       (c.each s h.sender at))
   event_counts (Ask s asked) a h =
-      let at = there_shown (has_stopped m s) (slice_get m.senders s) h.sender h.goes in
+      let at = shown_there (has_stopped m s) (slice_get m.senders s) h.sender h.goes in
       one_more P m T c m' (trails_grown X m (Ask s asked) a T) s h.sender (mark_in h.sender asked) (mark_actions a)
       (ap (λ (y : Machine E). y.layout) h.after) at (ap (λ (y : Machine E). y.senders) h.after) refl
       (same_sender P m T c h.sender (mark_in h.sender asked) (T.actions s) (mark_actions a) refl refl refl (λ t. mark_adds t a)

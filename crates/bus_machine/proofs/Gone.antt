@@ -15,18 +15,20 @@ use Rattle.bus_tenure.specs.Core.{Election}
 use Rattle.bus_tenure.specs.Situations.{IsClosed, IsIdle, IsSpent, LooksAtStage, Elects, TakesPage, AwaitsPage, StoresWord, StoresLength, GivesBack, HasHanded}
 use Rattle.bus_tenure.specs.declared.phases.Phase.TheVariants as phase
 use Rattle.bus_tenure.specs.declared.turns.Turn.{Turn as Answered}
-use Rattle.bus_world.specs.Proved.Sending.{Fits}
-use Rattle.bus_world.specs.Trails.{actions_with, step_action, put_actions, mark_actions}
+use Rattle.bus_world.specs.Bus.{Fits}
+use Rattle.bus_world.specs.CyclicProtocols.{actions_with}
 use Rattle.bus_world.specs.Headline.{Action}
+use Rattle.bus_world.specs.Trails.{step_action, put_actions, mark_actions}
 use Rattle.bus_world.specs.World.{Event, Put, Ask, Turn, Recv, Stop}
 use Rattle.bus_world.specs.declared.events.Answer.{Answer}
 use Rattle.bus_world.specs.declared.events.Answer.TheVariants as answer
-use Rattle.bus_machine.proofs.Bounding.{added, added_is, there_shown}
+use Rattle.bus_machine.proofs.Bounding.{added, added_is}
 use Rattle.bus_machine.proofs.Framed.{IsFramed}
 use Rattle.bus_machine.proofs.Leading.{Sits}
 use Rattle.bus_machine.proofs.Paging.{takes_it, holds_it}
 use Rattle.bus_machine.specs.Machine.{base_of, Machine, Trails, Happens, found, has_stopped, stage_of, trails_grown, turn_answer, turn_grown}
 use Rattle.bus_machine.specs.Promise.{ReusesRows, actions_in, is_in}
+use Rattle.bus_world.proofs.Stopping.{shown_there}
 
 -- ---- actions
 module _ (t : ℕ) where
@@ -127,6 +129,6 @@ module _ {E : Type 0} (X : Election E) (P : Protocol E (Unit {0}) ℕ) (m : Mach
       ∙ ap (λ o. actions_in t ((turn_grown X m s o word (answer.Turn told) T).actions q)) h.goes
       ∙ ap (λ (D : ℕ → List Action). actions_in t (D q)) (added_is z l s (found m l word) word told T)
       ∙ beside_stays t s (added z l (found m l word) word told) T.actions
-      (added_stays s v (there_shown (has_stopped m s) (slice_get m.senders s) v h.goes) (found m l word) word told z refl) q
+      (added_stays s v (shown_there (has_stopped m s) (slice_get m.senders s) v h.goes) (found m l word) word told z refl) q
   event_stays (Recv r) a m' h q = refl
   event_stays (Stop s) a m' h q = refl

@@ -29,12 +29,12 @@ use Rattle.bus_tenure.specs.declared.phases.Reason.TheVariants.{Sent, FoundEnd, 
 use Rattle.bus_tenure.specs.declared.phases.Phase.TheVariants as phase
 use Rattle.bus_world.proofs.LogLaws.{read-agree, read-add}
 use Rattle.bus_world.proofs.TenuresLaws as tenures
-use Rattle.bus_world.specs.Proved.Sending.{Fits, IsWriting, standing_of, stands_at, least_of}
+use Rattle.bus_world.proofs.Stopping.{shown_there}
+use Rattle.bus_world.specs.Bus.{Fits, IsWriting, standing_of, stands_at, least_of}
 use Rattle.bus_world.specs.Log.{words_read_from}
 use Rattle.bus_world.specs.Turning.{words_after}
 use Rattle.bus_world.specs.World.{Event, Put, Ask, Turn, Recv, Stop}
 use Rattle.bus_world.specs.declared.events.Answer.{Answer}
-use Rattle.bus_machine.proofs.Bounding.{there_shown}
 use Rattle.bus_machine.proofs.Clearing.{clearing, clears_at}
 use Rattle.bus_machine.proofs.Framed.{IsFramed, read_alike}
 use Rattle.bus_machine.proofs.Knowing.{its_part, past, writes}
@@ -52,7 +52,7 @@ loads_same xs r q l = elim (cases_eq q r) [
 ]
 
 -- the log begins behind length and stage
-log_behind : (x : Layout) (o : Option ℕ) → 2 ≤ log_place x o
+pub log_behind : (x : Layout) (o : Option ℕ) → 2 ≤ log_place x o
 log_behind x None = omega arith
 log_behind x (Some rows) = omega arith
 
@@ -97,7 +97,7 @@ module _ {E : Type 0} (X : Election E) (P : Protocol E (Unit {0}) ℕ) (m m' : M
 
   -- the sender is there
   at : slice_get m.senders s ≡ Some v
-  at = there_shown (has_stopped m s) (slice_get m.senders s) v h.goes
+  at = shown_there (has_stopped m s) (slice_get m.senders s) v h.goes
 
   -- log and stage afterwards
   abbrev Now : Line E → List ℕ

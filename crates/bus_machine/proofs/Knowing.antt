@@ -28,11 +28,13 @@ use Rattle.bus_tenure.specs.declared.phases.Phase.{Phase}
 use Rattle.bus_tenure.specs.declared.phases.Phase.TheVariants as phase
 use Rattle.bus_world.proofs.Framing.{front_lawful}
 use Rattle.bus_world.proofs.LogLaws.{length-read, log_words-append}
-use Rattle.bus_world.specs.Proved.Sending.{Part, Fits, IsWriting, standing_of, stands_at}
-use Rattle.bus_world.specs.Proved.Tenures.Stage.{Open, Held}
-use Rattle.bus_world.specs.Proved.Tenures.{Standing}
-use Rattle.bus_world.specs.Proved.Tenures.Standing.{Holds}
+use Rattle.bus_world.proofs.TenuresLaws.{same_Holding}
+use Rattle.bus_world.specs.Bus.{Part, Fits, IsWriting, standing_of, stands_at}
+use Rattle.bus_world.specs.Tenures.Stage.{Open, Held}
+use Rattle.bus_world.specs.Tenures.{Standing}
+use Rattle.bus_world.specs.Tenures.Standing.{Holds}
 use Rattle.bus_machine.proofs.Framed.{IsFramed, log_framed}
+use Rattle.bus_machine.proofs.AtHome.{held_stands}
 use Rattle.bus_machine.specs.Machine.{base_of, Machine, Trails, log_place, log_of}
 use Rattle.bus_machine.specs.Promise.{TakersTold, KnowsOrder, KnowsFront, IsWithOwner}
 
@@ -43,17 +45,6 @@ pub record HasPage {E : Type 0} (t : ℕ) (ph : Phase E) : Type 0 where
   pub stored : ℕ
   pub published : Bool
   pub has : ph ≡ phase.Holding t page stored published
-
-holds_one : {E : Type 0} (t u : ℕ) → ◌≡◌ {A = Standing E} (Holds t) (Holds u) → t ≡ u
-holds_one t u e = cc
-
--- who has taken a page, and not given it back
-held_stands : {E : Type 0} (ph : Phase E) (t : ℕ) → held_of ph ≡ Some t → stands_at ph ≡ Holds t
-held_stands phase.Resting t e = absurd cc
-held_stands (phase.Electing u f) t e = absurd cc
-held_stands (phase.Taken u) t e = ap Holds (same_Some _ _ e)
-held_stands (phase.Holding u page stored published) t e = ap Holds (same_Some _ _ e)
-held_stands (phase.Giving u reason) t e = ap Holds (same_Some _ _ e)
 
 module _ (base : ℕ → ℕ) {E : Type 0} (words : ℕ → ℕ) (frames : List Rattle.bus_batch.specs.Frames.Frame) (c : Core E) where
   -- between turns the page that is held is in the phase
@@ -67,7 +58,7 @@ module _ (base : ℕ → ℕ) {E : Type 0} (words : ℕ → ℕ) (frames : List 
         stored = stored;
         published = published;
         has = ap (λ n. phase.Holding n page stored published)
-            (holds_one u t e);
+            (same_Holding u t e);
       }
   page_held t (phase.Giving u reason) fits e = absurd fits
 

@@ -1,5 +1,5 @@
 -- The stage leaves that of an open tenure only by who takes its page.
-use Rattle.std.proofs.Common.{◌≡◌, ◌≢◌, ℕ, ◌+◌, ◌*◌, ◌<◌, Bool, true, Option, Some, None, cond, length, slice_get, slice_index, slice_set, arith, refl, ◌∙◌, ap, subst}
+use Rattle.std.proofs.Common.{◌≡◌, ◌≢◌, ℕ, ◌+◌, ◌*◌, ◌<◌, Option, Some, None, length, slice_get, slice_index, slice_set, arith, refl, ◌∙◌, ap, subst}
 use Rattle.std.proofs.lemmas.List.{get_or-set_same}
 use Rattle.bus_core.specs.Senders.{Sender, Situation, Does, Announces, Validates, Unpins, Withdraws, Scans, Clears, situation}
 use Rattle.bus_core.specs.Table.{line, line_now}
@@ -17,6 +17,7 @@ use Rattle.bus_world.specs.Turning.{home_moved, words_after}
 use Rattle.bus_world.specs.World.{Event, Put, Ask, Turn, Recv, Stop}
 use Rattle.bus_world.specs.declared.events.Answer.{Answer}
 use Rattle.bus_world.specs.declared.events.Answer.TheVariants as answer
+use Rattle.bus_world.proofs.Stopping.{shown_there}
 
 -- an even number is no odd one
 even_odd : (n a b : ℕ) → n ≡ 2 * a → n ≡ 2 * b + 1 → ⊥
@@ -24,10 +25,6 @@ even_odd n a b e f = omega arith
 
 same_half : (n a b : ℕ) → n ≡ 2 * a → n ≡ 2 * b → a ≡ b
 same_half n a b e f = omega arith
-
-there_shown : {A : Type 0} (t : Bool) (o : Option A) (v : A) → cond t None o ≡ Some v → o ≡ Some v
-there_shown true o v e = absurd (let bad : None ≡ Some v = e in cc)
-there_shown Rattle.std.specs.Prelude.false o v e = e
 
 module _ {E : Type 0} (X : Election E) (m m' : Machine E) (T T' : Trails) (e : Event) (a : Answer) (p : IsPromised X m T) (p' : IsPromised X m' T') (told : Tells X m e a) (t : ℕ) (opened : stage_of m ≡ 2 * t) (leaves : stage_of m' ≢ 2 * t) where
   same_words : m'.words ≡ m.words → TakesStage X m e a m' t
@@ -51,7 +48,7 @@ module _ {E : Type 0} (X : Election E) (m m' : Machine E) (T T' : Trails) (e : E
     v = h.sender
 
     at : slice_get m.senders s ≡ Some v
-    at = there_shown (has_stopped m s) (slice_get m.senders s) v h.goes
+    at = shown_there (has_stopped m s) (slice_get m.senders s) v h.goes
 
     held : (u : ℕ) → held_of v.core.phase ≡ Some u → TakesStage X m e a m' t
     held u k = absurd (even_odd (stage_of m) t u opened (p.by.holds s v u at k))

@@ -1,7 +1,8 @@
-pub mod Cyclic
 pub mod Takes
 pub mod Own
 pub mod AtNone
+pub mod AtHome
+pub mod CyclicTurns
 pub mod AtSome
 pub mod Leading
 pub mod Paging

@@ -5,10 +5,7 @@ use Rattle.bus_deliverylog.specs.Orders.{of_sender}
 use Rattle.bus_tenure.specs.Core.{Election}
 use Rattle.bus_machine.specs.Machine.{Machine, Trails}
 use Rattle.bus_machine.specs.LogRefusals.{LogsRefuse}
-
-no_frames : (frames : List Frame) → log_words frames ≡ [] → frames ≡ []
-no_frames [] e = λ i. []
-no_frames (f ∷ fs) e = absurd cc
+use Rattle.bus_machine.proofs.RefusalLaws.{none_spelled}
 
 no_zero_head : (frames : List Frame) (rest : List ℕ) → log_words frames ≡ 0 ∷ rest → ⊥
 no_zero_head [] rest e = cc
@@ -23,7 +20,7 @@ pub logs_refused : {E : Type 0} (X : Election E) (m : Machine E) (T : Trails) �
 logs_refused {E} X m T = record {
   dropped = λ s v at some empty idle kept.
       let by = kept.by in
-      let none = no_frames by.spelled.frames (by.spelled.words_are ∙ empty) in
+      let none = none_spelled by.spelled.frames (by.spelled.words_are ∙ empty) in
       some (by.sent s v at
       ∙ ap (λ l. map (λ i. i.message) (of_sender s kept.order) ++ l) idle
       ∙ ap (λ o. map (λ i. i.message) (of_sender s o) ++ []) (sym by.spelled.order_is ∙ ap order_of none));

@@ -1,5 +1,5 @@
 -- Who remembers an owner has seen an election end with it, and withdraws next.
-use Rattle.std.specs.Prelude.{◌≢◌, ◌⊎◌}
+use Rattle.std.specs.Prelude.{◌⊎◌}
 use Rattle.std.proofs.Common.{◌≡◌, inl, inr, ℕ, ◌/◌, ◌==◌, Bool, true, false, cond, Option, Some, None, [], slice_get, slice_set, refl, sym, ◌∙◌, ap, subst}
 use Rattle.std.proofs.lemmas.Bool.{cases_eq, true≢false}
 use Rattle.std.proofs.lemmas.Bool.Decides.{eqb_tells}
@@ -19,7 +19,6 @@ use Rattle.bus_tenure.specs.Situations.{Situation as Own, IsClosed, IsIdle, IsSp
 use Rattle.bus_world.specs.Turning.{after_step}
 use Rattle.bus_world.specs.World.{Event, Put, Ask, Turn, Recv, Stop}
 use Rattle.bus_world.specs.declared.events.Answer.{Answer}
-use Rattle.bus_machine.proofs.Bounding.{there_shown}
 use Rattle.bus_machine.proofs.Ending.{elected_more}
 use Rattle.bus_machine.proofs.Framed.{framed}
 use Rattle.bus_machine.proofs.Knowing.{its_part}
@@ -29,6 +28,7 @@ use Rattle.bus_machine.proofs.Staying.{grown_longer}
 use Rattle.bus_machine.specs.Machine.{Machine, Trails, Reached, New as Start, Then as Next, Happens, IsNew, TakesTurn, found, has_stopped, mark_in, moved, put_in, stage_of, trails_grown}
 use Rattle.bus_machine.specs.Promise.{pin_of}
 use Rattle.bus_machine.specs.Telling.{HasSeenLoss, LossesAreSeen}
+use Rattle.bus_world.proofs.Stopping.{shown_there}
 
 -- ---- what is remembered after a step was remembered before
 looked_lost : {E : Type 0} (X : Election E) (c : Core E) (q : Option Reuse) (got : ℕ) (o : SenderNo)
@@ -109,7 +109,7 @@ module _ {E : Type 0} (X : Election E) (P : Protocol E (Unit {0}) ℕ) (m m' : M
 
   -- the sender is there
   at : slice_get m.senders s ≡ Some v
-  at = there_shown (has_stopped m s) (slice_get m.senders s) v h.goes
+  at = shown_there (has_stopped m s) (slice_get m.senders s) v h.goes
 
   abbrev got : Situation E → ℕ
   got z = found m (line X v z) word
@@ -175,11 +175,11 @@ module _ {E : Type 0} (X : Election E) (P : Protocol E (Unit {0}) ℕ) where
   event_losses : (m m' : Machine E) (T : Trails) (e : Event) (a : Answer) → Sits X P m → Reached X m T → Happens X m e a m'
       → LossesAreSeen m T.actions → LossesAreSeen m' (trails_grown X m e a T).actions
   event_losses m m' T (Put s bytes) a sits r h l =
-      let at = there_shown (has_stopped m s) (slice_get m.senders s) h.sender h.goes in
+      let at = shown_there (has_stopped m s) (slice_get m.senders s) h.sender h.goes in
       one_other X m m' T (Put s bytes) a l s h.sender (put_in h.sender bytes) at (ap (λ (y : Machine E). y.senders) h.after)
       (λ o lost. still X m m' T (Put s bytes) a l (pin_of h.sender.reuse) s o (l s h.sender o at lost))
   event_losses m m' T (Ask s asked) a sits r h l =
-      let at = there_shown (has_stopped m s) (slice_get m.senders s) h.sender h.goes in
+      let at = shown_there (has_stopped m s) (slice_get m.senders s) h.sender h.goes in
       one_other X m m' T (Ask s asked) a l s h.sender (mark_in h.sender asked) at (ap (λ (y : Machine E). y.senders) h.after)
       (λ o lost. still X m m' T (Ask s asked) a l (pin_of h.sender.reuse) s o (l s h.sender o at lost))
   event_losses m m' T (Turn s word) a sits r h l = turn_losses X P m m' T s word a sits r h l

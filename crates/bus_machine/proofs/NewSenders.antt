@@ -34,16 +34,13 @@ pub log_at_place : {S : Type 0} (P : Protocol S Bool Verdict) (shape : Shape) (r
 log_at_place P shape None w e = ap (λ n. 2 + shape.rows * n) e
 log_at_place P shape (Some rows) w e = ap (λ n. 2 + shape.senders + rows * n) e
 
-capacity_is : {S : Type 0} (P : Protocol S Bool Verdict) (shape : Shape) (reuse : Option ℕ) → (layout_of P shape reuse).capacity ≡ shape.log_words
-capacity_is P shape None = refl
-capacity_is P shape (Some rows) = refl
+pub capacity_of : {S : Type 0} (P : Protocol S Bool Verdict) (shape : Shape) (reuse : Option ℕ) → (layout_of P shape reuse).capacity ≡ shape.log_words
+capacity_of P shape None = refl
+capacity_of P shape (Some rows) = refl
 
 pub senders_are : {S : Type 0} (P : Protocol S Bool Verdict) (shape : Shape) (reuse : Option ℕ) → (layout_of P shape reuse).senders ≡ shape.senders
 senders_are P shape None = refl
 senders_are P shape (Some rows) = refl
-
-pub capacity_of : {S : Type 0} (P : Protocol S Bool Verdict) (shape : Shape) (reuse : Option ℕ) → (layout_of P shape reuse).capacity ≡ shape.log_words
-capacity_of P shape reuse = capacity_is P shape reuse
 
 module _ {S : Type 0} (P : Protocol S Bool Verdict) (shape : Shape) (reuse : Option ℕ) (w log : ℕ) (width : w ≡ (layout_of P shape None).width) (at : log ≡ log_with shape reuse w) where
   log_is : log ≡ log_place (layout_of P shape reuse) reuse
@@ -54,10 +51,10 @@ module _ {S : Type 0} (P : Protocol S Bool Verdict) (shape : Shape) (reuse : Opt
       → IsNew (machine_of P shape reuse bases words home senders receivers stopped owners)
   made_new bases are home home_is words words_are senders new many receivers readers stopped nobody owners none = record {
     bases_are = are;
-    words = words_are ∙ ap (λ n. replicate (n + shape.log_words) 0) log_is ∙ ap (λ n. replicate (log_place (layout_of P shape reuse) reuse + n) 0) (sym (capacity_is P shape reuse));
+    words = words_are ∙ ap (λ n. replicate (n + shape.log_words) 0) log_is ∙ ap (λ n. replicate (log_place (layout_of P shape reuse) reuse + n) 0) (sym (capacity_of P shape reuse));
     home = home_is;
     senders = λ p v e. let k = new.each p v e in (let a = senders_are P shape reuse in let b = k.0 in omega arith, k.1);
-    receivers = λ r v e. let i = readers.each r v e in (i.senders_are ∙ sym (senders_are P shape reuse), i.log_is ∙ log_is, i.length_is, i.words_are ∙ sym (capacity_is P shape reuse), i.known, i.place, i.going, subst (λ n. HasRead n [] [] v.frames) (sym (senders_are P shape reuse)) i.read);
+    receivers = λ r v e. let i = readers.each r v e in (i.senders_are ∙ sym (senders_are P shape reuse), i.log_is ∙ log_is, i.length_is, i.words_are ∙ sym (capacity_of P shape reuse), i.known, i.place, i.going, subst (λ n. HasRead n [] [] v.frames) (sym (senders_are P shape reuse)) i.read);
     stopped = nobody;
     owners = none;
   }
@@ -71,7 +68,7 @@ pub made_held : {E S : Type 0} (X : Election E) (P : Protocol S Bool Verdict) (s
 made_held X P shape reuse served same m new layout_is reuse_is many = record {
   senders_few = (let a = ap (λ (x : Layout). x.senders) layout_is ∙ senders_are P shape reuse in let b = served.senders.1 in omega arith);
   rows = subst (λ x. AreRows x m.reuse) (sym layout_is) (subst (AreRows (layout_of P shape reuse)) (sym reuse_is) (rows_served P shape reuse served same));
-  capacity_few = (let a = ap (λ (x : Layout). x.capacity) layout_is ∙ capacity_is P shape reuse in let b = served.log_words.1 in omega arith);
+  capacity_few = (let a = ap (λ (x : Layout). x.capacity) layout_is ∙ capacity_of P shape reuse in let b = served.log_words.1 in omega arith);
   senders = many ∙ sym (ap (λ (x : Layout). x.senders) layout_is ∙ senders_are P shape reuse);
   trails = no_machine_trails;
   reached = New m new;

@@ -1,10 +1,10 @@
 -- Where rows are used again a sender takes three steps at most for its pin of a tenure.
-use Rattle.std.proofs.Common.{◌≡◌, ◌≢◌, ◌⊎◌, inl, inr, ℕ, ◌+◌, ◌-◌, ◌*◌, ◌/◌, ◌<◌, ◌≤◌, Bool, true, false, cond, ◌==◌, nat_lt, nat_le}
+use Rattle.std.proofs.Common.{◌≡◌, ◌≢◌, ◌⊎◌, inl, inr, ℕ, ◌+◌, ◌-◌, ◌/◌, ◌<◌, ◌≤◌, Bool, true, false, cond, ◌==◌, nat_lt, nat_le}
 use Rattle.std.proofs.Common.{Option, Some, None, List, [], ◌∷◌, ◌++◌, slice_get, slice_index, slice_set, arith, refl, sym, ◌∙◌, ap, subst}
 use Rattle.std.proofs.lemmas.Bool.{cases_eq}
 use Rattle.std.proofs.lemmas.Bool.Decides.{eqb_tells}
 use Rattle.std.proofs.lemmas.List.{append-nil}
-use Rattle.std.proofs.lemmas.Option.{same_Some, slice_get_within}
+use Rattle.std.proofs.lemmas.Option.{same_Some, slice_get_within, none-some}
 use Rattle.bus_core.specs.Keeping.{new_sender, new_reuse}
 use Rattle.bus_core.specs.Senders.{Sender, Situation, Does, Announces, Validates, Unpins, Withdraws, Scans, Clears, at_home, pinning, situation}
 use Rattle.bus_core.specs.Table.{Line, line, line_now, presence_of}
@@ -30,12 +30,13 @@ use Rattle.bus_world.specs.Turning.{after_step, number_found}
 use Rattle.bus_world.specs.World.{Event, Put, Ask, Turn, Recv, Stop}
 use Rattle.bus_world.specs.declared.events.Answer.{Answer}
 use Rattle.bus_world.specs.declared.events.Answer.TheVariants as answer
-use Rattle.bus_machine.proofs.Bounding.{Counts, counted, may_enter, announces_of, validates_of, there_shown}
+use Rattle.bus_machine.proofs.Bounding.{Counts, counted, may_enter, announces_of, validates_of, entered_beside}
 use Rattle.bus_machine.proofs.Growing.{rises}
 use Rattle.bus_machine.proofs.Leading.{Sits, sits_before}
 use Rattle.bus_machine.specs.Bounding.{named_by, named_from, is_tenure, pins_from, steps_of_pin, IsNamedFirst, PinsAreBounded}
 use Rattle.bus_machine.specs.Machine.{base_of, Machine, Trails, Reached, New as Start, Then as Next, Happens, TakesTurn, trails_grown, turn_trails, turn_grown, turn_answer, entered, found, has_stopped, moved, put_in, mark_in, stage_of}
 use Rattle.bus_machine.specs.Promise.{pin_of}
+use Rattle.bus_world.proofs.Stopping.{shown_there}
 
 -- ---- lists of steps
 -- what is named after one more
@@ -145,9 +146,6 @@ later_stage ph least u stage stage' es more c = record {
   first = c.first;
 }
 
-none_some : (t : ℕ) → ◌≡◌ {A = Option ℕ} None (Some t) → ⊥
-none_some t e = cc
-
 -- ---- what a turn leaves
 module _ {E : Type 0} (ph : Phase E) (least : ℕ) (u : Pin) (stage : ℕ) (es : List Entry) (k : Pins ph least u stage es) where
   -- who holds its page goes on in another phase of the same tenure
@@ -248,7 +246,7 @@ module _ {E : Type 0} (ph : Phase E) (least : ℕ) (u : Pin) (stage : ℕ) (es :
   -- ---- at rest
   module _ (rests : ph ≡ phase.Resting) where
     no_tenure : (s : ℕ) → tenure_of ph ≡ Some s → ⊥
-    no_tenure s i = none_some s (sym (ap tenure_of rests) ∙ i)
+    no_tenure s i = none-some s (sym (ap tenure_of rests) ∙ i)
 
     no_election : (s : ℕ) (e : E) → ph ≡ phase.Electing s e → ⊥
     no_election s e i = let bad = sym rests ∙ i in cc
@@ -260,14 +258,14 @@ module _ {E : Type 0} (ph : Phase E) (least : ℕ) (u : Pin) (stage : ℕ) (es :
     announces_on : (t : ℕ) → u ≡ Away → least ≤ t → t ≡ stage / 2 → Pins ph least (Announcing t) stage es
     announces_on t away low now = record {
       most = k.most;
-      fresh = λ s more up other apart. k.fresh s more up other (λ i. none_some s (sym (ap pin_named away) ∙ i));
+      fresh = λ s more up other apart. k.fresh s more up other (λ i. none-some s (sym (ap pin_named away) ∙ i));
       announcing = λ s i. let same : t ≡ s = cc in (
         ap (λ n. steps_of_pin n es) (sym same) ∙ k.fresh t low (omega arith) (no_tenure t)
-            (λ i. none_some t (sym (ap pin_named away) ∙ i)),
+            (λ i. none-some t (sym (ap pin_named away) ∙ i)),
         omega arith,
       );
       validating = λ s i. absurd cc;
-      named = λ s i. absurd (none_some s i);
+      named = λ s i. absurd (none-some s i);
       late = λ s i. absurd cc;
       parted = λ s i. absurd cc;
       pinned = λ s i. absurd cc;
@@ -279,10 +277,10 @@ module _ {E : Type 0} (ph : Phase E) (least : ℕ) (u : Pin) (stage : ℕ) (es :
     waits_on : (n : ℕ) → u ≡ Away → least ≤ n → Pins ph n Away stage es
     waits_on n away low = record {
       most = k.most;
-      fresh = λ s more up other apart. k.fresh s (omega arith) up other (λ i. none_some s (sym (ap pin_named away) ∙ i));
+      fresh = λ s more up other apart. k.fresh s (omega arith) up other (λ i. none-some s (sym (ap pin_named away) ∙ i));
       announcing = λ s i. absurd cc;
       validating = λ s i. absurd cc;
-      named = λ s i. absurd (none_some s i);
+      named = λ s i. absurd (none-some s i);
       late = λ s i. absurd cc;
       parted = λ s i. absurd cc;
       pinned = λ s i. absurd cc;
@@ -296,7 +294,7 @@ module _ {E : Type 0} (ph : Phase E) (least : ℕ) (u : Pin) (stage : ℕ) (es :
       joins = record { now = ap (λ o. named_by o (named_from None es)) op.1 ∙ names op.0 t (named_from None es) }
 
       unnamed : (s : ℕ) → pin_named u ≡ Some s → ⊥
-      unnamed s i = none_some s (sym (ap pin_named here) ∙ i)
+      unnamed s i = none-some s (sym (ap pin_named here) ∙ i)
 
       enters_on : Pins ph least (Validating t) stage (es ++ e ∷ [])
       enters_on =
@@ -329,7 +327,7 @@ module _ {E : Type 0} (ph : Phase E) (least : ℕ) (u : Pin) (stage : ℕ) (es :
 
     -- it is no first step
     still_first : IsNamedFirst (es ++ e ∷ [])
-    still_first = first_more es e k.first (λ none. absurd (none_some t (sym (ap (named_from None) none) ∙ (k.named t named).0)))
+    still_first = first_more es e k.first (λ none. absurd (none-some t (sym (ap (named_from None) none) ∙ (k.named t named).0)))
 
     most_with : pin_taken u ≤ 2 → (s : ℕ) → steps_of_pin s (es ++ e ∷ []) ≤ 3
     most_with few s = elim (cases_eq t s) [
@@ -401,7 +399,7 @@ module _ {E : Type 0} (ph : Phase E) (least : ℕ) (u : Pin) (stage : ℕ) (es :
       ];
       announcing = λ s i. absurd cc;
       validating = λ s i. absurd cc;
-      named = λ s i. absurd (none_some s i);
+      named = λ s i. absurd (none-some s i);
       late = λ s i. absurd cc;
       parted = λ s i. absurd cc;
       pinned = λ s i. absurd cc;
@@ -745,13 +743,6 @@ entered_here T s (Some o) got = elim (eqb_tells s s) [
   | inr other ↦ absurd (other.1 refl)
 ]
 
-entered_beside : (T : Entries) (s q : ℕ) (o : Option Op) (got : ℕ) → q ≢ s → entered T s o got q ≡ T q
-entered_beside T s q None got ne = refl
-entered_beside T s q (Some o) got ne = elim (eqb_tells q s) [
-  | inl same ↦ absurd (ne same.1)
-  | inr other ↦ ap (λ b. cond b (T q ++ record { op = o; got = got } ∷ []) (T q)) other.0
-]
-
 pins_here : {E : Type 0} (z : Situation E) (l : Line E) (s got word : ℕ) (told : Answered) (T : Trails)
     → (turn_trails z l s got word told T).pins s ≡ T.pins s ++ pins_added z (l.op word) got
 pins_here (Does z) l s got word told T = sym (append-nil (T.pins s))
@@ -838,7 +829,7 @@ module _ {E : Type 0} (X : Election E) (P : Protocol E (Unit {0}) ℕ) (m m' : M
       let v = h.sender in
       let z = situation X v in
       let l = line_now X v in
-      let at = there_shown (has_stopped m s) (slice_get m.senders s) v h.goes in
+      let at = shown_there (has_stopped m s) (slice_get m.senders s) v h.goes in
       let told = turn_answer m l word in
       let got = found m l word in
       let n = (counted X P m T sits reached).each s v at in
@@ -853,12 +844,12 @@ module _ {E : Type 0} (X : Election E) (P : Protocol E (Unit {0}) ℕ) (m m' : M
 
   pub event_kept : (e : Event) (a : Answer) → Happens X m e a m' → stage_of m ≤ stage_of m' → AreKept m' (trails_grown X m e a T)
   event_kept (Put s bytes) a h up =
-      let at = there_shown (has_stopped m s) (slice_get m.senders s) h.sender h.goes in
+      let at = shown_there (has_stopped m s) (slice_get m.senders s) h.sender h.goes in
       one_more m m' T (trails_grown X m (Put s bytes) a T) c up s h.sender (put_in h.sender bytes) [] at
       (ap (λ (y : Machine E). y.senders) h.after) (sym (append-nil (T.pins s))) (λ q ne. refl)
       (kept_same h.sender.reuse h.sender.core (put_in h.sender bytes).core (stage_of m) (T.pins s) refl refl (c.each s h.sender at))
   event_kept (Ask s asked) a h up =
-      let at = there_shown (has_stopped m s) (slice_get m.senders s) h.sender h.goes in
+      let at = shown_there (has_stopped m s) (slice_get m.senders s) h.sender h.goes in
       one_more m m' T (trails_grown X m (Ask s asked) a T) c up s h.sender (mark_in h.sender asked) [] at (ap (λ (y : Machine E). y.senders) h.after)
       (sym (append-nil (T.pins s))) (λ q ne. refl)
       (kept_same h.sender.reuse h.sender.core (mark_in h.sender asked).core (stage_of m) (T.pins s) refl refl (c.each s h.sender at))
@@ -874,7 +865,7 @@ new_kept w q (Some rows) first = record {
   fresh = λ t low up other apart. refl;
   announcing = λ t i. absurd cc;
   validating = λ t i. absurd cc;
-  named = λ t i. absurd (none_some t i);
+  named = λ t i. absurd (none-some t i);
   late = λ t i. absurd cc;
   parted = λ t i. absurd cc;
   pinned = λ t i. absurd cc;

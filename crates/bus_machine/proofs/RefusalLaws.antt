@@ -29,7 +29,6 @@ use Rattle.bus_world.specs.World.{Event}
 use Rattle.bus_batch.specs.declared.messages.Mark.{Mark}
 use Rattle.bus_world.specs.declared.events.Answer.{Answer}
 use Rattle.bus_world.specs.declared.events.Answer.TheVariants as answer
-use Rattle.bus_machine.proofs.Bounding.{there_shown}
 use Rattle.bus_machine.proofs.Ending.{has_gone_last}
 use Rattle.bus_machine.proofs.SameActions.{says_no_more}
 use Rattle.bus_register.specs.Proved.TableLaws.{get_set_same}
@@ -39,11 +38,13 @@ use Rattle.bus_machine.specs.Promise.{IsPagedBy, ReusesSafely, words_of_frame}
 use Rattle.bus_machine.specs.Refusals.{LossesRefuse, AnswersRefuse, SaysMore, NumbersRefuse, BoundsRefuse, FollowsRefuse, PagesRefuse, MemoriesRefuse, WordsRefuse, MarksRefuse}
 use Rattle.bus_machine.specs.Remembering.{HasEnded, HasLeftIt, rows_in}
 use Rattle.bus_machine.specs.Telling.{ClosedTells, IsReused}
+use Rattle.bus_world.proofs.Framing.{not_nil}
+use Rattle.bus_world.proofs.Stopping.{shown_there}
 
 nothing_there : (i : ℕ) (d : Action) → slice_get [] i ≡ Some d → ⊥
 nothing_there i d e = cc
 
-none_spelled : (frames : List Frame) → log_words frames ≡ [] → frames ≡ []
+pub none_spelled : (frames : List Frame) → log_words frames ≡ [] → frames ≡ []
 none_spelled [] e = refl
 none_spelled (f ∷ frames) e = absurd cc
 
@@ -52,15 +53,11 @@ one_there : (l : List ℕ) → length l ≡ 1 → (x : ℕ) × (slice_get l 0 �
 one_there [] e = absurd (omega arith)
 one_there (x ∷ l) e = (x, refl)
 
-never_last : (front : List Frame) (w : Frame) → front ++ w ∷ [] ≡ [] → ⊥
-never_last [] w e = cc
-never_last (f ∷ front) w e = cc
-
 -- one list has one last frame
 last_one : (front back : List Frame) (w u : Frame) → front ++ w ∷ [] ≡ back ++ u ∷ [] → w ≡ u
 last_one [] [] w u e = cc
-last_one [] (g ∷ back) w u e = absurd (never_last back u (sym (ap (drop 1) e)))
-last_one (f ∷ front) [] w u e = absurd (never_last front w (ap (drop 1) e))
+last_one [] (g ∷ back) w u e = absurd (not_nil back u (sym (ap (drop 1) e)))
+last_one (f ∷ front) [] w u e = absurd (not_nil front w (ap (drop 1) e))
 last_one (f ∷ front) (g ∷ back) w u e = last_one front back w u (ap (drop 1) e)
 
 -- what counts up from a first number begins with it
@@ -150,7 +147,7 @@ module _ {E : Type 0} (m : Machine E) where
     lost_to_itself = λ t o same told. told.1 same;
     own_untaken = λ t untaken told. untaken told.1.0 told.1.1;
     delivered_nothing = λ t first last empty told.
-        never_last told.earlier told.frame (none_spelled (told.earlier ++ told.frame ∷ []) (told.words_are ∙ empty));
+        not_nil told.earlier told.frame (none_spelled (told.earlier ++ told.frame ∷ []) (told.words_are ∙ empty));
     delivered_elsewhere = λ t first last front f lawful are other told.
         other (ap (λ (g : Frame). g.tenure) (sym (delivered_last m p t first last front f lawful are told)) ∙ told.tenure);
     delivered_by_another = λ t first last front f lawful are other told.
@@ -186,7 +183,7 @@ module _ {E : Type 0} (m : Machine E) where
 waits_as : {E : Type 0} (old new : Machine E) (s : ℕ) (asked : Mark) (a : Answer) (v : Sender E) → TakesMark old s asked a new
     → slice_get new.senders s ≡ Some v → v ≡ mark_in v asked
 waits_as {E} old new s asked a v h there =
-    let at = there_shown (has_stopped old s) (slice_get old.senders s) h.sender h.goes in
+    let at = shown_there (has_stopped old s) (slice_get old.senders s) h.sender h.goes in
     let set = get_set_same old.senders s (mark_in h.sender asked) (slice_get_within old.senders s h.sender at) in
     let is : mark_in h.sender asked ≡ v = same_Some _ _ (sym set ∙ ap (λ (y : Machine E). slice_get y.senders s) (sym h.after) ∙ there) in
     subst (λ u. u ≡ mark_in u asked) is refl

@@ -31,23 +31,25 @@ use Rattle.bus_tenure.specs.declared.phases.Phase.{Phase}
 use Rattle.bus_tenure.specs.declared.phases.Phase.TheVariants as phase
 use Rattle.bus_tenure.specs.declared.phases.Reason.{Reason}
 use Rattle.bus_tenure.specs.declared.phases.Reason.TheVariants.{Sent, FoundEnd, NoRoom}
-use Rattle.bus_world.specs.Proved.Sending.{Part, Fits, standing_of, stands_at}
+use Rattle.bus_world.specs.Bus.{Part, Fits, standing_of, stands_at}
 use Rattle.bus_world.specs.Headline.{Action, HasPut, HasMarked, Stepped, Asked, Elected, puts}
 use Rattle.bus_world.specs.Log.{next_number, sent_count}
 use Rattle.bus_world.specs.Waiting.{waiting_at}
 use Rattle.bus_world.proofs.FrameOfBatch.{length-items}
 use Rattle.bus_world.proofs.LogLaws.{next-append_owner}
-use Rattle.bus_world.specs.Proved.Tenures.Stage.{Open, Held}
-use Rattle.bus_world.specs.Proved.Tenures.Standing.{Holds}
+use Rattle.bus_world.specs.Tenures.Stage.{Open, Held}
+use Rattle.bus_world.specs.Tenures.Standing.{Holds}
 use Rattle.bus_world.proofs.Places.{got_split}
-use Rattle.bus_world.specs.Trails.{step_action, put_actions, mark_actions, actions_with}
+use Rattle.bus_world.proofs.Stopping.{shown_there}
+use Rattle.bus_world.specs.Trails.{step_action, put_actions, mark_actions}
 use Rattle.bus_world.specs.Turning.{after_step, core_with_page, words_after}
+use Rattle.bus_world.specs.CyclicProtocols.{actions_with}
 use Rattle.bus_tenure.specs.declared.turns.Turn.{Turn as Answered}
 use Rattle.bus_world.specs.World.{Event, Put, Ask, Turn, Recv, Stop}
 use Rattle.bus_world.specs.declared.events.Answer.{Answer}
 use Rattle.bus_world.specs.declared.events.Answer.TheVariants as answer
 use Rattle.bus_machine.proofs.AtNone.{event_reuse}
-use Rattle.bus_machine.proofs.Bounding.{actions_of_it, actions_of_other, added, added_is, there_shown}
+use Rattle.bus_machine.proofs.Bounding.{actions_of_it, actions_of_other, added, added_is}
 use Rattle.bus_machine.proofs.Ending.{published_ends, published_leaves, left_by, found_ends, ended_of, left_of, still_ended, still_left, past_more}
 use Rattle.bus_machine.proofs.Framed.{IsFramed, framed}
 use Rattle.bus_machine.proofs.Growing.{grows, rises}
@@ -269,7 +271,7 @@ module _ {E : Type 0} (X : Election E) (P : Protocol E (Unit {0}) ℕ) (m m' : M
   U = trails_grown X m (Turn s word) a T
 
   at : slice_get m.senders s ≡ Some v
-  at = there_shown (has_stopped m s) (slice_get m.senders s) v h.goes
+  at = shown_there (has_stopped m s) (slice_get m.senders s) v h.goes
 
   f : IsFramed P m T
   f = framed X P m T sits r
@@ -491,7 +493,7 @@ module _ {E : Type 0} (X : Election E) (P : Protocol E (Unit {0}) ℕ) where
   event_recalls : (m m' : Machine E) (T : Trails) (e : Event) (a : Answer) → Sits X P m → Reached X m T → Happens X m e a m' → AllRecall m T
       → AllRecall m' (trails_grown X m e a T)
   event_recalls m m' T (Put s bytes) a sits r h k =
-      let at = there_shown (has_stopped m s) (slice_get m.senders s) h.sender h.goes in
+      let at = shown_there (has_stopped m s) (slice_get m.senders s) h.sender h.goes in
       let before = k s h.sender at in
       let now = actions_of_it s (put_actions bytes a) T.actions s refl in
       one_other X P m m' T (Put s bytes) a sits r h k s h.sender (put_in h.sender bytes) (put_actions bytes a) at
@@ -500,7 +502,7 @@ module _ {E : Type 0} (X : Election E) (P : Protocol E (Unit {0}) ℕ) where
       (λ asked j. before.asked asked
       (asked_before (T.actions s) (put_actions bytes a) (put_asks bytes a) asked (subst (Asked asked) now j))) refl)
   event_recalls m m' T (Ask s asked) a sits r h k =
-      let at = there_shown (has_stopped m s) (slice_get m.senders s) h.sender h.goes in
+      let at = shown_there (has_stopped m s) (slice_get m.senders s) h.sender h.goes in
       one_other X P m m' T (Ask s asked) a sits r h k s h.sender (mark_in h.sender asked) (mark_actions a) at
       (ap (λ (y : Machine E). y.senders) h.after) refl
       (alike X P m m' T (Ask s asked) a sits r h k s h.sender.core (mark_in h.sender asked).core (k s h.sender at)

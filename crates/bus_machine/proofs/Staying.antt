@@ -16,11 +16,12 @@ use Rattle.bus_register.specs.declared.registers.SenderNo.{SenderNo}
 use Rattle.bus_tenure.specs.Core.{Election}
 use Rattle.bus_tenure.specs.declared.turns.Turn.{Turn as Answered}
 use Rattle.bus_world.proofs.Framing.{order_grows, owners_grow}
-use Rattle.bus_world.proofs.Growing.{same_prefix}
+use Rattle.bus_world.proofs.Growing.{nothing_more}
 use Rattle.bus_world.proofs.Places.{got_before}
 use Rattle.bus_world.specs.Headline.{Action, Stepped, entry_heard, end_heard, order_given, IsPrefix}
-use Rattle.bus_world.specs.Trails.{Takers, actions_with}
+use Rattle.bus_world.specs.Trails.{Takers}
 use Rattle.bus_world.specs.World.{Event, Put, Ask, Turn, Recv, Stop}
+use Rattle.bus_world.specs.CyclicProtocols.{actions_with}
 use Rattle.bus_world.specs.declared.events.Answer.{Answer}
 use Rattle.bus_world.specs.declared.events.Answer.TheVariants as answer
 use Rattle.bus_machine.specs.Machine.{Machine, Trails, trails_grown, turn_grown, turn_trails, heard_grown, going, found, log_of}
@@ -86,24 +87,21 @@ pub record Longer (T T' : Trails) : Type 0 where
   pub actions : (q : ℕ) → IsPrefix (T.actions q) (T'.actions q)
   pub heard : (q : ℕ) → IsPrefix (T.heard q) (T'.heard q)
 
-no_longer : {A : Type 0} (xs : List A) → IsPrefix xs xs
-no_longer xs = same_prefix xs xs refl
-
 pub stays_long : (T : Trails) → Longer T T
-stays_long T = record { actions = λ q. no_longer (T.actions q); heard = λ q. no_longer (T.heard q) }
+stays_long T = record { actions = λ q. nothing_more (T.actions q); heard = λ q. nothing_more (T.heard q) }
 
 longer_by : (s : ℕ) (ds : List Action) (D : ℕ → List Action) (q : ℕ) → IsPrefix (D q) (actions_with s ds D q)
 longer_by s ds D q = record { rest = cond (q == s) ds []; together = refl }
 
 module _ {E : Type 0} (X : Election E) (m : Machine E) (T : Trails) where
   turn_longer : (z : Situation E) (l : Line E) (s got word : ℕ) (t : Answered) → Longer T (turn_trails z l s got word t T)
-  turn_longer (Does z) l s got word t = record { actions = longer_by s _ T.actions; heard = λ q. no_longer (T.heard q) }
-  turn_longer (Announces u) l s got word t = record { actions = longer_by s [] T.actions; heard = λ q. no_longer (T.heard q) }
-  turn_longer (Validates u) l s got word t = record { actions = longer_by s [] T.actions; heard = λ q. no_longer (T.heard q) }
-  turn_longer (Unpins u) l s got word t = record { actions = longer_by s [] T.actions; heard = λ q. no_longer (T.heard q) }
-  turn_longer (Withdraws u) l s got word t = record { actions = longer_by s [] T.actions; heard = λ q. no_longer (T.heard q) }
-  turn_longer (Scans r) l s got word t = record { actions = longer_by s [] T.actions; heard = λ q. no_longer (T.heard q) }
-  turn_longer (Clears r) l s got word t = record { actions = longer_by s [] T.actions; heard = λ q. no_longer (T.heard q) }
+  turn_longer (Does z) l s got word t = record { actions = longer_by s _ T.actions; heard = λ q. nothing_more (T.heard q) }
+  turn_longer (Announces u) l s got word t = record { actions = longer_by s [] T.actions; heard = λ q. nothing_more (T.heard q) }
+  turn_longer (Validates u) l s got word t = record { actions = longer_by s [] T.actions; heard = λ q. nothing_more (T.heard q) }
+  turn_longer (Unpins u) l s got word t = record { actions = longer_by s [] T.actions; heard = λ q. nothing_more (T.heard q) }
+  turn_longer (Withdraws u) l s got word t = record { actions = longer_by s [] T.actions; heard = λ q. nothing_more (T.heard q) }
+  turn_longer (Scans r) l s got word t = record { actions = longer_by s [] T.actions; heard = λ q. nothing_more (T.heard q) }
+  turn_longer (Clears r) l s got word t = record { actions = longer_by s [] T.actions; heard = λ q. nothing_more (T.heard q) }
 
   sender_longer : (s word : ℕ) (o : Option (Sender E)) (a : Answer) → Longer T (turn_grown X m s o word a T)
   sender_longer s word None a = stays_long T
@@ -115,18 +113,18 @@ module _ {E : Type 0} (X : Election E) (m : Machine E) (T : Trails) where
   sender_longer s word (Some v) answer.Stopped = stays_long T
 
   heard_longer : (r : ℕ) (a : Answer) (q : ℕ) → IsPrefix (T.heard q) (heard_grown r a T.heard q)
-  heard_longer r (answer.Number n) q = no_longer (T.heard q)
-  heard_longer r answer.Closing q = no_longer (T.heard q)
-  heard_longer r answer.Leaving q = no_longer (T.heard q)
-  heard_longer r (answer.Turn t) q = no_longer (T.heard q)
+  heard_longer r (answer.Number n) q = nothing_more (T.heard q)
+  heard_longer r answer.Closing q = nothing_more (T.heard q)
+  heard_longer r answer.Leaving q = nothing_more (T.heard q)
+  heard_longer r (answer.Turn t) q = nothing_more (T.heard q)
   heard_longer r (answer.Recv t) q = record { rest = cond (q == r) (t ∷ []) []; together = refl }
-  heard_longer r answer.Stopped q = no_longer (T.heard q)
+  heard_longer r answer.Stopped q = nothing_more (T.heard q)
 
   pub grown_longer : (e : Event) (a : Answer) → Longer T (trails_grown X m e a T)
-  grown_longer (Put s bytes) a = record { actions = longer_by s _ T.actions; heard = λ q. no_longer (T.heard q) }
-  grown_longer (Ask s asked) a = record { actions = longer_by s _ T.actions; heard = λ q. no_longer (T.heard q) }
+  grown_longer (Put s bytes) a = record { actions = longer_by s _ T.actions; heard = λ q. nothing_more (T.heard q) }
+  grown_longer (Ask s asked) a = record { actions = longer_by s _ T.actions; heard = λ q. nothing_more (T.heard q) }
   grown_longer (Turn s word) a = sender_longer s word (going m s) a
-  grown_longer (Recv r) a = record { actions = λ q. no_longer (T.actions q); heard = heard_longer r a }
+  grown_longer (Recv r) a = record { actions = λ q. nothing_more (T.actions q); heard = heard_longer r a }
   grown_longer (Stop s) a = stays_long T
 
 -- ---- the promise

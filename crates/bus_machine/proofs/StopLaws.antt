@@ -1,8 +1,8 @@
 -- A stop is for good, and changes nothing else.
-use Rattle.std.proofs.Common.{◌≡◌, ◌≢◌, ℕ, zero, suc, ◌<◌, ◌≤◌, Bool, true, false, cond, ne_eqb, arith, Option, Some, None, inl, inr, List, All, [], ◌∷◌, ◌++◌, length, slice_get, slice_set, refl, sym, ◌∙◌, ap, subst}
+use Rattle.std.proofs.Common.{◌≡◌, ◌≢◌, ℕ, zero, suc, ◌<◌, ◌≤◌, Bool, true, false, cond, arith, Option, Some, None, inl, inr, List, All, [], ◌∷◌, length, slice_get, slice_set, refl, sym, ◌∙◌, ap, subst}
 use Rattle.std.specs.Prelude.{◌⊎◌}
 use Rattle.std.proofs.lemmas.Bool.{true≢false, cases_eq}
-use Rattle.std.proofs.lemmas.List.{append-nil, length-replicate, set-set, set_comm}
+use Rattle.std.proofs.lemmas.List.{length-replicate, set-set, set_comm}
 use Rattle.std.proofs.lemmas.List.Elements.{All-head, All-tail}
 use Rattle.std.proofs.lemmas.Option.{slice_get_within}
 use Rattle.std.proofs.Math.ListN.{length-set}
@@ -12,23 +12,23 @@ use Rattle.bus_register.specs.declared.registers.Op.{Op}
 use Rattle.bus_core.specs.Senders.{Sender, Situation, Does, Announces, Validates, Unpins, Withdraws, Scans, Clears, situation}
 use Rattle.bus_core.specs.Table.{Line, line_now}
 use Rattle.bus_deliverylog.specs.Receiving.{Receiving}
-use Rattle.bus_presence.specs.Reclamation.{Trails as Entries}
 use Rattle.bus_adoptcommit.specs.declared.verdicts.Verdict.{Verdict}
 use Rattle.bus_register.specs.Protocol.{Protocol}
 use Rattle.bus_tenure.specs.Core.{Election}
 use Rattle.bus_tenure.specs.Elections.{Elector}
 use Rattle.bus_tenure.specs.declared.turns.Turn.{Turn as Answered}
-use Rattle.bus_world.specs.Headline.{Action}
 use Rattle.bus_world.specs.Playing.{RecvRefused}
-use Rattle.bus_world.specs.Trails.{put_actions, mark_actions, actions_with}
+use Rattle.bus_world.specs.Trails.{put_actions, mark_actions}
 use Rattle.bus_world.specs.World.{Event, Put, Ask, Turn, Recv, Stop, is_set}
 use Rattle.bus_world.specs.declared.events.Answer.{Answer}
 use Rattle.bus_world.specs.declared.events.Answer.TheVariants as answer
 use Rattle.bus_world.specs.declared.events.StepFault.{StepFault}
 use Rattle.bus_world.specs.declared.events.StepFault.TheVariants as fault
-use Rattle.bus_machine.specs.Machine.{Machine, Trails, Reached, New as Start, Then as Next, Happens, IsOnWord, trails_grown, turn_grown, turn_trails, entered, going, has_stopped, found}
+use Rattle.bus_machine.specs.Machine.{Machine, Trails, Reached, New as Start, Then as Next, Happens, IsOnWord, trails_grown, turn_grown, turn_trails, going, has_stopped, found}
 use Rattle.bus_machine.specs.Playing.{Refused, SenderRefused, PutRefused, CloseRefused, AllAnswered, trails_after}
 use Rattle.bus_machine.specs.Stopping.{IsOfOther, with_stop_of, JustStopped, StaysStopped, StopsAreForGood, StopRefuses}
+use Rattle.bus_machine.proofs.Bounding.{actions_of_other, entered_beside}
+use Rattle.bus_world.proofs.Stopping.{shown_there}
 
 -- ---- of each machine that is reached
 module _ {E : Type 0} (X : Election E) where
@@ -66,10 +66,6 @@ module _ {E : Type 0} where
   shown_free : (t : Bool) (o : Option (Sender E)) (v : Sender E) → cond t None o ≡ Some v → t ≡ false
   shown_free true o v e = absurd (let bad : None ≡ Some v = e in cc)
   shown_free false o v e = refl
-
-  shown_there : (t : Bool) (o : Option (Sender E)) (v : Sender E) → cond t None o ≡ Some v → o ≡ Some v
-  shown_there true o v e = absurd (let bad : None ≡ Some v = e in cc)
-  shown_there false o v e = e
 
   not_stopped : (m : Machine E) (s : ℕ) (v : Sender E) → going m s ≡ Some v → has_stopped m s ≡ false
   not_stopped m s v e = shown_free (has_stopped m s) (slice_get m.senders s) v e
@@ -127,13 +123,6 @@ module _ {E : Type 0} (m : Machine E) (s : ℕ) (l : List Bool) (same : (q : ℕ
   refused_alike (Stop q) why ne w = subst (λ t. SenderRefused (slice_get m.senders q) t why (λ v. ⊥)) (sym (same q ne)) w
 
 -- ---- what an event of another adds
-actions_beside : (q s : ℕ) (ds : List Action) (D : ℕ → List Action) → s ≢ q → actions_with q ds D s ≡ D s
-actions_beside q s ds D ne = ap (λ z. D s ++ cond z ds []) (ne_eqb s q ne) ∙ append-nil (D s)
-
-entered_beside : (q s : ℕ) (o : Option Op) (got : ℕ) (T : Entries) → s ≢ q → entered T q o got s ≡ T s
-entered_beside q s None got T ne = refl
-entered_beside q s (Some o) got T ne = ap (λ z. cond z (T s ++ record { op = o; got = got } ∷ []) (T s)) (ne_eqb s q ne)
-
 record AddsNothing (s : ℕ) (T T' : Trails) : Type 0 where
   actions : T'.actions s ≡ T.actions s
   pins : T'.pins s ≡ T.pins s
@@ -144,13 +133,13 @@ the_same s T = record { actions = refl; pins = refl; reclaims = refl }
 
 module _ {E : Type 0} (X : Election E) (m : Machine E) (q s : ℕ) (ne : s ≢ q) where
   line_adds : (z : Situation E) (l : Line E) (got word : ℕ) (t : Answered) (T : Trails) → AddsNothing s T (turn_trails z l q got word t T)
-  line_adds (Does z) l got word t T = record { actions = actions_beside q s _ T.actions ne; pins = refl; reclaims = refl }
-  line_adds (Announces u) l got word t T = record { actions = actions_beside q s [] T.actions ne; pins = entered_beside q s (l.op word) got T.pins ne; reclaims = refl }
-  line_adds (Validates u) l got word t T = record { actions = actions_beside q s [] T.actions ne; pins = entered_beside q s (l.op word) got T.pins ne; reclaims = refl }
-  line_adds (Unpins u) l got word t T = record { actions = actions_beside q s [] T.actions ne; pins = entered_beside q s (l.op word) got T.pins ne; reclaims = refl }
-  line_adds (Withdraws u) l got word t T = record { actions = actions_beside q s [] T.actions ne; pins = entered_beside q s (l.op word) got T.pins ne; reclaims = refl }
-  line_adds (Scans r) l got word t T = record { actions = actions_beside q s [] T.actions ne; pins = refl; reclaims = entered_beside q s (l.op word) got T.reclaims ne }
-  line_adds (Clears r) l got word t T = record { actions = actions_beside q s [] T.actions ne; pins = refl; reclaims = entered_beside q s (l.op word) got T.reclaims ne }
+  line_adds (Does z) l got word t T = record { actions = actions_of_other q _ T.actions s ne; pins = refl; reclaims = refl }
+  line_adds (Announces u) l got word t T = record { actions = actions_of_other q [] T.actions s ne; pins = entered_beside T.pins q s (l.op word) got ne; reclaims = refl }
+  line_adds (Validates u) l got word t T = record { actions = actions_of_other q [] T.actions s ne; pins = entered_beside T.pins q s (l.op word) got ne; reclaims = refl }
+  line_adds (Unpins u) l got word t T = record { actions = actions_of_other q [] T.actions s ne; pins = entered_beside T.pins q s (l.op word) got ne; reclaims = refl }
+  line_adds (Withdraws u) l got word t T = record { actions = actions_of_other q [] T.actions s ne; pins = entered_beside T.pins q s (l.op word) got ne; reclaims = refl }
+  line_adds (Scans r) l got word t T = record { actions = actions_of_other q [] T.actions s ne; pins = refl; reclaims = entered_beside T.reclaims q s (l.op word) got ne }
+  line_adds (Clears r) l got word t T = record { actions = actions_of_other q [] T.actions s ne; pins = refl; reclaims = entered_beside T.reclaims q s (l.op word) got ne }
 
   turn_adds : (o : Option (Sender E)) (word : ℕ) (a : Answer) (T : Trails) → AddsNothing s T (turn_grown X m q o word a T)
   turn_adds None word a T = the_same s T
@@ -169,11 +158,11 @@ module _ {E : Type 0} (X : Election E) where
   event_leaves : (m m' : Machine E) (e : Event) (a : Answer) (T : Trails) (s : ℕ) → has_stopped m s ≡ true → Happens X m e a m' → StaysStopped m T s m' (trails_grown X m e a T)
   event_leaves m m' (Put q bytes) a T s stop h = elim (cases_eq s q) [
     | inl e ↦ absurd (late m q s h.sender stop e h.goes)
-    | inr ne ↦ leaves m m' _ T _ s h.after stop refl (get_set_other m.senders q _ s ne) record { actions = actions_beside q s (put_actions bytes a) T.actions ne; pins = refl; reclaims = refl }
+    | inr ne ↦ leaves m m' _ T _ s h.after stop refl (get_set_other m.senders q _ s ne) record { actions = actions_of_other q (put_actions bytes a) T.actions s ne; pins = refl; reclaims = refl }
   ]
   event_leaves m m' (Ask q asked) a T s stop h = elim (cases_eq s q) [
     | inl e ↦ absurd (late m q s h.sender stop e h.goes)
-    | inr ne ↦ leaves m m' _ T _ s h.after stop refl (get_set_other m.senders q _ s ne) record { actions = actions_beside q s (mark_actions a) T.actions ne; pins = refl; reclaims = refl }
+    | inr ne ↦ leaves m m' _ T _ s h.after stop refl (get_set_other m.senders q _ s ne) record { actions = actions_of_other q (mark_actions a) T.actions s ne; pins = refl; reclaims = refl }
   ]
   event_leaves m m' (Turn q word) a T s stop h = elim (cases_eq s q) [
     | inl e ↦ absurd (late m q s h.sender stop e h.goes)

@@ -1,5 +1,6 @@
 -- Who takes the page is told so by the answer of its turn, and nobody else.
-use Rattle.std.proofs.Common.{◌≡◌, ℕ, List, [], ◌∷◌, ◌++◌, Option, Some, None, cond, refl}
+use Rattle.std.proofs.Common.{◌≡◌, ℕ, List, [], ◌∷◌, ◌++◌, Option, Some, None, Bool, true, false, cond, refl, sym, ◌∙◌, ap}
+use Rattle.std.proofs.lemmas.Bool.{true≢false}
 use Rattle.bus_core.specs.Senders.{Sender, Situation, Does, Announces, Validates, Unpins, Withdraws, Scans, Clears}
 use Rattle.bus_core.specs.Table.{line, answer_elected, lost_of}
 use Rattle.bus_core.specs.declared.reuses.Reuse.{Reuse}
@@ -8,7 +9,8 @@ use Rattle.bus_presence.specs.Reclaimers.{behind_of}
 use Rattle.bus_presence.specs.declared.reclaimers.Behind.{Behind}
 use Rattle.bus_register.specs.declared.registers.SenderNo.{SenderNo}
 use Rattle.bus_tenure.specs.Core.{Election}
-use Rattle.bus_tenure.specs.Situations.{LooksAtStage, Elects, GivesBack, HasHanded}
+use Rattle.bus_tenure.specs.Situations.{LooksAtStage, Elects, TakesPage, GivesBack, HasHanded}
+use Rattle.bus_tenure.specs.declared.turns.Turn.TheVariants as turn
 use Rattle.bus_world.proofs.PlayingLaws.{owners_told}
 use Rattle.bus_world.specs.Turning.{owners_by}
 
@@ -37,3 +39,28 @@ module _ {E : Type 0} (X : Election E) (v : Sender E) where
   takes_told (Withdraws t) s owners got word = refl
   takes_told (Scans r) s owners got word = reclaimer_told s owners (behind_of r got)
   takes_told (Clears r) s owners got word = reclaimer_told s owners (behind_of r got)
+
+-- ---- who answers Own takes the page of that tenure
+module _ {E : Type 0} (X : Election E) (v : Sender E) (t : ℕ) where
+  -- the page is taken with one situation's step
+  by_takes : (z : Situation E) → (line X v z).takes ≡ true → (u : ℕ) × (z ≡ Does (TakesPage u))
+  by_takes (Does (TakesPage u)) e = (u, refl)
+  by_takes (Does z) e = absurd (true≢false (sym e))
+  by_takes (Announces u) e = absurd (true≢false (sym e))
+  by_takes (Validates u) e = absurd (true≢false (sym e))
+  by_takes (Unpins u) e = absurd (true≢false (sym e))
+  by_takes (Withdraws u) e = absurd (true≢false (sym e))
+  by_takes (Scans s) e = absurd (true≢false (sym e))
+  by_takes (Clears s) e = absurd (true≢false (sym e))
+
+  is_taken : (b : Bool) (p : ℕ) → cond b (p ∷ []) [] ≡ p ∷ [] → b ≡ true
+  is_taken true p e = refl
+  is_taken false p e = absurd (let bad : [] ≡ p ∷ [] = e in cc)
+
+  same_own : (u : ℕ) → turn.Own u ≡ turn.Own t → u ≡ t
+  same_own u e = cc
+
+  pub owns_page : (z : Situation E) (got word : ℕ) → (line X v z).answer got word ≡ turn.Own t → z ≡ Does (TakesPage t)
+  owns_page z got word own =
+      let taken = by_takes z (is_taken (line X v z).takes 0 (takes_told X v z 0 [] got word ∙ ap (λ a. owners_by a 0 []) own)) in
+      taken.1 ∙ ap (λ n. Does (TakesPage n)) (same_own taken.0 (sym (ap (λ y. (line X v y).answer got word) taken.1) ∙ own))

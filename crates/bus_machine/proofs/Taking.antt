@@ -9,8 +9,10 @@ use Rattle.bus_batch.specs.declared.messages.Mark.{Mark}
 use Rattle.bus_batch.specs.declared.messages.Mark.TheVariants.{End, Leave}
 use Rattle.bus_tenure.specs.declared.turns.Turn.{Turn as Answered}
 use Rattle.bus_world.specs.Headline.{Action, HasPut, HasMarked, Took}
-use Rattle.bus_world.specs.Trails.{Takers, mark_actions, actions_with, step_action, put_actions}
+use Rattle.bus_world.specs.Trails.{Takers, mark_actions}
+use Rattle.bus_world.specs.CyclicProtocols.{actions_with}
 use Rattle.bus_world.proofs.Places.{got_before, got_split}
+use Rattle.bus_world.proofs.Stopping.{shown_there}
 use Rattle.bus_core.specs.Senders.{Sender, Situation, Does, Announces, Validates, Unpins, Withdraws, Scans, Clears, situation}
 use Rattle.bus_core.specs.Table.{line, line_now}
 use Rattle.bus_register.specs.Protocol.{Protocol}
@@ -21,28 +23,23 @@ use Rattle.bus_tenure.specs.Core.{Election}
 use Rattle.bus_tenure.specs.Situations.{IsClosed, IsIdle, IsSpent, LooksAtStage, Elects, TakesPage, AwaitsPage, StoresWord, StoresLength, GivesBack, HasHanded}
 use Rattle.bus_tenure.specs.declared.turns.Turn.{Turn as Answered}
 use Rattle.bus_world.specs.Headline.{Stepped}
-use Rattle.bus_world.specs.Proved.Tenures.Stage.{Open, Held}
+use Rattle.bus_world.specs.Tenures.Stage.{Open, Held}
+use Rattle.bus_world.specs.Trails.{step_action, put_actions}
 use Rattle.bus_world.specs.World.{Event, Put, Ask, Turn, Recv, Stop}
 use Rattle.bus_world.specs.declared.events.Answer.{Answer}
 use Rattle.bus_world.specs.declared.events.Answer.TheVariants as answer
 use Rattle.bus_machine.proofs.AtNone.{event_reuse}
-use Rattle.bus_machine.proofs.Bounding.{actions_of_it, added, added_is, there_shown}
+use Rattle.bus_machine.proofs.Bounding.{actions_of_it, added, added_is}
 use Rattle.bus_machine.proofs.Framed.{IsFramed, framed}
 use Rattle.bus_machine.proofs.Leading.{Sits, sits_before}
 use Rattle.bus_machine.proofs.Paging.{takes_it}
 use Rattle.bus_machine.specs.Machine.{Machine, Trails, Reached, New as Start, Then as Next, Happens, IsNew, found, has_stopped, last_of, owners_told, stage_of, trails_grown, turn_answer, turn_grown}
 use Rattle.bus_machine.specs.Promise.{TakersTold}
-
--- ---- lists with the same elements
-lists_same : {A : Type 0} (xs ys : List A) → ((k : ℕ) → slice_get xs k ≡ slice_get ys k) → xs ≡ ys
-lists_same [] [] e = refl
-lists_same [] (y ∷ ys) e = absurd (let bad : None ≡ Some y = e 0 in cc)
-lists_same (x ∷ xs) [] e = absurd (let bad : Some x ≡ None = e 0 in cc)
-lists_same (x ∷ xs) (y ∷ ys) e = ap (λ a. a ∷ xs) (same_Some _ _ (e 0)) ∙ ap (λ l. y ∷ l) (lists_same xs ys (λ k. e (suc k)))
+use Rattle.bus_adoptcommit.proofs.Moves.{same_lists}
 
 -- actions tell who took the pages
 pub takers_one : (a b : List ℕ) (D : ℕ → List Action) → Takers a D → Takers b D → a ≡ b
-takers_one a b D h k = lists_same a b (λ t. by_both t (slice_get a t) (slice_get b t) refl refl)
+takers_one a b D h k = same_lists a b (λ t. by_both t (slice_get a t) (slice_get b t) refl refl)
   where
     by_both : (t : ℕ) (o p : Option ℕ) → slice_get a t ≡ o → slice_get b t ≡ p → slice_get a t ≡ slice_get b t
     by_both t None None i j = i ∙ sym j
@@ -186,19 +183,20 @@ mark_none (answer.Turn told) t place w = nothing_takes t place w
 mark_none (answer.Recv told) t place w = nothing_takes t place w
 mark_none answer.Stopped t place w = nothing_takes t place w
 
+-- as many have taken pages as tenures were opened
+pub counted : {E : Type 0} {P : Protocol E (Unit {0}) ℕ} (m : Machine E) (T : Trails) (f : IsFramed P m T) (all : List ℕ) → Takers all T.actions → (t : ℕ)
+    → stage_of m ≡ 2 * t → t ≡ length all
+counted m T f all h t stage =
+    let many = ap length (takers_one f.owners all T.actions f.takers h) in
+    elim f.sending.tenures.stage_is [
+      | Open is here owners ↦ (let same = f.stage in omega arith)
+      | Held holder is away owners holds ↦ absurd (let same = f.stage in omega arith)
+    ]
+
 module _ {E : Type 0} (X : Election E) (P : Protocol E (Unit {0}) ℕ) (m : Machine E) (T : Trails) (sits : Sits X P m) (f : IsFramed P m T) (all : List ℕ)
     (h : Takers all T.actions) (s : ℕ) (v : Sender E) (at : slice_get m.senders s ≡ Some v) (got word : ℕ) (told : Answered) where
   abbrev Taken : Situation E → Type 0
   Taken z = Takers (cond (line X v z).takes (all ++ s ∷ []) all) (actions_with s (added z (line X v z) got word told) T.actions)
-
-  -- as many have taken pages as tenures were opened
-  counted : (t : ℕ) → stage_of m ≡ 2 * t → t ≡ length all
-  counted t stage =
-      let many = ap length (takers_one f.owners all T.actions f.takers h) in
-      elim f.sending.tenures.stage_is [
-        | Open is here owners ↦ (let same = f.stage in omega arith)
-        | Held holder is away owners holds ↦ absurd (let same = f.stage in omega arith)
-      ]
 
   -- whatever the turn is
   taken : (z : Situation E) → situation X v ≡ z → Taken z
@@ -209,7 +207,7 @@ module _ {E : Type 0} (X : Election E) (P : Protocol E (Unit {0}) ℕ) (m : Mach
   taken (Does (Elects t e)) i =
       takers_beside all T.actions s (added (Does (Elects t e)) (line X v (Does (Elects t e))) got word told)
       (step_takes (X.kind_of e) (Some t) got (X.owner (X.fed e got word)) told (sits.serves.apart e)) h
-  taken (Does (TakesPage t)) i = takers_push all T.actions s t (counted t (takes_it X P m T sits f s v t at i).stage) got None told h
+  taken (Does (TakesPage t)) i = takers_push all T.actions s t (counted m T f all h t (takes_it X P m T sits f s v t at i).stage) got None told h
   taken (Does (AwaitsPage t)) i = takers_beside all T.actions s [] nothing_takes h
   taken (Does (StoresWord t page stored)) i =
       takers_beside all T.actions s (added (Does (StoresWord t page stored)) (line X v (Does (StoresWord t page stored))) got word told) (step_takes (Some kind.StoreLogWord) (Some t) got None told (λ e. cc)) h
@@ -251,7 +249,7 @@ module _ {E : Type 0} (X : Election E) (P : Protocol E (Unit {0}) ℕ) where
       let z = situation X v in
       let l = line_now X v in
       let told = turn_answer m l word in
-      let at = there_shown (has_stopped m s) (slice_get m.senders s) v h.goes in
+      let at = shown_there (has_stopped m s) (slice_get m.senders s) v h.goes in
       let did : (trails_grown X m (Turn s word) a T).actions ≡ actions_with s (added z l (found m l word) word told) T.actions =
       ap (λ d. (trails_grown X m (Turn s word) d T).actions) h.answered
       ∙ ap (λ o. (turn_grown X m s o word (answer.Turn told) T).actions) h.goes

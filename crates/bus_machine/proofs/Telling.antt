@@ -1,5 +1,5 @@
 -- What an event is answered is so.
-use Rattle.std.proofs.Common.{◌≡◌, ◌≢◌, ◌⊎◌, inl, inr, ℕ, ◌+◌, ◌-◌, ◌/◌, ◌<◌, ◌≤◌, ◌==◌, nat_le, Bool, true, false, cond, Option, Some, None, List, [], ◌∷◌, ◌++◌, length, slice_get, slice_index, arith, refl, sym, ◌∙◌, ap, subst}
+use Rattle.std.proofs.Common.{◌≡◌, ◌⊎◌, inl, inr, ℕ, ◌-◌, ◌/◌, ◌<◌, ◌≤◌, ◌==◌, nat_le, Bool, true, false, cond, Option, Some, None, List, [], ◌∷◌, ◌++◌, length, slice_get, slice_index, arith, refl, sym, ◌∙◌, ap, subst}
 use Rattle.std.proofs.lemmas.Bool.{leb-true, true≢false}
 use Rattle.std.proofs.lemmas.Bool.Decides.{eqb_tells}
 use Rattle.std.proofs.lemmas.Grind.{flat_map-append}
@@ -35,13 +35,14 @@ use Rattle.bus_tenure.specs.declared.turns.Turn.{Turn as Answered}
 use Rattle.bus_tenure.specs.declared.turns.Turn.TheVariants as turn
 use Rattle.bus_world.proofs.FrameOfBatch.{counted_frame, length-items}
 use Rattle.bus_world.proofs.LogLaws.{length-read}
-use Rattle.bus_world.specs.Proved.Sending.{Part, Fits}
+use Rattle.bus_world.proofs.Stopping.{shown_there}
+use Rattle.bus_world.specs.Bus.{Part, Fits}
 use Rattle.bus_world.specs.Headline.{HasPut, Stepped, Elected, Took, IsPrefix, put_of, puts}
 use Rattle.bus_world.specs.Telling.{HasDelivered, HasLeft}
 use Rattle.bus_world.specs.World.{Event, Put, Ask, Turn, Recv, Stop}
 use Rattle.bus_world.specs.declared.events.Answer.{Answer}
 use Rattle.bus_world.specs.declared.events.Answer.TheVariants as answer
-use Rattle.bus_machine.proofs.Bounding.{actions_of_it, there_shown}
+use Rattle.bus_machine.proofs.Bounding.{actions_of_it}
 use Rattle.bus_machine.proofs.Ending.{elected_more, ended_of, published_ends, found_ends, none_left}
 use Rattle.bus_machine.proofs.Framed.{IsFramed, framed, log_framed}
 use Rattle.bus_machine.proofs.Joining.{reused}
@@ -81,7 +82,7 @@ module _ {E : Type 0} (X : Election E) (P : Protocol E (Unit {0}) ℕ) (m m' : M
 
   -- the sender is there
   at : slice_get m.senders s ≡ Some v
-  at = there_shown (has_stopped m s) (slice_get m.senders s) v h.goes
+  at = shown_there (has_stopped m s) (slice_get m.senders s) v h.goes
 
   -- by the frames of the log
   f : IsFramed P m T
@@ -249,7 +250,7 @@ put_told X P m m' T s bytes a sits r h =
     let v = h.sender in
     let n = next_of v.core.queue in
     let ds = HasPut n bytes ∷ [] in
-    let at = there_shown (has_stopped m s) (slice_get m.senders s) v h.goes in
+    let at = shown_there (has_stopped m s) (slice_get m.senders s) v h.goes in
     let before = (remembered X P m T sits r s v at).numbers in
     let now = actions_of_it s ds T.actions s refl in
     let many = ap length (flat_map-append put_of (T.actions s) ds) ∙ length-append (puts (T.actions s)) (bytes ∷ []) in

@@ -1,33 +1,26 @@
--- With None the machine is the bus with a row for each tenure; with Some it is the one whose rows are used again.
-use Rattle.std.specs.Prelude.{◌≡◌, ℕ, Some, None, List, map, slice_get}
-use Rattle.bus_tenure.specs.Core.{Election, Layout}
+-- With None the machine is the bus with a row for each tenure; with Some it is a protocol whose rows are used again.
+use Rattle.std.specs.Prelude.{◌≡◌, ℕ, ◌+◌, Option, Some, None, List, length, map, slice_get}
+use Rattle.bus_core.specs.Keeping.{reclaimer_in}
+use Rattle.bus_core.specs.Reusing.Keeping.{held_of}
+use Rattle.bus_core.specs.Reusing.Participants.{log_from}
 use Rattle.bus_core.specs.Reusing.Turns.{Participant}
-use Rattle.bus_core.specs.Senders.{apart, again}
-use Rattle.bus_world.specs.Proved.Answers.{Answers}
-use Rattle.bus_world.specs.Proved.CyclicMachines.{CyclicMachine, CyclicTrails, CyclicReached}
-use Rattle.bus_world.specs.Proved.Trails.{Trails as PlainTrails, Reached as PlainReached, trails_grown as plain_grown}
-use Rattle.bus_world.specs.Proved.Machines.{Bus, IsEvent, Happens as PlainHappens}
-use Rattle.bus_world.specs.World.{Event}
+use Rattle.bus_core.specs.Senders.{Sender, apart, again}
+use Rattle.bus_presence.specs.Reclaimers.{Reclaiming}
+use Rattle.bus_tenure.specs.Core.{Core, Election, Layout}
+use Rattle.bus_world.specs.CyclicProtocols.{CyclicProtocol, Led}
+use Rattle.bus_world.specs.Playing.{Answers}
+use Rattle.bus_world.specs.Trails.{Trails as PlainTrails, Reached as PlainReached, trails_grown as plain_grown}
+use Rattle.bus_world.specs.World.{Bus, Event, IsEvent, Happens as PlainHappens}
 use Rattle.bus_world.specs.declared.events.Answer.{Answer}
-use Rattle.bus_machine.specs.Proved.Cyclic.{OwnedCyclicMachine}
 use Rattle.bus_machine.specs.Machine.{Machine, Happens, Trails, trails_grown}
+use Rattle.bus_machine.specs.Promise.{reclamation_of}
 
 -- the bus with a row for each tenure, of a sitting that began with these numbers
 abbrev pub of_bus : {E : Type 0} → List ℕ → Layout → Bus E → Machine E
 of_bus bases x b = record { layout = x; reuse = None; bases = bases; words = b.side.words; home = b.side.home; senders = map apart b.side.senders; receivers = b.receivers; stopped = b.stopped; owners = b.side.owners }
 
--- the bus whose rows are used again, with who took the last pages
-abbrev pub of_cyclic_machine : {E : Type 0} → CyclicMachine E → List ℕ → Machine E
-of_cyclic_machine b owners = record { layout = b.layout; reuse = Some b.rows; bases = b.bases; words = b.words; home = b.home; senders = map again b.participants; receivers = b.receivers; stopped = b.stopped; owners = owners }
-
-abbrev pub of_cyclic : {E : Type 0} → OwnedCyclicMachine E → Machine E
-of_cyclic z = of_cyclic_machine z.machine z.owners
-
 abbrev pub plain_trails : Trails → PlainTrails
 plain_trails T = record { actions = T.actions; heard = T.heard }
-
-abbrev pub cyclic_trails : Trails → CyclicTrails
-cyclic_trails T = record { pins = T.pins; reclaims = T.reclaims; actions = T.actions; heard = T.heard }
 
 -- ---- one event
 -- with a row for each tenure it happens to that bus, is answered alike, and adds the same to the trails
@@ -42,28 +35,34 @@ pub record IsPlainEvent {E : Type 0} (X : Election E) (bases : List ℕ) (x : La
 abbrev pub HappensAtNone : {E : Type 0} → Election E → Type 0
 HappensAtNone {E} X = (bases : List ℕ) (x : Layout) (b : Bus E) (e : Event) (a : Answer) (m : Machine E) → Happens X (of_bus bases x b) e a m → IsPlainEvent X bases x b e a m
 
--- each sender has the sizes of the machine
-abbrev pub AreSized : {E : Type 0} → CyclicMachine E → Type 0
-AreSized {E} b = (p : ℕ) (v : Participant E) → slice_get b.participants p ≡ Some v → (v.core.layout ≡ b.layout) × (v.rows ≡ b.rows)
-
--- and so with rows that are used again: what led to the bus leads to it with what the event adds
-pub record IsCyclicEvent {E : Type 0} (X : Election E) (z : OwnedCyclicMachine E) (e : Event) (a : Answer) (m : Machine E) : Type 0 where
-  pub bus : OwnedCyclicMachine E
-  pub is : m ≡ of_cyclic bus
-  pub sized : AreSized bus.machine
-  pub reached : (T : Trails) → CyclicReached X z.machine (cyclic_trails T) → CyclicReached X bus.machine (cyclic_trails (trails_grown X (of_cyclic z) e a T))
-
-abbrev pub HappensAtSome : {E : Type 0} → Election E → Type 0
-HappensAtSome {E} X = (z : OwnedCyclicMachine E) (e : Event) (a : Answer) (m : Machine E) → AreSized z.machine → Happens X (of_cyclic z) e a m → IsCyclicEvent X z e a m
-
 -- ---- what is reached
 pub record IsPlain {E : Type 0} (X : Election E) (m : Machine E) (T : Trails) : Type 0 where
   pub bus : Bus E
   pub is : m ≡ of_bus m.bases m.layout bus
   pub reached : PlainReached X m.bases m.layout bus (plain_trails T)
 
-pub record IsCyclicOf {E : Type 0} (X : Election E) (m : Machine E) (T : Trails) : Type 0 where
-  pub bus : OwnedCyclicMachine E
-  pub is : m ≡ of_cyclic bus
-  pub sized : AreSized bus.machine
-  pub reached : CyclicReached X bus.machine (cyclic_trails T)
+-- ---- with rows that are used again
+abbrev pub core_in : {E : Type 0} → Option (Sender E) → Option (Core E)
+core_in None = None
+core_in (Some v) = Some v.core
+
+-- as a protocol, with the reclaimer of who holds the page, and who took the pages
+abbrev pub protocol_of : {E : Type 0} → Machine E → Option Reclaiming → List ℕ → CyclicProtocol E
+protocol_of m reclaimer owners = record {
+  bases = m.bases;
+  reclamation = reclamation_of m reclaimer;
+  home = m.home;
+  senders = λ p. core_in (slice_get m.senders p);
+  receivers = slice_get m.receivers;
+  owners = owners;
+}
+
+-- the trails lead to its protocol, with some list of owners
+pub record IsLed {E : Type 0} (X : Election E) (rows : ℕ) (m : Machine E) (T : Trails) : Type 0 where
+  pub reuse : m.reuse ≡ Some rows
+  pub words : length m.words ≡ log_from m.layout rows + m.layout.capacity
+  pub participants : (p : ℕ) (v : Sender E) → slice_get m.senders p ≡ Some v → (u : Participant E) × (v ≡ again u) × (u.rows ≡ rows)
+  pub owners : List ℕ
+  pub reclaimer : Option Reclaiming
+  pub holder : (p : ℕ) (v : Sender E) (t : ℕ) → slice_get m.senders p ≡ Some v → held_of v.core.phase ≡ Some t → reclaimer_in v.reuse ≡ reclaimer
+  pub led : Led X m.layout rows (protocol_of m reclaimer owners) T.pins T.actions T.heard

@@ -1,2 +1,0 @@
-pub mod CyclicLaws
-pub mod ViewLaws
