@@ -18,7 +18,8 @@ use Rattle.bus_core.specs.Senders.{Sender, Situation, Does, Scans, Clears, again
 use Rattle.bus_core.specs.Table.{line, line_now}
 use Rattle.bus_core.specs.Reusing.Keeping.{held_of}
 use Rattle.bus_core.specs.Reusing.Participants.{Due, Goes, place_for, log_from, due_beside, due_home, due_reclaimed, reclaim_due}
-use Rattle.bus_core.specs.Reusing.Turns.{Participant, due, op_due, participant_due, sizes_of, queue_seen, answer_due}
+use Rattle.bus_core.specs.Reusing.Turns.{Participant, sizes_of, queue_seen}
+use Rattle.bus_core.specs.Proved.ParticipantTurns.{due, op_due, participant_due, answer_due}
 use Rattle.bus_presence.specs.Reclamation.{presence_at}
 use Rattle.bus_presence.specs.Reclaimers.{Reclaiming}
 use Rattle.bus_presence.specs.Pins.{step_at}
@@ -32,12 +33,12 @@ use Rattle.bus_world.proofs.EventTrails.{put_taken, mark_adds}
 use Rattle.bus_world.proofs.CyclicMachineLaws.{placed_found}
 use Rattle.bus_world.proofs.Serving.{Serves}
 use Rattle.bus_world.proofs.Stopping.{shown_there}
-use Rattle.bus_world.specs.Bus.{IsLayout}
+use Rattle.bus_world.specs.World.{IsLayout, Event, Put, Ask, Turn, Recv, Stop, IsNewReceiver}
 use Rattle.bus_world.specs.Headline.{HasPut, HasMarked}
-use Rattle.bus_world.specs.Trails.{step_action, put_actions, mark_actions}
+use Rattle.bus_world.specs.Trails.{step_action, put_actions, mark_actions, actions_with, answers_with}
 use Rattle.bus_world.specs.Turning.{words_after, number_found, home_moved, after_step}
-use Rattle.bus_world.specs.World.{Event, Put, Ask, Turn, Recv, Stop, new_core, IsNewReceiver}
-use Rattle.bus_world.specs.CyclicProtocols.{CyclicProtocol, Led, NewProtocol, PutIn, MarkedIn, Heard, word_found, actions_with, answers_with, due_actions, trails_with}
+use Rattle.bus_world.specs.Proved.Machines.{new_core}
+use Rattle.bus_world.specs.Proved.CyclicProtocols.{CyclicProtocol, Led, NewProtocol, PutIn, MarkedIn, Heard, word_found, due_actions, trails_with}
 use Rattle.bus_world.specs.declared.events.Answer.{Answer}
 use Rattle.bus_world.specs.declared.events.Answer.TheVariants as answer
 use Rattle.bus_machine.proofs.AtNone.{close_taken}

@@ -22,7 +22,8 @@ use Rattle.bus_core.specs.Keeping.{reclaimer_in}
 use Rattle.bus_core.specs.Proved.Bridge.{move_of}
 use Rattle.bus_core.specs.Reusing.Participants.{Due, Pins, Reclaims, Goes, due_of, due_beside, due_home, due_reclaimed, reclaim_due, sizes_with, place_for, core_looked, core_seen, core_going, pin_going, reclaimer_going, answer_going}
 use Rattle.bus_core.specs.Reusing.Keeping.{held_of}
-use Rattle.bus_core.specs.Reusing.Turns.{Participant, due, op_due, on_place, op_placed, participant_due, answer_due, queue_seen}
+use Rattle.bus_core.specs.Reusing.Turns.{Participant, on_place, op_placed, queue_seen}
+use Rattle.bus_core.specs.Proved.ParticipantTurns.{due, op_due, participant_due, answer_due}
 use Rattle.bus_core.specs.Senders.{Sender, again}
 use Rattle.bus_tenure.specs.Core.{Core, Election, stage_at}
 use Rattle.bus_tenure.specs.Situations.{Situation, IsClosed, IsIdle, IsSpent, LooksAtStage, Elects, TakesPage, AwaitsPage, StoresWord, StoresLength, GivesBack, HasHanded, PageMove, situation_of, line_of, op_at, core_begun, core_elected, waits}
@@ -31,12 +32,14 @@ use Rattle.bus_tenure.specs.declared.phases.Reason.{Reason}
 use Rattle.bus_tenure.specs.declared.phases.Phase.TheVariants as phase
 use Rattle.bus_tenure.specs.declared.turns.Turn.{Turn as Answered}
 use Rattle.bus_tenure.proofs.Situated.{tells}
-use Rattle.bus_world.specs.Bus.{IsLayout, Part, Fits, standing_of}
+use Rattle.bus_world.specs.World.{IsLayout}
+use Rattle.bus_world.specs.Proved.Sending.{Part, Fits, standing_of}
 use Rattle.bus_world.specs.Headline.{Action}
-use Rattle.bus_world.specs.Tenures.Standing.{Holds}
-use Rattle.bus_world.specs.Turning.{words_after, number_found, home_moved, core_moved, after_step, home_after}
-use Rattle.bus_world.specs.CyclicProtocols.{CyclicProtocol, Led, Turned, AnswersDue, due_in, due_actions, actions_with, trails_with, protocol_after, words_stepped, word_found}
-use Rattle.bus_world.specs.World.{is_open, can_put, can_close}
+use Rattle.bus_world.specs.Proved.Tenures.Standing.{Holds}
+use Rattle.bus_world.specs.Turning.{words_after, number_found, home_moved, core_moved, after_step}
+use Rattle.bus_world.specs.Proved.Machines.{home_after, is_open, can_put, can_close}
+use Rattle.bus_world.specs.Proved.CyclicProtocols.{CyclicProtocol, Led, Turned, AnswersDue, due_in, due_actions, trails_with, protocol_after, words_stepped, word_found}
+use Rattle.bus_world.specs.Trails.{actions_with}
 use Rattle.bus_world.proofs.Serving.{Serves}
 use Rattle.bus_world.proofs.CyclicMachineLaws.{same_register, placed_found, due_goes}
 use Rattle.bus_world.proofs.CyclicProtocolLaws.{HasKept, led_kept}

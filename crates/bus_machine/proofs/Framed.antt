@@ -35,11 +35,14 @@ use Rattle.bus_world.proofs.CyclicProtocolHears.{placed}
 use Rattle.bus_world.proofs.LogLaws.{length-read}
 use Rattle.bus_world.proofs.Serving.{Serves}
 use Rattle.bus_world.proofs.CyclicProtocolLaws.{HasKept, protocol_promised}
-use Rattle.bus_world.specs.Bus.{IsLayout, Sending}
+use Rattle.bus_world.specs.World.{IsLayout}
+use Rattle.bus_world.specs.Proved.Sending.{Sending}
 use Rattle.bus_world.specs.Log.{words_read_from}
-use Rattle.bus_world.specs.Trails.{Reached as PlainReached, Takers}
-use Rattle.bus_world.specs.World.{Bus, IsReceiver}
-use Rattle.bus_world.specs.CyclicProtocols.{CyclicProtocol}
+use Rattle.bus_world.specs.Proved.Trails.{Reached as PlainReached}
+use Rattle.bus_world.specs.Trails.{Takers}
+use Rattle.bus_world.specs.Proved.Machines.{Bus}
+use Rattle.bus_world.specs.Proved.Receiving.{IsReceiver}
+use Rattle.bus_world.specs.Proved.CyclicProtocols.{CyclicProtocol}
 use Rattle.bus_world.specs.Proved.Invariants.{given_at}
 use Rattle.bus_world.specs.Proved.KeptProtocols.{IsKeptProtocol}
 use Rattle.bus_machine.proofs.AtNone.{made_there, reached_at_none}

@@ -33,10 +33,11 @@ use Rattle.bus_world.proofs.Serving.{Serves}
 use Rattle.bus_world.proofs.TenuresLaws.{within_its_row}
 use Rattle.bus_world.proofs.ViewingLaws.{read-list}
 use Rattle.bus_world.proofs.Stopping.{shown_there}
-use Rattle.bus_world.specs.Bus.{IsLayout, Part, Fits, standing_of, stands_at, least_of}
+use Rattle.bus_world.specs.World.{IsLayout, Event, Put, Ask, Turn, Recv, Stop}
+use Rattle.bus_world.specs.Proved.Sending.{Part, Fits, standing_of, stands_at, least_of}
 use Rattle.bus_world.specs.Headline.{order_given}
-use Rattle.bus_world.specs.Tenures.Standing.{Runs}
-use Rattle.bus_world.specs.World.{Event, Put, Ask, Turn, Recv, Stop, IsReceiver}
+use Rattle.bus_world.specs.Proved.Tenures.Standing.{Runs}
+use Rattle.bus_world.specs.Proved.Receiving.{IsReceiver}
 use Rattle.bus_world.specs.declared.events.Answer.{Answer}
 use Rattle.bus_world.specs.Proved.Invariants.{given_at}
 use Rattle.bus_machine.proofs.AtNone.{event_reuse}

@@ -7,10 +7,11 @@ use Rattle.bus_core.specs.Reusing.Turns.{Participant}
 use Rattle.bus_core.specs.Senders.{Sender, apart, again}
 use Rattle.bus_presence.specs.Reclaimers.{Reclaiming}
 use Rattle.bus_tenure.specs.Core.{Core, Election, Layout}
-use Rattle.bus_world.specs.CyclicProtocols.{CyclicProtocol, Led}
-use Rattle.bus_world.specs.Playing.{Answers}
-use Rattle.bus_world.specs.Trails.{Trails as PlainTrails, Reached as PlainReached, trails_grown as plain_grown}
-use Rattle.bus_world.specs.World.{Bus, Event, IsEvent, Happens as PlainHappens}
+use Rattle.bus_world.specs.Proved.CyclicProtocols.{CyclicProtocol, Led}
+use Rattle.bus_world.specs.Proved.Answers.{Answers}
+use Rattle.bus_world.specs.Proved.Trails.{Trails as PlainTrails, Reached as PlainReached, trails_grown as plain_grown}
+use Rattle.bus_world.specs.Proved.Machines.{Bus, IsEvent, Happens as PlainHappens}
+use Rattle.bus_world.specs.World.{Event}
 use Rattle.bus_world.specs.declared.events.Answer.{Answer}
 use Rattle.bus_machine.specs.Machine.{Machine, Happens, Trails, trails_grown}
 use Rattle.bus_machine.specs.Promise.{reclamation_of}
