@@ -31,4 +31,3 @@ pub mod CyclicProtocolNotes
 pub mod CyclicProtocolHears
 pub mod CyclicProtocolLaws
 pub mod CyclicMachineLaws
-pub mod CyclicMachineFits

@@ -1,5 +1,5 @@
 -- Every event keeps the bus lawful, and a lawful bus keeps its promises.
-use Rattle.std.proofs.Common.{◌≡◌, ◌≢◌, ℕ, zero, suc, ◌+◌, ◌<◌, ◌^◌, Bool, true, false, cond, ◌&&◌, ◌==◌, nat_lt, nat_le, Option, Some, None, ◌⊎◌, inl, inr, List, [], ◌∷◌, ◌++◌, length, map, take, slice_get, slice_index, slice_set, arith, refl, sym, ◌∙◌, ap, subst, append_assoc}
+use Rattle.std.proofs.Common.{◌≡◌, ◌≢◌, ℕ, zero, suc, ◌+◌, ◌<◌, Bool, true, false, cond, ◌&&◌, ◌==◌, nat_lt, nat_le, Option, Some, None, ◌⊎◌, inl, inr, List, [], ◌∷◌, ◌++◌, length, map, take, slice_get, slice_index, slice_set, arith, refl, sym, ◌∙◌, ap, subst, append_assoc}
 use Rattle.std.specs.Prelude.{All}
 use Rattle.std.proofs.lemmas.Bool.{and_parts, cases_eq, cases_lt}
 use Rattle.std.proofs.lemmas.Bool.Decides.{eqb_tells}
@@ -10,7 +10,6 @@ use Rattle.bus_register.specs.Protocol.{Protocol, Laws}
 use Rattle.bus_batch.specs.declared.batches.Phase.TheVariants.{Marking}
 use Rattle.bus_batch.specs.declared.messages.Mark.{Mark}
 use Rattle.bus_batch.specs.declared.messages.Item.{Item}
-use Rattle.bus_batch.specs.Batches.{next_of}
 use Rattle.bus_batch.specs.Frames.{IsBadWord, Frame, order_of, log_words, frame_words, log_pieces}
 use Rattle.bus_tenure.specs.Core.{Core, Election, Layout, log_at, words_of, is_empty}
 use Rattle.bus_tenure.specs.Situations.{situation_of, line_of}
@@ -52,9 +51,6 @@ same_side {base} P x frames side side' e h = subst (λ z. IsSide base P x z fram
 module _ {E : Type 0} (X : Election E) (P : Protocol E (Unit {0}) ℕ) (laws : Laws X.op X.fed P OneOwner) (x : Layout) (ok : IsLayout x) (width : x.width ≡ P.width x.senders)
     (starts : (n me at : ℕ) → X.started n me x.rounds at ≡ P.started n me tt at) (owner_is : (e : E) → X.owner e ≡ P.output e) where
   module _ {base : ℕ → ℕ} (side : Side E) (frames : List Frame) (h : IsSide base P x side frames) (p : ℕ) (c : Core E) (old : slice_get side.senders p ≡ Some c) where
-    pub numbers_fit : next_of c.queue < 2 ^ 48
-    numbers_fit = accepting.numbers_fit X P laws x ok width (slice_index side.words) side.home side.owners frames p (slice_get side.senders) h.sending c old
-
     -- what it accepts keeps what the senders keep
     accept_lawful : (a : Accepted) → AreAccepted (a ∷ []) → IsSide base P x (with_sender side p (accept c a)) frames
     accept_lawful a each = record {
