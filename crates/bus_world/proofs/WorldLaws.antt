@@ -61,13 +61,10 @@ module _ {E : Type 0} (X : Election E) (P : Protocol E (Unit {0}) ℕ) (laws : L
 
 -- ---- receivers
 module _ {base : ℕ → ℕ} (x : Layout) (frames : List Frame) (words : ℕ → ℕ) (log : Logged base x.senders x.capacity (log_at x) words (words 0) frames) (v : Receiving) (h : IsReceiver x frames (words 0) v) where
-  size_is : length (log_words frames) ≡ words 0
-  size_is = length-logged log
-
   pub received : HasReceived (take v.place (log_words frames)) (take v.place (log_pieces frames)) v
   received = record {
     read = subst (λ z. HasRead z (take v.place (log_words frames)) (take v.place (log_pieces frames)) v.frames) (sym h.senders) h.receives.has_read;
-    place = sym (length-take v.place (log_words frames) ∙ (let a = h.receives.place_below in let b = h.receives.known_below in let d = size_is in omega arith));
+    place = sym (length-take v.place (log_words frames) ∙ (let a = h.receives.place_below in let b = h.receives.known_below in let d = length-logged log in omega arith));
   }
 
   module _ (answer : RecvTurn) (next : Receiving) where
@@ -94,7 +91,7 @@ module _ {base : ℕ → ℕ} (x : Layout) (frames : List Frame) (words : ℕ �
         ap (λ z. slice_index z v.place) (sym log.words_are) ∙ index-read words (log_at x) (words 0) v.place (let a = h.receives.known_below in omega arith) in
         elim (s.at_word ne (take v.place (log_words frames)) (take v.place (log_pieces frames)) received) [
           | inl bad ↦ absurd (subst (λ z. IsBadWord z (take v.place (log_words frames)) (words (log_at x + v.place))) h.senders bad.0
-              (goes_on x.senders frames (words 0) v.place v.known v.frames h.receives log.lawful size_is more (words (log_at x + v.place)) word_is))
+              (goes_on x.senders frames (words 0) v.place v.known v.frames h.receives log.lawful (length-logged log) more (words (log_at x + v.place)) word_is))
           | inr good ↦
               let senders_now : next.frames.senders ≡ x.senders = s.senders ∙ h.senders in
               let n = good.new_is in
@@ -104,7 +101,7 @@ module _ {base : ℕ → ℕ} (x : Layout) (frames : List Frame) (words : ℕ �
                 len_at = ap (λ (z : Receiving). z.length_at) n ∙ h.len_at;
                 log_words = ap (λ (z : Receiving). z.log_words) n ∙ h.log_words;
                 receives = subst (λ z. Receives x.senders frames (words 0) z next.known next.frames) (sym (ap (λ (z : Receiving). z.place) n)) (subst (λ z. Receives x.senders frames (words 0) (v.place + 1) z next.frames) (sym (ap (λ (z : Receiving). z.known) n))
-                    (Receives-word x.senders frames (words 0) v.place v.known v.frames h.receives log.lawful size_is more (words (log_at x + v.place)) word_is good.found next.frames
+                    (Receives-word x.senders frames (words 0) v.place v.known v.frames h.receives log.lawful (length-logged log) more (words (log_at x + v.place)) word_is good.found next.frames
                     (subst (λ z. HasRead z (take v.place (log_words frames) ++ words (log_at x + v.place) ∷ []) (take v.place (log_pieces frames) ++ good.found ∷ []) next.frames) senders_now good.received.read)));
               }
         ]
