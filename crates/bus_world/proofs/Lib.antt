@@ -30,4 +30,4 @@ pub mod CyclicProtocolWords
 pub mod CyclicProtocolNotes
 pub mod CyclicProtocolHears
 pub mod CyclicProtocolLaws
-pub mod CyclicMachineLaws
+pub mod PlacedSteps
