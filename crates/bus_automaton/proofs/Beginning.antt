@@ -10,8 +10,7 @@ use Rattle.bus_automaton.specs.Lawful.{Opens}
 use Rattle.bus_automaton.specs.Processes.{IsCounted}
 use Rattle.bus_register.specs.Proved.TableLaws.{some_or_none, here_not}
 use Rattle.bus_tenure.specs.Core.{Election, Layout}
-use Rattle.bus_world.specs.Bus.{IsLayout}
-use Rattle.bus_world.specs.World.{AreBases, first_page, no_stops}
+use Rattle.bus_world.specs.World.{IsLayout, AreBases, first_page, no_stops}
 use Rattle.bus_automaton.specs.OneAutomaton.{bus_of}
 use Rattle.bus_automaton.specs.OneProcess.{process_of}
 

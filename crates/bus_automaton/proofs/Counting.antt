@@ -9,7 +9,7 @@ use Rattle.bus_tenure.specs.declared.phases.Phase.TheVariants as phase
 use Rattle.bus_world.proofs.Accepting.{sent_short}
 use Rattle.bus_world.proofs.Framing.{front_lawful}
 use Rattle.bus_world.proofs.LogLaws.{log_words-append}
-use Rattle.bus_world.specs.Bus.{Fits}
+use Rattle.bus_world.specs.Proved.Sending.{Fits}
 
 -- the number of the first message in its batch, of which seventeen are at most that many times its base and sixteen times the words
 pub first_below : {E : Type 0} (base : ℕ → ℕ) (senders : ℕ) (words : ℕ → ℕ) (frames : List Frame) → AreFrames senders frames → (c : Core E) (ph : Phase E)

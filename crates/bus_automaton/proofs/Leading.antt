@@ -20,10 +20,9 @@ use Rattle.bus_register.specs.declared.registers.Op.{Op}
 use Rattle.bus_tenure.specs.Core.{Election, Layout}
 use Rattle.bus_tenure.specs.declared.turns.Turn.{Turn as Answered}
 use Rattle.bus_world.specs.Headline.{Action, HasPut, HasMarked}
-use Rattle.bus_world.specs.Trails.{step_action}
+use Rattle.bus_world.specs.Trails.{step_action, actions_with}
 use Rattle.bus_world.specs.Turning.{words_after, number_found}
 use Rattle.bus_world.specs.World.{Put, Ask, Turn, is_set, no_stops}
-use Rattle.bus_world.specs.CyclicProtocols.{actions_with}
 use Rattle.bus_world.specs.declared.events.Answer.TheVariants as answer
 use Rattle.bus_machine.specs.Machine.{Machine, Trails, Reached, Then, Happens, IsOnWord, going, with_sender, put_in, mark_in, machine_after}
 use Rattle.bus_machine.specs.Machine.{found, turn_answer, trails_grown, turn_trails, turn_grown, entered}

@@ -26,7 +26,7 @@ use Rattle.bus_world.proofs.CyclicMachineFits as fits
 use Rattle.bus_world.proofs.CyclicMachineLaws.{IsCyclicLayout, IsLed}
 use Rattle.bus_world.proofs.EventTrails as plain
 use Rattle.bus_world.proofs.Serving.{Serves}
-use Rattle.bus_world.specs.Bus.{standing_of, stands_at}
+use Rattle.bus_world.specs.Proved.Sending.{standing_of, stands_at}
 use Rattle.bus_world.specs.Proved.CyclicMachines.{CyclicMachine}
 use Rattle.bus_world.specs.Trails.{put_actions, mark_actions}
 use Rattle.bus_world.specs.World.{Event, Put, Ask, Turn, Recv, Stop}

@@ -7,7 +7,7 @@ use Rattle.bus_core.specs.declared.limits.TheConstants.{LEAST_ROWS_AGAIN}
 use Rattle.bus_machine.specs.Playing.{layout_of, IsServed, ShapeOf, MakeRefused, AfterRefused, MakeRefusedAfter}
 use Rattle.bus_machine.specs.Promise.{HasRows}
 use Rattle.bus_register.specs.Protocol.{Protocol}
-use Rattle.bus_world.specs.Bus.{IsLayout}
+use Rattle.bus_world.specs.World.{IsLayout}
 use Rattle.bus_world.specs.declared.shapes.MakeFault.{MakeFault}
 use Rattle.bus_world.specs.declared.shapes.MakeFault.TheVariants as make
 use Rattle.bus_world.specs.declared.shapes.Shape.{Shape}

@@ -31,12 +31,12 @@ use Rattle.bus_tenure.specs.declared.phases.Phase.{Phase}
 use Rattle.bus_tenure.specs.declared.phases.Phase.TheVariants as phase
 use Rattle.bus_world.proofs.LogLaws.{length-read}
 use Rattle.bus_world.proofs.Serving.{Serves}
-use Rattle.bus_world.specs.Bus.{IsLayout, Fits, Part}
+use Rattle.bus_world.specs.World.{IsLayout, Turn}
+use Rattle.bus_world.specs.Proved.Sending.{Fits, Part}
 use Rattle.bus_world.specs.Headline.{Action, Promises, puts}
 use Rattle.bus_world.specs.Log.{Knows}
-use Rattle.bus_world.specs.Tenures.Stage.{Open, Held}
+use Rattle.bus_world.specs.Proved.Tenures.Stage.{Open, Held}
 use Rattle.bus_world.specs.Waiting.{waiting_at}
-use Rattle.bus_world.specs.World.{Turn}
 use Rattle.bus_world.specs.declared.events.Answer.TheVariants as answer
 use Rattle.bus_automaton.proofs.Counting.{first_below}
 use Rattle.bus_automaton.proofs.Leading.{takes_message, takes_mark, takes_turn, next, next_reached, takes_step}

@@ -3,8 +3,7 @@ use Rattle.std.specs.Prelude.{◌≡◌, ℕ, Option, List, [], slice_get, slice
 use Rattle.bus_tenure.specs.Core.{Election, Layout}
 use Rattle.bus_core.specs.Keeping.{new_sender}
 use Rattle.bus_core.specs.Senders.{Sender}
-use Rattle.bus_world.specs.Bus.{IsLayout}
-use Rattle.bus_world.specs.World.{no_stops}
+use Rattle.bus_world.specs.World.{IsLayout, no_stops}
 use Rattle.bus_machine.specs.Machine.{Machine, Trails, Reached}
 use Rattle.bus_machine.specs.Promise.{HasRows}
 use Rattle.bus_automaton.specs.Processes.{Automaton}

@@ -8,7 +8,7 @@ ghost use Rattle.bus_tenure.specs.Elections.{Elector, election_of, layout_with};
 ghost use Rattle.bus_tenure.specs.declared.turns.Turn.{Turn};
 ghost use Rattle.bus_tenure.specs.declared.turns.Turn.TheVariants as turn;
 ghost use Rattle.bus_tenure.specs.declared.pages.Page.{Page};
-ghost use Rattle.bus_world.specs.Bus.{IsLayout};
+ghost use Rattle.bus_world.specs.World.{IsLayout};
 ghost use Rattle.bus_world.specs.World.{AreBases};
 ghost use Rattle.bus_world.specs.declared.limits.TheConstants.{FIRST_NUMBERS};
 ghost use Rattle.bus_world.specs.declared.shapes.MakeFault.{MakeFault};

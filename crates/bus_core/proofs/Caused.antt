@@ -1,9 +1,7 @@
 -- Each kind of step has its cause.
 use Rattle.std.specs.Prelude.{◌⊎◌}
 use Rattle.std.proofs.Common.{◌≡◌, inl, inr, ℕ, Bool, true, Option, Some, None, IfSome, IsSomeAnd, is_some, refl, sym, ◌∙◌, ap, subst}
-use Rattle.std.proofs.lemmas.Option.{IfSome_then}
 use Rattle.bus_register.specs.declared.kinds.Kind.{Kind}
-use Rattle.bus_register.specs.declared.kinds.Kind.TheVariants as kind
 use Rattle.bus_register.specs.declared.registers.Op.{Op}
 use Rattle.bus_register.specs.declared.registers.SenderNo.{SenderNo}
 use Rattle.bus_register.specs.Protocol.{Protocol}
@@ -14,13 +12,13 @@ use Rattle.bus_ownerbits.specs.Sizes.{decision_cost}
 use Rattle.bus_binconsensus.specs.Decisions.{decisions}
 use Rattle.bus_presence.specs.Reclaimers.{Reclaiming}
 use Rattle.bus_presence.specs.declared.pins.Pin.TheVariants.{Announcing, Validating, Unpinning, Invalidated}
-use Rattle.bus_tenure.specs.Causes.{HasCause as HasOwnCause, LooksForTenure, IsElected, LeavesPage, HasHandedOn}
+use Rattle.bus_tenure.specs.Causes.{LooksForTenure, IsElected, LeavesPage, HasHandedOn}
 use Rattle.bus_tenure.specs.Core.{Core, Election, row_at}
 use Rattle.bus_tenure.specs.Elections.{Elector, ElectorKeeps, elections, election_with}
 use Rattle.bus_tenure.specs.Keeping.{SenderInvariant, PhaseKeeps, IsElecting}
 use Rattle.bus_tenure.specs.Situations.{Situation as Own, IsClosed, IsIdle, IsSpent, LooksAtStage, Elects, TakesPage, AwaitsPage, StoresWord, StoresLength, GivesBack, HasHanded, situation_at, situation_of}
 use Rattle.bus_tenure.specs.declared.phases.Phase.TheVariants.{Electing}
-use Rattle.bus_tenure.proofs.Caused.{word_cause, length_cause, back_cause, timely, election_cause}
+use Rattle.bus_tenure.proofs.Caused.{word_cause, length_cause, back_cause, timely}
 use Rattle.bus_tenure.proofs.Looking.{looks_at_rest}
 use Rattle.bus_tenure.proofs.Situated.{tells}
 use Rattle.bus_core.specs.Causes.{HasCause, IsCaused, StandsInside, StandsInRow, EntersTenure, LooksAgain, LeavesTenure, AsLoser, AsHolder, AsLate, MakesRowReady, AsksSender, ClearsWord, ReturnsPage}
@@ -32,6 +30,7 @@ use Rattle.bus_core.specs.Reusing.Telling.{Returns, Gives, Says}
 use Rattle.bus_core.specs.Senders.{Sender, Situation, Does, Announces, Validates, Unpins, Withdraws, Scans, Clears, participant_of, situation}
 use Rattle.bus_core.specs.Table.{line}
 use Rattle.bus_core.specs.declared.reuses.Reuse.{Reuse}
+use Rattle.bus_core.proofs.ElectionCauses.{election_cause}
 use Rattle.bus_core.proofs.Reusing.Tells.{ChoosesItself}
 use Rattle.bus_core.proofs.Situated.{Reclaims, GoesCalmly, situation_tells, some_kept, stands_in, calm_away, goes_away, held_reclaimer, row_ready}
 
@@ -105,35 +104,13 @@ module _ {E : Type 0} (X : Election E) (width : ℕ) (Belongs : ℕ → E → Ty
       by (Some r) away ready = record { away = away; returns = why; tenure = t; held = held; ready = ready }
 
 -- ---- in an election
-module _ {S : Type 0} (P : Protocol S Bool Verdict) (v : Sender (Elector S)) (t : ℕ) (e : Elector S)
-    (elects : v.core.phase ≡ Electing t e) where
+module _ {E : Type 0} (v : Sender E) (t : ℕ) (e : E) (elects : v.core.phase ≡ Electing t e) where
   -- where rows are used again it stands in its tenure
   stands_inside : StandsIn v.reuse t → StandsInside v
   stands_inside w = by v.reuse w where
     by : (r : Option Reuse) → StandsIn r t → IfSome r (λ r. StandsInRow (participant_of v.core r))
     by None w = tt
     by (Some r) w = record { tenure = t; election = e; pin = w; elects = elects }
-
-  -- so what is a cause in a tenure is one; whose election runs holds no page and does not rest
-  standing_cause : StandsInside v → (k : Kind) → HasOwnCause P v.core k → HasCause P v k
-  standing_cause stands kind.LoadStage c = absurd (let bad = sym elects ∙ c.rests in cc)
-  standing_cause stands kind.Announce c = (stands, c)
-  standing_cause stands kind.WriteFirst c = (stands, c)
-  standing_cause stands kind.ReadFirst c = (stands, c)
-  standing_cause stands kind.WriteSecond c = (stands, c)
-  standing_cause stands kind.ReadSecond c = (stands, c)
-  standing_cause stands kind.SetMark c = (stands, c)
-  standing_cause stands kind.ReadOtherMark c = (stands, c)
-  standing_cause stands kind.Vote c = (stands, c)
-  standing_cause stands kind.ReadVotes c = (stands, c)
-  standing_cause stands kind.Fallback c = (stands, c)
-  standing_cause stands kind.ReadAnnouncement c = (stands, c)
-  standing_cause stands kind.TakePage c = (stands, c)
-  standing_cause stands kind.StoreLogWord c = absurd (let bad = sym elects ∙ c.holds.holds in cc)
-  standing_cause stands kind.StoreLength c = absurd (let bad = sym elects ∙ c.holds.holds in cc)
-  standing_cause stands kind.GivePageBack c =
-      absurd (elim c [ inl l ↦ (let bad = sym elects ∙ l.holds in cc) | inr h ↦ (let bad = sym elects ∙ h.gives in cc) ])
-  standing_cause stands k c = absurd c
 
 -- ---- each situation
 module _ {S : Type 0} (kind_of : S → Option Kind) (op : S → ℕ → Option Op) (fed : S → ℕ → ℕ → S) (P : Protocol S Bool Verdict)
@@ -189,11 +166,11 @@ module _ {S : Type 0} (kind_of : S → Option Kind) (op : S → ℕ → Option O
         (away LooksAtStage i (subst IsOutside (sym looks.rests) tt), looks)
     by_situation (Does (Elects t e)) i =
         let at = (tells X v.core (Elects t e) (situation_tells X v (Does (Elects t e)) i).0).0 in
-        IfSome_then (X.kind_of e) (election_cause P v.core t e at k kind_of (timely P kind_of op named own named_for) (X.kind_of e) refl)
-        (standing_cause P v t e at (stands_inside P v t e at (stands_in width Belongs v.core v.reuse g t e at)))
+        election_cause P v t e at k (stands_inside v t e at (stands_in width Belongs v.core v.reuse g t e at)) kind_of
+        (timely P kind_of op named own named_for) (X.kind_of e) refl
     by_situation (Does (TakesPage t)) i =
         let w = takes_cause v.core k t (situation_tells X v (Does (TakesPage t)) i).0 in
-        (stands_inside P v w.tenure w.election w.elects (stands_in width Belongs v.core v.reuse g w.tenure w.election w.elects), w)
+        (stands_inside v w.tenure w.election w.elects (stands_in width Belongs v.core v.reuse g w.tenure w.election w.elects), w)
     by_situation (Does (AwaitsPage t)) i = tt
     by_situation (Does (StoresWord t page stored)) i =
         let here = (situation_tells X v (Does (StoresWord t page stored)) i).0 in

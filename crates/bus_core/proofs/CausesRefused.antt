@@ -1,5 +1,5 @@
 -- Each of these is no cause.
-use Rattle.std.proofs.Common.{◌≡◌, ℕ, ◌+◌, ◌<◌, ◌≤◌, Bool, Some, None, arith, sym, ◌∙◌, ap, subst}
+use Rattle.std.proofs.Common.{◌≡◌, inl, inr, ℕ, ◌+◌, ◌<◌, ◌≤◌, Bool, true, false, Some, None, arith, sym, ◌∙◌, ap, subst}
 use Rattle.std.proofs.lemmas.Bool.{true≢false}
 use Rattle.std.proofs.lemmas.Option.{same_Some}
 use Rattle.bus_register.specs.declared.kinds.Kind.{Kind}
@@ -8,11 +8,15 @@ use Rattle.bus_register.specs.Protocol.{Protocol}
 use Rattle.bus_adoptcommit.specs.declared.verdicts.Verdict.{Verdict}
 use Rattle.bus_presence.specs.Reclaimers.{Reclaiming}
 use Rattle.bus_presence.specs.Reclamation.{IsReady, row_of}
-use Rattle.bus_presence.specs.declared.pins.Pin.TheVariants.{Away, Announcing, Pinned, Unpinning}
-use Rattle.bus_tenure.specs.Core.{Core}
+use Rattle.bus_presence.specs.declared.pins.Pin.TheVariants.{Away, Pinned, Validating, Unpinning}
+use Rattle.bus_ownerbits.specs.Election.{fits_bits}
+use Rattle.bus_coinconc.specs.declared.conciliators.Stage.{Stage}
+use Rattle.bus_tenure.specs.Causes.{IsInRatifier, IsInConciliator, LeavesPage}
+use Rattle.bus_tenure.specs.Core.{Core, frame_len}
+use Rattle.bus_tenure.specs.declared.pages.Page.{Page}
+use Rattle.bus_tenure.specs.declared.phases.Phase.{Phase}
 use Rattle.bus_tenure.specs.Elections.{Elector, elections}
-use Rattle.bus_tenure.specs.declared.phases.Phase.TheVariants.{Resting}
-use Rattle.bus_tenure.proofs.Refused.{refuses_causes}
+use Rattle.bus_tenure.specs.declared.phases.Phase.TheVariants.{Resting, Holding}
 use Rattle.bus_core.specs.Causes.{HasCause, StandsInside, StandsInRow, LeavesTenure, AsLoser, AsHolder, AsLate}
 use Rattle.bus_core.specs.CausesRefuse.{IsOfElection, RefusesOwn, RefusesApart, RefusesAgain, RefusesCauses}
 use Rattle.bus_core.specs.Keeping.{sender}
@@ -21,16 +25,61 @@ use Rattle.bus_core.specs.Reusing.Participants.{sizes_with}
 use Rattle.bus_core.specs.Reusing.Turns.{Participant}
 use Rattle.bus_core.specs.Senders.{Sender, participant_of}
 use Rattle.bus_core.specs.declared.reuses.Reuse.{Reuse}
-use Rattle.bus_core.proofs.Refused.{same_election, none_not}
+use Rattle.bus_core.proofs.Refused.{same_election, same_page, same_tenure, none_not}
 
 -- one pin has one tenure, where it stands
 same_pinned : (t u : ℕ) → Pinned t ≡ Pinned u → t ≡ u
 same_pinned t u i = cc
 
--- or is to stand
-same_announcing : (t u : ℕ) → Announcing t ≡ Announcing u → t ≡ u
-same_announcing t u i = cc
+-- or is looked at again
+same_validating : (t u : ℕ) → Validating t ≡ Validating u → t ≡ u
+same_validating t u i = cc
 
+-- ---- a page that is held
+-- one phase has so many words stored
+same_stored : {E : Type 0} (t u : ℕ) (p q : Page) (a b : ℕ) (c d : Bool) → ◌≡◌ {A = Phase E} (Holding t p a c) (Holding u q b d) → a ≡ b
+same_stored t u p q a b c d e = cc
+
+-- who would go on with its frame does not leave the page
+unsent_stays : {E : Type 0} (c : Core E) (t : ℕ) (page : Page) (stored : ℕ) → c.phase ≡ Holding t page stored false → page.ended ≡ false
+    → page.words + frame_len c ≤ c.layout.capacity → LeavesPage c → ⊥
+unsent_stays c t page stored at goes fits l =
+    let same = same_page t l.tenure page l.page stored l.stored false l.published (sym at ∙ l.holds) in
+    elim l.why [
+      | inl sent ↦ true≢false (sym sent ∙ sym same.1.1)
+      | inr y ↦ elim y [
+        | inl ended ↦ true≢false (sym ended ∙ sym (ap (λ (p : Page). p.ended) same.1.0) ∙ goes)
+        | inr full ↦ (let more = subst (λ (p : Page). c.layout.capacity < p.words + frame_len c) (sym same.1.0) full in omega arith)
+      ]
+    ]
+
+-- ---- an election
+-- it is at one stage of one conciliator
+same_stage : {S : Type 0} (c : Core (Elector S)) (a b : Stage) → IsInConciliator c a → IsInConciliator c b → a ≡ b
+same_stage c a b x y =
+    let f = x.deciding.elects in
+    let g = y.deciding.elects in
+    let p = x.deciding.proposes in
+    let q = y.deciding.proposes in
+    let m = x.here in
+    let n = y.here in
+    let s = x.stands in
+    let t = y.stands in
+    cc
+
+-- it is in one ratifier, where it has begun or has not
+not_both : {S : Type 0} (P : Protocol S Bool Verdict) (c : Core (Elector S)) → IsInRatifier P c true → IsInRatifier P c false → ⊥
+not_both P c x y =
+    let f = x.deciding.elects in
+    let g = y.deciding.elects in
+    let p = x.deciding.proposes in
+    let q = y.deciding.proposes in
+    let m = x.here in
+    let n = y.here in
+    let same : x.ratifier ≡ y.ratifier = cc in
+    true≢false (sym x.stands ∙ ap P.has_begun same ∙ y.stands)
+
+-- ---- a presence
 module _ {E : Type 0} (v : Participant E) where
   -- who leaves a tenure does not stand in it
   leaves_pinned : LeavesTenure v → (t : ℕ) → v.pin ≡ Pinned t → ⊥
@@ -53,27 +102,38 @@ module _ {E : Type 0} (v : Participant E) where
 module _ {S : Type 0} (P : Protocol S Bool Verdict) where
   -- what no sender has a cause for in its tenures
   own_refused : (v : Sender (Elector S)) → RefusesOwn P v
-  own_refused v =
-      let n = refuses_causes P in
-      record {
-        resting_takes = λ rests w. n.resting_takes v.core rests w.1;
-        resting_stores = λ rests w. n.resting_stores v.core rests w.1;
-        resting_falls_back = λ rests w. n.resting_falls_back v.core rests w.1;
-        ended_publishes = λ tenure page stored at ended w. n.ended_publishes v.core tenure page stored at ended w.1;
-        unbrought_reads_first = λ is w. n.unbrought_reads_first v.core is w.1;
-        unbrought_writes_second = λ is w. n.unbrought_writes_second v.core is w.1;
-        unbrought_reads_second = λ is w. n.unbrought_reads_second v.core is w.1;
-        brings_again = λ is w. n.brings_again v.core is w.1;
-        unmarked_reads = λ is w. n.unmarked_reads v.core is w.1;
-        unread_votes = λ is w. n.unread_votes v.core is w.1;
-        counting_votes = λ is w. n.counting_votes v.core is w.1;
-        takes_undecided = λ t e runs open_still w.
-            let same = (same_election t w.1.tenure e w.1.election (sym runs ∙ w.1.elects)).1 in
-            let bad = sym open_still ∙ ap (elections P v.core.layout.rounds).output same ∙ w.1.spells in cc;
-        takes_what_it_lost = λ t o e runs spells other w.
-            let same = (same_election t w.1.tenure e w.1.election (sym runs ∙ w.1.elects)).1 in
-            other (same_Some _ _ (sym spells ∙ ap (elections P v.core.layout.rounds).output same ∙ w.1.spells));
-      }
+  own_refused v = record {
+    resting_takes = λ rests w. let x = w.1.elects in absurd cc;
+    resting_stores = λ rests w. let x = w.1.holds.holds in absurd cc;
+    resting_falls_back = λ rests w. let x = w.1.deciding.elects in absurd cc;
+    ended_publishes = λ tenure page stored at ended w. let x = w.1.holds.holds in let y = w.1.holds.not_ended in absurd cc;
+    unstored_publishes = λ tenure page stored at left w.
+        let same = same_stored tenure _ page _ stored _ false false (sym at ∙ w.1.holds.holds) in omega arith;
+    unsent_gives_back = λ tenure page stored at goes fits w. elim w.0 [
+      | inl l ↦ unsent_stays v.core tenure page stored at goes fits l
+      | inr h ↦ (let bad = sym at ∙ h.gives in cc)
+    ];
+    unbrought_reads_first = λ is w. not_both P v.core w.1 is;
+    unbrought_writes_second = λ is w. not_both P v.core w.1 is;
+    unbrought_reads_second = λ is w. not_both P v.core w.1 is;
+    brings_again = λ is w. not_both P v.core is w.1;
+    unmarked_reads = λ is w. let x = same_stage v.core _ _ is w.1 in absurd cc;
+    unread_votes = λ is w. let x = same_stage v.core _ _ is w.1.asks in absurd cc;
+    counting_votes = λ is w.
+        let x = same_stage v.core _ _ is.asks w.1.asks in
+        let y = is.stands in
+        let z = w.1.stands in
+        absurd cc;
+    fitting_searches = λ t e runs fits w.
+        let same = (same_election t w.1.tenure e w.1.election (sym runs ∙ w.1.elects)).1 in
+        true≢false (sym fits ∙ ap (λ z. fits_bits z z.candidate) same ∙ w.1.unfit);
+    takes_undecided = λ t e runs open_still w.
+        let same = (same_election t w.1.tenure e w.1.election (sym runs ∙ w.1.elects)).1 in
+        let bad = sym open_still ∙ ap (elections P v.core.layout.rounds).output same ∙ w.1.spells in cc;
+    takes_what_it_lost = λ t o e runs spells other w.
+        let same = (same_election t w.1.tenure e w.1.election (sym runs ∙ w.1.elects)).1 in
+        other (same_Some _ _ (sym spells ∙ ap (elections P v.core.layout.rounds).output same ∙ w.1.spells));
+  }
 
   -- what none has a cause for with a row for each tenure
   apart_refused : (v : Sender (Elector S)) → RefusesApart P v
@@ -119,7 +179,8 @@ module _ {S : Type 0} (P : Protocol S Bool Verdict) where
             other (same_pinned t s.tenure (sym at ∙ s.pin) ∙ (same_election s.tenure u s.election e (sym s.elects ∙ runs)).0);
         elects_while_unpinning = λ k t i e w. let s = stands_again c r k i w in let bad = sym e ∙ s.pin in cc;
         elects_invalidated = λ k t i e w. let s = stands_again c r k i w in let bad = sym e ∙ s.pin in cc;
-        enters_the_past = λ t e past w. let same = same_announcing t w.tenure (sym e ∙ w.pin) in let may = w.may.least in omega arith;
+        enters_the_past = λ t e past w. let same = same_tenure t w.tenure (sym e ∙ w.pin) in let may = w.may.least in omega arith;
+        looks_again_at_the_past = λ t e past w. let same = same_validating t w.tenure (sym e ∙ w.pin) in let may = w.may.least in omega arith;
         withdraws_away = λ e w. leaves_away (participant_of c r) w e;
         withdraws_pinned = λ t e w. leaves_pinned (participant_of c r) w t e;
         withdraws_undone = λ t e none rests w. leaves_undone (participant_of c r) w t e none rests;

@@ -3,6 +3,7 @@ pub mod Bridged
 pub mod Situated
 mod Stepped
 pub mod Kept
+mod ElectionCauses
 pub mod Caused
 pub mod Looking
 mod CausesRefused

@@ -12,19 +12,22 @@ use Rattle.bus_batch.specs.Frames.{frame_words}
 use Rattle.bus_tenure.specs.Core.{Core, Election, Layout, frame_len}
 use Rattle.bus_tenure.specs.Doings.{doing_of, IsWord, StoresNext}
 use Rattle.bus_tenure.proofs.Inverted.{word_is}
+use Rattle.bus_tenure.proofs.Situated.{tells}
 use Rattle.bus_tenure.specs.Seen.{HoldsPublished}
 use Rattle.bus_tenure.specs.declared.doings.Doing.TheVariants as doing
 use Rattle.bus_tenure.specs.Situations.{Situation as Own, StoresWord, GivesBack, situation_of as own_situation, situation_at, fed_at, Stays}
 use Rattle.bus_tenure.specs.declared.pages.Page.{Page}
 use Rattle.bus_tenure.specs.declared.phases.Reason.TheVariants.{Sent}
+use Rattle.bus_tenure.specs.declared.phases.Phase.TheVariants.{Holding}
 use Rattle.bus_tenure.specs.declared.turns.Turn.TheVariants.{Going}
 use Rattle.bus_core.specs.Reusing.Turns.{answer_of_reclaim}
 use Rattle.bus_core.specs.Keeping.{ReuseKeeps, IsAway, reclaimer_in, reclaimer_left, sender}
 use Rattle.bus_core.specs.Plain.{IsPlain, Word, Clear, StoresPlain}
+use Rattle.bus_core.specs.Reusing.Keeping.{IsOutside}
 use Rattle.bus_core.specs.Senders.{Sender, Does, Scans, Clears, log_start, pinning, situation_by, situation, words_all}
 use Rattle.bus_core.specs.Table.{line, line_now, reuse_reclaiming}
 use Rattle.bus_core.specs.declared.reuses.Reuse.{Reuse}
-use Rattle.bus_core.proofs.Situated.{SituationTells, tells_by, situation_tells, own_is, calm_home, goes_does, away_does, held_reclaimer}
+use Rattle.bus_core.proofs.Situated.{SituationTells, tells_by, situation_tells, own_is, calm_home, goes_does, away_does, calm_away, goes_away, held_reclaimer}
 use Rattle.bus_core.proofs.Stepped.{fed_word, reclaimed_below}
 
 -- ---- when one is due
@@ -113,6 +116,28 @@ module _ {E : Type 0} (X : Election E) (v : Sender E) where
       ∙ fed_word X v.core v.reuse got word (own_situation X v.core) t page.words stored (ap doing_of (own_is X v (StoresWord t page stored) i))
       ∙ ap (λ z. (line X v z).fed got word) (ap Does (own_is X v (StoresWord t page stored) i) ∙ sym i)
   plain_worded (Clear s i k p) none c f got word = absurd (none p)
+
+  -- with the page before it still, and no length
+  pub plain_unpublished : IsPlain X v → (HoldsPublished v.core.phase → ⊥) → (c : Core E)
+      → ((got word : ℕ) → c ≡ fed_at X v.core (own_situation X v.core) got word) → HoldsPublished c.phase → ⊥
+  plain_unpublished (Word t page stored i) none c f h =
+      let own = own_is X v (StoresWord t page stored) i in
+      let after : c.phase ≡ Holding t page (stored + 1) false =
+      ap (λ (y : Core E). y.phase) (f 0 0 ∙ ap (λ z. fed_at X v.core z 0 0) own) in
+      let bad = sym after ∙ h.is in
+      cc
+  plain_unpublished (Clear s i k p) none c f h = none p
+
+  -- and no pin of a tenure
+  pub plain_away : (width : ℕ) (Belongs : ℕ → E → Type 0) → ReuseKeeps width Belongs v.core v.reuse → IsPlain X v → IsAway v.reuse
+  plain_away width Belongs k (Word t page stored i) =
+      let held = tells X v.core (StoresWord t page stored) (own_is X v (StoresWord t page stored) i) in
+      goes_away width Belongs v.core v.reuse k (subst IsOutside (sym held.1) tt) (own_situation X v.core)
+      (situation_tells X v (Does (StoresWord t page stored)) i).1
+  plain_away width Belongs k (Clear s i c h) = by v.reuse k (situation_tells X v (Clears s) i) where
+    by : (r : Option Reuse) → ReuseKeeps width Belongs v.core r → SituationTells (Clears s) r (own_situation X v.core) → IsAway r
+    by None m w = absurd w
+    by (Some r) m w = calm_away width Belongs v.core r m (subst IsOutside (sym h.is) tt) w.0.calm
 
   -- no page goes anywhere
   pub plain_stays : IsPlain X v → (line_now X v).move ≡ Stays

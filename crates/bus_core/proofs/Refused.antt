@@ -22,15 +22,16 @@ use Rattle.bus_batch.specs.declared.batches.Phase.TheVariants as batch
 use Rattle.bus_batch.specs.declared.messages.Mark.{Mark}
 use Rattle.bus_batch.specs.declared.messages.Mark.TheVariants as mark
 use Rattle.std.specs.Prelude.{◌⊎◌}
-use Rattle.bus_core.specs.Senders.{Sender, Situation, Does, situation}
+use Rattle.bus_core.specs.Senders.{Sender, Does, situation}
 use Rattle.bus_core.specs.Table.{line, line_now}
 use Rattle.bus_core.specs.Telling.{LosesElection, PartsAsLoser, LosesBy, BeginsBy, RestIsTold, IsInvalidated}
 use Rattle.bus_tenure.specs.declared.turns.Turn.TheVariants as turn
 use Rattle.bus_core.specs.declared.reuses.Reuse.{Reuse}
 use Rattle.bus_core.proofs.Situated.{own_is}
+use Rattle.bus_core.proofs.Told.{same_step}
 
 -- one phase has one page
-same_page : {E : Type 0} (t u : ℕ) (p q : Page) (a b : ℕ) (c d : Bool) → ◌≡◌ {A = Phase E} (Holding t p a c) (Holding u q b d) → (t ≡ u)
+pub same_page : {E : Type 0} (t u : ℕ) (p q : Page) (a b : ℕ) (c d : Bool) → ◌≡◌ {A = Phase E} (Holding t p a c) (Holding u q b d) → (t ≡ u)
     × ((p ≡ q) × (c ≡ d))
 same_page t u p q a b c d e = (cc, (cc, cc))
 
@@ -38,12 +39,8 @@ same_page t u p q a b c d e = (cc, (cc, cc))
 pub same_election : {E : Type 0} (t u : ℕ) (e f : E) → ◌≡◌ {A = Phase E} (Electing t e) (Electing u f) → (t ≡ u) × (e ≡ f)
 same_election t u e f i = (cc, cc)
 
--- one step is of one election
-same_step : {E : Type 0} (t u : ℕ) (e f : E) → ◌≡◌ {A = Situation E} (Does (Elects t e)) (Does (Elects u f)) → e ≡ f
-same_step t u e f i = cc
-
 -- one pin is to one tenure
-same_tenure : (t u : ℕ) → Announcing t ≡ Announcing u → t ≡ u
+pub same_tenure : (t u : ℕ) → Announcing t ≡ Announcing u → t ≡ u
 same_tenure t u e = cc
 
 -- ---- a page that is held

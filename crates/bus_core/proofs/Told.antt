@@ -54,8 +54,8 @@ returns_not t z (Gives page reason) g = g
 returns_not t z (Says reason) g = g
 
 -- one situation has one election
-same_election : {E : Type 0} (t u : ℕ) (e f : E) → ◌≡◌ {A = Situation E} (Does (Elects t e)) (Does (Elects u f)) → e ≡ f
-same_election t u e f i = cc
+pub same_step : {E : Type 0} (t u : ℕ) (e f : E) → ◌≡◌ {A = Situation E} (Does (Elects t e)) (Does (Elects u f)) → e ≡ f
+same_step t u e f i = cc
 
 module _ {E : Type 0} (X : Election E) (v : Sender E) (got word : ℕ) where
   -- what it does in its tenure
@@ -156,7 +156,7 @@ module _ {E : Type 0} (X : Election E) (v : Sender E) (got word : ℕ) where
       where
         loses : (u : ℕ) (o : SenderNo) (reuse : Option Reuse) → v.reuse ≡ reuse → ¬ LosesBy X v got word u o reuse
         loses u o None q w =
-            w.other (itself q o.0 (ap (λ y. X.owner (X.fed y got word)) (same_election t u e w.election (sym i ∙ w.elects)) ∙ w.chosen))
+            w.other (itself q o.0 (ap (λ y. X.owner (X.fed y got word)) (same_step t u e w.election (sym i ∙ w.elects)) ∙ w.chosen))
         loses u o (Some r) q w = let bad = sym i ∙ ap (λ y. situation_by y own) q ∙ unpins_by u (Some r) w.parts in cc
 
         behind : (u p : ℕ) (reuse : Option Reuse) → ¬ IsSomeAnd reuse (λ r. IsBehind X v got word u p r)

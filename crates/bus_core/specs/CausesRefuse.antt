@@ -9,6 +9,8 @@ use Rattle.bus_presence.specs.Reclamation.{row_of}
 use Rattle.bus_presence.specs.Reclaimers.{Reclaiming, is_reclaimed}
 use Rattle.bus_presence.specs.declared.pins.Pin.TheVariants.{Away, Announcing, Validating, Pinned, Unpinning, Invalidated}
 use Rattle.bus_tenure.specs.Causes.{IsInRatifier, IsInConciliator, CountsVotes}
+use Rattle.bus_ownerbits.specs.Election.{fits_bits}
+use Rattle.bus_tenure.specs.Core.{frame_len}
 use Rattle.bus_tenure.specs.Elections.{Elector, elections}
 use Rattle.bus_tenure.specs.declared.pages.Page.{Page}
 use Rattle.bus_tenure.specs.declared.phases.Phase.TheVariants.{Resting, Electing, Holding}
@@ -53,6 +55,12 @@ pub record RefusesOwn {S : Type 0} (P : Protocol S Bool Verdict) (v : Sender (El
   -- it holds the page of an order that has ended, and stores a length
   pub ended_publishes : (tenure : ℕ) (page : Page) (stored : ℕ) → v.core.phase ≡ Holding tenure page stored false → page.ended ≡ true
       → ¬ HasCause P v kind.StoreLength
+  -- it holds a page, and stores a length before all words of its frame are stored
+  pub unstored_publishes : (tenure : ℕ) (page : Page) (stored : ℕ) → v.core.phase ≡ Holding tenure page stored false → stored < frame_len v.core
+      → ¬ HasCause P v kind.StoreLength
+  -- it holds the page of an order that goes on, its frame fits the log, and it gives the page back before the length is stored
+  pub unsent_gives_back : (tenure : ℕ) (page : Page) (stored : ℕ) → v.core.phase ≡ Holding tenure page stored false → page.ended ≡ false
+      → page.words + frame_len v.core ≤ v.core.layout.capacity → ¬ HasCause P v kind.GivePageBack
   -- it has brought nothing to a ratifier, and goes on there, or has brought its bit, and begins again
   pub unbrought_reads_first : IsInRatifier P v.core false → ¬ HasCause P v kind.ReadFirst
   pub unbrought_writes_second : IsInRatifier P v.core false → ¬ HasCause P v kind.WriteSecond
@@ -62,6 +70,9 @@ pub record RefusesOwn {S : Type 0} (P : Protocol S Bool Verdict) (v : Sender (El
   pub unmarked_reads : IsInConciliator v.core SetMark → ¬ HasCause P v kind.ReadOtherMark
   pub unread_votes : IsInConciliator v.core ReadOtherMark → ¬ HasCause P v kind.Vote
   pub counting_votes : CountsVotes v.core → ¬ HasCause P v kind.Vote
+  -- it searches for another candidate, though the bits so far fit its own
+  pub fitting_searches : (t : ℕ) (e : Elector S) → v.core.phase ≡ Electing t e → fits_bits e e.candidate ≡ true
+      → ¬ HasCause P v kind.ReadAnnouncement
   -- a page whose election has not ended, or has chosen another
   pub takes_undecided : (t : ℕ) (e : Elector S) → v.core.phase ≡ Electing t e → (elections P v.core.layout.rounds).output e ≡ None
       → ¬ HasCause P v kind.TakePage
@@ -87,8 +98,9 @@ pub record RefusesAgain {S : Type 0} (P : Protocol S Bool Verdict) (v : Sender (
       → ¬ HasCause P v k
   pub elects_while_unpinning : (k : Kind) (t : ℕ) → IsOfElection k → r.pin ≡ Unpinning t → ¬ HasCause P v k
   pub elects_invalidated : (k : Kind) (t : ℕ) → IsOfElection k → r.pin ≡ Invalidated t → ¬ HasCause P v k
-  -- a presence of a tenure that is past for it
+  -- a presence of a tenure that is past for it, and another look at the stage of one
   pub enters_the_past : (t : ℕ) → r.pin ≡ Announcing t → t < v.core.least → ¬ HasCause P v kind.Enter
+  pub looks_again_at_the_past : (t : ℕ) → r.pin ≡ Validating t → t < v.core.least → ¬ HasCause P v kind.LoadStageAgain
   -- a presence that is cleared while it pins no tenure, or stands in one, or of one that it neither lost nor has the page of
   pub withdraws_away : r.pin ≡ Away → ¬ HasCause P v kind.Withdraw
   pub withdraws_pinned : (t : ℕ) → r.pin ≡ Pinned t → ¬ HasCause P v kind.Withdraw

@@ -1,2 +1,3 @@
--- How the one table is that of a sender of either kind of rows: of proofs alone, to be passed over.
+-- The turns of a participant, and how the one table is that of a sender of either kind of rows: of proofs alone, to be passed over.
+pub mod ParticipantTurns
 pub mod Bridge

@@ -14,7 +14,7 @@ ghost use Rattle.bus_tenure.specs.Seen.{AwaitsItsPage, turns_of, HasElection};
 ghost use Rattle.bus_tenure.specs.Situations.{situation_of, Stays, tenure_begun as tenure_by_stage};
 ghost use Rattle.bus_tenure.specs.declared.phases.Phase.TheVariants as phase;
 ghost use Rattle.bus_core.specs.Reusing.Turns.{on_place};
-ghost use Rattle.bus_tenure.specs.Doings.{doing_of};
+ghost use Rattle.bus_tenure.specs.Doings.{doing_of, IsWord};
 ghost use Rattle.bus_tenure.specs.declared.doings.Doing.TheVariants as doing;
 ghost use Rattle.bus_tenure.specs.declared.turns.Turn.TheVariants as turn;
 ghost use Rattle.bus_core.specs.Causes.{HasCause, IsCaused};
@@ -275,11 +275,10 @@ impl<Q: Ratifier + Drop> SenderCore<Q> {
     }
 
     /// The bus has few words.
-    #[inline(always)]
     fn is_small(&self)
         ensures { words_all self.now ≤ 2 ^ 63 }
     {
-        let _ = self.log_start();
+        self.turns.is_kept();
     }
 
     /// A step of its election, on the row that its tenure uses.
@@ -381,6 +380,13 @@ impl<Q: Ratifier + Drop> SenderCore<Q> {
         requires { let X = election_of Q.Ratifier in IsPlain X self.now }
         ensures { let X = election_of Q.Ratifier in
             (got : ℕ) (word : ℕ) → FeedTells X self.now got word turn.Going }
+    {
+        self.turns.is_kept();
+    }
+
+    /// Whose next step is a plain store pins no tenure.
+    fn plain_is_away(&self)
+        ensures { IsPlain (election_of Q.Ratifier) self.now → IsAway self.now.reuse }
     {
         self.turns.is_kept();
     }
@@ -632,13 +638,14 @@ impl<Q: Ratifier + Drop> SenderCore<Q> {
         }
     }
 
-    /// Whether the next step is a plain store; then it stores `value` in the word at `at`. It may
-    /// say no of any step.
+    /// Whether the next step is a plain store; then it stores `value` in the word at `at`.
     #[inline(always)]
     pub fn plain(&self, at: &mut u64, value: &mut u64) -> bool
-        ensures { IsTrue result
+        ensures stores { IsTrue result
             → StoresPlain (election_of Q.Ratifier) self.now at.new value.new }
+        ensures exact { IsPlain (election_of Q.Ratifier) self.now → IsTrue result }
     {
+        self.plain_is_away();
         if !self.is_away() {
             return false;
         }
@@ -648,12 +655,15 @@ impl<Q: Ratifier + Drop> SenderCore<Q> {
         self.stores_word(at, value)
     }
 
-    /// The same where the page is to go on, and the sender has no pin.
+    /// Whether it stores a word of its frame next, where it has no pin; then `value` in the word
+    /// at `at`.
     #[inline(always)]
     fn stores_word(&self, at: &mut u64, value: &mut u64) -> bool
         requires { IsAway self.now.reuse }
-        ensures { IsTrue result
+        ensures stores { IsTrue result
             → StoresPlain (election_of Q.Ratifier) self.now at.new value.new }
+        ensures exact { let X = election_of Q.Ratifier in
+            IsWord (doing_of (situation_of X self.now.core)) → IsTrue result }
     {
         let (mut tenure, mut words, mut stored) = (0, 0, 0);
         if !self.turns.stores_word(&mut tenure, &mut words, &mut stored) {
@@ -665,8 +675,7 @@ impl<Q: Ratifier + Drop> SenderCore<Q> {
     }
 
     /// The plain store was taken that `plain` told. Its answer is Going, whatever it found. Says
-    /// whether the next step is a plain store too; then it stores `value` in the word at `at`. It
-    /// may say no of any step.
+    /// whether the next step is a plain store too; then it stores `value` in the word at `at`.
     #[inline(always)]
     pub fn plain_done(&mut self, at: &mut u64, value: &mut u64) -> bool
         requires { StoresPlain (election_of Q.Ratifier) self.old at.old value.old }
@@ -680,6 +689,7 @@ impl<Q: Ratifier + Drop> SenderCore<Q> {
             (line_now X self.old).move ≡ Stays }
         ensures stores { IsTrue result
             → StoresPlain (election_of Q.Ratifier) self.new at.new value.new }
+        ensures exact { IsPlain (election_of Q.Ratifier) self.new → IsTrue result }
     {
         self.tells_going();
         if self.turns.has_published() {
@@ -783,8 +793,10 @@ fn reclaimer_step(reuse: &Option<Reuse>) -> Option<Op>
 /// Whether a reclamation clears a word next; then that is the word at `at`, and `value` is 0.
 #[inline(always)]
 fn clears(reuse: &Option<Reuse>, at: &mut u64, value: &mut u64) -> bool
-    ensures { IsTrue result → (s : Reclaiming) × (reclaimer_in reuse.now ≡ Some s)
+    ensures clears { IsTrue result → (s : Reclaiming) × (reclaimer_in reuse.now ≡ Some s)
         × IsClearing s × (at.new ≡ s.row + s.cleared) × (value.new ≡ 0) }
+    ensures exact { (s : Reclaiming) → reclaimer_in reuse.now ≡ Some s → IsClearing s
+        → IsTrue result }
 {
     *value = 0;
     match reuse {

@@ -32,15 +32,18 @@ pub fn answers_refuse<Q: Ratifier>()
 {}
 
 /// No sender that rests takes a page, stores a word of a log or falls back. None stores a length
-/// past the end of the order, goes on in a ratifier before it has brought its bit, brings it twice,
-/// loads a mark before it has set its own, votes out of turn, or takes a page before it was chosen.
+/// past the end of the order, or before all words of its frame are stored. None gives a page back
+/// before the length is stored, while the order goes on and its frame fits the log. None goes on in
+/// a ratifier before it has brought its bit, brings it twice, loads a mark before it has set its
+/// own, votes out of turn, searches for another candidate while the bits so far fit its own, or
+/// takes a page before it was chosen.
 ///
 /// With a row for each tenure none shows a presence, asks for one, or clears a row. With rows that
 /// are used again none takes a step of an election while it pins no tenure, has not stored its
 /// presence, has not looked at the stage again, stands in another tenure or is to clear its
-/// presence. None enters a tenure that is past for it, clears its presence while it pins none or
-/// stands in one, clears a row before all presences have passed, or gives a page back before the
-/// row after its tenure's is ready.
+/// presence. None enters a tenure that is past for it, or looks at its stage again, clears its
+/// presence while it pins none or stands in one, clears a row before all presences have passed, or
+/// gives a page back before the row after its tenure's is ready.
 pub fn causes_refuse<Q: Ratifier>()
     ensures { (sender : Sender (Elector Q)) → RefusesCauses Q.protocol sender }
 {}

@@ -17,11 +17,12 @@ use Rattle.bus_tenure.specs.Situations.{situation_of, op_at, answer_at}
 use Rattle.bus_tenure.specs.declared.turns.Turn.{Turn as Answered}
 use Rattle.bus_world.proofs.EventTrails.{put_taken}
 use Rattle.bus_world.specs.Headline.{Action}
-use Rattle.bus_world.specs.Playing.{TurnAnswers, PutGives, CloseGives, RecvAnswers, StopGives}
-use Rattle.bus_world.specs.Trails.{New, Then, turning_actions, turn_actions, heard_of, trails_grown as plain_grown, Reached as PlainReached}
-use Rattle.bus_world.specs.Turning.{side_after, core_after, words_after, number_found, home_after, owners_after}
-use Rattle.bus_world.specs.World.{Bus, Event, Put, Ask, Turn, Recv, Stop, SenderDoes, ReceiverDoes, StopDoes, IsNewReceiver, is_set, can_close, is_open, new_core, going as plain_going, with_sender as plain_with, put_in as plain_put, mark_in as plain_mark}
-use Rattle.bus_world.specs.CyclicProtocols.{actions_with}
+use Rattle.bus_world.specs.Proved.Answers.{TurnAnswers, PutGives, CloseGives, RecvAnswers, StopGives}
+use Rattle.bus_world.specs.Proved.Trails.{New, Then, turning_actions, turn_actions, heard_of, trails_grown as plain_grown, Reached as PlainReached}
+use Rattle.bus_world.specs.Proved.Machines.{side_after, core_after, home_after, owners_after, Bus, SenderDoes, ReceiverDoes, StopDoes, can_close, is_open, new_core, going as plain_going, with_sender as plain_with, put_in as plain_put, mark_in as plain_mark}
+use Rattle.bus_world.specs.Turning.{words_after, number_found}
+use Rattle.bus_world.specs.World.{Event, Put, Ask, Turn, Recv, Stop, IsNewReceiver, is_set}
+use Rattle.bus_world.specs.Trails.{actions_with}
 use Rattle.bus_world.specs.declared.events.Answer.{Answer}
 use Rattle.bus_world.specs.declared.events.Answer.TheVariants as answer
 use Rattle.bus_machine.specs.Proved.Bridge.{of_bus, plain_trails, IsPlainEvent, HappensAtNone, IsPlain}

@@ -18,7 +18,8 @@ use Rattle.bus_core.specs.Senders.{Sender, Situation, Does, Scans, Clears, again
 use Rattle.bus_core.specs.Table.{Line, line, line_now}
 use Rattle.bus_machine.specs.Proved.Cyclic.{OwnedCyclicMachine}
 use Rattle.bus_core.specs.Reusing.Participants.{Due, Pins, Reclaims, Goes, place_for, log_from, due_beside, due_home, due_reclaimed, reclaim_due, core_looked, core_going}
-use Rattle.bus_core.specs.Reusing.Turns.{Participant, due, op_due, op_placed, participant_due, sizes_of, queue_seen, answer_due}
+use Rattle.bus_core.specs.Proved.ParticipantTurns.{due, op_due, participant_due, answer_due}
+use Rattle.bus_core.specs.Reusing.Turns.{Participant, op_placed, sizes_of, queue_seen}
 use Rattle.bus_presence.specs.Reclamation.{presence_at}
 use Rattle.bus_presence.specs.Reclaimers.{Reclaiming}
 use Rattle.bus_presence.specs.Pins.{step_at}
@@ -33,10 +34,11 @@ use Rattle.bus_world.specs.Headline.{HasPut, HasMarked}
 use Rattle.bus_world.specs.Playing.{asked_answer}
 use Rattle.bus_world.specs.Proved.CyclicMachines.{CyclicMachine, CyclicTrails, CyclicReached, NewCyclic, TurnTaken, PutTaken, MarkTaken, RecvTaken, StopTaken, cyclic_turned, cyclic_actions, cyclic_reclaims, participant_moved}
 use Rattle.bus_world.specs.Proved.CyclicMachines as cyclic_machines
-use Rattle.bus_world.specs.Trails.{step_action, put_actions, mark_actions}
+use Rattle.bus_world.specs.Trails.{step_action, put_actions, mark_actions, actions_with}
 use Rattle.bus_world.specs.Turning.{words_after, number_found, home_moved, core_moved, after_step}
-use Rattle.bus_world.specs.World.{Put, Ask, Turn, Recv, Stop, is_set, new_core, IsNewReceiver}
-use Rattle.bus_world.specs.CyclicProtocols.{word_found, actions_with}
+use Rattle.bus_world.specs.World.{Put, Ask, Turn, Recv, Stop, is_set, IsNewReceiver}
+use Rattle.bus_world.specs.Proved.Machines.{new_core}
+use Rattle.bus_world.specs.Proved.CyclicProtocols.{word_found}
 use Rattle.bus_world.specs.declared.events.Answer.{Answer}
 use Rattle.bus_world.specs.declared.events.Answer.TheVariants as answer
 use Rattle.bus_machine.proofs.AtNone.{close_taken}
@@ -150,7 +152,7 @@ module _ {E : Type 0} (X : Election E) where
         let got : found (of_cyclic_machine b []) (line X (again v) (Does z)) word ≡ word_found (place_for b.layout b.rows z) words (op_at X v.core z word) =
         ap (number_found words) (op_own v z word) ∙ found_placed (place_for v.core.layout v.rows z) words (op_at X v.core z word)
         ∙ ap (λ x. word_found (place_for x v.rows z) words (op_at X v.core z word)) i ∙ ap (λ r. word_found (place_for b.layout r z) words (op_at X v.core z word)) j in
-        ap (λ d. record (cyclic_trails T) { actions = Rattle.bus_world.specs.CyclicProtocols.actions_with s d T.actions })
+        ap (λ d. record (cyclic_trails T) { actions = Rattle.bus_world.specs.Trails.actions_with s d T.actions })
         (ap (λ g. step_action (line X (again v) (Does z)).kind (line X (again v) (Does z)).tenure g ((line X (again v) (Does z)).chosen g word) a) got ∙ action_own v z _ word a)
 
     grown_reclaimed : (v : Participant E) (r : Reclaiming) (z : Own E) (p q : Bool) → v.core.layout ≡ b.layout → v.rows ≡ b.rows

@@ -29,13 +29,12 @@ use Rattle.bus_tenure.specs.declared.pages.Page.{Page}
 use Rattle.bus_tenure.specs.declared.phases.Phase.{Phase}
 use Rattle.bus_tenure.specs.declared.phases.Phase.TheVariants as phase
 use Rattle.bus_tenure.specs.declared.turns.Turn.{Turn as Answered}
-use Rattle.bus_world.specs.Bus.{Part, standing_of, stands_at}
+use Rattle.bus_world.specs.Proved.Sending.{Part, standing_of, stands_at}
 use Rattle.bus_world.specs.Headline.{Action}
-use Rattle.bus_world.specs.Tenures.Standing.{Runs}
-use Rattle.bus_world.specs.Trails.{step_action, put_actions, mark_actions}
+use Rattle.bus_world.specs.Proved.Tenures.Standing.{Runs}
+use Rattle.bus_world.specs.Trails.{step_action, put_actions, mark_actions, actions_with}
 use Rattle.bus_world.specs.Turning.{after_step}
 use Rattle.bus_world.specs.World.{Event, Put, Ask, Turn, Recv, Stop}
-use Rattle.bus_world.specs.CyclicProtocols.{actions_with}
 use Rattle.bus_world.specs.declared.events.Answer.{Answer}
 use Rattle.bus_world.specs.declared.events.Answer.TheVariants as answer
 use Rattle.bus_machine.proofs.Framed.{IsFramed, framed}

@@ -17,7 +17,7 @@ use Rattle.bus_tenure.specs.declared.phases.Phase.{Phase}
 use Rattle.bus_tenure.specs.declared.phases.Phase.TheVariants as phase
 use Rattle.bus_world.proofs.LogLaws.{gone-append_owner}
 use Rattle.bus_world.proofs.Places.{got_before}
-use Rattle.bus_world.specs.Bus.{Fits}
+use Rattle.bus_world.specs.Proved.Sending.{Fits}
 use Rattle.bus_world.specs.Headline.{Action, Stepped, Elected, IsPrefix}
 use Rattle.bus_machine.proofs.Framed.{IsFramed, log_framed}
 use Rattle.bus_machine.proofs.Staying.{spells_more}

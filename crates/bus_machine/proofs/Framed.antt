@@ -36,13 +36,15 @@ use Rattle.bus_world.proofs.EventTrails as plain
 use Rattle.bus_world.proofs.CyclicMachineLaws.{IsCyclicLayout, IsLed, same_register}
 use Rattle.bus_world.proofs.Serving.{Serves}
 use Rattle.bus_world.proofs.CyclicProtocolLaws.{HasKept, led_kept, protocol_promised}
-use Rattle.bus_world.specs.Bus.{IsLayout, Sending}
+use Rattle.bus_world.specs.World.{IsLayout}
+use Rattle.bus_world.specs.Proved.Sending.{Sending}
 use Rattle.bus_world.specs.Log.{words_read_from}
 use Rattle.bus_world.specs.Proved.CyclicMachines.{CyclicReached, protocol_of, core_in}
 use Rattle.bus_world.specs.Proved.CyclicMachines as cyclic_machines
-use Rattle.bus_world.specs.Trails.{Reached as PlainReached, Takers}
-use Rattle.bus_world.specs.World.{Bus}
-use Rattle.bus_world.specs.CyclicProtocols.{CyclicProtocol}
+use Rattle.bus_world.specs.Proved.Trails.{Reached as PlainReached}
+use Rattle.bus_world.specs.Trails.{Takers}
+use Rattle.bus_world.specs.Proved.Machines.{Bus}
+use Rattle.bus_world.specs.Proved.CyclicProtocols.{CyclicProtocol}
 use Rattle.bus_world.specs.Proved.KeptProtocols.{IsKeptProtocol}
 use Rattle.bus_machine.proofs.AtNone.{reached_at_none}
 use Rattle.bus_machine.proofs.Leading.{Sits, led_cyclic, cyclic_serves, cyclic_ok, cyclic_two}

@@ -15,10 +15,9 @@ use Rattle.bus_tenure.specs.Core.{Election}
 use Rattle.bus_tenure.specs.Situations.{IsClosed, IsIdle, IsSpent, LooksAtStage, Elects, TakesPage, AwaitsPage, StoresWord, StoresLength, GivesBack, HasHanded}
 use Rattle.bus_tenure.specs.declared.phases.Phase.TheVariants as phase
 use Rattle.bus_tenure.specs.declared.turns.Turn.{Turn as Answered}
-use Rattle.bus_world.specs.Bus.{Fits}
-use Rattle.bus_world.specs.CyclicProtocols.{actions_with}
+use Rattle.bus_world.specs.Proved.Sending.{Fits}
+use Rattle.bus_world.specs.Trails.{actions_with, step_action, put_actions, mark_actions}
 use Rattle.bus_world.specs.Headline.{Action}
-use Rattle.bus_world.specs.Trails.{step_action, put_actions, mark_actions}
 use Rattle.bus_world.specs.World.{Event, Put, Ask, Turn, Recv, Stop}
 use Rattle.bus_world.specs.declared.events.Answer.{Answer}
 use Rattle.bus_world.specs.declared.events.Answer.TheVariants as answer

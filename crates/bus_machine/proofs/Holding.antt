@@ -29,9 +29,10 @@ use Rattle.bus_world.proofs.TurningLaws.{side_of}
 use Rattle.bus_world.proofs.ViewingLaws.{read-list}
 use Rattle.bus_world.proofs.ViewingLaws as plain_views
 use Rattle.bus_world.proofs.WorldLaws.{numbers_fit}
-use Rattle.bus_world.specs.Bus.{IsLayout, Fits}
+use Rattle.bus_world.specs.World.{IsLayout, Event, Put, Ask, Turn, Recv, Stop}
+use Rattle.bus_world.specs.Proved.Sending.{Fits}
 use Rattle.bus_world.specs.Headline.{order_given}
-use Rattle.bus_world.specs.World.{Bus, Event, Put, Ask, Turn, Recv, Stop}
+use Rattle.bus_world.specs.Proved.Machines.{Bus}
 use Rattle.bus_world.specs.declared.events.Answer.{Answer}
 use Rattle.bus_world.specs.Proved.Invariants.{given_at, MachineInvariant}
 use Rattle.bus_machine.proofs.AtNone as none

@@ -28,10 +28,10 @@ use Rattle.bus_tenure.specs.declared.phases.Phase.{Phase}
 use Rattle.bus_tenure.specs.declared.phases.Phase.TheVariants as phase
 use Rattle.bus_world.proofs.Framing.{front_lawful}
 use Rattle.bus_world.proofs.LogLaws.{length-read, log_words-append}
-use Rattle.bus_world.specs.Bus.{Part, Fits, IsWriting, standing_of, stands_at}
-use Rattle.bus_world.specs.Tenures.Stage.{Open, Held}
-use Rattle.bus_world.specs.Tenures.{Standing}
-use Rattle.bus_world.specs.Tenures.Standing.{Holds}
+use Rattle.bus_world.specs.Proved.Sending.{Part, Fits, IsWriting, standing_of, stands_at}
+use Rattle.bus_world.specs.Proved.Tenures.Stage.{Open, Held}
+use Rattle.bus_world.specs.Proved.Tenures.{Standing}
+use Rattle.bus_world.specs.Proved.Tenures.Standing.{Holds}
 use Rattle.bus_machine.proofs.Framed.{IsFramed, log_framed}
 use Rattle.bus_machine.specs.Machine.{base_of, Machine, Trails, log_place, log_of}
 use Rattle.bus_machine.specs.Promise.{TakersTold, KnowsOrder, KnowsFront, IsWithOwner}

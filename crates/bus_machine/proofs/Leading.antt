@@ -5,8 +5,7 @@ use Rattle.bus_world.specs.Proved.CyclicMachines.{CyclicReached}
 use Rattle.bus_register.specs.Protocol.{Protocol}
 use Rattle.bus_tenure.specs.Core.{Election}
 use Rattle.bus_world.proofs.Serving.{Serves}
-use Rattle.bus_world.specs.Bus.{IsLayout}
-use Rattle.bus_world.specs.World.{Event}
+use Rattle.bus_world.specs.World.{IsLayout, Event}
 use Rattle.bus_world.specs.declared.events.Answer.{Answer}
 use Rattle.bus_machine.proofs.AtNone.{event_reuse}
 use Rattle.bus_machine.proofs.AtSome.{happens_at_some, new_cyclic}

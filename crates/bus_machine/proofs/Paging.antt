@@ -20,9 +20,10 @@ use Rattle.bus_tenure.specs.declared.phases.Phase.{Phase}
 use Rattle.bus_tenure.specs.declared.phases.Phase.TheVariants as phase
 use Rattle.bus_world.proofs.TenuresLaws as tenures
 use Rattle.bus_world.proofs.TurningLaws.{at_home}
-use Rattle.bus_world.specs.Bus.{IsLayout, Sending, standing_of, stands_at, least_of}
-use Rattle.bus_world.specs.Tenures.Stage.{Open, Held}
-use Rattle.bus_world.specs.Tenures.Standing.{Runs, Holds}
+use Rattle.bus_world.specs.World.{IsLayout}
+use Rattle.bus_world.specs.Proved.Sending.{Sending, standing_of, stands_at, least_of}
+use Rattle.bus_world.specs.Proved.Tenures.Stage.{Open, Held}
+use Rattle.bus_world.specs.Proved.Tenures.Standing.{Runs, Holds}
 use Rattle.bus_machine.specs.Promise.{FindsPage, IsPagedBy}
 
 some_is : {A : Type 0} (o : Option A) → is_some o ≡ true → (a : A) × (o ≡ Some a)

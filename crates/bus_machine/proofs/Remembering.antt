@@ -31,18 +31,17 @@ use Rattle.bus_tenure.specs.declared.phases.Phase.{Phase}
 use Rattle.bus_tenure.specs.declared.phases.Phase.TheVariants as phase
 use Rattle.bus_tenure.specs.declared.phases.Reason.{Reason}
 use Rattle.bus_tenure.specs.declared.phases.Reason.TheVariants.{Sent, FoundEnd, NoRoom}
-use Rattle.bus_world.specs.Bus.{Part, Fits, standing_of, stands_at}
+use Rattle.bus_world.specs.Proved.Sending.{Part, Fits, standing_of, stands_at}
 use Rattle.bus_world.specs.Headline.{Action, HasPut, HasMarked, Stepped, Asked, Elected, puts}
 use Rattle.bus_world.specs.Log.{next_number, sent_count}
 use Rattle.bus_world.specs.Waiting.{waiting_at}
 use Rattle.bus_world.proofs.FrameOfBatch.{length-items}
 use Rattle.bus_world.proofs.LogLaws.{next-append_owner}
-use Rattle.bus_world.specs.Tenures.Stage.{Open, Held}
-use Rattle.bus_world.specs.Tenures.Standing.{Holds}
+use Rattle.bus_world.specs.Proved.Tenures.Stage.{Open, Held}
+use Rattle.bus_world.specs.Proved.Tenures.Standing.{Holds}
 use Rattle.bus_world.proofs.Places.{got_split}
-use Rattle.bus_world.specs.Trails.{step_action, put_actions, mark_actions}
+use Rattle.bus_world.specs.Trails.{step_action, put_actions, mark_actions, actions_with}
 use Rattle.bus_world.specs.Turning.{after_step, core_with_page, words_after}
-use Rattle.bus_world.specs.CyclicProtocols.{actions_with}
 use Rattle.bus_tenure.specs.declared.turns.Turn.{Turn as Answered}
 use Rattle.bus_world.specs.World.{Event, Put, Ask, Turn, Recv, Stop}
 use Rattle.bus_world.specs.declared.events.Answer.{Answer}

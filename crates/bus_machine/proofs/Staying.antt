@@ -19,9 +19,8 @@ use Rattle.bus_world.proofs.Framing.{order_grows, owners_grow}
 use Rattle.bus_world.proofs.Growing.{same_prefix}
 use Rattle.bus_world.proofs.Places.{got_before}
 use Rattle.bus_world.specs.Headline.{Action, Stepped, entry_heard, end_heard, order_given, IsPrefix}
-use Rattle.bus_world.specs.Trails.{Takers}
+use Rattle.bus_world.specs.Trails.{Takers, actions_with}
 use Rattle.bus_world.specs.World.{Event, Put, Ask, Turn, Recv, Stop}
-use Rattle.bus_world.specs.CyclicProtocols.{actions_with}
 use Rattle.bus_world.specs.declared.events.Answer.{Answer}
 use Rattle.bus_world.specs.declared.events.Answer.TheVariants as answer
 use Rattle.bus_machine.specs.Machine.{Machine, Trails, trails_grown, turn_grown, turn_trails, heard_grown, going, found, log_of}

@@ -20,9 +20,8 @@ use Rattle.bus_tenure.specs.Elections.{Elector}
 use Rattle.bus_tenure.specs.declared.turns.Turn.{Turn as Answered}
 use Rattle.bus_world.specs.Headline.{Action}
 use Rattle.bus_world.specs.Playing.{RecvRefused}
-use Rattle.bus_world.specs.Trails.{put_actions, mark_actions}
+use Rattle.bus_world.specs.Trails.{put_actions, mark_actions, actions_with}
 use Rattle.bus_world.specs.World.{Event, Put, Ask, Turn, Recv, Stop, is_set}
-use Rattle.bus_world.specs.CyclicProtocols.{actions_with}
 use Rattle.bus_world.specs.declared.events.Answer.{Answer}
 use Rattle.bus_world.specs.declared.events.Answer.TheVariants as answer
 use Rattle.bus_world.specs.declared.events.StepFault.{StepFault}

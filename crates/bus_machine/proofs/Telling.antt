@@ -35,7 +35,7 @@ use Rattle.bus_tenure.specs.declared.turns.Turn.{Turn as Answered}
 use Rattle.bus_tenure.specs.declared.turns.Turn.TheVariants as turn
 use Rattle.bus_world.proofs.FrameOfBatch.{counted_frame, length-items}
 use Rattle.bus_world.proofs.LogLaws.{length-read}
-use Rattle.bus_world.specs.Bus.{Part, Fits}
+use Rattle.bus_world.specs.Proved.Sending.{Part, Fits}
 use Rattle.bus_world.specs.Headline.{HasPut, Stepped, Elected, Took, IsPrefix, put_of, puts}
 use Rattle.bus_world.specs.Telling.{HasDelivered, HasLeft}
 use Rattle.bus_world.specs.World.{Event, Put, Ask, Turn, Recv, Stop}

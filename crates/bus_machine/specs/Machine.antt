@@ -19,10 +19,9 @@ use Rattle.bus_core.specs.Reusing.Participants.{log_from}
 use Rattle.bus_world.specs.Headline.{Action}
 use Rattle.bus_world.specs.Log.{words_read_from}
 use Rattle.bus_world.specs.Playing.{asked_answer}
-use Rattle.bus_world.specs.Trails.{step_action, put_actions, mark_actions}
+use Rattle.bus_world.specs.Trails.{step_action, put_actions, mark_actions, no_actions, no_answers, actions_with, answers_with}
 use Rattle.bus_world.specs.Turning.{words_after, number_found, home_moved, core_moved, after_step}
 use Rattle.bus_world.specs.World.{Event, Put, Ask, Turn, Recv, Stop, is_set, no_stops, AreBases, first_page, IsNewReceiver, RecvDoes}
-use Rattle.bus_world.specs.CyclicProtocols.{no_actions, no_answers, actions_with, answers_with}
 use Rattle.bus_world.specs.declared.events.Answer.{Answer}
 use Rattle.bus_world.specs.declared.events.Answer.TheVariants as answer
 

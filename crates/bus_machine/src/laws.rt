@@ -3,7 +3,7 @@
 ghost use Rattle.std.specs.Prelude.{◌≡◌, ℕ, List};
 ghost use Rattle.bus_ownerbits.specs.Sizes.{election_bound};
 ghost use Rattle.bus_tenure.specs.Elections.{Elector, election_of, layout_with};
-ghost use Rattle.bus_world.specs.Bus.{IsLayout};
+ghost use Rattle.bus_world.specs.World.{IsLayout};
 ghost use Rattle.bus_core.specs.Senders.{Sender};
 ghost use Rattle.bus_world.specs.Headline.{Action};
 ghost use Rattle.bus_world.specs.World.{Event};

@@ -15,7 +15,7 @@ use Rattle.bus_tenure.specs.Situations.{Situation as Own, IsClosed, IsIdle, IsSp
 use Rattle.bus_tenure.specs.declared.pages.Page.{Page}
 use Rattle.bus_tenure.specs.declared.turns.Turn.{Turn as Answered}
 use Rattle.bus_tenure.specs.declared.turns.Turn.TheVariants as turn
-use Rattle.bus_world.specs.CyclicProtocols.{actions_with}
+use Rattle.bus_world.specs.Trails.{actions_with}
 use Rattle.bus_world.specs.Headline.{Action}
 use Rattle.bus_world.specs.Log.{words_read_from}
 use Rattle.bus_world.specs.World.{Turn, is_set, no_stops}

@@ -1,5 +1,5 @@
 -- A situation, from what code sees of it.
-use Rattle.std.proofs.Common.{◌≡◌, inl, inr, ℕ, ◌+◌, ◌<◌, ◌≤◌, Bool, true, false, cond, is_some, refl, ◌∙◌, ap, subst}
+use Rattle.std.proofs.Common.{◌≡◌, inl, inr, ℕ, Bool, true, false, cond, is_some, refl, ◌∙◌, ap, subst}
 use Rattle.bus_tenure.specs.Core.{Core, Election}
 use Rattle.bus_tenure.specs.Situations.{Situation as Own, Elects, TakesPage, StoresWord, GivesBack, HasHanded, situation_of, situation_at}
 use Rattle.bus_tenure.specs.declared.pages.Page.{Page}

@@ -1,7 +1,6 @@
 pub mod Lawful
 pub mod ElectionTurns
 pub mod Caused
-pub mod Refused
 pub mod Situated
 pub mod Looking
 mod Electing

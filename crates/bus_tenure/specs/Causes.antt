@@ -1,7 +1,6 @@
--- Why a sender takes a step of each kind: what holds of it before the step, read off what it holds.
+-- Why a sender takes a step in its tenures: what holds of it before the step, read off what it holds. Which kind of step wants which of
+-- these is a list of bus_core (HasCause).
 use Rattle.std.specs.Prelude.{◌≡◌, ◌≢◌, ℕ, ◌+◌, ◌<◌, ◌≤◌, ◌⊎◌, Bool, true, false, Some}
-use Rattle.bus_register.specs.declared.kinds.Kind.{Kind}
-use Rattle.bus_register.specs.declared.kinds.Kind.TheVariants as kind
 use Rattle.bus_register.specs.Protocol.{Protocol}
 use Rattle.bus_adoptcommit.specs.declared.verdicts.Verdict.{Verdict}
 use Rattle.bus_batch.specs.Batches.{HasSomething}
@@ -10,10 +9,10 @@ use Rattle.bus_binconsensus.specs.declared.objects.Object.TheVariants.{Ratify, C
 use Rattle.bus_binconsensus.specs.declared.fallbacks.Fallback.{Fallback}
 use Rattle.bus_binconsensus.specs.Objects.{Decider}
 use Rattle.bus_walkcoin.specs.declared.coins.Phase.{Phase}
-use Rattle.bus_walkcoin.specs.declared.coins.Phase.TheVariants.{Vote, ReadVotes}
+use Rattle.bus_walkcoin.specs.declared.coins.Phase.TheVariants.{ReadVotes}
 use Rattle.bus_walkcoin.specs.Coin.{CoinState}
 use Rattle.bus_coinconc.specs.declared.conciliators.Stage.{Stage}
-use Rattle.bus_coinconc.specs.declared.conciliators.Stage.TheVariants.{SetMark, ReadOtherMark, AskCoin}
+use Rattle.bus_coinconc.specs.declared.conciliators.Stage.TheVariants.{AskCoin}
 use Rattle.bus_coinconc.specs.Conciliator.{ConciliatorState}
 use Rattle.bus_ownerbits.specs.declared.stages.Stage.TheVariants.{Propose, Search}
 use Rattle.bus_ownerbits.specs.Election.{fits_bits}
@@ -21,8 +20,7 @@ use Rattle.bus_ownerbits.specs.Sizes.{bits_of}
 use Rattle.bus_tenure.specs.declared.pages.Page.{Page}
 use Rattle.bus_tenure.specs.declared.phases.Reason.{Reason}
 use Rattle.bus_tenure.specs.declared.phases.Phase.TheVariants.{Resting, Electing, Holding, Giving}
-use Rattle.bus_tenure.specs.Core.{Core, Election, row_at, frame_len}
-use Rattle.bus_tenure.specs.Situations.{kind_at, situation_of}
+use Rattle.bus_tenure.specs.Core.{Core, row_at, frame_len}
 use Rattle.bus_tenure.specs.Elections.{Elector, elections}
 
 -- it has begun no tenure, has something to send, and has a tenure left to enter
@@ -129,33 +127,3 @@ pub record HasHandedOn {E : Type 0} (c : Core E) : Type 0 where
   pub tenure : ℕ
   pub reason : Reason
   pub gives : c.phase ≡ Giving tenure reason
-
--- The sender has a cause for a step of this kind. The kinds of the last lines are a receiver's, or come only where rows are used again.
-abbrev pub HasCause : {S : Type 0} → Protocol S Bool Verdict → Core (Elector S) → Kind → Type 0
-HasCause P c kind.LoadStage = LooksForTenure c
-HasCause P c kind.Announce = BeginsElection P c
-HasCause P c kind.WriteFirst = IsInRatifier P c false
-HasCause P c kind.ReadFirst = IsInRatifier P c true
-HasCause P c kind.WriteSecond = IsInRatifier P c true
-HasCause P c kind.ReadSecond = IsInRatifier P c true
-HasCause P c kind.SetMark = IsInConciliator c SetMark
-HasCause P c kind.ReadOtherMark = IsInConciliator c ReadOtherMark
-HasCause P c kind.Vote = AsksCoin c Vote
-HasCause P c kind.ReadVotes = CountsVotes c
-HasCause P c kind.Fallback = IsAtFallback c
-HasCause P c kind.ReadAnnouncement = SearchesCandidate c
-HasCause P c kind.TakePage = IsElected P c
-HasCause P c kind.StoreLogWord = HasWordLeft c
-HasCause P c kind.StoreLength = HasStoredAll c
-HasCause P c kind.GivePageBack = LeavesPage c ⊎ HasHandedOn c
-HasCause P c kind.LoadLength = ⊥
-HasCause P c kind.LoadLogWord = ⊥
-HasCause P c kind.Enter = ⊥
-HasCause P c kind.LoadStageAgain = ⊥
-HasCause P c kind.Withdraw = ⊥
-HasCause P c kind.ReadPresence = ⊥
-HasCause P c kind.ClearRow = ⊥
-
--- whatever its next step is for, it has a cause
-abbrev pub IsCaused : {S : Type 0} → Election (Elector S) → Protocol S Bool Verdict → Core (Elector S) → Type 0
-IsCaused X P c = (k : Kind) → kind_at X c (situation_of X c) ≡ Some k → HasCause P c k

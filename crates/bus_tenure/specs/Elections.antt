@@ -5,9 +5,9 @@ use Rattle.bus_register.specs.declared.kinds.Kind.{Kind}
 use Rattle.bus_register.specs.declared.registers.Op.{Op}
 use Rattle.bus_register.specs.Protocol.{Protocol}
 use Rattle.bus_adoptcommit.specs.declared.verdicts.Verdict.{Verdict}
-use Rattle.bus_coinconc.specs.Conciliator.{ConciliatorState, conciliator_kind, conciliator_op, conciliator_fed}
+use Rattle.bus_coinconc.specs.Conciliator.{conciliator_kind, conciliator_op, conciliator_fed}
 use Rattle.bus_coinconc.specs.ConciliatorProtocol.{conciliator_protocol}
-use Rattle.bus_binconsensus.specs.Objects.{Decider, object_kind, decide_op, decide_fed}
+use Rattle.bus_binconsensus.specs.Objects.{object_kind, decide_op, decide_fed}
 use Rattle.bus_binconsensus.specs.Decisions.{decisions}
 use Rattle.bus_ownerbits.specs.Election.{election_kind, election_op, election_fed, owner_of}
 pub use Rattle.bus_ownerbits.specs.Electors.{Elector, elections}

@@ -382,8 +382,10 @@ impl<Q: Ratifier + Drop> Turns<Q> {
     /// log and of the frame.
     #[inline(always)]
     pub fn stores_word(&self, begun: &mut u64, below: &mut u64, behind: &mut u64) -> bool
-        ensures { let X = election_of Q.Ratifier in IsTrue result
+        ensures word { let X = election_of Q.Ratifier in IsTrue result
             → doing_of (situation_of X self.now) ≡ doing.Word begun.new below.new behind.new }
+        ensures exact { let X = election_of Q.Ratifier in
+            IsWord (doing_of (situation_of X self.now)) → IsTrue result }
     {
         let Phase::Holding {
             tenure,
@@ -632,6 +634,8 @@ impl<Q: Ratifier + Drop> Turns<Q> {
             → (tenure words stored : ℕ)
             → doing_of (situation_of X self.old) ≡ doing.Word tenure words stored
             → StoresNext X self.new tenure words (stored + 1) value.new }
+        ensures exact { let X = election_of Q.Ratifier in
+            IsWord (doing_of (situation_of X self.new)) → IsTrue result }
     {
         let Phase::Holding {
             tenure,

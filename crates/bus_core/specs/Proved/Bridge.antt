@@ -4,7 +4,8 @@ use Rattle.bus_batch.specs.Frames.{Frame}
 use Rattle.bus_tenure.specs.Core.{Core, Election}
 use Rattle.bus_tenure.specs.Situations.{PageMove, Stays, Line as OwnLine, line_of, situation_of as own_situation}
 use Rattle.bus_core.specs.Reusing.Participants.{Due, Pins, Reclaims, Goes}
-use Rattle.bus_core.specs.Reusing.Turns.{Participant, due, op_due, kind_due, wants_due, rest_due, participant_due, answer_due}
+use Rattle.bus_core.specs.Proved.ParticipantTurns.{due, op_due, kind_due, wants_due, rest_due, participant_due, answer_due}
+use Rattle.bus_core.specs.Reusing.Turns.{Participant}
 use Rattle.bus_core.specs.Senders.{apart, again}
 use Rattle.bus_core.specs.Table.{Line, line_now, rest_at}
 

@@ -118,9 +118,6 @@ core_going X c z got word = (participant_line z).core X c got word
 abbrev pub pin_going : {E : Type 0} → Election E → Core E → Pin → Situation E → ℕ → ℕ → Pin
 pin_going X c v z got word = (participant_line z).pin X c v got word
 
-abbrev pub lost_going : {E : Type 0} → Election E → Core E → Option SenderNo → Situation E → ℕ → ℕ → Option SenderNo
-lost_going X c l z got word = (participant_line z).lost X c l got word
-
 abbrev pub reclaimer_going : {E : Type 0} → Layout → ℕ → Option Reclaiming → Situation E → Option Reclaiming
 reclaimer_going x rows s z = (participant_line z).reclaimer_after x rows s
 

@@ -7,9 +7,10 @@ use Rattle.bus_register.specs.Words.{register, SumFits}
 use Rattle.bus_batch.specs.Batches.{next_of}
 use Rattle.bus_deliverylog.specs.Receiving.{Receiving, receiving_op}
 use Rattle.bus_core.specs.Reusing.Participants.{log_from}
-use Rattle.bus_core.specs.Reusing.Turns.{Participant, op_next, words_with}
+use Rattle.bus_core.specs.Proved.ParticipantTurns.{op_next, words_with}
+use Rattle.bus_core.specs.Reusing.Turns.{Participant}
 use Rattle.bus_tenure.specs.Core.{Election, Layout}
-use Rattle.bus_world.specs.Bus.{IsLayout}
+use Rattle.bus_world.specs.World.{IsLayout}
 use Rattle.bus_world.specs.Proved.CyclicMachines.{CyclicTrails, CyclicReached}
 use Rattle.bus_world.proofs.CyclicMachineFits as fits
 use Rattle.bus_world.proofs.CyclicMachineLaws.{IsCyclicLayout, IsLed, cyclic_led}

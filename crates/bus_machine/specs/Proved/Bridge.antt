@@ -3,10 +3,11 @@ use Rattle.std.specs.Prelude.{◌≡◌, ℕ, Some, None, List, map, slice_get}
 use Rattle.bus_tenure.specs.Core.{Election, Layout}
 use Rattle.bus_core.specs.Reusing.Turns.{Participant}
 use Rattle.bus_core.specs.Senders.{apart, again}
-use Rattle.bus_world.specs.Playing.{Answers}
+use Rattle.bus_world.specs.Proved.Answers.{Answers}
 use Rattle.bus_world.specs.Proved.CyclicMachines.{CyclicMachine, CyclicTrails, CyclicReached}
-use Rattle.bus_world.specs.Trails.{Trails as PlainTrails, Reached as PlainReached, trails_grown as plain_grown}
-use Rattle.bus_world.specs.World.{Bus, Event, IsEvent, Happens as PlainHappens}
+use Rattle.bus_world.specs.Proved.Trails.{Trails as PlainTrails, Reached as PlainReached, trails_grown as plain_grown}
+use Rattle.bus_world.specs.Proved.Machines.{Bus, IsEvent, Happens as PlainHappens}
+use Rattle.bus_world.specs.World.{Event}
 use Rattle.bus_world.specs.declared.events.Answer.{Answer}
 use Rattle.bus_machine.specs.Proved.Cyclic.{OwnedCyclicMachine}
 use Rattle.bus_machine.specs.Machine.{Machine, Happens, Trails, trails_grown}

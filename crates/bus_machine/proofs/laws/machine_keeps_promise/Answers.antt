@@ -1,7 +1,7 @@
 use Rattle.std.proofs.Common.{sym, subst}
 use Rattle.bus_tenure.specs.Elections.{elections, election_with}
 use Rattle.bus_world.proofs.Serving.{Serves, serves}
-use Rattle.bus_world.specs.Bus.{IsLayout}
+use Rattle.bus_world.specs.World.{IsLayout}
 use Rattle.bus_machine.proofs.Leading.{Sits}
 use Rattle.bus_machine.proofs.Losing.{losses}
 use Rattle.bus_machine.proofs.Promised.{promised}

@@ -3,7 +3,7 @@ use Rattle.bus_ownerbits.specs.Sizes.{election_bound}
 use Rattle.bus_tenure.specs.Core.{Layout}
 use Rattle.bus_tenure.specs.Elections.{elections, election_with}
 use Rattle.bus_world.proofs.Serving.{Serves, serves}
-use Rattle.bus_world.specs.Bus.{IsLayout}
+use Rattle.bus_world.specs.World.{IsLayout}
 use Rattle.bus_machine.proofs.Bounding.{bounded}
 use Rattle.bus_machine.proofs.Leading.{Sits}
 use Rattle.bus_machine.proofs.PinBounds.{pins_bounded}

@@ -7,7 +7,7 @@ use Rattle.bus_core.specs.Keeping.{sender}
 use Rattle.bus_core.specs.Senders.{Sender, words_all}
 use Rattle.bus_core.specs.Table.{line_now}
 use Rattle.bus_core.proofs.Kept.{keeps_line, Keeps}
-use Rattle.bus_core.proofs.Plain.{plain_clearing, plain_cleared, plain_is_word, plain_worded, plain_due, clear_behind, word_behind}
+use Rattle.bus_core.proofs.Plain.{plain_clearing, plain_cleared, plain_is_word, plain_worded, plain_unpublished, plain_due, clear_behind, word_behind}
 use Rattle.bus_core.proofs.Reusing.Laws.{elections_keep}
 use Rattle.bus_core.proofs.cores.SenderCore.plain_done.Goals as goal
 
@@ -58,7 +58,7 @@ returns-then-has_published-clause-stores g c is =
     let kept = subst (Keeps X (λ x. (elections P x.rounds).width x.senders) (λ x me. (elections P x.rounds).Belongs x.senders me) law)
     (sym (plain_cleared X v plain published c.clear.new.reuse c.clear.ensures 0 0))
     (keeps_line X (λ x. (elections P x.rounds).width x.senders) (λ x me. (elections P x.rounds).Belongs x.senders me) law v 0 0 c.self.invariant (plain_due X v plain 0)) in
-    let s = c.clears.ensures is in
+    let s = c.clears.ensures.clears is in
     subst (StoresPlain X (sender i.turns c.clear.new.reuse) c.clears.new.at) (sym s.4)
     (clear_behind X v _ _ plain published c.clear.new.reuse c.clear.ensures kept s.0 s.1 s.2 _ s.3)
 
@@ -80,6 +80,15 @@ returns-then-not-next_word-clause-state g c got word =
     let none : HoldsPublished i.turns.phase → ⊥ = λ h. true≢false (sym (c.has_published.ensures.1 h) ∙ c.if-has_published.false) in
     plain_worded X v (subst (IsPlain X) (sym c.self.view_is) c.requires.plain) none c.next_word.new.self c.next_word.ensures.state got word
     ∙ ap (λ y. (line_now X y).fed got word) c.self.view_is
+
+pub returns-then-not-next_word-clause-exact : goal.returns-then-not-next_word-clause-exact
+returns-then-not-next_word-clause-exact g c next =
+    let X = election_with g.Q.Machine.kind_of g.Q.Machine.op g.Q.Machine.fed g.Q.Ratifier.protocol in
+    let i = c.self.inside in
+    let v : Sender (Elector g.row.Q.Denot) = record { core = i.turns; reuse = i.reuse } in
+    let none : HoldsPublished i.turns.phase → ⊥ = λ h. true≢false (sym (c.has_published.ensures.1 h) ∙ c.if-has_published.false) in
+    let still = plain_unpublished X v (subst (IsPlain X) (sym c.self.view_is) c.requires.plain) none c.next_word.new.self c.next_word.ensures.state in
+    absurd (true≢false (sym (c.next_word.ensures.exact (plain_is_word X (sender c.next_word.new.self i.reuse) next still)) ∙ c.if-not-next_word.true))
 
 pub invariant_of-self-then-not-next_word : goal.invariant_of-self-then-not-next_word
 invariant_of-self-then-not-next_word g c =

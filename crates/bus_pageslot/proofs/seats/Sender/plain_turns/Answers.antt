@@ -10,7 +10,7 @@ use Rattle.bus_pageslot.proofs.seats.Sender.plain_turns.Goals as goal
 pub loop-init : goal.loop-init
 loop-init g c =
     let X = election_with g.Q.Machine.kind_of g.Q.Machine.op g.Q.Machine.fed g.Q.Ratifier.protocol in
-    (refl, refl, subst (λ s. StoresPlain X s.core c.plain.new.at c.plain.new.value) c.self.view_is (c.plain.ensures c.if-not-plain.false))
+    (refl, refl, subst (λ s. StoresPlain X s.core c.plain.new.at c.plain.new.value) c.self.view_is (c.plain.ensures.stores c.if-not-plain.false))
 
 pub returns-then-not-store_on-clause-goes : goal.returns-then-not-store_on-clause-goes
 unfolding tells_with
