@@ -84,11 +84,8 @@ all_after x rows receivers frames f H h = record { each = λ r v e. hears_after 
 -- words whose log lies elsewhere
 module _ {base : ℕ → ℕ} (x : Layout) (rows : ℕ) (frames : List Frame) (W V : ℕ → ℕ) (log : Logged base x.senders x.capacity (log_at x) V (V 0) frames) (first : W 0 ≡ V 0) (same : (k : ℕ) → k < x.capacity → W (log_from x rows + k) ≡ V (log_at x + k))
     (v : Receiving) (trail : List RecvTurn) (h : HearsCyclic x rows frames v trail) (answer : RecvTurn) (next : Receiving) where
-  size_is : length (log_words frames) ≡ V 0
-  size_is = length-logged log
-
   own : IsReceiver x frames (V 0) (placed x v)
-  own = subst (λ k. IsReceiver x frames k (placed x v)) size_is h.own
+  own = subst (λ k. IsReceiver x frames k (placed x v)) (length-logged log) h.own
 
   found_same : recv_found W v ≡ recv_found V (placed x v)
   found_same = elim (eqb_tells v.place v.known) [
@@ -161,7 +158,7 @@ module _ {base : ℕ → ℕ} (x : Layout) (rows : ℕ) (frames : List Frame) (W
       let e = does_placed d in
       record {
         log = log_stays d ∙ h.log;
-        own = subst (λ k. IsReceiver x frames k (placed x next)) (sym size_is) (receiver_more x frames V log (placed x v) own answer (placed x next) e);
+        own = subst (λ k. IsReceiver x frames k (placed x next)) (sym (length-logged log)) (receiver_more x frames V log (placed x v) own answer (placed x next) e);
         hears = hears_more x frames V log (placed x v) own trail h.hears answer (placed x next) e;
       }
 

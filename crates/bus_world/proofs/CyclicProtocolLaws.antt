@@ -81,7 +81,7 @@ announcing_is t u h = cc
 validating_is : (t u : ℕ) → Validating t ≡ Validating u → t ≡ u
 validating_is t u h = cc
 
-pub owner_of : (o : Option ℕ) → is_some o ≡ true → (u : ℕ) × (o ≡ Some u)
+owner_of : (o : Option ℕ) → is_some o ≡ true → (u : ℕ) × (o ≡ Some u)
 owner_of None i = absurd (true≢false (sym i))
 owner_of (Some u) i = (u, refl)
 

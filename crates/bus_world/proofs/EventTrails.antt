@@ -16,7 +16,7 @@ use Rattle.bus_batch.specs.Batches.{next_of}
 use Rattle.bus_batch.specs.declared.batches.Phase.TheVariants.{Marking}
 use Rattle.bus_batch.specs.declared.messages.Mark.{Mark}
 use Rattle.bus_batch.specs.declared.messages.Mark.TheVariants as mark
-use Rattle.bus_batch.specs.Frames.{Frame, Leaves, AreFrames, log_words, log_pieces, order_of, owners_in, order_in, tenure_and_owner}
+use Rattle.bus_batch.specs.Frames.{Frame, Leaves, log_words, log_pieces, order_of, owners_in, order_in, tenure_and_owner}
 use Rattle.bus_deliverylog.specs.Orders.{of_sender}
 use Rattle.bus_deliverylog.specs.Receiving.{Receiving}
 use Rattle.bus_deliverylog.specs.declared.receiving.RecvTurn.{RecvTurn}
@@ -32,7 +32,6 @@ use Rattle.bus_ownerbits.specs.declared.stages.Stage.TheVariants as stage
 use Rattle.bus_ownerbits.specs.Election.{kind_at as election_kind_at}
 use Rattle.bus_tenure.specs.declared.phases.Phase.{Phase as SenderPhase}
 use Rattle.bus_batch.specs.Batches.{Pending, CanPut}
-use Rattle.bus_batch.proofs.FrameLaws.{same_log}
 use Rattle.std.proofs.lemmas.List.{map-append}
 use Rattle.std.proofs.lemmas.Bool.Decides.{nat_tests}
 use Rattle.std.proofs.lemmas.Bool.{le-leb}
@@ -41,21 +40,21 @@ use Rattle.bus_world.specs.Proved.Sending.{Fits}
 use Rattle.bus_world.proofs.FrameOwners.{owner_took, rise}
 use Rattle.bus_world.proofs.Beginning.{words_zero}
 use Rattle.bus_world.proofs.BusLaws as bus
-use Rattle.bus_world.specs.Headline.{Action, HasPut, HasMarked, Stepped, puts, Took, Asked, order_given, IsPrefix, Promises}
+use Rattle.bus_world.specs.Headline.{Action, HasPut, HasMarked, Stepped, puts, Took, Asked, IsPrefix, Promises}
 use Rattle.bus_world.specs.Log.{next_number, sent_count}
 use Rattle.bus_world.proofs.LogLaws.{length-logged}
 use Rattle.bus_world.specs.Proved.Machines.{Side, side_after, core_after, Bus, going, IsEvent, Happens, SenderDoes, with_sender, can_put, can_close, put_in, mark_in, IsNew, is_open}
 use Rattle.bus_world.specs.Turning.{number_found}
 use Rattle.bus_world.proofs.TurningLaws.{side_of}
 use Rattle.bus_world.proofs.WorldLaws.{counted_at, event_left, event_puts, new_is_lawful}
-use Rattle.bus_world.specs.Proved.Answers.{Answers, PutGives, CloseGives, TurnAnswers, RecvAnswers, log_of}
+use Rattle.bus_world.specs.Proved.Answers.{Answers, PutGives, CloseGives, TurnAnswers, RecvAnswers}
 use Rattle.bus_world.specs.Playing.{asked_answer}
 use Rattle.bus_world.specs.declared.events.Answer.{Answer}
 use Rattle.bus_world.specs.declared.events.Answer.TheVariants as answer
 use Rattle.bus_world.specs.Proved.Trails.{Trails, no_trails, trails_grown, actions_of, turning_actions, heard_of, answer_heard, IsPromisedBy, Reached}
 use Rattle.bus_world.specs.Trails.{put_actions, mark_actions, step_action}
 use Rattle.bus_world.specs.Proved.Trails.Reached.{New, Then}
-use Rattle.bus_world.specs.Proved.Invariants.{LawfulBus, given_at}
+use Rattle.bus_world.specs.Proved.Invariants.{LawfulBus}
 use Rattle.bus_world.proofs.Stopping.{is_there}
 use Rattle.bus_world.proofs.Waiting.{frames_after, put_by, waiting_of, waiting_at, accepted, accepted_by, event_frames, frames_by}
 use Rattle.bus_world.proofs.Tying.{AreNumbered, Hears, Tied}
@@ -448,11 +447,6 @@ module _ (bases : List ℕ) {E : Type 0} (X : Election E) (P : Protocol E (Unit 
   pub reached_kept : (b : Bus E) (T : Trails) → Reached X bases x b T → Kept b T
   reached_kept b T (New start new) = start_kept start new
   reached_kept b T (Then old new T' e a r is d w) = event_kept old new e a T' (reached_kept old T' r) is d w
-
-  -- what each receiver was given is what stands below its place
-  pub given_below : (b : Bus E) (T : Trails) (r : Reached X bases x b T) (frames : List Frame) → AreFrames x.senders frames → log_of (record { layout = x; bus = b }) ≡ log_words frames → (q : ℕ) (v : Receiving) → slice_get b.receivers q ≡ Some v → order_given (T.heard q) ≡ given_at frames v
-  given_below b T r frames lawful words q v i = let k = reached_kept b T r in let log = k.lawful.keeps.sending.log in
-      (k.tied.heard q v i).given_is ∙ ap (λ z. given_at z v) (same_log x.senders 0 0 k.frames frames log.lawful lawful (sym log.words_are ∙ words))
 
 -- the first step of an election is the announcement
 pub announce_first : {S : Type 0} (kind_of : S → Option Kind) (stage : Stage S) → begun_at stage ≡ false → election_kind_at kind_of stage ≡ Some kind.Announce

@@ -155,9 +155,6 @@ module _ (frames : List Frame) (v : Receiving) (trail : List RecvTurn) (h : Hear
       }
 
 module _ {base : ℕ → ℕ} (x : Layout) (frames : List Frame) (words : ℕ → ℕ) (log : Logged base x.senders x.capacity (log_at x) words (words 0) frames) (v : Receiving) (own : IsReceiver x frames (words 0) v) (trail : List RecvTurn) (h : Hears frames v trail) (answer : RecvTurn) (next : Receiving) where
-  size_is : length (log_words frames) ≡ words 0
-  size_is = length-logged log
-
   hears_step : v.ended ≡ false → RecvStep v (recv_found words v) answer next → Hears frames next (trail ++ answer ∷ [])
   hears_step on step = elim (cases_eq v.place v.known) [
     | inl e ↦
@@ -185,7 +182,7 @@ module _ {base : ℕ → ℕ} (x : Layout) (frames : List Frame) (words : ℕ �
                 | inr y ↦ ap (λ q. cond q (words v.length_at) (words (v.log_at + v.place))) y.0 ∙ ap (λ q. words (q + v.place)) own.log
               ] in
               let word_is : slice_index (log_words frames) v.place ≡ recv_found words v = ap (λ z. slice_index z v.place) (sym log.words_are) ∙ index-read words (log_at x) (words 0) v.place more ∙ sym got_is in
-              let size = size_is in
+              let size = length-logged log in
               let split = sym (next_word (log_words frames) v.place (recv_found words v) (omega arith) word_is) in
               let at = ok.gives frames (drop (suc v.place) (log_words frames)) (subst (λ z. AreFrames z frames) (sym own.senders) log.lawful) split in
               good frames v trail h answer next on ok.found (ap (slice_get (log_pieces frames)) had.place ∙ at) ok.answer_is (ap (λ (z : Receiving). z.place) ok.new_is) (ap (λ (z : Receiving). z.ended) ok.new_is)

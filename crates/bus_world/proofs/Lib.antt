@@ -30,5 +30,4 @@ pub mod CyclicProtocolWords
 pub mod CyclicProtocolNotes
 pub mod CyclicProtocolHears
 pub mod CyclicProtocolLaws
-pub mod CyclicMachineLaws
-pub mod CyclicMachineFits
+pub mod PlacedSteps

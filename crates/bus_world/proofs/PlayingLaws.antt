@@ -1,48 +1,24 @@
--- What a program holds stays a bus.
-use Rattle.std.proofs.Common.{◌≡◌, ◌≢◌, ℕ, zero, suc, ◌+◌, ◌*◌, ◌/◌, ◌<◌, ◌≤◌, Bool, true, false, cond, ◌==◌, nat_le, Option, Some, None, ◌⊎◌, inl, inr, List, [], ◌∷◌, length, map, get_or, slice_get, slice_index, slice_set, arith, refl, sym, ◌∙◌, ap, subst}
-use Rattle.std.specs.Prelude.{Result, Ok, Err, IsErr, IsErrAnd, IfErr, IfSome, All}
-use Rattle.std.proofs.lemmas.Bool.{true≢false}
-use Rattle.std.proofs.lemmas.Bool.Decides.{eqb_tells}
+-- Lists, bytes, numbers and results of a program; and who took the page, as an answer tells it.
+use Rattle.std.proofs.Common.{◌≡◌, ℕ, zero, suc, ◌/◌, ◌<◌, Bool, true, false, cond, ◌==◌, nat_le, Option, Some, None, List, [], ◌∷◌, length, map, get_or, slice_get, slice_set, arith, refl, sym, ◌∙◌, ap, subst}
+use Rattle.std.specs.Prelude.{Result, Ok, Err, IsErr, IsErrAnd, IfErr, All}
 use Rattle.std.proofs.lemmas.Grind.{common_steps}
 use Rattle.std.proofs.lemmas.List.{length-map}
 use Rattle.std.proofs.lemmas.Option.{gets, slice_get-get_or, same_Some}
 use Rattle.bus_register.specs.declared.registers.SenderNo.{SenderNo}
-use Rattle.bus_register.specs.Protocol.{Protocol, Laws}
-use Rattle.bus_register.specs.Words.{register, SumFits}
-use Rattle.bus_register.specs.declared.registers.Op.{Op}
-use Rattle.bus_register.specs.declared.registers.Op.TheVariants.{Load, Store}
-use Rattle.bus_register.specs.Tables.{of_some}
 use Rattle.bus_batch.specs.declared.batches.Phase.{Phase as BatchPhase}
 use Rattle.bus_batch.specs.declared.batches.Phase.TheVariants.{Open, Marking, Closed}
 use Rattle.bus_batch.specs.declared.messages.Mark.TheVariants as mark
-use Rattle.bus_deliverylog.specs.Receiving.{Receiving, receiving_op}
-use Rattle.bus_ownerbits.specs.OneOwner.{OneOwner}
-use Rattle.bus_tenure.specs.Core.{Core, Election, Layout, words_of}
-use Rattle.bus_tenure.specs.Situations.{waits, Situation, IsClosed, IsIdle, IsSpent, LooksAtStage, Elects, TakesPage, AwaitsPage, StoresWord, StoresLength, GivesBack, HasHanded, situation_of, op_at, answer_at, answer_of_election, answer_of_return, answer_sent}
+use Rattle.bus_tenure.specs.Core.{Core, Election}
+use Rattle.bus_tenure.specs.Situations.{waits, Situation, LooksAtStage, Elects, GivesBack, HasHanded, answer_at, answer_of_election, answer_of_return, answer_sent}
 use Rattle.bus_tenure.specs.declared.phases.Reason.{Reason}
 use Rattle.bus_tenure.specs.declared.phases.Reason.TheVariants.{Sent, FoundEnd, NoRoom}
-use Rattle.bus_tenure.specs.declared.turns.Turn.{Turn as Answered}
 use Rattle.bus_tenure.specs.declared.turns.Turn.TheVariants as turn
-use Rattle.bus_world.specs.World.{IsLayout}
-use Rattle.bus_world.specs.Proved.Sending.{Part, stands_at, standing_of}
-use Rattle.bus_register.specs.Proved.TableLaws.{push_here}
-use Rattle.bus_world.specs.Proved.Machines.{side_after, owners_after, Bus, has_stopped}
-use Rattle.bus_world.specs.Turning.{number_found, owners_by}
-use Rattle.bus_world.proofs.Waiting.{frames_after}
-use Rattle.bus_world.proofs.TurningLaws.{turn_lawful, IsSide, side_of}
-use Rattle.bus_world.specs.Proved.Receiving.{IsReceiver}
-use Rattle.bus_tenure.proofs.Situated.{tells}
-use Rattle.bus_world.specs.Proved.Answers.{SizedBus}
-use Rattle.bus_world.specs.Proved.Invariants.{MachineInvariant}
+use Rattle.bus_world.specs.Proved.Machines.{owners_after}
+use Rattle.bus_world.specs.Turning.{owners_by}
 
 -- a list with the same element in its place
 pub set_same : {A : Type 0} (xs : List A) (p : ℕ) (x : A) → slice_get xs p ≡ Some x → slice_set xs p x ≡ xs
 set_same xs p x h = grind (arith, common_steps, gets)
-
-module _ {E : Type 0} (X : Election E) (P : Protocol E (Unit {0}) ℕ) (x : Layout) (laws : Laws X.op X.fed P OneOwner) (width : x.width ≡ P.width x.senders)
-    (starts : (n me at : ℕ) → X.started n me x.rounds at ≡ P.started n me tt at) (owner_is : (e : E) → X.owner e ≡ P.output e) where
-  pub layout_served : {bases : List ℕ} (b : Bus E) → MachineInvariant X bases P record { layout = x; bus = b } → IsLayout x
-  layout_served b h = record { senders = h.senders_few; rows = (let z = h.rows_few in omega arith); capacity = (let z = h.capacity_few in omega arith) }
 
 -- ---- results
 
@@ -99,87 +75,3 @@ one_there (x ∷ xs) (suc r) l = one_there xs r (omega arith)
 -- the bytes of a program are bytes
 pub small_bytes : (bytes : List ℕ) → ((i : ℕ) → get_or bytes i 0 < 256) → All (λ byte. byte < 256) bytes
 small_bytes bytes f k d l = subst (λ z. z < 256) (same_Some _ _ (sym (slice_get-get_or bytes k 0 l) ∙ slice_get-get_or bytes k d l)) (f k)
-
-module _ {E : Type 0} (X : Election E) (P : Protocol E (Unit {0}) ℕ) (x : Layout) (laws : Laws X.op X.fed P OneOwner) (width : x.width ≡ P.width x.senders)
-    (starts : (n me at : ℕ) → X.started n me x.rounds at ≡ P.started n me tt at) (owner_is : (e : E) → X.owner e ≡ P.output e)
-    {bases : List ℕ} (b : Bus E) (h : MachineInvariant X bases P record { layout = x; bus = b }) (now : SizedBus E) (is : record { layout = x; bus = b } ≡ now) where
-  served : IsLayout x
-  served = layout_served X P x laws width starts owner_is b h
-
-  -- ---- where there is none, or it has stopped
-
-  -- the words and the range that the step of a sender wants, whoever has stopped
-  module _ (s : ℕ) (c : Core E) (old : slice_get b.side.senders s ≡ Some c) where
-    part : Part (slice_index bases) x (slice_index b.side.words) h.frames s c
-    part = h.lawful.keeps.sending.parts s c old
-
-    pub words_enough : length b.side.words ≡ words_of c.layout
-    words_enough = h.lawful.words ∙ ap words_of (sym part.layout)
-
-    module _ (word : ℕ) where
-      kept_below : (o : Op) (r v : ℕ) → Store record { 0 = r } v ≡ o → SumFits o (slice_index b.side.words (register o))
-      kept_below o r v e = subst (λ z. SumFits z (slice_index b.side.words (register z))) e tt
-
-      -- what an election adds to stays in range
-      election_fits : (t : ℕ) (e : E) → situation_of X c ≡ Elects t e → (o : Op) → X.op e word ≡ Some o → SumFits o (slice_index b.side.words (register o))
-      election_fits t e i o w =
-          let tenures = h.lawful.keeps.sending.tenures in
-          let has = tenures.electing s t e (ap (of_some standing_of) old ∙ ap (λ z. Some (stands_at z)) (tells X c (Elects t e) i).0) in
-          laws.fits x.senders (2 + t * P.width x.senders) (slice_index b.side.words) (tenures.elections t) s e word o (tenures.kept t has.0) has.2 w
-
-      sums_at : (z : Situation E) → situation_of X c ≡ z → (o : Op) → op_at X c z word ≡ Some o → SumFits o (slice_index b.side.words (register o))
-      sums_at IsClosed i o w = absurd cc
-      sums_at IsIdle i o w = absurd cc
-      sums_at IsSpent i o w = absurd cc
-      sums_at LooksAtStage i o w = subst (λ z. SumFits z (slice_index b.side.words (register z))) (same_Some _ _ w) tt
-      sums_at (Elects t e) i o w = election_fits t e i o w
-      sums_at (TakesPage t) i o w = kept_below o 1 (2 * t + 1) (same_Some _ _ w)
-      sums_at (AwaitsPage t) i o w = absurd cc
-      sums_at (StoresWord t page stored) i o w = kept_below o _ _ (same_Some _ _ w)
-      sums_at (StoresLength t page stored) i o w = kept_below o 0 _ (same_Some _ _ w)
-      sums_at (GivesBack t page reason) i o w = kept_below o 1 (2 * t + 2) (same_Some _ _ w)
-      sums_at (HasHanded t reason) i o w = kept_below o 1 (2 * t + 2) (same_Some _ _ w)
-
-      pub sums_fit : (o : Op) → op_at X c (situation_of X c) word ≡ Some o → SumFits o (slice_index b.side.words (register o))
-      sums_fit o w = sums_at (situation_of X c) refl o w
-
-  -- ---- of a sender that goes on
-  module _ (s : ℕ) (c : Core E) (old : slice_get b.side.senders s ≡ Some c) (free : has_stopped now.bus s ≡ false) where
-    -- ---- a turn
-    module _ (word : ℕ) where
-      abbrev step_found : ℕ
-      step_found = number_found (slice_index b.side.words) (op_at X c (situation_of X c) word)
-
-      abbrev answered : Answered
-      answered = answer_at X c (situation_of X c) step_found word
-
-      turn_keeps : IsSide (slice_index bases) P x (side_after X b.side s c (situation_of X c) word) (frames_after X c (situation_of X c) h.frames)
-      turn_keeps = turn_lawful X P laws x served width starts owner_is b.side h.frames (side_of h.lawful) s c old word
-
-      -- there is room for one more owner
-      pub owner_fits : (t : ℕ) → answered ≡ turn.Own t → length b.side.owners < 256
-      owner_fits t told =
-          let more = owners_told X c s b.side.owners (situation_of X c) step_found word ∙ ap (λ a. owners_by a s b.side.owners) told in
-          let own = turn_keeps.sending.tenures.owned (length b.side.owners) s (ap (λ l. slice_get l (length b.side.owners)) more ∙ push_here b.side.owners s (length b.side.owners) refl) in
-          let below = own.0 in let few = h.rows_few in
-          omega arith
-
-  -- ---- a turn of a receiver
-  module _ (r : ℕ) (v : Receiving) (old : slice_get b.receivers r ≡ Some v) where
-    own_reader : IsReceiver x h.frames (slice_index b.side.words 0) v
-    own_reader = h.lawful.keeps.receiving r v old
-
-    pub loads_within : IfSome (receiving_op v) (λ o. register o < length b.side.words)
-    loads_within = by_end v.ended (v.place == v.known) (eqb_tells v.place v.known)
-      where
-        few : 2 ≤ length b.side.words
-        few = let z = h.lawful.words in omega arith
-
-        by_end : (e q : Bool) → ((q ≡ true) × (v.place ≡ v.known)) ⊎ ((q ≡ false) × (v.place ≢ v.known)) → IfSome (cond {A = Option Op} e None (cond q (Some (Load (record { 0 = v.length_at }))) (Some (Load (record { 0 = v.log_at + v.place }))))) (λ o. register o < length b.side.words)
-        by_end true q how = tt
-        by_end false true how = let a = own_reader.len_at in let z = few in omega arith
-        by_end false false (inl how) = absurd (true≢false (sym how.0))
-        by_end false false (inr how) =
-            let a = own_reader.log in let z = h.lawful.words in let d = own_reader.receives.place_below in let g = own_reader.receives.known_below in let f = h.lawful.keeps.sending.log.fits in let ne = how.1 in
-            let below : v.place < v.known = omega arith in
-            omega arith

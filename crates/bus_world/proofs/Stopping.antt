@@ -1,5 +1,5 @@
 -- Who goes on, and who has stopped.
-use Rattle.std.proofs.Common.{◌≡◌, ℕ, zero, suc, Bool, true, false, cond, Option, Some, None, List, [], ◌∷◌, get_or, slice_get, refl}
+use Rattle.std.proofs.Common.{◌≡◌, ℕ, zero, suc, Bool, true, false, cond, Option, Some, None, List, [], ◌∷◌, get_or, slice_get}
 use Rattle.std.proofs.lemmas.Option.{none-some}
 use Rattle.bus_tenure.specs.Core.{Core}
 use Rattle.bus_world.specs.Proved.Machines.{Bus, has_stopped, going}
@@ -9,17 +9,9 @@ pub shown_there : {A : Type 0} (t : Bool) (o : Option A) (v : A) → cond t None
 shown_there true o v e = absurd (none-some v e)
 shown_there false o v e = e
 
-shown_free : {A : Type 0} (t : Bool) (o : Option A) (v : A) → cond t None o ≡ Some v → t ≡ false
-shown_free true o v e = absurd (none-some v e)
-shown_free false o v e = refl
-
 -- who goes on is there
 pub is_there : {E : Type 0} (b : Bus E) (s : ℕ) (c : Core E) → going b s ≡ Some c → slice_get b.side.senders s ≡ Some c
 is_there b s c e = shown_there (has_stopped b s) (slice_get b.side.senders s) c e
-
--- and has not stopped
-pub not_stopped : {E : Type 0} (b : Bus E) (s : ℕ) (c : Core E) → going b s ≡ Some c → has_stopped b s ≡ false
-not_stopped b s c e = shown_free (has_stopped b s) (slice_get b.side.senders s) c e
 
 -- ---- what is refused as a stop is
 pub set_there : (l : List Bool) (s : ℕ) → get_or l s false ≡ true → is_set (slice_get l s) ≡ true

@@ -1,16 +1,10 @@
 -- What is read from the words of a bus, and what a new one is made of.
-use Rattle.std.proofs.Common.{◌≡◌, ℕ, zero, suc, ◌+◌, ◌≤◌, Some, List, [], ◌∷◌, ◌++◌, length, take, drop, slice_get, slice_index, arith, refl, sym, ◌∙◌, ap}
+use Rattle.std.proofs.Common.{◌≡◌, ℕ, zero, suc, ◌+◌, ◌≤◌, List, [], ◌∷◌, ◌++◌, length, take, drop, slice_index, arith, refl, sym, ◌∙◌, ap}
 use Rattle.std.proofs.lemmas.List.{get_or-drop, take_more, length-take, length-drop, take-append-drop, take-append-le, take_all}
 use Rattle.bus_register.specs.declared.registers.SenderNo.{SenderNo}
-use Rattle.bus_register.specs.Protocol.{Protocol}
 use Rattle.bus_batch.specs.Frames.{Frame, AreFrames, Order, log_words, log_pieces, order_in}
 use Rattle.bus_deliverylog.specs.Logs.{HasGiven}
-use Rattle.bus_deliverylog.specs.Receiving.{Receiving}
-use Rattle.bus_tenure.specs.Core.{Election, log_at}
 use Rattle.bus_world.specs.Log.{words_read_from}
-use Rattle.bus_world.proofs.LogLaws.{length-read}
-use Rattle.bus_world.specs.Proved.Answers.{SizedBus, log_of}
-use Rattle.bus_world.specs.Proved.Invariants.{MachineInvariant}
 
 -- words of a list, from a place on
 pub read-list : (words : List ℕ) (at k : ℕ) → at + k ≤ length words → words_read_from (slice_index words) at k ≡ take k (drop at words)
@@ -18,15 +12,6 @@ read-list words at zero l = refl
 read-list words at (suc k) l =
     let size = length-drop at words in
     ap (λ z. z ++ slice_index words (at + k) ∷ []) (read-list words at k (omega arith)) ∙ ap (λ z. take k (drop at words) ++ z ∷ []) (sym (get_or-drop at words k 0)) ∙ sym (take_more (drop at words) k 0 (omega arith)) ∙ ap (λ j. take j (drop at words)) (let one : k + 1 ≡ suc k = omega arith in one)
-
-module _ {E : Type 0} {X : Election E} (P : Protocol E (Unit {0}) ℕ) (z : SizedBus E) {bases : List ℕ} (h : MachineInvariant X bases P z) where
-  -- as many words of the log as the length says
-  pub length-log : length (log_of z) ≡ slice_index z.bus.side.words 0
-  length-log = length-read (slice_index z.bus.side.words) (log_at z.layout) (slice_index z.bus.side.words 0)
-
-  -- a receiver's place is in it
-  pub place_within : (r : ℕ) (v : Receiving) → slice_get z.bus.receivers r ≡ Some v → v.place ≤ length (log_of z)
-  place_within r v e = let a = (h.lawful.keeps.receiving r v e).receives in let b = a.place_below in let d = a.known_below in let s = length-log in omega arith
 
 -- the first words of frames give their first pieces
 pub front_given : (n k : ℕ) (frames : List Frame) (words : List ℕ) (order : Order) (owners : List (ℕ × SenderNo)) → AreFrames n frames → words ≡ log_words frames → k ≤ length words → HasGiven n (take k words) order owners → order ≡ order_in (take k (log_pieces frames))

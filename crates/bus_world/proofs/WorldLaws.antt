@@ -1,5 +1,5 @@
 -- Every event keeps the bus lawful, and a lawful bus keeps its promises.
-use Rattle.std.proofs.Common.{◌≡◌, ◌≢◌, ℕ, zero, suc, ◌+◌, ◌<◌, ◌^◌, Bool, true, false, cond, ◌&&◌, ◌==◌, nat_lt, nat_le, Option, Some, None, ◌⊎◌, inl, inr, List, [], ◌∷◌, ◌++◌, length, map, take, slice_get, slice_index, slice_set, arith, refl, sym, ◌∙◌, ap, subst, append_assoc}
+use Rattle.std.proofs.Common.{◌≡◌, ◌≢◌, ℕ, zero, suc, ◌+◌, ◌<◌, Bool, true, false, cond, ◌&&◌, ◌==◌, nat_lt, nat_le, Option, Some, None, ◌⊎◌, inl, inr, List, [], ◌∷◌, ◌++◌, length, map, take, slice_get, slice_index, slice_set, arith, refl, sym, ◌∙◌, ap, subst, append_assoc}
 use Rattle.std.specs.Prelude.{All}
 use Rattle.std.proofs.lemmas.Bool.{and_parts, cases_eq, cases_lt}
 use Rattle.std.proofs.lemmas.Bool.Decides.{eqb_tells}
@@ -10,7 +10,6 @@ use Rattle.bus_register.specs.Protocol.{Protocol, Laws}
 use Rattle.bus_batch.specs.declared.batches.Phase.TheVariants.{Marking}
 use Rattle.bus_batch.specs.declared.messages.Mark.{Mark}
 use Rattle.bus_batch.specs.declared.messages.Item.{Item}
-use Rattle.bus_batch.specs.Batches.{next_of}
 use Rattle.bus_batch.specs.Frames.{IsBadWord, Frame, order_of, log_words, frame_words, log_pieces}
 use Rattle.bus_tenure.specs.Core.{Core, Election, Layout, log_at, words_of, is_empty}
 use Rattle.bus_tenure.specs.Situations.{situation_of, line_of}
@@ -52,9 +51,6 @@ same_side {base} P x frames side side' e h = subst (λ z. IsSide base P x z fram
 module _ {E : Type 0} (X : Election E) (P : Protocol E (Unit {0}) ℕ) (laws : Laws X.op X.fed P OneOwner) (x : Layout) (ok : IsLayout x) (width : x.width ≡ P.width x.senders)
     (starts : (n me at : ℕ) → X.started n me x.rounds at ≡ P.started n me tt at) (owner_is : (e : E) → X.owner e ≡ P.output e) where
   module _ {base : ℕ → ℕ} (side : Side E) (frames : List Frame) (h : IsSide base P x side frames) (p : ℕ) (c : Core E) (old : slice_get side.senders p ≡ Some c) where
-    pub numbers_fit : next_of c.queue < 2 ^ 48
-    numbers_fit = accepting.numbers_fit X P laws x ok width (slice_index side.words) side.home side.owners frames p (slice_get side.senders) h.sending c old
-
     -- what it accepts keeps what the senders keep
     accept_lawful : (a : Accepted) → AreAccepted (a ∷ []) → IsSide base P x (with_sender side p (accept c a)) frames
     accept_lawful a each = record {
@@ -65,13 +61,10 @@ module _ {E : Type 0} (X : Election E) (P : Protocol E (Unit {0}) ℕ) (laws : L
 
 -- ---- receivers
 module _ {base : ℕ → ℕ} (x : Layout) (frames : List Frame) (words : ℕ → ℕ) (log : Logged base x.senders x.capacity (log_at x) words (words 0) frames) (v : Receiving) (h : IsReceiver x frames (words 0) v) where
-  size_is : length (log_words frames) ≡ words 0
-  size_is = length-logged log
-
   pub received : HasReceived (take v.place (log_words frames)) (take v.place (log_pieces frames)) v
   received = record {
     read = subst (λ z. HasRead z (take v.place (log_words frames)) (take v.place (log_pieces frames)) v.frames) (sym h.senders) h.receives.has_read;
-    place = sym (length-take v.place (log_words frames) ∙ (let a = h.receives.place_below in let b = h.receives.known_below in let d = size_is in omega arith));
+    place = sym (length-take v.place (log_words frames) ∙ (let a = h.receives.place_below in let b = h.receives.known_below in let d = length-logged log in omega arith));
   }
 
   module _ (answer : RecvTurn) (next : Receiving) where
@@ -98,7 +91,7 @@ module _ {base : ℕ → ℕ} (x : Layout) (frames : List Frame) (words : ℕ �
         ap (λ z. slice_index z v.place) (sym log.words_are) ∙ index-read words (log_at x) (words 0) v.place (let a = h.receives.known_below in omega arith) in
         elim (s.at_word ne (take v.place (log_words frames)) (take v.place (log_pieces frames)) received) [
           | inl bad ↦ absurd (subst (λ z. IsBadWord z (take v.place (log_words frames)) (words (log_at x + v.place))) h.senders bad.0
-              (goes_on x.senders frames (words 0) v.place v.known v.frames h.receives log.lawful size_is more (words (log_at x + v.place)) word_is))
+              (goes_on x.senders frames (words 0) v.place v.known v.frames h.receives log.lawful (length-logged log) more (words (log_at x + v.place)) word_is))
           | inr good ↦
               let senders_now : next.frames.senders ≡ x.senders = s.senders ∙ h.senders in
               let n = good.new_is in
@@ -108,7 +101,7 @@ module _ {base : ℕ → ℕ} (x : Layout) (frames : List Frame) (words : ℕ �
                 len_at = ap (λ (z : Receiving). z.length_at) n ∙ h.len_at;
                 log_words = ap (λ (z : Receiving). z.log_words) n ∙ h.log_words;
                 receives = subst (λ z. Receives x.senders frames (words 0) z next.known next.frames) (sym (ap (λ (z : Receiving). z.place) n)) (subst (λ z. Receives x.senders frames (words 0) (v.place + 1) z next.frames) (sym (ap (λ (z : Receiving). z.known) n))
-                    (Receives-word x.senders frames (words 0) v.place v.known v.frames h.receives log.lawful size_is more (words (log_at x + v.place)) word_is good.found next.frames
+                    (Receives-word x.senders frames (words 0) v.place v.known v.frames h.receives log.lawful (length-logged log) more (words (log_at x + v.place)) word_is good.found next.frames
                     (subst (λ z. HasRead z (take v.place (log_words frames) ++ words (log_at x + v.place) ∷ []) (take v.place (log_pieces frames) ++ good.found ∷ []) next.frames) senders_now good.received.read)));
               }
         ]

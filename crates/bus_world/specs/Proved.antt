@@ -1,5 +1,4 @@
--- The bus with a row for each tenure by itself, the bus whose rows are used again with its words in a list, and what each keeps: of proofs
--- alone, to be passed over.
+-- The bus with a row for each tenure by itself, the bus whose rows are used again, and what each keeps: of proofs alone, to be passed over.
 pub mod Tenures
 pub mod Sending
 pub mod Receiving
@@ -9,4 +8,3 @@ pub mod Trails
 pub mod Invariants
 pub mod CyclicProtocols
 pub mod KeptProtocols
-pub mod CyclicMachines

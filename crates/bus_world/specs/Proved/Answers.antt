@@ -1,26 +1,16 @@
--- The bus with a row for each tenure, with its sizes, and what it answers to each event.
+-- What the bus with a row for each tenure answers to each event.
 use Rattle.std.specs.Prelude.{◌≡◌, ℕ, Option, Some, None, List, length, slice_get, slice_index, slice_set}
 use Rattle.bus_batch.specs.Batches.{next_of, CanPut, CanClose}
 use Rattle.bus_deliverylog.specs.Receiving.{Receiving}
 use Rattle.bus_deliverylog.specs.declared.receiving.RecvTurn.{RecvTurn}
-use Rattle.bus_tenure.specs.Core.{Core, Election, Layout, log_at}
+use Rattle.bus_tenure.specs.Core.{Core, Election}
 use Rattle.bus_tenure.specs.Situations.{situation_of, op_at, answer_at}
-use Rattle.bus_world.specs.Log.{words_read_from}
 use Rattle.bus_world.specs.Turning.{number_found}
 use Rattle.bus_world.specs.Proved.Machines.{Bus, going}
 use Rattle.bus_world.specs.World.{Event, Put, Ask, Turn, Recv, Stop, RecvDoes}
 use Rattle.bus_world.specs.declared.events.Answer.{Answer}
 use Rattle.bus_world.specs.declared.events.Answer.TheVariants as answer
 use Rattle.bus_world.specs.Playing.{asked_answer}
-
--- a bus with its sizes
-pub record SizedBus (E : Type 0) : Type 0 where
-  pub layout : Layout
-  pub bus : Bus E
-
--- the words of its log below the length
-abbrev pub log_of : {E : Type 0} → SizedBus E → List ℕ
-log_of z = words_read_from (slice_index z.bus.side.words) (log_at z.layout) (slice_index z.bus.side.words 0)
 
 -- a message of so many bytes gets the number that was told before
 abbrev pub PutGives : {E : Type 0} → Option (Core E) → ℕ → ℕ → Type 0

@@ -1,13 +1,10 @@
 -- What every bus with a row for each tenure keeps.
-use Rattle.std.specs.Prelude.{◌≡◌, ℕ, List, length, take, slice_get, slice_index, ◌≤◌, Option, Some}
-use Rattle.bus_register.specs.declared.limits.TheConstants.{MOST_SENDERS, MOST_ROWS, MOST_LOG_WORDS}
+use Rattle.std.specs.Prelude.{◌≡◌, ℕ, List, length, take, slice_get, slice_index, Option, Some}
 use Rattle.bus_register.specs.Protocol.{Protocol}
 use Rattle.bus_batch.specs.Frames.{Frame, Order, order_in, log_pieces}
 use Rattle.bus_deliverylog.specs.Receiving.{Receiving}
-use Rattle.bus_tenure.specs.Core.{Election, Layout, words_of, Core}
-use Rattle.bus_world.specs.Proved.Answers.{SizedBus}
+use Rattle.bus_tenure.specs.Core.{Layout, words_of, Core}
 use Rattle.bus_world.specs.Proved.Machines.{Bus}
-use Rattle.bus_world.specs.Proved.Trails.{Trails, Reached}
 use Rattle.bus_world.specs.Proved.Sending.{Sending}
 use Rattle.bus_world.specs.Proved.Receiving.{IsReceiver}
 use Rattle.bus_tenure.specs.declared.pages.Page.{Page}
@@ -25,14 +22,3 @@ pub record LawfulBus {E : Type 0} (base : ℕ → ℕ) (P : Protocol E (Unit {0}
 -- what a receiver was given: the items, the leave marks and the end among the pieces below its place
 abbrev pub given_at : List Frame → Receiving → Order
 given_at frames v = order_in (take v.place (log_pieces frames))
-
--- what every bus that a program holds keeps: some trails lead to it
-pub record MachineInvariant {E : Type 0} (X : Election E) (bases : List ℕ) (P : Protocol E (Unit {0}) ℕ) (z : SizedBus E) : Type 0 where
-  pub senders_few : z.layout.senders ≤ MOST_SENDERS
-  pub rows_few : z.layout.rows ≤ MOST_ROWS
-  pub capacity_few : z.layout.capacity ≤ MOST_LOG_WORDS
-  pub senders : length z.bus.side.senders ≡ z.layout.senders
-  pub frames : List Frame
-  pub lawful : LawfulBus (slice_index bases) P z.layout z.bus frames
-  pub trails : Trails
-  pub reached : Reached X bases z.layout z.bus trails

@@ -3,13 +3,14 @@ use Rattle.std.specs.Prelude.{ℕ, Option, Some, None, List, [], ◌∷◌, ◌+
 use Rattle.bus_register.specs.declared.registers.SenderNo.{SenderNo}
 use Rattle.bus_batch.specs.Frames.{Order, Spells}
 use Rattle.bus_deliverylog.specs.declared.receiving.RecvTurn.{RecvTurn}
-use Rattle.bus_tenure.specs.Core.{Core, Election, Layout}
+use Rattle.bus_tenure.specs.Core.{Core, Election, Layout, log_at}
 use Rattle.bus_tenure.specs.Situations.{Situation, situation_of, tenure_at, kind_at, op_at, chosen_at}
 use Rattle.bus_world.specs.Headline.{Action, Promises}
+use Rattle.bus_world.specs.Log.{words_read_from}
 use Rattle.bus_world.specs.Turning.{number_found}
 use Rattle.bus_world.specs.Proved.Machines.{Bus, going, IsEvent, Happens, IsNew}
 use Rattle.bus_world.specs.World.{Event, Put, Ask, Turn, Recv, Stop}
-use Rattle.bus_world.specs.Proved.Answers.{Answers, log_of}
+use Rattle.bus_world.specs.Proved.Answers.{Answers}
 use Rattle.bus_world.specs.declared.events.Answer.{Answer}
 use Rattle.bus_world.specs.declared.events.Answer.TheVariants as answer
 use Rattle.bus_world.specs.Trails.{step_action, put_actions, mark_actions, Takers}
@@ -71,6 +72,6 @@ pub data Reached {E : Type 0} (X : Election E) (bases : List ℕ) (x : Layout) :
 -- ---- what is promised of a bus
 -- the promise holds of these trails, with the order and the owners that the words below the length spell
 pub record IsPromisedBy {E : Type 0} (bases : List ℕ) (x : Layout) (b : Bus E) (T : Trails) (order : Order) (owners : List (ℕ × SenderNo)) : Type 0 where
-  pub spelled : Spells x.senders (log_of record { layout = x; bus = b }) order owners
+  pub spelled : Spells x.senders (words_read_from (slice_index b.side.words) (log_at x) (slice_index b.side.words 0)) order owners
   pub takers : Takers b.side.owners T.actions
   pub promises : Promises (slice_index bases) T.actions T.heard order owners
