@@ -30,7 +30,7 @@ use Rattle.bus_tenure.specs.Situations.{Situation as Own, IsClosed, IsIdle, IsSp
 use Rattle.bus_tenure.specs.declared.turns.Turn.{Turn as Answered}
 use Rattle.bus_world.proofs.Beginning.{zeros}
 use Rattle.bus_world.proofs.EventTrails.{put_taken, mark_adds}
-use Rattle.bus_world.proofs.CyclicMachineLaws.{placed_found}
+use Rattle.bus_world.proofs.PlacedSteps.{placed_found}
 use Rattle.bus_world.proofs.Serving.{Serves}
 use Rattle.bus_world.proofs.Stopping.{shown_there}
 use Rattle.bus_world.specs.World.{IsLayout, Event, Put, Ask, Turn, Recv, Stop, IsNewReceiver}

@@ -41,7 +41,7 @@ use Rattle.bus_world.specs.Proved.Machines.{home_after, is_open, can_put, can_cl
 use Rattle.bus_world.specs.Proved.CyclicProtocols.{CyclicProtocol, Led, Turned, AnswersDue, due_in, due_actions, trails_with, protocol_after, words_stepped, word_found}
 use Rattle.bus_world.specs.Trails.{actions_with}
 use Rattle.bus_world.proofs.Serving.{Serves}
-use Rattle.bus_world.proofs.CyclicMachineLaws.{same_register, placed_found, due_goes}
+use Rattle.bus_world.proofs.PlacedSteps.{same_register, placed_found, due_goes}
 use Rattle.bus_world.proofs.CyclicProtocolLaws.{HasKept, led_kept}
 use Rattle.bus_world.proofs.CyclicProtocolWords.{put_is}
 use Rattle.bus_machine.proofs.AtHome.{held_stands, finds_page, holds_page}

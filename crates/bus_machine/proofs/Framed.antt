@@ -30,7 +30,7 @@ use Rattle.bus_tenure.specs.Situations.{Elects}
 use Rattle.bus_tenure.specs.declared.phases.Phase.TheVariants.{Electing}
 use Rattle.bus_tenure.specs.Core.{Core, Election, Layout, log_at, row_at}
 use Rattle.bus_world.proofs.EventTrails as plain
-use Rattle.bus_world.proofs.CyclicMachineLaws.{same_register}
+use Rattle.bus_world.proofs.PlacedSteps.{same_register}
 use Rattle.bus_world.proofs.CyclicProtocolHears.{placed}
 use Rattle.bus_world.proofs.LogLaws.{length-read}
 use Rattle.bus_world.proofs.Serving.{Serves}
