@@ -5,7 +5,7 @@ use Rattle.bus_script.specs.declared.answers.Outcome.{Outcome}
 use Rattle.bus_run.specs.declared.faults.RunFault.{RunFault}
 use Rattle.bus_commands.specs.declared.streams.TheConstants.{SCRIPT_LIMIT}
 use Rattle.bus_commands.specs.Streams.{WritesPart, IsScriptFault}
-use Rattle.bus_commands.proofs.StreamLemmas.{passed_up}
+use Rattle.bus_run.proofs.StopLemmas.{passed_up}
 use Rattle.bus_trace.specs.Traces.{IsTrace}
 use Rattle.bus_picture.specs.Pictures.{picture}
 use Rattle.bus_commands.proofs.picture.picture.Goals as goal

@@ -5,7 +5,7 @@ use Rattle.bus_script.specs.declared.answers.Outcome.{Outcome}
 use Rattle.bus_run.specs.declared.faults.RunFault.{RunFault}
 use Rattle.bus_commands.specs.declared.streams.TheConstants.{SCRIPT_LIMIT}
 use Rattle.bus_commands.specs.Streams.{WritesPart, IsScriptFault}
-use Rattle.bus_commands.proofs.StreamLemmas.{passed_up}
+use Rattle.bus_run.proofs.StopLemmas.{passed_up}
 use Rattle.bus_replay.specs.Answers.{IsReplay}
 use Rattle.bus_commands.proofs.replay.replay.Goals as goal
 
