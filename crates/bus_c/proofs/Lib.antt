@@ -1,2 +1,3 @@
+mod HandleValues
 mod ReceiverValues
 mod SenderValues

@@ -17,7 +17,8 @@ use denote.Steps.{nothing}
 use denote.Triple.Walked.{Stays, stay_dropped, walk_of, Goes-dropped}
 use Rattle.core.proofs.alloc.Calls.{handle_tells}
 use Rattle.std.proofs.raw_atomic.Walks.{proved_at, leaves}
-use Rattle.bus_c.proofs.ReceiverValues.{three, Z, al, hand_good, hand_in, states}
+use Rattle.bus_c.proofs.HandleValues.{three, Z, al, hand_good, states}
+use Rattle.bus_c.proofs.ReceiverValues.{hand_in}
 use Rattle.bus_c.specs.contracts.seats.ReceiverSeat as Seat
 use Rattle.bus_c.specs.contracts.receiver.CReceiver.empty as f
 use Rattle.bus_c.proofs.receiver.CReceiver.empty.Statement.{statement}

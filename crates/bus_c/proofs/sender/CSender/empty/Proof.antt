@@ -17,7 +17,8 @@ use denote.Steps.{nothing}
 use denote.Triple.Walked.{Stays, stay_dropped, walk_of, Goes-dropped}
 use Rattle.core.proofs.alloc.Calls.{handle_tells}
 use Rattle.std.proofs.raw_atomic.Walks.{proved_at, leaves}
-use Rattle.bus_c.proofs.SenderValues.{three, Z, al, hand_good, hand_in, states}
+use Rattle.bus_c.proofs.HandleValues.{three, Z, al, hand_good, states}
+use Rattle.bus_c.proofs.SenderValues.{hand_in}
 use Rattle.bus_c.specs.contracts.seats.SenderSeat as Seat
 use Rattle.bus_c.specs.contracts.sender.CSender.empty as f
 use Rattle.bus_c.proofs.sender.CSender.empty.Statement.{statement}

@@ -31,7 +31,8 @@ use Rattle.std.specs.declared.option.Option.TheVariants.{None, Some}
 use Rattle.std.specs.Global.{Global}
 use Rattle.std.proofs.raw_atomic.Walks.{proved_at, leaves}
 use Rattle.bus_c.specs.Held.{sender_held}
-use Rattle.bus_c.proofs.SenderValues.{both, three, Z, Parts, Hand, Ptr-Good, parts_good, hand_good, parts_in, hand_out, states}
+use Rattle.bus_c.proofs.HandleValues.{both, three, Z, Parts, Ptr-Good, parts_good, some_good, hand_good, parts_in, states}
+use Rattle.bus_c.proofs.SenderValues.{Hand, hand_out}
 use Rattle.bus_c.specs.contracts.seats.SenderSeat as Seat
 use Rattle.bus_c.specs.contracts.sender.CSender.into_parts as f
 use Rattle.bus_c.proofs.sender.CSender.into_parts.Statement.{statement}
@@ -63,12 +64,12 @@ module _ {M : Type 1} {𝓤 : Ura M} (𝓛 : Logic 𝓤) (at_mem : Memory → SP
       sets ! (bin ! (get ! refl) (lit ! tt) tt) refl (tt, tt) $
       first ! $ branches ! (get ! refl)
       (λ _. sets ! (agg ! (and_then ! (lit ! tt) (no_more !))) refl (tt, (record { fits = lit< tt }, tt)) $
-      use0 𝓛 (‵ (Out.own_val None (live 0 vnil ∷ []))) (none_of 𝓛 Parts) $ nothing ! $ nothing ! $ nothing ! $ fjoin ! $ nothing ! $
+      use0 𝓛 (‵ (Out.own_val None (live 0 vnil ∷ []))) (none_of 𝓛 (Parts Seat.the_row)) $ nothing ! $ nothing ! $ nothing ! $ fjoin ! $ nothing ! $
       returns_within ! Post refl (look_at ! 0 refl) $ free_all ! refl $ keep ! (0 ∷ 1 ∷ 3 ∷ []) $ states (held ≡ None) is $ keep ! (1 ∷ 2 ∷ 3 ∷ 0 ∷ []) $ by ! (leaves 𝓛 f.ended hs (f.clauses 𝓛 at_mem run) z (live 0 vnil) None (tt, tt) (tt, tt)))
       (λ wrong. absurd wrong)))
   body (suc n) low =
       let w = both (ptr_val p) h in let good = parts_good p h fits in
-      qed 𝓛 (‵ (sender_held a (suc n) p held) ∷ ‵ (Z.own_val a (h ∷ [])) ∷ []) ∵ fpick ! (λ x. fsplit ! $ feq_l ! (λ is. parts_in ! p h a x $ use1 𝓛 (‵ (Out.own_val (Some (record { ptr = p; alloc = a; value = x })) (live 1 (vcons w vnil) ∷ []))) (Some-of 𝓛 Parts (record { ptr = p; alloc = a; value = x }) w) $
+      qed 𝓛 (‵ (sender_held a (suc n) p held) ∷ ‵ (Z.own_val a (h ∷ [])) ∷ []) ∵ fpick ! (λ x. fsplit ! $ feq_l ! (λ is. parts_in Seat.the_row ! p h a x $ use1 𝓛 (‵ (Out.own_val (Some (record { ptr = p; alloc = a; value = x })) (live 1 (vcons w vnil) ∷ []))) (Some-of 𝓛 (Parts Seat.the_row) (record { ptr = p; alloc = a; value = x }) w) $
       enter ! 𝓣.C 𝓣.Λ code.function (three (ptr_val p) h (vint w32 (suc n)) ∷ []) Post $ alloc_all ! (λ l. pass_all ! refl (hand_good p h (suc n) fits low, tt) $
       sets ! (of_opd ! (get_in ! (fld ! refl (stop !)) (sub ! 0 refl (whole !)))) refl (Ptr-Good p) $ sets ! (of_opd ! (get_in ! (fld ! refl (stop !)) (sub ! 1 refl (whole !)))) refl fits $
       sets ! (of_opd ! (get_in ! (fld ! refl (stop !)) (sub ! 2 refl (whole !)))) refl (tt, record { fits = low }) $
@@ -76,7 +77,7 @@ module _ {M : Type 1} {𝓤 : Ura M} (𝓛 : Logic 𝓤) (at_mem : Memory → SP
       first ! $ branches ! (get ! refl) (λ wrong. absurd (subst (λ (y : Bool). T y) (eqb-suc-zero n) wrong))
       (λ _. skips ! $ exec ! 𝓣.C 𝓣.Λ (env code.Mir.locals l) code.Mir.t-6 (at_ret (env code.Mir.locals l) Post) $
       sets ! (of_opd ! (get ! refl)) refl (Ptr-Good p) $ sets ! (agg ! (and_then ! (get ! refl) (and_then ! (get ! refl) (no_more !)))) refl good $
-      sets ! (agg ! (and_then ! (lit ! tt) (and_then ! (get ! refl) (no_more !)))) refl (Rattle.bus_c.proofs.SenderValues.some_good p h fits) $
+      sets ! (agg ! (and_then ! (lit ! tt) (and_then ! (get ! refl) (no_more !)))) refl (some_good p h fits) $
       nothing ! $ nothing ! $ nothing ! $ fjoin ! $ nothing ! $
       returns ! (look_at ! 0 refl) $ free_all ! refl $ keep ! (0 ∷ 1 ∷ 3 ∷ []) $ states (held ≡ Some x) is $ keep ! (1 ∷ 2 ∷ 3 ∷ 0 ∷ []) $ by ! (leaves 𝓛 f.ended hs (f.clauses 𝓛 at_mem run) z (live 1 (vcons w vnil)) (Some (record { ptr = p; alloc = a; value = x })) (tt, tt) (tt, tt))))))
 
