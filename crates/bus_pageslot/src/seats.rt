@@ -5,7 +5,7 @@ ghost use Rattle.std.specs.Prelude.{Some, IfSome, IfNone, IfOk, IfErr, IsSome};
 ghost use Rattle.std.specs.Prelude.{OnOk, OnErr, length, ◌-◌, ◌≤◌, IsTrue, true, false};
 ghost use Rattle.bus_batch.specs.Batches.{next_of, CanPut, IsPutFault, CanClose, IsCloseFault};
 ghost use Rattle.bus_core.specs.Causes.{HasCause};
-ghost use Rattle.bus_core.specs.Plain.{StoresPlain};
+ghost use Rattle.bus_core.specs.Plain.{IsPlain, StoresPlain};
 ghost use Rattle.bus_core.specs.Telling.{FeedTells, RestTells};
 ghost use Rattle.bus_batch.specs.declared.messages.Mark.TheVariants as mark;
 ghost use Rattle.bus_tenure.specs.Core.{is_closed, is_leaving};
@@ -310,13 +310,13 @@ impl<Q: Ratifier + Drop> Sender<Q> {
         self.full_turn(bus, word)
     }
 
-    /// A turn, if its step is a plain store; the answer is Going then. Else nothing changes. It may
-    /// decline any step.
+    /// A turn, if its step is a plain store; the answer is Going then. Else nothing changes.
     #[inline(always)]
     fn plain_turn(&mut self, bus: &Bus<Q>, word: u32) -> bool
         requires { table_of self.old ≡ bus.now.table }
         ensures table { table_of self.new ≡ table_of self.old }
         ensures stays { result ≡ false → self.new ≡ self.old }
+        ensures exact { IsPlain (election_of Q.Ratifier) self.old.core → IsTrue result }
         ensures due { let P = process_by Q.Ratifier in
             IsTrue result → IsSome (P.op self.old.core word) }
         ensures wordless { let P = process_by Q.Ratifier in
