@@ -39,11 +39,11 @@ abbrev pub plan_after : Plan → Option Page → Plan
 plan_after plan page = record plan { bases = bases_after page }
 
 -- of a bus with a row for each tenure, or whose rows are used again, which goes on after this page, if after any
-abbrev pub plan_apart : Shape → Option Page → Plan
-plan_apart shape page = record { shape = shape; reuse = None; bases = bases_after page }
+abbrev pub new_plan : Shape → Option Page → Plan
+new_plan shape page = record { shape = shape; reuse = None; bases = bases_after page }
 
-abbrev pub plan_again : Shape → Option Page → Plan
-plan_again shape page = record { shape = shape; reuse = Some shape.rows; bases = bases_after page }
+abbrev pub cyclic_plan : Shape → Option Page → Plan
+cyclic_plan shape page = record { shape = shape; reuse = Some shape.rows; bases = bases_after page }
 
 -- a bus of this plan is served: its sizes are, rows that are used again are as many as its shape has, and its numbers have room
 abbrev pub Serves : Plan → Type 0

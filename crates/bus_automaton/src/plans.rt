@@ -4,7 +4,7 @@ ghost use Rattle.std.specs.Prelude.{◌≡◌, None, IfErr, IfOk, OnOk};
 ghost use Rattle.std.specs.Option.{option_copied};
 ghost use Rattle.bus_world.specs.World.{AreBases};
 ghost use Rattle.bus_machine.specs.Playing.{MayFollow, MayNotFollow};
-ghost use Rattle.bus_automaton.specs.Buses.{plan_after, plan_apart, plan_again};
+ghost use Rattle.bus_automaton.specs.Buses.{plan_after, new_plan, cyclic_plan};
 
 use bus_machine::shapes::first_numbers;
 use bus_register::limits::MOST_SENDERS;
@@ -25,8 +25,8 @@ pub struct Plan {
 
 impl Plan {
     /// Of a bus with a row for each tenure.
-    pub fn apart(shape: Shape) -> Plan
-        ensures { result ≡ plan_apart shape None }
+    pub fn new(shape: Shape) -> Plan
+        ensures { result ≡ new_plan shape None }
     {
         Plan {
             shape,
@@ -36,8 +36,8 @@ impl Plan {
     }
 
     /// Of a bus whose rows are used again.
-    pub fn again(shape: Shape) -> Plan
-        ensures { result ≡ plan_again shape None }
+    pub fn cyclic(shape: Shape) -> Plan
+        ensures { result ≡ cyclic_plan shape None }
     {
         Plan {
             shape,

@@ -14,17 +14,7 @@ pub record Sender (E : Type 0) : Type 0 where
   pub core : Core E
   pub reuse : Option Reuse
 
--- with a row for each tenure
-abbrev pub apart : {E : Type 0} → Core E → Sender E
-apart c = record { core = c; reuse = None }
-
--- with rows that are used again
-abbrev pub reuse_of : {E : Type 0} → Participant E → Reuse
-reuse_of v = record { pin = v.pin; reclaimer = v.reclaimer; lost = v.lost; rows = v.rows }
-
-abbrev pub again : {E : Type 0} → Participant E → Sender E
-again v = record { core = v.core; reuse = Some (reuse_of v) }
-
+-- where rows are used again, as a participant
 abbrev pub participant_of : {E : Type 0} → Core E → Reuse → Participant E
 participant_of c r = record { core = c; pin = r.pin; reclaimer = r.reclaimer; lost = r.lost; rows = r.rows }
 

@@ -4,7 +4,7 @@ ghost use Rattle.std.specs.Prelude.{All, ◌≡◌, Some, None, IfOk, OnOk, IfEr
 ghost use Rattle.std.specs.Option.{option_copied};
 ghost use Rattle.bus_machine.specs.Playing.{IsServed, MakeRefused, IsFollowed, AfterRefused};
 ghost use Rattle.bus_machine.specs.Playing.{MayFollow, MakeRefusedAfter};
-ghost use Rattle.bus_automaton.specs.Buses.{process_by, automaton_by, plan_apart, plan_again};
+ghost use Rattle.bus_automaton.specs.Buses.{process_by, automaton_by, new_plan, cyclic_plan};
 ghost use Rattle.bus_pageslot.specs.Seats.{table_of};
 ghost use Rattle.bus_handles.specs.Handles.{seats_of, IsOpened};
 
@@ -26,7 +26,7 @@ pub fn open<Q: Ratifier + Drop>(
     alloc: Global,
     shape: Shape,
 ) -> Result<(Vec<SenderHandle<Q>>, Vec<ReceiverHandle<Q>>), MakeFault>
-    ensures opened { let plan = plan_apart shape None in
+    ensures opened { let plan = new_plan shape None in
         IfOk result (λ made. IsOpened (process_by Q.Ratifier) (automaton_by Q.Ratifier plan)
         plan made.0.items made.1.items) }
     ensures served { IfOk result (λ _. IsServed shape None) }
@@ -48,7 +48,7 @@ pub fn open_after<Q: Ratifier + Drop>(
     shape: Shape,
     page: &Page,
 ) -> Result<(Vec<SenderHandle<Q>>, Vec<ReceiverHandle<Q>>), MakeFault>
-    ensures opened { let plan = plan_apart shape (Some page.now) in
+    ensures opened { let plan = new_plan shape (Some page.now) in
         IfOk result (λ made. IsOpened (process_by Q.Ratifier) (automaton_by Q.Ratifier plan)
         plan made.0.items made.1.items) }
     ensures served { IfOk result (λ _. IsServed shape None) }
@@ -67,7 +67,7 @@ pub fn open_cyclic<Q: Ratifier + Drop>(
     shape: Shape,
     page: Option<&Page>,
 ) -> Result<(Vec<SenderHandle<Q>>, Vec<ReceiverHandle<Q>>), MakeFault>
-    ensures opened { let plan = plan_again shape (option_copied page.entry) in
+    ensures opened { let plan = cyclic_plan shape (option_copied page.entry) in
         IfOk result (λ made. IsOpened (process_by Q.Ratifier) (automaton_by Q.Ratifier plan)
         plan made.0.items made.1.items) }
     ensures served { IfOk result (λ _. IsServed shape (Some shape.rows)) }

@@ -9,7 +9,8 @@ use Rattle.bus_batch.specs.declared.batches.Phase.TheVariants.{Marking}
 use Rattle.bus_batch.specs.declared.messages.Mark.{Mark}
 use Rattle.bus_core.proofs.Bridged.{at_none}
 use Rattle.bus_core.specs.Keeping.{new_sender, queue_of}
-use Rattle.bus_core.specs.Senders.{Sender, apart, situation}
+use Rattle.bus_core.specs.Senders.{Sender, situation}
+use Rattle.bus_core.specs.Proved.Bridge.{with_a_row_each}
 use Rattle.bus_core.specs.Table.{line_now}
 use Rattle.bus_deliverylog.specs.declared.receiving.RecvTurn.{RecvTurn}
 use Rattle.bus_tenure.specs.Core.{Core, Election, Layout, is_empty}
@@ -52,8 +53,8 @@ module _ {A B : Type 0} (f : A → B) where
   rebuilt g (v ∷ l) h = ap (λ y. y ∷ map f (map g l)) (h 0 v refl) ∙ ap (λ y. v ∷ y) (rebuilt g l (λ p w e. h (suc p) w e))
 
 -- a sender that goes on
-opened : {E : Type 0} (bases : List ℕ) (x : Layout) (b : Bus E) (s : ℕ) (v : Sender E) → going (of_bus bases x b) s ≡ Some v → (c : Core E) × (plain_going b s ≡ Some c) × (v ≡ apart c) × (slice_get b.side.senders s ≡ Some c)
-opened bases x b s v g = opened_at apart (is_set (slice_get b.stopped s)) (slice_get (map apart b.side.senders) s) (slice_get b.side.senders s) v (slice_get-map apart b.side.senders s) g
+opened : {E : Type 0} (bases : List ℕ) (x : Layout) (b : Bus E) (s : ℕ) (v : Sender E) → going (of_bus bases x b) s ≡ Some v → (c : Core E) × (plain_going b s ≡ Some c) × (v ≡ with_a_row_each c) × (slice_get b.side.senders s ≡ Some c)
+opened bases x b s v g = opened_at with_a_row_each (is_set (slice_get b.stopped s)) (slice_get (map with_a_row_each b.side.senders) s) (slice_get b.side.senders s) v (slice_get-map with_a_row_each b.side.senders s) g
 
 -- ---- one event
 nothing_heard : (H : ℕ → List RecvTurn) → (λ (r : ℕ). H r ++ []) ≡ H
@@ -63,25 +64,25 @@ nothing_done : (D : ℕ → List Action) → (λ (r : ℕ). D r ++ []) ≡ D
 nothing_done D = fun_ext (λ r. append-nil (D r))
 
 module _ {E : Type 0} (X : Election E) (bases : List ℕ) (x : Layout) (b : Bus E) where
-  turn_is : (s : ℕ) (c : Core E) (word : ℕ) → machine_after (of_bus bases x b) s (line_now X (apart c)) word ≡ of_bus bases x (record b { side = side_after X b.side s c (situation_of X c) word })
+  turn_is : (s : ℕ) (c : Core E) (word : ℕ) → machine_after (of_bus bases x b) s (line_now X (with_a_row_each c)) word ≡ of_bus bases x (record b { side = side_after X b.side s c (situation_of X c) word })
   turn_is s c word =
       let z = situation_of X c in
       let got = number_found (slice_index b.side.words) (op_at X c z word) in
       ap (λ l. machine_after (of_bus bases x b) s l word) (at_none X c)
       ∙ ap (λ g. record (of_bus bases x b) { words = words_after b.side.words (op_at X c z word); home = home_after X c z b.side.home; senders = g; owners = owners_after X c z s b.side.owners })
-      (sym (map-set apart b.side.senders s (core_after X c z b.side.home got word)))
+      (sym (map-set with_a_row_each b.side.senders s (core_after X c z b.side.home got word)))
 
-  answer_is : (c : Core E) (word : ℕ) → turn_answer (of_bus bases x b) (line_now X (apart c)) word ≡ answer_at X c (situation_of X c) (number_found (slice_index b.side.words) (op_at X c (situation_of X c) word)) word
+  answer_is : (c : Core E) (word : ℕ) → turn_answer (of_bus bases x b) (line_now X (with_a_row_each c)) word ≡ answer_at X c (situation_of X c) (number_found (slice_index b.side.words) (op_at X c (situation_of X c) word)) word
   answer_is c word = ap (λ l. turn_answer (of_bus bases x b) l word) (at_none X c)
 
-  turn_adds : (s word : ℕ) (a : Answer) (t : Answered) (c : Core E) → a ≡ answer.Turn t → plain_going b s ≡ Some c → going (of_bus bases x b) s ≡ Some (apart c) → (T : Trails) → plain_grown X b (Turn s word) a (plain_trails T) ≡ plain_trails (trails_grown X (of_bus bases x b) (Turn s word) a T)
+  turn_adds : (s word : ℕ) (a : Answer) (t : Answered) (c : Core E) → a ≡ answer.Turn t → plain_going b s ≡ Some c → going (of_bus bases x b) s ≡ Some (with_a_row_each c) → (T : Trails) → plain_grown X b (Turn s word) a (plain_trails T) ≡ plain_trails (trails_grown X (of_bus bases x b) (Turn s word) a T)
   turn_adds s word a t c told g h T =
       let z = situation_of X c in
       let got = number_found (slice_index b.side.words) (op_at X c z word) in
       ap (λ w. plain_grown X b (Turn s word) w (plain_trails T)) told
       ∙ ap (λ o. record { actions = λ q. T.actions q ++ cond (q == s) (turning_actions X b.side.words o word (answer.Turn t)) []; heard = λ r. T.heard r ++ [] }) g
       ∙ ap (λ k. record { actions = actions_with s (turn_actions X c z got word (answer.Turn t)) T.actions; heard = k }) (nothing_heard T.heard)
-      ∙ ap (λ l. plain_trails (turn_trails (situation X (apart c)) l s (found (of_bus bases x b) l word) word t T)) (sym (at_none X c))
+      ∙ ap (λ l. plain_trails (turn_trails (situation X (with_a_row_each c)) l s (found (of_bus bases x b) l word) word t T)) (sym (at_none X c))
       ∙ ap (λ o. plain_trails (turn_grown X (of_bus bases x b) s o word (answer.Turn t) T)) (sym h)
       ∙ ap (λ w. plain_trails (trails_grown X (of_bus bases x b) (Turn s word) w T)) (sym told)
 
@@ -111,7 +112,7 @@ module _ {E : Type 0} (X : Election E) (bases : List ℕ) (x : Layout) (b : Bus 
       let new = record b { side = plain_with b.side s put } in
       record {
         bus = new;
-        is = h.after ∙ ap (λ v. with_sender (of_bus bases x b) s (put_in v bytes)) o.2 ∙ ap (λ l. record (of_bus bases x b) { senders = l }) (sym (map-set apart b.side.senders s put));
+        is = h.after ∙ ap (λ v. with_sender (of_bus bases x b) s (put_in v bytes)) o.2 ∙ ap (λ l. record (of_bus bases x b) { senders = l }) (sym (map-set with_a_row_each b.side.senders s put));
         event = h.are_bytes;
         happens = (subst (λ k. SenderDoes b.side k (λ y. plain_with b.side s (plain_put y bytes)) new.side) (sym o.1) (ap (λ t. plain_with b.side s (cond t put c)) (sym may)), refl, refl);
         answers = (next_of c.queue, subst (λ k. PutGives k (length bytes) (next_of c.queue)) (sym o.1) (can, refl), h.answered ∙ ap (λ (v : Sender E). answer.Number (next_of v.core.queue)) o.2);
@@ -128,7 +129,7 @@ module _ {E : Type 0} (X : Election E) (bases : List ℕ) (x : Layout) (b : Bus 
       let new = record b { side = plain_with b.side s marked } in
       record {
         bus = new;
-        is = h.after ∙ ap (λ v. with_sender (of_bus bases x b) s (mark_in v asked)) o.2 ∙ ap (λ l. record (of_bus bases x b) { senders = l }) (sym (map-set apart b.side.senders s marked));
+        is = h.after ∙ ap (λ v. with_sender (of_bus bases x b) s (mark_in v asked)) o.2 ∙ ap (λ l. record (of_bus bases x b) { senders = l }) (sym (map-set with_a_row_each b.side.senders s marked));
         event = tt;
         happens = (subst (λ k. SenderDoes b.side k (λ y. plain_with b.side s (plain_mark y asked)) new.side) (sym o.1) (ap (λ t. plain_with b.side s (cond t marked c)) (sym may)), refl, refl);
         answers = (subst CloseGives (sym o.1) can, h.answered);
@@ -175,8 +176,8 @@ module _ {E : Type 0} (X : Election E) where
   new_plain : (w : Machine E) → IsNew w → w.reuse ≡ None → IsPlain X w no_machine_trails
   new_plain w new e = record {
     bus = b;
-    is = ap (λ r. record w { reuse = r }) e ∙ ap (λ l. record w { reuse = None; senders = l }) (sym (rebuilt apart (λ (v : Sender E). v.core) w.senders (λ p v at. let i = (new.senders p v at).1 in ap (λ (y : Sender E). apart y.core) i ∙ ap (λ r. new_sender w.layout p r (base_of w p)) (sym e) ∙ sym i)))
-        ∙ ap (λ o. record w { reuse = None; senders = map apart b.side.senders; owners = o }) new.owners;
+    is = ap (λ r. record w { reuse = r }) e ∙ ap (λ l. record w { reuse = None; senders = l }) (sym (rebuilt with_a_row_each (λ (v : Sender E). v.core) w.senders (λ p v at. let i = (new.senders p v at).1 in ap (λ (y : Sender E). with_a_row_each y.core) i ∙ ap (λ r. new_sender w.layout p r (base_of w p)) (sym e) ∙ sym i)))
+        ∙ ap (λ o. record w { reuse = None; senders = map with_a_row_each b.side.senders; owners = o }) new.owners;
     reached = New b record {
       bases_are = new.bases_are;
       words = new.words ∙ ap (λ r. replicate (log_place w.layout r + w.layout.capacity) 0) e;

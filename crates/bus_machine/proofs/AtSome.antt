@@ -13,8 +13,8 @@ use Rattle.bus_batch.specs.declared.batches.Phase.TheVariants.{Marking}
 use Rattle.bus_batch.specs.declared.messages.Mark.{Mark}
 use Rattle.bus_core.proofs.Bridged.{at_some}
 use Rattle.bus_core.specs.Keeping.{new_sender, queue_of}
-use Rattle.bus_core.specs.Proved.Bridge.{move_of}
-use Rattle.bus_core.specs.Senders.{Sender, Situation, Does, Scans, Clears, again, situation, at_home, pinning, reclaiming}
+use Rattle.bus_core.specs.Proved.Bridge.{move_of, with_rows_again}
+use Rattle.bus_core.specs.Senders.{Sender, Situation, Does, Scans, Clears, situation, at_home, pinning, reclaiming}
 use Rattle.bus_core.specs.Table.{line, line_now}
 use Rattle.bus_core.specs.Reusing.Keeping.{held_of}
 use Rattle.bus_core.specs.Reusing.Participants.{Due, Goes, place_for, log_from, due_beside, due_home, due_reclaimed, reclaim_due}
@@ -48,7 +48,7 @@ use Rattle.bus_machine.specs.Machine.{base_of, Machine, Trails, Happens, TakesTu
 use Rattle.bus_machine.specs.Promise.{pin_in}
 
 module _ {E : Type 0} (X : Election E) where
-  action_own : (v : Participant E) (z : Own E) (got word : ℕ) (a : Answered) → step_action (line X (again v) (Does z)).kind (line X (again v) (Does z)).tenure got ((line X (again v) (Does z)).chosen got word) a ≡ step_action (kind_at X v.core z) (tenure_at X v.core z) got (chosen_at X v.core z got word) a
+  action_own : (v : Participant E) (z : Own E) (got word : ℕ) (a : Answered) → step_action (line X (with_rows_again v) (Does z)).kind (line X (with_rows_again v) (Does z)).tenure got ((line X (with_rows_again v) (Does z)).chosen got word) a ≡ step_action (kind_at X v.core z) (tenure_at X v.core z) got (chosen_at X v.core z got word) a
   action_own v IsClosed got word a = refl
   action_own v IsIdle got word a = refl
   action_own v IsSpent got word a = refl
@@ -68,7 +68,7 @@ module _ {E : Type 0} (X : Election E) where
 
     -- by the line of this situation, after a step that found this
     abbrev grown_by : Participant E → Situation E → ℕ → Trails
-    grown_by v z got = turn_trails z (line X (again v) z) s got word a T
+    grown_by v z got = turn_trails z (line X (with_rows_again v) z) s got word a T
 
     -- what is found at the step that is due
     abbrev got_due : Participant E → Due E → ℕ
@@ -92,7 +92,7 @@ module _ {E : Type 0} (X : Election E) where
         record {
           pins = refl;
           actions = ap (λ d. actions_with s d T.actions)
-              (ap (λ g. step_action (line X (again v) (Does z)).kind (line X (again v) (Does z)).tenure g ((line X (again v) (Does z)).chosen g word) a) got ∙ action_own v z _ word a);
+              (ap (λ g. step_action (line X (with_rows_again v) (Does z)).kind (line X (with_rows_again v) (Does z)).tenure g ((line X (with_rows_again v) (Does z)).chosen g word) a) got ∙ action_own v z _ word a);
           heard = refl;
         }
 
@@ -127,8 +127,8 @@ module _ {E : Type 0} (X : Election E) where
     grown_pinning v (Unpinning t) z i j = record { pins = refl; actions = refl; heard = refl }
     grown_pinning v (Invalidated t) z i j = record { pins = refl; actions = refl; heard = refl }
 
-    pub grown_is : (v : Participant E) → v.core.layout ≡ m.layout → v.rows ≡ rows → GrowsBy v (situation X (again v)) (found m (line_now X (again v)) word) (due X v)
-    grown_is v i j = subst (λ n. GrowsBy v (situation X (again v)) n (due X v)) (sym (ap (number_found (slice_index m.words)) ((at_some X v).op word))) (grown_pinning v v.pin (situation_of X v.core) i j)
+    pub grown_is : (v : Participant E) → v.core.layout ≡ m.layout → v.rows ≡ rows → GrowsBy v (situation X (with_rows_again v)) (found m (line_now X (with_rows_again v)) word) (due X v)
+    grown_is v i j = subst (λ n. GrowsBy v (situation X (with_rows_again v)) n (due X v)) (sym (ap (number_found (slice_index m.words)) ((at_some X v).op word))) (grown_pinning v v.pin (situation_of X v.core) i j)
 
 -- ---- one event
 module _ {E : Type 0} (X : Election E) (P : Protocol E (Unit {0}) ℕ) (rows : ℕ) (m : Machine E) (T : Trails) (q : Serves X P m.layout) (ok : IsLayout m.layout) (two : 2 ≤ rows) (l : IsLed X rows m T) where
@@ -139,19 +139,19 @@ module _ {E : Type 0} (X : Election E) (P : Protocol E (Unit {0}) ℕ) (rows : �
   got_by v word = number_found (slice_index m.words) (op_due X v (due X v) word)
 
   abbrev told_after : Participant E → ℕ → List ℕ
-  told_after v s = owners_told m.reuse (cond (line_now X (again v)).takes (m.owners ++ s ∷ []) m.owners)
+  told_after v s = owners_told m.reuse (cond (line_now X (with_rows_again v)).takes (m.owners ++ s ∷ []) m.owners)
 
   abbrev turned_by : Participant E → ℕ → ℕ → Machine E
   turned_by v s word = record m {
     words = words_after m.words (op_due X v (due X v) word);
     home = home_moved (move_of X v.core (due X v)) m.home;
-    senders = slice_set m.senders s (again (participant_moved (after_step (move_of X v.core (due X v))) m.home (participant_due X v (due X v) (got_by v word) word)));
+    senders = slice_set m.senders s (with_rows_again (participant_moved (after_step (move_of X v.core (due X v))) m.home (participant_due X v (due X v) (got_by v word) word)));
     owners = told_after v s;
   }
 
-  turn_is : (v : Participant E) (s word : ℕ) → machine_after m s (line_now X (again v)) word ≡ turned_by v s word
+  turn_is : (v : Participant E) (s word : ℕ) → machine_after m s (line_now X (with_rows_again v)) word ≡ turned_by v s word
   turn_is v s word =
-      let l = line_now X (again v) in
+      let l = line_now X (with_rows_again v) in
       let i = at_some X v in
       let d = due X v in
       let got = got_by v word in
@@ -162,18 +162,18 @@ module _ {E : Type 0} (X : Election E) (P : Protocol E (Unit {0}) ℕ) (rows : �
       after : Option Op → PageMove → Sender E → Machine E
       after o w f = record (turned_by v s word) { words = words_after m.words o; home = home_moved w m.home; senders = slice_set m.senders s (moved (after_step w) m.home f) }
 
-  answer_is : (v : Participant E) (word : ℕ) → turn_answer m (line_now X (again v)) word ≡ answer_due X v (due X v) (got_by v word) word
+  answer_is : (v : Participant E) (word : ℕ) → turn_answer m (line_now X (with_rows_again v)) word ≡ answer_due X v (due X v) (got_by v word) word
   answer_is v word =
-      let l = line_now X (again v) in
+      let l = line_now X (with_rows_again v) in
       let i = at_some X v in
       ap (λ o. l.answer (number_found (slice_index m.words) o) word) (i.op word) ∙ i.answer (got_by v word) word
 
   -- a sender that goes on
   record Opened (s : ℕ) (w : Sender E) : Type 0 where
     v : Participant E
-    is : w ≡ again v
+    is : w ≡ with_rows_again v
     same_rows : v.rows ≡ rows
-    at : slice_get m.senders s ≡ Some (again v)
+    at : slice_get m.senders s ≡ Some (with_rows_again v)
 
   opened : (s : ℕ) (w : Sender E) → going m s ≡ Some w → Opened s w
   opened s w goes =
@@ -191,7 +191,7 @@ module _ {E : Type 0} (X : Election E) (P : Protocol E (Unit {0}) ℕ) (rows : �
       let part = (protocol_kept X P rows m T q ok two l).kept.sending.parts s v.core (ap core_in o.at) in
       let g = grown_is X m rows l.reclaimer l.owners s word T t v part.layout o.same_rows in
       let low = subst (IsOnWord m) (i.op word) (subst (λ w. IsOnWord m ((line_now X w).op word)) o.is h.within) in
-      let U = turn_trails (situation X (again v)) (line_now X (again v)) s (found m (line_now X (again v)) word) word t T in
+      let U = turn_trails (situation X (with_rows_again v)) (line_now X (with_rows_again v)) s (found m (line_now X (with_rows_again v)) word) word t T in
       let led : IsLed X rows (turned_by v s word) U = turn_led X P rows m T q ok two l s v o.at o.same_rows word t (told_after v s) U low refl g.pins g.actions g.heard in
       let is : m' ≡ turned_by v s word = h.after ∙ ap (λ w. machine_after m s (line_now X w) word) o.is ∙ turn_is v s word in
       let grown : trails_grown X m (Turn s word) a T ≡ U = ap (λ w. trails_grown X m (Turn s word) w T) told ∙ ap (λ w. turn_grown X m s w word (answer.Turn t) T) (h.goes ∙ ap Some o.is) in
@@ -204,7 +204,7 @@ module _ {E : Type 0} (X : Election E) (P : Protocol E (Unit {0}) ℕ) (rows : �
       let can = subst (λ (w : Sender E). CanPut (queue_of w.core.queue w.reuse) (length bytes)) o.is h.can in
       let may = away_puts v.core.queue v.pin (length bytes) (put_taken (queue_seen v.core.queue v.pin) (length bytes) can) in
       let batch = record v.core.queue { messages = v.core.queue.messages ++ bytes ∷ [] } in
-      let new = with_sender m s (again (record v { core = record v.core { queue = batch } })) in
+      let new = with_sender m s (with_rows_again (record v { core = record v.core { queue = batch } })) in
       let told : a ≡ answer.Number (next_of v.core.queue) = h.answered ∙ ap (λ (w : Sender E). answer.Number (next_of w.core.queue)) o.is in
       let led = batch_led X P rows m T q ok two l s v o.at o.same_rows batch (HasPut (next_of v.core.queue) bytes ∷ [])
       (subst (λ t. Led X m.layout rows (record its_protocol { senders = put s (Some (cond t (record v.core { queue = batch }) v.core)) its_protocol.senders }) T.pins (actions_with s (cond t (HasPut (next_of v.core.queue) bytes ∷ []) []) T.actions) T.heard) may.1
@@ -220,7 +220,7 @@ module _ {E : Type 0} (X : Election E) (P : Protocol E (Unit {0}) ℕ) (rows : �
       let can = subst (λ (w : Sender E). CanClose (queue_of w.core.queue w.reuse)) o.is h.can in
       let may = away_closes v.core.queue v.pin (close_taken (queue_seen v.core.queue v.pin) can) in
       let batch = record v.core.queue { phase = Marking asked } in
-      let new = with_sender m s (again (record v { core = record v.core { queue = batch } })) in
+      let new = with_sender m s (with_rows_again (record v { core = record v.core { queue = batch } })) in
       let led = batch_led X P rows m T q ok two l s v o.at o.same_rows batch (HasMarked asked ∷ [])
       (subst (λ t. Led X m.layout rows (record its_protocol { senders = put s (Some (cond t (record v.core { queue = batch }) v.core)) its_protocol.senders }) T.pins (actions_with s (cond t (HasMarked asked ∷ []) []) T.actions) T.heard) may.1
       (MarkedIn its_protocol T.pins T.actions T.heard s v.core asked l.led (ap core_in o.at) (ap pin_in o.at ∙ may.0))) in
@@ -260,7 +260,7 @@ module _ {E : Type 0} (X : Election E) (rows : ℕ) (m : Machine E) (new : IsNew
   abbrev starter : ℕ → Participant E
   starter p = record { core = new_core m.layout (base_of m p) p; pin = Away; reclaimer = None; lost = None; rows = rows }
 
-  made : (p : ℕ) (v : Sender E) → slice_get m.senders p ≡ Some v → v ≡ again (starter p)
+  made : (p : ℕ) (v : Sender E) → slice_get m.senders p ≡ Some v → v ≡ with_rows_again (starter p)
   made p v at = (new.senders p v at).1 ∙ ap (λ r. new_sender m.layout p r (base_of m p)) used
 
   new_pin : (p : ℕ) (o : Option (Sender E)) → slice_get m.senders p ≡ o → pin_in o ≡ Away

@@ -19,12 +19,12 @@ use Rattle.bus_presence.specs.Pins.{step_at, pin_fed}
 use Rattle.bus_presence.specs.declared.pins.Pin.{Pin}
 use Rattle.bus_presence.specs.declared.pins.Pin.TheVariants.{Away, Announcing, Validating, Pinned, Unpinning, Invalidated}
 use Rattle.bus_core.specs.Keeping.{reclaimer_in}
-use Rattle.bus_core.specs.Proved.Bridge.{move_of}
+use Rattle.bus_core.specs.Proved.Bridge.{move_of, with_rows_again}
 use Rattle.bus_core.specs.Reusing.Participants.{Due, Pins, Reclaims, Goes, due_of, due_beside, due_home, due_reclaimed, reclaim_due, sizes_with, place_for, core_looked, core_seen, core_going, pin_going, reclaimer_going, answer_going}
 use Rattle.bus_core.specs.Reusing.Keeping.{held_of}
 use Rattle.bus_core.specs.Reusing.Turns.{Participant, on_place, op_placed, queue_seen}
 use Rattle.bus_core.specs.Proved.ParticipantTurns.{due, op_due, participant_due, answer_due}
-use Rattle.bus_core.specs.Senders.{Sender, again}
+use Rattle.bus_core.specs.Senders.{Sender}
 use Rattle.bus_tenure.specs.Core.{Core, Election, stage_at}
 use Rattle.bus_tenure.specs.Situations.{Situation, IsClosed, IsIdle, IsSpent, LooksAtStage, Elects, TakesPage, AwaitsPage, StoresWord, StoresLength, GivesBack, HasHanded, PageMove, situation_of, line_of, op_at, core_begun, core_elected, waits}
 use Rattle.bus_tenure.specs.declared.pages.Page.{Page}
@@ -149,11 +149,11 @@ words_many : (xs : List ℕ) (d : Option Op) → length (words_after xs d) ≡ l
 words_many xs None = refl
 words_many xs (Some o) = length-set xs (register o) (after o (slice_index xs (register o)))
 
-participants_after : {E : Type 0} (rows : ℕ) (xs : List (Sender E)) → ((p : ℕ) (v : Sender E) → slice_get xs p ≡ Some v → (u : Participant E) × (v ≡ again u) × (u.rows ≡ rows))
-    → (s : ℕ) (v' : Participant E) → s < length xs → v'.rows ≡ rows → (p : ℕ) (v : Sender E) → slice_get (slice_set xs s (again v')) p ≡ Some v → (u : Participant E) × (v ≡ again u) × (u.rows ≡ rows)
+participants_after : {E : Type 0} (rows : ℕ) (xs : List (Sender E)) → ((p : ℕ) (v : Sender E) → slice_get xs p ≡ Some v → (u : Participant E) × (v ≡ with_rows_again u) × (u.rows ≡ rows))
+    → (s : ℕ) (v' : Participant E) → s < length xs → v'.rows ≡ rows → (p : ℕ) (v : Sender E) → slice_get (slice_set xs s (with_rows_again v')) p ≡ Some v → (u : Participant E) × (v ≡ with_rows_again u) × (u.rows ≡ rows)
 participants_after rows xs all s v' within same p v here = elim (cases_eq p s) [
-  | inl i ↦ (v', same_Some _ _ (sym here ∙ ap (slice_get (slice_set xs s (again v'))) i ∙ get_set_same xs s (again v') within), same)
-  | inr ne ↦ all p v (sym (get_set_other xs s (again v') p ne) ∙ here)
+  | inl i ↦ (v', same_Some _ _ (sym here ∙ ap (slice_get (slice_set xs s (with_rows_again v'))) i ∙ get_set_same xs s (with_rows_again v') within), same)
+  | inr ne ↦ all p v (sym (get_set_other xs s (with_rows_again v') p ne) ∙ here)
 ]
 
 -- ---- a machine that some trails lead to
@@ -175,12 +175,12 @@ module _ {E : Type 0} (X : Election E) (P : Protocol E (Unit {0}) ℕ) (rows : �
       let other = protocol_kept.kept.sending.tenures.holding q r (holds q u r here f) in
       same_Some _ _ (sym one.2 ∙ ap (slice_get l.owners) (one.0 ∙ sym other.0) ∙ other.2)
 
-  module _ (s : ℕ) (v : Participant E) (at : slice_get m.senders s ≡ Some (again v)) (same_rows : v.rows ≡ rows) where
+  module _ (s : ℕ) (v : Participant E) (at : slice_get m.senders s ≡ Some (with_rows_again v)) (same_rows : v.rows ≡ rows) where
     old : y.senders s ≡ Some v.core
     old = ap core_in at
 
     within : s < length m.senders
-    within = slice_get_within m.senders s (again v) at
+    within = slice_get_within m.senders s (with_rows_again v) at
 
     part : Part (slice_index m.bases) m.layout protocol_kept.V protocol_kept.frames s v.core
     part = protocol_kept.kept.sending.parts s v.core old
@@ -202,7 +202,7 @@ module _ {E : Type 0} (X : Election E) (P : Protocol E (Unit {0}) ℕ) (rows : �
     reclaims_same (AwaitsPage t) e = refl
     reclaims_same (StoresWord t page stored) e = refl
     reclaims_same (StoresLength t page stored) e = refl
-    reclaims_same (GivesBack t page reason) e = l.holder s (again v) t at (gives_held t page reason e)
+    reclaims_same (GivesBack t page reason) e = l.holder s (with_rows_again v) t at (gives_held t page reason e)
     reclaims_same (HasHanded t reason) e = refl
 
     beside_same : (o : Option Op) → due_beside o v.reclaimer (situation_of X v.core) ≡ due_beside o l.reclaimer (situation_of X v.core)
@@ -220,19 +220,19 @@ module _ {E : Type 0} (X : Election E) (P : Protocol E (Unit {0}) ℕ) (rows : �
     -- ---- who holds the page afterwards
     holder_after : (v' : Participant E) (reclaimer : Option Reclaiming) → ((t : ℕ) → held_of v'.core.phase ≡ Some t → v'.reclaimer ≡ reclaimer)
         → ((p : ℕ) (w : Sender E) (t : ℕ) → p ≢ s → slice_get m.senders p ≡ Some w → held_of w.core.phase ≡ Some t → l.reclaimer ≡ reclaimer)
-        → (p : ℕ) (w : Sender E) (t : ℕ) → slice_get (slice_set m.senders s (again v')) p ≡ Some w → held_of w.core.phase ≡ Some t → reclaimer_in w.reuse ≡ reclaimer
+        → (p : ℕ) (w : Sender E) (t : ℕ) → slice_get (slice_set m.senders s (with_rows_again v')) p ≡ Some w → held_of w.core.phase ≡ Some t → reclaimer_in w.reuse ≡ reclaimer
     holder_after v' reclaimer own others p w t here e = elim (cases_eq p s) [
       | inl i ↦
-          let same : again v' ≡ w = same_Some _ _ (sym (get_set_same m.senders s (again v') within) ∙ sym (ap (slice_get (slice_set m.senders s (again v'))) i) ∙ here) in
+          let same : with_rows_again v' ≡ w = same_Some _ _ (sym (get_set_same m.senders s (with_rows_again v') within) ∙ sym (ap (slice_get (slice_set m.senders s (with_rows_again v'))) i) ∙ here) in
           subst (λ (u : Sender E). reclaimer_in u.reuse ≡ reclaimer) same (own t (ap (λ (u : Sender E). held_of u.core.phase) same ∙ e))
       | inr ne ↦
-          let was = sym (get_set_other m.senders s (again v') p ne) ∙ here in
+          let was = sym (get_set_other m.senders s (with_rows_again v') p ne) ∙ here in
           l.holder p w t was e ∙ others p w t ne was e
     ]
 
     -- nobody else holds it where this sender does
     nobody_else : (t : ℕ) → held_of v.core.phase ≡ Some t → (reclaimer : Option Reclaiming) (p : ℕ) (w : Sender E) (r : ℕ) → p ≢ s → slice_get m.senders p ≡ Some w → held_of w.core.phase ≡ Some r → l.reclaimer ≡ reclaimer
-    nobody_else t e reclaimer p w r ne here f = absurd (ne (alone p s w (again v) r t here f at e))
+    nobody_else t e reclaimer p w r ne here f = absurd (ne (alone p s w (with_rows_again v) r t here f at e))
 
     -- ---- a step of its pin
     looked_held : (u : Pin) (got t : ℕ) → held_of (core_looked X v.core u got).phase ≡ Some t → held_of v.core.phase ≡ Some t
@@ -253,7 +253,7 @@ module _ {E : Type 0} (X : Election E) (P : Protocol E (Unit {0}) ℕ) (rows : �
 
     -- who held the page before, and holds it still
     kept_reclaimer : (t : ℕ) → held_of v.core.phase ≡ Some t → v.reclaimer ≡ l.reclaimer
-    kept_reclaimer t e = l.holder s (again v) t at e
+    kept_reclaimer t e = l.holder s (with_rows_again v) t at e
 
     seen_held : (got t : ℕ) → held_of (core_seen v.core got).phase ≡ Some t → held_of v.core.phase ≡ Some t
     seen_held got t = by_tests (waits v.core got) (nat_le v.core.layout.rows (got / 2))
@@ -291,7 +291,7 @@ module _ {E : Type 0} (X : Election E) (P : Protocol E (Unit {0}) ℕ) (rows : �
     -- a batch in its place, as the protocol has it
     pub batch_led : (b : Pending) (ds : List Action)
         → Led X m.layout rows (record y { senders = put s (Some (record v.core { queue = b })) y.senders }) T.pins (actions_with s ds T.actions) T.heard
-        → IsLed X rows (with_sender m s (again (record v { core = record v.core { queue = b } }))) (record T { actions = actions_with s ds T.actions })
+        → IsLed X rows (with_sender m s (with_rows_again (record v { core = record v.core { queue = b } }))) (record T { actions = actions_with s ds T.actions })
     batch_led b ds led =
         let v' : Participant E = record v { core = record v.core { queue = b } } in
         record {
@@ -300,11 +300,11 @@ module _ {E : Type 0} (X : Election E) (P : Protocol E (Unit {0}) ℕ) (rows : �
           participants = participants_after rows m.senders l.participants s v' within same_rows;
           owners = l.owners;
           reclaimer = l.reclaimer;
-          holder = holder_after v' l.reclaimer (λ t e. l.holder s (again v) t at e) (λ p w t ne here e. refl);
+          holder = holder_after v' l.reclaimer (λ t e. l.holder s (with_rows_again v) t at e) (λ p w t ne here e. refl);
           led = subst (λ yy. Led X m.layout rows yy T.pins (actions_with s ds T.actions) T.heard)
               (protocols_same m.bases _ _ _ _ _ _ l.reclaimer m.home y.receivers l.owners refl
-              (sym (put_is s v.pin y.reclamation.pins (ap pin_in at)) ∙ sym (list_put pin_in m.senders s (again v') within))
-              (sym (list_put core_in m.senders s (again v') within)))
+              (sym (put_is s v.pin y.reclamation.pins (ap pin_in at)) ∙ sym (list_put pin_in m.senders s (with_rows_again v') within))
+              (sym (list_put core_in m.senders s (with_rows_again v') within)))
               led;
         }
 
@@ -317,7 +317,7 @@ module _ {E : Type 0} (X : Election E) (P : Protocol E (Unit {0}) ℕ) (rows : �
           record m {
             words = words_after m.words (op_due X v d word);
             home = home_moved (move_of X v.core d) m.home;
-            senders = slice_set m.senders s (again (participant_moved (after_step (move_of X v.core d)) m.home (participant_due X v d got word)));
+            senders = slice_set m.senders s (with_rows_again (participant_moved (after_step (move_of X v.core d)) m.home (participant_due X v d got word)));
             owners = told;
           }
 
@@ -339,12 +339,12 @@ module _ {E : Type 0} (X : Election E) (P : Protocol E (Unit {0}) ℕ) (rows : �
           record {
             owners = l.owners;
             reclaimer = l.reclaimer;
-            holder = holder_after v' l.reclaimer (λ t f. l.holder s (again v) t at (looked_held v.pin got t f)) (λ p w t ne here f. refl);
+            holder = holder_after v' l.reclaimer (λ t f. l.holder s (with_rows_again v) t at (looked_held v.pin got t f)) (λ p w t ne here f. refl);
             led = subst (λ yy. Led X m.layout rows yy (trails_with y s (Pins o) T.pins) (actions_with s (due_actions X m.layout rows y v.core (Pins o) word answer) T.actions) T.heard)
                 (protocols_same m.bases _ _ _ _ _ _ l.reclaimer m.home y.receivers l.owners
                 (sym (index_put m.words (register o) (after o got) low))
-                (ap (λ u. put s (pin_fed u got) y.reclamation.pins) pin_is ∙ sym (list_put pin_in m.senders s (again v') within))
-                (ap (λ u. put s (Some (core_looked X v.core u got)) y.senders) pin_is ∙ sym (list_put core_in m.senders s (again v') within)))
+                (ap (λ u. put s (pin_fed u got) y.reclamation.pins) pin_is ∙ sym (list_put pin_in m.senders s (with_rows_again v') within))
+                (ap (λ u. put s (Some (core_looked X v.core u got)) y.senders) pin_is ∙ sym (list_put core_in m.senders s (with_rows_again v') within)))
                 (led_as (Pins o) e tt);
           }
 
@@ -362,8 +362,8 @@ module _ {E : Type 0} (X : Election E) (P : Protocol E (Unit {0}) ℕ) (rows : �
             led = subst (λ yy. Led X m.layout rows yy (trails_with y s (Reclaims r o) T.pins) (actions_with s (due_actions X m.layout rows y v.core (Reclaims r o) word answer) T.actions) T.heard)
                 (protocols_same m.bases _ _ _ _ _ _ (Some (reclaim_fed r got)) m.home y.receivers l.owners
                 (sym (index_put m.words (register o) (after o got) low))
-                (sym (put_is s v.pin y.reclamation.pins pin_is) ∙ sym (list_put pin_in m.senders s (again v') within))
-                (sym (put_is s (Some v.core) y.senders old) ∙ sym (list_put core_in m.senders s (again v') within)))
+                (sym (put_is s v.pin y.reclamation.pins pin_is) ∙ sym (list_put pin_in m.senders s (with_rows_again v') within))
+                (sym (put_is s (Some v.core) y.senders old) ∙ sym (list_put core_in m.senders s (with_rows_again v') within)))
                 (led_as (Reclaims r o) e tt);
           }
 
@@ -392,8 +392,8 @@ module _ {E : Type 0} (X : Election E) (P : Protocol E (Unit {0}) ℕ) (rows : �
           led = subst (λ yy. Led X m.layout rows yy (trails_with y s (Goes z) T.pins) (actions_with s (due_actions X m.layout rows y v.core (Goes z) word answer) T.actions) T.heard)
               (protocols_same m.bases _ _ _ _ _ _ reclaimer' (home_after X v.core z m.home) y.receivers (protocol_after X m.layout rows y s v.core (Goes z) word).owners
               (sym (ap (λ f. slice_index (words_after m.words (op_placed f step))) (place_same z) ∙ placed_words (place_for m.layout rows z) m.words step (λ o i. low o (ap (λ f. op_placed f step) (place_same z) ∙ i))))
-              (ap (λ u. put s (pin_going X v.core u z (word_found (place_for m.layout rows z) y.reclamation.words step) word) y.reclamation.pins) pin_is ∙ ap (λ g. put s (pin_going X v.core v.pin z g word) y.reclamation.pins) (sym got_is) ∙ sym (list_put pin_in m.senders s (again v') within))
-              (ap (λ g. put s (Some (core_moved (after_step (line_of X v.core z).move) m.home (core_going X v.core z g word))) y.senders) (sym got_is) ∙ sym (list_put core_in m.senders s (again v') within)))
+              (ap (λ u. put s (pin_going X v.core u z (word_found (place_for m.layout rows z) y.reclamation.words step) word) y.reclamation.pins) pin_is ∙ ap (λ g. put s (pin_going X v.core v.pin z g word) y.reclamation.pins) (sym got_is) ∙ sym (list_put pin_in m.senders s (with_rows_again v') within))
+              (ap (λ g. put s (Some (core_moved (after_step (line_of X v.core z).move) m.home (core_going X v.core z g word))) y.senders) (sym got_is) ∙ sym (list_put core_in m.senders s (with_rows_again v') within)))
               (led_as (Goes z) e (given ∙ ap (λ g. answer_going X v.core z g word) got_is));
         }
 

@@ -7,7 +7,8 @@ use Rattle.bus_batch.proofs.FrameLaws.{spells_one}
 use Rattle.bus_batch.specs.Frames.{Frame, Spells, log_words, order_of, tenure_and_owner}
 use Rattle.bus_core.proofs.Situated.{own_is}
 use Rattle.bus_core.specs.Table.{line, line_now, in_row}
-use Rattle.bus_core.specs.Senders.{Sender, Does, Clears, apart, reuse_of, log_start, situation}
+use Rattle.bus_core.specs.Senders.{Sender, Does, Clears, log_start, situation}
+use Rattle.bus_core.specs.Proved.Bridge.{with_a_row_each, reuse_of}
 use Rattle.bus_machine.proofs.Clearing.{clearing, spared}
 use Rattle.bus_core.specs.Reusing.Participants.{log_from, sizes_with, place_for}
 use Rattle.bus_core.specs.Reusing.Turns.{Participant, on_place}
@@ -107,7 +108,7 @@ module _ {E : Type 0} (X : Election E) (P : Protocol E (Unit {0}) ℕ) where
     core_at : (p : ℕ) (v : Sender E) → slice_get (of_bus bases x b).senders p ≡ Some v → (slice_get b.side.senders p ≡ Some v.core)
         × (v.reuse ≡ None)
     core_at p v at =
-        let c = made_there apart (slice_get b.side.senders p) v (sym (slice_get-map apart b.side.senders p) ∙ at) in
+        let c = made_there with_a_row_each (slice_get b.side.senders p) v (sym (slice_get-map with_a_row_each b.side.senders p) ∙ at) in
         (c.1 ∙ ap (λ (y : Sender E). Some y.core) (sym c.2), ap (λ (y : Sender E). y.reuse) c.2)
 
     -- and its receivers are those of the bus
@@ -127,7 +128,7 @@ module _ {E : Type 0} (X : Election E) (P : Protocol E (Unit {0}) ℕ) where
       room = k.lawful.words;
       sending = k.lawful.keeps.sending;
       core_of = λ p v at. (core_at p v at).0;
-      sender_of = λ p c at. (apart c, slice_get-map apart b.side.senders p ∙ ap (option_map apart) at, refl);
+      sender_of = λ p c at. (with_a_row_each c, slice_get-map with_a_row_each b.side.senders p ∙ ap (option_map with_a_row_each) at, refl);
       starts = λ p v at. ap (log_start x) (core_at p v at).1;
       rows = λ p v at. ap rows_in (core_at p v at).1;
       puts = λ p v at. k.tied.puts p ∙ ap (λ o. map (λ i. i.message) (of_sender p (order_of k.frames)) ++ waiting_of o) (core_at p v at).0;

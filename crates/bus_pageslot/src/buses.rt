@@ -7,7 +7,7 @@ ghost use Rattle.std.specs.Option.{option_copied};
 ghost use Rattle.bus_machine.specs.Playing.{IsServed, MakeRefused, ShapeOf, MayFollow};
 ghost use Rattle.bus_machine.specs.Playing.{IsFollowed, AfterRefused, MakeRefusedAfter};
 ghost use Rattle.bus_automaton.specs.Buses.{process_by, automaton_by, Serves, Refuses};
-ghost use Rattle.bus_automaton.specs.Buses.{plan_after, plan_apart, plan_again};
+ghost use Rattle.bus_automaton.specs.Buses.{plan_after, new_plan, cyclic_plan};
 ghost use Rattle.bus_pageslot.specs.Buses.{AreNewSeats, AreNewTaps};
 ghost use Rattle.bus_pageslot.specs.Seats.{table_of};
 ghost use Rattle.bus_pageslot.specs.Endings.{IsLeft};
@@ -74,20 +74,20 @@ impl<Q: Ratifier + Drop> Bus<Q> {
         alloc: Global,
         shape: Shape,
     ) -> Result<(Bus<Q>, Vec<Sender<Q>>, Vec<Tap<Q>>), MakeFault>
-        ensures plan { IfOk result (λ made. made.0.plan ≡ plan_apart shape None) }
+        ensures plan { IfOk result (λ made. made.0.plan ≡ new_plan shape None) }
         ensures senders { IfOk result
             (λ made. AreNewSeats (process_by Q.Ratifier)
-            (automaton_by Q.Ratifier (plan_apart shape None)) made.0.table shape.senders
+            (automaton_by Q.Ratifier (new_plan shape None)) made.0.table shape.senders
             made.1.items) }
         ensures taps { IfOk result
-            (λ made. AreNewTaps (automaton_by Q.Ratifier (plan_apart shape None)).table_layout
+            (λ made. AreNewTaps (automaton_by Q.Ratifier (new_plan shape None)).table_layout
             made.0.table shape.receivers made.2.items) }
         ensures table { IfOk result (λ made. All (λ s. table_of s ≡ made.0.table) made.1.items
             × All (λ t. t.table_id ≡ made.0.table) made.2.items) }
         ensures served { IfOk result (λ _. IsServed shape None) }
         ensures fault { IfErr result (MakeRefused shape None) }
     {
-        make(alloc, Plan::apart(shape), None)
+        make(alloc, Plan::new(shape), None)
     }
 
     /// The next sitting: a new bus with a row of words for each tenure, whose senders go on with
@@ -100,14 +100,14 @@ impl<Q: Ratifier + Drop> Bus<Q> {
         shape: Shape,
         page: &Page,
     ) -> Result<(Bus<Q>, Vec<Sender<Q>>, Vec<Tap<Q>>), MakeFault>
-        ensures plan { IfOk result (λ made. made.0.plan ≡ plan_apart shape (Some page.now)) }
+        ensures plan { IfOk result (λ made. made.0.plan ≡ new_plan shape (Some page.now)) }
         ensures senders { IfOk result
             (λ made. AreNewSeats (process_by Q.Ratifier)
-            (automaton_by Q.Ratifier (plan_apart shape (Some page.now))) made.0.table shape.senders
+            (automaton_by Q.Ratifier (new_plan shape (Some page.now))) made.0.table shape.senders
             made.1.items) }
         ensures taps { IfOk result
             (λ made. AreNewTaps
-            (automaton_by Q.Ratifier (plan_apart shape (Some page.now))).table_layout
+            (automaton_by Q.Ratifier (new_plan shape (Some page.now))).table_layout
             made.0.table shape.receivers made.2.items) }
         ensures table { IfOk result (λ made. All (λ s. table_of s ≡ made.0.table) made.1.items
             × All (λ t. t.table_id ≡ made.0.table) made.2.items) }
@@ -115,7 +115,7 @@ impl<Q: Ratifier + Drop> Bus<Q> {
         ensures follows { OnOk result (IsFollowed page.now) }
         ensures fault { IfErr result (AfterRefused shape None page.now) }
     {
-        make(alloc, Plan::apart(shape), Some(page))
+        make(alloc, Plan::new(shape), Some(page))
     }
 
     /// As `new`, with two to eight rows of words that are used again, for up to 2^40 tenures:
@@ -131,14 +131,14 @@ impl<Q: Ratifier + Drop> Bus<Q> {
         page: Option<&Page>,
     ) -> Result<(Bus<Q>, Vec<Sender<Q>>, Vec<Tap<Q>>), MakeFault>
         ensures plan { IfOk result
-            (λ made. made.0.plan ≡ plan_again shape (option_copied page.entry)) }
+            (λ made. made.0.plan ≡ cyclic_plan shape (option_copied page.entry)) }
         ensures senders { IfOk result
             (λ made. AreNewSeats (process_by Q.Ratifier)
-            (automaton_by Q.Ratifier (plan_again shape (option_copied page.entry))) made.0.table
+            (automaton_by Q.Ratifier (cyclic_plan shape (option_copied page.entry))) made.0.table
             shape.senders made.1.items) }
         ensures taps { IfOk result
             (λ made. AreNewTaps
-            (automaton_by Q.Ratifier (plan_again shape (option_copied page.entry))).table_layout
+            (automaton_by Q.Ratifier (cyclic_plan shape (option_copied page.entry))).table_layout
             made.0.table shape.receivers made.2.items) }
         ensures table { IfOk result (λ made. All (λ s. table_of s ≡ made.0.table) made.1.items
             × All (λ t. t.table_id ≡ made.0.table) made.2.items) }
@@ -147,7 +147,7 @@ impl<Q: Ratifier + Drop> Bus<Q> {
         ensures fault { IfErr result
             (MakeRefusedAfter shape (Some shape.rows) (option_copied page.entry)) }
     {
-        make(alloc, Plan::again(shape), page)
+        make(alloc, Plan::cyclic(shape), page)
     }
 
     /// Ends the bus, by a receiver of it: its log and its page, where the page is at home, and

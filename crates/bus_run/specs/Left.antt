@@ -12,7 +12,7 @@ use Rattle.bus_world.specs.declared.shapes.Shape.{Shape}
 use Rattle.bus_pageslot.specs.declared.rule.View.{View}
 use Rattle.bus_pageslot.specs.Endings.{IsLeft}
 use Rattle.bus_pageslot.specs.Outcomes.{Outcome}
-use Rattle.bus_automaton.specs.Buses.{process_with, automaton_with, plan_again}
+use Rattle.bus_automaton.specs.Buses.{process_with, automaton_with, cyclic_plan}
 use Rattle.bus_automaton.specs.Processes.{Process, Automaton}
 use Rattle.bus_automaton.specs.declared.plans.Plan.{Plan}
 use Rattle.bus_pageslot.specs.Rule.{receiver_view_in, known_in, with_receiver_view}
@@ -40,7 +40,7 @@ run_automaton plan = automaton_with (λ s. kind_at s.progress) (λ s word. op_of
 
 -- what the bus of a run is made by: its shape, and its rows of words are used again
 abbrev pub run_plan : Shape → Plan
-run_plan shape = plan_again shape None
+run_plan shape = cyclic_plan shape None
 
 -- such a bus is served; and why none is made
 abbrev pub RunServes : Shape → Type 0

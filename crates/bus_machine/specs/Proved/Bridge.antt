@@ -4,7 +4,8 @@ use Rattle.bus_core.specs.Keeping.{reclaimer_in}
 use Rattle.bus_core.specs.Reusing.Keeping.{held_of}
 use Rattle.bus_core.specs.Reusing.Participants.{log_from}
 use Rattle.bus_core.specs.Reusing.Turns.{Participant}
-use Rattle.bus_core.specs.Senders.{Sender, apart, again}
+use Rattle.bus_core.specs.Senders.{Sender}
+use Rattle.bus_core.specs.Proved.Bridge.{with_a_row_each, with_rows_again}
 use Rattle.bus_presence.specs.Reclaimers.{Reclaiming}
 use Rattle.bus_tenure.specs.Core.{Core, Election, Layout}
 use Rattle.bus_world.specs.Proved.CyclicProtocols.{CyclicProtocol, Led}
@@ -18,7 +19,7 @@ use Rattle.bus_machine.specs.Promise.{reclamation_of}
 
 -- the bus with a row for each tenure, of a sitting that began with these numbers
 abbrev pub of_bus : {E : Type 0} → List ℕ → Layout → Bus E → Machine E
-of_bus bases x b = record { layout = x; reuse = None; bases = bases; words = b.side.words; home = b.side.home; senders = map apart b.side.senders; receivers = b.receivers; stopped = b.stopped; owners = b.side.owners }
+of_bus bases x b = record { layout = x; reuse = None; bases = bases; words = b.side.words; home = b.side.home; senders = map with_a_row_each b.side.senders; receivers = b.receivers; stopped = b.stopped; owners = b.side.owners }
 
 abbrev pub plain_trails : Trails → PlainTrails
 plain_trails T = record { actions = T.actions; heard = T.heard }
@@ -62,7 +63,7 @@ protocol_of m reclaimer owners = record {
 pub record IsLed {E : Type 0} (X : Election E) (rows : ℕ) (m : Machine E) (T : Trails) : Type 0 where
   pub reuse : m.reuse ≡ Some rows
   pub words : length m.words ≡ log_from m.layout rows + m.layout.capacity
-  pub participants : (p : ℕ) (v : Sender E) → slice_get m.senders p ≡ Some v → (u : Participant E) × (v ≡ again u) × (u.rows ≡ rows)
+  pub participants : (p : ℕ) (v : Sender E) → slice_get m.senders p ≡ Some v → (u : Participant E) × (v ≡ with_rows_again u) × (u.rows ≡ rows)
   pub owners : List ℕ
   pub reclaimer : Option Reclaiming
   pub holder : (p : ℕ) (v : Sender E) (t : ℕ) → slice_get m.senders p ≡ Some v → held_of v.core.phase ≡ Some t → reclaimer_in v.reuse ≡ reclaimer
