@@ -1,5 +1,5 @@
 -- Each of these is no cause.
-use Rattle.std.proofs.Common.{◌≡◌, inl, inr, ℕ, ◌+◌, ◌<◌, ◌≤◌, Bool, true, false, Some, None, arith, sym, ◌∙◌, ap, subst}
+use Rattle.std.proofs.Common.{◌≡◌, ◌≢◌, inl, inr, ℕ, ◌+◌, ◌<◌, ◌≤◌, Bool, true, false, Some, None, arith, refl, sym, ◌∙◌, ap, subst}
 use Rattle.std.proofs.lemmas.Bool.{true≢false}
 use Rattle.std.proofs.lemmas.Option.{same_Some}
 use Rattle.bus_register.specs.declared.kinds.Kind.{Kind}
@@ -9,14 +9,17 @@ use Rattle.bus_adoptcommit.specs.declared.verdicts.Verdict.{Verdict}
 use Rattle.bus_presence.specs.Reclaimers.{Reclaiming}
 use Rattle.bus_presence.specs.Reclamation.{IsReady, row_of}
 use Rattle.bus_presence.specs.declared.pins.Pin.TheVariants.{Away, Pinned, Validating, Unpinning}
-use Rattle.bus_ownerbits.specs.Election.{fits_bits}
+use Rattle.bus_binconsensus.specs.Decisions.{decisions}
+use Rattle.bus_binconsensus.specs.Objects.{Decider}
+use Rattle.bus_ownerbits.specs.Election.{fits_bits, owner_at}
+use Rattle.bus_coinconc.specs.Conciliator.{ConciliatorState}
 use Rattle.bus_coinconc.specs.declared.conciliators.Stage.{Stage}
-use Rattle.bus_tenure.specs.Causes.{IsInRatifier, IsInConciliator, LeavesPage}
+use Rattle.bus_tenure.specs.Causes.{IsDeciding, IsInRatifier, IsInConciliator, LeavesPage}
 use Rattle.bus_tenure.specs.Core.{Core, frame_len}
 use Rattle.bus_tenure.specs.declared.pages.Page.{Page}
 use Rattle.bus_tenure.specs.declared.phases.Phase.{Phase}
 use Rattle.bus_tenure.specs.Elections.{Elector, elections}
-use Rattle.bus_tenure.specs.declared.phases.Phase.TheVariants.{Resting, Holding}
+use Rattle.bus_tenure.specs.declared.phases.Phase.TheVariants.{Resting, Electing, Holding}
 use Rattle.bus_core.specs.Causes.{HasCause, StandsInside, StandsInRow, LeavesTenure, AsLoser, AsHolder, AsLate}
 use Rattle.bus_core.specs.CausesRefuse.{IsOfElection, RefusesOwn, RefusesApart, RefusesAgain, RefusesCauses}
 use Rattle.bus_core.specs.Keeping.{sender}
@@ -55,8 +58,9 @@ unsent_stays c t page stored at goes fits l =
 
 -- ---- an election
 -- it is at one stage of one conciliator
-same_stage : {S : Type 0} (c : Core (Elector S)) (a b : Stage) → IsInConciliator c a → IsInConciliator c b → a ≡ b
-same_stage c a b x y =
+same_stage : {S : Type 0} (P : Protocol S Bool Verdict) (c : Core (Elector S)) (a b : Stage) → IsInConciliator P c a → IsInConciliator P c b
+    → a ≡ b
+same_stage P c a b x y =
     let f = x.deciding.elects in
     let g = y.deciding.elects in
     let p = x.deciding.proposes in
@@ -78,6 +82,34 @@ not_both P c x y =
     let n = y.here in
     let same : x.ratifier ≡ y.ratifier = cc in
     true≢false (sym x.stands ∙ ap P.has_begun same ∙ y.stands)
+
+-- once its election has an owner, it has a cause only for the step that takes the page
+module _ {S : Type 0} (P : Protocol S Bool Verdict) (v : Sender (Elector S)) (t o : ℕ) (e : Elector S) (at : v.core.phase ≡ Electing t e)
+    (owner : (elections P v.core.layout.rounds).output e ≡ Some o) where
+  not_open : (u : ℕ) (f : Elector S) → v.core.phase ≡ Electing u f → (elections P v.core.layout.rounds).output f ≡ None → ⊥
+  not_open u f runs open_still =
+      let same = (same_election t u e f (sym at ∙ runs)).1 in
+      let bad = sym owner ∙ ap (elections P v.core.layout.rounds).output same ∙ open_still in cc
+
+  not_deciding : (d : Decider S ConciliatorState) → IsDeciding P v.core d → ⊥
+  not_deciding d w = not_open w.tenure w.election w.elects w.unended
+
+  done_once_elected : (k : Kind) → IsOfElection k → k ≢ kind.TakePage → HasCause P v k → ⊥
+  done_once_elected kind.Announce i ne w = not_open w.1.tenure _ w.1.starts refl
+  done_once_elected kind.WriteFirst i ne w = not_deciding w.1.decision w.1.deciding
+  done_once_elected kind.ReadFirst i ne w = not_deciding w.1.decision w.1.deciding
+  done_once_elected kind.WriteSecond i ne w = not_deciding w.1.decision w.1.deciding
+  done_once_elected kind.ReadSecond i ne w = not_deciding w.1.decision w.1.deciding
+  done_once_elected kind.SetMark i ne w = not_deciding w.1.decision w.1.deciding
+  done_once_elected kind.ReadOtherMark i ne w = not_deciding w.1.decision w.1.deciding
+  done_once_elected kind.Vote i ne w = not_deciding w.1.asks.decision w.1.asks.deciding
+  done_once_elected kind.ReadVotes i ne w = not_deciding w.1.asks.decision w.1.asks.deciding
+  done_once_elected kind.Fallback i ne w = not_deciding w.1.decision w.1.deciding
+  done_once_elected kind.ReadAnnouncement i ne w =
+      let open_still = ap (λ z. owner_at (decisions P) z w.1.election) w.1.searches in
+      not_open w.1.tenure w.1.election w.1.elects open_still
+  done_once_elected kind.TakePage i ne w = ne refl
+  done_once_elected k i ne w = absurd i
 
 -- ---- a presence
 module _ {E : Type 0} (v : Participant E) where
@@ -117,13 +149,14 @@ module _ {S : Type 0} (P : Protocol S Bool Verdict) where
     unbrought_writes_second = λ is w. not_both P v.core w.1 is;
     unbrought_reads_second = λ is w. not_both P v.core w.1 is;
     brings_again = λ is w. not_both P v.core is w.1;
-    unmarked_reads = λ is w. let x = same_stage v.core _ _ is w.1 in absurd cc;
-    unread_votes = λ is w. let x = same_stage v.core _ _ is w.1.asks in absurd cc;
+    unmarked_reads = λ is w. let x = same_stage P v.core _ _ is w.1 in absurd cc;
+    unread_votes = λ is w. let x = same_stage P v.core _ _ is w.1.asks in absurd cc;
     counting_votes = λ is w.
-        let x = same_stage v.core _ _ is.asks w.1.asks in
+        let x = same_stage P v.core _ _ is.asks w.1.asks in
         let y = is.stands in
         let z = w.1.stands in
         absurd cc;
+    steps_once_elected = λ k i ne t o e at owner w. done_once_elected P v t o e at owner k i ne w;
     fitting_searches = λ t e runs fits w.
         let same = (same_election t w.1.tenure e w.1.election (sym runs ∙ w.1.elects)).1 in
         true≢false (sym fits ∙ ap (λ z. fits_bits z z.candidate) same ∙ w.1.unfit);

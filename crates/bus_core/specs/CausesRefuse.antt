@@ -67,9 +67,12 @@ pub record RefusesOwn {S : Type 0} (P : Protocol S Bool Verdict) (v : Sender (El
   pub unbrought_reads_second : IsInRatifier P v.core false → ¬ HasCause P v kind.ReadSecond
   pub brings_again : IsInRatifier P v.core true → ¬ HasCause P v kind.WriteFirst
   -- it has not set its mark, and loads the other one, or has not loaded that, and votes, or is to load votes, and votes again
-  pub unmarked_reads : IsInConciliator v.core SetMark → ¬ HasCause P v kind.ReadOtherMark
-  pub unread_votes : IsInConciliator v.core ReadOtherMark → ¬ HasCause P v kind.Vote
-  pub counting_votes : CountsVotes v.core → ¬ HasCause P v kind.Vote
+  pub unmarked_reads : IsInConciliator P v.core SetMark → ¬ HasCause P v kind.ReadOtherMark
+  pub unread_votes : IsInConciliator P v.core ReadOtherMark → ¬ HasCause P v kind.Vote
+  pub counting_votes : CountsVotes P v.core → ¬ HasCause P v kind.Vote
+  -- its election has an owner, and it takes another step of it than the one that takes the page
+  pub steps_once_elected : (k : Kind) → IsOfElection k → k ≢ kind.TakePage → (t o : ℕ) (e : Elector S) → v.core.phase ≡ Electing t e
+      → (elections P v.core.layout.rounds).output e ≡ Some o → ¬ HasCause P v k
   -- it searches for another candidate, though the bits so far fit its own
   pub fitting_searches : (t : ℕ) (e : Elector S) → v.core.phase ≡ Electing t e → fits_bits e e.candidate ≡ true
       → ¬ HasCause P v kind.ReadAnnouncement
