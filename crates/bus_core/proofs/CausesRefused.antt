@@ -11,10 +11,11 @@ use Rattle.bus_presence.specs.Reclamation.{IsReady, row_of}
 use Rattle.bus_presence.specs.declared.pins.Pin.TheVariants.{Away, Pinned, Validating, Unpinning}
 use Rattle.bus_binconsensus.specs.Decisions.{decisions}
 use Rattle.bus_binconsensus.specs.Objects.{Decider}
+use Rattle.bus_ownerbits.specs.declared.stages.Stage.TheVariants.{Search}
 use Rattle.bus_ownerbits.specs.Election.{fits_bits, owner_at}
 use Rattle.bus_coinconc.specs.Conciliator.{ConciliatorState}
 use Rattle.bus_coinconc.specs.declared.conciliators.Stage.{Stage}
-use Rattle.bus_tenure.specs.Causes.{IsDeciding, IsInRatifier, IsInConciliator, LeavesPage}
+use Rattle.bus_tenure.specs.Causes.{IsDeciding, IsInRatifier, IsInConciliator, SearchesCandidate, LeavesPage}
 use Rattle.bus_tenure.specs.Core.{Core, frame_len}
 use Rattle.bus_tenure.specs.declared.pages.Page.{Page}
 use Rattle.bus_tenure.specs.declared.phases.Phase.{Phase}
@@ -82,6 +83,14 @@ not_both P c x y =
     let n = y.here in
     let same : x.ratifier ≡ y.ratifier = cc in
     true≢false (sym x.stands ∙ ap P.has_begun same ∙ y.stands)
+
+-- it searches one number
+same_searched : {S : Type 0} (c : Core (Elector S)) (t i : ℕ) (e : Elector S) → c.phase ≡ Electing t e → e.stage ≡ Search i
+    → (w : SearchesCandidate c) → i ≡ w.number
+same_searched c t i e runs at w =
+    let f = w.elects in
+    let g = w.searches in
+    cc
 
 -- once its election has an owner, it has a cause only for the step that takes the page
 module _ {S : Type 0} (P : Protocol S Bool Verdict) (v : Sender (Elector S)) (t o : ℕ) (e : Elector S) (at : v.core.phase ≡ Electing t e)
@@ -160,6 +169,9 @@ module _ {S : Type 0} (P : Protocol S Bool Verdict) where
     fitting_searches = λ t e runs fits w.
         let same = (same_election t w.1.tenure e w.1.election (sym runs ∙ w.1.elects)).1 in
         true≢false (sym fits ∙ ap (λ z. fits_bits z z.candidate) same ∙ w.1.unfit);
+    searches_beyond = λ t i e runs at beyond w.
+        let same = same_searched v.core t i e runs at w.1 in
+        let below = w.1.below in omega arith;
     takes_undecided = λ t e runs open_still w.
         let same = (same_election t w.1.tenure e w.1.election (sym runs ∙ w.1.elects)).1 in
         let bad = sym open_still ∙ ap (elections P v.core.layout.rounds).output same ∙ w.1.spells in cc;

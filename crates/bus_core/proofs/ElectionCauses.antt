@@ -95,8 +95,20 @@ module _ {S : Type 0} (P : Protocol S Bool Verdict) (v : Sender (Elector S)) (t 
   by_stage kind timely Announce q = (inside, record { tenure = t; starts = at ∙ ap (Electing t) (keeps.unbegun (ap begun_at q)) })
   by_stage kind timely (Propose d) q = by_object d q kind timely d.object refl
   by_stage kind timely (Search i) q =
-      let w = searches (decide_protocol P conciliator_protocol) (decision_cost P.steps) c.layout.rounds c.layout.senders c.me (row_at c.layout t) i e keeps.belongs q in
-      (inside, record { tenure = t; election = e; number = i; elects = at; searches = q; some_decided = w.2; some_left = w.1; unfit = w.0 })
+      let w = searches (decide_protocol P conciliator_protocol) (decision_cost P.steps) c.layout.rounds c.layout.senders c.me (row_at c.layout t) i e keeps.belongs q in (
+        inside,
+        record {
+          tenure = t;
+          election = e;
+          number = i;
+          elects = at;
+          searches = q;
+          below = (stage_is (Search i) q).0;
+          some_decided = w.2;
+          some_left = w.1;
+          unfit = w.0;
+        },
+      )
   by_stage kind timely Alone q = tt
 
   pub election_cause : (kind : S → Option Kind) → ((s : S) (k : Kind) → kind s ≡ Some k → IsTimely P s k) → (x : Option Kind) → x ≡ election_kind (λ d. object_kind kind conciliator_kind d.object) e → IfSome x (HasCause P v)

@@ -9,6 +9,7 @@ use Rattle.bus_presence.specs.Reclamation.{row_of}
 use Rattle.bus_presence.specs.Reclaimers.{Reclaiming, is_reclaimed}
 use Rattle.bus_presence.specs.declared.pins.Pin.TheVariants.{Away, Announcing, Validating, Pinned, Unpinning, Invalidated}
 use Rattle.bus_tenure.specs.Causes.{IsInRatifier, IsInConciliator, CountsVotes}
+use Rattle.bus_ownerbits.specs.declared.stages.Stage.TheVariants.{Search}
 use Rattle.bus_ownerbits.specs.Election.{fits_bits}
 use Rattle.bus_tenure.specs.Core.{frame_len}
 use Rattle.bus_tenure.specs.Elections.{Elector, elections}
@@ -75,6 +76,9 @@ pub record RefusesOwn {S : Type 0} (P : Protocol S Bool Verdict) (v : Sender (El
       → (elections P v.core.layout.rounds).output e ≡ Some o → ¬ HasCause P v k
   -- it searches for another candidate, though the bits so far fit its own
   pub fitting_searches : (t : ℕ) (e : Elector S) → v.core.phase ≡ Electing t e → fits_bits e e.candidate ≡ true
+      → ¬ HasCause P v kind.ReadAnnouncement
+  -- it searches past the last sender
+  pub searches_beyond : (t i : ℕ) (e : Elector S) → v.core.phase ≡ Electing t e → e.stage ≡ Search i → v.core.layout.senders ≤ i
       → ¬ HasCause P v kind.ReadAnnouncement
   -- a page whose election has not ended, or has chosen another
   pub takes_undecided : (t : ℕ) (e : Elector S) → v.core.phase ≡ Electing t e → (elections P v.core.layout.rounds).output e ≡ None

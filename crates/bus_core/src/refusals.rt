@@ -36,8 +36,8 @@ pub fn answers_refuse<Q: Ratifier>()
 /// before the length is stored, while the order goes on and its frame fits the log. None goes on in
 /// a ratifier before it has brought its bit, brings it twice, loads a mark before it has set its
 /// own, votes out of turn, searches for another candidate while the bits so far fit its own, or
-/// takes a page before it was chosen. Once its election has an owner, none takes another step of
-/// it than the one that takes the page.
+/// past the last sender, or takes a page before it was chosen. Once its election has an owner, none
+/// takes another step of it than the one that takes the page.
 ///
 /// With a row for each tenure none shows a presence, asks for one, or clears a row. With rows that
 /// are used again none takes a step of an election while it pins no tenure, has not stored its

@@ -77,13 +77,14 @@ pub record IsAtFallback {S : Type 0} (P : Protocol S Bool Verdict) (c : Core (El
   pub here : decision.object ≡ Fall fallback
   pub last : decision.after ≡ 0
 
--- it has seen a bit decided, not the last, and the bits so far do not fit its candidate
+-- it has seen a bit decided, not the last, the bits so far do not fit its candidate, and the number that it searches is a sender's
 pub record SearchesCandidate {S : Type 0} (c : Core (Elector S)) : Type 0 where
   pub tenure : ℕ
   pub election : Elector S
   pub number : ℕ
   pub elects : c.phase ≡ Electing tenure election
   pub searches : election.stage ≡ Search number
+  pub below : number < c.layout.senders
   pub some_decided : election.left < bits_of c.layout.senders
   pub some_left : 1 ≤ election.left
   pub unfit : fits_bits election election.candidate ≡ false
