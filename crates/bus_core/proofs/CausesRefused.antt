@@ -21,6 +21,7 @@ use Rattle.bus_tenure.specs.declared.pages.Page.{Page}
 use Rattle.bus_tenure.specs.declared.phases.Phase.{Phase}
 use Rattle.bus_tenure.specs.Elections.{Elector, elections}
 use Rattle.bus_tenure.specs.declared.phases.Phase.TheVariants.{Resting, Electing, Holding}
+use Rattle.bus_tenure.proofs.Looking.{looks_at_rest}
 use Rattle.bus_core.specs.Causes.{HasCause, StandsInside, StandsInRow, LeavesTenure, AsLoser, AsHolder, AsLate}
 use Rattle.bus_core.specs.CausesRefuse.{IsOfElection, RefusesOwn, RefusesApart, RefusesAgain, RefusesCauses}
 use Rattle.bus_core.specs.Keeping.{sender}
@@ -29,7 +30,7 @@ use Rattle.bus_core.specs.Reusing.Participants.{sizes_with}
 use Rattle.bus_core.specs.Reusing.Turns.{Participant}
 use Rattle.bus_core.specs.Senders.{Sender, participant_of}
 use Rattle.bus_core.specs.declared.reuses.Reuse.{Reuse}
-use Rattle.bus_core.proofs.Refused.{same_election, same_page, same_tenure, none_not}
+use Rattle.bus_core.proofs.Refused.{same_election, same_page, same_tenure, none_not, sends_nothing}
 
 -- one pin has one tenure, where it stands
 same_pinned : (t u : ℕ) → Pinned t ≡ Pinned u → t ≡ u
@@ -58,6 +59,16 @@ unsent_stays c t page stored at goes fits l =
     ]
 
 -- ---- an election
+-- it is at one decision
+same_decision : {S : Type 0} (P : Protocol S Bool Verdict) (c : Core (Elector S)) (a b : Decider S ConciliatorState)
+    → IsDeciding P c a → IsDeciding P c b → a ≡ b
+same_decision P c a b x y =
+    let f = x.elects in
+    let g = y.elects in
+    let p = x.proposes in
+    let q = y.proposes in
+    cc
+
 -- it is at one stage of one conciliator
 same_stage : {S : Type 0} (P : Protocol S Bool Verdict) (c : Core (Elector S)) (a b : Stage) → IsInConciliator P c a → IsInConciliator P c b
     → a ≡ b
@@ -144,8 +155,13 @@ module _ {S : Type 0} (P : Protocol S Bool Verdict) where
   -- what no sender has a cause for in its tenures
   own_refused : (v : Sender (Elector S)) → RefusesOwn P v
   own_refused v = record {
+    looks_with_nothing = λ nothing opened w. sends_nothing _ _ nothing opened w.1.something;
+    looks_once_closed = λ closed w. w.1.not_closed closed;
+    looks_past_the_last = λ past w. let left = w.1.tenure_left in omega arith;
+    looks_in_an_election = λ t e runs w. let bad = sym w.1.rests ∙ runs in cc;
     resting_takes = λ rests w. let x = w.1.elects in absurd cc;
     resting_stores = λ rests w. let x = w.1.holds.holds in absurd cc;
+    resting_publishes = λ rests w. let x = w.1.holds.holds in absurd cc;
     resting_falls_back = λ rests w. let x = w.1.deciding.elects in absurd cc;
     ended_publishes = λ tenure page stored at ended w. let x = w.1.holds.holds in let y = w.1.holds.not_ended in absurd cc;
     unstored_publishes = λ tenure page stored at left w.
@@ -154,17 +170,29 @@ module _ {S : Type 0} (P : Protocol S Bool Verdict) where
       | inl l ↦ unsent_stays v.core tenure page stored at goes fits l
       | inr h ↦ (let bad = sym at ∙ h.gives in cc)
     ];
+    announces_again = λ t e runs begun w.
+        let same = (same_election t w.1.tenure e _ (sym runs ∙ w.1.starts)).1 in
+        true≢false (sym begun ∙ ap (elections P v.core.layout.rounds).has_begun same);
     unbrought_reads_first = λ is w. not_both P v.core w.1 is;
     unbrought_writes_second = λ is w. not_both P v.core w.1 is;
     unbrought_reads_second = λ is w. not_both P v.core w.1 is;
     brings_again = λ is w. not_both P v.core is w.1;
     unmarked_reads = λ is w. let x = same_stage P v.core _ _ is w.1 in absurd cc;
+    marks_again = λ stage is other w. other (same_stage P v.core stage _ is w.1);
     unread_votes = λ is w. let x = same_stage P v.core _ _ is w.1.asks in absurd cc;
     counting_votes = λ is w.
         let x = same_stage P v.core _ _ is.asks w.1.asks in
         let y = is.stands in
         let z = w.1.stands in
         absurd cc;
+    unvoted_counts = λ is w.
+        let x = same_stage P v.core _ _ is.asks w.1.asks in
+        let y = is.stands in
+        let z = w.1.stands in
+        absurd cc;
+    falls_back_too_soon = λ d is left w.
+        let none = ap (λ (x : Decider S ConciliatorState). x.after) (same_decision P v.core d w.1.decision is w.1.deciding) ∙ w.1.last in
+        omega arith;
     steps_once_elected = λ k i ne t o e at owner w. done_once_elected P v t o e at owner k i ne w;
     fitting_searches = λ t e runs fits w.
         let same = (same_election t w.1.tenure e w.1.election (sym runs ∙ w.1.elects)).1 in
@@ -226,13 +254,26 @@ module _ {S : Type 0} (P : Protocol S Bool Verdict) where
         elects_invalidated = λ k t i e w. let s = stands_again c r k i w in let bad = sym e ∙ s.pin in cc;
         enters_the_past = λ t e past w. let same = same_tenure t w.tenure (sym e ∙ w.pin) in let may = w.may.least in omega arith;
         looks_again_at_the_past = λ t e past w. let same = same_validating t w.tenure (sym e ∙ w.pin) in let may = w.may.least in omega arith;
+        enters_with_nothing = λ nothing opened w. sends_nothing _ _ nothing opened (looks_at_rest c w.may.rests w.may.looks).something;
         withdraws_away = λ e w. leaves_away (participant_of c r) w e;
         withdraws_pinned = λ t e w. leaves_pinned (participant_of c r) w t e;
         withdraws_undone = λ t e none rests w. leaves_undone (participant_of c r) w t e none rests;
         asks_at_rest = λ rests w. let bad = sym (ap held_of rests) ∙ w.makes.held in cc;
+        asks_past_all = λ s at passed w.
+            let same = same_Some _ _ (sym at ∙ w.makes.reclaims) in
+            let left = subst (λ (r : Reclaiming). r.scanned < r.senders) (sym same) w.sender_left in
+            omega arith;
         clears_before_it_scanned = λ s at left w.
             let same = same_Some _ _ (sym at ∙ w.makes.reclaims) in
             let scanned = subst (λ (r : Reclaiming). r.senders ≤ r.scanned) (sym same) w.all_scanned in
+            omega arith;
+        clears_elsewhere = λ s t at held other w.
+            let row = ap (λ (r : Reclaiming). r.row) (same_Some _ _ (sym at ∙ w.makes.reclaims)) in
+            let same = same_Some w.makes.tenure t (sym w.makes.held ∙ held) in
+            other (row ∙ w.makes.after.row ∙ ap (λ u. row_of x (u + 1)) same);
+        clears_past_all = λ s at cleared w.
+            let same = same_Some _ _ (sym at ∙ w.makes.reclaims) in
+            let left = subst (λ (r : Reclaiming). r.cleared < r.width) (sym same) w.word_left in
             omega arith;
         looks_while_unpinning = λ t e w. let bad = sym e ∙ w.0 in cc;
         publishes_while_unpinning = λ t e w. let bad = sym e ∙ w.0 in cc;
