@@ -162,10 +162,20 @@ module _ {S : Type 0} (P : Protocol S Bool Verdict) where
     resting_takes = λ rests w. let x = w.1.elects in absurd cc;
     resting_stores = λ rests w. let x = w.1.holds.holds in absurd cc;
     resting_publishes = λ rests w. let x = w.1.holds.holds in absurd cc;
+    resting_gives_back = λ rests w. elim w.0 [
+      | inl l ↦ (let bad = sym rests ∙ l.holds in cc)
+      | inr h ↦ (let bad = sym rests ∙ h.gives in cc)
+    ];
     resting_falls_back = λ rests w. let x = w.1.deciding.elects in absurd cc;
     ended_publishes = λ tenure page stored at ended w. let x = w.1.holds.holds in let y = w.1.holds.not_ended in absurd cc;
     unstored_publishes = λ tenure page stored at left w.
         let same = same_stored tenure _ page _ stored _ false false (sym at ∙ w.1.holds.holds) in omega arith;
+    stores_past_the_frame = λ tenure page stored at past w.
+        let same = same_stored tenure _ page _ stored _ false false (sym at ∙ w.1.holds.holds) in
+        let left = w.1.word_left in
+        omega arith;
+    publishes_again = λ tenure page stored at w.
+        true≢false (same_page tenure w.1.holds.tenure page w.1.holds.page stored _ true false (sym at ∙ w.1.holds.holds)).1.1;
     unsent_gives_back = λ tenure page stored at goes fits w. elim w.0 [
       | inl l ↦ unsent_stays v.core tenure page stored at goes fits l
       | inr h ↦ (let bad = sym at ∙ h.gives in cc)
@@ -255,6 +265,8 @@ module _ {S : Type 0} (P : Protocol S Bool Verdict) where
         enters_the_past = λ t e past w. let same = same_tenure t w.tenure (sym e ∙ w.pin) in let may = w.may.least in omega arith;
         looks_again_at_the_past = λ t e past w. let same = same_validating t w.tenure (sym e ∙ w.pin) in let may = w.may.least in omega arith;
         enters_with_nothing = λ nothing opened w. sends_nothing _ _ nothing opened (looks_at_rest c w.may.rests w.may.looks).something;
+        looks_again_with_nothing = λ nothing opened w.
+            sends_nothing _ _ nothing opened (looks_at_rest c w.may.rests w.may.looks).something;
         withdraws_away = λ e w. leaves_away (participant_of c r) w e;
         withdraws_pinned = λ t e w. leaves_pinned (participant_of c r) w t e;
         withdraws_undone = λ t e none rests w. leaves_undone (participant_of c r) w t e none rests;
@@ -275,6 +287,8 @@ module _ {S : Type 0} (P : Protocol S Bool Verdict) where
             let same = same_Some _ _ (sym at ∙ w.makes.reclaims) in
             let left = subst (λ (r : Reclaiming). r.cleared < r.width) (sym same) w.word_left in
             omega arith;
+        asks_unsent = λ tenure page stored at goes fits w. unsent_stays c tenure page stored at goes fits w.makes.leaves;
+        clears_unsent = λ tenure page stored at goes fits w. unsent_stays c tenure page stored at goes fits w.makes.leaves;
         looks_while_unpinning = λ t e w. let bad = sym e ∙ w.0 in cc;
         publishes_while_unpinning = λ t e w. let bad = sym e ∙ w.0 in cc;
         gives_back_unready = λ s at unreclaimed w. true≢false (sym (subst (IsReady x w.1.tenure) at w.1.ready.ready) ∙ unreclaimed);

@@ -59,10 +59,11 @@ pub record RefusesOwn {S : Type 0} (P : Protocol S Bool Verdict) (v : Sender (El
   pub looks_once_closed : v.core.queue.phase ≡ Closed → ¬ HasCause P v kind.LoadStage
   pub looks_past_the_last : v.core.layout.rows ≤ v.core.least → ¬ HasCause P v kind.LoadStage
   pub looks_in_an_election : (t : ℕ) (e : Elector S) → v.core.phase ≡ Electing t e → ¬ HasCause P v kind.LoadStage
-  -- it rests, and takes the page, stores a word of a log or a length, or goes to a fallback word
+  -- it rests, and takes the page, stores a word of a log or a length, gives a page back, or goes to a fallback word
   pub resting_takes : v.core.phase ≡ Resting → ¬ HasCause P v kind.TakePage
   pub resting_stores : v.core.phase ≡ Resting → ¬ HasCause P v kind.StoreLogWord
   pub resting_publishes : v.core.phase ≡ Resting → ¬ HasCause P v kind.StoreLength
+  pub resting_gives_back : v.core.phase ≡ Resting → ¬ HasCause P v kind.GivePageBack
   pub resting_falls_back : v.core.phase ≡ Resting → ¬ HasCause P v kind.Fallback
   -- it holds the page of an order that has ended, and stores a length
   pub ended_publishes : (tenure : ℕ) (page : Page) (stored : ℕ) → v.core.phase ≡ Holding tenure page stored false → page.ended ≡ true
@@ -70,6 +71,10 @@ pub record RefusesOwn {S : Type 0} (P : Protocol S Bool Verdict) (v : Sender (El
   -- it holds a page, and stores a length before all words of its frame are stored
   pub unstored_publishes : (tenure : ℕ) (page : Page) (stored : ℕ) → v.core.phase ≡ Holding tenure page stored false → stored < frame_len v.core
       → ¬ HasCause P v kind.StoreLength
+  -- it holds a page, and stores a word past its frame, or the length a second time
+  pub stores_past_the_frame : (tenure : ℕ) (page : Page) (stored : ℕ) → v.core.phase ≡ Holding tenure page stored false
+      → frame_len v.core ≤ stored → ¬ HasCause P v kind.StoreLogWord
+  pub publishes_again : (tenure : ℕ) (page : Page) (stored : ℕ) → v.core.phase ≡ Holding tenure page stored true → ¬ HasCause P v kind.StoreLength
   -- it holds the page of an order that goes on, its frame fits the log, and it gives the page back before the length is stored
   pub unsent_gives_back : (tenure : ℕ) (page : Page) (stored : ℕ) → v.core.phase ≡ Holding tenure page stored false → page.ended ≡ false
       → page.words + frame_len v.core ≤ v.core.layout.capacity → ¬ HasCause P v kind.GivePageBack
@@ -127,8 +132,9 @@ pub record RefusesAgain {S : Type 0} (P : Protocol S Bool Verdict) (v : Sender (
   -- a presence of a tenure that is past for it, and another look at the stage of one
   pub enters_the_past : (t : ℕ) → r.pin ≡ Announcing t → t < v.core.least → ¬ HasCause P v kind.Enter
   pub looks_again_at_the_past : (t : ℕ) → r.pin ≡ Validating t → t < v.core.least → ¬ HasCause P v kind.LoadStageAgain
-  -- a presence of a tenure that is entered with nothing to send
+  -- a presence of a tenure that is entered with nothing to send, and another look at the stage of one
   pub enters_with_nothing : v.core.queue.messages ≡ [] → v.core.queue.phase ≡ Open → ¬ HasCause P v kind.Enter
+  pub looks_again_with_nothing : v.core.queue.messages ≡ [] → v.core.queue.phase ≡ Open → ¬ HasCause P v kind.LoadStageAgain
   -- a presence that is cleared while it pins no tenure, or stands in one, or of one that it neither lost nor has the page of
   pub withdraws_away : r.pin ≡ Away → ¬ HasCause P v kind.Withdraw
   pub withdraws_pinned : (t : ℕ) → r.pin ≡ Pinned t → ¬ HasCause P v kind.Withdraw
@@ -141,6 +147,11 @@ pub record RefusesAgain {S : Type 0} (P : Protocol S Bool Verdict) (v : Sender (
   pub clears_elsewhere : (s : Reclaiming) (t : ℕ) → r.reclaimer ≡ Some s → held_of v.core.phase ≡ Some t
       → s.row ≢ row_of (sizes_with v.core.layout r.rows) (t + 1) → ¬ HasCause P v kind.ClearRow
   pub clears_past_all : (s : Reclaiming) → r.reclaimer ≡ Some s → s.width ≤ s.cleared → ¬ HasCause P v kind.ClearRow
+  -- a presence that is scanned, and a word that is cleared, before the length is stored, while the order goes on and its frame fits the log
+  pub asks_unsent : (tenure : ℕ) (page : Page) (stored : ℕ) → v.core.phase ≡ Holding tenure page stored false → page.ended ≡ false
+      → page.words + frame_len v.core ≤ v.core.layout.capacity → ¬ HasCause P v kind.ReadPresence
+  pub clears_unsent : (tenure : ℕ) (page : Page) (stored : ℕ) → v.core.phase ≡ Holding tenure page stored false → page.ended ≡ false
+      → page.words + frame_len v.core ≤ v.core.layout.capacity → ¬ HasCause P v kind.ClearRow
   -- another step while its presence is to be cleared
   pub looks_while_unpinning : (t : ℕ) → r.pin ≡ Unpinning t → ¬ HasCause P v kind.LoadStage
   pub publishes_while_unpinning : (t : ℕ) → r.pin ≡ Unpinning t → ¬ HasCause P v kind.StoreLength
