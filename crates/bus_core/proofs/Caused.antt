@@ -1,6 +1,6 @@
 -- Each kind of step has its cause.
 use Rattle.std.specs.Prelude.{◌⊎◌}
-use Rattle.std.proofs.Common.{◌≡◌, inl, inr, ℕ, Bool, true, Option, Some, None, IfSome, IsSomeAnd, is_some, refl, sym, ◌∙◌, ap, subst}
+use Rattle.std.proofs.Common.{◌≡◌, inl, inr, ℕ, Bool, true, false, Option, Some, None, IfSome, IsSomeAnd, is_some, refl, sym, ◌∙◌, ap, subst}
 use Rattle.bus_register.specs.declared.kinds.Kind.{Kind}
 use Rattle.bus_register.specs.declared.registers.Op.{Op}
 use Rattle.bus_register.specs.declared.registers.SenderNo.{SenderNo}
@@ -43,6 +43,11 @@ looks_cause X c i = let rests = tells X c LooksAtStage i in looks_at_rest c rest
 owner_some : (x : Option ℕ) → is_some x ≡ true → (o : ℕ) × (x ≡ Some o)
 owner_some (Some o) h = (o, refl)
 owner_some None h = absurd cc
+
+-- and none, where none stands
+no_owner : (x : Option ℕ) → is_some x ≡ false → x ≡ None
+no_owner (Some o) h = absurd cc
+no_owner None h = refl
 
 -- a cause of whatever the step is for
 for_kind : (Q : Kind → Type 0) (x : Option Kind) → IfSome x Q → (k : Kind) → x ≡ Some k → Q k
@@ -165,8 +170,9 @@ module _ {S : Type 0} (kind_of : S → Option Kind) (op : S → ℕ → Option O
         let looks = looks_cause X v.core (situation_tells X v (Does LooksAtStage) i).0 in
         (away LooksAtStage i (subst IsOutside (sym looks.rests) tt), looks)
     by_situation (Does (Elects t e)) i =
-        let at = (tells X v.core (Elects t e) (situation_tells X v (Does (Elects t e)) i).0).0 in
-        election_cause P v t e at k (stands_inside v t e at (stands_in width Belongs v.core v.reuse g t e at)) kind_of
+        let w = tells X v.core (Elects t e) (situation_tells X v (Does (Elects t e)) i).0 in
+        election_cause P v t e w.0 (no_owner (X.owner e) w.1) k
+        (stands_inside v t e w.0 (stands_in width Belongs v.core v.reuse g t e w.0)) kind_of
         (timely P kind_of op named own named_for) (X.kind_of e) refl
     by_situation (Does (TakesPage t)) i =
         let w = takes_cause v.core k t (situation_tells X v (Does (TakesPage t)) i).0 in

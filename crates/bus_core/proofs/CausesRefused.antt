@@ -1,5 +1,5 @@
 -- Each of these is no cause.
-use Rattle.std.proofs.Common.{◌≡◌, inl, inr, ℕ, ◌+◌, ◌<◌, ◌≤◌, Bool, true, false, Some, None, arith, sym, ◌∙◌, ap, subst}
+use Rattle.std.proofs.Common.{◌≡◌, ◌≢◌, inl, inr, ℕ, ◌+◌, ◌<◌, ◌≤◌, Bool, true, false, Some, None, arith, refl, sym, ◌∙◌, ap, subst}
 use Rattle.std.proofs.lemmas.Bool.{true≢false}
 use Rattle.std.proofs.lemmas.Option.{same_Some}
 use Rattle.bus_register.specs.declared.kinds.Kind.{Kind}
@@ -9,14 +9,19 @@ use Rattle.bus_adoptcommit.specs.declared.verdicts.Verdict.{Verdict}
 use Rattle.bus_presence.specs.Reclaimers.{Reclaiming}
 use Rattle.bus_presence.specs.Reclamation.{IsReady, row_of}
 use Rattle.bus_presence.specs.declared.pins.Pin.TheVariants.{Away, Pinned, Validating, Unpinning}
-use Rattle.bus_ownerbits.specs.Election.{fits_bits}
+use Rattle.bus_binconsensus.specs.Decisions.{decisions}
+use Rattle.bus_binconsensus.specs.Objects.{Decider}
+use Rattle.bus_ownerbits.specs.declared.stages.Stage.TheVariants.{Search}
+use Rattle.bus_ownerbits.specs.Election.{fits_bits, owner_at}
+use Rattle.bus_coinconc.specs.Conciliator.{ConciliatorState}
 use Rattle.bus_coinconc.specs.declared.conciliators.Stage.{Stage}
-use Rattle.bus_tenure.specs.Causes.{IsInRatifier, IsInConciliator, LeavesPage}
+use Rattle.bus_tenure.specs.Causes.{IsDeciding, IsInRatifier, IsInConciliator, SearchesCandidate, LeavesPage}
 use Rattle.bus_tenure.specs.Core.{Core, frame_len}
 use Rattle.bus_tenure.specs.declared.pages.Page.{Page}
 use Rattle.bus_tenure.specs.declared.phases.Phase.{Phase}
 use Rattle.bus_tenure.specs.Elections.{Elector, elections}
-use Rattle.bus_tenure.specs.declared.phases.Phase.TheVariants.{Resting, Holding}
+use Rattle.bus_tenure.specs.declared.phases.Phase.TheVariants.{Resting, Electing, Holding}
+use Rattle.bus_tenure.proofs.Looking.{looks_at_rest}
 use Rattle.bus_core.specs.Causes.{HasCause, StandsInside, StandsInRow, LeavesTenure, AsLoser, AsHolder, AsLate}
 use Rattle.bus_core.specs.CausesRefuse.{IsOfElection, RefusesOwn, RefusesApart, RefusesAgain, RefusesCauses}
 use Rattle.bus_core.specs.Keeping.{sender}
@@ -25,7 +30,7 @@ use Rattle.bus_core.specs.Reusing.Participants.{sizes_with}
 use Rattle.bus_core.specs.Reusing.Turns.{Participant}
 use Rattle.bus_core.specs.Senders.{Sender, participant_of}
 use Rattle.bus_core.specs.declared.reuses.Reuse.{Reuse}
-use Rattle.bus_core.proofs.Refused.{same_election, same_page, same_tenure, none_not}
+use Rattle.bus_core.proofs.Refused.{same_election, same_page, same_tenure, none_not, sends_nothing}
 
 -- one pin has one tenure, where it stands
 same_pinned : (t u : ℕ) → Pinned t ≡ Pinned u → t ≡ u
@@ -54,9 +59,20 @@ unsent_stays c t page stored at goes fits l =
     ]
 
 -- ---- an election
+-- it is at one decision
+same_decision : {S : Type 0} (P : Protocol S Bool Verdict) (c : Core (Elector S)) (a b : Decider S ConciliatorState)
+    → IsDeciding P c a → IsDeciding P c b → a ≡ b
+same_decision P c a b x y =
+    let f = x.elects in
+    let g = y.elects in
+    let p = x.proposes in
+    let q = y.proposes in
+    cc
+
 -- it is at one stage of one conciliator
-same_stage : {S : Type 0} (c : Core (Elector S)) (a b : Stage) → IsInConciliator c a → IsInConciliator c b → a ≡ b
-same_stage c a b x y =
+same_stage : {S : Type 0} (P : Protocol S Bool Verdict) (c : Core (Elector S)) (a b : Stage) → IsInConciliator P c a → IsInConciliator P c b
+    → a ≡ b
+same_stage P c a b x y =
     let f = x.deciding.elects in
     let g = y.deciding.elects in
     let p = x.deciding.proposes in
@@ -78,6 +94,42 @@ not_both P c x y =
     let n = y.here in
     let same : x.ratifier ≡ y.ratifier = cc in
     true≢false (sym x.stands ∙ ap P.has_begun same ∙ y.stands)
+
+-- it searches one number
+same_searched : {S : Type 0} (c : Core (Elector S)) (t i : ℕ) (e : Elector S) → c.phase ≡ Electing t e → e.stage ≡ Search i
+    → (w : SearchesCandidate c) → i ≡ w.number
+same_searched c t i e runs at w =
+    let f = w.elects in
+    let g = w.searches in
+    cc
+
+-- once its election has an owner, it has a cause only for the step that takes the page
+module _ {S : Type 0} (P : Protocol S Bool Verdict) (v : Sender (Elector S)) (t o : ℕ) (e : Elector S) (at : v.core.phase ≡ Electing t e)
+    (owner : (elections P v.core.layout.rounds).output e ≡ Some o) where
+  not_open : (u : ℕ) (f : Elector S) → v.core.phase ≡ Electing u f → (elections P v.core.layout.rounds).output f ≡ None → ⊥
+  not_open u f runs open_still =
+      let same = (same_election t u e f (sym at ∙ runs)).1 in
+      let bad = sym owner ∙ ap (elections P v.core.layout.rounds).output same ∙ open_still in cc
+
+  not_deciding : (d : Decider S ConciliatorState) → IsDeciding P v.core d → ⊥
+  not_deciding d w = not_open w.tenure w.election w.elects w.unended
+
+  done_once_elected : (k : Kind) → IsOfElection k → k ≢ kind.TakePage → HasCause P v k → ⊥
+  done_once_elected kind.Announce i ne w = not_open w.1.tenure _ w.1.starts refl
+  done_once_elected kind.WriteFirst i ne w = not_deciding w.1.decision w.1.deciding
+  done_once_elected kind.ReadFirst i ne w = not_deciding w.1.decision w.1.deciding
+  done_once_elected kind.WriteSecond i ne w = not_deciding w.1.decision w.1.deciding
+  done_once_elected kind.ReadSecond i ne w = not_deciding w.1.decision w.1.deciding
+  done_once_elected kind.SetMark i ne w = not_deciding w.1.decision w.1.deciding
+  done_once_elected kind.ReadOtherMark i ne w = not_deciding w.1.decision w.1.deciding
+  done_once_elected kind.Vote i ne w = not_deciding w.1.asks.decision w.1.asks.deciding
+  done_once_elected kind.ReadVotes i ne w = not_deciding w.1.asks.decision w.1.asks.deciding
+  done_once_elected kind.Fallback i ne w = not_deciding w.1.decision w.1.deciding
+  done_once_elected kind.ReadAnnouncement i ne w =
+      let open_still = ap (λ z. owner_at (decisions P) z w.1.election) w.1.searches in
+      not_open w.1.tenure w.1.election w.1.elects open_still
+  done_once_elected kind.TakePage i ne w = ne refl
+  done_once_elected k i ne w = absurd i
 
 -- ---- a presence
 module _ {E : Type 0} (v : Participant E) where
@@ -103,30 +155,61 @@ module _ {S : Type 0} (P : Protocol S Bool Verdict) where
   -- what no sender has a cause for in its tenures
   own_refused : (v : Sender (Elector S)) → RefusesOwn P v
   own_refused v = record {
+    looks_with_nothing = λ nothing opened w. sends_nothing _ _ nothing opened w.1.something;
+    looks_once_closed = λ closed w. w.1.not_closed closed;
+    looks_past_the_last = λ past w. let left = w.1.tenure_left in omega arith;
+    looks_in_an_election = λ t e runs w. let bad = sym w.1.rests ∙ runs in cc;
     resting_takes = λ rests w. let x = w.1.elects in absurd cc;
     resting_stores = λ rests w. let x = w.1.holds.holds in absurd cc;
+    resting_publishes = λ rests w. let x = w.1.holds.holds in absurd cc;
+    resting_gives_back = λ rests w. elim w.0 [
+      | inl l ↦ (let bad = sym rests ∙ l.holds in cc)
+      | inr h ↦ (let bad = sym rests ∙ h.gives in cc)
+    ];
     resting_falls_back = λ rests w. let x = w.1.deciding.elects in absurd cc;
     ended_publishes = λ tenure page stored at ended w. let x = w.1.holds.holds in let y = w.1.holds.not_ended in absurd cc;
     unstored_publishes = λ tenure page stored at left w.
         let same = same_stored tenure _ page _ stored _ false false (sym at ∙ w.1.holds.holds) in omega arith;
+    stores_past_the_frame = λ tenure page stored at past w.
+        let same = same_stored tenure _ page _ stored _ false false (sym at ∙ w.1.holds.holds) in
+        let left = w.1.word_left in
+        omega arith;
+    publishes_again = λ tenure page stored at w.
+        true≢false (same_page tenure w.1.holds.tenure page w.1.holds.page stored _ true false (sym at ∙ w.1.holds.holds)).1.1;
     unsent_gives_back = λ tenure page stored at goes fits w. elim w.0 [
       | inl l ↦ unsent_stays v.core tenure page stored at goes fits l
       | inr h ↦ (let bad = sym at ∙ h.gives in cc)
     ];
+    announces_again = λ t e runs begun w.
+        let same = (same_election t w.1.tenure e _ (sym runs ∙ w.1.starts)).1 in
+        true≢false (sym begun ∙ ap (elections P v.core.layout.rounds).has_begun same);
     unbrought_reads_first = λ is w. not_both P v.core w.1 is;
     unbrought_writes_second = λ is w. not_both P v.core w.1 is;
     unbrought_reads_second = λ is w. not_both P v.core w.1 is;
     brings_again = λ is w. not_both P v.core is w.1;
-    unmarked_reads = λ is w. let x = same_stage v.core _ _ is w.1 in absurd cc;
-    unread_votes = λ is w. let x = same_stage v.core _ _ is w.1.asks in absurd cc;
+    unmarked_reads = λ is w. let x = same_stage P v.core _ _ is w.1 in absurd cc;
+    marks_again = λ stage is other w. other (same_stage P v.core stage _ is w.1);
+    unread_votes = λ is w. let x = same_stage P v.core _ _ is w.1.asks in absurd cc;
     counting_votes = λ is w.
-        let x = same_stage v.core _ _ is.asks w.1.asks in
+        let x = same_stage P v.core _ _ is.asks w.1.asks in
         let y = is.stands in
         let z = w.1.stands in
         absurd cc;
+    unvoted_counts = λ is w.
+        let x = same_stage P v.core _ _ is.asks w.1.asks in
+        let y = is.stands in
+        let z = w.1.stands in
+        absurd cc;
+    falls_back_too_soon = λ d is left w.
+        let none = ap (λ (x : Decider S ConciliatorState). x.after) (same_decision P v.core d w.1.decision is w.1.deciding) ∙ w.1.last in
+        omega arith;
+    steps_once_elected = λ k i ne t o e at owner w. done_once_elected P v t o e at owner k i ne w;
     fitting_searches = λ t e runs fits w.
         let same = (same_election t w.1.tenure e w.1.election (sym runs ∙ w.1.elects)).1 in
         true≢false (sym fits ∙ ap (λ z. fits_bits z z.candidate) same ∙ w.1.unfit);
+    searches_beyond = λ t i e runs at beyond w.
+        let same = same_searched v.core t i e runs at w.1 in
+        let below = w.1.below in omega arith;
     takes_undecided = λ t e runs open_still w.
         let same = (same_election t w.1.tenure e w.1.election (sym runs ∙ w.1.elects)).1 in
         let bad = sym open_still ∙ ap (elections P v.core.layout.rounds).output same ∙ w.1.spells in cc;
@@ -181,14 +264,31 @@ module _ {S : Type 0} (P : Protocol S Bool Verdict) where
         elects_invalidated = λ k t i e w. let s = stands_again c r k i w in let bad = sym e ∙ s.pin in cc;
         enters_the_past = λ t e past w. let same = same_tenure t w.tenure (sym e ∙ w.pin) in let may = w.may.least in omega arith;
         looks_again_at_the_past = λ t e past w. let same = same_validating t w.tenure (sym e ∙ w.pin) in let may = w.may.least in omega arith;
+        enters_with_nothing = λ nothing opened w. sends_nothing _ _ nothing opened (looks_at_rest c w.may.rests w.may.looks).something;
+        looks_again_with_nothing = λ nothing opened w.
+            sends_nothing _ _ nothing opened (looks_at_rest c w.may.rests w.may.looks).something;
         withdraws_away = λ e w. leaves_away (participant_of c r) w e;
         withdraws_pinned = λ t e w. leaves_pinned (participant_of c r) w t e;
         withdraws_undone = λ t e none rests w. leaves_undone (participant_of c r) w t e none rests;
         asks_at_rest = λ rests w. let bad = sym (ap held_of rests) ∙ w.makes.held in cc;
+        asks_past_all = λ s at passed w.
+            let same = same_Some _ _ (sym at ∙ w.makes.reclaims) in
+            let left = subst (λ (r : Reclaiming). r.scanned < r.senders) (sym same) w.sender_left in
+            omega arith;
         clears_before_it_scanned = λ s at left w.
             let same = same_Some _ _ (sym at ∙ w.makes.reclaims) in
             let scanned = subst (λ (r : Reclaiming). r.senders ≤ r.scanned) (sym same) w.all_scanned in
             omega arith;
+        clears_elsewhere = λ s t at held other w.
+            let row = ap (λ (r : Reclaiming). r.row) (same_Some _ _ (sym at ∙ w.makes.reclaims)) in
+            let same = same_Some w.makes.tenure t (sym w.makes.held ∙ held) in
+            other (row ∙ w.makes.after.row ∙ ap (λ u. row_of x (u + 1)) same);
+        clears_past_all = λ s at cleared w.
+            let same = same_Some _ _ (sym at ∙ w.makes.reclaims) in
+            let left = subst (λ (r : Reclaiming). r.cleared < r.width) (sym same) w.word_left in
+            omega arith;
+        asks_unsent = λ tenure page stored at goes fits w. unsent_stays c tenure page stored at goes fits w.makes.leaves;
+        clears_unsent = λ tenure page stored at goes fits w. unsent_stays c tenure page stored at goes fits w.makes.leaves;
         looks_while_unpinning = λ t e w. let bad = sym e ∙ w.0 in cc;
         publishes_while_unpinning = λ t e w. let bad = sym e ∙ w.0 in cc;
         gives_back_unready = λ s at unreclaimed w. true≢false (sym (subst (IsReady x w.1.tenure) at w.1.ready.ready) ∙ unreclaimed);

@@ -32,6 +32,7 @@ use Rattle.bus_core.specs.Causes.{HasCause, StandsInside}
 use Rattle.bus_core.specs.Senders.{Sender}
 
 module _ {S : Type 0} (P : Protocol S Bool Verdict) (v : Sender (Elector S)) (t : ℕ) (e : Elector S) (at : v.core.phase ≡ Electing t e)
+    (unended : (elections P v.core.layout.rounds).output e ≡ None)
     (k : SenderInvariant ((elections P v.core.layout.rounds).width v.core.layout.senders) (ElectorKeeps P v.core.layout.rounds v.core.layout.senders v.core.me) v.core)
     (inside : StandsInside v) where
   -- what it holds
@@ -45,8 +46,8 @@ module _ {S : Type 0} (P : Protocol S Bool Verdict) (v : Sender (Elector S)) (t 
   stage_is stage q = subst (λ z. StageBelongs (decide_protocol P conciliator_protocol) c.layout.rounds c.layout.senders c.me (row_at c.layout t) z e) q keeps.belongs.stage
 
   module _ (d : Decider S ConciliatorState) (proposes : e.stage ≡ Propose d) where
-    deciding : IsDeciding c d
-    deciding = record { tenure = t; election = e; elects = at; proposes = proposes }
+    deciding : IsDeciding P c d
+    deciding = record { tenure = t; election = e; elects = at; proposes = proposes; unended = unended }
 
     ratifier_cause : (q : S) → d.object ≡ Ratify q → (k : Kind) → IsTimely P q k → HasCause P v k
     ratifier_cause q here k (inl x) = subst (HasCause P v) (sym x.0) (inside, record { decision = d; deciding = deciding; ratifier = q; here = here; stands = x.1 })
@@ -61,7 +62,7 @@ module _ {S : Type 0} (P : Protocol S Bool Verdict) (v : Sender (Elector S)) (t 
     by_named q here None timely = tt
     by_named q here (Some k) timely = ratifier_cause q here k (timely k refl)
 
-    by_coin : (coin : CoinState) → IsInConciliator c (AskCoin coin) → (phase : Phase) → coin.phase ≡ phase → IfSome (coin_kind_at phase) (HasCause P v)
+    by_coin : (coin : CoinState) → IsInConciliator P c (AskCoin coin) → (phase : Phase) → coin.phase ≡ phase → IfSome (coin_kind_at phase) (HasCause P v)
     by_coin coin asks Vote stands = (inside, record { coin = coin; asks = asks; stands = stands })
     by_coin coin asks ReadVotes stands = (inside, record { coin = coin; asks = asks; stands = stands })
     by_coin coin asks (Answered answer) stands = tt
@@ -72,7 +73,7 @@ module _ {S : Type 0} (P : Protocol S Bool Verdict) (v : Sender (Elector S)) (t 
     by_mark s here conciliator_stage.Alone stands = tt
     by_mark s here (AskCoin coin) stands = by_coin coin record { decision = d; deciding = deciding; conciliator = s; here = here; stands = stands } coin.phase refl
 
-    by_fallback : IsAtFallback c → (x : Option Bool) → IfSome (kind_from x) (HasCause P v)
+    by_fallback : IsAtFallback P c → (x : Option Bool) → IfSome (kind_from x) (HasCause P v)
     by_fallback is None = (inside, is)
     by_fallback is (Some decided) = tt
 
@@ -94,8 +95,20 @@ module _ {S : Type 0} (P : Protocol S Bool Verdict) (v : Sender (Elector S)) (t 
   by_stage kind timely Announce q = (inside, record { tenure = t; starts = at ∙ ap (Electing t) (keeps.unbegun (ap begun_at q)) })
   by_stage kind timely (Propose d) q = by_object d q kind timely d.object refl
   by_stage kind timely (Search i) q =
-      let w = searches (decide_protocol P conciliator_protocol) (decision_cost P.steps) c.layout.rounds c.layout.senders c.me (row_at c.layout t) i e keeps.belongs q in
-      (inside, record { tenure = t; election = e; number = i; elects = at; searches = q; some_decided = w.2; some_left = w.1; unfit = w.0 })
+      let w = searches (decide_protocol P conciliator_protocol) (decision_cost P.steps) c.layout.rounds c.layout.senders c.me (row_at c.layout t) i e keeps.belongs q in (
+        inside,
+        record {
+          tenure = t;
+          election = e;
+          number = i;
+          elects = at;
+          searches = q;
+          below = (stage_is (Search i) q).0;
+          some_decided = w.2;
+          some_left = w.1;
+          unfit = w.0;
+        },
+      )
   by_stage kind timely Alone q = tt
 
   pub election_cause : (kind : S → Option Kind) → ((s : S) (k : Kind) → kind s ≡ Some k → IsTimely P s k) → (x : Option Kind) → x ≡ election_kind (λ d. object_kind kind conciliator_kind d.object) e → IfSome x (HasCause P v)

@@ -96,7 +96,7 @@ begun_once c None t u e f = (same_election t u e.0 f.0 (sym e.1 ∙ f.1)).0
 begun_once c (Some r) t u e f = same_tenure t u (sym e ∙ f)
 
 -- who has nothing has not something
-sends_nothing : (ms : List (List ℕ)) (p : BatchPhase) → ms ≡ [] → p ≡ batch.Open
+pub sends_nothing : (ms : List (List ℕ)) (p : BatchPhase) → ms ≡ [] → p ≡ batch.Open
     → (0 < length ms) ⊎ ((m : Mark) × (p ≡ batch.Marking m)) → ⊥
 sends_nothing ms p nothing opened (inl some) = let none = ap length nothing in omega arith
 sends_nothing ms p nothing opened (inr marked) = let bad = sym opened ∙ marked.1 in cc

@@ -31,19 +31,32 @@ pub fn answers_refuse<Q: Ratifier>()
     ensures places { (sender : Sender (Elector Q)) → PlacesRefuse sender }
 {}
 
-/// No sender that rests takes a page, stores a word of a log or falls back. None stores a length
-/// past the end of the order, or before all words of its frame are stored. None gives a page back
-/// before the length is stored, while the order goes on and its frame fits the log. None goes on in
-/// a ratifier before it has brought its bit, brings it twice, loads a mark before it has set its
-/// own, votes out of turn, searches for another candidate while the bits so far fit its own, or
-/// takes a page before it was chosen.
+/// None looks at the stage with nothing to send, once its batch is closed, with no tenure left to
+/// enter, or in an election. No sender that rests takes a page, stores a word of a log or a
+/// length, gives a page back, or falls back. None stores a length past the end of the order,
+/// before all words of its frame are stored, or twice, or a word past its frame. None before which
+/// the page lies gives it back before the length is stored, while the order goes on and its frame
+/// fits the log. Of one that has handed the page on this is not said, since it remembers only for
+/// which reason it did. None takes a page before it was chosen.
+///
+/// None announces itself once its election has begun. None goes on in a ratifier before it has
+/// brought its bit, or brings it twice. None loads a mark before it has set its own, or sets that
+/// twice. None votes out of turn, or loads the votes before it has voted. None goes to the
+/// fallback word while an object is left before it. None searches for another candidate while the
+/// bits so far fit its own, or past the last sender. Once its election has an owner, none takes
+/// another step of it than the one that takes the page.
 ///
 /// With a row for each tenure none shows a presence, asks for one, or clears a row. With rows that
 /// are used again none takes a step of an election while it pins no tenure, has not stored its
 /// presence, has not looked at the stage again, stands in another tenure or is to clear its
-/// presence. None enters a tenure that is past for it, or looks at its stage again, clears its
-/// presence while it pins none or stands in one, clears a row before all presences have passed, or
-/// gives a page back before the row after its tenure's is ready.
+/// presence. None looks at the stage, or stores a length, while its presence is to be cleared.
+///
+/// With such rows none enters a tenure, or looks at its stage again, that is past for it, or with
+/// nothing to send. None clears its presence while it pins no tenure, while it stands in one, or
+/// of one that it neither lost nor has the page of. None that rests asks for a presence, and none
+/// asks once all have passed. None clears a word of a row before they have, of another row than
+/// that of the tenure after its own, or once all are cleared. None asks or clears while it is to
+/// store the length still. None gives a page back before that row is ready.
 pub fn causes_refuse<Q: Ratifier>()
     ensures { (sender : Sender (Elector Q)) → RefusesCauses Q.protocol sender }
 {}

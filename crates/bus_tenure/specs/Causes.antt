@@ -1,6 +1,6 @@
 -- Why a sender takes a step in its tenures: what holds of it before the step, read off what it holds. Which kind of step wants which of
 -- these is a list of bus_core (HasCause).
-use Rattle.std.specs.Prelude.{◌≡◌, ◌≢◌, ℕ, ◌+◌, ◌<◌, ◌≤◌, ◌⊎◌, Bool, true, false, Some}
+use Rattle.std.specs.Prelude.{◌≡◌, ◌≢◌, ℕ, ◌+◌, ◌<◌, ◌≤◌, ◌⊎◌, Bool, true, false, Some, None}
 use Rattle.bus_register.specs.Protocol.{Protocol}
 use Rattle.bus_adoptcommit.specs.declared.verdicts.Verdict.{Verdict}
 use Rattle.bus_batch.specs.Batches.{HasSomething}
@@ -35,54 +35,56 @@ pub record BeginsElection {S : Type 0} (P : Protocol S Bool Verdict) (c : Core (
   pub tenure : ℕ
   pub starts : c.phase ≡ Electing tenure ((elections P c.layout.rounds).started c.layout.senders c.me tt (row_at c.layout tenure))
 
--- its election is at the decision of a bit, where it stands thus
-pub record IsDeciding {S : Type 0} (c : Core (Elector S)) (decision : Decider S ConciliatorState) : Type 0 where
+-- its election has no owner yet, and is at the decision of a bit, where it stands thus
+pub record IsDeciding {S : Type 0} (P : Protocol S Bool Verdict) (c : Core (Elector S)) (decision : Decider S ConciliatorState) : Type 0 where
   pub tenure : ℕ
   pub election : Elector S
   pub elects : c.phase ≡ Electing tenure election
   pub proposes : election.stage ≡ Propose decision
+  pub unended : (elections P c.layout.rounds).output election ≡ None
 
 -- it is in a ratifier of a bit's decision, and has taken its first step there, or has not
 pub record IsInRatifier {S : Type 0} (P : Protocol S Bool Verdict) (c : Core (Elector S)) (begun : Bool) : Type 0 where
   pub decision : Decider S ConciliatorState
-  pub deciding : IsDeciding c decision
+  pub deciding : IsDeciding P c decision
   pub ratifier : S
   pub here : decision.object ≡ Ratify ratifier
   pub stands : P.has_begun ratifier ≡ begun
 
 -- it is in a conciliator of a bit's decision, at this stage of it
-pub record IsInConciliator {S : Type 0} (c : Core (Elector S)) (stage : Stage) : Type 0 where
+pub record IsInConciliator {S : Type 0} (P : Protocol S Bool Verdict) (c : Core (Elector S)) (stage : Stage) : Type 0 where
   pub decision : Decider S ConciliatorState
-  pub deciding : IsDeciding c decision
+  pub deciding : IsDeciding P c decision
   pub conciliator : ConciliatorState
   pub here : decision.object ≡ Concile conciliator
   pub stands : conciliator.stage ≡ stage
 
 -- it has seen the other mark of a conciliator set, and asks the coin, which is at this phase
-pub record AsksCoin {S : Type 0} (c : Core (Elector S)) (phase : Phase) : Type 0 where
+pub record AsksCoin {S : Type 0} (P : Protocol S Bool Verdict) (c : Core (Elector S)) (phase : Phase) : Type 0 where
   pub coin : CoinState
-  pub asks : IsInConciliator c (AskCoin coin)
+  pub asks : IsInConciliator P c (AskCoin coin)
   pub stands : coin.phase ≡ phase
 
 -- it has voted, and is at the load of the counter
-abbrev pub CountsVotes : {S : Type 0} → Core (Elector S) → Type 0
-CountsVotes c = AsksCoin c ReadVotes
+abbrev pub CountsVotes : {S : Type 0} → Protocol S Bool Verdict → Core (Elector S) → Type 0
+CountsVotes P c = AsksCoin P c ReadVotes
 
 -- it is at the fallback word of a bit's decision, past all rounds
-pub record IsAtFallback {S : Type 0} (c : Core (Elector S)) : Type 0 where
+pub record IsAtFallback {S : Type 0} (P : Protocol S Bool Verdict) (c : Core (Elector S)) : Type 0 where
   pub decision : Decider S ConciliatorState
-  pub deciding : IsDeciding c decision
+  pub deciding : IsDeciding P c decision
   pub fallback : Fallback
   pub here : decision.object ≡ Fall fallback
   pub last : decision.after ≡ 0
 
--- it has seen a bit decided, not the last, and the bits so far do not fit its candidate
+-- it has seen a bit decided, not the last, the bits so far do not fit its candidate, and the number that it searches is a sender's
 pub record SearchesCandidate {S : Type 0} (c : Core (Elector S)) : Type 0 where
   pub tenure : ℕ
   pub election : Elector S
   pub number : ℕ
   pub elects : c.phase ≡ Electing tenure election
   pub searches : election.stage ≡ Search number
+  pub below : number < c.layout.senders
   pub some_decided : election.left < bits_of c.layout.senders
   pub some_left : 1 ≤ election.left
   pub unfit : fits_bits election election.candidate ≡ false
