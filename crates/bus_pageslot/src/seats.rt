@@ -2,7 +2,7 @@
 
 ghost use Rattle.std.specs.Prelude.{◌≡◌, ℕ, ◌+◌, ◌<◌, List, [], ◌∷◌, ◌++◌, None};
 ghost use Rattle.std.specs.Prelude.{Some, IfSome, IfNone, IfOk, IfErr, IsSome};
-ghost use Rattle.std.specs.Prelude.{OnOk, OnErr, length, ◌-◌, ◌≤◌, IsTrue, true, false};
+ghost use Rattle.std.specs.Prelude.{OnOk, OnErr, length, ◌-◌, ◌≤◌, IsTrue, true, false, ◌↔◌};
 ghost use Rattle.bus_batch.specs.Batches.{next_of, CanPut, IsPutFault, CanClose, IsCloseFault};
 ghost use Rattle.bus_core.specs.Causes.{HasCause};
 ghost use Rattle.bus_core.specs.Plain.{IsPlain, StoresPlain};
@@ -11,6 +11,7 @@ ghost use Rattle.bus_batch.specs.declared.messages.Mark.TheVariants as mark;
 ghost use Rattle.bus_tenure.specs.Core.{is_closed, is_leaving};
 ghost use Rattle.bus_tenure.specs.declared.turns.Turn.TheVariants as turn;
 ghost use Rattle.bus_tenure.specs.Elections.{election_of};
+ghost use Rattle.bus_register.specs.declared.kinds.Kind.TheVariants as kind;
 ghost use Rattle.bus_register.specs.declared.registers.Op.{Op as Step};
 ghost use Rattle.bus_world.specs.Headline.{HasPut, HasMarked, puts};
 ghost use Rattle.bus_pageslot.specs.declared.rule.View.TheVariants.{Tap};
@@ -190,9 +191,11 @@ impl<Q: Ratifier + Drop> Sender<Q> {
         self.core.kind()
     }
 
-    /// Its next step asks for a random word.
+    /// Its next step asks for a random word: it is a vote.
     pub fn wants_word(&self) -> bool
-        ensures { result ≡ (process_by Q.Ratifier).wants_word self.now.core }
+        ensures word { result ≡ (process_by Q.Ratifier).wants_word self.now.core }
+        ensures vote { let P = process_by Q.Ratifier in
+            IsTrue result ↔ (P.kind self.now.core ≡ Some kind.Vote) }
     {
         self.core.wants_word()
     }
