@@ -346,17 +346,19 @@ impl<Q: Ratifier + Drop> Sender<Q> {
             self.old word turn.Going self.new }
         ensures stores { IsTrue result
             → StoresPlain (election_of Q.Ratifier) self.new.core at.new value.new }
+        ensures exact { IsPlain (election_of Q.Ratifier) self.new.core → IsTrue result }
     {
         store_plain::<Q, Brand>(&bus.words, &mut self.seat, &mut self.core, at, value, word)
     }
 
-    /// Turns, one after another, whose steps are plain stores: says whether it took one. It may
-    /// stop before any step.
+    /// Turns in a row whose steps are plain stores, up to the first step that is none, and at most
+    /// `MOST_PLAIN_TURNS`: says whether it took one.
     #[inline(always)]
     fn plain_turns(&mut self, bus: &Bus<Q>) -> bool
         requires { table_of self.old ≡ bus.now.table }
         ensures table { table_of self.new ≡ table_of self.old }
         ensures stays { result ≡ false → self.new ≡ self.old }
+        ensures exact { IsPlain (election_of Q.Ratifier) self.old.core → IsTrue result }
         ensures goes { IsTrue result
             → GoesPlainly (process_by Q.Ratifier) (tells_by Q.Ratifier) self.old self.new }
     {
@@ -364,14 +366,12 @@ impl<Q: Ratifier + Drop> Sender<Q> {
         if !self.core.plain(&mut at, &mut value) {
             return false;
         }
-        let mut taken = false;
-        for _ in 0..MOST_PLAIN_TURNS {
+        for _taken in 0..MOST_PLAIN_TURNS {
             if !self.store_on(bus, &mut at, &mut value, 0) {
                 return true;
             }
-            taken = true;
         }
-        taken
+        true
     }
 
     /// A turn by the table of situations.
