@@ -2,6 +2,7 @@ pub mod Reusing
 pub mod Bridged
 pub mod Situated
 mod Stepped
+mod Votes
 pub mod Kept
 mod ElectionCauses
 pub mod Caused

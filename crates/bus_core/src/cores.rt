@@ -4,6 +4,7 @@ ghost use Rattle.std.specs.Prelude.{◌≡◌, ℕ, ◌+◌, ◌*◌, ◌-◌, �
 ghost use Rattle.std.specs.Prelude.{Option, Some, None, IfOk, IfErr, OnOk, OnErr, IfSome, IsSome};
 ghost use Rattle.std.specs.Prelude.{IsTrue, ◌↔◌, ◌⊎◌, false, true, ◌%◌};
 ghost use Rattle.bus_register.specs.Words.{register};
+ghost use Rattle.bus_register.specs.declared.kinds.Kind.TheVariants as kind;
 ghost use Rattle.bus_batch.specs.Batches.{next_of, CanPut, IsPutFault, CanClose, IsCloseFault};
 ghost use Rattle.bus_batch.specs.Batches.{IsShut};
 ghost use Rattle.bus_batch.specs.declared.batches.Phase.TheVariants as queue_phase;
@@ -462,10 +463,19 @@ impl<Q: Ratifier + Drop> SenderCore<Q> {
         }
     }
 
-    /// The next step asks for a random word.
+    /// A random word is asked for exactly where the next step is a vote.
+    fn asks_for_votes(&self)
+        ensures { let X = election_of Q.Ratifier in
+            IsTrue (line_now X self.now).wants_word ↔ ((line_now X self.now).kind ≡ Some kind.Vote) }
+    {}
+
+    /// The next step asks for a random word: it is a vote.
     #[inline(always)]
     pub fn wants_word(&self) -> bool
-        ensures { let X = election_of Q.Ratifier in result ≡ (line_now X self.now).wants_word }
+        ensures word { let X = election_of Q.Ratifier in
+            result ≡ (line_now X self.now).wants_word }
+        ensures vote { let X = election_of Q.Ratifier in
+            IsTrue result ↔ ((line_now X self.now).kind ≡ Some kind.Vote) }
     {
         self.wants_word_of(self.step())
     }
@@ -473,6 +483,19 @@ impl<Q: Ratifier + Drop> SenderCore<Q> {
     /// The same of the step that `step` told.
     #[inline(always)]
     pub fn wants_word_of(&self, step: Step) -> bool
+        requires { let X = election_of Q.Ratifier in step_of (situation X self.now) ≡ step }
+        ensures word { let X = election_of Q.Ratifier in
+            result ≡ (line_now X self.now).wants_word }
+        ensures vote { let X = election_of Q.Ratifier in
+            IsTrue result ↔ ((line_now X self.now).kind ≡ Some kind.Vote) }
+    {
+        self.asks_for_votes();
+        self.wants_word_in(step)
+    }
+
+    /// Whether the step asks for a random word that `step` told.
+    #[inline(always)]
+    fn wants_word_in(&self, step: Step) -> bool
         requires { let X = election_of Q.Ratifier in step_of (situation X self.now) ≡ step }
         ensures { let X = election_of Q.Ratifier in result ≡ (line_now X self.now).wants_word }
     {

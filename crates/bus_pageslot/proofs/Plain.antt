@@ -1,5 +1,5 @@
 -- The turn of a sender with which no page moves: its step alone.
-use Rattle.std.proofs.Common.{◌≡◌, ℕ, ◌<◌, ◌≤◌, ne_eqb, arith, Bool, true, false, cond, Option, Some, None, IsSome, [], refl, sym, ◌∙◌, ap, subst}
+use Rattle.std.proofs.Common.{◌≡◌, ◌⊎◌, inl, inr, ℕ, ◌<◌, ◌≤◌, ne_eqb, arith, Bool, false, cond, Option, Some, None, IsSome, [], refl, sym, ◌∙◌, ap, subst}
 use Rattle.std.proofs.lemmas.Bool.{true≢false}
 use Rattle.atomic_table.specs.declared.shared.Seat.{Seat}
 use Rattle.bus_register.specs.declared.registers.Op.{Op}
@@ -130,13 +130,18 @@ pub goes_putting : {C : Type 0} (P : Process C) (T : Tellings C) → ProcessLaws
 goes_putting P T K old _ (First new one) = turned_puts P T K old 0 Going new one.turned
 goes_putting P T K old _ (Next mid new goes one) = turned_puts P T K mid 0 Going new one.turned ∙ goes_putting P T K old mid goes
 
--- none, or one or more, by whether one was taken
-abbrev pub Taken : {C : Type 0} → Process C → Tellings C → SenderSeat C → SenderSeat C → Bool → Type 0
-Taken P T first new false = new ≡ first
-Taken P T first new true = GoesPlainly P T first new
+-- none so far, or one or more
+abbrev pub Taken : {C : Type 0} → Process C → Tellings C → SenderSeat C → SenderSeat C → ℕ → Type 0
+Taken P T first new count = ((count ≡ 0) × (new ≡ first)) ⊎ GoesPlainly P T first new
 
 -- and then one more
-pub taken_next : {C : Type 0} (P : Process C) (T : Tellings C) (first old new : SenderSeat C) (b : Bool) → Taken P T first old b
+pub taken_next : {C : Type 0} (P : Process C) (T : Tellings C) (first old new : SenderSeat C) (count : ℕ) → Taken P T first old count
     → TurnsPlainly P T old new → GoesPlainly P T first new
-taken_next P T first old new false same one = First new (subst (λ y. TurnsPlainly P T y new) same one)
-taken_next P T first old new true goes one = Next old new goes one
+taken_next P T first old new count (inl none) one = First new (subst (λ y. TurnsPlainly P T y new) none.1 one)
+taken_next P T first old new count (inr goes) one = Next old new goes one
+
+-- where some were to be taken, some were
+pub taken_some : {C : Type 0} (P : Process C) (T : Tellings C) (first new : SenderSeat C) (count : ℕ) → Taken P T first new count
+    → 0 < count → GoesPlainly P T first new
+taken_some P T first new count (inl none) some = let zero = none.0 in absurd (omega arith)
+taken_some P T first new count (inr goes) some = goes

@@ -2,7 +2,7 @@
 
 ghost use Rattle.std.specs.Prelude.{◌≡◌, ℕ, ◌+◌, ◌<◌, List, [], ◌∷◌, ◌++◌, None};
 ghost use Rattle.std.specs.Prelude.{Some, IfSome, IfNone, IfOk, IfErr, IsSome};
-ghost use Rattle.std.specs.Prelude.{OnOk, OnErr, length, ◌-◌, ◌≤◌, IsTrue, true, false};
+ghost use Rattle.std.specs.Prelude.{OnOk, OnErr, length, ◌-◌, ◌≤◌, IsTrue, true, false, ◌↔◌};
 ghost use Rattle.bus_batch.specs.Batches.{next_of, CanPut, IsPutFault, CanClose, IsCloseFault};
 ghost use Rattle.bus_core.specs.Causes.{HasCause};
 ghost use Rattle.bus_core.specs.Plain.{IsPlain, StoresPlain};
@@ -11,6 +11,7 @@ ghost use Rattle.bus_batch.specs.declared.messages.Mark.TheVariants as mark;
 ghost use Rattle.bus_tenure.specs.Core.{is_closed, is_leaving};
 ghost use Rattle.bus_tenure.specs.declared.turns.Turn.TheVariants as turn;
 ghost use Rattle.bus_tenure.specs.Elections.{election_of};
+ghost use Rattle.bus_register.specs.declared.kinds.Kind.TheVariants as kind;
 ghost use Rattle.bus_register.specs.declared.registers.Op.{Op as Step};
 ghost use Rattle.bus_world.specs.Headline.{HasPut, HasMarked, puts};
 ghost use Rattle.bus_pageslot.specs.declared.rule.View.TheVariants.{Tap};
@@ -190,9 +191,11 @@ impl<Q: Ratifier + Drop> Sender<Q> {
         self.core.kind()
     }
 
-    /// Its next step asks for a random word.
+    /// Its next step asks for a random word: it is a vote.
     pub fn wants_word(&self) -> bool
-        ensures { result ≡ (process_by Q.Ratifier).wants_word self.now.core }
+        ensures word { result ≡ (process_by Q.Ratifier).wants_word self.now.core }
+        ensures vote { let P = process_by Q.Ratifier in
+            IsTrue result ↔ (P.kind self.now.core ≡ Some kind.Vote) }
     {
         self.core.wants_word()
     }
@@ -343,17 +346,19 @@ impl<Q: Ratifier + Drop> Sender<Q> {
             self.old word turn.Going self.new }
         ensures stores { IsTrue result
             → StoresPlain (election_of Q.Ratifier) self.new.core at.new value.new }
+        ensures exact { IsPlain (election_of Q.Ratifier) self.new.core → IsTrue result }
     {
         store_plain::<Q, Brand>(&bus.words, &mut self.seat, &mut self.core, at, value, word)
     }
 
-    /// Turns, one after another, whose steps are plain stores: says whether it took one. It may
-    /// stop before any step.
+    /// Turns in a row whose steps are plain stores, up to the first step that is none, and at most
+    /// `MOST_PLAIN_TURNS`: says whether it took one.
     #[inline(always)]
     fn plain_turns(&mut self, bus: &Bus<Q>) -> bool
         requires { table_of self.old ≡ bus.now.table }
         ensures table { table_of self.new ≡ table_of self.old }
         ensures stays { result ≡ false → self.new ≡ self.old }
+        ensures exact { IsPlain (election_of Q.Ratifier) self.old.core → IsTrue result }
         ensures goes { IsTrue result
             → GoesPlainly (process_by Q.Ratifier) (tells_by Q.Ratifier) self.old self.new }
     {
@@ -361,14 +366,12 @@ impl<Q: Ratifier + Drop> Sender<Q> {
         if !self.core.plain(&mut at, &mut value) {
             return false;
         }
-        let mut taken = false;
-        for _ in 0..MOST_PLAIN_TURNS {
+        for _taken in 0..MOST_PLAIN_TURNS {
             if !self.store_on(bus, &mut at, &mut value, 0) {
                 return true;
             }
-            taken = true;
         }
-        taken
+        true
     }
 
     /// A turn by the table of situations.

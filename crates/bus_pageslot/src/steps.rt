@@ -4,7 +4,7 @@ ghost use Rattle.std.specs.Prelude.{◌≡◌, ◌<◌, ◌∷◌, true, [], Som
 ghost use Rattle.bus_register.specs.Words.{register};
 ghost use Rattle.bus_tenure.specs.Elections.{election_of};
 ghost use Rattle.bus_core.specs.Doings.{step_of};
-ghost use Rattle.bus_core.specs.Plain.{StoresPlain};
+ghost use Rattle.bus_core.specs.Plain.{IsPlain, StoresPlain};
 ghost use Rattle.bus_core.specs.Senders.{situation};
 ghost use Rattle.bus_tenure.specs.declared.turns.Turn.TheVariants as turn;
 ghost use Rattle.bus_core.specs.Telling.{FeedTells};
@@ -116,6 +116,7 @@ pub(crate) fn store_plain<Q: Ratifier + Drop, K: Told<SenderCore<Q>>>(
         }) }
     ensures stores { IsTrue result
         → StoresPlain (election_of Q.Ratifier) core.new at.new value.new }
+    ensures exact { IsPlain (election_of Q.Ratifier) core.new → IsTrue result }
 {
     threads_may_go_by::<Q>();
     words.step::<K>(seat, Op::Store(Reg(*at), *value));

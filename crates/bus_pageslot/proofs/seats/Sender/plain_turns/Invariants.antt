@@ -7,9 +7,9 @@ use Rattle.bus_pageslot.specs.Turns.{tells_with}
 use Rattle.bus_pageslot.proofs.Plain.{Taken}
 use Rattle.bus_pageslot.proofs.seats.Sender.plain_turns.Given as goal
 
-abbrev pub invariant-loop : goal.invariant-loop
-invariant-loop g l =
+abbrev pub invariant-loop-taken : goal.invariant-loop-taken
+invariant-loop-taken g l =
     let P = process_with g.Q.Machine.kind_of g.Q.Machine.op g.Q.Machine.fed g.Q.Ratifier.protocol in
     let T = tells_with g.Q.Machine.kind_of g.Q.Machine.op g.Q.Machine.fed g.Q.Ratifier.protocol in
     let X = election_with g.Q.Machine.kind_of g.Q.Machine.op g.Q.Machine.fed g.Q.Ratifier.protocol in
-    Taken P T l.fn.self l.self l.taken × (table_of l.self ≡ table_of l.fn.self) × StoresPlain X l.self.core l.at l.value
+    Taken P T l.fn.self l.self l._taken × (table_of l.self ≡ table_of l.fn.self) × StoresPlain X l.self.core l.at l.value

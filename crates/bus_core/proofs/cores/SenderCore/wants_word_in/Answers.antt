@@ -5,7 +5,7 @@ use Rattle.bus_core.specs.Senders.{Does}
 use Rattle.bus_core.specs.Table.{line}
 use Rattle.bus_core.proofs.Situated.{does_by}
 use Rattle.bus_core.proofs.Stepped.{wants_own}
-use Rattle.bus_core.proofs.cores.SenderCore.wants_word_of.Goals as goal
+use Rattle.bus_core.proofs.cores.SenderCore.wants_word_in.Goals as goal
 
 pub returns-in-Does : goal.returns-in-Does
 returns-in-Does g c =
