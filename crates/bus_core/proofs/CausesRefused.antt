@@ -348,7 +348,9 @@ module _ {S : Type 0} (P : Protocol S Bool Verdict) where
         asks_unsent = λ tenure page stored at goes fits w. unsent_stays c tenure page stored at goes fits w.makes.leaves;
         clears_unsent = λ tenure page stored at goes fits w. unsent_stays c tenure page stored at goes fits w.makes.leaves;
         looks_while_unpinning = λ t e w. let bad = sym e ∙ w.0 in cc;
+        looks_invalidated = λ t e w. let bad = sym e ∙ w.0 in cc;
         publishes_while_unpinning = λ t e w. let bad = sym e ∙ w.0 in cc;
+        publishes_invalidated = λ t e w. let bad = sym e ∙ w.0 in cc;
         gives_back_unready = λ s at unreclaimed w. true≢false (sym (subst (IsReady x w.1.tenure) at w.1.ready.ready) ∙ unreclaimed);
         gives_back_reclaimed_elsewhere = λ s t at held other w.
             let same = same_Some w.1.tenure t (sym w.1.held ∙ held) in

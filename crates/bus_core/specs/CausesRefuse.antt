@@ -173,7 +173,9 @@ pub record RefusesAgain {S : Type 0} (P : Protocol S Bool Verdict) (v : Sender (
       → page.words + frame_len v.core ≤ v.core.layout.capacity → ¬ HasCause P v kind.ClearRow
   -- another step while its presence is to be cleared
   pub looks_while_unpinning : (t : ℕ) → r.pin ≡ Unpinning t → ¬ HasCause P v kind.LoadStage
+  pub looks_invalidated : (t : ℕ) → r.pin ≡ Invalidated t → ¬ HasCause P v kind.LoadStage
   pub publishes_while_unpinning : (t : ℕ) → r.pin ≡ Unpinning t → ¬ HasCause P v kind.StoreLength
+  pub publishes_invalidated : (t : ℕ) → r.pin ≡ Invalidated t → ¬ HasCause P v kind.StoreLength
   -- a page that is given back before the next row is ready: its reclamation is not done, was of another row, or never began
   pub gives_back_unready : (s : Reclaiming) → r.reclaimer ≡ Some s → is_reclaimed s ≡ false → ¬ HasCause P v kind.GivePageBack
   pub gives_back_reclaimed_elsewhere : (s : Reclaiming) (t : ℕ) → r.reclaimer ≡ Some s → held_of v.core.phase ≡ Some t
