@@ -6,6 +6,7 @@ use Rattle.bus_register.specs.declared.kinds.Kind.{Kind}
 use Rattle.bus_register.specs.declared.kinds.Kind.TheVariants as kind
 use Rattle.bus_register.specs.Protocol.{Protocol}
 use Rattle.bus_adoptcommit.specs.declared.verdicts.Verdict.{Verdict}
+use Rattle.bus_adoptcommit.specs.Kinds.{IsOfRatifier}
 use Rattle.bus_presence.specs.Reclaimers.{Reclaiming}
 use Rattle.bus_presence.specs.Reclamation.{IsReady, row_of}
 use Rattle.bus_presence.specs.declared.pins.Pin.TheVariants.{Away, Pinned, Validating, Unpinning}
@@ -13,9 +14,12 @@ use Rattle.bus_binconsensus.specs.Decisions.{decisions}
 use Rattle.bus_binconsensus.specs.Objects.{Decider}
 use Rattle.bus_ownerbits.specs.declared.stages.Stage.TheVariants.{Search}
 use Rattle.bus_ownerbits.specs.Election.{fits_bits, owner_at}
+use Rattle.bus_ownerbits.specs.Sizes.{bits_of}
 use Rattle.bus_coinconc.specs.Conciliator.{ConciliatorState}
+use Rattle.bus_coinconc.specs.ConciliatorKinds.{IsOfConciliator}
 use Rattle.bus_coinconc.specs.declared.conciliators.Stage.{Stage}
-use Rattle.bus_tenure.specs.Causes.{IsDeciding, IsInRatifier, IsInConciliator, SearchesCandidate, LeavesPage}
+use Rattle.bus_coinconc.specs.declared.conciliators.Stage.TheVariants.{SetMark, ReadOtherMark, AskCoin}
+use Rattle.bus_tenure.specs.Causes.{IsDeciding, IsInRatifier, IsInConciliator, IsAtFallback, SearchesCandidate, HoldsFitting, LeavesPage}
 use Rattle.bus_tenure.specs.Core.{Core, frame_len}
 use Rattle.bus_tenure.specs.declared.pages.Page.{Page}
 use Rattle.bus_tenure.specs.declared.phases.Phase.{Phase}
@@ -58,6 +62,14 @@ unsent_stays c t page stored at goes fits l =
       ]
     ]
 
+-- whose frame does not fit has none to store
+without_room : {E : Type 0} (c : Core E) (t : ℕ) (page : Page) (stored : ℕ) → c.phase ≡ Holding t page stored false
+    → c.layout.capacity < page.words + frame_len c → (n : ℕ) → HoldsFitting c n → ⊥
+without_room c t page stored at full n w =
+    let same = (same_page t w.tenure page w.page stored n false false (sym at ∙ w.holds)).1.0 in
+    let fits = subst (λ (p : Page). p.words + frame_len c ≤ c.layout.capacity) (sym same) w.room in
+    omega arith
+
 -- ---- an election
 -- it is at one decision
 same_decision : {S : Type 0} (P : Protocol S Bool Verdict) (c : Core (Elector S)) (a b : Decider S ConciliatorState)
@@ -94,6 +106,36 @@ not_both P c x y =
     let n = y.here in
     let same : x.ratifier ≡ y.ratifier = cc in
     true≢false (sym x.stands ∙ ap P.has_begun same ∙ y.stands)
+
+-- a step of a ratifier is one of who is in a ratifier
+in_ratifier : {S : Type 0} (P : Protocol S Bool Verdict) (v : Sender (Elector S)) (k : Kind) → IsOfRatifier k → HasCause P v k
+    → (begun : Bool) × IsInRatifier P v.core begun
+in_ratifier P v k (inl i) w = let h : HasCause P v kind.WriteFirst = subst (HasCause P v) i w in (false, h.1)
+in_ratifier P v k (inr (inl i)) w = let h : HasCause P v kind.ReadFirst = subst (HasCause P v) i w in (true, h.1)
+in_ratifier P v k (inr (inr (inl i))) w = let h : HasCause P v kind.WriteSecond = subst (HasCause P v) i w in (true, h.1)
+in_ratifier P v k (inr (inr (inr i))) w = let h : HasCause P v kind.ReadSecond = subst (HasCause P v) i w in (true, h.1)
+
+-- and one of a conciliator, or of its coin, of who is in a conciliator
+in_conciliator : {S : Type 0} (P : Protocol S Bool Verdict) (v : Sender (Elector S)) (k : Kind) → IsOfConciliator k → HasCause P v k
+    → (stage : Stage) × IsInConciliator P v.core stage
+in_conciliator P v k (inl i) w = let h : HasCause P v kind.SetMark = subst (HasCause P v) i w in (SetMark, h.1)
+in_conciliator P v k (inr (inl i)) w = let h : HasCause P v kind.ReadOtherMark = subst (HasCause P v) i w in (ReadOtherMark, h.1)
+in_conciliator P v k (inr (inr (inl i))) w = let h : HasCause P v kind.Vote = subst (HasCause P v) i w in (AskCoin h.1.coin, h.1.asks)
+in_conciliator P v k (inr (inr (inr i))) w = let h : HasCause P v kind.ReadVotes = subst (HasCause P v) i w in (AskCoin h.1.coin, h.1.asks)
+
+-- it is in one object
+module _ {S : Type 0} (P : Protocol S Bool Verdict) (c : Core (Elector S)) where
+  same_object : (a b : Decider S ConciliatorState) → IsDeciding P c a → IsDeciding P c b → a.object ≡ b.object
+  same_object a b x y = ap (λ (d : Decider S ConciliatorState). d.object) (same_decision P c a b x y)
+
+  ratifier_alone : (begun : Bool) (stage : Stage) → IsInRatifier P c begun → IsInConciliator P c stage → ⊥
+  ratifier_alone begun stage x y = let bad = sym x.here ∙ same_object x.decision y.decision x.deciding y.deciding ∙ y.here in cc
+
+  no_ratifier_last : (begun : Bool) → IsInRatifier P c begun → IsAtFallback P c → ⊥
+  no_ratifier_last begun x y = let bad = sym x.here ∙ same_object x.decision y.decision x.deciding y.deciding ∙ y.here in cc
+
+  no_conciliator_last : (stage : Stage) → IsInConciliator P c stage → IsAtFallback P c → ⊥
+  no_conciliator_last stage x y = let bad = sym x.here ∙ same_object x.decision y.decision x.deciding y.deciding ∙ y.here in cc
 
 -- it searches one number
 same_searched : {S : Type 0} (c : Core (Elector S)) (t i : ℕ) (e : Elector S) → c.phase ≡ Electing t e → e.stage ≡ Search i
@@ -167,7 +209,10 @@ module _ {S : Type 0} (P : Protocol S Bool Verdict) where
       | inr h ↦ (let bad = sym rests ∙ h.gives in cc)
     ];
     resting_falls_back = λ rests w. let x = w.1.deciding.elects in absurd cc;
+    ended_stores = λ tenure page stored at ended w. let x = w.1.holds.holds in let y = w.1.holds.not_ended in absurd cc;
     ended_publishes = λ tenure page stored at ended w. let x = w.1.holds.holds in let y = w.1.holds.not_ended in absurd cc;
+    stores_without_room = λ tenure page stored at full w. without_room v.core tenure page stored at full w.1.stored w.1.holds;
+    publishes_without_room = λ tenure page stored at full w. without_room v.core tenure page stored at full _ w.1.holds;
     unstored_publishes = λ tenure page stored at left w.
         let same = same_stored tenure _ page _ stored _ false false (sym at ∙ w.1.holds.holds) in omega arith;
     stores_past_the_frame = λ tenure page stored at past w.
@@ -187,8 +232,13 @@ module _ {S : Type 0} (P : Protocol S Bool Verdict) where
     unbrought_writes_second = λ is w. not_both P v.core w.1 is;
     unbrought_reads_second = λ is w. not_both P v.core w.1 is;
     brings_again = λ is w. not_both P v.core is w.1;
+    ratifies_in_a_conciliator = λ k stage of is w. let x = in_ratifier P v k of w in ratifier_alone P v.core x.0 stage x.1 is;
+    conciles_in_a_ratifier = λ k begun of is w. let x = in_conciliator P v k of w in ratifier_alone P v.core begun x.0 is x.1;
+    ratifies_at_the_fallback = λ k of is w. let x = in_ratifier P v k of w in no_ratifier_last P v.core x.0 x.1 is;
+    conciles_at_the_fallback = λ k of is w. let x = in_conciliator P v k of w in no_conciliator_last P v.core x.0 x.1 is;
     unmarked_reads = λ is w. let x = same_stage P v.core _ _ is w.1 in absurd cc;
     marks_again = λ stage is other w. other (same_stage P v.core stage _ is w.1);
+    reads_mark_again = λ coin is w. let x = same_stage P v.core (AskCoin coin) _ is w.1 in absurd cc;
     unread_votes = λ is w. let x = same_stage P v.core _ _ is w.1.asks in absurd cc;
     counting_votes = λ is w.
         let x = same_stage P v.core _ _ is.asks w.1.asks in
@@ -207,6 +257,14 @@ module _ {S : Type 0} (P : Protocol S Bool Verdict) where
     fitting_searches = λ t e runs fits w.
         let same = (same_election t w.1.tenure e w.1.election (sym runs ∙ w.1.elects)).1 in
         true≢false (sym fits ∙ ap (λ z. fits_bits z z.candidate) same ∙ w.1.unfit);
+    searches_before_a_bit = λ t e runs all w.
+        let same = (same_election t w.1.tenure e w.1.election (sym runs ∙ w.1.elects)).1 in
+        let few = subst (λ z. z.left < bits_of v.core.layout.senders) (sym same) w.1.some_decided in
+        omega arith;
+    searches_after_the_last = λ t e runs none w.
+        let same = (same_election t w.1.tenure e w.1.election (sym runs ∙ w.1.elects)).1 in
+        let some = subst (λ z. 1 ≤ z.left) (sym same) w.1.some_left in
+        omega arith;
     searches_beyond = λ t i e runs at beyond w.
         let same = same_searched v.core t i e runs at w.1 in
         let below = w.1.below in omega arith;
@@ -290,7 +348,9 @@ module _ {S : Type 0} (P : Protocol S Bool Verdict) where
         asks_unsent = λ tenure page stored at goes fits w. unsent_stays c tenure page stored at goes fits w.makes.leaves;
         clears_unsent = λ tenure page stored at goes fits w. unsent_stays c tenure page stored at goes fits w.makes.leaves;
         looks_while_unpinning = λ t e w. let bad = sym e ∙ w.0 in cc;
+        looks_invalidated = λ t e w. let bad = sym e ∙ w.0 in cc;
         publishes_while_unpinning = λ t e w. let bad = sym e ∙ w.0 in cc;
+        publishes_invalidated = λ t e w. let bad = sym e ∙ w.0 in cc;
         gives_back_unready = λ s at unreclaimed w. true≢false (sym (subst (IsReady x w.1.tenure) at w.1.ready.ready) ∙ unreclaimed);
         gives_back_reclaimed_elsewhere = λ s t at held other w.
             let same = same_Some w.1.tenure t (sym w.1.held ∙ held) in

@@ -4,18 +4,22 @@ use Rattle.bus_register.specs.declared.kinds.Kind.{Kind}
 use Rattle.bus_register.specs.declared.kinds.Kind.TheVariants as kind
 use Rattle.bus_register.specs.Protocol.{Protocol}
 use Rattle.bus_adoptcommit.specs.declared.verdicts.Verdict.{Verdict}
+use Rattle.bus_adoptcommit.specs.Kinds.{IsOfRatifier}
 use Rattle.bus_batch.specs.declared.batches.Phase.TheVariants.{Open, Closed}
 use Rattle.bus_binconsensus.specs.Objects.{Decider}
+use Rattle.bus_walkcoin.specs.Coin.{CoinState}
 use Rattle.bus_walkcoin.specs.declared.coins.Phase.TheVariants.{Vote}
 use Rattle.bus_coinconc.specs.declared.conciliators.Stage.{Stage}
-use Rattle.bus_coinconc.specs.declared.conciliators.Stage.TheVariants.{SetMark, ReadOtherMark}
+use Rattle.bus_coinconc.specs.declared.conciliators.Stage.TheVariants.{SetMark, ReadOtherMark, AskCoin}
 use Rattle.bus_coinconc.specs.Conciliator.{ConciliatorState}
+use Rattle.bus_coinconc.specs.ConciliatorKinds.{IsOfConciliator}
 use Rattle.bus_presence.specs.Reclamation.{row_of}
 use Rattle.bus_presence.specs.Reclaimers.{Reclaiming, is_reclaimed}
 use Rattle.bus_presence.specs.declared.pins.Pin.TheVariants.{Away, Announcing, Validating, Pinned, Unpinning, Invalidated}
-use Rattle.bus_tenure.specs.Causes.{IsDeciding, IsInRatifier, IsInConciliator, AsksCoin, CountsVotes}
+use Rattle.bus_tenure.specs.Causes.{IsDeciding, IsInRatifier, IsInConciliator, AsksCoin, CountsVotes, IsAtFallback}
 use Rattle.bus_ownerbits.specs.declared.stages.Stage.TheVariants.{Search}
 use Rattle.bus_ownerbits.specs.Election.{fits_bits}
+use Rattle.bus_ownerbits.specs.Sizes.{bits_of}
 use Rattle.bus_tenure.specs.Core.{frame_len}
 use Rattle.bus_tenure.specs.Elections.{Elector, elections}
 use Rattle.bus_tenure.specs.declared.pages.Page.{Page}
@@ -65,9 +69,15 @@ pub record RefusesOwn {S : Type 0} (P : Protocol S Bool Verdict) (v : Sender (El
   pub resting_publishes : v.core.phase ≡ Resting → ¬ HasCause P v kind.StoreLength
   pub resting_gives_back : v.core.phase ≡ Resting → ¬ HasCause P v kind.GivePageBack
   pub resting_falls_back : v.core.phase ≡ Resting → ¬ HasCause P v kind.Fallback
-  -- it holds the page of an order that has ended, and stores a length
+  -- it holds the page of an order that has ended, or one on which its frame does not fit the log, and stores a word of it or a length
+  pub ended_stores : (tenure : ℕ) (page : Page) (stored : ℕ) → v.core.phase ≡ Holding tenure page stored false → page.ended ≡ true
+      → ¬ HasCause P v kind.StoreLogWord
   pub ended_publishes : (tenure : ℕ) (page : Page) (stored : ℕ) → v.core.phase ≡ Holding tenure page stored false → page.ended ≡ true
       → ¬ HasCause P v kind.StoreLength
+  pub stores_without_room : (tenure : ℕ) (page : Page) (stored : ℕ) → v.core.phase ≡ Holding tenure page stored false
+      → v.core.layout.capacity < page.words + frame_len v.core → ¬ HasCause P v kind.StoreLogWord
+  pub publishes_without_room : (tenure : ℕ) (page : Page) (stored : ℕ) → v.core.phase ≡ Holding tenure page stored false
+      → v.core.layout.capacity < page.words + frame_len v.core → ¬ HasCause P v kind.StoreLength
   -- it holds a page, and stores a length before all words of its frame are stored
   pub unstored_publishes : (tenure : ℕ) (page : Page) (stored : ℕ) → v.core.phase ≡ Holding tenure page stored false → stored < frame_len v.core
       → ¬ HasCause P v kind.StoreLength
@@ -86,9 +96,15 @@ pub record RefusesOwn {S : Type 0} (P : Protocol S Bool Verdict) (v : Sender (El
   pub unbrought_writes_second : IsInRatifier P v.core false → ¬ HasCause P v kind.WriteSecond
   pub unbrought_reads_second : IsInRatifier P v.core false → ¬ HasCause P v kind.ReadSecond
   pub brings_again : IsInRatifier P v.core true → ¬ HasCause P v kind.WriteFirst
-  -- it has not set its mark, and loads the other one, or has set it, and sets it again
+  -- it takes a step of another object than the one in which it stands
+  pub ratifies_in_a_conciliator : (k : Kind) (stage : Stage) → IsOfRatifier k → IsInConciliator P v.core stage → ¬ HasCause P v k
+  pub conciles_in_a_ratifier : (k : Kind) (begun : Bool) → IsOfConciliator k → IsInRatifier P v.core begun → ¬ HasCause P v k
+  pub ratifies_at_the_fallback : (k : Kind) → IsOfRatifier k → IsAtFallback P v.core → ¬ HasCause P v k
+  pub conciles_at_the_fallback : (k : Kind) → IsOfConciliator k → IsAtFallback P v.core → ¬ HasCause P v k
+  -- it has not set its mark, and loads the other one, or has set it, and sets it again, or asks the coin, and loads the other mark again
   pub unmarked_reads : IsInConciliator P v.core SetMark → ¬ HasCause P v kind.ReadOtherMark
   pub marks_again : (stage : Stage) → IsInConciliator P v.core stage → stage ≢ SetMark → ¬ HasCause P v kind.SetMark
+  pub reads_mark_again : (coin : CoinState) → IsInConciliator P v.core (AskCoin coin) → ¬ HasCause P v kind.ReadOtherMark
   -- it has not loaded the other mark, and votes, or is to load votes, and votes again, or is to vote, and loads votes
   pub unread_votes : IsInConciliator P v.core ReadOtherMark → ¬ HasCause P v kind.Vote
   pub counting_votes : CountsVotes P v.core → ¬ HasCause P v kind.Vote
@@ -101,7 +117,10 @@ pub record RefusesOwn {S : Type 0} (P : Protocol S Bool Verdict) (v : Sender (El
   -- it searches for another candidate, though the bits so far fit its own
   pub fitting_searches : (t : ℕ) (e : Elector S) → v.core.phase ≡ Electing t e → fits_bits e e.candidate ≡ true
       → ¬ HasCause P v kind.ReadAnnouncement
-  -- it searches past the last sender
+  -- it searches before a bit is decided, after the last one, or past the last sender
+  pub searches_before_a_bit : (t : ℕ) (e : Elector S) → v.core.phase ≡ Electing t e → e.left ≡ bits_of v.core.layout.senders
+      → ¬ HasCause P v kind.ReadAnnouncement
+  pub searches_after_the_last : (t : ℕ) (e : Elector S) → v.core.phase ≡ Electing t e → e.left ≡ 0 → ¬ HasCause P v kind.ReadAnnouncement
   pub searches_beyond : (t i : ℕ) (e : Elector S) → v.core.phase ≡ Electing t e → e.stage ≡ Search i → v.core.layout.senders ≤ i
       → ¬ HasCause P v kind.ReadAnnouncement
   -- a page whose election has not ended, or has chosen another
@@ -154,7 +173,9 @@ pub record RefusesAgain {S : Type 0} (P : Protocol S Bool Verdict) (v : Sender (
       → page.words + frame_len v.core ≤ v.core.layout.capacity → ¬ HasCause P v kind.ClearRow
   -- another step while its presence is to be cleared
   pub looks_while_unpinning : (t : ℕ) → r.pin ≡ Unpinning t → ¬ HasCause P v kind.LoadStage
+  pub looks_invalidated : (t : ℕ) → r.pin ≡ Invalidated t → ¬ HasCause P v kind.LoadStage
   pub publishes_while_unpinning : (t : ℕ) → r.pin ≡ Unpinning t → ¬ HasCause P v kind.StoreLength
+  pub publishes_invalidated : (t : ℕ) → r.pin ≡ Invalidated t → ¬ HasCause P v kind.StoreLength
   -- a page that is given back before the next row is ready: its reclamation is not done, was of another row, or never began
   pub gives_back_unready : (s : Reclaiming) → r.reclaimer ≡ Some s → is_reclaimed s ≡ false → ¬ HasCause P v kind.GivePageBack
   pub gives_back_reclaimed_elsewhere : (s : Reclaiming) (t : ℕ) → r.reclaimer ≡ Some s → held_of v.core.phase ≡ Some t

@@ -33,18 +33,21 @@ pub fn answers_refuse<Q: Ratifier>()
 
 /// None looks at the stage with nothing to send, once its batch is closed, with no tenure left to
 /// enter, or in an election. No sender that rests takes a page, stores a word of a log or a
-/// length, gives a page back, or falls back. None stores a length past the end of the order,
-/// before all words of its frame are stored, or twice, or a word past its frame. None before which
-/// the page lies gives it back before the length is stored, while the order goes on and its frame
-/// fits the log. Of one that has handed the page on this is not said, since it remembers only for
-/// which reason it did. None takes a page before it was chosen.
+/// length, gives a page back, or falls back. None stores a word or a length past the end of the
+/// order, or where its frame does not fit the log. None stores a word past its frame, or the
+/// length before all words of its frame, or twice. None before which the page lies gives it back
+/// before the length is stored, while the order goes on and its frame fits the log. Of one that
+/// has handed the page on this is not said, since it remembers only for which reason it did. None
+/// takes a page before it was chosen.
 ///
 /// None announces itself once its election has begun. None goes on in a ratifier before it has
-/// brought its bit, or brings it twice. None loads a mark before it has set its own, or sets that
-/// twice. None votes out of turn, or loads the votes before it has voted. None goes to the
-/// fallback word while an object is left before it. None searches for another candidate while the
-/// bits so far fit its own, or past the last sender. Once its election has an owner, none takes
-/// another step of it than the one that takes the page.
+/// brought its bit, or brings it twice. None in a conciliator takes a step of a ratifier, none in
+/// a ratifier one of a conciliator, and none at the fallback word one of either. None loads a mark
+/// before it has set its own, or once it asks the coin, or sets its own twice. None votes out of
+/// turn, or loads the votes before it has voted. None goes to the fallback word while an object is
+/// left before it. None searches for another candidate before a bit is decided, after the last
+/// one, while the bits so far fit its own, or past the last sender. Once its election has an
+/// owner, none takes another step of it than the one that takes the page.
 ///
 /// With a row for each tenure none shows a presence, asks for one, or clears a row. With rows that
 /// are used again none takes a step of an election while it pins no tenure, has not stored its
