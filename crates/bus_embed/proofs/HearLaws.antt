@@ -1,5 +1,5 @@
 -- Items that are heard one by one, and written one behind another.
-use Rattle.std.proofs.Common.{◌≡◌, ℕ, suc, ◌+◌, ◌<◌, inl, inr, true, false, List, [], ◌∷◌, ◌++◌, length, map, drop, slice_set, refl, sym, ap, ◌∙◌, append-nil, arith}
+use Rattle.std.proofs.Common.{◌≡◌, ℕ, suc, ◌+◌, ◌<◌, ◌≤◌, inl, inr, true, false, List, [], ◌∷◌, ◌++◌, length, map, drop, slice_set, refl, sym, ap, ◌∙◌, append-nil, arith}
 use Rattle.std.proofs.lemmas.List.{map-append, length-append, length-map}
 use Rattle.bus_batch.specs.declared.messages.Item.{Item}
 use Rattle.bus_deliverylog.specs.declared.receiving.RecvTurn.{RecvTurn}
@@ -57,20 +57,20 @@ next (heard.Leave sender) g h on room one none = nothing (heard.Leave sender) re
 next heard.End g h on room one none = absurd (let bad : false ≡ true = on in cc)
 
 -- a turn that ended it
-pub stops : {first : Sat Held} {before now : List HeardItem} {n many turns code : ℕ} {at at' : Sat Held} (answer : RecvTurn) → Goes first before n many now at → Hears at answer at' → goes_on answer ≡ false → code ≡ heard_code answer
+pub stops : {first : Sat Held} {before now : List HeardItem} {n many turns code : ℕ} {at at' : Sat Held} (answer : RecvTurn) → Goes first before n many now at → n < turns → Hears at answer at' → goes_on answer ≡ false → code ≡ heard_code answer
     → HearsInto first before turns many code now at'
-stops {first} {before} {now} {n} {many} {turns} {code} {at} {at'} answer g h off is = record {
+stops {first} {before} {now} {n} {many} {turns} {code} {at} {at'} answer g left h off is = record {
   items = g.items;
-  hears = rw is (Stops n g.items at answer at' g.on h off);
+  hears = rw is (Stops n g.items at answer at' g.on left h off);
   many_are = g.many_are;
   written = g.written;
 }
 
 -- there is no more room
-pub full : {first : Sat Held} {before now : List HeardItem} {n many turns : ℕ} {at : Sat Held} → Goes first before n many now at → many ≡ length before → HearsInto first before turns many GOING now at
-full {first} {before} {now} {n} {many} {turns} {at} g is = record {
+pub full : {first : Sat Held} {before now : List HeardItem} {n many turns : ℕ} {at : Sat Held} → Goes first before n many now at → n ≤ turns → many ≡ length before → HearsInto first before turns many GOING now at
+full {first} {before} {now} {n} {many} {turns} {at} g few is = record {
   items = g.items;
-  hears = Fills n g.items at g.on (inl (sym g.many_are ∙ is));
+  hears = Fills n g.items at g.on few (inl (sym g.many_are ∙ is));
   many_are = g.many_are;
   written = g.written;
 }
@@ -79,7 +79,7 @@ full {first} {before} {now} {n} {many} {turns} {at} g is = record {
 pub tired : {first : Sat Held} {before now : List HeardItem} {n many turns : ℕ} {at : Sat Held} → Goes first before n many now at → n ≡ turns → HearsInto first before turns many GOING now at
 tired {first} {before} {now} {n} {many} {turns} {at} g is = record {
   items = g.items;
-  hears = Fills n g.items at g.on (inr is);
+  hears = Fills n g.items at g.on (omega (arith, is)) (inr is);
   many_are = g.many_are;
   written = g.written;
 }

@@ -1,5 +1,5 @@
 -- What calls of a sender and of a receiver answer, as numbers.
-use Rattle.std.specs.Prelude.{◌≡◌, ℕ, ℤ, ◌+◌, ◌≤◌, ◌⊎◌, Bool, true, false, List, [], ◌∷◌, ◌++◌, None, Some, length, drop, map, Result, IfOk, IfErr, OnOk, OnErr}
+use Rattle.std.specs.Prelude.{◌≡◌, ℕ, ℤ, ◌+◌, ◌<◌, ◌≤◌, ◌⊎◌, Bool, true, false, List, [], ◌∷◌, ◌++◌, None, Some, length, drop, map, Result, IfOk, IfErr, OnOk, OnErr}
 use Rattle.std.specs.Ordering.{nat_cmp}
 use Rattle.bus_register.specs.declared.registers.Op.{Op}
 use Rattle.bus_batch.specs.Batches.{next_of, CanPut, IsPutFault, CanClose, IsCloseFault}
@@ -157,12 +157,12 @@ pub data HearsOn (first : Sat Held) : ℕ → List Item → Sat Held → Type 0 
   More : (n : ℕ) (items : List Item) (old : Sat Held) (answer : RecvTurn) (new : Sat Held)
       → HearsOn first n items old → Hears old answer new → goes_on answer ≡ true → HearsOn first (n + 1) (items ++ items_in answer) new
 
--- Such turns, and what ended them: there was no more room, or all turns were taken, which is answered Going; or one more turn was
--- answered Empty or End.
+-- At most so many such turns, and what ended them: there was no more room, or all turns were taken, which is answered Going; or one more
+-- turn, which is one of so many too, was answered Empty or End.
 pub data Hearing (first : Sat Held) (room turns : ℕ) : List Item → ℕ → Sat Held → Type 0 where
-  Fills : (n : ℕ) (items : List Item) (new : Sat Held) → HearsOn first n items new → (length items ≡ room) ⊎ (n ≡ turns) → Hearing first room turns items code.GOING new
+  Fills : (n : ℕ) (items : List Item) (new : Sat Held) → HearsOn first n items new → n ≤ turns → (length items ≡ room) ⊎ (n ≡ turns) → Hearing first room turns items code.GOING new
   Stops : (n : ℕ) (items : List Item) (old : Sat Held) (answer : RecvTurn) (new : Sat Held)
-      → HearsOn first n items old → Hears old answer new → goes_on answer ≡ false → Hearing first room turns items (heard_code answer) new
+      → HearsOn first n items old → n < turns → Hears old answer new → goes_on answer ≡ false → Hearing first room turns items (heard_code answer) new
 
 -- the same with the items written over the first places of a list
 pub record HearsInto (old : Sat Held) (before : List HeardItem) (turns many answer : ℕ) (after : List HeardItem) (new : Sat Held) : Type 0 where
