@@ -466,7 +466,8 @@ impl<Q: Ratifier + Drop> SenderCore<Q> {
     /// A random word is asked for exactly where the next step is a vote.
     fn asks_for_votes(&self)
         ensures { let X = election_of Q.Ratifier in
-            IsTrue (line_now X self.now).wants_word ↔ ((line_now X self.now).kind ≡ Some kind.Vote) }
+            IsTrue (line_now X self.now).wants_word
+            ↔ ((line_now X self.now).kind ≡ Some kind.Vote) }
     {}
 
     /// The next step asks for a random word: it is a vote.
