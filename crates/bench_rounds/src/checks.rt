@@ -6,7 +6,7 @@ ghost use Rattle.bench_rounds.specs.Checks.{HasEach};
 
 use crate::faults::Fault;
 use crate::needs::Load;
-use crate::workers::{Got, ReceiveWorker, SendWorker};
+use crate::workers::{Got, RoundReceiver, RoundSender};
 use bus_pageslot::OfBus;
 use bus_receiver::Heard;
 use bus_register::SenderNo;
@@ -16,7 +16,7 @@ use std::sync::Wait;
 
 /// Sees that each receiver has all items of each sender, that their words sum up to what was sent,
 /// and that all have the same order.
-pub fn check<B: OfBus>(receive_workers: &[ReceiveWorker<B>], load: Load) -> Result<(), Fault>
+pub fn check<B: OfBus>(receive_workers: &[RoundReceiver<B>], load: Load) -> Result<(), Fault>
     ensures counts { OnOk result
         (All (λ receive_worker. HasEach load.senders load.messages receive_worker.heard)
         receive_workers.now) }
@@ -34,7 +34,7 @@ pub fn check<B: OfBus>(receive_workers: &[ReceiveWorker<B>], load: Load) -> Resu
 }
 
 /// Sees that each receiver has all items of each sender.
-fn check_counts<B: OfBus>(receive_workers: &[ReceiveWorker<B>], load: Load) -> Result<(), Fault>
+fn check_counts<B: OfBus>(receive_workers: &[RoundReceiver<B>], load: Load) -> Result<(), Fault>
     ensures { OnOk result
         (All (λ receive_worker. HasEach load.senders load.messages receive_worker.heard)
         receive_workers.now) }
@@ -61,7 +61,7 @@ fn first_miscount(heard: &Heard, load: Load) -> Option<u64>
 }
 
 /// Sees that the words of each receiver's items have this sum.
-fn check_sums<B: OfBus>(receive_workers: &[ReceiveWorker<B>], sum: u64) -> Result<(), Fault>
+fn check_sums<B: OfBus>(receive_workers: &[RoundReceiver<B>], sum: u64) -> Result<(), Fault>
     ensures { OnOk result (All (λ receive_worker. receive_worker.sum ≡ sum) receive_workers.now) }
 {
     for receive_worker in receive_workers {
@@ -75,7 +75,7 @@ fn check_sums<B: OfBus>(receive_workers: &[ReceiveWorker<B>], sum: u64) -> Resul
 }
 
 /// Sees that each receiver has this order.
-fn check_orders<B: OfBus>(receive_workers: &[ReceiveWorker<B>], order: &[Got]) -> Result<(), Fault>
+fn check_orders<B: OfBus>(receive_workers: &[RoundReceiver<B>], order: &[Got]) -> Result<(), Fault>
     ensures { OnOk result (All (λ receive_worker. receive_worker.order.items ≡ order.now)
         receive_workers.now) }
 {
@@ -101,7 +101,7 @@ fn is_same(order: &[Got], other: &[Got]) -> bool
 pub fn close_and_end<B: OfBus, W: Wait>(
     wait: &W,
     the: TheBus<B>,
-    workers: Workers<SendWorker<B>, ReceiveWorker<B>>,
+    workers: Workers<RoundSender<B>, RoundReceiver<B>>,
     load: Load,
 ) -> Result<(), Fault> {
     let Workers {

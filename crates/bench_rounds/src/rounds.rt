@@ -6,8 +6,8 @@ ghost use Rattle.bus_pageslot.specs.Seats.{table_of};
 use crate::checks::{check, close_and_end};
 use crate::faults::Fault;
 use crate::needs::Load;
-use crate::spawning::{Worked, fault_of, spawn_workers, workers_of};
-use crate::workers::ReceiveWorker;
+use crate::spawning::{Worked, fault_of, spawn_round, workers_of};
+use crate::workers::RoundReceiver;
 use bus_pageslot::OfBus;
 use bus_register::limits::MOST_LOG_WORDS;
 use bus_run::buses::{Bus, Sender, Tap, TheBus};
@@ -69,7 +69,7 @@ fn round_on<B: OfBus + Send + Sync, R: Threads + Wait + Clock + Sync>(
         workers,
         started,
         opened,
-    } = spawn_workers(rt, &the, load, workers);
+    } = spawn_round(rt, &the, load, workers);
     if let Some(fault) = fault_of(&workers, load) {
         return Err(fault);
     }
@@ -81,7 +81,7 @@ fn round_on<B: OfBus + Send + Sync, R: Threads + Wait + Clock + Sync>(
 
 /// How long the last receiver took.
 fn times_of<B: OfBus>(
-    receive_workers: &[ReceiveWorker<B>],
+    receive_workers: &[RoundReceiver<B>],
     started: Option<Instant>,
     opened: Option<Instant>,
 ) -> Result<Times, Fault> {
@@ -96,14 +96,14 @@ fn times_of<B: OfBus>(
         let Some(done) = receive_worker.done else {
             return Err(Fault::Clock);
         };
-        times.from_gate = times.from_gate.max(nanoseconds(done, opened));
-        times.with_start = times.with_start.max(nanoseconds(done, started));
+        times.from_gate = times.from_gate.max(round_nanoseconds(done, opened));
+        times.with_start = times.with_start.max(round_nanoseconds(done, started));
     }
     Ok(times)
 }
 
 /// The nanoseconds from `earlier` to `later`; at most `u64::MAX`.
-fn nanoseconds(later: Instant, earlier: Instant) -> u64 {
+fn round_nanoseconds(later: Instant, earlier: Instant) -> u64 {
     match u64::try_from(later.duration_since(earlier).as_nanos()) {
         Ok(nanoseconds) => nanoseconds,
         Err(_) => u64::MAX,

@@ -7,7 +7,7 @@ use crate::faults::Fault;
 use crate::gates::Gate;
 use crate::needs::Load;
 use crate::workers::{
-    HearAll, ReceiveWorker, SendAll, SendWorker, receive_workers_of, send_workers_of,
+    HearRound, RoundReceiver, RoundSender, SendRound, round_receivers_of, round_senders_of,
 };
 use bus_pageslot::OfBus;
 use bus_run::buses::{Sender, Tap, TheBus};
@@ -21,7 +21,7 @@ use std::time::{Clock, Instant};
 /// Workers that have done their work, and when they began.
 #[derive(Drop)]
 pub struct Worked<B: OfBus> {
-    pub workers: Workers<SendWorker<B>, ReceiveWorker<B>>,
+    pub workers: Workers<RoundSender<B>, RoundReceiver<B>>,
     /// The instant before the first thread was started.
     pub started: Option<Instant>,
     /// The instant before the gate was opened.
@@ -35,19 +35,19 @@ pub fn workers_of<B: OfBus + Send>(
     taps: Vec<Tap>,
     load: Load,
     seed: u64,
-) -> Result<Workers<SendWorker<B>, ReceiveWorker<B>>, AllocError>
+) -> Result<Workers<RoundSender<B>, RoundReceiver<B>>, AllocError>
     requires senders { All (λ sender. table_of sender ≡ B.table) senders.items }
     requires taps { All (λ tap. tap.table_id ≡ B.table) taps.items }
 {
-    let send_workers = send_workers_of::<B>(alloc, senders, seed)?;
-    let receive_workers = receive_workers_of::<B>(alloc, taps, load.items())?;
+    let send_workers = round_senders_of::<B>(alloc, senders, seed)?;
+    let receive_workers = round_receivers_of::<B>(alloc, taps, load.items())?;
     Workers::new(alloc, send_workers, receive_workers)
 }
 
 /// What stopped a worker: that not all are there, or what stopped the lowest sender, or the lowest
 /// receiver.
 pub fn fault_of<B: OfBus>(
-    workers: &Workers<SendWorker<B>, ReceiveWorker<B>>,
+    workers: &Workers<RoundSender<B>, RoundReceiver<B>>,
     load: Load,
 ) -> Option<Fault> {
     if workers.send_workers.len() as u64 != load.senders
@@ -70,21 +70,21 @@ pub fn fault_of<B: OfBus>(
 
 /// Lets each sender and each receiver work in a thread of its own, until all have ended. Who could
 /// not be started is no longer among the workers, and then none sends.
-pub fn spawn_workers<B: OfBus + Send + Sync, R: Threads + Wait + Clock + Sync>(
+pub fn spawn_round<B: OfBus + Send + Sync, R: Threads + Wait + Clock + Sync>(
     rt: &R,
     the: &TheBus<B>,
     load: Load,
-    workers: Workers<SendWorker<B>, ReceiveWorker<B>>,
+    workers: Workers<RoundSender<B>, RoundReceiver<B>>,
 ) -> Worked<B> {
     let gate = Gate::new();
     let gate = &gate;
-    let sending = SendAll {
+    let sending = SendRound {
         wait: rt,
         the,
         gate,
         load,
     };
-    let hearing = HearAll {
+    let hearing = HearRound {
         rt,
         the,
         gate,

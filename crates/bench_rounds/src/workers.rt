@@ -26,7 +26,7 @@ use std::time::{Clock, Instant};
 
 /// A sender of the bus B with its random words, and what stopped it.
 #[derive(Drop)]
-pub struct SendWorker<B: OfBus> {
+pub struct RoundSender<B: OfBus> {
     pub sender: Sender,
     pub fault: Option<Fault>,
     rng: ChaCha8Rng,
@@ -34,14 +34,14 @@ pub struct SendWorker<B: OfBus> {
     ghost of_bus: { table_of sender ≡ B.table },
 }
 
-impl<B: OfBus> SendWorker<B> {
+impl<B: OfBus> RoundSender<B> {
     /// The worker of a sender that has not begun.
-    pub fn new(sender: Sender, seed: u64) -> SendWorker<B>
+    pub fn new(sender: Sender, seed: u64) -> RoundSender<B>
         requires { table_of sender ≡ B.table }
         ensures { result.sender ≡ sender }
     {
         let rng = generator(seed, u64::from(sender.number().0));
-        SendWorker {
+        RoundSender {
             sender,
             fault: None,
             rng,
@@ -66,16 +66,16 @@ impl<B: OfBus> SendWorker<B> {
 }
 
 /// A worker for each sender, in order.
-pub fn send_workers_of<B: OfBus>(
+pub fn round_senders_of<B: OfBus>(
     alloc: Global,
     senders: Vec<Sender>,
     seed: u64,
-) -> Result<Vec<SendWorker<B>>, AllocError>
+) -> Result<Vec<RoundSender<B>>, AllocError>
     requires { All (λ sender. table_of sender ≡ B.table) senders.items }
 {
     let mut send_workers = Vec::with_capacity(alloc, senders.len())?;
     for sender in senders {
-        send_workers.push(SendWorker::new(sender, seed))?;
+        send_workers.push(RoundSender::new(sender, seed))?;
     }
     Ok(send_workers)
 }
@@ -89,7 +89,7 @@ pub struct Got {
 
 /// A receiver of the bus B with what was noted of its answers, in order.
 #[derive(Drop)]
-pub struct ReceiveWorker<B: OfBus> {
+pub struct RoundReceiver<B: OfBus> {
     pub number: u64,
     pub receiver: Receiver,
     pub heard: Heard,
@@ -103,17 +103,17 @@ pub struct ReceiveWorker<B: OfBus> {
     ghost of_bus: { bus_of receiver ≡ B.table },
 }
 
-impl<B: OfBus> ReceiveWorker<B> {
+impl<B: OfBus> RoundReceiver<B> {
     /// The worker of a receiver that has not begun, with room for so many items.
     pub fn new(
         alloc: Global,
         number: u64,
         tap: Tap,
         items: u64,
-    ) -> Result<ReceiveWorker<B>, AllocError>
+    ) -> Result<RoundReceiver<B>, AllocError>
         requires { tap.table_id ≡ B.table }
     {
-        Ok(ReceiveWorker {
+        Ok(RoundReceiver {
             number,
             receiver: Receiver::new(tap),
             heard: Heard::new(),
@@ -129,39 +129,39 @@ impl<B: OfBus> ReceiveWorker<B> {
     pub fn into_receiver(self) -> Receiver
         ensures { bus_of result ≡ B.table }
     {
-        let ReceiveWorker { receiver, .. } = self;
+        let RoundReceiver { receiver, .. } = self;
         receiver
     }
 }
 
 /// A worker for each receiver, in order, with room for so many items.
-pub fn receive_workers_of<B: OfBus>(
+pub fn round_receivers_of<B: OfBus>(
     alloc: Global,
     taps: Vec<Tap>,
     items: u64,
-) -> Result<Vec<ReceiveWorker<B>>, AllocError>
+) -> Result<Vec<RoundReceiver<B>>, AllocError>
     requires { All (λ tap. tap.table_id ≡ B.table) taps.items }
 {
     let mut receive_workers = Vec::with_capacity(alloc, taps.len())?;
     for tap in taps {
         let number = receive_workers.len() as u64;
-        receive_workers.push(ReceiveWorker::new(alloc, number, tap, items)?)?;
+        receive_workers.push(RoundReceiver::new(alloc, number, tap, items)?)?;
     }
     Ok(receive_workers)
 }
 
 /// The work of the senders of a round.
 #[derive(Drop)]
-pub struct SendAll<'a, B: OfBus, W> {
+pub struct SendRound<'a, B: OfBus, W> {
     pub wait: &'a W,
     pub the: &'a TheBus<B>,
     pub gate: &'a Gate,
     pub load: Load,
 }
 
-impl<B: OfBus, W: Wait> Work<SendWorker<B>> for SendAll<'_, B, W> {
+impl<B: OfBus, W: Wait> Work<RoundSender<B>> for SendRound<'_, B, W> {
     /// Waits at the gate, and sends all messages of a sender.
-    fn work(&self, mut send_worker: SendWorker<B>) -> SendWorker<B> {
+    fn work(&self, mut send_worker: RoundSender<B>) -> RoundSender<B> {
         if !self.gate.pass(self.wait) {
             return send_worker;
         }
@@ -173,9 +173,9 @@ impl<B: OfBus, W: Wait> Work<SendWorker<B>> for SendAll<'_, B, W> {
     }
 }
 
-impl<B: OfBus, W: Wait> SendAll<'_, B, W> {
+impl<B: OfBus, W: Wait> SendRound<'_, B, W> {
     /// Sends the numbers below `load.messages`, a batch at a time, or until the round was given up.
-    fn send_batches(&self, send_worker: &mut SendWorker<B>) -> Result<(), Fault> {
+    fn send_batches(&self, send_worker: &mut RoundSender<B>) -> Result<(), Fault> {
         let messages = self.load.messages;
         for first in (0..messages).step_by(MOST_MESSAGES) {
             if self.gate.is_given_up() {
@@ -195,7 +195,7 @@ impl<B: OfBus, W: Wait> SendAll<'_, B, W> {
 
 /// Puts the messages from `first` up to `end`, of so many bytes each.
 fn put_all<B: OfBus>(
-    send_worker: &mut SendWorker<B>,
+    send_worker: &mut RoundSender<B>,
     first: u64,
     end: u64,
     bytes: usize,
@@ -223,16 +223,16 @@ fn message_of(number: u64) -> [u8; MOST_BYTES]
 
 /// The work of the receivers of a round.
 #[derive(Drop)]
-pub struct HearAll<'a, B: OfBus, R> {
+pub struct HearRound<'a, B: OfBus, R> {
     pub rt: &'a R,
     pub the: &'a TheBus<B>,
     pub gate: &'a Gate,
     pub load: Load,
 }
 
-impl<B: OfBus, R: Wait + Clock> Work<ReceiveWorker<B>> for HearAll<'_, B, R> {
+impl<B: OfBus, R: Wait + Clock> Work<RoundReceiver<B>> for HearRound<'_, B, R> {
     /// Waits at the gate, takes all items, and notes the instant.
-    fn work(&self, mut receive_worker: ReceiveWorker<B>) -> ReceiveWorker<B> {
+    fn work(&self, mut receive_worker: RoundReceiver<B>) -> RoundReceiver<B> {
         if !self.gate.pass(self.rt) {
             return receive_worker;
         }
@@ -251,9 +251,9 @@ impl<B: OfBus, R: Wait + Clock> Work<ReceiveWorker<B>> for HearAll<'_, B, R> {
     }
 }
 
-impl<B: OfBus, R: Wait> HearAll<'_, B, R> {
+impl<B: OfBus, R: Wait> HearRound<'_, B, R> {
     /// Takes items until it has all. On false the round was given up before.
-    fn take_all(&self, receive_worker: &mut ReceiveWorker<B>) -> Result<bool, Fault> {
+    fn take_all(&self, receive_worker: &mut RoundReceiver<B>) -> Result<bool, Fault> {
         let gate = self.gate;
         for _ in 0..self.load.items() {
             let receiver = &mut receive_worker.receiver;
@@ -268,7 +268,7 @@ impl<B: OfBus, R: Wait> HearAll<'_, B, R> {
 }
 
 /// Notes an item, which has to be the next of its sender, and reads all its bytes.
-fn note<B: OfBus>(receive_worker: &mut ReceiveWorker<B>, item: Item) -> Result<(), Fault> {
+fn note<B: OfBus>(receive_worker: &mut RoundReceiver<B>, item: Item) -> Result<(), Fault> {
     let (sender, number) = (item.sender, item.number);
     let words = words_sum(item.message.as_slice());
     if !receive_worker.heard.note(&RecvTurn::Item(item)) {
@@ -290,7 +290,7 @@ fn words_sum(bytes: &[u8]) -> u64 {
 }
 
 /// That a receiver was given what cannot come next.
-fn heard_amiss<B: OfBus>(receive_worker: &ReceiveWorker<B>) -> Fault {
+fn heard_amiss<B: OfBus>(receive_worker: &RoundReceiver<B>) -> Fault {
     Fault::Heard {
         receiver: receive_worker.number,
     }

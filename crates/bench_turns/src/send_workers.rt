@@ -10,18 +10,18 @@ use std::marker::PhantomData;
 
 /// A sender of the bus B.
 #[derive(Drop)]
-pub struct SendWorker<B: OfBus> {
+pub struct TurnSender<B: OfBus> {
     pub sender: Sender,
     of: PhantomData<B>,
     ghost of_bus: { table_of sender ≡ B.table },
 }
 
-impl<B: OfBus> SendWorker<B> {
+impl<B: OfBus> TurnSender<B> {
     /// The worker of a sender.
-    pub fn new(sender: Sender) -> SendWorker<B>
+    pub fn new(sender: Sender) -> TurnSender<B>
         requires { table_of sender ≡ B.table }
     {
-        SendWorker {
+        TurnSender {
             sender,
             of: PhantomData,
         }
@@ -35,15 +35,15 @@ impl<B: OfBus> SendWorker<B> {
 }
 
 /// A worker for each sender, in order.
-pub fn send_workers_of<B: OfBus>(
+pub fn turn_senders_of<B: OfBus>(
     alloc: Global,
     senders: Vec<Sender>,
-) -> Result<Vec<SendWorker<B>>, AllocError>
+) -> Result<Vec<TurnSender<B>>, AllocError>
     requires { All (λ sender. table_of sender ≡ B.table) senders.items }
 {
     let mut send_workers = Vec::with_capacity(alloc, senders.len())?;
     for sender in senders {
-        send_workers.push(SendWorker::new(sender))?;
+        send_workers.push(TurnSender::new(sender))?;
     }
     Ok(send_workers)
 }

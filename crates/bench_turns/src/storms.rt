@@ -4,8 +4,8 @@ ghost use Rattle.std.specs.Prelude.{◌≡◌, ◌≤◌, All, IfOk, OnOk};
 ghost use Rattle.bus_pageslot.specs.Seats.{table_of};
 ghost use Rattle.bus_run.specs.Audit.{OfOrder, IsFair, SendsEach};
 
-use crate::send_workers::send_workers_of;
-use crate::workers::{MOST_TURNS, Patience, ReceiveWorker, Rest, Teller, receive_workers_of};
+use crate::send_workers::turn_senders_of;
+use crate::workers::{MOST_TURNS, Patience, Rest, Teller, TurnReceiver, turn_receivers_of};
 use anyhow::{bail, ensure};
 use bus_deliverylog::{LogRead, read_log};
 use bus_pageslot::OfBus;
@@ -126,7 +126,7 @@ impl Tale {
 #[derive(Drop)]
 struct Hand<B: OfBus> {
     tellers: Vec<Teller<B>>,
-    receive_workers: Vec<ReceiveWorker<B>>,
+    receive_workers: Vec<TurnReceiver<B>>,
     dice: Pcg32,
 }
 
@@ -168,7 +168,7 @@ pub fn sit_on<B: OfBus + Send + Sync, R: Threads + Clock + Sync>(
     let (bus, senders, taps) = made;
     let the = TheBus::<B>::new(bus);
     let mut tellers = Vec::with_capacity(alloc, senders.len())?;
-    for send_worker in send_workers_of::<B>(alloc, senders)? {
+    for send_worker in turn_senders_of::<B>(alloc, senders)? {
         let patience = Patience::cast(dice, load.is_calm);
         let leaves_at = load.leaves_at(send_worker.sender.number(), dice);
         let teller = Teller::new(
@@ -180,7 +180,7 @@ pub fn sit_on<B: OfBus + Send + Sync, R: Threads + Clock + Sync>(
         tellers.push(teller)?;
     }
     let after = load.after.as_ref();
-    let receive_workers = receive_workers_of::<B>(alloc, taps, dice, load.is_calm, after)?;
+    let receive_workers = turn_receivers_of::<B>(alloc, taps, dice, load.is_calm, after)?;
     let hands = deal(alloc, load, tellers, receive_workers, dice)?;
     let hands = thread::map_vec(rt, hands, &|hand| play(rt, &the, hand))?;
     let (mut tellers, mut receive_workers) = gather(alloc, hands)?;
@@ -201,7 +201,7 @@ fn deal<B: OfBus>(
     alloc: Global,
     load: Load,
     tellers: Vec<Teller<B>>,
-    receive_workers: Vec<ReceiveWorker<B>>,
+    receive_workers: Vec<TurnReceiver<B>>,
     dice: &mut Pcg32,
 ) -> Result<Vec<Hand<B>>, AllocError> {
     let mut hands = Vec::new(alloc);
@@ -273,7 +273,7 @@ fn yield_if(is_idle: bool) {
 fn gather<B: OfBus>(
     alloc: Global,
     hands: Vec<Hand<B>>,
-) -> Result<(Vec<Teller<B>>, Vec<ReceiveWorker<B>>), AllocError> {
+) -> Result<(Vec<Teller<B>>, Vec<TurnReceiver<B>>), AllocError> {
     let mut tellers = Vec::new(alloc);
     let mut receive_workers = Vec::new(alloc);
     for hand in hands {
@@ -297,7 +297,7 @@ fn settle<B: OfBus>(
     alloc: Global,
     the: TheBus<B>,
     tellers: Vec<Teller<B>>,
-    mut receive_workers: Vec<ReceiveWorker<B>>,
+    mut receive_workers: Vec<TurnReceiver<B>>,
     load: Load,
 ) -> anyhow::Result<Sitting>
     requires { load.senders ≤ MOST_SENDERS }
@@ -359,7 +359,7 @@ fn page_of(
 fn tale_of<B: OfBus>(
     read: &LogRead,
     tellers: &[Teller<B>],
-    receive_workers: &[ReceiveWorker<B>],
+    receive_workers: &[TurnReceiver<B>],
     load: Load,
 ) -> Tale {
     let has_sent = tellers.iter().all(|teller| teller.has_sent());
@@ -389,7 +389,7 @@ fn tale_of<B: OfBus>(
 }
 
 /// How many workers rest for this reason.
-fn count<B: OfBus>(tellers: &[Teller<B>], receive_workers: &[ReceiveWorker<B>], rest: Rest) -> u64 {
+fn count<B: OfBus>(tellers: &[Teller<B>], receive_workers: &[TurnReceiver<B>], rest: Rest) -> u64 {
     let resting = tellers.iter().filter(|t| t.rest == Some(rest)).count();
     resting.saturating_add(
         receive_workers
@@ -401,10 +401,7 @@ fn count<B: OfBus>(tellers: &[Teller<B>], receive_workers: &[ReceiveWorker<B>], 
 
 /// What each receiver was given begins the order of the log, and is all of it for one that did not
 /// stop.
-fn have_heard<B: OfBus>(
-    read: &LogRead,
-    receive_workers: &[ReceiveWorker<B>],
-) -> anyhow::Result<()> {
+fn have_heard<B: OfBus>(read: &LogRead, receive_workers: &[TurnReceiver<B>]) -> anyhow::Result<()> {
     let order = read.order.items.as_slice();
     for receive_worker in receive_workers {
         let items = receive_worker.items.as_slice();
@@ -523,13 +520,13 @@ fn drops_out<B: OfBus>(tellers: &[Teller<B>], number: SenderNo) -> bool {
 /// Ends the bus by the last receiver: it leaves something behind, unless its page is out.
 fn end_with<B: OfBus>(
     the: TheBus<B>,
-    mut receive_workers: Vec<ReceiveWorker<B>>,
+    mut receive_workers: Vec<TurnReceiver<B>>,
     is_out: bool,
 ) -> anyhow::Result<Option<Ended>> {
     let Some(last) = receive_workers.pop() else {
         bail!("no receiver is there");
     };
-    let ReceiveWorker { tap, .. } = last;
+    let TurnReceiver { tap, .. } = last;
     match the.into_bus().end(tap) {
         Ok(ended) => {
             ensure!(!is_out, "the bus ended with its page out");
@@ -546,7 +543,7 @@ fn end_with<B: OfBus>(
 fn end_and_audit<B: OfBus>(
     alloc: Global,
     the: TheBus<B>,
-    mut receive_workers: Vec<ReceiveWorker<B>>,
+    mut receive_workers: Vec<TurnReceiver<B>>,
     load: Load,
 ) -> anyhow::Result<Report>
     requires { load.senders ≤ MOST_SENDERS }
@@ -559,10 +556,10 @@ fn end_and_audit<B: OfBus>(
     let Some(last) = receive_workers.pop() else {
         bail!("no receiver is there");
     };
-    let ReceiveWorker { tap, heard, .. } = last;
+    let TurnReceiver { tap, heard, .. } = last;
     heards.push(heard)?;
     for receive_worker in receive_workers {
-        let ReceiveWorker { heard, .. } = receive_worker;
+        let TurnReceiver { heard, .. } = receive_worker;
         heards.push(heard)?;
     }
     let ended = the.into_bus().end(tap)?;

@@ -3,7 +3,7 @@
 ghost use Rattle.std.specs.Prelude.{◌≡◌, All};
 ghost use Rattle.bus_pageslot.specs.Seats.{table_of};
 
-use crate::send_workers::{SendWorker, send_workers_of};
+use crate::send_workers::{TurnSender, turn_senders_of};
 use bus_pageslot::OfBus;
 use bus_receiver::{MOST_ROWS_AGAIN, Shape};
 use bus_register::Kind;
@@ -53,8 +53,8 @@ fn add(turns: &mut Turns, kind: Kind, readings: [Instant; 3]) -> Result<(), Allo
 /// Adds it to the sums.
 fn add_to(sums: &mut Vec<Sum>, kind: Kind, readings: [Instant; 3]) -> Result<(), AllocError> {
     let [before, between, after] = readings;
-    let nothing = nanoseconds(between, before);
-    let turn = nanoseconds(after, between);
+    let nothing = turn_nanoseconds(between, before);
+    let turn = turn_nanoseconds(after, between);
     if nothing > MOST_NANOSECONDS || turn > MOST_NANOSECONDS {
         return Ok(());
     }
@@ -76,7 +76,7 @@ fn add_to(sums: &mut Vec<Sum>, kind: Kind, readings: [Instant; 3]) -> Result<(),
 }
 
 /// The nanoseconds from `earlier` to `later`; at most `u64::MAX`.
-fn nanoseconds(later: Instant, earlier: Instant) -> u64 {
+fn turn_nanoseconds(later: Instant, earlier: Instant) -> u64 {
     u64::try_from(later.duration_since(earlier).as_nanos()).unwrap_or(u64::MAX)
 }
 
@@ -150,7 +150,7 @@ fn take_turns<B: OfBus, R: Clock>(
 {
     let (bus, senders, taps) = made;
     let the = TheBus::<B>::new(bus);
-    let mut send_workers = send_workers_of::<B>(alloc, senders)?;
+    let mut send_workers = turn_senders_of::<B>(alloc, senders)?;
     let mut receive_workers = receive_workers_of::<B>(alloc, taps)?;
     for _ in 0..turns.most {
         let seat = dice.next_u32() as usize % (send_workers.len() + 1);
@@ -172,7 +172,7 @@ fn take_turns<B: OfBus, R: Clock>(
 }
 
 /// Puts as many messages as its batch takes. Says whether one was taken.
-fn fill<B: OfBus>(send_worker: &mut SendWorker<B>) -> bool {
+fn fill<B: OfBus>(send_worker: &mut TurnSender<B>) -> bool {
     let mut is_taken = false;
     for _ in 0..MOST_MESSAGES {
         is_taken |= send_worker.put();
@@ -184,7 +184,7 @@ fn fill<B: OfBus>(send_worker: &mut SendWorker<B>) -> bool {
 fn time_send_worker<B: OfBus, R: Clock>(
     rt: &R,
     the: &TheBus<B>,
-    send_worker: &mut SendWorker<B>,
+    send_worker: &mut TurnSender<B>,
     word: u32,
 ) -> io::Result<[Instant; 3]> {
     let before = Instant::now(rt)?;

@@ -3,7 +3,7 @@
 
 ghost use Rattle.std.specs.Prelude.{◌≡◌, All};
 
-use crate::send_workers::SendWorker;
+use crate::send_workers::TurnSender;
 use bus_pageslot::OfBus;
 use bus_receiver::{Heard, Item, Page, RecvTurn, SenderNo, Turn};
 use bus_register::Kind;
@@ -121,7 +121,7 @@ fn is_of_pin(kind: Kind) -> bool {
 /// A sender with messages to send.
 #[derive(Drop)]
 pub struct Teller<B: OfBus> {
-    pub send_worker: SendWorker<B>,
+    pub send_worker: TurnSender<B>,
     pub rest: Option<Rest>,
     /// It has taken the page and not given it back.
     pub has_page: bool,
@@ -147,7 +147,7 @@ impl<B: OfBus> Teller<B> {
     /// A sender of so many messages, in batches of at most so many, that has not begun. It leaves
     /// once no more of them are left than the first number in `leaves_at`, if it leaves.
     pub fn new(
-        send_worker: SendWorker<B>,
+        send_worker: TurnSender<B>,
         (messages, leaves_at): (u64, Option<u64>),
         batch: u32,
         patience: Patience,
@@ -260,7 +260,7 @@ impl<B: OfBus> Teller<B> {
 
 /// A receiver of the bus B, with all that it was given.
 #[derive(Drop)]
-pub struct ReceiveWorker<B: OfBus> {
+pub struct TurnReceiver<B: OfBus> {
     pub tap: Tap,
     pub heard: Heard,
     pub items: Vec<Item>,
@@ -274,21 +274,21 @@ pub struct ReceiveWorker<B: OfBus> {
     ghost of_bus: { tap.table_id ≡ B.table },
 }
 
-impl<B: OfBus> ReceiveWorker<B> {
+impl<B: OfBus> TurnReceiver<B> {
     /// A receiver that has not begun, of the sitting that goes on after this page.
     pub fn new(
         alloc: Global,
         tap: Tap,
         patience: Patience,
         after: Option<&Page>,
-    ) -> Result<ReceiveWorker<B>, AllocError>
+    ) -> Result<TurnReceiver<B>, AllocError>
         requires { tap.table_id ≡ B.table }
     {
         let heard = match after {
             Some(page) => Heard::after(page),
             None => Heard::new(),
         };
-        Ok(ReceiveWorker {
+        Ok(TurnReceiver {
             tap,
             heard,
             items: Vec::with_capacity(alloc, MOST_ITEMS)?,
@@ -347,19 +347,19 @@ impl<B: OfBus> ReceiveWorker<B> {
 }
 
 /// A worker for each receiver, in order, of the sitting that goes on after this page.
-pub fn receive_workers_of<B: OfBus>(
+pub fn turn_receivers_of<B: OfBus>(
     alloc: Global,
     taps: Vec<Tap>,
     dice: &mut Pcg32,
     is_calm: bool,
     after: Option<&Page>,
-) -> Result<Vec<ReceiveWorker<B>>, AllocError>
+) -> Result<Vec<TurnReceiver<B>>, AllocError>
     requires { All (λ tap. tap.table_id ≡ B.table) taps.items }
 {
     let mut receive_workers = Vec::with_capacity(alloc, taps.len())?;
     for tap in taps {
         let patience = Patience::cast(dice, is_calm);
-        receive_workers.push(ReceiveWorker::new(alloc, tap, patience, after)?)?;
+        receive_workers.push(TurnReceiver::new(alloc, tap, patience, after)?)?;
     }
     Ok(receive_workers)
 }

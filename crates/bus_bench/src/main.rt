@@ -24,7 +24,7 @@ fn main(rt: HostRuntime) -> ExitCode {
 fn bus_bench<R: AllocGlobal + Env + Input + Print + Eprint + Threads + Wait + Clock + Sync>(
     rt: &R,
 ) -> ExitCode {
-    let words = match given_words(rt) {
+    let words = match bench_words(rt) {
         Ok(words) => words,
         Err(error) if error.kind() == io::ErrorKind::OutOfMemory => {
             let _ = eprintln!(rt; "bus_bench: no memory");
@@ -50,7 +50,7 @@ fn bus_bench<R: AllocGlobal + Env + Input + Print + Eprint + Threads + Wait + Cl
 }
 
 /// The words of the command line, of which the first is the program's name.
-fn given_words<R: AllocGlobal + Env>(rt: &R) -> io::Result<Vec<String>> {
+fn bench_words<R: AllocGlobal + Env>(rt: &R) -> io::Result<Vec<String>> {
     Ok(env::args(rt)?.collect(rt.alloc())?)
 }
 

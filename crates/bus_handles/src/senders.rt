@@ -2,10 +2,12 @@
 
 ghost use Rattle.std.specs.Prelude.{◌≡◌, ℕ, ◌+◌, List, [], ◌∷◌, ◌++◌, length};
 ghost use Rattle.std.specs.Prelude.{Some, None, IfSome, IfNone, IfOk, IfErr, OnOk, OnErr, true};
+ghost use Rattle.std.specs.Prelude.{IsTrue, ◌↔◌};
 ghost use Rattle.std.specs.Arc.{arc_value};
 ghost use Rattle.bus_batch.specs.Batches.{next_of, CanPut, IsPutFault, CanClose, IsCloseFault};
 ghost use Rattle.bus_batch.specs.declared.messages.Mark.TheVariants as mark;
 ghost use Rattle.bus_tenure.specs.Core.{is_closed, is_leaving};
+ghost use Rattle.bus_register.specs.declared.kinds.Kind.TheVariants as kind;
 ghost use Rattle.bus_register.specs.declared.registers.Op.{Op};
 ghost use Rattle.bus_world.specs.Headline.{HasPut, HasMarked, puts};
 ghost use Rattle.bus_core.specs.Causes.{HasCause};
@@ -137,9 +139,11 @@ impl<Q: Ratifier + Drop, R: Rng + Drop> SenderHandle<Q, R> {
         self.sender.kind()
     }
 
-    /// Its next step asks for a random word.
+    /// Its next step asks for a random word: it is a vote.
     pub fn wants_word(&self) -> bool
-        ensures { result ≡ (process_by Q.Ratifier).wants_word self.now.core }
+        ensures word { result ≡ (process_by Q.Ratifier).wants_word self.now.core }
+        ensures vote { let P = process_by Q.Ratifier in
+            IsTrue result ↔ (P.kind self.now.core ≡ Some kind.Vote) }
     {
         self.sender.wants_word()
     }

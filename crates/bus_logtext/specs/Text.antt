@@ -44,10 +44,10 @@ bad_word_text place = codes "word " ++ decimal place ++ codes ": BadWord" ++ 10 
 abbrev pub torn_text : List ℕ
 torn_text = refusal_line AtEnd (codes "Torn")
 
-abbrev pub fault_name : LineFault → List ℕ
-fault_name BadLine = codes "BadLine"
-fault_name TooManyWords = codes "TooManyWords"
+abbrev pub word_fault_name : LineFault → List ℕ
+word_fault_name BadLine = codes "BadLine"
+word_fault_name TooManyWords = codes "TooManyWords"
 
 -- the one line of lines that were refused
 abbrev pub refusal_text : Refusal → List ℕ
-refusal_text refusal = refusal_line (AtLine refusal.line) (fault_name refusal.fault)
+refusal_text refusal = refusal_line (AtLine refusal.line) (word_fault_name refusal.fault)

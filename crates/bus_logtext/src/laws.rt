@@ -28,7 +28,7 @@ pub fn inputs_are_words()
 {}
 
 /// An input has at most one answer.
-pub fn answers_are_one()
+pub fn log_answers_are_one()
     ensures { (senders : ℕ) (input : List ℕ) (outcome other : Outcome) (text another : List ℕ)
         → IsAnswer senders input outcome text → IsAnswer senders input other another
         → (outcome ≡ other) × (text ≡ another) }
@@ -48,7 +48,7 @@ pub fn printed_logs_are_told()
 /// answer does: to tell a log where words end within a frame, where one is bad or where a line was
 /// refused, another log than words spell, or a line more; to refuse words that are a log; and to
 /// name another place than that of the first bad word.
-pub fn answers_refuse()
+pub fn log_answers_refuse()
     ensures short { word_of (codes "400002000000000") ≡ None }
     ensures long { word_of (codes "40000200000000000") ≡ None }
     ensures letter { word_of (codes "400002000000000g") ≡ None }

@@ -2,7 +2,7 @@
 
 ghost use Rattle.std.specs.Prelude.{◌≡◌, ◌++◌, Err, IfOk, OnOk, string_bytes};
 ghost use Rattle.bus_deliverylog.specs.Logs.{IsFirstBad, IsTorn};
-ghost use Rattle.bus_logtext.specs.Text.{piece_line, bad_word_text, fault_name, refusal_text};
+ghost use Rattle.bus_logtext.specs.Text.{piece_line, bad_word_text, word_fault_name, refusal_text};
 ghost use Rattle.bus_logtext.specs.Answers.{TellsLog};
 
 use crate::faults::{LineFault, Refusal};
@@ -63,8 +63,8 @@ pub fn bad_word_text(alloc: Global, place: u64) -> Result<String, AllocError>
     format!(in alloc; "word {place}: BadWord\n")
 }
 
-fn fault_name(fault: LineFault) -> &'static str
-    ensures { result.now ≡ fault_name fault }
+fn word_fault_name(fault: LineFault) -> &'static str
+    ensures { result.now ≡ word_fault_name fault }
 {
     match fault {
         LineFault::BadLine => "BadLine",
@@ -79,6 +79,6 @@ pub fn refusal_text(alloc: Global, refusal: Refusal) -> Result<String, AllocErro
     refusal_line(
         alloc,
         LineNumber::AtLine(refusal.line),
-        fault_name(refusal.fault),
+        word_fault_name(refusal.fault),
     )
 }

@@ -23,10 +23,10 @@ verdict_line p verdict = decimal p ++ codes " " ++ verdict_name verdict ++ 10 �
 abbrev pub verdict_text : List (Option Verdict) → List ℕ
 verdict_text verdicts = flat_map (λ x. verdict_line x.0 x.1) (enumerate_from 0 verdicts)
 
-abbrev pub fault_name : LineFault → List ℕ
-fault_name BadLine = codes "BadLine"
-fault_name NoSuchProcess = codes "NoSuchProcess"
+abbrev pub script_fault_name : LineFault → List ℕ
+script_fault_name BadLine = codes "BadLine"
+script_fault_name NoSuchProcess = codes "NoSuchProcess"
 
 -- the one line of a refused script
 abbrev pub refusal_text : Refusal → List ℕ
-refusal_text refusal = refusal_line refusal.line_number (fault_name refusal.fault)
+refusal_text refusal = refusal_line refusal.line_number (script_fault_name refusal.fault)

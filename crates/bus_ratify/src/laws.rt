@@ -25,7 +25,7 @@ pub fn scripts_are_spelled()
 {}
 
 /// An input has one answer.
-pub fn answers_are_one()
+pub fn ratify_answers_are_one()
     ensures { (input : List ℕ) (outcome other : Outcome) (text another : List ℕ)
         → IsAnswer input outcome text → IsAnswer input other another → (outcome ≡ other)
         × (text ≡ another) }

@@ -2,7 +2,8 @@
 
 ghost use Rattle.std.specs.Prelude.{◌≡◌, ◌++◌, IfOk, OnOk, string_bytes};
 ghost use Rattle.bus_register.specs.Digits.{digit};
-ghost use Rattle.bus_ratify.specs.Text.{verdict_line, verdict_text, fault_name, refusal_text};
+ghost use Rattle.bus_ratify.specs.Text.{verdict_line, verdict_text, script_fault_name};
+ghost use Rattle.bus_ratify.specs.Text.{refusal_text};
 
 use crate::refusals::{LineFault, Refusal};
 use bus_adoptcommit::Verdict;
@@ -42,8 +43,8 @@ pub fn verdict_text(alloc: Global, verdicts: &[Option<Verdict>]) -> Result<Strin
     Ok(text)
 }
 
-fn fault_name(fault: LineFault) -> &'static str
-    ensures { result.now ≡ fault_name fault }
+fn script_fault_name(fault: LineFault) -> &'static str
+    ensures { result.now ≡ script_fault_name fault }
 {
     match fault {
         LineFault::BadLine => "BadLine",
@@ -55,5 +56,5 @@ fn fault_name(fault: LineFault) -> &'static str
 pub fn refusal_text(alloc: Global, refusal: Refusal) -> Result<String, AllocError>
     ensures { IfOk result (λ text. string_bytes text ≡ refusal_text refusal) }
 {
-    refusal_line(alloc, refusal.line_number, fault_name(refusal.fault))
+    refusal_line(alloc, refusal.line_number, script_fault_name(refusal.fault))
 }

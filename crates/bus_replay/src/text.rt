@@ -7,7 +7,8 @@ ghost use Rattle.bus_replay.specs.Text.{answer_text, event_text, answer_line};
 use bus_world::{Answer, Event};
 use std::alloc::AllocError;
 
-fn push_answer(text: &mut String, answer: &Answer) -> Result<(), AllocError>
+/// Puts an answer at the end of a text.
+pub fn push_answer(text: &mut String, answer: &Answer) -> Result<(), AllocError>
     ensures { OnOk result
         (string_bytes text.new ≡ string_bytes text.old ++ answer_text answer.now) }
 {

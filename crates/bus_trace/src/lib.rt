@@ -14,7 +14,6 @@
 //! ```
 #![tactic(auto)]
 
-pub mod answers;
 pub mod laws;
 pub mod memory_maps;
 pub mod playing;

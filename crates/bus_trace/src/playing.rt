@@ -21,7 +21,7 @@ use bus_world::{Event, StepFault};
 use std::alloc::{AllocError, Global};
 
 /// An event once, and more while it goes on, up to so many times. Each has its line.
-fn repeat<Q: Ratifier + Drop>(
+fn trace_event<Q: Ratifier + Drop>(
     bus: &mut World<Q>,
     sheet: &mut Sheet,
     memory_map: MemoryMap,
@@ -57,7 +57,7 @@ fn repeat<Q: Ratifier + Drop>(
 }
 
 /// Does what a line asks for, and puts a line for each event of it, or its refusal, on a sheet.
-fn obey<Q: Ratifier + Drop>(
+fn trace_line<Q: Ratifier + Drop>(
     alloc: Global,
     bus: &mut World<Q>,
     sheet: &mut Sheet,
@@ -76,7 +76,7 @@ fn obey<Q: Ratifier + Drop>(
         push_refusal(alloc, line.number, "BadLine", &mut sheet.text)?;
         return Ok(Outcome::Refused);
     };
-    match repeat(
+    match trace_event(
         bus,
         sheet,
         memory_map,
@@ -94,7 +94,7 @@ fn obey<Q: Ratifier + Drop>(
 }
 
 /// Obeys lines up to the first that is refused.
-pub fn play<Q: Ratifier + Drop>(
+pub fn trace_lines<Q: Ratifier + Drop>(
     alloc: Global,
     bus: &mut World<Q>,
     sheet: &mut Sheet,
@@ -108,7 +108,7 @@ pub fn play<Q: Ratifier + Drop>(
         outcome bus.new) }
 {
     while let Some(line) = lines.next_line() {
-        match obey(alloc, bus, sheet, memory_map, line)? {
+        match trace_line(alloc, bus, sheet, memory_map, line)? {
             Outcome::Done => {}
             Outcome::Refused => return Ok(Outcome::Refused),
         }

@@ -7,11 +7,11 @@ ghost use Rattle.bus_trace.specs.Words.{sizes_told};
 ghost use Rattle.bus_trace.specs.Obeying.{IsCounted};
 ghost use Rattle.bus_trace.specs.Told.{name_told, seen_columns, row_told, numbered_row};
 
-use crate::answers::push_answer;
 use crate::memory_maps::MemoryMap;
 use crate::seen::{Seen, register_of};
 use crate::sheets::Sheet;
 use crate::words::push_word;
+use bus_replay::text::push_answer;
 use bus_world::{Answer, Event};
 use std::alloc::{AllocError, Global};
 

@@ -9,7 +9,7 @@ ghost use Rattle.bus_trace.specs.Words.{sizes_told};
 ghost use Rattle.bus_trace.specs.Traces.{ArePrinted, Begins, IsTrace};
 
 use crate::memory_maps::MemoryMap;
-use crate::playing::play;
+use crate::playing::trace_lines;
 use crate::rows::new_sheet;
 use crate::words::memory_map_of;
 use bus_adoptcommit::Ratifier;
@@ -23,7 +23,7 @@ use bus_world::MakeFault;
 use std::alloc::Global;
 
 /// The answer to a script that was refused before there was a bus.
-fn refused(alloc: Global, line_number: LineNumber, name: &str) -> Result<Answer, NoMemory>
+fn trace_refused(alloc: Global, line_number: LineNumber, name: &str) -> Result<Answer, NoMemory>
     ensures outcome { IfOk result (λ answer. answer.outcome ≡ Refused) }
     ensures text { IfOk result
         (λ answer. string_bytes answer.text ≡ header ++ refusal_line line_number name.now) }
@@ -49,7 +49,7 @@ fn trace_from<Q: Ratifier + Drop>(
         answer.outcome (string_bytes answer.text)) }
 {
     let mut sheet = new_sheet(alloc)?;
-    let outcome = play(alloc, &mut bus, &mut sheet, memory_map, lines)?;
+    let outcome = trace_lines(alloc, &mut bus, &mut sheet, memory_map, lines)?;
     Ok(Answer {
         outcome,
         text: sheet.text,
@@ -70,7 +70,7 @@ fn trace_behind<Q: Ratifier + Drop>(
     match new_bus::<Q>(alloc, first) {
         Ok(bus) => trace_from(alloc, bus, memory_map_of::<Q>(first), lines),
         Err(MakeFault::NoMemory) => Err(NoMemory),
-        Err(fault) => refused(alloc, LineNumber::AtLine(number), make_fault_name(fault)),
+        Err(fault) => trace_refused(alloc, LineNumber::AtLine(number), make_fault_name(fault)),
     }
 }
 
@@ -84,10 +84,10 @@ pub fn trace_of<Q: Ratifier + Drop>(alloc: Global, input: &[u8]) -> Result<Answe
 {
     let mut lines = Lines::new(input);
     let Some(first) = lines.next_line() else {
-        return refused(alloc, LineNumber::AtEnd, "BadLine");
+        return trace_refused(alloc, LineNumber::AtEnd, "BadLine");
     };
     match first_of(first.bytes) {
         Some(bus) => trace_behind::<Q>(alloc, bus, first.number, lines),
-        None => refused(alloc, LineNumber::AtLine(first.number), "BadLine"),
+        None => trace_refused(alloc, LineNumber::AtLine(first.number), "BadLine"),
     }
 }

@@ -7,7 +7,7 @@ use Rattle.bus_trace.specs.Words.{sizes_told}
 use Rattle.bus_trace.specs.Told.{row_told}
 use Rattle.bus_trace.proofs.RowLemmas.{row_is, grown_one}
 use Rattle.bus_trace.proofs.RepeatRows.{once, once_more, at_last}
-use Rattle.bus_trace.proofs.playing.repeat.Goals as goal
+use Rattle.bus_trace.proofs.playing.trace_event.Goals as goal
 
 pub loop-more-init : goal.loop-more-init
 loop-more-init g c =

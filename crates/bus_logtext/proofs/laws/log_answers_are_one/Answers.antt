@@ -1,6 +1,6 @@
 use Rattle.bus_logtext.specs.Words.{words_of}
 use Rattle.bus_logtext.proofs.AnswerLemmas.{one_answer}
-use Rattle.bus_logtext.proofs.laws.answers_are_one.Goals as goal
+use Rattle.bus_logtext.proofs.laws.log_answers_are_one.Goals as goal
 
 pub returns : goal.returns
 returns c = λ senders input outcome other text another. one_answer (record {

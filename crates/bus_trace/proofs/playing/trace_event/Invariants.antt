@@ -4,7 +4,7 @@ use Rattle.bus_world.specs.Playing.{event_told}
 use Rattle.bus_trace.specs.Words.{sizes_told}
 use Rattle.bus_trace.specs.Obeying.{IsCounted}
 use Rattle.bus_trace.proofs.RepeatRows.{Repeated}
-use Rattle.bus_trace.proofs.playing.repeat.Given as goal
+use Rattle.bus_trace.proofs.playing.trace_event.Given as goal
 
 abbrev pub invariant-loop-more : goal.invariant-loop-more
 invariant-loop-more g l = record {

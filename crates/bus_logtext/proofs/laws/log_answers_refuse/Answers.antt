@@ -4,7 +4,7 @@ use Rattle.bus_batch.specs.Frames.{log_words}
 use Rattle.hex.specs.Hex.{decode_pairs}
 use Rattle.bus_logtext.specs.Text.{log_text}
 use Rattle.bus_logtext.proofs.AnswerLemmas.{Answers, not_told, not_told_bad, not_refused, no_line_more, placed, told_so}
-use Rattle.bus_logtext.proofs.laws.answers_refuse.Goals as goal
+use Rattle.bus_logtext.proofs.laws.log_answers_refuse.Goals as goal
 
 pub returns-clause-letter : goal.returns-clause-letter
 unfolding decode_pairs

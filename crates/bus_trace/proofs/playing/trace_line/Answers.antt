@@ -7,7 +7,7 @@ use Rattle.bus_replay.specs.Told.{command_told}
 use Rattle.bus_trace.specs.Words.{sizes_told}
 use Rattle.bus_trace.specs.Obeying.{IsRepeated}
 use Rattle.bus_trace.proofs.PlayRows.{answered, refused}
-use Rattle.bus_trace.proofs.playing.obey.Goals as goal
+use Rattle.bus_trace.proofs.playing.trace_line.Goals as goal
 
 pub returns-in-None-clause-obeyed : goal.returns-in-None-clause-obeyed
 returns-in-None-clause-obeyed g c =
@@ -16,11 +16,11 @@ returns-in-None-clause-obeyed g c =
     let p = sizes_told c.args.memory_map in
     let command = command_told c.in-Some.command in
     let old = string_bytes c.args.sheet.now.text in
-    let new = string_bytes c.repeat.new.sheet.text in
-    answered X P p c.args.bus.now (c.args.line.number, c.args.line.bytes.now) c.repeat.new.bus old c.args.sheet.now.lines command new
-    c.repeat.new.sheet.lines (sym (ap (option_map command_told) c.in-Some.is) ∙ c.in_ok-command.ensures)
+    let new = string_bytes c.trace_event.new.sheet.text in
+    answered X P p c.args.bus.now (c.args.line.number, c.args.line.bytes.now) c.trace_event.new.bus old c.args.sheet.now.lines command new
+    c.trace_event.new.sheet.lines (sym (ap (option_map command_told) c.in-Some.is) ∙ c.in_ok-command.ensures)
     (subst (λ f. IsRepeated X P p c.args.line.number c.args.bus.now command.event (command.times - 1) old c.args.sheet.now.lines new
-    c.repeat.new.sheet.lines f c.repeat.new.bus) c.in-None.is c.in_ok-repeat.ensures.repeated)
+    c.trace_event.new.sheet.lines f c.trace_event.new.bus) c.in-None.is c.in_ok-trace_event.ensures.repeated)
 
 pub returns-clause-obeyed : goal.returns-clause-obeyed
 returns-clause-obeyed g c =
@@ -29,9 +29,9 @@ returns-clause-obeyed g c =
     let p = sizes_told c.args.memory_map in
     let command = command_told c.in-Some.command in
     let old = string_bytes c.args.sheet.now.text in
-    let new = string_bytes c.repeat.new.sheet.text in
+    let new = string_bytes c.trace_event.new.sheet.text in
     let stopped = subst (λ f. IsRepeated X P p c.args.line.number c.args.bus.now command.event (command.times - 1) old
-    c.args.sheet.now.lines new c.repeat.new.sheet.lines f c.repeat.new.bus) c.in-Some-2.is c.in_ok-repeat.ensures.repeated in
-    refused X P p c.args.bus.now (c.args.line.number, c.args.line.bytes.now) c.repeat.new.bus old c.args.sheet.now.lines command
-    c.in-Some-2.fault new (string_bytes c.push_refusal-in-Some-2.new.text) c.repeat.new.sheet.lines
+    c.args.sheet.now.lines new c.trace_event.new.sheet.lines f c.trace_event.new.bus) c.in-Some-2.is c.in_ok-trace_event.ensures.repeated in
+    refused X P p c.args.bus.now (c.args.line.number, c.args.line.bytes.now) c.trace_event.new.bus old c.args.sheet.now.lines command
+    c.in-Some-2.fault new (string_bytes c.push_refusal-in-Some-2.new.text) c.trace_event.new.sheet.lines
     (sym (ap (option_map command_told) c.in-Some.is) ∙ c.in_ok-command.ensures) stopped.0 stopped.1 (c.in_ok-push_refusal-in-Some-2.ensures ∙ ap (λ n. new ++ refusal_line (AtLine c.args.line.number) n) c.step_fault_name-name.ensures)

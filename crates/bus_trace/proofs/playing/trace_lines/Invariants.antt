@@ -3,7 +3,7 @@ use Rattle.bus_tenure.specs.Elections.{election_with}
 use Rattle.bus_trace.specs.Words.{sizes_told}
 use Rattle.bus_trace.specs.Obeying.{IsCounted}
 use Rattle.bus_trace.proofs.PlayRows.{Played}
-use Rattle.bus_trace.proofs.playing.play.Given as goal
+use Rattle.bus_trace.proofs.playing.trace_lines.Given as goal
 
 abbrev pub invariant-loop-line : goal.invariant-loop-line
 invariant-loop-line g l = record {
