@@ -5,25 +5,13 @@ use Rattle.std.proofs.lemmas.Bool.{true≢false}
 use Rattle.std.proofs.lemmas.List.{nil_from_length}
 use Rattle.bus_batch.specs.Batches.{Pending}
 use Rattle.bus_automaton.specs.Buses.{process_with}
-use Rattle.bus_automaton.proofs.Turns.{messages_are}
-use Rattle.bus_tenure.specs.Core.{Core}
-use Rattle.bus_tenure.specs.declared.phases.Phase.{Phase}
-use Rattle.bus_tenure.specs.declared.phases.Phase.TheVariants as phase
-use Rattle.bus_world.specs.Waiting.{waiting_at}
+use Rattle.bus_automaton.proofs.Turns.{messages_are, none_hidden}
 use Rattle.bus_run.specs.Left.{Held, run_process}
-
-waits_not : {E : Type 0} (c : Core E) (z : Phase E) → c.queue.messages ≡ [] → waiting_at c z ≡ []
-waits_not c phase.Resting e = e
-waits_not c (phase.Electing t a) e = e
-waits_not c (phase.Taken t) e = e
-waits_not c (phase.Holding t page stored true) e = refl
-waits_not c (phase.Holding t page stored false) e = e
-waits_not c (phase.Giving t reason) e = refl
 
 pub none_waits : (v : Held) → length (run_process.queue v).messages ≡ 0 → run_process.waiting v ≡ []
 unfolding process_with
 none_waits v none =
-    waits_not v.core v.core.phase (sym (messages_are v.core.queue v.reuse) ∙ nil_from_length (run_process.queue v).messages none)
+    none_hidden v.core v.core.phase (sym (messages_are v.core.queue v.reuse) ∙ nil_from_length (run_process.queue v).messages none)
 
 one_waits : (v : Held) (bytes : List ℕ) → (run_process.queue (run_process.with_message v bytes)).messages ≡ (run_process.queue v).messages ++ bytes ∷ []
 unfolding process_with
