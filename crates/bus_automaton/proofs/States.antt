@@ -22,6 +22,7 @@ use Rattle.bus_machine.proofs.Holding.{sums_fit}
 use Rattle.bus_machine.proofs.Joining.{log_behind}
 use Rattle.bus_machine.specs.Machine.{Machine, Trails, base_of, turn_answer}
 use Rattle.bus_machine.specs.Promise.{HasRows, IsPagedBy, IsPromised}
+use Rattle.bus_machine.specs.Remembering.{rows_in}
 use Rattle.bus_register.specs.Protocol.{Protocol}
 use Rattle.bus_register.specs.Words.{register}
 use Rattle.bus_register.specs.declared.registers.Op.{Op}
@@ -37,6 +38,7 @@ use Rattle.bus_world.specs.World.{IsLayout, Turn}
 use Rattle.bus_world.specs.Proved.Sending.{Fits, Part}
 use Rattle.bus_world.specs.Headline.{Action, Promises, puts}
 use Rattle.bus_world.specs.Log.{Knows}
+use Rattle.bus_world.specs.Trails.{no_answers}
 use Rattle.bus_world.specs.Proved.Tenures.Stage.{Open, Held}
 use Rattle.bus_world.specs.Waiting.{waiting_at}
 use Rattle.bus_world.specs.declared.events.Answer.TheVariants as answer
@@ -44,9 +46,9 @@ use Rattle.bus_automaton.proofs.Counting.{first_below}
 use Rattle.bus_automaton.proofs.Leading.{takes_message, takes_mark, takes_turn, next, next_reached, takes_step}
 use Rattle.bus_automaton.proofs.ReachedMachines.{nobody_did}
 use Rattle.bus_automaton.proofs.Turns.{queue_is, messages_are, comes, ends}
-use Rattle.bus_automaton.specs.Lawful.{AutomatonLaws, IsSender, StepsIn, HasLog, IsPromisedOf, no_answers}
+use Rattle.bus_automaton.specs.Lawful.{AutomatonLaws, IsSender, StepsIn, HasLog, IsPromisedOf}
 use Rattle.bus_automaton.specs.OneAutomaton.{MachineHistory, IsMachineHistory, bus_of}
-use Rattle.bus_automaton.specs.OneProcess.{is_taken, rows_used, table_layout_by, process_of}
+use Rattle.bus_automaton.specs.OneProcess.{is_taken, table_layout_by, process_of}
 use Rattle.bus_automaton.specs.Processes.{TableLayout, IsCounted, log_below}
 
 -- ---- frames
@@ -96,7 +98,7 @@ silent_page actions heard order owners q = record {
 }
 
 -- a new sender uses as many rows again as its bus
-new_rows : (reuse : Option ℕ) → rows_used (new_reuse reuse) ≡ reuse
+new_rows : (reuse : Option ℕ) → rows_in (new_reuse reuse) ≡ reuse
 new_rows None = refl
 new_rows (Some rows) = refl
 

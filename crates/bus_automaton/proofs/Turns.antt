@@ -6,7 +6,7 @@ use Rattle.std.proofs.lemmas.Bool.{true≢false}
 use Rattle.bus_batch.specs.Batches.{Pending}
 use Rattle.bus_batch.specs.declared.batches.Phase.TheVariants.{Marking}
 use Rattle.bus_core.proofs.Situated.{own_is}
-use Rattle.bus_core.specs.Keeping.{queue_of, sender}
+use Rattle.bus_core.specs.Keeping.{queue_of, sender, page_out}
 use Rattle.bus_core.specs.Reusing.Turns.{answer_of_loss, answer_of_reclaim}
 use Rattle.bus_core.specs.Senders.{Sender, Situation, Does, Validates, Unpins, Scans, Clears, situation}
 use Rattle.bus_core.specs.Table.{line, line_now, rest_at, in_row, seen, answer_elected, reuse_elected, reuse_reclaiming, lost_of}
@@ -15,6 +15,7 @@ use Rattle.bus_machine.proofs.Clearing.{clearing}
 use Rattle.bus_machine.proofs.TurnLaws.{handed_by}
 use Rattle.bus_machine.proofs.Joining.{log_behind}
 use Rattle.bus_machine.specs.Machine.{moved}
+use Rattle.bus_machine.specs.Remembering.{rows_in}
 use Rattle.bus_ownerbits.specs.OneOwner.{OneOwner}
 use Rattle.bus_presence.specs.Reclaimers.{Reclaiming, reclaim_op, reclaim_fed, behind_of}
 use Rattle.bus_presence.specs.declared.pins.Pin.{Pin}
@@ -42,8 +43,8 @@ use Rattle.bus_world.specs.Turning.{core_with_page, before_step, after_step}
 use Rattle.bus_world.specs.Waiting.{waiting_at}
 use Rattle.bus_automaton.specs.LastAnswers.{is_refusal, is_last}
 use Rattle.bus_automaton.specs.Lawful.{ProcessLaws, IsOneStep}
-use Rattle.bus_automaton.specs.OneProcess.{is_holding, is_taken, table_layout_by, rows_used, adds_by, process_of}
-use Rattle.bus_automaton.specs.Processes.{EndsBy, page_given}
+use Rattle.bus_automaton.specs.OneProcess.{is_holding, is_taken, table_layout_by, adds_by, process_of}
+use Rattle.bus_automaton.specs.Processes.{EndsBy}
 
 -- ---- its batch
 -- whether it is on its way, as puts and closes find it
@@ -107,7 +108,7 @@ step_is_one (Some k) t found chose a = inr (record { tenure = t; kind = k; chose
 
 -- how many rows it uses again stays
 rows_stay : {E : Type 0} (X : Election E) (c : Core E) (r : Option Reuse) (z : Situation E) (got word : ℕ)
-    → rows_used ((line X (sender c r) z).fed got word).reuse ≡ rows_used r
+    → rows_in ((line X (sender c r) z).fed got word).reuse ≡ rows_in r
 rows_stay X c None (Does LooksAtStage) got word = refl
 rows_stay X c None (Does z) got word = refl
 rows_stay X c None z got word = refl
@@ -317,7 +318,7 @@ module _ {E : Type 0} (X : Election E) (v : Sender E) where
   line_handed z i = ap (line X v) i
 
   -- a page that goes home stood before it
-  gives_held : (z : Situation E) → situation X v ≡ z → (page : Page) → page_given (line X v z).move ≡ Some page
+  gives_held : (z : Situation E) → situation X v ≡ z → (page : Page) → page_out (line X v z).move ≡ Some page
       → is_holding v.core.phase ≡ true
   gives_held (Does (GivesBack t other reason)) i page is = ap is_holding (told (GivesBack t other reason) i).2
   gives_held (Does z) i page is = absurd cc
@@ -372,7 +373,7 @@ module _ {E : Type 0} (X : Election E) (v : Sender E) where
 pub process_laws : {E : Type 0} (X : Election E) (P : Protocol E (Unit {0}) ℕ) → Laws X.op X.fed P OneOwner
     → ((e : E) (word : ℕ) → is_some (X.kind_of e) ≡ is_some (X.op e word)) → ProcessLaws (process_of X)
 process_laws X P laws names = record {
-  some_words = λ v. let two = log_behind v.core.layout (rows_used v.reuse) in omega arith;
+  some_words = λ v. let two = log_behind v.core.layout (rows_in v.reuse) in omega arith;
   same_table_layout = λ v home got word.
       (λ n. table_layout_by ((kept X v (situation X v) home got word).0 n) (rows_stay X v.core v.reuse (situation X v) got word n));
   named = λ v word. named X v names (situation X v) word;

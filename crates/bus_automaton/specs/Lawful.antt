@@ -11,15 +11,16 @@ use Rattle.bus_batch.specs.declared.messages.Item.{Item}
 use Rattle.bus_batch.specs.declared.messages.Mark.{Mark}
 use Rattle.bus_batch.specs.Frames.{Frame, AreFrames, Order, Spells, log_words, order_of}
 use Rattle.bus_deliverylog.specs.Orders.{of_sender}
-use Rattle.bus_deliverylog.specs.declared.receiving.RecvTurn.{RecvTurn}
 use Rattle.bus_tenure.specs.Situations.{Comes}
 use Rattle.bus_tenure.specs.declared.pages.Page.{Page}
 use Rattle.bus_tenure.specs.declared.turns.Turn.{Turn}
+use Rattle.bus_core.specs.Keeping.{page_out}
 use Rattle.bus_world.specs.Headline.{Action, HasPut, HasMarked, Stepped, puts, Promises}
 use Rattle.bus_world.specs.Log.{Knows}
+use Rattle.bus_world.specs.Trails.{no_answers}
 use Rattle.bus_world.specs.Turning.{words_after, home_moved}
 use Rattle.bus_world.specs.World.{first_page}
-use Rattle.bus_automaton.specs.Processes.{Process, Automaton, IsCounted, base_in, actions_at, log_in, EndsBy, page_given}
+use Rattle.bus_automaton.specs.Processes.{Process, Automaton, IsCounted, base_in, actions_at, log_in, EndsBy}
 use Rattle.bus_automaton.specs.LastAnswers.{is_refusal, is_last}
 use Rattle.bus_automaton.specs.SenderTrails.{SenderTrail, new_sender_trail, with_actions, with_sender_trail}
 
@@ -66,7 +67,7 @@ pub record ProcessLaws {C : Type 0} (P : Process C) : Type 0 where
   pub handed_answer : (c : C) (got word : ℕ) → P.answer (P.handed c) got word ≡ P.answer c got word
   pub handed_fed : (c : C) (got word : ℕ) → P.fed (P.handed c) got word ≡ P.fed c got word
   -- .. and a page that it gives back is out with it
-  pub gives_held : (c : C) (page : Page) → page_given (P.move c) ≡ Some page → P.holds c ≡ true
+  pub gives_held : (c : C) (page : Page) → page_out (P.move c) ≡ Some page → P.holds c ≡ true
 
 -- ---- an automaton
 -- a sender of it
@@ -116,9 +117,6 @@ pub record HasLog {C : Type 0} (A : Automaton C) (z : A.State) : Type 0 where
   pub lawful : AreFrames A.table_layout.senders frames
   pub words_are : log_words frames ≡ log_in A z
   pub fits : slice_index (A.words z) 0 ≤ A.table_layout.capacity
-
-abbrev pub no_answers : ℕ → List RecvTurn
-no_answers r = []
 
 -- the headline's page holds of what its senders did, of receivers that were answered nothing
 pub record IsPromisedOf {C : Type 0} (A : Automaton C) (z : A.State) : Type 0 where

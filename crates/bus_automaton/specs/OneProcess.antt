@@ -14,6 +14,7 @@ use Rattle.bus_world.specs.Trails.{step_action}
 use Rattle.bus_world.specs.Turning.{before_step, after_step, laying}
 use Rattle.bus_world.specs.Waiting.{waiting_at}
 use Rattle.bus_machine.specs.Machine.{log_place, moved, put_in, mark_in}
+use Rattle.bus_machine.specs.Remembering.{rows_in}
 use Rattle.bus_automaton.specs.Processes.{TableLayout, Process}
 use Rattle.bus_automaton.specs.SenderTrails.{SenderTrail, sender_trail_of_actions}
 
@@ -25,11 +26,6 @@ table_layout_by x reuse = record {
   log = log_place x reuse;
   capacity = x.capacity;
 }
-
--- how many rows a sender uses again
-abbrev pub rows_used : Option Reuse → Option ℕ
-rows_used None = None
-rows_used (Some r) = Some r.rows
 
 -- ---- where it stands
 -- a page stands before it
@@ -72,7 +68,7 @@ adds_by (Clears s) l got word = adds_reclaim (l.op word) got
 abbrev pub process_of : {E : Type 0} → Election E → Process (Sender E)
 process_of X = record {
   me = λ v. v.core.me;
-  table_layout = λ v. table_layout_by v.core.layout (rows_used v.reuse);
+  table_layout = λ v. table_layout_by v.core.layout (rows_in v.reuse);
   queue = λ v. queue_of v.core.queue v.reuse;
   with_message = λ v bytes. put_in v bytes;
   with_mark = λ v mark. mark_in v mark;

@@ -65,12 +65,6 @@ pub record IsCounted {C : Type 0} (P : Process C) (c : C) : Type 0 where
   pub few : length (P.queue c).messages ≤ MOST_MESSAGES
 
 -- ---- a turn, part by part
--- the page that goes home with a turn
-abbrev pub page_given : PageMove → Option Page
-page_given Stays = None
-page_given (Comes t) = None
-page_given (Returns t reason page) = Some page
-
 -- The parts of a turn are the whole turn: c has taken its step, is s once it was told what that found, and s' is what it holds after the turn.
 abbrev pub EndsBy : {C : Type 0} → Process C → C → C → C → Option Page → PageMove → Type 0
 EndsBy P c s s' home Stays = (s' ≡ s) × (P.awaits s ≡ false) × (P.holds s' ≡ P.holds c)

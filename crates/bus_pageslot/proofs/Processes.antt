@@ -15,6 +15,7 @@ use Rattle.bus_core.specs.Table.{line_now}
 use Rattle.bus_core.specs.declared.reuses.Reuse.{Reuse}
 use Rattle.bus_core.specs.Reusing.Turns.{queue_seen}
 use Rattle.bus_machine.specs.Machine.{log_place, moved}
+use Rattle.bus_machine.specs.Remembering.{rows_in}
 use Rattle.bus_presence.specs.declared.pins.Pin.{Pin}
 use Rattle.bus_presence.specs.declared.pins.Pin.TheVariants.{Away, Announcing, Validating, Pinned, Unpinning, Invalidated}
 use Rattle.bus_register.specs.Protocol.{Protocol}
@@ -29,8 +30,8 @@ use Rattle.bus_tenure.specs.declared.phases.Phase.{Phase}
 use Rattle.bus_tenure.specs.declared.phases.Phase.TheVariants as phase
 use Rattle.bus_world.specs.Turning.{before_step, laying}
 use Rattle.bus_automaton.specs.Buses.{process_with}
-use Rattle.bus_automaton.specs.OneProcess.{rows_used, is_taken}
-use Rattle.bus_automaton.specs.Processes.{Process, page_given}
+use Rattle.bus_automaton.specs.OneProcess.{is_taken}
+use Rattle.bus_automaton.specs.Processes.{Process}
 use Rattle.bus_pageslot.specs.Steps.{out_with}
 
 -- ---- a batch that is on its way
@@ -50,19 +51,14 @@ queue_same f h q None = refl
 queue_same f h q (Some r) = seen_same f h q r.pin
 
 -- ---- the page
-page_same : (m : PageMove) → page_out m ≡ page_given m
-page_same Stays = refl
-page_same (Comes t) = refl
-page_same (Returns t reason page) = refl
-
 -- the page that goes out of its hands is out with its seat, and none where none goes
-pub given_out : (m : PageMove) (page : Page) (carried : List (ℕ × Option Page)) → page_given m ≡ Some page
+pub given_out : (m : PageMove) (page : Page) (carried : List (ℕ × Option Page)) → page_out m ≡ Some page
     → out_with m carried ≡ (0, Some page) ∷ rest carried
 given_out Stays page carried e = absurd (let bad : None ≡ Some page = e in cc)
 given_out (Comes t) page carried e = absurd (let bad : None ≡ Some page = e in cc)
 given_out (Returns t reason own) page carried e = ap (λ o. (0, o) ∷ rest carried) e
 
-pub nothing_out : (m : PageMove) (carried : List (ℕ × Option Page)) → page_given m ≡ None → out_with m carried ≡ carried
+pub nothing_out : (m : PageMove) (carried : List (ℕ × Option Page)) → page_out m ≡ None → out_with m carried ≡ carried
 nothing_out Stays carried e = refl
 nothing_out (Comes t) carried e = refl
 nothing_out (Returns t reason own) carried e = absurd (let bad : Some own ≡ None = e in cc)
@@ -100,7 +96,7 @@ module _ {E : Type 0} where
   laid_by v page new h w = h w.tenure w.is ∙ sym (ap (λ ph. moved (laying ph) (Some page) v) w.is)
 
 -- ---- the words
-start_same : (x : Layout) (r : Option Reuse) → log_start x r ≡ log_place x (rows_used r)
+start_same : (x : Layout) (r : Option Reuse) → log_start x r ≡ log_place x (rows_in r)
 start_same x None = refl
 start_same x (Some r) = refl
 
@@ -132,9 +128,9 @@ module _ {S : Type 0} (kind_of : S → Option Kind) (op : S → ℕ → Option O
   unfolding process_with
   words_are = ap (λ at. at + v.core.layout.capacity) (start_same v.core.layout v.reuse)
 
-  pub given_is : (page : Option Page) → page ≡ page_out (line_now X v).move → page ≡ page_given (P.move v)
+  pub given_is : (page : Option Page) → page ≡ page_out (line_now X v).move → page ≡ page_out (P.move v)
   unfolding process_with
-  given_is page is = is ∙ page_same (line_now X v).move
+  given_is page is = is
 
   pub handed_is : (new : Sender (Elector S)) → new ≡ record v { core = core_without (line_now X v).move v.core } → new ≡ P.handed v
   unfolding process_with
