@@ -100,48 +100,48 @@ stored_behind at value before behind = ap (λ b. cond b value before) (ne_eqb at
 
 -- ---- turns that answer Going and draw no word, one after another
 -- nobody asks behind one
-plain_asking : {C F : Type 0} (P : Process C) (T : Tellings C) (Tells : F → Bool → F → Type 0) (first : SenderSeat C) (given f : F) (old new : SenderSeat C)
-    → AsksOn P T Tells first given old f → TurnsPlainly P T old new → AsksOn P T Tells first given new f
+plain_asking : {C F : Type 0} {L : C → Type 0} (P : Process C) (T : Tellings C) (Tells : F → Bool → F → Type 0) (first : SenderSeat C) (given f : F) (old new : SenderSeat C)
+    → AsksOn P T Tells first given old f → TurnsPlainly P T L old new → AsksOn P T Tells first given new f
 plain_asking P T Tells first given f old new before one = Goes old f 0 Going new before one.turned refl refl
 
 -- nor behind more
-pub goes_asking : {C F : Type 0} (P : Process C) (T : Tellings C) (Tells : F → Bool → F → Type 0) (first : SenderSeat C) (given f : F) (old new : SenderSeat C)
-    → AsksOn P T Tells first given old f → GoesPlainly P T old new → AsksOn P T Tells first given new f
+pub goes_asking : {C F : Type 0} {L : C → Type 0} (P : Process C) (T : Tellings C) (Tells : F → Bool → F → Type 0) (first : SenderSeat C) (given f : F) (old new : SenderSeat C)
+    → AsksOn P T Tells first given old f → GoesPlainly P T L old new → AsksOn P T Tells first given new f
 goes_asking P T Tells first given f old _ before (First new one) = plain_asking P T Tells first given f old new before one
 goes_asking P T Tells first given f old _ before (Next mid new goes one) =
     plain_asking P T Tells first given f mid new (goes_asking P T Tells first given f old mid before goes) one
 
 -- one draws no word
-plain_drawing : {C : Type 0} (P : Process C) (T : Tellings C) (first : SenderSeat C) (given words : Stream) (old new : SenderSeat C)
-    → DrawsOn P T first given old words → TurnsPlainly P T old new → DrawsOn P T first given new words
+plain_drawing : {C : Type 0} {L : C → Type 0} (P : Process C) (T : Tellings C) (first : SenderSeat C) (given words : Stream) (old new : SenderSeat C)
+    → DrawsOn P T first given old words → TurnsPlainly P T L old new → DrawsOn P T first given new words
 plain_drawing P T first given words old new before one =
     drawn_on P T first given old words 0 Going new words (ap (λ b. word_drawn b words) (sym one.wordless)) before one.turned
 
 -- nor do more
-pub goes_drawing : {C : Type 0} (P : Process C) (T : Tellings C) (first : SenderSeat C) (given words : Stream) (old new : SenderSeat C)
-    → DrawsOn P T first given old words → GoesPlainly P T old new → DrawsOn P T first given new words
+pub goes_drawing : {C : Type 0} {L : C → Type 0} (P : Process C) (T : Tellings C) (first : SenderSeat C) (given words : Stream) (old new : SenderSeat C)
+    → DrawsOn P T first given old words → GoesPlainly P T L old new → DrawsOn P T first given new words
 goes_drawing P T first given words old _ before (First new one) = plain_drawing P T first given words old new before one
 goes_drawing P T first given words old _ before (Next mid new goes one) =
     plain_drawing P T first given words mid new (goes_drawing P T first given words old mid before goes) one
 
 -- none puts a message
-pub goes_putting : {C : Type 0} (P : Process C) (T : Tellings C) → ProcessLaws P → (old new : SenderSeat C) → GoesPlainly P T old new
+pub goes_putting : {C : Type 0} {L : C → Type 0} (P : Process C) (T : Tellings C) → ProcessLaws P → (old new : SenderSeat C) → GoesPlainly P T L old new
     → puts (actions_of P new) ≡ puts (actions_of P old)
 goes_putting P T K old _ (First new one) = turned_puts P T K old 0 Going new one.turned
 goes_putting P T K old _ (Next mid new goes one) = turned_puts P T K mid 0 Going new one.turned ∙ goes_putting P T K old mid goes
 
 -- none so far, or one or more
-abbrev pub Taken : {C : Type 0} → Process C → Tellings C → SenderSeat C → SenderSeat C → ℕ → Type 0
-Taken P T first new count = ((count ≡ 0) × (new ≡ first)) ⊎ GoesPlainly P T first new
+abbrev pub Taken : {C : Type 0} → Process C → Tellings C → (C → Type 0) → SenderSeat C → SenderSeat C → ℕ → Type 0
+Taken P T L first new count = ((count ≡ 0) × (new ≡ first)) ⊎ GoesPlainly P T L first new
 
 -- and then one more
-pub taken_next : {C : Type 0} (P : Process C) (T : Tellings C) (first old new : SenderSeat C) (count : ℕ) → Taken P T first old count
-    → TurnsPlainly P T old new → GoesPlainly P T first new
-taken_next P T first old new count (inl none) one = First new (subst (λ y. TurnsPlainly P T y new) none.1 one)
-taken_next P T first old new count (inr goes) one = Next old new goes one
+pub taken_next : {C : Type 0} (P : Process C) (T : Tellings C) (L : C → Type 0) (first old new : SenderSeat C) (count : ℕ) → Taken P T L first old count
+    → TurnsPlainly P T L old new → GoesPlainly P T L first new
+taken_next P T L first old new count (inl none) one = First new (subst (λ y. TurnsPlainly P T L y new) none.1 one)
+taken_next P T L first old new count (inr goes) one = Next old new goes one
 
 -- where some were to be taken, some were
-pub taken_some : {C : Type 0} (P : Process C) (T : Tellings C) (first new : SenderSeat C) (count : ℕ) → Taken P T first new count
-    → 0 < count → GoesPlainly P T first new
-taken_some P T first new count (inl none) some = let zero = none.0 in absurd (omega arith)
-taken_some P T first new count (inr goes) some = goes
+pub taken_some : {C : Type 0} (P : Process C) (T : Tellings C) (L : C → Type 0) (first new : SenderSeat C) (count : ℕ) → Taken P T L first new count
+    → 0 < count → GoesPlainly P T L first new
+taken_some P T L first new count (inl none) some = let zero = none.0 in absurd (omega arith)
+taken_some P T L first new count (inr goes) some = goes

@@ -1,5 +1,5 @@
 -- What a receiver's reader keeps beside its seat, and what each load makes of it.
-use Rattle.std.proofs.Common.{◌≡◌, ◌≢◌, ℕ, ◌+◌, ◌<◌, ◌≤◌, ◌^◌, cond, false, List, [], ◌∷◌, ◌++◌, length, take, drop, slice_get, slice_index, inl, inr, arith, refl, sym, ◌∙◌, ap, subst, append_assoc}
+use Rattle.std.proofs.Common.{◌≡◌, ◌≢◌, ℕ, ◌+◌, ◌-◌, ◌<◌, ◌≤◌, ◌^◌, cond, false, List, [], ◌∷◌, ◌++◌, length, take, drop, slice_get, slice_index, inl, inr, arith, refl, sym, ◌∙◌, ap, subst, append_assoc}
 use Rattle.std.specs.Prelude.{Option, Some, None}
 use Rattle.std.proofs.lemmas.Bool.{cases_eq, cases_lt}
 use Rattle.std.proofs.lemmas.Bool.Decides.{eqb_tells}
@@ -221,3 +221,10 @@ no_still_turn {C} x e answer going within h = elim (cases_lt e.place (length e.k
 -- nor is a receiver told a length without one
 pub no_still_telling : {C : Type 0} (x : TableLayout) (e : ReceiverView) (got : ℕ) → Learns {C = C} (Tap x e, []) got (Tap x e, []) → ⊥
 no_still_telling {C} x e got h = let more : e.loads ≡ e.loads + 1 = ap (λ (y : Sat C). (receiver_view_in y.0).loads) h.now in omega arith
+
+-- the word at its place is known where more than none is left to read
+pub unread : {C : Type 0} (m : Sat C) (words log : ℕ) (r : Receiving) (known left : ℕ) → IsReceiverView m words log r → known ≡ length (known_in m.0)
+    → left < known - r.place → (receiver_view_in m.0).place < length (known_in m.0)
+unread m words log r known left v known_is less =
+    subst (λ z. (receiver_view_in z.0).place < length (known_in z.0)) (sym v.me)
+    (let p = v.fit.place in let many : known ≡ length v.receiver_view.known = known_is ∙ ap (λ z. length (known_in z.0)) v.me in omega (arith, less))

@@ -86,10 +86,10 @@ abbrev pub WritesOrPlain : RecvTurn → Option Item → Option ItemTurn → Opti
 WritesOrPlain answer before None after = (answer ≡ turn.Going) × (after ≡ before)
 WritesOrPlain answer before (Some told) after = Writes answer before told after
 
--- turns that answered Going led from one seat to another
+-- turns that took words which say nothing by themselves led from one seat to another
 pub data GoesOnTo {C : Type 0} (first : Sat C) : Sat C → Type 0 where
   At : GoesOnTo first first
-  Onward : (old new : Sat C) → GoesOnTo first old → Hears old turn.Going new → GoesOnTo first new
+  Onward : (old new : Sat C) → GoesOnTo first old → (receiver_view_in old.0).place < length (known_in old.0) → Hears old turn.Going new → GoesOnTo first new
 
 -- Such turns, and a last one, of which an item is written in its place.
 pub record HearsAfter {C : Type 0} (first : Sat C) (before : Option Item) (told : ItemTurn) (after : Option Item) (new : Sat C) : Type 0 where

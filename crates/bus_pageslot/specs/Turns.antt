@@ -51,15 +51,16 @@ pub data TurnsOn {C : Type 0} (P : Process C) (T : Tellings C) (first : SenderSe
   Here : TurnsOn P T first first
   More : (old : SenderSeat C) (word : ℕ) (answer : Turn) (new : SenderSeat C) → TurnsOn P T first old → Turned P T old word answer new → is_last answer ≡ false → TurnsOn P T first new
 
--- a turn that answered Going, and asked for no random word
-pub record TurnsPlainly {C : Type 0} (P : Process C) (T : Tellings C) (old new : SenderSeat C) : Type 0 where
+-- a turn of a sender whose next step was plain: it answered Going, and asked for no random word
+pub record TurnsPlainly {C : Type 0} (P : Process C) (T : Tellings C) (Plain : C → Type 0) (old new : SenderSeat C) : Type 0 where
+  pub plain : Plain old.core
   pub wordless : P.wants_word old.core ≡ false
   pub turned : Turned P T old 0 turn.Going new
 
 -- such turns, one or more, led from one sender to another
-pub data GoesPlainly {C : Type 0} (P : Process C) (T : Tellings C) (first : SenderSeat C) : SenderSeat C → Type 0 where
-  First : (new : SenderSeat C) → TurnsPlainly P T first new → GoesPlainly P T first new
-  Next : (old new : SenderSeat C) → GoesPlainly P T first old → TurnsPlainly P T old new → GoesPlainly P T first new
+pub data GoesPlainly {C : Type 0} (P : Process C) (T : Tellings C) (Plain : C → Type 0) (first : SenderSeat C) : SenderSeat C → Type 0 where
+  First : (new : SenderSeat C) → TurnsPlainly P T Plain first new → GoesPlainly P T Plain first new
+  Next : (old new : SenderSeat C) → GoesPlainly P T Plain first old → TurnsPlainly P T Plain old new → GoesPlainly P T Plain first new
 
 -- turns up to a last one, which answered so
 pub record Sends {C : Type 0} (P : Process C) (T : Tellings C) (first : SenderSeat C) (answer : Turn) (new : SenderSeat C) : Type 0 where

@@ -18,7 +18,8 @@ use bus_deliverylog::{Reader, RecvTurn};
 /// What a turn of a receiver answers where an item is written in its place.
 #[derive(Clone, Copy, Debug, PartialEq, Eq)]
 pub enum ItemTurn {
-    /// A head, a leave mark, a longer length, or a word that is not taken.
+    /// A head, a leave mark, a longer length, a word that says nothing by itself, or one that is not
+    /// taken.
     Going,
     /// The length is the one that it knew, and its place is there.
     Empty,
@@ -95,8 +96,8 @@ fn take_word(reader: &mut Reader, word: u64, answer: &mut RecvTurn)
     }
 }
 
-/// The word at the reader's place is loaded. Says whether that says nothing by itself; else the
-/// answer is written.
+/// The word at the reader's place is loaded. On true it says nothing by itself, so that the answer
+/// is Going; else the answer is written.
 #[inline(always)]
 fn hear_word<Q: Ratifier + Drop>(
     words: &Words<Q>,
@@ -123,8 +124,8 @@ fn hear_word<Q: Ratifier + Drop>(
 }
 
 /// The turn of a receiver that has not ended. `log` is the place of the log's first word, and
-/// `known` is how many words of it the receiver knows. Says whether it took a word that says
-/// nothing by itself; else the answer is written.
+/// `known` is how many words of it the receiver knows. On true the answer is Going; else it is
+/// written.
 #[inline(always)]
 pub(crate) fn hear<Q: Ratifier + Drop>(
     words: &Words<Q>,
@@ -228,8 +229,8 @@ fn hear_length_in_place<Q: Ratifier + Drop>(
     tell(answer, item)
 }
 
-/// The word at the reader's place is loaded, and an item is written in place; none where it says
-/// nothing by itself.
+/// The word at the reader's place is loaded, and an item is written in place. Where none is told,
+/// the word says nothing by itself.
 #[inline(always)]
 fn hear_word_in_place<Q: Ratifier + Drop>(
     words: &Words<Q>,
@@ -257,8 +258,8 @@ fn hear_word_in_place<Q: Ratifier + Drop>(
     Some(take_in_place(reader, word, item))
 }
 
-/// The turn of a receiver that has not ended, as `hear`. An item is written in place; none where it
-/// took a word that says nothing by itself.
+/// The turn of a receiver that has not ended, as `hear`, with an item written in place. Where none
+/// is told, it took a word that says nothing by itself.
 #[inline(always)]
 fn turn_in_place<Q: Ratifier + Drop>(
     words: &Words<Q>,
@@ -290,8 +291,8 @@ fn turn_in_place<Q: Ratifier + Drop>(
     hear_word_in_place(words, seat, log, reader, item)
 }
 
-/// Turns of a receiver that has not ended, up to the first that takes no word which says nothing by
-/// itself. An item is written in place.
+/// Turns of a receiver that has not ended: some that take words which say nothing by themselves, and
+/// a last one. An item is written in place.
 #[inline(always)]
 pub(crate) fn hear_in_place<Q: Ratifier + Drop>(
     words: &Words<Q>,

@@ -319,6 +319,7 @@ impl<Q: Ratifier + Drop> Sender<Q> {
         requires { table_of self.old ≡ bus.now.table }
         ensures table { table_of self.new ≡ table_of self.old }
         ensures stays { result ≡ false → self.new ≡ self.old }
+        ensures plain { IsTrue result → IsPlain (election_of Q.Ratifier) self.old.core }
         ensures exact { IsPlain (election_of Q.Ratifier) self.old.core → IsTrue result }
         ensures due { let P = process_by Q.Ratifier in
             IsTrue result → IsSome (P.op self.old.core word) }
@@ -351,8 +352,8 @@ impl<Q: Ratifier + Drop> Sender<Q> {
         store_plain::<Q, Brand>(&bus.words, &mut self.seat, &mut self.core, at, value, word)
     }
 
-    /// Turns in a row whose steps are plain stores, up to the first step that is none, and at most
-    /// `MOST_PLAIN_TURNS`: says whether it took one.
+    /// Turns in a row whose steps are plain stores, one at least where that is due: says whether it
+    /// took one.
     #[inline(always)]
     fn plain_turns(&mut self, bus: &Bus<Q>) -> bool
         requires { table_of self.old ≡ bus.now.table }
@@ -360,7 +361,8 @@ impl<Q: Ratifier + Drop> Sender<Q> {
         ensures stays { result ≡ false → self.new ≡ self.old }
         ensures exact { IsPlain (election_of Q.Ratifier) self.old.core → IsTrue result }
         ensures goes { IsTrue result
-            → GoesPlainly (process_by Q.Ratifier) (tells_by Q.Ratifier) self.old self.new }
+            → GoesPlainly (process_by Q.Ratifier) (tells_by Q.Ratifier)
+            (IsPlain (election_of Q.Ratifier)) self.old self.new }
     {
         let (mut at, mut value) = (0, 0);
         if !self.core.plain(&mut at, &mut value) {

@@ -104,8 +104,8 @@ impl<Q: Ratifier + Drop> Tap<Q> {
         answer
     }
 
-    /// One turn, as `turn`. It says whether it took a word that says nothing by itself, so that the
-    /// answer is Going; else it writes the answer.
+    /// One turn, as `turn`. On true its answer is Going, and none is written; else the answer is
+    /// written.
     #[inline(always)]
     pub fn quick_turn(&mut self, bus: &Bus<Q>, answer: &mut RecvTurn) -> bool
         requires { self.old.table_id ≡ bus.now.table }
@@ -130,8 +130,9 @@ impl<Q: Ratifier + Drop> Tap<Q> {
         went
     }
 
-    /// One turn or more. All but the last take words that say nothing by themselves: what the last
-    /// one answers, with an item written in its place. Any other answer leaves that as it was.
+    /// One turn or more. All but the last take words that say nothing by themselves, and answer
+    /// Going. Of the last one it tells the answer, with an item written in its place; any other
+    /// answer leaves that as it was.
     #[inline(always)]
     pub fn item_turns(&mut self, bus: &Bus<Q>, item: &mut Option<Item>) -> ItemTurn
         requires { self.old.table_id ≡ bus.now.table }

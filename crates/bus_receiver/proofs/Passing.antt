@@ -24,7 +24,7 @@ passes_to Tells first given found new h is = record { old = h.old; before = goes
 pub asks_on_to : {C F : Type 0} (Tells : F → Bool → F → Type 0) (first : Sat C) (given : F) (old : Sat C) (f : F) (new : Sat C)
     → AsksOn Tells first given old f → GoesOnTo old new → AsksOn Tells first given new f
 asks_on_to Tells first given old f _ before At = before
-asks_on_to Tells first given old f _ before (Onward middle new going hears) =
+asks_on_to Tells first given old f _ before (Onward middle new going below hears) =
     Goes middle f turn.Going new (asks_on_to Tells first given old f middle before going) hears refl (λ empty. absurd (let no : turn.Going ≡ turn.Empty = empty in cc))
 
 pub only_empty : (answer : RecvTurn) (before after : Option Item) (told : ItemTurn) → Writes answer before told after → told ≡ item_turn.Empty → (answer ≡ turn.Empty) × (after ≡ before)

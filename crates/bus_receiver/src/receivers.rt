@@ -32,8 +32,8 @@ pub enum Next {
 }
 
 /// A receiver of a bus: it reads the log word by word, from where its tap has come to, which is the
-/// first one of a new tap. One thread at a time has it. No call of it takes memory, and none but
-/// `take`, `next_item` and `next_item_while` waits.
+/// first one of a new tap. One thread at a time has it. No call of it takes memory, and only those
+/// that are passed a `wait` wait.
 #[derive(Drop)]
 pub struct Receiver<Q: Ratifier = ThreeWord> {
     tap: Tap<Q>,

@@ -1,6 +1,7 @@
-use Rattle.std.proofs.Common.{◌≡◌, None, refl, subst, ◌∙◌}
+use Rattle.std.proofs.Common.{◌≡◌, ◌-◌, None, refl, subst, ◌∙◌}
 use Rattle.bus_deliverylog.specs.declared.receiving.RecvTurn.TheVariants as turn
 use Rattle.bus_pageslot.specs.Listening.{Hears, WritesOrPlain, At, Onward}
+use Rattle.bus_pageslot.proofs.ReaderLaws.{unread}
 use Rattle.bus_pageslot.proofs.listening.hear_in_place.Goals as goal
 
 pub loop-turn-init : goal.loop-turn-init
@@ -12,11 +13,13 @@ loop-turn-preserved g c =
     let taken = c.turn_in_place in
     let none : taken.result ≡ None = c.in_default.is in
     let h = taken.ensures.hears in
-    let plain : (h.0 ≡ turn.Going) × (taken.new.item ≡ before.item) = subst (λ t. WritesOrPlain h.0 before.item t taken.new.item) none h.1 in (
+    let plain : (h.0 ≡ turn.Going) × (taken.new.item ≡ before.item) = subst (λ t. WritesOrPlain h.0 before.item t taken.new.item) none h.1 in
+    let below = unread before.seat.me before.seat.table_id.words before.log before.reader before.known
+    (taken.new.known - taken.new.reader.place) before.invariant.1 before.invariant.3 (taken.ensures.plain none).0 in (
       taken.ensures.table ∙ before.invariant.0,
       taken.ensures.receiver_view,
       (taken.ensures.plain none).1,
       taken.ensures.known,
       plain.1 ∙ before.invariant.4,
-      Onward before.seat.me taken.new.seat.me before.invariant.5 (subst (λ a. Hears before.seat.me a taken.new.seat.me) plain.0 h.2),
+      Onward before.seat.me taken.new.seat.me before.invariant.5 below (subst (λ a. Hears before.seat.me a taken.new.seat.me) plain.0 h.2),
     )

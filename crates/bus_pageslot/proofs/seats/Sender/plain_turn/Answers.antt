@@ -23,6 +23,11 @@ returns-clause-wordless g c is =
     ap (λ s. P.wants_word s.core) (sym c.self.view_is)
     ∙ plain_draws_none g.Q.Machine.kind_of g.Q.Machine.op g.Q.Machine.fed g.Q.Ratifier.protocol c.self.inside.core (c.plain.ensures.stores c.if-not-plain.false).plain
 
+pub returns-clause-plain : goal.returns-clause-plain
+returns-clause-plain g c is =
+    let X = election_with g.Q.Machine.kind_of g.Q.Machine.op g.Q.Machine.fed g.Q.Ratifier.protocol in
+    subst (λ s. IsPlain X s.core) c.self.view_is (c.plain.ensures.stores c.if-not-plain.false).plain
+
 pub returns-then-not-plain-clause-exact : goal.returns-then-not-plain-clause-exact
 returns-then-not-plain-clause-exact g c plain =
     let X = election_with g.Q.Machine.kind_of g.Q.Machine.op g.Q.Machine.fed g.Q.Ratifier.protocol in
