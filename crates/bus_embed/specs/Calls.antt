@@ -18,6 +18,7 @@ use Rattle.bus_pageslot.specs.Listening.{Hears}
 use Rattle.bus_pageslot.specs.Rule.{Sat, receiver_view_in, known_in}
 use Rattle.bus_pageslot.specs.Seats.{SenderSeat, TookAndTold, table_of, first_number_of, actions_of, stored_of}
 use Rattle.bus_pageslot.specs.Sendings.{waiting_of, Carries, CarryRefused}
+use Rattle.bus_receiver.specs.HearingRuns.{item_in}
 use Rattle.bus_receiver.specs.Listening.{IsTold, HaveMet}
 use Rattle.bus_embed.specs.declared.codes.TheConstants as code
 use Rattle.bus_embed.specs.declared.answers.TurnAnswer.{TurnAnswer}
@@ -142,27 +143,19 @@ goes_on (heard.Item item) = true
 goes_on (heard.Leave sender) = true
 goes_on heard.End = false
 
--- the items of an answer: one or none
-abbrev pub items_in : RecvTurn → List Item
-items_in heard.Going = []
-items_in heard.Empty = []
-items_in (heard.Head tenure owner) = []
-items_in (heard.Item item) = item ∷ []
-items_in (heard.Leave sender) = []
-items_in heard.End = []
-
--- so many turns, each answered so that more may be there, gave these items and led from one seat to another
-pub data HearsOn (first : Sat Held) : ℕ → List Item → Sat Held → Type 0 where
-  Here : HearsOn first 0 [] first
+-- So many turns gave these items and led from one seat to another. Each was taken while there was room for an item behind those before,
+-- and answered so that more may be there.
+pub data HearsOn (first : Sat Held) (room : ℕ) : ℕ → List Item → Sat Held → Type 0 where
+  Here : HearsOn first room 0 [] first
   More : (n : ℕ) (items : List Item) (old : Sat Held) (answer : RecvTurn) (new : Sat Held)
-      → HearsOn first n items old → Hears old answer new → goes_on answer ≡ true → HearsOn first (n + 1) (items ++ items_in answer) new
+      → HearsOn first room n items old → length items < room → Hears old answer new → goes_on answer ≡ true → HearsOn first room (n + 1) (items ++ item_in answer) new
 
 -- At most so many such turns, and what ended them: there was no more room, or all turns were taken, which is answered Going; or one more
--- turn, which is one of so many too, was answered Empty or End.
+-- turn, which is one of so many too, and for which there was room, was answered Empty or End.
 pub data Hearing (first : Sat Held) (room turns : ℕ) : List Item → ℕ → Sat Held → Type 0 where
-  Fills : (n : ℕ) (items : List Item) (new : Sat Held) → HearsOn first n items new → n ≤ turns → (length items ≡ room) ⊎ (n ≡ turns) → Hearing first room turns items code.GOING new
+  Fills : (n : ℕ) (items : List Item) (new : Sat Held) → HearsOn first room n items new → n ≤ turns → (length items ≡ room) ⊎ (n ≡ turns) → Hearing first room turns items code.GOING new
   Stops : (n : ℕ) (items : List Item) (old : Sat Held) (answer : RecvTurn) (new : Sat Held)
-      → HearsOn first n items old → n < turns → Hears old answer new → goes_on answer ≡ false → Hearing first room turns items (heard_code answer) new
+      → HearsOn first room n items old → length items < room → n < turns → Hears old answer new → goes_on answer ≡ false → Hearing first room turns items (heard_code answer) new
 
 -- the same with the items written over the first places of a list
 pub record HearsInto (old : Sat Held) (before : List HeardItem) (turns many answer : ℕ) (after : List HeardItem) (new : Sat Held) : Type 0 where

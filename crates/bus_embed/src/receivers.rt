@@ -4,7 +4,8 @@ ghost use Rattle.std.specs.Prelude.{◌≡◌, ◌+◌, ◌<◌, ◌≤◌, true
 ghost use Rattle.bus_batch.specs.declared.messages.Item.{Item};
 ghost use Rattle.bus_pageslot.specs.Seats.{table_of};
 ghost use Rattle.bus_embed.specs.Answers.{item_told, order_number};
-ghost use Rattle.bus_embed.specs.Calls.{HeardOnce, HearsInto, ShowsReceiver, goes_on, items_in};
+ghost use Rattle.bus_embed.specs.Calls.{HeardOnce, HearsInto, ShowsReceiver, goes_on};
+ghost use Rattle.bus_receiver.specs.HearingRuns.{item_in};
 ghost use Rattle.bus_embed.specs.Calls.{TellAnswered, MeetAnswered};
 
 use crate::answers::{HeardAnswer, HeardItem, heard_told};
@@ -37,8 +38,8 @@ pub fn hear_once(receiver: &mut ReceiverHandle<ThreeWord>, answer: &mut HeardAns
 
 /// Turns, at most so many, which write items into `items` from its first place on, as long as
 /// there is room: how many items they were, and the code of what ended it. That is Empty, or End,
-/// and Going where `items` is full or all turns are taken. Leave marks are passed over, as heads:
-/// `hear_once` tells them.
+/// and Going where `items` is full or all turns are taken. No turn is taken where it is full. Leave
+/// marks are passed over, as heads: `hear_once` tells them.
 #[tactic(auto, using(crate::proofs::HearLaws::starts, crate::proofs::HearLaws::next, crate::proofs::HearLaws::stops, crate::proofs::HearLaws::full, crate::proofs::HearLaws::tired))]
 pub fn hear_items(
     receiver: &mut ReceiverHandle<ThreeWord>,
@@ -81,7 +82,7 @@ fn write_item(turn: RecvTurn, items: &mut [HeardItem], place: usize) -> usize
     requires { place < length items.old }
     ensures item { (item : Item) → turn ≡ RecvTurn.Item item → (result ≡ place + 1)
         × (items.new ≡ slice_set items.old place (item_told item)) }
-    ensures none { items_in turn ≡ [] → (result ≡ place) × (items.new ≡ items.old) }
+    ensures none { item_in turn ≡ [] → (result ≡ place) × (items.new ≡ items.old) }
     ensures len { (length items.new ≡ length items.old) × (result ≤ length items.old) }
 {
     match turn {

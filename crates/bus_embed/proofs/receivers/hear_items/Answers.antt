@@ -8,4 +8,6 @@ returns-then-many-items-clause-hears c = let left = c.loop-test.true in full c.l
 
 pub returns-then-not-may_go_on-clause-hears : goal.returns-then-not-may_go_on-clause-hears
 returns-then-not-may_go_on-clause-hears c =
-    let off : goes_on c.turn-turn.result ≡ false = search rules in let left = c.loop-test.true in stops c.turn-turn.result c.loop.invariant.3 (omega (arith, left)) c.turn-turn.ensures.hears off c.heard_told.ensures.code
+    let off : goes_on c.turn-turn.result ≡ false = search rules in let left = c.loop-test.true in
+    let other = c.if-many-items.false in let same = c.loop.invariant.1 in let most = c.loop.invariant.2 in
+    stops c.turn-turn.result c.loop.invariant.3 (omega (arith, other, same, most)) (omega (arith, left)) c.turn-turn.ensures.hears off c.heard_told.ensures.code
