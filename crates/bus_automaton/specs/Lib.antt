@@ -5,3 +5,4 @@ pub mod Lawful
 pub mod OneProcess
 pub mod OneAutomaton
 pub mod Buses
+pub mod ThreeWordBuses

@@ -9,7 +9,8 @@ use Rattle.bus_embed.specs.declared.buses.Sizes.{Sizes}
 use Rattle.bus_embed.specs.declared.buses.Left.{Left}
 use Rattle.bus_embed.specs.declared.codes.TheConstants.{OK}
 use Rattle.bus_embed.specs.Answers.{make_code}
-use Rattle.bus_embed.specs.Buses.{Held, process, automaton, pages, plan_of}
+use Rattle.bus_automaton.specs.ThreeWordBuses.{Held, process, automaton}
+use Rattle.bus_embed.specs.Buses.{pages, plan_of}
 use Rattle.bus_c.specs.declared.seats.SenderSeat.{SenderSeat as Sending}
 use Rattle.bus_c.specs.declared.seats.ReceiverSeat.{ReceiverSeat as Receiving}
 use Rattle.bus_c.specs.declared.sender.CSender.{CSender}

@@ -10,7 +10,7 @@ use Rattle.bus_receiver.specs.HearingRuns.{item_in}
 use Rattle.bus_embed.specs.declared.codes.TheConstants.{GOING}
 use Rattle.bus_embed.specs.declared.answers.HeardItem.{HeardItem}
 use Rattle.bus_embed.specs.Answers.{heard_code, item_told}
-use Rattle.bus_embed.specs.Buses.{Held}
+use Rattle.bus_automaton.specs.ThreeWordBuses.{Held}
 use Rattle.bus_embed.specs.Calls.{goes_on, HearsOn, Here, More, Fills, Stops, HearsInto}
 use Rattle.bus_embed.proofs.OverLaws.{one_more, put_next}
 

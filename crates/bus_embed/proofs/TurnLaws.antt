@@ -4,7 +4,7 @@ use Rattle.bus_tenure.specs.declared.turns.Turn.{Turn}
 use Rattle.bus_pageslot.specs.Seats.{SenderSeat}
 use Rattle.bus_embed.specs.declared.answers.TurnAnswer.{TurnAnswer}
 use Rattle.bus_embed.specs.Answers.{turn_code, turn_answer}
-use Rattle.bus_embed.specs.Buses.{Held, process}
+use Rattle.bus_automaton.specs.ThreeWordBuses.{Held, process}
 use Rattle.bus_embed.specs.Calls.{Turns, TurnsOn, Once, Again, TurnsAnswered, still_goes}
 
 pub once : {first new : SenderSeat Held} {word : ℕ} (answer : Turn) → Turns first word answer new → TurnsOn first word 0 answer new

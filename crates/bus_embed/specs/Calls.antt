@@ -27,7 +27,7 @@ use Rattle.bus_embed.specs.declared.answers.HeardAnswer.{HeardAnswer}
 use Rattle.bus_embed.specs.declared.senders.SenderShown.{SenderShown}
 use Rattle.bus_embed.specs.declared.receivers.ReceiverShown.{ReceiverShown}
 use Rattle.bus_embed.specs.Answers.{turn_code, heard_code, put_code, close_code, one_bus_code, order_number, written, turn_answer, heard_answer, item_told}
-use Rattle.bus_embed.specs.Buses.{Held, process, election}
+use Rattle.bus_automaton.specs.ThreeWordBuses.{Held, process, election}
 
 -- ---- a sender: what the calls of its handle promise, each in one
 -- a put of these bytes came to this number, or to this fault

@@ -11,7 +11,7 @@ use Rattle.bus_pageslot.specs.Endings.{IsLeft}
 use Rattle.bus_pageslot.specs.Outcomes.{Outcome}
 use Rattle.bus_embed.specs.declared.buses.Left.{Left}
 use Rattle.bus_embed.specs.Answers.{end_code, over}
-use Rattle.bus_embed.specs.Buses.{Held, process, automaton}
+use Rattle.bus_automaton.specs.ThreeWordBuses.{Held, process, automaton}
 
 -- Of the order that the log spells (it spells one alone) how many items each sender has, and whether it has left; its numbers before and
 -- behind it; and what the page says besides.

@@ -7,7 +7,8 @@ ghost use Rattle.bus_batch.specs.Frames.{Order, Spells};
 ghost use Rattle.bus_deliverylog.specs.Orders.{of_sender};
 ghost use Rattle.bus_handles.specs.Handles.{IsOpened};
 ghost use Rattle.bus_machine.specs.Playing.{IsServed, MakeRefused, IsFollowed, AfterRefused};
-ghost use Rattle.bus_embed.specs.Buses.{process, automaton, plan_of, page_of, shape_of};
+ghost use Rattle.bus_automaton.specs.ThreeWordBuses.{process, automaton};
+ghost use Rattle.bus_embed.specs.Buses.{plan_of, page_of, shape_of};
 ghost use Rattle.bus_embed.specs.Answers.{make_code};
 ghost use Rattle.bus_embed.specs.Ends.{EndAnswered, IsLeftBy};
 

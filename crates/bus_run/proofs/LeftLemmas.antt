@@ -13,7 +13,8 @@ use Rattle.bus_pageslot.specs.Rule.{Sat, receiver_view_in, known_in, with_receiv
 use Rattle.bus_pageslot.specs.Seats.{SenderSeat}
 use Rattle.bus_pageslot.specs.Steps.{Learns}
 use Rattle.bus_run.specs.Audit.{IsSpelled, OfOrder}
-use Rattle.bus_run.specs.Left.{Held, Shown, run_automaton, IsLeftBy, IsLeftBehind, HasLearnt, number_of, senders_of}
+use Rattle.bus_automaton.specs.ThreeWordBuses.{Held, automaton}
+use Rattle.bus_run.specs.Left.{Shown, IsLeftBy, IsLeftBehind, HasLearnt, number_of, senders_of}
 use Rattle.bus_run.specs.Stops.{LeavesNoPage, LeavesOrder, IsOpen}
 use Rattle.bus_run.specs.Told.{HasTold}
 use Rattle.bus_run.proofs.ToldLemmas.{told_of}
@@ -74,7 +75,7 @@ one_learnt m got m' h = record { known = h.known; now = ap (λ (z : Sat Held). z
 
 -- ---- what is left
 -- how many senders the bus of a plan has
-senders_planned : (shape : Shape) (reuse : Option ℕ) (bases : List ℕ) → (run_automaton (record { shape = shape; reuse = reuse; bases = bases })).table_layout.senders ≡ shape.senders
+senders_planned : (shape : Shape) (reuse : Option ℕ) (bases : List ℕ) → (automaton (record { shape = shape; reuse = reuse; bases = bases })).table_layout.senders ≡ shape.senders
 unfolding automaton_with
 senders_planned shape None bases = refl
 senders_planned shape (Some rows) bases = refl

@@ -17,7 +17,7 @@ use Rattle.bus_pageslot.specs.Outcomes.{Outcome}
 use Rattle.bus_pageslot.specs.Seats.{SenderSeat}
 use Rattle.bus_receiver.specs.Hearing.{Hearing}
 use Rattle.bus_run.specs.Audit.{IsFair, CountsAll, IsFirstFault}
-use Rattle.bus_run.specs.Left.{Held}
+use Rattle.bus_automaton.specs.ThreeWordBuses.{Held}
 use Rattle.bus_run.specs.Refused.{zeros, AuditRefuses, RunRefuses, SenderRefuses, TellingRefuses}
 use Rattle.bus_run.specs.Told.{HasTold}
 use Rattle.bus_run.specs.declared.audits.AuditFault.TheVariants.{NotEnded}

@@ -12,7 +12,8 @@ use Rattle.bus_world.specs.declared.shapes.Shape.{Shape}
 use Rattle.bus_world.proofs.PlayingLaws.{one_there}
 pub use Rattle.bus_world.proofs.PlayingLaws.{passed_up}
 use Rattle.bus_run.specs.Audit.{IsSpelled, IsFirstFault}
-use Rattle.bus_run.specs.Left.{Held, Shown}
+use Rattle.bus_automaton.specs.ThreeWordBuses.{Held}
+use Rattle.bus_run.specs.Left.{Shown}
 use Rattle.bus_run.specs.Stops.{AreInOrder, IsWhole, is_gate, has_gate, AreUnstopped, IsFirstStop, IsLate, IsTextFault, IsNamed, IsStop}
 use Rattle.bus_run.specs.declared.audits.AuditFault.{AuditFault}
 use Rattle.bus_run.specs.declared.audits.AuditFault.TheVariants.{Count, NotEnded, Left}

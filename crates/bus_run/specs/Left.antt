@@ -2,8 +2,6 @@
 use Rattle.std.specs.Prelude.{◌≡◌, ℕ, ◌+◌, List, All, Option, Some, None, length, slice_get}
 use Rattle.bus_adoptcommit.specs.ThreeWord.{Local, kind_at, op_of, fed_of}
 use Rattle.bus_adoptcommit.specs.ThreeWordKeeps.{three_word}
-use Rattle.bus_core.specs.Senders.{Sender}
-use Rattle.bus_tenure.specs.Elections.{Elector}
 use Rattle.bus_machine.specs.Playing.{IsServed, MakeRefused}
 use Rattle.bus_tenure.specs.declared.pages.Page.{Page}
 use Rattle.bus_world.specs.Headline.{IsPrefix}
@@ -12,8 +10,8 @@ use Rattle.bus_world.specs.declared.shapes.Shape.{Shape}
 use Rattle.bus_pageslot.specs.declared.rule.View.{View}
 use Rattle.bus_pageslot.specs.Endings.{IsLeft}
 use Rattle.bus_pageslot.specs.Outcomes.{Outcome}
-use Rattle.bus_automaton.specs.Buses.{process_with, automaton_with, cyclic_plan}
-use Rattle.bus_automaton.specs.Processes.{Process, Automaton}
+use Rattle.bus_automaton.specs.Buses.{cyclic_plan}
+use Rattle.bus_automaton.specs.ThreeWordBuses.{Held, process, automaton}
 use Rattle.bus_automaton.specs.declared.plans.Plan.{Plan}
 use Rattle.bus_pageslot.specs.Rule.{receiver_view_in, known_in, with_receiver_view}
 use Rattle.bus_pageslot.specs.Seats.{SenderSeat}
@@ -21,22 +19,10 @@ use Rattle.bus_pageslot.specs.Turns.{Tellings, tells_with}
 use Rattle.bus_batch.specs.Batches.{Pending}
 use Rattle.bus_run.specs.Told.{HasTold}
 
--- ---- which bus: this part alone says it, with the types of src/buses.rt
--- what a sender holds; its elections go by the ratifier of three words
-abbrev pub Held : Type 0
-Held = Sender (Elector Local)
-
--- a sender by itself
-abbrev pub run_process : Process Held
-run_process = process_with (λ s. kind_at s.progress) (λ s word. op_of s) (λ s got word. fed_of s got) three_word
-
+-- ---- which bus: its senders go by the ratifier of three words, as the types of src/buses.rt have it
 -- what the answers of its turns tell
 abbrev pub run_tells : Tellings Held
 run_tells = tells_with (λ s. kind_at s.progress) (λ s word. op_of s) (λ s got word. fed_of s got) three_word
-
--- the bus of a plan
-abbrev pub run_automaton : Plan → Automaton Held
-run_automaton plan = automaton_with (λ s. kind_at s.progress) (λ s word. op_of s) (λ s got word. fed_of s got) three_word plan
 
 -- what the bus of a run is made by: its shape, and its rows of words are used again
 abbrev pub run_plan : Shape → Plan
@@ -51,14 +37,14 @@ RunRefuses shape why = MakeRefused shape (Some shape.rows) why
 
 -- ---- a sender with its seat, and what a seat shows
 abbrev pub number_of : SenderSeat Held → ℕ
-number_of s = run_process.me s.core
+number_of s = process.me s.core
 
 abbrev pub batch_of : SenderSeat Held → Pending
-batch_of s = run_process.queue s.core
+batch_of s = process.queue s.core
 
 -- of how many senders it is one
 abbrev pub senders_of : SenderSeat Held → ℕ
-senders_of s = (run_process.table_layout s.core).senders
+senders_of s = (process.table_layout s.core).senders
 
 abbrev pub Shown : Type 0
 Shown = View Held
@@ -67,7 +53,7 @@ Shown = View Held
 
 -- a table of this plan of which the rule holds, and on which some seat shows this, was left with this log, and with this at home
 abbrev pub IsLeftBy : Plan → Shown → List ℕ → Option Page → Type 0
-IsLeftBy plan seen log home = IsLeft run_process (run_automaton plan) seen log home
+IsLeftBy plan seen log home = IsLeft process (automaton plan) seen log home
 
 -- its log and its page are those of a table of this plan of which the rule holds, and on which some seat shows this
 pub record IsLeftBehind (plan : Plan) (z : Outcome) : Type 0 where

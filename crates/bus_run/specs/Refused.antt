@@ -13,7 +13,8 @@ use Rattle.bus_pageslot.specs.Outcomes.{Outcome}
 use Rattle.bus_pageslot.specs.Seats.{SenderSeat, actions_of}
 use Rattle.bus_receiver.specs.Hearing.{Hearing}
 use Rattle.bus_run.specs.Audit.{OfOrder, IsFair, AllStay, IsFirstFault}
-use Rattle.bus_run.specs.Left.{Held, run_process, batch_of}
+use Rattle.bus_automaton.specs.ThreeWordBuses.{Held, process}
+use Rattle.bus_run.specs.Left.{batch_of}
 use Rattle.bus_run.specs.Reports.{IsRunReport}
 use Rattle.bus_run.specs.Sending.{Closes}
 use Rattle.bus_run.specs.Stops.{HasSent}
@@ -56,9 +57,9 @@ pub record RunRefuses (shape : Shape) (messages : ℕ) (left : Outcome) : Type 0
 -- A sender has not sent all that ..
 pub record SenderRefuses (s : SenderSeat Held) : Type 0 where
   -- .. put nothing, where messages were asked for, ..
-  pub nothing_put : (messages : ℕ) → 0 < messages → puts (actions_of run_process s) ≡ [] → ¬ HasSent messages s
+  pub nothing_put : (messages : ℕ) → 0 < messages → puts (actions_of process s) ≡ [] → ¬ HasSent messages s
   -- .. put a zero twice, ..
-  pub zeros_put : (messages : ℕ) → puts (actions_of run_process s) ≡ zeros ∷ zeros ∷ [] → ¬ HasSent messages s
+  pub zeros_put : (messages : ℕ) → puts (actions_of process s) ≡ zeros ∷ zeros ∷ [] → ¬ HasSent messages s
   -- .. or has a message that waits; nor does it close then
   pub one_waits : (messages : ℕ) → 0 < length (batch_of s).messages → ¬ HasSent messages s
   pub closes_before : (answer : Turn) (new : SenderSeat Held) → 0 < length (batch_of s).messages → ¬ Closes s answer new

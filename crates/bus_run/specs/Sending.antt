@@ -6,17 +6,18 @@ use Rattle.bus_tenure.specs.declared.turns.Turn.{Turn}
 use Rattle.bus_world.specs.Headline.{HasMarked}
 use Rattle.bus_pageslot.specs.Seats.{SenderSeat, actions_of}
 use Rattle.bus_pageslot.specs.Turns.{Sends}
-use Rattle.bus_run.specs.Left.{Held, run_process, run_tells, batch_of}
+use Rattle.bus_automaton.specs.ThreeWordBuses.{Held, process}
+use Rattle.bus_run.specs.Left.{run_tells, batch_of}
 
 -- its turns, up to the first last one, which answered so
 abbrev pub SendsOn : SenderSeat Held → Turn → SenderSeat Held → Type 0
-SendsOn first answer new = Sends run_process run_tells first answer new
+SendsOn first answer new = Sends process run_tells first answer new
 
 -- it let an end mark wait, where it could, with no step; and its turns then answered so
 pub record Closes (first : SenderSeat Held) (answer : Turn) (new : SenderSeat Held) : Type 0 where
   pub asked : SenderSeat Held
   pub could : CanClose (batch_of first)
-  pub core : asked.core ≡ run_process.with_mark first.core mark.End
+  pub core : asked.core ≡ process.with_mark first.core mark.End
   pub seat : asked.seat ≡ first.seat
-  pub actions : actions_of run_process asked ≡ actions_of run_process first ++ HasMarked mark.End ∷ []
+  pub actions : actions_of process asked ≡ actions_of process first ++ HasMarked mark.End ∷ []
   pub sends : SendsOn asked answer new

@@ -12,7 +12,8 @@ use Rattle.bus_automaton.specs.declared.plans.Plan.{Plan}
 use Rattle.bus_world.specs.declared.shapes.MakeFault.{MakeFault}
 use Rattle.bus_world.specs.declared.shapes.Shape.{Shape}
 use Rattle.bus_run.specs.Audit.{shape_of_run, OfOrder, IsSpelled, SendsEach, IsClosed, IsFirstFault}
-use Rattle.bus_run.specs.Left.{Held, run_process, run_plan, RunServes, RunRefuses, batch_of, Shown, IsLeftBy, IsLeftBehind, IsToldByAll}
+use Rattle.bus_automaton.specs.ThreeWordBuses.{Held, process}
+use Rattle.bus_run.specs.Left.{run_plan, RunServes, RunRefuses, batch_of, Shown, IsLeftBy, IsLeftBehind, IsToldByAll}
 use Rattle.bus_run.specs.Numbers.{numbers_below}
 use Rattle.bus_run.specs.declared.audits.AuditFault.{AuditFault}
 use Rattle.bus_run.specs.declared.audits.AuditFault.TheVariants.{Count, NotEnded, Left}
@@ -55,7 +56,7 @@ IsFirstStop noted send_workers other = ⊥
 -- ---- all the workers, of which no sender was stopped
 -- a sender has put just the numbers below this one, and none of them waits
 abbrev pub HasSent : ℕ → SenderSeat Held → Type 0
-HasSent messages s = (length (batch_of s).messages ≡ 0) × (puts (actions_of run_process s) ≡ numbers_below messages)
+HasSent messages s = (length (batch_of s).messages ≡ 0) × (puts (actions_of process s) ≡ numbers_below messages)
 
 -- the lowest that has not sent all
 abbrev pub IsFirstUnsent : {D : Type 0} → (D → Type 0) → List D → ℕ → Type 0

@@ -7,7 +7,7 @@ ghost use Rattle.bus_batch.specs.Frames.{Order, Spells};
 ghost use Rattle.bus_pageslot.specs.Outcomes.{Outcome};
 ghost use Rattle.bus_pageslot.specs.Seats.{SenderSeat};
 ghost use Rattle.bus_receiver.specs.Hearing.{Hearing};
-ghost use Rattle.bus_run.specs.Left.{Held};
+ghost use Rattle.bus_automaton.specs.ThreeWordBuses.{Held};
 ghost use Rattle.bus_run.specs.Refused.{AuditRefuses, RunRefuses, SenderRefuses, TellingRefuses};
 ghost use Rattle.bus_world.specs.declared.shapes.Shape.{Shape};
 

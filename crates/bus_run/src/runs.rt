@@ -2,7 +2,8 @@
 
 ghost use Rattle.std.specs.Prelude.{◌≡◌, ◌≤◌, [], All, IfOk, OnOk, IfErr};
 ghost use Rattle.bus_run.specs.Audit.{shape_of_run};
-ghost use Rattle.bus_run.specs.Left.{run_process, run_plan, RunServes};
+ghost use Rattle.bus_automaton.specs.ThreeWordBuses.{process};
+ghost use Rattle.bus_run.specs.Left.{run_plan, RunServes};
 ghost use Rattle.bus_run.specs.Reports.{IsRunReport};
 ghost use Rattle.bus_run.specs.Stops.{IsStop, IsRunFault};
 ghost use Rattle.bus_pageslot.specs.Seats.{table_of, actions_of};
@@ -67,7 +68,7 @@ fn run_on<B: OfBus + Send + Sync, R: Threads + Wait + Sync, G: Gate + Sync>(
 ) -> Result<Report, RunFault>
     requires bus { (made.0.table ≡ B.table) × (made.0.plan ≡ run_plan shape) }
     requires senders { All (λ sender. table_of sender ≡ B.table) made.1.items }
-    requires put { All (λ sender. puts (actions_of run_process sender) ≡ []) made.1.items }
+    requires put { All (λ sender. puts (actions_of process sender) ≡ []) made.1.items }
     requires taps { All (λ tap. tap.table_id ≡ B.table) made.2.items }
     requires served { RunServes shape }
     ensures report { IfOk result

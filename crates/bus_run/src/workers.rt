@@ -9,7 +9,8 @@ ghost use Rattle.bus_batch.specs.declared.batches.CloseFault.{CloseFault};
 ghost use Rattle.bus_batch.specs.declared.batches.PutFault.{PutFault};
 ghost use Rattle.bus_pageslot.specs.Seats.{table_of, actions_of};
 ghost use Rattle.bus_run.specs.Audit.{IsSummed};
-ghost use Rattle.bus_run.specs.Left.{run_process, number_of, batch_of};
+ghost use Rattle.bus_automaton.specs.ThreeWordBuses.{process};
+ghost use Rattle.bus_run.specs.Left.{number_of, batch_of};
 ghost use Rattle.bus_run.specs.Numbers.{numbers_below};
 ghost use Rattle.bus_run.specs.Sending.{SendsOn, Closes};
 ghost use Rattle.bus_run.specs.Stops.{HasSent};
@@ -56,7 +57,7 @@ pub struct SendWorker<B: OfBus> {
     put: u64,
     of: PhantomData<B>,
     ghost of_bus: { table_of sender ≡ B.table },
-    ghost has_put: { puts (actions_of run_process sender) ≡ numbers_below put },
+    ghost has_put: { puts (actions_of process sender) ≡ numbers_below put },
 }
 
 /// A receiver of the bus B with what was noted of its answers.
@@ -100,7 +101,7 @@ impl<B: OfBus> SendWorker<B> {
     /// The worker of a sender that has not begun.
     pub fn new(sender: Sender, seed: u64) -> SendWorker<B>
         requires table { table_of sender ≡ B.table }
-        requires put { puts (actions_of run_process sender) ≡ [] }
+        requires put { puts (actions_of process sender) ≡ [] }
         ensures sender { result.sender ≡ sender }
         ensures words { result.rng ≡ generator_of seed (number_of sender) }
         ensures fault { result.fault ≡ None }
@@ -190,7 +191,7 @@ pub fn send_workers_of<B: OfBus>(
     seed: u64,
 ) -> Result<Vec<SendWorker<B>>, AllocError>
     requires table { All (λ sender. table_of sender ≡ B.table) senders.items }
-    requires put { All (λ sender. puts (actions_of run_process sender) ≡ []) senders.items }
+    requires put { All (λ sender. puts (actions_of process sender) ≡ []) senders.items }
     ensures senders { IfOk result
         (λ send_workers. map (λ send_worker. send_worker.sender) send_workers.items
         ≡ senders.items) }
@@ -284,10 +285,10 @@ fn put_number(sender: &mut Sender, number: u64) -> bool
     ensures refused { result ≡ false → (MOST_MESSAGES_EACH ≤ next_of (batch_of sender.old))
         ⊎ ((why : PutFault) × IsPutFault (batch_of sender.old) 8 why) }
     ensures table { table_of sender.new ≡ table_of sender.old }
-    ensures put { result ≡ true → puts (actions_of run_process sender.new)
-        ≡ puts (actions_of run_process sender.old) ++ to_be_bytes w64 number ∷ [] }
+    ensures put { result ≡ true → puts (actions_of process sender.new)
+        ≡ puts (actions_of process sender.old) ++ to_be_bytes w64 number ∷ [] }
     ensures kept { result ≡ false
-        → puts (actions_of run_process sender.new) ≡ puts (actions_of run_process sender.old) }
+        → puts (actions_of process sender.new) ≡ puts (actions_of process sender.old) }
 {
     sender.next_number() < MOST_MESSAGES_EACH && sender.put(&number.to_be_bytes()).is_ok()
 }
