@@ -6,7 +6,8 @@ use Rattle.bus_automaton.specs.Processes.{Process}
 use Rattle.bus_pageslot.specs.Seats.{SenderSeat}
 use Rattle.bus_pageslot.specs.Turns.{Tellings, Sends}
 use Rattle.bus_handles.specs.Answers.{delivered_turn, not_delivered_turn}
-use Rattle.bus_handles.specs.Closings.{Closes, ClosesAndSends, NotEndedFor}
+use Rattle.bus_pageslot.specs.Sendings.{Closes, ClosesAndSends}
+use Rattle.bus_handles.specs.Closings.{NotEndedFor}
 use Rattle.bus_handles.specs.declared.answers.Delivered.{Delivered}
 use Rattle.bus_handles.specs.declared.answers.NotDelivered.{NotDelivered}
 use Rattle.bus_handles.specs.declared.answers.OrderNotEnded.{OrderNotEnded}

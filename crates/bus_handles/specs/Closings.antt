@@ -1,28 +1,14 @@
--- A close that is sent off at once.
-use Rattle.std.specs.Prelude.{◌≡◌, List, [], ◌∷◌, ◌++◌}
-use Rattle.bus_batch.specs.Batches.{CanClose, IsCloseFault}
-use Rattle.bus_batch.specs.declared.messages.Mark.TheVariants as mark
+-- Why an order has not ended by a close that was sent off at once.
+use Rattle.std.specs.Prelude.{◌≡◌}
+use Rattle.bus_batch.specs.Batches.{IsCloseFault}
 use Rattle.bus_tenure.specs.declared.turns.Turn.{Turn}
 use Rattle.bus_tenure.specs.declared.turns.Turn.TheVariants as turn
-use Rattle.bus_world.specs.Headline.{HasMarked}
 use Rattle.bus_automaton.specs.Processes.{Process}
-use Rattle.bus_pageslot.specs.Seats.{SenderSeat, actions_of}
-use Rattle.bus_pageslot.specs.Turns.{Tellings, Sends}
+use Rattle.bus_pageslot.specs.Seats.{SenderSeat}
+use Rattle.bus_pageslot.specs.Sendings.{ClosesAndSends}
+use Rattle.bus_pageslot.specs.Turns.{Tellings}
 use Rattle.bus_handles.specs.declared.answers.OrderNotEnded.{OrderNotEnded}
 use Rattle.bus_handles.specs.declared.answers.OrderNotEnded.TheVariants as why
-
--- a sender took a close, with no step
-pub record Closes {C : Type 0} (P : Process C) (old new : SenderSeat C) : Type 0 where
-  pub could : CanClose (P.queue old.core)
-  pub core : new.core ≡ P.with_mark old.core mark.End
-  pub seat : new.seat ≡ old.seat
-  pub action : actions_of P new ≡ actions_of P old ++ HasMarked mark.End ∷ []
-
--- it took a close, and then turns up to a last one, which answered so
-pub record ClosesAndSends {C : Type 0} (P : Process C) (T : Tellings C) (old : SenderSeat C) (answer : Turn) (new : SenderSeat C) : Type 0 where
-  pub closed : SenderSeat C
-  pub closes : Closes P old closed
-  pub sends : Sends P T closed answer new
 
 -- The close was refused for this cause, and the sender stayed as it was; or it was taken, and sending it was answered otherwise than
 -- that the order has ended.

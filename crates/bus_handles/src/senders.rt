@@ -22,7 +22,8 @@ ghost use Rattle.bus_pageslot.specs.Turns.{tells_by, Sends, SendsAsking, StopsWa
 ghost use Rattle.bus_pageslot.specs.Sendings.{waiting_of, HasSent, HasSentPart, KeptAfter};
 ghost use Rattle.bus_pageslot.specs.Sendings.{Carries, CarryRefused};
 ghost use Rattle.bus_handles.specs.Answers.{delivered_turn, not_delivered_turn};
-ghost use Rattle.bus_handles.specs.Closings.{ClosesAndSends, NotEndedFor};
+ghost use Rattle.bus_pageslot.specs.Sendings.{ClosesAndSends};
+ghost use Rattle.bus_handles.specs.Closings.{NotEndedFor};
 
 use crate::answers::{Delivered, NotDelivered, OrderNotEnded, answered, order_ended};
 use bus_adoptcommit::{Ratifier, ThreeWord};

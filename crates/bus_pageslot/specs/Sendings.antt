@@ -1,13 +1,14 @@
 -- Messages that a sender puts and sends, in batches.
 use Rattle.std.specs.Prelude.{◌≡◌, ℕ, ◌+◌, ◌<◌, ◌≤◌, ◌-◌, Bool, true, false, List, [], ◌∷◌, ◌++◌, length, take, slice_get, Option, Some, None, ◌⊎◌}
 use Rattle.bus_register.specs.declared.limits.TheConstants.{MOST_BYTES, MOST_MESSAGES}
-use Rattle.bus_batch.specs.Batches.{CanPut, IsPutFault, next_of}
+use Rattle.bus_batch.specs.Batches.{CanPut, IsPutFault, CanClose, next_of}
 use Rattle.bus_batch.specs.declared.batches.PutFault.{PutFault}
 use Rattle.bus_batch.specs.declared.batches.PutFault.TheVariants as put
+use Rattle.bus_batch.specs.declared.messages.Mark.TheVariants as mark
 use Rattle.bus_tenure.specs.Core.{is_closing}
 use Rattle.bus_tenure.specs.declared.turns.Turn.{Turn}
 use Rattle.bus_tenure.specs.declared.turns.Turn.TheVariants as turn
-use Rattle.bus_world.specs.Headline.{HasPut, puts}
+use Rattle.bus_world.specs.Headline.{HasPut, HasMarked, puts}
 use Rattle.bus_automaton.specs.Processes.{Process}
 use Rattle.bus_pageslot.specs.Seats.{SenderSeat, actions_of}
 use Rattle.bus_pageslot.specs.Steps.{puts_from}
@@ -136,3 +137,17 @@ CarryRefused P from old put.Closed = MayFit P from old × IsPutFault (P.queue ol
 CarryRefused P from old put.Busy = MayFit P from old × IsPutFault (P.queue old.core) 0 put.Busy
 CarryRefused P from old put.TooLong = ⊥
 CarryRefused P from old put.BatchFull = MOST_MESSAGES < length (waiting_of P old) + length (waiting_of P from)
+
+-- ---- a close that is sent off at once
+-- a sender took a close, with no step
+pub record Closes {C : Type 0} (P : Process C) (old new : SenderSeat C) : Type 0 where
+  pub could : CanClose (P.queue old.core)
+  pub core : new.core ≡ P.with_mark old.core mark.End
+  pub seat : new.seat ≡ old.seat
+  pub action : actions_of P new ≡ actions_of P old ++ HasMarked mark.End ∷ []
+
+-- it took a close, and then turns up to a last one, which answered so
+pub record ClosesAndSends {C : Type 0} (P : Process C) (T : Tellings C) (old : SenderSeat C) (answer : Turn) (new : SenderSeat C) : Type 0 where
+  pub closed : SenderSeat C
+  pub closes : Closes P old closed
+  pub sends : Sends P T closed answer new

@@ -62,7 +62,7 @@ sender_refuses s = record {
   nothing_put = λ messages some none sent. let same : 0 ≡ messages = ap length (sym none ∙ sent.1) ∙ length_numbers messages in omega arith;
   zeros_put = λ messages put sent. zero_not_one (at_place messages 1 zeros (ap (λ z. slice_get z 1) (sym sent.1 ∙ put)));
   one_waits = λ messages waits sent. let none = sent.0 in omega arith;
-  closes_before = λ answer new waits closes. let none = ap length closes.could.none in omega arith;
+  closes_before = λ answer new waits closes. let none = ap length closes.closes.could.none in omega arith;
 }
 
 -- ---- what is told

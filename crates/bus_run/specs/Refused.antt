@@ -16,7 +16,7 @@ use Rattle.bus_run.specs.Audit.{OfOrder, IsFair, AllStay, IsFirstFault}
 use Rattle.bus_automaton.specs.ThreeWordBuses.{Held, process}
 use Rattle.bus_run.specs.Left.{batch_of}
 use Rattle.bus_run.specs.Reports.{IsRunReport}
-use Rattle.bus_run.specs.Sending.{Closes}
+use Rattle.bus_run.specs.Sending.{ClosesOn}
 use Rattle.bus_run.specs.Stops.{HasSent}
 use Rattle.bus_run.specs.Told.{HasTold}
 use Rattle.bus_run.specs.declared.audits.AuditFault.TheVariants.{NotEnded}
@@ -62,7 +62,7 @@ pub record SenderRefuses (s : SenderSeat Held) : Type 0 where
   pub zeros_put : (messages : ℕ) → puts (actions_of process s) ≡ zeros ∷ zeros ∷ [] → ¬ HasSent messages s
   -- .. or has a message that waits; nor does it close then
   pub one_waits : (messages : ℕ) → 0 < length (batch_of s).messages → ¬ HasSent messages s
-  pub closes_before : (answer : Turn) (new : SenderSeat Held) → 0 < length (batch_of s).messages → ¬ Closes s answer new
+  pub closes_before : (answer : Turn) (new : SenderSeat Held) → 0 < length (batch_of s).messages → ¬ ClosesOn s answer new
 
 -- Nobody has told a message by a log of no words, or of which the bus has no such sender.
 pub record TellingRefuses (senders s many : ℕ) : Type 0 where

@@ -12,7 +12,7 @@ ghost use Rattle.bus_run.specs.Audit.{IsSummed};
 ghost use Rattle.bus_automaton.specs.ThreeWordBuses.{process};
 ghost use Rattle.bus_run.specs.Left.{number_of, batch_of};
 ghost use Rattle.bus_run.specs.Numbers.{numbers_below};
-ghost use Rattle.bus_run.specs.Sending.{SendsOn, Closes};
+ghost use Rattle.bus_run.specs.Sending.{SendsOn, ClosesOn};
 ghost use Rattle.bus_run.specs.Stops.{HasSent};
 ghost use Rattle.bus_run.specs.Words.{generator_of};
 ghost use Rattle.bus_world.specs.Headline.{puts};
@@ -135,12 +135,12 @@ impl<B: OfBus> SendWorker<B> {
     /// whether the bus is closed.
     pub fn close<W: Wait>(&mut self, wait: &W, the: &TheBus<B>) -> bool
         ensures fault { self.new.fault ≡ self.old.fault }
-        ensures closed { result ≡ true → Closes self.old.sender Turn.Closed self.new.sender }
+        ensures closed { result ≡ true → ClosesOn self.old.sender Turn.Closed self.new.sender }
         ensures open { result ≡ false
             → ((why : CloseFault) × IsCloseFault (batch_of self.old.sender) why
             × (self.new.sender ≡ self.old.sender))
             ⊎ ((answer : _) × (answer ≢ Turn.Closed)
-            × Closes self.old.sender answer self.new.sender) }
+            × ClosesOn self.old.sender answer self.new.sender) }
     {
         self.sender.close().is_ok() && self.send(wait, the) == Turn::Closed
     }
