@@ -14,7 +14,7 @@ loop-turn-preserved g c =
     let none : taken.result ≡ None = c.in_default.is in
     let h = taken.ensures.hears in
     let plain : (h.0 ≡ turn.Going) × (taken.new.item ≡ before.item) = subst (λ t. WritesOrPlain h.0 before.item t taken.new.item) none h.1 in
-    let below = unread before.seat.me before.seat.table_id.words before.log before.reader before.known
+    let below = unread before.seat.me before.seat.table_id.words c.args.log before.reader before.known
     (taken.new.known - taken.new.reader.place) before.invariant.1 before.invariant.3 (taken.ensures.plain none).0 in (
       taken.ensures.table ∙ before.invariant.0,
       taken.ensures.receiver_view,
