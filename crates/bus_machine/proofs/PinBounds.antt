@@ -874,7 +874,7 @@ new_kept w q (Some rows) first = record {
 }
 
 module _ {E : Type 0} (X : Election E) (P : Protocol E (Unit {0}) ℕ) where
-  pins_kept : (m : Machine E) (T : Trails) → Sits X P m → Reached X m T → AreKept m T
+  pub pins_kept : (m : Machine E) (T : Trails) → Sits X P m → Reached X m T → AreKept m T
   pins_kept m T s (Start w new) = record {
     bounded = record { most = λ q t. omega arith; first = λ q. tt };
     each = λ q v at. subst (λ (y : Sender E). Kept y.reuse y.core (stage_of w) []) (sym (new.senders q v at).1) (new_kept w q w.reuse (base_of w q));
