@@ -22,7 +22,8 @@ use Rattle.bus_world.specs.Proved.Answers.{TurnAnswers, PutGives, CloseGives, Re
 use Rattle.bus_world.specs.Proved.Trails.{New, Then, turning_actions, turn_actions, heard_of, trails_grown as plain_grown, Reached as PlainReached}
 use Rattle.bus_world.specs.Proved.Machines.{side_after, core_after, home_after, owners_after, Bus, SenderDoes, ReceiverDoes, StopDoes, can_close, is_open, new_core, going as plain_going, with_sender as plain_with, put_in as plain_put, mark_in as plain_mark}
 use Rattle.bus_world.specs.Turning.{words_after, number_found}
-use Rattle.bus_world.specs.World.{Event, Put, Ask, Turn, Recv, Stop, IsNewReceiver, is_set}
+use Rattle.bus_world.specs.Starting.{IsNewReceiver}
+use Rattle.bus_world.specs.World.{Event, Put, Ask, Turn, Recv, Stop, is_set}
 use Rattle.bus_world.specs.Trails.{actions_with}
 use Rattle.bus_world.specs.declared.events.Answer.{Answer}
 use Rattle.bus_world.specs.declared.events.Answer.TheVariants as answer
@@ -185,7 +186,7 @@ module _ {E : Type 0} (X : Election E) where
       senders = core_new;
       owners = refl;
       stopped = new.stopped;
-      receivers = λ r v at. subst (λ u. IsNewReceiver w.layout (log_place w.layout u) v) e (new.receivers r v at);
+      receivers = λ r v at. subst (λ u. IsNewReceiver w.layout.senders (log_place w.layout u) w.layout.capacity v) e (new.receivers r v at);
     };
   } where
     b : Bus E

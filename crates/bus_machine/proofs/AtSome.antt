@@ -33,7 +33,8 @@ use Rattle.bus_world.proofs.EventTrails.{put_taken, mark_adds}
 use Rattle.bus_world.proofs.PlacedSteps.{placed_found}
 use Rattle.bus_world.proofs.Serving.{Serves}
 use Rattle.bus_world.proofs.Stopping.{shown_there}
-use Rattle.bus_world.specs.World.{IsLayout, Event, Put, Ask, Turn, Recv, Stop, IsNewReceiver}
+use Rattle.bus_world.specs.Starting.{IsNewReceiver}
+use Rattle.bus_world.specs.World.{IsLayout, Event, Put, Ask, Turn, Recv, Stop}
 use Rattle.bus_world.specs.Headline.{HasPut, HasMarked}
 use Rattle.bus_world.specs.Trails.{step_action, put_actions, mark_actions, actions_with, answers_with}
 use Rattle.bus_world.specs.Turning.{words_after, number_found, home_moved, after_step}
@@ -288,7 +289,7 @@ module _ {E : Type 0} (X : Election E) (rows : ℕ) (m : Machine E) (new : IsNew
           ∙ ap (λ v. record { words = λ r. 0; pins = v; reclaimer = None }) (fun_ext (λ p. new_pin p (slice_get m.senders p) refl));
       home = new.home;
       senders = λ p c at. new_core_is p c (slice_get m.senders p) refl at;
-      receivers = λ r v at. subst (λ o. IsNewReceiver m.layout (log_place m.layout o) v) used (new.receivers r v at);
+      receivers = λ r v at. subst (λ o. IsNewReceiver m.layout.senders (log_place m.layout o) m.layout.capacity v) used (new.receivers r v at);
       owners = refl;
     };
   }
