@@ -87,10 +87,10 @@ pub fn stops_are_for_good<Q: Ratifier>()
 {}
 
 /// Of no machine the promise holds in which senders saw the election of one tenure end with two
-/// owners, or an owner did not take its page. Where rows are used again: in which an election runs
-/// of a sender that stored no presence, or elections of two tenures of one row, or takes a step
-/// past the row of its tenure; or a page is held and the row of the next tenure, which was used
-/// before, is not reclaimed.
+/// owners, or, with a row for each tenure, an owner that it tells did not take the page of that
+/// tenure. Where rows are used again: in which an election runs of a sender that has taken no step
+/// of a pin, or elections of two tenures of one row, or takes a step past the row of its tenure; or
+/// a page is held and the row of the next tenure, which was used before, is not reclaimed.
 pub fn promise_refuses<Q: Ratifier>()
     ensures { let X = election_of Q.Ratifier in
         (machine : Machine (Elector Q)) (trails : Trails) → PromiseRefuses X machine trails }
