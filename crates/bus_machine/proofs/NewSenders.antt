@@ -16,7 +16,7 @@ use Rattle.bus_world.specs.World.{no_stops, AreBases, first_page}
 use Rattle.bus_world.specs.declared.shapes.MakeFault.TheVariants as make
 use Rattle.bus_world.specs.declared.shapes.Shape.{Shape}
 use Rattle.bus_machine.specs.Machine.{Machine, IsNew, New, log_place, no_machine_trails}
-use Rattle.bus_machine.specs.Playing.{layout_of, log_with, machine_of, ShapeOf, IsServed, IsHeld, AreRows, MayFollow, MakeRefusedAfter}
+use Rattle.bus_machine.specs.Playing.{layout_of, machine_of, ShapeOf, IsServed, IsHeld, AreRows, MayFollow, MakeRefusedAfter}
 use Rattle.bus_machine.specs.Turning.{AreNewSenders}
 
 pub no_senders : {E : Type 0} (x : Layout) (reuse : Option ℕ) (bases : List ℕ) (senders : List (Sender E)) → senders ≡ [] → AreNewSenders x reuse bases 0 senders
@@ -29,8 +29,12 @@ one_more_sender x reuse bases many senders v h e = record {
       (let z = h.many_are in omega arith, e ∙ ap (λ p. new_sender x p reuse (slice_index bases p)) (sym h.many_are));
 }
 
+-- the sizes of a shape whose rows have so many words
+abbrev with_width : Shape → ℕ → Layout
+with_width shape width = record { senders = shape.senders; rounds = shape.rounds; rows = shape.rows; width = width; capacity = shape.log_words }
+
 -- where the log begins
-pub log_at_place : {S : Type 0} (P : Protocol S Bool Verdict) (shape : Shape) (reuse : Option ℕ) (w : ℕ) → w ≡ (layout_of P shape None).width → log_with shape reuse w ≡ log_place (layout_of P shape reuse) reuse
+pub log_at_place : {S : Type 0} (P : Protocol S Bool Verdict) (shape : Shape) (reuse : Option ℕ) (w : ℕ) → w ≡ (layout_of P shape None).width → log_place (with_width shape w) reuse ≡ log_place (layout_of P shape reuse) reuse
 log_at_place P shape None w e = ap (λ n. 2 + shape.rows * n) e
 log_at_place P shape (Some rows) w e = ap (λ n. 2 + shape.senders + rows * n) e
 
@@ -42,7 +46,7 @@ pub senders_are : {S : Type 0} (P : Protocol S Bool Verdict) (shape : Shape) (re
 senders_are P shape None = refl
 senders_are P shape (Some rows) = refl
 
-module _ {S : Type 0} (P : Protocol S Bool Verdict) (shape : Shape) (reuse : Option ℕ) (w log : ℕ) (width : w ≡ (layout_of P shape None).width) (at : log ≡ log_with shape reuse w) where
+module _ {S : Type 0} (P : Protocol S Bool Verdict) (shape : Shape) (reuse : Option ℕ) (w log : ℕ) (width : w ≡ (layout_of P shape None).width) (at : log ≡ log_place (with_width shape w) reuse) where
   log_is : log ≡ log_place (layout_of P shape reuse) reuse
   log_is = at ∙ log_at_place P shape reuse w width
 
