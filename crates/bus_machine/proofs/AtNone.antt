@@ -20,9 +20,11 @@ use Rattle.bus_world.proofs.EventTrails.{put_taken}
 use Rattle.bus_world.specs.Headline.{Action}
 use Rattle.bus_world.specs.Proved.Answers.{TurnAnswers, PutGives, CloseGives, RecvAnswers, StopGives}
 use Rattle.bus_world.specs.Proved.Trails.{New, Then, turning_actions, turn_actions, heard_of, trails_grown as plain_grown, Reached as PlainReached}
-use Rattle.bus_world.specs.Proved.Machines.{side_after, core_after, home_after, owners_after, Bus, SenderDoes, ReceiverDoes, StopDoes, can_close, is_open, new_core, going as plain_going, with_sender as plain_with, put_in as plain_put, mark_in as plain_mark}
-use Rattle.bus_world.specs.Turning.{words_after, number_found}
-use Rattle.bus_world.specs.World.{Event, Put, Ask, Turn, Recv, Stop, IsNewReceiver, is_set}
+use Rattle.bus_world.specs.Proved.Machines.{side_after, core_after, home_after, Bus, SenderDoes, ReceiverDoes, StopDoes, can_close, is_open, new_core, going as plain_going, with_sender as plain_with, put_in as plain_put, mark_in as plain_mark}
+use Rattle.bus_world.proofs.PlayingLaws.{owners_told as answer_tells}
+use Rattle.bus_world.specs.Turning.{owners_by, words_after, number_found}
+use Rattle.bus_world.specs.Starting.{IsNewReceiver}
+use Rattle.bus_world.specs.World.{Event, Put, Ask, Turn, Recv, Stop, is_set}
 use Rattle.bus_world.specs.Trails.{actions_with}
 use Rattle.bus_world.specs.declared.events.Answer.{Answer}
 use Rattle.bus_world.specs.declared.events.Answer.TheVariants as answer
@@ -69,8 +71,10 @@ module _ {E : Type 0} (X : Election E) (bases : List ℕ) (x : Layout) (b : Bus 
       let z = situation_of X c in
       let got = number_found (slice_index b.side.words) (op_at X c z word) in
       ap (λ l. machine_after (of_bus bases x b) s l word) (at_none X c)
-      ∙ ap (λ g. record (of_bus bases x b) { words = words_after b.side.words (op_at X c z word); home = home_after X c z b.side.home; senders = g; owners = owners_after X c z s b.side.owners })
+      ∙ ap (λ g. record (of_bus bases x b) { words = words_after b.side.words (op_at X c z word); home = home_after X c z b.side.home; senders = g; owners = owners_by (answer_at X c z got word) s b.side.owners })
       (sym (map-set with_a_row_each b.side.senders s (core_after X c z b.side.home got word)))
+      ∙ ap (λ o. record (of_bus bases x b) { words = words_after b.side.words (op_at X c z word); home = home_after X c z b.side.home; senders = map with_a_row_each (slice_set b.side.senders s (core_after X c z b.side.home got word)); owners = o })
+      (sym (answer_tells X c s b.side.owners z got word))
 
   answer_is : (c : Core E) (word : ℕ) → turn_answer (of_bus bases x b) (line_now X (with_a_row_each c)) word ≡ answer_at X c (situation_of X c) (number_found (slice_index b.side.words) (op_at X c (situation_of X c) word)) word
   answer_is c word = ap (λ l. turn_answer (of_bus bases x b) l word) (at_none X c)
@@ -185,7 +189,7 @@ module _ {E : Type 0} (X : Election E) where
       senders = core_new;
       owners = refl;
       stopped = new.stopped;
-      receivers = λ r v at. subst (λ u. IsNewReceiver w.layout (log_place w.layout u) v) e (new.receivers r v at);
+      receivers = λ r v at. subst (λ u. IsNewReceiver w.layout.senders (log_place w.layout u) w.layout.capacity v) e (new.receivers r v at);
     };
   } where
     b : Bus E

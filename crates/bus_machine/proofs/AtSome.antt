@@ -33,10 +33,11 @@ use Rattle.bus_world.proofs.EventTrails.{put_taken, mark_adds}
 use Rattle.bus_world.proofs.PlacedSteps.{placed_found}
 use Rattle.bus_world.proofs.Serving.{Serves}
 use Rattle.bus_world.proofs.Stopping.{shown_there}
-use Rattle.bus_world.specs.World.{IsLayout, Event, Put, Ask, Turn, Recv, Stop, IsNewReceiver}
+use Rattle.bus_world.specs.Starting.{IsNewReceiver}
+use Rattle.bus_world.specs.World.{IsLayout, Event, Put, Ask, Turn, Recv, Stop}
 use Rattle.bus_world.specs.Headline.{HasPut, HasMarked}
 use Rattle.bus_world.specs.Trails.{step_action, put_actions, mark_actions, actions_with, answers_with}
-use Rattle.bus_world.specs.Turning.{words_after, number_found, home_moved, after_step}
+use Rattle.bus_world.specs.Turning.{owners_by, words_after, number_found, home_moved, after_step}
 use Rattle.bus_world.specs.Proved.Machines.{new_core}
 use Rattle.bus_world.specs.Proved.CyclicProtocols.{CyclicProtocol, Led, NewProtocol, PutIn, MarkedIn, Heard, word_found, due_actions, trails_with}
 use Rattle.bus_world.specs.declared.events.Answer.{Answer}
@@ -138,15 +139,15 @@ module _ {E : Type 0} (X : Election E) (P : Protocol E (Unit {0}) ℕ) (rows : �
   abbrev got_by : Participant E → ℕ → ℕ
   got_by v word = number_found (slice_index m.words) (op_due X v (due X v) word)
 
-  abbrev told_after : Participant E → ℕ → List ℕ
-  told_after v s = owners_told m.reuse (cond (line_now X (with_rows_again v)).takes (m.owners ++ s ∷ []) m.owners)
+  abbrev told_after : Participant E → ℕ → ℕ → List ℕ
+  told_after v s word = owners_told m.reuse (owners_by (turn_answer m (line_now X (with_rows_again v)) word) s m.owners)
 
   abbrev turned_by : Participant E → ℕ → ℕ → Machine E
   turned_by v s word = record m {
     words = words_after m.words (op_due X v (due X v) word);
     home = home_moved (move_of X v.core (due X v)) m.home;
     senders = slice_set m.senders s (with_rows_again (participant_moved (after_step (move_of X v.core (due X v))) m.home (participant_due X v (due X v) (got_by v word) word)));
-    owners = told_after v s;
+    owners = told_after v s word;
   }
 
   turn_is : (v : Participant E) (s word : ℕ) → machine_after m s (line_now X (with_rows_again v)) word ≡ turned_by v s word
@@ -192,7 +193,7 @@ module _ {E : Type 0} (X : Election E) (P : Protocol E (Unit {0}) ℕ) (rows : �
       let g = grown_is X m rows l.reclaimer l.owners s word T t v part.layout o.same_rows in
       let low = subst (IsOnWord m) (i.op word) (subst (λ w. IsOnWord m ((line_now X w).op word)) o.is h.within) in
       let U = turn_trails (situation X (with_rows_again v)) (line_now X (with_rows_again v)) s (found m (line_now X (with_rows_again v)) word) word t T in
-      let led : IsLed X rows (turned_by v s word) U = turn_led X P rows m T q ok two l s v o.at o.same_rows word t (told_after v s) U low refl g.pins g.actions g.heard in
+      let led : IsLed X rows (turned_by v s word) U = turn_led X P rows m T q ok two l s v o.at o.same_rows word t (told_after v s word) U low refl g.pins g.actions g.heard in
       let is : m' ≡ turned_by v s word = h.after ∙ ap (λ w. machine_after m s (line_now X w) word) o.is ∙ turn_is v s word in
       let grown : trails_grown X m (Turn s word) a T ≡ U = ap (λ w. trails_grown X m (Turn s word) w T) told ∙ ap (λ w. turn_grown X m s w word (answer.Turn t) T) (h.goes ∙ ap Some o.is) in
       subst (λ n. IsLed X rows n (trails_grown X m (Turn s word) a T)) (sym is) (subst (IsLed X rows (turned_by v s word)) (sym grown) led)
@@ -288,7 +289,7 @@ module _ {E : Type 0} (X : Election E) (rows : ℕ) (m : Machine E) (new : IsNew
           ∙ ap (λ v. record { words = λ r. 0; pins = v; reclaimer = None }) (fun_ext (λ p. new_pin p (slice_get m.senders p) refl));
       home = new.home;
       senders = λ p c at. new_core_is p c (slice_get m.senders p) refl at;
-      receivers = λ r v at. subst (λ o. IsNewReceiver m.layout (log_place m.layout o) v) used (new.receivers r v at);
+      receivers = λ r v at. subst (λ o. IsNewReceiver m.layout.senders (log_place m.layout o) m.layout.capacity v) used (new.receivers r v at);
       owners = refl;
     };
   }

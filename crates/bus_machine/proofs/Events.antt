@@ -1,8 +1,8 @@
 -- What the calls of a program say of each event, by what it holds.
-use Rattle.std.proofs.Common.{◌≡◌, ℕ, ◌<◌, ◌≤◌, Bool, true, false, cond, Option, Some, None, List, [], ◌∷◌, ◌++◌, get_or, length, slice_get, slice_index, slice_set, refl, sym, ◌∙◌, ap, subst}
+use Rattle.std.proofs.Common.{◌≡◌, ℕ, ◌<◌, ◌≤◌, Bool, true, false, cond, Option, Some, None, List, get_or, length, slice_get, slice_index, slice_set, refl, sym, ◌∙◌, ap, subst}
 use Rattle.std.specs.Prelude.{All, IfSome, Result, Ok, Err, IfOk, IfErr, OnOk, OnErr}
 use Rattle.std.proofs.lemmas.Option.{slice_get_past}
-use Rattle.bus_core.specs.Senders.{Sender, situation}
+use Rattle.bus_core.specs.Senders.{Sender}
 use Rattle.bus_core.specs.Table.{Line, line_now}
 use Rattle.bus_deliverylog.specs.Receiving.{Receiving}
 use Rattle.bus_deliverylog.specs.declared.receiving.RecvTurn.{RecvTurn}
@@ -25,8 +25,7 @@ use Rattle.bus_world.specs.declared.events.Answer.TheVariants as answer
 use Rattle.bus_world.specs.declared.events.StepFault.{StepFault}
 use Rattle.bus_world.specs.declared.events.StepFault.TheVariants as fault
 use Rattle.bus_machine.proofs.Holding.{held_after}
-use Rattle.bus_machine.proofs.Takes.{takes_told}
-use Rattle.bus_machine.specs.Machine.{Machine, Happens, IsOnWord, going, has_stopped, with_sender, moved, found, machine_after, owners_told}
+use Rattle.bus_machine.specs.Machine.{Machine, Happens, IsOnWord, going, has_stopped, with_sender, moved, found, machine_after, owners_told, turn_answer}
 use Rattle.bus_machine.specs.Playing.{IsHeld, Refused, Refuses, SenderRefused, PutRefused, CloseRefused}
 use Rattle.bus_machine.specs.Telling.{StepTells, SenderSays, Says, SenderCauses, Causes}
 use Rattle.bus_machine.specs.Turning.{HasTaken, HasShut, HasTurned}
@@ -180,8 +179,8 @@ module _ {E : Type 0} (X : Election E) (m : Machine E) (h : IsHeld X m) (now : M
       within None k = tt
       within (Some o) k = k
 
-      owners_are : owners' ≡ owners_told m.reuse (cond l.takes (m.owners ++ p ∷ []) m.owners)
-      owners_are = owners ∙ ap (λ a. owners_told m.reuse (owners_by a p m.owners)) turned.answer_is ∙ ap (owners_told m.reuse) (sym (takes_told X v (situation X v) p m.owners (found m l word) word))
+      owners_are : owners' ≡ owners_told m.reuse (owners_by (turn_answer m l word) p m.owners)
+      owners_are = owners ∙ ap (λ a. owners_told m.reuse (owners_by a p m.owners)) turned.answer_is
 
       turn_is : with_turn ≡ machine_after m p l word
       turn_is =

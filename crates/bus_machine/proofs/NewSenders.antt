@@ -11,12 +11,12 @@ use Rattle.bus_register.proofs.PushLaws.{each_more}
 use Rattle.bus_register.specs.Protocol.{Protocol}
 use Rattle.bus_tenure.specs.Core.{Election, Layout}
 use Rattle.bus_tenure.specs.declared.pages.Page.{Page}
-use Rattle.bus_world.specs.Starting.{AreNewReaders}
+use Rattle.bus_world.specs.Starting.{AreNewReceivers}
 use Rattle.bus_world.specs.World.{no_stops, AreBases, first_page}
 use Rattle.bus_world.specs.declared.shapes.MakeFault.TheVariants as make
 use Rattle.bus_world.specs.declared.shapes.Shape.{Shape}
 use Rattle.bus_machine.specs.Machine.{Machine, IsNew, New, log_place, no_machine_trails}
-use Rattle.bus_machine.specs.Playing.{layout_of, log_with, machine_of, ShapeOf, IsServed, IsHeld, AreRows, MayFollow, MakeRefusedAfter}
+use Rattle.bus_machine.specs.Playing.{layout_of, machine_of, ShapeOf, IsServed, IsHeld, AreRows, MayFollow, MakeRefusedAfter}
 use Rattle.bus_machine.specs.Turning.{AreNewSenders}
 
 pub no_senders : {E : Type 0} (x : Layout) (reuse : Option ℕ) (bases : List ℕ) (senders : List (Sender E)) → senders ≡ [] → AreNewSenders x reuse bases 0 senders
@@ -29,8 +29,12 @@ one_more_sender x reuse bases many senders v h e = record {
       (let z = h.many_are in omega arith, e ∙ ap (λ p. new_sender x p reuse (slice_index bases p)) (sym h.many_are));
 }
 
+-- the sizes of a shape whose rows have so many words
+abbrev with_width : Shape → ℕ → Layout
+with_width shape width = record { senders = shape.senders; rounds = shape.rounds; rows = shape.rows; width = width; capacity = shape.log_words }
+
 -- where the log begins
-pub log_at_place : {S : Type 0} (P : Protocol S Bool Verdict) (shape : Shape) (reuse : Option ℕ) (w : ℕ) → w ≡ (layout_of P shape None).width → log_with shape reuse w ≡ log_place (layout_of P shape reuse) reuse
+pub log_at_place : {S : Type 0} (P : Protocol S Bool Verdict) (shape : Shape) (reuse : Option ℕ) (w : ℕ) → w ≡ (layout_of P shape None).width → log_place (with_width shape w) reuse ≡ log_place (layout_of P shape reuse) reuse
 log_at_place P shape None w e = ap (λ n. 2 + shape.rows * n) e
 log_at_place P shape (Some rows) w e = ap (λ n. 2 + shape.senders + rows * n) e
 
@@ -42,19 +46,19 @@ pub senders_are : {S : Type 0} (P : Protocol S Bool Verdict) (shape : Shape) (re
 senders_are P shape None = refl
 senders_are P shape (Some rows) = refl
 
-module _ {S : Type 0} (P : Protocol S Bool Verdict) (shape : Shape) (reuse : Option ℕ) (w log : ℕ) (width : w ≡ (layout_of P shape None).width) (at : log ≡ log_with shape reuse w) where
+module _ {S : Type 0} (P : Protocol S Bool Verdict) (shape : Shape) (reuse : Option ℕ) (w log : ℕ) (width : w ≡ (layout_of P shape None).width) (at : log ≡ log_place (with_width shape w) reuse) where
   log_is : log ≡ log_place (layout_of P shape reuse) reuse
   log_is = at ∙ log_at_place P shape reuse w width
 
   pub made_new : {E : Type 0} (bases : List ℕ) → AreBases bases → (home : Option Page) → home ≡ Some (first_page bases) → (words : List ℕ) → words ≡ replicate (log + shape.log_words) 0 → (senders : List (Sender E)) → AreNewSenders (layout_of P shape reuse) reuse bases shape.senders senders
-      → (many : ℕ) (receivers : List Receiving) → AreNewReaders shape.senders log shape.log_words many receivers → (stopped : List Bool) → stopped ≡ no_stops → (owners : List ℕ) → owners ≡ []
+      → (many : ℕ) (receivers : List Receiving) → AreNewReceivers shape.senders log shape.log_words many receivers → (stopped : List Bool) → stopped ≡ no_stops → (owners : List ℕ) → owners ≡ []
       → IsNew (machine_of P shape reuse bases words home senders receivers stopped owners)
   made_new bases are home home_is words words_are senders new many receivers readers stopped nobody owners none = record {
     bases_are = are;
     words = words_are ∙ ap (λ n. replicate (n + shape.log_words) 0) log_is ∙ ap (λ n. replicate (log_place (layout_of P shape reuse) reuse + n) 0) (sym (capacity_of P shape reuse));
     home = home_is;
     senders = λ p v e. let k = new.each p v e in (let a = senders_are P shape reuse in let b = k.0 in omega arith, k.1);
-    receivers = λ r v e. let i = readers.each r v e in (i.senders_are ∙ sym (senders_are P shape reuse), i.log_is ∙ log_is, i.length_is, i.words_are ∙ sym (capacity_of P shape reuse), i.known, i.place, i.going, subst (λ n. HasRead n [] [] v.frames) (sym (senders_are P shape reuse)) i.read);
+    receivers = λ r v e. let i = readers.each r v e in record { senders_are = i.senders_are ∙ sym (senders_are P shape reuse); log_is = i.log_is ∙ log_is; length_is = i.length_is; words_are = i.words_are ∙ sym (capacity_of P shape reuse); known = i.known; place = i.place; going = i.going; read = subst (λ n. HasRead n [] [] v.frames) (sym (senders_are P shape reuse)) i.read };
     stopped = nobody;
     owners = none;
   }

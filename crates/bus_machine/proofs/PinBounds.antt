@@ -33,12 +33,17 @@ use Rattle.bus_world.specs.declared.events.Answer.TheVariants as answer
 use Rattle.bus_machine.proofs.Bounding.{Counts, counted, may_enter, announces_of, validates_of, entered_beside}
 use Rattle.bus_machine.proofs.Growing.{rises}
 use Rattle.bus_machine.proofs.Leading.{Sits, sits_before}
-use Rattle.bus_machine.specs.Bounding.{named_by, named_from, is_tenure, pins_from, steps_of_pin, IsNamedFirst, PinsAreBounded}
+use Rattle.bus_machine.specs.Bounding.{named_by, is_tenure, pins_from, steps_of_pin, IsNamedFirst, PinsAreBounded}
 use Rattle.bus_machine.specs.Machine.{base_of, Machine, Trails, Reached, New as Start, Then as Next, Happens, TakesTurn, trails_grown, turn_trails, turn_grown, turn_answer, entered, found, has_stopped, moved, put_in, mark_in, stage_of}
 use Rattle.bus_machine.specs.Promise.{pin_of}
 use Rattle.bus_world.proofs.Stopping.{shown_there}
 
 -- ---- lists of steps
+-- the tenure that is named after these steps, one after another
+abbrev named_from : Option ℕ → List Entry → Option ℕ
+named_from now [] = now
+named_from now (e ∷ entries) = named_from (named_by e.op now) entries
+
 -- what is named after one more
 named_more : (now : Option ℕ) (es : List Entry) (e : Entry) → named_from now (es ++ e ∷ []) ≡ named_by e.op (named_from now es)
 named_more now [] e = refl
@@ -874,7 +879,7 @@ new_kept w q (Some rows) first = record {
 }
 
 module _ {E : Type 0} (X : Election E) (P : Protocol E (Unit {0}) ℕ) where
-  pins_kept : (m : Machine E) (T : Trails) → Sits X P m → Reached X m T → AreKept m T
+  pub pins_kept : (m : Machine E) (T : Trails) → Sits X P m → Reached X m T → AreKept m T
   pins_kept m T s (Start w new) = record {
     bounded = record { most = λ q t. omega arith; first = λ q. tt };
     each = λ q v at. subst (λ (y : Sender E). Kept y.reuse y.core (stage_of w) []) (sym (new.senders q v at).1) (new_kept w q w.reuse (base_of w q));

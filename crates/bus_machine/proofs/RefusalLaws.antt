@@ -1,5 +1,5 @@
 -- Answers, memories and machines that the definitions refuse.
-use Rattle.std.proofs.Common.{◌+◌, ◌≡◌, ◌⊎◌, inl, inr, ℕ, ◌≤◌, Bool, true, false, cond, Option, Some, None, List, [], ◌∷◌, ◌++◌, drop, length, map, slice_get, slice_index, arith, refl, sym, ◌∙◌, ap, subst}
+use Rattle.std.proofs.Common.{◌+◌, ◌≡◌, ◌⊎◌, inl, inr, ℕ, ◌≤◌, Bool, true, false, cond, Option, Some, None, IsSome, List, [], ◌∷◌, ◌++◌, drop, length, map, slice_get, slice_index, arith, refl, sym, ◌∙◌, ap, subst}
 use Rattle.std.proofs.lemmas.Bool.{true≢false}
 use Rattle.std.proofs.lemmas.Option.{same_Some, slice_get_within}
 use Rattle.std.proofs.lemmas.List.{append-nil, length-append}
@@ -20,7 +20,6 @@ use Rattle.bus_tenure.specs.Core.{Election, is_leaving}
 use Rattle.bus_tenure.specs.declared.pages.Page.{Page}
 use Rattle.bus_tenure.specs.declared.phases.Phase.{Phase}
 use Rattle.bus_tenure.specs.declared.phases.Phase.TheVariants as phase
-use Rattle.bus_tenure.specs.Seen.{tenure_of}
 use Rattle.bus_tenure.specs.declared.turns.Turn.TheVariants as turn
 use Rattle.bus_world.specs.Headline.{Action, Stepped, Elected, puts}
 use Rattle.bus_world.specs.Log.{AreCounted}
@@ -37,7 +36,7 @@ use Rattle.bus_machine.specs.Machine.{base_of, Machine, Trails, TakesMark, has_s
 use Rattle.bus_machine.specs.Promise.{IsPagedBy, ReusesSafely, words_of_frame}
 use Rattle.bus_machine.specs.Refusals.{LossesRefuse, AnswersRefuse, SaysMore, NumbersRefuse, BoundsRefuse, FollowsRefuse, PagesRefuse, MemoriesRefuse, WordsRefuse, MarksRefuse}
 use Rattle.bus_machine.specs.Remembering.{HasEnded, HasLeftIt, rows_in}
-use Rattle.bus_machine.specs.Telling.{ClosedTells, IsReused}
+use Rattle.bus_machine.specs.Telling.{ClosedTells}
 use Rattle.bus_world.proofs.Framing.{not_nil}
 use Rattle.bus_world.proofs.Stopping.{shown_there}
 
@@ -175,7 +174,7 @@ module _ {E : Type 0} (m : Machine E) where
       | inl ended ↦ omega arith
       | inr last ↦ (let e = last.2.elected in nothing_there e.place _ (ap (λ d. slice_get d e.place) (sym none) ∙ e.at))
     ];
-    behind_apart = λ t q none told. subst IsReused none told;
+    behind_apart = λ t q none told. true≢false (sym (subst IsSome none told));
   }
 
 -- ---- marks
@@ -351,9 +350,9 @@ memories_refused X m T = record {
     | inl ended ↦ omega arith
     | inr lost ↦ (let e = lost.elected in nothing_there e.place _ (ap (λ d. slice_get d e.place) (sym idle) ∙ e.at))
   ];
-  begins_ahead = λ s v e at ph stage p. let low = (p.by.remembers s v at).begun 1 (ap tenure_of ph) in omega arith;
-  busy_at_rest = λ s v at ph busy p. true≢false (sym busy ∙ (p.by.remembers s v at).idle ph);
-  idle_in_an_election = λ s v t e at ph idle p. true≢false (sym ((p.by.remembers s v at).busy t (ap tenure_of ph)) ∙ idle);
+  begins_ahead = λ s v t at begun stage p. let low = (p.by.remembers s v at).begun t begun in omega arith;
+  busy_without_tenure = λ s v at none busy p. true≢false (sym busy ∙ (p.by.remembers s v at).idle none);
+  idle_in_a_tenure = λ s v t at begun idle p. true≢false (sym ((p.by.remembers s v at).busy t begun) ∙ idle);
 }
 
 -- words of the log stored below the length, and words cleared of rows in which somebody stands

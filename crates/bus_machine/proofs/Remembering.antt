@@ -14,10 +14,16 @@ use Rattle.bus_batch.specs.declared.batches.Phase.{Phase as BatchPhase}
 use Rattle.bus_batch.specs.declared.batches.Phase.TheVariants as batch
 use Rattle.bus_core.proofs.Reusing.Tells.{Shows, gives_shows}
 use Rattle.bus_core.proofs.Situated.{own_is}
+use Rattle.bus_core.specs.Keeping.{queue_of}
+use Rattle.bus_core.specs.Reusing.Turns.{tenure_begun_by, queue_seen}
+use Rattle.bus_core.specs.Seen.{begun_by, tenure_begun}
 use Rattle.bus_core.specs.Senders.{Sender, Situation, Does, Announces, Validates, Unpins, Withdraws, Scans, Clears, situation}
 use Rattle.bus_core.specs.Table.{Line, line, line_now, seen}
 use Rattle.bus_core.specs.declared.reuses.Reuse.{Reuse}
 use Rattle.bus_deliverylog.specs.Orders.{of_sender}
+use Rattle.bus_presence.specs.Reclamation.{Entry}
+use Rattle.bus_presence.specs.declared.pins.Pin.{Pin}
+use Rattle.bus_presence.specs.declared.pins.Pin.TheVariants.{Away, Announcing, Validating, Pinned, Unpinning, Invalidated}
 use Rattle.bus_register.specs.Protocol.{Protocol}
 use Rattle.bus_register.specs.Proved.TableLaws.{get_set_same, get_set_other, push_here, some_or_none}
 use Rattle.bus_register.specs.Tables.{of_some}
@@ -54,6 +60,7 @@ use Rattle.bus_machine.proofs.Framed.{IsFramed, framed}
 use Rattle.bus_machine.proofs.Growing.{grows, rises}
 use Rattle.bus_machine.proofs.Knowing.{order_same}
 use Rattle.bus_machine.proofs.Leading.{Sits, sits_before, sits_after}
+use Rattle.bus_machine.proofs.PinBounds.{Kept, Pins, pins_kept}
 use Rattle.bus_machine.proofs.Staying.{grown_longer}
 use Rattle.bus_machine.specs.Machine.{base_of, Machine, Trails, Reached, New as Start, Then as Next, Happens, TakesTurn, IsNew, IsOnWord, trails_grown, turn_grown, turn_answer, found, has_stopped, moved, put_in, mark_in, no_machine_trails, stage_of}
 use Rattle.bus_machine.specs.Remembering.{HasEnded, HasLeftIt, LeavesNow, HasLost, IsPastFor, IsItself, Remembers}
@@ -73,8 +80,8 @@ module _ {E : Type 0} (P : Protocol E (Unit {0}) ℕ) (m : Machine E) (T : Trail
   busy_in (phase.Holding u page stored true) fits t e = fits.0.busy
   busy_in (phase.Giving u reason) fits t e = absurd fits
 
-  -- and at rest it is not
-  idle_at : (ph : Phase E) → Fits (base_of m) f.V f.frames v.core ph → ph ≡ phase.Resting → v.core.queue.busy ≡ false
+  -- and else it is not
+  idle_at : (ph : Phase E) → Fits (base_of m) f.V f.frames v.core ph → tenure_of ph ≡ None → v.core.queue.busy ≡ false
   idle_at phase.Resting fits e = fits.0
   idle_at (phase.Electing u k) fits e = absurd cc
   idle_at (phase.Taken u) fits e = absurd cc
@@ -153,11 +160,57 @@ module _ {E : Type 0} (P : Protocol E (Unit {0}) ℕ) (m : Machine E) (T : Trail
         | inr now ↦ inr record { tenure = now.0; published = now.1; leaves = now.2 }
       ]
 
-  pub busy_begun : (t : ℕ) → tenure_of v.core.phase ≡ Some t → v.core.queue.busy ≡ true
-  busy_begun t e = busy_in v.core.phase part.fits t e
+  -- its batch as it is seen, on its way from when it begins a tenure by its pin
+  busy_pinned : (u : Pin) (t : ℕ) → tenure_begun_by v.core u ≡ Some t → (queue_seen v.core.queue u).busy ≡ true
+  busy_pinned Away t e = busy_in v.core.phase part.fits t e
+  busy_pinned (Announcing u) t e = refl
+  busy_pinned (Validating u) t e = refl
+  busy_pinned (Pinned u) t e = refl
+  busy_pinned (Unpinning u) t e = refl
+  busy_pinned (Invalidated u) t e = refl
 
-  pub idle_resting : v.core.phase ≡ phase.Resting → v.core.queue.busy ≡ false
-  idle_resting e = idle_at v.core.phase part.fits e
+  idle_pinned : (u : Pin) → tenure_begun_by v.core u ≡ None → (queue_seen v.core.queue u).busy ≡ false
+  idle_pinned Away e = idle_at v.core.phase part.fits e
+  idle_pinned (Announcing u) e = absurd cc
+  idle_pinned (Validating u) e = absurd cc
+  idle_pinned (Pinned u) e = absurd cc
+  idle_pinned (Unpinning u) e = absurd cc
+  idle_pinned (Invalidated u) e = absurd cc
+
+  pub busy_begun : (t : ℕ) → tenure_begun v ≡ Some t → (queue_of v.core.queue v.reuse).busy ≡ true
+  busy_begun t = by v.reuse where
+    by : (r : Option Reuse) → begun_by v.core r ≡ Some t → (queue_of v.core.queue r).busy ≡ true
+    by None e = busy_in v.core.phase part.fits t e
+    by (Some r) e = busy_pinned r.pin t e
+
+  pub idle_begun : tenure_begun v ≡ None → (queue_of v.core.queue v.reuse).busy ≡ false
+  idle_begun = by v.reuse where
+    by : (r : Option Reuse) → begun_by v.core r ≡ None → (queue_of v.core.queue r).busy ≡ false
+    by None e = idle_at v.core.phase part.fits e
+    by (Some r) e = idle_pinned r.pin e
+
+-- ---- by its pin
+-- whoever is past a tenure, or in it, or pins it, saw it open
+module _ {E : Type 0} (stage s : ℕ) (actions : List Action) (c : Core E) (in_it : (t : ℕ) → tenure_of c.phase ≡ Some t → 2 * t ≤ stage)
+    (past : (t : ℕ) → t < c.least → IsPastFor stage s actions t) where
+  past_opened : (t : ℕ) → IsPastFor stage s actions t → 2 * t ≤ stage
+  past_opened t (inl ended) = omega arith
+  past_opened t (inr lost) = lost.opened
+
+  pinned_opened : (u : Pin) (es : List Entry) → Pins c.phase c.least u stage es → (t : ℕ) → tenure_begun_by c u ≡ Some t → 2 * t ≤ stage
+  pinned_opened Away es k t e = in_it t e
+  pinned_opened (Announcing u) es k t e = let same = same_Some u t e in let low = (k.announcing u refl).1 in omega arith
+  pinned_opened (Validating u) es k t e = let same = same_Some u t e in let low = k.validating u refl in omega arith
+  pinned_opened (Pinned u) es k t e = in_it t (ap tenure_of (k.pinned u refl).1 ∙ e)
+  pinned_opened (Unpinning u) es k t e = elim (k.parted u refl) [
+    | inl low ↦ past_opened t (past t (let same = same_Some u t e in omega arith))
+    | inr here ↦ in_it t (here ∙ e)
+  ]
+  pinned_opened (Invalidated u) es k t e = let same = same_Some u t e in let low = k.late u refl in omega arith
+
+  pub reused_opened : (r : Option Reuse) (es : List Entry) → Kept r c stage es → (t : ℕ) → begun_by c r ≡ Some t → 2 * t ≤ stage
+  reused_opened None es k t e = in_it t e
+  reused_opened (Some r) es k t e = pinned_opened r.pin es k t e
 
 -- ---- by what happened
 pub record Recalls {E : Type 0} (m : Machine E) (s : ℕ) (c : Core E) (actions : List Action) : Type 0 where
@@ -535,7 +588,8 @@ module _ {E : Type 0} (X : Election E) (P : Protocol E (Unit {0}) ℕ) where
         gone = left_so P m T f s v at;
         asked = k.asked;
         past = k.past;
-        begun = begun_opened P m T f s v at;
+        begun = reused_opened (stage_of m) s (T.actions s) v.core (begun_opened P m T f s v at) k.past v.reuse (T.pins s)
+            ((pins_kept X P m T sits r).each s v at);
         busy = busy_begun P m T f s v at;
-        idle = idle_resting P m T f s v at;
+        idle = idle_begun P m T f s v at;
       }

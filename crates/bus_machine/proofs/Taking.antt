@@ -31,6 +31,7 @@ use Rattle.bus_machine.proofs.Bounding.{actions_of_it, added, added_is}
 use Rattle.bus_machine.proofs.Framed.{IsFramed, framed}
 use Rattle.bus_machine.proofs.Leading.{Sits, sits_before}
 use Rattle.bus_machine.proofs.Paging.{takes_it}
+use Rattle.bus_machine.proofs.Takes.{takes_told}
 use Rattle.bus_machine.specs.Machine.{Machine, Trails, Reached, New as Start, Then as Next, Happens, IsNew, found, has_stopped, last_of, owners_told, stage_of, trails_grown, turn_answer, turn_grown}
 use Rattle.bus_machine.specs.Promise.{TakersTold}
 use Rattle.bus_adoptcommit.proofs.Moves.{same_lists}
@@ -255,7 +256,8 @@ module _ {E : Type 0} (X : Election E) (P : Protocol E (Unit {0}) ℕ) where
       record {
         all = cond l.takes (k.all ++ s ∷ []) k.all;
         takers = subst (Takers (cond l.takes (k.all ++ s ∷ []) k.all)) (sym did) (taken X P m T sits (framed X P m T sits r) k.all k.takers s v at (found m l word) word told z refl);
-        told = ap (λ (y : Machine E). y.owners) h.after ∙ ap (λ w. owners_told m.reuse (cond l.takes (w ++ s ∷ []) w)) k.told ∙ told_more m.reuse l.takes s k.all
+        told = ap (λ (y : Machine E). y.owners) h.after ∙ ap (owners_told m.reuse) (sym (takes_told X v z s m.owners (found m l word) word))
+            ∙ ap (λ w. owners_told m.reuse (cond l.takes (w ++ s ∷ []) w)) k.told ∙ told_more m.reuse l.takes s k.all
             ∙ ap (λ o. owners_told o (cond l.takes (k.all ++ s ∷ []) k.all)) (sym (event_reuse X m m' (Turn s word) a h).1);
       }
   event_told m m' T (Recv q) a sits r h k = record { all = k.all; takers = k.takers; told = ap (λ (y : Machine E). y.owners) h.after ∙ k.told ∙ ap (λ o. owners_told o k.all) (sym (event_reuse X m m' (Recv q) a h).1) }

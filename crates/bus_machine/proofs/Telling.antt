@@ -1,5 +1,5 @@
 -- What an event is answered is so.
-use Rattle.std.proofs.Common.{◌≡◌, ◌⊎◌, inl, inr, ℕ, ◌-◌, ◌/◌, ◌<◌, ◌≤◌, ◌==◌, nat_le, Bool, true, false, cond, Option, Some, None, List, [], ◌∷◌, ◌++◌, length, slice_get, slice_index, arith, refl, sym, ◌∙◌, ap, subst}
+use Rattle.std.proofs.Common.{◌≡◌, ◌⊎◌, inl, inr, ℕ, ◌-◌, ◌/◌, ◌<◌, ◌≤◌, ◌==◌, nat_le, Bool, true, false, cond, Option, Some, None, IsSome, List, [], ◌∷◌, ◌++◌, length, slice_get, slice_index, arith, refl, sym, ◌∙◌, ap, subst}
 use Rattle.std.proofs.lemmas.Bool.{leb-true, true≢false}
 use Rattle.std.proofs.lemmas.Bool.Decides.{eqb_tells}
 use Rattle.std.proofs.lemmas.Grind.{flat_map-append}
@@ -53,7 +53,7 @@ use Rattle.bus_machine.proofs.Staying.{grown_longer}
 use Rattle.bus_machine.specs.Machine.{base_of, Machine, Trails, Reached, Then, Happens, TakesPut, TakesTurn, found, has_stopped, log_of, log_place, stage_of, trails_grown, turn_answer}
 use Rattle.bus_machine.specs.Promise.{pin_of}
 use Rattle.bus_machine.specs.Remembering.{NoneIsLeft, Remembers, rows_in}
-use Rattle.bus_machine.specs.Telling.{TurnTells, ClosedTells, PutTells, SenderTells, EventTells, IsReused}
+use Rattle.bus_machine.specs.Telling.{TurnTells, ClosedTells, PutTells, SenderTells, EventTells}
 
 -- whose frame is no mark has messages to send
 some_messages : (ph : BatchPhase) (n : ℕ) → (0 < n) ⊎ ((m : Mark) × (ph ≡ batch.Marking m)) → is_marking ph ≡ false → 0 < n
@@ -214,7 +214,7 @@ module _ {E : Type 0} (X : Election E) (P : Protocol E (Unit {0}) ℕ) (m m' : M
   behind z i other None = tt
   behind z i other (Some b) =
       let again = reused v.reuse (situation_of X c) z i other in
-      subst IsReused (sym (ap rows_in again.1) ∙ f.rows s v at) tt
+      subst IsSome (sym (ap rows_in again.1) ∙ f.rows s v at) refl
 
   -- whatever the turn is
   by_turn : (z : Situation E) → situation X v ≡ z → Told (turn_answer m (line X v z) word)

@@ -45,11 +45,6 @@ named_by (Store r number) now = if number == 0 then now else Some (number - 1)
 named_by (Add r number) now = now
 named_by (Cas r was number) now = now
 
--- after these steps, one after another
-abbrev pub named_from : Option ℕ → List Entry → Option ℕ
-named_from now [] = now
-named_from now (e ∷ entries) = named_from (named_by e.op now) entries
-
 abbrev pub is_tenure : ℕ → Option ℕ → Bool
 is_tenure t None = false
 is_tenure t (Some u) = u == t

@@ -20,8 +20,9 @@ use Rattle.bus_world.specs.Headline.{Action}
 use Rattle.bus_world.specs.Log.{words_read_from}
 use Rattle.bus_world.specs.Playing.{asked_answer}
 use Rattle.bus_world.specs.Trails.{step_action, put_actions, mark_actions, no_actions, no_answers, actions_with, answers_with}
-use Rattle.bus_world.specs.Turning.{words_after, number_found, home_moved, core_moved, after_step}
-use Rattle.bus_world.specs.World.{Event, Put, Ask, Turn, Recv, Stop, is_set, no_stops, AreBases, first_page, IsNewReceiver, RecvDoes}
+use Rattle.bus_world.specs.Turning.{words_after, number_found, home_moved, core_moved, after_step, owners_by}
+use Rattle.bus_world.specs.Starting.{IsNewReceiver}
+use Rattle.bus_world.specs.World.{Event, Put, Ask, Turn, Recv, Stop, is_set, no_stops, AreBases, first_page, RecvDoes}
 use Rattle.bus_world.specs.declared.events.Answer.{Answer}
 use Rattle.bus_world.specs.declared.events.Answer.TheVariants as answer
 
@@ -101,7 +102,7 @@ machine_after b s l word =
       words = words_after b.words (l.op word);
       home = home_moved l.move b.home;
       senders = slice_set b.senders s (moved (after_step l.move) b.home (l.fed (found b l word) word));
-      owners = owners_told b.reuse (if l.takes then b.owners ++ s ∷ [] else b.owners);
+      owners = owners_told b.reuse (owners_by (turn_answer b l word) s b.owners);
     }
 
 -- ---- what happens with an event that is answered
@@ -217,7 +218,7 @@ pub record IsNew {E : Type 0} (b : Machine E) : Type 0 where
   pub words : b.words ≡ replicate (log_place b.layout b.reuse + b.layout.capacity) 0
   pub home : b.home ≡ Some (first_page b.bases)
   pub senders : (p : ℕ) (v : Sender E) → slice_get b.senders p ≡ Some v → (p < b.layout.senders) × (v ≡ new_sender b.layout p b.reuse (base_of b p))
-  pub receivers : (r : ℕ) (v : Receiving) → slice_get b.receivers r ≡ Some v → IsNewReceiver b.layout (log_place b.layout b.reuse) v
+  pub receivers : (r : ℕ) (v : Receiving) → slice_get b.receivers r ≡ Some v → IsNewReceiver b.layout.senders (log_place b.layout b.reuse) b.layout.capacity v
   pub stopped : b.stopped ≡ no_stops
   pub owners : b.owners ≡ []
 

@@ -1,5 +1,5 @@
 -- The machine as a program holds it: which shapes are served, what each call tells, and what is said of events one after another.
-use Rattle.std.specs.Prelude.{◌≡◌, ℕ, ◌+◌, ◌*◌, ◌^◌, ◌<◌, ◌≤◌, Bool, true, false, Option, Some, None, List, [], ◌∷◌, ◌++◌, length, take}
+use Rattle.std.specs.Prelude.{◌≡◌, ℕ, ◌^◌, ◌<◌, ◌≤◌, Bool, true, false, Option, Some, None, List, [], ◌∷◌, ◌++◌, length, take}
 use Rattle.std.specs.Prelude.{slice_get, slice_index}
 use Rattle.bus_register.specs.declared.limits.TheConstants.{MOST_SENDERS, MOST_RECEIVERS, MOST_ROUNDS, MOST_ROWS, LEAST_LOG_WORDS, MOST_LOG_WORDS, TENURES}
 use Rattle.bus_register.specs.Protocol.{Protocol}
@@ -50,11 +50,6 @@ ShapeOf shape (Some rows) = rows ≡ shape.rows
 abbrev pub RoomFor : {S : Type 0} → Protocol S Bool Verdict → Shape → Option ℕ → Type 0
 RoomFor P shape None = words_of (layout_of P shape None) ≤ 2 ^ 63
 RoomFor P shape (Some rows) = Unit {0}
-
--- where the log begins, where a row has so many words
-abbrev pub log_with : Shape → Option ℕ → ℕ → ℕ
-log_with shape None width = 2 + shape.rows * width
-log_with shape (Some rows) width = 2 + shape.senders + rows * width
 
 -- the bus of these parts
 abbrev pub machine_of : {E S : Type 0} → Protocol S Bool Verdict → Shape → Option ℕ → List ℕ → List ℕ → Option Page → List (Sender E) → List Receiving → List Bool → List ℕ → Machine E

@@ -25,7 +25,7 @@ pub record OwnersRefuse {E : Type 0} (X : Election E) (m : Machine E) (T : Trail
 
 -- with so many rows that are used again
 pub record RowsRefuse {E : Type 0} (X : Election E) (m : Machine E) (T : Trails) (rows : ℕ) : Type 0 where
-  -- the election of a tenure runs of a sender that has stored no presence
+  -- the election of a tenure runs of a sender that has taken no step of a pin
   pub enters_without_presence : (p : ℕ) (v : Sender E) (t : ℕ) (e : E) → slice_get m.senders p ≡ Some v → v.core.phase ≡ Electing t e → T.pins p ≡ [] → ¬ IsPromised X m T
   -- elections of two tenures of one row run
   pub two_tenures_of_a_row : (p q : ℕ) (v w : Sender E) (t u : ℕ) (e f : E) → slice_get m.senders p ≡ Some v → v.core.phase ≡ Electing t e

@@ -6,6 +6,8 @@ use Rattle.bus_batch.specs.declared.messages.Mark.{Mark}
 use Rattle.bus_batch.specs.declared.messages.Mark.TheVariants as mark
 use Rattle.bus_batch.specs.declared.messages.Item.{Item}
 use Rattle.bus_batch.specs.Batches.{next_of}
+use Rattle.bus_core.specs.Keeping.{queue_of}
+use Rattle.bus_core.specs.Seen.{tenure_begun}
 use Rattle.bus_core.specs.Senders.{Sender, Does, Clears, situation}
 use Rattle.bus_core.specs.Table.{lost_of, line_now}
 use Rattle.bus_core.specs.declared.reuses.Reuse.{Reuse}
@@ -196,12 +198,13 @@ pub record MemoriesRefuse {E : Type 0} (X : Election E) (m : Machine E) (T : Tra
   pub closed_with_nothing : (s : ℕ) (v : Sender E) → slice_get m.senders s ≡ Some v → v.core.queue.phase ≡ batch.Closed → log_of m ≡ [] → ¬ IsPromised X m T
   -- it enters tenure 0 no more, which is open, and has done nothing
   pub past_at_first : (s : ℕ) (v : Sender E) → slice_get m.senders s ≡ Some v → v.core.least ≡ 1 → stage_of m ≡ 0 → T.actions s ≡ [] → ¬ IsPromised X m T
-  -- its election of tenure 1 runs, and tenure 0 is held still
-  pub begins_ahead : (s : ℕ) (v : Sender E) (e : E) → slice_get m.senders s ≡ Some v → v.core.phase ≡ Electing 1 e → stage_of m ≡ 1 → ¬ IsPromised X m T
-  -- its batch is on its way at rest, or is not in an election
-  pub busy_at_rest : (s : ℕ) (v : Sender E) → slice_get m.senders s ≡ Some v → v.core.phase ≡ Resting → v.core.queue.busy ≡ true → ¬ IsPromised X m T
-  pub idle_in_an_election : (s : ℕ) (v : Sender E) (t : ℕ) (e : E) → slice_get m.senders s ≡ Some v → v.core.phase ≡ Electing t e → v.core.queue.busy ≡ false
+  -- it has begun a tenure, be it by its pin, that is not opened yet
+  pub begins_ahead : (s : ℕ) (v : Sender E) (t : ℕ) → slice_get m.senders s ≡ Some v → tenure_begun v ≡ Some t → stage_of m < 2 * t → ¬ IsPromised X m T
+  -- its batch is on its way while it has begun no tenure, or is not while it has
+  pub busy_without_tenure : (s : ℕ) (v : Sender E) → slice_get m.senders s ≡ Some v → tenure_begun v ≡ None → (queue_of v.core.queue v.reuse).busy ≡ true
       → ¬ IsPromised X m T
+  pub idle_in_a_tenure : (s : ℕ) (v : Sender E) (t : ℕ) → slice_get m.senders s ≡ Some v → tenure_begun v ≡ Some t
+      → (queue_of v.core.queue v.reuse).busy ≡ false → ¬ IsPromised X m T
 
 -- a word of the log that is stored where the length has passed
 pub record WordsRefuse {E : Type 0} (X : Election E) (m : Machine E) (T : Trails) : Type 0 where

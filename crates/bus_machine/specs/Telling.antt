@@ -1,5 +1,5 @@
 -- What the answer of a sender's turn tells: of the sender, of what its step found, and of what happened by whatever trails led to the machine.
-use Rattle.std.specs.Prelude.{◌≡◌, ◌≢◌, ◌⊎◌, ℕ, ◌+◌, ◌*◌, ◌<◌, Bool, Option, Some, None, List, length, slice_get, slice_index}
+use Rattle.std.specs.Prelude.{◌≡◌, ◌≢◌, ◌⊎◌, ℕ, ◌+◌, ◌*◌, ◌<◌, Bool, Option, Some, None, IsSome, List, length, slice_get, slice_index}
 use Rattle.bus_adoptcommit.specs.declared.verdicts.Verdict.{Verdict}
 use Rattle.bus_register.specs.Protocol.{Protocol}
 use Rattle.bus_register.specs.Words.{register}
@@ -66,11 +66,6 @@ Causes X P m (Recv r) = Unit {0}
 Causes X P m (Stop s) = Unit {0}
 
 -- ---- by whatever trails led to the machine
--- rows are used again
-abbrev pub IsReused : Option ℕ → Type 0
-IsReused None = ⊥
-IsReused (Some rows) = Unit {0}
-
 -- ---- an answer of sender s
 -- The order has ended. Or it goes on, and the sender, whose batch was closed before, has left in it.
 abbrev pub ClosedTells : {E : Type 0} → Machine E → ℕ → Sender E → Type 0
@@ -92,7 +87,7 @@ TurnTells m s v actions (turn.Left t) = HasLeft m.layout.senders (log_of m) s t
 TurnTells m s v actions turn.Full = m.layout.capacity < length (log_of m) + frame_len v.core
 TurnTells m s v actions turn.Closed = ClosedTells m s v
 TurnTells m s v actions turn.Spent = NoneIsLeft m s actions
-TurnTells m s v actions (turn.Behind t p) = IsReused m.reuse
+TurnTells m s v actions (turn.Behind t p) = IsSome m.reuse
 
 -- of the sender that goes on
 abbrev pub SenderTells : {E : Type 0} → Machine E → ℕ → Option (Sender E) → List Action → Answer → Type 0

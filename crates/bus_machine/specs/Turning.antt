@@ -1,4 +1,4 @@
--- One turn of one sender on what all share, and senders and receivers at their starts.
+-- One turn of one sender on what all share, and senders at their starts.
 use Rattle.std.specs.Prelude.{◌≡◌, ℕ, ◌<◌, Option, Some, IfSome, List, length, slice_get, slice_index}
 use Rattle.bus_batch.specs.Batches.{next_of, CanPut, CanClose}
 use Rattle.bus_batch.specs.declared.messages.Mark.{Mark}

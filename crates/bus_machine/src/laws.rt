@@ -87,10 +87,10 @@ pub fn stops_are_for_good<Q: Ratifier>()
 {}
 
 /// Of no machine the promise holds in which senders saw the election of one tenure end with two
-/// owners, or an owner did not take its page. Where rows are used again: in which an election runs
-/// of a sender that stored no presence, or elections of two tenures of one row, or takes a step
-/// past the row of its tenure; or a page is held and the row of the next tenure, which was used
-/// before, is not reclaimed.
+/// owners, or, with a row for each tenure, an owner that it tells did not take the page of that
+/// tenure. Where rows are used again: in which an election runs of a sender that has taken no step
+/// of a pin, or elections of two tenures of one row, or takes a step past the row of its tenure; or
+/// a page is held and the row of the next tenure, which was used before, is not reclaimed.
 pub fn promise_refuses<Q: Ratifier>()
     ensures { let X = election_of Q.Ratifier in
         (machine : Machine (Elector Q)) (trails : Trails) → PromiseRefuses X machine trails }
@@ -135,10 +135,11 @@ pub fn same_actions_say_no_more()
 /// one that did not take it; nor one of which a sender goes by another number, layout or count of
 /// rows, is to put its second message first, is closed while the order goes on in which it has not
 /// left, has left in it and is open or at rest with its mark, has asked for a mark and is open,
-/// passes over a tenure that is open, begins one that is not, or has its batch on its way at rest;
-/// nor one of which a sender stores a word of the log below the length next, or clears a word of a
-/// row in which somebody stands. None is bounded of which a sender took more steps towards a page,
-/// or has no turn left while its election runs.
+/// passes over a tenure that is open, has begun one that is not opened yet, or has its batch on
+/// its way while it has begun none, or not while it has; nor one of which a sender stores a word of
+/// the log below the length next, or clears a word of a row in which somebody stands. None is
+/// bounded of which a sender took more steps towards a page, or has no turn left while its election
+/// runs.
 pub fn machines_refuse<Q: Ratifier>()
     ensures follows { let X = election_of Q.Ratifier in
         (old : Machine (Elector Q)) (event : Event) (given : Answer) (new : Machine (Elector Q))

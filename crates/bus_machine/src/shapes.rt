@@ -5,7 +5,8 @@ ghost use Rattle.std.specs.Prelude.{IfErr, IfOk, IfSome, None, OnOk};
 ghost use Rattle.std.specs.Prelude.{slice_index, true};
 ghost use Rattle.std.specs.Option.{option_copied};
 ghost use Rattle.bus_machine.specs.Playing.{IsServed, MakeRefused, least_rows as spec_least_rows};
-ghost use Rattle.bus_machine.specs.Playing.{most_rows as spec_most_rows, ShapeOf, log_with};
+ghost use Rattle.bus_machine.specs.Machine.{log_place};
+ghost use Rattle.bus_machine.specs.Playing.{most_rows as spec_most_rows, ShapeOf};
 ghost use Rattle.bus_machine.specs.Playing.{MayFollow, MayNotFollow, bases_after};
 ghost use Rattle.bus_register.specs.declared.limits.TheConstants.{MOST_SENDERS};
 ghost use Rattle.bus_world.specs.World.{AreBases};
@@ -100,7 +101,13 @@ pub fn log_word(shape: Shape, reuse: Option<u64>, width: u64) -> u64
     requires served { IsServed shape reuse }
     requires shape { ShapeOf shape reuse }
     requires width { width ≤ 2 ^ 16 }
-    ensures at { result ≡ log_with shape reuse width }
+    ensures at { result ≡ log_place record {
+      senders = shape.senders;
+      rounds = shape.rounds;
+      rows = shape.rows;
+      width = width;
+      capacity = shape.log_words;
+    } reuse }
     ensures room { result ≤ 2 ^ 30 }
 {
     match reuse {

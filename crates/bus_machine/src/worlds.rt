@@ -241,7 +241,8 @@ impl<Q: Ratifier + Drop> World<Q> {
     }
 
     /// A message is put into the batch of a sender, and gets this number. While the sender pins a
-    /// tenure of rows that are used again this is refused as Busy. Takes no memory.
+    /// tenure of rows that are used again this is refused as Busy, or as Closed once it has closed
+    /// or left. Takes no memory.
     pub fn put(&mut self, sender: SenderNo, bytes: &[u8]) -> Result<u64, StepFault>
         ensures answered { let X = election_of Q.Ratifier in
             IfOk result (λ number. Answers X Q.protocol self.old (Put sender.0 bytes.now)
@@ -255,7 +256,8 @@ impl<Q: Ratifier + Drop> World<Q> {
     }
 
     /// A sender is to close the order: an end mark waits at it from then on. While the sender
-    /// pins a tenure of rows that are used again this is refused as Busy. Takes no memory.
+    /// pins a tenure of rows that are used again this is refused as Busy, or as Closed once it has
+    /// closed or left. Takes no memory.
     pub fn close(&mut self, sender: SenderNo) -> Result<(), StepFault>
         ensures answered { let X = election_of Q.Ratifier in
             OnOk result (Answers X Q.protocol self.old (Ask sender.0 End) answer.Closing self.new) }
@@ -268,7 +270,7 @@ impl<Q: Ratifier + Drop> World<Q> {
 
     /// A sender is to leave for good: a leave mark waits at it from then on, and it takes no
     /// message any more. While the sender pins a tenure of rows that are used again this is
-    /// refused as Busy. Takes no memory.
+    /// refused as Busy, or as Closed once it has closed or left. Takes no memory.
     pub fn leave(&mut self, sender: SenderNo) -> Result<(), StepFault>
         ensures answered { let X = election_of Q.Ratifier in
             OnOk result (Answers X Q.protocol self.old (Ask sender.0 Leave)

@@ -14,7 +14,8 @@ use Rattle.bus_tenure.specs.Core.{Layout, log_at}
 use Rattle.bus_core.specs.Reusing.Participants.{log_from}
 use Rattle.bus_world.specs.Proved.Sending.{Logged}
 use Rattle.bus_world.specs.Proved.Receiving.{IsReceiver}
-use Rattle.bus_world.specs.World.{IsNewReceiver, RecvStep, RecvDoes, recv_found}
+use Rattle.bus_world.specs.Starting.{IsNewReceiver}
+use Rattle.bus_world.specs.World.{RecvStep, RecvDoes, recv_found}
 use Rattle.bus_world.specs.Trails.{answers_with, no_answers}
 use Rattle.bus_world.proofs.HearTrails.{IsTold, hears_later, hears_more}
 use Rattle.bus_world.proofs.LogLaws.{length-logged, log_words-append}
@@ -38,26 +39,26 @@ pub record AllHear (x : Layout) (rows : ℕ) (receivers : ℕ → Option Receivi
   pub silent : (r : ℕ) → receivers r ≡ None → H r ≡ []
 
 -- ---- a receiver that has read nothing
-new_hears : (x : Layout) (rows : ℕ) (v : Receiving) → IsNewReceiver x (log_from x rows) v → HearsCyclic x rows [] v []
+new_hears : (x : Layout) (rows : ℕ) (v : Receiving) → IsNewReceiver x.senders (log_from x rows) x.capacity v → HearsCyclic x rows [] v []
 new_hears x rows v new = record {
-  log = new.1;
+  log = new.log_is;
   own = record {
-    senders = new.0;
+    senders = new.senders_are;
     log = refl;
-    len_at = new.2;
-    log_words = new.3;
-    receives = record { place_below = let a = new.4 in let b = new.5 in omega arith; known_below = let a = new.4 in omega arith; has_read = subst (λ k. HasRead x.senders (take k []) (take k []) v.frames) (sym new.5) new.7 };
+    len_at = new.length_is;
+    log_words = new.words_are;
+    receives = record { place_below = let a = new.known in let b = new.place in omega arith; known_below = let a = new.known in omega arith; has_read = subst (λ k. HasRead x.senders (take k []) (take k []) v.frames) (sym new.place) new.read };
   };
   hears = record {
-    given_is = sym (ap (λ k. order_in (take k [])) new.5);
-    heads_are = sym (ap (λ k. owners_in (take k [])) new.5);
-    ended = λ e. absurd (true≢false (sym e ∙ new.6));
+    given_is = sym (ap (λ k. order_in (take k [])) new.place);
+    heads_are = sym (ap (λ k. owners_in (take k [])) new.place);
+    ended = λ e. absurd (true≢false (sym e ∙ new.going));
     going = λ e. refl;
     silent = λ j k a at l here. absurd cc;
   };
 }
 
-pub all_new : (x : Layout) (rows : ℕ) (receivers : ℕ → Option Receiving) → ((r : ℕ) (v : Receiving) → receivers r ≡ Some v → IsNewReceiver x (log_from x rows) v) → AllHear x rows receivers [] no_answers
+pub all_new : (x : Layout) (rows : ℕ) (receivers : ℕ → Option Receiving) → ((r : ℕ) (v : Receiving) → receivers r ≡ Some v → IsNewReceiver x.senders (log_from x rows) x.capacity v) → AllHear x rows receivers [] no_answers
 all_new x rows receivers new = record { each = λ r v e. new_hears x rows v (new r v e); silent = λ r e. refl }
 
 -- ---- a log that has grown

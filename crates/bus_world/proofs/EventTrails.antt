@@ -379,7 +379,7 @@ module _ (bases : List ℕ) {E : Type 0} (X : Election E) (P : Protocol E (Unit 
         heard = λ r v i.
             let n = new.receivers r v i in
             let nothing : take v.place (log_pieces []) ≡ [] = take-nil v.place in
-            record { given_is = ap order_in (sym nothing); heads_are = ap owners_in (sym nothing); ended = λ e. absurd (let z = sym n.6 ∙ e in cc); going = λ e. refl; silent = λ j k a e l f. absurd (none_in j _ e) };
+            record { given_is = ap order_in (sym nothing); heads_are = ap owners_in (sym nothing); ended = λ e. absurd (let z = sym n.going ∙ e in cc); going = λ e. refl; silent = λ j k a e l f. absurd (none_in j _ e) };
         silent = λ r i. refl;
         askings = record { waiting = λ q c m i waits. absurd (open_no_marking m (ap (λ (z : Core E). z.queue.phase) (sym (new.senders q c i).1) ∙ waits)); logged = λ j f m at says. absurd (none_in j f at) };
       };

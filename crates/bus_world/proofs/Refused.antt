@@ -153,9 +153,6 @@ refuses = record {
       let d = each_of (announces ∷ elects 0 ∷ []) (announces ∷ elects 1 ∷ []) in
       zero_one (p.one_owner 0 0 1 0 1 (elected_second 0 d 0 refl) (elected_second 1 d 1 refl));
   unannounced = λ heard order owners p. let a = p.announced 0 0 1 (elected_second 0 (each_of (announces ∷ elects 1 ∷ []) []) 1 refl) in none_in a.place _ a.at;
-  two_takers = λ heard order owners p.
-      let d = each_of (announces ∷ elects 0 ∷ takes ∷ []) (announces ∷ elects 1 ∷ takes ∷ []) in
-      zero_one (p.took_once 0 0 1 2 2 (took_at 0 2 d refl) (took_at 1 2 d refl)).0;
   taken_twice = λ heard order owners p.
       let d = each_of (announces ∷ elects 0 ∷ takes ∷ takes ∷ []) [] in
       two_three (p.took_once 0 0 0 2 3 (took_at 0 2 d refl) (took_at 0 3 d refl)).1;

@@ -317,13 +317,13 @@ module _ {E : Type 0} (X : Election E) (P : Protocol E (Unit {0}) ℕ) (laws : L
         let n = new.receivers r v e in
         let none : take v.place (log_words []) ≡ [] = take-nil v.place in
         record {
-          senders = n.0;
-          log = n.1;
-          len_at = n.2;
-          log_words = n.3;
+          senders = n.senders_are;
+          log = n.log_is;
+          len_at = n.length_is;
+          log_words = n.words_are;
           receives = record {
-            place_below = (let a = n.4 in let d = n.5 in omega arith);
-            known_below = (let a = n.4 in omega arith);
-            has_read = subst (λ z. HasRead x.senders (take z (log_words [])) (take z (log_pieces [])) v.frames) (sym n.5) n.7;
+            place_below = (let a = n.known in let d = n.place in omega arith);
+            known_below = (let a = n.known in omega arith);
+            has_read = subst (λ z. HasRead x.senders (take z (log_words [])) (take z (log_pieces [])) v.frames) (sym n.place) n.read;
           };
         })

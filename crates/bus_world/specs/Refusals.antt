@@ -69,9 +69,7 @@ pub record PromiseRefuses : Type 0 where
   pub two_owners : NoActions (each_of (announces ∷ elects 0 ∷ []) (announces ∷ elects 1 ∷ []))
   -- the owner never announced itself
   pub unannounced : NoActions (each_of (announces ∷ elects 1 ∷ []) [])
-  -- one page was taken by two senders, each of which saw itself elected
-  pub two_takers : NoActions (each_of (announces ∷ elects 0 ∷ takes ∷ []) (announces ∷ elects 1 ∷ takes ∷ []))
-  -- or twice by its owner
+  -- one page was taken twice by its owner
   pub taken_twice : NoActions (each_of (announces ∷ elects 0 ∷ takes ∷ takes ∷ []) [])
   -- a page was taken by a sender that was not elected
   pub unelected : NoActions (each_of (takes ∷ []) [])

@@ -1,10 +1,10 @@
--- Senders and receivers at their starts.
+-- Receivers at their starts.
 use Rattle.std.specs.Prelude.{◌≡◌, ℕ, false, Some, List, [], length, slice_get}
 use Rattle.bus_batch.specs.Reading.{HasRead}
 use Rattle.bus_deliverylog.specs.Receiving.{Receiving}
 
--- a receiver at its start
-pub record IsNewReader (senders log capacity : ℕ) (v : Receiving) : Type 0 where
+-- a receiver that has read nothing, of so many senders, with the log that begins at this place and has so many words
+pub record IsNewReceiver (senders log capacity : ℕ) (v : Receiving) : Type 0 where
   pub senders_are : v.frames.senders ≡ senders
   pub log_is : v.log_at ≡ log
   pub length_is : v.length_at ≡ 0
@@ -15,6 +15,6 @@ pub record IsNewReader (senders log capacity : ℕ) (v : Receiving) : Type 0 whe
   pub read : HasRead senders [] [] v.frames
 
 -- so many receivers, each at its start
-pub record AreNewReaders (senders log capacity many : ℕ) (receivers : List Receiving) : Type 0 where
+pub record AreNewReceivers (senders log capacity many : ℕ) (receivers : List Receiving) : Type 0 where
   pub many_are : length receivers ≡ many
-  pub each : (r : ℕ) (v : Receiving) → slice_get receivers r ≡ Some v → IsNewReader senders log capacity v
+  pub each : (r : ℕ) (v : Receiving) → slice_get receivers r ≡ Some v → IsNewReceiver senders log capacity v

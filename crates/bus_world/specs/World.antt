@@ -1,12 +1,11 @@
 -- The sizes of a bus, its events, what a receiver does in a turn, and what a new bus is.
-use Rattle.std.specs.Prelude.{◌≡◌, ◌≢◌, ℕ, ◌+◌, ◌<◌, Bool, true, false, Option, Some, None, List, [], length, replicate, slice_index, if◌then◌else◌, ◌==◌, ◌≤◌}
+use Rattle.std.specs.Prelude.{◌≡◌, ◌≢◌, ℕ, ◌+◌, ◌<◌, Bool, true, false, Option, Some, None, List, length, replicate, slice_index, if◌then◌else◌, ◌==◌, ◌≤◌}
 use Rattle.bus_register.specs.declared.limits.TheConstants.{MOST_SENDERS, MOST_LOG_WORDS, TENURES}
 use Rattle.bus_batch.specs.declared.messages.Mark.{Mark}
 use Rattle.bus_deliverylog.specs.declared.receiving.RecvTurn.{RecvTurn}
 use Rattle.bus_deliverylog.specs.declared.receiving.RecvTurn.TheVariants.{End as RecvEnd}
 use Rattle.bus_deliverylog.specs.Receiving.{Receiving, HasReceived, TakesLength, TakesWord}
 use Rattle.bus_tenure.specs.Core.{Layout}
-use Rattle.bus_batch.specs.Reading.{HasRead}
 use Rattle.bus_tenure.specs.declared.pages.Page.{Page}
 use Rattle.bus_world.specs.declared.limits.TheConstants.{FIRST_NUMBERS}
 
@@ -61,7 +60,3 @@ first_page bases = record { next = bases; left = replicate MOST_SENDERS false; e
 -- nobody has stopped
 abbrev pub no_stops : List Bool
 no_stops = replicate MOST_SENDERS false
-
--- a receiver that has read nothing, of the log that begins at this place
-abbrev pub IsNewReceiver : Layout → ℕ → Receiving → Type 0
-IsNewReceiver x at v = (v.frames.senders ≡ x.senders) × (v.log_at ≡ at) × (v.length_at ≡ 0) × (v.log_words ≡ x.capacity) × (v.known ≡ 0) × (v.place ≡ 0) × (v.ended ≡ false) × HasRead x.senders [] [] v.frames

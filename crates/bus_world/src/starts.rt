@@ -2,7 +2,7 @@
 
 ghost use Rattle.std.specs.Prelude.{◌≡◌, ◌+◌, ◌<◌, ◌^◌, [], IfOk};
 ghost use Rattle.bus_batch.specs.Reading.{HasRead};
-ghost use Rattle.bus_world.specs.Starting.{AreNewReaders};
+ghost use Rattle.bus_world.specs.Starting.{AreNewReceivers};
 ghost use Rattle.bus_world.specs.World.{first_page as spec_first_page};
 
 use crate::shapes::Shape;
@@ -30,7 +30,7 @@ pub fn first_page(alloc: Global, bases: [u64; MOST_SENDERS]) -> Result<OwnedPage
 pub fn new_receivers(alloc: Global, shape: Shape, log: Reg) -> Result<Vec<Reader>, NoMemory>
     requires { log.0 + shape.log_words < 2 ^ 64 }
     ensures { IfOk result
-        (λ receivers. AreNewReaders shape.senders log.0 shape.log_words
+        (λ receivers. AreNewReceivers shape.senders log.0 shape.log_words
         shape.receivers receivers.items) }
 {
     let mut receivers = Vec::new(alloc);

@@ -21,7 +21,8 @@ use Rattle.bus_world.specs.Turning.{core_moved, after_step}
 use Rattle.bus_world.specs.Proved.Machines.{home_after, owners_after, new_core, can_put, can_close, put_in, mark_in}
 use Rattle.bus_world.specs.Headline.{Action, HasPut, HasMarked}
 use Rattle.bus_world.specs.Trails.{step_action, no_actions, no_answers, actions_with, answers_with}
-use Rattle.bus_world.specs.World.{AreBases, first_page, IsNewReceiver, RecvDoes}
+use Rattle.bus_world.specs.Starting.{IsNewReceiver}
+use Rattle.bus_world.specs.World.{AreBases, first_page, RecvDoes}
 
 pub record CyclicProtocol (E : Type 0) : Type 0 where
   -- the number of each sender's first message
@@ -100,7 +101,7 @@ pub record IsNewProtocol {E : Type 0} (x : Layout) (rows : ℕ) (y : CyclicProto
   pub reclamation : y.reclamation ≡ new_reclamation
   pub home : y.home ≡ Some (first_page y.bases)
   pub senders : (p : ℕ) (c : Core E) → y.senders p ≡ Some c → (p < x.senders) × (c ≡ new_core x (slice_index y.bases p) p)
-  pub receivers : (r : ℕ) (v : Receiving) → y.receivers r ≡ Some v → IsNewReceiver x (log_from x rows) v
+  pub receivers : (r : ℕ) (v : Receiving) → y.receivers r ≡ Some v → IsNewReceiver x.senders (log_from x rows) x.capacity v
   pub owners : y.owners ≡ []
 
 -- the turn that sender p takes next, which holds this

@@ -11,7 +11,8 @@ use Rattle.bus_tenure.specs.Core.{Core, Election, Layout, log_at, words_of, is_e
 use Rattle.bus_tenure.specs.Situations.{situation_of, Situation, line_of, op_at, fed_at}
 use Rattle.bus_tenure.specs.declared.phases.Phase.TheVariants as phase
 use Rattle.bus_tenure.specs.declared.pages.Page.{Page}
-use Rattle.bus_world.specs.World.{Event, Put, Ask, Turn, Recv, Stop, is_set, RecvDoes, AreBases, first_page, no_stops, IsNewReceiver}
+use Rattle.bus_world.specs.Starting.{IsNewReceiver}
+use Rattle.bus_world.specs.World.{Event, Put, Ask, Turn, Recv, Stop, is_set, RecvDoes, AreBases, first_page, no_stops}
 use Rattle.bus_world.specs.Turning.{words_after, number_found, home_moved, core_moved, after_step}
 
 -- what senders share, and the senders
@@ -122,4 +123,4 @@ pub record IsNew {E : Type 0} (bases : List ℕ) (x : Layout) (bus : Bus E) : Ty
   pub senders : (p : ℕ) (c : Core E) → slice_get bus.side.senders p ≡ Some c → (p < x.senders) × (c ≡ new_core x (slice_index bases p) p)
   pub owners : bus.side.owners ≡ []
   pub stopped : bus.stopped ≡ no_stops
-  pub receivers : (r : ℕ) (v : Receiving) → slice_get bus.receivers r ≡ Some v → IsNewReceiver x (log_at x) v
+  pub receivers : (r : ℕ) (v : Receiving) → slice_get bus.receivers r ≡ Some v → IsNewReceiver x.senders (log_at x) x.capacity v

@@ -1,14 +1,14 @@
 use Rattle.std.proofs.Common.{◌+◌, [], arith, subst, sym}
 use Rattle.bus_batch.specs.Reading.{HasRead}
-use Rattle.bus_world.specs.Starting.{AreNewReaders}
-use Rattle.bus_world.proofs.StartingLaws.{one_more_reader}
+use Rattle.bus_world.specs.Starting.{AreNewReceivers}
+use Rattle.bus_world.proofs.StartingLaws.{one_more_receiver}
 use Rattle.bus_world.proofs.starts.new_receivers.Goals as goal
 
 pub loop-preserved : goal.loop-preserved
 loop-preserved c = (
   omega arith,
-  subst (AreNewReaders c.args.shape.senders c.args.log.0 c.args.shape.log_words (c.loop.counter + 1)) (sym c.in_ok-push.ensures.items)
-      (one_more_reader c.args.shape.senders c.args.log.0 c.args.shape.log_words c.loop.counter c.loop.receivers.items c.new.result c.loop.invariant.1 record {
+  subst (AreNewReceivers c.args.shape.senders c.args.log.0 c.args.shape.log_words (c.loop.counter + 1)) (sym c.in_ok-push.ensures.items)
+      (one_more_receiver c.args.shape.senders c.args.log.0 c.args.shape.log_words c.loop.counter c.loop.receivers.items c.new.result c.loop.invariant.1 record {
         senders_are = c.new.ensures.senders;
         log_is = c.new.ensures.at.0;
         length_is = c.new.ensures.at.1;
