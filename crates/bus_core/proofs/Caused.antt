@@ -71,7 +71,7 @@ module _ {E : Type 0} (X : Election E) (width : ℕ) (Belongs : ℕ → E → Ty
   leaves t w = some_kept width Belongs c (λ r. r.pin ≡ Unpinning t) (λ r. LeavesTenure (participant_of c r)) reuse k
       (λ r h e. by r e r.lost refl h.lost) w
     where
-      by : (r : Reuse) → r.pin ≡ Unpinning t → (l : Option SenderNo) → r.lost ≡ l → LostKeeps c.phase r.pin l
+      by : (r : Reuse) → r.pin ≡ Unpinning t → (l : Option SenderNo) → r.lost ≡ l → LostKeeps c.me c.phase r.pin l
           → LeavesTenure (participant_of c r)
       by r e None q kept = AsHolder t e (kept t e)
       by r e (Some o) q kept = AsLoser t o e q kept.rests

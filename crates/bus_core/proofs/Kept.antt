@@ -1,6 +1,6 @@
 -- Each line of the table keeps what a sender keeps.
 use Rattle.std.proofs.Common.{◌≡◌, ◌≢◌, inl, inr, ℕ, ◌+◌, ◌-◌, ◌/◌, ◌%◌, ◌<◌, ◌≤◌, Bool, true, false, Option, Some, None, IsSome, IfSome, nat_lt, nat_le, ◌==◌, cond, refl, sym, ◌∙◌, ap, subst, arith}
-use Rattle.std.proofs.lemmas.Bool.{leb-false, ltb-false, lt-ltb}
+use Rattle.std.proofs.lemmas.Bool.{leb-false, ltb-false, lt-ltb, eqb-false}
 use Rattle.std.proofs.lemmas.Option.{same_Some}
 use Rattle.bus_register.specs.declared.registers.Op.{Op}
 use Rattle.bus_register.specs.declared.registers.SenderNo.{SenderNo}
@@ -108,7 +108,7 @@ module _ {E : Type 0} (X : Election E) (W : Layout → ℕ) (B : Layout → ℕ 
 
     -- all of which it may be with, if its pin, its reclamation and whom it lost to are kept
     kept : (q : Pending) (least : ℕ) (p : Phase E) (u : Pin) (s : Option Reclaiming) (l : Option SenderNo)
-        → PinKeeps (B c.layout c.me) (record c { queue = q; least = least; phase = p }) u → ReclaimerKeeps sizes p s → LostKeeps p u l
+        → PinKeeps (B c.layout c.me) (record c { queue = q; least = least; phase = p }) u → ReclaimerKeeps sizes p s → LostKeeps c.me p u l
         → Keeps (with q least p u s l)
     kept q least p u s l pin reclaimer lost = record {
       sizes = k.sizes;
@@ -146,13 +146,13 @@ module _ {E : Type 0} (X : Election E) (W : Layout → ℕ) (B : Layout → ℕ 
     -- whose pin asks for no step has lost to nobody
     unlost : IsCalm r.pin → r.lost ≡ None
     unlost calm = by r.lost refl k.lost where
-      by : (l : Option SenderNo) → r.lost ≡ l → LostKeeps c.phase r.pin l → r.lost ≡ None
+      by : (l : Option SenderNo) → r.lost ≡ l → LostKeeps c.me c.phase r.pin l → r.lost ≡ None
       by None e h = e
       by (Some o) e h = absurd (elim calm [ inl a ↦ (let bad = sym a ∙ h.parts in cc) | inr p ↦ (let bad = sym p.1 ∙ h.parts in cc) ])
 
     -- so whom it lost to is kept with another phase and pin
-    lost_on : IsCalm r.pin → (p : Phase E) (u : Pin) → ((t : ℕ) → u ≡ Unpinning t → held_of p ≡ Some t) → LostKeeps p u r.lost
-    lost_on calm p u holds = subst (LostKeeps p u) (sym (unlost calm)) holds
+    lost_on : IsCalm r.pin → (p : Phase E) (u : Pin) → ((t : ℕ) → u ≡ Unpinning t → held_of p ≡ Some t) → LostKeeps c.me p u r.lost
+    lost_on calm p u holds = subst (LostKeeps c.me p u) (sym (unlost calm)) holds
 
     -- who goes on, and whose election does not run, stays as it is
     goes : IsCalm r.pin → IsOutside c.phase → (q : Pending) (least : ℕ) (p : Phase E) (s : Option Reclaiming) → IsOutside p
@@ -204,17 +204,17 @@ module _ {E : Type 0} (X : Election E) (W : Layout → ℕ) (B : Layout → ℕ 
           record { election = next; is = refl; belongs = belongs; below = (runs_pinned (B c.layout c.me) c r.pin t e k.pin at).2 }
           (outside (Electing t next) refl) (lost_on calm (Electing t next) (Pinned t) (λ u e. absurd cc))
 
-      ends : (o : ℕ) (b : Bool)
+      ends : (o : ℕ) (b : Bool) → (o == c.me) ≡ b
           → Keeps (sender
           (cond b (record c { phase = Electing t next }) (record c { queue = record c.queue { busy = false }; least = t + 1; phase = Resting }))
           (Some (record r { pin = cond b (Pinned t) (Unpinning t); lost = cond b r.lost (Some record { 0 = o }) })))
-      ends o true = runs
-      ends o false = kept (record c.queue { busy = false }) (t + 1) Resting (Unpinning t) r.reclaimer (Some record { 0 = o }) tt
-          (outside Resting refl) record { tenure = t; parts = refl; rests = refl }
+      ends o true e = runs
+      ends o false e = kept (record c.queue { busy = false }) (t + 1) Resting (Unpinning t) r.reclaimer (Some record { 0 = o }) tt
+          (outside Resting refl) record { tenure = t; parts = refl; rests = refl; other = eqb-false o c.me e }
 
       by : (o : Option ℕ) → Keeps (sender (core_elected c t next o) (reuse_elected c (Some r) t o))
       by None = runs
-      by (Some o) = ends o (o == c.me)
+      by (Some o) = ends o (o == c.me) refl
 
     -- the page is taken
     takes : (t : ℕ) → IsCalm r.pin → Keeps (with c.queue c.least (Taken t) (Unpinning t) (reclaimer_after sizes t) r.lost)

@@ -1,5 +1,5 @@
 -- Each of the wrong answers is refused.
-use Rattle.std.proofs.Common.{◌≡◌, inl, inr, ℕ, ◌+◌, ◌/◌, ◌<◌, ◌≤◌, List, [], length, Bool, true, false, Option, Some, None, IfSome, IsSome, IsSomeAnd, arith, refl, sym, ◌∙◌, ap, subst}
+use Rattle.std.proofs.Common.{◌≡◌, ◌≢◌, inl, inr, ℕ, ◌+◌, ◌/◌, ◌<◌, ◌≤◌, List, [], length, Bool, true, false, Option, Some, None, IfSome, IsSome, IsSomeAnd, arith, refl, sym, ◌∙◌, ap, subst}
 use Rattle.std.proofs.lemmas.Bool.{true≢false}
 use Rattle.std.proofs.lemmas.Option.{same_Some}
 use Rattle.bus_register.specs.declared.registers.SenderNo.{SenderNo}
@@ -145,8 +145,13 @@ module _ {E : Type 0} (X : Election E) (v : Sender E) (got word : ℕ) where
   lost_election t o e w = let h : LosesBy X v got word t o None = subst (LosesBy X v got word t o) e w in h
 
   -- with rows that are used again it parts from what it lost
-  parts_as : (t : ℕ) (o : SenderNo) (r : Reuse) → v.reuse ≡ Some r → LosesBy X v got word t o v.reuse → PartsAsLoser r t o
+  parts_as : (t : ℕ) (o : SenderNo) (r : Reuse) → v.reuse ≡ Some r → LosesBy X v got word t o v.reuse → PartsAsLoser v.core.me r t o
   parts_as t o r e w = let h : LosesBy X v got word t o (Some r) = subst (LosesBy X v got word t o) e w in h
+
+  -- with both kinds of rows it loses to another sender
+  lost_other : (t : ℕ) (o : SenderNo) (reuse : Option Reuse) → LosesBy X v got word t o reuse → o.0 ≢ v.core.me
+  lost_other t o None w = w.other
+  lost_other t o (Some r) w = w.other
 
   -- with rows that are used again it stands in the tenure
   stands_in : (t : ℕ) (r : Reuse) → v.reuse ≡ Some r → IfSome v.reuse (λ r. r.pin ≡ Pinned t) → r.pin ≡ Pinned t
@@ -203,7 +208,7 @@ module _ {E : Type 0} (X : Election E) (v : Sender E) (got word : ℕ) where
     spent_while_held = λ t held w. let e = w.opened in omega arith;
     spent_with_a_page = λ t page stored published held w. let bad = sym w.looks.looks.rests ∙ held in cc;
     spent_too_soon = λ left w. let e = w.past in omega arith;
-    lost_to_itself = λ t none w. (lost_election t record { 0 = v.core.me } none w).other refl;
+    lost_to_itself = λ t w. lost_other t record { 0 = v.core.me } v.reuse w refl;
     lost_undecided = λ t u o e none here undecided w.
         let l = lost_election t o none w in
         let same = same_step u t e l.election (sym here ∙ l.elects) in

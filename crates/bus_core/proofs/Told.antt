@@ -214,11 +214,14 @@ module _ {E : Type 0} (X : Election E) (v : Sender E) (got word : ℕ) where
         holds : (u : ℕ) (reuse : Option Reuse) → ReuseKeeps width Belongs v.core reuse → IsSomeAnd reuse (λ r. r.pin ≡ Unpinning u)
             → lost_of reuse ≡ None → held_of v.core.phase ≡ Some u
         holds u None h p q = absurd p
-        holds u (Some r) h p q = let kept : LostKeeps v.core.phase r.pin None = subst (LostKeeps v.core.phase r.pin) q h.lost in kept u p
-    parts t i (Some o) e = by v.reuse (situation_tells X v (Unpins t) i) e where
-      by : (reuse : Option Reuse) → IsSomeAnd reuse (λ r. r.pin ≡ Unpinning t) → lost_of reuse ≡ Some o → LosesBy X v got word t o reuse
-      by None p q = absurd p
-      by (Some r) p q = record { parts = p; lost = q }
+        holds u (Some r) h p q = let kept : LostKeeps v.core.me v.core.phase r.pin None = subst (LostKeeps v.core.me v.core.phase r.pin) q h.lost in kept u p
+    parts t i (Some o) e = by v.reuse k (situation_tells X v (Unpins t) i) e where
+      by : (reuse : Option Reuse) → ReuseKeeps width Belongs v.core reuse → IsSomeAnd reuse (λ r. r.pin ≡ Unpinning t)
+          → lost_of reuse ≡ Some o → LosesBy X v got word t o reuse
+      by None h p q = absurd p
+      by (Some r) h p q =
+          let kept : LostKeeps v.core.me v.core.phase r.pin (Some o) = subst (LostKeeps v.core.me v.core.phase r.pin) q h.lost in
+          record { parts = p; lost = q; other = kept.other }
 
     -- of a tenure that it came too late for
     late : (t : ℕ) → situation X v ≡ Withdraws t → IsSomeAnd v.reuse (λ r. IsInvalidated r)

@@ -66,8 +66,9 @@ pub record AnswersRefuse {E : Type 0} (X : Election E) (v : Sender E) (got word 
   pub spent_with_a_page : (t : ℕ) (page : Page) (stored : ℕ) (published : Bool) → v.core.phase ≡ Holding t page stored published
       → ¬ FeedTells X v got word turn.Spent
   pub spent_too_soon : got / 2 < v.core.layout.rows → ¬ FeedTells X v got word turn.Spent
-  -- Lost with a row for each tenure: to itself, or by a step that left its election without an owner, or was no step of it
-  pub lost_to_itself : (t : ℕ) → v.reuse ≡ None → ¬ FeedTells X v got word (turn.Lost t record { 0 = v.core.me })
+  -- Lost to itself
+  pub lost_to_itself : (t : ℕ) → ¬ FeedTells X v got word (turn.Lost t record { 0 = v.core.me })
+  -- Lost with a row for each tenure: by a step that left its election without an owner, or was no step of it
   pub lost_undecided : (t u : ℕ) (o : SenderNo) (e : E) → v.reuse ≡ None → situation X v ≡ Does (Elects u e)
       → X.owner (X.fed e got word) ≡ None → ¬ FeedTells X v got word (turn.Lost t o)
   pub lost_at_rest : (t : ℕ) (o : SenderNo) → v.reuse ≡ None → v.core.phase ≡ Resting → ¬ FeedTells X v got word (turn.Lost t o)

@@ -98,16 +98,17 @@ pub record LosesElection {E : Type 0} (X : Election E) (v : Sender E) (got word 
   pub chosen : X.owner (X.fed election got word) ≡ Some o.0
   pub other : o.0 ≢ v.core.me
 
--- it withdraws from this tenure, which it lost to this owner
-pub record PartsAsLoser (r : Reuse) (t : ℕ) (o : SenderNo) : Type 0 where
+-- it withdraws from this tenure, which it lost to this owner, another sender
+pub record PartsAsLoser (me : ℕ) (r : Reuse) (t : ℕ) (o : SenderNo) : Type 0 where
   pub parts : r.pin ≡ Unpinning t
   pub lost : r.lost ≡ Some o
+  pub other : o.0 ≢ me
 
 -- it lost this tenure to this owner: with the step that ended its election, or where rows are used again with the one that clears its
 -- presence
 abbrev pub LosesBy : {E : Type 0} → Election E → Sender E → ℕ → ℕ → ℕ → SenderNo → Option Reuse → Type 0
 LosesBy X v got word t o None = LosesElection X v got word t o
-LosesBy X v got word t o (Some r) = PartsAsLoser r t o
+LosesBy X v got word t o (Some r) = PartsAsLoser v.core.me r t o
 
 abbrev pub Loses : {E : Type 0} → Election E → Sender E → ℕ → ℕ → ℕ → SenderNo → Type 0
 Loses X v got word t o = LosesBy X v got word t o v.reuse

@@ -12,12 +12,13 @@ use bus_adoptcommit::Ratifier;
 /// other numbers than those of the batch, or of a mark; Left before the length takes the mark in,
 /// of another tenure, or of anything but a leave mark; Full where the frame fits; Closed while the
 /// order goes on, or once the leave mark stands in the log; Spent while a tenure is left; Lost to
-/// itself, at rest, by a step that left its election without an owner, or where it remembers no
-/// owner or another one; Own while it pins no tenure, of another tenure, or of one whose election
-/// chose another; Waiting of a sender that goes through its election; Behind with a row for each
-/// tenure, where the step loaded no presence, found another number than that of the tenure, or was
-/// taken without a page; or Going where one of these is due, or where it begins another tenure
-/// than the one whose stage it looked at.
+/// itself; with a row for each tenure, Lost at rest, or by a step that left its election without
+/// an owner; where rows are used again, Lost where it remembers no owner or another one, and Lost
+/// or Own while it pins no tenure; Own of another tenure, or of one whose election chose another;
+/// Waiting of a sender that goes through its election; Behind with a row for each tenure, where
+/// the step loaded no presence, found another number than that of the tenure, or was taken without
+/// a page; or Going where one of these is due, or where it begins another tenure than the one
+/// whose stage it looked at.
 ///
 /// None is true without a step that is Idle where a message or a mark waits, or the batch is
 /// closed; Closed while the batch is open or its mark waits; Spent while a tenure is left, or
