@@ -248,6 +248,9 @@ module _ {E : Type 0} (X : Election E) (v : Sender E) (got word : ℕ) where
     behind_silently = λ t p behind w. w.behind t p behind;
     goes_on_idly = λ idle w. idle_stays idle w;
     begins_elsewhere = λ t looks begins apart w. let after = (line_now X v).fed got word in apart (begun_once after.core after.reuse t (got / 2) begins (w.begins looks));
+    enters_on_another_stage = λ t u looks runs apart w. apart (w.enters_only t u looks runs).1;
+    enters_elsewhere = λ t u looks runs apart w. apart (w.enters_only t u looks runs).0;
+    enters_none = λ t looks here stays w. stays (w.enters t looks here);
   }
 
 -- where no step is due

@@ -18,7 +18,7 @@ use Rattle.bus_core.specs.declared.reuses.Reuse.{Reuse}
 use Rattle.bus_core.specs.Places.{LiesAt}
 use Rattle.bus_core.specs.Senders.{Sender, Does, situation}
 use Rattle.bus_core.specs.Table.{line_now}
-use Rattle.bus_core.specs.Telling.{FeedTells, RestTells, RestIsTold, LooksFirst, LooksInVain, FindsNoneLeft, Loses, IsChosen, GivesReady, IsBehind, Begins}
+use Rattle.bus_core.specs.Telling.{FeedTells, RestTells, RestIsTold, LooksFirst, LooksInVain, FindsNoneLeft, Loses, IsChosen, GivesReady, IsBehind, Begins, LooksSecond, RunsElection}
 
 pub record AnswersRefuse {E : Type 0} (X : Election E) (v : Sender E) (got word : ℕ) : Type 0 where
   -- Idle with a step
@@ -109,6 +109,14 @@ pub record AnswersRefuse {E : Type 0} (X : Election E) (v : Sender E) (got word 
   pub goes_on_idly : situation X v ≡ Does IsIdle → ¬ RestIsTold X v turn.Going
   -- Going where it begins another tenure than the one whose stage it looked at
   pub begins_elsewhere : (t : ℕ) → LooksFirst v → Begins ((line_now X v).fed got word) t → t ≢ got / 2
+      → ¬ FeedTells X v got word turn.Going
+  -- Going where it looked for the second time, and its election runs though that was of another tenure, runs in another tenure, or does not
+  -- run though that was of its own
+  pub enters_on_another_stage : (t u : ℕ) → LooksSecond v t → RunsElection ((line_now X v).fed got word).core u → got / 2 ≢ t
+      → ¬ FeedTells X v got word turn.Going
+  pub enters_elsewhere : (t u : ℕ) → LooksSecond v t → RunsElection ((line_now X v).fed got word).core u → u ≢ t
+      → ¬ FeedTells X v got word turn.Going
+  pub enters_none : (t : ℕ) → LooksSecond v t → got / 2 ≡ t → ¬ RunsElection ((line_now X v).fed got word).core t
       → ¬ FeedTells X v got word turn.Going
 
 -- What no sender answers that takes no step.

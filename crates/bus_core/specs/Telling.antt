@@ -5,7 +5,7 @@ use Rattle.bus_register.specs.declared.registers.SenderNo.{SenderNo}
 use Rattle.bus_batch.specs.Batches.{next_of, HasSomething}
 use Rattle.bus_batch.specs.declared.batches.Phase.TheVariants as batch
 use Rattle.bus_presence.specs.Reclamation.{presence_at}
-use Rattle.bus_presence.specs.declared.pins.Pin.TheVariants.{Announcing, Pinned, Unpinning, Invalidated}
+use Rattle.bus_presence.specs.declared.pins.Pin.TheVariants.{Announcing, Validating, Pinned, Unpinning, Invalidated}
 use Rattle.bus_tenure.specs.Causes.{LooksForTenure}
 use Rattle.bus_tenure.specs.Core.{Core, Election, is_marking, is_closing, is_leaving}
 use Rattle.bus_tenure.specs.Seen.{HasElection, AwaitsItsPage}
@@ -31,6 +31,10 @@ pub record HasBegunNone {E : Type 0} (v : Sender E) : Type 0 where
 pub record LooksFirst {E : Type 0} (v : Sender E) : Type 0 where
   pub away : IsAway v.reuse
   pub looks : LooksForTenure v.core
+
+-- where rows are used again its presence names this tenure, and it looks at the stage for the second time
+abbrev pub LooksSecond : {E : Type 0} → Sender E → ℕ → Type 0
+LooksSecond v t = IsSomeAnd v.reuse (λ r. r.pin ≡ Validating t)
 
 -- it looked at the stage for the first time, and that was of a held tenure, or of one that it may not enter any more
 pub record LooksInVain {E : Type 0} (v : Sender E) (got : ℕ) : Type 0 where
@@ -161,9 +165,13 @@ pub record IsBehind {E : Type 0} (X : Election E) (v : Sender E) (got word t p :
   pub held : held_of v.core.phase ≡ Some tenure
   pub past : t + r.rows ≡ tenure + 1
 
+-- its election of this tenure runs
+abbrev pub RunsElection : {E : Type 0} → Core E → ℕ → Type 0
+RunsElection {E} c t = (e : E) × (c.phase ≡ Electing t e)
+
 -- it has begun this tenure: its election runs, or where rows are used again it is to store its presence
 abbrev pub BeginsBy : {E : Type 0} → Core E → Option Reuse → ℕ → Type 0
-BeginsBy {E} c None t = (e : E) × (c.phase ≡ Electing t e)
+BeginsBy c None t = RunsElection c t
 BeginsBy c (Some r) t = r.pin ≡ Announcing t
 
 abbrev pub Begins : {E : Type 0} → Sender E → ℕ → Type 0
@@ -171,7 +179,8 @@ Begins v t = BeginsBy v.core v.reuse t
 
 -- No other answer is due. It lost no tenure, and withdraws from none that it came too late for; so where it withdraws, it has taken that
 -- tenure's page. It takes no page, and gives none back; where it looked at the stage for the first time, that lets it begin the stage's
--- tenure, and it does so; and nobody is behind.
+-- tenure, and it does so; where it looked for the second time, the election of its presence's tenure runs if that was of this tenure, open
+-- or held, and else none does; and nobody is behind.
 pub record TellsNoMore {E : Type 0} (X : Election E) (v : Sender E) (got word : ℕ) : Type 0 where
   pub loses : (t : ℕ) (o : SenderNo) → ¬ Loses X v got word t o
   pub holds : (t : ℕ) → IsSomeAnd v.reuse (λ r. r.pin ≡ Unpinning t) → held_of v.core.phase ≡ Some t
@@ -181,6 +190,8 @@ pub record TellsNoMore {E : Type 0} (X : Election E) (v : Sender E) (got word : 
   pub waits : ¬ LooksInVain v got
   pub spent : ¬ FindsNoneLeft v got
   pub begins : LooksFirst v → Begins ((line_now X v).fed got word) (got / 2)
+  pub enters : (t : ℕ) → LooksSecond v t → got / 2 ≡ t → RunsElection ((line_now X v).fed got word).core t
+  pub enters_only : (t u : ℕ) → LooksSecond v t → RunsElection ((line_now X v).fed got word).core u → (u ≡ t) × (got / 2 ≡ t)
   pub behind : (t p : ℕ) → ¬ IsSomeAnd v.reuse (λ r. IsBehind X v got word t p r)
 
 -- With a step that found this number, and this random word. No step is taken where nothing is pending.

@@ -17,8 +17,10 @@ use bus_adoptcommit::Ratifier;
 /// or Own while it pins no tenure; Own of another tenure, or of one whose election chose another;
 /// Waiting of a sender that goes through its election; Behind with a row for each tenure, where
 /// the step loaded no presence, found another number than that of the tenure, or was taken without
-/// a page; or Going where one of these is due, or where it begins another tenure than the one
-/// whose stage it looked at.
+/// a page; or Going where one of these is due, where it begins another tenure than the one whose
+/// stage it looked at, or where after a second look an election runs of another tenure than the
+/// one that its presence names, one runs though the stage was another tenure's, or none runs though
+/// it was that tenure's.
 ///
 /// None is true without a step that is Idle where a message or a mark waits, or the batch is
 /// closed; Closed while the batch is open or its mark waits; Spent while a tenure is left, or
