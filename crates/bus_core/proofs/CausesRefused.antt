@@ -24,7 +24,7 @@ use Rattle.bus_tenure.specs.Core.{Core, frame_len}
 use Rattle.bus_tenure.specs.declared.pages.Page.{Page}
 use Rattle.bus_tenure.specs.declared.phases.Phase.{Phase}
 use Rattle.bus_tenure.specs.Elections.{Elector, elections}
-use Rattle.bus_tenure.specs.declared.phases.Phase.TheVariants.{Resting, Electing, Holding}
+use Rattle.bus_tenure.specs.declared.phases.Phase.TheVariants.{Electing, Holding}
 use Rattle.bus_tenure.proofs.Looking.{looks_at_rest}
 use Rattle.bus_core.specs.Causes.{HasCause, StandsInside, StandsInRow, LeavesTenure, AsLoser, AsHolder, AsLate}
 use Rattle.bus_core.specs.CausesRefuse.{IsOfElection, RefusesOwn, RefusesApart, RefusesAgain, RefusesCauses}
@@ -43,6 +43,10 @@ same_pinned t u i = cc
 -- or is looked at again
 same_validating : (t u : ℕ) → Validating t ≡ Validating u → t ≡ u
 same_validating t u i = cc
+
+-- or is parted from
+same_unpinning : (t u : ℕ) → Unpinning t ≡ Unpinning u → t ≡ u
+same_unpinning t u i = cc
 
 -- ---- a page that is held
 -- one phase has so many words stored
@@ -188,10 +192,10 @@ module _ {E : Type 0} (v : Participant E) where
   leaves_away (AsLate u q) e = let bad = sym e ∙ q in cc
 
   -- and has lost it, or taken its page
-  leaves_undone : LeavesTenure v → (t : ℕ) → v.pin ≡ Unpinning t → v.lost ≡ None → v.core.phase ≡ Resting → ⊥
-  leaves_undone (AsLoser u o q l r) t e none rests = let bad = sym none ∙ l in cc
-  leaves_undone (AsHolder u q h) t e none rests = let bad = sym (ap held_of rests) ∙ h in cc
-  leaves_undone (AsLate u q) t e none rests = let bad = sym e ∙ q in cc
+  leaves_undone : LeavesTenure v → (t : ℕ) → v.pin ≡ Unpinning t → v.lost ≡ None → held_of v.core.phase ≢ Some t → ⊥
+  leaves_undone (AsLoser u o q l r) t e none other = let bad = sym none ∙ l in cc
+  leaves_undone (AsHolder u q h) t e none other = other (h ∙ ap Some (same_unpinning u t (sym q ∙ e)))
+  leaves_undone (AsLate u q) t e none other = let bad = sym e ∙ q in cc
 
 module _ {S : Type 0} (P : Protocol S Bool Verdict) where
   -- what no sender has a cause for in its tenures
@@ -239,7 +243,8 @@ module _ {S : Type 0} (P : Protocol S Bool Verdict) where
     unmarked_reads = λ is w. let x = same_stage P v.core _ _ is w.1 in absurd cc;
     marks_again = λ stage is other w. other (same_stage P v.core stage _ is w.1);
     reads_mark_again = λ coin is w. let x = same_stage P v.core (AskCoin coin) _ is w.1 in absurd cc;
-    unread_votes = λ is w. let x = same_stage P v.core _ _ is w.1.asks in absurd cc;
+    unasking_votes = λ stage is other w. other w.1.coin (same_stage P v.core stage _ is w.1.asks);
+    unasking_counts = λ stage is other w. other w.1.coin (same_stage P v.core stage _ is w.1.asks);
     counting_votes = λ is w.
         let x = same_stage P v.core _ _ is.asks w.1.asks in
         let y = is.stands in
