@@ -38,7 +38,8 @@ use Rattle.bus_tenure.specs.declared.turns.Turn.{Turn as Answered}
 use Rattle.bus_tenure.proofs.Situated.{tells}
 use Rattle.bus_world.specs.World.{IsLayout, first_page, RecvDoes}
 use Rattle.bus_world.specs.Proved.Sending.{Part, Fits, Sending, standing_of, least_of, stands_at}
-use Rattle.bus_core.specs.Reusing.Participants.{Due, sizes_with, log_from, place_for, reclaim_due, due_reclaimed, due_home, due_beside, core_looked, core_seen, pin_seen, pin_elected}
+use Rattle.bus_core.specs.Reusing.Participants.{sizes_with, log_from, core_seen, pin_seen, pin_elected}
+use Rattle.bus_core.specs.Proved.ParticipantTable.{Due, place_for, reclaim_due, due_reclaimed, due_home, due_beside, core_looked}
 use Rattle.bus_world.specs.Turning.{number_found, core_with_page}
 use Rattle.bus_world.specs.Proved.Machines.{core_after, home_after, owners_after, can_put, can_close}
 use Rattle.bus_world.specs.Proved.CyclicProtocols.{CyclicProtocol, IsNewProtocol, Led, NewProtocol, Turned, PutIn, MarkedIn, Heard, going_actions, due_actions, due_in, words_stepped, word_found, protocol_pin_stepped, protocol_reclaimed, protocol_after_going, protocol_after, trails_with}
