@@ -28,7 +28,8 @@ use Rattle.bus_presence.specs.Reclamation.{ReclamationSizes, Reclamation, Trails
 use Rattle.bus_presence.proofs.ReclamationLaws.{Keeps, keeps, safe, put_same, lt_tells}
 use Rattle.bus_presence.proofs.RowLaws.{IsLive, alive_pinned}
 use Rattle.bus_tenure.specs.Core.{Core, Election, Layout, row_at, log_at, frame_len, has_room}
-use Rattle.bus_tenure.specs.Situations.{Situation, IsClosed, IsIdle, IsSpent, LooksAtStage, Elects, TakesPage, AwaitsPage, StoresWord, StoresLength, GivesBack, HasHanded, situation_of, situation_at, resting, op_at, kind_at, tenure_at, chosen_at, waits, core_begun, core_elected, core_at_rest}
+use Rattle.bus_tenure.specs.Situations.{Situation, IsClosed, IsIdle, IsSpent, LooksAtStage, Elects, TakesPage, AwaitsPage, StoresWord, StoresLength, GivesBack, HasHanded, situation_of, situation_at, resting, op_at, kind_at, waits, core_begun, core_elected, core_at_rest}
+use Rattle.bus_tenure.specs.Proved.LineParts.{tenure_at, chosen_at}
 use Rattle.bus_tenure.specs.declared.pages.Page.{Page}
 use Rattle.bus_tenure.specs.declared.phases.Reason.{Reason}
 use Rattle.bus_tenure.specs.declared.phases.Reason.TheVariants.{Sent, FoundEnd, NoRoom}

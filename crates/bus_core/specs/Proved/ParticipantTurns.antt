@@ -10,7 +10,8 @@ use Rattle.bus_presence.specs.Reclaimers.{Reclaiming, reclaim_fed, behind_of}
 use Rattle.bus_presence.specs.declared.pins.Pin.{Pin}
 use Rattle.bus_presence.specs.declared.pins.Pin.TheVariants.{Away, Announcing, Validating, Pinned, Unpinning, Invalidated}
 use Rattle.bus_tenure.specs.Core.{Core, Election}
-use Rattle.bus_tenure.specs.Situations.{Situation, op_at, kind_at, wants_at, rest_at}
+use Rattle.bus_tenure.specs.Situations.{Situation, op_at, kind_at, wants_at}
+use Rattle.bus_tenure.specs.Proved.LineParts.{rest_at}
 use Rattle.bus_tenure.specs.declared.turns.Turn.{Turn}
 use Rattle.bus_tenure.specs.declared.turns.Turn.TheVariants as turn
 use Rattle.bus_core.specs.Reusing.Participants.{log_from}

@@ -13,7 +13,8 @@ use Rattle.bus_presence.specs.Reclaimers.{Reclaiming, reclaim_fed}
 use Rattle.bus_presence.specs.Reclamation.{Reclamation, Trails, no_trails, new_reclamation, trails_with_entry, number_of_step, words_after as reclamation_words}
 use Rattle.bus_presence.specs.declared.pins.Pin.TheVariants.{Away}
 use Rattle.bus_tenure.specs.Core.{Core, Election, Layout}
-use Rattle.bus_tenure.specs.Situations.{Situation, line_of, op_at, kind_at, tenure_at, chosen_at}
+use Rattle.bus_tenure.specs.Situations.{Situation, line_of, op_at, kind_at}
+use Rattle.bus_tenure.specs.Proved.LineParts.{tenure_at, chosen_at}
 use Rattle.bus_tenure.specs.declared.pages.Page.{Page}
 use Rattle.bus_tenure.specs.declared.turns.Turn.{Turn as Answered}
 use Rattle.bus_core.specs.Reusing.Participants.{log_from}
