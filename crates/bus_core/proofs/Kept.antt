@@ -15,6 +15,7 @@ use Rattle.bus_tenure.specs.declared.pages.Page.{Page}
 use Rattle.bus_tenure.specs.declared.phases.Phase.{Phase}
 use Rattle.bus_tenure.specs.declared.phases.Phase.TheVariants.{Resting, Electing, Taken, Holding, Giving}
 use Rattle.bus_tenure.specs.declared.phases.Reason.{Reason}
+use Rattle.bus_tenure.proofs.Looking.{looks_at_rest}
 use Rattle.bus_tenure.proofs.Situated.{tells}
 use Rattle.bus_core.specs.Keeping.{ReuseKeeps, sender}
 use Rattle.bus_core.specs.Reusing.Keeping.{IsBound, IsOutside, PinKeeps, ReclaimerKeeps, LostKeeps, held_of}
@@ -139,8 +140,8 @@ module _ {E : Type 0} (X : Election E) (W : Layout → ℕ) (B : Layout → ℕ 
         let belongs = law.starts c.layout c.me (row_at c.layout t) k.me_below (let f = k.sizes.few in omega arith) in
         kept (record c.queue { busy = true }) c.least (Electing t started) (Pinned t) r.reclaimer None
         record { election = started; is = refl; belongs = belongs; below = h.below }
-        (unreclaimed sizes c.phase (Electing t started) r.reclaimer k.reclaimer (ap held_of h.rests) refl) (λ u e. absurd cc)
-    validated t h false = repinned (Invalidated t) (subst IsOutside (sym h.rests) tt) (λ u e. cc)
+        (unreclaimed sizes c.phase (Electing t started) r.reclaimer k.reclaimer (ap held_of h.looks.rests) refl) (λ u e. absurd cc)
+    validated t h false = repinned (Invalidated t) (subst IsOutside (sym h.looks.rests) tt) (λ u e. cc)
 
     -- ---- in its tenure
     -- whose pin asks for no step has lost to nobody
@@ -189,7 +190,7 @@ module _ {E : Type 0} (X : Election E) (W : Layout → ℕ) (B : Layout → ℕ 
       by true b i j = away c.least
       by false true i j = away (got / 2)
       by false false i j = kept c.queue c.least c.phase (Announcing (got / 2)) r.reclaimer r.lost
-          record { rests = rests; looks = left; least = bound (got % 2 == 0) refl i; below = leb-false _ _ j } k.reclaimer
+          record { looks = looks_at_rest c rests left; least = bound (got % 2 == 0) refl i; below = leb-false _ _ j } k.reclaimer
           (lost_on calm c.phase (Announcing (got / 2)) (λ t e. absurd cc))
 
     -- a step of its election

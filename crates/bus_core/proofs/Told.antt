@@ -180,7 +180,7 @@ module _ {E : Type 0} (X : Election E) (v : Sender E) (got word : ℕ) where
         by : (reuse : Option Reuse) → ReuseKeeps width Belongs v.core reuse → IsSomeAnd reuse (λ r. r.pin ≡ Validating t)
             → v.core.phase ≡ Resting
         by None h p = absurd p
-        by (Some r) h p = let may : IsBound v.core t = subst (PinKeeps Belongs v.core) p h.pin in may.rests
+        by (Some r) h p = let may : IsBound v.core t = subst (PinKeeps Belongs v.core) p h.pin in may.looks.rests
 
       -- where it finds the tenure that its presence names, it begins that
       enters_there : got / 2 ≡ t → RunsElection ((line X v (Validates t)).fed got word).core t

@@ -5,7 +5,7 @@ use Rattle.bus_register.specs.declared.registers.SenderNo.{SenderNo}
 use Rattle.bus_batch.specs.Batches.{next_of, HasSomething}
 use Rattle.bus_batch.specs.declared.batches.Phase.TheVariants as batch
 use Rattle.bus_presence.specs.Reclamation.{presence_at}
-use Rattle.bus_presence.specs.declared.pins.Pin.TheVariants.{Announcing, Validating, Pinned, Unpinning, Invalidated}
+use Rattle.bus_presence.specs.declared.pins.Pin.TheVariants.{Announcing, Validating, Unpinning, Invalidated}
 use Rattle.bus_tenure.specs.Causes.{LooksForTenure}
 use Rattle.bus_tenure.specs.Core.{Core, Election, is_marking, is_closing, is_leaving}
 use Rattle.bus_tenure.specs.Seen.{HasElection, AwaitsItsPage}
@@ -14,6 +14,7 @@ use Rattle.bus_tenure.specs.declared.phases.Phase.TheVariants.{Resting, Electing
 use Rattle.bus_tenure.specs.declared.turns.Turn.{Turn}
 use Rattle.bus_tenure.specs.declared.turns.Turn.TheVariants.{Idle, Waiting, Going, Lost, Own, Delivered, Left, Full, Closed, Spent, Behind}
 use Rattle.bus_core.specs.Keeping.{IsAway}
+use Rattle.bus_core.specs.Places.{StandsIn}
 use Rattle.bus_core.specs.Reusing.Participants.{sizes_with}
 use Rattle.bus_core.specs.Reusing.Keeping.{IsRowReady, held_of}
 use Rattle.bus_core.specs.Reusing.Telling.{Returns, HasPublished, LacksRoom, FindsEnd}
@@ -119,7 +120,7 @@ Loses X v got word t o = LosesBy X v got word t o v.reuse
 
 -- its election of this tenure had ended and chosen it; where rows are used again it stood in that tenure
 pub record IsChosen {E : Type 0} (X : Election E) (v : Sender E) (t : ℕ) : Type 0 where
-  pub pinned : IfSome v.reuse (λ r. r.pin ≡ Pinned t)
+  pub pinned : StandsIn v.reuse t
   pub election : E
   pub elects : v.core.phase ≡ Electing t election
   pub chosen : X.owner election ≡ Some v.core.me

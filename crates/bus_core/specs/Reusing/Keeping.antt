@@ -7,7 +7,7 @@ use Rattle.bus_presence.specs.Reclamation.{ReclamationSizes, IsReady, presence_a
 use Rattle.bus_presence.specs.declared.pins.Pin.{Pin}
 use Rattle.bus_presence.specs.declared.pins.Pin.TheVariants.{Away, Announcing, Validating, Pinned, Unpinning, Invalidated}
 use Rattle.bus_tenure.specs.Core.{Core, row_at}
-use Rattle.bus_tenure.specs.Situations.{LooksAtStage, resting}
+use Rattle.bus_tenure.specs.Causes.{LooksForTenure}
 use Rattle.bus_tenure.specs.Keeping.{AreSizes}
 use Rattle.bus_tenure.specs.declared.phases.Reason.{Reason}
 use Rattle.bus_tenure.specs.declared.phases.Phase.{Phase}
@@ -17,8 +17,7 @@ use Rattle.bus_core.specs.Reusing.Turns.{Participant, sizes_of}
 
 -- it has begun no tenure yet, and may begin this one
 pub record IsBound {E : Type 0} (c : Core E) (t : ℕ) : Type 0 where
-  pub rests : c.phase ≡ Resting
-  pub looks : resting c ≡ LooksAtStage
+  pub looks : LooksForTenure c
   pub least : c.least ≤ t
   pub below : t < c.layout.rows
 
