@@ -14,7 +14,8 @@ use Rattle.bus_presence.specs.Reclamation.{presence_at}
 use Rattle.bus_presence.specs.Pins.{step_at}
 use Rattle.bus_tenure.specs.Situations.{Situation as Own, IsClosed, IsIdle, IsSpent, LooksAtStage, Elects, TakesPage, AwaitsPage, StoresWord, StoresLength, GivesBack, HasHanded, line_of, situation_of as own_situation}
 use Rattle.bus_core.specs.Senders.{Does, Scans, Clears, reclaiming, at_home, pinning}
-use Rattle.bus_core.specs.Reusing.Participants.{log_from, due_reclaimed, due_home, due_beside, reclaim_due}
+use Rattle.bus_core.specs.Reusing.Participants.{log_from}
+use Rattle.bus_core.specs.Proved.ParticipantTable.{due_reclaimed, due_home, due_beside, reclaim_due}
 use Rattle.bus_core.specs.Reusing.Turns.{Participant, sizes_of}
 use Rattle.bus_core.specs.Table.{line}
 use Rattle.bus_core.specs.Proved.Bridge.{line_with_a_row_each, AtNone, AtSome, IsLineOf, with_a_row_each, with_rows_again}

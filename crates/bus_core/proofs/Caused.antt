@@ -1,5 +1,4 @@
 -- Each kind of step has its cause.
-use Rattle.std.specs.Prelude.{◌⊎◌}
 use Rattle.std.proofs.Common.{◌≡◌, inl, inr, ℕ, Bool, true, false, Option, Some, None, IfSome, IsSomeAnd, is_some, refl, sym, ◌∙◌, ap, subst}
 use Rattle.bus_register.specs.declared.kinds.Kind.{Kind}
 use Rattle.bus_register.specs.declared.registers.Op.{Op}
@@ -12,7 +11,7 @@ use Rattle.bus_ownerbits.specs.Sizes.{decision_cost}
 use Rattle.bus_binconsensus.specs.Decisions.{decisions}
 use Rattle.bus_presence.specs.Reclaimers.{Reclaiming}
 use Rattle.bus_presence.specs.declared.pins.Pin.TheVariants.{Announcing, Validating, Unpinning, Invalidated}
-use Rattle.bus_tenure.specs.Causes.{LooksForTenure, IsElected, LeavesPage, HasHandedOn}
+use Rattle.bus_tenure.specs.Causes.{LooksForTenure, IsElected, HasHandedOn}
 use Rattle.bus_tenure.specs.Core.{Core, Election, row_at}
 use Rattle.bus_tenure.specs.Elections.{Elector, ElectorKeeps, elections, election_with}
 use Rattle.bus_tenure.specs.Keeping.{SenderInvariant, PhaseKeeps, IsElecting}
@@ -21,7 +20,7 @@ use Rattle.bus_tenure.specs.declared.phases.Phase.TheVariants.{Electing}
 use Rattle.bus_tenure.proofs.Caused.{word_cause, length_cause, back_cause, timely}
 use Rattle.bus_tenure.proofs.Looking.{looks_at_rest}
 use Rattle.bus_tenure.proofs.Situated.{tells}
-use Rattle.bus_core.specs.Causes.{HasCause, IsCaused, StandsInside, StandsInRow, EntersTenure, LooksAgain, LeavesTenure, AsLoser, AsHolder, AsLate, MakesRowReady, AsksSender, ClearsWord, ReturnsPage}
+use Rattle.bus_core.specs.Causes.{HasCause, IsCaused, StandsInside, StandsInRow, EntersTenure, LooksAgain, LeavesTenure, AsLoser, AsHolder, AsLate, MakesRowReady, AsksSender, ClearsWord, HasRowReady}
 use Rattle.bus_core.specs.Keeping.{ReuseKeeps, IsAway}
 use Rattle.bus_core.specs.Places.{StandsIn}
 use Rattle.bus_core.specs.Reusing.Keeping.{IsBound, IsOutside, IsRowReady, PinKeeps, LostKeeps, ParticipantKeeps, held_of}
@@ -71,7 +70,7 @@ module _ {E : Type 0} (X : Election E) (width : ℕ) (Belongs : ℕ → E → Ty
   leaves t w = some_kept width Belongs c (λ r. r.pin ≡ Unpinning t) (λ r. LeavesTenure (participant_of c r)) reuse k
       (λ r h e. by r e r.lost refl h.lost) w
     where
-      by : (r : Reuse) → r.pin ≡ Unpinning t → (l : Option SenderNo) → r.lost ≡ l → LostKeeps c.phase r.pin l
+      by : (r : Reuse) → r.pin ≡ Unpinning t → (l : Option SenderNo) → r.lost ≡ l → LostKeeps c.me c.phase r.pin l
           → LeavesTenure (participant_of c r)
       by r e None q kept = AsHolder t e (kept t e)
       by r e (Some o) q kept = AsLoser t o e q kept.rests
@@ -97,16 +96,16 @@ module _ {E : Type 0} (X : Election E) (width : ℕ) (Belongs : ℕ → E → Ty
       }
 
   -- who gives the page back, or has handed it on, has made the next row ready
-  returns_page : (t : ℕ) → Returns t (situation_of X c) → LeavesPage c ⊎ HasHandedOn c → IsOutside c.phase → held_of c.phase ≡ Some t
-      → IfSome reuse (λ r. GoesCalmly r (situation_of X c)) → IfSome reuse (λ r. ReturnsPage (participant_of c r))
-  returns_page t w why out held g =
+  made_ready : (t : ℕ) → Returns t (situation_of X c) → IsOutside c.phase → held_of c.phase ≡ Some t
+      → IfSome reuse (λ r. GoesCalmly r (situation_of X c)) → IfSome reuse (λ r. HasRowReady (participant_of c r))
+  made_ready t w out held g =
       by reuse (goes_away width Belongs c reuse k out _ g)
       (row_ready width Belongs c reuse k t (situation_of X c) w (λ reason i. tells X c (HasHanded t reason) i) held g)
     where
       by : (r : Option Reuse) → IsAway r → IfSome r (λ r. IsRowReady (sizes_with c.layout r.rows) t r.reclaimer)
-          → IfSome r (λ r. ReturnsPage (participant_of c r))
+          → IfSome r (λ r. HasRowReady (participant_of c r))
       by None away ready = tt
-      by (Some r) away ready = record { away = away; returns = why; tenure = t; held = held; ready = ready }
+      by (Some r) away ready = record { away = away; tenure = t; held = held; ready = ready }
 
 -- ---- in an election
 module _ {E : Type 0} (v : Sender E) (t : ℕ) (e : E) (elects : v.core.phase ≡ Electing t e) where
@@ -168,7 +167,7 @@ module _ {S : Type 0} (kind_of : S → Option Kind) (op : S → ℕ → Option O
     by_situation (Does IsSpent) i = tt
     by_situation (Does LooksAtStage) i =
         let looks = looks_cause X v.core (situation_tells X v (Does LooksAtStage) i).0 in
-        (away LooksAtStage i (subst IsOutside (sym looks.rests) tt), looks)
+        record { away = away LooksAtStage i (subst IsOutside (sym looks.rests) tt); looks = looks }
     by_situation (Does (Elects t e)) i =
         let w = tells X v.core (Elects t e) (situation_tells X v (Does (Elects t e)) i).0 in
         election_cause P v t e w.0 (no_owner (X.owner e) w.1) k
@@ -195,7 +194,7 @@ module _ {S : Type 0} (kind_of : S → Option Kind) (op : S → ℕ → Option O
         let at = tells X v.core (GivesBack t page reason) s.0 in
         let back = back_cause v.core t page at.0 at.1 at.2 reason (sym (ap (situation_at X v.core) at.2) ∙ s.0) in (
           inl back,
-          returns_page X width Belongs v.core v.reuse g t (subst (Returns t) (sym s.0) (Gives page reason)) (inl back)
+          made_ready X width Belongs v.core v.reuse g t (subst (Returns t) (sym s.0) (Gives page reason))
               (subst IsOutside (sym at.2) tt) (ap held_of at.2) s.1,
         )
     by_situation (Does (HasHanded t reason)) i =
@@ -203,7 +202,7 @@ module _ {S : Type 0} (kind_of : S → Option Kind) (op : S → ℕ → Option O
         let at = tells X v.core (HasHanded t reason) s.0 in
         let handed : HasHandedOn v.core = record { tenure = t; reason = reason; gives = at } in (
           inr handed,
-          returns_page X width Belongs v.core v.reuse g t (subst (Returns t) (sym s.0) (Says reason)) (inr handed)
+          made_ready X width Belongs v.core v.reuse g t (subst (Returns t) (sym s.0) (Says reason))
               (subst IsOutside (sym at) tt) (ap held_of at) s.1,
         )
     by_situation (Announces t) i = enters X width Belongs v.core v.reuse g t (situation_tells X v (Announces t) i)
@@ -217,8 +216,7 @@ module _ {S : Type 0} (kind_of : S → Option Kind) (op : S → ℕ → Option O
         (λ r h w. record {
           reclaimer = s;
           makes = makes_ready X width Belongs v.core v.reuse g r h s w.0;
-          all_scanned = w.1.passed;
-          word_left = w.1.left;
+          clearing = w.1;
         })
         (situation_tells X v (Clears s) i)
 

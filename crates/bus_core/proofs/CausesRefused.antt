@@ -24,8 +24,7 @@ use Rattle.bus_tenure.specs.Core.{Core, frame_len}
 use Rattle.bus_tenure.specs.declared.pages.Page.{Page}
 use Rattle.bus_tenure.specs.declared.phases.Phase.{Phase}
 use Rattle.bus_tenure.specs.Elections.{Elector, elections}
-use Rattle.bus_tenure.specs.declared.phases.Phase.TheVariants.{Resting, Electing, Holding}
-use Rattle.bus_tenure.proofs.Looking.{looks_at_rest}
+use Rattle.bus_tenure.specs.declared.phases.Phase.TheVariants.{Electing, Holding}
 use Rattle.bus_core.specs.Causes.{HasCause, StandsInside, StandsInRow, LeavesTenure, AsLoser, AsHolder, AsLate}
 use Rattle.bus_core.specs.CausesRefuse.{IsOfElection, RefusesOwn, RefusesApart, RefusesAgain, RefusesCauses}
 use Rattle.bus_core.specs.Keeping.{sender}
@@ -43,6 +42,10 @@ same_pinned t u i = cc
 -- or is looked at again
 same_validating : (t u : ℕ) → Validating t ≡ Validating u → t ≡ u
 same_validating t u i = cc
+
+-- or is parted from
+same_unpinning : (t u : ℕ) → Unpinning t ≡ Unpinning u → t ≡ u
+same_unpinning t u i = cc
 
 -- ---- a page that is held
 -- one phase has so many words stored
@@ -188,19 +191,19 @@ module _ {E : Type 0} (v : Participant E) where
   leaves_away (AsLate u q) e = let bad = sym e ∙ q in cc
 
   -- and has lost it, or taken its page
-  leaves_undone : LeavesTenure v → (t : ℕ) → v.pin ≡ Unpinning t → v.lost ≡ None → v.core.phase ≡ Resting → ⊥
-  leaves_undone (AsLoser u o q l r) t e none rests = let bad = sym none ∙ l in cc
-  leaves_undone (AsHolder u q h) t e none rests = let bad = sym (ap held_of rests) ∙ h in cc
-  leaves_undone (AsLate u q) t e none rests = let bad = sym e ∙ q in cc
+  leaves_undone : LeavesTenure v → (t : ℕ) → v.pin ≡ Unpinning t → v.lost ≡ None → held_of v.core.phase ≢ Some t → ⊥
+  leaves_undone (AsLoser u o q l r) t e none other = let bad = sym none ∙ l in cc
+  leaves_undone (AsHolder u q h) t e none other = other (h ∙ ap Some (same_unpinning u t (sym q ∙ e)))
+  leaves_undone (AsLate u q) t e none other = let bad = sym e ∙ q in cc
 
 module _ {S : Type 0} (P : Protocol S Bool Verdict) where
   -- what no sender has a cause for in its tenures
   own_refused : (v : Sender (Elector S)) → RefusesOwn P v
   own_refused v = record {
-    looks_with_nothing = λ nothing opened w. sends_nothing _ _ nothing opened w.1.something;
-    looks_once_closed = λ closed w. w.1.not_closed closed;
-    looks_past_the_last = λ past w. let left = w.1.tenure_left in omega arith;
-    looks_in_an_election = λ t e runs w. let bad = sym w.1.rests ∙ runs in cc;
+    looks_with_nothing = λ nothing opened w. sends_nothing _ _ nothing opened w.looks.something;
+    looks_once_closed = λ closed w. w.looks.not_closed closed;
+    looks_past_the_last = λ past w. let left = w.looks.tenure_left in omega arith;
+    looks_in_an_election = λ t e runs w. let bad = sym w.looks.rests ∙ runs in cc;
     resting_takes = λ rests w. let x = w.1.elects in absurd cc;
     resting_stores = λ rests w. let x = w.1.holds.holds in absurd cc;
     resting_publishes = λ rests w. let x = w.1.holds.holds in absurd cc;
@@ -239,7 +242,8 @@ module _ {S : Type 0} (P : Protocol S Bool Verdict) where
     unmarked_reads = λ is w. let x = same_stage P v.core _ _ is w.1 in absurd cc;
     marks_again = λ stage is other w. other (same_stage P v.core stage _ is w.1);
     reads_mark_again = λ coin is w. let x = same_stage P v.core (AskCoin coin) _ is w.1 in absurd cc;
-    unread_votes = λ is w. let x = same_stage P v.core _ _ is w.1.asks in absurd cc;
+    unasking_votes = λ stage is other w. other w.1.coin (same_stage P v.core stage _ is w.1.asks);
+    unasking_counts = λ stage is other w. other w.1.coin (same_stage P v.core stage _ is w.1.asks);
     counting_votes = λ is w.
         let x = same_stage P v.core _ _ is.asks w.1.asks in
         let y = is.stands in
@@ -322,12 +326,11 @@ module _ {S : Type 0} (P : Protocol S Bool Verdict) where
         elects_invalidated = λ k t i e w. let s = stands_again c r k i w in let bad = sym e ∙ s.pin in cc;
         enters_the_past = λ t e past w. let same = same_tenure t w.tenure (sym e ∙ w.pin) in let may = w.may.least in omega arith;
         looks_again_at_the_past = λ t e past w. let same = same_validating t w.tenure (sym e ∙ w.pin) in let may = w.may.least in omega arith;
-        enters_with_nothing = λ nothing opened w. sends_nothing _ _ nothing opened (looks_at_rest c w.may.rests w.may.looks).something;
-        looks_again_with_nothing = λ nothing opened w.
-            sends_nothing _ _ nothing opened (looks_at_rest c w.may.rests w.may.looks).something;
+        enters_with_nothing = λ nothing opened w. sends_nothing _ _ nothing opened w.may.looks.something;
+        looks_again_with_nothing = λ nothing opened w. sends_nothing _ _ nothing opened w.may.looks.something;
         withdraws_away = λ e w. leaves_away (participant_of c r) w e;
         withdraws_pinned = λ t e w. leaves_pinned (participant_of c r) w t e;
-        withdraws_undone = λ t e none rests w. leaves_undone (participant_of c r) w t e none rests;
+        withdraws_undone = λ t e none other w. leaves_undone (participant_of c r) w t e none other;
         asks_at_rest = λ rests w. let bad = sym (ap held_of rests) ∙ w.makes.held in cc;
         asks_past_all = λ s at passed w.
             let same = same_Some _ _ (sym at ∙ w.makes.reclaims) in
@@ -335,7 +338,7 @@ module _ {S : Type 0} (P : Protocol S Bool Verdict) where
             omega arith;
         clears_before_it_scanned = λ s at left w.
             let same = same_Some _ _ (sym at ∙ w.makes.reclaims) in
-            let scanned = subst (λ (r : Reclaiming). r.senders ≤ r.scanned) (sym same) w.all_scanned in
+            let scanned = subst (λ (r : Reclaiming). r.senders ≤ r.scanned) (sym same) w.clearing.passed in
             omega arith;
         clears_elsewhere = λ s t at held other w.
             let row = ap (λ (r : Reclaiming). r.row) (same_Some _ _ (sym at ∙ w.makes.reclaims)) in
@@ -343,12 +346,12 @@ module _ {S : Type 0} (P : Protocol S Bool Verdict) where
             other (row ∙ w.makes.after.row ∙ ap (λ u. row_of x (u + 1)) same);
         clears_past_all = λ s at cleared w.
             let same = same_Some _ _ (sym at ∙ w.makes.reclaims) in
-            let left = subst (λ (r : Reclaiming). r.cleared < r.width) (sym same) w.word_left in
+            let left = subst (λ (r : Reclaiming). r.cleared < r.width) (sym same) w.clearing.left in
             omega arith;
         asks_unsent = λ tenure page stored at goes fits w. unsent_stays c tenure page stored at goes fits w.makes.leaves;
         clears_unsent = λ tenure page stored at goes fits w. unsent_stays c tenure page stored at goes fits w.makes.leaves;
-        looks_while_unpinning = λ t e w. let bad = sym e ∙ w.0 in cc;
-        looks_invalidated = λ t e w. let bad = sym e ∙ w.0 in cc;
+        looks_while_unpinning = λ t e w. let bad = sym e ∙ w.away in cc;
+        looks_invalidated = λ t e w. let bad = sym e ∙ w.away in cc;
         publishes_while_unpinning = λ t e w. let bad = sym e ∙ w.0 in cc;
         publishes_invalidated = λ t e w. let bad = sym e ∙ w.0 in cc;
         gives_back_unready = λ s at unreclaimed w. true≢false (sym (subst (IsReady x w.1.tenure) at w.1.ready.ready) ∙ unreclaimed);

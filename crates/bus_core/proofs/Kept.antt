@@ -1,6 +1,6 @@
 -- Each line of the table keeps what a sender keeps.
 use Rattle.std.proofs.Common.{◌≡◌, ◌≢◌, inl, inr, ℕ, ◌+◌, ◌-◌, ◌/◌, ◌%◌, ◌<◌, ◌≤◌, Bool, true, false, Option, Some, None, IsSome, IfSome, nat_lt, nat_le, ◌==◌, cond, refl, sym, ◌∙◌, ap, subst, arith}
-use Rattle.std.proofs.lemmas.Bool.{leb-false, ltb-false, lt-ltb}
+use Rattle.std.proofs.lemmas.Bool.{leb-false, ltb-false, lt-ltb, eqb-false}
 use Rattle.std.proofs.lemmas.Option.{same_Some}
 use Rattle.bus_register.specs.declared.registers.Op.{Op}
 use Rattle.bus_register.specs.declared.registers.SenderNo.{SenderNo}
@@ -15,6 +15,7 @@ use Rattle.bus_tenure.specs.declared.pages.Page.{Page}
 use Rattle.bus_tenure.specs.declared.phases.Phase.{Phase}
 use Rattle.bus_tenure.specs.declared.phases.Phase.TheVariants.{Resting, Electing, Taken, Holding, Giving}
 use Rattle.bus_tenure.specs.declared.phases.Reason.{Reason}
+use Rattle.bus_tenure.proofs.Looking.{looks_at_rest}
 use Rattle.bus_tenure.proofs.Situated.{tells}
 use Rattle.bus_core.specs.Keeping.{ReuseKeeps, sender}
 use Rattle.bus_core.specs.Reusing.Keeping.{IsBound, IsOutside, PinKeeps, ReclaimerKeeps, LostKeeps, held_of}
@@ -108,7 +109,7 @@ module _ {E : Type 0} (X : Election E) (W : Layout → ℕ) (B : Layout → ℕ 
 
     -- all of which it may be with, if its pin, its reclamation and whom it lost to are kept
     kept : (q : Pending) (least : ℕ) (p : Phase E) (u : Pin) (s : Option Reclaiming) (l : Option SenderNo)
-        → PinKeeps (B c.layout c.me) (record c { queue = q; least = least; phase = p }) u → ReclaimerKeeps sizes p s → LostKeeps p u l
+        → PinKeeps (B c.layout c.me) (record c { queue = q; least = least; phase = p }) u → ReclaimerKeeps sizes p s → LostKeeps c.me p u l
         → Keeps (with q least p u s l)
     kept q least p u s l pin reclaimer lost = record {
       sizes = k.sizes;
@@ -139,20 +140,20 @@ module _ {E : Type 0} (X : Election E) (W : Layout → ℕ) (B : Layout → ℕ 
         let belongs = law.starts c.layout c.me (row_at c.layout t) k.me_below (let f = k.sizes.few in omega arith) in
         kept (record c.queue { busy = true }) c.least (Electing t started) (Pinned t) r.reclaimer None
         record { election = started; is = refl; belongs = belongs; below = h.below }
-        (unreclaimed sizes c.phase (Electing t started) r.reclaimer k.reclaimer (ap held_of h.rests) refl) (λ u e. absurd cc)
-    validated t h false = repinned (Invalidated t) (subst IsOutside (sym h.rests) tt) (λ u e. cc)
+        (unreclaimed sizes c.phase (Electing t started) r.reclaimer k.reclaimer (ap held_of h.looks.rests) refl) (λ u e. absurd cc)
+    validated t h false = repinned (Invalidated t) (subst IsOutside (sym h.looks.rests) tt) (λ u e. cc)
 
     -- ---- in its tenure
     -- whose pin asks for no step has lost to nobody
     unlost : IsCalm r.pin → r.lost ≡ None
     unlost calm = by r.lost refl k.lost where
-      by : (l : Option SenderNo) → r.lost ≡ l → LostKeeps c.phase r.pin l → r.lost ≡ None
+      by : (l : Option SenderNo) → r.lost ≡ l → LostKeeps c.me c.phase r.pin l → r.lost ≡ None
       by None e h = e
       by (Some o) e h = absurd (elim calm [ inl a ↦ (let bad = sym a ∙ h.parts in cc) | inr p ↦ (let bad = sym p.1 ∙ h.parts in cc) ])
 
     -- so whom it lost to is kept with another phase and pin
-    lost_on : IsCalm r.pin → (p : Phase E) (u : Pin) → ((t : ℕ) → u ≡ Unpinning t → held_of p ≡ Some t) → LostKeeps p u r.lost
-    lost_on calm p u holds = subst (LostKeeps p u) (sym (unlost calm)) holds
+    lost_on : IsCalm r.pin → (p : Phase E) (u : Pin) → ((t : ℕ) → u ≡ Unpinning t → held_of p ≡ Some t) → LostKeeps c.me p u r.lost
+    lost_on calm p u holds = subst (LostKeeps c.me p u) (sym (unlost calm)) holds
 
     -- who goes on, and whose election does not run, stays as it is
     goes : IsCalm r.pin → IsOutside c.phase → (q : Pending) (least : ℕ) (p : Phase E) (s : Option Reclaiming) → IsOutside p
@@ -189,7 +190,7 @@ module _ {E : Type 0} (X : Election E) (W : Layout → ℕ) (B : Layout → ℕ 
       by true b i j = away c.least
       by false true i j = away (got / 2)
       by false false i j = kept c.queue c.least c.phase (Announcing (got / 2)) r.reclaimer r.lost
-          record { rests = rests; looks = left; least = bound (got % 2 == 0) refl i; below = leb-false _ _ j } k.reclaimer
+          record { looks = looks_at_rest c rests left; least = bound (got % 2 == 0) refl i; below = leb-false _ _ j } k.reclaimer
           (lost_on calm c.phase (Announcing (got / 2)) (λ t e. absurd cc))
 
     -- a step of its election
@@ -204,17 +205,17 @@ module _ {E : Type 0} (X : Election E) (W : Layout → ℕ) (B : Layout → ℕ 
           record { election = next; is = refl; belongs = belongs; below = (runs_pinned (B c.layout c.me) c r.pin t e k.pin at).2 }
           (outside (Electing t next) refl) (lost_on calm (Electing t next) (Pinned t) (λ u e. absurd cc))
 
-      ends : (o : ℕ) (b : Bool)
+      ends : (o : ℕ) (b : Bool) → (o == c.me) ≡ b
           → Keeps (sender
           (cond b (record c { phase = Electing t next }) (record c { queue = record c.queue { busy = false }; least = t + 1; phase = Resting }))
           (Some (record r { pin = cond b (Pinned t) (Unpinning t); lost = cond b r.lost (Some record { 0 = o }) })))
-      ends o true = runs
-      ends o false = kept (record c.queue { busy = false }) (t + 1) Resting (Unpinning t) r.reclaimer (Some record { 0 = o }) tt
-          (outside Resting refl) record { tenure = t; parts = refl; rests = refl }
+      ends o true e = runs
+      ends o false e = kept (record c.queue { busy = false }) (t + 1) Resting (Unpinning t) r.reclaimer (Some record { 0 = o }) tt
+          (outside Resting refl) record { tenure = t; parts = refl; rests = refl; other = eqb-false o c.me e }
 
       by : (o : Option ℕ) → Keeps (sender (core_elected c t next o) (reuse_elected c (Some r) t o))
       by None = runs
-      by (Some o) = ends o (o == c.me)
+      by (Some o) = ends o (o == c.me) refl
 
     -- the page is taken
     takes : (t : ℕ) → IsCalm r.pin → Keeps (with c.queue c.least (Taken t) (Unpinning t) (reclaimer_after sizes t) r.lost)

@@ -1,15 +1,15 @@
 -- Each of the wrong answers is refused.
-use Rattle.std.proofs.Common.{◌≡◌, inl, inr, ℕ, ◌+◌, ◌/◌, ◌<◌, ◌≤◌, List, [], length, Bool, true, false, Option, Some, None, IfSome, IsSome, IsSomeAnd, arith, refl, sym, ◌∙◌, ap, subst}
+use Rattle.std.proofs.Common.{◌≡◌, ◌≢◌, inl, inr, ℕ, ◌+◌, ◌/◌, ◌<◌, ◌≤◌, List, [], length, Bool, true, false, Option, Some, None, IfSome, IsSome, IsSomeAnd, arith, refl, sym, ◌∙◌, ap, subst}
 use Rattle.std.proofs.lemmas.Bool.{true≢false}
 use Rattle.std.proofs.lemmas.Option.{same_Some}
 use Rattle.bus_register.specs.declared.registers.SenderNo.{SenderNo}
-use Rattle.bus_presence.specs.declared.pins.Pin.TheVariants.{Announcing, Pinned, Unpinning}
+use Rattle.bus_presence.specs.declared.pins.Pin.TheVariants.{Away, Announcing, Pinned, Unpinning}
 use Rattle.bus_tenure.specs.Causes.{LooksForTenure}
 use Rattle.bus_tenure.specs.Core.{Core, Election, Layout, frame_len, log_at, is_marking, is_closing, is_leaving}
 use Rattle.bus_tenure.specs.Situations.{IsIdle, Elects}
 use Rattle.bus_tenure.specs.declared.pages.Page.{Page}
 use Rattle.bus_tenure.specs.declared.phases.Phase.{Phase}
-use Rattle.bus_tenure.specs.declared.phases.Phase.TheVariants.{Resting, Electing, Holding}
+use Rattle.bus_tenure.specs.declared.phases.Phase.TheVariants.{Electing, Holding}
 use Rattle.bus_tenure.proofs.Situated.{tells}
 use Rattle.bus_core.specs.Reusing.Keeping.{held_of}
 use Rattle.bus_core.specs.Reusing.Telling.{HasPublished, Published, HandsOnSent, LacksRoom, FindsNoRoom, HandsOnFull, FindsEnd, Ended, HandsOnEnd}
@@ -24,7 +24,8 @@ use Rattle.bus_batch.specs.declared.messages.Mark.TheVariants as mark
 use Rattle.std.specs.Prelude.{◌⊎◌}
 use Rattle.bus_core.specs.Senders.{Sender, Does, situation}
 use Rattle.bus_core.specs.Table.{line, line_now}
-use Rattle.bus_core.specs.Telling.{LosesElection, PartsAsLoser, LosesBy, BeginsBy, RestIsTold, IsInvalidated}
+use Rattle.bus_core.specs.Telling.{HasBegunNone, LosesElection, PartsAsLoser, LosesBy, BeginsBy, RestTells, RestIsTold, IsInvalidated}
+use Rattle.bus_tenure.specs.declared.turns.Turn.{Turn}
 use Rattle.bus_tenure.specs.declared.turns.Turn.TheVariants as turn
 use Rattle.bus_core.specs.declared.reuses.Reuse.{Reuse}
 use Rattle.bus_core.proofs.Situated.{own_is}
@@ -62,20 +63,20 @@ end_is ph t u page stored published (Ended p n end) e =
     let s = same_page u t p page n stored false published e in subst (λ q. q.ended ≡ true) s.1.0 end
 end_is ph t u page stored published HandsOnEnd e = absurd cc
 
--- ---- none is held at rest
-rests_unpublished : {E : Type 0} (ph : Phase E) (t : ℕ) → HasPublished t ph → ph ≡ Resting → ⊥
-rests_unpublished ph t (Published p n) e = cc
-rests_unpublished ph t HandsOnSent e = cc
+-- who has published holds a page
+published_held : {E : Type 0} (ph : Phase E) (t : ℕ) → HasPublished t ph → held_of ph ≡ Some t
+published_held ph t (Published p n) = refl
+published_held ph t HandsOnSent = refl
 
--- nor does it lack room
-rests_with_room : {E : Type 0} (c : Core E) (ph : Phase E) (t : ℕ) → LacksRoom c t ph → ph ≡ Resting → ⊥
-rests_with_room c ph t (FindsNoRoom p n more) e = cc
-rests_with_room c ph t HandsOnFull e = cc
+-- and so does who lacks room
+room_held : {E : Type 0} (c : Core E) (ph : Phase E) (t : ℕ) → LacksRoom c t ph → held_of ph ≡ Some t
+room_held c ph t (FindsNoRoom p n more) = refl
+room_held c ph t HandsOnFull = refl
 
--- nor has it found the end
-rests_before_the_end : {E : Type 0} (ph : Phase E) (t : ℕ) → FindsEnd t ph → ph ≡ Resting → ⊥
-rests_before_the_end ph t (Ended p n end) e = cc
-rests_before_the_end ph t HandsOnEnd e = cc
+-- or has found the end
+end_held : {E : Type 0} (ph : Phase E) (t : ℕ) → FindsEnd t ph → held_of ph ≡ Some t
+end_held ph t (Ended p n end) = refl
+end_held ph t HandsOnEnd = refl
 
 -- ---- of a fact that only one kind of rows has
 some_is : (reuse : Option Reuse) (r : Reuse) (Q : Reuse → Type 0) → reuse ≡ Some r → IsSomeAnd reuse Q → Q r
@@ -126,9 +127,9 @@ unfound : {E : Type 0} (ph : Phase E) (t u : ℕ) (page : Page) (stored : ℕ) �
 unfound ph t u page stored (Ended p n end) e = let s = same_page u t p page n stored false true e in true≢false (sym s.1.1)
 unfound ph t u page stored HandsOnEnd e = cc
 
--- who pins none pins no tenure
-away_not : (reuse : Option Reuse) (r : Reuse) (t : ℕ) → reuse ≡ Some r → r.pin ≡ Pinned t → IsAway reuse → ⊥
-away_not reuse r t some at away = let h : IsAway (Some r) = subst IsAway some away in let bad = sym h ∙ at in cc
+-- who pins none has a pin of none
+away_by : (reuse : Option Reuse) (r : Reuse) → reuse ≡ Some r → IsAway reuse → r.pin ≡ Away
+away_by reuse r some away = let h : IsAway (Some r) = subst IsAway some away in h
 
 -- who pins none has not come too late for one
 away_valid : (reuse : Option Reuse) → IsAway reuse → ¬ IsSomeAnd reuse (λ r. IsInvalidated r)
@@ -145,8 +146,13 @@ module _ {E : Type 0} (X : Election E) (v : Sender E) (got word : ℕ) where
   lost_election t o e w = let h : LosesBy X v got word t o None = subst (LosesBy X v got word t o) e w in h
 
   -- with rows that are used again it parts from what it lost
-  parts_as : (t : ℕ) (o : SenderNo) (r : Reuse) → v.reuse ≡ Some r → LosesBy X v got word t o v.reuse → PartsAsLoser r t o
+  parts_as : (t : ℕ) (o : SenderNo) (r : Reuse) → v.reuse ≡ Some r → LosesBy X v got word t o v.reuse → PartsAsLoser v.core.me r t o
   parts_as t o r e w = let h : LosesBy X v got word t o (Some r) = subst (LosesBy X v got word t o) e w in h
+
+  -- with both kinds of rows it loses to another sender
+  lost_other : (t : ℕ) (o : SenderNo) (reuse : Option Reuse) → LosesBy X v got word t o reuse → o.0 ≢ v.core.me
+  lost_other t o None w = w.other
+  lost_other t o (Some r) w = w.other
 
   -- with rows that are used again it stands in the tenure
   stands_in : (t : ℕ) (r : Reuse) → v.reuse ≡ Some r → IfSome v.reuse (λ r. r.pin ≡ Pinned t) → r.pin ≡ Pinned t
@@ -168,7 +174,7 @@ module _ {E : Type 0} (X : Election E) (v : Sender E) (got word : ℕ) where
     delivered_elsewhere =
         λ t u first last page stored published held apart w. apart (published_is v.core.phase t u page stored published w.published held).0;
     delivered_from_elsewhere = λ t first last apart w. apart w.first_is;
-    delivered_too_far = λ t first last far some w. let e = w.last_is in omega arith;
+    delivered_up_to_elsewhere = λ t first last other w. other w.last_is;
     delivered_the_end = λ t first last ends w. true≢false (sym (closes_marking v.core.queue.phase ends) ∙ w.sends);
     delivered_the_leave = λ t first last leaves w. true≢false (sym (leaves_marking v.core.queue.phase leaves) ∙ w.sends);
     left_with_messages = λ t sends w. true≢false (sym (leaves_marking v.core.queue.phase w.leaves) ∙ sends);
@@ -181,16 +187,20 @@ module _ {E : Type 0} (X : Election E) (v : Sender E) (got word : ℕ) where
       | inl a ↦ true≢false (sym a.0 ∙ stays)
       | inr a ↦ true≢false (sym (end_is v.core.phase t w.tenure page stored published a held) ∙ goes)
     ];
+    closed_unpublished = λ t page stored held goes w. elim w.why [
+      | inl a ↦ true≢false (sym (published_is v.core.phase t w.tenure page stored false a.1 held).1)
+      | inr a ↦ true≢false (sym (end_is v.core.phase t w.tenure page stored false a held) ∙ goes)
+    ];
     closed_while_leaving = λ t page stored held leaves w. elim w.why [
       | inl a ↦ leaves_open v.core.queue.phase a.0 leaves
       | inr a ↦ unfound v.core.phase t w.tenure page stored a held
     ];
-    delivered_at_rest = λ t first last rests w. rests_unpublished v.core.phase t w.published rests;
-    left_at_rest = λ t rests w. rests_unpublished v.core.phase t w.published rests;
-    full_at_rest = λ rests w. rests_with_room v.core v.core.phase w.tenure w.lacks rests;
-    closed_at_rest = λ rests w. elim w.why [
-      | inl a ↦ rests_unpublished v.core.phase w.tenure a.1 rests
-      | inr a ↦ rests_before_the_end v.core.phase w.tenure a rests
+    delivered_without_a_page = λ t first last none w. let bad = sym none ∙ published_held v.core.phase t w.published in cc;
+    left_without_a_page = λ t none w. let bad = sym none ∙ published_held v.core.phase t w.published in cc;
+    full_without_a_page = λ none w. let bad = sym none ∙ room_held v.core v.core.phase w.tenure w.lacks in cc;
+    closed_without_a_page = λ none w. elim w.why [
+      | inl a ↦ (let bad = sym none ∙ published_held v.core.phase w.tenure a.1 in cc)
+      | inr a ↦ (let bad = sym none ∙ end_held v.core.phase w.tenure a in cc)
     ];
     waits_with_nothing = λ away nothing opened w. elim w [
       | inl l ↦ sends_nothing _ _ nothing opened l.looks.looks.something
@@ -203,7 +213,7 @@ module _ {E : Type 0} (X : Election E) (v : Sender E) (got word : ℕ) where
     spent_while_held = λ t held w. let e = w.opened in omega arith;
     spent_with_a_page = λ t page stored published held w. let bad = sym w.looks.looks.rests ∙ held in cc;
     spent_too_soon = λ left w. let e = w.past in omega arith;
-    lost_to_itself = λ t none w. (lost_election t record { 0 = v.core.me } none w).other refl;
+    lost_to_itself = λ t w. lost_other t record { 0 = v.core.me } v.reuse w refl;
     lost_undecided = λ t u o e none here undecided w.
         let l = lost_election t o none w in
         let same = same_step u t e l.election (sym here ∙ l.elects) in
@@ -230,7 +240,7 @@ module _ {E : Type 0} (X : Election E) (v : Sender E) (got word : ℕ) where
     behind_apart = λ t p none w. none_not v.reuse _ none w;
     behind_unnamed = λ t p apart w. of_some v.reuse ⊥ _ (λ r b. apart b.found) w;
     behind_without_a_load = λ t p apart w. of_some v.reuse ⊥ _ (λ r b. apart b.loads) w;
-    behind_at_rest = λ t p rests w. of_some v.reuse ⊥ _ (λ r b. let bad = sym (ap held_of rests) ∙ b.held in cc) w;
+    behind_without_a_page = λ t p none w. of_some v.reuse ⊥ _ (λ r b. let bad = sym none ∙ b.held in cc) w;
     loses_silently = λ t o loses w. w.loses t o loses;
     forgets_its_loss = λ t r some parts rests w.
         let bad = sym (ap held_of rests) ∙ w.holds t (subst (λ y. IsSomeAnd y (λ r. r.pin ≡ Unpinning t)) (sym some) parts) in cc;
@@ -243,21 +253,31 @@ module _ {E : Type 0} (X : Election E) (v : Sender E) (got word : ℕ) where
     behind_silently = λ t p behind w. w.behind t p behind;
     goes_on_idly = λ idle w. idle_stays idle w;
     begins_elsewhere = λ t looks begins apart w. let after = (line_now X v).fed got word in apart (begun_once after.core after.reuse t (got / 2) begins (w.begins looks));
+    enters_on_another_stage = λ t u looks runs apart w. apart (w.enters_only t u looks runs).1;
+    enters_elsewhere = λ t u looks runs apart w. apart (w.enters_only t u looks runs).0;
+    enters_none = λ t looks here stays w. stays (w.enters t looks here);
   }
+
+-- who has nothing to do has begun no tenure
+has_begun_none : {E : Type 0} (v : Sender E) (a : Turn) → RestTells v a → HasBegunNone v
+has_begun_none v turn.Idle w = w.none
+has_begun_none v turn.Closed w = w.none
+has_begun_none v turn.Spent w = w.none
+has_begun_none v a w = absurd w
 
 -- where no step is due
 pub rests_refused : {E : Type 0} (v : Sender E) → RestsRefuse v
 rests_refused v = record {
+  rests_in_an_election = λ a t e runs w. let bad = sym (has_begun_none v a w).rests ∙ runs in cc;
+  rests_with_a_page = λ a t held w. let bad = sym (ap held_of (has_begun_none v a w).rests) ∙ held in cc;
+  rests_while_it_pins = λ a r some pins w. pins (away_by v.reuse r some (has_begun_none v a w).away);
   idle_with_a_message = λ m rest some w. let bad = sym w.nothing ∙ some in cc;
   idle_with_a_mark = λ m marked w. let bad = sym w.is_open ∙ marked in cc;
   idle_once_closed = λ closed w. let bad = sym w.is_open ∙ closed in cc;
-  idle_in_an_election = λ t e runs w. let bad = sym w.none.rests ∙ runs in cc;
   closed_with_a_mark = λ m marked w. let bad = sym w.closed ∙ marked in cc;
   closed_while_open = λ opened w. let bad = sym w.closed ∙ opened in cc;
-  closed_with_a_page = λ t page stored published held w. let bad = sym w.none.rests ∙ held in cc;
   spent_with_a_tenure_left = λ left w. let e = w.past in omega arith;
   spent_with_nothing = λ nothing opened w. sends_nothing _ _ nothing opened w.something;
-  spent_while_it_pins = λ t r some at w. away_not v.reuse r t some at w.none.away;
 }
 
 -- with a row for each tenure no word of a row of the bus stands in the log
@@ -272,4 +292,6 @@ pub places_refused : {E : Type 0} (v : Sender E) → PlacesRefuse v
 places_refused v = record {
   election_on_the_log = λ t r e none from w. off_the_log v.core.layout t r w.0 (subst (λ y. IsInRow v.core.layout y t r) none w.2) from;
   idle_on_a_word = λ r w. w;
+  closed_on_a_word = λ r w. w;
+  spent_on_a_word = λ r w. w;
 }

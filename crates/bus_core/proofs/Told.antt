@@ -1,7 +1,7 @@
 -- What the answer of a step tells.
 use Rattle.std.specs.Prelude.{◌⊎◌}
 use Rattle.std.proofs.Common.{◌≡◌, ◌≢◌, inl, inr, ℕ, ◌+◌, ◌/◌, ◌<◌, ◌≤◌, Bool, true, false, cond, Option, Some, None, IsSome, IfSome, IsSomeAnd, nat_le, ◌==◌, ◌&&◌, refl, sym, ◌∙◌, ap, subst, arith}
-use Rattle.std.proofs.lemmas.Bool.{leb-false, leb-true, lt-ltb, le-ltb, eqb-true, eqb-false, true≢false}
+use Rattle.std.proofs.lemmas.Bool.{leb-false, leb-true, lt-ltb, le-ltb, eqb-true, eqb-false, eq-eqb, true≢false}
 use Rattle.std.proofs.lemmas.Option.{same_Some}
 use Rattle.bus_register.specs.Words.{register}
 use Rattle.bus_register.specs.declared.registers.Op.TheVariants.{Load}
@@ -12,22 +12,24 @@ use Rattle.bus_batch.specs.declared.messages.Mark.TheVariants as mark
 use Rattle.bus_presence.specs.Reclaimers.{Reclaiming, behind_of}
 use Rattle.bus_presence.specs.Reclamation.{presence_at}
 use Rattle.bus_presence.specs.declared.reclaimers.Behind.{Behind}
-use Rattle.bus_presence.specs.declared.pins.Pin.TheVariants.{Away, Announcing, Pinned, Unpinning, Invalidated}
+use Rattle.bus_presence.specs.declared.pins.Pin.TheVariants.{Away, Announcing, Validating, Pinned, Unpinning, Invalidated}
 use Rattle.bus_tenure.specs.Core.{Election, is_marking, is_closing, is_leaving, row_at}
 use Rattle.bus_tenure.specs.Seen.{HasElection, AwaitsItsPage}
 use Rattle.bus_tenure.specs.Situations.{Situation as Own, IsClosed, IsIdle, IsSpent, LooksAtStage, Elects, TakesPage, AwaitsPage, StoresWord, StoresLength, GivesBack, HasHanded, situation_of, waits, core_begun, answer_sent, answer_of_return}
+use Rattle.bus_tenure.specs.declared.phases.Phase.{Phase}
+use Rattle.bus_tenure.specs.declared.phases.Phase.TheVariants.{Resting, Electing}
 use Rattle.bus_tenure.specs.declared.phases.Reason.{Reason}
 use Rattle.bus_tenure.specs.declared.phases.Reason.TheVariants.{Sent, FoundEnd, NoRoom}
 use Rattle.bus_tenure.specs.declared.turns.Turn.TheVariants as turn
 use Rattle.bus_tenure.proofs.Situated.{tells}
 use Rattle.bus_core.specs.Keeping.{ReuseKeeps}
-use Rattle.bus_core.specs.Reusing.Keeping.{LostKeeps, held_of}
+use Rattle.bus_core.specs.Reusing.Keeping.{IsBound, PinKeeps, LostKeeps, held_of}
 use Rattle.bus_core.specs.Reusing.Participants.{sizes_with}
 use Rattle.bus_core.specs.Reusing.Telling.{Returns, Gives, Says, HasPublished}
 use Rattle.bus_core.specs.Reusing.Turns.{answer_of_loss, answer_of_reclaim}
 use Rattle.bus_core.specs.Senders.{Sender, Situation, Does, Announces, Validates, Unpins, Withdraws, Scans, Clears, pinning, situation_by, situation}
 use Rattle.bus_core.specs.Table.{line, line_now, rest_at, seen, lost_of, answer_elected}
-use Rattle.bus_core.specs.Telling.{FeedTells, RestTells, RestIsTold, IsInvalidated, Loses, LosesBy, IsChosen, GivesReady, IsBehind, Begins, TellsNoMore}
+use Rattle.bus_core.specs.Telling.{FeedTells, RestTells, RestIsTold, IsInvalidated, Loses, LosesBy, IsChosen, GivesReady, IsBehind, Begins, RunsElection, TellsNoMore}
 use Rattle.bus_core.specs.declared.reuses.Reuse.{Reuse}
 use Rattle.bus_core.proofs.Looking.{vain_of, waits_of, opened_of, first_looks, looks_first, rests_idle, rests_closed, rests_spent}
 use Rattle.bus_core.proofs.Reusing.Tells.{ChoosesItself, Shows, takes_page, gives_shows, shown_handed}
@@ -57,6 +59,14 @@ returns_not t z (Says reason) g = g
 pub same_step : {E : Type 0} (t u : ℕ) (e f : E) → ◌≡◌ {A = Situation E} (Does (Elects t e)) (Does (Elects u f)) → e ≡ f
 same_step t u e f i = cc
 
+-- and looks again for one tenure
+same_look : {E : Type 0} (t u : ℕ) → ◌≡◌ {A = Situation E} (Validates t) (Validates u) → t ≡ u
+same_look t u i = cc
+
+-- one phase has one tenure
+same_phase : {E : Type 0} (t u : ℕ) (e f : E) → ◌≡◌ {A = Phase E} (Electing t e) (Electing u f) → t ≡ u
+same_phase t u e f i = cc
+
 module _ {E : Type 0} (X : Election E) (v : Sender E) (got word : ℕ) where
   -- what it does in its tenure
   abbrev own : Own E
@@ -67,6 +77,11 @@ module _ {E : Type 0} (X : Election E) (v : Sender E) (got word : ℕ) where
   unpins_by : (t : ℕ) (reuse : Option Reuse) → IsSomeAnd reuse (λ r. r.pin ≡ Unpinning t) → situation_by reuse own ≡ Unpins t
   unpins_by t None p = absurd p
   unpins_by t (Some r) p = ap (λ u. pinning u r.reclaimer own) p
+
+  -- its presence stands, and it is to look at the stage again
+  validates_by : (t : ℕ) (reuse : Option Reuse) → IsSomeAnd reuse (λ r. r.pin ≡ Validating t) → situation_by reuse own ≡ Validates t
+  validates_by t None p = absurd p
+  validates_by t (Some r) p = ap (λ u. pinning u r.reclaimer own) p
 
   -- or came too late
   withdraws_by : (reuse : Option Reuse) → IsSomeAnd reuse (λ r. IsInvalidated r) → (t : ℕ) × (situation_by reuse own ≡ Withdraws t)
@@ -81,6 +96,15 @@ module _ {E : Type 0} (X : Election E) (v : Sender E) (got word : ℕ) where
       by : (reuse : Option Reuse) → IfSome reuse (λ r. r.pin ≡ Pinned t) → situation_by {E = E} reuse (TakesPage t) ≡ Does (TakesPage t)
       by None p = refl
       by (Some r) p = ap (λ u. pinning u r.reclaimer (TakesPage t)) p
+
+  -- after a second look the election of its presence's tenure runs if that was of this tenure, and else none does
+  abbrev EntersIn : Situation E → ℕ → Type 0
+  EntersIn z t =
+      (got / 2 ≡ t → RunsElection ((line X v z).fed got word).core t)
+      × ((u : ℕ) → RunsElection ((line X v z).fed got word).core u → (u ≡ t) × (got / 2 ≡ t))
+
+  abbrev EntersBy : ℕ → Type 0
+  EntersBy t = EntersIn (situation X v) t
 
   -- ---- a step with which nothing is told
   module _ (z : Situation E) (i : situation X v ≡ z) where
@@ -103,8 +127,8 @@ module _ {E : Type 0} (X : Election E) (v : Sender E) (got word : ℕ) where
     quiet : IsGoing z → ((t : ℕ) (o : SenderNo) → ¬ Loses X v got word t o) → ((t : ℕ) → z ≡ Unpins t → held_of v.core.phase ≡ Some t)
         → (z ≡ Does LooksAtStage
         → (waits v.core got ≡ false) × (got / 2 < v.core.layout.rows) × Begins ((line_now X v).fed got word) (got / 2))
-        → ((t p : ℕ) → ¬ IsSomeAnd v.reuse (λ r. IsBehind X v got word t p r)) → TellsNoMore X v got word
-    quiet going loses holds looks behind = record {
+        → ((t : ℕ) → z ≡ Validates t → EntersBy t) → ((t p : ℕ) → ¬ IsSomeAnd v.reuse (λ r. IsBehind X v got word t p r)) → TellsNoMore X v got word
+    quiet going loses holds looks second behind = record {
       loses = loses;
       holds = λ t p. holds t (sym i ∙ unpins_by t v.reuse p);
       invalidated = λ w. subst IsGoing (sym i ∙ (withdraws_by v.reuse w).1) going;
@@ -113,6 +137,8 @@ module _ {E : Type 0} (X : Election E) (v : Sender E) (got word : ℕ) where
       waits = λ w. true≢false (sym (waits_of v.core got w.vain) ∙ (looks (sym i ∙ first_looks X v w.looks)).0);
       spent = λ w. let below = (looks (sym i ∙ first_looks X v w.looks)).1 in let past = w.past in omega arith;
       begins = λ w. (looks (sym i ∙ first_looks X v w)).2;
+      enters = λ t w. (second t (sym i ∙ validates_by t v.reuse w)).0;
+      enters_only = λ t u w. (second t (sym i ∙ validates_by t v.reuse w)).1 u;
       behind = behind;
     }
 
@@ -143,8 +169,36 @@ module _ {E : Type 0} (X : Election E) (v : Sender E) (got word : ℕ) where
         record { looks = looks_first X v width Belongs k i; opened = o.0; may = o.1; past = leb-true v.core.layout.rows (got / 2) f }
     looks i false false e f =
         quiet (Does LooksAtStage) i tt (lost_not (Does LooksAtStage) i tt) (λ t q. absurd cc)
-        (λ q. (e, leb-false v.core.layout.rows (got / 2) f, begun i e f))
+        (λ q. (e, leb-false v.core.layout.rows (got / 2) f, begun i e f)) (λ t q. absurd cc)
         (unasked (Does LooksAtStage) i (λ rows p q. let n = ap register (same_Some _ _ q) in omega arith))
+
+    -- ---- a second look at the stage
+    module _ (t : ℕ) (i : situation X v ≡ Validates t) where
+      -- it rests before
+      rests : v.core.phase ≡ Resting
+      rests = by v.reuse k (situation_tells X v (Validates t) i) where
+        by : (reuse : Option Reuse) → ReuseKeeps width Belongs v.core reuse → IsSomeAnd reuse (λ r. r.pin ≡ Validating t)
+            → v.core.phase ≡ Resting
+        by None h p = absurd p
+        by (Some r) h p = let may : IsBound v.core t = subst (PinKeeps Belongs v.core) p h.pin in may.looks.rests
+
+      -- where it finds the tenure that its presence names, it begins that
+      enters_there : got / 2 ≡ t → RunsElection ((line X v (Validates t)).fed got word).core t
+      enters_there here = (
+        X.started v.core.layout.senders v.core.me v.core.layout.rounds (row_at v.core.layout t),
+        ap (λ b. (cond b (core_begun X v.core t) v.core).phase) (eq-eqb (got / 2) t here),
+      )
+
+      -- and else none
+      enters_only_there : (u : ℕ) → RunsElection ((line X v (Validates t)).fed got word).core u → (u ≡ t) × (got / 2 ≡ t)
+      enters_only_there u runs = by (got / 2 == t) refl runs.1 where
+        by : (b : Bool) → (got / 2 == t) ≡ b → (cond b (core_begun X v.core t) v.core).phase ≡ Electing u runs.0
+            → (u ≡ t) × (got / 2 ≡ t)
+        by true same e = (sym (same_phase t u _ runs.0 e), eqb-true (got / 2) t same)
+        by false same e = let bad = sym rests ∙ e in absurd cc
+
+      seconds : EntersBy t
+      seconds = subst (λ z. EntersIn z t) (sym i) (enters_there, enters_only_there)
 
     -- ---- a step of an election
     -- it goes on, or has chosen this sender, or its loss is told later
@@ -152,7 +206,7 @@ module _ {E : Type 0} (X : Election E) (v : Sender E) (got word : ℕ) where
         → (v.reuse ≡ None → (o : ℕ) → X.owner (X.fed e got word) ≡ Some o → o ≡ v.core.me) → TellsNoMore X v got word
     elects_on t e i itself =
         quiet (Does (Elects t e)) i tt (λ u o w. loses u o v.reuse refl w) (λ u q. absurd cc) (λ q. absurd cc)
-        (λ u p w. behind u p v.reuse w)
+        (λ u q. absurd cc) (λ u p w. behind u p v.reuse w)
       where
         loses : (u : ℕ) (o : SenderNo) (reuse : Option Reuse) → v.reuse ≡ reuse → ¬ LosesBy X v got word u o reuse
         loses u o None q w =
@@ -205,7 +259,8 @@ module _ {E : Type 0} (X : Election E) (v : Sender E) (got word : ℕ) where
     parts : (t : ℕ) → situation X v ≡ Unpins t → (l : Option SenderNo) → lost_of v.reuse ≡ l → FeedTells X v got word (answer_of_loss t l)
     parts t i None e =
         quiet (Unpins t) i tt (λ u o w. loses u o v.reuse refl w)
-        (λ u q. holds u v.reuse k (situation_tells X v (Unpins u) (i ∙ q)) e) (λ q. absurd cc) (unasked (Unpins t) i (λ rows p q. cc))
+        (λ u q. holds u v.reuse k (situation_tells X v (Unpins u) (i ∙ q)) e) (λ q. absurd cc) (λ u q. absurd cc)
+        (unasked (Unpins t) i (λ rows p q. cc))
       where
         loses : (u : ℕ) (o : SenderNo) (reuse : Option Reuse) → v.reuse ≡ reuse → ¬ LosesBy X v got word u o reuse
         loses u o None q w = let bad = sym i ∙ w.elects in cc
@@ -214,11 +269,14 @@ module _ {E : Type 0} (X : Election E) (v : Sender E) (got word : ℕ) where
         holds : (u : ℕ) (reuse : Option Reuse) → ReuseKeeps width Belongs v.core reuse → IsSomeAnd reuse (λ r. r.pin ≡ Unpinning u)
             → lost_of reuse ≡ None → held_of v.core.phase ≡ Some u
         holds u None h p q = absurd p
-        holds u (Some r) h p q = let kept : LostKeeps v.core.phase r.pin None = subst (LostKeeps v.core.phase r.pin) q h.lost in kept u p
-    parts t i (Some o) e = by v.reuse (situation_tells X v (Unpins t) i) e where
-      by : (reuse : Option Reuse) → IsSomeAnd reuse (λ r. r.pin ≡ Unpinning t) → lost_of reuse ≡ Some o → LosesBy X v got word t o reuse
-      by None p q = absurd p
-      by (Some r) p q = record { parts = p; lost = q }
+        holds u (Some r) h p q = let kept : LostKeeps v.core.me v.core.phase r.pin None = subst (LostKeeps v.core.me v.core.phase r.pin) q h.lost in kept u p
+    parts t i (Some o) e = by v.reuse k (situation_tells X v (Unpins t) i) e where
+      by : (reuse : Option Reuse) → ReuseKeeps width Belongs v.core reuse → IsSomeAnd reuse (λ r. r.pin ≡ Unpinning t)
+          → lost_of reuse ≡ Some o → LosesBy X v got word t o reuse
+      by None h p q = absurd p
+      by (Some r) h p q =
+          let kept : LostKeeps v.core.me v.core.phase r.pin (Some o) = subst (LostKeeps v.core.me v.core.phase r.pin) q h.lost in
+          record { parts = p; lost = q; other = kept.other }
 
     -- of a tenure that it came too late for
     late : (t : ℕ) → situation X v ≡ Withdraws t → IsSomeAnd v.reuse (λ r. IsInvalidated r)
@@ -277,13 +335,15 @@ module _ {E : Type 0} (X : Election E) (v : Sender E) (got word : ℕ) where
           by : (b : Bool) → (got == 1 + s.past) ≡ b
               → FeedTells X v got word (answer_of_reclaim (cond b (Some record { tenure = s.past; sender = s.scanned }) None))
           by true e = names_past (eqb-true _ _ e)
-          by false e = quiet (Scans s) i tt (lost_not (Scans s) i tt) (λ t q. absurd cc) (λ q. absurd cc) (passes (eqb-false _ _ e))
+          by false e = quiet (Scans s) i tt (lost_not (Scans s) i tt) (λ t q. absurd cc) (λ q. absurd cc) (λ t q. absurd cc)
+              (passes (eqb-false _ _ e))
 
     -- a word of a row is cleared
     clears : (s : Reclaiming) → situation X v ≡ Clears s → FeedTells X v got word (answer_of_reclaim (behind_of s got))
     clears s i = subst (λ a. FeedTells X v got word (answer_of_reclaim (found_behind s a)))
         (sym (le-ltb _ _ (by v.reuse (situation_tells X v (Clears s) i))))
-        (quiet (Clears s) i tt (lost_not (Clears s) i tt) (λ t q. absurd cc) (λ q. absurd cc) (unasked (Clears s) i (λ rows p q. cc)))
+        (quiet (Clears s) i tt (lost_not (Clears s) i tt) (λ t q. absurd cc) (λ q. absurd cc) (λ t q. absurd cc)
+        (unasked (Clears s) i (λ rows p q. cc)))
       where
         by : (reuse : Option Reuse) → SituationTells (Clears s) reuse own → s.senders ≤ s.scanned
         by None w = absurd w
@@ -303,10 +363,10 @@ module _ {E : Type 0} (X : Election E) (v : Sender E) (got word : ℕ) where
     by_situation itself (Does (AwaitsPage t)) i h = absurd (let q : false ≡ true = h in cc)
     by_situation itself (Does (StoresWord t page stored)) i h =
         let z = Does (StoresWord t page stored) in
-        quiet z i tt (lost_not z i tt) (λ u q. absurd cc) (λ q. absurd cc) (unasked z i (λ rows p q. cc))
+        quiet z i tt (lost_not z i tt) (λ u q. absurd cc) (λ q. absurd cc) (λ u q. absurd cc) (unasked z i (λ rows p q. cc))
     by_situation itself (Does (StoresLength t page stored)) i h =
         let z = Does (StoresLength t page stored) in
-        quiet z i tt (lost_not z i tt) (λ u q. absurd cc) (λ q. absurd cc) (unasked z i (λ rows p q. cc))
+        quiet z i tt (lost_not z i tt) (λ u q. absurd cc) (λ q. absurd cc) (λ u q. absurd cc) (unasked z i (λ rows p q. cc))
     by_situation itself (Does (GivesBack t page reason)) i h =
         let here = own_is X v (GivesBack t page reason) i in
         let at = (tells X v.core (GivesBack t page reason) here).2 in
@@ -317,10 +377,11 @@ module _ {E : Type 0} (X : Election E) (v : Sender E) (got word : ℕ) where
         returned t reason (gives_ready t (HasHanded t reason) i (Says reason) (ap held_of at))
         (subst (λ p. Shows v.core t p reason) (sym at) (shown_handed v.core t reason))
     by_situation itself (Announces t) i h =
-        quiet (Announces t) i tt (lost_not (Announces t) i tt) (λ u q. absurd cc) (λ q. absurd cc)
+        quiet (Announces t) i tt (lost_not (Announces t) i tt) (λ u q. absurd cc) (λ q. absurd cc) (λ u q. absurd cc)
         (unasked (Announces t) i (λ rows p q. cc))
     by_situation itself (Validates t) i h =
         quiet (Validates t) i tt (lost_not (Validates t) i tt) (λ u q. absurd cc) (λ q. absurd cc)
+        (λ u q. subst EntersBy (same_look t u q) (seconds t i))
         (unasked (Validates t) i (λ rows p q. let n = ap register (same_Some _ _ q) in omega arith))
     by_situation itself (Unpins t) i h = parts t i (lost_of v.reuse) refl
     by_situation itself (Withdraws t) i h = inr (late t i)

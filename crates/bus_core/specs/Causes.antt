@@ -1,14 +1,14 @@
 -- Why a sender takes a step of each kind: what holds of it before the step, read off what it holds. In a tenure the causes are the same
 -- with both kinds of rows. Where rows are used again it stands in that tenure besides, and five kinds come only there.
-use Rattle.std.specs.Prelude.{◌≡◌, ◌⊎◌, ℕ, ◌<◌, ◌≤◌, Bool, true, false, Some, IfSome, IsSomeAnd}
+use Rattle.std.specs.Prelude.{◌≡◌, ◌⊎◌, ℕ, ◌<◌, Bool, true, false, Some, IfSome, IsSomeAnd}
 use Rattle.bus_register.specs.declared.kinds.Kind.{Kind}
 use Rattle.bus_register.specs.declared.kinds.Kind.TheVariants as kind
 use Rattle.bus_register.specs.declared.registers.SenderNo.{SenderNo}
 use Rattle.bus_register.specs.Protocol.{Protocol}
 use Rattle.bus_adoptcommit.specs.declared.verdicts.Verdict.{Verdict}
-use Rattle.bus_presence.specs.Reclaimers.{Reclaiming}
+use Rattle.bus_presence.specs.Reclaimers.{Reclaiming, IsClearing}
 use Rattle.bus_presence.specs.declared.pins.Pin.TheVariants.{Away, Announcing, Validating, Pinned, Unpinning, Invalidated}
-use Rattle.bus_tenure.specs.Causes.{LooksForTenure, BeginsElection, IsInRatifier, IsInConciliator, AsksCoin, CountsVotes, IsAtFallback, SearchesCandidate, IsElected, HasWordLeft, HasStoredAll, LeavesPage, HasHandedOn}
+use Rattle.bus_tenure.specs.Causes.{BeginsElection, IsInRatifier, IsInConciliator, AsksCoin, CountsVotes, IsAtFallback, SearchesCandidate, IsElected, HasWordLeft, HasStoredAll, LeavesPage, HasHandedOn}
 use Rattle.bus_tenure.specs.Core.{Election}
 use Rattle.bus_tenure.specs.Elections.{Elector}
 use Rattle.bus_tenure.specs.declared.phases.Phase.TheVariants.{Resting, Electing}
@@ -19,6 +19,7 @@ use Rattle.bus_core.specs.Reusing.Turns.{Participant, sizes_of}
 use Rattle.bus_core.specs.Senders.{Sender, participant_of}
 use Rattle.bus_core.specs.Table.{line_now}
 use Rattle.bus_core.specs.Keeping.{IsAway}
+use Rattle.bus_core.specs.Telling.{LooksFirst}
 
 -- ---- only where rows are used again: its pin
 -- it may begin a tenure, which is not past for it, and which its presence does not name yet
@@ -66,13 +67,11 @@ pub record AsksSender {E : Type 0} (v : Participant E) : Type 0 where
 pub record ClearsWord {E : Type 0} (v : Participant E) : Type 0 where
   pub reclaimer : Reclaiming
   pub makes : MakesRowReady v reclaimer
-  pub all_scanned : reclaimer.senders ≤ reclaimer.scanned
-  pub word_left : reclaimer.cleared < reclaimer.width
+  pub clearing : IsClearing reclaimer
 
--- it would give the page of a tenure back, or has handed it on, and the row of the next one is ready
-pub record ReturnsPage {E : Type 0} (v : Participant E) : Type 0 where
+-- it pins no tenure, and the row of the tenure after the one whose page it has is ready
+pub record HasRowReady {E : Type 0} (v : Participant E) : Type 0 where
   pub away : v.pin ≡ Away
-  pub returns : LeavesPage v.core ⊎ HasHandedOn v.core
   pub tenure : ℕ
   pub held : held_of v.core.phase ≡ Some tenure
   pub ready : IsRowReady (sizes_of v) tenure v.reclaimer
@@ -82,13 +81,13 @@ pub record ReturnsPage {E : Type 0} (v : Participant E) : Type 0 where
 abbrev pub StandsInside : {E : Type 0} → Sender E → Type 0
 StandsInside v = IfSome v.reuse (λ r. StandsInRow (participant_of v.core r))
 
--- it would give the page of a tenure back, or has handed it on; where rows are used again, the row of the next tenure is ready
+-- it would give the page of a tenure back, or has handed it on; where rows are used again, it pins none, and the row of the next one is ready
 abbrev pub GivesPage : {E : Type 0} → Sender E → Type 0
-GivesPage v = (LeavesPage v.core ⊎ HasHandedOn v.core) × IfSome v.reuse (λ r. ReturnsPage (participant_of v.core r))
+GivesPage v = (LeavesPage v.core ⊎ HasHandedOn v.core) × IfSome v.reuse (λ r. HasRowReady (participant_of v.core r))
 
 -- The sender has a cause for a step of this kind. The kinds of the last lines are a receiver's.
 abbrev pub HasCause : {S : Type 0} → Protocol S Bool Verdict → Sender (Elector S) → Kind → Type 0
-HasCause P v kind.LoadStage = IsAway v.reuse × LooksForTenure v.core
+HasCause P v kind.LoadStage = LooksFirst v
 HasCause P v kind.Enter = IsSomeAnd v.reuse (λ r. EntersTenure (participant_of v.core r))
 HasCause P v kind.LoadStageAgain = IsSomeAnd v.reuse (λ r. LooksAgain (participant_of v.core r))
 HasCause P v kind.Announce = StandsInside v × BeginsElection P v.core

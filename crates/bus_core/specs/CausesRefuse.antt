@@ -10,7 +10,7 @@ use Rattle.bus_binconsensus.specs.Objects.{Decider}
 use Rattle.bus_walkcoin.specs.Coin.{CoinState}
 use Rattle.bus_walkcoin.specs.declared.coins.Phase.TheVariants.{Vote}
 use Rattle.bus_coinconc.specs.declared.conciliators.Stage.{Stage}
-use Rattle.bus_coinconc.specs.declared.conciliators.Stage.TheVariants.{SetMark, ReadOtherMark, AskCoin}
+use Rattle.bus_coinconc.specs.declared.conciliators.Stage.TheVariants.{SetMark, AskCoin}
 use Rattle.bus_coinconc.specs.Conciliator.{ConciliatorState}
 use Rattle.bus_coinconc.specs.ConciliatorKinds.{IsOfConciliator}
 use Rattle.bus_presence.specs.Reclamation.{row_of}
@@ -105,8 +105,10 @@ pub record RefusesOwn {S : Type 0} (P : Protocol S Bool Verdict) (v : Sender (El
   pub unmarked_reads : IsInConciliator P v.core SetMark → ¬ HasCause P v kind.ReadOtherMark
   pub marks_again : (stage : Stage) → IsInConciliator P v.core stage → stage ≢ SetMark → ¬ HasCause P v kind.SetMark
   pub reads_mark_again : (coin : CoinState) → IsInConciliator P v.core (AskCoin coin) → ¬ HasCause P v kind.ReadOtherMark
-  -- it has not loaded the other mark, and votes, or is to load votes, and votes again, or is to vote, and loads votes
-  pub unread_votes : IsInConciliator P v.core ReadOtherMark → ¬ HasCause P v kind.Vote
+  -- it does not ask the coin, and votes, or loads votes, or is to load votes, and votes again, or is to vote, and loads votes
+  pub unasking_votes : (stage : Stage) → IsInConciliator P v.core stage → ((coin : CoinState) → stage ≢ AskCoin coin) → ¬ HasCause P v kind.Vote
+  pub unasking_counts : (stage : Stage) → IsInConciliator P v.core stage → ((coin : CoinState) → stage ≢ AskCoin coin)
+      → ¬ HasCause P v kind.ReadVotes
   pub counting_votes : CountsVotes P v.core → ¬ HasCause P v kind.Vote
   pub unvoted_counts : AsksCoin P v.core Vote → ¬ HasCause P v kind.ReadVotes
   -- it goes to a fallback word while an object is left before that
@@ -157,7 +159,7 @@ pub record RefusesAgain {S : Type 0} (P : Protocol S Bool Verdict) (v : Sender (
   -- a presence that is cleared while it pins no tenure, or stands in one, or of one that it neither lost nor has the page of
   pub withdraws_away : r.pin ≡ Away → ¬ HasCause P v kind.Withdraw
   pub withdraws_pinned : (t : ℕ) → r.pin ≡ Pinned t → ¬ HasCause P v kind.Withdraw
-  pub withdraws_undone : (t : ℕ) → r.pin ≡ Unpinning t → r.lost ≡ None → v.core.phase ≡ Resting → ¬ HasCause P v kind.Withdraw
+  pub withdraws_undone : (t : ℕ) → r.pin ≡ Unpinning t → r.lost ≡ None → held_of v.core.phase ≢ Some t → ¬ HasCause P v kind.Withdraw
   -- a presence that is scanned by who holds no page, or once all have passed
   pub asks_at_rest : v.core.phase ≡ Resting → ¬ HasCause P v kind.ReadPresence
   pub asks_past_all : (s : Reclaiming) → r.reclaimer ≡ Some s → s.senders ≤ s.scanned → ¬ HasCause P v kind.ReadPresence

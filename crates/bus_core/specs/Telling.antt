@@ -5,7 +5,7 @@ use Rattle.bus_register.specs.declared.registers.SenderNo.{SenderNo}
 use Rattle.bus_batch.specs.Batches.{next_of, HasSomething}
 use Rattle.bus_batch.specs.declared.batches.Phase.TheVariants as batch
 use Rattle.bus_presence.specs.Reclamation.{presence_at}
-use Rattle.bus_presence.specs.declared.pins.Pin.TheVariants.{Announcing, Pinned, Unpinning, Invalidated}
+use Rattle.bus_presence.specs.declared.pins.Pin.TheVariants.{Announcing, Validating, Unpinning, Invalidated}
 use Rattle.bus_tenure.specs.Causes.{LooksForTenure}
 use Rattle.bus_tenure.specs.Core.{Core, Election, is_marking, is_closing, is_leaving}
 use Rattle.bus_tenure.specs.Seen.{HasElection, AwaitsItsPage}
@@ -14,6 +14,7 @@ use Rattle.bus_tenure.specs.declared.phases.Phase.TheVariants.{Resting, Electing
 use Rattle.bus_tenure.specs.declared.turns.Turn.{Turn}
 use Rattle.bus_tenure.specs.declared.turns.Turn.TheVariants.{Idle, Waiting, Going, Lost, Own, Delivered, Left, Full, Closed, Spent, Behind}
 use Rattle.bus_core.specs.Keeping.{IsAway}
+use Rattle.bus_core.specs.Places.{StandsIn}
 use Rattle.bus_core.specs.Reusing.Participants.{sizes_with}
 use Rattle.bus_core.specs.Reusing.Keeping.{IsRowReady, held_of}
 use Rattle.bus_core.specs.Reusing.Telling.{Returns, HasPublished, LacksRoom, FindsEnd}
@@ -31,6 +32,10 @@ pub record HasBegunNone {E : Type 0} (v : Sender E) : Type 0 where
 pub record LooksFirst {E : Type 0} (v : Sender E) : Type 0 where
   pub away : IsAway v.reuse
   pub looks : LooksForTenure v.core
+
+-- where rows are used again its presence names this tenure, and it looks at the stage for the second time
+abbrev pub LooksSecond : {E : Type 0} → Sender E → ℕ → Type 0
+LooksSecond v t = IsSomeAnd v.reuse (λ r. r.pin ≡ Validating t)
 
 -- it looked at the stage for the first time, and that was of a held tenure, or of one that it may not enter any more
 pub record LooksInVain {E : Type 0} (v : Sender E) (got : ℕ) : Type 0 where
@@ -98,23 +103,24 @@ pub record LosesElection {E : Type 0} (X : Election E) (v : Sender E) (got word 
   pub chosen : X.owner (X.fed election got word) ≡ Some o.0
   pub other : o.0 ≢ v.core.me
 
--- it withdraws from this tenure, which it lost to this owner
-pub record PartsAsLoser (r : Reuse) (t : ℕ) (o : SenderNo) : Type 0 where
+-- it withdraws from this tenure, which it lost to this owner, another sender
+pub record PartsAsLoser (me : ℕ) (r : Reuse) (t : ℕ) (o : SenderNo) : Type 0 where
   pub parts : r.pin ≡ Unpinning t
   pub lost : r.lost ≡ Some o
+  pub other : o.0 ≢ me
 
 -- it lost this tenure to this owner: with the step that ended its election, or where rows are used again with the one that clears its
 -- presence
 abbrev pub LosesBy : {E : Type 0} → Election E → Sender E → ℕ → ℕ → ℕ → SenderNo → Option Reuse → Type 0
 LosesBy X v got word t o None = LosesElection X v got word t o
-LosesBy X v got word t o (Some r) = PartsAsLoser r t o
+LosesBy X v got word t o (Some r) = PartsAsLoser v.core.me r t o
 
 abbrev pub Loses : {E : Type 0} → Election E → Sender E → ℕ → ℕ → ℕ → SenderNo → Type 0
 Loses X v got word t o = LosesBy X v got word t o v.reuse
 
 -- its election of this tenure had ended and chosen it; where rows are used again it stood in that tenure
 pub record IsChosen {E : Type 0} (X : Election E) (v : Sender E) (t : ℕ) : Type 0 where
-  pub pinned : IfSome v.reuse (λ r. r.pin ≡ Pinned t)
+  pub pinned : StandsIn v.reuse t
   pub election : E
   pub elects : v.core.phase ≡ Electing t election
   pub chosen : X.owner election ≡ Some v.core.me
@@ -160,9 +166,13 @@ pub record IsBehind {E : Type 0} (X : Election E) (v : Sender E) (got word t p :
   pub held : held_of v.core.phase ≡ Some tenure
   pub past : t + r.rows ≡ tenure + 1
 
+-- its election of this tenure runs
+abbrev pub RunsElection : {E : Type 0} → Core E → ℕ → Type 0
+RunsElection {E} c t = (e : E) × (c.phase ≡ Electing t e)
+
 -- it has begun this tenure: its election runs, or where rows are used again it is to store its presence
 abbrev pub BeginsBy : {E : Type 0} → Core E → Option Reuse → ℕ → Type 0
-BeginsBy {E} c None t = (e : E) × (c.phase ≡ Electing t e)
+BeginsBy c None t = RunsElection c t
 BeginsBy c (Some r) t = r.pin ≡ Announcing t
 
 abbrev pub Begins : {E : Type 0} → Sender E → ℕ → Type 0
@@ -170,7 +180,8 @@ Begins v t = BeginsBy v.core v.reuse t
 
 -- No other answer is due. It lost no tenure, and withdraws from none that it came too late for; so where it withdraws, it has taken that
 -- tenure's page. It takes no page, and gives none back; where it looked at the stage for the first time, that lets it begin the stage's
--- tenure, and it does so; and nobody is behind.
+-- tenure, and it does so; where it looked for the second time, the election of its presence's tenure runs if that was of this tenure, open
+-- or held, and else none does; and nobody is behind.
 pub record TellsNoMore {E : Type 0} (X : Election E) (v : Sender E) (got word : ℕ) : Type 0 where
   pub loses : (t : ℕ) (o : SenderNo) → ¬ Loses X v got word t o
   pub holds : (t : ℕ) → IsSomeAnd v.reuse (λ r. r.pin ≡ Unpinning t) → held_of v.core.phase ≡ Some t
@@ -180,6 +191,8 @@ pub record TellsNoMore {E : Type 0} (X : Election E) (v : Sender E) (got word : 
   pub waits : ¬ LooksInVain v got
   pub spent : ¬ FindsNoneLeft v got
   pub begins : LooksFirst v → Begins ((line_now X v).fed got word) (got / 2)
+  pub enters : (t : ℕ) → LooksSecond v t → got / 2 ≡ t → RunsElection ((line_now X v).fed got word).core t
+  pub enters_only : (t u : ℕ) → LooksSecond v t → RunsElection ((line_now X v).fed got word).core u → (u ≡ t) × (got / 2 ≡ t)
   pub behind : (t p : ℕ) → ¬ IsSomeAnd v.reuse (λ r. IsBehind X v got word t p r)
 
 -- With a step that found this number, and this random word. No step is taken where nothing is pending.

@@ -11,13 +11,17 @@ use bus_adoptcommit::Ratifier;
 /// No answer of a step is true that is Idle; Delivered before the length takes the frame in, with
 /// other numbers than those of the batch, or of a mark; Left before the length takes the mark in,
 /// of another tenure, or of anything but a leave mark; Full where the frame fits; Closed while the
-/// order goes on, or once the leave mark stands in the log; Spent while a tenure is left; Lost to
-/// itself, at rest, by a step that left its election without an owner, or where it remembers no
-/// owner or another one; Own while it pins no tenure, of another tenure, or of one whose election
-/// chose another; Waiting of a sender that goes through its election; Behind with a row for each
-/// tenure, where the step loaded no presence, found another number than that of the tenure, or was
-/// taken without a page; or Going where one of these is due, or where it begins another tenure
-/// than the one whose stage it looked at.
+/// order goes on, of one that is not to close, or before the length takes its end mark in; Closed
+/// once the leave mark stands in the log; any of these four without a page; Spent while a tenure is
+/// left; Lost to itself; with a row for each tenure, Lost at rest, or by a step that left its
+/// election without an owner; where rows are used again, Lost where it remembers no owner or
+/// another one, and Lost or Own while it pins no tenure; Own of another tenure, or of one whose
+/// election chose another; Waiting of a sender that goes through its election, in the tenure that
+/// it stands in where rows are used again; Behind with a row for each tenure, where the step loaded
+/// no presence, found another number than that of the tenure, or was taken without a page; or Going
+/// where one of these is due, where it begins another tenure than the one whose stage it looked at,
+/// or where after a second look an election runs of another tenure than the one that its presence
+/// names, one runs though the stage was another tenure's, or none runs though it was that one's.
 ///
 /// None is true without a step that is Idle where a message or a mark waits, or the batch is
 /// closed; Closed while the batch is open or its mark waits; Spent while a tenure is left, or

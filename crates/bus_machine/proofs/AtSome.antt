@@ -17,7 +17,8 @@ use Rattle.bus_core.specs.Proved.Bridge.{move_of, with_rows_again}
 use Rattle.bus_core.specs.Senders.{Sender, Situation, Does, Scans, Clears, situation, at_home, pinning, reclaiming}
 use Rattle.bus_core.specs.Table.{line, line_now}
 use Rattle.bus_core.specs.Reusing.Keeping.{held_of}
-use Rattle.bus_core.specs.Reusing.Participants.{Due, Goes, place_for, log_from, due_beside, due_home, due_reclaimed, reclaim_due}
+use Rattle.bus_core.specs.Reusing.Participants.{log_from}
+use Rattle.bus_core.specs.Proved.ParticipantTable.{Due, Goes, place_for, due_beside, due_home, due_reclaimed, reclaim_due}
 use Rattle.bus_core.specs.Reusing.Turns.{Participant, sizes_of, queue_seen}
 use Rattle.bus_core.specs.Proved.ParticipantTurns.{due, op_due, participant_due, answer_due}
 use Rattle.bus_presence.specs.Reclamation.{presence_at}
@@ -26,7 +27,8 @@ use Rattle.bus_presence.specs.Pins.{step_at}
 use Rattle.bus_presence.specs.declared.pins.Pin.{Pin}
 use Rattle.bus_presence.specs.declared.pins.Pin.TheVariants.{Away, Announcing, Validating, Pinned, Unpinning, Invalidated}
 use Rattle.bus_tenure.specs.Core.{Core, Election, stage_at}
-use Rattle.bus_tenure.specs.Situations.{Situation as Own, IsClosed, IsIdle, IsSpent, LooksAtStage, Elects, TakesPage, AwaitsPage, StoresWord, StoresLength, GivesBack, HasHanded, PageMove, situation_of, op_at, kind_at, tenure_at, chosen_at}
+use Rattle.bus_tenure.specs.Situations.{Situation as Own, IsClosed, IsIdle, IsSpent, LooksAtStage, Elects, TakesPage, AwaitsPage, StoresWord, StoresLength, GivesBack, HasHanded, PageMove, situation_of, op_at, kind_at}
+use Rattle.bus_tenure.specs.Proved.LineParts.{tenure_at, chosen_at}
 use Rattle.bus_tenure.specs.declared.turns.Turn.{Turn as Answered}
 use Rattle.bus_world.proofs.Beginning.{zeros}
 use Rattle.bus_world.proofs.EventTrails.{put_taken, mark_adds}

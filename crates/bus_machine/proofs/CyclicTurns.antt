@@ -20,7 +20,8 @@ use Rattle.bus_presence.specs.declared.pins.Pin.{Pin}
 use Rattle.bus_presence.specs.declared.pins.Pin.TheVariants.{Away, Announcing, Validating, Pinned, Unpinning, Invalidated}
 use Rattle.bus_core.specs.Keeping.{reclaimer_in}
 use Rattle.bus_core.specs.Proved.Bridge.{move_of, with_rows_again}
-use Rattle.bus_core.specs.Reusing.Participants.{Due, Pins, Reclaims, Goes, due_of, due_beside, due_home, due_reclaimed, reclaim_due, sizes_with, place_for, core_looked, core_seen, core_going, pin_going, reclaimer_going, answer_going}
+use Rattle.bus_core.specs.Reusing.Participants.{sizes_with, core_seen}
+use Rattle.bus_core.specs.Proved.ParticipantTable.{Due, Pins, Reclaims, Goes, due_of, due_beside, due_home, due_reclaimed, reclaim_due, place_for, core_looked, core_going, pin_going, reclaimer_going, answer_going}
 use Rattle.bus_core.specs.Reusing.Keeping.{held_of}
 use Rattle.bus_core.specs.Reusing.Turns.{Participant, on_place, op_placed, queue_seen}
 use Rattle.bus_core.specs.Proved.ParticipantTurns.{due, op_due, participant_due, answer_due}

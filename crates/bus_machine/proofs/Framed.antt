@@ -10,7 +10,8 @@ use Rattle.bus_core.specs.Table.{line, line_now, in_row}
 use Rattle.bus_core.specs.Senders.{Sender, Does, Clears, log_start, situation}
 use Rattle.bus_core.specs.Proved.Bridge.{with_a_row_each, reuse_of}
 use Rattle.bus_machine.proofs.Clearing.{clearing, spared}
-use Rattle.bus_core.specs.Reusing.Participants.{log_from, sizes_with, place_for}
+use Rattle.bus_core.specs.Reusing.Participants.{log_from, sizes_with}
+use Rattle.bus_core.specs.Proved.ParticipantTable.{place_for}
 use Rattle.bus_core.specs.Reusing.Turns.{Participant, on_place}
 use Rattle.bus_deliverylog.specs.Receiving.{Receiving}
 use Rattle.bus_deliverylog.specs.Orders.{of_sender}

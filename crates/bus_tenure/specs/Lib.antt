@@ -7,3 +7,4 @@ pub mod Seen
 pub mod Bounds
 pub mod Text
 pub mod Doings
+pub mod Proved

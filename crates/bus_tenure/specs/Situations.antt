@@ -1,6 +1,6 @@
 -- The table of a sender's turns. A sender is in one situation, the first that applies, and each situation has one line, which says
 -- all of a turn in it: the step, what the sender holds and answers after it, and what becomes of the page and of the frame.
-use Rattle.std.specs.Prelude.{ℕ, ◌+◌, ◌-◌, ◌*◌, ◌/◌, ◌%◌, Bool, true, false, Option, Some, None, [], nat_lt, nat_le, ◌==◌, ◌&&◌, if◌then◌else◌, is_some, slice_index, unwrap_or}
+use Rattle.std.specs.Prelude.{ℕ, ◌+◌, ◌-◌, ◌*◌, ◌/◌, ◌%◌, Bool, true, false, Option, Some, None, [], nat_lt, nat_le, ◌==◌, ◌&&◌, if◌then◌else◌, is_some, slice_index}
 use Rattle.bus_register.specs.declared.kinds.Kind.{Kind}
 use Rattle.bus_register.specs.declared.kinds.Kind.TheVariants as kind
 use Rattle.bus_register.specs.declared.registers.Op.{Op}
@@ -209,9 +209,6 @@ line_of X c (GivesBack t page reason) =
 line_of X c (HasHanded t reason) = steps t kind.GivePageBack (Store record { 0 = stage_at } (2 * t + 2)) (core_at_rest c reason t) (answer_of_return c.queue t reason)
 
 -- ---- a line, read by its parts
-abbrev pub tenure_at : {E : Type 0} → Election E → Core E → Situation E → Option ℕ
-tenure_at X c z = (line_of X c z).tenure
-
 abbrev pub kind_at : {E : Type 0} → Election E → Core E → Situation E → Option Kind
 kind_at X c z = (line_of X c z).kind
 
@@ -226,10 +223,3 @@ fed_at X c z got word = (line_of X c z).fed got word
 
 abbrev pub answer_at : {E : Type 0} → Election E → Core E → Situation E → ℕ → ℕ → Turn
 answer_at X c z got word = (line_of X c z).answer got word
-
-abbrev pub chosen_at : {E : Type 0} → Election E → Core E → Situation E → ℕ → ℕ → Option ℕ
-chosen_at X c z got word = (line_of X c z).chosen got word
-
--- the answer where no step is due, and Going where one is
-abbrev pub rest_at : {E : Type 0} → Election E → Core E → Situation E → Turn
-rest_at X c z = unwrap_or (line_of X c z).rest turn.Going

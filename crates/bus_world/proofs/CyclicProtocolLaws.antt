@@ -28,7 +28,8 @@ use Rattle.bus_presence.specs.Reclamation.{ReclamationSizes, Reclamation, Trails
 use Rattle.bus_presence.proofs.ReclamationLaws.{Keeps, keeps, safe, put_same, lt_tells}
 use Rattle.bus_presence.proofs.RowLaws.{IsLive, alive_pinned}
 use Rattle.bus_tenure.specs.Core.{Core, Election, Layout, row_at, log_at, frame_len, has_room}
-use Rattle.bus_tenure.specs.Situations.{Situation, IsClosed, IsIdle, IsSpent, LooksAtStage, Elects, TakesPage, AwaitsPage, StoresWord, StoresLength, GivesBack, HasHanded, situation_of, situation_at, resting, op_at, kind_at, tenure_at, chosen_at, waits, core_begun, core_elected, core_at_rest}
+use Rattle.bus_tenure.specs.Situations.{Situation, IsClosed, IsIdle, IsSpent, LooksAtStage, Elects, TakesPage, AwaitsPage, StoresWord, StoresLength, GivesBack, HasHanded, situation_of, situation_at, resting, op_at, kind_at, waits, core_begun, core_elected, core_at_rest}
+use Rattle.bus_tenure.specs.Proved.LineParts.{tenure_at, chosen_at}
 use Rattle.bus_tenure.specs.declared.pages.Page.{Page}
 use Rattle.bus_tenure.specs.declared.phases.Reason.{Reason}
 use Rattle.bus_tenure.specs.declared.phases.Reason.TheVariants.{Sent, FoundEnd, NoRoom}
@@ -38,7 +39,8 @@ use Rattle.bus_tenure.specs.declared.turns.Turn.{Turn as Answered}
 use Rattle.bus_tenure.proofs.Situated.{tells}
 use Rattle.bus_world.specs.World.{IsLayout, first_page, RecvDoes}
 use Rattle.bus_world.specs.Proved.Sending.{Part, Fits, Sending, standing_of, least_of, stands_at}
-use Rattle.bus_core.specs.Reusing.Participants.{Due, sizes_with, log_from, place_for, reclaim_due, due_reclaimed, due_home, due_beside, core_looked, core_seen, pin_seen, pin_elected}
+use Rattle.bus_core.specs.Reusing.Participants.{sizes_with, log_from, core_seen, pin_seen, pin_elected}
+use Rattle.bus_core.specs.Proved.ParticipantTable.{Due, place_for, reclaim_due, due_reclaimed, due_home, due_beside, core_looked}
 use Rattle.bus_world.specs.Turning.{number_found, core_with_page}
 use Rattle.bus_world.specs.Proved.Machines.{core_after, home_after, owners_after, can_put, can_close}
 use Rattle.bus_world.specs.Proved.CyclicProtocols.{CyclicProtocol, IsNewProtocol, Led, NewProtocol, Turned, PutIn, MarkedIn, Heard, going_actions, due_actions, due_in, words_stepped, word_found, protocol_pin_stepped, protocol_reclaimed, protocol_after_going, protocol_after, trails_with}

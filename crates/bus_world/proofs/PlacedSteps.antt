@@ -4,7 +4,7 @@ use Rattle.bus_register.specs.declared.registers.Op.{Op}
 use Rattle.bus_register.specs.declared.registers.Op.TheVariants.{Load, Store, Add, Cas}
 use Rattle.bus_register.specs.Words.{register}
 use Rattle.bus_presence.specs.Reclaimers.{Reclaiming, reclaim_op}
-use Rattle.bus_core.specs.Reusing.Participants.{Goes, due_beside, due_home, due_reclaimed, reclaim_due}
+use Rattle.bus_core.specs.Proved.ParticipantTable.{Goes, due_beside, due_home, due_reclaimed, reclaim_due}
 use Rattle.bus_core.specs.Reusing.Turns.{on_place, op_placed}
 use Rattle.bus_tenure.specs.Situations.{Situation}
 use Rattle.bus_world.specs.Turning.{number_found}

@@ -13,7 +13,8 @@ use Rattle.bus_register.specs.Tables.{of_some, put, Agree, Beside}
 use Rattle.bus_register.specs.Proved.TableLaws.{put_here, put_beside, some_or_none, get_set_same, get_set_other}
 use Rattle.bus_register.specs.Protocol.{Protocol, Laws, Starts, counted_input}
 use Rattle.bus_tenure.specs.Core.{Core, Election, Layout, log_at, row_at, frame_len, has_room, is_empty, is_marking, is_closed}
-use Rattle.bus_tenure.specs.Situations.{Situation, IsClosed, IsIdle, IsSpent, LooksAtStage, Elects, TakesPage, StoresWord, StoresLength, GivesBack, situation_at, situation_of, resting, electing, holding, core_begun, waits, core_elected, core_at_rest, answer_at, op_at, kind_at, tenure_at, chosen_at}
+use Rattle.bus_tenure.specs.Situations.{Situation, IsClosed, IsIdle, IsSpent, LooksAtStage, Elects, TakesPage, StoresWord, StoresLength, GivesBack, situation_at, situation_of, resting, electing, holding, core_begun, waits, core_elected, core_at_rest, answer_at, op_at, kind_at}
+use Rattle.bus_tenure.specs.Proved.LineParts.{tenure_at, chosen_at}
 use Rattle.bus_tenure.specs.declared.pages.Page.{Page}
 use Rattle.bus_tenure.specs.declared.phases.Reason.{Reason}
 use Rattle.bus_tenure.specs.declared.phases.Reason.TheVariants.{Sent, FoundEnd, NoRoom}

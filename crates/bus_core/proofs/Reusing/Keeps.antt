@@ -12,8 +12,8 @@ module _ {E : Type 0} (Belongs : ℕ → E → Type 0) where
   -- who goes through an election stands in its tenure
   pub runs_pinned : (c : Core E) (v : Pin) (t : ℕ) (e : E) → PinKeeps Belongs c v → c.phase ≡ Electing t e → (v ≡ Pinned t) × Belongs (row_at c.layout t) e × (t < c.layout.rows)
   runs_pinned c Away t e k i = absurd (let o : IsOutside (Electing t e) = subst IsOutside i k in cc)
-  runs_pinned c (Announcing u) t e k i = absurd (let r = sym k.rests ∙ i in cc)
-  runs_pinned c (Validating u) t e k i = absurd (let r = sym k.rests ∙ i in cc)
+  runs_pinned c (Announcing u) t e k i = absurd (let r = sym k.looks.rests ∙ i in cc)
+  runs_pinned c (Validating u) t e k i = absurd (let r = sym k.looks.rests ∙ i in cc)
   runs_pinned c (Pinned u) t e k i =
       let r : Electing u k.election ≡ Electing t e = sym k.is ∙ i in
       let same : u ≡ t = cc in

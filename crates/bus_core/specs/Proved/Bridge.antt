@@ -3,7 +3,7 @@ use Rattle.std.specs.Prelude.{◌≡◌, ℕ, Option, Some, None}
 use Rattle.bus_batch.specs.Frames.{Frame}
 use Rattle.bus_tenure.specs.Core.{Core, Election}
 use Rattle.bus_tenure.specs.Situations.{PageMove, Stays, Line as OwnLine, line_of, situation_of as own_situation}
-use Rattle.bus_core.specs.Reusing.Participants.{Due, Pins, Reclaims, Goes}
+use Rattle.bus_core.specs.Proved.ParticipantTable.{Due, Pins, Reclaims, Goes}
 use Rattle.bus_core.specs.Proved.ParticipantTurns.{due, op_due, kind_due, wants_due, rest_due, participant_due, answer_due}
 use Rattle.bus_core.specs.Reusing.Turns.{Participant}
 use Rattle.bus_core.specs.Senders.{Sender}

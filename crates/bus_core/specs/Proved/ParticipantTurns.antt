@@ -10,10 +10,12 @@ use Rattle.bus_presence.specs.Reclaimers.{Reclaiming, reclaim_fed, behind_of}
 use Rattle.bus_presence.specs.declared.pins.Pin.{Pin}
 use Rattle.bus_presence.specs.declared.pins.Pin.TheVariants.{Away, Announcing, Validating, Pinned, Unpinning, Invalidated}
 use Rattle.bus_tenure.specs.Core.{Core, Election}
-use Rattle.bus_tenure.specs.Situations.{Situation, op_at, kind_at, wants_at, rest_at}
+use Rattle.bus_tenure.specs.Situations.{Situation, op_at, kind_at, wants_at}
+use Rattle.bus_tenure.specs.Proved.LineParts.{rest_at}
 use Rattle.bus_tenure.specs.declared.turns.Turn.{Turn}
 use Rattle.bus_tenure.specs.declared.turns.Turn.TheVariants as turn
-use Rattle.bus_core.specs.Reusing.Participants.{log_from, place_for, participant_line, Due, Pins, Reclaims, Goes, due_of, core_looked, core_going, pin_going, reclaimer_going, answer_going}
+use Rattle.bus_core.specs.Reusing.Participants.{log_from}
+use Rattle.bus_core.specs.Proved.ParticipantTable.{place_for, participant_line, Due, Pins, Reclaims, Goes, due_of, core_looked, core_going, pin_going, reclaimer_going, answer_going}
 use Rattle.bus_core.specs.Reusing.Turns.{Participant, op_placed, answer_of_loss, answer_of_reclaim}
 
 -- all words of the bus

@@ -1,5 +1,5 @@
 -- What every participant keeps.
-use Rattle.std.specs.Prelude.{◌≡◌, ℕ, ◌+◌, ◌<◌, ◌≤◌, false, true, Option, Some, None}
+use Rattle.std.specs.Prelude.{◌≡◌, ◌≢◌, ℕ, ◌+◌, ◌<◌, ◌≤◌, false, true, Option, Some, None}
 use Rattle.bus_register.specs.declared.registers.SenderNo.{SenderNo}
 use Rattle.bus_register.specs.declared.limits.TheConstants.{TENURES}
 use Rattle.bus_presence.specs.Reclaimers.{Reclaiming, is_reclaimed}
@@ -7,7 +7,7 @@ use Rattle.bus_presence.specs.Reclamation.{ReclamationSizes, IsReady, presence_a
 use Rattle.bus_presence.specs.declared.pins.Pin.{Pin}
 use Rattle.bus_presence.specs.declared.pins.Pin.TheVariants.{Away, Announcing, Validating, Pinned, Unpinning, Invalidated}
 use Rattle.bus_tenure.specs.Core.{Core, row_at}
-use Rattle.bus_tenure.specs.Situations.{LooksAtStage, resting}
+use Rattle.bus_tenure.specs.Causes.{LooksForTenure}
 use Rattle.bus_tenure.specs.Keeping.{AreSizes}
 use Rattle.bus_tenure.specs.declared.phases.Reason.{Reason}
 use Rattle.bus_tenure.specs.declared.phases.Phase.{Phase}
@@ -17,8 +17,7 @@ use Rattle.bus_core.specs.Reusing.Turns.{Participant, sizes_of}
 
 -- it has begun no tenure yet, and may begin this one
 pub record IsBound {E : Type 0} (c : Core E) (t : ℕ) : Type 0 where
-  pub rests : c.phase ≡ Resting
-  pub looks : resting c ≡ LooksAtStage
+  pub looks : LooksForTenure c
   pub least : c.least ≤ t
   pub below : t < c.layout.rows
 
@@ -80,16 +79,17 @@ abbrev pub ReclaimerKeeps : {E : Type 0} → ReclamationSizes → Phase E → Op
 ReclaimerKeeps x phase None = (t : ℕ) → held_of phase ≡ Some t → t + 1 < x.rows
 ReclaimerKeeps x phase (Some s) = IsHeldReclaimer x phase s
 
--- Who remembers an owner parts from the tenure that it lost, and has begun no other. Who parts from a tenure and remembers no owner has
--- taken its page.
-pub record HasLost {E : Type 0} (phase : Phase E) (pin : Pin) : Type 0 where
+-- Who remembers an owner, which is another sender, parts from the tenure that it lost, and has begun no other. Who parts from a tenure and
+-- remembers no owner has taken its page.
+pub record HasLost {E : Type 0} (me : ℕ) (phase : Phase E) (pin : Pin) (owner : SenderNo) : Type 0 where
   pub tenure : ℕ
   pub parts : pin ≡ Unpinning tenure
   pub rests : phase ≡ Resting
+  pub other : owner.0 ≢ me
 
-abbrev pub LostKeeps : {E : Type 0} → Phase E → Pin → Option SenderNo → Type 0
-LostKeeps phase pin None = (t : ℕ) → pin ≡ Unpinning t → held_of phase ≡ Some t
-LostKeeps phase pin (Some o) = HasLost phase pin
+abbrev pub LostKeeps : {E : Type 0} → ℕ → Phase E → Pin → Option SenderNo → Type 0
+LostKeeps me phase pin None = (t : ℕ) → pin ≡ Unpinning t → held_of phase ≡ Some t
+LostKeeps me phase pin (Some o) = HasLost me phase pin o
 
 pub record ParticipantKeeps {E : Type 0} (width : ℕ) (Belongs : ℕ → E → Type 0) (v : Participant E) : Type 0 where
   pub sizes : AreSizes v.core.layout width
@@ -99,4 +99,4 @@ pub record ParticipantKeeps {E : Type 0} (width : ℕ) (Belongs : ℕ → E → 
   pub me_below : v.core.me < v.core.layout.senders
   pub pin : PinKeeps Belongs v.core v.pin
   pub reclaimer : ReclaimerKeeps (sizes_of v) v.core.phase v.reclaimer
-  pub lost : LostKeeps v.core.phase v.pin v.lost
+  pub lost : LostKeeps v.core.me v.core.phase v.pin v.lost

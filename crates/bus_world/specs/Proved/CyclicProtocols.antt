@@ -13,10 +13,12 @@ use Rattle.bus_presence.specs.Reclaimers.{Reclaiming, reclaim_fed}
 use Rattle.bus_presence.specs.Reclamation.{Reclamation, Trails, no_trails, new_reclamation, trails_with_entry, number_of_step, words_after as reclamation_words}
 use Rattle.bus_presence.specs.declared.pins.Pin.TheVariants.{Away}
 use Rattle.bus_tenure.specs.Core.{Core, Election, Layout}
-use Rattle.bus_tenure.specs.Situations.{Situation, line_of, op_at, kind_at, tenure_at, chosen_at}
+use Rattle.bus_tenure.specs.Situations.{Situation, line_of, op_at, kind_at}
+use Rattle.bus_tenure.specs.Proved.LineParts.{tenure_at, chosen_at}
 use Rattle.bus_tenure.specs.declared.pages.Page.{Page}
 use Rattle.bus_tenure.specs.declared.turns.Turn.{Turn as Answered}
-use Rattle.bus_core.specs.Reusing.Participants.{log_from, Due, Pins, Reclaims, Goes, due_of, place_for, core_looked, core_going, pin_going, reclaimer_going, answer_going}
+use Rattle.bus_core.specs.Reusing.Participants.{log_from}
+use Rattle.bus_core.specs.Proved.ParticipantTable.{Due, Pins, Reclaims, Goes, due_of, place_for, core_looked, core_going, pin_going, reclaimer_going, answer_going}
 use Rattle.bus_world.specs.Turning.{core_moved, after_step}
 use Rattle.bus_world.specs.Proved.Machines.{home_after, owners_after, new_core, can_put, can_close, put_in, mark_in}
 use Rattle.bus_world.specs.Headline.{Action, HasPut, HasMarked}

@@ -10,7 +10,8 @@ use Rattle.bus_presence.specs.Reclamation.{Trails, row_of, Reached}
 use Rattle.bus_tenure.specs.Core.{Core, Election, Layout, stage_at}
 use Rattle.bus_tenure.specs.Situations.{Elects}
 use Rattle.bus_tenure.specs.declared.phases.Phase.TheVariants.{Electing}
-use Rattle.bus_core.specs.Reusing.Participants.{sizes_with, log_from, place_for}
+use Rattle.bus_core.specs.Reusing.Participants.{sizes_with, log_from}
+use Rattle.bus_core.specs.Proved.ParticipantTable.{place_for}
 use Rattle.bus_world.specs.Headline.{Action, Promises}
 use Rattle.bus_world.specs.Log.{words_read_from}
 use Rattle.bus_world.specs.Trails.{Takers}
