@@ -2,7 +2,7 @@
 use Rattle.std.proofs.Common.{◌≡◌, ℕ, ◌+◌, ◌*◌, Option, Some, None, List, inl, inr, slice_index, refl, sym, ◌∙◌, ap, subst}
 use Rattle.std.specs.Prelude.{IsSomeAnd}
 use Rattle.bus_core.specs.Keeping.{core_without}
-use Rattle.bus_core.specs.Senders.{Sender, Situation, Does, Announces, Validates, Unpins, Withdraws, Scans, Clears, situation}
+use Rattle.bus_core.specs.Senders.{Sender, Situation, Does, Announces, Validates, Unpins, Withdraws, Scans, Clears, situation, situation_by, pinning}
 use Rattle.bus_core.specs.Table.{line, line_now}
 use Rattle.bus_core.specs.Telling.{FeedTells, LosesBy, GivesReady, IsBehind}
 use Rattle.bus_core.specs.declared.reuses.Reuse.{Reuse}
@@ -14,6 +14,7 @@ use Rattle.bus_core.specs.Reusing.Telling.HasPublished.{Published, HandsOnSent}
 use Rattle.bus_core.specs.Reusing.Telling.LacksRoom.{FindsNoRoom, HandsOnFull}
 use Rattle.bus_core.specs.Reusing.Telling.FindsEnd.{Ended, HandsOnEnd}
 use Rattle.bus_core.specs.Reusing.Telling.Returns.{Gives, Says}
+use Rattle.bus_presence.specs.declared.pins.Pin.TheVariants.{Validating}
 use Rattle.bus_register.specs.declared.registers.Op.{Op}
 use Rattle.bus_register.specs.declared.registers.Op.TheVariants.{Store}
 use Rattle.bus_register.specs.declared.registers.SenderNo.{SenderNo}
@@ -104,6 +105,10 @@ module _ {E : Type 0} (X : Election E) (v : Sender E) (word n t : ℕ) (page : P
   not_behind u p None w = w
   not_behind u p (Some r) w = let bad = sym stores_now ∙ w.loads in cc
 
+  looks_twice : (u : ℕ) (r : Option Reuse) (z : Own E) → IsSomeAnd r (λ q. q.pin ≡ Validating u) → situation_by r z ≡ Does (GivesBack t page reason) → ⊥
+  looks_twice u None z w e = w
+  looks_twice u (Some r) z w e = let bad : Validates u ≡ Does (GivesBack t page reason) = sym (ap (λ p. pinning p r.reclaimer z) w) ∙ e in cc
+
   gives_too : (a : Answered) → FeedTells X g n word a → FeedTells X v n word a
   gives_too turn.Idle w = w
   gives_too turn.Waiting (inl w) = absurd (let bad : phase.Giving t reason ≡ phase.Resting = w.looks.looks.rests in cc)
@@ -117,6 +122,8 @@ module _ {E : Type 0} (X : Election E) (v : Sender E) (word n t : ℕ) (page : P
     waits = λ i. let bad = sym (tells X v.core (GivesBack t page reason) own).2 ∙ i.looks.looks.rests in cc;
     spent = λ i. let bad = sym (tells X v.core (GivesBack t page reason) own).2 ∙ i.looks.looks.rests in cc;
     begins = λ i. let bad = sym (tells X v.core (GivesBack t page reason) own).2 ∙ i.looks.rests in absurd cc;
+    enters = λ u i found. absurd (looks_twice u v.reuse (situation_of X v.core) i here);
+    enters_only = λ u o i runs. absurd (looks_twice u v.reuse (situation_of X v.core) i here);
     behind = λ u p i. never_behind u p v.reuse i;
   }
   gives_too (turn.Lost u o) w = loses_then u o v.reuse w

@@ -121,7 +121,7 @@ module _ {S : Type 0} (X : Election (Elector S)) (P : Protocol S Bool Verdict) w
     stands h = ap tenure_of h.elects ∙ ap (tenure_begun_by c) (sym h.pin ∙ pinned)
 
     pinned_in : (k : Kind) → HasCause P (sender c (Some r)) k → tenure_of c.phase ≡ Some t
-    pinned_in kind.LoadStage h = absurd (away h.0)
+    pinned_in kind.LoadStage h = absurd (away h.away)
     pinned_in kind.Enter h = absurd (not_announcing h.tenure h.pin)
     pinned_in kind.LoadStageAgain h = absurd (not_validating h.tenure h.pin)
     pinned_in kind.Announce h = stands h.0
