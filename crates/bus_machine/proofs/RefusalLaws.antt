@@ -351,8 +351,8 @@ memories_refused X m T = record {
     | inr lost ↦ (let e = lost.elected in nothing_there e.place _ (ap (λ d. slice_get d e.place) (sym idle) ∙ e.at))
   ];
   begins_ahead = λ s v t at begun stage p. let low = (p.by.remembers s v at).begun t begun in omega arith;
-  busy_without_tenure = λ s v at none busy p. true≢false (sym busy ∙ (p.by.remembers s v at).idle none);
-  idle_in_a_tenure = λ s v t at begun idle p. true≢false (sym ((p.by.remembers s v at).busy t begun) ∙ idle);
+  busy_at_rest = λ s v at rests busy p. true≢false (sym busy ∙ (p.by.remembers s v at).idle rests);
+  idle_in_a_tenure = λ s v t at in_it idle p. true≢false (sym ((p.by.remembers s v at).busy t in_it) ∙ idle);
 }
 
 -- words of the log stored below the length, and words cleared of rows in which somebody stands

@@ -14,8 +14,7 @@ use Rattle.bus_batch.specs.declared.batches.Phase.{Phase as BatchPhase}
 use Rattle.bus_batch.specs.declared.batches.Phase.TheVariants as batch
 use Rattle.bus_core.proofs.Reusing.Tells.{Shows, gives_shows}
 use Rattle.bus_core.proofs.Situated.{own_is}
-use Rattle.bus_core.specs.Keeping.{queue_of}
-use Rattle.bus_core.specs.Reusing.Turns.{tenure_begun_by, queue_seen}
+use Rattle.bus_core.specs.Reusing.Turns.{tenure_begun_by}
 use Rattle.bus_core.specs.Seen.{begun_by, tenure_begun}
 use Rattle.bus_core.specs.Senders.{Sender, Situation, Does, Announces, Validates, Unpins, Withdraws, Scans, Clears, situation}
 use Rattle.bus_core.specs.Table.{Line, line, line_now, seen}
@@ -80,8 +79,8 @@ module _ {E : Type 0} (P : Protocol E (Unit {0}) ℕ) (m : Machine E) (T : Trail
   busy_in (phase.Holding u page stored true) fits t e = fits.0.busy
   busy_in (phase.Giving u reason) fits t e = absurd fits
 
-  -- and else it is not
-  idle_at : (ph : Phase E) → Fits (base_of m) f.V f.frames v.core ph → tenure_of ph ≡ None → v.core.queue.busy ≡ false
+  -- and at rest it is not
+  idle_at : (ph : Phase E) → Fits (base_of m) f.V f.frames v.core ph → ph ≡ phase.Resting → v.core.queue.busy ≡ false
   idle_at phase.Resting fits e = fits.0
   idle_at (phase.Electing u k) fits e = absurd cc
   idle_at (phase.Taken u) fits e = absurd cc
@@ -160,34 +159,11 @@ module _ {E : Type 0} (P : Protocol E (Unit {0}) ℕ) (m : Machine E) (T : Trail
         | inr now ↦ inr record { tenure = now.0; published = now.1; leaves = now.2 }
       ]
 
-  -- its batch as it is seen, on its way from when it begins a tenure by its pin
-  busy_pinned : (u : Pin) (t : ℕ) → tenure_begun_by v.core u ≡ Some t → (queue_seen v.core.queue u).busy ≡ true
-  busy_pinned Away t e = busy_in v.core.phase part.fits t e
-  busy_pinned (Announcing u) t e = refl
-  busy_pinned (Validating u) t e = refl
-  busy_pinned (Pinned u) t e = refl
-  busy_pinned (Unpinning u) t e = refl
-  busy_pinned (Invalidated u) t e = refl
+  pub busy_within : (t : ℕ) → tenure_of v.core.phase ≡ Some t → v.core.queue.busy ≡ true
+  busy_within t e = busy_in v.core.phase part.fits t e
 
-  idle_pinned : (u : Pin) → tenure_begun_by v.core u ≡ None → (queue_seen v.core.queue u).busy ≡ false
-  idle_pinned Away e = idle_at v.core.phase part.fits e
-  idle_pinned (Announcing u) e = absurd cc
-  idle_pinned (Validating u) e = absurd cc
-  idle_pinned (Pinned u) e = absurd cc
-  idle_pinned (Unpinning u) e = absurd cc
-  idle_pinned (Invalidated u) e = absurd cc
-
-  pub busy_begun : (t : ℕ) → tenure_begun v ≡ Some t → (queue_of v.core.queue v.reuse).busy ≡ true
-  busy_begun t = by v.reuse where
-    by : (r : Option Reuse) → begun_by v.core r ≡ Some t → (queue_of v.core.queue r).busy ≡ true
-    by None e = busy_in v.core.phase part.fits t e
-    by (Some r) e = busy_pinned r.pin t e
-
-  pub idle_begun : tenure_begun v ≡ None → (queue_of v.core.queue v.reuse).busy ≡ false
-  idle_begun = by v.reuse where
-    by : (r : Option Reuse) → begun_by v.core r ≡ None → (queue_of v.core.queue r).busy ≡ false
-    by None e = idle_at v.core.phase part.fits e
-    by (Some r) e = idle_pinned r.pin e
+  pub idle_resting : v.core.phase ≡ phase.Resting → v.core.queue.busy ≡ false
+  idle_resting e = idle_at v.core.phase part.fits e
 
 -- ---- by its pin
 -- whoever is past a tenure, or in it, or pins it, saw it open
@@ -590,6 +566,7 @@ module _ {E : Type 0} (X : Election E) (P : Protocol E (Unit {0}) ℕ) where
         past = k.past;
         begun = reused_opened (stage_of m) s (T.actions s) v.core (begun_opened P m T f s v at) k.past v.reuse (T.pins s)
             ((pins_kept X P m T sits r).each s v at);
-        busy = busy_begun P m T f s v at;
-        idle = idle_begun P m T f s v at;
+        entered = begun_opened P m T f s v at;
+        busy = busy_within P m T f s v at;
+        idle = idle_resting P m T f s v at;
       }

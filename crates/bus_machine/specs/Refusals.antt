@@ -6,7 +6,6 @@ use Rattle.bus_batch.specs.declared.messages.Mark.{Mark}
 use Rattle.bus_batch.specs.declared.messages.Mark.TheVariants as mark
 use Rattle.bus_batch.specs.declared.messages.Item.{Item}
 use Rattle.bus_batch.specs.Batches.{next_of}
-use Rattle.bus_core.specs.Keeping.{queue_of}
 use Rattle.bus_core.specs.Seen.{tenure_begun}
 use Rattle.bus_core.specs.Senders.{Sender, Does, Clears, situation}
 use Rattle.bus_core.specs.Table.{lost_of, line_now}
@@ -27,6 +26,7 @@ use Rattle.bus_register.specs.declared.registers.SenderNo.{SenderNo}
 use Rattle.bus_tenure.specs.Core.{Election, frame_len}
 use Rattle.bus_tenure.specs.Situations.{StoresWord}
 use Rattle.bus_tenure.specs.declared.pages.Page.{Page}
+use Rattle.bus_tenure.specs.Seen.{tenure_of}
 use Rattle.bus_tenure.specs.declared.phases.Phase.TheVariants.{Resting, Electing, Holding}
 use Rattle.bus_tenure.specs.declared.turns.Turn.TheVariants as turn
 use Rattle.bus_world.specs.Headline.{Action, HasPut, Stepped, Announced, Asked, Elected, Took}
@@ -200,11 +200,10 @@ pub record MemoriesRefuse {E : Type 0} (X : Election E) (m : Machine E) (T : Tra
   pub past_at_first : (s : ℕ) (v : Sender E) → slice_get m.senders s ≡ Some v → v.core.least ≡ 1 → stage_of m ≡ 0 → T.actions s ≡ [] → ¬ IsPromised X m T
   -- it has begun a tenure, be it by its pin, that is not opened yet
   pub begins_ahead : (s : ℕ) (v : Sender E) (t : ℕ) → slice_get m.senders s ≡ Some v → tenure_begun v ≡ Some t → stage_of m < 2 * t → ¬ IsPromised X m T
-  -- its batch is on its way while it has begun no tenure, or is not while it has
-  pub busy_without_tenure : (s : ℕ) (v : Sender E) → slice_get m.senders s ≡ Some v → tenure_begun v ≡ None → (queue_of v.core.queue v.reuse).busy ≡ true
+  -- its batch is on its way at rest, or is not in a tenure
+  pub busy_at_rest : (s : ℕ) (v : Sender E) → slice_get m.senders s ≡ Some v → v.core.phase ≡ Resting → v.core.queue.busy ≡ true → ¬ IsPromised X m T
+  pub idle_in_a_tenure : (s : ℕ) (v : Sender E) (t : ℕ) → slice_get m.senders s ≡ Some v → tenure_of v.core.phase ≡ Some t → v.core.queue.busy ≡ false
       → ¬ IsPromised X m T
-  pub idle_in_a_tenure : (s : ℕ) (v : Sender E) (t : ℕ) → slice_get m.senders s ≡ Some v → tenure_begun v ≡ Some t
-      → (queue_of v.core.queue v.reuse).busy ≡ false → ¬ IsPromised X m T
 
 -- a word of the log that is stored where the length has passed
 pub record WordsRefuse {E : Type 0} (X : Election E) (m : Machine E) (T : Trails) : Type 0 where

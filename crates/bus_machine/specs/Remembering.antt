@@ -4,13 +4,14 @@ use Rattle.bus_batch.specs.Batches.{next_of, IsShut}
 use Rattle.bus_batch.specs.Frames.{Order, Spells, has_gone}
 use Rattle.bus_batch.specs.declared.batches.Phase.TheVariants.{Closed}
 use Rattle.bus_batch.specs.declared.messages.Mark.{Mark}
-use Rattle.bus_core.specs.Keeping.{queue_of}
 use Rattle.bus_core.specs.Reusing.Telling.{HasPublished}
 use Rattle.bus_core.specs.Seen.{tenure_begun}
 use Rattle.bus_core.specs.Senders.{Sender}
 use Rattle.bus_core.specs.declared.reuses.Reuse.{Reuse}
 use Rattle.bus_register.specs.declared.registers.SenderNo.{SenderNo}
 use Rattle.bus_tenure.specs.Core.{is_leaving}
+use Rattle.bus_tenure.specs.Seen.{tenure_of}
+use Rattle.bus_tenure.specs.declared.phases.Phase.TheVariants.{Resting}
 use Rattle.bus_world.specs.Headline.{Action, Asked, Elected, puts}
 use Rattle.bus_machine.specs.Machine.{Machine, base_of, log_of, stage_of}
 
@@ -75,8 +76,9 @@ pub record Remembers {E : Type 0} (m : Machine E) (s : ℕ) (v : Sender E) (acti
   pub asked : (mark : Mark) → Asked mark actions → IsShut v.core.queue
   -- each tenure below the first that it may enter has ended, or it has lost it
   pub past : (t : ℕ) → t < v.core.least → IsPastFor (stage_of m) s actions t
-  -- a tenure that it has begun was opened
+  -- a tenure that it has begun, be it by its pin, was opened, and so was the one that it is in
   pub begun : (t : ℕ) → tenure_begun v ≡ Some t → 2 * t ≤ stage_of m
-  -- while it has begun a tenure its batch is on its way, and else it is not
-  pub busy : (t : ℕ) → tenure_begun v ≡ Some t → (queue_of v.core.queue v.reuse).busy ≡ true
-  pub idle : tenure_begun v ≡ None → (queue_of v.core.queue v.reuse).busy ≡ false
+  pub entered : (t : ℕ) → tenure_of v.core.phase ≡ Some t → 2 * t ≤ stage_of m
+  -- its batch is on its way in a tenure, and at rest it is not
+  pub busy : (t : ℕ) → tenure_of v.core.phase ≡ Some t → v.core.queue.busy ≡ true
+  pub idle : v.core.phase ≡ Resting → v.core.queue.busy ≡ false

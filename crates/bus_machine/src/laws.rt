@@ -136,10 +136,9 @@ pub fn same_actions_say_no_more()
 /// rows, is to put its second message first, is closed while the order goes on in which it has not
 /// left, has left in it and is open or at rest with its mark, has asked for a mark and is open,
 /// passes over a tenure that is open, has begun one that is not opened yet, or has its batch on
-/// its way while it has begun none, or not while it has; nor one of which a sender stores a word of
-/// the log below the length next, or clears a word of a row in which somebody stands. None is
-/// bounded of which a sender took more steps towards a page, or has no turn left while its election
-/// runs.
+/// its way at rest, or not in a tenure; nor one of which a sender stores a word of the log below
+/// the length next, or clears a word of a row in which somebody stands. None is bounded of which a
+/// sender took more steps towards a page, or has no turn left while its election runs.
 pub fn machines_refuse<Q: Ratifier>()
     ensures follows { let X = election_of Q.Ratifier in
         (old : Machine (Elector Q)) (event : Event) (given : Answer) (new : Machine (Elector Q))
