@@ -18,8 +18,8 @@ use bus_deliverylog::{Reader, RecvTurn};
 /// What a turn of a receiver answers where an item is written in its place.
 #[derive(Clone, Copy, Debug, PartialEq, Eq)]
 pub enum ItemTurn {
-    /// A head, a leave mark, a longer length, a word that says nothing by itself, or one that is not
-    /// taken.
+    /// A head, a leave mark, a longer length, a word that says nothing by itself, or one that is
+    /// not taken.
     Going,
     /// The length is the one that it knew, and its place is there.
     Empty,
@@ -291,8 +291,8 @@ fn turn_in_place<Q: Ratifier + Drop>(
     hear_word_in_place(words, seat, log, reader, item)
 }
 
-/// Turns of a receiver that has not ended: some that take words which say nothing by themselves, and
-/// a last one. An item is written in place.
+/// Turns of a receiver that has not ended: some that take words which say nothing by themselves,
+/// and a last one. An item is written in place.
 #[inline(always)]
 pub(crate) fn hear_in_place<Q: Ratifier + Drop>(
     words: &Words<Q>,
