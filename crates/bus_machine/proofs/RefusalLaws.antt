@@ -16,6 +16,7 @@ use Rattle.bus_register.specs.declared.kinds.Kind.TheVariants as kind
 use Rattle.bus_register.specs.declared.registers.SenderNo.{SenderNo}
 use Rattle.bus_batch.specs.Batches.{frame_of}
 use Rattle.bus_core.specs.Reusing.Telling.{HasPublished, Published, HandsOnSent}
+use Rattle.bus_tenure.specs.Seen.{tenure_of}
 use Rattle.bus_tenure.specs.Core.{Election, is_leaving}
 use Rattle.bus_tenure.specs.declared.pages.Page.{Page}
 use Rattle.bus_tenure.specs.declared.phases.Phase.{Phase}
@@ -351,6 +352,7 @@ memories_refused X m T = record {
     | inr lost ↦ (let e = lost.elected in nothing_there e.place _ (ap (λ d. slice_get d e.place) (sym idle) ∙ e.at))
   ];
   begins_ahead = λ s v t at begun stage p. let low = (p.by.remembers s v at).begun t begun in omega arith;
+  runs_ahead = λ s v t e at ph stage p. let low = (p.by.remembers s v at).entered t (ap tenure_of ph) in omega arith;
   busy_at_rest = λ s v at rests busy p. true≢false (sym busy ∙ (p.by.remembers s v at).idle rests);
   idle_in_a_tenure = λ s v t at in_it idle p. true≢false (sym ((p.by.remembers s v at).busy t in_it) ∙ idle);
 }

@@ -200,6 +200,8 @@ pub record MemoriesRefuse {E : Type 0} (X : Election E) (m : Machine E) (T : Tra
   pub past_at_first : (s : ℕ) (v : Sender E) → slice_get m.senders s ≡ Some v → v.core.least ≡ 1 → stage_of m ≡ 0 → T.actions s ≡ [] → ¬ IsPromised X m T
   -- it has begun a tenure, be it by its pin, that is not opened yet
   pub begins_ahead : (s : ℕ) (v : Sender E) (t : ℕ) → slice_get m.senders s ≡ Some v → tenure_begun v ≡ Some t → stage_of m < 2 * t → ¬ IsPromised X m T
+  -- its election of a tenure runs that is not opened yet
+  pub runs_ahead : (s : ℕ) (v : Sender E) (t : ℕ) (e : E) → slice_get m.senders s ≡ Some v → v.core.phase ≡ Electing t e → stage_of m < 2 * t → ¬ IsPromised X m T
   -- its batch is on its way at rest, or is not in a tenure
   pub busy_at_rest : (s : ℕ) (v : Sender E) → slice_get m.senders s ≡ Some v → v.core.phase ≡ Resting → v.core.queue.busy ≡ true → ¬ IsPromised X m T
   pub idle_in_a_tenure : (s : ℕ) (v : Sender E) (t : ℕ) → slice_get m.senders s ≡ Some v → tenure_of v.core.phase ≡ Some t → v.core.queue.busy ≡ false
