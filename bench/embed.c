@@ -1,6 +1,6 @@
 /* Tests of the archive through include/kioskbasil.h, and the time of a message through it.
-   bench/embed builds and runs it: `codes`, `storm RUNS`, `time`, `lines`. The first two print what
-   failed, and `N passed, M failed` last. */
+   bench/embed builds and runs it: `codes`, `storm RUNS`, `lives RUNS`, `control`, `time`, `lines`.
+   The first three print what failed, and `N passed, M failed` last. */
 #include "kioskbasil.h"
 #include "waiting.h"
 #include <pthread.h>
@@ -72,6 +72,7 @@ static void no_handles(void) {
     EXPECT(kioskbasil_leave(&s), KIOSKBASIL_EMPTY_HANDLE);
     EXPECT(kioskbasil_turn(&s, 1, &turn), KIOSKBASIL_EMPTY_HANDLE);
     EXPECT(kioskbasil_turns(&s, 1, &turn), KIOSKBASIL_EMPTY_HANDLE);
+    EXPECT(kioskbasil_finish(&s, &turn), KIOSKBASIL_EMPTY_HANDLE);
     EXPECT(turn.tenure, 7);
     EXPECT(kioskbasil_show_sender(&s, &sender), KIOSKBASIL_EMPTY_HANDLE);
     EXPECT(kioskbasil_hear_once(&r, &heard), KIOSKBASIL_EMPTY_HANDLE);
@@ -79,9 +80,10 @@ static void no_handles(void) {
     EXPECT(many, 7);
     EXPECT(kioskbasil_show_receiver(&r, &receiver), KIOSKBASIL_EMPTY_HANDLE);
     EXPECT(kioskbasil_end(&s, 1, &r, 1, NULL, 0, &left), KIOSKBASIL_EMPTY_HANDLE);
-    kioskbasil_free_sender(&s);
+    EXPECT(kioskbasil_free_sender(&s), KIOSKBASIL_OK);
     kioskbasil_free_receiver(&r);
-    kioskbasil_free_sender(NULL);
+    EXPECT(kioskbasil_free_sender(NULL), KIOSKBASIL_OK);
+    EXPECT(kioskbasil_finish(NULL, &turn), KIOSKBASIL_NULL);
     kioskbasil_free_receiver(NULL);
     EXPECT(s.live + r.live, 0);
     EXPECT(kioskbasil_open(NULL, &s, 1, &r, 1), KIOSKBASIL_NULL);
@@ -105,9 +107,13 @@ static void no_handles(void) {
     EXPECT(kioskbasil_show_receiver(NULL, &receiver), KIOSKBASIL_NULL);
     EXPECT(kioskbasil_end(&s, 1, &r, 1, NULL, 1, &left), KIOSKBASIL_NULL);
     EXPECT(kioskbasil_open_after(&sizes, NULL, &s, 1, &r, 1), KIOSKBASIL_NULL);
-    for (uint32_t code = 0; code <= KIOSKBASIL_OTHER_BUS + 1; code++) {
+    EXPECT(kioskbasil_senders_page(&s, 1, &left), KIOSKBASIL_EMPTY_HANDLE);
+    EXPECT(kioskbasil_senders_page(NULL, 1, &left), KIOSKBASIL_NULL);
+    EXPECT(kioskbasil_senders_page(&s, 0, &left), KIOSKBASIL_NULL);
+    EXPECT(kioskbasil_senders_page(&s, 1, NULL), KIOSKBASIL_NULL);
+    for (uint32_t code = 0; code <= KIOSKBASIL_UNANSWERED + 1; code++) {
         int named = code <= KIOSKBASIL_LEAVE ||
-                    (code >= KIOSKBASIL_BAD_SENDERS && code <= KIOSKBASIL_OTHER_BUS);
+                    (code >= KIOSKBASIL_BAD_SENDERS && code <= KIOSKBASIL_UNANSWERED);
         EXPECT(strcmp(kioskbasil_text(code), "no code of this version") != 0, named);
         EXPECT(kioskbasil_refused(code), code >= 32);
     }
@@ -146,7 +152,7 @@ static void one_sender(bool again) {
     EXPECT(sender.is_closed, false);
     EXPECT(kioskbasil_hear(r, items, 8, &many), KIOSKBASIL_EMPTY);
     EXPECT(many, 0);
-    EXPECT(send_batch(s, &seed, &turn), KIOSKBASIL_DELIVERED);
+    EXPECT(send_batch(s, &seed, &turn, NULL), KIOSKBASIL_DELIVERED);
     EXPECT(turn.tenure, 0);
     EXPECT(turn.first, 0);
     EXPECT(turn.last, 2);
@@ -168,12 +174,12 @@ static void one_sender(bool again) {
         kioskbasil_show_sender(s, &sender);
     } while (kioskbasil_put(s, "x", 1, NULL) != KIOSKBASIL_PUT_BUSY && sender.pending);
     EXPECT(kioskbasil_close(s), KIOSKBASIL_CLOSE_BUSY);
-    EXPECT(send_batch(s, &seed, &turn), KIOSKBASIL_DELIVERED);
+    EXPECT(send_batch(s, &seed, &turn, NULL), KIOSKBASIL_DELIVERED);
     EXPECT(turn.last, 18);
     EXPECT(kioskbasil_close(s), KIOSKBASIL_OK);
     EXPECT(kioskbasil_close(s), KIOSKBASIL_CLOSE_CLOSED);
     EXPECT(kioskbasil_put(s, "x", 1, NULL), KIOSKBASIL_PUT_CLOSED);
-    EXPECT(send_batch(s, &seed, NULL), KIOSKBASIL_CLOSED);
+    EXPECT(send_batch(s, &seed, NULL, NULL), KIOSKBASIL_CLOSED);
     uint32_t code, heads = 0, found = 0;
     while ((code = kioskbasil_hear_once(r, &heard)) != KIOSKBASIL_END) {
         if (code == KIOSKBASIL_HEAD) heads++;
@@ -196,7 +202,7 @@ static void one_sender(bool again) {
     EXPECT(log[0] != 9 && log[2] == 9, 1);
 }
 
-/* Full, spent, and a page that is out. */
+/* Full, spent, and a sender whose page is given back at the end. */
 static void ends(void) {
     kioskbasil_sender s[1] = {KIOSKBASIL_NONE};
     kioskbasil_receiver r[1] = {KIOSKBASIL_NONE};
@@ -206,12 +212,13 @@ static void ends(void) {
     uint8_t big[56] = {0};
     EXPECT(kioskbasil_open(&sizes, s, 1, r, 1), KIOSKBASIL_OK);
     for (int i = 0; i < 4; i++) EXPECT(kioskbasil_put(s, big, 56, NULL), KIOSKBASIL_OK);
-    EXPECT(send_batch(s, &seed, NULL), KIOSKBASIL_FULL);
-    EXPECT(send_batch(s, &seed, NULL), KIOSKBASIL_SPENT);
+    EXPECT(send_batch(s, &seed, NULL, NULL), KIOSKBASIL_FULL);
+    EXPECT(send_batch(s, &seed, NULL, NULL), KIOSKBASIL_SPENT);
     EXPECT(kioskbasil_open(&sizes, s, 1, r, 1), KIOSKBASIL_OK);
     EXPECT(kioskbasil_put(s, "x", 1, NULL), KIOSKBASIL_OK);
     while (kioskbasil_turn(s, 3, NULL) != KIOSKBASIL_OWN) {}
-    EXPECT(kioskbasil_end(s, 1, r, 1, NULL, 0, &left), KIOSKBASIL_PAGE_OUT);
+    EXPECT(kioskbasil_end(s, 1, r, 1, NULL, 0, &left), KIOSKBASIL_OK);
+    EXPECT(left.counts[0], 1);
     EXPECT(s[0].live + r[0].live, 0);
 }
 
@@ -224,7 +231,7 @@ static void last_sender(void) {
     uint64_t seed = 3, log[3] = {0};
     EXPECT(kioskbasil_open(&sizes, s, KIOSKBASIL_MOST_SENDERS, r, 1), KIOSKBASIL_OK);
     EXPECT(kioskbasil_put(&s[63], "b", 1, NULL), KIOSKBASIL_OK);
-    EXPECT(send_batch(&s[63], &seed, NULL), KIOSKBASIL_DELIVERED);
+    EXPECT(send_batch(&s[63], &seed, NULL, NULL), KIOSKBASIL_DELIVERED);
     EXPECT(kioskbasil_end(s, KIOSKBASIL_MOST_SENDERS, r, 1, log, 3, &left), KIOSKBASIL_OK);
     EXPECT(left.counts[62], 0);
     EXPECT(left.counts[63], 1);
@@ -237,7 +244,7 @@ static void send_one(kioskbasil_sender *s, uint64_t wanted, uint64_t *seed) {
     uint64_t number = 7;
     EXPECT(kioskbasil_put(s, "x", 1, &number), KIOSKBASIL_OK);
     EXPECT(number, wanted);
-    EXPECT(send_batch(s, seed, NULL), KIOSKBASIL_DELIVERED);
+    EXPECT(send_batch(s, seed, NULL, NULL), KIOSKBASIL_DELIVERED);
 }
 
 /* A sitting after another: the numbers go on, and the counts begin anew. */
@@ -257,7 +264,7 @@ static void two_sittings(bool again, bool then) {
     EXPECT(kioskbasil_open(&sizes, s, 2, r, 1), KIOSKBASIL_OK);
     send_one(&s[1], 0, &seed);
     send_one(&s[1], 1, &seed);
-    EXPECT(end_order(&s[0], &seed), KIOSKBASIL_CLOSED);
+    EXPECT(end_order(&s[0], &seed, NULL), KIOSKBASIL_CLOSED);
     EXPECT(kioskbasil_end(s, 2, r, 1, NULL, 0, &left), KIOSKBASIL_OK);
     high = left, high.next[63] = (UINT64_C(1) << 48) - 65536;
     EXPECT(kioskbasil_open_after(&sizes, &high, s, 2, r, 1), KIOSKBASIL_NUMBERS_USED);
@@ -273,7 +280,7 @@ static void two_sittings(bool again, bool then) {
     EXPECT(many, 2);
     EXPECT(items[0].number, 2);
     EXPECT(items[1].number, 0);
-    EXPECT(end_order(&s[1], &seed), KIOSKBASIL_CLOSED);
+    EXPECT(end_order(&s[1], &seed, NULL), KIOSKBASIL_CLOSED);
     EXPECT(kioskbasil_end(s, 2, r, 1, NULL, 0, &left), KIOSKBASIL_OK);
     for (int i = 0; i < KIOSKBASIL_MOST_SENDERS; i++) {
         EXPECT(left.counts[i], i < 2);
@@ -436,7 +443,7 @@ static void carrying(bool again) {
     kioskbasil_receiver r[1] = {KIOSKBASIL_NONE}, ear[1] = {KIOSKBASIL_NONE};
     kioskbasil_sizes sizes = {1, 8, 64, again};
     kioskbasil_item items[4];
-    kioskbasil_left left = {.ended = true}, over;
+    kioskbasil_left left, over;
     uint64_t seed = 31, number = 0;
     size_t many = 0;
     EXPECT(kioskbasil_open(&sizes, s, 3, r, 1), KIOSKBASIL_OK);
@@ -456,24 +463,29 @@ static void carrying(bool again) {
     EXPECT(kioskbasil_put(&s[1], "x", 1, NULL), KIOSKBASIL_OK);
     EXPECT(kioskbasil_turn(&s[1], 0, NULL), KIOSKBASIL_GOING);
     EXPECT(kioskbasil_carry(&s[0], &s[1]), KIOSKBASIL_PUT_BUSY);
-    EXPECT(send_batch(&s[1], &seed, NULL), KIOSKBASIL_DELIVERED);
-    EXPECT(end_order(&s[1], &seed), KIOSKBASIL_CLOSED);
+    EXPECT(send_batch(&s[1], &seed, NULL, NULL), KIOSKBASIL_DELIVERED);
+    EXPECT(end_order(&s[1], &seed, NULL), KIOSKBASIL_CLOSED);
     EXPECT(kioskbasil_carry(&s[0], &s[1]), KIOSKBASIL_PUT_CLOSED);
-    EXPECT(send_batch(&s[0], &seed, NULL), KIOSKBASIL_CLOSED);
+    EXPECT(send_batch(&s[0], &seed, NULL, NULL), KIOSKBASIL_CLOSED);
     EXPECT(pending(&s[0]), 2);
 
-    /* The old sender keeps its bus. So the next one goes on after what a receiver counted. */
-    EXPECT(kioskbasil_hear(r, items, 4, &many), KIOSKBASIL_END);
-    for (size_t i = 0; i < many; i++) left.next[items[i].sender] = items[i].number + 1;
+    /* The old sender keeps its bus. So the next one goes on after what all senders tell. */
+    EXPECT(kioskbasil_senders_page(s, 3, &left), KIOSKBASIL_UNANSWERED);
+    EXPECT(send_batch(&s[2], &seed, NULL, NULL), KIOSKBASIL_CLOSED);
+    EXPECT(kioskbasil_senders_page(s, 2, &left), KIOSKBASIL_UNANSWERED);
+    EXPECT(kioskbasil_senders_page(s + 1, 2, &left), KIOSKBASIL_UNANSWERED);
+    EXPECT(kioskbasil_senders_page(s, 3, &left), KIOSKBASIL_OK);
     EXPECT(kioskbasil_open_after(&sizes, &left, new, 2, ear, 1), KIOSKBASIL_OK);
     EXPECT(kioskbasil_carry(&s[0], &new[0]), KIOSKBASIL_OK);
     EXPECT(pending(&s[0]), 2);
     EXPECT(pending(&new[0]), 2);
     EXPECT(kioskbasil_end(s, 3, r, 1, NULL, 0, &over), KIOSKBASIL_OK);
     EXPECT(memcmp(over.next, left.next, sizeof left.next), 0);
+    EXPECT(memcmp(over.bases, left.bases, sizeof left.bases), 0);
+    EXPECT(left.ended, true);
     EXPECT(kioskbasil_put(&new[0], "four", 4, &number), KIOSKBASIL_OK);
     EXPECT(number, 3);
-    EXPECT(send_batch(&new[0], &seed, NULL), KIOSKBASIL_DELIVERED);
+    EXPECT(send_batch(&new[0], &seed, NULL, NULL), KIOSKBASIL_DELIVERED);
     EXPECT(kioskbasil_hear(ear, items, 4, &many), KIOSKBASIL_EMPTY);
     EXPECT(many, 3);
     for (size_t i = 0; i < many; i++) EXPECT(items[i].number, i + 1);
@@ -481,6 +493,228 @@ static void carrying(bool again) {
     EXPECT(memcmp(items[1].bytes, "three", 6), 0);
     EXPECT(kioskbasil_end(new, 2, ear, 1, NULL, 0, &over), KIOSKBASIL_OK);
     EXPECT(over.next[0], 4);
+}
+
+/* A message that is carried out of a later sitting, of a sender that sent nothing there, keeps its
+   number; and so does the next one of a sender that the sitting between did not have. */
+static void carrying_later(bool again) {
+    kioskbasil_sender s[3] = {KIOSKBASIL_NONE}, t[2] = {KIOSKBASIL_NONE}, u[3] = {KIOSKBASIL_NONE};
+    kioskbasil_receiver r[1] = {KIOSKBASIL_NONE}, q[1] = {KIOSKBASIL_NONE};
+    kioskbasil_receiver v[1] = {KIOSKBASIL_NONE};
+    kioskbasil_sizes sizes = {1, 8, 64, again};
+    kioskbasil_item items[4];
+    kioskbasil_left left, over;
+    uint64_t seed = 43, number = 0;
+    size_t many = 0;
+    EXPECT(kioskbasil_open(&sizes, s, 3, r, 1), KIOSKBASIL_OK);
+    for (int i = 0; i < 3; i++) send_one(&s[i], 0, &seed);
+    EXPECT(end_order(&s[0], &seed, NULL), KIOSKBASIL_CLOSED);
+    EXPECT(kioskbasil_end(s, 3, r, 1, NULL, 0, &left), KIOSKBASIL_OK);
+    EXPECT(kioskbasil_open_after(&sizes, &left, t, 2, q, 1), KIOSKBASIL_OK);
+    send_one(&t[0], 1, &seed);
+    EXPECT(kioskbasil_put(&t[1], "late", 4, &number), KIOSKBASIL_OK);
+    EXPECT(number, 1);
+    EXPECT(end_order(&t[0], &seed, NULL), KIOSKBASIL_CLOSED);
+    memset(&left, 7, sizeof left);
+    over = left;
+    EXPECT(kioskbasil_senders_page(t, 2, &left), KIOSKBASIL_UNANSWERED);
+    EXPECT(memcmp(&over, &left, sizeof left), 0);
+    EXPECT(send_batch(&t[1], &seed, NULL, NULL), KIOSKBASIL_CLOSED);
+    EXPECT(kioskbasil_senders_page(t, 2, &left), KIOSKBASIL_OK);
+    for (int i = 0; i < KIOSKBASIL_MOST_SENDERS; i++) {
+        EXPECT(left.bases[i], i < 3);
+        EXPECT(left.next[i], i == 0 ? 2 : i < 3);
+        EXPECT(left.counts[i] + left.gone[i], 0);
+    }
+    EXPECT(kioskbasil_open_after(&sizes, &left, u, 3, v, 1), KIOSKBASIL_OK);
+    EXPECT(kioskbasil_carry(&t[1], &u[1]), KIOSKBASIL_OK);
+    EXPECT(kioskbasil_end(t, 2, q, 1, NULL, 0, &over), KIOSKBASIL_OK);
+    EXPECT(memcmp(over.next, left.next, sizeof left.next), 0);
+    EXPECT(send_batch(&u[1], &seed, NULL, NULL), KIOSKBASIL_DELIVERED);
+    send_one(&u[2], 1, &seed);
+    EXPECT(kioskbasil_hear(v, items, 4, &many), KIOSKBASIL_EMPTY);
+    EXPECT(many, 2);
+    EXPECT(items[0].number, 1);
+    EXPECT(memcmp(items[0].bytes, "late", 5), 0);
+    for (int i = 0; i < 3; i++) kioskbasil_free_sender(&u[i]);
+    kioskbasil_free_receiver(v);
+}
+
+/* Senders that have all left have not ended the order, and handles of two buses have no page. */
+static void no_page(bool again) {
+    kioskbasil_sender s[2] = {KIOSKBASIL_NONE};
+    kioskbasil_receiver r[2] = {KIOSKBASIL_NONE};
+    kioskbasil_sizes sizes = {1, 8, 64, again};
+    kioskbasil_left left;
+    uint64_t seed = 47;
+    EXPECT(kioskbasil_open(&sizes, s, 2, r, 1), KIOSKBASIL_OK);
+    for (int i = 0; i < 2; i++) EXPECT(leave_order(&s[i], &seed, NULL), KIOSKBASIL_LEFT);
+    EXPECT(kioskbasil_senders_page(s, 2, &left), KIOSKBASIL_NOT_ENDED);
+    kioskbasil_free_sender(&s[1]);
+    EXPECT(kioskbasil_senders_page(s, 2, &left), KIOSKBASIL_EMPTY_HANDLE);
+    kioskbasil_free_sender(&s[0]), kioskbasil_free_receiver(&r[0]);
+    kioskbasil_sender two[4] = {KIOSKBASIL_NONE}, mixed[2];
+    for (int i = 0; i < 2; i++) {
+        EXPECT(kioskbasil_open(&sizes, two + 2 * i, 2, &r[i], 1), KIOSKBASIL_OK);
+        for (int j = 0; j < 2; j++) send_one(&two[2 * i + j], 0, &seed);
+        EXPECT(end_order(&two[2 * i], &seed, NULL), KIOSKBASIL_CLOSED);
+        EXPECT(end_order(&two[2 * i + 1], &seed, NULL), KIOSKBASIL_CLOSED);
+    }
+    mixed[0] = two[0], mixed[1] = two[3];
+    two[0] = two[3] = (kioskbasil_sender)KIOSKBASIL_NONE;
+    EXPECT(kioskbasil_senders_page(mixed, 2, &left), KIOSKBASIL_OTHER_BUS);
+    for (int i = 0; i < 4; i++) kioskbasil_free_sender(&two[i]);
+    for (int i = 0; i < 2; i++) kioskbasil_free_sender(&mixed[i]), kioskbasil_free_receiver(&r[i]);
+}
+
+/* While a sender holds the page nothing is carried from it, be its message heard already or not;
+   before and behind that it is. The other batch is full, which is refused later. */
+static void carrying_with_the_page(bool again) {
+    kioskbasil_sender s[1] = {KIOSKBASIL_NONE}, full[1] = {KIOSKBASIL_NONE};
+    kioskbasil_receiver r[1] = {KIOSKBASIL_NONE}, ear[1] = {KIOSKBASIL_NONE};
+    kioskbasil_sizes sizes = {1, 8, 64, again};
+    kioskbasil_item items[4];
+    size_t many = 0;
+    int out = 0, heard_while_out = 0;
+    EXPECT(kioskbasil_open(&sizes, s, 1, r, 1), KIOSKBASIL_OK);
+    EXPECT(kioskbasil_open(&sizes, full, 1, ear, 1), KIOSKBASIL_OK);
+    for (int i = 0; i < 16; i++) EXPECT(kioskbasil_put(full, "x", 1, NULL), KIOSKBASIL_OK);
+    EXPECT(kioskbasil_put(s, "y", 1, NULL), KIOSKBASIL_OK);
+    EXPECT(kioskbasil_carry(s, full), KIOSKBASIL_PUT_BATCH_FULL);
+    uint32_t code;
+    while ((code = kioskbasil_turn(s, 0, NULL)) != KIOSKBASIL_DELIVERED) {
+        kioskbasil_hear(r, items, 4, &many);
+        out |= code == KIOSKBASIL_OWN;
+        heard_while_out |= many > 0;
+        EXPECT(kioskbasil_carry(s, full), out ? KIOSKBASIL_PUT_BUSY : KIOSKBASIL_PUT_BATCH_FULL);
+        EXPECT(pending(s), 1);
+        EXPECT(pending(full), 16);
+    }
+    EXPECT(out + heard_while_out, 2);
+    EXPECT(kioskbasil_carry(s, full), KIOSKBASIL_OK);
+    EXPECT(pending(full), 16);
+    kioskbasil_free_sender(s), kioskbasil_free_sender(full);
+    kioskbasil_free_receiver(r), kioskbasil_free_receiver(ear);
+}
+
+/* A sender that lets go after each of its turns, alone and where the other one has begun too: that
+   one sends, and ends the order. */
+static void letting_go(bool again) {
+    kioskbasil_sizes sizes = {1, again ? 2 : 8, 64, again};
+    for (int turns = 0; turns < 400; turns++) {
+        kioskbasil_sender s[2] = {KIOSKBASIL_NONE};
+        kioskbasil_receiver r[1] = {KIOSKBASIL_NONE};
+        kioskbasil_turn_answer answer = {7, 7, 7, 7};
+        kioskbasil_left left;
+        uint64_t seed = 53;
+        EXPECT(kioskbasil_open(&sizes, s, 2, r, 1), KIOSKBASIL_OK);
+        for (int i = 0; i < 2; i++) EXPECT(kioskbasil_put(&s[i], "x", 1, NULL), KIOSKBASIL_OK);
+        for (int i = 0; i < turns % 20; i++) kioskbasil_turn(&s[0], (uint32_t)i, NULL);
+        for (int i = 0; i < turns / 20; i++) kioskbasil_turn(&s[1], (uint32_t)i, NULL);
+        uint32_t code = kioskbasil_finish(&s[0], &answer);
+        EXPECT(code == KIOSKBASIL_OK || code == KIOSKBASIL_DELIVERED || code == KIOSKBASIL_LOST
+                   || code == KIOSKBASIL_WAITING, true);
+        EXPECT(answer.tenure, code == KIOSKBASIL_OK ? 7 : 0);
+        EXPECT(kioskbasil_finish(&s[0], NULL), KIOSKBASIL_OK);
+        uint64_t sent = 1 - pending(&s[0]);
+        EXPECT(kioskbasil_free_sender(&s[0]), KIOSKBASIL_OK);
+        code = send_batch(&s[1], &seed, NULL, NULL);
+        EXPECT(code == KIOSKBASIL_DELIVERED || code == KIOSKBASIL_IDLE, true);
+        EXPECT(end_order(&s[1], &seed, NULL), KIOSKBASIL_CLOSED);
+        EXPECT(kioskbasil_end(&s[1], 1, r, 1, NULL, 0, &left), KIOSKBASIL_OK);
+        EXPECT(left.counts[0], sent);
+        EXPECT(left.counts[1] + left.ended, 2);
+    }
+}
+
+/* Of two senders the first is behind the second, and takes its page with it. At the end both take
+   their turns first. */
+static void letting_go_behind(bool given_up) {
+    kioskbasil_sender s[2] = {KIOSKBASIL_NONE};
+    kioskbasil_receiver r[1] = {KIOSKBASIL_NONE};
+    kioskbasil_sizes sizes = {1, 2, 64, true};
+    kioskbasil_turn_answer answer;
+    kioskbasil_left left;
+    uint64_t seed = 59;
+    EXPECT(kioskbasil_open(&sizes, s, 2, r, 1), KIOSKBASIL_OK);
+    for (int i = 0; i < 2; i++) EXPECT(kioskbasil_put(&s[i], "x", 1, NULL), KIOSKBASIL_OK);
+    for (int i = 0; i < 3; i++) EXPECT(kioskbasil_turn(&s[1], 0, NULL), KIOSKBASIL_GOING);
+    EXPECT(send_batch(&s[0], &seed, NULL, NULL), KIOSKBASIL_DELIVERED);
+    EXPECT(kioskbasil_put(&s[0], "y", 1, NULL), KIOSKBASIL_OK);
+    while (kioskbasil_turn(&s[0], 3, NULL) != KIOSKBASIL_OWN) {}
+    EXPECT(kioskbasil_finish(&s[0], &answer), KIOSKBASIL_BEHIND);
+    EXPECT(answer.sender, 1);
+    if (given_up) {
+        EXPECT(kioskbasil_free_sender(&s[0]), KIOSKBASIL_BEHIND);
+        EXPECT(kioskbasil_end(&s[1], 1, r, 1, NULL, 0, &left), KIOSKBASIL_PAGE_OUT);
+        return;
+    }
+    EXPECT(kioskbasil_end(s, 2, r, 1, NULL, 0, &left), KIOSKBASIL_OK);
+    EXPECT(left.counts[0], 2);
+    EXPECT(left.counts[1], 0);
+}
+
+/* A sender shows its presence and stops. The other one is answered BEHIND, its message is heard
+   already, and it cannot be sent a second time: not by another bus, nor by another sender. What its
+   words say tells it: they have grown since it was put. */
+static void behind(void) {
+    kioskbasil_sender s[2] = {KIOSKBASIL_NONE}, t[2] = {KIOSKBASIL_NONE};
+    kioskbasil_receiver r[1] = {KIOSKBASIL_NONE}, q[1] = {KIOSKBASIL_NONE};
+    kioskbasil_sizes sizes = {1, 2, 4096, true};
+    kioskbasil_sender_shown before, after;
+    kioskbasil_item items[16];
+    uint64_t seed = 5;
+    size_t many = 0, put = 0;
+    uint32_t code = KIOSKBASIL_IDLE;
+    EXPECT(kioskbasil_open(&sizes, s, 2, r, 1), KIOSKBASIL_OK);
+    EXPECT(kioskbasil_open(&sizes, t, 2, q, 1), KIOSKBASIL_OK);
+    EXPECT(kioskbasil_put(&s[1], "late", 4, NULL), KIOSKBASIL_OK);
+    for (int i = 0; i < 3; i++) EXPECT(kioskbasil_turn(&s[1], 0, NULL), KIOSKBASIL_GOING);
+    while (code != KIOSKBASIL_BEHIND && put < 4) {
+        put++;
+        kioskbasil_show_sender(&s[0], &before);
+        EXPECT(kioskbasil_put(&s[0], "x", 1, NULL), KIOSKBASIL_OK);
+        do code = kioskbasil_turns(&s[0], next_word(&seed), NULL);
+        while (code == KIOSKBASIL_GOING || code == KIOSKBASIL_OWN);
+    }
+    EXPECT(code, KIOSKBASIL_BEHIND);
+    kioskbasil_show_sender(&s[0], &after);
+    EXPECT(after.pending, 1);
+    EXPECT(after.words, before.words + 3);
+    EXPECT(kioskbasil_carry(&s[0], &t[0]), KIOSKBASIL_PUT_BUSY);
+    EXPECT(kioskbasil_carry(&s[0], &s[1]), KIOSKBASIL_PUT_BUSY);
+    EXPECT(pending(&t[0]), 0);
+    EXPECT(send_batch(&t[0], &seed, NULL, NULL), KIOSKBASIL_IDLE);
+    EXPECT(kioskbasil_hear(r, items, 16, &many), KIOSKBASIL_EMPTY);
+    EXPECT(many, put);
+    EXPECT(kioskbasil_hear(q, items, 16, &many), KIOSKBASIL_EMPTY);
+    EXPECT(many, 0);
+    do code = kioskbasil_turns(&s[1], next_word(&seed), NULL);
+    while (code == KIOSKBASIL_GOING);
+    EXPECT(send_batch(&s[0], &seed, NULL, NULL), KIOSKBASIL_DELIVERED);
+    EXPECT(kioskbasil_carry(&s[0], &t[0]), KIOSKBASIL_OK);
+    EXPECT(pending(&t[0]), 0);
+    for (int i = 0; i < 2; i++) kioskbasil_free_sender(&s[i]), kioskbasil_free_sender(&t[i]);
+    kioskbasil_free_receiver(r), kioskbasil_free_receiver(q);
+}
+
+/* A bus is opened by handles of another one, which is given up; one that is refused leaves it. */
+static void reopening(void) {
+    kioskbasil_sender s[2] = {KIOSKBASIL_NONE};
+    kioskbasil_receiver r[2] = {KIOSKBASIL_NONE};
+    kioskbasil_sizes good = {1, 2, 16, true}, bad = {0, 2, 16, true};
+    kioskbasil_sender_shown shown;
+    kioskbasil_left left;
+    uint64_t seed = 3;
+    for (int i = 0; i < 3; i++) {
+        EXPECT(kioskbasil_open(&good, s, 2, r, 2), KIOSKBASIL_OK);
+        send_one(&s[0], 0, &seed);
+        EXPECT(kioskbasil_open(&bad, s, 2, r, 2), KIOSKBASIL_BAD_ROUNDS);
+    }
+    kioskbasil_show_sender(&s[0], &shown);
+    EXPECT(shown.words, 3);
+    EXPECT(kioskbasil_end(s, 2, r, 2, NULL, 0, &left), KIOSKBASIL_OK);
+    EXPECT(left.counts[0], 1);
 }
 
 /* Of the growths of memory that follow this one is refused, counted from 1; 0 where none is. */
@@ -544,20 +778,20 @@ static void leaving(bool again) {
     EXPECT(kioskbasil_leave(&s[0]), KIOSKBASIL_CLOSE_PENDING);
     EXPECT(kioskbasil_turn(&s[0], 0, NULL), KIOSKBASIL_GOING);
     EXPECT(kioskbasil_leave(&s[0]), KIOSKBASIL_CLOSE_BUSY);
-    EXPECT(send_batch(&s[0], &seed, NULL), KIOSKBASIL_DELIVERED);
+    EXPECT(send_batch(&s[0], &seed, NULL, NULL), KIOSKBASIL_DELIVERED);
     EXPECT(kioskbasil_leave(&s[0]), KIOSKBASIL_OK);
     EXPECT(kioskbasil_leave(&s[0]), KIOSKBASIL_CLOSE_CLOSED);
     EXPECT(kioskbasil_close(&s[0]), KIOSKBASIL_CLOSE_CLOSED);
     EXPECT(kioskbasil_put(&s[0], "x", 1, NULL), KIOSKBASIL_PUT_CLOSED);
     memset(&turn, 7, sizeof turn);
-    EXPECT(send_batch(&s[0], &seed, &turn), KIOSKBASIL_LEFT);
+    EXPECT(send_batch(&s[0], &seed, &turn, NULL), KIOSKBASIL_LEFT);
     EXPECT(turn.tenure, 1);
     EXPECT(turn.first + turn.last + turn.sender, 0);
-    EXPECT(send_batch(&s[0], &seed, NULL), KIOSKBASIL_CLOSED);
+    EXPECT(send_batch(&s[0], &seed, NULL, NULL), KIOSKBASIL_CLOSED);
     EXPECT(kioskbasil_put(&s[0], "x", 1, NULL), KIOSKBASIL_PUT_CLOSED);
-    EXPECT(leave_order(&s[0], &seed), KIOSKBASIL_CLOSE_CLOSED);
+    EXPECT(leave_order(&s[0], &seed, NULL), KIOSKBASIL_CLOSE_CLOSED);
     send_one(&s[1], 0, &seed);
-    EXPECT(end_order(&s[1], &seed), KIOSKBASIL_CLOSED);
+    EXPECT(end_order(&s[1], &seed, NULL), KIOSKBASIL_CLOSED);
     EXPECT(kioskbasil_hear(r, items, 4, &many), KIOSKBASIL_END);
     EXPECT(many, 2);
     EXPECT(items[0].sender, 0);
@@ -582,19 +816,20 @@ static void leaving(bool again) {
     EXPECT(left.ended, true);
     EXPECT(kioskbasil_open_after(&sizes, &left, s, 2, r, 1), KIOSKBASIL_OK);
     send_one(&s[0], 1, &seed);
-    EXPECT(leave_order(&s[1], &seed), KIOSKBASIL_LEFT);
+    EXPECT(leave_order(&s[1], &seed, NULL), KIOSKBASIL_LEFT);
     EXPECT(kioskbasil_end(s, 2, r, 1, NULL, 0, &left), KIOSKBASIL_OK);
     EXPECT(left.gone[0], false);
     EXPECT(left.gone[1], true);
 }
 
 /* ---- many short runs of four senders and four receivers, each in a thread of its own; in some the
-   first sender that is done leaves */
+   first sender that is done leaves, and in some there is no bell */
 enum { SIDES = 4, MESSAGES = 24 };
 
 struct side {
     kioskbasil_sender *sender;
     kioskbasil_receiver *receiver;
+    struct bell *bell;
     uint64_t seed;
     atomic_int *left;
     bool leaves;
@@ -612,11 +847,12 @@ static void *send_side(void *given) {
         size_t length = (size_t)(i * 7 % 57);
         memset(message, shown.number * 64 + i, sizeof message);
         if (kioskbasil_put(me->sender, message, length, NULL) == KIOSKBASIL_OK) i++;
-        if (i % 5 == 0 || i == MESSAGES) me->last = send_batch(me->sender, &me->seed, NULL);
+        if (i % 5 == 0 || i == MESSAGES)
+            me->last = send_batch(me->sender, &me->seed, NULL, me->bell);
     }
     int still = atomic_fetch_sub(me->left, 1);
-    if (still == 1) me->last = end_order(me->sender, &me->seed);
-    else if (still == SIDES && me->leaves) me->last = leave_order(me->sender, &me->seed);
+    if (still == 1) me->last = end_order(me->sender, &me->seed, me->bell);
+    else if (still == SIDES && me->leaves) me->last = leave_order(me->sender, &me->seed, me->bell);
     return NULL;
 }
 
@@ -625,7 +861,8 @@ static void *hear_side(void *given) {
     size_t many;
     do {
         size_t room = SIDES * MESSAGES + 1 - me->many;
-        me->last = hear_some(me->receiver, me->heard + me->many, room < 7 ? room : 7, &many);
+        me->last = hear_some(me->receiver, me->heard + me->many, room < 7 ? room : 7, &many,
+                             me->bell);
         me->many += many;
     } while (me->last != KIOSKBASIL_END && me->many <= SIDES * MESSAGES);
     return NULL;
@@ -636,6 +873,7 @@ static int storm(unsigned run) {
     kioskbasil_receiver r[SIDES] = {KIOSKBASIL_NONE};
     kioskbasil_sizes sizes = {1 + run % 4, run % 2 ? 2 + run % 7 : 64, 1024, run % 2};
     static struct side sides[2 * SIDES];
+    struct bell bell = BELL_NEW;
     atomic_int left = SIDES;
     pthread_t threads[2 * SIDES];
     kioskbasil_left ended;
@@ -644,6 +882,7 @@ static int storm(unsigned run) {
     for (int i = 0; i < 2 * SIDES; i++) {
         struct side *side = &sides[i];
         side->left = &left, side->seed = run * 16 + i + 1, side->leaves = run % 3 == 2;
+        side->bell = run % 5 ? &bell : NULL;
         if (i < SIDES) side->sender = &s[i]; else side->receiver = &r[i - SIDES];
         if (pthread_create(&threads[i], NULL, i < SIDES ? send_side : hear_side, side)) exit(2);
     }
@@ -669,6 +908,97 @@ static int storm(unsigned run) {
     return bad;
 }
 
+/* ---- many buses of random life: senders and receivers that take random turns, and are given up or
+   end the bus at any moment */
+enum { LIVES = 5, EARS = 3, FREED = 99 };
+
+struct life {
+    kioskbasil_sender *sender;
+    kioskbasil_receiver *receiver;
+    uint64_t seed;
+    uint32_t last;
+    kioskbasil_left left;
+};
+
+static void *send_life(void *given) {
+    struct life *me = given;
+    uint8_t message[57] = {0};
+    for (uint32_t turns = next_word(&me->seed) % 400; turns > 0; turns--) {
+        uint32_t word = next_word(&me->seed);
+        if (word % 3 == 0) kioskbasil_put(me->sender, message, word / 3 % 57, NULL);
+        if (word % 97 == 0) kioskbasil_leave(me->sender);
+        if (word % 197 == 0) kioskbasil_close(me->sender);
+        if (word % 2) kioskbasil_turn(me->sender, word, NULL);
+        else kioskbasil_turns(me->sender, word, NULL);
+    }
+    kioskbasil_free_sender(me->sender);
+    return NULL;
+}
+
+static void *hear_life(void *given) {
+    struct life *me = given;
+    kioskbasil_item items[9];
+    kioskbasil_heard heard;
+    size_t many;
+    for (uint32_t turns = next_word(&me->seed) % 300; turns > 0; turns--) {
+        uint32_t word = next_word(&me->seed);
+        if (word % 5) kioskbasil_hear(me->receiver, items, word / 5 % 10, &many);
+        else kioskbasil_hear_once(me->receiver, &heard);
+    }
+    me->last = FREED;
+    if (next_word(&me->seed) % 2) {
+        uint64_t log[512];
+        me->last = kioskbasil_end(NULL, 0, me->receiver, 1, log, 512, &me->left);
+    }
+    kioskbasil_free_receiver(me->receiver);
+    return NULL;
+}
+
+static int lives(unsigned run) {
+    kioskbasil_sender s[LIVES] = {KIOSKBASIL_NONE};
+    kioskbasil_receiver r[EARS] = {KIOSKBASIL_NONE};
+    kioskbasil_sizes sizes = {1 + run % 4, 2 + run % 7, 512, run % 2};
+    static struct life all[LIVES + EARS];
+    pthread_t threads[LIVES + EARS];
+    int bad = kioskbasil_open(&sizes, s, LIVES, r, EARS) != KIOSKBASIL_OK, last = 0;
+    memset(all, 0, sizeof all);
+    for (int i = 0; i < LIVES + EARS; i++) {
+        struct life *life = &all[i];
+        life->seed = run * 31 + i + 1;
+        if (i < LIVES) life->sender = &s[i]; else life->receiver = &r[i - LIVES];
+        if (pthread_create(&threads[i], NULL, i < LIVES ? send_life : hear_life, life)) exit(2);
+    }
+    for (int i = 0; i < LIVES + EARS; i++) pthread_join(threads[i], NULL);
+    for (int i = LIVES; i < LIVES + EARS; i++) {
+        uint32_t code = all[i].last;
+        last += code == KIOSKBASIL_OK || code == KIOSKBASIL_PAGE_OUT;
+        bad |= code != KIOSKBASIL_OK && code != KIOSKBASIL_PAGE_OUT && code != KIOSKBASIL_IN_USE &&
+               code != FREED;
+        for (int n = 0; n < LIVES && code == KIOSKBASIL_OK; n++)
+            bad |= all[i].left.next[n] != all[i].left.counts[n] || all[i].left.words > 512;
+    }
+    return bad || last > 1;
+}
+
+/* ---- what the thread sanitizer has to report: two threads that use one handle */
+static kioskbasil_receiver shared[1];
+
+static void *hear_shared(void *given) {
+    kioskbasil_item items[4];
+    size_t many;
+    for (int i = 0; i < 20000; i++) kioskbasil_hear(shared, items, 4, &many);
+    return given;
+}
+
+static void control(void) {
+    kioskbasil_sender s[1] = {KIOSKBASIL_NONE};
+    kioskbasil_sizes sizes = {1, 2, 64, true};
+    pthread_t threads[2];
+    if (kioskbasil_open(&sizes, s, 1, shared, 1)) exit(2);
+    for (int i = 0; i < 2; i++) pthread_create(&threads[i], NULL, hear_shared, NULL);
+    for (int i = 0; i < 2; i++) pthread_join(threads[i], NULL);
+}
+
 /* ---- the time of a message: one thread puts batches of 16, sends and hears them */
 static double now(void) {
     struct timespec t;
@@ -689,7 +1019,7 @@ static void timing(void) {
         for (int batch = 0; batch < 1900; batch++) {
             size_t many = 0;
             for (int i = 0; i < 16; i++) kioskbasil_put(s, "8 bytes!", 8, NULL);
-            if (send_batch(s, &seed, NULL) != KIOSKBASIL_DELIVERED) exit(2);
+            if (send_batch(s, &seed, NULL, NULL) != KIOSKBASIL_DELIVERED) exit(2);
             kioskbasil_hear(r, items, 32, &many);
             messages += many;
         }
@@ -855,10 +1185,12 @@ int main(int count, char **words) {
     const char *what = count > 1 ? words[1] : "codes";
     if (!strcmp(what, "time")) return timing(), 0;
     if (!strcmp(what, "lines")) return lines(), 0;
-    if (!strcmp(what, "storm")) {
+    if (!strcmp(what, "control")) return control(), 0;
+    if (!strcmp(what, "storm") || !strcmp(what, "lives")) {
         long runs = count > 2 ? atol(words[2]) : 1000;
         for (long run = 0; run < runs; run++) {
-            if (storm((unsigned)run)) failed++, fprintf(stderr, "storm %ld differs\n", run);
+            int differs = what[0] == 's' ? storm((unsigned)run) : lives((unsigned)run);
+            if (differs) failed++, fprintf(stderr, "%s %ld differs\n", what, run);
             else passed++;
         }
     } else {
@@ -873,8 +1205,12 @@ int main(int count, char **words) {
         leaving(true);
         for (int again = 0; again < 2; again++) {
             several_turns(again), turns_that_vote(again);
-            telling(again), apart(again), carrying(again);
+            telling(again), apart(again), carrying(again), carrying_later(again), no_page(again);
+            carrying_with_the_page(again);
         }
+        behind();
+        for (int i = 0; i < 2; i++) letting_go(i == 1), letting_go_behind(i == 1);
+        reopening();
         kioskbasil_left ended = {.ended = true};
         for (int again = 0; again < 2; again++) no_memory(again, NULL), no_memory(again, &ended);
     }

@@ -33,7 +33,7 @@ _bus() {
             if [[ "${COMP_WORDS[0]}" == */* && "$COMP_CWORD" -eq 1 ]]; then names+=" --unproved"; fi
             ;;
         ratify | replay) names="-h --help" ;;
-        trace) names="--svg --html -h --help" ;;
+        trace) names="--svg --html --play -h --help" ;;
         run) names="--senders --receivers --messages --seed --log -h --help" ;;
         log) names="--senders -h --help" ;;
         esac

@@ -1,13 +1,19 @@
 /* kioskbasil.h: the broadcast bus of Kioskbasil for C and C++.
  *
  * A bus puts the messages of up to 64 senders into one order, which up to 8 receivers hear, each
- * all of it. No call waits, takes a lock, starts a thread, or (but for kioskbasil_open and
+ * all of it. No call waits, starts a thread, or (but for kioskbasil_open and
  * kioskbasil_open_after) takes memory. A call that is to wait is a loop of the caller's:
- * examples/c/waiting.h has the usual ones, to be copied.
+ * examples/c/waiting.h has the usual ones, to be copied. There each bus has a bell, by which
+ * threads sleep and event loops are woken.
+ *
+ * STOPS. The election of the next sender is wait-free: each takes a stated number of its own turns.
+ * The append is not, since the sender that is elected holds the page as one holds a lock: if its
+ * thread is killed there, or never comes back, all others are answered KIOSKBASIL_WAITING for good.
+ * A thread that goes another way lets go by kioskbasil_finish, or by kioskbasil_free_sender.
  *
  * The functions bus_c_.. are those of the archive (crates/bus_c), which are proved against their
- * contracts. The functions kioskbasil_.. stand in this header: they look for NULL and call one of
- * those. A program calls kioskbasil_.. alone.
+ * contracts. The functions kioskbasil_.. stand in this header: they look for NULL and call those. A
+ * program calls kioskbasil_.. alone.
  *
  * HANDLES. A kioskbasil_sender or kioskbasil_receiver is the caller's. It starts as
  * KIOSKBASIL_NONE, which is all zeros, and kioskbasil_open or kioskbasil_open_after fills it. It is
@@ -15,13 +21,22 @@
  * KIOSKBASIL_EMPTY_HANDLE and changes nothing, but for kioskbasil_end; giving up an empty handle is
  * allowed and does nothing. A call changes no handle but those that it is given.
  *
- * TWO HANDLES. kioskbasil_tell and kioskbasil_meet want two handles of one bus, and answer
- * KIOSKBASIL_OTHER_BUS for those of two. This header sees it by where their buses lie, and says it
- * to the archive, whose proof rests on that: no proved code can compare the places of two buses.
+ * TWO HANDLES. kioskbasil_tell, kioskbasil_meet and kioskbasil_senders_page want handles of one
+ * bus, and answer KIOSKBASIL_OTHER_BUS for those of two. This header sees it by where their buses
+ * lie, and says it to the archive, whose proof rests on that: no proved code can compare the
+ * places of two buses.
  *
  * THREADS. Different handles may be used by different threads at once, also of one bus. Each handle
  * is given to one call at a time. It goes to another thread by the start or the join of a thread,
  * or by a lock. No call is made from a signal handler, or in the child of a fork.
+ *
+ * STACK. With 64 senders kioskbasil_open and kioskbasil_open_after take up to 17 KiB of stack, so a
+ * thread with 16 KiB cannot open; kioskbasil_senders_page takes 5 KiB, kioskbasil_end 3, any other
+ * call 2. It was measured on an archive that is built without a proof (./quick), beyond what a
+ * thread takes that does nothing.
+ *
+ * MEMORY. The archive asks memory of three functions, rattle_alloc, rattle_realloc and
+ * rattle_dealloc. examples/c/heap.c has them, with what each has to keep: link it once.
  *
  * WHAT IS TRUSTED OF THE CALLER. Nothing checks that
  *   - a handle starts as zeros, and is not written or copied while it is not empty (moving it and
@@ -33,7 +48,7 @@
  *     meanwhile;
  *   - malloc, realloc and free are those of the C library, or as good.
  *
- * ROOM FOR MORE. Answers above KIOSKBASIL_LEAVE, refusals above KIOSKBASIL_OTHER_BUS and further
+ * ROOM FOR MORE. Answers above KIOSKBASIL_LEAVE, refusals above KIOSKBASIL_UNANSWERED and further
  * calls may come.
  */
 #ifndef KIOSKBASIL_H
@@ -42,6 +57,7 @@
 #include <stdbool.h>
 #include <stddef.h>
 #include <stdint.h>
+#include <string.h>
 
 #ifdef __cplusplus
 extern "C" {
@@ -71,8 +87,9 @@ enum kioskbasil_code {
                                left */
   KIOSKBASIL_SPENT = 9,     /* no tenure is left to this sender: all have ended, or it lost the last
                                one, whose owner may still end the order; the batch is kept */
-  KIOSKBASIL_BEHIND = 10,   /* rows used again: .sender keeps the row of .tenure, which is to be
-                               used next */
+  KIOSKBASIL_BEHIND = 10,   /* rows used again: this sender holds the page, and .sender keeps the
+                               row of .tenure, which is to be used next. Its messages may stand in
+                               the order already: they are not carried until it gives it back */
   /* of a turn of a receiver */
   KIOSKBASIL_EMPTY = 11,    /* it has read all up to the length that it found */
   KIOSKBASIL_HEAD = 12,     /* a frame of .owner begins, of the tenure .tenure */
@@ -91,7 +108,8 @@ enum kioskbasil_code {
   KIOSKBASIL_NO_MEMORY = 37,      /* open: memory was refused */
   KIOSKBASIL_PUT_CLOSED = 38,     /* put, carry: a close or a leave was accepted, or the order is
                                      known to have ended */
-  KIOSKBASIL_PUT_BUSY = 39,       /* put, carry: the batch is on its way */
+  KIOSKBASIL_PUT_BUSY = 39,       /* put, carry: the batch is on its way; carry: the sender that is
+                                     carried from holds the page */
   KIOSKBASIL_PUT_TOO_LONG = 40,   /* put: more than 56 bytes */
   KIOSKBASIL_PUT_BATCH_FULL = 41, /* put, carry: more than 16 messages would wait */
   KIOSKBASIL_CLOSE_CLOSED = 42,   /* close, leave: one was accepted, or the order is known to have
@@ -102,9 +120,12 @@ enum kioskbasil_code {
   KIOSKBASIL_PAGE_OUT = 46,       /* end: a sender that took the page has not given it back */
   KIOSKBASIL_EMPTY_HANDLE = 47,   /* the handle is empty */
   KIOSKBASIL_NULL = 48,           /* a pointer is NULL; of this header alone */
-  KIOSKBASIL_NOT_ENDED = 49,      /* open_after: the order of the bus before has not ended */
+  KIOSKBASIL_NOT_ENDED = 49,      /* open_after, senders_page: the order of the bus before has not
+                                     ended */
   KIOSKBASIL_NUMBERS_USED = 50,   /* open_after: a next number is 2^48 - 65,536 or more */
-  KIOSKBASIL_OTHER_BUS = 51       /* tell, meet: the two handles are of two buses */
+  KIOSKBASIL_OTHER_BUS = 51,      /* tell, meet, senders_page: the handles are of two buses */
+  KIOSKBASIL_UNANSWERED = 52      /* senders_page: a sender was not answered CLOSED or LEFT yet, or
+                                     the handles are not those of all senders in their order */
 };
 
 /* A code of 32 or more says that nothing was done, but of kioskbasil_end: after IN_USE and PAGE_OUT
@@ -164,7 +185,8 @@ typedef struct kioskbasil_sender_shown {
   uint64_t words;       /* the last length of the log that it has stored */
   uint64_t turns_left;  /* turns of its election, at most; 0 where none is begun */
   uint8_t number;       /* its own number, from 0 on */
-  bool is_closed;       /* it sends nothing more; false as long as its close or leave waits */
+  bool is_closed;       /* it sends nothing more; false as long as its close or leave waits: so it
+                           is leaving while its leave was OK and this is false */
   bool wants_word;      /* its next turn uses its random word */
 } kioskbasil_sender_shown;
 
@@ -206,7 +228,10 @@ uint32_t bus_c_turns(kioskbasil_sender *sender, uint32_t word, uint64_t more,
                      kioskbasil_turn_answer *answer);
 uint32_t bus_c_sender(kioskbasil_sender *sender, kioskbasil_sender_shown *shown);
 uint32_t bus_c_sender_bus(kioskbasil_sender *sender, const uint8_t **place);
-void bus_c_free_sender(kioskbasil_sender *sender);
+uint32_t bus_c_begin_page(kioskbasil_sender *sender, uint64_t senders, kioskbasil_left *left);
+uint32_t bus_c_note_sender(kioskbasil_sender *sender, uint64_t number, kioskbasil_left *left);
+uint32_t bus_c_finish(kioskbasil_sender *sender, kioskbasil_turn_answer *answer);
+uint32_t bus_c_free_sender(kioskbasil_sender *sender);
 uint32_t bus_c_hear_once(kioskbasil_receiver *receiver, kioskbasil_heard *answer);
 uint32_t bus_c_hear(kioskbasil_receiver *receiver, kioskbasil_item *items, size_t room,
                     uint64_t turns, size_t *many);
@@ -219,8 +244,48 @@ void bus_c_free_receiver(kioskbasil_receiver *receiver);
 uint32_t bus_c_end(kioskbasil_receiver *receiver, uint64_t *log, size_t room,
                    kioskbasil_left *left);
 
+/* ---- what a sitting takes; sums of this header alone, which answer UINT64_MAX where 64 bits cannot
+ * count it */
+static inline uint64_t kioskbasil_plus(uint64_t a, uint64_t b) {
+  return a > UINT64_MAX - b ? UINT64_MAX : a + b;
+}
+
+static inline uint64_t kioskbasil_times(uint64_t a, uint64_t b) {
+  return b && a > UINT64_MAX / b ? UINT64_MAX : a * b;
+}
+
+static inline uint64_t kioskbasil_batches(uint64_t messages) {
+  return messages / KIOSKBASIL_MOST_MESSAGES + (messages % KIOSKBASIL_MOST_MESSAGES != 0);
+}
+
+/* How many tenures a sitting takes in which each of so many senders sends so many messages, in
+ * batches of 16 of which the last may be smaller, and one closes: the `rows` of its sizes, where
+ * rows are not used again. A leave takes one more. */
+static inline uint64_t kioskbasil_tenures_needed(uint64_t senders, uint64_t messages) {
+  return kioskbasil_plus(kioskbasil_times(senders, kioskbasil_batches(messages)), 1);
+}
+
+/* How many words of the log such a sitting takes where each message has so many bytes: the
+ * `log_words` of its sizes, at least 16. A leave takes two more. */
+static inline uint64_t kioskbasil_words_needed(uint64_t senders, uint64_t messages,
+                                               uint64_t bytes) {
+  uint64_t each = 1 + bytes / 8 + (bytes % 8 != 0);
+  uint64_t words = kioskbasil_plus(kioskbasil_batches(messages), kioskbasil_times(messages, each));
+  return kioskbasil_plus(kioskbasil_times(senders, words), 2);
+}
+
+/* How many words of a log of so many may be in use when one of so many senders begins a batch or a
+ * leave, so that the end mark still fits, whatever the others do; 0 where there is no such number.
+ * So each sender looks at its own `words` (kioskbasil_show_sender) right before it puts or leaves,
+ * and begins nothing above this number. */
+static inline uint64_t kioskbasil_room_to_close(uint64_t log_words, uint64_t senders) {
+  uint64_t kept = kioskbasil_plus(2, kioskbasil_times(senders, 129));
+  return log_words > kept ? log_words - kept : 0;
+}
+
 /* Opens a bus of these sizes, with as many senders and receivers as there are handles, and fills
- * these in the order of their numbers. What a handle held is given up. All memory is taken here.
+ * these in the order of their numbers. What a handle held is given up, without the turns of
+ * kioskbasil_finish. All memory is taken here.
  * KIOSKBASIL_OK, or BAD_SENDERS, BAD_RECEIVERS, BAD_ROUNDS, BAD_ROWS, BAD_LOG_WORDS or NO_MEMORY,
  * the first whose cause holds, and then no handle is changed. */
 static inline uint32_t kioskbasil_open(const kioskbasil_sizes *sizes,
@@ -285,9 +350,11 @@ static inline uint32_t kioskbasil_leave(kioskbasil_sender *sender) {
  * behind what waits there; they wait with `sender` too. So what was not sent in one sitting goes on
  * in the next: if it is put first into the next sender of this number, each message gets the number
  * that it was answered before. `next` may be of any bus. Takes no step.
- * KIOSKBASIL_OK; or PUT_BATCH_FULL where they do not fit beside what waits there, else PUT_CLOSED
- * or PUT_BUSY as a put into `next` would be, and then nothing is changed. EMPTY_HANDLE where either
- * is empty. One handle may be given twice: its messages wait there already, and nothing changes. */
+ * PUT_BUSY while `sender` holds the page, as it does after BEHIND, and `next` is another handle: its
+ * messages may stand in the order already. Else KIOSKBASIL_OK where none waits; PUT_BATCH_FULL where they do not fit beside
+ * what waits there; PUT_CLOSED or PUT_BUSY as a put into `next` would be; or KIOSKBASIL_OK. Unless
+ * it is OK nothing is changed. EMPTY_HANDLE where either is empty. One handle may be given twice:
+ * its messages wait there already, and it is OK and changes nothing. */
 static inline uint32_t kioskbasil_carry(kioskbasil_sender *sender, kioskbasil_sender *next) {
   kioskbasil_sender_shown own;
   if (!sender || !next) return KIOSKBASIL_NULL;
@@ -324,9 +391,55 @@ static inline uint32_t kioskbasil_show_sender(kioskbasil_sender *sender,
   return bus_c_sender(sender, shown);
 }
 
-/* Gives the handle up; it is empty then. That ends no order: a receiver goes on answering EMPTY. */
-static inline void kioskbasil_free_sender(kioskbasil_sender *sender) {
-  if (sender) bus_c_free_sender(sender);
+/* What a sitting leaves whose order has ended, by all senders of its bus, in their order, once
+ * each was answered CLOSED or LEFT. They stay as they are: so open the next sitting after *left,
+ * carry to it what waits with them, and give them up then. It has for each sender left->next, the
+ * number with which that goes on, left->bases, and that the order has ended. left->counts, words,
+ * tenures and gone are 0: these senders do not tell them.
+ * KIOSKBASIL_OK; or NULL where there is no sender, EMPTY_HANDLE, OTHER_BUS, UNANSWERED or NOT_ENDED
+ * (none of them has closed it), and then *left is not changed. */
+static inline uint32_t kioskbasil_senders_page(kioskbasil_sender *senders, size_t sender_count,
+                                               kioskbasil_left *left) {
+  const uint8_t *first = NULL, *other = NULL;
+  kioskbasil_left made;
+  uint32_t code;
+  if (!senders || !sender_count || !left) return KIOSKBASIL_NULL;
+  memset(&made, 0, sizeof made);
+  bus_c_sender_bus(&senders[0], &first);
+  code = bus_c_begin_page(&senders[0], sender_count, &made);
+  for (size_t i = 0; i < sender_count && code == KIOSKBASIL_OK; i++) {
+    bus_c_sender_bus(&senders[i], &other);
+    code = bus_c_note_sender(&senders[i], i, &made);
+    if (code == KIOSKBASIL_OK && other != first) code = KIOSKBASIL_OTHER_BUS;
+  }
+  if (code == KIOSKBASIL_OK && !made.ended) code = KIOSKBASIL_NOT_ENDED;
+  if (code == KIOSKBASIL_OK) *left = made;
+  return code;
+}
+
+/* The turns that are left of the tenure that the sender has begun, so that no other waits for it:
+ * for a thread that fails or turns to something else after GOING, OWN or BEHIND. It begins no
+ * tenure, waits for nobody, and takes at most the words of a frame, of a row and of its election,
+ * the presences, and a few turns more. Its votes go by a generator of the handle's own.
+ * KIOSKBASIL_OK where it had begun none, and then no turn is taken and *answer is not changed. Else
+ * the answer of the last turn, and what that says in *answer (which may be NULL): DELIVERED or LEFT;
+ * LOST, WAITING (it came too late for the tenure) or FULL, and its batch is kept; CLOSED; or BEHIND,
+ * where another sender's pin is in the way: it holds the page still, and may be asked again. */
+static inline uint32_t kioskbasil_finish(kioskbasil_sender *sender,
+                                         kioskbasil_turn_answer *answer) {
+  kioskbasil_turn_answer own;
+  if (!sender) return KIOSKBASIL_NULL;
+  return bus_c_finish(sender, answer ? answer : &own);
+}
+
+/* Gives the handle up, after the turns of kioskbasil_finish; it is empty then. What did not come
+ * into the order goes with it. That ends no order: a receiver goes on answering EMPTY.
+ * What kioskbasil_finish answers, or KIOSKBASIL_OK for an empty handle or NULL. After BEHIND the
+ * page is out: all others are answered WAITING or BEHIND for good, and kioskbasil_end answers
+ * PAGE_OUT. So where rows are used again, ask kioskbasil_finish as long as it answers that, while
+ * the other sender goes on. */
+static inline uint32_t kioskbasil_free_sender(kioskbasil_sender *sender) {
+  return sender ? bus_c_free_sender(sender) : (uint32_t)KIOSKBASIL_OK;
 }
 
 /* One turn: one load. The answer, EMPTY, HEAD, ITEM, LEAVE, END or GOING, and what it says in
@@ -392,19 +505,21 @@ static inline void kioskbasil_free_receiver(kioskbasil_receiver *receiver) {
   if (receiver) bus_c_free_receiver(receiver);
 }
 
-/* Ends the bus. Gives up all these handles, which have to be all that are left of one bus, and ends
- * the bus by the first receiver: all handles are empty then, whatever the answer.
+/* Ends the bus. Each sender takes the turns of kioskbasil_finish. Then it gives up all these
+ * handles, which have to be all that are left of one bus, and ends the bus by the first receiver:
+ * all handles are empty then, whatever the answer.
  * KIOSKBASIL_OK: the first words of the log stand in `log`, as many as it has room for (`log` may
  * be NULL where `room` is 0; docs/FORMATS.md says what they are), and the rest in *left. IN_USE:
  * other handles had the bus still, and the bus goes with the last of them. PAGE_OUT: a sender that
- * took the page had not given it back, and the bus is gone. EMPTY_HANDLE: the first receiver was
- * empty. */
+ * took the page had been given up before, and not given it back, and the bus is gone. EMPTY_HANDLE:
+ * the first receiver was empty. */
 static inline uint32_t kioskbasil_end(kioskbasil_sender *senders, size_t sender_count,
                                       kioskbasil_receiver *receivers, size_t receiver_count,
                                       uint64_t *log, size_t room, kioskbasil_left *left) {
   uint64_t none = 0;
   if ((!senders && sender_count) || !receivers || !receiver_count) return KIOSKBASIL_NULL;
   if ((!log && room) || !left) return KIOSKBASIL_NULL;
+  for (size_t i = 0; i < sender_count; i++) kioskbasil_finish(&senders[i], NULL);
   for (size_t i = 0; i < sender_count; i++) bus_c_free_sender(&senders[i]);
   for (size_t i = 1; i < receiver_count; i++) bus_c_free_receiver(&receivers[i]);
   return bus_c_end(&receivers[0], log ? log : &none, log ? room : 0, left);
@@ -450,6 +565,7 @@ static inline const char *kioskbasil_text(uint32_t code) {
   case KIOSKBASIL_NOT_ENDED: return "the order of the bus before has not ended";
   case KIOSKBASIL_NUMBERS_USED: return "the numbers of a sender are used up";
   case KIOSKBASIL_OTHER_BUS: return "the handles are of two buses";
+  case KIOSKBASIL_UNANSWERED: return "a sender was not answered that the order has ended";
   default: return "no code of this version";
   }
 }

@@ -8,6 +8,8 @@
 
 enum { THREADS = 4, BATCHES = 50, COUNTERS = 4 };
 
+static struct bell bell = BELL_NEW;
+
 struct worker {
     kioskbasil_sender *sender;
     kioskbasil_receiver *receiver;
@@ -49,7 +51,7 @@ static void *work(void *given) {
             w->failed = kioskbasil_put(w->sender, add, 3, NULL);
         }
         kioskbasil_turn_answer answer;
-        uint32_t code = send_batch(w->sender, &seed, &answer);
+        uint32_t code = send_batch(w->sender, &seed, &answer, &bell);
         if (code != KIOSKBASIL_DELIVERED) w->failed = code ? code : KIOSKBASIL_IDLE;
         catch_up(w);
     }

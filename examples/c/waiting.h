@@ -1,24 +1,156 @@
 /* Calls that wait, over kioskbasil.h, to be copied: no call of the library waits. That they end is
-   not promised. */
+   not promised. They are for Linux: with -std=c11 build with -D_POSIX_C_SOURCE=200809L too, or take
+   -std=gnu11.
+
+   Each bus has a bell, which its threads share: a thread that waits sleeps until it rings. The calls
+   below that send ring it. So all threads of a bus give them the same bell, or all give NULL: then
+   who waits looks again every 0.1 ms. */
 #ifndef KIOSKBASIL_WAITING_H
 #define KIOSKBASIL_WAITING_H
 
 #include "kioskbasil.h"
+#include <pthread.h>
 #include <sched.h>
+#include <sys/epoll.h>
+#include <sys/eventfd.h>
 #include <time.h>
+#include <unistd.h>
 
-/* Longer and longer from call to call: it spins, then yields, then sleeps for up to 0.1 ms. */
-static inline void back_off(unsigned *step) {
-    if (*step < 6) {
-        for (volatile unsigned spin = 0; spin < 1u << *step; spin++) {}
-    } else if (*step < 64) {
+#if defined __STRICT_ANSI__ && !defined _POSIX_C_SOURCE && !defined _GNU_SOURCE
+#error "waiting.h wants POSIX: build with -std=gnu11, or with -D_POSIX_C_SOURCE=200809L"
+#endif
+
+/* ---- the bell: a count of its rings, which tells who listened whether it has rung since */
+
+/* It starts as BELL_NEW, and its place stays the same. Its fields are of these functions alone. */
+struct bell {
+    uint64_t rings; /* twice as many as it rang, and 1 more where somebody listens */
+    pthread_mutex_t lock;
+    pthread_cond_t rang;
+    int event; /* what the descriptors watch; -1 where there is none */
+};
+
+#define BELL_NEW {0, PTHREAD_MUTEX_INITIALIZER, PTHREAD_COND_INITIALIZER, -1}
+
+/* Rings: whoever listens looks at the bus again. Only two need it: who takes turns by hand, once
+   one was answered DELIVERED, LEFT, CLOSED, FULL or BEHIND; and who makes a go_on say no. It is not
+   for signal handlers, and a thread that may be cancelled is not cancelled in it. */
+static inline void bell_ring(struct bell *bell) {
+    int event;
+    if (!(__atomic_fetch_add(&bell->rings, 2, __ATOMIC_SEQ_CST) & 1)) return;
+    pthread_mutex_lock(&bell->lock);
+    __atomic_fetch_and(&bell->rings, ~UINT64_C(1), __ATOMIC_SEQ_CST);
+    event = bell->event;
+    pthread_mutex_unlock(&bell->lock);
+    pthread_cond_broadcast(&bell->rang);
+    if (event >= 0) eventfd_write(event, 1);
+}
+
+/* Listens. What it gives is for bell_sleep, after one more look at the bus that found nothing. */
+static inline uint64_t bell_listen(struct bell *bell) {
+    return __atomic_or_fetch(&bell->rings, 1, __ATOMIC_SEQ_CST);
+}
+
+/* Sleeps until the bell has rung since bell_listen gave `heard`, for 0.1 s at most: who is to ring
+   may be stopped before it does. */
+static inline void bell_sleep(struct bell *bell, uint64_t heard) {
+    struct timespec end;
+    int status = clock_gettime(CLOCK_REALTIME, &end);
+    end.tv_nsec += 100000000;
+    if (end.tv_nsec >= 1000000000) {
+        end.tv_nsec -= 1000000000;
+        end.tv_sec++;
+    }
+    pthread_mutex_lock(&bell->lock);
+    while (!status && bell_listen(bell) == heard)
+        status = pthread_cond_timedwait(&bell->rang, &bell->lock, &end);
+    pthread_mutex_unlock(&bell->lock);
+}
+
+/* A descriptor for an event loop, each of which wants its own: poll says POLLIN of it once the bell
+   has rung since the last bell_hush. close gives it up. -1 where there is none, and errno says
+   why. examples/c/eventloop.c is a loop. */
+static inline int bell_descriptor(struct bell *bell) {
+    struct epoll_event rings;
+    int descriptor = epoll_create1(EPOLL_CLOEXEC), event;
+    if (descriptor < 0) return -1;
+    pthread_mutex_lock(&bell->lock);
+    if (bell->event < 0) bell->event = eventfd(0, EFD_CLOEXEC | EFD_NONBLOCK);
+    event = bell->event;
+    pthread_mutex_unlock(&bell->lock);
+    memset(&rings, 0, sizeof rings);
+    rings.events = EPOLLIN | EPOLLET; /* so each descriptor sees each ring, and none reads `event` */
+    if (!epoll_ctl(descriptor, EPOLL_CTL_ADD, event, &rings)) return descriptor;
+    close(descriptor);
+    return -1;
+}
+
+/* What a loop does before it looks at the bus: hush, look until nothing is there, poll. */
+static inline void bell_hush(struct bell *bell, int descriptor) {
+    struct epoll_event rang;
+    epoll_wait(descriptor, &rang, 1, 0);
+    bell_listen(bell);
+}
+
+/* Gives up what the bell took, once nobody uses it any more. */
+static inline void bell_free(struct bell *bell) {
+    if (bell->event >= 0) close(bell->event);
+    bell->event = -1;
+    pthread_cond_destroy(&bell->rang);
+    pthread_mutex_destroy(&bell->lock);
+}
+
+/* ---- how a thread waits between two looks that find nothing */
+
+enum { WAITING_SPINS = 6, WAITING_YIELDS = 64, WAITING_NAP = 100000, WAITING_DOUBLED = 7 };
+
+/* It starts as zeros. */
+struct waiter {
+    unsigned step;
+    unsigned naps;
+    uint64_t heard;
+};
+
+/* Sleeps for 0.1 ms, doubled so often. */
+static inline void take_nap(unsigned doubled) {
+    struct timespec pause = {0, (long)WAITING_NAP << doubled};
+    nanosleep(&pause, NULL);
+}
+
+/* Spins, and later yields. False says that it has done so often enough. */
+static inline bool back_off(unsigned *step) {
+    if (*step < WAITING_SPINS) {
+        volatile unsigned spin = 0;
+        while (spin < 1u << *step) spin = spin + 1;
+    } else if (*step < WAITING_YIELDS) {
         sched_yield();
     } else {
-        struct timespec pause = {0, 100000};
-        nanosleep(&pause, NULL);
+        return false;
     }
-    if (*step < 64) (*step)++;
+    (*step)++;
+    return true;
 }
+
+/* Waits for the bell: backs off, then listens, so that the caller looks once more, then sleeps. */
+static inline void wait_for(struct bell *bell, struct waiter *waiter) {
+    if (back_off(&waiter->step)) return;
+    if (!bell) {
+        take_nap(0);
+        return;
+    }
+    if (waiter->heard) bell_sleep(bell, waiter->heard);
+    waiter->heard = bell_listen(bell);
+}
+
+/* Waits for a sender that is in the middle of its turns, behind which no ring comes: backs off, and
+   then sleeps for 0.1 ms, 0.2 ms and so on up to 12.8 ms. */
+static inline void wait_behind(struct waiter *waiter) {
+    if (back_off(&waiter->step)) return;
+    take_nap(waiter->naps);
+    if (waiter->naps < WAITING_DOUBLED) waiter->naps++;
+}
+
+/* ---- senders */
 
 /* The next word of a generator (xorshift), for votes. Its seed is not 0. */
 static inline uint32_t next_word(uint64_t *seed) {
@@ -28,23 +160,37 @@ static inline uint32_t next_word(uint64_t *seed) {
     return (uint32_t)(*seed >> 32);
 }
 
-/* Turns, until there is nothing more to do, or nothing more that can be done: KIOSKBASIL_DELIVERED,
-   LEFT, IDLE, FULL, CLOSED or SPENT; or a refusal. Between turns that answer WAITING or BEHIND it
-   backs off. */
-static inline uint32_t send_batch(kioskbasil_sender *sender, uint64_t *seed,
-                                  kioskbasil_turn_answer *answer) {
-    unsigned step = 0;
+/* After such an answer there may be something for others: items, the end, or the page. */
+static inline bool is_news(uint32_t code) {
+    return code == KIOSKBASIL_DELIVERED || code == KIOSKBASIL_LEFT || code == KIOSKBASIL_CLOSED ||
+           code == KIOSKBASIL_FULL || code == KIOSKBASIL_BEHIND;
+}
+
+/* As send_batch, but it can be told to stop: each time a turn answers WAITING or BEHIND it asks
+   go_on(given), and answers so where that says no. The batch is kept, and a later call goes on with
+   it. After BEHIND this sender holds the page, for which all others wait: so call again soon.
+   A sleeping call asks once the bell rings, so whoever makes go_on say no rings it. */
+static inline uint32_t send_while(kioskbasil_sender *sender, uint64_t *seed,
+                                  kioskbasil_turn_answer *answer, struct bell *bell,
+                                  bool (*go_on)(void *given), void *given) {
+    struct waiter waiter = {0, 0, 0};
+    uint32_t code = KIOSKBASIL_GOING, before;
     for (;;) {
-        uint32_t code = kioskbasil_turns(sender, next_word(seed), answer);
+        before = code;
+        code = kioskbasil_turns(sender, next_word(seed), answer);
+        if (bell && is_news(code) && code != before) bell_ring(bell);
         switch (code) {
         case KIOSKBASIL_WAITING:
         case KIOSKBASIL_BEHIND:
-            back_off(&step);
+            if (go_on && !go_on(given)) return code;
+            if (code == KIOSKBASIL_WAITING) wait_for(bell, &waiter);
+            else wait_behind(&waiter);
             break;
         case KIOSKBASIL_GOING:
         case KIOSKBASIL_LOST:
         case KIOSKBASIL_OWN:
-            step = 0;
+            waiter.step = 0;
+            waiter.heard = 0;
             break;
         default:
             return code;
@@ -52,27 +198,76 @@ static inline uint32_t send_batch(kioskbasil_sender *sender, uint64_t *seed,
     }
 }
 
+/* Turns, until there is nothing more to do, or nothing more that can be done: KIOSKBASIL_DELIVERED,
+   LEFT, IDLE, FULL, CLOSED or SPENT; or a refusal. Between turns that answer WAITING or BEHIND it
+   waits. */
+static inline uint32_t send_batch(kioskbasil_sender *sender, uint64_t *seed,
+                                  kioskbasil_turn_answer *answer, struct bell *bell) {
+    return send_while(sender, seed, answer, bell, NULL, NULL);
+}
+
+/* A go_on that says no. */
+static inline bool no_waiting(void *given) {
+    (void)given;
+    return false;
+}
+
+/* As send_batch, but it waits for nothing, as an event loop wants it: also WAITING, and then the
+   bell will ring; or BEHIND, after which it is to be called again within a millisecond or so. */
+static inline uint32_t send_now(kioskbasil_sender *sender, uint64_t *seed,
+                                kioskbasil_turn_answer *answer, struct bell *bell) {
+    return send_while(sender, seed, answer, bell, no_waiting, NULL);
+}
+
 /* Closes, and sends that: KIOSKBASIL_CLOSED where the order has ended then; else why not. */
-static inline uint32_t end_order(kioskbasil_sender *sender, uint64_t *seed) {
+static inline uint32_t end_order(kioskbasil_sender *sender, uint64_t *seed, struct bell *bell) {
     uint32_t code = kioskbasil_close(sender);
-    return code == KIOSKBASIL_OK ? send_batch(sender, seed, NULL) : code;
+    return code == KIOSKBASIL_OK ? send_batch(sender, seed, NULL, bell) : code;
 }
 
 /* Leaves, and sends that: KIOSKBASIL_LEFT where it has left then; else why not. */
-static inline uint32_t leave_order(kioskbasil_sender *sender, uint64_t *seed) {
+static inline uint32_t leave_order(kioskbasil_sender *sender, uint64_t *seed, struct bell *bell) {
     uint32_t code = kioskbasil_leave(sender);
-    return code == KIOSKBASIL_OK ? send_batch(sender, seed, NULL) : code;
+    return code == KIOSKBASIL_OK ? send_batch(sender, seed, NULL, bell) : code;
 }
 
-/* Hears until there is an item or the end: KIOSKBASIL_GOING or EMPTY with *many above 0, or END,
-   with *many items before it. */
-static inline uint32_t hear_some(kioskbasil_receiver *receiver, kioskbasil_item *items, size_t room,
-                                 size_t *many) {
-    unsigned step = 0;
+/* As kioskbasil_finish, and rings. */
+static inline uint32_t finish_sender(kioskbasil_sender *sender, kioskbasil_turn_answer *answer,
+                                     struct bell *bell) {
+    uint32_t code = kioskbasil_finish(sender, answer);
+    if (bell && is_news(code)) bell_ring(bell);
+    return code;
+}
+
+/* As kioskbasil_free_sender, and rings. */
+static inline uint32_t free_sender(kioskbasil_sender *sender, struct bell *bell) {
+    uint32_t code = kioskbasil_free_sender(sender);
+    if (bell && is_news(code)) bell_ring(bell);
+    return code;
+}
+
+/* ---- receivers */
+
+/* As hear_some, but it can be told to stop: each time nothing is there it asks go_on(given), and
+   answers KIOSKBASIL_EMPTY, with *many 0, where that says no. Whoever makes it do so rings the
+   bell. */
+static inline uint32_t hear_while(kioskbasil_receiver *receiver, kioskbasil_item *items,
+                                  size_t room, size_t *many, struct bell *bell,
+                                  bool (*go_on)(void *given), void *given) {
+    struct waiter waiter = {0, 0, 0};
     for (;;) {
         uint32_t code = kioskbasil_hear(receiver, items, room, many);
         if (code != KIOSKBASIL_EMPTY || *many > 0) return code;
-        back_off(&step);
+        if (go_on && !go_on(given)) return code;
+        wait_for(bell, &waiter);
     }
+}
+
+/* Hears until there is an item or the end: KIOSKBASIL_GOING or EMPTY with *many above 0, or END,
+   with *many items before it. There is room for one item at least: with none it answers GOING, with
+   *many 0, for good. */
+static inline uint32_t hear_some(kioskbasil_receiver *receiver, kioskbasil_item *items, size_t room,
+                                 size_t *many, struct bell *bell) {
+    return hear_while(receiver, items, room, many, bell, NULL, NULL);
 }
 #endif

@@ -1,49 +1,50 @@
-//! Finds the proved archive `libbus_c.a`, or builds it where the kit is there.
+//! Finds the archive that the crate links, and links a copy of it.
 
 use std::path::{Path, PathBuf};
-use std::process::Command;
 use std::{env, fs};
 
-/// Where the archive is: KIOSKBASIL_ARCHIVE, or that of crates/bus_c, which `rt lib` makes.
-fn archive() -> Result<PathBuf, String> {
+/// Where the archive may be, the first that is there: in the file that KIOSKBASIL_ARCHIVE names, in
+/// `lib/` of this crate, as a release has it, or where `rt lib` or `./quick` of the repository
+/// leaves it.
+fn archive(here: &Path) -> Result<PathBuf, String> {
     if let Some(path) = env::var_os("KIOSKBASIL_ARCHIVE") {
         return Ok(PathBuf::from(path));
     }
-    let here = env::var("CARGO_MANIFEST_DIR").map_err(|e| e.to_string())?;
-    let folder = Path::new(&here).join("../../crates/bus_c");
-    let path = folder.join("out/libbus_c.a");
-    if path.is_file() {
+    let built = here.join("../../crates/bus_c/out");
+    let quick = built.join("libbus_c.quick.a");
+    let places = [here.join("lib/libbus_c.a"), built.join("libbus_c.a")];
+    if let Some(path) = places.into_iter().find(|path| path.is_file()) {
         return Ok(path);
     }
-    match Command::new("rt").arg("lib").current_dir(&folder).status() {
-        Ok(status) if status.success() && path.is_file() => Ok(path),
-        Ok(_) => Err("`rt lib` did not build the archive in crates/bus_c".to_string()),
-        Err(_) => Err(
-            "there is no libbus_c.a: set KIOSKBASIL_ARCHIVE to it, or build it by `rt lib` \
-                       in crates/bus_c"
-                .to_string(),
-        ),
+    if quick.is_file() {
+        println!("cargo:warning=linking libbus_c.quick.a, which is built without a proof");
+        return Ok(quick);
     }
+    Err(
+        "there is no libbus_c.a. `rt lib` in crates/bus_c proves and builds it, which takes 20 \
+         minutes or more; `./quick bus_c` builds it without a proof in half a minute; or set \
+         KIOSKBASIL_ARCHIVE to the file, of any name"
+            .to_string(),
+    )
+}
+
+/// Has the archive linked from a copy in the folder of this build, under the name that the linker
+/// looks for.
+fn link() -> Result<(), String> {
+    let here = env::var_os("CARGO_MANIFEST_DIR").ok_or("CARGO_MANIFEST_DIR is not set")?;
+    let out = PathBuf::from(env::var_os("OUT_DIR").ok_or("OUT_DIR is not set")?);
+    let path = archive(Path::new(&here))?;
+    println!("cargo:rerun-if-changed={}", path.display());
+    fs::copy(&path, out.join("libbus_c.a")).map_err(|e| format!("{}: {e}", path.display()))?;
+    println!("cargo:rustc-link-search=native={}", out.display());
+    println!("cargo:rustc-link-lib=static=bus_c");
+    Ok(())
 }
 
 fn main() {
     println!("cargo:rerun-if-env-changed=KIOSKBASIL_ARCHIVE");
-    let path = match archive()
-        .and_then(|p| fs::canonicalize(&p).map_err(|e| format!("{}: {e}", p.display())))
-    {
-        Ok(path) => path,
-        Err(why) => {
-            eprintln!("kioskbasil: {why}");
-            std::process::exit(1);
-        }
-    };
-    println!("cargo:rerun-if-changed={}", path.display());
-    println!(
-        "cargo:rustc-link-search=native={}",
-        path.parent()
-            .map(Path::display)
-            .map(|d| d.to_string())
-            .unwrap_or_default()
-    );
-    println!("cargo:rustc-link-lib=static=bus_c");
+    if let Err(why) = link() {
+        eprintln!("kioskbasil: {why}");
+        std::process::exit(1);
+    }
 }

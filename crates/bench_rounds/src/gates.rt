@@ -1,6 +1,6 @@
 //! The gate that all workers of a round stand at until the last has been started.
 
-use crossbeam_utils::Backoff;
+use bus_waiting::Waiter;
 use std::sync::Wait;
 use std::sync::atomic::{AtomicBool, AtomicU64, Ordering};
 use std::time::{Clock, Instant};
@@ -25,15 +25,15 @@ impl Gate {
     /// A worker arrives, and waits until the gate is open. On false the round was given up.
     pub fn pass<W: Wait>(&self, wait: &W) -> bool {
         self.arrived.fetch_add(1, Ordering::SeqCst);
-        let backoff = Backoff::new();
-        for _ in wait.forever() {
+        let waiter = Waiter::yielding(wait);
+        for _ in waiter.forever() {
             if self.is_given_up() {
                 return false;
             }
             if self.is_open.load(Ordering::SeqCst) {
                 return true;
             }
-            backoff.snooze();
+            waiter.rest();
         }
         unreachable!()
     }
@@ -55,15 +55,15 @@ impl Gate {
 
     /// Waits until so many workers have arrived. On false the round was given up.
     fn wait_for<W: Wait>(&self, wait: &W, workers: u64) -> bool {
-        let backoff = Backoff::new();
-        for _ in wait.forever() {
+        let waiter = Waiter::yielding(wait);
+        for _ in waiter.forever() {
             if self.is_given_up() {
                 return false;
             }
             if self.arrived.load(Ordering::SeqCst) >= workers {
                 return true;
             }
-            backoff.snooze();
+            waiter.rest();
         }
         unreachable!()
     }

@@ -18,6 +18,7 @@ use bus_run::buses::{Receiver, Sender, Tap, TheBus};
 use bus_run::spawning::Work;
 use bus_run::workers::generator;
 use bus_tenure::Turn;
+use bus_waiting::Waiter;
 use rand_chacha::ChaCha8Rng;
 use std::alloc::{AllocError, Global};
 use std::marker::PhantomData;
@@ -56,7 +57,8 @@ impl<B: OfBus> RoundSender<B> {
 
     /// Its sender sends what waits in its batch.
     pub fn send<W: Wait>(&mut self, wait: &W, the: &TheBus<B>) -> Turn {
-        self.sender.send(wait, &the.bus, &mut self.rng)
+        let waiter = Waiter::yielding(wait);
+        self.sender.send(&waiter, &the.bus, &mut self.rng)
     }
 
     /// Its sender closes the bus. Says whether the bus is closed.
@@ -255,9 +257,10 @@ impl<B: OfBus, R: Wait> HearRound<'_, B, R> {
     /// Takes items until it has all. On false the round was given up before.
     fn take_all(&self, receive_worker: &mut RoundReceiver<B>) -> Result<bool, Fault> {
         let gate = self.gate;
+        let waiter = Waiter::yielding(self.rt);
         for _ in 0..self.load.items() {
             let receiver = &mut receive_worker.receiver;
-            match receiver.next_item_while(self.rt, &self.the.bus, || !gate.is_given_up()) {
+            match receiver.next_item_while(&waiter, &self.the.bus, || !gate.is_given_up()) {
                 Next::Item(item) => note(receive_worker, item)?,
                 Next::End => return Err(heard_amiss(receive_worker)),
                 Next::Stopped => return Ok(false),

@@ -1,11 +1,9 @@
 //! Runs under a seed: a sitting, or a chain of sittings, of which each goes on with the numbers of
 //! the one before.
 
-ghost use Rattle.std.specs.Prelude.{◌≤◌};
-
 use crate::storms::{Load, SHAPES, Sitting, Tale, receivers_of, senders_of, sit_on};
 use bus_receiver::{LEAST_ROWS_AGAIN, MOST_ROWS, Page, Shape};
-use bus_register::limits::{MOST_MESSAGES, MOST_SENDERS};
+use bus_register::limits::MOST_MESSAGES;
 use bus_run::buses::Bus;
 use rand_core::Rng;
 use rand_pcg::Pcg32;
@@ -58,9 +56,7 @@ pub fn run<R: Threads + Clock + Sync>(
 }
 
 /// What is asked of the first sitting under this seed.
-fn first_load(seed: u64, hands: u64, is_long: bool, dice: &mut Pcg32) -> Load
-    ensures { result.senders ≤ MOST_SENDERS }
-{
+fn first_load(seed: u64, hands: u64, is_long: bool, dice: &mut Pcg32) -> Load {
     let few = u64::from(dice.next_u32() % 32);
     Load {
         senders: senders_of(seed),
@@ -75,10 +71,7 @@ fn first_load(seed: u64, hands: u64, is_long: bool, dice: &mut Pcg32) -> Load
 
 /// The same with some senders that leave, in one sitting of two. In one in which nobody stops
 /// sender 0 stays, so that somebody closes.
-fn with_leavers(load: Load, dice: &mut Pcg32) -> Load
-    requires { load.senders ≤ MOST_SENDERS }
-    ensures { result.senders ≤ MOST_SENDERS }
-{
+fn with_leavers(load: Load, dice: &mut Pcg32) -> Load {
     let most = if load.is_calm {
         load.senders
     } else {
@@ -104,9 +97,7 @@ fn go_on<R: Threads + Clock + Sync>(
     first: Sitting,
     load: Load,
     dice: &mut Pcg32,
-) -> anyhow::Result<Tale>
-    requires { load.senders ≤ MOST_SENDERS }
-{
+) -> anyhow::Result<Tale> {
     let Sitting {
         mut tale,
         page: mut left,
@@ -130,9 +121,7 @@ fn sit_after<R: Threads + Clock + Sync>(
     page: Page,
     load: Load,
     dice: &mut Pcg32,
-) -> anyhow::Result<Sitting>
-    requires { load.senders ≤ MOST_SENDERS }
-{
+) -> anyhow::Result<Sitting> {
     let is_again = dice.next_u32() % 2 == 0;
     let load = next_load(load, page, is_again, dice);
     let rows = if is_again {
@@ -159,10 +148,7 @@ fn sit_after<R: Threads + Clock + Sync>(
 /// What is asked of the sitting after this page. If each tenure has a row of its own there is one
 /// for each message and each sender that leaves, and one for the end. In half of these sittings all
 /// are used.
-fn next_load(load: Load, page: Page, is_again: bool, dice: &mut Pcg32) -> Load
-    requires { load.senders ≤ MOST_SENDERS }
-    ensures { result.senders ≤ MOST_SENDERS }
-{
+fn next_load(load: Load, page: Page, is_again: bool, dice: &mut Pcg32) -> Load {
     let is_same = dice.next_u32() % 2 == 0;
     let other = senders_of(u64::from(dice.next_u32()));
     let senders = if is_same { load.senders } else { other };

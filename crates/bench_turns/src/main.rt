@@ -4,16 +4,18 @@
 //! `bench_turns storm` runs buses whose workers yield, sleep or stop for good at random turns, in
 //! one thread for each processor and then in eight: 10,000 each, or as many as a further argument
 //! says. `bench_turns elections` prints own steps of elections, with 1 to 8, 16, 32 and 64 senders
-//! and either ratifier. With another argument it tries a little of the first two, and prints what
-//! is the same each time.
+//! and either ratifier. `bench_turns reader` prints how long a plain sum, `read_log` and a receiver
+//! take for each word of a log of 65,505 words, the best of 50 rounds. With another argument it
+//! tries a little of turns, storms and readers, and prints what is the same each time.
 //!
-//! Exit status: 1 where a run failed, or where of many none had a holder behind another sender to
-//! the last, or none was a chain of sittings.
+//! Exit status: 1 where a run failed, where a reader does not find all messages, or where of many
+//! runs none had a holder behind another sender to the last, or none was a chain of sittings.
 #![tactic(auto)]
 
 mod chains;
 mod elections;
 mod figures;
+mod readers;
 mod send_workers;
 mod storms;
 mod turns;
@@ -21,6 +23,7 @@ mod workers;
 
 use self::elections::print_elections;
 use self::figures::storm;
+use self::readers::{print_readers, read_once};
 use self::turns::{FEW_TURNS, print_kinds, print_turns, turns_of};
 use std::alloc::Global;
 use std::env;
@@ -53,9 +56,10 @@ fn two_storms<R: Threads + Clock + Print + Sync>(
     Ok(passed)
 }
 
-/// Three runs in four threads, and nine in one, which are the same each time. On false a run has
-/// failed, or the nine did not show all of these.
+/// A log read once, some turns, three runs in four threads, and nine in one, which are the same
+/// each time. On false a run has failed, or the nine did not show all of these.
 fn few_runs<R: Threads + Clock + Print + Sync>(rt: &R, alloc: Global) -> anyhow::Result<bool> {
+    read_once(rt, alloc)?;
     turns_of(rt, alloc, 3, 1, FEW_TURNS)?;
     let some = storm(rt, alloc, 3, 4)?;
     println!(rt; "{} runs, {} failed", some.runs, some.failed)?;
@@ -91,6 +95,10 @@ fn main(rt: HostRuntime) -> anyhow::Result<ExitCode> {
         Some("storm") => two_storms(&rt, alloc, runs)?,
         Some("elections") => {
             print_elections(&rt, alloc)?;
+            true
+        }
+        Some("reader") => {
+            print_readers(&rt, alloc)?;
             true
         }
         _ => few_runs(&rt, alloc)?,

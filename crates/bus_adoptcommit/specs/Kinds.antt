@@ -4,7 +4,8 @@ use Rattle.bus_register.specs.declared.kinds.Kind.{Kind}
 use Rattle.bus_register.specs.declared.registers.Op.{Op}
 use Rattle.bus_register.specs.declared.registers.Op.TheVariants.{Load}
 use Rattle.bus_register.specs.Protocol.{IsStore}
-use Rattle.bus_register.specs.declared.kinds.Kind.TheVariants.{WriteFirst, ReadFirst, WriteSecond, ReadSecond}
+use Rattle.bus_register.specs.declared.kinds.Kind.TheVariants.{WriteFirst, ReadFirst, WriteSecond}
+use Rattle.bus_register.specs.declared.kinds.Kind.TheVariants.{ReadSecond}
 
 -- one of the four
 abbrev pub IsOfRatifier : Kind → Type 0
@@ -22,8 +23,8 @@ IsReading k = (k ≡ ReadFirst) ⊎ (k ≡ ReadSecond)
 abbrev pub IsLoad : Op → Type 0
 IsLoad o = (r : ℕ) × (o ≡ Load record { 0 = r })
 
--- a step is named for what it does: it stores exactly where its kind stores, it loads where its kind reads, and the first step of a process
--- is the one that stores a proposal
+-- a step is named for what it does: it stores exactly where its kind stores, it loads where its
+-- kind reads, and the first step of a process is the one that stores a proposal
 pub record IsNamedFor (k : Kind) (o : Op) (begun : Bool) : Type 0 where
   pub stores : IsStore o → IsStoring k
   pub storing : IsStoring k → IsStore o
@@ -31,8 +32,8 @@ pub record IsNamedFor (k : Kind) (o : Op) (begun : Bool) : Type 0 where
   pub proposes : k ≡ WriteFirst → begun ≡ false
   pub first : begun ≡ false → k ≡ WriteFirst
 
--- the kind of the next step, `next`, comes after k: proposals are read once one is stored, a verdict is stored once proposals are read, and
--- verdicts are read at the end
+-- the kind of the next step, `next`, comes after k: proposals are read once one is stored, a
+-- verdict is stored once proposals are read, and verdicts are read at the end
 pub record ComesAfter (k next : Kind) : Type 0 where
   pub reads_first : next ≡ ReadFirst → (k ≡ WriteFirst) ⊎ (k ≡ ReadFirst)
   pub writes_second : next ≡ WriteSecond → k ≡ ReadFirst

@@ -6,7 +6,8 @@ use Rattle.bus_register.specs.declared.registers.Op.TheVariants.{Load, Store, Ad
 use Rattle.bus_register.specs.declared.registers.Reg.{Reg}
 use Rattle.bus_register.specs.Protocol.{Protocol}
 use Rattle.bus_adoptcommit.specs.declared.progress.Progress.{Progress}
-use Rattle.bus_adoptcommit.specs.declared.progress.Progress.TheVariants.{Bring, ReadFirst, Propose, ReadOther, Ended}
+use Rattle.bus_adoptcommit.specs.declared.progress.Progress.TheVariants.{Bring, ReadFirst, Propose}
+use Rattle.bus_adoptcommit.specs.declared.progress.Progress.TheVariants.{ReadOther, Ended}
 use Rattle.bus_adoptcommit.specs.declared.verdicts.Verdict.{Verdict}
 use Rattle.bus_adoptcommit.specs.declared.verdicts.Verdict.TheVariants.{Adopt}
 use Rattle.bus_adoptcommit.specs.Agreement.{value_of, IsConvergent, IsCoherent}
@@ -29,16 +30,22 @@ abbrev pub one_after_another : List ℕ
 one_after_another = 0 ∷ 0 ∷ 0 ∷ 0 ∷ 1 ∷ 1 ∷ 1 ∷ []
 
 -- ── three words, played ──
-abbrev pub PlaysThreeWords : (Local → Option Op) → (Local → ℕ → Local) → Protocol Local Bool Verdict → List Bool → List ℕ → List (Option Verdict) → Type 0
-PlaysThreeWords op fed P given schedule outs = IsPlay (λ s word. op s) (λ s got word. fed s got) P given schedule outs
+abbrev pub PlaysThreeWords : (Local → Option Op) → (Local → ℕ → Local) → Protocol Local Bool Verdict
+    → List Bool → List ℕ → List (Option Verdict) → Type 0
+PlaysThreeWords op fed P given schedule outs =
+    IsPlay (λ s word. op s) (λ s got word. fed s got) P given schedule outs
 
 -- they play just that, and one output has another value than a commit
-pub record PlaysIncoherently (op : Local → Option Op) (fed : Local → ℕ → Local) (P : Protocol Local Bool Verdict) (given : List Bool) (schedule : List ℕ) (outs : List (Option Verdict)) : Type 0 where
+pub record PlaysIncoherently (op : Local → Option Op) (fed : Local → ℕ → Local)
+    (P : Protocol Local Bool Verdict) (given : List Bool) (schedule : List ℕ)
+    (outs : List (Option Verdict)) : Type 0 where
   pub plays : PlaysThreeWords op fed P given schedule outs
   pub refused : ¬ IsCoherent (table_of outs)
 
 -- they play just that, and all inputs that count agree where an output is no commit of them
-pub record PlaysUnconverged (op : Local → Option Op) (fed : Local → ℕ → Local) (P : Protocol Local Bool Verdict) (given : List Bool) (schedule : List ℕ) (outs : List (Option Verdict)) : Type 0 where
+pub record PlaysUnconverged (op : Local → Option Op) (fed : Local → ℕ → Local)
+    (P : Protocol Local Bool Verdict) (given : List Bool) (schedule : List ℕ)
+    (outs : List (Option Verdict)) : Type 0 where
   pub plays : PlaysThreeWords op fed P given schedule outs
   pub refused : ¬ IsConvergent (entered_input given schedule) (table_of outs)
 
@@ -82,7 +89,8 @@ adopting = record three_word { output = λ s. option_map (λ d. Adopt (value_of 
 pub record RefusesNames : Type 0 where
   -- a read that adds, or exchanges, were it to leave the word as it was; or one that stores
   pub added : (at : Reg) (x : ℕ) (begun : Bool) → ¬ IsNamedFor kind.ReadFirst (Add at x) begun
-  pub exchanged : (at : Reg) (x y : ℕ) (begun : Bool) → ¬ IsNamedFor kind.ReadSecond (Cas at x y) begun
+  pub exchanged : (at : Reg) (x y : ℕ) (begun : Bool)
+      → ¬ IsNamedFor kind.ReadSecond (Cas at x y) begun
   pub stored : (at : Reg) (x : ℕ) (begun : Bool) → ¬ IsNamedFor kind.ReadSecond (Store at x) begun
   -- a verdict's store that loads
   pub loaded : (at : Reg) (begun : Bool) → ¬ IsNamedFor kind.WriteSecond (Load at) begun

@@ -1,5 +1,7 @@
--- What a schedule, a list of process numbers in the order of their steps, says of inputs and outputs.
-use Rattle.std.specs.Prelude.{ℕ, Bool, List, Option, None, take, count_by, slice_get, nat_lt, ◌==◌, if◌then◌else◌}
+-- What a schedule, a list of process numbers in the order of their steps, says of inputs and
+-- outputs.
+use Rattle.std.specs.Prelude.{ℕ, Bool, List, Option, None, take, count_by, slice_get, nat_lt, ◌==◌}
+use Rattle.std.specs.Prelude.{if◌then◌else◌}
 use Rattle.bus_register.specs.Tables.{of_some}
 use Rattle.bus_adoptcommit.specs.declared.verdicts.Verdict.{Verdict}
 use Rattle.bus_adoptcommit.specs.Agreement.{Legal}
@@ -18,8 +20,12 @@ entered_input given schedule p = if nat_lt 0 (entries schedule p) then slice_get
 
 -- the output of each process that stands: of one that has as many entries as it takes steps at most
 abbrev pub finished_output : ℕ → (ℕ → Option Verdict) → List ℕ → ℕ → Option Verdict
-finished_output steps verdicts schedule p = if nat_lt (entries schedule p) steps then None else verdicts p
+finished_output steps verdicts schedule p =
+    if nat_lt (entries schedule p) steps then None else verdicts p
 
 -- after each prefix of the schedule, the outputs that stand are legal for the inputs that count
 abbrev pub LegalThroughout : ℕ → List Bool → List ℕ → (ℕ → Option Verdict) → Type 0
-LegalThroughout steps given schedule verdicts = (k : ℕ) → Legal (entered_input given (take k schedule)) (finished_output steps verdicts (take k schedule))
+LegalThroughout steps given schedule verdicts =
+    (k : ℕ)
+    → Legal (entered_input given (take k schedule))
+    (finished_output steps verdicts (take k schedule))

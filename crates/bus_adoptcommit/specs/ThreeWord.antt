@@ -1,17 +1,22 @@
--- Three words: two that say which values were brought, and one proposal. One process, as a local state and its steps.
+-- Three words: two that say which values were brought, and one proposal. One process, as a local
+-- state and its steps.
 use Rattle.std.specs.Prelude.{ℕ, ◌+◌, Bool, false, not, Option, Some, None, ◌==◌, if◌then◌else◌}
 use Rattle.bus_register.specs.declared.kinds.Kind.{Kind}
-use Rattle.bus_register.specs.declared.kinds.Kind.TheVariants.{WriteFirst as writing_first, ReadFirst as reading_first, WriteSecond as writing_second, ReadSecond as reading_second}
+use Rattle.bus_register.specs.declared.kinds.Kind.TheVariants.{WriteFirst as writing_first}
+use Rattle.bus_register.specs.declared.kinds.Kind.TheVariants.{ReadFirst as reading_first}
+use Rattle.bus_register.specs.declared.kinds.Kind.TheVariants.{WriteSecond as writing_second}
+use Rattle.bus_register.specs.declared.kinds.Kind.TheVariants.{ReadSecond as reading_second}
 use Rattle.bus_register.specs.declared.registers.Op.{Op}
 use Rattle.bus_register.specs.declared.registers.Op.TheVariants.{Load, Store}
 use Rattle.bus_register.specs.Digits.{digit}
 use Rattle.bus_adoptcommit.specs.declared.progress.Progress.{Progress}
-use Rattle.bus_adoptcommit.specs.declared.progress.Progress.TheVariants.{Bring, ReadFirst, Propose, ReadOther, Ended}
+use Rattle.bus_adoptcommit.specs.declared.progress.Progress.TheVariants.{Bring, ReadFirst, Propose}
+use Rattle.bus_adoptcommit.specs.declared.progress.Progress.TheVariants.{ReadOther, Ended}
 use Rattle.bus_adoptcommit.specs.declared.verdicts.Verdict.{Verdict}
 use Rattle.bus_adoptcommit.specs.declared.verdicts.Verdict.TheVariants.{Commit, Adopt}
 
--- what a process holds, over words from `at` on: that of false and that of true, each set once its value was brought, and then
--- the proposal
+-- what a process holds, over words from `at` on: that of false and that of true, each set once its
+-- value was brought, and then the proposal
 pub record Local : Type 0 where
   pub at : ℕ
   pub input : Bool
@@ -41,9 +46,12 @@ op_at Ended s = None
 abbrev pub op_of : Local → Option Op
 op_of s = op_at s.progress s
 
--- s after it found this proposal, or none: it proposes its own value where there is none, and else prefers what it found
+-- s after it found this proposal, or none: it proposes its own value where there is none, and else
+-- prefers what it found
 abbrev pub local_after_look : Local → ℕ → Local
-local_after_look s got = if got == 0 then record s { progress = Propose } else record s { preference = got == 2; progress = ReadOther }
+local_after_look s got =
+    if got == 0 then record s { progress = Propose }
+    else record s { preference = got == 2; progress = ReadOther }
 
 -- s after a step that found this number, were it at this point
 abbrev pub fed_at : Progress → Local → ℕ → Local
@@ -75,7 +83,13 @@ output_of s = output_at s.progress s
 
 -- before the first step
 abbrev pub start_of : ℕ → ℕ → Bool → ℕ → Local
-start_of n me input at = record { at = at; input = input; preference = input; unopposed = false; progress = Bring }
+start_of n me input at = record {
+  at = at;
+  input = input;
+  preference = input;
+  unopposed = false;
+  progress = Bring;
+}
 
 -- how many of the four steps lie behind a process, taken or passed over
 abbrev pub behind : Progress → ℕ

@@ -1,6 +1,7 @@
--- What the words and the local states of three words always keep. No clause speaks of time: it says which words and local states
--- can stand together.
-use Rattle.std.specs.Prelude.{◌≡◌, ℕ, ◌+◌, ◌-◌, ◌<◌, ◌≤◌, Bool, true, false, Option, Some, ◌⊎◌, nat_lt}
+-- What the words and the local states of three words always keep. No clause speaks of time: it says
+-- which words and local states can stand together.
+use Rattle.std.specs.Prelude.{◌≡◌, ℕ, ◌+◌, ◌-◌, ◌<◌, ◌≤◌, Bool, true, false, Option, Some, ◌⊎◌}
+use Rattle.std.specs.Prelude.{nat_lt}
 use Rattle.bus_register.specs.Protocol.{Protocol}
 use Rattle.bus_register.specs.Digits.{digit}
 use Rattle.bus_adoptcommit.specs.declared.verdicts.Verdict.{Verdict}
@@ -54,11 +55,16 @@ pub record Keeps (n at : ℕ) (words : ℕ → ℕ) (locals : ℕ → Option Loc
   pub proposal : (words (at + 2) ≡ 0) ⊎ IsProposal (words (at + 2)) locals
   pub proposed : (p : ℕ) (s : Local) → locals p ≡ Some s → HasProposed s → 0 < words (at + 2)
   -- what is preferred was brought, and beside what is adopted the other value was, too
-  pub preferred : (p : ℕ) (s : Local) → locals p ≡ Some s → HasBegun s → IsBrought locals s.preference
-  pub opposed : (p : ℕ) (s : Local) → locals p ≡ Some s → HasEnded s → s.unopposed ≡ false → (v : Bool) → IsBrought locals v
-  -- a commit stands with no other proposal, and with no process that has looked and prefers another value
-  pub alone : (p : ℕ) (s : Local) → locals p ≡ Some s → HasCommitted s → words (at + 2) ≡ 1 + digit s.preference
-  pub together : (p q : ℕ) (s t : Local) → locals p ≡ Some s → locals q ≡ Some t → HasCommitted s → HasLooked t → t.preference ≡ s.preference
+  pub preferred : (p : ℕ) (s : Local) → locals p ≡ Some s → HasBegun s
+      → IsBrought locals s.preference
+  pub opposed : (p : ℕ) (s : Local) → locals p ≡ Some s → HasEnded s → s.unopposed ≡ false
+      → (v : Bool) → IsBrought locals v
+  -- a commit stands with no other proposal, and with no process that has looked and prefers another
+  -- value
+  pub alone : (p : ℕ) (s : Local) → locals p ≡ Some s → HasCommitted s
+      → words (at + 2) ≡ 1 + digit s.preference
+  pub together : (p q : ℕ) (s t : Local) → locals p ≡ Some s → locals q ≡ Some t → HasCommitted s
+      → HasLooked t → t.preference ≡ s.preference
 
 -- three words, as a protocol
 abbrev pub three_word : Protocol Local Bool Verdict

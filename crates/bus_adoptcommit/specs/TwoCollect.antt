@@ -1,17 +1,23 @@
--- Two collects (Gafni 1998): each process stores its proposal and loads all proposals, then stores its verdict and loads
--- all verdicts. One process of n, as a local state and its steps.
-use Rattle.std.specs.Prelude.{ℕ, ◌+◌, ◌*◌, ◌<◌, ◌≤◌, ◌^◌, Bool, true, false, Option, Some, None, ◌==◌, nat_lt, if◌then◌else◌}
+-- Two collects (Gafni 1998): each process stores its proposal and loads all proposals, then stores
+-- its verdict and loads all verdicts. One process of n, as a local state and its steps.
+use Rattle.std.specs.Prelude.{ℕ, ◌+◌, ◌*◌, ◌<◌, ◌≤◌, ◌^◌, Bool, true, false, Option, Some, None}
+use Rattle.std.specs.Prelude.{◌==◌, nat_lt, if◌then◌else◌}
 use Rattle.bus_register.specs.declared.kinds.Kind.{Kind}
-use Rattle.bus_register.specs.declared.kinds.Kind.TheVariants.{WriteFirst as writing_first, ReadFirst as reading_first, WriteSecond as writing_second, ReadSecond as reading_second}
+use Rattle.bus_register.specs.declared.kinds.Kind.TheVariants.{WriteFirst as writing_first}
+use Rattle.bus_register.specs.declared.kinds.Kind.TheVariants.{ReadFirst as reading_first}
+use Rattle.bus_register.specs.declared.kinds.Kind.TheVariants.{WriteSecond as writing_second}
+use Rattle.bus_register.specs.declared.kinds.Kind.TheVariants.{ReadSecond as reading_second}
 use Rattle.bus_register.specs.declared.registers.Op.{Op}
 use Rattle.bus_register.specs.declared.registers.Op.TheVariants.{Load, Store}
 use Rattle.bus_register.specs.Digits.{digit}
 use Rattle.bus_adoptcommit.specs.declared.phases.Phase.{Phase}
-use Rattle.bus_adoptcommit.specs.declared.phases.Phase.TheVariants.{WriteFirst, ReadFirst, WriteSecond, ReadSecond, Ended}
+use Rattle.bus_adoptcommit.specs.declared.phases.Phase.TheVariants.{WriteFirst, ReadFirst}
+use Rattle.bus_adoptcommit.specs.declared.phases.Phase.TheVariants.{WriteSecond, ReadSecond, Ended}
 use Rattle.bus_adoptcommit.specs.declared.verdicts.Verdict.{Verdict}
 use Rattle.bus_adoptcommit.specs.declared.verdicts.Verdict.TheVariants.{Commit, Adopt}
 
--- what process `me` of n holds, over words from `at` on: proposals at + 0 .. at + n - 1, then verdicts at + n .. at + 2n - 1
+-- what process `me` of n holds, over words from `at` on: proposals at + 0 .. at + n - 1, then
+-- verdicts at + n .. at + 2n - 1
 pub record Local : Type 0 where
   pub n : ℕ
   pub me : ℕ
@@ -29,7 +35,8 @@ pub record Local : Type 0 where
 abbrev pub proposal_code : Bool → ℕ
 proposal_code input = 1 + digit input
 
--- the word of a verdict: adopt 0 is 1, adopt 1 is 2, commit 0 is 3, commit 1 is 4, so that 0 is no verdict
+-- the word of a verdict: adopt 0 is 1, adopt 1 is 2, commit 0 is 3, commit 1 is 4, so that 0 is no
+-- verdict
 abbrev pub verdict_code : Verdict → ℕ
 verdict_code (Adopt v) = 1 + digit v
 verdict_code (Commit v) = 3 + digit v
@@ -37,7 +44,10 @@ verdict_code (Commit v) = 3 + digit v
 -- the verdict that a word holds, if it holds one
 abbrev pub verdict_in : ℕ → Option Verdict
 verdict_in word =
-    if word == 1 then Some (Adopt false) else (if word == 2 then Some (Adopt true) else (if word == 3 then Some (Commit false) else (if word == 4 then Some (Commit true) else None)))
+    if word == 1 then Some (Adopt false)
+    else (if word == 2 then Some (Adopt true)
+    else (if word == 3 then Some (Commit false)
+    else (if word == 4 then Some (Commit true) else None)))
 
 -- the verdict that is stored: a commit if every proposal that was seen is the own one
 abbrev pub first_verdict : Bool → Bool → Verdict
@@ -69,7 +79,8 @@ kind_at Ended = None
 abbrev pub op_at : Phase → Local → Option Op
 op_at WriteFirst s = Some (Store record { 0 = s.at + s.me } (proposal_code s.input))
 op_at (ReadFirst of) s = Some (Load record { 0 = s.at + of })
-op_at WriteSecond s = Some (Store record { 0 = s.at + s.n + s.me } (verdict_code (first_verdict s.agreed s.input)))
+op_at WriteSecond s =
+    Some (Store record { 0 = s.at + s.n + s.me } (verdict_code (first_verdict s.agreed s.input)))
 op_at (ReadSecond of) s = Some (Load record { 0 = s.at + s.n + of })
 op_at Ended s = None
 
@@ -87,7 +98,8 @@ after_verdict n of = if nat_lt (of + 1) n then ReadSecond (of + 1) else Ended
 
 -- still agreed, once this word was seen among the proposals
 abbrev pub agreed_after : Bool → ℕ → Bool → Bool
-agreed_after input got agreed = if got == 0 then agreed else (if got == proposal_code input then agreed else false)
+agreed_after input got agreed =
+    if got == 0 then agreed else (if got == proposal_code input then agreed else false)
 
 -- the value of a commit that was seen, with one more word of the verdicts
 abbrev pub commit_with : Option Verdict → Option Bool → Option Bool
@@ -104,9 +116,16 @@ only_with (Some (Commit v)) only = only
 -- s after a step that found this number, were it at this phase
 abbrev pub fed_at : Phase → Local → ℕ → Local
 fed_at WriteFirst s got = record s { phase = ReadFirst 0 }
-fed_at (ReadFirst of) s got = record s { agreed = agreed_after s.input got s.agreed; phase = after_proposal s.n of }
+fed_at (ReadFirst of) s got = record s {
+  agreed = agreed_after s.input got s.agreed;
+  phase = after_proposal s.n of;
+}
 fed_at WriteSecond s got = record s { phase = ReadSecond 0 }
-fed_at (ReadSecond of) s got = record s { commit = commit_with (verdict_in got) s.commit; only_commits = only_with (verdict_in got) s.only_commits; phase = after_verdict s.n of }
+fed_at (ReadSecond of) s got = record s {
+  commit = commit_with (verdict_in got) s.commit;
+  only_commits = only_with (verdict_in got) s.only_commits;
+  phase = after_verdict s.n of;
+}
 fed_at Ended s got = s
 
 -- what the process holds after a step that found this number
@@ -132,7 +151,16 @@ output_of s = output_at s.phase s
 
 -- before the first step
 abbrev pub start_of : ℕ → ℕ → Bool → ℕ → Local
-start_of n me input at = record { n = n; me = me; at = at; input = input; agreed = true; commit = None; only_commits = true; phase = WriteFirst }
+start_of n me input at = record {
+  n = n;
+  me = me;
+  at = at;
+  input = input;
+  agreed = true;
+  commit = None;
+  only_commits = true;
+  phase = WriteFirst;
+}
 
 -- how many of its 2n + 2 steps a process has taken
 abbrev pub taken_at : ℕ → Phase → ℕ

@@ -1,6 +1,7 @@
--- What the words and the local states of two collects always keep. No clause speaks of time: two processes are compared by
--- how far each has come.
-use Rattle.std.specs.Prelude.{◌≡◌, ℕ, ◌+◌, ◌*◌, ◌-◌, ◌<◌, ◌≤◌, Bool, false, Option, Some, None, nat_lt, if◌then◌else◌, ◌⊎◌}
+-- What the words and the local states of two collects always keep. No clause speaks of time: two
+-- processes are compared by how far each has come.
+use Rattle.std.specs.Prelude.{◌≡◌, ℕ, ◌+◌, ◌*◌, ◌-◌, ◌<◌, ◌≤◌, Bool, false, Option, Some, None}
+use Rattle.std.specs.Prelude.{nat_lt, if◌then◌else◌, ◌⊎◌}
 use Rattle.bus_register.specs.Protocol.{Protocol}
 use Rattle.bus_register.specs.Digits.{digit}
 use Rattle.bus_adoptcommit.specs.declared.verdicts.Verdict.{Verdict}
@@ -14,7 +15,8 @@ pub record Belongs (n me at : ℕ) (s : Local) : Type 0 where
   pub below : me < n
   pub fits : PhaseFits n s.phase
 
--- how far a process has come, and what it saw, in numbers: taken steps, its input, and 1 for what is so
+-- how far a process has come, and what it saw, in numbers: taken steps, its input, and 1 for what
+-- is so
 pub record Mark : Type 0 where
   pub taken : ℕ
   pub value : ℕ
@@ -29,7 +31,13 @@ commit_number (Some v) = 1 + digit v
 
 -- the mark of a local state
 abbrev pub mark_of : Local → Mark
-mark_of s = record { taken = taken_at s.n s.phase; value = digit s.input; agreed = digit s.agreed; commit = commit_number s.commit; only = digit s.only_commits }
+mark_of s = record {
+  taken = taken_at s.n s.phase;
+  value = digit s.input;
+  agreed = digit s.agreed;
+  commit = commit_number s.commit;
+  only = digit s.only_commits;
+}
 
 -- a process that is not there yet has taken no step
 abbrev pub mark : Option Local → Mark
@@ -69,16 +77,21 @@ HasReadSecond n q m = 2 + n + q < m.taken
 
 -- two processes that read each other's proposal and still agree have the same input
 abbrev pub AgreeAlike : ℕ → ℕ → ℕ → Mark → Mark → Type 0
-AgreeAlike n p q x y = p < n → q < n → HasReadFirst q x → HasReadFirst p y → x.agreed ≡ 1 → y.agreed ≡ 1 → x.value ≡ y.value
+AgreeAlike n p q x y =
+    p < n → q < n → HasReadFirst q x → HasReadFirst p y → x.agreed ≡ 1 → y.agreed ≡ 1
+    → x.value ≡ y.value
 
--- of two processes that read each other's verdict, where p stored a commit and saw nothing but commits, q saw a commit or
--- stored one
+-- of two processes that read each other's verdict, where p stored a commit and saw nothing but
+-- commits, q saw a commit or stored one
 abbrev pub MeetsCommit : ℕ → ℕ → ℕ → Mark → Mark → Type 0
-MeetsCommit n p q x y = p < n → q < n → HasReadSecond n q x → HasReadSecond n p y → x.agreed ≡ 1 → x.only ≡ 1 → (0 < y.commit) ⊎ (y.agreed ≡ 1)
+MeetsCommit n p q x y =
+    p < n → q < n → HasReadSecond n q x → HasReadSecond n p y → x.agreed ≡ 1 → x.only ≡ 1
+    → (0 < y.commit) ⊎ (y.agreed ≡ 1)
 
 -- a process that read its own verdict saw what it is
 abbrev pub SeesOwn : ℕ → ℕ → Mark → Type 0
-SeesOwn n p x = p < n → HasReadSecond n p x → (x.agreed ≡ 1 → 0 < x.commit) × (x.agreed ≡ 0 → x.only ≡ 0)
+SeesOwn n p x =
+    p < n → HasReadSecond n p x → (x.agreed ≡ 1 → 0 < x.commit) × (x.agreed ≡ 0 → x.only ≡ 0)
 
 -- what holds of the marks of n processes
 pub record Holds (n : ℕ) (m : ℕ → Mark) : Type 0 where

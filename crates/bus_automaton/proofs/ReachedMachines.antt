@@ -4,12 +4,12 @@ use Rattle.std.proofs.Common.{arith, refl, ◌∙◌, ap, subst}
 use Rattle.bus_core.specs.Senders.{Sender, situation}
 use Rattle.bus_core.specs.Table.{line_now}
 use Rattle.bus_machine.proofs.AtNone.{event_reuse}
-use Rattle.bus_machine.proofs.Bounding.{added, added_is, actions_of_other}
+use Rattle.bus_machine.proofs.EachSender.{added, added_is, actions_of_other}
 use Rattle.bus_machine.proofs.Framed.{framed}
 use Rattle.bus_machine.proofs.Knowing.{its_part}
 use Rattle.bus_machine.proofs.Leading.{Sits, sits_before}
-use Rattle.bus_machine.specs.Machine.{Machine, Trails, Reached, New, Then, Happens, going, has_stopped, found, turn_answer}
-use Rattle.bus_machine.specs.Machine.{trails_grown, turn_grown}
+use Rattle.bus_machine.specs.Machine.{Machine, Trails, Reached, New, Then, Happens, going}
+use Rattle.bus_machine.specs.Machine.{has_stopped, found, turn_answer, trails_grown, turn_grown}
 use Rattle.bus_register.specs.Protocol.{Protocol}
 use Rattle.bus_tenure.specs.Core.{Election, Layout}
 use Rattle.bus_world.specs.Trails.{put_actions, mark_actions}
@@ -18,18 +18,24 @@ use Rattle.bus_world.specs.declared.events.Answer.{Answer}
 use Rattle.bus_world.specs.declared.events.Answer.TheVariants as answer
 use Rattle.bus_world.proofs.Stopping.{shown_there}
 
-module _ {E : Type 0} (X : Election E) (P : Protocol E (Unit {0}) ℕ) (m : Machine E) (T : Trails) (s : Sits X P m) (r : Reached X m T) where
+module _ {E : Type 0} (X : Election E) (P : Protocol E (Unit {0}) ℕ) (m : Machine E) (T : Trails)
+    (s : Sits X P m) (r : Reached X m T) where
   -- who goes on is one of its senders
   sender_below : (p : ℕ) (v : Sender E) → going m p ≡ Some v → p < m.layout.senders
-  sender_below p v goes = (its_part X P m T (framed X P m T s r) p v (shown_there (has_stopped m p) (slice_get m.senders p) v goes)).below
+  sender_below p v goes =
+      (its_part X P m T (framed X P m T s r) p v
+      (shown_there (has_stopped m p) (slice_get m.senders p) v goes)).below
 
   -- an event adds nothing to what somebody else did
-  adds_none : (q : ℕ) → m.layout.senders ≤ q → (e : Event) (a : Answer) (m' : Machine E) → Happens X m e a m'
+  adds_none : (q : ℕ) → m.layout.senders ≤ q → (e : Event) (a : Answer) (m' : Machine E)
+      → Happens X m e a m'
       → (trails_grown X m e a T).actions q ≡ T.actions q
   adds_none q past (Put p bytes) a m' h =
-      actions_of_other p (put_actions bytes a) T.actions q (λ e. let low = sender_below p h.sender h.goes in omega arith)
+      actions_of_other p (put_actions bytes a) T.actions q
+      (λ e. let low = sender_below p h.sender h.goes in omega arith)
   adds_none q past (Ask p mark) a m' h =
-      actions_of_other p (mark_actions a) T.actions q (λ e. let low = sender_below p h.sender h.goes in omega arith)
+      actions_of_other p (mark_actions a) T.actions q
+      (λ e. let low = sender_below p h.sender h.goes in omega arith)
   adds_none q past (Turn p word) a m' h =
       let v = h.sender in
       let l = line_now X v in
@@ -43,7 +49,9 @@ module _ {E : Type 0} (X : Election E) (P : Protocol E (Unit {0}) ℕ) (m : Mach
   adds_none q past (Stop p) a m' h = refl
 
 -- who is none of its senders has done nothing
-pub nobody_did : {E : Type 0} (X : Election E) (P : Protocol E (Unit {0}) ℕ) (m : Machine E) (T : Trails) → Sits X P m → Reached X m T
+pub nobody_did :
+    {E : Type 0} (X : Election E) (P : Protocol E (Unit {0}) ℕ) (m : Machine E) (T : Trails)
+    → Sits X P m → Reached X m T
     → (q : ℕ) → m.layout.senders ≤ q → T.actions q ≡ []
 nobody_did X P m T s (New w new) q past = refl
 nobody_did X P m T s (Then w v U e a r h) q past =

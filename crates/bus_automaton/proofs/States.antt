@@ -1,10 +1,13 @@
--- A bus of either kind of rows is an automaton: its laws, by what every machine keeps that events lead to.
-use Rattle.std.proofs.Common.{◌≡◌, ◌≢◌, ℕ, ◌+◌, ◌*◌, ◌%◌, ◌<◌, ◌≤◌, Bool, true, false, Option, Some, None, is_some, List, [], ◌∷◌, ◌++◌}
-use Rattle.std.proofs.Common.{length, map, slice_get, slice_index, append_assoc, inr, arith, refl, sym, ◌∙◌, ap, subst}
+-- A bus of either kind of rows is an automaton: its laws, by what every machine keeps that events
+-- lead to.
+use Rattle.std.proofs.Common.{◌≡◌, ◌≢◌, ℕ, ◌+◌, ◌*◌, ◌%◌, ◌<◌, ◌≤◌, Bool, true, false, Option}
+use Rattle.std.proofs.Common.{Some, None, is_some, List, [], ◌∷◌, ◌++◌, length, map, slice_get}
+use Rattle.std.proofs.Common.{slice_index, append_assoc, arith, refl, sym, ◌∙◌, ap, subst}
 use Rattle.std.proofs.lemmas.Bool.{true≢false}
 use Rattle.bus_batch.proofs.FrameLaws.{same_frame, same_log}
 use Rattle.bus_batch.specs.Batches.{Pending}
-use Rattle.bus_batch.specs.Frames.{Frame, AreFrames, AreFramesFrom, Order, Spells, frame_words, log_words, order_of}
+use Rattle.bus_batch.specs.Frames.{Frame, AreFrames, AreFramesFrom, Order, Spells, frame_words}
+use Rattle.bus_batch.specs.Frames.{log_words, order_of}
 use Rattle.bus_batch.specs.declared.messages.Item.{Item}
 use Rattle.bus_core.specs.Keeping.{new_reuse}
 use Rattle.bus_core.specs.Senders.{Sender, Validates, situation}
@@ -12,15 +15,16 @@ use Rattle.bus_core.specs.Table.{line_now}
 use Rattle.bus_deliverylog.specs.Orders.{of_sender}
 use Rattle.bus_deliverylog.specs.declared.receiving.RecvTurn.{RecvTurn}
 use Rattle.bus_deliverylog.specs.declared.receiving.RecvTurn.TheVariants as recv
-use Rattle.bus_machine.proofs.Bounding.{counted, validates_of}
+use Rattle.bus_machine.proofs.Entering.{enters}
 use Rattle.bus_machine.proofs.Framed.{IsFramed, framed, log_framed}
+use Rattle.bus_machine.proofs.History.{history}
 use Rattle.bus_machine.proofs.Growing.{grows}
 use Rattle.bus_machine.proofs.Knowing.{its_part}
 use Rattle.bus_machine.proofs.Leading.{Sits}
 use Rattle.bus_machine.proofs.Promised.{promised}
 use Rattle.bus_machine.proofs.Holding.{sums_fit}
 use Rattle.bus_machine.proofs.Joining.{log_behind}
-use Rattle.bus_machine.specs.Machine.{Machine, Trails, base_of, turn_answer}
+use Rattle.bus_machine.specs.Machine.{Machine, Trails, base_of, log_place, turn_answer}
 use Rattle.bus_machine.specs.Promise.{HasRows, IsPagedBy, IsPromised}
 use Rattle.bus_machine.specs.Remembering.{rows_in}
 use Rattle.bus_register.specs.Protocol.{Protocol}
@@ -28,7 +32,7 @@ use Rattle.bus_register.specs.Words.{register}
 use Rattle.bus_register.specs.declared.registers.Op.{Op}
 use Rattle.bus_register.specs.declared.registers.SenderNo.{SenderNo}
 use Rattle.bus_tenure.specs.Core.{Core, Election, Layout, log_at}
-use Rattle.bus_tenure.specs.Situations.{Comes, situation_of}
+use Rattle.bus_tenure.specs.Situations.{Comes}
 use Rattle.bus_tenure.specs.declared.pages.Page.{Page}
 use Rattle.bus_tenure.specs.declared.phases.Phase.{Phase}
 use Rattle.bus_tenure.specs.declared.phases.Phase.TheVariants as phase
@@ -43,7 +47,8 @@ use Rattle.bus_world.specs.Proved.Tenures.Stage.{Open, Held}
 use Rattle.bus_world.specs.Waiting.{waiting_at}
 use Rattle.bus_world.specs.declared.events.Answer.TheVariants as answer
 use Rattle.bus_automaton.proofs.Counting.{first_below}
-use Rattle.bus_automaton.proofs.Leading.{takes_message, takes_mark, takes_turn, next, next_reached, takes_step}
+use Rattle.bus_automaton.proofs.Leading.{takes_message, takes_mark, takes_turn, next, next_reached}
+use Rattle.bus_automaton.proofs.Leading.{takes_step}
 use Rattle.bus_automaton.proofs.ReachedMachines.{nobody_did}
 use Rattle.bus_automaton.proofs.Turns.{queue_is, messages_are, comes, ends}
 use Rattle.bus_automaton.specs.Lawful.{AutomatonLaws, IsSender, StepsIn, HasLog, IsPromisedOf}
@@ -53,18 +58,22 @@ use Rattle.bus_automaton.specs.Processes.{TableLayout, IsCounted, log_below}
 
 -- ---- frames
 -- frames whose words begin those of others begin them
-frames_begin : (senders least least' : ℕ) (fs gs : List Frame) (rest : List ℕ) → AreFramesFrom senders least fs
-    → AreFramesFrom senders least' gs → log_words fs ++ rest ≡ log_words gs → (more : List Frame) × (gs ≡ fs ++ more)
+frames_begin : (senders least least' : ℕ) (fs gs : List Frame) (rest : List ℕ)
+    → AreFramesFrom senders least fs
+    → AreFramesFrom senders least' gs → log_words fs ++ rest ≡ log_words gs
+    → (more : List Frame) × (gs ≡ fs ++ more)
 frames_begin senders least least' [] gs rest lawful lawful' e = (gs, refl)
 frames_begin senders least least' (f ∷ fs) [] rest lawful lawful' e = absurd cc
 frames_begin senders least least' (f ∷ fs) (g ∷ gs) rest lawful lawful' e =
     let s = same_frame senders f g (log_words fs ++ rest) (log_words gs) lawful.0 lawful'.0
     (sym (append_assoc (frame_words f) (log_words fs) rest) ∙ e) in
-    let later = frames_begin senders (f.tenure + 1) (g.tenure + 1) fs gs rest lawful.3 lawful'.3 s.1 in
+    let later =
+    frames_begin senders (f.tenure + 1) (g.tenure + 1) fs gs rest lawful.3 lawful'.3 s.1 in
     (later.0, λ i. sym s.0 i ∷ later.1 i)
 
 -- between turns no page is under way
-not_taken : {E : Type 0} (base words : ℕ → ℕ) (frames : List Frame) (c : Core E) (ph : Phase E) → Fits base words frames c ph
+not_taken : {E : Type 0} (base words : ℕ → ℕ) (frames : List Frame) (c : Core E) (ph : Phase E)
+    → Fits base words frames c ph
     → is_taken ph ≡ false
 not_taken base words frames c (phase.Taken t) f = absurd f
 not_taken base words frames c ph f = refl
@@ -72,11 +81,14 @@ not_taken base words frames c ph f = refl
 -- where the stage is odd the page is out, and else at home
 home_tells : (stage len : ℕ) (ended : Bool) (home : Option Page) → IsPagedBy stage len ended home
     → ((stage % 2 ≢ 1) → is_some home ≡ true) × ((stage % 2 ≡ 1) → is_some home ≡ false)
-home_tells stage len ended None w = let is = w.1 in (λ even. absurd (even (omega arith)), λ odd. refl)
-home_tells stage len ended (Some page) w = let is = w.0 in (λ even. refl, λ odd. absurd (omega arith))
+home_tells stage len ended None w =
+    let is = w.1 in (λ even. absurd (even (omega arith)), λ odd. refl)
+home_tells stage len ended (Some page) w =
+    let is = w.0 in (λ even. refl, λ odd. absurd (omega arith))
 
 -- the page of promises, of receivers that were answered nothing
-silent_page : {base : ℕ → ℕ} (actions : ℕ → List Action) (heard : ℕ → List RecvTurn) (order : Order) (owners : List (ℕ × SenderNo))
+silent_page : {base : ℕ → ℕ} (actions : ℕ → List Action) (heard : ℕ → List RecvTurn) (order : Order)
+    (owners : List (ℕ × SenderNo))
     → Promises base actions heard order owners → Promises base actions no_answers order owners
 silent_page actions heard order owners q = record {
   one_owner = q.one_owner;
@@ -85,11 +97,16 @@ silent_page actions heard order owners q = record {
   took_once = q.took_once;
   owned = q.owned;
   rising = q.rising;
-  delivered = λ n. record { later = order.entries; entries = refl; ended = λ e. absurd (let bad : false ≡ true = e in cc) };
+  delivered = λ n. record {
+    later = order.entries;
+    entries = refl;
+    ended = λ e. absurd (let bad : false ≡ true = e in cc);
+  };
   told = λ n. record { rest = owners; together = refl };
   faithful = q.faithful;
   numbered = q.numbered;
-  silent = λ n j k a at l here. absurd (let bad : None ≡ Some recv.End = at in let wrong : ⊥ = cc in wrong);
+  silent = λ n j k a at l here.
+      absurd (let bad : None ≡ Some recv.End = at in let wrong : ⊥ = cc in wrong);
   closed = q.closed;
   gone = q.gone;
   asked = q.asked;
@@ -103,7 +120,8 @@ new_rows None = refl
 new_rows (Some rows) = refl
 
 -- ---- of a state that is reached
-module _ {E : Type 0} (X : Election E) (P : Protocol E (Unit {0}) ℕ) (x : Layout) (y : Serves X P x) (reuse : Option ℕ) (bases : List ℕ)
+module _ {E : Type 0} (X : Election E) (P : Protocol E (Unit {0}) ℕ) (x : Layout) (y : Serves X P x)
+    (reuse : Option ℕ) (bases : List ℕ)
     (z : MachineHistory E) (h : IsMachineHistory X x reuse bases z) where
   abbrev m : Machine E
   m = z.machine
@@ -137,16 +155,18 @@ module _ {E : Type 0} (X : Election E) (P : Protocol E (Unit {0}) ℕ) (x : Layo
 
   -- who is none of its senders has done nothing
   nobody : (q : ℕ) → x.senders ≤ q → T.actions q ≡ []
-  nobody q past = nobody_did X P m T sits h.reached q (subst (λ (l : Layout). l.senders ≤ q) (sym h.layout) past)
+  nobody q past = nobody_did X P m T sits h.reached q
+      (subst (λ (l : Layout). l.senders ≤ q) (sym h.layout) past)
 
   -- ---- the log
   -- the words of the log are those of its frames ..
-  log_is : log_words framing.frames ≡ log_below (table_layout_by x reuse) m.words
-  log_is = sym (log_framed P m T framing) ∙ ap (λ t. log_below t m.words) sizes_are
+  log_is : log_words framing.frames ≡ T.log
+  log_is = sym (log_framed P m T framing) ∙ history X P m T sits h.reached
 
   -- .. which are lawful ..
   lawful : AreFrames x.senders framing.frames
-  lawful = subst (λ (l : Layout). AreFrames l.senders framing.frames) h.layout framing.sending.log.lawful
+  lawful =
+      subst (λ (l : Layout). AreFrames l.senders framing.frames) h.layout framing.sending.log.lawful
 
   -- .. and fit
   has_log : HasLog (bus_of X x reuse bases) z
@@ -156,27 +176,39 @@ module _ {E : Type 0} (X : Election E) (P : Protocol E (Unit {0}) ℕ) (x : Layo
     words_are = log_is;
     fits = subst (λ (l : Layout). slice_index m.words 0 ≤ l.capacity) h.layout
         (let same = framing.length in let fits = framing.sending.log.fits in omega arith);
+    stands = ap (λ t. log_below t m.words) (sym sizes_are) ∙ history X P m T sits h.reached;
   }
 
+  -- the length says how many words were published
+  long : length T.log ≡ slice_index m.words 0
+  long =
+      sym (ap length (history X P m T sits h.reached))
+      ∙ length-read (slice_index m.words) (log_place m.layout m.reuse) (slice_index m.words 0)
+
   -- any frames of its log are those that it keeps
-  same_frames : (frames : List Frame) → AreFrames x.senders frames → log_words frames ≡ log_below (table_layout_by x reuse) m.words
+  same_frames : (frames : List Frame) → AreFrames x.senders frames → log_words frames ≡ T.log
       → framing.frames ≡ frames
-  same_frames frames law words = same_log x.senders 0 0 framing.frames frames lawful law (log_is ∙ sym words)
+  same_frames frames law words =
+      same_log x.senders 0 0 framing.frames frames lawful law (log_is ∙ sym words)
 
   -- ---- the page
   -- by the stage it is known whether it is at home
-  at_home : ((slice_index m.words 1 % 2 ≢ 1) → is_some m.home ≡ true) × ((slice_index m.words 1 % 2 ≡ 1) → is_some m.home ≡ false)
-  at_home = home_tells (slice_index m.words 1) (slice_index m.words 0) promise.order.ended m.home promise.by.paged
+  at_home : ((slice_index m.words 1 % 2 ≢ 1) → is_some m.home ≡ true)
+      × ((slice_index m.words 1 % 2 ≡ 1) → is_some m.home ≡ false)
+  at_home = home_tells (slice_index m.words 1) (slice_index m.words 0) promise.order.ended m.home
+      promise.by.paged
 
   -- it is at home only while a tenure is open, and then it knows the frames
   page_knows : (page : Page) (frames : List Frame) → m.home ≡ Some page → AreFrames x.senders frames
-      → log_words frames ≡ log_below (table_layout_by x reuse) m.words
-      → (past : ℕ) × (slice_index m.words 1 ≡ 2 * past) × Knows (slice_index bases) page frames past (slice_index m.words 0)
+      → log_words frames ≡ T.log
+      → (past : ℕ) × (slice_index m.words 1 ≡ 2 * past)
+      × Knows (slice_index bases) page frames past (slice_index m.words 0)
   page_knows page frames home law words = elim framing.sending.tenures.stage_is [
     | Open stage here many ↦ (
       framing.sending.tenures.ended,
       framing.stage ∙ stage,
-      subst (λ (u : List ℕ × List Frame × ℕ). Knows (slice_index u.0) page u.1 framing.sending.tenures.ended u.2)
+      subst (λ (u : List ℕ × List Frame × ℕ).
+          Knows (slice_index u.0) page u.1 framing.sending.tenures.ended u.2)
           (λ n. (h.bases_are n, same_frames frames law words n, sym framing.length n))
           (framing.sending.page_knows page framing.sending.tenures.ended home stage).0,
     )
@@ -189,8 +221,10 @@ module _ {E : Type 0} (X : Election E) (P : Protocol E (Unit {0}) ℕ) (x : Layo
     order = promise.order;
     owners = promise.owners;
     spelled = subst (λ (u : ℕ × List ℕ). Spells u.0 u.1 promise.order promise.owners)
-        (λ n. ((h.layout n).senders, log_below (sizes_are n) m.words)) promise.by.spelled;
-    promises = subst (λ (l : List ℕ). Promises (slice_index l) T.actions no_answers promise.order promise.owners) h.bases_are
+        (λ n. ((h.layout n).senders, T.log)) promise.by.spelled;
+    promises = subst
+        (λ (l : List ℕ). Promises (slice_index l) T.actions no_answers promise.order promise.owners)
+        h.bases_are
         (silent_page T.actions T.heard promise.order promise.owners promise.by.promises);
   }
 
@@ -210,7 +244,8 @@ module _ {E : Type 0} (X : Election E) (P : Protocol E (Unit {0}) ℕ) (x : Layo
         let log = framing.sending.log in
         let size : length (log_words framing.frames) ≡ framing.V 0 =
         sym (ap length log.words_are) ∙ length-read framing.V (log_at m.layout) (framing.V 0) in
-        let first = first_below (base_of m) m.layout.senders framing.V framing.frames log.lawful v.core v.core.phase part.fits in
+        let first = first_below (base_of m) m.layout.senders framing.V framing.frames log.lawful
+        v.core v.core.phase part.fits in
         let low = log.low v.core.me in
         let short = log.fits in
         let most = sits.ok.capacity in
@@ -224,42 +259,52 @@ module _ {E : Type 0} (X : Election E) (P : Protocol E (Unit {0}) ℕ) (x : Layo
     is_sender = record {
       me = part.me;
       below = subst (λ (l : Layout). p < l.senders) h.layout part.below;
-      table_layout = λ n. table_layout_by ((part.layout ∙ h.layout) n) ((framing.rows p v at ∙ h.rows_are) n);
+      table_layout =
+          λ n. table_layout_by ((part.layout ∙ h.layout) n) ((framing.rows p v at ∙ h.rows_are) n);
       counted = in_range;
       laid = laid;
     }
 
     -- the log has of it what it put, but for what waits
-    sent : (frames : List Frame) → AreFrames x.senders frames → log_words frames ≡ log_below (table_layout_by x reuse) m.words
-        → map (λ (i : Item). i.message) (of_sender p (order_of frames)) ++ waiting_at v.core v.core.phase ≡ puts (T.actions p)
+    sent : (frames : List Frame) → AreFrames x.senders frames → log_words frames ≡ T.log
+        → map (λ (i : Item). i.message) (of_sender p (order_of frames))
+        ++ waiting_at v.core v.core.phase ≡ puts (T.actions p)
     sent frames law words =
-        ap (λ fs. map (λ (i : Item). i.message) (of_sender p (order_of fs)) ++ waiting_at v.core v.core.phase)
+        ap (λ fs.
+        map (λ (i : Item). i.message) (of_sender p (order_of fs)) ++ waiting_at v.core v.core.phase)
         (sym (same_frames frames law words)) ∙ sym (framing.puts p v at)
 
     -- it rests while it looks at the stage again
     rests : (t : ℕ) → situation X v ≡ Validates t → v.core.phase ≡ phase.Resting
-    rests t i =
-        (((counted X P m T sits h.reached).each p v at).entering t (inr (validates_of v.reuse (situation_of X v.core) t i))).1
+    rests t i = (enters X P m T sits h.reached p v at t i).0
 
     module _ (word : ℕ) (o : Op) (due : (line_now X v).op word ≡ Some o) where
       -- who takes the page finds it at home
       finds_home : (t : ℕ) → (line_now X v).move ≡ Comes t → is_some m.home ≡ true
-      finds_home t is = ap is_some (promise.by.finds p v t at (comes X v (situation X v) word o t due is)).home
+      finds_home t is =
+          ap is_some (promise.by.finds p v t at (comes X v (situation X v) word o t due is)).home
 
 -- a step leads on, and the log goes on with it
-steps_in : {E : Type 0} (X : Election E) (P : Protocol E (Unit {0}) ℕ) (x : Layout) (y : Serves X P x) (reuse : Option ℕ) (bases : List ℕ)
-    (z : MachineHistory E) (h : IsMachineHistory X x reuse bases z) (p : ℕ) (v : Sender E) (at : slice_get z.machine.senders p ≡ Some v)
-    (word : ℕ) (o : Op) (due : (line_now X v).op word ≡ Some o) → register o < length z.machine.words
+steps_in : {E : Type 0} (X : Election E) (P : Protocol E (Unit {0}) ℕ) (x : Layout)
+    (y : Serves X P x) (reuse : Option ℕ) (bases : List ℕ)
+    (z : MachineHistory E) (h : IsMachineHistory X x reuse bases z) (p : ℕ) (v : Sender E)
+    (at : slice_get z.machine.senders p ≡ Some v)
+    (word : ℕ) (o : Op) (due : (line_now X v).op word ≡ Some o)
+    → register o < length z.machine.words
     → StepsIn (process_of X) (bus_of X x reuse bases) z p v word o
 steps_in X P x y reuse bases z h p v at word o due low =
     let z' = next X x reuse bases z h p v at word o due low in
     let h' = next_reached X x reuse bases z h p v at word o due low in
     let g = framing X P x y reuse bases z h in
     let g' = framing X P x y reuse bases z' h' in
-    let on = grows X P z.machine z'.machine z.trails (Turn p word) (answer.Turn (turn_answer z.machine (line_now X v) word))
-    (sits X P x y reuse bases z h) h.reached (takes_turn X x reuse bases z h p v at word o due low) in
-    let more = frames_begin z.machine.layout.senders 0 0 g.frames g'.frames on.rest g.sending.log.lawful g'.sending.log.lawful
-    (ap (λ l. l ++ on.rest) (sym (log_framed P z.machine z.trails g)) ∙ on.together ∙ log_framed P z'.machine z'.trails g') in
+    let on = grows X P z.machine z'.machine z.trails (Turn p word)
+    (answer.Turn (turn_answer z.machine (line_now X v) word))
+    (sits X P x y reuse bases z h) h.reached
+    (takes_turn X x reuse bases z h p v at word o due low) in
+    let more = frames_begin z.machine.layout.senders 0 0 g.frames g'.frames on.rest
+    g.sending.log.lawful g'.sending.log.lawful
+    (ap (λ l. l ++ on.rest) (sym (log_framed P z.machine z.trails g)) ∙ on.together
+    ∙ log_framed P z'.machine z'.trails g') in
     takes_step X x reuse bases z h p v at word o due low record {
       frames = g.frames;
       more = more.0;
@@ -267,10 +312,13 @@ steps_in X P x y reuse bases z h p v at word o due low =
       lawful_now = subst (AreFrames x.senders) more.1 (lawful X P x y reuse bases z' h');
       words_are = log_is X P x y reuse bases z h;
       words_now = sym (ap log_words more.1) ∙ log_is X P x y reuse bases z' h';
+      long = long X P x y reuse bases z h;
+      long_now = long X P x y reuse bases z' h';
     }
 
 -- what a bus of either kind of rows owes threads
-pub automaton_laws : {E : Type 0} (X : Election E) (P : Protocol E (Unit {0}) ℕ) (x : Layout) → Serves X P x → (reuse : Option ℕ)
+pub automaton_laws : {E : Type 0} (X : Election E) (P : Protocol E (Unit {0}) ℕ) (x : Layout)
+    → Serves X P x → (reuse : Option ℕ)
     (bases : List ℕ) → AutomatonLaws (process_of X) (bus_of X x reuse bases)
 automaton_laws X P x y reuse bases = record {
   room = omega arith;
@@ -285,14 +333,19 @@ automaton_laws X P x y reuse bases = record {
   message = λ z p v bytes h at can small. takes_message X x reuse bases z h p v at bytes can small;
   marked = λ z p v mark h at can. takes_mark X x reuse bases z h p v at mark can;
   step = λ z p v word o h at due low.
-      steps_in X P x y reuse bases z h p v at word o due (subst (λ n. register o < n) (sym (wide X P x y reuse bases z h)) low);
-  ends = λ z p v word o h at due home got. ends X v (laid X P x y reuse bases z h p v at) (rests X P x y reuse bases z h p v at)
+      steps_in X P x y reuse bases z h p v at word o due
+      (subst (λ n. register o < n) (sym (wide X P x y reuse bases z h)) low);
+  ends = λ z p v word o h at due home got.
+      ends X v (laid X P x y reuse bases z h p v at) (rests X P x y reuse bases z h p v at)
       (situation X v) refl word o due home got;
-  fits = λ z p v word o h at due. sums_fit X P z.machine z.trails (sits X P x y reuse bases z h).serves (framing X P x y reuse bases z h) p v at word o due;
-  finds_home = λ z p v word o t h at due is. finds_home X P x y reuse bases z h p v at word o due t is;
+  fits = λ z p v word o h at due. sums_fit X P z.machine z.trails
+      (sits X P x y reuse bases z h).serves (framing X P x y reuse bases z h) p v at word o due;
+  finds_home =
+      λ z p v word o t h at due is. finds_home X P x y reuse bases z h p v at word o due t is;
   even_at_home = λ z h even. (at_home X P x y reuse bases z h).0 even;
   odd_away = λ z h odd. (at_home X P x y reuse bases z h).1 odd;
-  page_knows = λ z page frames h home law words. page_knows X P x y reuse bases z h page frames home law words;
+  page_knows = λ z page frames h home law words.
+      page_knows X P x y reuse bases z h page frames home law words;
   log = λ z h. has_log X P x y reuse bases z h;
   sent = λ z p v frames h at law words. sent X P x y reuse bases z h p v at frames law words;
   promised = λ z h. promised_of X P x y reuse bases z h;

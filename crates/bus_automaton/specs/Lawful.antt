@@ -1,5 +1,7 @@
 -- What processes and automata owe, so that threads may go by them.
-use Rattle.std.specs.Prelude.{◌≡◌, ◌≢◌, ◌⊎◌, ℕ, ◌+◌, ◌*◌, ◌%◌, ◌<◌, ◌≤◌, true, false, Option, Some, is_some, List, [], ◌∷◌, ◌++◌, All, length, map, replicate, slice_index}
+use Rattle.std.specs.Prelude.{◌≡◌, ◌≢◌, ◌⊎◌, ℕ, ◌+◌, ◌*◌, ◌%◌, ◌<◌, ◌≤◌, true, false, Option, Some}
+use Rattle.std.specs.Prelude.{is_some, List, [], ◌∷◌, ◌++◌, All, length, map, replicate}
+use Rattle.std.specs.Prelude.{slice_index}
 use Rattle.bus_register.specs.declared.kinds.Kind.{Kind}
 use Rattle.bus_register.specs.declared.registers.Op.{Op}
 use Rattle.bus_register.specs.declared.registers.Op.TheVariants.{Store}
@@ -20,9 +22,11 @@ use Rattle.bus_world.specs.Log.{Knows}
 use Rattle.bus_world.specs.Trails.{no_answers}
 use Rattle.bus_world.specs.Turning.{words_after, home_moved}
 use Rattle.bus_world.specs.World.{first_page}
-use Rattle.bus_automaton.specs.Processes.{Process, Automaton, IsCounted, base_in, actions_at, log_in, EndsBy}
-use Rattle.bus_automaton.specs.LastAnswers.{is_refusal, is_last}
-use Rattle.bus_automaton.specs.SenderTrails.{SenderTrail, new_sender_trail, with_actions, with_sender_trail}
+use Rattle.bus_automaton.specs.Processes.{Process, Automaton, IsCounted, base_in, actions_at}
+use Rattle.bus_automaton.specs.Processes.{log_below, log_in, EndsBy}
+use Rattle.bus_tenure.specs.Classes.{is_refusal, is_last}
+use Rattle.bus_automaton.specs.SenderTrails.{SenderTrail, new_sender_trail, with_actions}
+use Rattle.bus_automaton.specs.SenderTrails.{with_sender_trail}
 
 -- ---- a process
 -- what it accepts between its steps leaves the rest as it is
@@ -33,7 +37,8 @@ pub record Keeps {C : Type 0} (P : Process C) (c d : C) : Type 0 where
   pub awaits : P.awaits d ≡ P.awaits c
 
 -- these actions are one step, for this, that found this number and was answered so
-pub record IsOneStep (due : Option Kind) (got : ℕ) (answer : Turn) (actions : List Action) : Type 0 where
+pub record IsOneStep (due : Option Kind) (got : ℕ) (answer : Turn) (actions : List Action) :
+    Type 0 where
   pub tenure : Option ℕ
   pub kind : Kind
   pub chose : Option ℕ
@@ -43,25 +48,40 @@ pub record IsOneStep (due : Option Kind) (got : ℕ) (answer : Turn) (actions : 
 pub record ProcessLaws {C : Type 0} (P : Process C) : Type 0 where
   -- a bus has a word for its length, and one for its stage; and a step changes no bus's size
   pub some_words : (c : C) → 2 ≤ (P.table_layout c).words
-  pub same_table_layout : (c : C) (home : Option Page) (got word : ℕ) → P.table_layout (P.after c home got word) ≡ P.table_layout c
+  pub same_table_layout : (c : C) (home : Option Page) (got word : ℕ)
+      → P.table_layout (P.after c home got word) ≡ P.table_layout c
   -- a kind is named exactly where a step is due, whatever the random word
   pub named : (c : C) (word : ℕ) → is_some (P.kind c) ≡ is_some (P.op c word)
   -- a store does not look at what it found
-  pub blind : (c : C) (word r v : ℕ) → P.op c word ≡ Some (Store record { 0 = r } v) → (got got' : ℕ) (home : Option Page) → P.after c home got word ≡ P.after c home got' word
-  pub mute : (c : C) (word r v : ℕ) → P.op c word ≡ Some (Store record { 0 = r } v) → (got got' : ℕ) → P.answer c got word ≡ P.answer c got' word
-  -- its messages wait as before, or none does any more; and a last answer after which some wait is a refusal
-  pub leaves : (c : C) (home : Option Page) (got word : ℕ) → ((P.queue (P.after c home got word)).messages ≡ (P.queue c).messages) ⊎ ((P.queue (P.after c home got word)).messages ≡ [])
-  pub refuses : (c : C) (word : ℕ) (o : Op) → P.op c word ≡ Some o → (home : Option Page) (got : ℕ) → is_last (P.answer c got word) ≡ true → 0 < length (P.queue (P.after c home got word)).messages → is_refusal (P.answer c got word) ≡ true
-  pub refuses_at_rest : (c : C) → is_last (P.rest c) ≡ true → 0 < length (P.queue c).messages → is_refusal (P.rest c) ≡ true
+  pub blind : (c : C) (word r v : ℕ) → P.op c word ≡ Some (Store record { 0 = r } v)
+      → (got got' : ℕ) (home : Option Page) → P.after c home got word ≡ P.after c home got' word
+  pub mute : (c : C) (word r v : ℕ) → P.op c word ≡ Some (Store record { 0 = r } v) → (got got' : ℕ)
+      → P.answer c got word ≡ P.answer c got' word
+  -- its messages wait as before, or none does any more; and a last answer after which some wait is
+  -- a refusal
+  pub leaves : (c : C) (home : Option Page) (got word : ℕ)
+      → ((P.queue (P.after c home got word)).messages ≡ (P.queue c).messages)
+      ⊎ ((P.queue (P.after c home got word)).messages ≡ [])
+  pub refuses : (c : C) (word : ℕ) (o : Op) → P.op c word ≡ Some o → (home : Option Page) (got : ℕ)
+      → is_last (P.answer c got word) ≡ true
+      → 0 < length (P.queue (P.after c home got word)).messages
+      → is_refusal (P.answer c got word) ≡ true
+  pub refuses_at_rest : (c : C) → is_last (P.rest c) ≡ true → 0 < length (P.queue c).messages
+      → is_refusal (P.rest c) ≡ true
   -- of a sender with nothing in its batch nothing waits
   pub none_hidden : (c : C) → (P.queue c).messages ≡ [] → P.waiting c ≡ []
   -- a step is one action at most: what it was for, what it found and what it answered
-  pub one_action : (c : C) (got word : ℕ) → ((P.adds c got word).actions ≡ []) ⊎ IsOneStep (P.kind c) got (P.answer c got word) (P.adds c got word).actions
+  pub one_action : (c : C) (got word : ℕ)
+      → ((P.adds c got word).actions ≡ [])
+      ⊎ IsOneStep (P.kind c) got (P.answer c got word) (P.adds c got word).actions
   -- what it accepts joins its batch
   pub message : (c : C) (bytes : List ℕ) → Keeps P c (P.with_message c bytes)
-  pub message_waits : (c : C) (bytes : List ℕ) → P.queue (P.with_message c bytes) ≡ record (P.queue c) { messages = (P.queue c).messages ++ bytes ∷ [] }
+  pub message_waits : (c : C) (bytes : List ℕ)
+      → P.queue (P.with_message c bytes)
+      ≡ record (P.queue c) { messages = (P.queue c).messages ++ bytes ∷ [] }
   pub marked : (c : C) (mark : Mark) → Keeps P c (P.with_mark c mark)
-  pub mark_waits : (c : C) (mark : Mark) → P.queue (P.with_mark c mark) ≡ record (P.queue c) { phase = Marking mark }
+  pub mark_waits : (c : C) (mark : Mark)
+      → P.queue (P.with_mark c mark) ≡ record (P.queue c) { phase = Marking mark }
   -- with the page out of its hands its turn is the same ..
   pub handed_op : (c : C) (word : ℕ) → P.op (P.handed c) word ≡ P.op c word
   pub handed_answer : (c : C) (got word : ℕ) → P.answer (P.handed c) got word ≡ P.answer c got word
@@ -80,19 +100,22 @@ pub record IsSender {C : Type 0} (P : Process C) (A : Automaton C) (p : ℕ) (c 
   pub laid : P.awaits c ≡ false
 
 -- from one state to another sender p alone has changed, and has done all this by then
-pub record ChangesTo {C : Type 0} (A : Automaton C) (z : A.State) (p : ℕ) (d : C) (all : SenderTrail) (z' : A.State) : Type 0 where
+pub record ChangesTo {C : Type 0} (A : Automaton C) (z : A.State) (p : ℕ) (d : C)
+    (all : SenderTrail) (z' : A.State) : Type 0 where
   pub reached : A.IsReached z'
   pub here : A.sender z' p ≡ Some d
   pub others : (q : ℕ) → q ≢ p → A.sender z' q ≡ A.sender z q
   pub sender_trail : A.sender_trail z' p ≡ all
   pub nothing_else : (q : ℕ) → q ≢ p → A.sender_trail z' q ≡ A.sender_trail z q
 
--- it has accepted something: no word has changed
-pub record AcceptsIn {C : Type 0} (A : Automaton C) (z : A.State) (p : ℕ) (d : C) (more : List Action) : Type 0 where
+-- it has accepted something: no word has changed, and nothing was published
+pub record AcceptsIn {C : Type 0} (A : Automaton C) (z : A.State) (p : ℕ) (d : C)
+    (more : List Action) : Type 0 where
   pub state : A.State
   pub changes : ChangesTo A z p d (with_actions (A.sender_trail z p) more) state
   pub words : A.words state ≡ A.words z
   pub home : A.home state ≡ A.home z
+  pub log : A.log state ≡ A.log z
 
 -- the frames of the log, and those that it has become
 pub record LogGrows {C : Type 0} (A : Automaton C) (z z' : A.State) : Type 0 where
@@ -102,21 +125,28 @@ pub record LogGrows {C : Type 0} (A : Automaton C) (z z' : A.State) : Type 0 whe
   pub lawful_now : AreFrames A.table_layout.senders (frames ++ more)
   pub words_are : log_words frames ≡ log_in A z
   pub words_now : log_words (frames ++ more) ≡ log_in A z'
+  -- the length says how many words were published
+  pub long : length (log_in A z) ≡ slice_index (A.words z) 0
+  pub long_now : length (log_in A z') ≡ slice_index (A.words z') 0
 
 -- it has taken a step: its word has changed, and the page may have moved
-pub record StepsIn {C : Type 0} (P : Process C) (A : Automaton C) (z : A.State) (p : ℕ) (d : C) (word : ℕ) (o : Op) : Type 0 where
+pub record StepsIn {C : Type 0} (P : Process C) (A : Automaton C) (z : A.State) (p : ℕ) (d : C)
+    (word : ℕ) (o : Op) : Type 0 where
   pub state : A.State
-  pub changes : ChangesTo A z p (P.after d (A.home z) (slice_index (A.words z) (register o)) word) (with_sender_trail (A.sender_trail z p) (P.adds d (slice_index (A.words z) (register o)) word)) state
+  pub changes : ChangesTo A z p (P.after d (A.home z) (slice_index (A.words z) (register o)) word)
+      (with_sender_trail (A.sender_trail z p)
+      (P.adds d (slice_index (A.words z) (register o)) word)) state
   pub words : A.words state ≡ words_after (A.words z) (Some o)
   pub home : A.home state ≡ home_moved (P.move d) (A.home z)
   pub grows : LogGrows A z state
 
--- the words of the log, below the length
+-- all that was published: some frames, which stand in the words below the length
 pub record HasLog {C : Type 0} (A : Automaton C) (z : A.State) : Type 0 where
   pub frames : List Frame
   pub lawful : AreFrames A.table_layout.senders frames
   pub words_are : log_words frames ≡ log_in A z
   pub fits : slice_index (A.words z) 0 ≤ A.table_layout.capacity
+  pub stands : log_below A.table_layout (A.words z) ≡ log_in A z
 
 -- the headline's page holds of what its senders did, of receivers that were answered nothing
 pub record IsPromisedOf {C : Type 0} (A : Automaton C) (z : A.State) : Type 0 where
@@ -134,32 +164,55 @@ pub record AutomatonLaws {C : Type 0} (P : Process C) (A : Automaton C) : Type 0
   pub started_away : (p : ℕ) → P.holds (A.started p) ≡ false
   pub started_laid : (p : ℕ) → P.awaits (A.started p) ≡ false
   pub wide : (z : A.State) → A.IsReached z → length (A.words z) ≡ A.table_layout.words
-  pub senders : (z : A.State) (p : ℕ) (c : C) → A.IsReached z → A.sender z p ≡ Some c → IsSender P A p c
-  pub nobody : (z : A.State) (q : ℕ) → A.IsReached z → A.table_layout.senders ≤ q → actions_at A z q ≡ []
+  pub senders : (z : A.State) (p : ℕ) (c : C) → A.IsReached z → A.sender z p ≡ Some c
+      → IsSender P A p c
+  pub nobody : (z : A.State) (q : ℕ) → A.IsReached z → A.table_layout.senders ≤ q
+      → actions_at A z q ≡ []
   -- what may happen leads on
-  pub message : (z : A.State) (p : ℕ) (c : C) (bytes : List ℕ) → A.IsReached z → A.sender z p ≡ Some c → CanPut (P.queue c) (length bytes) → All (λ byte. byte < 256) bytes → AcceptsIn A z p (P.with_message c bytes) (HasPut (next_of (P.queue c)) bytes ∷ [])
-  pub marked : (z : A.State) (p : ℕ) (c : C) (mark : Mark) → A.IsReached z → A.sender z p ≡ Some c → CanClose (P.queue c)
+  pub message : (z : A.State) (p : ℕ) (c : C) (bytes : List ℕ) → A.IsReached z
+      → A.sender z p ≡ Some c → CanPut (P.queue c) (length bytes) → All (λ byte. byte < 256) bytes
+      → AcceptsIn A z p (P.with_message c bytes) (HasPut (next_of (P.queue c)) bytes ∷ [])
+  pub marked : (z : A.State) (p : ℕ) (c : C) (mark : Mark) → A.IsReached z → A.sender z p ≡ Some c
+      → CanClose (P.queue c)
       → AcceptsIn A z p (P.with_mark c mark) (HasMarked mark ∷ [])
-  pub step : (z : A.State) (p : ℕ) (c : C) (word : ℕ) (o : Op) → A.IsReached z → A.sender z p ≡ Some c → P.op c word ≡ Some o → register o < A.table_layout.words → StepsIn P A z p c word o
+  pub step : (z : A.State) (p : ℕ) (c : C) (word : ℕ) (o : Op) → A.IsReached z
+      → A.sender z p ≡ Some c → P.op c word ≡ Some o → register o < A.table_layout.words
+      → StepsIn P A z p c word o
   -- the parts of a turn are the whole turn
-  pub ends : (z : A.State) (p : ℕ) (c : C) (word : ℕ) (o : Op) → A.IsReached z → A.sender z p ≡ Some c → P.op c word ≡ Some o → (home : Option Page) (got : ℕ) → EndsBy P c (P.fed c got word) (P.after c home got word) home (P.move c)
+  pub ends : (z : A.State) (p : ℕ) (c : C) (word : ℕ) (o : Op) → A.IsReached z
+      → A.sender z p ≡ Some c → P.op c word ≡ Some o → (home : Option Page) (got : ℕ)
+      → EndsBy P c (P.fed c got word) (P.after c home got word) home (P.move c)
   -- what a step adds to stays in range
-  pub fits : (z : A.State) (p : ℕ) (c : C) (word : ℕ) (o : Op) → A.IsReached z → A.sender z p ≡ Some c → P.op c word ≡ Some o → SumFits o (slice_index (A.words z) (register o))
-  -- the page is at home where it is taken; the stage is even just where it is at home; and there it knows the log
-  pub finds_home : (z : A.State) (p : ℕ) (c : C) (word : ℕ) (o : Op) (t : ℕ) → A.IsReached z → A.sender z p ≡ Some c → P.op c word ≡ Some o → P.move c ≡ Comes t → is_some (A.home z) ≡ true
-  pub even_at_home : (z : A.State) → A.IsReached z → slice_index (A.words z) 1 % 2 ≢ 1 → is_some (A.home z) ≡ true
-  pub odd_away : (z : A.State) → A.IsReached z → slice_index (A.words z) 1 % 2 ≡ 1 → is_some (A.home z) ≡ false
-  pub page_knows : (z : A.State) (page : Page) (frames : List Frame) → A.IsReached z → A.home z ≡ Some page → AreFrames A.table_layout.senders frames → log_words frames ≡ log_in A z
-      → (past : ℕ) × (slice_index (A.words z) 1 ≡ 2 * past) × Knows (base_in A) page frames past (slice_index (A.words z) 0)
+  pub fits : (z : A.State) (p : ℕ) (c : C) (word : ℕ) (o : Op) → A.IsReached z
+      → A.sender z p ≡ Some c → P.op c word ≡ Some o
+      → SumFits o (slice_index (A.words z) (register o))
+  -- the page is at home where it is taken; the stage is even just where it is at home; and there it
+  -- knows the log
+  pub finds_home : (z : A.State) (p : ℕ) (c : C) (word : ℕ) (o : Op) (t : ℕ) → A.IsReached z
+      → A.sender z p ≡ Some c → P.op c word ≡ Some o → P.move c ≡ Comes t
+      → is_some (A.home z) ≡ true
+  pub even_at_home : (z : A.State) → A.IsReached z → slice_index (A.words z) 1 % 2 ≢ 1
+      → is_some (A.home z) ≡ true
+  pub odd_away : (z : A.State) → A.IsReached z → slice_index (A.words z) 1 % 2 ≡ 1
+      → is_some (A.home z) ≡ false
+  pub page_knows : (z : A.State) (page : Page) (frames : List Frame) → A.IsReached z
+      → A.home z ≡ Some page → AreFrames A.table_layout.senders frames
+      → log_words frames ≡ log_in A z
+      → (past : ℕ) × (slice_index (A.words z) 1 ≡ 2 * past)
+      × Knows (base_in A) page frames past (slice_index (A.words z) 0)
   pub log : (z : A.State) → A.IsReached z → HasLog A z
   -- of each sender it has what that put, but for what waits
-  pub sent : (z : A.State) (p : ℕ) (c : C) (frames : List Frame) → A.IsReached z → A.sender z p ≡ Some c → AreFrames A.table_layout.senders frames → log_words frames ≡ log_in A z
-      → map (λ (i : Item). i.message) (of_sender p (order_of frames)) ++ P.waiting c ≡ puts (actions_at A z p)
+  pub sent : (z : A.State) (p : ℕ) (c : C) (frames : List Frame) → A.IsReached z
+      → A.sender z p ≡ Some c → AreFrames A.table_layout.senders frames
+      → log_words frames ≡ log_in A z
+      → map (λ (i : Item). i.message) (of_sender p (order_of frames)) ++ P.waiting c
+      ≡ puts (actions_at A z p)
   pub promised : (z : A.State) → A.IsReached z → IsPromisedOf A z
   -- what each sender did says where its numbers begin
   pub first : (z : A.State) (p : ℕ) → A.IsReached z → (A.sender_trail z p).first ≡ base_in A p
 
--- how it begins: with words of zero, its page at home and its senders at their starts, of which none has done anything
+-- how it begins: with words of zero, its page at home and its senders at their starts, of which
+-- none has done anything
 pub record Opens {C : Type 0} (P : Process C) (A : Automaton C) : Type 0 where
   pub state : A.State
   pub reached : A.IsReached state

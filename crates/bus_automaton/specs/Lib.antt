@@ -1,5 +1,4 @@
 pub mod SenderTrails
-pub mod LastAnswers
 pub mod Processes
 pub mod Lawful
 pub mod OneProcess

@@ -1,4 +1,5 @@
--- A bus of either kind of rows as threads go by it: one automaton, by the one machine and what leads to it.
+-- A bus of either kind of rows as threads go by it: one automaton, by the one machine and what
+-- leads to it.
 use Rattle.std.specs.Prelude.{◌≡◌, ℕ, Option, List, [], slice_get, slice_index}
 use Rattle.bus_tenure.specs.Core.{Election, Layout}
 use Rattle.bus_core.specs.Keeping.{new_sender}
@@ -15,8 +16,10 @@ pub record MachineHistory (E : Type 0) : Type 0 where
   pub machine : Machine E
   pub trails : Trails
 
--- Some events lead to it, of whichever senders and in any order. It has no receivers of its own, and no event was a stop.
-pub record IsMachineHistory {E : Type 0} (X : Election E) (x : Layout) (reuse : Option ℕ) (bases : List ℕ) (z : MachineHistory E) : Type 0 where
+-- Some events lead to it, of whichever senders and in any order. It has no receivers of its own,
+-- and no event was a stop.
+pub record IsMachineHistory {E : Type 0} (X : Election E) (x : Layout) (reuse : Option ℕ)
+    (bases : List ℕ) (z : MachineHistory E) : Type 0 where
   pub served : IsLayout x
   pub has_rows : HasRows reuse
   pub layout : z.machine.layout ≡ x
@@ -28,9 +31,15 @@ pub record IsMachineHistory {E : Type 0} (X : Election E) (x : Layout) (reuse : 
 
 -- all that a sender did, where the numbers began with these
 abbrev pub trail_of : List ℕ → Trails → ℕ → SenderTrail
-trail_of bases T p = record { first = slice_index bases p; actions = T.actions p; pins = T.pins p; reclaims = T.reclaims p }
+trail_of bases T p = record {
+  first = slice_index bases p;
+  actions = T.actions p;
+  pins = T.pins p;
+  reclaims = T.reclaims p;
+}
 
--- with a row for each tenure, or with so many rows that are used again; its senders' numbers begin with these
+-- with a row for each tenure, or with so many rows that are used again; its senders' numbers begin
+-- with these
 abbrev pub bus_of : {E : Type 0} → Election E → Layout → Option ℕ → List ℕ → Automaton (Sender E)
 bus_of {E} X x reuse bases = record {
   table_layout = table_layout_by x reuse;
@@ -42,4 +51,5 @@ bus_of {E} X x reuse bases = record {
   home = λ z. z.machine.home;
   sender = λ z p. slice_get z.machine.senders p;
   sender_trail = λ z p. trail_of bases z.trails p;
+  log = λ z. z.trails.log;
 }

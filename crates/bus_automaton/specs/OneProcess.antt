@@ -3,11 +3,12 @@ use Rattle.std.specs.Prelude.{ℕ, ◌+◌, Bool, true, false, Option, Some, Non
 use Rattle.bus_register.specs.declared.registers.Op.{Op}
 use Rattle.bus_presence.specs.Reclamation.{Entry}
 use Rattle.bus_tenure.specs.Core.{Election, Layout}
-use Rattle.bus_tenure.specs.Seen.{turns_of}
+use Rattle.bus_tenure.specs.Seen.{turns_of, is_holding}
 use Rattle.bus_tenure.specs.declared.phases.Phase.{Phase}
 use Rattle.bus_tenure.specs.declared.phases.Phase.TheVariants as phase
 use Rattle.bus_core.specs.Keeping.{queue_of}
-use Rattle.bus_core.specs.Senders.{Sender, Situation, Does, Announces, Validates, Unpins, Withdraws, Scans, Clears, situation}
+use Rattle.bus_core.specs.Senders.{Sender, Situation, Does, Announces, Validates, Unpins}
+use Rattle.bus_core.specs.Senders.{Withdraws, Scans, Clears, situation}
 use Rattle.bus_core.specs.Table.{Line, line_now, rest_at}
 use Rattle.bus_core.specs.declared.reuses.Reuse.{Reuse}
 use Rattle.bus_world.specs.Trails.{step_action}
@@ -18,7 +19,8 @@ use Rattle.bus_machine.specs.Remembering.{rows_in}
 use Rattle.bus_automaton.specs.Processes.{TableLayout, Process}
 use Rattle.bus_automaton.specs.SenderTrails.{SenderTrail, sender_trail_of_actions}
 
--- how large a bus is: with a row for each tenure, or with so many rows that are used again and a presence for each sender before them
+-- how large a bus is: with a row for each tenure, or with so many rows that are used again and a
+-- presence for each sender before them
 abbrev pub table_layout_by : Layout → Option ℕ → TableLayout
 table_layout_by x reuse = record {
   senders = x.senders;
@@ -28,14 +30,6 @@ table_layout_by x reuse = record {
 }
 
 -- ---- where it stands
--- a page stands before it
-abbrev pub is_holding : {E : Type 0} → Phase E → Bool
-is_holding phase.Resting = false
-is_holding (phase.Electing t e) = false
-is_holding (phase.Taken t) = false
-is_holding (phase.Holding t page stored published) = true
-is_holding (phase.Giving t reason) = false
-
 -- it has taken the page, which does not stand before it yet
 abbrev pub is_taken : {E : Type 0} → Phase E → Bool
 is_taken phase.Resting = false
@@ -57,7 +51,8 @@ adds_reclaim o got = record { first = 0; actions = []; pins = []; reclaims = ent
 
 -- in this situation, by this line: steps of pins and of reclamations are no actions
 abbrev pub adds_by : {E : Type 0} → Situation E → Line E → ℕ → ℕ → SenderTrail
-adds_by (Does z) l got word = sender_trail_of_actions 0 (step_action l.kind l.tenure got (l.chosen got word) (l.answer got word))
+adds_by (Does z) l got word = sender_trail_of_actions 0
+    (step_action l.kind l.tenure got (l.chosen got word) (l.answer got word))
 adds_by (Announces t) l got word = adds_pin (l.op word) got
 adds_by (Validates t) l got word = adds_pin (l.op word) got
 adds_by (Unpins t) l got word = adds_pin (l.op word) got
@@ -79,7 +74,8 @@ process_of X = record {
   turns_left = λ v. turns_of X v.core.phase;
   rest = λ v. rest_at (line_now X v);
   move = λ v. (line_now X v).move;
-  after = λ v home got word. moved (after_step (line_now X v).move) home ((line_now X v).fed got word);
+  after =
+      λ v home got word. moved (after_step (line_now X v).move) home ((line_now X v).fed got word);
   answer = λ v got word. (line_now X v).answer got word;
   adds = λ v got word. adds_by (situation X v) (line_now X v) got word;
   holds = λ v. is_holding v.core.phase;

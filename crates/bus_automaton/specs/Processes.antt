@@ -1,6 +1,8 @@
--- What threads go by. A sender is a process, which says by itself what its next turn is; and a bus is an automaton, of which executions lead to
--- some states. They are one for both kinds of rows, of which what is said here knows nothing.
-use Rattle.std.specs.Prelude.{◌≡◌, ℕ, ◌+◌, ◌≤◌, ◌<◌, Bool, true, false, Option, Some, None, List, length, slice_index}
+-- What threads go by. A sender is a process, which says by itself what its next turn is; and a bus
+-- is an automaton, of which executions lead to some states. They are one for both kinds of rows, of
+-- which what is said here knows nothing.
+use Rattle.std.specs.Prelude.{◌≡◌, ℕ, ◌+◌, ◌≤◌, ◌<◌, Bool, true, false, Option, Some, None, List}
+use Rattle.std.specs.Prelude.{length, slice_index}
 use Rattle.bus_register.specs.declared.kinds.Kind.{Kind}
 use Rattle.bus_register.specs.declared.limits.TheConstants.{MOST_MESSAGES, NUMBERS}
 use Rattle.bus_register.specs.declared.registers.Op.{Op}
@@ -13,7 +15,8 @@ use Rattle.bus_world.specs.Headline.{Action}
 use Rattle.bus_world.specs.Log.{words_read_from}
 use Rattle.bus_automaton.specs.SenderTrails.{SenderTrail}
 
--- how large a bus is: its senders, all its words, where the first word of its log stands, and how many words the log has
+-- how large a bus is: its senders, all its words, where the first word of its log stands, and how
+-- many words the log has
 pub record TableLayout : Type 0 where
   pub senders : ℕ
   pub words : ℕ
@@ -28,7 +31,8 @@ pub record Process (C : Type 0) : Type 0 where
   -- its number, and how large its bus is
   pub me : C → ℕ
   pub table_layout : C → TableLayout
-  -- its batch, as a put and a close find it; and it with this message more, or with this mark that waits
+  -- its batch, as a put and a close find it; and it with this message more, or with this mark that
+  -- waits
   pub queue : C → Pending
   pub with_message : C → (bytes : List ℕ) → C
   pub with_mark : C → Mark → C
@@ -45,7 +49,8 @@ pub record Process (C : Type 0) : Type 0 where
   pub rest : C → Turn
   -- what becomes of the page
   pub move : C → PageMove
-  -- what it holds after a step that found this number, with that random word, where this page was at home
+  -- what it holds after a step that found this number, with that random word, where this page was
+  -- at home
   pub after : C → (home : Option Page) → (got word : ℕ) → C
   pub answer : C → (got word : ℕ) → Turn
   -- what such a step adds to its trail
@@ -53,23 +58,29 @@ pub record Process (C : Type 0) : Type 0 where
   -- ---- the same turn, part by part
   -- it holds the page between two turns
   pub holds : C → Bool
-  -- with the page out of its hands that it gives back; then fed the number that its step found; and then with this page laid before it
+  -- with the page out of its hands that it gives back; then fed the number that its step found; and
+  -- then with this page laid before it
   pub handed : C → C
   pub fed : C → (got word : ℕ) → C
   pub awaits : C → Bool
   pub laid : C → Page → C
 
--- the numbers of a sender's messages stay within their range, also that of a message more where its batch is full
+-- the numbers of a sender's messages stay within their range, also that of a message more where its
+-- batch is full
 pub record IsCounted {C : Type 0} (P : Process C) (c : C) : Type 0 where
   pub first : (P.queue c).first + MOST_MESSAGES < NUMBERS
   pub few : length (P.queue c).messages ≤ MOST_MESSAGES
 
 -- ---- a turn, part by part
--- The parts of a turn are the whole turn: c has taken its step, is s once it was told what that found, and s' is what it holds after the turn.
+-- The parts of a turn are the whole turn: c has taken its step, is s once it was told what that
+-- found, and s' is what it holds after the turn.
 abbrev pub EndsBy : {C : Type 0} → Process C → C → C → C → Option Page → PageMove → Type 0
 EndsBy P c s s' home Stays = (s' ≡ s) × (P.awaits s ≡ false) × (P.holds s' ≡ P.holds c)
-EndsBy P c s s' home (Comes t) = (P.awaits s ≡ true) × (P.holds c ≡ false) × ((page : Page) → home ≡ Some page → (s' ≡ P.laid s page) × (P.holds s' ≡ true))
-EndsBy P c s s' home (Returns t reason page) = (s' ≡ s) × (P.awaits s ≡ false) × (P.holds c ≡ true) × (P.holds s' ≡ false)
+EndsBy P c s s' home (Comes t) =
+    (P.awaits s ≡ true) × (P.holds c ≡ false)
+    × ((page : Page) → home ≡ Some page → (s' ≡ P.laid s page) × (P.holds s' ≡ true))
+EndsBy P c s s' home (Returns t reason page) =
+    (s' ≡ s) × (P.awaits s ≡ false) × (P.holds c ≡ true) × (P.holds s' ≡ false)
 
 -- ---- a bus whose senders hold C
 pub record Automaton (C : Type 0) : Type 1 where
@@ -79,8 +90,9 @@ pub record Automaton (C : Type 0) : Type 1 where
   -- a sender at its start
   pub started : ℕ → C
   pub State : Type 0
-  -- Executions lead to this state, whatever its senders did and in whichever order: in none has a receiver taken part, and no sender has
-  -- stopped by an event of its own. One that is dropped just takes no step any more.
+  -- Executions lead to this state, whatever its senders did and in whichever order: in none has a
+  -- receiver taken part, and no sender has stopped by an event of its own. One that is dropped just
+  -- takes no step any more.
   pub IsReached : State → Type 0
   pub words : State → List ℕ
   -- the page, where it is at home
@@ -88,6 +100,8 @@ pub record Automaton (C : Type 0) : Type 1 where
   pub sender : State → ℕ → Option C
   -- all that a sender did
   pub sender_trail : State → ℕ → SenderTrail
+  -- all words that were ever published
+  pub log : State → List ℕ
 
 abbrev pub base_in : {C : Type 0} → Automaton C → ℕ → ℕ
 base_in A = slice_index A.bases
@@ -100,6 +114,6 @@ actions_at A z p = (A.sender_trail z p).actions
 abbrev pub log_below : TableLayout → List ℕ → List ℕ
 log_below x words = words_read_from (slice_index words) x.log (slice_index words 0)
 
--- of a state
+-- all that was ever published, in a state
 abbrev pub log_in : {C : Type 0} → (A : Automaton C) → A.State → List ℕ
-log_in A z = log_below A.table_layout (A.words z)
+log_in A z = A.log z

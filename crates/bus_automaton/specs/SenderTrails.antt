@@ -3,8 +3,9 @@ use Rattle.std.specs.Prelude.{ℕ, List, [], ◌++◌}
 use Rattle.bus_presence.specs.Reclamation.{Entry}
 use Rattle.bus_world.specs.Headline.{Action}
 
--- The number of its first message. Its actions, as the page of promises lists them; and, where rows of words are used again, the steps of its
--- pins and of its reclamations, which are no actions, each with the number that it found.
+-- The number of its first message. Its actions, as the page of promises lists them; and, where rows
+-- of words are used again, the steps of its pins and of its reclamations, which are no actions,
+-- each with the number that it found.
 pub record SenderTrail : Type 0 where
   pub first : ℕ
   pub actions : List Action
@@ -20,7 +21,12 @@ no_sender_trail = new_sender_trail 0
 
 -- with actions alone
 abbrev pub sender_trail_of_actions : ℕ → List Action → SenderTrail
-sender_trail_of_actions first actions = record { first = first; actions = actions; pins = []; reclaims = [] }
+sender_trail_of_actions first actions = record {
+  first = first;
+  actions = actions;
+  pins = [];
+  reclaims = [];
+}
 
 -- with these actions more
 abbrev pub with_actions : SenderTrail → List Action → SenderTrail
@@ -28,4 +34,9 @@ with_actions t actions = record t { actions = t.actions ++ actions }
 
 -- with all of this more, which says nothing of the first number
 abbrev pub with_sender_trail : SenderTrail → SenderTrail → SenderTrail
-with_sender_trail t more = record { first = t.first; actions = t.actions ++ more.actions; pins = t.pins ++ more.pins; reclaims = t.reclaims ++ more.reclaims }
+with_sender_trail t more = record {
+  first = t.first;
+  actions = t.actions ++ more.actions;
+  pins = t.pins ++ more.pins;
+  reclaims = t.reclaims ++ more.reclaims;
+}

@@ -1,7 +1,10 @@
 -- From one step of a reader to what it has read.
-use Rattle.std.proofs.Common.{◌≡◌, ℕ, suc, ◌+◌, ◌≤◌, true, false, List, [], ◌∷◌, ◌++◌, length, arith, refl, sym, ap, ◌∙◌, subst, inl, inr, append_assoc, Ok, Err, Some, None}
+use Rattle.std.proofs.Common.{◌≡◌, ℕ, suc, ◌+◌, ◌≤◌, true, false, List, [], ◌∷◌, ◌++◌, length}
+use Rattle.std.proofs.Common.{arith, refl, sym, ap, ◌∙◌, subst, inl, inr, append_assoc, Ok, Err}
+use Rattle.std.proofs.Common.{Some, None}
 use Rattle.std.proofs.lemmas.List.Elements.{All-nil, All-cons}
-use Rattle.std.specs.Prelude.{◌<◌, ◌^◌, zero, replicate, All, Bool, Option, Result, IfOk, IfSome, IsErr, ◌↔◌, slice_get}
+use Rattle.std.specs.Prelude.{◌<◌, ◌^◌, zero, replicate, All, Bool, Option, Result, IfOk, IfSome}
+use Rattle.std.specs.Prelude.{IsErr, ◌↔◌, slice_get}
 use Rattle.std.proofs.lemmas.List.{length-append}
 use Rattle.std.proofs.Common.{append-nil}
 use Rattle.std.specs.List.{flat_map}
@@ -13,30 +16,44 @@ use Rattle.bus_batch.specs.declared.messages.Piece.TheVariants as piece
 use Rattle.bus_batch.specs.declared.readers.BadWord.{BadWord}
 use Rattle.bus_batch.specs.declared.readers.Place.{Place}
 use Rattle.bus_batch.specs.declared.readers.Place.TheVariants as place
-use Rattle.bus_batch.specs.Frames.{Frame, AreFramesFrom, IsLog, BeginsLog, IsBadWord, GivesPiece, end_word, mark_word, log_words}
-use Rattle.bus_batch.specs.Frames.{log_pieces, message_words, words_of_bytes}
-use Rattle.bus_batch.specs.Frames.{Spells, order_in, owners_in}
+use Rattle.bus_batch.specs.Frames.{Frame, AreFramesFrom, IsLog, BeginsLog, IsBadWord, GivesPiece}
+use Rattle.bus_batch.specs.Frames.{end_word, mark_word, log_words, log_pieces, message_words}
+use Rattle.bus_batch.specs.Frames.{words_of_bytes, Spells, order_in, owners_in}
 use Rattle.bus_batch.proofs.PieceLaws.{order_in-log, owners_in-log}
 use Rattle.bus_batch.specs.Reading.{Reading, Awaits, HasRead, IsSound}
 use Rattle.bus_batch.specs.Steps.{Steps, Takes, Refuses}
 use Rattle.bus_batch.proofs.Taking.{reading}
 
-get_at : {A : Type 0} (xs : List A) (y : A) (ys : List A) → slice_get (xs ++ y ∷ ys) (length xs) ≡ Some y
+get_at : {A : Type 0} (xs : List A) (y : A) (ys : List A)
+    → slice_get (xs ++ y ∷ ys) (length xs) ≡ Some y
 get_at [] y ys = refl
 get_at (x ∷ xs) y ys = get_at xs y ys
 
-module _ (senders : ℕ) (words : List ℕ) (pieces : List (Option Piece)) (word : ℕ) (old new : Reading) (had : HasRead senders words pieces old) where
+module _ (senders : ℕ) (words : List ℕ) (pieces : List (Option Piece)) (word : ℕ)
+    (old new : Reading) (had : HasRead senders words pieces old) where
   module _ (found : Option Piece) (takes : Takes old word found new) where
     pub has_read : HasRead senders (words ++ word ∷ []) (pieces ++ found ∷ []) new
     has_read = record {
-      many = length-append pieces (found ∷ []) ∙ ap (λ z. z + 1) had.many ∙ sym (length-append words (word ∷ []));
+      many =
+          length-append pieces (found ∷ []) ∙ ap (λ z. z + 1) had.many
+          ∙ sym (length-append words (word ∷ []));
       leads = λ rest further awaited.
-          let log = had.leads (word ∷ rest) (found ∷ further) (takes.leads rest further awaited) in
-          (log.0, log.1, log.2 ∙ sym (append_assoc words (word ∷ []) rest), log.3 ∙ sym (append_assoc pieces (found ∷ []) further));
+          let log =
+          had.leads (word ∷ rest) (found ∷ further) (takes.leads rest further awaited) in (
+            log.0,
+            log.1,
+            log.2 ∙ sym (append_assoc words (word ∷ []) rest),
+            log.3 ∙ sym (append_assoc pieces (found ∷ []) further),
+          );
       covers = λ frames rest lawful is.
-          let before = had.covers frames (word ∷ rest) lawful (is ∙ append_assoc words (word ∷ []) rest) in
-          let after = takes.covers rest before.0 before.1 in
-          (after.0, after.2, before.2 ∙ ap (λ z. pieces ++ z) after.1 ∙ sym (append_assoc pieces (found ∷ []) after.0));
+          let before =
+          had.covers frames (word ∷ rest) lawful (is ∙ append_assoc words (word ∷ []) rest) in
+          let after = takes.covers rest before.0 before.1 in (
+            after.0,
+            after.2,
+            before.2 ∙ ap (λ z. pieces ++ z) after.1
+                ∙ sym (append_assoc pieces (found ∷ []) after.0),
+          );
       begins = takes.begins;
     }
 
@@ -44,8 +61,11 @@ module _ (senders : ℕ) (words : List ℕ) (pieces : List (Option Piece)) (word
     gives_piece frames rest lawful is =
         let before = had.covers frames (word ∷ rest) lawful is in
         let after = takes.covers rest before.0 before.1 in
-        let all : log_pieces frames ≡ pieces ++ found ∷ after.0 = before.2 ∙ ap (λ z. pieces ++ z) after.1 in
-        ap (λ z. slice_get z (length words)) all ∙ ap (λ z. slice_get (pieces ++ found ∷ after.0) z) (sym had.many) ∙ get_at pieces found after.0
+        let all : log_pieces frames ≡ pieces ++ found ∷ after.0 =
+        before.2 ∙ ap (λ z. pieces ++ z) after.1 in
+        ap (λ z. slice_get z (length words)) all
+        ∙ ap (λ z. slice_get (pieces ++ found ∷ after.0) z) (sym had.many)
+        ∙ get_at pieces found after.0
 
     pub begins_log : BeginsLog senders (words ++ word ∷ [])
     begins_log =
@@ -56,33 +76,45 @@ module _ (senders : ℕ) (words : List ℕ) (pieces : List (Option Piece)) (word
   pub is_bad : Refuses old word → IsBadWord senders words word
   is_bad refuses some =
       let log = some.1 in
-      let before = had.covers log.frames (word ∷ some.0) log.lawful (log.words_are ∙ append_assoc words (word ∷ []) some.0) in
+      let before = had.covers log.frames (word ∷ some.0) log.lawful
+      (log.words_are ∙ append_assoc words (word ∷ []) some.0) in
       refuses some.0 before.0 before.1
 
-  pub bad_of : (answer : Result (Option Piece) BadWord) → Steps old word answer new → (IsErr answer ↔ IsBadWord senders words word)
-  bad_of (Ok found) steps = ((λ failed. absurd (let e : false ≡ true = failed in cc)), (λ bad. absurd (bad (begins_log found steps.good))))
+  pub bad_of : (answer : Result (Option Piece) BadWord) → Steps old word answer new
+      → (IsErr answer ↔ IsBadWord senders words word)
+  bad_of (Ok found) steps = (
+    (λ failed. absurd (let e : false ≡ true = failed in cc)),
+    (λ bad. absurd (bad (begins_log found steps.good))),
+  )
   bad_of (Err e) steps = ((λ _. is_bad steps.bad.0), (λ _. refl))
 
-  pub gives_of : (answer : Result (Option Piece) BadWord) → Steps old word answer new → IfOk answer (GivesPiece senders words word)
+  pub gives_of : (answer : Result (Option Piece) BadWord) → Steps old word answer new
+      → IfOk answer (GivesPiece senders words word)
   gives_of (Ok found) steps = gives_piece found steps.good
   gives_of (Err e) steps = tt
 
-  pub read_of : (answer : Result (Option Piece) BadWord) → Steps old word answer new → IfOk answer (λ found. HasRead senders (words ++ word ∷ []) (pieces ++ found ∷ []) new)
+  pub read_of : (answer : Result (Option Piece) BadWord) → Steps old word answer new
+      → IfOk answer (λ found. HasRead senders (words ++ word ∷ []) (pieces ++ found ∷ []) new)
   read_of (Ok found) steps = has_read found steps.good
   read_of (Err e) steps = tt
 
-  pub item_gives : (answer : Option Item) → IfSome answer (λ item. Steps old word (Ok (Some (piece.Item item))) new) → IfSome answer (λ item. GivesPiece senders words word (Some (piece.Item item)))
+  pub item_gives : (answer : Option Item)
+      → IfSome answer (λ item. Steps old word (Ok (Some (piece.Item item))) new)
+      → IfSome answer (λ item. GivesPiece senders words word (Some (piece.Item item)))
   item_gives (Some item) steps = gives_piece (Some (piece.Item item)) steps.good
   item_gives None steps = tt
 
-  pub item_read : (answer : Option Item) → IfSome answer (λ item. Steps old word (Ok (Some (piece.Item item))) new)
-      → IfSome answer (λ item. HasRead senders (words ++ word ∷ []) (pieces ++ Some (piece.Item item) ∷ []) new)
+  pub item_read : (answer : Option Item)
+      → IfSome answer (λ item. Steps old word (Ok (Some (piece.Item item))) new)
+      → IfSome answer
+      (λ item. HasRead senders (words ++ word ∷ []) (pieces ++ Some (piece.Item item) ∷ []) new)
   item_read (Some item) steps = has_read (Some (piece.Item item)) steps.good
   item_read None steps = tt
 
 -- ---- the end of the words
 
-module _ (senders : ℕ) (words : List ℕ) (pieces : List (Option Piece)) (old : Reading) (had : HasRead senders words pieces old) where
+module _ (senders : ℕ) (words : List ℕ) (pieces : List (Option Piece)) (old : Reading)
+    (had : HasRead senders words pieces old) where
   pub whole_log : Awaits old [] [] → Spells senders words (order_in pieces) (owners_in pieces)
   whole_log a =
       let log = had.leads [] [] a in
@@ -95,41 +127,72 @@ module _ (senders : ℕ) (words : List ℕ) (pieces : List (Option Piece)) (old 
         owners_are = sym (owners_in-log log.0) ∙ ap owners_in gave;
       }
 
-  pub torn_log : ((further : List (Option Piece)) → Awaits old [] further → ⊥) → IsLog senders words → ⊥
-  torn_log not log = let a = had.covers log.frames [] log.lawful (log.words_are ∙ sym (append-nil words)) in not a.0 a.1
+  pub torn_log : ((further : List (Option Piece)) → Awaits old [] further → ⊥) → IsLog senders words
+      → ⊥
+  torn_log not log =
+      let a = had.covers log.frames [] log.lawful (log.words_are ∙ sym (append-nil words)) in
+      not a.0 a.1
 
 -- where a reader stands inside a frame, the words so far are no log, and elsewhere they are
-module _ (senders : ℕ) (words : List ℕ) (pieces : List (Option Piece)) (s l : ℕ) (gone : List Bool) (q : Place) (bytes : List ℕ) (old : Reading) (is : reading s l gone q bytes ≡ old) (had : HasRead senders words pieces old) where
-  nothing_in_body : (owner : SenderNo) (left room : ℕ) → 1 ≤ left → (further : List (Option Piece)) → Awaits (reading s l gone (place.Body owner left room) bytes) [] further → ⊥
+module _ (senders : ℕ) (words : List ℕ) (pieces : List (Option Piece)) (s l : ℕ) (gone : List Bool)
+    (q : Place) (bytes : List ℕ) (old : Reading) (is : reading s l gone q bytes ≡ old)
+    (had : HasRead senders words pieces old) where
+  nothing_in_body : (owner : SenderNo) (left room : ℕ) → 1 ≤ left → (further : List (Option Piece))
+      → Awaits (reading s l gone (place.Body owner left room) bytes) [] further → ⊥
   nothing_in_body owner left room some further (inl f) =
-      let e : 0 ≡ length (flat_map message_words f.messages) + length (log_words f.frames) = ap (λ (z : List ℕ). length z) f.words_are ∙ length-append (flat_map message_words f.messages) (log_words f.frames) in
+      let e : 0 ≡ length (flat_map message_words f.messages) + length (log_words f.frames) =
+      ap (λ (z : List ℕ). length z) f.words_are
+      ∙ length-append (flat_map message_words f.messages) (log_words f.frames) in
       let long = f.long in absurd (omega arith)
-  nothing_in_body owner left room some further (inr (inl e)) = absurd (let x : [] ≡ end_word ∷ [] = e.words_are in cc)
-  nothing_in_body owner left room some further (inr (inr e)) = absurd (let x : [] ≡ mark_word mark.Leave ∷ log_words e.frames = e.words_are in cc)
+  nothing_in_body owner left room some further (inr (inl e)) =
+      absurd (let x : [] ≡ end_word ∷ [] = e.words_are in cc)
+  nothing_in_body owner left room some further (inr (inr e)) =
+      absurd (let x : [] ≡ mark_word mark.Leave ∷ log_words e.frames = e.words_are in cc)
 
-  nothing_in_data : (owner : SenderNo) (left room number len : ℕ) (further : List (Option Piece)) → Awaits (reading s l gone (place.Data owner left room number len) bytes) [] further → ⊥
-  nothing_in_data owner left room number len further c = absurd (let x : [] ≡ words_of_bytes (suc c.n) c.more ++ c.rest_after = c.words_are in cc)
+  nothing_in_data : (owner : SenderNo) (left room number len : ℕ) (further : List (Option Piece))
+      → Awaits (reading s l gone (place.Data owner left room number len) bytes) [] further → ⊥
+  nothing_in_data owner left room number len further c =
+      absurd (let x : [] ≡ words_of_bytes (suc c.n) c.more ++ c.rest_after = c.words_are in cc)
 
-  pub torn_in_body : (owner : SenderNo) (left room : ℕ) → q ≡ place.Body owner left room → IsSound q bytes → IsLog senders words → ⊥
+  pub torn_in_body : (owner : SenderNo) (left room : ℕ) → q ≡ place.Body owner left room
+      → IsSound q bytes → IsLog senders words → ⊥
   torn_in_body owner left room e sound =
-      torn_log senders words pieces old had (subst (λ r. (further : List (Option Piece)) → Awaits r [] further → ⊥) (ap (λ z. reading s l gone z bytes) (sym e) ∙ is)
+      torn_log senders words pieces old had
+      (subst (λ r. (further : List (Option Piece)) → Awaits r [] further → ⊥)
+      (ap (λ z. reading s l gone z bytes) (sym e) ∙ is)
       (nothing_in_body owner left room (let t = subst (λ z. IsSound z bytes) e sound in t.1)))
 
-  pub torn_in_data : (owner : SenderNo) (left room number len : ℕ) → q ≡ place.Data owner left room number len → IsLog senders words → ⊥
+  pub torn_in_data : (owner : SenderNo) (left room number len : ℕ)
+      → q ≡ place.Data owner left room number len → IsLog senders words → ⊥
   torn_in_data owner left room number len e =
-      torn_log senders words pieces old had (subst (λ r. (further : List (Option Piece)) → Awaits r [] further → ⊥) (ap (λ z. reading s l gone z bytes) (sym e) ∙ is) (nothing_in_data owner left room number len))
+      torn_log senders words pieces old had
+      (subst (λ r. (further : List (Option Piece)) → Awaits r [] further → ⊥)
+      (ap (λ z. reading s l gone z bytes) (sym e) ∙ is)
+      (nothing_in_data owner left room number len))
 
-  whole_at : (p : Place) → q ≡ p → ((owner : SenderNo) (left room : ℕ) → q ≡ place.Body owner left room → ⊥)
-      → ((owner : SenderNo) (left room number len : ℕ) → q ≡ place.Data owner left room number len → ⊥) → Awaits (reading s l gone p bytes) [] []
-  whole_at place.Between e body held = ([], (tt, All-nil (λ f. slice_get gone f.owner.0 ≡ Some false)), refl, refl)
+  whole_at : (p : Place) → q ≡ p
+      → ((owner : SenderNo) (left room : ℕ) → q ≡ place.Body owner left room → ⊥)
+      → ((owner : SenderNo) (left room number len : ℕ) → q ≡ place.Data owner left room number len
+      → ⊥) → Awaits (reading s l gone p bytes) [] []
+  whole_at place.Between e body held = (
+    [],
+    (tt, All-nil (λ f. slice_get gone f.owner.0 ≡ Some false)),
+    refl,
+    refl,
+  )
   whole_at (place.Body owner left room) e body held = absurd (body owner left room e)
-  whole_at (place.Data owner left room number len) e body held = absurd (held owner left room number len e)
+  whole_at (place.Data owner left room number len) e body held =
+      absurd (held owner left room number len e)
   whole_at place.Ended e body held = (refl, refl)
-  whole_at place.Bad e body held = let a = had.begins in subst (λ r. Awaits r a.0 a.1) (sym is ∙ ap (λ z. reading s l gone z bytes) e) a.2
+  whole_at place.Bad e body held =
+      let a = had.begins in
+      subst (λ r. Awaits r a.0 a.1) (sym is ∙ ap (λ z. reading s l gone z bytes) e) a.2
 
   pub whole_outside : ((owner : SenderNo) (left room : ℕ) → q ≡ place.Body owner left room → ⊥)
-      → ((owner : SenderNo) (left room number len : ℕ) → q ≡ place.Data owner left room number len → ⊥) → Spells senders words (order_in pieces) (owners_in pieces)
-  whole_outside body held = whole_log senders words pieces old had (subst (λ r. Awaits r [] []) is (whole_at q refl body held))
+      → ((owner : SenderNo) (left room number len : ℕ) → q ≡ place.Data owner left room number len
+      → ⊥) → Spells senders words (order_in pieces) (owners_in pieces)
+  whole_outside body held = whole_log senders words pieces old had
+      (subst (λ r. Awaits r [] []) is (whole_at q refl body held))
 
 -- ---- before the first word
 
@@ -139,11 +202,14 @@ nobody_left (suc n) zero below = refl
 nobody_left (suc n) (suc k) below = nobody_left n k (omega arith)
 
 -- owners that a head can name have not left
-none_left : (senders least : ℕ) (gone : List Bool) (fs : List Frame) → gone ≡ replicate 256 false → AreFramesFrom senders least fs
+none_left : (senders least : ℕ) (gone : List Bool) (fs : List Frame) → gone ≡ replicate 256 false
+    → AreFramesFrom senders least fs
     → All (λ f. slice_get gone f.owner.0 ≡ Some false) fs
 none_left senders least gone [] is lawful = All-nil (λ f. slice_get gone f.owner.0 ≡ Some false)
 none_left senders least gone (f ∷ fs) is lawful =
-    All-cons (λ z. slice_get gone z.owner.0 ≡ Some false) f fs (ap (λ z. slice_get z f.owner.0) is ∙ nobody_left 256 f.owner.0 (let b = lawful.0.owner_bits in omega arith))
+    All-cons (λ z. slice_get gone z.owner.0 ≡ Some false) f fs
+    (ap (λ z. slice_get z f.owner.0) is
+    ∙ nobody_left 256 f.owner.0 (let b = lawful.0.owner_bits in omega arith))
     (none_left senders (f.tenure + 1) gone fs is lawful.3)
 
 pub reads_none : (senders : ℕ) (gone : List Bool) (bytes : List ℕ) → gone ≡ replicate 256 false
@@ -151,6 +217,10 @@ pub reads_none : (senders : ℕ) (gone : List Bool) (bytes : List ℕ) → gone 
 reads_none senders gone bytes is = record {
   many = refl;
   leads = λ rest further a. (a.0, a.1.0, sym a.2, sym a.3);
-  covers = λ frames rest lawful words. (log_pieces frames, (frames, (lawful, none_left senders 0 gone frames is lawful), sym words, refl), refl);
+  covers = λ frames rest lawful words. (
+    log_pieces frames,
+    (frames, (lawful, none_left senders 0 gone frames is lawful), sym words, refl),
+    refl,
+  );
   begins = ([], [], ([], (tt, All-nil (λ f. slice_get gone f.owner.0 ≡ Some false)), refl, refl));
 }

@@ -1,6 +1,8 @@
--- Messages that fill so many words of a frame: one may be added in front or taken off, and any words can be filled for which
--- there is room.
-use Rattle.std.proofs.Common.{◌≡◌, ℕ, zero, suc, ◌+◌, ◌-◌, ◌*◌, ◌/◌, ◌<◌, ◌≤◌, List, [], ◌∷◌, ◌++◌, length, replicate, arith, refl, sym, ap, ◌∙◌, subst, append_assoc, inl, inr}
+-- Messages that fill so many words of a frame: one may be added in front or taken off, and any
+-- words can be filled for which there is room.
+use Rattle.std.proofs.Common.{◌≡◌, ℕ, zero, suc, ◌+◌, ◌-◌, ◌*◌, ◌/◌, ◌<◌, ◌≤◌, List, [], ◌∷◌, ◌++◌}
+use Rattle.std.proofs.Common.{length, replicate, arith, refl, sym, ap, ◌∙◌, subst, append_assoc}
+use Rattle.std.proofs.Common.{inl, inr}
 use Rattle.std.specs.Prelude.{All, Bool, false, Option, Some, slice_get}
 use Rattle.std.specs.List.{flat_map}
 use Rattle.std.proofs.Math.ListN.{length-append, length-replicate}
@@ -9,7 +11,8 @@ use Rattle.std.proofs.lemmas.List.Elements.{All-cons, All-head, All-tail, All-re
 use Rattle.bus_register.specs.declared.registers.SenderNo.{SenderNo}
 use Rattle.bus_batch.specs.declared.messages.Piece.{Piece}
 use Rattle.bus_batch.specs.Messages.{Numbered, IsNumbered}
-use Rattle.bus_batch.specs.Frames.{Frame, message_word, data_len, words_of_bytes, message_words, message_pieces, log_words, log_pieces}
+use Rattle.bus_batch.specs.Frames.{Frame, message_word, data_len, words_of_bytes, message_words}
+use Rattle.bus_batch.specs.Frames.{message_pieces, log_words, log_pieces}
 use Rattle.bus_batch.specs.Reading.{Fills, MayFollow}
 use Rattle.bus_batch.proofs.WordLaws.{length-message_words}
 
@@ -19,11 +22,16 @@ zeros n = record { number = 0; message = replicate n 0 }
 
 zeros_numbered : (n : ℕ) → n ≤ 56 → IsNumbered (zeros n)
 unfolding zeros
-zeros_numbered n h = (omega arith, (omega (arith, length-replicate {A = ℕ} n 0), All-replicate (λ b. b < 256) n 0 (omega arith)))
+zeros_numbered n h = (
+  omega arith,
+  (omega (arith, length-replicate {A = ℕ} n 0), All-replicate (λ b. b < 256) n 0 (omega arith)),
+)
 
 zeros_words : (n : ℕ) → length (message_words (zeros n)) ≡ 1 + (n + 7) / 8
 unfolding zeros
-zeros_words n = length-message_words (record { number = 0; message = replicate n 0 }) ∙ ap (λ z. 1 + (z + 7) / 8) (length-replicate {A = ℕ} n 0)
+zeros_words n =
+    length-message_words (record { number = 0; message = replicate n 0 })
+    ∙ ap (λ z. 1 + (z + 7) / 8) (length-replicate {A = ℕ} n 0)
 
 -- so many messages at most, of so many words
 pub record Filling (room left : ℕ) : Type 0 where
@@ -35,27 +43,37 @@ pub record Filling (room left : ℕ) : Type 0 where
 none : (room : ℕ) → Filling room 0
 none room = record { messages = []; few = omega arith; each = All-nil IsNumbered; long = refl }
 
-one_more : (room left n : ℕ) → n ≤ 56 → Filling room left → Filling (suc room) (1 + (n + 7) / 8 + left)
+one_more : (room left n : ℕ) → n ≤ 56 → Filling room left
+    → Filling (suc room) (1 + (n + 7) / 8 + left)
 one_more room left n h f = record {
   messages = zeros n ∷ f.messages;
   few = let e = f.few in omega arith;
   each = All-cons IsNumbered (zeros n) f.messages (zeros_numbered n h) f.each;
-  long = length-append (message_words (zeros n)) (flat_map message_words f.messages) ∙ (let a = zeros_words n in let b = f.long in omega arith);
+  long =
+      length-append (message_words (zeros n)) (flat_map message_words f.messages)
+      ∙ (let a = zeros_words n in let b = f.long in omega arith);
 }
 
 pub filling : (room left : ℕ) → left ≤ 8 * room → Filling room left
 filling zero left h = let e : 0 ≡ left = omega arith in subst (Filling 0) e (none 0)
 filling (suc room) left h = elim (cases_lt left 8) [
   | inl few ↦ elim (cases_lt 0 left) [
-    | inl some ↦ let e : 1 + (8 * (left - 1) + 7) / 8 + 0 ≡ left = omega arith in subst (Filling (suc room)) e (one_more room 0 (8 * (left - 1)) (omega arith) (none room))
+    | inl some ↦
+        let e : 1 + (8 * (left - 1) + 7) / 8 + 0 ≡ left = omega arith in
+        subst (Filling (suc room)) e (one_more room 0 (8 * (left - 1)) (omega arith) (none room))
     | inr nothing ↦ let e : 0 ≡ left = omega arith in subst (Filling (suc room)) e (none (suc room))
   ]
-  | inr many ↦ let e : 1 + (56 + 7) / 8 + (left - 8) ≡ left = omega arith in subst (Filling (suc room)) e (one_more room (left - 8) 56 (omega arith) (filling room (left - 8) (omega arith)))
+  | inr many ↦
+      let e : 1 + (56 + 7) / 8 + (left - 8) ≡ left = omega arith in
+      subst (Filling (suc room)) e
+      (one_more room (left - 8) 56 (omega arith) (filling room (left - 8) (omega arith)))
 ]
 
 -- something can follow
-pub fills_some : (senders least : ℕ) (gone : List Bool) (owner : SenderNo) (left room : ℕ) → left ≤ 8 * room
-    → (rest : List ℕ) × (pieces : List (Option Piece)) × Fills senders least gone owner left room rest pieces
+pub fills_some : (senders least : ℕ) (gone : List Bool) (owner : SenderNo) (left room : ℕ)
+    → left ≤ 8 * room
+    → (rest : List ℕ) × (pieces : List (Option Piece))
+    × Fills senders least gone owner left room rest pieces
 fills_some senders least gone owner left room h =
     let f = filling room left h in (
       flat_map message_words f.messages ++ [],
@@ -73,7 +91,8 @@ fills_some senders least gone owner left room h =
     )
 
 -- the first of the messages that fill words which begin with this one
-pub record First (senders least : ℕ) (gone : List Bool) (owner : SenderNo) (left room word : ℕ) (rest : List ℕ) (pieces : List (Option Piece)) : Type 0 where
+pub record First (senders least : ℕ) (gone : List Bool) (owner : SenderNo) (left room word : ℕ)
+    (rest : List ℕ) (pieces : List (Option Piece)) : Type 0 where
   pub message : Numbered
   pub lawful : IsNumbered message
   pub word_is : word ≡ message_word (length message.message) message.number
@@ -81,20 +100,34 @@ pub record First (senders least : ℕ) (gone : List Bool) (owner : SenderNo) (le
   pub room_more : 1 ≤ room
   pub rest_after : List ℕ
   pub pieces_after : List (Option Piece)
-  pub fills : Fills senders least gone owner (left - (1 + data_len (length message.message))) (room - 1) rest_after pieces_after
-  pub words_are : rest ≡ words_of_bytes (data_len (length message.message)) message.message ++ rest_after
+  pub fills : Fills senders least gone owner (left - (1 + data_len (length message.message)))
+      (room - 1) rest_after pieces_after
+  pub words_are : rest
+      ≡ words_of_bytes (data_len (length message.message)) message.message ++ rest_after
   pub pieces_are : pieces ≡ message_pieces owner message ++ pieces_after
 
-module _ (senders least : ℕ) (gone : List Bool) (owner : SenderNo) (left room word : ℕ) (rest : List ℕ) (pieces : List (Option Piece)) where
-  first_of : (ms : List Numbered) → 1 ≤ left → length ms ≤ room → All IsNumbered ms → length (flat_map message_words ms) ≡ left
-      → (frames : List Frame) → (f : Fills senders least gone owner left room (word ∷ rest) pieces) → f.messages ≡ ms → f.frames ≡ frames → First senders least gone owner left room word rest pieces
+module _ (senders least : ℕ) (gone : List Bool) (owner : SenderNo) (left room word : ℕ)
+    (rest : List ℕ) (pieces : List (Option Piece)) where
+  first_of : (ms : List Numbered) → 1 ≤ left → length ms ≤ room → All IsNumbered ms
+      → length (flat_map message_words ms) ≡ left
+      → (frames : List Frame) → (f : Fills senders least gone owner left room (word ∷ rest) pieces)
+      → f.messages ≡ ms → f.frames ≡ frames
+      → First senders least gone owner left room word rest pieces
   first_of [] some few each long frames f e e' = absurd (omega arith)
   first_of (m ∷ ms) some few each long frames f e e' =
-      let words : word ∷ rest ≡ flat_map message_words (m ∷ ms) ++ log_words frames = f.words_are ∙ ap (λ z. flat_map message_words z ++ log_words f.frames) e ∙ ap (λ z. flat_map message_words (m ∷ ms) ++ log_words z) e' in
-      let gives : pieces ≡ flat_map (message_pieces owner) (m ∷ ms) ++ log_pieces frames = f.pieces_are ∙ ap (λ z. flat_map (message_pieces owner) z ++ log_pieces f.frames) e ∙ ap (λ z. flat_map (message_pieces owner) (m ∷ ms) ++ log_pieces z) e' in
+      let words : word ∷ rest ≡ flat_map message_words (m ∷ ms) ++ log_words frames =
+      f.words_are ∙ ap (λ z. flat_map message_words z ++ log_words f.frames) e
+      ∙ ap (λ z. flat_map message_words (m ∷ ms) ++ log_words z) e' in
+      let gives : pieces ≡ flat_map (message_pieces owner) (m ∷ ms) ++ log_pieces frames =
+      f.pieces_are ∙ ap (λ z. flat_map (message_pieces owner) z ++ log_pieces f.frames) e
+      ∙ ap (λ z. flat_map (message_pieces owner) (m ∷ ms) ++ log_pieces z) e' in
       let held = words_of_bytes (data_len (length m.message)) m.message in
-      let shown : word ∷ rest ≡ message_word (length m.message) m.number ∷ (held ++ (flat_map message_words ms ++ log_words frames)) = words ∙ append_assoc (message_words m) (flat_map message_words ms) (log_words frames) in
-      let sum : length (message_words m) + length (flat_map message_words ms) ≡ left = sym (length-append (message_words m) (flat_map message_words ms)) ∙ long in
+      let shown : word ∷ rest
+      ≡ message_word (length m.message) m.number
+      ∷ (held ++ (flat_map message_words ms ++ log_words frames)) =
+      words ∙ append_assoc (message_words m) (flat_map message_words ms) (log_words frames) in
+      let sum : length (message_words m) + length (flat_map message_words ms) ≡ left =
+      sym (length-append (message_words m) (flat_map message_words ms)) ∙ long in
       let size = length-message_words m in
       record {
         message = m;
@@ -115,24 +148,39 @@ module _ (senders least : ℕ) (gone : List Bool) (owner : SenderNo) (left room 
           pieces_are = refl;
         };
         words_are = cc;
-        pieces_are = gives ∙ append_assoc (message_pieces owner m) (flat_map (message_pieces owner) ms) (log_pieces frames);
+        pieces_are =
+            gives
+            ∙ append_assoc (message_pieces owner m) (flat_map (message_pieces owner) ms)
+            (log_pieces frames);
       }
 
-  pub first : 1 ≤ left → Fills senders least gone owner left room (word ∷ rest) pieces → First senders least gone owner left room word rest pieces
+  pub first : 1 ≤ left → Fills senders least gone owner left room (word ∷ rest) pieces
+      → First senders least gone owner left room word rest pieces
   first some f = first_of f.messages some f.few f.each f.long f.frames f refl refl
 
 -- one message more in front
-pub fills_more : (senders least : ℕ) (gone : List Bool) (owner : SenderNo) (left room : ℕ) (m : Numbered) (rest : List ℕ) (pieces : List (Option Piece))
+pub fills_more : (senders least : ℕ) (gone : List Bool) (owner : SenderNo) (left room : ℕ)
+    (m : Numbered) (rest : List ℕ) (pieces : List (Option Piece))
     → IsNumbered m → 1 + data_len (length m.message) ≤ left → 1 ≤ room
-    → Fills senders least gone owner (left - (1 + data_len (length m.message))) (room - 1) rest pieces
-    → Fills senders least gone owner left room (message_words m ++ rest) (message_pieces owner m ++ pieces)
+    → Fills senders least gone owner (left - (1 + data_len (length m.message))) (room - 1) rest
+    pieces
+    → Fills senders least gone owner left room (message_words m ++ rest)
+    (message_pieces owner m ++ pieces)
 fills_more senders least gone owner left room m rest pieces lawful within some f = record {
   messages = m ∷ f.messages;
   few = let e = f.few in omega arith;
   each = All-cons IsNumbered m f.messages lawful f.each;
-  long = length-append (message_words m) (flat_map message_words f.messages) ∙ (let e = length-message_words m in let e' = f.long in omega arith);
+  long =
+      length-append (message_words m) (flat_map message_words f.messages)
+      ∙ (let e = length-message_words m in let e' = f.long in omega arith);
   frames = f.frames;
   lawful = f.lawful;
-  words_are = ap (λ z. message_words m ++ z) f.words_are ∙ sym (append_assoc (message_words m) (flat_map message_words f.messages) (log_words f.frames));
-  pieces_are = ap (λ z. message_pieces owner m ++ z) f.pieces_are ∙ sym (append_assoc (message_pieces owner m) (flat_map (message_pieces owner) f.messages) (log_pieces f.frames));
+  words_are =
+      ap (λ z. message_words m ++ z) f.words_are
+      ∙ sym
+      (append_assoc (message_words m) (flat_map message_words f.messages) (log_words f.frames));
+  pieces_are =
+      ap (λ z. message_pieces owner m ++ z) f.pieces_are
+      ∙ sym (append_assoc (message_pieces owner m) (flat_map (message_pieces owner) f.messages)
+      (log_pieces f.frames));
 }

@@ -1,5 +1,6 @@
 -- What a sender's batch holds, and the frame that it makes.
-use Rattle.std.specs.Prelude.{◌≡◌, ℕ, ◌+◌, ◌<◌, ◌≤◌, ◌^◌, ◌⊎◌, List, [], length, All, Bool, true, false}
+use Rattle.std.specs.Prelude.{◌≡◌, ℕ, ◌+◌, ◌<◌, ◌≤◌, ◌^◌, ◌⊎◌, List, [], length, All, Bool, true}
+use Rattle.std.specs.Prelude.{false}
 use Rattle.bus_register.specs.declared.limits.TheConstants.{MOST_BYTES, MOST_MESSAGES, NUMBERS}
 use Rattle.bus_register.specs.declared.registers.SenderNo.{SenderNo}
 use Rattle.bus_batch.specs.declared.batches.Phase.{Phase}
@@ -12,7 +13,8 @@ use Rattle.bus_batch.specs.declared.batches.CloseFault.TheVariants as close
 use Rattle.bus_batch.specs.Messages.{IsMessage, numbered_messages}
 use Rattle.bus_batch.specs.Frames.{Frame, Body, Messages, Marked}
 
--- a sender's batch: its messages, numbered from first on, whether it accepts more, and whether they are on their way
+-- a sender's batch: its messages, numbered from first on, whether it accepts more, and whether they
+-- are on their way
 pub record Pending : Type 0 where
   pub sender : SenderNo
   pub first : ℕ
@@ -40,7 +42,11 @@ body_of Closed first messages = Messages (numbered_messages first messages)
 
 -- its frame in a tenure
 abbrev pub frame_of : Pending → ℕ → Frame
-frame_of b tenure = record { tenure = tenure; owner = b.sender; body = body_of b.phase b.first b.messages }
+frame_of b tenure = record {
+  tenure = tenure;
+  owner = b.sender;
+  body = body_of b.phase b.first b.messages;
+}
 
 -- a message of so many bytes is taken
 pub record CanPut (b : Pending) (len : ℕ) : Type 0 where
@@ -54,7 +60,8 @@ abbrev pub IsPutFault : Pending → ℕ → PutFault → Type 0
 IsPutFault b len put.Closed = IsShut b
 IsPutFault b len put.Busy = (b.phase ≡ Open) × (b.busy ≡ true)
 IsPutFault b len put.TooLong = (b.phase ≡ Open) × (b.busy ≡ false) × (MOST_BYTES < len)
-IsPutFault b len put.BatchFull = (b.phase ≡ Open) × (b.busy ≡ false) × (len ≤ MOST_BYTES) × (length b.messages ≡ MOST_MESSAGES)
+IsPutFault b len put.BatchFull =
+    (b.phase ≡ Open) × (b.busy ≡ false) × (len ≤ MOST_BYTES) × (length b.messages ≡ MOST_MESSAGES)
 
 -- a close or a leave is taken
 pub record CanClose (b : Pending) : Type 0 where

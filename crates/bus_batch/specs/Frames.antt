@@ -6,11 +6,11 @@
 --   end        11            zero
 --   leave      11            zero               zero                    1
 --
--- The count is the number of words of the frame after its head. A message word is followed by its bytes, eight to a word
--- from the high end on, the last word filled with zero bytes.
-use Rattle.std.specs.Prelude.{◌≡◌, ◌≢◌, ℕ, zero, suc, ◌+◌, ◌*◌, ◌/◌, ◌<◌, ◌≤◌, ◌^◌, List, [], ◌∷◌, ◌++◌}
-use Rattle.std.specs.Prelude.{length, take, drop, replicate, map, flat_map, All, Bool, true, false, ◌||◌, ◌==◌, Option, Some, None}
-use Rattle.std.specs.Prelude.{slice_get}
+-- The count is the number of words of the frame after its head. A message word is followed by its
+-- bytes, eight to a word from the high end on, the last word filled with zero bytes.
+use Rattle.std.specs.Prelude.{◌≡◌, ◌≢◌, ℕ, zero, suc, ◌+◌, ◌*◌, ◌/◌, ◌<◌, ◌≤◌, ◌^◌, List, [], ◌∷◌}
+use Rattle.std.specs.Prelude.{◌++◌, length, take, drop, replicate, map, flat_map, All, Bool, true}
+use Rattle.std.specs.Prelude.{false, ◌||◌, ◌==◌, Option, Some, None, slice_get}
 use Rattle.bus_register.specs.declared.limits.TheConstants.{MOST_MESSAGES, TENURES}
 use Rattle.std.specs.List.{list_any}
 use Rattle.std.specs.Int.{w64, from_be_bytes}
@@ -63,7 +63,9 @@ abbrev pub data_len : ℕ → ℕ
 data_len len = (len + 7) / 8
 
 abbrev pub message_words : Numbered → List ℕ
-message_words m = message_word (length m.message) m.number ∷ words_of_bytes (data_len (length m.message)) m.message
+message_words m =
+    message_word (length m.message) m.number
+    ∷ words_of_bytes (data_len (length m.message)) m.message
 
 abbrev pub body_words : Body → List ℕ
 body_words (Messages messages) = flat_map message_words messages
@@ -79,7 +81,8 @@ log_words frames = flat_map frame_words frames
 
 -- 1 to 16 messages, or a mark
 abbrev pub IsBody : Body → Type 0
-IsBody (Messages messages) = (0 < length messages) × (length messages ≤ MOST_MESSAGES) × All IsNumbered messages
+IsBody (Messages messages) =
+    (0 < length messages) × (length messages ≤ MOST_MESSAGES) × All IsNumbered messages
 IsBody (Marked mark) = Unit {0}
 
 pub record IsFrame (senders : ℕ) (f : Frame) : Type 0 where
@@ -88,11 +91,13 @@ pub record IsFrame (senders : ℕ) (f : Frame) : Type 0 where
   pub owner_bits : f.owner.0 < 2 ^ 8
   pub body : IsBody f.body
 
--- frames whose tenures rise strictly, the first not below least; nothing follows an end mark, and no frame of its owner a leave mark
+-- frames whose tenures rise strictly, the first not below least; nothing follows an end mark, and
+-- no frame of its owner a leave mark
 abbrev pub AreFramesFrom : ℕ → ℕ → List Frame → Type 0
 AreFramesFrom senders least [] = Unit {0}
 AreFramesFrom senders least (f ∷ frames) =
-    IsFrame senders f × (least ≤ f.tenure) × (f.body ≡ Marked mark.End → frames ≡ []) × AreFramesFrom senders (f.tenure + 1) frames
+    IsFrame senders f × (least ≤ f.tenure) × (f.body ≡ Marked mark.End → frames ≡ [])
+    × AreFramesFrom senders (f.tenure + 1) frames
     × (f.body ≡ Marked mark.Leave → All (λ g. g.owner ≢ f.owner) frames)
 
 -- the frames of a log of so many senders
@@ -174,7 +179,8 @@ abbrev pub tenure_and_owner : Frame → ℕ × SenderNo
 tenure_and_owner f = (f.tenure, f.owner)
 
 -- these words are a log of this order, whose frames have these tenures and owners
-pub record Spells (senders : ℕ) (words : List ℕ) (order : Order) (owners : List (ℕ × SenderNo)) : Type 0 where
+pub record Spells (senders : ℕ) (words : List ℕ) (order : Order) (owners : List (ℕ × SenderNo)) :
+    Type 0 where
   pub frames : List Frame
   pub lawful : AreFrames senders frames
   pub words_are : log_words frames ≡ words
@@ -210,7 +216,8 @@ body_pieces owner (Messages messages) = flat_map (message_pieces owner) messages
 body_pieces owner (Marked mark.End) = Some piece.End ∷ []
 body_pieces owner (Marked mark.Leave) = Some (piece.Leave owner) ∷ []
 
--- a head gives its tenure and owner, the last word of a message its item, an end word the end, a leave word its owner; others nothing
+-- a head gives its tenure and owner, the last word of a message its item, an end word the end, a
+-- leave word its owner; others nothing
 abbrev pub frame_pieces : Frame → List (Option Piece)
 frame_pieces f = Some (piece.Head f.tenure f.owner) ∷ body_pieces f.owner f.body
 
@@ -219,7 +226,10 @@ log_pieces frames = flat_map frame_pieces frames
 
 -- what a word gives after others: each log that begins with them and then this word has it there
 abbrev pub GivesPiece : ℕ → List ℕ → ℕ → Option Piece → Type 0
-GivesPiece senders words word found = (frames : List Frame) (rest : List ℕ) → AreFrames senders frames → log_words frames ≡ words ++ word ∷ rest → slice_get (log_pieces frames) (length words) ≡ Some found
+GivesPiece senders words word found =
+    (frames : List Frame) (rest : List ℕ) → AreFrames senders frames
+    → log_words frames ≡ words ++ word ∷ rest
+    → slice_get (log_pieces frames) (length words) ≡ Some found
 
 -- ---- what pieces say together
 

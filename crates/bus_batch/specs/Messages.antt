@@ -18,4 +18,5 @@ IsNumbered m = (m.number < NUMBERS) × IsMessage m.message
 -- messages with the numbers from first on
 abbrev pub numbered_messages : ℕ → List (List ℕ) → List Numbered
 numbered_messages first [] = []
-numbered_messages first (m ∷ messages) = record { number = first; message = m } ∷ numbered_messages (first + 1) messages
+numbered_messages first (m ∷ messages) =
+    record { number = first; message = m } ∷ numbered_messages (first + 1) messages

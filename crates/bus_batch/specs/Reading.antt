@@ -1,7 +1,8 @@
 -- Where a reader of frames stands.
-use Rattle.std.specs.Prelude.{◌≡◌, ◌≢◌, ℕ, suc, ◌+◌, ◌-◌, ◌*◌, ◌<◌, ◌≤◌, List, [], ◌∷◌, ◌++◌, length, flat_map, All, ◌⊎◌, Option, Some}
-use Rattle.std.specs.Prelude.{Bool, false, slice_get}
-use Rattle.bus_register.specs.declared.limits.TheConstants.{MOST_MESSAGES, MOST_BYTES, MOST_MESSAGE_WORDS}
+use Rattle.std.specs.Prelude.{◌≡◌, ◌≢◌, ℕ, suc, ◌+◌, ◌-◌, ◌*◌, ◌<◌, ◌≤◌, List, [], ◌∷◌, ◌++◌}
+use Rattle.std.specs.Prelude.{length, flat_map, All, ◌⊎◌, Option, Some, Bool, false, slice_get}
+use Rattle.bus_register.specs.declared.limits.TheConstants.{MOST_MESSAGES, MOST_BYTES}
+use Rattle.bus_register.specs.declared.limits.TheConstants.{MOST_MESSAGE_WORDS}
 use Rattle.bus_register.specs.declared.registers.SenderNo.{SenderNo}
 use Rattle.bus_batch.specs.declared.messages.Mark.TheVariants as mark
 use Rattle.bus_batch.specs.declared.messages.Piece.{Piece}
@@ -9,11 +10,12 @@ use Rattle.bus_batch.specs.declared.messages.Piece.TheVariants as piece
 use Rattle.bus_batch.specs.declared.readers.Place.{Place}
 use Rattle.bus_batch.specs.declared.readers.Place.TheVariants.{Between, Body, Data, Ended, Bad}
 use Rattle.bus_batch.specs.Messages.{Numbered, IsNumbered}
-use Rattle.bus_batch.specs.Frames.{Frame, AreFrames, AreFramesFrom, data_len, words_of_bytes, message_words, message_pieces, item_pieces}
-use Rattle.bus_batch.specs.Frames.{end_word, mark_word, log_words, log_pieces}
+use Rattle.bus_batch.specs.Frames.{Frame, AreFrames, AreFramesFrom, data_len, words_of_bytes}
+use Rattle.bus_batch.specs.Frames.{message_words, message_pieces, item_pieces, end_word, mark_word}
+use Rattle.bus_batch.specs.Frames.{log_words, log_pieces}
 
--- what a reader knows: how many senders there are, the least tenure that the next frame may have, who has left, by number,
--- its place in the log, and the bytes that it has of an unfinished message
+-- what a reader knows: how many senders there are, the least tenure that the next frame may have,
+-- who has left, by number, its place in the log, and the bytes that it has of an unfinished message
 pub record Reading : Type 0 where
   pub senders : ℕ
   pub least : ℕ
@@ -23,9 +25,11 @@ pub record Reading : Type 0 where
 
 -- the frames of a log that may come next: none of one who has left
 abbrev pub MayFollow : ℕ → ℕ → List Bool → List Frame → Type 0
-MayFollow senders least gone frames = AreFramesFrom senders least frames × All (λ f. slice_get gone f.owner.0 ≡ Some false) frames
+MayFollow senders least gone frames =
+    AreFramesFrom senders least frames × All (λ f. slice_get gone f.owner.0 ≡ Some false) frames
 
--- messages of so many words, at most room of them, and then the frames of a log: the words of these, and their pieces
+-- messages of so many words, at most room of them, and then the frames of a log: the words of
+-- these, and their pieces
 pub record Fills (senders least : ℕ) (gone : List Bool) (owner : SenderNo) (left room : ℕ)
     (rest : List ℕ) (pieces : List (Option Piece)) : Type 0 where
   pub messages : List Numbered
@@ -38,7 +42,9 @@ pub record Fills (senders least : ℕ) (gone : List Bool) (owner : SenderNo) (le
   pub pieces_are : pieces ≡ flat_map (message_pieces owner) messages ++ log_pieces frames
 
 -- the rest of a message of len bytes that has some already, and then what fills the frame
-pub record Completes (senders least : ℕ) (gone : List Bool) (owner : SenderNo) (left room number len : ℕ)
+pub
+    record Completes (senders least : ℕ) (gone : List Bool) (owner : SenderNo) (left room number len
+    : ℕ)
     (bytes rest : List ℕ) (pieces : List (Option Piece)) : Type 0 where
   pub more : List ℕ
   pub together : length bytes + length more ≡ len
@@ -51,7 +57,9 @@ pub record Completes (senders least : ℕ) (gone : List Bool) (owner : SenderNo)
   pub fills : Fills senders least gone owner (left - suc n) room rest_after pieces_after
   pub within : suc n ≤ left
   pub words_are : rest ≡ words_of_bytes (suc n) more ++ rest_after
-  pub pieces_are : pieces ≡ item_pieces n (record { sender = owner; number = number; message = bytes ++ more }) ++ pieces_after
+  pub pieces_are : pieces
+      ≡ item_pieces n (record { sender = owner; number = number; message = bytes ++ more })
+      ++ pieces_after
 
 -- the end word, and then nothing
 pub record EndsAll (left room : ℕ) (rest : List ℕ) (pieces : List (Option Piece)) : Type 0 where
@@ -78,20 +86,28 @@ Awaits reader rest pieces = at reader.place
     at : Place → Type 0
     at Between = (frames : List Frame) × MayFollow reader.senders reader.least reader.left frames
         × (rest ≡ log_words frames) × (pieces ≡ log_pieces frames)
-    at (Body owner left room) = Fills reader.senders reader.least reader.left owner left room rest pieces
-        ⊎ EndsAll left room rest pieces ⊎ LeavesNext reader.senders reader.least reader.left owner left room rest pieces
+    at (Body owner left room) =
+        Fills reader.senders reader.least reader.left owner left room rest pieces
+        ⊎ EndsAll left room rest pieces
+        ⊎ LeavesNext reader.senders reader.least reader.left owner left room rest pieces
     at (Data owner left room number len) =
-        Completes reader.senders reader.least reader.left owner left room number len reader.bytes rest pieces
+        Completes reader.senders reader.least reader.left owner left room number len reader.bytes
+        rest pieces
     at Ended = (rest ≡ []) × (pieces ≡ [])
     at Bad = ⊥
 
--- The reader has read these words, which gave these pieces: what can follow them in a log, and give, is exactly what it awaits.
-pub record HasRead (senders : ℕ) (words : List ℕ) (pieces : List (Option Piece)) (reader : Reading) : Type 0 where
+-- The reader has read these words, which gave these pieces: what can follow them in a log, and
+-- give, is exactly what it awaits.
+pub record HasRead (senders : ℕ) (words : List ℕ) (pieces : List (Option Piece))
+    (reader : Reading) : Type 0 where
   pub many : length pieces ≡ length words
   pub leads : (rest : List ℕ) (further : List (Option Piece)) → Awaits reader rest further
-      → (frames : List Frame) × AreFrames senders frames × (log_words frames ≡ words ++ rest) × (log_pieces frames ≡ pieces ++ further)
-  pub covers : (frames : List Frame) (rest : List ℕ) → AreFrames senders frames → log_words frames ≡ words ++ rest
-      → (further : List (Option Piece)) × Awaits reader rest further × (log_pieces frames ≡ pieces ++ further)
+      → (frames : List Frame) × AreFrames senders frames × (log_words frames ≡ words ++ rest)
+      × (log_pieces frames ≡ pieces ++ further)
+  pub covers : (frames : List Frame) (rest : List ℕ) → AreFrames senders frames
+      → log_words frames ≡ words ++ rest
+      → (further : List (Option Piece)) × Awaits reader rest further
+      × (log_pieces frames ≡ pieces ++ further)
   pub begins : (rest : List ℕ) × (further : List (Option Piece)) × Awaits reader rest further
 
 -- the reader has met a bad word, and stays so
@@ -101,7 +117,10 @@ HasMetBadWord reader = reader.place ≡ Bad
 -- what the numbers of a reader always keep: the words that are left can be filled
 abbrev pub IsSound : Place → List ℕ → Type 0
 IsSound Between bytes = bytes ≡ []
-IsSound (Body owner left room) bytes = (bytes ≡ []) × (1 ≤ left) × (left ≤ MOST_MESSAGE_WORDS * room) × (room ≤ MOST_MESSAGES)
-IsSound (Data owner left room number len) bytes = (length bytes < len) × (len ≤ MOST_BYTES) × (data_len (len - length bytes) ≤ left) × (left ≤ data_len (len - length bytes) + MOST_MESSAGE_WORDS * room) × (room < MOST_MESSAGES)
+IsSound (Body owner left room) bytes =
+    (bytes ≡ []) × (1 ≤ left) × (left ≤ MOST_MESSAGE_WORDS * room) × (room ≤ MOST_MESSAGES)
+IsSound (Data owner left room number len) bytes =
+    (length bytes < len) × (len ≤ MOST_BYTES) × (data_len (len - length bytes) ≤ left)
+    × (left ≤ data_len (len - length bytes) + MOST_MESSAGE_WORDS * room) × (room < MOST_MESSAGES)
 IsSound Ended bytes = Unit {0}
 IsSound Bad bytes = Unit {0}

@@ -1,6 +1,7 @@
 -- What the words of a log are made of, one by one, and what one word does to a reader.
 use Rattle.std.specs.Prelude.{◌≡◌, ℕ, ◌<◌, ◌≤◌, ◌^◌, List, ◌∷◌, Option, Result, IfOk, OnErr}
-use Rattle.bus_register.specs.declared.limits.TheConstants.{MOST_BODY_WORDS, TENURES, MOST_BYTES, NUMBERS}
+use Rattle.bus_register.specs.declared.limits.TheConstants.{MOST_BODY_WORDS, TENURES, MOST_BYTES}
+use Rattle.bus_register.specs.declared.limits.TheConstants.{NUMBERS}
 use Rattle.bus_batch.specs.declared.messages.Piece.{Piece}
 use Rattle.bus_batch.specs.declared.readers.BadWord.{BadWord}
 use Rattle.bus_batch.specs.declared.readers.Head.{Head}
@@ -29,16 +30,20 @@ pub record IsMessageWord (word : ℕ) (m : Length) : Type 0 where
 
 -- a word that gave this piece, or nothing, has led from one reader to the other
 pub record Takes (old : Reading) (word : ℕ) (found : Option Piece) (new : Reading) : Type 0 where
-  pub leads : (rest : List ℕ) (pieces : List (Option Piece)) → Awaits new rest pieces → Awaits old (word ∷ rest) (found ∷ pieces)
-  pub covers : (rest : List ℕ) (pieces : List (Option Piece)) → Awaits old (word ∷ rest) pieces → (further : List (Option Piece)) × (pieces ≡ found ∷ further) × Awaits new rest further
+  pub leads : (rest : List ℕ) (pieces : List (Option Piece)) → Awaits new rest pieces
+      → Awaits old (word ∷ rest) (found ∷ pieces)
+  pub covers : (rest : List ℕ) (pieces : List (Option Piece)) → Awaits old (word ∷ rest) pieces
+      → (further : List (Option Piece)) × (pieces ≡ found ∷ further) × Awaits new rest further
   pub begins : (rest : List ℕ) × (pieces : List (Option Piece)) × Awaits new rest pieces
 
 -- no log goes on with the word
 abbrev pub Refuses : Reading → ℕ → Type 0
-Refuses old word = (rest : List ℕ) (pieces : List (Option Piece)) → ¬ Awaits old (word ∷ rest) pieces
+Refuses old word =
+    (rest : List ℕ) (pieces : List (Option Piece)) → ¬ Awaits old (word ∷ rest) pieces
 
 -- one step of a reader; a word that it refuses changes nothing
-pub record Steps (old : Reading) (word : ℕ) (answer : Result (Option Piece) BadWord) (new : Reading) : Type 0 where
+pub record Steps (old : Reading) (word : ℕ) (answer : Result (Option Piece) BadWord)
+    (new : Reading) : Type 0 where
   pub good : IfOk answer (λ found. Takes old word found new)
   pub bad : OnErr answer (Refuses old word × (new ≡ old))
 

@@ -67,14 +67,15 @@ pub fn nobody_leaves()
         → (order_of frames).entries ≡ map Says (flat_map items_of frames) }
 {}
 
-/// What no log has: a frame after an end mark, a frame of an owner that left in an earlier one, a
-/// tenure that does not rise, an owner that is no sender, a frame of nothing. And what no log
-/// begins with: a head of one that has left, so that nobody leaves twice, a head with more words
-/// than any frame has, or with more than its messages can fill, another word with the tag of a
-/// mark, a mark that is not alone, and a message with other bytes behind its own.
+/// What no log has, whatever it begins with: a frame after an end mark, a frame of an owner that
+/// left in an earlier one, a tenure that does not rise, an owner that is no sender, a frame of
+/// nothing. And what no log begins with: a head of one that has left, so that nobody leaves twice,
+/// a head with more words than any frame has, or with more than its messages can fill, another word
+/// with the tag of a mark, a mark that is not alone, and a message with other bytes behind its own.
 pub fn no_log_has()
-    ensures after_end { (senders : ℕ) (f : Frame) (g : Frame) (rest : List Frame)
-        → f.body ≡ Marked mark.End → ¬ AreFrames senders (f ∷ g ∷ rest) }
+    ensures after_end { (senders : ℕ) (before : List Frame) (f : Frame) (g : Frame)
+        (rest : List Frame) → f.body ≡ Marked mark.End
+        → ¬ AreFrames senders (before ++ f ∷ g ∷ rest) }
     ensures after_leaving { (senders : ℕ) (before : List Frame) (f : Frame)
         (between : List Frame) (g : Frame) (rest : List Frame) → f.body ≡ Marked mark.Leave
         → g.owner ≡ f.owner → ¬ AreFrames senders (before ++ f ∷ (between ++ g ∷ rest)) }
@@ -82,12 +83,13 @@ pub fn no_log_has()
         → tenure < TENURES → count < 2 ^ 14 → later < TENURES
         → IsBadWord senders (head_word owner 1 tenure ∷ mark_word mark.Leave ∷ [])
         (head_word owner count later) }
-    ensures same_tenure { (senders : ℕ) (f : Frame) (g : Frame) (rest : List Frame)
-        → g.tenure ≤ f.tenure → ¬ AreFrames senders (f ∷ g ∷ rest) }
-    ensures stranger { (senders : ℕ) (f : Frame) (rest : List Frame) → senders ≤ f.owner.0
-        → ¬ AreFrames senders (f ∷ rest) }
-    ensures nothing { (senders : ℕ) (f : Frame) (rest : List Frame) → f.body ≡ Messages []
-        → ¬ AreFrames senders (f ∷ rest) }
+    ensures same_tenure { (senders : ℕ) (before : List Frame) (f : Frame) (g : Frame)
+        (rest : List Frame) → g.tenure ≤ f.tenure
+        → ¬ AreFrames senders (before ++ f ∷ g ∷ rest) }
+    ensures stranger { (senders : ℕ) (before : List Frame) (f : Frame) (rest : List Frame)
+        → senders ≤ f.owner.0 → ¬ AreFrames senders (before ++ f ∷ rest) }
+    ensures nothing { (senders : ℕ) (before : List Frame) (f : Frame) (rest : List Frame)
+        → f.body ≡ Messages [] → ¬ AreFrames senders (before ++ f ∷ rest) }
     ensures long { (senders owner count tenure : ℕ) (rest : List ℕ) → owner < 2 ^ 8
         → count < 2 ^ 14 → tenure < TENURES → MOST_BODY_WORDS < count
         → ¬ IsLog senders (head_word owner count tenure ∷ rest) }

@@ -1,7 +1,9 @@
--- A chain of objects (Aspnes 2010: conciliators and ratifiers composed). Each object is one of valid and coherent adopt-commit:
--- a process goes through them in turn, is given by each the value of the one before, and stops in the first that commits. The
--- objects are numbered from the end: after the object k come k more, and the last one always commits.
-use Rattle.std.specs.Prelude.{◌≡◌, ℕ, zero, suc, ◌+◌, ◌-◌, ◌<◌, ◌≤◌, Bool, true, Option, Some, None, ◌==◌, if◌then◌else◌}
+-- A chain of objects (Aspnes 2010: conciliators and ratifiers composed). Each object is one of
+-- valid and coherent adopt-commit: a process goes through them in turn, is given by each the value
+-- of the one before, and stops in the first that commits. The objects are numbered from the end:
+-- after the object k come k more, and the last one always commits.
+use Rattle.std.specs.Prelude.{◌≡◌, ℕ, zero, suc, ◌+◌, ◌-◌, ◌<◌, ◌≤◌, Bool, true, Option, Some}
+use Rattle.std.specs.Prelude.{None, ◌==◌, if◌then◌else◌}
 use Rattle.bus_register.specs.declared.limits.TheConstants.{MOST_PROCESSES}
 use Rattle.bus_register.specs.declared.registers.Op.{Op}
 use Rattle.bus_register.specs.Protocol.{Protocol}
@@ -13,7 +15,8 @@ use Rattle.bus_adoptcommit.specs.Agreement.{value_of}
 abbrev pub Objects : Type 0 → Type 1
 Objects X = ℕ → Protocol X Bool Verdict
 
--- one process in a chain: its own input, how many objects come after the one where it stands, and the local state there
+-- one process in a chain: its own input, how many objects come after the one where it stands, and
+-- the local state there
 pub record Link (X : Type 0) : Type 0 where
   pub n : ℕ
   pub me : ℕ
@@ -68,10 +71,18 @@ value_told None = None
 value_told (Some verdict) = Some (value_of verdict)
 
 abbrev pub chain_started : {X : Type 0} → Objects X → ℕ → ℕ → ℕ → Bool → ℕ → Link X
-chain_started objects top n me v at = record { n = n; me = me; at = at; input = v; after = top; object = (objects top).started n me v at }
+chain_started objects top n me v at = record {
+  n = n;
+  me = me;
+  at = at;
+  input = v;
+  after = top;
+  object = (objects top).started n me v at;
+}
 
 -- d is a local state of process me of n in a chain of top + 1 objects, over words from at on
-pub record ChainBelongs {X : Type 0} (objects : Objects X) (top n me at : ℕ) (d : Link X) : Type 0 where
+pub record ChainBelongs {X : Type 0} (objects : Objects X) (top n me at : ℕ) (d : Link X) :
+    Type 0 where
   pub n_is : d.n ≡ n
   pub me_is : d.me ≡ me
   pub below : me < n
@@ -82,15 +93,18 @@ pub record ChainBelongs {X : Type 0} (objects : Objects X) (top n me at : ℕ) (
   pub object : (objects d.after).Belongs n me d.at d.object
 
 -- a process went from object k to the next, whose input is what the object k gave it
-pub record Passed {X : Type 0} (objects : Objects X) (visits : ℕ → ℕ → Option X) (p k : ℕ) : Type 0 where
+pub record Passed {X : Type 0} (objects : Objects X) (visits : ℕ → ℕ → Option X) (p k : ℕ) :
+    Type 0 where
   pub before : X
   pub next : X
   pub before_is : visits k p ≡ Some before
   pub next_is : visits (k - 1) p ≡ Some next
   pub handed : (objects k).output before ≡ Some (Adopt ((objects (k - 1)).input next))
 
--- the way of a process through the chain: visits gives the last local state that it had in each object
-pub record Walk {X : Type 0} (objects : Objects X) (top n at : ℕ) (visits : ℕ → ℕ → Option X) (p : ℕ) (d : Link X) : Type 0 where
+-- the way of a process through the chain: visits gives the last local state that it had in each
+-- object
+pub record Walk {X : Type 0} (objects : Objects X) (top n at : ℕ) (visits : ℕ → ℕ → Option X)
+    (p : ℕ) (d : Link X) : Type 0 where
   pub belongs : ChainBelongs objects top n p at d
   pub here : visits d.after p ≡ Some d.object
   pub ahead : (k : ℕ) → k < d.after → visits k p ≡ None
@@ -102,11 +116,13 @@ abbrev pub Rests : {X : Type 0} → Objects X → Link X → Type 0
 Rests objects d = (v : Bool) → (objects d.after).output d.object ≡ Some (Adopt v) → d.after ≡ 0
 
 -- what the words and the local states of a chain always keep
-pub record ChainKeeps {X : Type 0} (objects : Objects X) (top n at : ℕ) (words : ℕ → ℕ) (locals : ℕ → Option (Link X)) : Type 0 where
+pub record ChainKeeps {X : Type 0} (objects : Objects X) (top n at : ℕ) (words : ℕ → ℕ)
+    (locals : ℕ → Option (Link X)) : Type 0 where
   -- of each object, the last local states that processes had there
   pub visits : ℕ → ℕ → Option X
   -- each object keeps what it keeps, at its place
-  pub kept : (k r : ℕ) → k ≤ top → r + span objects n k ≡ at + span objects n top → (objects k).Keeps n r words (visits k)
+  pub kept : (k r : ℕ) → k ≤ top → r + span objects n k ≡ at + span objects n top
+      → (objects k).Keeps n r words (visits k)
   pub walks : (p : ℕ) (d : Link X) → locals p ≡ Some d → Walk objects top n at visits p d
   pub rests : (p : ℕ) (d : Link X) → locals p ≡ Some d → Rests objects d
   pub absent : (p k : ℕ) → locals p ≡ None → visits k p ≡ None

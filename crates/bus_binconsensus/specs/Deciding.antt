@@ -1,5 +1,5 @@
--- Binary decisions (Aspnes 2010: consensus), over the inputs that count and the decisions that stand, by process. An input
--- counts once its process has taken its first step.
+-- Binary decisions (Aspnes 2010: consensus), over the inputs that count and the decisions that
+-- stand, by process. An input counts once its process has taken its first step.
 use Rattle.std.specs.Prelude.{◌≡◌, ℕ, Bool, Option, Some}
 
 -- all decisions are equal

@@ -7,5 +7,6 @@ use Rattle.bus_coinconc.specs.ConciliatorProtocol.{conciliator_protocol}
 use Rattle.bus_binconsensus.specs.Objects.{Decider, decide_protocol}
 
 -- of so many rounds
-abbrev pub decisions : {S : Type 0} → Protocol S Bool Verdict → ℕ → Protocol (Decider S ConciliatorState) Bool Bool
+abbrev pub decisions : {S : Type 0} → Protocol S Bool Verdict → ℕ
+    → Protocol (Decider S ConciliatorState) Bool Bool
 decisions P = decide_protocol P conciliator_protocol

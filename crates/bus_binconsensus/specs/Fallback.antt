@@ -1,5 +1,6 @@
 -- One process at a fallback word (Herlihy 1991: consensus by compare_exchange).
-use Rattle.std.specs.Prelude.{◌≡◌, ℕ, ◌+◌, ◌<◌, Bool, true, false, Option, Some, None, is_some, ◌==◌, if◌then◌else◌, ◌⊎◌}
+use Rattle.std.specs.Prelude.{◌≡◌, ℕ, ◌+◌, ◌<◌, Bool, true, false, Option, Some, None, is_some}
+use Rattle.std.specs.Prelude.{◌==◌, if◌then◌else◌, ◌⊎◌}
 use Rattle.bus_register.specs.declared.kinds.Kind.{Kind}
 use Rattle.bus_register.specs.declared.kinds.Kind.TheVariants as kinds
 use Rattle.bus_register.specs.declared.registers.Op.{Op}
@@ -53,7 +54,8 @@ pub record Filled (word : ℕ) (locals : ℕ → Option Fallback) : Type 0 where
 pub record Keeps (n at : ℕ) (words : ℕ → ℕ) (locals : ℕ → Option Fallback) : Type 0 where
   pub inside : (p : ℕ) (s : Fallback) → locals p ≡ Some s → Belongs n p at s
   pub stands : (words at ≡ 0) ⊎ Filled (words at) locals
-  pub decided : (p : ℕ) (s : Fallback) (v : Bool) → locals p ≡ Some s → s.decided ≡ Some v → words at ≡ 1 + digit v
+  pub decided : (p : ℕ) (s : Fallback) (v : Bool) → locals p ≡ Some s → s.decided ≡ Some v
+      → words at ≡ 1 + digit v
 
 -- a fallback word as a protocol
 abbrev pub fallback_protocol : Protocol Fallback Bool Bool

@@ -1,4 +1,5 @@
--- A protocol whose local states are a part of other local states: a process of one kind of object among several kinds.
+-- A protocol whose local states are a part of other local states: a process of one kind of object
+-- among several kinds.
 use Rattle.std.specs.Prelude.{◌≡◌, ℕ, Bool, Option, Some}
 use Rattle.bus_register.specs.Tables.{of_some}
 use Rattle.bus_register.specs.Protocol.{Protocol}
@@ -16,13 +17,15 @@ abbrev pub lifted_option : {A B : Type 0} → (A → B) → Option A → Option 
 lifted_option f o = of_some (λ x. Some (f x)) o
 
 -- x is a local state of this kind, and belongs there
-pub record LiftBelongs {S X M : Type 0} (into : S → X) (P : Protocol S Bool M) (n me at : ℕ) (x : X) : Type 0 where
+pub record LiftBelongs {S X M : Type 0} (into : S → X) (P : Protocol S Bool M) (n me at : ℕ)
+    (x : X) : Type 0 where
   pub inner : S
   pub is : x ≡ into inner
   pub belongs : P.Belongs n me at inner
 
 -- all local states are of this kind, and keep what the protocol keeps
-pub record LiftKeeps {S X M : Type 0} (into : S → X) (P : Protocol S Bool M) (n at : ℕ) (words : ℕ → ℕ) (locals : ℕ → Option X) : Type 0 where
+pub record LiftKeeps {S X M : Type 0} (into : S → X) (P : Protocol S Bool M) (n at : ℕ)
+    (words : ℕ → ℕ) (locals : ℕ → Option X) : Type 0 where
   pub inner : ℕ → Option S
   pub is : (p : ℕ) → locals p ≡ lifted_option into (inner p)
   pub keeps : P.Keeps n at words inner

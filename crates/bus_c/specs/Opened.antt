@@ -37,22 +37,29 @@ abbrev pub hears : SeatOfBus Held → Option Receiving
 hears r = Some (record { handle = r })
 
 -- ---- an opening
--- The handles hold the senders and the receivers of a new bus of these sizes, in order, which have taken no step. It is a first bus, or
--- goes on with the next numbers of one that left this. Or none was made, for the first cause that holds, and the handles are as they were.
-abbrev pub Opens : Sizes → Option Left → List CSender → List CReceiver → Result (List (SenderSeat Held) × List (SeatOfBus Held)) MakeFault → List CSender → List CReceiver → Type 0
+-- The handles hold the senders and the receivers of a new bus of these sizes, in order, which have
+-- taken no step. It is a first bus, or goes on with the next numbers of one that left this. Or none
+-- was made, for the first cause that holds, and the handles are as they were.
+abbrev pub Opens : Sizes → Option Left → List CSender → List CReceiver
+    → Result (List (SenderSeat Held) × List (SeatOfBus Held)) MakeFault → List CSender
+    → List CReceiver → Type 0
 Opens sizes before senders receivers (Ok made) senders' receivers' =
     let plan = plan_of sizes (length senders) (length receivers) before in
-    IsOpened process (automaton plan) plan made.0 made.1 × IsServed plan.shape plan.reuse × MayFollow (pages before)
+    IsOpened process (automaton plan) plan made.0 made.1 × IsServed plan.shape plan.reuse
+    × MayFollow (pages before)
     × (map held_by senders' ≡ map holds made.0) × (map heard_by receivers' ≡ map hears made.1)
 Opens sizes before senders receivers (Err fault) senders' receivers' =
     let plan = plan_of sizes (length senders) (length receivers) before in
-    MakeRefusedAfter plan.shape plan.reuse (pages before) fault × (senders' ≡ senders) × (receivers' ≡ receivers)
+    MakeRefusedAfter plan.shape plan.reuse (pages before) fault × (senders' ≡ senders)
+    × (receivers' ≡ receivers)
 
 abbrev pub open_code : {A : Type 0} → Result A MakeFault → ℕ
 open_code (Ok made) = OK
 open_code (Err fault) = make_code fault
 
-pub record OpenAnswered (sizes : Sizes) (before : Option Left) (senders : List CSender) (receivers : List CReceiver) (answer : ℕ) (senders' : List CSender) (receivers' : List CReceiver) : Type 0 where
+pub record OpenAnswered (sizes : Sizes) (before : Option Left) (senders : List CSender)
+    (receivers : List CReceiver) (answer : ℕ) (senders' : List CSender)
+    (receivers' : List CReceiver) : Type 0 where
   pub given : Result (List (SenderSeat Held) × List (SeatOfBus Held)) MakeFault
   pub opens : Opens sizes before senders receivers given senders' receivers'
   pub code : answer ≡ open_code given

@@ -6,12 +6,14 @@ ghost use Rattle.bus_embed.specs.declared.codes.TheConstants.{OK as done};
 ghost use Rattle.bus_embed.specs.declared.codes.TheConstants.{EMPTY_HANDLE as no_handle};
 ghost use Rattle.bus_embed.specs.Calls.{PutAnswered, CloseAnswered, TurnAnswered, ShowsSender};
 ghost use Rattle.bus_embed.specs.Calls.{CarryAnswered, TurnsAnswered};
+ghost use Rattle.bus_embed.specs.Ends.{BeginsPage, NotesSender};
+ghost use Rattle.bus_embed.specs.Finishing.{FinishAnswered, IsLetGo};
 
 use crate::sender::CSender;
 use bus_embed::codes::{EMPTY_HANDLE, OK};
 use bus_embed::{
-    SenderShown, TurnAnswer, carry_messages, close_sender, leave_sender, put_message, show_sender,
-    take_turn, take_turns,
+    Left, SenderShown, TurnAnswer, begin_page, carry_messages, close_sender, finish_sender,
+    leave_sender, note_sender, put_message, show_sender, take_turn, take_turns,
 };
 use std::alloc::Global;
 
@@ -145,6 +147,24 @@ pub extern "C" fn bus_c_turns(
     }
 }
 
+/// The turns that are left of the tenure that the sender has begun.
+#[unsafe(no_mangle)]
+pub extern "C" fn bus_c_finish(alloc: Global, sender: &mut CSender, answer: &mut TurnAnswer) -> u32
+    ensures none { IfNone sender.old.held ((result ≡ no_handle) × (sender.new.held ≡ None)
+        × (answer.new ≡ answer.old)) }
+    ensures finish { IfSome sender.old.held (λ old. IsSomeAnd sender.new.held (λ new.
+        FinishAnswered old.handle result answer.old answer.new new.handle)) }
+{
+    match sender.take(alloc) {
+        Some(mut seat) => {
+            let code = finish_sender(&mut seat.handle, answer);
+            sender.hold(seat);
+            code
+        }
+        None => EMPTY_HANDLE,
+    }
+}
+
 /// What the sender shows.
 #[unsafe(no_mangle)]
 pub extern "C" fn bus_c_sender(alloc: Global, sender: &mut CSender, shown: &mut SenderShown) -> u32
@@ -185,10 +205,67 @@ pub extern "C" fn bus_c_sender_bus(
     }
 }
 
-/// Gives the handle up: it is empty then.
+/// The numbers that the sitting of a sender's bus began with, if it has so many senders.
 #[unsafe(no_mangle)]
-pub extern "C" fn bus_c_free_sender(alloc: Global, sender: &mut CSender)
-    ensures { sender.new.held ≡ None }
+pub extern "C" fn bus_c_begin_page(
+    alloc: Global,
+    sender: &mut CSender,
+    senders: u64,
+    left: &mut Left,
+) -> u32
+    ensures none { IfNone sender.old.held ((result ≡ no_handle) × (sender.new.held ≡ None)
+        × (left.new ≡ left.old)) }
+    ensures begins { IfSome sender.old.held (λ _. BeginsPage result left.old left.new
+        × (sender.new.held ≡ sender.old.held)) }
 {
-    drop(sender.take(alloc));
+    match sender.take(alloc) {
+        Some(seat) => {
+            let code = begin_page(&seat.handle, senders, left);
+            sender.hold(seat);
+            code
+        }
+        None => EMPTY_HANDLE,
+    }
+}
+
+/// Notes the number with which a sender goes on that sends nothing more.
+#[unsafe(no_mangle)]
+pub extern "C" fn bus_c_note_sender(
+    alloc: Global,
+    sender: &mut CSender,
+    number: u64,
+    left: &mut Left,
+) -> u32
+    ensures none { IfNone sender.old.held ((result ≡ no_handle) × (sender.new.held ≡ None)
+        × (left.new ≡ left.old)) }
+    ensures notes { IfSome sender.old.held (λ old.
+        NotesSender old.handle number result left.old left.new
+        × (sender.new.held ≡ sender.old.held)) }
+{
+    match sender.take(alloc) {
+        Some(seat) => {
+            let code = note_sender(&seat.handle, number, left);
+            sender.hold(seat);
+            code
+        }
+        None => EMPTY_HANDLE,
+    }
+}
+
+/// Gives the handle up, after the turns that are left of the tenure that the sender has begun: it
+/// is empty then. The code of the last one's answer, after Behind with the page out, or OK where
+/// none was begun, or the handle was empty.
+#[unsafe(no_mangle)]
+pub extern "C" fn bus_c_free_sender(alloc: Global, sender: &mut CSender) -> u32
+    ensures empty { sender.new.held ≡ None }
+    ensures none { IfNone sender.old.held (result ≡ done) }
+    ensures finish { IfSome sender.old.held (λ old. IsLetGo old.handle result) }
+{
+    match sender.take(alloc) {
+        Some(mut seat) => {
+            let mut answer = TurnAnswer::none();
+            finish_sender(&mut seat.handle, &mut answer)
+        }
+        None => OK,
+    }
 }

@@ -1,5 +1,6 @@
 -- What is no conciliator.
-use Rattle.std.proofs.Common.{◌≡◌, ◌≢◌, ℕ, ◌+◌, Bool, true, false, not, cond, ◌==◌, Some, None, [], ◌∷◌, inl, inr, refl, sym, ◌∙◌, ap, arith}
+use Rattle.std.proofs.Common.{◌≡◌, ◌≢◌, ℕ, ◌+◌, Bool, true, false, not, cond, ◌==◌, Some, None, []}
+use Rattle.std.proofs.Common.{◌∷◌, inl, inr, refl, sym, ◌∙◌, ap, arith}
 use Rattle.std.proofs.lemmas.Bool.Decides.{eqb_tells}
 use Rattle.std.proofs.lemmas.Option.{cond_some, same_Some}
 use Rattle.bus_register.specs.declared.registers.Op.{Op}
@@ -25,10 +26,12 @@ has_own : (p : ℕ) (v : Bool) → only p v p ≡ Some v
 has_own p v = ap (λ z. cond z (Some v) None) (same_number p)
 
 pub other_value : (p : ℕ) (v : Bool) → ¬ Conciles (only p v) (only p (not v))
-other_value p v c = differs v (c.unanimous v (λ q w h. sym (cond_some (q == p) v w h).1) p (not v) (has_own p (not v)))
+other_value p v c = differs v
+    (c.unanimous v (λ q w h. sym (cond_some (q == p) v w h).1) p (not v) (has_own p (not v)))
 
 pub disagrees : (p : ℕ) (v : Bool) → ¬ Conciles (λ _. Some v) (only p (not v))
-disagrees p v c = differs v (c.unanimous v (λ q w h. sym (same_Some v w h)) p (not v) (has_own p (not v)))
+disagrees p v c =
+    differs v (c.unanimous v (λ q w h. sym (same_Some v w h)) p (not v) (has_own p (not v)))
 
 pub unbrought : (p : ℕ) (v : Bool) → ¬ Conciles (λ _. None) (only p v)
 unbrought p v c = let e = (c.valid p v (has_own p v)).1 in absurd cc
@@ -36,20 +39,34 @@ unbrought p v c = let e = (c.valid p v (has_own p v)).1 in absurd cc
 -- ---- steps that were taken
 pub refuses_trails : RefusesTrails
 refuses_trails = record {
-  unmarked = λ n at input first trail s other. elim trail as (λ z. ¬ ConciliatorAnswer n at input (first ∷ z) s) [
-    | [] ↦ λ a. other a.looks
-    | second ∷ rest ↦ λ a. other a.looks.0
-  ];
+  unmarked = λ n at input first trail s other.
+      elim trail as (λ z. ¬ ConciliatorAnswer n at input (first ∷ z) s) [
+        | [] ↦ λ a. other a.looks
+        | second ∷ rest ↦ λ a. other a.looks.0
+      ];
   unlooked = λ n at input first second trail s other a. other a.looks.1;
   too_early = λ n at input answer first s e a. let x = sym a.answer ∙ e in absurd cc;
   turned = λ n at input first second trail s none e a.
-      differs input (sym (same_Some _ _ (sym (ap (λ z. cond (z == 0) (Some input) (coin_answer n (at + 2) trail)) none) ∙ sym a.answer ∙ e)));
+      differs input
+      (sym (same_Some _ _
+      (sym (ap (λ z. cond (z == 0) (Some input) (coin_answer n (at + 2) trail)) none) ∙ sym a.answer
+      ∙ e)));
   silent = λ n at input first second trail s none e a.
-      let x = sym (ap (λ z. cond (z == 0) (Some input) (coin_answer n (at + 2) trail)) none) ∙ sym a.answer ∙ e in absurd cc;
+      let x =
+      sym (ap (λ z. cond (z == 0) (Some input) (coin_answer n (at + 2) trail)) none) ∙ sym a.answer
+      ∙ e in
+      absurd cc;
   unasked = λ n at input answer first second s some e a.
-      let x = sym (ap (λ z. cond z (Some input) (coin_answer n (at + 2) [])) (not_zero second.got some)) ∙ sym a.answer ∙ e in absurd cc;
+      let x =
+      sym (ap (λ z. cond z (Some input) (coin_answer n (at + 2) [])) (not_zero second.got some))
+      ∙ sym a.answer ∙ e in
+      absurd cc;
   unheeded = λ n at input answer first second trail s some said e a.
-      differs answer (sym (same_Some _ _ (sym said ∙ sym (ap (λ z. cond z (Some input) (coin_answer n (at + 2) trail)) (not_zero second.got some)) ∙ sym a.answer ∙ e)));
+      differs answer
+      (sym (same_Some _ _ (sym said
+      ∙ sym
+      (ap (λ z. cond z (Some input) (coin_answer n (at + 2) trail)) (not_zero second.got some))
+      ∙ sym a.answer ∙ e)));
 }
 
 -- ---- steps that are due

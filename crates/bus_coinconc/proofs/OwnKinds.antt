@@ -7,7 +7,8 @@ use Rattle.bus_walkcoin.specs.declared.coins.Phase.{Phase}
 use Rattle.bus_walkcoin.specs.declared.coins.Phase.TheVariants.{Vote, ReadVotes, Answered}
 use Rattle.bus_walkcoin.specs.Coin as coin
 use Rattle.bus_coinconc.specs.declared.conciliators.Stage.{Stage}
-use Rattle.bus_coinconc.specs.declared.conciliators.Stage.TheVariants.{SetMark, ReadOtherMark, Alone, AskCoin}
+use Rattle.bus_coinconc.specs.declared.conciliators.Stage.TheVariants.{SetMark, ReadOtherMark}
+use Rattle.bus_coinconc.specs.declared.conciliators.Stage.TheVariants.{Alone, AskCoin}
 use Rattle.bus_coinconc.specs.Conciliator.{ConciliatorState, kind_at, conciliator_kind}
 use Rattle.bus_coinconc.specs.ConciliatorKinds.{IsOfConciliator}
 
@@ -23,5 +24,6 @@ named_at Alone k e = absurd cc
 named_at (AskCoin c) k e = coin_named c.phase k e
 
 -- its steps are of these kinds
-pub conciliator_own_kinds : (s : ConciliatorState) (k : Kind) → conciliator_kind s ≡ Some k → IsOfConciliator k
+pub conciliator_own_kinds : (s : ConciliatorState) (k : Kind) → conciliator_kind s ≡ Some k
+    → IsOfConciliator k
 conciliator_own_kinds s k e = named_at s.stage k e

@@ -1,5 +1,7 @@
--- A conciliator of two marks and a coin: a process sets the mark of its input and loads the other mark; where that is set, it asks the coin.
-use Rattle.std.specs.Prelude.{ℕ, ◌+◌, ◌≤◌, ◌^◌, Bool, false, not, Option, Some, None, ◌==◌, if◌then◌else◌}
+-- A conciliator of two marks and a coin: a process sets the mark of its input and loads the other
+-- mark; where that is set, it asks the coin.
+use Rattle.std.specs.Prelude.{ℕ, ◌+◌, ◌≤◌, ◌^◌, Bool, false, not, Option, Some, None, ◌==◌}
+use Rattle.std.specs.Prelude.{if◌then◌else◌}
 use Rattle.bus_register.specs.declared.limits.TheConstants.{MOST_PROCESSES}
 use Rattle.bus_register.specs.declared.kinds.Kind.{Kind}
 use Rattle.bus_register.specs.declared.kinds.Kind.TheVariants as kind
@@ -9,7 +11,8 @@ use Rattle.bus_walkcoin.specs.Coin.{coin_started, coin_kind, coin_op, coin_fed, 
 use Rattle.bus_walkcoin.specs.Coin as coin
 use Rattle.bus_register.specs.Digits.{digit}
 use Rattle.bus_coinconc.specs.declared.conciliators.Stage.{Stage}
-use Rattle.bus_coinconc.specs.declared.conciliators.Stage.TheVariants.{SetMark, ReadOtherMark, Alone, AskCoin}
+use Rattle.bus_coinconc.specs.declared.conciliators.Stage.TheVariants.{SetMark, ReadOtherMark}
+use Rattle.bus_coinconc.specs.declared.conciliators.Stage.TheVariants.{Alone, AskCoin}
 
 -- what one process holds
 pub record ConciliatorState : Type 0 where
@@ -67,7 +70,8 @@ conciliator_op s word = op_at s.stage s word
 
 abbrev pub stage_after : Stage → ConciliatorState → ℕ → ℕ → Stage
 stage_after SetMark s got word = ReadOtherMark
-stage_after ReadOtherMark s got word = if got == 0 then Alone else AskCoin (coin_started s.n (s.at + 2))
+stage_after ReadOtherMark s got word =
+    if got == 0 then Alone else AskCoin (coin_started s.n (s.at + 2))
 stage_after Alone s got word = Alone
 stage_after (AskCoin c) s got word = AskCoin (coin_fed c got word)
 

@@ -5,4 +5,5 @@ use Rattle.bus_register.specs.declared.kinds.Kind.TheVariants as kind
 
 -- one of the four
 abbrev pub IsOfConciliator : Kind → Type 0
-IsOfConciliator k = (k ≡ kind.SetMark) ⊎ ((k ≡ kind.ReadOtherMark) ⊎ ((k ≡ kind.Vote) ⊎ (k ≡ kind.ReadVotes)))
+IsOfConciliator k =
+    (k ≡ kind.SetMark) ⊎ ((k ≡ kind.ReadOtherMark) ⊎ ((k ≡ kind.Vote) ⊎ (k ≡ kind.ReadVotes)))

@@ -1,6 +1,7 @@
 -- The conciliator as a protocol: what its words and local states always keep.
-use Rattle.std.specs.Prelude.{◌≡◌, ℕ, ◌+◌, ◌*◌, ◌<◌, ◌≤◌, Bool, true, false, not, Option, Some, None, if◌then◌else◌, ◌⊎◌}
-use Rattle.bus_votecount.specs.declared.tallies.TheConstants.{MOST_VOTES}
+use Rattle.std.specs.Prelude.{◌≡◌, ℕ, ◌+◌, ◌*◌, ◌<◌, ◌≤◌, Bool, true, false, not, Option, Some}
+use Rattle.std.specs.Prelude.{None, if◌then◌else◌, ◌⊎◌}
+use Rattle.bus_walkcoin.specs.declared.tallies.TheConstants.{MOST_VOTES}
 use Rattle.bus_register.specs.declared.limits.TheConstants.{MOST_PROCESSES}
 use Rattle.bus_register.specs.Protocol.{Protocol}
 use Rattle.bus_register.specs.Tables.{of_some}
@@ -8,9 +9,11 @@ use Rattle.bus_walkcoin.specs.Coin.{CoinState}
 use Rattle.bus_walkcoin.specs.CoinProtocol.{coin_protocol}
 use Rattle.bus_register.specs.Digits.{digit}
 use Rattle.bus_coinconc.specs.declared.conciliators.Stage.{Stage}
-use Rattle.bus_coinconc.specs.declared.conciliators.Stage.TheVariants.{SetMark, ReadOtherMark, Alone, AskCoin}
+use Rattle.bus_coinconc.specs.declared.conciliators.Stage.TheVariants.{SetMark, ReadOtherMark}
+use Rattle.bus_coinconc.specs.declared.conciliators.Stage.TheVariants.{Alone, AskCoin}
 use Rattle.bus_coinconc.specs.Conciliation.{IsInput}
-use Rattle.bus_coinconc.specs.Conciliator.{ConciliatorState, conciliator_started, output_of, wants_of}
+use Rattle.bus_coinconc.specs.Conciliator.{ConciliatorState, conciliator_started, output_of}
+use Rattle.bus_coinconc.specs.Conciliator.{wants_of}
 
 -- the steps of the coin, at most
 abbrev pub coin_steps : ℕ
@@ -74,7 +77,8 @@ pub record Keeps (n at : ℕ) (words : ℕ → ℕ) (locals : ℕ → Option Con
   -- a mark is set by the processes with that input, and stays
   pub set : (p : ℕ) (v : Bool) → marked_input locals p ≡ Some v → words (at + digit v) ≡ 1
   pub unset : (v : Bool) → (words (at + digit v) ≡ 0) ⊎ IsInput (marked_input locals) v
-  pub saw : (p : ℕ) (s : ConciliatorState) → locals p ≡ Some s → StageSaw (marked_input locals) s.stage s.input
+  pub saw : (p : ℕ) (s : ConciliatorState) → locals p ≡ Some s
+      → StageSaw (marked_input locals) s.stage s.input
   pub coin : coin_protocol.Keeps n (at + 2) words (coins locals)
 
 abbrev pub conciliator_protocol : Protocol ConciliatorState Bool Bool

@@ -13,7 +13,11 @@ use Rattle.bus_run.specs.declared.faults.RunFault.{RunFault}
 use Rattle.bus_run.specs.declared.faults.RunFault.TheVariants as run
 
 -- a text of an order that the words spell
-abbrev text_of_order : (senders receivers messages : ℕ) (left : Outcome) (heards : List Hearing) (text : List ℕ) → (made : IsRunReport (shape_of_run senders receivers) messages left heards) → text ≡ report_text made.spelled.0 left.page senders heards → IsRunText senders receivers messages text
+abbrev text_of_order :
+    (senders receivers messages : ℕ) (left : Outcome) (heards : List Hearing) (text : List ℕ)
+    → (made : IsRunReport (shape_of_run senders receivers) messages left heards)
+    → text ≡ report_text made.spelled.0 left.page senders heards
+    → IsRunText senders receivers messages text
 text_of_order senders receivers messages left heards text made said = record {
   left = left;
   heards = heards;
@@ -24,11 +28,19 @@ text_of_order senders receivers messages left heards text made said = record {
   text_is = said;
 }
 
-pub is_run_text : (senders receivers messages : ℕ) (left : Outcome) (heards : List Hearing) (text : List ℕ) → IsRunReport (shape_of_run senders receivers) messages left heards → OfOrder left (λ order. text ≡ report_text order left.page senders heards) → IsRunText senders receivers messages text
+pub is_run_text :
+    (senders receivers messages : ℕ) (left : Outcome) (heards : List Hearing) (text : List ℕ)
+    → IsRunReport (shape_of_run senders receivers) messages left heards
+    → OfOrder left (λ order. text ≡ report_text order left.page senders heards)
+    → IsRunText senders receivers messages text
 is_run_text senders receivers messages left heards text made said =
-    text_of_order senders receivers messages left heards text made (said made.spelled.0 made.spelled.1 made.spelled.2)
+    text_of_order senders receivers messages left heards text made
+    (said made.spelled.0 made.spelled.1 made.spelled.2)
 
-pub is_run_log : (senders receivers messages : ℕ) (left : Outcome) (heards : List Hearing) (text : List ℕ) → IsRunReport (shape_of_run senders receivers) messages left heards → text ≡ words_text left.log → IsRunLog senders receivers messages text
+pub is_run_log :
+    (senders receivers messages : ℕ) (left : Outcome) (heards : List Hearing) (text : List ℕ)
+    → IsRunReport (shape_of_run senders receivers) messages left heards → text ≡ words_text left.log
+    → IsRunLog senders receivers messages text
 is_run_log senders receivers messages left heards text made said = record {
   summary = report_text made.spelled.0 left.page senders heards;
   run = text_of_order senders receivers messages left heards _ made refl;
@@ -36,13 +48,21 @@ is_run_log senders receivers messages left heards text made said = record {
 }
 
 -- ---- what goes wrong before anything is written
-pub no_stop_is_write : (senders receivers : ℕ) (fault : RunFault) → IsStop senders receivers fault → fault ≡ run.Write → ⊥
+pub no_stop_is_write : (senders receivers : ℕ) (fault : RunFault) → IsStop senders receivers fault
+    → fault ≡ run.Write → ⊥
 no_stop_is_write senders receivers fault stop is = subst (IsStop senders receivers) is stop
 
-pub no_run_fault_is_write : (senders receivers : ℕ) (fault : RunFault) → IsRunFault senders receivers fault → fault ≡ run.Write → ⊥
-no_run_fault_is_write senders receivers fault (inl made) is = absurd (let no : run.Make made.0 ≡ run.Write = sym made.1 ∙ is in cc)
-no_run_fault_is_write senders receivers fault (inr stopped) is = no_stop_is_write senders receivers fault stopped.0 is
+pub no_run_fault_is_write : (senders receivers : ℕ) (fault : RunFault)
+    → IsRunFault senders receivers fault → fault ≡ run.Write → ⊥
+no_run_fault_is_write senders receivers fault (inl made) is =
+    absurd (let no : run.Make made.0 ≡ run.Write = sym made.1 ∙ is in cc)
+no_run_fault_is_write senders receivers fault (inr stopped) is =
+    no_stop_is_write senders receivers fault stopped.0 is
 
 -- a fault that was passed on as it is
-pub passed_on : {A : Type 0} (fault : RunFault) (r : Result A RunFault) → IsErr r × IsErrAnd r (λ e. e ≡ fault) → r ≡ Err run.Write → fault ≡ run.Write
-passed_on {A} fault r h is = let same : IsErrAnd (let w : Result A RunFault = Err run.Write in w) (λ e. e ≡ fault) = subst (λ z. IsErrAnd z (λ e. e ≡ fault)) is h.1 in sym same
+pub passed_on : {A : Type 0} (fault : RunFault) (r : Result A RunFault)
+    → IsErr r × IsErrAnd r (λ e. e ≡ fault) → r ≡ Err run.Write → fault ≡ run.Write
+passed_on {A} fault r h is =
+    let same : IsErrAnd (let w : Result A RunFault = Err run.Write in w) (λ e. e ≡ fault) =
+    subst (λ z. IsErrAnd z (λ e. e ≡ fault)) is h.1 in
+    sym same

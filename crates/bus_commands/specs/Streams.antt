@@ -24,18 +24,26 @@ pub record WritesPart (old new : Option (List ℕ)) (text : List ℕ) : Type 0 w
   pub parts : text ≡ done ++ left
   pub written : Appends old new done
 
--- Why an input of at most so many bytes was not read whole. The reader is spoken of as it was and as it is.
+-- Why an input of at most so many bytes was not read whole. The reader is spoken of as it was and
+-- as it is. That a read failed no contract of a reader tells; but only while no more bytes came
+-- than these may Read be answered.
 abbrev pub IsReadFault : ℕ → Option (List ℕ) → Option (List ℕ) → RunFault → Type 0
-IsReadFault limit before after Read = ⊤
+IsReadFault limit before after Read = ReadsAtMost before after limit
 IsReadFault limit before after TooMuch = ReadsTooMuch limit before after
 IsReadFault limit before after NoMemory = ⊤
 IsReadFault limit before after other = ⊥
 
--- Why an input of at most so many bytes was not answered. `IsAnswered` says which text answers which input; the reader is spoken of as it was (`before`)
--- and as it is (`after`), and the writer too (`from`, `to`). But for a failed write nothing was written.
-abbrev pub IsScriptFault : (limit : ℕ) → (IsAnswered : List ℕ → List ℕ → Type 0) → (before after from to : Option (List ℕ)) → RunFault → Type 0
-IsScriptFault limit IsAnswered before after from to Read = Keeps from to
-IsScriptFault limit IsAnswered before after from to TooMuch = ReadsTooMuch limit before after × Keeps from to
+-- Why an input of at most so many bytes was not answered. `IsAnswered` says which text answers
+-- which input; the reader is spoken of as it was (`before`) and as it is (`after`), and the writer
+-- too (`from`, `to`). But for a failed write nothing was written.
+abbrev pub IsScriptFault : (limit : ℕ) → (IsAnswered : List ℕ → List ℕ → Type 0)
+    → (before after from to : Option (List ℕ)) → RunFault → Type 0
+IsScriptFault limit IsAnswered before after from to Read =
+    ReadsAtMost before after limit × Keeps from to
+IsScriptFault limit IsAnswered before after from to TooMuch =
+    ReadsTooMuch limit before after × Keeps from to
 IsScriptFault limit IsAnswered before after from to NoMemory = Keeps from to
-IsScriptFault limit IsAnswered before after from to Write = (input text : List ℕ) × ReadsWhole limit before input × IsAtEnd after × IsAnswered input text × WritesPart from to text
+IsScriptFault limit IsAnswered before after from to Write =
+    (input text : List ℕ) × ReadsWhole limit before input × IsAtEnd after × IsAnswered input text
+    × WritesPart from to text
 IsScriptFault limit IsAnswered before after from to other = ⊥

@@ -1,9 +1,16 @@
 //! The command line of `bus`.
 
+ghost use Rattle.std.specs.Prelude.{◌≡◌, IfOk, Some, codes, false, map, string_bytes};
+ghost use Rattle.clap.specs.Words.{app_of, rule_of, rows_of, found_of, subcommand_of};
+ghost use Rattle.clap.specs.declared.builder.command.Command.TheViews.{out-Command};
+ghost use Rattle.bus_commands.specs.CommandLine as line;
+ghost use Rattle.bus_commands.specs.CommandLine.{NamesTask};
+
 use crate::help;
 use crate::printing::Request;
 use bus_register::limits::{MOST_RECEIVERS, MOST_SENDERS};
 use bus_run::limits::{MOST_MESSAGES_EACH, MOST_SEND_WORKERS};
+use bus_webpage::Purpose;
 use clap::builder::ValueParser;
 use clap::{Arg, ArgAction, ArgMatches, Command, Error, value_parser};
 use std::alloc::{AllocError, Global};
@@ -17,8 +24,8 @@ pub enum Task {
     Trace,
     /// Of the steps of a script, their picture.
     Picture,
-    /// Of a script and its steps, the web page.
-    Webpage,
+    /// Of a script and its steps, the web page for this purpose.
+    Webpage(Purpose),
     /// Of a run, its summary.
     Run(Request),
     /// Of a run, its log.
@@ -28,7 +35,9 @@ pub enum Task {
 }
 
 /// The command line with all its commands.
-fn bus_command<'a>(alloc: Global) -> Result<Command<'a>, Error> {
+fn bus_command<'a>(alloc: Global) -> Result<Command<'a>, Error>
+    ensures { IfOk result (λ c. app_of c ≡ line.bus_command) }
+{
     let ratify = Command::new(alloc, "ratify")
         .about("Plays one adopt-commit object by a script on standard input")
         .override_usage(help::RATIFY_USAGE)
@@ -42,7 +51,8 @@ fn bus_command<'a>(alloc: Global) -> Result<Command<'a>, Error> {
         .override_usage(help::TRACE_USAGE)
         .after_help(help::TRACE)
         .arg(svg_flag(alloc))?
-        .arg(html_flag(alloc)?)?;
+        .arg(html_flag(alloc)?)?
+        .arg(play_flag(alloc)?)?;
     let bus = Command::new(alloc, "bus")
         .bin_name("bus")?
         .version(help::VERSION)
@@ -61,24 +71,41 @@ fn bus_command<'a>(alloc: Global) -> Result<Command<'a>, Error> {
 }
 
 /// The task that the words name, of which the first is the program's name.
-pub fn parse<'a>(alloc: Global, words: &'a [String]) -> Result<Task, Error> {
+pub fn parse<'a>(alloc: Global, words: &'a [String]) -> Result<Task, Error>
+    ensures named { IfOk result
+        (NamesTask (subcommand_of line.bus_command (map string_bytes words.entry.now))) }
+{
     let matches = bus_command(alloc)?.try_get_matches_from(words)?;
-    match matches.subcommand() {
-        Some(("replay", _)) => Ok(Task::Replay),
-        Some(("trace", given)) if given.get_flag("svg") => Ok(Task::Picture),
-        Some(("trace", given)) if given.get_flag("html") => Ok(Task::Webpage),
-        Some(("trace", _)) => Ok(Task::Trace),
-        Some(("run", given)) if given.get_flag("log") => Ok(Task::RunLog(request_of(given))),
-        Some(("run", given)) => Ok(Task::Run(request_of(given))),
-        Some(("log", given)) => Ok(Task::Log {
-            senders: given.get_one::<u64>("senders").unwrap_or(3),
-        }),
-        _ => Ok(Task::Ratify),
+    Ok(match matches.subcommand() {
+        Some((name, given)) => task_of(name, given),
+        None => Task::Ratify,
+    })
+}
+
+/// The task that a command names, by what its options were given.
+fn task_of(name: &str, given: &ArgMatches<'_>) -> Task
+    ensures { NamesTask (Some (name.now, rows_of (found_of given.now))) result }
+{
+    match name {
+        "replay" => Task::Replay,
+        "trace" if given.get_flag("svg") => Task::Picture,
+        "trace" if given.get_flag("html") => Task::Webpage(Purpose::Step),
+        "trace" if given.get_flag("play") => Task::Webpage(Purpose::Play),
+        "trace" => Task::Trace,
+        "run" if given.get_flag("log") => Task::RunLog(request_of(given)),
+        "run" => Task::Run(request_of(given)),
+        "log" => Task::Log {
+            senders: number_of(given, "senders", 3),
+        },
+        _ => Task::Ratify,
     }
 }
 
 /// The command `run`.
-fn run_command<'a>(alloc: Global) -> Result<Command<'a>, Error> {
+fn run_command<'a>(alloc: Global) -> Result<Command<'a>, Error>
+    ensures shape { IfOk result (λ c. app_of c ≡ line.run_command) }
+    ensures local { IfOk result (λ c. (out-Command c).has_globals ≡ false) }
+{
     let senders = value_parser!(u64).range(1..MOST_SEND_WORKERS as i64 + 1);
     let receivers = value_parser!(u64).range(1..MOST_RECEIVERS as i64 + 1);
     let messages = value_parser!(u64).range(0..MOST_MESSAGES_EACH as i64 + 1);
@@ -97,7 +124,10 @@ fn run_command<'a>(alloc: Global) -> Result<Command<'a>, Error> {
 }
 
 /// The command `log`.
-fn log_command<'a>(alloc: Global) -> Result<Command<'a>, Error> {
+fn log_command<'a>(alloc: Global) -> Result<Command<'a>, Error>
+    ensures shape { IfOk result (λ c. app_of c ≡ line.log_command) }
+    ensures local { IfOk result (λ c. (out-Command c).has_globals ≡ false) }
+{
     let senders = value_parser!(u64).range(1..MOST_SENDERS as i64 + 1);
     let command = Command::new(alloc, "log")
         .about("Tells what the words of a log on standard input spell")
@@ -108,7 +138,10 @@ fn log_command<'a>(alloc: Global) -> Result<Command<'a>, Error> {
 }
 
 /// The option of `run` that asks for its log.
-fn log_flag<'a>(alloc: Global) -> Arg<'a> {
+fn log_flag<'a>(alloc: Global) -> Arg<'a>
+    ensures rule { rule_of result ≡ line.flag (codes "log") }
+    ensures local { result.global ≡ false }
+{
     Arg::new(alloc, "log")
         .long("log")
         .action(ArgAction::SetTrue)
@@ -116,7 +149,10 @@ fn log_flag<'a>(alloc: Global) -> Arg<'a> {
 }
 
 /// The option of `trace` that asks for a picture.
-fn svg_flag<'a>(alloc: Global) -> Arg<'a> {
+fn svg_flag<'a>(alloc: Global) -> Arg<'a>
+    ensures rule { rule_of result ≡ line.flag (codes "svg") }
+    ensures local { result.global ≡ false }
+{
     Arg::new(alloc, "svg")
         .long("svg")
         .action(ArgAction::SetTrue)
@@ -124,7 +160,11 @@ fn svg_flag<'a>(alloc: Global) -> Arg<'a> {
 }
 
 /// The option of `trace` that asks for a web page.
-fn html_flag<'a>(alloc: Global) -> Result<Arg<'a>, AllocError> {
+fn html_flag<'a>(alloc: Global) -> Result<Arg<'a>, AllocError>
+    ensures rule { IfOk result (λ a. rule_of a
+        ≡ record (line.flag (codes "html")) { is_free = false }) }
+    ensures local { IfOk result (λ a. a.global ≡ false) }
+{
     Arg::new(alloc, "html")
         .long("html")
         .action(ArgAction::SetTrue)
@@ -132,8 +172,25 @@ fn html_flag<'a>(alloc: Global) -> Result<Arg<'a>, AllocError> {
         .conflicts_with("svg")
 }
 
+/// The option of `trace` that asks for a web page on which one plays.
+fn play_flag<'a>(alloc: Global) -> Result<Arg<'a>, AllocError>
+    ensures rule { IfOk result (λ a. rule_of a
+        ≡ record (line.flag (codes "play")) { is_free = false }) }
+    ensures local { IfOk result (λ a. a.global ≡ false) }
+{
+    Arg::new(alloc, "play")
+        .long("play")
+        .action(ArgAction::SetTrue)
+        .help("Write such a page on which one also plays: choose whose step is next")
+        .conflicts_with("svg")?
+        .conflicts_with("html")
+}
+
 /// An option that has a number.
-fn number<'a>(alloc: Global, name: &'a str, default: &'a str, parser: ValueParser<'a>) -> Arg<'a> {
+fn number<'a>(alloc: Global, name: &'a str, default: &'a str, parser: ValueParser<'a>) -> Arg<'a>
+    ensures rule { rule_of result ≡ line.number name.entry.now default.entry.now parser.entry }
+    ensures local { result.global ≡ false }
+{
     Arg::new(alloc, name)
         .long(name)
         .action(ArgAction::Set)
@@ -141,12 +198,21 @@ fn number<'a>(alloc: Global, name: &'a str, default: &'a str, parser: ValueParse
         .default_value(default)
 }
 
+/// The number that an option was given.
+fn number_of(given: &ArgMatches<'_>, name: &str, default: u64) -> u64
+    ensures { line.IsNumberOf name.now (rows_of (found_of given.now)) default result }
+{
+    given.get_one::<u64>(name).unwrap_or(default)
+}
+
 /// The run that the options of `run` ask for.
-fn request_of(given: &ArgMatches<'_>) -> Request {
+fn request_of(given: &ArgMatches<'_>) -> Request
+    ensures { line.AsksFor (rows_of (found_of given.now)) result }
+{
     Request {
-        senders: given.get_one::<u64>("senders").unwrap_or(3),
-        receivers: given.get_one::<u64>("receivers").unwrap_or(2),
-        messages: given.get_one::<u64>("messages").unwrap_or(100),
-        seed: given.get_one::<u64>("seed").unwrap_or(7),
+        senders: number_of(given, "senders", 3),
+        receivers: number_of(given, "receivers", 2),
+        messages: number_of(given, "messages", 100),
+        seed: number_of(given, "seed", 7),
     }
 }

@@ -47,6 +47,8 @@ R rounds for each bit (1 to 8), T tenures (1 to 256) and L log words (16 to 6553
 With 'cycle' in the place of 'shape' there are T rows (2 to 8), which are used again, for up to
 2^40 tenures.
 The lines behind it are 'put S HEX', 'close S', 'turn S W K', 'recv M K', 'stop S' and 'leave S'.
+Sender S takes at most K turns (1 to 10000), and votes by the word W; receiver M takes at most K.
+HEX are the bytes of a message, two digits for each, at most 56.
 
 Examples:
   printf 'shape 1 1 1 4 16\\nput 0 6869\\nturn 0 0 99\\nturn 0 0 99\\nrecv 0 99\\n' | bus replay
@@ -63,8 +65,9 @@ Examples:
   bus trace < examples/tour/3_late_sender.script
   bus trace --svg < examples/tour/3_late_sender.script > steps.svg
   bus trace --html < examples/tour/3_late_sender.script > steps.html
+  bus trace --play < /dev/null > play.html
 
-The columns, the picture and the web page stand in docs/FORMATS.md, under 'trace'.";
+The columns, the picture and the web pages stand in docs/FORMATS.md, under 'trace'.";
 
 /// Behind the options of `run`.
 pub const RUN: &str = "It reads nothing. The order of the messages may differ from run to run.

@@ -15,8 +15,10 @@
 //! ```
 #![tactic(auto)]
 
+pub mod answering;
 pub mod command_line;
 pub mod help;
+pub mod laws;
 pub mod log;
 pub mod picture;
 pub mod printing;

@@ -1,5 +1,6 @@
 -- Each of these is no cause.
-use Rattle.std.proofs.Common.{◌≡◌, ◌≢◌, inl, inr, ℕ, ◌+◌, ◌<◌, ◌≤◌, Bool, true, false, Some, None, arith, refl, sym, ◌∙◌, ap, subst}
+use Rattle.std.proofs.Common.{◌≡◌, ◌≢◌, inl, inr, ℕ, ◌+◌, ◌<◌, ◌≤◌, Bool, true, false, Some, None}
+use Rattle.std.proofs.Common.{arith, refl, sym, ◌∙◌, ap, subst}
 use Rattle.std.proofs.lemmas.Bool.{true≢false}
 use Rattle.std.proofs.lemmas.Option.{same_Some}
 use Rattle.bus_register.specs.declared.kinds.Kind.{Kind}
@@ -18,15 +19,19 @@ use Rattle.bus_ownerbits.specs.Sizes.{bits_of}
 use Rattle.bus_coinconc.specs.Conciliator.{ConciliatorState}
 use Rattle.bus_coinconc.specs.ConciliatorKinds.{IsOfConciliator}
 use Rattle.bus_coinconc.specs.declared.conciliators.Stage.{Stage}
-use Rattle.bus_coinconc.specs.declared.conciliators.Stage.TheVariants.{SetMark, ReadOtherMark, AskCoin}
-use Rattle.bus_tenure.specs.Causes.{IsDeciding, IsInRatifier, IsInConciliator, IsAtFallback, SearchesCandidate, HoldsFitting, LeavesPage}
+use Rattle.bus_coinconc.specs.declared.conciliators.Stage.TheVariants.{SetMark, ReadOtherMark}
+use Rattle.bus_coinconc.specs.declared.conciliators.Stage.TheVariants.{AskCoin}
+use Rattle.bus_tenure.specs.Causes.{IsDeciding, IsInRatifier, IsInConciliator, IsAtFallback}
+use Rattle.bus_tenure.specs.Causes.{SearchesCandidate, HoldsFitting, LeavesPage}
 use Rattle.bus_tenure.specs.Core.{Core, frame_len}
 use Rattle.bus_tenure.specs.declared.pages.Page.{Page}
 use Rattle.bus_tenure.specs.declared.phases.Phase.{Phase}
 use Rattle.bus_tenure.specs.Elections.{Elector, elections}
 use Rattle.bus_tenure.specs.declared.phases.Phase.TheVariants.{Electing, Holding}
-use Rattle.bus_core.specs.Causes.{HasCause, StandsInside, StandsInRow, LeavesTenure, AsLoser, AsHolder, AsLate}
-use Rattle.bus_core.specs.CausesRefuse.{IsOfElection, RefusesOwn, RefusesApart, RefusesAgain, RefusesCauses}
+use Rattle.bus_core.specs.Causes.{HasCause, StandsInside, StandsInRow, LeavesTenure, AsLoser}
+use Rattle.bus_core.specs.Causes.{AsHolder, AsLate}
+use Rattle.bus_core.specs.CausesRefuse.{IsOfElection, RefusesOwn, RefusesApart, RefusesAgain}
+use Rattle.bus_core.specs.CausesRefuse.{RefusesCauses}
 use Rattle.bus_core.specs.Keeping.{sender}
 use Rattle.bus_core.specs.Reusing.Keeping.{held_of}
 use Rattle.bus_core.specs.Reusing.Participants.{sizes_with}
@@ -49,24 +54,31 @@ same_unpinning t u i = cc
 
 -- ---- a page that is held
 -- one phase has so many words stored
-same_stored : {E : Type 0} (t u : ℕ) (p q : Page) (a b : ℕ) (c d : Bool) → ◌≡◌ {A = Phase E} (Holding t p a c) (Holding u q b d) → a ≡ b
+same_stored : {E : Type 0} (t u : ℕ) (p q : Page) (a b : ℕ) (c d : Bool)
+    → ◌≡◌ {A = Phase E} (Holding t p a c) (Holding u q b d) → a ≡ b
 same_stored t u p q a b c d e = cc
 
 -- who would go on with its frame does not leave the page
-unsent_stays : {E : Type 0} (c : Core E) (t : ℕ) (page : Page) (stored : ℕ) → c.phase ≡ Holding t page stored false → page.ended ≡ false
+unsent_stays : {E : Type 0} (c : Core E) (t : ℕ) (page : Page) (stored : ℕ)
+    → c.phase ≡ Holding t page stored false → page.ended ≡ false
     → page.words + frame_len c ≤ c.layout.capacity → LeavesPage c → ⊥
 unsent_stays c t page stored at goes fits l =
-    let same = same_page t l.tenure page l.page stored l.stored false l.published (sym at ∙ l.holds) in
+    let same =
+    same_page t l.tenure page l.page stored l.stored false l.published (sym at ∙ l.holds) in
     elim l.why [
       | inl sent ↦ true≢false (sym sent ∙ sym same.1.1)
       | inr y ↦ elim y [
         | inl ended ↦ true≢false (sym ended ∙ sym (ap (λ (p : Page). p.ended) same.1.0) ∙ goes)
-        | inr full ↦ (let more = subst (λ (p : Page). c.layout.capacity < p.words + frame_len c) (sym same.1.0) full in omega arith)
+        | inr full ↦
+            (let more =
+            subst (λ (p : Page). c.layout.capacity < p.words + frame_len c) (sym same.1.0) full in
+            omega arith)
       ]
     ]
 
 -- whose frame does not fit has none to store
-without_room : {E : Type 0} (c : Core E) (t : ℕ) (page : Page) (stored : ℕ) → c.phase ≡ Holding t page stored false
+without_room : {E : Type 0} (c : Core E) (t : ℕ) (page : Page) (stored : ℕ)
+    → c.phase ≡ Holding t page stored false
     → c.layout.capacity < page.words + frame_len c → (n : ℕ) → HoldsFitting c n → ⊥
 without_room c t page stored at full n w =
     let same = (same_page t w.tenure page w.page stored n false false (sym at ∙ w.holds)).1.0 in
@@ -75,7 +87,8 @@ without_room c t page stored at full n w =
 
 -- ---- an election
 -- it is at one decision
-same_decision : {S : Type 0} (P : Protocol S Bool Verdict) (c : Core (Elector S)) (a b : Decider S ConciliatorState)
+same_decision : {S : Type 0} (P : Protocol S Bool Verdict) (c : Core (Elector S))
+    (a b : Decider S ConciliatorState)
     → IsDeciding P c a → IsDeciding P c b → a ≡ b
 same_decision P c a b x y =
     let f = x.elects in
@@ -85,7 +98,8 @@ same_decision P c a b x y =
     cc
 
 -- it is at one stage of one conciliator
-same_stage : {S : Type 0} (P : Protocol S Bool Verdict) (c : Core (Elector S)) (a b : Stage) → IsInConciliator P c a → IsInConciliator P c b
+same_stage : {S : Type 0} (P : Protocol S Bool Verdict) (c : Core (Elector S)) (a b : Stage)
+    → IsInConciliator P c a → IsInConciliator P c b
     → a ≡ b
 same_stage P c a b x y =
     let f = x.deciding.elects in
@@ -99,7 +113,8 @@ same_stage P c a b x y =
     cc
 
 -- it is in one ratifier, where it has begun or has not
-not_both : {S : Type 0} (P : Protocol S Bool Verdict) (c : Core (Elector S)) → IsInRatifier P c true → IsInRatifier P c false → ⊥
+not_both : {S : Type 0} (P : Protocol S Bool Verdict) (c : Core (Elector S)) → IsInRatifier P c true
+    → IsInRatifier P c false → ⊥
 not_both P c x y =
     let f = x.deciding.elects in
     let g = y.deciding.elects in
@@ -111,37 +126,54 @@ not_both P c x y =
     true≢false (sym x.stands ∙ ap P.has_begun same ∙ y.stands)
 
 -- a step of a ratifier is one of who is in a ratifier
-in_ratifier : {S : Type 0} (P : Protocol S Bool Verdict) (v : Sender (Elector S)) (k : Kind) → IsOfRatifier k → HasCause P v k
+in_ratifier : {S : Type 0} (P : Protocol S Bool Verdict) (v : Sender (Elector S)) (k : Kind)
+    → IsOfRatifier k → HasCause P v k
     → (begun : Bool) × IsInRatifier P v.core begun
-in_ratifier P v k (inl i) w = let h : HasCause P v kind.WriteFirst = subst (HasCause P v) i w in (false, h.1)
-in_ratifier P v k (inr (inl i)) w = let h : HasCause P v kind.ReadFirst = subst (HasCause P v) i w in (true, h.1)
-in_ratifier P v k (inr (inr (inl i))) w = let h : HasCause P v kind.WriteSecond = subst (HasCause P v) i w in (true, h.1)
-in_ratifier P v k (inr (inr (inr i))) w = let h : HasCause P v kind.ReadSecond = subst (HasCause P v) i w in (true, h.1)
+in_ratifier P v k (inl i) w =
+    let h : HasCause P v kind.WriteFirst = subst (HasCause P v) i w in (false, h.1)
+in_ratifier P v k (inr (inl i)) w =
+    let h : HasCause P v kind.ReadFirst = subst (HasCause P v) i w in (true, h.1)
+in_ratifier P v k (inr (inr (inl i))) w =
+    let h : HasCause P v kind.WriteSecond = subst (HasCause P v) i w in (true, h.1)
+in_ratifier P v k (inr (inr (inr i))) w =
+    let h : HasCause P v kind.ReadSecond = subst (HasCause P v) i w in (true, h.1)
 
 -- and one of a conciliator, or of its coin, of who is in a conciliator
-in_conciliator : {S : Type 0} (P : Protocol S Bool Verdict) (v : Sender (Elector S)) (k : Kind) → IsOfConciliator k → HasCause P v k
+in_conciliator : {S : Type 0} (P : Protocol S Bool Verdict) (v : Sender (Elector S)) (k : Kind)
+    → IsOfConciliator k → HasCause P v k
     → (stage : Stage) × IsInConciliator P v.core stage
-in_conciliator P v k (inl i) w = let h : HasCause P v kind.SetMark = subst (HasCause P v) i w in (SetMark, h.1)
-in_conciliator P v k (inr (inl i)) w = let h : HasCause P v kind.ReadOtherMark = subst (HasCause P v) i w in (ReadOtherMark, h.1)
-in_conciliator P v k (inr (inr (inl i))) w = let h : HasCause P v kind.Vote = subst (HasCause P v) i w in (AskCoin h.1.coin, h.1.asks)
-in_conciliator P v k (inr (inr (inr i))) w = let h : HasCause P v kind.ReadVotes = subst (HasCause P v) i w in (AskCoin h.1.coin, h.1.asks)
+in_conciliator P v k (inl i) w =
+    let h : HasCause P v kind.SetMark = subst (HasCause P v) i w in (SetMark, h.1)
+in_conciliator P v k (inr (inl i)) w =
+    let h : HasCause P v kind.ReadOtherMark = subst (HasCause P v) i w in (ReadOtherMark, h.1)
+in_conciliator P v k (inr (inr (inl i))) w =
+    let h : HasCause P v kind.Vote = subst (HasCause P v) i w in (AskCoin h.1.coin, h.1.asks)
+in_conciliator P v k (inr (inr (inr i))) w =
+    let h : HasCause P v kind.ReadVotes = subst (HasCause P v) i w in (AskCoin h.1.coin, h.1.asks)
 
 -- it is in one object
 module _ {S : Type 0} (P : Protocol S Bool Verdict) (c : Core (Elector S)) where
-  same_object : (a b : Decider S ConciliatorState) → IsDeciding P c a → IsDeciding P c b → a.object ≡ b.object
-  same_object a b x y = ap (λ (d : Decider S ConciliatorState). d.object) (same_decision P c a b x y)
+  same_object : (a b : Decider S ConciliatorState) → IsDeciding P c a → IsDeciding P c b
+      → a.object ≡ b.object
+  same_object a b x y =
+      ap (λ (d : Decider S ConciliatorState). d.object) (same_decision P c a b x y)
 
-  ratifier_alone : (begun : Bool) (stage : Stage) → IsInRatifier P c begun → IsInConciliator P c stage → ⊥
-  ratifier_alone begun stage x y = let bad = sym x.here ∙ same_object x.decision y.decision x.deciding y.deciding ∙ y.here in cc
+  ratifier_alone : (begun : Bool) (stage : Stage) → IsInRatifier P c begun
+      → IsInConciliator P c stage → ⊥
+  ratifier_alone begun stage x y =
+      let bad = sym x.here ∙ same_object x.decision y.decision x.deciding y.deciding ∙ y.here in cc
 
   no_ratifier_last : (begun : Bool) → IsInRatifier P c begun → IsAtFallback P c → ⊥
-  no_ratifier_last begun x y = let bad = sym x.here ∙ same_object x.decision y.decision x.deciding y.deciding ∙ y.here in cc
+  no_ratifier_last begun x y =
+      let bad = sym x.here ∙ same_object x.decision y.decision x.deciding y.deciding ∙ y.here in cc
 
   no_conciliator_last : (stage : Stage) → IsInConciliator P c stage → IsAtFallback P c → ⊥
-  no_conciliator_last stage x y = let bad = sym x.here ∙ same_object x.decision y.decision x.deciding y.deciding ∙ y.here in cc
+  no_conciliator_last stage x y =
+      let bad = sym x.here ∙ same_object x.decision y.decision x.deciding y.deciding ∙ y.here in cc
 
 -- it searches one number
-same_searched : {S : Type 0} (c : Core (Elector S)) (t i : ℕ) (e : Elector S) → c.phase ≡ Electing t e → e.stage ≡ Search i
+same_searched : {S : Type 0} (c : Core (Elector S)) (t i : ℕ) (e : Elector S)
+    → c.phase ≡ Electing t e → e.stage ≡ Search i
     → (w : SearchesCandidate c) → i ≡ w.number
 same_searched c t i e runs at w =
     let f = w.elects in
@@ -149,9 +181,11 @@ same_searched c t i e runs at w =
     cc
 
 -- once its election has an owner, it has a cause only for the step that takes the page
-module _ {S : Type 0} (P : Protocol S Bool Verdict) (v : Sender (Elector S)) (t o : ℕ) (e : Elector S) (at : v.core.phase ≡ Electing t e)
+module _ {S : Type 0} (P : Protocol S Bool Verdict) (v : Sender (Elector S)) (t o : ℕ)
+    (e : Elector S) (at : v.core.phase ≡ Electing t e)
     (owner : (elections P v.core.layout.rounds).output e ≡ Some o) where
-  not_open : (u : ℕ) (f : Elector S) → v.core.phase ≡ Electing u f → (elections P v.core.layout.rounds).output f ≡ None → ⊥
+  not_open : (u : ℕ) (f : Elector S) → v.core.phase ≡ Electing u f
+      → (elections P v.core.layout.rounds).output f ≡ None → ⊥
   not_open u f runs open_still =
       let same = (same_election t u e f (sym at ∙ runs)).1 in
       let bad = sym owner ∙ ap (elections P v.core.layout.rounds).output same ∙ open_still in cc
@@ -191,9 +225,11 @@ module _ {E : Type 0} (v : Participant E) where
   leaves_away (AsLate u q) e = let bad = sym e ∙ q in cc
 
   -- and has lost it, or taken its page
-  leaves_undone : LeavesTenure v → (t : ℕ) → v.pin ≡ Unpinning t → v.lost ≡ None → held_of v.core.phase ≢ Some t → ⊥
+  leaves_undone : LeavesTenure v → (t : ℕ) → v.pin ≡ Unpinning t → v.lost ≡ None
+      → held_of v.core.phase ≢ Some t → ⊥
   leaves_undone (AsLoser u o q l r) t e none other = let bad = sym none ∙ l in cc
-  leaves_undone (AsHolder u q h) t e none other = other (h ∙ ap Some (same_unpinning u t (sym q ∙ e)))
+  leaves_undone (AsHolder u q h) t e none other =
+      other (h ∙ ap Some (same_unpinning u t (sym q ∙ e)))
   leaves_undone (AsLate u q) t e none other = let bad = sym e ∙ q in cc
 
 module _ {S : Type 0} (P : Protocol S Bool Verdict) where
@@ -212,18 +248,24 @@ module _ {S : Type 0} (P : Protocol S Bool Verdict) where
       | inr h ↦ (let bad = sym rests ∙ h.gives in cc)
     ];
     resting_falls_back = λ rests w. let x = w.1.deciding.elects in absurd cc;
-    ended_stores = λ tenure page stored at ended w. let x = w.1.holds.holds in let y = w.1.holds.not_ended in absurd cc;
-    ended_publishes = λ tenure page stored at ended w. let x = w.1.holds.holds in let y = w.1.holds.not_ended in absurd cc;
-    stores_without_room = λ tenure page stored at full w. without_room v.core tenure page stored at full w.1.stored w.1.holds;
-    publishes_without_room = λ tenure page stored at full w. without_room v.core tenure page stored at full _ w.1.holds;
+    ended_stores = λ tenure page stored at ended w.
+        let x = w.1.holds.holds in let y = w.1.holds.not_ended in absurd cc;
+    ended_publishes = λ tenure page stored at ended w.
+        let x = w.1.holds.holds in let y = w.1.holds.not_ended in absurd cc;
+    stores_without_room = λ tenure page stored at full w.
+        without_room v.core tenure page stored at full w.1.stored w.1.holds;
+    publishes_without_room =
+        λ tenure page stored at full w. without_room v.core tenure page stored at full _ w.1.holds;
     unstored_publishes = λ tenure page stored at left w.
-        let same = same_stored tenure _ page _ stored _ false false (sym at ∙ w.1.holds.holds) in omega arith;
+        let same = same_stored tenure _ page _ stored _ false false (sym at ∙ w.1.holds.holds) in
+        omega arith;
     stores_past_the_frame = λ tenure page stored at past w.
         let same = same_stored tenure _ page _ stored _ false false (sym at ∙ w.1.holds.holds) in
         let left = w.1.word_left in
         omega arith;
     publishes_again = λ tenure page stored at w.
-        true≢false (same_page tenure w.1.holds.tenure page w.1.holds.page stored _ true false (sym at ∙ w.1.holds.holds)).1.1;
+        true≢false (same_page tenure w.1.holds.tenure page w.1.holds.page stored _ true false
+        (sym at ∙ w.1.holds.holds)).1.1;
     unsent_gives_back = λ tenure page stored at goes fits w. elim w.0 [
       | inl l ↦ unsent_stays v.core tenure page stored at goes fits l
       | inr h ↦ (let bad = sym at ∙ h.gives in cc)
@@ -235,13 +277,18 @@ module _ {S : Type 0} (P : Protocol S Bool Verdict) where
     unbrought_writes_second = λ is w. not_both P v.core w.1 is;
     unbrought_reads_second = λ is w. not_both P v.core w.1 is;
     brings_again = λ is w. not_both P v.core is w.1;
-    ratifies_in_a_conciliator = λ k stage of is w. let x = in_ratifier P v k of w in ratifier_alone P v.core x.0 stage x.1 is;
-    conciles_in_a_ratifier = λ k begun of is w. let x = in_conciliator P v k of w in ratifier_alone P v.core begun x.0 is x.1;
-    ratifies_at_the_fallback = λ k of is w. let x = in_ratifier P v k of w in no_ratifier_last P v.core x.0 x.1 is;
-    conciles_at_the_fallback = λ k of is w. let x = in_conciliator P v k of w in no_conciliator_last P v.core x.0 x.1 is;
+    ratifies_in_a_conciliator = λ k stage of is w.
+        let x = in_ratifier P v k of w in ratifier_alone P v.core x.0 stage x.1 is;
+    conciles_in_a_ratifier = λ k begun of is w.
+        let x = in_conciliator P v k of w in ratifier_alone P v.core begun x.0 is x.1;
+    ratifies_at_the_fallback =
+        λ k of is w. let x = in_ratifier P v k of w in no_ratifier_last P v.core x.0 x.1 is;
+    conciles_at_the_fallback =
+        λ k of is w. let x = in_conciliator P v k of w in no_conciliator_last P v.core x.0 x.1 is;
     unmarked_reads = λ is w. let x = same_stage P v.core _ _ is w.1 in absurd cc;
     marks_again = λ stage is other w. other (same_stage P v.core stage _ is w.1);
-    reads_mark_again = λ coin is w. let x = same_stage P v.core (AskCoin coin) _ is w.1 in absurd cc;
+    reads_mark_again =
+        λ coin is w. let x = same_stage P v.core (AskCoin coin) _ is w.1 in absurd cc;
     unasking_votes = λ stage is other w. other w.1.coin (same_stage P v.core stage _ is w.1.asks);
     unasking_counts = λ stage is other w. other w.1.coin (same_stage P v.core stage _ is w.1.asks);
     counting_votes = λ is w.
@@ -255,7 +302,9 @@ module _ {S : Type 0} (P : Protocol S Bool Verdict) where
         let z = w.1.stands in
         absurd cc;
     falls_back_too_soon = λ d is left w.
-        let none = ap (λ (x : Decider S ConciliatorState). x.after) (same_decision P v.core d w.1.decision is w.1.deciding) ∙ w.1.last in
+        let none =
+        ap (λ (x : Decider S ConciliatorState). x.after)
+        (same_decision P v.core d w.1.decision is w.1.deciding) ∙ w.1.last in
         omega arith;
     steps_once_elected = λ k i ne t o e at owner w. done_once_elected P v t o e at owner k i ne w;
     fitting_searches = λ t e runs fits w.
@@ -265,7 +314,9 @@ module _ {S : Type 0} (P : Protocol S Bool Verdict) where
         let same = (same_election t w.1.tenure e w.1.election (sym runs ∙ w.1.elects)).1 in
         let few = subst (λ z. z.left < bits_of v.core.layout.senders) (sym same) w.1.some_decided in
         omega arith;
-    searches_after_the_last = λ t e runs none w.
+    searches_after_the_last = λ t o e runs owner w.
+        done_once_elected P v t o e runs owner kind.ReadAnnouncement tt (λ i. absurd cc) w;
+    searches_with_none_left = λ t e runs none w.
         let same = (same_election t w.1.tenure e w.1.election (sym runs ∙ w.1.elects)).1 in
         let some = subst (λ z. 1 ≤ z.left) (sym same) w.1.some_left in
         omega arith;
@@ -274,10 +325,12 @@ module _ {S : Type 0} (P : Protocol S Bool Verdict) where
         let below = w.1.below in omega arith;
     takes_undecided = λ t e runs open_still w.
         let same = (same_election t w.1.tenure e w.1.election (sym runs ∙ w.1.elects)).1 in
-        let bad = sym open_still ∙ ap (elections P v.core.layout.rounds).output same ∙ w.1.spells in cc;
+        let bad = sym open_still ∙ ap (elections P v.core.layout.rounds).output same ∙ w.1.spells in
+        cc;
     takes_what_it_lost = λ t o e runs spells other w.
         let same = (same_election t w.1.tenure e w.1.election (sym runs ∙ w.1.elects)).1 in
-        other (same_Some _ _ (sym spells ∙ ap (elections P v.core.layout.rounds).output same ∙ w.1.spells));
+        other (same_Some _ _
+        (sym spells ∙ ap (elections P v.core.layout.rounds).output same ∙ w.1.spells));
   }
 
   -- what none has a cause for with a row for each tenure
@@ -307,7 +360,8 @@ module _ {S : Type 0} (P : Protocol S Bool Verdict) where
   stands v k i w = absurd i
 
   -- where rows are used again, on the row of that tenure
-  stands_again : (c : Core (Elector S)) (r : Reuse) (k : Kind) → IsOfElection k → HasCause P (sender c (Some r)) k
+  stands_again : (c : Core (Elector S)) (r : Reuse) (k : Kind) → IsOfElection k
+      → HasCause P (sender c (Some r)) k
       → StandsInRow (participant_of c r)
   stands_again c r k i w = stands (sender c (Some r)) k i w
 
@@ -317,17 +371,28 @@ module _ {S : Type 0} (P : Protocol S Bool Verdict) where
       let x = sizes_with c.layout r.rows in
       record {
         elects_away = λ k i e w. let s = stands_again c r k i w in let bad = sym e ∙ s.pin in cc;
-        elects_unseen = λ k t i e w. let s = stands_again c r k i w in let bad = sym e ∙ s.pin in cc;
-        elects_too_soon = λ k t i e w. let s = stands_again c r k i w in let bad = sym e ∙ s.pin in cc;
+        elects_unseen =
+            λ k t i e w. let s = stands_again c r k i w in let bad = sym e ∙ s.pin in cc;
+        elects_too_soon =
+            λ k t i e w. let s = stands_again c r k i w in let bad = sym e ∙ s.pin in cc;
         elects_elsewhere = λ k t u e i at runs other w.
             let s = stands_again c r k i w in
-            other (same_pinned t s.tenure (sym at ∙ s.pin) ∙ (same_election s.tenure u s.election e (sym s.elects ∙ runs)).0);
-        elects_while_unpinning = λ k t i e w. let s = stands_again c r k i w in let bad = sym e ∙ s.pin in cc;
-        elects_invalidated = λ k t i e w. let s = stands_again c r k i w in let bad = sym e ∙ s.pin in cc;
-        enters_the_past = λ t e past w. let same = same_tenure t w.tenure (sym e ∙ w.pin) in let may = w.may.least in omega arith;
-        looks_again_at_the_past = λ t e past w. let same = same_validating t w.tenure (sym e ∙ w.pin) in let may = w.may.least in omega arith;
-        enters_with_nothing = λ nothing opened w. sends_nothing _ _ nothing opened w.may.looks.something;
-        looks_again_with_nothing = λ nothing opened w. sends_nothing _ _ nothing opened w.may.looks.something;
+            other (same_pinned t s.tenure (sym at ∙ s.pin)
+            ∙ (same_election s.tenure u s.election e (sym s.elects ∙ runs)).0);
+        elects_while_unpinning =
+            λ k t i e w. let s = stands_again c r k i w in let bad = sym e ∙ s.pin in cc;
+        elects_invalidated =
+            λ k t i e w. let s = stands_again c r k i w in let bad = sym e ∙ s.pin in cc;
+        enters_the_past = λ t e past w.
+            let same = same_tenure t w.tenure (sym e ∙ w.pin) in
+            let may = w.may.least in omega arith;
+        looks_again_at_the_past = λ t e past w.
+            let same = same_validating t w.tenure (sym e ∙ w.pin) in
+            let may = w.may.least in omega arith;
+        enters_with_nothing =
+            λ nothing opened w. sends_nothing _ _ nothing opened w.may.looks.something;
+        looks_again_with_nothing =
+            λ nothing opened w. sends_nothing _ _ nothing opened w.may.looks.something;
         withdraws_away = λ e w. leaves_away (participant_of c r) w e;
         withdraws_pinned = λ t e w. leaves_pinned (participant_of c r) w t e;
         withdraws_undone = λ t e none other w. leaves_undone (participant_of c r) w t e none other;
@@ -338,7 +403,8 @@ module _ {S : Type 0} (P : Protocol S Bool Verdict) where
             omega arith;
         clears_before_it_scanned = λ s at left w.
             let same = same_Some _ _ (sym at ∙ w.makes.reclaims) in
-            let scanned = subst (λ (r : Reclaiming). r.senders ≤ r.scanned) (sym same) w.clearing.passed in
+            let scanned =
+            subst (λ (r : Reclaiming). r.senders ≤ r.scanned) (sym same) w.clearing.passed in
             omega arith;
         clears_elsewhere = λ s t at held other w.
             let row = ap (λ (r : Reclaiming). r.row) (same_Some _ _ (sym at ∙ w.makes.reclaims)) in
@@ -348,19 +414,23 @@ module _ {S : Type 0} (P : Protocol S Bool Verdict) where
             let same = same_Some _ _ (sym at ∙ w.makes.reclaims) in
             let left = subst (λ (r : Reclaiming). r.cleared < r.width) (sym same) w.clearing.left in
             omega arith;
-        asks_unsent = λ tenure page stored at goes fits w. unsent_stays c tenure page stored at goes fits w.makes.leaves;
-        clears_unsent = λ tenure page stored at goes fits w. unsent_stays c tenure page stored at goes fits w.makes.leaves;
+        asks_unsent = λ tenure page stored at goes fits w.
+            unsent_stays c tenure page stored at goes fits w.makes.leaves;
+        clears_unsent = λ tenure page stored at goes fits w.
+            unsent_stays c tenure page stored at goes fits w.makes.leaves;
         looks_while_unpinning = λ t e w. let bad = sym e ∙ w.away in cc;
         looks_invalidated = λ t e w. let bad = sym e ∙ w.away in cc;
         publishes_while_unpinning = λ t e w. let bad = sym e ∙ w.0 in cc;
         publishes_invalidated = λ t e w. let bad = sym e ∙ w.0 in cc;
-        gives_back_unready = λ s at unreclaimed w. true≢false (sym (subst (IsReady x w.1.tenure) at w.1.ready.ready) ∙ unreclaimed);
+        gives_back_unready = λ s at unreclaimed w.
+            true≢false (sym (subst (IsReady x w.1.tenure) at w.1.ready.ready) ∙ unreclaimed);
         gives_back_reclaimed_elsewhere = λ s t at held other w.
             let same = same_Some w.1.tenure t (sym w.1.held ∙ held) in
             other ((w.1.ready.of s at).row ∙ ap (λ u. row_of x (u + 1)) same);
         gives_back_unreclaimed = λ t none held late w.
             let same = same_Some w.1.tenure t (sym w.1.held ∙ held) in
-            let early : w.1.tenure + 1 < r.rows = subst (IsReady x w.1.tenure) none w.1.ready.ready in
+            let early : w.1.tenure + 1 < r.rows =
+            subst (IsReady x w.1.tenure) none w.1.ready.ready in
             omega arith;
       }
 
@@ -369,5 +439,6 @@ module _ {S : Type 0} (P : Protocol S Bool Verdict) where
   refused v = record {
     own = own_refused v;
     apart = apart_refused v;
-    again = λ r some. subst (λ y. RefusesAgain P (sender v.core y) r) (sym some) (again_refused v.core r);
+    again = λ r some.
+        subst (λ y. RefusesAgain P (sender v.core y) r) (sym some) (again_refused v.core r);
   }

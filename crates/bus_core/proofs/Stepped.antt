@@ -1,5 +1,6 @@
 -- What a step of a sender leaves, by what the calls gave.
-use Rattle.std.proofs.Common.{◌≡◌, ℕ, ◌+◌, ◌%◌, ◌<◌, ◌==◌, nat_lt, arith, Bool, true, false, cond, Option, Some, None, IfSome, refl, sym, ◌∙◌, ap, subst}
+use Rattle.std.proofs.Common.{◌≡◌, ℕ, ◌+◌, ◌%◌, ◌<◌, ◌==◌, nat_lt, arith, Bool, true, false, cond}
+use Rattle.std.proofs.Common.{Option, Some, None, IfSome, refl, sym, ◌∙◌, ap, subst}
 use Rattle.std.proofs.Math.Nat.{mod-lt}
 use Rattle.std.proofs.lemmas.Bool.{ltb-true}
 use Rattle.bus_register.specs.declared.registers.Op.{Op}
@@ -9,7 +10,10 @@ use Rattle.bus_ownerbits.proofs.ElectionSteps.{row_within}
 use Rattle.bus_presence.specs.Reclaimers.{Reclaiming}
 use Rattle.bus_presence.specs.declared.pins.Pin.TheVariants.{Pinned, Unpinning}
 use Rattle.bus_tenure.specs.Core.{Core, Election}
-use Rattle.bus_tenure.specs.Situations.{Situation as Own, IsClosed, IsIdle, IsSpent, LooksAtStage, Elects, TakesPage, AwaitsPage, StoresWord, StoresLength, GivesBack, HasHanded, situation_of as own_situation, answer_of_election, fed_at, answer_at, wants_at}
+use Rattle.bus_tenure.specs.Situations.{Situation as Own, IsClosed, IsIdle, IsSpent, LooksAtStage}
+use Rattle.bus_tenure.specs.Situations.{Elects, TakesPage, AwaitsPage, StoresWord, StoresLength}
+use Rattle.bus_tenure.specs.Situations.{GivesBack, HasHanded, situation_of as own_situation}
+use Rattle.bus_tenure.specs.Situations.{answer_of_election, fed_at, answer_at, wants_at}
 use Rattle.bus_tenure.specs.declared.pages.Page.{Page}
 use Rattle.bus_tenure.specs.declared.phases.Reason.{Reason}
 use Rattle.bus_tenure.specs.declared.phases.Phase.TheVariants.{Giving}
@@ -18,31 +22,36 @@ use Rattle.bus_tenure.specs.declared.turns.Turn.TheVariants as turn
 use Rattle.bus_core.proofs.Situated.{situation_tells, does_by, goes_does, held_reclaimer}
 use Rattle.bus_core.specs.Reusing.Keeping.{IsHeldReclaimer}
 use Rattle.bus_core.specs.Reusing.Participants.{sizes_with}
-use Rattle.bus_core.specs.Senders.{Sender, Situation, Does, Announces, Validates, Unpins, Withdraws, Scans, Clears, situation, words_all}
+use Rattle.bus_core.specs.Senders.{Sender, Situation, Does, Announces, Validates, Unpins}
+use Rattle.bus_core.specs.Senders.{Withdraws, Scans, Clears, situation, words_all}
 use Rattle.bus_core.specs.Table.{reuse_elected, line}
 use Rattle.bus_tenure.specs.Doings.{doing_of}
 use Rattle.bus_core.specs.Doings.{step_of, ending_of}
 use Rattle.bus_core.specs.declared.steps.Ending.{Ending}
 use Rattle.std.proofs.lemmas.Option.{same_Some}
-use Rattle.bus_core.specs.Keeping.{ReuseKeeps, reclaimer_left, reclaimer_op_of, sender, page_out, core_without, reuse_answered}
+use Rattle.bus_core.specs.Keeping.{ReuseKeeps, reclaimer_left, reclaimer_op_of, sender, page_out}
+use Rattle.bus_core.specs.Keeping.{core_without, reuse_answered}
 use Rattle.bus_tenure.specs.declared.doings.Doing.TheVariants as doing
 use Rattle.bus_core.specs.declared.reuses.Reuse.{Reuse}
 use Rattle.bus_core.specs.declared.steps.Step.TheVariants as step
 
 module _ {E : Type 0} where
   -- the step of a reclamation lies on a word of the bus
-  pub reclaimed_below : (width : ℕ) (Belongs : ℕ → E → Type 0) (c : Core E) (reuse : Option Reuse) → ReuseKeeps width Belongs c reuse
+  pub reclaimed_below : (width : ℕ) (Belongs : ℕ → E → Type 0) (c : Core E) (reuse : Option Reuse)
+      → ReuseKeeps width Belongs c reuse
       → (o : Op) → reclaimer_op_of reuse ≡ Some o → register o < words_all (sender c reuse)
   reclaimed_below width Belongs c None k o i = absurd cc
   reclaimed_below width Belongs c (Some r) k o i = by r.reclaimer refl i where
-    by : (l : Option Reclaiming) → r.reclaimer ≡ l → reclaimer_left l ≡ Some o → register o < words_all (sender c (Some r))
+    by : (l : Option Reclaiming) → r.reclaimer ≡ l → reclaimer_left l ≡ Some o
+        → register o < words_all (sender c (Some r))
     by None e j = absurd cc
     by (Some s) e j = lies (nat_lt s.scanned s.senders) (nat_lt s.cleared s.width) refl refl j where
       h : IsHeldReclaimer (sizes_with c.layout r.rows) c.phase s
       h = held_reclaimer width Belongs c r k s e
 
       lies : (a b : Bool) → nat_lt s.scanned s.senders ≡ a → nat_lt s.cleared s.width ≡ b
-          → cond a (Some (Load record { 0 = s.presences + s.scanned })) (cond b (Some (Store record { 0 = s.row + s.cleared } 0)) None)
+          → cond a (Some (Load record { 0 = s.presences + s.scanned }))
+          (cond b (Some (Store record { 0 = s.row + s.cleared } 0)) None)
           ≡ Some o
           → register o < words_all (sender c (Some r))
       lies true b p q j =
@@ -57,7 +66,8 @@ module _ {E : Type 0} where
           let wide = h.after.width in
           let below : s.cleared < s.width = ltb-true _ _ q in
           let some = k.rows_some in
-          let row = row_within ((h.tenure + 1) % r.rows) r.rows c.layout.width (mod-lt (h.tenure + 1) (omega arith)) in
+          let row = row_within ((h.tenure + 1) % r.rows) r.rows c.layout.width
+          (mod-lt (h.tenure + 1) (omega arith)) in
           omega arith
       lies false false p q j = absurd cc
 
@@ -68,20 +78,26 @@ module _ {E : Type 0} where
   elected_reuse c t None (Some r) = refl
   elected_reuse c t (Some o) (Some r) = by (o == c.me) where
     by : (b : Bool)
-        → reuse_answered (cond b turn.Going (turn.Lost t record { 0 = o })) t (Some r) ≡ Some record r { pin = cond b (Pinned t) (Unpinning t); lost = cond b r.lost (Some record { 0 = o }) }
+        → reuse_answered (cond b turn.Going (turn.Lost t record { 0 = o })) t (Some r)
+        ≡ Some record r {
+          pin = cond b (Pinned t) (Unpinning t);
+          lost = cond b r.lost (Some record { 0 = o });
+        }
     by true = refl
     by false = refl
 
 -- what a line leaves, by what the calls gave
 module _ {E : Type 0} (X : Election E) (c : Core E) (r : Option Reuse) (got word : ℕ) where
   -- what a step of its election leaves
-  pub fed_elects : (z : Own E) (t : ℕ) → doing_of z ≡ doing.Elects t → (c' : Core E) (a : Turn) (r' : Option Reuse)
+  pub fed_elects : (z : Own E) (t : ℕ) → doing_of z ≡ doing.Elects t
+      → (c' : Core E) (a : Turn) (r' : Option Reuse)
       → c' ≡ fed_at X c z got word → a ≡ answer_at X c z got word → r' ≡ reuse_answered a t r
       → sender c' r' ≡ (line X (sender c r) (Does z)).fed got word
   fed_elects (Elects u e) t d c' a r' i j k =
       let s : u ≡ t = cc in
       ap (λ y. sender y r') i
-      ∙ ap (sender _) (k ∙ ap (λ y. reuse_answered a y r) (sym s) ∙ ap (λ y. reuse_answered y u r) j ∙ elected_reuse c u (X.owner (X.fed e got word)) r)
+      ∙ ap (sender _) (k ∙ ap (λ y. reuse_answered a y r) (sym s) ∙ ap (λ y. reuse_answered y u r) j
+      ∙ elected_reuse c u (X.owner (X.fed e got word)) r)
   fed_elects z t d c' a r' i j k = absurd cc
 
   -- what a stored word leaves
@@ -97,16 +113,20 @@ module _ {E : Type 0} (X : Election E) (c : Core E) (r : Option Reuse) (got word
   fed_length z t words d = absurd cc
 
 -- a step that is told lies below what its telling lies below
-some_below : (x y : Option Op) (most : ℕ) → x ≡ y → ((o : Op) → y ≡ Some o → register o < most) → IfSome x (λ o. register o < most)
+some_below : (x y : Option Op) (most : ℕ) → x ≡ y → ((o : Op) → y ≡ Some o → register o < most)
+    → IfSome x (λ o. register o < most)
 some_below None y most e f = tt
 some_below (Some o) y most e f = f o (sym e)
 
 -- the step of a reclamation lies on a word of the bus
-pub reclaimed_some : {E : Type 0} (width : ℕ) (Belongs : ℕ → E → Type 0) (v w : Sender E) → v ≡ w → (reuse : Option Reuse)
-    → ReuseKeeps width Belongs v.core v.reuse → (x : Option Op) → x ≡ reclaimer_op_of v.reuse → IfSome x (λ o. register o < words_all w)
+pub reclaimed_some : {E : Type 0} (width : ℕ) (Belongs : ℕ → E → Type 0) (v w : Sender E) → v ≡ w
+    → (reuse : Option Reuse)
+    → ReuseKeeps width Belongs v.core v.reuse → (x : Option Op) → x ≡ reclaimer_op_of v.reuse
+    → IfSome x (λ o. register o < words_all w)
 reclaimed_some width Belongs v w same reuse k x told =
     subst (λ y. IfSome x (λ o. register o < words_all y)) same
-    (some_below x (reclaimer_op_of v.reuse) _ told (λ o i. reclaimed_below width Belongs v.core v.reuse k o i))
+    (some_below x (reclaimer_op_of v.reuse) _ told
+    (λ o i. reclaimed_below width Belongs v.core v.reuse k o i))
 
 module _ {E : Type 0} (X : Election E) (v : Sender E) where
   -- it asks for a random word as its turns do
@@ -124,7 +144,8 @@ module _ {E : Type 0} (X : Election E) (v : Sender E) where
   wants_own (HasHanded t reason) = refl
 
   -- no page goes out of its hands
-  pub none_out : (z : Situation E) → ending_of (step_of z) ≡ None → (page_out (line X v z).move ≡ None)
+  pub none_out : (z : Situation E) → ending_of (step_of z) ≡ None
+      → (page_out (line X v z).move ≡ None)
       × (core_without (line X v z).move v.core ≡ v.core)
   none_out (Does IsClosed) i = (refl, refl)
   none_out (Does IsIdle) i = (refl, refl)
@@ -156,7 +177,10 @@ module _ {E : Type 0} (X : Election E) (v : Sender E) where
   ends_with (Does (AwaitsPage t)) b i = absurd cc
   ends_with (Does (StoresWord t page stored)) b i = absurd cc
   ends_with (Does (StoresLength t page stored)) b i = absurd cc
-  ends_with (Does (GivesBack t page reason)) b i = (page, ap (λ y. Does (GivesBack y.tenure page y.reason)) (same_Some _ _ i))
+  ends_with (Does (GivesBack t page reason)) b i = (
+    page,
+    ap (λ y. Does (GivesBack y.tenure page y.reason)) (same_Some _ _ i),
+  )
   ends_with (Does (HasHanded t reason)) b i = absurd cc
   ends_with (Announces t) b i = absurd cc
   ends_with (Validates t) b i = absurd cc
@@ -167,18 +191,25 @@ module _ {E : Type 0} (X : Election E) (v : Sender E) where
 
   -- the page goes out of the hands of who gives it back
   pub some_out : (b : Ending) → ending_of (step_of (situation X v)) ≡ Some b → (page : Page)
-      × (situation X v ≡ Does (GivesBack b.tenure page b.reason)) × (own_situation X v.core ≡ GivesBack b.tenure page b.reason)
+      × (situation X v ≡ Does (GivesBack b.tenure page b.reason))
+      × (own_situation X v.core ≡ GivesBack b.tenure page b.reason)
   some_out b i =
       let e = ends_with (situation X v) b i in
       let d = does_by v.reuse (own_situation X v.core) _ (ap step_of e.1) in
-      let same : Does (own_situation X v.core) ≡ Does (GivesBack b.tenure e.0 b.reason) = sym d ∙ e.1 in
+      let same : Does (own_situation X v.core) ≡ Does (GivesBack b.tenure e.0 b.reason) =
+      sym d ∙ e.1 in
       (e.0, e.1, cc)
 
 -- ---- with the page handed on
 -- who gave the page back says so next
-pub handed_step : {E : Type 0} (X : Election E) (v : Sender E) (t : ℕ) (page : Page) (reason : Reason)
-    → situation X v ≡ Does (GivesBack t page reason) → own_situation X v.core ≡ GivesBack t page reason
-    → step_of (situation X (record { core = record v.core { phase = Giving t reason }; reuse = v.reuse })) ≡ step.Does (doing.Handed t reason)
+pub handed_step : {E : Type 0} (X : Election E) (v : Sender E) (t : ℕ) (page : Page)
+    (reason : Reason)
+    → situation X v ≡ Does (GivesBack t page reason)
+    → own_situation X v.core ≡ GivesBack t page reason
+    → step_of
+    (situation X (record { core = record v.core { phase = Giving t reason }; reuse = v.reuse }))
+    ≡ step.Does (doing.Handed t reason)
 handed_step {E} X v t page reason i own =
     ap (step_of {E = E})
-    (goes_does v.reuse (own_situation X v.core) (HasHanded t reason) (situation_tells X v (Does (GivesBack t page reason)) i).1 (λ s. refl))
+    (goes_does v.reuse (own_situation X v.core) (HasHanded t reason)
+    (situation_tells X v (Does (GivesBack t page reason)) i).1 (λ s. refl))

@@ -1,5 +1,6 @@
--- Why a sender takes a step of each kind: what holds of it before the step, read off what it holds. In a tenure the causes are the same
--- with both kinds of rows. Where rows are used again it stands in that tenure besides, and five kinds come only there.
+-- Why a sender takes a step of each kind: what holds of it before the step, read off what it holds.
+-- In a tenure the causes are the same with both kinds of rows. Where rows are used again it stands
+-- in that tenure besides, and five kinds come only there.
 use Rattle.std.specs.Prelude.{◌≡◌, ◌⊎◌, ℕ, ◌<◌, Bool, true, false, Some, IfSome, IsSomeAnd}
 use Rattle.bus_register.specs.declared.kinds.Kind.{Kind}
 use Rattle.bus_register.specs.declared.kinds.Kind.TheVariants as kind
@@ -7,8 +8,11 @@ use Rattle.bus_register.specs.declared.registers.SenderNo.{SenderNo}
 use Rattle.bus_register.specs.Protocol.{Protocol}
 use Rattle.bus_adoptcommit.specs.declared.verdicts.Verdict.{Verdict}
 use Rattle.bus_presence.specs.Reclaimers.{Reclaiming, IsClearing}
-use Rattle.bus_presence.specs.declared.pins.Pin.TheVariants.{Away, Announcing, Validating, Pinned, Unpinning, Invalidated}
-use Rattle.bus_tenure.specs.Causes.{BeginsElection, IsInRatifier, IsInConciliator, AsksCoin, CountsVotes, IsAtFallback, SearchesCandidate, IsElected, HasWordLeft, HasStoredAll, LeavesPage, HasHandedOn}
+use Rattle.bus_presence.specs.declared.pins.Pin.TheVariants.{Away, Announcing, Validating, Pinned}
+use Rattle.bus_presence.specs.declared.pins.Pin.TheVariants.{Unpinning, Invalidated}
+use Rattle.bus_tenure.specs.Causes.{BeginsElection, IsInRatifier, IsInConciliator, AsksCoin}
+use Rattle.bus_tenure.specs.Causes.{CountsVotes, IsAtFallback, SearchesCandidate, IsElected}
+use Rattle.bus_tenure.specs.Causes.{HasWordLeft, HasStoredAll, LeavesPage, HasHandedOn}
 use Rattle.bus_tenure.specs.Core.{Election}
 use Rattle.bus_tenure.specs.Elections.{Elector}
 use Rattle.bus_tenure.specs.declared.phases.Phase.TheVariants.{Resting, Electing}
@@ -34,10 +38,13 @@ pub record LooksAgain {E : Type 0} (v : Participant E) : Type 0 where
   pub pin : v.pin ≡ Validating tenure
   pub may : IsBound v.core tenure
 
--- its presence names a tenure that it remembers to have lost, or whose page it has taken, or that it may not stand in
+-- its presence names a tenure that it remembers to have lost, or whose page it has taken, or that
+-- it may not stand in
 pub data LeavesTenure {E : Type 0} (v : Participant E) : Type 0 where
-  AsLoser : (tenure : ℕ) (owner : SenderNo) → v.pin ≡ Unpinning tenure → v.lost ≡ Some owner → v.core.phase ≡ Resting → LeavesTenure v
-  AsHolder : (tenure : ℕ) → v.pin ≡ Unpinning tenure → held_of v.core.phase ≡ Some tenure → LeavesTenure v
+  AsLoser : (tenure : ℕ) (owner : SenderNo) → v.pin ≡ Unpinning tenure → v.lost ≡ Some owner
+      → v.core.phase ≡ Resting → LeavesTenure v
+  AsHolder : (tenure : ℕ) → v.pin ≡ Unpinning tenure → held_of v.core.phase ≡ Some tenure
+      → LeavesTenure v
   AsLate : (tenure : ℕ) → v.pin ≡ Invalidated tenure → LeavesTenure v
 
 -- it stands in the very tenure whose election it goes through
@@ -81,9 +88,12 @@ pub record HasRowReady {E : Type 0} (v : Participant E) : Type 0 where
 abbrev pub StandsInside : {E : Type 0} → Sender E → Type 0
 StandsInside v = IfSome v.reuse (λ r. StandsInRow (participant_of v.core r))
 
--- it would give the page of a tenure back, or has handed it on; where rows are used again, it pins none, and the row of the next one is ready
+-- it would give the page of a tenure back, or has handed it on; where rows are used again, it pins
+-- none, and the row of the next one is ready
 abbrev pub GivesPage : {E : Type 0} → Sender E → Type 0
-GivesPage v = (LeavesPage v.core ⊎ HasHandedOn v.core) × IfSome v.reuse (λ r. HasRowReady (participant_of v.core r))
+GivesPage v =
+    (LeavesPage v.core ⊎ HasHandedOn v.core)
+    × IfSome v.reuse (λ r. HasRowReady (participant_of v.core r))
 
 -- The sender has a cause for a step of this kind. The kinds of the last lines are a receiver's.
 abbrev pub HasCause : {S : Type 0} → Protocol S Bool Verdict → Sender (Elector S) → Kind → Type 0
@@ -112,5 +122,6 @@ HasCause P v kind.LoadLength = ⊥
 HasCause P v kind.LoadLogWord = ⊥
 
 -- whatever its next step is for, it has a cause
-abbrev pub IsCaused : {S : Type 0} → Election (Elector S) → Protocol S Bool Verdict → Sender (Elector S) → Type 0
+abbrev pub IsCaused : {S : Type 0} → Election (Elector S) → Protocol S Bool Verdict
+    → Sender (Elector S) → Type 0
 IsCaused X P v = (k : Kind) → (line_now X v).kind ≡ Some k → HasCause P v k

@@ -6,7 +6,8 @@ use Rattle.bus_tenure.specs.declared.doings.Doing.TheVariants as doing
 use Rattle.bus_core.specs.declared.steps.Step.{Step}
 use Rattle.bus_core.specs.declared.steps.Ending.{Ending}
 use Rattle.bus_core.specs.declared.steps.Step.TheVariants as step
-use Rattle.bus_core.specs.Senders.{Situation, Does, Announces, Validates, Unpins, Withdraws, Scans, Clears}
+use Rattle.bus_core.specs.Senders.{Situation, Does, Announces, Validates, Unpins, Withdraws, Scans}
+use Rattle.bus_core.specs.Senders.{Clears}
 
 -- a step shows what it is, and what code does it with
 abbrev pub step_of : {E : Type 0} → Situation E → Step

@@ -36,7 +36,8 @@ abbrev pub reclaimer_in : Option Reuse → Option Reclaiming
 reclaimer_in None = None
 reclaimer_in (Some r) = r.reclaimer
 
--- what is left where the step of an election of this tenure is answered so by a sender with a row for each tenure
+-- what is left where the step of an election of this tenure is answered so by a sender with a row
+-- for each tenure
 abbrev pub reuse_by : Turn → ℕ → Reuse → Reuse
 reuse_by (turn.Lost u o) t r = record r { pin = Unpinning t; lost = Some o }
 reuse_by turn.Idle t r = record r { pin = Pinned t }
@@ -89,7 +90,13 @@ new_sender x me rows first = record {
   core = record {
     layout = x;
     me = me;
-    queue = record { sender = record { 0 = me }; first = first; messages = []; phase = Open; busy = false };
+    queue = record {
+      sender = record { 0 = me };
+      first = first;
+      messages = [];
+      phase = Open;
+      busy = false;
+    };
     least = 0;
     phase = phase.Resting;
   };

@@ -4,11 +4,13 @@ use Rattle.bus_presence.specs.Reclamation.{presence_at, row_of}
 use Rattle.bus_presence.specs.Reclaimers.{Reclaiming}
 use Rattle.bus_presence.specs.declared.pins.Pin.TheVariants.{Pinned}
 use Rattle.bus_tenure.specs.Core.{Layout, length_at, stage_at, row_at}
-use Rattle.bus_tenure.specs.Situations.{IsClosed, IsIdle, IsSpent, LooksAtStage, Elects, TakesPage, AwaitsPage, StoresWord, StoresLength, GivesBack, HasHanded}
+use Rattle.bus_tenure.specs.Situations.{IsClosed, IsIdle, IsSpent, LooksAtStage, Elects, TakesPage}
+use Rattle.bus_tenure.specs.Situations.{AwaitsPage, StoresWord, StoresLength, GivesBack, HasHanded}
 use Rattle.bus_core.specs.Reusing.Participants.{sizes_with}
 use Rattle.bus_core.specs.Reusing.Keeping.{held_of}
 use Rattle.bus_core.specs.declared.reuses.Reuse.{Reuse}
-use Rattle.bus_core.specs.Senders.{Sender, Situation, Does, Announces, Validates, Unpins, Withdraws, Scans, Clears, log_start}
+use Rattle.bus_core.specs.Senders.{Sender, Situation, Does, Announces, Validates, Unpins}
+use Rattle.bus_core.specs.Senders.{Withdraws, Scans, Clears, log_start}
 use Rattle.bus_core.specs.Table.{presence_of}
 
 -- where the row begins that this tenure uses
@@ -37,14 +39,16 @@ pub record IsInNextRow {E : Type 0} (v : Sender E) (r : ℕ) : Type 0 where
   pub held : held_of v.core.phase ≡ Some tenure
   pub row : IsInRow v.core.layout v.reuse (tenure + 1) r
 
--- A step on a word of a row is the election's, on the row of the tenure that the sender stands in, or the reclamation's, in the row that it
--- clears. An election's tenure is one of those of the bus. A step on a presence is on the sender's own, or on the one that the reclamation asks.
+-- A step on a word of a row is the election's, on the row of the tenure that the sender stands in,
+-- or the reclamation's, in the row that it clears. An election's tenure is one of those of the bus.
+-- A step on a presence is on the sender's own, or on the one that the reclamation asks.
 abbrev pub LiesAt : {E : Type 0} → Sender E → Situation E → ℕ → Type 0
 LiesAt v (Does IsClosed) r = ⊥
 LiesAt v (Does IsIdle) r = ⊥
 LiesAt v (Does IsSpent) r = ⊥
 LiesAt v (Does LooksAtStage) r = r ≡ stage_at
-LiesAt v (Does (Elects t e)) r = (t < v.core.layout.rows) × StandsIn v.reuse t × IsInRow v.core.layout v.reuse t r
+LiesAt v (Does (Elects t e)) r =
+    (t < v.core.layout.rows) × StandsIn v.reuse t × IsInRow v.core.layout v.reuse t r
 LiesAt v (Does (TakesPage t)) r = (t < v.core.layout.rows) × StandsIn v.reuse t × (r ≡ stage_at)
 LiesAt v (Does (AwaitsPage t)) r = ⊥
 LiesAt v (Does (StoresWord t page stored)) r = log_start v.core.layout v.reuse ≤ r

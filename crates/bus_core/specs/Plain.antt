@@ -9,10 +9,13 @@ use Rattle.bus_tenure.specs.declared.pages.Page.{Page}
 use Rattle.bus_core.specs.Senders.{Sender, Does, Clears, situation, words_all}
 use Rattle.bus_core.specs.Table.{line_now}
 
--- the next step stores a word of a frame, or clears a word of the next row once the frame stands in the log
+-- the next step stores a word of a frame, or clears a word of the next row once the frame stands in
+-- the log
 pub data IsPlain {E : Type 0} (X : Election E) (v : Sender E) : Type 0 where
-  Word : (t : ℕ) (page : Page) (stored : ℕ) → situation X v ≡ Does (StoresWord t page stored) → IsPlain X v
-  Clear : (s : Reclaiming) → situation X v ≡ Clears s → IsClearing s → HoldsPublished v.core.phase → IsPlain X v
+  Word : (t : ℕ) (page : Page) (stored : ℕ) → situation X v ≡ Does (StoresWord t page stored)
+      → IsPlain X v
+  Clear : (s : Reclaiming) → situation X v ≡ Clears s → IsClearing s → HoldsPublished v.core.phase
+      → IsPlain X v
 
 -- the next step is this plain store, of a word behind the length and the stage
 pub record StoresPlain {E : Type 0} (X : Election E) (v : Sender E) (at value : ℕ) : Type 0 where

@@ -12,7 +12,8 @@ abbrev pub pin_of : Option Reuse → Option Pin
 pin_of None = None
 pin_of (Some r) = Some r.pin
 
--- the tenure that it has begun: where rows are used again, from the load of the stage that was a tenure's which it may enter
+-- the tenure that it has begun: where rows are used again, from the load of the stage that was a
+-- tenure's which it may enter
 abbrev pub begun_by : {E : Type 0} → Core E → Option Reuse → Option ℕ
 begun_by c None = tenure_of c.phase
 begun_by c (Some r) = tenure_begun_by c r.pin

@@ -1,11 +1,14 @@
--- One sender: what it holds, and the situations that it can be in. Its rows are used again where it has a Reuse; with None each tenure has a
--- row of its own.
+-- One sender: what it holds, and the situations that it can be in. Its rows are used again where it
+-- has a Reuse; with None each tenure has a row of its own.
 use Rattle.std.specs.Prelude.{ℕ, ◌+◌, Option, Some, None, nat_lt, if◌then◌else◌}
 use Rattle.bus_presence.specs.Reclaimers.{Reclaiming}
 use Rattle.bus_presence.specs.declared.pins.Pin.{Pin}
-use Rattle.bus_presence.specs.declared.pins.Pin.TheVariants.{Away, Announcing, Validating, Pinned, Unpinning, Invalidated}
+use Rattle.bus_presence.specs.declared.pins.Pin.TheVariants.{Away, Announcing, Validating, Pinned}
+use Rattle.bus_presence.specs.declared.pins.Pin.TheVariants.{Unpinning, Invalidated}
 use Rattle.bus_tenure.specs.Core.{Core, Election, Layout, log_at}
-use Rattle.bus_tenure.specs.Situations.{Situation as Own, IsClosed, IsIdle, IsSpent, LooksAtStage, Elects, TakesPage, AwaitsPage, StoresWord, StoresLength, GivesBack, HasHanded, situation_of as own_situation}
+use Rattle.bus_tenure.specs.Situations.{Situation as Own, IsClosed, IsIdle, IsSpent, LooksAtStage}
+use Rattle.bus_tenure.specs.Situations.{Elects, TakesPage, AwaitsPage, StoresWord, StoresLength}
+use Rattle.bus_tenure.specs.Situations.{GivesBack, HasHanded, situation_of as own_situation}
 use Rattle.bus_core.specs.Reusing.Participants.{log_from}
 use Rattle.bus_core.specs.Reusing.Turns.{Participant}
 use Rattle.bus_core.specs.declared.reuses.Reuse.{Reuse}
@@ -16,7 +19,13 @@ pub record Sender (E : Type 0) : Type 0 where
 
 -- where rows are used again, as a participant
 abbrev pub participant_of : {E : Type 0} → Core E → Reuse → Participant E
-participant_of c r = record { core = c; pin = r.pin; reclaimer = r.reclaimer; lost = r.lost; rows = r.rows }
+participant_of c r = record {
+  core = c;
+  pin = r.pin;
+  reclaimer = r.reclaimer;
+  lost = r.lost;
+  rows = r.rows;
+}
 
 -- ---- the words
 -- where the log begins
@@ -47,7 +56,9 @@ pub data Situation (E : Type 0) : Type 0 where
 
 abbrev pub reclaiming : {E : Type 0} → Option Reclaiming → Own E → Situation E
 reclaiming None z = Does z
-reclaiming (Some s) z = if nat_lt s.scanned s.senders then Scans s else (if nat_lt s.cleared s.width then Clears s else Does z)
+reclaiming (Some s) z =
+    if nat_lt s.scanned s.senders then Scans s
+    else (if nat_lt s.cleared s.width then Clears s else Does z)
 
 -- what is left of a reclamation comes before the page is given back
 abbrev pub at_home : {E : Type 0} → Option Reclaiming → Own E → Situation E

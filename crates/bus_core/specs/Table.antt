@@ -1,5 +1,6 @@
 -- The table of a sender's turns: one line for each situation, for both kinds of rows.
-use Rattle.std.specs.Prelude.{ℕ, ◌+◌, ◌-◌, ◌*◌, ◌/◌, Bool, true, false, Option, Some, None, ◌==◌, if◌then◌else◌, slice_index, unwrap_or}
+use Rattle.std.specs.Prelude.{ℕ, ◌+◌, ◌-◌, ◌*◌, ◌/◌, Bool, true, false, Option, Some, None, ◌==◌}
+use Rattle.std.specs.Prelude.{if◌then◌else◌, slice_index, unwrap_or}
 use Rattle.bus_register.specs.declared.kinds.Kind.{Kind}
 use Rattle.bus_register.specs.declared.kinds.Kind.TheVariants as kind
 use Rattle.bus_register.specs.declared.registers.Op.{Op}
@@ -10,16 +11,24 @@ use Rattle.bus_batch.specs.Frames.{Frame, frame_words}
 use Rattle.bus_presence.specs.Reclamation.{presence_at, row_of, reclaimer_after}
 use Rattle.bus_presence.specs.Reclaimers.{Reclaiming, reclaim_fed, behind_of}
 use Rattle.bus_presence.specs.declared.pins.Pin.{Pin}
-use Rattle.bus_presence.specs.declared.pins.Pin.TheVariants.{Away, Validating, Pinned, Unpinning, Invalidated}
-use Rattle.bus_tenure.specs.Core.{Core, Election, Layout, length_at, stage_at, row_at, frame_len, page_after}
+use Rattle.bus_presence.specs.declared.pins.Pin.TheVariants.{Away, Validating, Pinned, Unpinning}
+use Rattle.bus_presence.specs.declared.pins.Pin.TheVariants.{Invalidated}
+use Rattle.bus_tenure.specs.Core.{Core, Election, Layout, length_at, stage_at, row_at, frame_len}
+use Rattle.bus_tenure.specs.Core.{page_after}
 use Rattle.bus_tenure.specs.Seen.{tenure_of}
-use Rattle.bus_tenure.specs.Situations.{IsClosed, IsIdle, IsSpent, LooksAtStage, Elects, TakesPage, AwaitsPage, StoresWord, StoresLength, GivesBack, HasHanded, PageMove, Stays, Comes, Returns, core_begun, core_after_stage, answer_of_stage, core_elected, answer_of_election, core_at_rest, answer_of_return}
+use Rattle.bus_tenure.specs.Situations.{IsClosed, IsIdle, IsSpent, LooksAtStage, Elects, TakesPage}
+use Rattle.bus_tenure.specs.Situations.{AwaitsPage, StoresWord, StoresLength, GivesBack, HasHanded}
+use Rattle.bus_tenure.specs.Situations.{PageMove, Stays, Comes, Returns, core_begun}
+use Rattle.bus_tenure.specs.Situations.{core_after_stage, answer_of_stage, core_elected}
+use Rattle.bus_tenure.specs.Situations.{answer_of_election, core_at_rest, answer_of_return}
 use Rattle.bus_tenure.specs.declared.phases.Phase.TheVariants.{Taken, Holding}
 use Rattle.bus_tenure.specs.declared.turns.Turn.{Turn}
 use Rattle.bus_tenure.specs.declared.turns.Turn.TheVariants as turn
-use Rattle.bus_core.specs.Reusing.Participants.{sizes_with, core_seen, pin_seen, pin_elected, lost_elected}
+use Rattle.bus_core.specs.Reusing.Participants.{sizes_with, core_seen, pin_seen, pin_elected}
+use Rattle.bus_core.specs.Reusing.Participants.{lost_elected}
 use Rattle.bus_core.specs.Reusing.Turns.{op_placed, answer_of_loss, answer_of_reclaim}
-use Rattle.bus_core.specs.Senders.{Sender, Situation, Does, Announces, Validates, Unpins, Withdraws, Scans, Clears, log_start, situation}
+use Rattle.bus_core.specs.Senders.{Sender, Situation, Does, Announces, Validates, Unpins}
+use Rattle.bus_core.specs.Senders.{Withdraws, Scans, Clears, log_start, situation}
 use Rattle.bus_core.specs.declared.reuses.Reuse.{Reuse}
 
 pub record Line (E : Type 0) : Type 0 where
@@ -55,12 +64,18 @@ in_row x (Some r) t o = op_placed (λ at. row_of (sizes_with x r.rows) t + (at -
 -- after a first look at the stage
 abbrev pub seen : {E : Type 0} → Election E → Core E → Option Reuse → ℕ → Sender E
 seen X c None got = record { core = core_after_stage X c got; reuse = None }
-seen X c (Some r) got = record { core = core_seen c got; reuse = Some record r { pin = pin_seen c got } }
+seen X c (Some r) got = record {
+  core = core_seen c got;
+  reuse = Some record r { pin = pin_seen c got };
+}
 
 -- who lost a tenure remembers its owner, until its presence is cleared
 abbrev pub reuse_elected : {E : Type 0} → Core E → Option Reuse → ℕ → Option ℕ → Option Reuse
 reuse_elected c None t own = None
-reuse_elected c (Some r) t own = Some record r { pin = pin_elected c t own; lost = lost_elected c r.lost own }
+reuse_elected c (Some r) t own = Some record r {
+  pin = pin_elected c t own;
+  lost = lost_elected c r.lost own;
+}
 
 abbrev pub answer_elected : {E : Type 0} → Core E → Option Reuse → ℕ → Option ℕ → Turn
 answer_elected c None t own = answer_of_election c t own
@@ -69,7 +84,10 @@ answer_elected c (Some r) t own = turn.Going
 -- the reclamation begins with the page that is taken
 abbrev pub reuse_taken : Layout → Option Reuse → ℕ → Option Reuse
 reuse_taken x None t = None
-reuse_taken x (Some r) t = Some record r { pin = Unpinning t; reclaimer = reclaimer_after (sizes_with x r.rows) t }
+reuse_taken x (Some r) t = Some record r {
+  pin = Unpinning t;
+  reclaimer = reclaimer_after (sizes_with x r.rows) t;
+}
 
 -- and is over with the page that is given back
 abbrev pub reuse_given : Option Reuse → Option Reuse
@@ -112,9 +130,11 @@ blank v answer = record {
 abbrev pub rests : {E : Type 0} → Sender E → Turn → Line E
 rests v answer = record (blank v answer) { rest = Some answer }
 
--- in this tenure this step is due, after which the sender is this one, with this answer, whatever the step found
+-- in this tenure this step is due, after which the sender is this one, with this answer, whatever
+-- the step found
 abbrev pub steps : {E : Type 0} → ℕ → Kind → Op → Sender E → Turn → Line E
-steps t kind op after answer = record (blank after answer) { tenure = Some t; kind = Some kind; op = λ word. Some op }
+steps t kind op after answer =
+    record (blank after answer) { tenure = Some t; kind = Some kind; op = λ word. Some op }
 
 -- ---- THE TABLE: one line for each situation
 abbrev pub line : {E : Type 0} → Election E → Sender E → Situation E → Line E
@@ -128,15 +148,18 @@ line X v (Does LooksAtStage) = record (blank v turn.Going) {
   answer = λ got word. answer_of_stage v.core got;
 }
 line X v (Announces t) =
-    steps t kind.Enter (Store record { 0 = presence_of v.core } (1 + t)) (record v { reuse = reuse_pinning v.reuse (Validating t) }) turn.Going
-line X v (Validates t) = record (steps t kind.LoadStageAgain (Load record { 0 = stage_at }) v turn.Going) {
-  fed = λ got word. record {
-    core = if got / 2 == t then core_begun X v.core t else v.core;
-    reuse = reuse_pinning v.reuse (if got / 2 == t then Pinned t else Invalidated t);
-  };
-}
+    steps t kind.Enter (Store record { 0 = presence_of v.core } (1 + t))
+    (record v { reuse = reuse_pinning v.reuse (Validating t) }) turn.Going
+line X v (Validates t) =
+    record (steps t kind.LoadStageAgain (Load record { 0 = stage_at }) v turn.Going) {
+      fed = λ got word. record {
+        core = if got / 2 == t then core_begun X v.core t else v.core;
+        reuse = reuse_pinning v.reuse (if got / 2 == t then Pinned t else Invalidated t);
+      };
+    }
 line X v (Withdraws t) =
-    steps t kind.Withdraw (Store record { 0 = presence_of v.core } 0) (record v { reuse = reuse_pinning v.reuse Away }) turn.Waiting
+    steps t kind.Withdraw (Store record { 0 = presence_of v.core } 0)
+    (record v { reuse = reuse_pinning v.reuse Away }) turn.Waiting
 line X v (Does (Elects t e)) = record (blank v turn.Going) {
   tenure = Some t;
   kind = X.kind_of e;
@@ -150,21 +173,27 @@ line X v (Does (Elects t e)) = record (blank v turn.Going) {
   chosen = λ got word. X.owner (X.fed e got word);
 }
 line X v (Unpins t) =
-    steps t kind.Withdraw (Store record { 0 = presence_of v.core } 0) (record v { reuse = reuse_pinning v.reuse Away })
+    steps t kind.Withdraw (Store record { 0 = presence_of v.core } 0)
+    (record v { reuse = reuse_pinning v.reuse Away })
     (answer_of_loss t (lost_of v.reuse))
 line X v (Does (TakesPage t)) =
     record (steps t kind.TakePage (Store record { 0 = stage_at } (2 * t + 1))
-    (record { core = record v.core { phase = Taken t }; reuse = reuse_taken v.core.layout v.reuse t }) (turn.Own t)) {
+    (record {
+      core = record v.core { phase = Taken t };
+      reuse = reuse_taken v.core.layout v.reuse t;
+    }) (turn.Own t)) {
       move = Comes t;
       takes = true;
     }
 line X v (Does (AwaitsPage t)) = record (blank v turn.Going) { tenure = Some t; move = Comes t }
 line X v (Does (StoresWord t page stored)) =
     steps t kind.StoreLogWord
-    (Store record { 0 = log_start v.core.layout v.reuse + page.words + stored } (slice_index (frame_words (frame_of v.core.queue t)) stored))
+    (Store record { 0 = log_start v.core.layout v.reuse + page.words + stored }
+    (slice_index (frame_words (frame_of v.core.queue t)) stored))
     (record v { core = record v.core { phase = Holding t page (stored + 1) false } }) turn.Going
 line X v (Does (StoresLength t page stored)) =
-    record (steps t kind.StoreLength (Store record { 0 = length_at } (page.words + frame_len v.core))
+    record (steps t kind.StoreLength
+    (Store record { 0 = length_at } (page.words + frame_len v.core))
     (record v { core = record v.core { phase = Holding t page stored true } }) turn.Going) {
       publishes = Some (frame_of v.core.queue t);
     }
@@ -184,12 +213,14 @@ line X v (Clears s) = record (blank v turn.Going) {
 }
 line X v (Does (GivesBack t page reason)) =
     record (steps t kind.GivePageBack (Store record { 0 = stage_at } (2 * t + 2))
-    (record { core = core_at_rest v.core reason t; reuse = reuse_given v.reuse }) (answer_of_return v.core.queue t reason)) {
+    (record { core = core_at_rest v.core reason t; reuse = reuse_given v.reuse })
+    (answer_of_return v.core.queue t reason)) {
       move = Returns t reason (page_after v.core t page reason);
     }
 line X v (Does (HasHanded t reason)) =
     steps t kind.GivePageBack (Store record { 0 = stage_at } (2 * t + 2))
-    (record { core = core_at_rest v.core reason t; reuse = reuse_given v.reuse }) (answer_of_return v.core.queue t reason)
+    (record { core = core_at_rest v.core reason t; reuse = reuse_given v.reuse })
+    (answer_of_return v.core.queue t reason)
 
 -- the line of the situation that it is in
 abbrev pub line_now : {E : Type 0} → Election E → Sender E → Line E

@@ -1,18 +1,23 @@
--- What the answer of a turn tells, by what the sender held before it: of one with a step, and of one without.
-use Rattle.std.specs.Prelude.{◌≡◌, ◌≢◌, ◌⊎◌, ℕ, ◌+◌, ◌-◌, ◌/◌, ◌%◌, ◌<◌, ◌≤◌, false, true, Option, Some, None, [], IfSome, IsSome, IsSomeAnd}
+-- What the answer of a turn tells, by what the sender held before it: of one with a step, and of
+-- one without.
+use Rattle.std.specs.Prelude.{◌≡◌, ◌≢◌, ◌⊎◌, ℕ, ◌+◌, ◌-◌, ◌/◌, ◌%◌, ◌<◌, ◌≤◌, false, true, Option}
+use Rattle.std.specs.Prelude.{Some, None, [], IfSome, IsSome, IsSomeAnd}
 use Rattle.bus_register.specs.declared.registers.Op.TheVariants.{Load}
 use Rattle.bus_register.specs.declared.registers.SenderNo.{SenderNo}
 use Rattle.bus_batch.specs.Batches.{next_of, HasSomething}
 use Rattle.bus_batch.specs.declared.batches.Phase.TheVariants as batch
 use Rattle.bus_presence.specs.Reclamation.{presence_at}
-use Rattle.bus_presence.specs.declared.pins.Pin.TheVariants.{Announcing, Validating, Unpinning, Invalidated}
+use Rattle.bus_presence.specs.declared.pins.Pin.TheVariants.{Announcing, Validating, Unpinning}
+use Rattle.bus_presence.specs.declared.pins.Pin.TheVariants.{Invalidated}
 use Rattle.bus_tenure.specs.Causes.{LooksForTenure}
 use Rattle.bus_tenure.specs.Core.{Core, Election, is_marking, is_closing, is_leaving}
 use Rattle.bus_tenure.specs.Seen.{HasElection, AwaitsItsPage}
 use Rattle.bus_tenure.specs.Situations.{Elects, situation_of}
 use Rattle.bus_tenure.specs.declared.phases.Phase.TheVariants.{Resting, Electing}
 use Rattle.bus_tenure.specs.declared.turns.Turn.{Turn}
-use Rattle.bus_tenure.specs.declared.turns.Turn.TheVariants.{Idle, Waiting, Going, Lost, Own, Delivered, Left, Full, Closed, Spent, Behind}
+use Rattle.bus_tenure.specs.declared.turns.Turn.TheVariants.{Idle, Waiting, Going, Lost, Own}
+use Rattle.bus_tenure.specs.declared.turns.Turn.TheVariants.{Delivered, Left, Full, Closed, Spent}
+use Rattle.bus_tenure.specs.declared.turns.Turn.TheVariants.{Behind}
 use Rattle.bus_core.specs.Keeping.{IsAway}
 use Rattle.bus_core.specs.Places.{StandsIn}
 use Rattle.bus_core.specs.Reusing.Participants.{sizes_with}
@@ -28,16 +33,19 @@ pub record HasBegunNone {E : Type 0} (v : Sender E) : Type 0 where
   pub rests : v.core.phase ≡ Resting
   pub away : IsAway v.reuse
 
--- besides it has something to send, and a tenure left to enter: so it looks at the stage for the first time
+-- besides it has something to send, and a tenure left to enter: so it looks at the stage for the
+-- first time
 pub record LooksFirst {E : Type 0} (v : Sender E) : Type 0 where
   pub away : IsAway v.reuse
   pub looks : LooksForTenure v.core
 
--- where rows are used again its presence names this tenure, and it looks at the stage for the second time
+-- where rows are used again its presence names this tenure, and it looks at the stage for the
+-- second time
 abbrev pub LooksSecond : {E : Type 0} → Sender E → ℕ → Type 0
 LooksSecond v t = IsSomeAnd v.reuse (λ r. r.pin ≡ Validating t)
 
--- it looked at the stage for the first time, and that was of a held tenure, or of one that it may not enter any more
+-- it looked at the stage for the first time, and that was of a held tenure, or of one that it may
+-- not enter any more
 pub record LooksInVain {E : Type 0} (v : Sender E) (got : ℕ) : Type 0 where
   pub looks : LooksFirst v
   pub vain : (got % 2 ≡ 1) ⊎ (got / 2 < v.core.least)
@@ -82,7 +90,8 @@ RestTells v Closed = RestsClosed v
 RestTells v Spent = RestsSpent v
 RestTells v (Behind t p) = ⊥
 
--- it goes on: a step is due, its election runs or has chosen it, or the page that it took is to be laid
+-- it goes on: a step is due, its election runs or has chosen it, or the page that it took is to be
+-- laid
 abbrev pub GoesOn : {E : Type 0} → Election E → Sender E → Type 0
 GoesOn X v = IsSome (line_now X v).kind ⊎ (HasElection v.core.phase ⊎ AwaitsItsPage v.core.phase)
 
@@ -97,7 +106,8 @@ pub record IsInvalidated (r : Reuse) : Type 0 where
   pub is : r.pin ≡ Invalidated tenure
 
 -- the step ended its election of this tenure, in favour of this owner, another sender
-pub record LosesElection {E : Type 0} (X : Election E) (v : Sender E) (got word t : ℕ) (o : SenderNo) : Type 0 where
+pub record LosesElection {E : Type 0} (X : Election E) (v : Sender E) (got word t : ℕ)
+    (o : SenderNo) : Type 0 where
   pub election : E
   pub elects : situation X v ≡ Does (Elects t election)
   pub chosen : X.owner (X.fed election got word) ≡ Some o.0
@@ -109,29 +119,33 @@ pub record PartsAsLoser (me : ℕ) (r : Reuse) (t : ℕ) (o : SenderNo) : Type 0
   pub lost : r.lost ≡ Some o
   pub other : o.0 ≢ me
 
--- it lost this tenure to this owner: with the step that ended its election, or where rows are used again with the one that clears its
--- presence
-abbrev pub LosesBy : {E : Type 0} → Election E → Sender E → ℕ → ℕ → ℕ → SenderNo → Option Reuse → Type 0
+-- it lost this tenure to this owner: with the step that ended its election, or where rows are used
+-- again with the one that clears its presence
+abbrev pub LosesBy : {E : Type 0} → Election E → Sender E → ℕ → ℕ → ℕ → SenderNo → Option Reuse
+    → Type 0
 LosesBy X v got word t o None = LosesElection X v got word t o
 LosesBy X v got word t o (Some r) = PartsAsLoser v.core.me r t o
 
 abbrev pub Loses : {E : Type 0} → Election E → Sender E → ℕ → ℕ → ℕ → SenderNo → Type 0
 Loses X v got word t o = LosesBy X v got word t o v.reuse
 
--- its election of this tenure had ended and chosen it; where rows are used again it stood in that tenure
+-- its election of this tenure had ended and chosen it; where rows are used again it stood in that
+-- tenure
 pub record IsChosen {E : Type 0} (X : Election E) (v : Sender E) (t : ℕ) : Type 0 where
   pub pinned : StandsIn v.reuse t
   pub election : E
   pub elects : v.core.phase ≡ Electing t election
   pub chosen : X.owner election ≡ Some v.core.me
 
--- it gives the page of this tenure back, or has handed it on, and where rows are used again the row of the next tenure was ready
+-- it gives the page of this tenure back, or has handed it on, and where rows are used again the row
+-- of the next tenure was ready
 pub record GivesReady {E : Type 0} (X : Election E) (v : Sender E) (t : ℕ) : Type 0 where
   pub does : situation X v ≡ Does (situation_of X v.core)
   pub returns : Returns t (situation_of X v.core)
   pub ready : IfSome v.reuse (λ r. IsRowReady (sizes_with v.core.layout r.rows) t r.reclaimer)
 
--- it gives the page of this tenure back with its messages in the log, and these are the first and the last number of its batch
+-- it gives the page of this tenure back with its messages in the log, and these are the first and
+-- the last number of its batch
 pub record Delivers {E : Type 0} (X : Election E) (v : Sender E) (t first last : ℕ) : Type 0 where
   pub gives : GivesReady X v t
   pub published : HasPublished t v.core.phase
@@ -155,11 +169,15 @@ pub record IsFull {E : Type 0} (X : Election E) (v : Sender E) : Type 0 where
 pub record Ends {E : Type 0} (X : Election E) (v : Sender E) : Type 0 where
   pub tenure : ℕ
   pub gives : GivesReady X v tenure
-  pub why : ((is_closing v.core.queue.phase ≡ true) × HasPublished tenure v.core.phase) ⊎ FindsEnd tenure v.core.phase
+  pub why : ((is_closing v.core.queue.phase ≡ true) × HasPublished tenure v.core.phase)
+      ⊎ FindsEnd tenure v.core.phase
 
--- it holds a page, and loaded the presence of sender p, which named tenure t, whose row the tenure after its own uses
-pub record IsBehind {E : Type 0} (X : Election E) (v : Sender E) (got word t p : ℕ) (r : Reuse) : Type 0 where
-  pub loads : (line_now X v).op word ≡ Some (Load record { 0 = presence_at (sizes_with v.core.layout r.rows) p })
+-- it holds a page, and loaded the presence of sender p, which named tenure t, whose row the tenure
+-- after its own uses
+pub record IsBehind {E : Type 0} (X : Election E) (v : Sender E) (got word t p : ℕ) (r : Reuse) :
+    Type 0 where
+  pub loads : (line_now X v).op word
+      ≡ Some (Load record { 0 = presence_at (sizes_with v.core.layout r.rows) p })
   pub found : got ≡ 1 + t
   pub below : p < v.core.layout.senders
   pub tenure : ℕ
@@ -170,7 +188,8 @@ pub record IsBehind {E : Type 0} (X : Election E) (v : Sender E) (got word t p :
 abbrev pub RunsElection : {E : Type 0} → Core E → ℕ → Type 0
 RunsElection {E} c t = (e : E) × (c.phase ≡ Electing t e)
 
--- it has begun this tenure: its election runs, or where rows are used again it is to store its presence
+-- it has begun this tenure: its election runs, or where rows are used again it is to store its
+-- presence
 abbrev pub BeginsBy : {E : Type 0} → Core E → Option Reuse → ℕ → Type 0
 BeginsBy c None t = RunsElection c t
 BeginsBy c (Some r) t = r.pin ≡ Announcing t
@@ -178,10 +197,11 @@ BeginsBy c (Some r) t = r.pin ≡ Announcing t
 abbrev pub Begins : {E : Type 0} → Sender E → ℕ → Type 0
 Begins v t = BeginsBy v.core v.reuse t
 
--- No other answer is due. It lost no tenure, and withdraws from none that it came too late for; so where it withdraws, it has taken that
--- tenure's page. It takes no page, and gives none back; where it looked at the stage for the first time, that lets it begin the stage's
--- tenure, and it does so; where it looked for the second time, the election of its presence's tenure runs if that was of this tenure, open
--- or held, and else none does; and nobody is behind.
+-- No other answer is due. It lost no tenure, and withdraws from none that it came too late for; so
+-- where it withdraws, it has taken that tenure's page. It takes no page, and gives none back; where
+-- it looked at the stage for the first time, that lets it begin the stage's tenure, and it does so;
+-- where it looked for the second time, the election of its presence's tenure runs if that was of
+-- this tenure, open or held, and else none does; and nobody is behind.
 pub record TellsNoMore {E : Type 0} (X : Election E) (v : Sender E) (got word : ℕ) : Type 0 where
   pub loses : (t : ℕ) (o : SenderNo) → ¬ Loses X v got word t o
   pub holds : (t : ℕ) → IsSomeAnd v.reuse (λ r. r.pin ≡ Unpinning t) → held_of v.core.phase ≡ Some t
@@ -191,11 +211,14 @@ pub record TellsNoMore {E : Type 0} (X : Election E) (v : Sender E) (got word : 
   pub waits : ¬ LooksInVain v got
   pub spent : ¬ FindsNoneLeft v got
   pub begins : LooksFirst v → Begins ((line_now X v).fed got word) (got / 2)
-  pub enters : (t : ℕ) → LooksSecond v t → got / 2 ≡ t → RunsElection ((line_now X v).fed got word).core t
-  pub enters_only : (t u : ℕ) → LooksSecond v t → RunsElection ((line_now X v).fed got word).core u → (u ≡ t) × (got / 2 ≡ t)
+  pub enters : (t : ℕ) → LooksSecond v t → got / 2 ≡ t
+      → RunsElection ((line_now X v).fed got word).core t
+  pub enters_only : (t u : ℕ) → LooksSecond v t → RunsElection ((line_now X v).fed got word).core u
+      → (u ≡ t) × (got / 2 ≡ t)
   pub behind : (t p : ℕ) → ¬ IsSomeAnd v.reuse (λ r. IsBehind X v got word t p r)
 
--- With a step that found this number, and this random word. No step is taken where nothing is pending.
+-- With a step that found this number, and this random word. No step is taken where nothing is
+-- pending.
 abbrev pub FeedTells : {E : Type 0} → Election E → Sender E → ℕ → ℕ → Turn → Type 0
 FeedTells X v got word Idle = ⊥
 FeedTells X v got word Waiting = LooksInVain v got ⊎ IsSomeAnd v.reuse (λ r. IsInvalidated r)

@@ -11,7 +11,7 @@ ghost use Rattle.bus_batch.specs.declared.batches.Phase.TheVariants as queue_pha
 ghost use Rattle.bus_batch.specs.declared.messages.Mark.TheVariants as mark;
 ghost use Rattle.bus_tenure.specs.Core.{words_of, is_closing, is_leaving, is_closed};
 ghost use Rattle.bus_tenure.specs.Elections.{election_of, elections, layout_with};
-ghost use Rattle.bus_tenure.specs.Seen.{AwaitsItsPage, turns_of, HasElection};
+ghost use Rattle.bus_tenure.specs.Seen.{AwaitsItsPage, turns_of, HasElection, is_holding};
 ghost use Rattle.bus_tenure.specs.Situations.{situation_of, Stays, tenure_begun as tenure_by_stage};
 ghost use Rattle.bus_tenure.specs.declared.phases.Phase.TheVariants as phase;
 ghost use Rattle.bus_core.specs.Reusing.Turns.{on_place};
@@ -608,6 +608,13 @@ impl<Q: Ratifier + Drop> SenderCore<Q> {
             return CloseFault::Closed;
         }
         CloseFault::Busy
+    }
+
+    /// The page lies before it.
+    pub fn holds_page(&self) -> bool
+        ensures { result ≡ is_holding self.now.core.phase }
+    {
+        self.turns.holds_page()
     }
 
     /// The page is taken and is to be laid.

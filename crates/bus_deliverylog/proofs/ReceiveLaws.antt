@@ -1,5 +1,6 @@
--- What one good word does to a receiver.
-use Rattle.std.proofs.Common.{◌≡◌, ◌≢◌, ℕ, ◌+◌, ◌≤◌, List, [], ◌∷◌, ◌++◌, Bool, false, sym, ap, ◌∙◌, subst, inr, arith}
+-- What one good word does to a reading of a log.
+use Rattle.std.proofs.Common.{◌≡◌, ◌≢◌, ℕ, ◌+◌, ◌≤◌, List, [], ◌∷◌, ◌++◌, Bool, false, sym, ap}
+use Rattle.std.proofs.Common.{◌∙◌, subst, inr, arith}
 use Rattle.std.specs.Prelude.{Option, ◌||◌}
 use Rattle.std.specs.List.{list_any}
 use Rattle.std.proofs.Math.Bool.{or-false}
@@ -9,49 +10,70 @@ use Rattle.bus_batch.specs.declared.messages.Piece.{Piece}
 use Rattle.bus_batch.specs.Frames.{GivesPiece, is_end}
 use Rattle.bus_batch.specs.Reading.{Reading, HasRead}
 use Rattle.bus_deliverylog.specs.declared.receiving.RecvTurn.{RecvTurn}
-use Rattle.bus_deliverylog.specs.Receiving.{Receiving, HasReceived, HasSeen, TakesWord, turn_of}
+use Rattle.bus_deliverylog.specs.Receiving.{LogReading, HasReceived, HasSeen, TakesWord, turn_of}
 
--- the receiver after a good word
-abbrev pub moved : Receiving → Reading → Bool → Receiving
+-- the reading after a good word
+abbrev pub moved : LogReading → Reading → Bool → LogReading
 moved old frames ended = record old { place = old.place + 1; frames = frames; ended = ended }
 
-pub good_word : (words : List ℕ) (pieces : List (Option Piece)) (old new : Receiving) (frames frames' : Reading) (got : ℕ) (found : Option Piece) (answer : RecvTurn)
-    → frames ≡ old.frames → HasReceived words pieces old
-    → ((words : List ℕ) (pieces : List (Option Piece)) → HasRead frames.senders words pieces frames → GivesPiece frames.senders words got found)
-    → ((words : List ℕ) (pieces : List (Option Piece)) → HasRead frames.senders words pieces frames → HasRead frames.senders (words ++ got ∷ []) (pieces ++ found ∷ []) frames')
-    → frames'.senders ≡ frames.senders → answer ≡ turn_of found → new ≡ moved old frames' (is_end found)
-    → TakesWord words pieces old got answer new
-good_word words pieces old new frames frames' got found answer same had gives read senders answer_is new_is =
-    let had_frames : HasRead frames.senders words pieces frames = subst (λ (z : Reading). HasRead z.senders words pieces z) (sym same) had.read in
-    let after : HasRead frames'.senders (words ++ got ∷ []) (pieces ++ found ∷ []) frames' = subst (λ z. HasRead z (words ++ got ∷ []) (pieces ++ found ∷ []) frames') (sym senders) (read words pieces had_frames) in
-    let there : HasReceived (words ++ got ∷ []) (pieces ++ found ∷ []) (moved old frames' (is_end found)) = record {
-      read = after;
-      place = ap (λ z. z + 1) had.place ∙ sym (length-append words (got ∷ []));
-    } in
-    inr (record {
-      found = found;
-      gives = subst (λ (z : Reading). GivesPiece z.senders words got found) same (gives words pieces had_frames);
-      answer_is = answer_is;
-      received = subst (HasReceived (words ++ got ∷ []) (pieces ++ found ∷ [])) (sym new_is) there;
-      new_is = new_is ∙ ap (λ z. moved old z (is_end found)) (ap (λ (z : Receiving). z.frames) (sym new_is));
-    })
+-- what a frame reader says of a word that it takes, and what it has read then
+abbrev GivesFound : Reading → ℕ → Option Piece → Type 0
+GivesFound frames got found =
+    (words : List ℕ) (pieces : List (Option Piece)) → HasRead frames.senders words pieces frames
+    → GivesPiece frames.senders words got found
 
-pub next_within : (place known : ℕ) → place ≤ known → place ≢ known → place + 1 ≤ known
-next_within place known below other = omega arith
+abbrev ReadsFound : Reading → ℕ → Option Piece → Reading → Type 0
+ReadsFound frames got found frames' =
+    (words : List ℕ) (pieces : List (Option Piece)) → HasRead frames.senders words pieces frames
+    → HasRead frames.senders (words ++ got ∷ []) (pieces ++ found ∷ []) frames'
 
--- it has seen one word more, and has ended if that was the end
-pub seen_more : (old : Receiving) (frames frames' : Reading) (got : ℕ) (found : Option Piece) (ended : Bool) → frames ≡ old.frames → HasSeen old → old.ended ≡ false
-    → ((words : List ℕ) (pieces : List (Option Piece)) → HasRead frames.senders words pieces frames → HasRead frames.senders (words ++ got ∷ []) (pieces ++ found ∷ []) frames')
-    → frames'.senders ≡ frames.senders → ended ≡ is_end found → HasSeen (moved old frames' ended)
-seen_more old frames frames' got found ended same seen going read senders ended_is =
-    let had : HasRead frames.senders seen.words seen.pieces frames = subst (λ (z : Reading). HasRead z.senders seen.words seen.pieces z) (sym same) seen.received.read in
-    let none : list_any is_end seen.pieces ≡ false = sym seen.ended ∙ going in
-    record {
-      words = seen.words ++ got ∷ [];
-      pieces = seen.pieces ++ found ∷ [];
-      received = record {
-        read = subst (λ z. HasRead z (seen.words ++ got ∷ []) (seen.pieces ++ found ∷ []) frames') (sym senders) (read seen.words seen.pieces had);
-        place = ap (λ z. z + 1) seen.received.place ∙ sym (length-append seen.words (got ∷ []));
-      };
-      ended = ended_is ∙ sym (list_any-append is_end seen.pieces (found ∷ []) ∙ ap (λ z. z || (is_end found || false)) none ∙ or-false (is_end found));
-    }
+-- a reading whose parts are these, and its next word, which is good
+module _ (old parts : LogReading) (same : parts ≡ old) (frames' : Reading) (got : ℕ)
+    (found : Option Piece) (ended : Bool) (read : ReadsFound parts.frames got found frames')
+    (senders : frames'.senders ≡ parts.frames.senders) (ended_is : ended ≡ is_end found) where
+  received_more : (words : List ℕ) (pieces : List (Option Piece)) → HasReceived words pieces parts
+      → HasReceived (words ++ got ∷ []) (pieces ++ found ∷ []) (moved parts frames' ended)
+  received_more words pieces had = record {
+    read = subst (λ z. HasRead z (words ++ got ∷ []) (pieces ++ found ∷ []) frames') (sym senders)
+        (read words pieces had.read);
+    place = ap (λ z. z + 1) had.place ∙ sym (length-append words (got ∷ []));
+  }
+
+  pub good_word : (answer : RecvTurn) (words : List ℕ) (pieces : List (Option Piece))
+      → HasReceived words pieces old → GivesFound parts.frames got found → answer ≡ turn_of found
+      → TakesWord words pieces old got answer (moved parts frames' ended)
+  good_word answer words pieces had_old gives answer_is =
+      let had : HasReceived words pieces parts =
+      subst (HasReceived words pieces) (sym same) had_old in
+      subst (λ z. TakesWord words pieces z got answer (moved parts frames' ended)) same
+      (inr (record {
+        found = found;
+        gives = gives words pieces had.read;
+        answer_is = answer_is;
+        received = received_more words pieces had;
+        new_is = ap (moved parts frames') ended_is;
+      }))
+
+  -- it has seen one word more, and has ended if that was the end
+  pub seen_more : old.place ≢ old.known → old.ended ≡ false
+      → (parts.place ≤ parts.known) × HasSeen parts
+      → (parts.place + 1 ≤ parts.known) × HasSeen (moved parts frames' ended)
+  seen_more unread going before =
+      let seen = before.1 in
+      let none : list_any is_end seen.pieces ≡ false =
+      sym seen.ended ∙ ap (λ (z : LogReading). z.ended) same ∙ going in
+      let place = ap (λ (z : LogReading). z.place) same in
+      let known = ap (λ (z : LogReading). z.known) same in
+      let other : parts.place ≢ parts.known = λ e. unread (sym place ∙ e ∙ known) in
+      let within = before.0 in (
+        omega (arith, other),
+        record {
+          words = seen.words ++ got ∷ [];
+          pieces = seen.pieces ++ found ∷ [];
+          received = received_more seen.words seen.pieces seen.received;
+          ended =
+              ended_is
+              ∙ sym (list_any-append is_end seen.pieces (found ∷ [])
+              ∙ ap (λ z. z || (is_end found || false)) none ∙ or-false (is_end found));
+        },
+      )

@@ -22,8 +22,10 @@ pub record StopsAtGood (senders : ℕ) (words : List ℕ) : Type 0 where
   pub below : place < length words
   pub good : BeginsLog senders (take (place + 1) words)
 
--- the words gave, one after another, the entries of an order, its end mark, and the tenures and owners of frames
-pub record HasGiven (senders : ℕ) (words : List ℕ) (order : Order) (owners : List (ℕ × SenderNo)) : Type 0 where
+-- the words gave, one after another, the entries of an order, its end mark, and the tenures and
+-- owners of frames
+pub record HasGiven (senders : ℕ) (words : List ℕ) (order : Order) (owners : List (ℕ × SenderNo)) :
+    Type 0 where
   pub pieces : List (Option Piece)
   pub reader : Reading
   pub read : HasRead senders words pieces reader
@@ -31,7 +33,8 @@ pub record HasGiven (senders : ℕ) (words : List ℕ) (order : Order) (owners :
   pub owners_are : owners ≡ owners_in pieces
 
 -- a reader has read these words, and what was noted is what their pieces say
-pub record Reads (senders : ℕ) (words : List ℕ) (reader : Reading) (order : Order) (owners : List (ℕ × SenderNo)) : Type 0 where
+pub record Reads (senders : ℕ) (words : List ℕ) (reader : Reading) (order : Order)
+    (owners : List (ℕ × SenderNo)) : Type 0 where
   pub pieces : List (Option Piece)
   pub senders_are : reader.senders ≡ senders
   pub had : HasRead reader.senders words pieces reader

@@ -1,5 +1,6 @@
 -- A receiver's end of the log: what it knows, and what one load does to it.
-use Rattle.std.specs.Prelude.{◌≡◌, ℕ, ◌+◌, ◌<◌, ◌≤◌, List, [], ◌∷◌, ◌++◌, length, ◌⊎◌, Bool, Option, Some, None, if◌then◌else◌, ◌==◌}
+use Rattle.std.specs.Prelude.{◌≡◌, ℕ, ◌+◌, ◌<◌, ◌≤◌, List, [], ◌∷◌, ◌++◌, length, ◌⊎◌, Bool, true}
+use Rattle.std.specs.Prelude.{false, Option, Some, None, if◌then◌else◌, ◌==◌}
 use Rattle.std.specs.List.{list_any}
 use Rattle.bus_register.specs.declared.kinds.Kind.{Kind}
 use Rattle.bus_register.specs.declared.kinds.Kind.TheVariants.{LoadLength, LoadLogWord}
@@ -12,8 +13,16 @@ use Rattle.bus_batch.specs.Reading.{Reading, HasRead}
 use Rattle.bus_deliverylog.specs.declared.receiving.RecvTurn.{RecvTurn}
 use Rattle.bus_deliverylog.specs.declared.receiving.RecvTurn.TheVariants as turn
 
--- the places of the log and of its length, how many words the log can have, the length that it knows, its place in the log,
--- what it has read of the words before its place, and whether the end was among them
+-- how many words of a log are known, the place that was read up to, what was read of the words
+-- before it, and whether the end was among them
+pub record LogReading : Type 0 where
+  pub known : ℕ
+  pub place : ℕ
+  pub frames : Reading
+  pub ended : Bool
+
+-- a receiver of a machine: the places of the log and of its length, how many words the log can
+-- have, and what it has read
 pub record Receiving : Type 0 where
   pub log_at : ℕ
   pub length_at : ℕ
@@ -23,12 +32,22 @@ pub record Receiving : Type 0 where
   pub frames : Reading
   pub ended : Bool
 
--- at the length that it knows it loads the length, else the word at its place; after the end nothing
+abbrev pub reading_of : Receiving → LogReading
+reading_of r = record { known = r.known; place = r.place; frames = r.frames; ended = r.ended }
+
+abbrev pub with_reading : Receiving → LogReading → Receiving
+with_reading r l = record r { known = l.known; place = l.place; frames = l.frames; ended = l.ended }
+
+-- at the length that it knows it loads the length, else the word at its place; after the end
+-- nothing
 abbrev pub receiving_kind : Receiving → Option Kind
-receiving_kind r = if r.ended then None else if r.place == r.known then Some LoadLength else Some LoadLogWord
+receiving_kind r =
+    if r.ended then None else if r.place == r.known then Some LoadLength else Some LoadLogWord
 
 abbrev pub receiving_op : Receiving → Option Op
-receiving_op r = if r.ended then None else if r.place == r.known then Some (Load (record { 0 = r.length_at })) else Some (Load (record { 0 = r.log_at + r.place }))
+receiving_op r =
+    if r.ended then None else if r.place == r.known then Some (Load (record { 0 = r.length_at }))
+    else Some (Load (record { 0 = r.log_at + r.place }))
 
 -- what a receiver answers of a word
 abbrev pub turn_of : Option Piece → RecvTurn
@@ -38,27 +57,42 @@ turn_of (Some (piece.Item item)) = turn.Item item
 turn_of (Some piece.End) = turn.End
 turn_of (Some (piece.Leave s)) = turn.Leave s
 
--- it has read these words, which gave these pieces
-pub record HasReceived (words : List ℕ) (pieces : List (Option Piece)) (r : Receiving) : Type 0 where
+-- an answer behind which more may be there at once
+abbrev pub recv_goes_on : RecvTurn → Bool
+recv_goes_on turn.Going = true
+recv_goes_on turn.Empty = false
+recv_goes_on (turn.Head tenure owner) = true
+recv_goes_on (turn.Item item) = true
+recv_goes_on (turn.Leave sender) = true
+recv_goes_on turn.End = false
+
+-- these words were read, which gave these pieces
+pub record HasReceived (words : List ℕ) (pieces : List (Option Piece)) (r : LogReading) :
+    Type 0 where
   pub read : HasRead r.frames.senders words pieces r.frames
   pub place : r.place ≡ length words
 
--- it has read some words with which a log begins, and has ended exactly where the end was among what they gave
-pub record HasSeen (r : Receiving) : Type 0 where
+-- some words were read with which a log begins, and it has ended exactly where the end was among
+-- what they gave
+pub record HasSeen (r : LogReading) : Type 0 where
   pub words : List ℕ
   pub pieces : List (Option Piece)
   pub received : HasReceived words pieces r
   pub ended : r.ended ≡ list_any is_end pieces
 
--- a load of the length: the known one gives Empty, a larger one is known from then on, and any other changes nothing
-pub record TakesLength (old : Receiving) (got : ℕ) (answer : RecvTurn) (new : Receiving) : Type 0 where
+-- a load of the length: the known one gives Empty, a larger one is known from then on, and any
+-- other changes nothing
+pub record TakesLength (old : Receiving) (got : ℕ) (answer : RecvTurn) (new : Receiving) :
+    Type 0 where
   pub same : got ≡ old.known → (answer ≡ turn.Empty) × (new ≡ old)
-  pub more : old.known < got → got ≤ old.log_words → (answer ≡ turn.Going) × (new ≡ record old { known = got })
+  pub more : old.known < got → got ≤ old.log_words
+      → (answer ≡ turn.Going) × (new ≡ record old { known = got })
   pub less : got < old.known → (answer ≡ turn.Going) × (new ≡ old)
   pub beyond : old.known < got → old.log_words < got → (answer ≡ turn.Going) × (new ≡ old)
 
 -- a good word: what it gives is answered, and the place moves on
-pub record TakesGood (words : List ℕ) (pieces : List (Option Piece)) (old : Receiving) (got : ℕ) (answer : RecvTurn) (new : Receiving) : Type 0 where
+pub record TakesGood (words : List ℕ) (pieces : List (Option Piece)) (old : LogReading) (got : ℕ)
+    (answer : RecvTurn) (new : LogReading) : Type 0 where
   pub found : Option Piece
   pub gives : GivesPiece old.frames.senders words got found
   pub answer_is : answer ≡ turn_of found
@@ -66,6 +100,14 @@ pub record TakesGood (words : List ℕ) (pieces : List (Option Piece)) (old : Re
   pub new_is : new ≡ record old { place = old.place + 1; frames = new.frames; ended = is_end found }
 
 -- a load of a log word: a bad word gives Going and changes nothing
-abbrev pub TakesWord : List ℕ → List (Option Piece) → Receiving → ℕ → RecvTurn → Receiving → Type 0
+abbrev pub TakesWord : List ℕ → List (Option Piece) → LogReading → ℕ → RecvTurn → LogReading
+    → Type 0
 TakesWord words pieces old got answer new =
-    (IsBadWord old.frames.senders words got × (answer ≡ turn.Going) × (new ≡ old)) ⊎ TakesGood words pieces old got answer new
+    (IsBadWord old.frames.senders words got × (answer ≡ turn.Going) × (new ≡ old))
+    ⊎ TakesGood words pieces old got answer new
+
+-- the same, whatever words were read
+abbrev pub TakesNext : LogReading → ℕ → RecvTurn → LogReading → Type 0
+TakesNext old got answer new =
+    (words : List ℕ) (pieces : List (Option Piece)) → HasReceived words pieces old
+    → TakesWord words pieces old got answer new

@@ -26,5 +26,5 @@ pub mod writing;
 pub use fronts::read_front;
 pub use orders::{LogFault, LogRead, Order};
 pub use reading::read_log;
-pub use receiving::{Reader, RecvTurn};
+pub use receiving::{LogReader, Reader, RecvTurn};
 pub use writing::Writer;

@@ -25,68 +25,47 @@ pub enum RecvTurn {
     End,
 }
 
-/// A receiver of the log: it loads the length and the words below it, one at a time.
-///
-/// It takes steps as a machine does: `kind` and `next` tell the step, and `feed` is told what was
-/// found. A length past the log's words is not believed.
+/// What was read of a log: how many of its words are known, and how far these were read. The words
+/// come one at a time, from wherever the log lies.
 #[derive(Debug, Drop)]
-pub struct Reader {
-    log: Reg,
-    length: Reg,
-    words: u64,
+pub struct LogReader {
     known: u64,
     place: u64,
     frames: FrameReader,
     ended: bool,
 }
 
-impl Model for Reader {
-    ghost use Rattle.std.specs.Prelude.{◌+◌, ◌<◌, ◌≤◌, ◌^◌};
-    ghost use Rattle.bus_deliverylog.specs.Receiving.{Receiving, HasSeen};
+impl Model for LogReader {
+    ghost use Rattle.std.specs.Prelude.{◌≤◌};
+    ghost use Rattle.bus_deliverylog.specs.Receiving.{LogReading, HasSeen};
 
-    ghost Value = { Receiving };
+    ghost Value = { LogReading };
 
     ghost view = { λ r. record {
-      log_at = r.log.0;
-      length_at = r.length.0;
-      log_words = r.words;
       known = r.known;
       place = r.place;
       frames = r.frames;
       ended = r.ended;
     } };
 
-    ghost invariant = { λ r. (r.log.0 + r.words < 2 ^ 64) × (r.known ≤ r.words)
-        × (r.place ≤ r.known)
-        × HasSeen (record {
-          log_at = r.log.0;
-          length_at = r.length.0;
-          log_words = r.words;
-          known = r.known;
-          place = r.place;
-          frames = r.frames;
-          ended = r.ended;
-        }) };
+    ghost invariant = { λ r. (r.place ≤ r.known) × HasSeen (record {
+      known = r.known;
+      place = r.place;
+      frames = r.frames;
+      ended = r.ended;
+    }) };
 }
 
-impl Reader {
-    ghost use Rattle.bus_deliverylog.specs.Receiving.{receiving_kind, receiving_op, HasReceived};
-    ghost use Rattle.bus_deliverylog.specs.Receiving.{TakesLength, TakesWord};
+impl LogReader {
+    ghost use Rattle.bus_deliverylog.specs.Receiving.{HasReceived, TakesNext};
 
-    /// A receiver at the first word of a log of so many senders, which can have `words` words from
-    /// `log` on, and its length at `length`. It knows no word.
-    pub fn new(senders: u64, log: Reg, length: Reg, words: u64) -> Reader
-        requires { log.0 + words < 2 ^ 64 }
-        ensures at { (result.log_at ≡ log.0) × (result.length_at ≡ length.0)
-            × (result.log_words ≡ words) }
+    /// At the first word of a log of so many senders. No word is known.
+    pub fn new(senders: u64) -> LogReader
         ensures start { (result.known ≡ 0) × (result.place ≡ 0) × (result.ended ≡ false) }
         ensures senders { result.frames.senders ≡ senders }
         ensures received { HasReceived [] [] result }
     {
-        Reader {
-            log,
-            length,
-            words,
+        LogReader {
             known: 0,
             place: 0,
             frames: FrameReader::new(senders),
@@ -94,7 +73,7 @@ impl Reader {
         }
     }
 
-    /// How many words it has read.
+    /// How many words were read.
     pub fn place(&self) -> u64
         ensures place { result ≡ self.now.place }
         ensures within { result ≤ self.now.known }
@@ -102,73 +81,37 @@ impl Reader {
         self.place
     }
 
-    /// The length that it knows.
+    /// How many words are known.
     pub fn known(&self) -> u64
-        ensures known { result ≡ self.now.known }
-        ensures within { result ≤ self.now.log_words }
+        ensures { result ≡ self.now.known }
     {
         self.known
     }
 
-    /// The end was among what it read.
+    /// The end was among what was read.
     pub fn has_ended(&self) -> bool
         ensures { result ≡ self.now.ended }
     {
         self.ended
     }
 
-    /// What the next step is for; none after the end.
-    pub fn kind(&self) -> Option<Kind>
-        ensures { result ≡ receiving_kind self.now }
+    /// So many words are known from now on.
+    pub fn learn(&mut self, length: u64)
+        requires { self.old.known ≤ length }
+        ensures { self.new ≡ record self.old { known = length } }
     {
-        if self.ended {
-            None
-        } else if self.place == self.known {
-            Some(Kind::LoadLength)
-        } else {
-            Some(Kind::LoadLogWord)
-        }
-    }
-
-    /// The next step; none after the end.
-    pub fn next(&self) -> Option<Op>
-        ensures { result ≡ receiving_op self.now }
-    {
-        if self.ended {
-            None
-        } else if self.place == self.known {
-            Some(Op::Load(self.length))
-        } else {
-            Some(Op::Load(Reg(self.log.0 + self.place)))
-        }
-    }
-
-    /// The step that `next` told was taken, and found `got`.
-    pub fn feed(&mut self, got: u64) -> RecvTurn
-        requires { self.old.ended ≡ false }
-        ensures length { self.old.place ≡ self.old.known
-            → TakesLength self.old got result self.new }
-        ensures word { self.old.place ≢ self.old.known → (words : _) (pieces : _)
-            → HasReceived words pieces self.old
-            → TakesWord words pieces self.old got result self.new }
-        ensures place { self.new.place ≤ self.old.place + 1 }
-        ensures senders { self.new.frames.senders ≡ self.old.frames.senders }
-    {
-        if self.place == self.known {
-            return self.feed_length(got);
-        }
-        self.feed_word(got)
+        self.known = length;
     }
 
     /// Takes the word that was found at its place where that says nothing by itself, and says
-    /// whether it did: then it answers `Going`. Else nothing changes, and `feed` takes the word.
+    /// whether it did: then it answers `Going`. Else nothing changes, and `take_word` takes it.
     #[inline(always)]
     pub fn take_plain(&mut self, got: u64) -> bool
         requires unread { self.old.place ≢ self.old.known }
         requires going { self.old.ended ≡ false }
-        ensures word { IsTrue result → (words : _) (pieces : _) → HasReceived words pieces self.old
-            → TakesWord words pieces self.old got RecvTurn.Going self.new }
+        ensures word { IsTrue result → TakesNext self.old got RecvTurn.Going self.new }
         ensures read { IsTrue result → self.new.place ≡ self.old.place + 1 }
+        ensures known { self.new.known ≡ self.old.known }
         ensures stays { result ≡ false → self.new ≡ self.old }
         ensures senders { self.new.frames.senders ≡ self.old.frames.senders }
     {
@@ -181,14 +124,13 @@ impl Reader {
     }
 
     /// Takes the word that was found at its place where that is the last of a message with bytes,
-    /// and gives the item: then it answers that. Else nothing changes, and `feed` takes the word.
+    /// and gives the item: then it answers that. Else nothing changes, and `take_word` takes it.
     #[inline(always)]
     pub fn take_item(&mut self, got: u64) -> Option<Item>
         requires unread { self.old.place ≢ self.old.known }
         requires going { self.old.ended ≡ false }
-        ensures word { IfSome result (λ item. (words : _) (pieces : _)
-            → HasReceived words pieces self.old
-            → TakesWord words pieces self.old got (RecvTurn.Item item) self.new) }
+        ensures word { IfSome result
+            (λ item. TakesNext self.old got (RecvTurn.Item item) self.new) }
         ensures read { IfSome result (λ _. self.new.place ≡ self.old.place + 1) }
         ensures stays { IfNone result (self.new ≡ self.old) }
         ensures senders { self.new.frames.senders ≡ self.old.frames.senders }
@@ -202,27 +144,12 @@ impl Reader {
         }
     }
 
-    /// A length was found.
-    fn feed_length(&mut self, got: u64) -> RecvTurn
-        ensures length { TakesLength self.old got result self.new }
-        ensures place { self.new.place ≡ self.old.place }
-        ensures senders { self.new.frames.senders ≡ self.old.frames.senders }
-    {
-        if got == self.known {
-            return RecvTurn::Empty;
-        }
-        if self.known < got && got <= self.words {
-            self.known = got;
-        }
-        RecvTurn::Going
-    }
-
-    /// A word of the log was found.
-    fn feed_word(&mut self, got: u64) -> RecvTurn
+    /// Takes the word that was found at its place. A bad one gives `Going` and changes nothing.
+    pub fn take_word(&mut self, got: u64) -> RecvTurn
         requires unread { self.old.place ≢ self.old.known }
         requires going { self.old.ended ≡ false }
-        ensures word { (words : _) (pieces : _) → HasReceived words pieces self.old
-            → TakesWord words pieces self.old got result self.new }
+        ensures word { TakesNext self.old got result self.new }
+        ensures known { self.new.known ≡ self.old.known }
         ensures place { self.new.place ≤ self.old.place + 1 }
         ensures senders { self.new.frames.senders ≡ self.old.frames.senders }
     {
@@ -240,5 +167,142 @@ impl Reader {
                 RecvTurn::End
             }
         }
+    }
+}
+
+/// A receiver of the log: it loads the length and the words below it, one at a time.
+///
+/// It takes steps as a machine does: `kind` and `next` tell the step, and `feed` is told what was
+/// found. A length past the log's words is not believed.
+#[derive(Debug, Drop)]
+pub struct Reader {
+    log: Reg,
+    length: Reg,
+    words: u64,
+    reader: LogReader,
+}
+
+impl Model for Reader {
+    ghost use Rattle.std.specs.Prelude.{◌+◌, ◌<◌, ◌≤◌, ◌^◌};
+    ghost use Rattle.bus_deliverylog.specs.Receiving.{Receiving};
+
+    ghost Value = { Receiving };
+
+    ghost view = { λ r. record {
+      log_at = r.log.0;
+      length_at = r.length.0;
+      log_words = r.words;
+      known = r.reader.known;
+      place = r.reader.place;
+      frames = r.reader.frames;
+      ended = r.reader.ended;
+    } };
+
+    ghost invariant = { λ r. (r.log.0 + r.words < 2 ^ 64) × (r.reader.known ≤ r.words) };
+}
+
+impl Reader {
+    ghost use Rattle.bus_deliverylog.specs.Receiving.{receiving_kind, receiving_op, reading_of};
+    ghost use Rattle.bus_deliverylog.specs.Receiving.{with_reading, HasReceived};
+    ghost use Rattle.bus_deliverylog.specs.Receiving.{TakesLength, TakesNext};
+
+    /// A receiver at the first word of a log of so many senders, which can have `words` words from
+    /// `log` on, and its length at `length`. It knows no word.
+    pub fn new(senders: u64, log: Reg, length: Reg, words: u64) -> Reader
+        requires { log.0 + words < 2 ^ 64 }
+        ensures at { (result.log_at ≡ log.0) × (result.length_at ≡ length.0)
+            × (result.log_words ≡ words) }
+        ensures start { (result.known ≡ 0) × (result.place ≡ 0) × (result.ended ≡ false) }
+        ensures senders { result.frames.senders ≡ senders }
+        ensures received { HasReceived [] [] (reading_of result) }
+    {
+        Reader {
+            log,
+            length,
+            words,
+            reader: LogReader::new(senders),
+        }
+    }
+
+    /// How many words it has read.
+    pub fn place(&self) -> u64
+        ensures place { result ≡ self.now.place }
+        ensures within { result ≤ self.now.known }
+    {
+        self.reader.place()
+    }
+
+    /// The length that it knows.
+    pub fn known(&self) -> u64
+        ensures known { result ≡ self.now.known }
+        ensures within { result ≤ self.now.log_words }
+    {
+        self.reader.known()
+    }
+
+    /// The end was among what it read.
+    pub fn has_ended(&self) -> bool
+        ensures { result ≡ self.now.ended }
+    {
+        self.reader.has_ended()
+    }
+
+    /// What the next step is for; none after the end.
+    pub fn kind(&self) -> Option<Kind>
+        ensures { result ≡ receiving_kind self.now }
+    {
+        if self.reader.has_ended() {
+            None
+        } else if self.reader.place() == self.reader.known() {
+            Some(Kind::LoadLength)
+        } else {
+            Some(Kind::LoadLogWord)
+        }
+    }
+
+    /// The next step; none after the end.
+    pub fn next(&self) -> Option<Op>
+        ensures { result ≡ receiving_op self.now }
+    {
+        if self.reader.has_ended() {
+            None
+        } else if self.reader.place() == self.reader.known() {
+            Some(Op::Load(self.length))
+        } else {
+            Some(Op::Load(Reg(self.log.0 + self.reader.place())))
+        }
+    }
+
+    /// The step that `next` told was taken, and found `got`.
+    pub fn feed(&mut self, got: u64) -> RecvTurn
+        requires { self.old.ended ≡ false }
+        ensures length { self.old.place ≡ self.old.known
+            → TakesLength self.old got result self.new }
+        ensures word { self.old.place ≢ self.old.known
+            → TakesNext (reading_of self.old) got result (reading_of self.new) }
+        ensures registers { self.new ≡ with_reading self.old (reading_of self.new) }
+        ensures place { self.new.place ≤ self.old.place + 1 }
+        ensures senders { self.new.frames.senders ≡ self.old.frames.senders }
+    {
+        if self.reader.place() == self.reader.known() {
+            return self.feed_length(got);
+        }
+        self.reader.take_word(got)
+    }
+
+    /// A length was found.
+    fn feed_length(&mut self, got: u64) -> RecvTurn
+        ensures length { TakesLength self.old got result self.new }
+        ensures registers { self.new ≡ with_reading self.old (reading_of self.new) }
+        ensures place { self.new.place ≡ self.old.place }
+        ensures senders { self.new.frames.senders ≡ self.old.frames.senders }
+    {
+        if got == self.reader.known() {
+            return RecvTurn::Empty;
+        }
+        if self.reader.known() < got && got <= self.words {
+            self.reader.learn(got);
+        }
+        RecvTurn::Going
     }
 }

@@ -1,5 +1,6 @@
 -- Answers and faults as numbers, and what else an answer says.
-use Rattle.std.specs.Prelude.{ℕ, ℤ, pos, negsuc, Bool, true, false, List, ◌++◌, length, take, drop, replicate, Result, Ok, Err}
+use Rattle.std.specs.Prelude.{ℕ, ℤ, pos, negsuc, Bool, true, false, List, ◌++◌, length, take, drop}
+use Rattle.std.specs.Prelude.{replicate, Result, Ok, Err}
 use Rattle.std.specs.declared.cmp.Ordering.{Ordering}
 use Rattle.std.specs.declared.cmp.Ordering.TheVariants.{Less, Equal, Greater}
 use Rattle.bus_register.specs.declared.limits.TheConstants.{MOST_BYTES}
@@ -97,14 +98,17 @@ abbrev pub turn_answer : Turn → TurnAnswer
 turn_answer turn.Idle = record { tenure = 0; first = 0; last = 0; sender = 0 }
 turn_answer turn.Waiting = record { tenure = 0; first = 0; last = 0; sender = 0 }
 turn_answer turn.Going = record { tenure = 0; first = 0; last = 0; sender = 0 }
-turn_answer (turn.Lost tenure owner) = record { tenure = tenure; first = 0; last = 0; sender = owner.0 }
+turn_answer (turn.Lost tenure owner) =
+    record { tenure = tenure; first = 0; last = 0; sender = owner.0 }
 turn_answer (turn.Own tenure) = record { tenure = tenure; first = 0; last = 0; sender = 0 }
-turn_answer (turn.Delivered tenure first last) = record { tenure = tenure; first = first; last = last; sender = 0 }
+turn_answer (turn.Delivered tenure first last) =
+    record { tenure = tenure; first = first; last = last; sender = 0 }
 turn_answer (turn.Left tenure) = record { tenure = tenure; first = 0; last = 0; sender = 0 }
 turn_answer turn.Full = record { tenure = 0; first = 0; last = 0; sender = 0 }
 turn_answer turn.Closed = record { tenure = 0; first = 0; last = 0; sender = 0 }
 turn_answer turn.Spent = record { tenure = 0; first = 0; last = 0; sender = 0 }
-turn_answer (turn.Behind tenure sender) = record { tenure = tenure; first = 0; last = 0; sender = sender.0 }
+turn_answer (turn.Behind tenure sender) =
+    record { tenure = tenure; first = 0; last = 0; sender = sender.0 }
 
 -- a list written over the first places of another, as far as that goes
 abbrev pub over : {A : Type 0} → List A → List A → List A
@@ -116,7 +120,12 @@ padded bytes = over bytes (replicate MOST_BYTES 0)
 
 -- an item of the order
 abbrev pub item_told : Item → HeardItem
-item_told item = record { number = item.number; sender = item.sender.0; length = length item.message; bytes = padded item.message }
+item_told item = record {
+  number = item.number;
+  sender = item.sender.0;
+  length = length item.message;
+  bytes = padded item.message;
+}
 
 abbrev pub no_item : HeardItem
 no_item = record { number = 0; sender = 0; length = 0; bytes = replicate MOST_BYTES 0 }

@@ -9,7 +9,13 @@ use Rattle.bus_embed.specs.declared.buses.Left.{Left}
 
 -- what a bus of these sizes is made by, with so many senders and receivers
 abbrev pub shape_of : Sizes → ℕ → ℕ → Shape
-shape_of sizes senders receivers = record { senders = senders; receivers = receivers; rounds = sizes.rounds; rows = sizes.rows; log_words = sizes.log_words }
+shape_of sizes senders receivers = record {
+  senders = senders;
+  receivers = receivers;
+  rounds = sizes.rounds;
+  rows = sizes.rows;
+  log_words = sizes.log_words;
+}
 
 abbrev pub rows_again : Bool → ℕ → Option ℕ
 rows_again true rows = Some rows
@@ -17,7 +23,13 @@ rows_again false rows = None
 
 -- the page of a bus that left this
 abbrev pub page_of : Left → Page
-page_of left = record { next = left.next; left = left.gone; ended = left.ended; tenures = left.tenures; words = left.words }
+page_of left = record {
+  next = left.next;
+  left = left.gone;
+  ended = left.ended;
+  tenures = left.tenures;
+  words = left.words;
+}
 
 abbrev pub pages : Option Left → Option Page
 pages None = None
@@ -25,4 +37,8 @@ pages (Some left) = Some (page_of left)
 
 -- of a bus after one that left this, if after any: it goes on with the next numbers
 abbrev pub plan_of : Sizes → ℕ → ℕ → Option Left → Plan
-plan_of sizes senders receivers before = record { shape = shape_of sizes senders receivers; reuse = rows_again sizes.again sizes.rows; bases = bases_after (pages before) }
+plan_of sizes senders receivers before = record {
+  shape = shape_of sizes senders receivers;
+  reuse = rows_again sizes.again sizes.rows;
+  bases = bases_after (pages before);
+}

@@ -1,22 +1,26 @@
 -- What calls of a sender and of a receiver answer, as numbers.
-use Rattle.std.specs.Prelude.{◌≡◌, ℕ, ℤ, ◌+◌, ◌<◌, ◌≤◌, ◌⊎◌, Bool, true, false, List, [], ◌∷◌, ◌++◌, None, Some, length, drop, map, Result, IfOk, IfErr, OnOk, OnErr}
+use Rattle.std.specs.Prelude.{◌≡◌, ℕ, ℤ, ◌+◌, ◌<◌, ◌≤◌, ◌⊎◌, Bool, true, false, List, [], ◌∷◌}
+use Rattle.std.specs.Prelude.{◌++◌, None, Some, length, drop, map, Result, Err, IfOk, IfErr, OnOk}
+use Rattle.std.specs.Prelude.{OnErr}
 use Rattle.std.specs.Ordering.{nat_cmp}
 use Rattle.bus_register.specs.declared.registers.Op.{Op}
 use Rattle.bus_batch.specs.Batches.{next_of, CanPut, IsPutFault, CanClose, IsCloseFault}
 use Rattle.bus_batch.specs.declared.messages.Item.{Item}
 use Rattle.bus_batch.specs.declared.messages.Mark.{Mark}
 use Rattle.bus_batch.specs.declared.batches.PutFault.{PutFault}
+use Rattle.bus_batch.specs.declared.batches.PutFault.TheVariants as put
 use Rattle.bus_batch.specs.declared.batches.CloseFault.{CloseFault}
 use Rattle.bus_deliverylog.specs.declared.receiving.RecvTurn.{RecvTurn}
-use Rattle.bus_deliverylog.specs.declared.receiving.RecvTurn.TheVariants as heard
+use Rattle.bus_deliverylog.specs.Receiving.{recv_goes_on}
+use Rattle.bus_tenure.specs.Classes.{still_goes}
 use Rattle.bus_tenure.specs.Core.{is_closed}
 use Rattle.bus_tenure.specs.declared.turns.Turn.{Turn}
-use Rattle.bus_tenure.specs.declared.turns.Turn.TheVariants as turn
 use Rattle.bus_core.specs.Telling.{FeedTells, RestTells}
 use Rattle.bus_world.specs.Headline.{HasPut, HasMarked, puts}
 use Rattle.bus_pageslot.specs.Listening.{Hears}
 use Rattle.bus_pageslot.specs.Rule.{Sat, receiver_view_in, known_in}
-use Rattle.bus_pageslot.specs.Seats.{SenderSeat, TookAndTold, table_of, first_number_of, actions_of, stored_of}
+use Rattle.bus_pageslot.specs.Seats.{SenderSeat, TookAndTold, table_of, first_number_of}
+use Rattle.bus_pageslot.specs.Seats.{actions_of, stored_of}
 use Rattle.bus_pageslot.specs.Sendings.{waiting_of, Carries, CarryRefused}
 use Rattle.bus_receiver.specs.HearingRuns.{item_in}
 use Rattle.bus_receiver.specs.Listening.{IsTold, HaveMet}
@@ -26,23 +30,28 @@ use Rattle.bus_embed.specs.declared.answers.HeardItem.{HeardItem}
 use Rattle.bus_embed.specs.declared.answers.HeardAnswer.{HeardAnswer}
 use Rattle.bus_embed.specs.declared.senders.SenderShown.{SenderShown}
 use Rattle.bus_embed.specs.declared.receivers.ReceiverShown.{ReceiverShown}
-use Rattle.bus_embed.specs.Answers.{turn_code, heard_code, put_code, close_code, one_bus_code, order_number, written, turn_answer, heard_answer, item_told}
+use Rattle.bus_embed.specs.Answers.{turn_code, heard_code, put_code, close_code, one_bus_code}
+use Rattle.bus_embed.specs.Answers.{order_number, written, turn_answer, heard_answer, item_told}
 use Rattle.bus_automaton.specs.ThreeWordBuses.{Held, process, election}
 
 -- ---- a sender: what the calls of its handle promise, each in one
 -- a put of these bytes came to this number, or to this fault
-pub record Puts (old : SenderSeat Held) (bytes : List ℕ) (given : Result ℕ PutFault) (new : SenderSeat Held) : Type 0 where
+pub record Puts (old : SenderSeat Held) (bytes : List ℕ) (given : Result ℕ PutFault)
+    (new : SenderSeat Held) : Type 0 where
   pub number : IfOk given (λ n. n ≡ next_of (process.queue old.core))
-  pub counts : IfOk given (λ n. n ≡ first_number_of process old + length (puts (actions_of process old)))
+  pub counts : IfOk given
+      (λ n. n ≡ first_number_of process old + length (puts (actions_of process old)))
   pub taken : OnOk given (new.core ≡ process.with_message old.core bytes)
-  pub action : IfOk given (λ n. actions_of process new ≡ actions_of process old ++ HasPut n bytes ∷ [])
+  pub action : IfOk given
+      (λ n. actions_of process new ≡ actions_of process old ++ HasPut n bytes ∷ [])
   pub could : OnOk given (CanPut (process.queue old.core) (length bytes))
   pub fault : IfErr given (IsPutFault (process.queue old.core) (length bytes))
   pub refused : OnErr given (new.core ≡ old.core)
   pub seat : new.seat ≡ old.seat
 
 -- a close was taken, or a leave, by the mark that it asks for, or came to this fault
-pub record Closes (asked : Mark) (old : SenderSeat Held) (given : Result (Unit {0}) CloseFault) (new : SenderSeat Held) : Type 0 where
+pub record Closes (asked : Mark) (old : SenderSeat Held) (given : Result (Unit {0}) CloseFault)
+    (new : SenderSeat Held) : Type 0 where
   pub taken : OnOk given (new.core ≡ process.with_mark old.core asked)
   pub action : OnOk given (actions_of process new ≡ actions_of process old ++ HasMarked asked ∷ [])
   pub could : OnOk given (CanClose (process.queue old.core))
@@ -50,65 +59,66 @@ pub record Closes (asked : Mark) (old : SenderSeat Held) (given : Result (Unit {
   pub refused : OnErr given (new.core ≡ old.core)
   pub seat : new.seat ≡ old.seat
 
--- what waits with a sender was put into the batch of another, behind what waits there, or came to this fault
-pub record CarriesOn (from old : SenderSeat Held) (given : Result (Unit {0}) PutFault) (new : SenderSeat Held) : Type 0 where
+-- what waits with a sender was put into the batch of another, behind what waits there, or came to
+-- this fault; to Busy where that sender holds the page
+pub record CarriesOn (from old : SenderSeat Held) (given : Result (Unit {0}) PutFault)
+    (new : SenderSeat Held) : Type 0 where
   pub carried : OnOk given (Carries process from old new)
+  pub out : process.holds from.core ≡ true → given ≡ Err put.Busy
   pub fault : IfErr given (CarryRefused process from old)
   pub refused : OnErr given (new.core ≡ old.core)
   pub seat : new.seat ≡ old.seat
 
 -- a turn with this random word was answered so
-pub record Turns (old : SenderSeat Held) (word : ℕ) (turn : Turn) (new : SenderSeat Held) : Type 0 where
+pub record Turns (old : SenderSeat Held) (word : ℕ) (turn : Turn) (new : SenderSeat Held) :
+    Type 0 where
   pub table : table_of new ≡ table_of old
-  pub rests : process.op old.core word ≡ None → (new ≡ old) × (turn ≡ process.rest old.core) × RestTells old.core turn
-  pub steps : (op : Op) → process.op old.core word ≡ Some op → TookAndTold process (FeedTells election) old word turn new
+  pub rests : process.op old.core word ≡ None
+      → (new ≡ old) × (turn ≡ process.rest old.core) × RestTells old.core turn
+  pub steps : (op : Op) → process.op old.core word ≡ Some op
+      → TookAndTold process (FeedTells election) old word turn new
 
-abbrev pub still_goes : Turn → Bool
-still_goes turn.Idle = false
-still_goes turn.Waiting = false
-still_goes turn.Going = true
-still_goes (turn.Lost tenure owner) = false
-still_goes (turn.Own tenure) = false
-still_goes (turn.Delivered tenure first last) = false
-still_goes (turn.Left tenure) = false
-still_goes turn.Full = false
-still_goes turn.Closed = false
-still_goes turn.Spent = false
-still_goes (turn.Behind tenure sender) = false
-
--- A turn with this random word, and so many more, each behind one that was answered Going, and with a step that asks for no word; the
--- last one was answered so.
+-- A turn with this random word, and so many more, each behind one that was answered Going, and with
+-- a step that asks for no word; the last one was answered so.
 pub data TurnsOn (first : SenderSeat Held) (word : ℕ) : ℕ → Turn → SenderSeat Held → Type 0 where
-  Once : (answer : Turn) (new : SenderSeat Held) → Turns first word answer new → TurnsOn first word 0 answer new
-  Again : (n : ℕ) (before : Turn) (old : SenderSeat Held) (any : ℕ) (answer : Turn) (new : SenderSeat Held) → TurnsOn first word n before old
-      → still_goes before ≡ true → process.wants_word old.core ≡ false → Turns old any answer new → TurnsOn first word (n + 1) answer new
+  Once : (answer : Turn) (new : SenderSeat Held) → Turns first word answer new
+      → TurnsOn first word 0 answer new
+  Again : (n : ℕ) (before : Turn) (old : SenderSeat Held) (any : ℕ) (answer : Turn)
+      (new : SenderSeat Held) → TurnsOn first word n before old
+      → still_goes before ≡ true → process.wants_word old.core ≡ false → Turns old any answer new
+      → TurnsOn first word (n + 1) answer new
 
 -- ---- the same with the answer as a code; before is what a place had that the answer is written to
-pub record PutAnswered (old : SenderSeat Held) (bytes : List ℕ) (answer before after : ℕ) (new : SenderSeat Held) : Type 0 where
+pub record PutAnswered (old : SenderSeat Held) (bytes : List ℕ) (answer before after : ℕ)
+    (new : SenderSeat Held) : Type 0 where
   pub given : Result ℕ PutFault
   pub puts : Puts old bytes given new
   pub code : answer ≡ put_code given
   pub number : after ≡ written before given
 
-pub record CloseAnswered (asked : Mark) (old : SenderSeat Held) (answer : ℕ) (new : SenderSeat Held) : Type 0 where
+pub record CloseAnswered (asked : Mark) (old : SenderSeat Held) (answer : ℕ)
+    (new : SenderSeat Held) : Type 0 where
   pub given : Result (Unit {0}) CloseFault
   pub closes : Closes asked old given new
   pub code : answer ≡ close_code given
 
-pub record CarryAnswered (from old : SenderSeat Held) (answer : ℕ) (new : SenderSeat Held) : Type 0 where
+pub record CarryAnswered (from old : SenderSeat Held) (answer : ℕ) (new : SenderSeat Held) :
+    Type 0 where
   pub given : Result (Unit {0}) PutFault
   pub carries : CarriesOn from old given new
   pub code : answer ≡ put_code given
 
-pub record TurnAnswered (old : SenderSeat Held) (word answer : ℕ) (told : TurnAnswer) (new : SenderSeat Held) : Type 0 where
+pub record TurnAnswered (old : SenderSeat Held) (word answer : ℕ) (told : TurnAnswer)
+    (new : SenderSeat Held) : Type 0 where
   pub turn : Turn
   pub turns : Turns old word turn new
   pub code : answer ≡ turn_code turn
   pub says : told ≡ turn_answer turn
 
--- of several turns: it ended where one was answered otherwise than Going, where the next step asks for a random word, or where so many
--- more were taken
-pub record TurnsAnswered (old : SenderSeat Held) (word more answer : ℕ) (told : TurnAnswer) (new : SenderSeat Held) : Type 0 where
+-- of several turns: it ended where one was answered otherwise than Going, where the next step asks
+-- for a random word, or where so many more were taken
+pub record TurnsAnswered (old : SenderSeat Held) (word more answer : ℕ) (told : TurnAnswer)
+    (new : SenderSeat Held) : Type 0 where
   pub n : ℕ
   pub turn : Turn
   pub turns : TurnsOn old word n turn new
@@ -128,37 +138,34 @@ pub record ShowsSender (s : SenderSeat Held) (shown : SenderShown) : Type 0 wher
   pub wants_word : shown.wants_word ≡ process.wants_word s.core
 
 -- ---- a receiver
-pub record HeardOnce (old : Sat Held) (answer : ℕ) (told : HeardAnswer) (new : Sat Held) : Type 0 where
+pub record HeardOnce (old : Sat Held) (answer : ℕ) (told : HeardAnswer) (new : Sat Held) :
+    Type 0 where
   pub turn : RecvTurn
   pub hears : Hears old turn new
   pub code : answer ≡ heard_code turn
   pub says : told ≡ heard_answer turn
 
--- an answer after which more may be there at once
-abbrev pub goes_on : RecvTurn → Bool
-goes_on heard.Going = true
-goes_on heard.Empty = false
-goes_on (heard.Head tenure owner) = true
-goes_on (heard.Item item) = true
-goes_on (heard.Leave sender) = true
-goes_on heard.End = false
-
--- So many turns gave these items and led from one seat to another. Each was taken while there was room for an item behind those before,
--- and answered so that more may be there.
+-- So many turns gave these items and led from one seat to another. Each was taken while there was
+-- room for an item behind those before, and answered so that more may be there.
 pub data HearsOn (first : Sat Held) (room : ℕ) : ℕ → List Item → Sat Held → Type 0 where
   Here : HearsOn first room 0 [] first
   More : (n : ℕ) (items : List Item) (old : Sat Held) (answer : RecvTurn) (new : Sat Held)
-      → HearsOn first room n items old → length items < room → Hears old answer new → goes_on answer ≡ true → HearsOn first room (n + 1) (items ++ item_in answer) new
+      → HearsOn first room n items old → length items < room → Hears old answer new
+      → recv_goes_on answer ≡ true → HearsOn first room (n + 1) (items ++ item_in answer) new
 
--- At most so many such turns, and what ended them: there was no more room, or all turns were taken, which is answered Going; or one more
--- turn, which is one of so many too, and for which there was room, was answered Empty or End.
+-- At most so many such turns, and what ended them: there was no more room, or all turns were taken,
+-- which is answered Going; or one more turn, which is one of so many too, and for which there was
+-- room, was answered Empty or End.
 pub data Hearing (first : Sat Held) (room turns : ℕ) : List Item → ℕ → Sat Held → Type 0 where
-  Fills : (n : ℕ) (items : List Item) (new : Sat Held) → HearsOn first room n items new → n ≤ turns → (length items ≡ room) ⊎ (n ≡ turns) → Hearing first room turns items code.GOING new
+  Fills : (n : ℕ) (items : List Item) (new : Sat Held) → HearsOn first room n items new → n ≤ turns
+      → (length items ≡ room) ⊎ (n ≡ turns) → Hearing first room turns items code.GOING new
   Stops : (n : ℕ) (items : List Item) (old : Sat Held) (answer : RecvTurn) (new : Sat Held)
-      → HearsOn first room n items old → length items < room → n < turns → Hears old answer new → goes_on answer ≡ false → Hearing first room turns items (heard_code answer) new
+      → HearsOn first room n items old → length items < room → n < turns → Hears old answer new
+      → recv_goes_on answer ≡ false → Hearing first room turns items (heard_code answer) new
 
 -- the same with the items written over the first places of a list
-pub record HearsInto (old : Sat Held) (before : List HeardItem) (turns many answer : ℕ) (after : List HeardItem) (new : Sat Held) : Type 0 where
+pub record HearsInto (old : Sat Held) (before : List HeardItem) (turns many answer : ℕ)
+    (after : List HeardItem) (new : Sat Held) : Type 0 where
   pub items : List Item
   pub hears : Hearing old (length before) turns items answer new
   pub many_are : many ≡ length items
@@ -172,7 +179,8 @@ pub record ShowsReceiver (m : Sat Held) (shown : ReceiverShown) : Type 0 where
 
 -- ---- two handles, of one bus or not
 -- a receiver was told by a sender, which stayed as it was
-pub record IsToldBy (sender : SenderSeat Held) (old : Sat Held) (sender' : SenderSeat Held) (new : Sat Held) : Type 0 where
+pub record IsToldBy (sender : SenderSeat Held) (old : Sat Held) (sender' : SenderSeat Held)
+    (new : Sat Held) : Type 0 where
   pub told : IsTold process sender.core (actions_of process sender) (stored_of sender) old new
   pub core : sender'.core ≡ sender.core
   pub me : sender'.seat.me ≡ sender.seat.me
@@ -183,16 +191,21 @@ abbrev pub Tells : Bool → SenderSeat Held → Sat Held → SenderSeat Held →
 Tells true sender old sender' new = IsToldBy sender old sender' new
 Tells false sender old sender' new = (sender' ≡ sender) × (new ≡ old)
 
-pub record TellAnswered (of_one_bus : Bool) (sender : SenderSeat Held) (old : Sat Held) (answer : ℕ) (sender' : SenderSeat Held) (new : Sat Held) : Type 0 where
+pub record TellAnswered (of_one_bus : Bool) (sender : SenderSeat Held) (old : Sat Held) (answer : ℕ)
+    (sender' : SenderSeat Held) (new : Sat Held) : Type 0 where
   pub tells : Tells of_one_bus sender old sender' new
   pub code : answer ≡ one_bus_code of_one_bus
 
 -- two receivers of one bus met, and how far each had read is compared; of two nothing changed
 abbrev pub Meets : Bool → Sat Held → Sat Held → ℤ → ℤ → Sat Held → Sat Held → Type 0
 Meets true old theirs before after new theirs' =
-    HaveMet old theirs new theirs' × (after ≡ order_number (nat_cmp (receiver_view_in old.0).place (receiver_view_in theirs.0).place))
-Meets false old theirs before after new theirs' = (new ≡ old) × (theirs' ≡ theirs) × (after ≡ before)
+    HaveMet old theirs new theirs'
+    × (after
+    ≡ order_number (nat_cmp (receiver_view_in old.0).place (receiver_view_in theirs.0).place))
+Meets false old theirs before after new theirs' =
+    (new ≡ old) × (theirs' ≡ theirs) × (after ≡ before)
 
-pub record MeetAnswered (of_one_bus : Bool) (old theirs : Sat Held) (answer : ℕ) (before after : ℤ) (new theirs' : Sat Held) : Type 0 where
+pub record MeetAnswered (of_one_bus : Bool) (old theirs : Sat Held) (answer : ℕ) (before after : ℤ)
+    (new theirs' : Sat Held) : Type 0 where
   pub meets : Meets of_one_bus old theirs before after new theirs'
   pub code : answer ≡ one_bus_code of_one_bus

@@ -1,20 +1,24 @@
 -- What the end of a bus leaves, as numbers.
-use Rattle.std.specs.Prelude.{◌≡◌, ℕ, ◌+◌, ◌<◌, List, length, slice_get, slice_index, Some, None, Result, Ok, Err}
+use Rattle.std.specs.Prelude.{◌≡◌, ℕ, ◌+◌, ◌<◌, ◌⊎◌, true, false, List, length, slice_get}
+use Rattle.std.specs.Prelude.{slice_index, slice_set, Some, None, Result, Ok, Err}
 use Rattle.bus_register.specs.declared.limits.TheConstants.{MOST_SENDERS}
 use Rattle.bus_register.specs.declared.registers.SenderNo.{SenderNo}
 use Rattle.bus_batch.specs.Frames.{Order, Spells, has_gone}
 use Rattle.bus_deliverylog.specs.Orders.{of_sender}
 use Rattle.bus_handles.specs.Handles.{SeatOfBus}
+use Rattle.bus_handles.specs.Pages.{HasParted}
 use Rattle.bus_handles.specs.declared.answers.BusNotEnded.{BusNotEnded}
 use Rattle.bus_handles.specs.declared.answers.BusNotEnded.TheVariants as why
 use Rattle.bus_pageslot.specs.Endings.{IsLeft}
 use Rattle.bus_pageslot.specs.Outcomes.{Outcome}
+use Rattle.bus_pageslot.specs.Seats.{SenderSeat}
+use Rattle.bus_embed.specs.declared.codes.TheConstants as code
 use Rattle.bus_embed.specs.declared.buses.Left.{Left}
 use Rattle.bus_embed.specs.Answers.{end_code, over}
 use Rattle.bus_automaton.specs.ThreeWordBuses.{Held, process, automaton}
 
--- Of the order that the log spells (it spells one alone) how many items each sender has, and whether it has left; its numbers before and
--- behind it; and what the page says besides.
+-- Of the order that the log spells (it spells one alone) how many items each sender has, and
+-- whether it has left; its numbers before and behind it; and what the page says besides.
 pub record IsLeftBy (z : Outcome) (left : Left) : Type 0 where
   pub order : Order
   pub owners : List (ℕ × SenderNo)
@@ -22,21 +26,48 @@ pub record IsLeftBy (z : Outcome) (left : Left) : Type 0 where
   pub counts : (s : ℕ) → s < MOST_SENDERS → slice_index left.counts s ≡ length (of_sender s order)
   pub bases : (s : ℕ) → s < MOST_SENDERS → slice_index left.bases s ≡ slice_index z.bases s
   pub next : left.next ≡ z.page.next
-  pub sums : (s : ℕ) → s < MOST_SENDERS → slice_index left.next s ≡ slice_index left.bases s + slice_index left.counts s
+  pub sums : (s : ℕ) → s < MOST_SENDERS
+      → slice_index left.next s ≡ slice_index left.bases s + slice_index left.counts s
   pub words : left.words ≡ length z.log
   pub tenures : left.tenures ≡ z.page.tenures
   pub ended : left.ended ≡ z.page.ended
   pub gone : (s : ℕ) → s < MOST_SENDERS → slice_get left.gone s ≡ Some (has_gone s order)
 
--- The bus was ended, and its log's first words are written, as many as there is room for. Or it was not, and nothing is written.
-abbrev pub Leaves : SeatOfBus Held → List ℕ → Left → Result Outcome BusNotEnded → List ℕ → Left → Type 0
+-- The bus was ended, and its log's first words are written, as many as there is room for. Or it was
+-- not, and nothing is written.
+abbrev pub Leaves : SeatOfBus Held → List ℕ → Left → Result Outcome BusNotEnded → List ℕ → Left
+    → Type 0
 Leaves r log left (Ok z) log' left' =
-    IsLeft process (automaton r.bus.plan) r.me.0 z.log (Some z.page) × (z.senders ≡ r.bus.plan.shape.senders) × (z.bases ≡ r.bus.plan.bases)
+    IsLeft process (automaton r.bus.plan) r.me.0 z.log (Some z.page)
+    × (z.senders ≡ r.bus.plan.shape.senders) × (z.bases ≡ r.bus.plan.bases)
     × (log' ≡ over z.log log) × IsLeftBy z left'
 Leaves r log left (Err why.InUse) log' left' = (log' ≡ log) × (left' ≡ left)
-Leaves r log left (Err why.PageOut) log' left' = ((words : List ℕ) × IsLeft process (automaton r.bus.plan) r.me.0 words None) × (log' ≡ log) × (left' ≡ left)
+Leaves r log left (Err why.PageOut) log' left' =
+    ((words : List ℕ) × IsLeft process (automaton r.bus.plan) r.me.0 words None) × (log' ≡ log)
+    × (left' ≡ left)
 
-pub record EndAnswered (r : SeatOfBus Held) (log : List ℕ) (left : Left) (answer : ℕ) (log' : List ℕ) (left' : Left) : Type 0 where
+pub record EndAnswered (r : SeatOfBus Held) (log : List ℕ) (left : Left) (answer : ℕ)
+    (log' : List ℕ) (left' : Left) : Type 0 where
   pub given : Result Outcome BusNotEnded
   pub leaves : Leaves r log left given log' left'
   pub code : answer ≡ end_code given
+
+-- ---- the page of a sitting whose order has ended, by its senders
+-- each sender would go on with its first number, and the order has not ended; or nothing was
+-- written
+pub record BeginsPage (answer : ℕ) (left left' : Left) : Type 0 where
+  pub answers : (answer ≡ code.OK) ⊎ ((answer ≡ code.UNANSWERED) × (left' ≡ left))
+  pub next : answer ≡ code.OK → left'.next ≡ left'.bases
+  pub ended : answer ≡ code.OK → left'.ended ≡ false
+
+-- The sender of this number sends nothing more. Written was the number of the first message that
+-- waits with it, or else of the next one, and perhaps that the order has ended, and nothing else.
+-- Or it may send still, or is not the one of this number, and nothing was written.
+pub record NotesSender (s : SenderSeat Held) (number answer : ℕ) (left left' : Left) : Type 0 where
+  pub answers : (answer ≡ code.OK) ⊎ ((answer ≡ code.UNANSWERED) × (left' ≡ left))
+  pub parted : answer ≡ code.OK → HasParted process number s
+  pub next : answer ≡ code.OK → left'.next ≡ slice_set left.next number (process.queue s.core).first
+  pub rest : answer ≡ code.OK → left' ≡ record left { next = left'.next; ended = left'.ended }
+  pub ended : answer ≡ code.OK → left.ended ≡ true → left'.ended ≡ true
+  pub within : answer ≡ code.OK → number < MOST_SENDERS
+  pub refused : answer ≡ code.UNANSWERED → number < MOST_SENDERS → HasParted process number s → ⊥

@@ -50,7 +50,7 @@ pub struct HeardAnswer {
 
 impl TurnAnswer {
     /// One that says nothing.
-    fn none() -> TurnAnswer
+    pub fn none() -> TurnAnswer
         ensures { result ≡ record { tenure = 0; first = 0; last = 0; sender = 0 } }
     {
         TurnAnswer {

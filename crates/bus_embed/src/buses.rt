@@ -1,7 +1,7 @@
 //! How a bus is opened and ended.
 
 ghost use Rattle.std.specs.Prelude.{◌≡◌, ℕ, ◌<◌, List, Some, None, IfOk, OnOk, IfErr, length};
-ghost use Rattle.std.specs.Prelude.{slice_index};
+ghost use Rattle.std.specs.Prelude.{slice_index, false};
 ghost use Rattle.bus_register.specs.declared.registers.SenderNo.{SenderNo as Number};
 ghost use Rattle.bus_batch.specs.Frames.{Order, Spells};
 ghost use Rattle.bus_deliverylog.specs.Orders.{of_sender};
@@ -10,7 +10,7 @@ ghost use Rattle.bus_machine.specs.Playing.{IsServed, MakeRefused, IsFollowed, A
 ghost use Rattle.bus_automaton.specs.ThreeWordBuses.{process, automaton};
 ghost use Rattle.bus_embed.specs.Buses.{plan_of, page_of, shape_of};
 ghost use Rattle.bus_embed.specs.Answers.{make_code};
-ghost use Rattle.bus_embed.specs.Ends.{EndAnswered, IsLeftBy};
+ghost use Rattle.bus_embed.specs.Ends.{EndAnswered, IsLeftBy, BeginsPage, NotesSender};
 
 use crate::codes;
 use crate::writing::write_over;
@@ -153,6 +153,21 @@ impl Left {
         }
     }
 
+    /// What a bus has left whose senders have sent nothing, from these numbers on.
+    fn before(bases: [u64; MOST_SENDERS]) -> Left
+        ensures { (result.next ≡ bases) × (result.bases ≡ bases) × (result.ended ≡ false) }
+    {
+        Left {
+            counts: [0; MOST_SENDERS],
+            bases,
+            next: bases,
+            words: 0,
+            tenures: 0,
+            ended: false,
+            gone: [false; MOST_SENDERS],
+        }
+    }
+
     /// The page of the bus that left this.
     fn page(&self) -> Page
         ensures { result ≡ page_of self.now }
@@ -165,6 +180,35 @@ impl Left {
             words: self.words,
         }
     }
+}
+
+/// What a bus has left before any of its senders sent: of this bus the numbers that its sitting
+/// began with, and nothing else. UNANSWERED where it has another number of senders.
+pub fn begin_page(sender: &SenderHandle<ThreeWord>, senders: u64, left: &mut Left) -> u32
+    ensures { BeginsPage result left.old left.new }
+{
+    if sender.senders() != senders {
+        return codes::UNANSWERED;
+    }
+    *left = Left::before(sender.bases());
+    codes::OK
+}
+
+/// Notes the number with which a sender goes on that sends nothing more, in place of its first
+/// one, and whether it has closed the order. Else, or where its number is another, UNANSWERED, and
+/// nothing changes.
+pub fn note_sender(sender: &SenderHandle<ThreeWord>, number: u64, left: &mut Left) -> u32
+    ensures { NotesSender sender.now number result left.old left.new }
+{
+    if number >= MOST_SENDERS as u64 {
+        return codes::UNANSWERED;
+    }
+    if u64::from(sender.number().0) != number || !sender.is_closed() {
+        return codes::UNANSWERED;
+    }
+    left.next[number as usize] = sender.goes_on_from();
+    left.ended = left.ended || sender.has_closed();
+    codes::OK
 }
 
 /// How many items of each sender the order has.

@@ -76,3 +76,5 @@ pub const NOT_ENDED: u32 = 49;
 pub const NUMBERS_USED: u32 = 50;
 /// Two handles are of two buses.
 pub const OTHER_BUS: u32 = 51;
+/// No page: a sender was not answered Closed or Left yet, or its handle is not at its place.
+pub const UNANSWERED: u32 = 52;

@@ -8,13 +8,17 @@
 mod answers;
 mod buses;
 pub mod codes;
+mod finishing;
 mod receivers;
 mod senders;
 mod writing;
 
 pub use answers::{HeardAnswer, HeardItem, TurnAnswer};
 pub use bus_handles::{ReceiverHandle, SenderHandle, ThreeWord};
-pub use buses::{Left, Sizes, end_bus, open_bus, open_bus_after, refused_code};
+pub use buses::{
+    Left, Sizes, begin_page, end_bus, note_sender, open_bus, open_bus_after, refused_code,
+};
+pub use finishing::finish_sender;
 pub use receivers::{
     ReceiverShown, hear_items, hear_once, receivers_meet, show_receiver, tell_receiver,
 };

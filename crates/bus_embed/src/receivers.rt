@@ -4,7 +4,8 @@ ghost use Rattle.std.specs.Prelude.{◌≡◌, ◌+◌, ◌<◌, ◌≤◌, true
 ghost use Rattle.bus_batch.specs.declared.messages.Item.{Item};
 ghost use Rattle.bus_pageslot.specs.Seats.{table_of};
 ghost use Rattle.bus_embed.specs.Answers.{item_told, order_number};
-ghost use Rattle.bus_embed.specs.Calls.{HeardOnce, HearsInto, ShowsReceiver, goes_on};
+ghost use Rattle.bus_embed.specs.Calls.{HeardOnce, HearsInto, ShowsReceiver};
+ghost use Rattle.bus_deliverylog.specs.Receiving.{recv_goes_on};
 ghost use Rattle.bus_receiver.specs.HearingRuns.{item_in};
 ghost use Rattle.bus_embed.specs.Calls.{TellAnswered, MeetAnswered};
 
@@ -67,7 +68,7 @@ pub fn hear_items(
 /// More may be there at once.
 #[inline(always)]
 fn may_go_on(turn: &RecvTurn) -> bool
-    ensures { result ≡ goes_on turn.now }
+    ensures { result ≡ recv_goes_on turn.now }
 {
     match turn {
         RecvTurn::Going | RecvTurn::Head { .. } => true,

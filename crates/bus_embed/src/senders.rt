@@ -4,7 +4,8 @@ ghost use Rattle.std.specs.Prelude.{◌≡◌};
 ghost use Rattle.bus_batch.specs.declared.messages.Mark.TheVariants as mark;
 ghost use Rattle.bus_embed.specs.Answers.{close_code, put_fault_code, turn_code, turn_answer};
 ghost use Rattle.bus_embed.specs.Calls.{PutAnswered, CloseAnswered, TurnAnswered, ShowsSender};
-ghost use Rattle.bus_embed.specs.Calls.{CarryAnswered, TurnsAnswered, still_goes};
+ghost use Rattle.bus_embed.specs.Calls.{CarryAnswered, TurnsAnswered};
+ghost use Rattle.bus_tenure.specs.Classes.{still_goes};
 
 use crate::answers::{TurnAnswer, turn_told};
 use crate::codes;
@@ -57,7 +58,7 @@ fn put_refused(fault: PutFault) -> u32
 }
 
 /// Puts what waits with a sender into the batch of another, as `SenderHandle::carry_to`: OK, or
-/// the code of the fault. The first one keeps it too.
+/// the code of the fault, PUT_BUSY where the first one holds the page. The first one keeps it too.
 pub fn carry_messages(sender: &SenderHandle<ThreeWord>, next: &mut SenderHandle<ThreeWord>) -> u32
     ensures { CarryAnswered sender.now next.old result next.new }
 {

@@ -14,22 +14,40 @@ use Rattle.bus_handles.specs.declared.answers.OrderNotEnded.{OrderNotEnded}
 use Rattle.bus_handles.specs.declared.answers.OrderNotEnded.TheVariants as why
 
 -- where it was answered Closed
-pub ends : {C A : Type 0} (P : Process C) (T : Tellings C) (old closed new : SenderSeat C) (answer : Turn) (r : Result A OrderNotEnded) → Closes P old closed → Sends P T closed answer new → OnOk r (answer ≡ turn.Closed) → OnOk r (ClosesAndSends P T old turn.Closed new)
+pub ends : {C A : Type 0} (P : Process C) (T : Tellings C) (old closed new : SenderSeat C)
+    (answer : Turn) (r : Result A OrderNotEnded) → Closes P old closed → Sends P T closed answer new
+    → OnOk r (answer ≡ turn.Closed) → OnOk r (ClosesAndSends P T old turn.Closed new)
 ends P T old closed new answer (Ok x) closes sends is =
-    record { closed = closed; closes = closes; sends = subst (λ t. Sends P T closed t new) is sends }
+    record {
+      closed = closed;
+      closes = closes;
+      sends = subst (λ t. Sends P T closed t new) is sends;
+    }
 ends P T old closed new answer (Err e) closes sends is = is
 
 -- where it was answered otherwise
-pub ends_not : {C A : Type 0} (P : Process C) (T : Tellings C) (old closed new : SenderSeat C) (answer : Turn) (r : Result A OrderNotEnded) → Closes P old closed → Sends P T closed answer new → IfErr r (λ e. (e ≡ why.Turn answer) × (answer ≡ turn.Closed → ⊥)) → IfErr r (λ e. NotEndedFor P T old e new)
+pub ends_not : {C A : Type 0} (P : Process C) (T : Tellings C) (old closed new : SenderSeat C)
+    (answer : Turn) (r : Result A OrderNotEnded) → Closes P old closed → Sends P T closed answer new
+    → IfErr r (λ e. (e ≡ why.Turn answer) × (answer ≡ turn.Closed → ⊥))
+    → IfErr r (λ e. NotEndedFor P T old e new)
 ends_not P T old closed new answer (Ok x) closes sends is = is
 ends_not P T old closed new answer (Err e) closes sends is =
-    subst (λ e. NotEndedFor P T old e new) (sym is.0) (record { closed = closed; closes = closes; sends = sends }, is.1)
+    subst (λ e. NotEndedFor P T old e new) (sym is.0) (
+      record { closed = closed; closes = closes; sends = sends },
+      is.1,
+    )
 
 -- where messages were delivered, and where none was
-pub delivers : {C : Type 0} (P : Process C) (T : Tellings C) (old : SenderSeat C) (answer : Turn) (new : SenderSeat C) (r : Result Delivered NotDelivered) → Sends P T old answer new → IfOk r (λ done. answer ≡ delivered_turn done) → IfOk r (λ done. Sends P T old (delivered_turn done) new)
+pub delivers : {C : Type 0} (P : Process C) (T : Tellings C) (old : SenderSeat C) (answer : Turn)
+    (new : SenderSeat C) (r : Result Delivered NotDelivered) → Sends P T old answer new
+    → IfOk r (λ done. answer ≡ delivered_turn done)
+    → IfOk r (λ done. Sends P T old (delivered_turn done) new)
 delivers P T old answer new (Ok done) sends is = subst (λ t. Sends P T old t new) is sends
 delivers P T old answer new (Err why) sends is = is
 
-pub delivers_not : {C : Type 0} (P : Process C) (T : Tellings C) (old : SenderSeat C) (answer : Turn) (new : SenderSeat C) (r : Result Delivered NotDelivered) → Sends P T old answer new → IfErr r (λ why. answer ≡ not_delivered_turn why) → IfErr r (λ why. Sends P T old (not_delivered_turn why) new)
+pub delivers_not : {C : Type 0} (P : Process C) (T : Tellings C) (old : SenderSeat C)
+    (answer : Turn) (new : SenderSeat C) (r : Result Delivered NotDelivered)
+    → Sends P T old answer new → IfErr r (λ why. answer ≡ not_delivered_turn why)
+    → IfErr r (λ why. Sends P T old (not_delivered_turn why) new)
 delivers_not P T old answer new (Ok done) sends is = is
 delivers_not P T old answer new (Err why) sends is = subst (λ t. Sends P T old t new) is sends

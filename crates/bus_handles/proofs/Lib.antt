@@ -1,2 +1,3 @@
 mod ClosingLaws
 mod HandleLaws
+mod PageLaws

@@ -10,8 +10,11 @@ use Rattle.bus_pageslot.specs.Turns.{Tellings}
 use Rattle.bus_handles.specs.declared.answers.OrderNotEnded.{OrderNotEnded}
 use Rattle.bus_handles.specs.declared.answers.OrderNotEnded.TheVariants as why
 
--- The close was refused for this cause, and the sender stayed as it was; or it was taken, and sending it was answered otherwise than
--- that the order has ended.
-abbrev pub NotEndedFor : {C : Type 0} → Process C → Tellings C → SenderSeat C → OrderNotEnded → SenderSeat C → Type 0
-NotEndedFor P T old (why.Close fault) new = IsCloseFault (P.queue old.core) fault × (new.core ≡ old.core) × (new.seat ≡ old.seat)
-NotEndedFor P T old (why.Turn answer) new = ClosesAndSends P T old answer new × (answer ≡ turn.Closed → ⊥)
+-- The close was refused for this cause, and the sender stayed as it was; or it was taken, and
+-- sending it was answered otherwise than that the order has ended.
+abbrev pub NotEndedFor : {C : Type 0} → Process C → Tellings C → SenderSeat C → OrderNotEnded
+    → SenderSeat C → Type 0
+NotEndedFor P T old (why.Close fault) new =
+    IsCloseFault (P.queue old.core) fault × (new.core ≡ old.core) × (new.seat ≡ old.seat)
+NotEndedFor P T old (why.Turn answer) new =
+    ClosesAndSends P T old answer new × (answer ≡ turn.Closed → ⊥)

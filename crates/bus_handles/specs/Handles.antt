@@ -18,8 +18,10 @@ seat_of r = record { table_id = r.bus.table; me = r.me }
 abbrev pub seats_of : {C : Type 0} → List (SeatOfBus C) → List (ReceiverSeat C)
 seats_of {C} rs = map (λ (r : SeatOfBus C). seat_of r) rs
 
--- A bus of this plan was made, with senders and receivers that have taken no step; and these are the handles of all of them, in order.
-pub record IsOpened {C : Type 0} (P : Process C) (A : Automaton C) (plan : Plan) (senders : List (SenderSeat C)) (receivers : List (SeatOfBus C)) : Type 0 where
+-- A bus of this plan was made, with senders and receivers that have taken no step; and these are
+-- the handles of all of them, in order.
+pub record IsOpened {C : Type 0} (P : Process C) (A : Automaton C) (plan : Plan)
+    (senders : List (SenderSeat C)) (receivers : List (SeatOfBus C)) : Type 0 where
   pub bus : BusId
   pub plan_is : bus.plan ≡ plan
   pub senders_are : AreNewSeats P A bus.table plan.shape.senders senders

@@ -8,17 +8,24 @@ use Rattle.bus_handles.specs.declared.answers.OrderNotEnded.{OrderNotEnded}
 use Rattle.bus_handles.specs.declared.answers.OrderNotEnded.TheVariants as order
 use Rattle.bus_handles.specs.declared.answers.BusNotEnded.{BusNotEnded}
 use Rattle.bus_handles.specs.declared.answers.BusNotEnded.TheVariants as bus
+use Rattle.bus_handles.specs.declared.pages.NoPage.{NoPage}
+use Rattle.bus_handles.specs.declared.pages.NoPage.TheVariants as page
 
 abbrev pub not_delivered_text : NotDelivered → List ℕ
 not_delivered_text delivered.Idle = codes "nothing is delivered: no message waits"
 not_delivered_text (delivered.Left tenure) = codes "nothing is delivered: the sender has left"
 not_delivered_text delivered.Full = codes "nothing is delivered: the log is full"
-not_delivered_text delivered.Closed = codes "nothing is delivered: the order has ended, or the sender has left"
+not_delivered_text delivered.Closed =
+    codes "nothing is delivered: the order has ended, or the sender has left"
 not_delivered_text delivered.Spent = codes "nothing is delivered: all rows are spent"
 
 abbrev pub order_not_ended_text : OrderNotEnded → List ℕ
 order_not_ended_text (order.Close why) = codes "the close is not taken: " ++ close_fault_text why
 order_not_ended_text (order.Turn answer) = codes "the close is not sent: " ++ turn_text answer
+
+abbrev pub no_page_text : NoPage → List ℕ
+no_page_text page.NotEnded = codes "the order has not ended"
+no_page_text (page.Unanswered number) = codes "a sender was not answered that the order has ended"
 
 abbrev pub bus_not_ended_text : BusNotEnded → List ℕ
 bus_not_ended_text bus.InUse = codes "other handles have the bus still"

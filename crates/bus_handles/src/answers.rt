@@ -1,7 +1,7 @@
 //! What sending and ending came to, as a Result.
 
 ghost use Rattle.std.specs.Prelude.{◌≡◌, ◌≢◌, true, Some, IfOk, IfErr, OnOk};
-ghost use Rattle.bus_automaton.specs.LastAnswers.{is_last};
+ghost use Rattle.bus_tenure.specs.Classes.{is_last};
 ghost use Rattle.bus_handles.specs.Answers.{delivered_turn, not_delivered_turn};
 ghost use Rattle.bus_handles.specs.Texts.{not_delivered_text, order_not_ended_text};
 ghost use Rattle.bus_handles.specs.Texts.{bus_not_ended_text};

@@ -16,6 +16,7 @@
 
 mod answers;
 mod opening;
+mod pages;
 mod receivers;
 mod senders;
 
@@ -27,6 +28,8 @@ pub use bus_receiver::{
     SendFault, SenderNo, Shape, ThreeWord, Turn, TwoCollect, Unsent, read_log, room_to_close,
     tenures_needed, words_needed,
 };
+pub use bus_waiting::Waiting;
 pub use opening::{open, open_after, open_cyclic};
+pub use pages::{NoPage, senders_page};
 pub use receivers::ReceiverHandle;
 pub use senders::SenderHandle;

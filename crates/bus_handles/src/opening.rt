@@ -14,6 +14,7 @@ use bus_adoptcommit::Ratifier;
 use bus_pageslot::{Bus, Sender, Tap};
 use bus_receiver::{Page, Receiver};
 use bus_register::NoMemory;
+use bus_waiting::SharedBell;
 use bus_world::{MakeFault, Shape};
 use rand_pcg::Pcg32;
 use std::alloc::Global;
@@ -94,15 +95,16 @@ fn share<Q: Ratifier + Drop>(
     ensures bus { IfOk result (λ made. All (λ r. r.bus ≡ bus) made.1.items) }
 {
     let bus = Arc::new(alloc, bus)?;
+    let bell = SharedBell::new(alloc)?;
     let mut sending = Vec::new(alloc);
     for sender in senders {
         let rng = Pcg32::new(0, u64::from(sender.number().0));
-        sending.push(SenderHandle::new(Arc::try_clone(&bus)?, sender, rng))?;
+        sending.push(SenderHandle::new(Arc::try_clone(&bus)?, bell.again()?, sender, rng))?;
     }
     let mut receiving = Vec::new(alloc);
     for tap in taps {
         let receiver = Receiver::new(tap);
-        receiving.push(ReceiverHandle::new(Arc::try_clone(&bus)?, receiver))?;
+        receiving.push(ReceiverHandle::new(Arc::try_clone(&bus)?, bell.again()?, receiver))?;
     }
     Ok((sending, receiving))
 }

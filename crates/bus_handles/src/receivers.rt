@@ -18,6 +18,7 @@ use bus_batch::Item;
 use bus_deliverylog::RecvTurn;
 use bus_pageslot::{Bus, Ended};
 use bus_receiver::{Next, Receiver};
+use bus_waiting::{SharedBell, Waiting};
 use std::cmp::Ordering;
 use std::marker::Model;
 use std::sync::{Arc, Wait};
@@ -27,6 +28,7 @@ use std::sync::{Arc, Wait};
 #[derive(Drop)]
 pub struct ReceiverHandle<Q: Ratifier = ThreeWord> {
     bus: Arc<Bus<Q>>,
+    bell: SharedBell,
     receiver: Receiver<Q>,
 }
 
@@ -49,12 +51,36 @@ impl<Q: Ratifier + Drop> ReceiverHandle<Q> {
     ghost use Rattle.bus_handles.specs.Handles.{seat_of};
 
     /// This receiver of this bus.
-    pub(crate) fn new(bus: Arc<Bus<Q>>, receiver: Receiver<Q>) -> ReceiverHandle<Q>
+    pub(crate) fn new(
+        bus: Arc<Bus<Q>>,
+        bell: SharedBell,
+        receiver: Receiver<Q>,
+    ) -> ReceiverHandle<Q>
         requires { bus_of receiver ≡ (arc_value bus).table }
         ensures bus { result.bus ≡ arc_value bus }
         ensures seat { seat_of result ≡ receiver }
     {
-        ReceiverHandle { bus, receiver }
+        ReceiverHandle {
+            bus,
+            bell,
+            receiver,
+        }
+    }
+
+    /// The same receiver, whose calls wait so from now on. At first they sleep.
+    pub fn with_waiting(self, waiting: Waiting) -> ReceiverHandle<Q>
+        ensures { result ≡ self }
+    {
+        let ReceiverHandle {
+            bus,
+            bell,
+            receiver,
+        } = self;
+        ReceiverHandle {
+            bus,
+            bell: bell.with(waiting),
+            receiver,
+        }
     }
 
     /// Where its bus lies, as `SenderHandle::bus_place`.
@@ -102,7 +128,8 @@ impl<Q: Ratifier + Drop> ReceiverHandle<Q> {
         ensures takes { Takes self.old.me result self.new.me }
     {
         let bus: &Bus<Q> = &self.bus;
-        self.receiver.take(wait, bus)
+        let waiter = self.bell.waiter(wait);
+        self.receiver.take(&waiter, bus)
     }
 
     /// Turns, until one finds an item or the end: the item, and none at the end and ever after. It
@@ -112,8 +139,9 @@ impl<Q: Ratifier + Drop> ReceiverHandle<Q> {
         ensures passes { PassesTo self.old.me (item_or_end result) self.new.me }
     {
         let bus: &Bus<Q> = &self.bus;
+        let waiter = self.bell.waiter(wait);
         let mut item = None;
-        self.receiver.next_item_in_place(wait, bus, &mut item);
+        self.receiver.next_item_in_place(&waiter, bus, &mut item);
         item
     }
 
@@ -126,7 +154,8 @@ impl<Q: Ratifier + Drop> ReceiverHandle<Q> {
         ensures passes { PassesWhile F.step self.old.me go_on result self.new.me }
     {
         let bus: &Bus<Q> = &self.bus;
-        self.receiver.next_item_while(wait, bus, go_on)
+        let waiter = self.bell.asked(wait);
+        self.receiver.next_item_while(&waiter, bus, go_on)
     }
 
     /// A sender of the same bus tells it of the log: it knows from then on all that the sender has
@@ -171,7 +200,7 @@ impl<Q: Ratifier + Drop> ReceiverHandle<Q> {
             × IsLeft (process_by Q.Ratifier) (automaton_by Q.Ratifier self.bus.plan)
             self.me.0 log None }
     {
-        let ReceiverHandle { bus, receiver } = self;
+        let ReceiverHandle { bus, receiver, .. } = self;
         let Ok(bus) = Arc::try_unwrap(bus) else {
             return Err(BusNotEnded::InUse);
         };

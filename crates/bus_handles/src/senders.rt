@@ -2,7 +2,7 @@
 
 ghost use Rattle.std.specs.Prelude.{◌≡◌, ℕ, ◌+◌, List, [], ◌∷◌, ◌++◌, length};
 ghost use Rattle.std.specs.Prelude.{Some, None, IfSome, IfNone, IfOk, IfErr, OnOk, OnErr, true};
-ghost use Rattle.std.specs.Prelude.{IsTrue, ◌↔◌};
+ghost use Rattle.std.specs.Prelude.{IsTrue, ◌↔◌, Err};
 ghost use Rattle.std.specs.Arc.{arc_value};
 ghost use Rattle.bus_batch.specs.Batches.{next_of, CanPut, IsPutFault, CanClose, IsCloseFault};
 ghost use Rattle.bus_batch.specs.declared.messages.Mark.TheVariants as mark;
@@ -15,7 +15,7 @@ ghost use Rattle.bus_core.specs.Telling.{FeedTells};
 ghost use Rattle.bus_core.specs.Telling.{RestTells};
 ghost use Rattle.bus_tenure.specs.Elections.{election_of};
 ghost use Rattle.bus_automaton.specs.Buses.{process_by};
-ghost use Rattle.bus_automaton.specs.LastAnswers.{is_refusal};
+ghost use Rattle.bus_tenure.specs.Classes.{is_refusal};
 ghost use Rattle.bus_pageslot.specs.Seats.{TookAndTold, table_of};
 ghost use Rattle.bus_pageslot.specs.Seats.{first_number_of, actions_of, stored_of};
 ghost use Rattle.bus_pageslot.specs.Turns.{tells_by, Sends, SendsAsking, StopsWaiting};
@@ -25,12 +25,16 @@ ghost use Rattle.bus_handles.specs.Answers.{delivered_turn, not_delivered_turn};
 ghost use Rattle.bus_pageslot.specs.Sendings.{ClosesAndSends};
 ghost use Rattle.bus_handles.specs.Closings.{NotEndedFor};
 
+mod finishing;
+
 use crate::answers::{Delivered, NotDelivered, OrderNotEnded, answered, order_ended};
 use bus_adoptcommit::{Ratifier, ThreeWord};
 use bus_batch::{CloseFault, Message, PutFault};
 use bus_pageslot::{Bus, Sender, Unsent};
+use bus_register::limits::MOST_SENDERS;
 use bus_register::{Kind, SenderNo};
 use bus_tenure::Turn;
+use bus_waiting::{SharedBell, Waiting};
 use rand_core::Rng;
 use rand_pcg::Pcg32;
 use std::marker::Model;
@@ -41,8 +45,11 @@ use std::sync::{Arc, Wait};
 #[derive(Drop)]
 pub struct SenderHandle<Q: Ratifier = ThreeWord, R = Pcg32> {
     bus: Arc<Bus<Q>>,
+    bell: SharedBell,
     pub(crate) sender: Sender<Q>,
     rng: R,
+    /// A close of it was taken.
+    closes: bool,
 }
 
 impl<Q: Ratifier, R> Model for SenderHandle<Q, R> {
@@ -61,19 +68,62 @@ impl<Q: Ratifier, R> Model for SenderHandle<Q, R> {
 
 impl<Q: Ratifier + Drop, R: Rng + Drop> SenderHandle<Q, R> {
     /// This sender of this bus.
-    pub(crate) fn new(bus: Arc<Bus<Q>>, sender: Sender<Q>, rng: R) -> SenderHandle<Q, R>
+    pub(crate) fn new(
+        bus: Arc<Bus<Q>>,
+        bell: SharedBell,
+        sender: Sender<Q>,
+        rng: R,
+    ) -> SenderHandle<Q, R>
         requires { table_of sender ≡ (arc_value bus).table }
         ensures { result ≡ sender }
     {
-        SenderHandle { bus, sender, rng }
+        SenderHandle {
+            bus,
+            bell,
+            sender,
+            rng,
+            closes: false,
+        }
     }
 
     /// The same sender, which votes by the words of this generator from now on.
     pub fn with_rng<T: Rng + Drop>(self, rng: T) -> SenderHandle<Q, T>
         ensures { result ≡ self }
     {
-        let SenderHandle { bus, sender, .. } = self;
-        SenderHandle { bus, sender, rng }
+        let SenderHandle {
+            bus,
+            bell,
+            sender,
+            closes,
+            ..
+        } = self;
+        SenderHandle {
+            bus,
+            bell,
+            sender,
+            rng,
+            closes,
+        }
+    }
+
+    /// The same sender, whose calls wait so from now on. At first they sleep.
+    pub fn with_waiting(self, waiting: Waiting) -> SenderHandle<Q, R>
+        ensures { result ≡ self }
+    {
+        let SenderHandle {
+            bus,
+            bell,
+            sender,
+            rng,
+            closes,
+        } = self;
+        SenderHandle {
+            bus,
+            bell: bell.with(waiting),
+            sender,
+            rng,
+            closes,
+        }
     }
 
     /// The sender's number, from 0 on.
@@ -83,8 +133,8 @@ impl<Q: Ratifier + Drop, R: Rng + Drop> SenderHandle<Q, R> {
         self.sender.number()
     }
 
-    /// Where its bus lies. Handles that are there at once have one place if they are of one bus, and
-    /// else two. The allocator keeps that, and no contract says it.
+    /// Where its bus lies. Handles that are there at once have one place if they are of one bus,
+    /// and else two. The allocator keeps that, and no contract says it.
     pub fn bus_place(&self) -> *const Bus<Q> {
         Arc::as_ptr(&self.bus)
     }
@@ -108,6 +158,31 @@ impl<Q: Ratifier + Drop, R: Rng + Drop> SenderHandle<Q, R> {
         ensures { result ≡ next_of ((process_by Q.Ratifier).queue self.now.core) }
     {
         self.sender.next_number()
+    }
+
+    /// The number of the first message that waits in its batch, or else that of the next one: once
+    /// its order has ended, the number with which it goes on in the next sitting.
+    pub fn goes_on_from(&self) -> u64
+        ensures { result ≡ ((process_by Q.Ratifier).queue self.now.core).first }
+    {
+        self.next_number() - self.pending()
+    }
+
+    /// A close of it was taken, be it sent or not.
+    pub fn has_closed(&self) -> bool {
+        self.closes
+    }
+
+    /// The number of each sender's first message on its bus.
+    pub fn bases(&self) -> [u64; MOST_SENDERS] {
+        let bus: &Bus<Q> = &self.bus;
+        bus.bases()
+    }
+
+    /// How many senders its bus has.
+    pub fn senders(&self) -> u64 {
+        let bus: &Bus<Q> = &self.bus;
+        bus.senders()
     }
 
     /// It sends nothing more: it has closed the order, has left it, or has learned that the order
@@ -165,7 +240,8 @@ impl<Q: Ratifier + Drop, R: Rng + Drop> SenderHandle<Q, R> {
             IfOk result (λ number. number ≡ next_of (P.queue self.old.core)) }
         ensures counts { let P = process_by Q.Ratifier in
             IfOk result
-            (λ number. number ≡ first_number_of P self.old + length (puts (actions_of P self.old))) }
+            (λ number.
+            number ≡ first_number_of P self.old + length (puts (actions_of P self.old))) }
         ensures taken { OnOk result
             (self.new.core ≡ (process_by Q.Ratifier).with_message self.old.core bytes.now) }
         ensures action { let P = process_by Q.Ratifier in IfOk result
@@ -194,7 +270,9 @@ impl<Q: Ratifier + Drop, R: Rng + Drop> SenderHandle<Q, R> {
         ensures refused { OnErr result (self.new.core ≡ self.old.core) }
         ensures seat { self.new.seat ≡ self.old.seat }
     {
-        self.sender.close()
+        let closed = self.sender.close();
+        self.closes = self.closes || closed.is_ok();
+        closed
     }
 
     /// Lets a leave mark wait, which says in the order that this sender has left, once it is sent.
@@ -216,11 +294,16 @@ impl<Q: Ratifier + Drop, R: Rng + Drop> SenderHandle<Q, R> {
     /// Puts the messages that wait in its batch into that of `next`, in their order and behind what
     /// waits there; they wait here too. So what was not sent in one sitting goes on in the next:
     /// put first into the next sender of this number, messages get the numbers that they were
-    /// answered before. Gives BatchFull where they do not fit beside what waits there, and else
-    /// what a put gives. Takes no step. A fault changes nothing.
+    /// answered before.
+    ///
+    /// While it holds the page the answer is Busy: its messages may stand in the order already.
+    /// Else it is BatchFull where they do not fit beside what waits there, and otherwise what a put
+    /// gives, or Ok where none waits. Takes no step. A fault changes nothing.
     pub fn carry_to<S>(&self, next: &mut SenderHandle<Q, S>) -> Result<(), PutFault>
         ensures carried { OnOk result
             (Carries (process_by Q.Ratifier) self.now next.old next.new) }
+        ensures out { (process_by Q.Ratifier).holds self.now.core ≡ true
+            → result ≡ Err PutFault.Busy }
         ensures fault { IfErr result (CarryRefused (process_by Q.Ratifier) self.now next.old) }
         ensures refused { OnErr result (next.new.core ≡ next.old.core) }
         ensures seat { next.new.seat ≡ next.old.seat }
@@ -243,6 +326,13 @@ impl<Q: Ratifier + Drop, R: Rng + Drop> SenderHandle<Q, R> {
         self.sender.turn(bus, word)
     }
 
+    /// Wakes those that sleep at handles of this bus. The calls that wait ring by themselves. After
+    /// `turn` or `finish` was answered Delivered, Left, Closed, Full or Behind it wakes others at
+    /// once, which else look again within 0.1 s.
+    pub fn ring(&self) {
+        self.bell.ring();
+    }
+
     /// Turns, until there is nothing more to do, or nothing more that can be done: Idle, Delivered,
     /// Left, Full, Closed or Spent. Each vote takes one word of its generator. It waits for nothing
     /// but its own next turn, and that it ends is not promised.
@@ -257,7 +347,8 @@ impl<Q: Ratifier + Drop, R: Rng + Drop> SenderHandle<Q, R> {
             puts (actions_of P self.new) ≡ puts (actions_of P self.old) }
     {
         let bus: &Bus<Q> = &self.bus;
-        self.sender.send(wait, bus, &mut self.rng)
+        let waiter = self.bell.waiter(wait);
+        self.sender.send(&waiter, bus, &mut self.rng)
     }
 
     /// As `send`, but that it can be told to stop: each time a turn answers Waiting or Behind it
@@ -281,7 +372,8 @@ impl<Q: Ratifier + Drop, R: Rng + Drop> SenderHandle<Q, R> {
             puts (actions_of P self.new) ≡ puts (actions_of P self.old) }
     {
         let bus: &Bus<Q> = &self.bus;
-        self.sender.send_while(wait, bus, &mut self.rng, go_on)
+        let waiter = self.bell.asked(wait);
+        self.sender.send_while(&waiter, bus, &mut self.rng, go_on)
     }
 
     /// Sends messages in their order: first what waits in its batch, and then these, in batches of
@@ -296,7 +388,8 @@ impl<Q: Ratifier + Drop, R: Rng + Drop> SenderHandle<Q, R> {
             (tells_by Q.Ratifier) self.old messages.now unsent self.new) }
     {
         let bus: &Bus<Q> = &self.bus;
-        self.sender.send_all(wait, bus, &mut self.rng, messages)
+        let waiter = self.bell.waiter(wait);
+        self.sender.send_all(&waiter, bus, &mut self.rng, messages)
     }
 
     /// Sends what waits, as `send` does: Ok where messages were delivered, with their numbers, and
@@ -313,7 +406,8 @@ impl<Q: Ratifier + Drop, R: Rng + Drop> SenderHandle<Q, R> {
             puts (actions_of P self.new) ≡ puts (actions_of P self.old) }
     {
         let bus: &Bus<Q> = &self.bus;
-        let turn = self.sender.send(wait, bus, &mut self.rng);
+        let waiter = self.bell.waiter(wait);
+        let turn = self.sender.send(&waiter, bus, &mut self.rng);
         answered(turn)
     }
 
@@ -331,8 +425,10 @@ impl<Q: Ratifier + Drop, R: Rng + Drop> SenderHandle<Q, R> {
         if let Err(why) = self.sender.close() {
             return Err(OrderNotEnded::Close(why));
         }
+        self.closes = true;
         let bus: &Bus<Q> = &self.bus;
-        let turn = self.sender.send(wait, bus, &mut self.rng);
+        let waiter = self.bell.waiter(wait);
+        let turn = self.sender.send(&waiter, bus, &mut self.rng);
         order_ended(turn)
     }
 }

@@ -28,9 +28,11 @@ pub record TellsTorn (senders : ℕ) (words : List ℕ) (text : List ℕ) : Type
 -- the text that answers words: what they spell, or why they are no log and nothing else
 abbrev pub IsLogAnswer : ℕ → List ℕ → Outcome → List ℕ → Type 0
 IsLogAnswer senders words Done text = TellsLog senders words text
-IsLogAnswer senders words Refused text = TellsBadWord senders words text ⊎ TellsTorn senders words text
+IsLogAnswer senders words Refused text =
+    TellsBadWord senders words text ⊎ TellsTorn senders words text
 
--- the text that answers an input: that of its words, or the first refusal of a line and nothing else
+-- the text that answers an input: that of its words, or the first refusal of a line and nothing
+-- else
 abbrev pub IsAnswer : ℕ → List ℕ → Outcome → List ℕ → Type 0
 IsAnswer senders input outcome text = MatchResult (words_of input)
     (λ words. IsLogAnswer senders words outcome text)

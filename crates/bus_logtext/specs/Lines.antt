@@ -11,4 +11,6 @@ pub record IsWordLine (line : List ℕ) (word : ℕ) : Type 0 where
 -- a word for each numbered line, in order
 abbrev pub AreWordLines : List (ℕ × List ℕ) → List ℕ → Type 0
 AreWordLines [] words = words ≡ []
-AreWordLines (line ∷ lines) words = (word : ℕ) × (behind : List ℕ) × IsWordLine line.1 word × AreWordLines lines behind × (words ≡ word ∷ behind)
+AreWordLines (line ∷ lines) words =
+    (word : ℕ) × (behind : List ℕ) × IsWordLine line.1 word × AreWordLines lines behind
+    × (words ≡ word ∷ behind)

@@ -33,7 +33,8 @@ piece_line (Some (piece.Item item)) = item_line item
 piece_line (Some piece.End) = codes "end" ++ 10 ∷ []
 piece_line (Some (piece.Leave sender)) = leave_line sender
 
--- a line for each frame, behind it one for each of its items, for the end or for the leave mark, in the order of the words
+-- a line for each frame, behind it one for each of its items, for the end or for the leave mark, in
+-- the order of the words
 abbrev pub log_text : List Frame → List ℕ
 log_text frames = flat_map piece_line (log_pieces frames)
 

@@ -1,5 +1,6 @@
 -- How the words of a log are written, one a line.
-use Rattle.std.specs.Prelude.{◌≡◌, ℕ, ◌+◌, List, [], ◌∷◌, ◌++◌, Option, Some, None, Result, Ok, Err, ⊤, flat_map, nat_lt, if◌then◌else◌}
+use Rattle.std.specs.Prelude.{◌≡◌, ℕ, ◌+◌, List, [], ◌∷◌, ◌++◌, Option, Some, None, Result, Ok}
+use Rattle.std.specs.Prelude.{Err, ⊤, flat_map, nat_lt, if◌then◌else◌}
 use Rattle.std.specs.Int.{w64, from_be_bytes, to_be_bytes}
 use Rattle.std.specs.Option.{option_map}
 use Rattle.std.specs.Result.{result_ok}
@@ -34,7 +35,8 @@ refused_at number fault = record { line = number; fault = fault }
 -- The word of a line behind so many words. Its form comes before the limit.
 abbrev pub word_at : ℕ → ℕ → Option ℕ → Result ℕ Refusal
 word_at before number None = Err (refused_at number BadLine)
-word_at before number (Some word) = if nat_lt before MOST_LOG_WORDS then Ok word else Err (refused_at number TooManyWords)
+word_at before number (Some word) =
+    if nat_lt before MOST_LOG_WORDS then Ok word else Err (refused_at number TooManyWords)
 
 -- a word, and then those behind it, or the first refusal
 abbrev pub then_words : Result ℕ Refusal → Result (List ℕ) Refusal → Result (List ℕ) Refusal
@@ -45,7 +47,8 @@ then_words (Ok word) (Ok words) = Ok (word ∷ words)
 -- the words of numbered lines behind so many words, or the refusal of the first line that has one
 abbrev pub words_from : ℕ → List (ℕ × List ℕ) → Result (List ℕ) Refusal
 words_from before [] = Ok []
-words_from before (line ∷ lines) = then_words (word_at before line.0 (word_of line.1)) (words_from (before + 1) lines)
+words_from before (line ∷ lines) =
+    then_words (word_at before line.0 (word_of line.1)) (words_from (before + 1) lines)
 
 -- the words of the lines that are not passed over
 abbrev pub words_of : List ℕ → Result (List ℕ) Refusal

@@ -1,5 +1,8 @@
--- With a row for each tenure what happens to the machine happens to the bus that it is, and what leads to it leads to that bus.
-use Rattle.std.proofs.Common.{◌≡◌, ℕ, ◌+◌, suc, List, [], ◌∷◌, ◌++◌, Option, Some, None, Bool, true, false, cond, map, slice_get, slice_set, slice_index, refl, sym, ◌∙◌, ap, subst}
+-- With a row for each tenure what happens to the machine happens to the bus that it is, and what
+-- leads to it leads to that bus.
+use Rattle.std.proofs.Common.{◌≡◌, ℕ, ◌+◌, suc, List, [], ◌∷◌, ◌++◌, Option, Some, None, Bool}
+use Rattle.std.proofs.Common.{true, false, cond, map, slice_get, slice_set, slice_index, refl, sym}
+use Rattle.std.proofs.Common.{◌∙◌, ap, subst}
 use Rattle.std.specs.Prelude.{replicate, length, ◌<◌, ◌==◌, option_map, ◌&&◌}
 use Rattle.std.proofs.Math.Path.{fun_ext}
 use Rattle.std.proofs.lemmas.List.{append-nil, map-set}
@@ -18,9 +21,14 @@ use Rattle.bus_tenure.specs.Situations.{situation_of, op_at, answer_at}
 use Rattle.bus_tenure.specs.declared.turns.Turn.{Turn as Answered}
 use Rattle.bus_world.proofs.EventTrails.{put_taken}
 use Rattle.bus_world.specs.Headline.{Action}
-use Rattle.bus_world.specs.Proved.Answers.{TurnAnswers, PutGives, CloseGives, RecvAnswers, StopGives}
-use Rattle.bus_world.specs.Proved.Trails.{New, Then, turning_actions, turn_actions, heard_of, trails_grown as plain_grown, Reached as PlainReached}
-use Rattle.bus_world.specs.Proved.Machines.{side_after, core_after, home_after, Bus, SenderDoes, ReceiverDoes, StopDoes, can_close, is_open, new_core, going as plain_going, with_sender as plain_with, put_in as plain_put, mark_in as plain_mark}
+use Rattle.bus_world.specs.Proved.Answers.{TurnAnswers, PutGives, CloseGives, RecvAnswers}
+use Rattle.bus_world.specs.Proved.Answers.{StopGives}
+use Rattle.bus_world.specs.Proved.Trails.{New, Then, turning_actions, turn_actions, heard_of}
+use Rattle.bus_world.specs.Proved.Trails.{trails_grown as plain_grown, Reached as PlainReached}
+use Rattle.bus_world.specs.Proved.Machines.{side_after, core_after, home_after, Bus, SenderDoes}
+use Rattle.bus_world.specs.Proved.Machines.{ReceiverDoes, StopDoes, can_close, is_open, new_core}
+use Rattle.bus_world.specs.Proved.Machines.{going as plain_going, with_sender as plain_with}
+use Rattle.bus_world.specs.Proved.Machines.{put_in as plain_put, mark_in as plain_mark}
 use Rattle.bus_world.proofs.PlayingLaws.{owners_told as answer_tells}
 use Rattle.bus_world.specs.Turning.{owners_by, words_after, number_found}
 use Rattle.bus_world.specs.Starting.{IsNewReceiver}
@@ -28,11 +36,19 @@ use Rattle.bus_world.specs.World.{Event, Put, Ask, Turn, Recv, Stop, is_set}
 use Rattle.bus_world.specs.Trails.{actions_with}
 use Rattle.bus_world.specs.declared.events.Answer.{Answer}
 use Rattle.bus_world.specs.declared.events.Answer.TheVariants as answer
-use Rattle.bus_machine.specs.Proved.Bridge.{of_bus, plain_trails, IsPlainEvent, HappensAtNone, IsPlain}
-use Rattle.bus_machine.specs.Machine.{base_of, Machine, Trails, Reached, New as Start, Then as Next, TakesTurn, TakesPut, TakesMark, StopsNow, Hears, Happens, IsNew, no_machine_trails, trails_grown, turn_grown, turn_trails, log_place, going, with_sender, put_in, mark_in, machine_after, found, turn_answer}
+use Rattle.bus_machine.specs.Proved.Bridge.{of_bus, plain_trails, IsPlainEvent, HappensAtNone}
+use Rattle.bus_machine.specs.Proved.Bridge.{IsPlain}
+use Rattle.bus_machine.specs.Machine.{base_of, Machine, Trails, Reached, New as Start}
+use Rattle.bus_machine.specs.Machine.{Then as Next, TakesTurn, TakesPut, TakesMark, StopsNow}
+use Rattle.bus_machine.specs.Machine.{Hears, Happens, IsNew, no_machine_trails, trails_grown}
+use Rattle.bus_machine.specs.Machine.{turn_grown, turn_trails, log_place, going, with_sender}
+use Rattle.bus_machine.specs.Machine.{put_in, mark_in, machine_after, found, turn_answer}
 
-closed_by : {A : Type 0} (o b : Bool) (xs : List A) → o ≡ true → b ≡ false → xs ≡ [] → o && ((cond b false true) && is_empty xs) ≡ true
-closed_by o b xs i j k = ap (λ y. y && ((cond b false true) && is_empty xs)) i ∙ ap (λ y. (cond y false true) && is_empty xs) j ∙ ap is_empty k
+closed_by : {A : Type 0} (o b : Bool) (xs : List A) → o ≡ true → b ≡ false → xs ≡ []
+    → o && ((cond b false true) && is_empty xs) ≡ true
+closed_by o b xs i j k =
+    ap (λ y. y && ((cond b false true) && is_empty xs)) i
+    ∙ ap (λ y. (cond y false true) && is_empty xs) j ∙ ap is_empty k
 
 pub close_taken : (q : Pending) → CanClose q → can_close q ≡ true
 close_taken q c = closed_by (is_open q.phase) q.busy q.messages (ap is_open c.is_open) c.idle c.none
@@ -40,23 +56,33 @@ close_taken q c = closed_by (is_open q.phase) q.busy q.messages (ap is_open c.is
 -- ---- senders by what they are made of
 module _ {A B : Type 0} (f : A → B) where
   -- who is there is made of one
-  pub made_there : (o : Option A) (v : B) → option_map f o ≡ Some v → (u : A) × (o ≡ Some u) × (v ≡ f u)
+  pub made_there : (o : Option A) (v : B) → option_map f o ≡ Some v
+      → (u : A) × (o ≡ Some u) × (v ≡ f u)
   made_there None v e = absurd (let bad : None ≡ Some v = e in cc)
   made_there (Some u) v e = (u, refl, sym (same_Some _ _ e))
 
   -- and goes on where that does
-  pub opened_at : (t : Bool) (xs : Option B) (o : Option A) (v : B) → xs ≡ option_map f o → cond t None xs ≡ Some v → (u : A) × (cond t None o ≡ Some u) × (v ≡ f u) × (o ≡ Some u)
+  pub opened_at : (t : Bool) (xs : Option B) (o : Option A) (v : B) → xs ≡ option_map f o
+      → cond t None xs ≡ Some v → (u : A) × (cond t None o ≡ Some u) × (v ≡ f u) × (o ≡ Some u)
   opened_at true xs o v e g = absurd (let bad : None ≡ Some v = g in cc)
   opened_at false xs o v e g = let u = made_there o v (sym e ∙ g) in (u.0, u.1, u.2, u.1)
 
   -- a list of them, made again of what is left of each
-  pub rebuilt : (g : B → A) (l : List B) → ((p : ℕ) (v : B) → slice_get l p ≡ Some v → f (g v) ≡ v) → map f (map g l) ≡ l
+  pub rebuilt : (g : B → A) (l : List B) → ((p : ℕ) (v : B) → slice_get l p ≡ Some v → f (g v) ≡ v)
+      → map f (map g l) ≡ l
   rebuilt g [] h = refl
-  rebuilt g (v ∷ l) h = ap (λ y. y ∷ map f (map g l)) (h 0 v refl) ∙ ap (λ y. v ∷ y) (rebuilt g l (λ p w e. h (suc p) w e))
+  rebuilt g (v ∷ l) h =
+      ap (λ y. y ∷ map f (map g l)) (h 0 v refl)
+      ∙ ap (λ y. v ∷ y) (rebuilt g l (λ p w e. h (suc p) w e))
 
 -- a sender that goes on
-opened : {E : Type 0} (bases : List ℕ) (x : Layout) (b : Bus E) (s : ℕ) (v : Sender E) → going (of_bus bases x b) s ≡ Some v → (c : Core E) × (plain_going b s ≡ Some c) × (v ≡ with_a_row_each c) × (slice_get b.side.senders s ≡ Some c)
-opened bases x b s v g = opened_at with_a_row_each (is_set (slice_get b.stopped s)) (slice_get (map with_a_row_each b.side.senders) s) (slice_get b.side.senders s) v (slice_get-map with_a_row_each b.side.senders s) g
+opened : {E : Type 0} (bases : List ℕ) (x : Layout) (b : Bus E) (s : ℕ) (v : Sender E)
+    → going (of_bus bases x b) s ≡ Some v
+    → (c : Core E) × (plain_going b s ≡ Some c) × (v ≡ with_a_row_each c)
+    × (slice_get b.side.senders s ≡ Some c)
+opened bases x b s v g = opened_at with_a_row_each (is_set (slice_get b.stopped s))
+    (slice_get (map with_a_row_each b.side.senders) s) (slice_get b.side.senders s) v
+    (slice_get-map with_a_row_each b.side.senders s) g
 
 -- ---- one event
 nothing_heard : (H : ℕ → List RecvTurn) → (λ (r : ℕ). H r ++ []) ≡ H
@@ -66,64 +92,121 @@ nothing_done : (D : ℕ → List Action) → (λ (r : ℕ). D r ++ []) ≡ D
 nothing_done D = fun_ext (λ r. append-nil (D r))
 
 module _ {E : Type 0} (X : Election E) (bases : List ℕ) (x : Layout) (b : Bus E) where
-  turn_is : (s : ℕ) (c : Core E) (word : ℕ) → machine_after (of_bus bases x b) s (line_now X (with_a_row_each c)) word ≡ of_bus bases x (record b { side = side_after X b.side s c (situation_of X c) word })
+  turn_is : (s : ℕ) (c : Core E) (word : ℕ)
+      → machine_after (of_bus bases x b) s (line_now X (with_a_row_each c)) word
+      ≡ of_bus bases x (record b { side = side_after X b.side s c (situation_of X c) word })
   turn_is s c word =
       let z = situation_of X c in
       let got = number_found (slice_index b.side.words) (op_at X c z word) in
       ap (λ l. machine_after (of_bus bases x b) s l word) (at_none X c)
-      ∙ ap (λ g. record (of_bus bases x b) { words = words_after b.side.words (op_at X c z word); home = home_after X c z b.side.home; senders = g; owners = owners_by (answer_at X c z got word) s b.side.owners })
+      ∙ ap (λ g. record (of_bus bases x b) {
+        words = words_after b.side.words (op_at X c z word);
+        home = home_after X c z b.side.home;
+        senders = g;
+        owners = owners_by (answer_at X c z got word) s b.side.owners;
+      })
       (sym (map-set with_a_row_each b.side.senders s (core_after X c z b.side.home got word)))
-      ∙ ap (λ o. record (of_bus bases x b) { words = words_after b.side.words (op_at X c z word); home = home_after X c z b.side.home; senders = map with_a_row_each (slice_set b.side.senders s (core_after X c z b.side.home got word)); owners = o })
+      ∙ ap (λ o. record (of_bus bases x b) {
+        words = words_after b.side.words (op_at X c z word);
+        home = home_after X c z b.side.home;
+        senders = map with_a_row_each
+            (slice_set b.side.senders s (core_after X c z b.side.home got word));
+        owners = o;
+      })
       (sym (answer_tells X c s b.side.owners z got word))
 
-  answer_is : (c : Core E) (word : ℕ) → turn_answer (of_bus bases x b) (line_now X (with_a_row_each c)) word ≡ answer_at X c (situation_of X c) (number_found (slice_index b.side.words) (op_at X c (situation_of X c) word)) word
+  answer_is : (c : Core E) (word : ℕ)
+      → turn_answer (of_bus bases x b) (line_now X (with_a_row_each c)) word
+      ≡ answer_at X c (situation_of X c)
+      (number_found (slice_index b.side.words) (op_at X c (situation_of X c) word)) word
   answer_is c word = ap (λ l. turn_answer (of_bus bases x b) l word) (at_none X c)
 
-  turn_adds : (s word : ℕ) (a : Answer) (t : Answered) (c : Core E) → a ≡ answer.Turn t → plain_going b s ≡ Some c → going (of_bus bases x b) s ≡ Some (with_a_row_each c) → (T : Trails) → plain_grown X b (Turn s word) a (plain_trails T) ≡ plain_trails (trails_grown X (of_bus bases x b) (Turn s word) a T)
+  turn_adds : (s word : ℕ) (a : Answer) (t : Answered) (c : Core E) → a ≡ answer.Turn t
+      → plain_going b s ≡ Some c → going (of_bus bases x b) s ≡ Some (with_a_row_each c)
+      → (T : Trails)
+      → plain_grown X b (Turn s word) a (plain_trails T)
+      ≡ plain_trails (trails_grown X (of_bus bases x b) (Turn s word) a T)
   turn_adds s word a t c told g h T =
       let z = situation_of X c in
       let got = number_found (slice_index b.side.words) (op_at X c z word) in
       ap (λ w. plain_grown X b (Turn s word) w (plain_trails T)) told
-      ∙ ap (λ o. record { actions = λ q. T.actions q ++ cond (q == s) (turning_actions X b.side.words o word (answer.Turn t)) []; heard = λ r. T.heard r ++ [] }) g
-      ∙ ap (λ k. record { actions = actions_with s (turn_actions X c z got word (answer.Turn t)) T.actions; heard = k }) (nothing_heard T.heard)
-      ∙ ap (λ l. plain_trails (turn_trails (situation X (with_a_row_each c)) l s (found (of_bus bases x b) l word) word t T)) (sym (at_none X c))
+      ∙ ap (λ o. record {
+        actions = λ q.
+            T.actions q ++ cond (q == s) (turning_actions X b.side.words o word (answer.Turn t)) [];
+        heard = λ r. T.heard r ++ [];
+      }) g
+      ∙ ap (λ k. record {
+        actions = actions_with s (turn_actions X c z got word (answer.Turn t)) T.actions;
+        heard = k;
+      }) (nothing_heard T.heard)
+      ∙ ap (λ l. plain_trails (turn_trails (situation X (with_a_row_each c)) l s
+      (found (of_bus bases x b) l word) word t T)) (sym (at_none X c))
       ∙ ap (λ o. plain_trails (turn_grown X (of_bus bases x b) s o word (answer.Turn t) T)) (sym h)
       ∙ ap (λ w. plain_trails (trails_grown X (of_bus bases x b) (Turn s word) w T)) (sym told)
 
-  turns : (s word : ℕ) (a : Answer) (m : Machine E) → TakesTurn X (of_bus bases x b) s word a m → IsPlainEvent X bases x b (Turn s word) a m
+  turns : (s word : ℕ) (a : Answer) (m : Machine E) → TakesTurn X (of_bus bases x b) s word a m
+      → IsPlainEvent X bases x b (Turn s word) a m
   turns s word a m h =
       let o = opened bases x b s h.sender h.goes in
       let c = o.0 in
       let z = situation_of X c in
-      let told = h.answered ∙ ap (λ v. answer.Turn (turn_answer (of_bus bases x b) (line_now X v) word)) o.2 ∙ ap answer.Turn (answer_is c word) in
+      let told =
+      h.answered ∙ ap (λ v. answer.Turn (turn_answer (of_bus bases x b) (line_now X v) word)) o.2
+      ∙ ap answer.Turn (answer_is c word) in
       let new = record b { side = side_after X b.side s c z word } in
       record {
         bus = new;
-        is = h.after ∙ ap (λ v. machine_after (of_bus bases x b) s (line_now X v) word) o.2 ∙ turn_is s c word;
+        is =
+            h.after ∙ ap (λ v. machine_after (of_bus bases x b) s (line_now X v) word) o.2
+            ∙ turn_is s c word;
         event = tt;
-        happens = (subst (λ k. SenderDoes b.side k (λ y. side_after X b.side s y (situation_of X y) word) new.side) (sym o.1) refl, refl, refl);
+        happens = (
+          subst (λ k.
+              SenderDoes b.side k (λ y. side_after X b.side s y (situation_of X y) word) new.side)
+              (sym o.1) refl,
+          refl,
+          refl,
+        );
         answers = subst (λ k. TurnAnswers X b.side.words k word a) (sym o.1) told;
         trails = turn_adds s word a _ c told o.1 (h.goes ∙ ap Some o.2);
       }
 
-  puts : (s : ℕ) (bytes : List ℕ) (a : Answer) (m : Machine E) → TakesPut (of_bus bases x b) s bytes a m → IsPlainEvent X bases x b (Put s bytes) a m
+  puts : (s : ℕ) (bytes : List ℕ) (a : Answer) (m : Machine E)
+      → TakesPut (of_bus bases x b) s bytes a m → IsPlainEvent X bases x b (Put s bytes) a m
   puts s bytes a m h =
       let o = opened bases x b s h.sender h.goes in
       let c = o.0 in
-      let can = subst (λ (v : Sender E). CanPut (queue_of v.core.queue v.reuse) (length bytes)) o.2 h.can in
+      let can =
+      subst (λ (v : Sender E). CanPut (queue_of v.core.queue v.reuse) (length bytes)) o.2 h.can in
       let may = put_taken c.queue (length bytes) can in
       let put = record c { queue = record c.queue { messages = c.queue.messages ++ bytes ∷ [] } } in
       let new = record b { side = plain_with b.side s put } in
       record {
         bus = new;
-        is = h.after ∙ ap (λ v. with_sender (of_bus bases x b) s (put_in v bytes)) o.2 ∙ ap (λ l. record (of_bus bases x b) { senders = l }) (sym (map-set with_a_row_each b.side.senders s put));
+        is =
+            h.after ∙ ap (λ v. with_sender (of_bus bases x b) s (put_in v bytes)) o.2
+            ∙ ap (λ l. record (of_bus bases x b) { senders = l })
+            (sym (map-set with_a_row_each b.side.senders s put));
         event = h.are_bytes;
-        happens = (subst (λ k. SenderDoes b.side k (λ y. plain_with b.side s (plain_put y bytes)) new.side) (sym o.1) (ap (λ t. plain_with b.side s (cond t put c)) (sym may)), refl, refl);
-        answers = (next_of c.queue, subst (λ k. PutGives k (length bytes) (next_of c.queue)) (sym o.1) (can, refl), h.answered ∙ ap (λ (v : Sender E). answer.Number (next_of v.core.queue)) o.2);
-        trails = λ T. ap (λ k. record { actions = (trails_grown X (of_bus bases x b) (Put s bytes) a T).actions; heard = k }) (nothing_heard T.heard);
+        happens = (
+          subst (λ k. SenderDoes b.side k (λ y. plain_with b.side s (plain_put y bytes)) new.side)
+              (sym o.1) (ap (λ t. plain_with b.side s (cond t put c)) (sym may)),
+          refl,
+          refl,
+        );
+        answers = (
+          next_of c.queue,
+          subst (λ k. PutGives k (length bytes) (next_of c.queue)) (sym o.1) (can, refl),
+          h.answered ∙ ap (λ (v : Sender E). answer.Number (next_of v.core.queue)) o.2,
+        );
+        trails = λ T. ap (λ k. record {
+          actions = (trails_grown X (of_bus bases x b) (Put s bytes) a T).actions;
+          heard = k;
+        }) (nothing_heard T.heard);
       }
 
-  marks : (s : ℕ) (asked : Mark) (a : Answer) (m : Machine E) → TakesMark (of_bus bases x b) s asked a m → IsPlainEvent X bases x b (Ask s asked) a m
+  marks : (s : ℕ) (asked : Mark) (a : Answer) (m : Machine E)
+      → TakesMark (of_bus bases x b) s asked a m → IsPlainEvent X bases x b (Ask s asked) a m
   marks s asked a m h =
       let o = opened bases x b s h.sender h.goes in
       let c = o.0 in
@@ -133,14 +216,26 @@ module _ {E : Type 0} (X : Election E) (bases : List ℕ) (x : Layout) (b : Bus 
       let new = record b { side = plain_with b.side s marked } in
       record {
         bus = new;
-        is = h.after ∙ ap (λ v. with_sender (of_bus bases x b) s (mark_in v asked)) o.2 ∙ ap (λ l. record (of_bus bases x b) { senders = l }) (sym (map-set with_a_row_each b.side.senders s marked));
+        is =
+            h.after ∙ ap (λ v. with_sender (of_bus bases x b) s (mark_in v asked)) o.2
+            ∙ ap (λ l. record (of_bus bases x b) { senders = l })
+            (sym (map-set with_a_row_each b.side.senders s marked));
         event = tt;
-        happens = (subst (λ k. SenderDoes b.side k (λ y. plain_with b.side s (plain_mark y asked)) new.side) (sym o.1) (ap (λ t. plain_with b.side s (cond t marked c)) (sym may)), refl, refl);
+        happens = (
+          subst (λ k. SenderDoes b.side k (λ y. plain_with b.side s (plain_mark y asked)) new.side)
+              (sym o.1) (ap (λ t. plain_with b.side s (cond t marked c)) (sym may)),
+          refl,
+          refl,
+        );
         answers = (subst CloseGives (sym o.1) can, h.answered);
-        trails = λ T. ap (λ k. record { actions = (trails_grown X (of_bus bases x b) (Ask s asked) a T).actions; heard = k }) (nothing_heard T.heard);
+        trails = λ T. ap (λ k. record {
+          actions = (trails_grown X (of_bus bases x b) (Ask s asked) a T).actions;
+          heard = k;
+        }) (nothing_heard T.heard);
       }
 
-  stops : (s : ℕ) (a : Answer) (m : Machine E) → StopsNow (of_bus bases x b) s a m → IsPlainEvent X bases x b (Stop s) a m
+  stops : (s : ℕ) (a : Answer) (m : Machine E) → StopsNow (of_bus bases x b) s a m
+      → IsPlainEvent X bases x b (Stop s) a m
   stops s a m h =
       let o = opened bases x b s h.sender h.goes in
       let new = record b { stopped = slice_set b.stopped s true } in
@@ -150,22 +245,35 @@ module _ {E : Type 0} (X : Election E) (bases : List ℕ) (x : Layout) (b : Bus 
         event = tt;
         happens = (refl, refl, subst (λ k. StopDoes b.stopped s k new.stopped) (sym o.1) refl);
         answers = (subst StopGives (sym o.1) tt, h.answered);
-        trails = λ T. ap (λ k. record { actions = k; heard = λ r. T.heard r ++ [] }) (nothing_done T.actions) ∙ ap (λ k. record { actions = T.actions; heard = k }) (nothing_heard T.heard);
+        trails = λ T.
+            ap (λ k. record { actions = k; heard = λ r. T.heard r ++ [] }) (nothing_done T.actions)
+            ∙ ap (λ k. record { actions = T.actions; heard = k }) (nothing_heard T.heard);
       }
 
-  hears : (r : ℕ) (a : Answer) (m : Machine E) → Hears (of_bus bases x b) r a m → IsPlainEvent X bases x b (Recv r) a m
+  hears : (r : ℕ) (a : Answer) (m : Machine E) → Hears (of_bus bases x b) r a m
+      → IsPlainEvent X bases x b (Recv r) a m
   hears r a m h =
       let new = record b { receivers = slice_set b.receivers r h.next } in
       record {
         bus = new;
         is = h.after;
         event = tt;
-        happens = (refl, subst (λ o. ReceiverDoes b.side.words b.receivers r o new.receivers) (sym h.there) (h.next, h.heard, h.does, refl), refl);
-        answers = subst (λ o. RecvAnswers b.side.words b.receivers r o a new.receivers) (sym h.there) (h.next, h.heard, h.does, refl, h.answered);
+        happens = (
+          refl,
+          subst (λ o. ReceiverDoes b.side.words b.receivers r o new.receivers) (sym h.there)
+              (h.next, h.heard, h.does, refl),
+          refl,
+        );
+        answers = subst (λ o. RecvAnswers b.side.words b.receivers r o a new.receivers)
+            (sym h.there) (h.next, h.heard, h.does, refl, h.answered);
         trails = λ T.
-            ap (λ k. record { actions = k; heard = λ q. T.heard q ++ heard_of (Recv r) a q }) (nothing_done T.actions)
-            ∙ ap (λ w. record { actions = T.actions; heard = λ q. T.heard q ++ heard_of (Recv r) w q }) h.answered
-            ∙ ap (λ w. plain_trails (trails_grown X (of_bus bases x b) (Recv r) w T)) (sym h.answered);
+            ap (λ k. record { actions = k; heard = λ q. T.heard q ++ heard_of (Recv r) a q })
+            (nothing_done T.actions)
+            ∙ ap
+            (λ w. record { actions = T.actions; heard = λ q. T.heard q ++ heard_of (Recv r) w q })
+            h.answered
+            ∙ ap (λ w. plain_trails (trails_grown X (of_bus bases x b) (Recv r) w T))
+            (sym h.answered);
       }
 
 pub happens_at_none : {E : Type 0} (X : Election E) → HappensAtNone X
@@ -180,8 +288,17 @@ module _ {E : Type 0} (X : Election E) where
   new_plain : (w : Machine E) → IsNew w → w.reuse ≡ None → IsPlain X w no_machine_trails
   new_plain w new e = record {
     bus = b;
-    is = ap (λ r. record w { reuse = r }) e ∙ ap (λ l. record w { reuse = None; senders = l }) (sym (rebuilt with_a_row_each (λ (v : Sender E). v.core) w.senders (λ p v at. let i = (new.senders p v at).1 in ap (λ (y : Sender E). with_a_row_each y.core) i ∙ ap (λ r. new_sender w.layout p r (base_of w p)) (sym e) ∙ sym i)))
-        ∙ ap (λ o. record w { reuse = None; senders = map with_a_row_each b.side.senders; owners = o }) new.owners;
+    is =
+        ap (λ r. record w { reuse = r }) e
+        ∙ ap (λ l. record w { reuse = None; senders = l })
+        (sym (rebuilt with_a_row_each (λ (v : Sender E). v.core) w.senders
+        (λ p v at.
+        let i = (new.senders p v at).1 in
+        ap (λ (y : Sender E). with_a_row_each y.core) i
+        ∙ ap (λ r. new_sender w.layout p r (base_of w p)) (sym e) ∙ sym i)))
+        ∙ ap
+        (λ o. record w { reuse = None; senders = map with_a_row_each b.side.senders; owners = o })
+        new.owners;
     reached = New b record {
       bases_are = new.bases_are;
       words = new.words ∙ ap (λ r. replicate (log_place w.layout r + w.layout.capacity) 0) e;
@@ -189,38 +306,79 @@ module _ {E : Type 0} (X : Election E) where
       senders = core_new;
       owners = refl;
       stopped = new.stopped;
-      receivers = λ r v at. subst (λ u. IsNewReceiver w.layout.senders (log_place w.layout u) w.layout.capacity v) e (new.receivers r v at);
+      receivers = λ r v at. subst
+          (λ u. IsNewReceiver w.layout.senders (log_place w.layout u) w.layout.capacity v) e
+          (new.receivers r v at);
     };
   } where
     b : Bus E
-    b = record { side = record { words = w.words; home = w.home; senders = map (λ v. v.core) w.senders; owners = [] }; receivers = w.receivers; stopped = w.stopped }
+    b = record {
+      side = record {
+        words = w.words;
+        home = w.home;
+        senders = map (λ v. v.core) w.senders;
+        owners = [];
+      };
+      receivers = w.receivers;
+      stopped = w.stopped;
+    }
 
-    core_new : (p : ℕ) (c : Core E) → slice_get b.side.senders p ≡ Some c → (p < w.layout.senders) × (c ≡ new_core w.layout (base_of w p) p)
+    core_new : (p : ℕ) (c : Core E) → slice_get b.side.senders p ≡ Some c
+        → (p < w.layout.senders) × (c ≡ new_core w.layout (base_of w p) p)
     core_new p c at =
-        let v = made_there (λ (y : Sender E). y.core) (slice_get w.senders p) c (sym (slice_get-map (λ (y : Sender E). y.core) w.senders p) ∙ at) in
+        let v = made_there (λ (y : Sender E). y.core) (slice_get w.senders p) c
+        (sym (slice_get-map (λ (y : Sender E). y.core) w.senders p) ∙ at) in
         let n = new.senders p v.0 v.1 in
         (n.0, v.2 ∙ ap (λ (y : Sender E). y.core) n.1)
 
-  pub next_plain : (w m : Machine E) (T : Trails) (e : Event) (a : Answer) → Happens X w e a m → IsPlain X w T → IsPlain X m (trails_grown X w e a T)
+  pub next_plain : (w m : Machine E) (T : Trails) (e : Event) (a : Answer) → Happens X w e a m
+      → IsPlain X w T → IsPlain X m (trails_grown X w e a T)
   next_plain w m T e a h i =
-      let k = happens_at_none X w.bases w.layout i.bus e a m (subst (λ y. Happens X y e a m) i.is h) in
+      let k =
+      happens_at_none X w.bases w.layout i.bus e a m (subst (λ y. Happens X y e a m) i.is h) in
       record {
         bus = k.bus;
-        is = k.is ∙ ap (λ l. of_bus w.bases l k.bus) (sym (ap (λ (y : Machine E). y.layout) k.is)) ∙ ap (λ l. of_bus l m.layout k.bus) (sym (ap (λ (y : Machine E). y.bases) k.is));
-        reached = subst (λ l. PlainReached X l m.layout k.bus (plain_trails (trails_grown X w e a T))) (sym (ap (λ (y : Machine E). y.bases) k.is))
-            (subst (λ l. PlainReached X w.bases l k.bus (plain_trails (trails_grown X w e a T))) (sym (ap (λ (y : Machine E). y.layout) k.is))
-            (subst (λ y. PlainReached X w.bases w.layout k.bus (plain_trails (trails_grown X y e a T))) (sym i.is)
-            (subst (λ U. PlainReached X w.bases w.layout k.bus U) (k.trails T) (Then i.bus k.bus (plain_trails T) e a i.reached k.event k.happens k.answers))));
+        is =
+            k.is ∙ ap (λ l. of_bus w.bases l k.bus) (sym (ap (λ (y : Machine E). y.layout) k.is))
+            ∙ ap (λ l. of_bus l m.layout k.bus) (sym (ap (λ (y : Machine E). y.bases) k.is));
+        reached = subst
+            (λ l. PlainReached X l m.layout k.bus (plain_trails (trails_grown X w e a T)))
+            (sym (ap (λ (y : Machine E). y.bases) k.is))
+            (subst (λ l. PlainReached X w.bases l k.bus (plain_trails (trails_grown X w e a T)))
+            (sym (ap (λ (y : Machine E). y.layout) k.is))
+            (subst
+            (λ y. PlainReached X w.bases w.layout k.bus (plain_trails (trails_grown X y e a T)))
+            (sym i.is)
+            (subst (λ U. PlainReached X w.bases w.layout k.bus U) (k.trails T)
+            (Then i.bus k.bus (plain_trails T) e a i.reached k.event k.happens k.answers))));
       }
 
-  pub event_reuse : (w m : Machine E) (e : Event) (a : Answer) → Happens X w e a m → (m.layout ≡ w.layout) × (m.reuse ≡ w.reuse)
-  event_reuse w m (Put s bytes) a h = (ap (λ (y : Machine E). y.layout) h.after, ap (λ (y : Machine E). y.reuse) h.after)
-  event_reuse w m (Ask s asked) a h = (ap (λ (y : Machine E). y.layout) h.after, ap (λ (y : Machine E). y.reuse) h.after)
-  event_reuse w m (Turn s word) a h = (ap (λ (y : Machine E). y.layout) h.after, ap (λ (y : Machine E). y.reuse) h.after)
-  event_reuse w m (Recv r) a h = (ap (λ (y : Machine E). y.layout) h.after, ap (λ (y : Machine E). y.reuse) h.after)
-  event_reuse w m (Stop s) a h = (ap (λ (y : Machine E). y.layout) h.after, ap (λ (y : Machine E). y.reuse) h.after)
+  pub event_reuse : (w m : Machine E) (e : Event) (a : Answer) → Happens X w e a m
+      → (m.layout ≡ w.layout) × (m.reuse ≡ w.reuse)
+  event_reuse w m (Put s bytes) a h = (
+    ap (λ (y : Machine E). y.layout) h.after,
+    ap (λ (y : Machine E). y.reuse) h.after,
+  )
+  event_reuse w m (Ask s asked) a h = (
+    ap (λ (y : Machine E). y.layout) h.after,
+    ap (λ (y : Machine E). y.reuse) h.after,
+  )
+  event_reuse w m (Turn s word) a h = (
+    ap (λ (y : Machine E). y.layout) h.after,
+    ap (λ (y : Machine E). y.reuse) h.after,
+  )
+  event_reuse w m (Recv r) a h = (
+    ap (λ (y : Machine E). y.layout) h.after,
+    ap (λ (y : Machine E). y.reuse) h.after,
+  )
+  event_reuse w m (Stop s) a h = (
+    ap (λ (y : Machine E). y.layout) h.after,
+    ap (λ (y : Machine E). y.reuse) h.after,
+  )
 
   -- whatever leads to it, leads to the bus with a row for each tenure
-  pub reached_at_none : (m : Machine E) (T : Trails) → Reached X m T → m.reuse ≡ None → IsPlain X m T
+  pub reached_at_none : (m : Machine E) (T : Trails) → Reached X m T → m.reuse ≡ None
+      → IsPlain X m T
   reached_at_none m T (Start w new) e = new_plain w new e
-  reached_at_none m T (Next w v U f a before h) e = next_plain w v U f a h (reached_at_none w U before (sym (event_reuse w v f a h).1 ∙ e))
+  reached_at_none m T (Next w v U f a before h) e =
+      next_plain w v U f a h (reached_at_none w U before (sym (event_reuse w v f a h).1 ∙ e))

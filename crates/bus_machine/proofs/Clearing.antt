@@ -1,5 +1,6 @@
 -- A holder clears words of the row of the next tenure alone, in which nobody stands.
-use Rattle.std.proofs.Common.{◌≡◌, ◌≢◌, ℕ, ◌+◌, ◌<◌, Bool, true, false, cond, Option, Some, None, nat_lt, refl, sym, ◌∙◌, ap, subst}
+use Rattle.std.proofs.Common.{◌≡◌, ◌≢◌, ℕ, ◌+◌, ◌<◌, Bool, true, false, cond, Option, Some, None}
+use Rattle.std.proofs.Common.{nat_lt, refl, sym, ◌∙◌, ap, subst}
 use Rattle.bus_register.specs.declared.registers.Op.TheVariants.{Load, Store}
 use Rattle.bus_presence.proofs.ReclamationLaws.{rows_apart}
 use Rattle.bus_presence.specs.Reclamation.{ReclamationSizes, Reclamation, Trails, row_of, tenure_of}
@@ -8,7 +9,8 @@ use Rattle.bus_presence.specs.Standing.{IsSafe, Stands}
 use Rattle.bus_presence.specs.declared.pins.Pin.{Pin}
 use Rattle.bus_presence.specs.declared.pins.Pin.TheVariants.{Away, Pinned}
 use Rattle.bus_core.specs.Keeping.{reclaimer_in}
-use Rattle.bus_core.specs.Senders.{Sender, Does, Scans, Clears, reclaiming, at_home, pinning, situation_by, situation}
+use Rattle.bus_core.specs.Senders.{Sender, Does, Scans, Clears, reclaiming, at_home, pinning}
+use Rattle.bus_core.specs.Senders.{situation_by, situation}
 use Rattle.bus_core.specs.declared.reuses.Reuse.{Reuse}
 use Rattle.bus_core.specs.Reusing.Keeping.{held_of}
 use Rattle.bus_tenure.proofs.Situated.{tells}
@@ -29,7 +31,8 @@ record IsBack {E : Type 0} (z : Own E) : Type 0 where
   is : z ≡ GivesBack tenure page reason
 
 -- which word a reclamation clears
-op_clears : {E : Type 0} (s q : Reclaiming) (z : Own E) (a b : Bool) → nat_lt s.scanned s.senders ≡ a → nat_lt s.cleared s.width ≡ b
+op_clears : {E : Type 0} (s q : Reclaiming) (z : Own E) (a b : Bool)
+    → nat_lt s.scanned s.senders ≡ a → nat_lt s.cleared s.width ≡ b
     → cond a (Scans s) (cond b (Clears s) (Does z)) ≡ Clears q → (s ≡ q) × ClearsNext s
 op_clears s q z true b i j e = absurd cc
 op_clears s q z false true i j e = (
@@ -41,7 +44,8 @@ op_clears s q z false true i j e = (
 op_clears s q z false false i j e = absurd cc
 
 -- the same of a reclamation that there may be
-reclaiming_clears : {E : Type 0} (o : Option Reclaiming) (q : Reclaiming) (z : Own E) → reclaiming o z ≡ Clears q → (o ≡ Some q)
+reclaiming_clears : {E : Type 0} (o : Option Reclaiming) (q : Reclaiming) (z : Own E)
+    → reclaiming o z ≡ Clears q → (o ≡ Some q)
     × ClearsNext q
 reclaiming_clears None q z i = absurd cc
 reclaiming_clears (Some s) q z i =
@@ -49,7 +53,8 @@ reclaiming_clears (Some s) q z i =
     (ap Some w.0, subst ClearsNext w.0 w.1)
 
 -- the same of who takes no step of a pin
-home_clears : {E : Type 0} (o : Option Reclaiming) (q : Reclaiming) (z : Own E) → at_home o z ≡ Clears q → (o ≡ Some q) × ClearsNext q
+home_clears : {E : Type 0} (o : Option Reclaiming) (q : Reclaiming) (z : Own E)
+    → at_home o z ≡ Clears q → (o ≡ Some q) × ClearsNext q
     × IsBack z
 home_clears o q (GivesBack t page reason) i =
     let w = reclaiming_clears o q (GivesBack t page reason) i in
@@ -57,14 +62,16 @@ home_clears o q (GivesBack t page reason) i =
 home_clears o q z i = absurd cc
 
 -- the same with a pin
-pin_clears : {E : Type 0} (u : Pin) (o : Option Reclaiming) (q : Reclaiming) (z : Own E) → pinning u o z ≡ Clears q → (o ≡ Some q)
+pin_clears : {E : Type 0} (u : Pin) (o : Option Reclaiming) (q : Reclaiming) (z : Own E)
+    → pinning u o z ≡ Clears q → (o ≡ Some q)
     × ClearsNext q × IsBack z
 pin_clears Away o q z i = home_clears o q z i
 pin_clears (Pinned t) o q z i = home_clears o q z i
 pin_clears u o q z i = absurd cc
 
 -- the same with both kinds of rows
-reuse_clears : {E : Type 0} (r : Option Reuse) (q : Reclaiming) (z : Own E) → situation_by r z ≡ Clears q → (reclaimer_in r ≡ Some q)
+reuse_clears : {E : Type 0} (r : Option Reuse) (q : Reclaiming) (z : Own E)
+    → situation_by r z ≡ Clears q → (reclaimer_in r ≡ Some q)
     × ClearsNext q × IsBack z
 reuse_clears None q z i = absurd cc
 reuse_clears (Some r) q z i = pin_clears r.pin r.reclaimer q z i
@@ -77,7 +84,8 @@ pub record IsClearing {E : Type 0} (v : Sender E) (s : Reclaiming) : Type 0 wher
   pub held : held_of v.core.phase ≡ Some tenure
 
 -- its situation tells so
-pub clearing : {E : Type 0} (X : Election E) (v : Sender E) (s : Reclaiming) → situation X v ≡ Clears s → IsClearing v s
+pub clearing : {E : Type 0} (X : Election E) (v : Sender E) (s : Reclaiming)
+    → situation X v ≡ Clears s → IsClearing v s
 clearing X v s i =
     let w = reuse_clears v.reuse s (own_situation X v.core) i in
     let back = w.2 in
@@ -89,14 +97,18 @@ clearing X v s i =
           ap held_of (tells X v.core (GivesBack back.tenure back.page back.reason) back.is).2;
     }
 
-module _ (x : ReclamationSizes) (h : Reclamation) (T : Trails) (safe : IsSafe x h T) (s : Reclaiming) (is : h.reclaimer ≡ Some s)
+module _ (x : ReclamationSizes) (h : Reclamation) (T : Trails) (safe : IsSafe x h T)
+    (s : Reclaiming) (is : h.reclaimer ≡ Some s)
     (step : ClearsNext s) where
   -- which word of which row it clears
-  pub clears_at : (place : ℕ) × (s.row + s.cleared ≡ row_of x (tenure_of x h + 1) + place) × (place < x.width)
+  pub clears_at : (place : ℕ) × (s.row + s.cleared ≡ row_of x (tenure_of x h + 1) + place)
+      × (place < x.width)
   clears_at = let c = safe.clears s (s.row + s.cleared) 0 is step in (c.0, c.1, c.2)
 
   -- and whoever stands in a tenure, stands in one of another row
-  pub spared : (q t place : ℕ) → Stands x q (T q) t → place < x.width → s.row + s.cleared ≢ row_of x t + place
+  pub spared : (q t place : ℕ) → Stands x q (T q) t → place < x.width
+      → s.row + s.cleared ≢ row_of x t + place
   spared q t place stands low same =
       let c = safe.clears s (s.row + s.cleared) 0 is step in
-      rows_apart x t (tenure_of x h + 1) place c.0 (safe.reclaimed s is c.4 q t stands) low c.2 (sym same ∙ c.1)
+      rows_apart x t (tenure_of x h + 1) place c.0 (safe.reclaimed s is c.4 q t stands) low c.2
+      (sym same ∙ c.1)

@@ -1,5 +1,7 @@
 -- A turn of a machine whose rows are used again, as a turn of its protocol.
-use Rattle.std.proofs.Common.{◌≡◌, ◌≢◌, inl, inr, ℕ, ◌+◌, ◌<◌, ◌≤◌, Bool, true, false, cond, ◌&&◌, ◌==◌, nat_le, ◌/◌, Option, Some, None, List, length, slice_get, slice_index, slice_set, arith, refl, sym, ◌∙◌, ap, subst}
+use Rattle.std.proofs.Common.{◌≡◌, ◌≢◌, inl, inr, ℕ, ◌+◌, ◌<◌, ◌≤◌, Bool, true, false, cond, ◌&&◌}
+use Rattle.std.proofs.Common.{◌==◌, nat_le, ◌/◌, Option, Some, None, List, length, slice_get}
+use Rattle.std.proofs.Common.{slice_index, slice_set, arith, refl, sym, ◌∙◌, ap, subst}
 use mathlib.Core.Path.{fun_ext}
 use Rattle.std.proofs.lemmas.Bool.{cases_eq}
 use Rattle.std.proofs.lemmas.List.{get_or-set_same, get_or-set_other}
@@ -17,17 +19,24 @@ use Rattle.bus_presence.specs.Reclamation.{presence_at, reclaimer_after}
 use Rattle.bus_presence.specs.Reclaimers.{Reclaiming, reclaim_op, reclaim_fed}
 use Rattle.bus_presence.specs.Pins.{step_at, pin_fed}
 use Rattle.bus_presence.specs.declared.pins.Pin.{Pin}
-use Rattle.bus_presence.specs.declared.pins.Pin.TheVariants.{Away, Announcing, Validating, Pinned, Unpinning, Invalidated}
+use Rattle.bus_presence.specs.declared.pins.Pin.TheVariants.{Away, Announcing, Validating, Pinned}
+use Rattle.bus_presence.specs.declared.pins.Pin.TheVariants.{Unpinning, Invalidated}
 use Rattle.bus_core.specs.Keeping.{reclaimer_in}
 use Rattle.bus_core.specs.Proved.Bridge.{move_of, with_rows_again}
 use Rattle.bus_core.specs.Reusing.Participants.{sizes_with, core_seen}
-use Rattle.bus_core.specs.Proved.ParticipantTable.{Due, Pins, Reclaims, Goes, due_of, due_beside, due_home, due_reclaimed, reclaim_due, place_for, core_looked, core_going, pin_going, reclaimer_going, answer_going}
+use Rattle.bus_core.specs.Proved.ParticipantTable.{Due, Pins, Reclaims, Goes, due_of, due_beside}
+use Rattle.bus_core.specs.Proved.ParticipantTable.{due_home, due_reclaimed, reclaim_due, place_for}
+use Rattle.bus_core.specs.Proved.ParticipantTable.{core_looked, core_going, pin_going}
+use Rattle.bus_core.specs.Proved.ParticipantTable.{reclaimer_going, answer_going}
 use Rattle.bus_core.specs.Reusing.Keeping.{held_of}
 use Rattle.bus_core.specs.Reusing.Turns.{Participant, on_place, op_placed, queue_seen}
 use Rattle.bus_core.specs.Proved.ParticipantTurns.{due, op_due, participant_due, answer_due}
 use Rattle.bus_core.specs.Senders.{Sender}
 use Rattle.bus_tenure.specs.Core.{Core, Election, stage_at}
-use Rattle.bus_tenure.specs.Situations.{Situation, IsClosed, IsIdle, IsSpent, LooksAtStage, Elects, TakesPage, AwaitsPage, StoresWord, StoresLength, GivesBack, HasHanded, PageMove, situation_of, line_of, op_at, core_begun, core_elected, waits}
+use Rattle.bus_tenure.specs.Situations.{Situation, IsClosed, IsIdle, IsSpent, LooksAtStage, Elects}
+use Rattle.bus_tenure.specs.Situations.{TakesPage, AwaitsPage, StoresWord, StoresLength, GivesBack}
+use Rattle.bus_tenure.specs.Situations.{HasHanded, PageMove, situation_of, line_of, op_at}
+use Rattle.bus_tenure.specs.Situations.{core_begun, core_elected, waits}
 use Rattle.bus_tenure.specs.declared.pages.Page.{Page}
 use Rattle.bus_tenure.specs.declared.phases.Reason.{Reason}
 use Rattle.bus_tenure.specs.declared.phases.Phase.TheVariants as phase
@@ -39,7 +48,9 @@ use Rattle.bus_world.specs.Headline.{Action}
 use Rattle.bus_world.specs.Proved.Tenures.Standing.{Holds}
 use Rattle.bus_world.specs.Turning.{words_after, number_found, home_moved, core_moved, after_step}
 use Rattle.bus_world.specs.Proved.Machines.{home_after, is_open, can_put, can_close}
-use Rattle.bus_world.specs.Proved.CyclicProtocols.{CyclicProtocol, Led, Turned, AnswersDue, due_in, due_actions, trails_with, protocol_after, words_stepped, word_found}
+use Rattle.bus_world.specs.Proved.CyclicProtocols.{CyclicProtocol, Led, Turned, AnswersDue, due_in}
+use Rattle.bus_world.specs.Proved.CyclicProtocols.{due_actions, trails_with, protocol_after}
+use Rattle.bus_world.specs.Proved.CyclicProtocols.{words_stepped, word_found}
 use Rattle.bus_world.specs.Trails.{actions_with}
 use Rattle.bus_world.proofs.Serving.{Serves}
 use Rattle.bus_world.proofs.PlacedSteps.{same_register, placed_found, due_goes}
@@ -51,15 +62,24 @@ use Rattle.bus_machine.specs.Machine.{Machine, Trails, IsOnWord, with_sender}
 use Rattle.bus_machine.specs.Promise.{pin_in}
 
 -- ---- lists as tables
-pub list_put : {A B : Type 0} (f : Option A → B) (xs : List A) (s : ℕ) (a : A) → s < length xs → (λ p. f (slice_get (slice_set xs s a) p)) ≡ put s (f (Some a)) (λ p. f (slice_get xs p))
+pub list_put : {A B : Type 0} (f : Option A → B) (xs : List A) (s : ℕ) (a : A) → s < length xs
+    → (λ p. f (slice_get (slice_set xs s a) p)) ≡ put s (f (Some a)) (λ p. f (slice_get xs p))
 list_put f xs s a l = fun_ext (λ p. elim (cases_eq p s) [
-  | inl i ↦ ap (λ q. f (slice_get (slice_set xs s a) q)) i ∙ ap f (get_set_same xs s a l) ∙ sym (put_here s (f (Some a)) (λ q. f (slice_get xs q))) ∙ sym (ap (put s (f (Some a)) (λ q. f (slice_get xs q))) i)
-  | inr ne ↦ ap f (get_set_other xs s a p ne) ∙ sym (put_beside s (f (Some a)) (λ q. f (slice_get xs q)) p ne)
+  | inl i ↦
+      ap (λ q. f (slice_get (slice_set xs s a) q)) i ∙ ap f (get_set_same xs s a l)
+      ∙ sym (put_here s (f (Some a)) (λ q. f (slice_get xs q)))
+      ∙ sym (ap (put s (f (Some a)) (λ q. f (slice_get xs q))) i)
+  | inr ne ↦
+      ap f (get_set_other xs s a p ne)
+      ∙ sym (put_beside s (f (Some a)) (λ q. f (slice_get xs q)) p ne)
 ])
 
-index_put : (xs : List ℕ) (r n : ℕ) → r < length xs → slice_index (slice_set xs r n) ≡ put r n (slice_index xs)
+index_put : (xs : List ℕ) (r n : ℕ) → r < length xs
+    → slice_index (slice_set xs r n) ≡ put r n (slice_index xs)
 index_put xs r n l = fun_ext (λ q. elim (cases_eq q r) [
-  | inl i ↦ ap (slice_index (slice_set xs r n)) i ∙ get_or-set_same xs r n 0 l ∙ sym (put_here r n (slice_index xs)) ∙ sym (ap (put r n (slice_index xs)) i)
+  | inl i ↦
+      ap (slice_index (slice_set xs r n)) i ∙ get_or-set_same xs r n 0 l
+      ∙ sym (put_here r n (slice_index xs)) ∙ sym (ap (put r n (slice_index xs)) i)
   | inr ne ↦ get_or-set_other xs r q n 0 ne ∙ sym (put_beside r n (slice_index xs) q ne)
 ])
 
@@ -69,33 +89,75 @@ same_after f (Store at m) n = refl
 same_after f (Add at m) n = refl
 same_after f (Cas at m k) n = refl
 
-placed_words : (f : ℕ → ℕ) (xs : List ℕ) (d : Option Op) → ((o : Op) → op_placed f d ≡ Some o → register o < length xs) → slice_index (words_after xs (op_placed f d)) ≡ words_stepped f (slice_index xs) d
+placed_words : (f : ℕ → ℕ) (xs : List ℕ) (d : Option Op)
+    → ((o : Op) → op_placed f d ≡ Some o → register o < length xs)
+    → slice_index (words_after xs (op_placed f d)) ≡ words_stepped f (slice_index xs) d
 placed_words f xs None low = refl
 placed_words f xs (Some o) low =
     let r = register (on_place f o) in
     index_put xs r (after (on_place f o) (slice_index xs r)) (low (on_place f o) refl)
     ∙ ap (λ q. put q (after (on_place f o) (slice_index xs q)) (slice_index xs)) (same_register f o)
-    ∙ ap (λ n. put (f (register o)) n (slice_index xs)) (same_after f o (slice_index xs (f (register o))))
+    ∙ ap (λ n. put (f (register o)) n (slice_index xs))
+    (same_after f o (slice_index xs (f (register o))))
 
 -- ---- protocols alike
-protocols_same : {E : Type 0} (bases : List ℕ) (w w' : ℕ → ℕ) (v v' : ℕ → Pin) (c c' : ℕ → Option (Core E)) (reclaimer : Option Reclaiming) (home : Option Page) (receivers : ℕ → Option Receiving) (owners : List ℕ) → w ≡ w' → v ≡ v' → c ≡ c'
-    → ◌≡◌ {A = CyclicProtocol E} record { bases = bases; reclamation = record { words = w; pins = v; reclaimer = reclaimer }; home = home; senders = c; receivers = receivers; owners = owners } record { bases = bases; reclamation = record { words = w'; pins = v'; reclaimer = reclaimer }; home = home; senders = c'; receivers = receivers; owners = owners }
+protocols_same : {E : Type 0} (bases : List ℕ) (w w' : ℕ → ℕ) (v v' : ℕ → Pin)
+    (c c' : ℕ → Option (Core E)) (reclaimer : Option Reclaiming) (home : Option Page)
+    (receivers : ℕ → Option Receiving) (owners : List ℕ) → w ≡ w' → v ≡ v' → c ≡ c'
+    → ◌≡◌ {A = CyclicProtocol E} record {
+      bases = bases;
+      reclamation = record { words = w; pins = v; reclaimer = reclaimer };
+      home = home;
+      senders = c;
+      receivers = receivers;
+      owners = owners;
+    } record {
+      bases = bases;
+      reclamation = record { words = w'; pins = v'; reclaimer = reclaimer };
+      home = home;
+      senders = c';
+      receivers = receivers;
+      owners = owners;
+    }
 protocols_same bases w w' v v' c c' reclaimer home receivers owners i j k =
-    ap (λ a. record { bases = bases; reclamation = record { words = a; pins = v; reclaimer = reclaimer }; home = home; senders = c; receivers = receivers; owners = owners }) i
-    ∙ ap (λ a. record { bases = bases; reclamation = record { words = w'; pins = a; reclaimer = reclaimer }; home = home; senders = c; receivers = receivers; owners = owners }) j
-    ∙ ap (λ a. record { bases = bases; reclamation = record { words = w'; pins = v'; reclaimer = reclaimer }; home = home; senders = a; receivers = receivers; owners = owners }) k
+    ap (λ a. record {
+      bases = bases;
+      reclamation = record { words = a; pins = v; reclaimer = reclaimer };
+      home = home;
+      senders = c;
+      receivers = receivers;
+      owners = owners;
+    }) i
+    ∙ ap (λ a. record {
+      bases = bases;
+      reclamation = record { words = w'; pins = a; reclaimer = reclaimer };
+      home = home;
+      senders = c;
+      receivers = receivers;
+      owners = owners;
+    }) j
+    ∙ ap (λ a. record {
+      bases = bases;
+      reclamation = record { words = w'; pins = v'; reclaimer = reclaimer };
+      home = home;
+      senders = a;
+      receivers = receivers;
+      owners = owners;
+    }) k
 
 -- ---- what is due
 
 -- a step of a reclamation is due only of who would give the page back
-record IsReclaiming {E : Type 0} (z : Situation E) (s : Option Reclaiming) (t : Reclaiming) : Type 0 where
+record IsReclaiming {E : Type 0} (z : Situation E) (s : Option Reclaiming) (t : Reclaiming) :
+    Type 0 where
   tenure : ℕ
   page : Page
   reason : Reason
   is : z ≡ GivesBack tenure page reason
   same : s ≡ Some t
 
-reclaiming : {E : Type 0} (z : Situation E) (s : Option Reclaiming) (t : Reclaiming) → reclaim_due z s ≡ Some t → IsReclaiming z s t
+reclaiming : {E : Type 0} (z : Situation E) (s : Option Reclaiming) (t : Reclaiming)
+    → reclaim_due z s ≡ Some t → IsReclaiming z s t
 reclaiming IsClosed s t e = absurd cc
 reclaiming IsIdle s t e = absurd cc
 reclaiming IsSpent s t e = absurd cc
@@ -105,18 +167,28 @@ reclaiming (TakesPage u) s t e = absurd cc
 reclaiming (AwaitsPage u) s t e = absurd cc
 reclaiming (StoresWord u page stored) s t e = absurd cc
 reclaiming (StoresLength u page stored) s t e = absurd cc
-reclaiming (GivesBack u page reason) s t e = record { tenure = u; page = page; reason = reason; is = refl; same = e }
+reclaiming (GivesBack u page reason) s t e = record {
+  tenure = u;
+  page = page;
+  reason = reason;
+  is = refl;
+  same = e;
+}
 reclaiming (HasHanded u reason) s t e = absurd cc
 
-due_reclaims : {E : Type 0} (v : Option Op) (s : Option Reclaiming) (z : Situation E) (t : Reclaiming) (o : Op) → due_beside v s z ≡ Reclaims t o → IsReclaiming z s t
+due_reclaims :
+    {E : Type 0} (v : Option Op) (s : Option Reclaiming) (z : Situation E) (t : Reclaiming) (o : Op)
+    → due_beside v s z ≡ Reclaims t o → IsReclaiming z s t
 due_reclaims (Some p) s z t o e = absurd cc
 due_reclaims {E} None s z t o e = by_home (reclaim_due z s) refl e
   where
-    by_step : (r : Reclaiming) → reclaim_due z s ≡ Some r → (d : Option Op) → due_reclaimed r d z ≡ Reclaims t o → IsReclaiming z s t
+    by_step : (r : Reclaiming) → reclaim_due z s ≡ Some r → (d : Option Op)
+        → due_reclaimed r d z ≡ Reclaims t o → IsReclaiming z s t
     by_step r is None e = absurd cc
     by_step r is (Some p) e = reclaiming z s t (is ∙ ap Some (let same : r ≡ t = cc in same))
 
-    by_home : (d : Option Reclaiming) → reclaim_due z s ≡ d → due_home d z ≡ Reclaims t o → IsReclaiming z s t
+    by_home : (d : Option Reclaiming) → reclaim_due z s ≡ d → due_home d z ≡ Reclaims t o
+        → IsReclaiming z s t
     by_home None is e = absurd cc
     by_home (Some r) is e = by_step r is (reclaim_op r) e
 
@@ -126,7 +198,8 @@ busy_puts true e = cc
 busy_puts false e = cc
 
 -- whose batch takes a message, or a close, pins no tenure
-pub away_puts : (q : Pending) (v : Pin) (n : ℕ) → can_put (queue_seen q v) n ≡ true → (v ≡ Away) × (can_put q n ≡ true)
+pub away_puts : (q : Pending) (v : Pin) (n : ℕ) → can_put (queue_seen q v) n ≡ true
+    → (v ≡ Away) × (can_put q n ≡ true)
 away_puts q Away n e = (refl, e)
 away_puts q (Announcing t) n e = absurd (busy_puts (is_open q.phase) e)
 away_puts q (Validating t) n e = absurd (busy_puts (is_open q.phase) e)
@@ -134,7 +207,8 @@ away_puts q (Pinned t) n e = absurd (busy_puts (is_open q.phase) e)
 away_puts q (Unpinning t) n e = absurd (busy_puts (is_open q.phase) e)
 away_puts q (Invalidated t) n e = absurd (busy_puts (is_open q.phase) e)
 
-pub away_closes : (q : Pending) (v : Pin) → can_close (queue_seen q v) ≡ true → (v ≡ Away) × (can_close q ≡ true)
+pub away_closes : (q : Pending) (v : Pin) → can_close (queue_seen q v) ≡ true
+    → (v ≡ Away) × (can_close q ≡ true)
 away_closes q Away e = (refl, e)
 away_closes q (Announcing t) e = absurd (busy_puts (is_open q.phase) e)
 away_closes q (Validating t) e = absurd (busy_puts (is_open q.phase) e)
@@ -150,33 +224,51 @@ words_many : (xs : List ℕ) (d : Option Op) → length (words_after xs d) ≡ l
 words_many xs None = refl
 words_many xs (Some o) = length-set xs (register o) (after o (slice_index xs (register o)))
 
-participants_after : {E : Type 0} (rows : ℕ) (xs : List (Sender E)) → ((p : ℕ) (v : Sender E) → slice_get xs p ≡ Some v → (u : Participant E) × (v ≡ with_rows_again u) × (u.rows ≡ rows))
-    → (s : ℕ) (v' : Participant E) → s < length xs → v'.rows ≡ rows → (p : ℕ) (v : Sender E) → slice_get (slice_set xs s (with_rows_again v')) p ≡ Some v → (u : Participant E) × (v ≡ with_rows_again u) × (u.rows ≡ rows)
+participants_after : {E : Type 0} (rows : ℕ) (xs : List (Sender E))
+    → ((p : ℕ) (v : Sender E) → slice_get xs p ≡ Some v
+    → (u : Participant E) × (v ≡ with_rows_again u) × (u.rows ≡ rows))
+    → (s : ℕ) (v' : Participant E) → s < length xs → v'.rows ≡ rows → (p : ℕ) (v : Sender E)
+    → slice_get (slice_set xs s (with_rows_again v')) p ≡ Some v
+    → (u : Participant E) × (v ≡ with_rows_again u) × (u.rows ≡ rows)
 participants_after rows xs all s v' within same p v here = elim (cases_eq p s) [
-  | inl i ↦ (v', same_Some _ _ (sym here ∙ ap (slice_get (slice_set xs s (with_rows_again v'))) i ∙ get_set_same xs s (with_rows_again v') within), same)
+  | inl i ↦ (
+    v',
+    same_Some _ _ (sym here ∙ ap (slice_get (slice_set xs s (with_rows_again v'))) i
+        ∙ get_set_same xs s (with_rows_again v') within),
+    same,
+  )
   | inr ne ↦ all p v (sym (get_set_other xs s (with_rows_again v') p ne) ∙ here)
 ]
 
 -- ---- a machine that some trails lead to
-module _ {E : Type 0} (X : Election E) (P : Protocol E (Unit {0}) ℕ) (rows : ℕ) (m : Machine E) (T : Trails) (q : Serves X P m.layout) (ok : IsLayout m.layout) (two : 2 ≤ rows) (l : IsLed X rows m T) where
+module _ {E : Type 0} (X : Election E) (P : Protocol E (Unit {0}) ℕ) (rows : ℕ) (m : Machine E)
+    (T : Trails) (q : Serves X P m.layout) (ok : IsLayout m.layout) (two : 2 ≤ rows)
+    (l : IsLed X rows m T) where
   abbrev y : CyclicProtocol E
   y = protocol_of m l.reclaimer l.owners
 
-  pub protocol_kept : HasKept X P q.laws m.layout ok q.width q.starts q.owner_is q.named q.announces q.apart rows two T.heard y T.pins T.actions
-  protocol_kept = led_kept X P q.laws m.layout ok q.width q.starts q.owner_is q.named q.announces q.apart rows two T.heard y T.pins T.actions l.led
+  pub protocol_kept : HasKept X P q.laws m.layout ok q.width q.starts q.owner_is q.named q.announces
+      q.apart rows two T.heard y T.pins T.actions
+  protocol_kept = led_kept X P q.laws m.layout ok q.width q.starts q.owner_is q.named q.announces
+      q.apart rows two T.heard y T.pins T.actions l.led
 
   -- ---- who holds the page
-  holds : (p : ℕ) (w : Sender E) (t : ℕ) → slice_get m.senders p ≡ Some w → held_of w.core.phase ≡ Some t → of_some standing_of (y.senders p) ≡ Some (Holds t)
-  holds p w t at e = ap (λ o. of_some standing_of (core_in o)) at ∙ ap Some (held_stands w.core.phase t e)
+  holds : (p : ℕ) (w : Sender E) (t : ℕ) → slice_get m.senders p ≡ Some w
+      → held_of w.core.phase ≡ Some t → of_some standing_of (y.senders p) ≡ Some (Holds t)
+  holds p w t at e =
+      ap (λ o. of_some standing_of (core_in o)) at ∙ ap Some (held_stands w.core.phase t e)
 
   -- one alone
-  alone : (p q : ℕ) (w u : Sender E) (t r : ℕ) → slice_get m.senders p ≡ Some w → held_of w.core.phase ≡ Some t → slice_get m.senders q ≡ Some u → held_of u.core.phase ≡ Some r → p ≡ q
+  alone : (p q : ℕ) (w u : Sender E) (t r : ℕ) → slice_get m.senders p ≡ Some w
+      → held_of w.core.phase ≡ Some t → slice_get m.senders q ≡ Some u
+      → held_of u.core.phase ≡ Some r → p ≡ q
   alone p q w u t r at e here f =
       let one = protocol_kept.kept.sending.tenures.holding p t (holds p w t at e) in
       let other = protocol_kept.kept.sending.tenures.holding q r (holds q u r here f) in
       same_Some _ _ (sym one.2 ∙ ap (slice_get l.owners) (one.0 ∙ sym other.0) ∙ other.2)
 
-  module _ (s : ℕ) (v : Participant E) (at : slice_get m.senders s ≡ Some (with_rows_again v)) (same_rows : v.rows ≡ rows) where
+  module _ (s : ℕ) (v : Participant E) (at : slice_get m.senders s ≡ Some (with_rows_again v))
+      (same_rows : v.rows ≡ rows) where
     old : y.senders s ≡ Some v.core
     old = ap core_in at
 
@@ -189,11 +281,14 @@ module _ {E : Type 0} (X : Election E) (P : Protocol E (Unit {0}) ℕ) (rows : �
     pin_is : y.reclamation.pins s ≡ v.pin
     pin_is = ap pin_in at
 
-    gives_held : (t : ℕ) (page : Page) (reason : Reason) → situation_of X v.core ≡ GivesBack t page reason → held_of v.core.phase ≡ Some t
-    gives_held t page reason e = let f = tells X v.core (GivesBack t page reason) e in ap held_of f.2
+    gives_held : (t : ℕ) (page : Page) (reason : Reason)
+        → situation_of X v.core ≡ GivesBack t page reason → held_of v.core.phase ≡ Some t
+    gives_held t page reason e =
+        let f = tells X v.core (GivesBack t page reason) e in ap held_of f.2
 
     -- ---- what is due in its protocol
-    reclaims_same : (z : Situation E) → situation_of X v.core ≡ z → reclaim_due z v.reclaimer ≡ reclaim_due z l.reclaimer
+    reclaims_same : (z : Situation E) → situation_of X v.core ≡ z
+        → reclaim_due z v.reclaimer ≡ reclaim_due z l.reclaimer
     reclaims_same IsClosed e = refl
     reclaims_same IsIdle e = refl
     reclaims_same IsSpent e = refl
@@ -203,11 +298,15 @@ module _ {E : Type 0} (X : Election E) (P : Protocol E (Unit {0}) ℕ) (rows : �
     reclaims_same (AwaitsPage t) e = refl
     reclaims_same (StoresWord t page stored) e = refl
     reclaims_same (StoresLength t page stored) e = refl
-    reclaims_same (GivesBack t page reason) e = l.holder s (with_rows_again v) t at (gives_held t page reason e)
+    reclaims_same (GivesBack t page reason) e =
+        l.holder s (with_rows_again v) t at (gives_held t page reason e)
     reclaims_same (HasHanded t reason) e = refl
 
-    beside_same : (o : Option Op) → due_beside o v.reclaimer (situation_of X v.core) ≡ due_beside o l.reclaimer (situation_of X v.core)
-    beside_same None = ap (λ w. due_home w (situation_of X v.core)) (reclaims_same (situation_of X v.core) refl)
+    beside_same : (o : Option Op)
+        → due_beside o v.reclaimer (situation_of X v.core)
+        ≡ due_beside o l.reclaimer (situation_of X v.core)
+    beside_same None =
+        ap (λ w. due_home w (situation_of X v.core)) (reclaims_same (situation_of X v.core) refl)
     beside_same (Some o) = refl
 
     due_same : due X v ≡ due_in X m.layout rows y s v.core
@@ -216,32 +315,45 @@ module _ {E : Type 0} (X : Election E) (P : Protocol E (Unit {0}) ℕ) (rows : �
         ∙ ap (λ r. due_of X m.layout r v.core.me v.core v.pin v.reclaimer) same_rows
         ∙ ap (λ p. due_of X m.layout rows p v.core v.pin v.reclaimer) part.me
         ∙ ap (λ w. due_of X m.layout rows s v.core w v.reclaimer) (sym pin_is)
-        ∙ beside_same (step_at (y.reclamation.pins s) (presence_at (sizes_with m.layout rows) s) stage_at)
+        ∙ beside_same
+        (step_at (y.reclamation.pins s) (presence_at (sizes_with m.layout rows) s) stage_at)
 
     -- ---- who holds the page afterwards
-    holder_after : (v' : Participant E) (reclaimer : Option Reclaiming) → ((t : ℕ) → held_of v'.core.phase ≡ Some t → v'.reclaimer ≡ reclaimer)
-        → ((p : ℕ) (w : Sender E) (t : ℕ) → p ≢ s → slice_get m.senders p ≡ Some w → held_of w.core.phase ≡ Some t → l.reclaimer ≡ reclaimer)
-        → (p : ℕ) (w : Sender E) (t : ℕ) → slice_get (slice_set m.senders s (with_rows_again v')) p ≡ Some w → held_of w.core.phase ≡ Some t → reclaimer_in w.reuse ≡ reclaimer
+    holder_after : (v' : Participant E) (reclaimer : Option Reclaiming)
+        → ((t : ℕ) → held_of v'.core.phase ≡ Some t → v'.reclaimer ≡ reclaimer)
+        → ((p : ℕ) (w : Sender E) (t : ℕ) → p ≢ s → slice_get m.senders p ≡ Some w
+        → held_of w.core.phase ≡ Some t → l.reclaimer ≡ reclaimer)
+        → (p : ℕ) (w : Sender E) (t : ℕ)
+        → slice_get (slice_set m.senders s (with_rows_again v')) p ≡ Some w
+        → held_of w.core.phase ≡ Some t → reclaimer_in w.reuse ≡ reclaimer
     holder_after v' reclaimer own others p w t here e = elim (cases_eq p s) [
       | inl i ↦
-          let same : with_rows_again v' ≡ w = same_Some _ _ (sym (get_set_same m.senders s (with_rows_again v') within) ∙ sym (ap (slice_get (slice_set m.senders s (with_rows_again v'))) i) ∙ here) in
-          subst (λ (u : Sender E). reclaimer_in u.reuse ≡ reclaimer) same (own t (ap (λ (u : Sender E). held_of u.core.phase) same ∙ e))
+          let same : with_rows_again v' ≡ w = same_Some _ _
+          (sym (get_set_same m.senders s (with_rows_again v') within)
+          ∙ sym (ap (slice_get (slice_set m.senders s (with_rows_again v'))) i) ∙ here) in
+          subst (λ (u : Sender E). reclaimer_in u.reuse ≡ reclaimer) same
+          (own t (ap (λ (u : Sender E). held_of u.core.phase) same ∙ e))
       | inr ne ↦
           let was = sym (get_set_other m.senders s (with_rows_again v') p ne) ∙ here in
           l.holder p w t was e ∙ others p w t ne was e
     ]
 
     -- nobody else holds it where this sender does
-    nobody_else : (t : ℕ) → held_of v.core.phase ≡ Some t → (reclaimer : Option Reclaiming) (p : ℕ) (w : Sender E) (r : ℕ) → p ≢ s → slice_get m.senders p ≡ Some w → held_of w.core.phase ≡ Some r → l.reclaimer ≡ reclaimer
-    nobody_else t e reclaimer p w r ne here f = absurd (ne (alone p s w (with_rows_again v) r t here f at e))
+    nobody_else : (t : ℕ) → held_of v.core.phase ≡ Some t
+        → (reclaimer : Option Reclaiming) (p : ℕ) (w : Sender E) (r : ℕ) → p ≢ s
+        → slice_get m.senders p ≡ Some w → held_of w.core.phase ≡ Some r → l.reclaimer ≡ reclaimer
+    nobody_else t e reclaimer p w r ne here f =
+        absurd (ne (alone p s w (with_rows_again v) r t here f at e))
 
     -- ---- a step of its pin
-    looked_held : (u : Pin) (got t : ℕ) → held_of (core_looked X v.core u got).phase ≡ Some t → held_of v.core.phase ≡ Some t
+    looked_held : (u : Pin) (got t : ℕ) → held_of (core_looked X v.core u got).phase ≡ Some t
+        → held_of v.core.phase ≡ Some t
     looked_held Away got t e = e
     looked_held (Announcing r) got t e = e
     looked_held (Validating r) got t e = by_test (got / 2 == r) e
       where
-        by_test : (q : Bool) → held_of (cond q (core_begun X v.core r) v.core).phase ≡ Some t → held_of v.core.phase ≡ Some t
+        by_test : (q : Bool) → held_of (cond q (core_begun X v.core r) v.core).phase ≡ Some t
+            → held_of v.core.phase ≡ Some t
         by_test true e = absurd cc
         by_test false e = e
     looked_held (Pinned r) got t e = e
@@ -250,37 +362,52 @@ module _ {E : Type 0} (X : Election E) (P : Protocol E (Unit {0}) ℕ) (rows : �
 
     -- ---- as a sender that has a row for each tenure
     place_same : (z : Situation E) → place_for v.core.layout v.rows z ≡ place_for m.layout rows z
-    place_same z = ap (λ x. place_for x v.rows z) part.layout ∙ ap (λ r. place_for m.layout r z) same_rows
+    place_same z =
+        ap (λ x. place_for x v.rows z) part.layout ∙ ap (λ r. place_for m.layout r z) same_rows
 
     -- who held the page before, and holds it still
     kept_reclaimer : (t : ℕ) → held_of v.core.phase ≡ Some t → v.reclaimer ≡ l.reclaimer
     kept_reclaimer t e = l.holder s (with_rows_again v) t at e
 
-    seen_held : (got t : ℕ) → held_of (core_seen v.core got).phase ≡ Some t → held_of v.core.phase ≡ Some t
+    seen_held : (got t : ℕ) → held_of (core_seen v.core got).phase ≡ Some t
+        → held_of v.core.phase ≡ Some t
     seen_held got t = by_tests (waits v.core got) (nat_le v.core.layout.rows (got / 2))
       where
-        by_tests : (p q : Bool) → held_of (cond p v.core (cond q (record v.core { least = got / 2 }) v.core)).phase ≡ Some t → held_of v.core.phase ≡ Some t
+        by_tests : (p q : Bool)
+            → held_of (cond p v.core (cond q (record v.core { least = got / 2 }) v.core)).phase
+            ≡ Some t → held_of v.core.phase ≡ Some t
         by_tests true q f = f
         by_tests false true f = f
         by_tests false false f = f
 
-    elected_held : (t : ℕ) (f : E) (o : Option ℕ) (r : ℕ) → held_of (core_elected v.core t f o).phase ≡ Some r → ⊥
+    elected_held : (t : ℕ) (f : E) (o : Option ℕ) (r : ℕ)
+        → held_of (core_elected v.core t f o).phase ≡ Some r → ⊥
     elected_held t f None r e = cc
     elected_held t f (Some o) r e = by_test (o == v.core.me) e
       where
-        by_test : (q : Bool) → held_of (cond q (record v.core { phase = phase.Electing t f }) (record v.core { queue = record v.core.queue { busy = false }; least = t + 1; phase = phase.Resting })).phase ≡ Some r → ⊥
+        by_test : (q : Bool)
+            → held_of (cond q (record v.core { phase = phase.Electing t f }) (record v.core {
+              queue = record v.core.queue { busy = false };
+              least = t + 1;
+              phase = phase.Resting;
+            })).phase ≡ Some r → ⊥
         by_test true e = cc
         by_test false e = cc
 
     -- nobody holds the page while a sender takes it
-    at_home : (t : ℕ) → situation_of X v.core ≡ TakesPage t → (reclaimer : Option Reclaiming) (p : ℕ) (w : Sender E) (r : ℕ) → p ≢ s → slice_get m.senders p ≡ Some w → held_of w.core.phase ≡ Some r → l.reclaimer ≡ reclaimer
+    at_home : (t : ℕ) → situation_of X v.core ≡ TakesPage t
+        → (reclaimer : Option Reclaiming) (p : ℕ) (w : Sender E) (r : ℕ) → p ≢ s
+        → slice_get m.senders p ≡ Some w → held_of w.core.phase ≡ Some r → l.reclaimer ≡ reclaimer
     at_home t here reclaimer p w r ne there f =
         let sending = protocol_kept.kept.sending in
-        let found = finds_page X P q.laws m.layout ok q.width q.starts q.owner_is protocol_kept.V m.home y.senders l.owners protocol_kept.frames sending s v.core old t here in
-        let held = holds_page X P q.laws m.layout ok q.width q.starts q.owner_is protocol_kept.V m.home y.senders l.owners protocol_kept.frames sending p w.core (ap core_in there) r f in
+        let found = finds_page X P q.laws m.layout ok q.width q.starts q.owner_is protocol_kept.V
+        m.home y.senders l.owners protocol_kept.frames sending s v.core old t here in
+        let held = holds_page X P q.laws m.layout ok q.width q.starts q.owner_is protocol_kept.V
+        m.home y.senders l.owners protocol_kept.frames sending p w.core (ap core_in there) r f in
         absurd (let a = found.2 in omega arith)
 
-    due_rows : (d : Due E) (move : PageMove) (got word : ℕ) → (participant_moved move m.home (participant_due X v d got word)).rows ≡ v.rows
+    due_rows : (d : Due E) (move : PageMove) (got word : ℕ)
+        → (participant_moved move m.home (participant_due X v d got word)).rows ≡ v.rows
     due_rows (Pins o) move got word = refl
     due_rows (Reclaims r o) move got word = refl
     due_rows (Goes z) move got word = refl
@@ -291,8 +418,12 @@ module _ {E : Type 0} (X : Election E) (P : Protocol E (Unit {0}) ℕ) (rows : �
 
     -- a batch in its place, as the protocol has it
     pub batch_led : (b : Pending) (ds : List Action)
-        → Led X m.layout rows (record y { senders = put s (Some (record v.core { queue = b })) y.senders }) T.pins (actions_with s ds T.actions) T.heard
-        → IsLed X rows (with_sender m s (with_rows_again (record v { core = record v.core { queue = b } }))) (record T { actions = actions_with s ds T.actions })
+        → Led X m.layout rows
+        (record y { senders = put s (Some (record v.core { queue = b })) y.senders }) T.pins
+        (actions_with s ds T.actions) T.heard
+        → IsLed X rows
+        (with_sender m s (with_rows_again (record v { core = record v.core { queue = b } })))
+        (record T { actions = actions_with s ds T.actions })
     batch_led b ds led =
         let v' : Participant E = record v { core = record v.core { queue = b } } in
         record {
@@ -301,10 +432,12 @@ module _ {E : Type 0} (X : Election E) (P : Protocol E (Unit {0}) ℕ) (rows : �
           participants = participants_after rows m.senders l.participants s v' within same_rows;
           owners = l.owners;
           reclaimer = l.reclaimer;
-          holder = holder_after v' l.reclaimer (λ t e. l.holder s (with_rows_again v) t at e) (λ p w t ne here e. refl);
+          holder = holder_after v' l.reclaimer (λ t e. l.holder s (with_rows_again v) t at e)
+              (λ p w t ne here e. refl);
           led = subst (λ yy. Led X m.layout rows yy T.pins (actions_with s ds T.actions) T.heard)
               (protocols_same m.bases _ _ _ _ _ _ l.reclaimer m.home y.receivers l.owners refl
-              (sym (put_is s v.pin y.reclamation.pins (ap pin_in at)) ∙ sym (list_put pin_in m.senders s (with_rows_again v') within))
+              (sym (put_is s v.pin y.reclamation.pins (ap pin_in at))
+              ∙ sym (list_put pin_in m.senders s (with_rows_again v') within))
               (sym (list_put core_in m.senders s (with_rows_again v') within)))
               led;
         }
@@ -318,7 +451,9 @@ module _ {E : Type 0} (X : Election E) (P : Protocol E (Unit {0}) ℕ) (rows : �
           record m {
             words = words_after m.words (op_due X v d word);
             home = home_moved (move_of X v.core d) m.home;
-            senders = slice_set m.senders s (with_rows_again (participant_moved (after_step (move_of X v.core d)) m.home (participant_due X v d got word)));
+            senders = slice_set m.senders s
+                (with_rows_again (participant_moved (after_step (move_of X v.core d)) m.home
+                (participant_due X v d got word)));
             owners = told;
           }
 
@@ -326,31 +461,49 @@ module _ {E : Type 0} (X : Election E) (P : Protocol E (Unit {0}) ℕ) (rows : �
       record HasLed (n : Machine E) (d : Due E) : Type 0 where
         owners : List ℕ
         reclaimer : Option Reclaiming
-        holder : (p : ℕ) (w : Sender E) (t : ℕ) → slice_get n.senders p ≡ Some w → held_of w.core.phase ≡ Some t → reclaimer_in w.reuse ≡ reclaimer
-        led : Led X n.layout rows (protocol_of n reclaimer owners) (trails_with y s d T.pins) (actions_with s (due_actions X m.layout rows y v.core d word answer) T.actions) T.heard
+        holder : (p : ℕ) (w : Sender E) (t : ℕ) → slice_get n.senders p ≡ Some w
+            → held_of w.core.phase ≡ Some t → reclaimer_in w.reuse ≡ reclaimer
+        led : Led X n.layout rows (protocol_of n reclaimer owners) (trails_with y s d T.pins)
+            (actions_with s (due_actions X m.layout rows y v.core d word answer) T.actions) T.heard
 
-      led_as : (d : Due E) → due X v ≡ d → AnswersDue X m.layout rows y v.core d word answer → Led X m.layout rows (protocol_after X m.layout rows y s v.core d word) (trails_with y s d T.pins) (actions_with s (due_actions X m.layout rows y v.core d word answer) T.actions) T.heard
-      led_as d e = subst (λ w. AnswersDue X m.layout rows y v.core w word answer → Led X m.layout rows (protocol_after X m.layout rows y s v.core w word) (trails_with y s w T.pins) (actions_with s (due_actions X m.layout rows y v.core w word answer) T.actions) T.heard) (sym due_same ∙ e)
+      led_as : (d : Due E) → due X v ≡ d → AnswersDue X m.layout rows y v.core d word answer
+          → Led X m.layout rows (protocol_after X m.layout rows y s v.core d word)
+          (trails_with y s d T.pins)
+          (actions_with s (due_actions X m.layout rows y v.core d word answer) T.actions) T.heard
+      led_as d e = subst (λ w.
+          AnswersDue X m.layout rows y v.core w word answer
+          → Led X m.layout rows (protocol_after X m.layout rows y s v.core w word)
+          (trails_with y s w T.pins)
+          (actions_with s (due_actions X m.layout rows y v.core w word answer) T.actions) T.heard)
+          (sym due_same ∙ e)
           (λ due. Turned y T.pins T.actions T.heard s v.core word answer l.led old due)
 
-      pins_lead : (o : Op) → due X v ≡ Pins o → register o < length m.words → HasLed (turned (Pins o)) (Pins o)
+      pins_lead : (o : Op) → due X v ≡ Pins o → register o < length m.words
+          → HasLed (turned (Pins o)) (Pins o)
       pins_lead o e low =
           let got = slice_index m.words (register o) in
           let v' = participant_due X v (Pins o) got word in
           record {
             owners = l.owners;
             reclaimer = l.reclaimer;
-            holder = holder_after v' l.reclaimer (λ t f. l.holder s (with_rows_again v) t at (looked_held v.pin got t f)) (λ p w t ne here f. refl);
-            led = subst (λ yy. Led X m.layout rows yy (trails_with y s (Pins o) T.pins) (actions_with s (due_actions X m.layout rows y v.core (Pins o) word answer) T.actions) T.heard)
+            holder = holder_after v' l.reclaimer
+                (λ t f. l.holder s (with_rows_again v) t at (looked_held v.pin got t f))
+                (λ p w t ne here f. refl);
+            led = subst (λ yy. Led X m.layout rows yy (trails_with y s (Pins o) T.pins)
+                (actions_with s (due_actions X m.layout rows y v.core (Pins o) word answer)
+                T.actions) T.heard)
                 (protocols_same m.bases _ _ _ _ _ _ l.reclaimer m.home y.receivers l.owners
                 (sym (index_put m.words (register o) (after o got) low))
-                (ap (λ u. put s (pin_fed u got) y.reclamation.pins) pin_is ∙ sym (list_put pin_in m.senders s (with_rows_again v') within))
-                (ap (λ u. put s (Some (core_looked X v.core u got)) y.senders) pin_is ∙ sym (list_put core_in m.senders s (with_rows_again v') within)))
+                (ap (λ u. put s (pin_fed u got) y.reclamation.pins) pin_is
+                ∙ sym (list_put pin_in m.senders s (with_rows_again v') within))
+                (ap (λ u. put s (Some (core_looked X v.core u got)) y.senders) pin_is
+                ∙ sym (list_put core_in m.senders s (with_rows_again v') within)))
                 (led_as (Pins o) e tt);
           }
 
       -- ---- a step of its reclamation
-      reclaims_lead : (r : Reclaiming) (o : Op) → due X v ≡ Reclaims r o → register o < length m.words → HasLed (turned (Reclaims r o)) (Reclaims r o)
+      reclaims_lead : (r : Reclaiming) (o : Op) → due X v ≡ Reclaims r o
+          → register o < length m.words → HasLed (turned (Reclaims r o)) (Reclaims r o)
       reclaims_lead r o e low =
           let got = slice_index m.words (register o) in
           let v' = participant_due X v (Reclaims r o) got word in
@@ -359,12 +512,18 @@ module _ {E : Type 0} (X : Election E) (P : Protocol E (Unit {0}) ℕ) (rows : �
           record {
             owners = l.owners;
             reclaimer = Some (reclaim_fed r got);
-            holder = holder_after v' (Some (reclaim_fed r got)) (λ t f. refl) (nobody_else by.tenure held (Some (reclaim_fed r got)));
-            led = subst (λ yy. Led X m.layout rows yy (trails_with y s (Reclaims r o) T.pins) (actions_with s (due_actions X m.layout rows y v.core (Reclaims r o) word answer) T.actions) T.heard)
-                (protocols_same m.bases _ _ _ _ _ _ (Some (reclaim_fed r got)) m.home y.receivers l.owners
+            holder = holder_after v' (Some (reclaim_fed r got)) (λ t f. refl)
+                (nobody_else by.tenure held (Some (reclaim_fed r got)));
+            led = subst (λ yy. Led X m.layout rows yy (trails_with y s (Reclaims r o) T.pins)
+                (actions_with s (due_actions X m.layout rows y v.core (Reclaims r o) word answer)
+                T.actions) T.heard)
+                (protocols_same m.bases _ _ _ _ _ _ (Some (reclaim_fed r got)) m.home y.receivers
+                l.owners
                 (sym (index_put m.words (register o) (after o got) low))
-                (sym (put_is s v.pin y.reclamation.pins pin_is) ∙ sym (list_put pin_in m.senders s (with_rows_again v') within))
-                (sym (put_is s (Some v.core) y.senders old) ∙ sym (list_put core_in m.senders s (with_rows_again v') within)))
+                (sym (put_is s v.pin y.reclamation.pins pin_is)
+                ∙ sym (list_put pin_in m.senders s (with_rows_again v') within))
+                (sym (put_is s (Some v.core) y.senders old)
+                ∙ sym (list_put core_in m.senders s (with_rows_again v') within)))
                 (led_as (Reclaims r o) e tt);
           }
 
@@ -376,66 +535,124 @@ module _ {E : Type 0} (X : Election E) (P : Protocol E (Unit {0}) ℕ) (rows : �
         got = number_found (slice_index m.words) (op_due X v (Goes z) word)
 
         abbrev v' : Participant E
-        v' = participant_moved (after_step (line_of X v.core z).move) m.home (participant_due X v (Goes z) got word)
+        v' = participant_moved (after_step (line_of X v.core z).move) m.home
+            (participant_due X v (Goes z) got word)
 
         abbrev reclaimer' : Option Reclaiming
         reclaimer' = reclaimer_going m.layout rows l.reclaimer z
 
         got_is : got ≡ word_found (place_for m.layout rows z) y.reclamation.words step
-        got_is = ap (λ f. number_found (slice_index m.words) (op_placed f step)) (place_same z) ∙ placed_found (place_for m.layout rows z) (slice_index m.words) step
+        got_is =
+            ap (λ f. number_found (slice_index m.words) (op_placed f step)) (place_same z)
+            ∙ placed_found (place_for m.layout rows z) (slice_index m.words) step
 
-        goes_as : ((t : ℕ) → held_of v'.core.phase ≡ Some t → v'.reclaimer ≡ reclaimer') → ((p : ℕ) (w : Sender E) (t : ℕ) → p ≢ s → slice_get m.senders p ≡ Some w → held_of w.core.phase ≡ Some t → l.reclaimer ≡ reclaimer')
-            → ((o : Op) → op_due X v (Goes z) word ≡ Some o → register o < length m.words) → answer ≡ answer_going X v.core z got word → HasLed (turned (Goes z)) (Goes z)
+        goes_as : ((t : ℕ) → held_of v'.core.phase ≡ Some t → v'.reclaimer ≡ reclaimer')
+            → ((p : ℕ) (w : Sender E) (t : ℕ) → p ≢ s → slice_get m.senders p ≡ Some w
+            → held_of w.core.phase ≡ Some t → l.reclaimer ≡ reclaimer')
+            → ((o : Op) → op_due X v (Goes z) word ≡ Some o → register o < length m.words)
+            → answer ≡ answer_going X v.core z got word → HasLed (turned (Goes z)) (Goes z)
         goes_as own others low given = record {
           owners = (protocol_after X m.layout rows y s v.core (Goes z) word).owners;
           reclaimer = reclaimer';
           holder = holder_after v' reclaimer' own others;
-          led = subst (λ yy. Led X m.layout rows yy (trails_with y s (Goes z) T.pins) (actions_with s (due_actions X m.layout rows y v.core (Goes z) word answer) T.actions) T.heard)
-              (protocols_same m.bases _ _ _ _ _ _ reclaimer' (home_after X v.core z m.home) y.receivers (protocol_after X m.layout rows y s v.core (Goes z) word).owners
-              (sym (ap (λ f. slice_index (words_after m.words (op_placed f step))) (place_same z) ∙ placed_words (place_for m.layout rows z) m.words step (λ o i. low o (ap (λ f. op_placed f step) (place_same z) ∙ i))))
-              (ap (λ u. put s (pin_going X v.core u z (word_found (place_for m.layout rows z) y.reclamation.words step) word) y.reclamation.pins) pin_is ∙ ap (λ g. put s (pin_going X v.core v.pin z g word) y.reclamation.pins) (sym got_is) ∙ sym (list_put pin_in m.senders s (with_rows_again v') within))
-              (ap (λ g. put s (Some (core_moved (after_step (line_of X v.core z).move) m.home (core_going X v.core z g word))) y.senders) (sym got_is) ∙ sym (list_put core_in m.senders s (with_rows_again v') within)))
+          led = subst (λ yy. Led X m.layout rows yy (trails_with y s (Goes z) T.pins)
+              (actions_with s (due_actions X m.layout rows y v.core (Goes z) word answer) T.actions)
+              T.heard)
+              (protocols_same m.bases _ _ _ _ _ _ reclaimer' (home_after X v.core z m.home)
+              y.receivers (protocol_after X m.layout rows y s v.core (Goes z) word).owners
+              (sym (ap (λ f. slice_index (words_after m.words (op_placed f step))) (place_same z)
+              ∙ placed_words (place_for m.layout rows z) m.words step
+              (λ o i. low o (ap (λ f. op_placed f step) (place_same z) ∙ i))))
+              (ap (λ u. put s (pin_going X v.core u z
+              (word_found (place_for m.layout rows z) y.reclamation.words step) word)
+              y.reclamation.pins) pin_is
+              ∙ ap (λ g. put s (pin_going X v.core v.pin z g word) y.reclamation.pins) (sym got_is)
+              ∙ sym (list_put pin_in m.senders s (with_rows_again v') within))
+              (ap (λ g. put s
+              (Some (core_moved (after_step (line_of X v.core z).move) m.home
+              (core_going X v.core z g word))) y.senders) (sym got_is)
+              ∙ sym (list_put core_in m.senders s (with_rows_again v') within)))
               (led_as (Goes z) e (given ∙ ap (λ g. answer_going X v.core z g word) got_is));
         }
 
-      goes_lead : (z : Situation E) → situation_of X v.core ≡ z → due X v ≡ Goes z → ((o : Op) → op_due X v (Goes z) word ≡ Some o → register o < length m.words)
-          → answer ≡ answer_going X v.core z (number_found (slice_index m.words) (op_due X v (Goes z) word)) word
+      goes_lead : (z : Situation E) → situation_of X v.core ≡ z → due X v ≡ Goes z
+          → ((o : Op) → op_due X v (Goes z) word ≡ Some o → register o < length m.words)
+          → answer
+          ≡ answer_going X v.core z (number_found (slice_index m.words) (op_due X v (Goes z) word))
+          word
           → HasLed (turned (Goes z)) (Goes z)
-      goes_lead IsClosed here e = goes_as IsClosed here e (λ t f. kept_reclaimer t f) (λ p w t ne there f. refl)
-      goes_lead IsIdle here e = goes_as IsIdle here e (λ t f. kept_reclaimer t f) (λ p w t ne there f. refl)
-      goes_lead IsSpent here e = goes_as IsSpent here e (λ t f. kept_reclaimer t f) (λ p w t ne there f. refl)
-      goes_lead LooksAtStage here e = goes_as LooksAtStage here e (λ t f. kept_reclaimer t (seen_held (slice_index m.words 1) t f)) (λ p w t ne there f. refl)
-      goes_lead (Elects t g) here e = goes_as (Elects t g) here e (λ r f. absurd (elected_held t (X.fed g (got (Elects t g) here e) word) (X.owner (X.fed g (got (Elects t g) here e) word)) r f)) (λ p w r ne there f. refl)
+      goes_lead IsClosed here e =
+          goes_as IsClosed here e (λ t f. kept_reclaimer t f) (λ p w t ne there f. refl)
+      goes_lead IsIdle here e =
+          goes_as IsIdle here e (λ t f. kept_reclaimer t f) (λ p w t ne there f. refl)
+      goes_lead IsSpent here e =
+          goes_as IsSpent here e (λ t f. kept_reclaimer t f) (λ p w t ne there f. refl)
+      goes_lead LooksAtStage here e = goes_as LooksAtStage here e
+          (λ t f. kept_reclaimer t (seen_held (slice_index m.words 1) t f))
+          (λ p w t ne there f. refl)
+      goes_lead (Elects t g) here e = goes_as (Elects t g) here e
+          (λ r f. absurd (elected_held t (X.fed g (got (Elects t g) here e) word)
+          (X.owner (X.fed g (got (Elects t g) here e) word)) r f)) (λ p w r ne there f. refl)
       goes_lead (TakesPage t) here e = goes_as (TakesPage t) here e
-          (λ r f. ap (λ x. reclaimer_after (sizes_with x v.rows) t) part.layout ∙ ap (λ n. reclaimer_after (sizes_with m.layout n) t) same_rows) (at_home t here (reclaimer_after (sizes_with m.layout rows) t))
-      goes_lead (AwaitsPage t) here e = absurd (subst (Fits (slice_index m.bases) protocol_kept.V protocol_kept.frames v.core) (tells X v.core (AwaitsPage t) here) part.fits)
-      goes_lead (StoresWord t page stored) here e = let f = tells X v.core (StoresWord t page stored) here in goes_as (StoresWord t page stored) here e (λ r g. kept_reclaimer t (ap held_of f.1)) (λ p w r ne there g. refl)
-      goes_lead (StoresLength t page stored) here e = let f = tells X v.core (StoresLength t page stored) here in goes_as (StoresLength t page stored) here e (λ r g. kept_reclaimer t (ap held_of f.1)) (λ p w r ne there g. refl)
-      goes_lead (GivesBack t page reason) here e = goes_as (GivesBack t page reason) here e (λ r f. refl) (nobody_else t (gives_held t page reason here) None)
-      goes_lead (HasHanded t reason) here e = absurd (subst (Fits (slice_index m.bases) protocol_kept.V protocol_kept.frames v.core) (tells X v.core (HasHanded t reason) here) part.fits)
+          (λ r f.
+          ap (λ x. reclaimer_after (sizes_with x v.rows) t) part.layout
+          ∙ ap (λ n. reclaimer_after (sizes_with m.layout n) t) same_rows)
+          (at_home t here (reclaimer_after (sizes_with m.layout rows) t))
+      goes_lead (AwaitsPage t) here e = absurd
+          (subst (Fits (slice_index m.bases) protocol_kept.V protocol_kept.frames v.core)
+          (tells X v.core (AwaitsPage t) here) part.fits)
+      goes_lead (StoresWord t page stored) here e =
+          let f = tells X v.core (StoresWord t page stored) here in
+          goes_as (StoresWord t page stored) here e (λ r g. kept_reclaimer t (ap held_of f.1))
+          (λ p w r ne there g. refl)
+      goes_lead (StoresLength t page stored) here e =
+          let f = tells X v.core (StoresLength t page stored) here in
+          goes_as (StoresLength t page stored) here e (λ r g. kept_reclaimer t (ap held_of f.1))
+          (λ p w r ne there g. refl)
+      goes_lead (GivesBack t page reason) here e = goes_as (GivesBack t page reason) here e
+          (λ r f. refl) (nobody_else t (gives_held t page reason here) None)
+      goes_lead (HasHanded t reason) here e = absurd
+          (subst (Fits (slice_index m.bases) protocol_kept.V protocol_kept.frames v.core)
+          (tells X v.core (HasHanded t reason) here) part.fits)
 
-      by_due : (d : Due E) → due X v ≡ d → IsOnWord m (op_due X v d word) → answer ≡ answer_due X v d (number_found (slice_index m.words) (op_due X v d word)) word → HasLed (turned d) d
+      by_due : (d : Due E) → due X v ≡ d → IsOnWord m (op_due X v d word)
+          → answer ≡ answer_due X v d (number_found (slice_index m.words) (op_due X v d word)) word
+          → HasLed (turned d) d
       by_due (Pins o) e low given = pins_lead o e low
       by_due (Reclaims r o) e low given = reclaims_lead r o e low
-      by_due (Goes z) e low given = goes_lead z (due_goes _ v.reclaimer (situation_of X v.core) z e) e (on_word (op_due X v (Goes z) word) low) given
+      by_due (Goes z) e low given = goes_lead z (due_goes _ v.reclaimer (situation_of X v.core) z e)
+          e (on_word (op_due X v (Goes z) word) low) given
 
       -- whoever holds these trails
-      pub turn_led : (U : Trails) → IsOnWord m (op_due X v (due X v) word) → answer ≡ answer_due X v (due X v) (number_found (slice_index m.words) (op_due X v (due X v) word)) word
-          → U.pins ≡ trails_with y s (due X v) T.pins → U.actions ≡ actions_with s (due_actions X m.layout rows y v.core (due X v) word answer) T.actions → U.heard ≡ T.heard
+      pub turn_led : (U : Trails) → IsOnWord m (op_due X v (due X v) word)
+          → answer
+          ≡ answer_due X v (due X v)
+          (number_found (slice_index m.words) (op_due X v (due X v) word)) word
+          → U.pins ≡ trails_with y s (due X v) T.pins
+          → U.actions
+          ≡ actions_with s (due_actions X m.layout rows y v.core (due X v) word answer) T.actions
+          → U.heard ≡ T.heard
           → IsLed X rows (turned (due X v)) U
       turn_led U low given pins actions heard =
           let d = due X v in
           let has = by_due d refl low given in
           let got = number_found (slice_index m.words) (op_due X v d word) in
-          let v' = participant_moved (after_step (move_of X v.core d)) m.home (participant_due X v d got word) in
+          let v' = participant_moved (after_step (move_of X v.core d)) m.home
+          (participant_due X v d got word) in
           record {
             reuse = l.reuse;
             words = words_many m.words (op_due X v d word) ∙ l.words;
-            participants = participants_after rows m.senders l.participants s v' within (due_rows d (after_step (move_of X v.core d)) got word ∙ same_rows);
+            participants = participants_after rows m.senders l.participants s v' within
+                (due_rows d (after_step (move_of X v.core d)) got word ∙ same_rows);
             owners = has.owners;
             reclaimer = has.reclaimer;
             holder = has.holder;
-            led = subst (λ w. Led X m.layout rows (protocol_of (turned d) has.reclaimer has.owners) w U.actions U.heard) (sym pins)
-                (subst (λ w. Led X m.layout rows (protocol_of (turned d) has.reclaimer has.owners) (trails_with y s d T.pins) w U.heard) (sym actions)
-                (subst (λ w. Led X m.layout rows (protocol_of (turned d) has.reclaimer has.owners) (trails_with y s d T.pins) (actions_with s (due_actions X m.layout rows y v.core d word answer) T.actions) w) (sym heard) has.led));
+            led = subst (λ w. Led X m.layout rows (protocol_of (turned d) has.reclaimer has.owners)
+                w U.actions U.heard) (sym pins)
+                (subst (λ w. Led X m.layout rows (protocol_of (turned d) has.reclaimer has.owners)
+                (trails_with y s d T.pins) w U.heard) (sym actions)
+                (subst (λ w. Led X m.layout rows (protocol_of (turned d) has.reclaimer has.owners)
+                (trails_with y s d T.pins)
+                (actions_with s (due_actions X m.layout rows y v.core d word answer) T.actions) w)
+                (sym heard) has.led));
           }

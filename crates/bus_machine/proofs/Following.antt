@@ -1,5 +1,5 @@
 -- Whatever happens, the new machine follows the old one, and what is answered is so.
-use Rattle.std.proofs.Common.{◌≡◌, ℕ, Option, Some, None, refl, ap, subst}
+use Rattle.std.proofs.Common.{◌≡◌, ℕ, Option, Some, None, refl, sym, ap, subst}
 use Rattle.bus_register.specs.Protocol.{Protocol}
 use Rattle.bus_tenure.specs.Core.{Election}
 use Rattle.bus_world.specs.World.{Event}
@@ -8,26 +8,33 @@ use Rattle.bus_machine.proofs.AtNone.{event_reuse}
 use Rattle.bus_machine.proofs.Framed.{framed, reuses}
 use Rattle.bus_machine.proofs.Gone.{event_stays}
 use Rattle.bus_machine.proofs.Growing.{joins, grows, rises}
+use Rattle.bus_machine.proofs.History.{trails_join}
 use Rattle.bus_machine.proofs.Leading.{Sits, sits_after}
 use Rattle.bus_machine.proofs.Promised.{promised}
 use Rattle.bus_machine.proofs.Staying.{promise_stays, grown_longer}
 use Rattle.bus_machine.proofs.Telling.{told}
 use Rattle.bus_machine.specs.Machine.{Machine, Trails, Reached, Then, Happens, trails_grown}
-use Rattle.bus_machine.specs.Promise.{Follows, HasGoneOn, HasRows, ReusesSafely, actions_in}
+use Rattle.bus_machine.specs.Promise.{words_joined, Follows, HasGoneOn, HasRows, ReusesSafely}
+use Rattle.bus_machine.specs.Promise.{actions_in}
 use Rattle.bus_machine.specs.Telling.{Tells}
 
 -- ---- one event, by trails that lead to the machine before it
-module _ {E : Type 0} (X : Election E) (P : Protocol E (Unit {0}) ℕ) (m m' : Machine E) (T : Trails) (e : Event) (a : Answer) (s : Sits X P m)
+module _ {E : Type 0} (X : Election E) (P : Protocol E (Unit {0}) ℕ) (m m' : Machine E) (T : Trails)
+    (e : Event) (a : Answer) (s : Sits X P m)
     (r : Reached X m T) (h : Happens X m e a m') where
   -- what was done in a tenure whose row has gone on
-  stays : (t q : ℕ) → HasGoneOn m m.reuse t → actions_in t ((trails_grown X m e a T).actions q) ≡ actions_in t (T.actions q)
+  stays : (t q : ℕ) → HasGoneOn m m.reuse t
+      → actions_in t ((trails_grown X m e a T).actions q) ≡ actions_in t (T.actions q)
   stays t q = by m.reuse refl where
-    by : (o : Option ℕ) → m.reuse ≡ o → HasGoneOn m o t → actions_in t ((trails_grown X m e a T).actions q) ≡ actions_in t (T.actions q)
+    by : (o : Option ℕ) → m.reuse ≡ o → HasGoneOn m o t
+        → actions_in t ((trails_grown X m e a T).actions q) ≡ actions_in t (T.actions q)
     by None fresh gone = absurd gone
-    by (Some rows) used gone = event_stays X P m T s (framed X P m T s r) rows (subst HasRows used s.rows)
+    by (Some rows) used gone =
+        event_stays X P m T s (framed X P m T s r) rows (subst HasRows used s.rows)
         (subst (ReusesSafely X m T) used (reuses X P m T s r)) t gone e a m' h q
 
-module _ {E : Type 0} (X : Election E) (P : Protocol E (Unit {0}) ℕ) (m : Machine E) (T₀ : Trails) (s : Sits X P m) (r₀ : Reached X m T₀) where
+module _ {E : Type 0} (X : Election E) (P : Protocol E (Unit {0}) ℕ) (m : Machine E) (T₀ : Trails)
+    (s : Sits X P m) (r₀ : Reached X m T₀) where
   -- the new machine follows the old one
   pub follows : (m' : Machine E) (e : Event) (a : Answer) → Happens X m e a m' → Follows X m e a m'
   follows m' e a h = record {
@@ -35,9 +42,12 @@ module _ {E : Type 0} (X : Election E) (P : Protocol E (Unit {0}) ℕ) (m : Mach
     grows = grows X P m m' T₀ e a s r₀ h;
     rises = rises X P m m' T₀ e a s r₀ h;
     reached = λ T r. Then m m' T e a r h;
-    promised = λ T r. promise_stays X m m' T (trails_grown X m e a T) (ap (λ x. x.senders) (event_reuse X m m' e a h).0)
-        (promised X P m T s r) (promised X P m' (trails_grown X m e a T) (sits_after X P m m' e a h s) (Then m m' T e a r h))
-        (grows X P m m' T e a s r h) (grown_longer X m T e a);
+    promised = λ T r. promise_stays X m m' T (trails_grown X m e a T)
+        (ap (λ x. x.senders) (event_reuse X m m' e a h).0)
+        (promised X P m T s r) (promised X P m' (trails_grown X m e a T)
+        (sits_after X P m m' e a h s) (Then m m' T e a r h))
+        (record { rest = words_joined X m e; together = sym (trails_join X m m' e a T h) })
+        (grown_longer X m T e a);
     stays = λ T r t q gone. stays X P m m' T e a s r h t q gone;
   }
 

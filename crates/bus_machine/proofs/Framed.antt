@@ -1,5 +1,6 @@
 -- What words, page and senders of a machine keep by the frames of its log, of both kinds of rows.
-use Rattle.std.proofs.Common.{◌≡◌, ◌≢◌, ℕ, zero, suc, ◌+◌, ◌<◌, ◌≤◌, Option, Some, None, List, [], ◌∷◌, ◌++◌, length, map, slice_get, slice_index, ◌-◌, arith}
+use Rattle.std.proofs.Common.{false, ◌≡◌, ◌≢◌, ℕ, zero, suc, ◌+◌, ◌<◌, ◌≤◌, Option, Some, None}
+use Rattle.std.proofs.Common.{List, [], ◌∷◌, ◌++◌, length, map, slice_get, slice_index, ◌-◌, arith}
 use Rattle.std.proofs.Common.{refl, sym, ◌∙◌, ap, subst}
 use Rattle.std.specs.Prelude.{option_map}
 use Rattle.std.proofs.lemmas.Option.{slice_get-map, same_Some}
@@ -29,13 +30,15 @@ use Rattle.bus_register.specs.declared.registers.Op.{Op}
 use Rattle.bus_register.specs.declared.registers.Op.TheVariants.{Store}
 use Rattle.bus_tenure.proofs.Situated.{tells}
 use Rattle.bus_tenure.specs.Situations.{Elects}
-use Rattle.bus_tenure.specs.declared.phases.Phase.TheVariants.{Electing}
+use Rattle.bus_tenure.specs.declared.pages.Page.{Page}
+use Rattle.bus_tenure.specs.declared.phases.Phase.TheVariants.{Electing, Holding}
 use Rattle.bus_tenure.specs.Core.{Core, Election, Layout, log_at, row_at}
 use Rattle.bus_world.proofs.EventTrails as plain
 use Rattle.bus_world.proofs.PlacedSteps.{same_register}
 use Rattle.bus_world.proofs.CyclicProtocolHears.{placed}
 use Rattle.bus_world.proofs.LogLaws.{length-read}
 use Rattle.bus_world.proofs.Serving.{Serves}
+use Rattle.bus_world.proofs.RingWords.{found_straight}
 use Rattle.bus_world.proofs.CyclicProtocolLaws.{HasKept, protocol_promised}
 use Rattle.bus_world.specs.World.{IsLayout}
 use Rattle.bus_world.specs.Proved.Sending.{Sending}
@@ -51,19 +54,22 @@ use Rattle.bus_machine.proofs.AtNone.{made_there, reached_at_none}
 use Rattle.bus_machine.proofs.CyclicTurns.{protocol_kept}
 use Rattle.bus_machine.proofs.Leading.{Sits, two_rows, led_some}
 use Rattle.bus_machine.specs.Proved.Bridge.{of_bus, plain_trails, core_in, protocol_of, IsLed}
-use Rattle.bus_machine.specs.Machine.{base_of, Machine, Trails, Reached, log_place, log_of, stage_of}
+use Rattle.bus_machine.specs.Machine.{base_of, Machine, Trails, Reached, log_place, log_of}
+use Rattle.bus_machine.specs.Machine.{stage_of}
 use Rattle.bus_machine.specs.Promise.{ReusesRows, ReusesSafely}
 use Rattle.bus_machine.specs.Remembering.{rows_in}
 
 -- words that are alike are read alike
-pub read_alike : (n : ℕ) (w v : ℕ → ℕ) (a b : ℕ) → ((j : ℕ) → j < n → w (a + j) ≡ v (b + j)) → words_read_from w a n ≡ words_read_from v b n
+pub read_alike : (n : ℕ) (w v : ℕ → ℕ) (a b : ℕ) → ((j : ℕ) → j < n → w (a + j) ≡ v (b + j))
+    → words_read_from w a n ≡ words_read_from v b n
 read_alike zero w v a b same = refl
 read_alike (suc n) w v a b same =
     ap (λ r. r ++ w (a + n) ∷ []) (read_alike n w v a b (λ j l. same j (omega arith)))
     ∙ ap (λ r. words_read_from v b n ++ r ∷ []) (same n (omega arith))
 
 -- The frames, over words V that stand where a bus with a row for each tenure has them.
-pub record IsFramed {E : Type 0} (P : Protocol E (Unit {0}) ℕ) (m : Machine E) (T : Trails) : Type 0 where
+pub record IsFramed {E : Type 0} (P : Protocol E (Unit {0}) ℕ) (m : Machine E) (T : Trails) :
+    Type 0 where
   pub V : ℕ → ℕ
   pub frames : List Frame
   pub cores : ℕ → Option (Core E)
@@ -71,53 +77,83 @@ pub record IsFramed {E : Type 0} (P : Protocol E (Unit {0}) ℕ) (m : Machine E)
   pub room : length m.words ≡ log_place m.layout m.reuse + m.layout.capacity
   pub sending : Sending (base_of m) P m.layout V m.home cores owners frames
   pub core_of : (p : ℕ) (v : Sender E) → slice_get m.senders p ≡ Some v → cores p ≡ Some v.core
-  pub sender_of : (p : ℕ) (c : Core E) → cores p ≡ Some c → (v : Sender E) × (slice_get m.senders p ≡ Some v) × (v.core ≡ c)
-  pub starts : (p : ℕ) (v : Sender E) → slice_get m.senders p ≡ Some v → log_start m.layout v.reuse ≡ log_place m.layout m.reuse
+  pub sender_of : (p : ℕ) (c : Core E) → cores p ≡ Some c
+      → (v : Sender E) × (slice_get m.senders p ≡ Some v) × (v.core ≡ c)
+  pub starts : (p : ℕ) (v : Sender E) → slice_get m.senders p ≡ Some v
+      → log_start m.layout v.reuse ≡ log_place m.layout m.reuse
   pub rows : (p : ℕ) (v : Sender E) → slice_get m.senders p ≡ Some v → rows_in v.reuse ≡ m.reuse
   pub puts : (p : ℕ) (v : Sender E) → slice_get m.senders p ≡ Some v
-      → puts (T.actions p) ≡ map (λ i. i.message) (of_sender p (order_of frames)) ++ waiting_at v.core v.core.phase
+      → puts (T.actions p)
+      ≡ map (λ i. i.message) (of_sender p (order_of frames)) ++ waiting_at v.core v.core.phase
   pub length : slice_index m.words 0 ≡ V 0
   pub stage : stage_of m ≡ V 1
-  pub log : (j : ℕ) → j < m.layout.capacity → slice_index m.words (log_place m.layout m.reuse + j) ≡ V (log_at m.layout + j)
-  -- a step of an election finds in the row of its tenure what it would find with a row for each tenure
-  pub found : (p t : ℕ) (v : Sender E) (e : E) (o q : Op) → slice_get m.senders p ≡ Some v → v.core.phase ≡ Electing t e → t < m.layout.rows
-      → row_at m.layout t ≤ register o → register o < row_at m.layout t + m.layout.width → in_row m.layout v.reuse t (Some o) ≡ Some q
+  -- the words below the length, and those that a holder has stored past it
+  pub log : (j : ℕ) → j < V 0
+      → slice_index m.words (log_place m.layout m.reuse + j) ≡ V (log_at m.layout + j)
+  pub ahead : (p t : ℕ) (v : Sender E) (page : Page) (stored : ℕ) → slice_get m.senders p ≡ Some v
+      → v.core.phase ≡ Holding t page stored false
+      → (j : ℕ) → j < V 0 + stored
+      → slice_index m.words (log_place m.layout m.reuse + j) ≡ V (log_at m.layout + j)
+  -- a step of an election finds in the row of its tenure what it would find with a row for each
+  -- tenure
+  pub found : (p t : ℕ) (v : Sender E) (e : E) (o q : Op) → slice_get m.senders p ≡ Some v
+      → v.core.phase ≡ Electing t e → t < m.layout.rows
+      → row_at m.layout t ≤ register o → register o < row_at m.layout t + m.layout.width
+      → in_row m.layout v.reuse t (Some o) ≡ Some q
       → slice_index m.words (register q) ≡ V (register o)
   -- a receiver has read the log as far as its place, and was given what stands below it
   pub reads : (r : ℕ) (v : Receiving) → slice_get m.receivers r ≡ Some v
-      → (v.log_at ≡ log_place m.layout m.reuse) × IsReceiver m.layout frames (V 0) (placed m.layout v)
-  pub given : (r : ℕ) (v : Receiving) → slice_get m.receivers r ≡ Some v → order_given (T.heard r) ≡ given_at frames v
+      → (v.log_at ≡ log_place m.layout m.reuse)
+      × IsReceiver m.layout frames (V 0) (placed m.layout v)
+  pub given : (r : ℕ) (v : Receiving) → slice_get m.receivers r ≡ Some v
+      → order_given (T.heard r) ≡ given_at frames v
   pub takers : Takers owners T.actions
-  pub promises : Promises (base_of m) T.actions T.heard (order_of frames) (map tenure_and_owner frames)
+  pub promises : Promises (base_of m) T.actions T.heard (order_of frames)
+      (map tenure_and_owner frames)
 
 -- the log has the words of these frames
-pub log_framed : {E : Type 0} (P : Protocol E (Unit {0}) ℕ) (m : Machine E) (T : Trails) (f : IsFramed P m T)
+pub log_framed : {E : Type 0} (P : Protocol E (Unit {0}) ℕ) (m : Machine E) (T : Trails)
+    (f : IsFramed P m T)
     → log_of m ≡ log_words f.frames
 log_framed P m T f =
     let fits = f.sending.log.fits in
     ap (words_read_from (slice_index m.words) (log_place m.layout m.reuse)) f.length
-    ∙ read_alike (f.V 0) (slice_index m.words) f.V (log_place m.layout m.reuse) (log_at m.layout) (λ j low. f.log j (omega arith))
+    ∙ read_alike (f.V 0) (slice_index m.words) f.V (log_place m.layout m.reuse) (log_at m.layout)
+    (λ j low. f.log j (omega arith))
     ∙ f.sending.log.words_are
 
 module _ {E : Type 0} (X : Election E) (P : Protocol E (Unit {0}) ℕ) where
   -- ---- with a row for each tenure
-  module _ (bases : List ℕ) (x : Layout) (q : Serves X P x) (ok : IsLayout x) (b : Bus E) (T : Trails) (r : PlainReached X bases x b (plain_trails T)) where
-    k : plain.Kept bases X P q.laws x ok q.width q.starts q.owner_is q.named q.announces q.apart b (plain_trails T)
-    k = plain.reached_kept bases X P q.laws x ok q.width q.starts q.owner_is q.named q.announces q.apart b (plain_trails T) r
+  module _ (bases : List ℕ) (x : Layout) (q : Serves X P x) (ok : IsLayout x) (b : Bus E)
+      (T : Trails) (r : PlainReached X bases x b (plain_trails T)) where
+    k : plain.Kept bases X P q.laws x ok q.width q.starts q.owner_is q.named q.announces q.apart b
+        (plain_trails T)
+    k = plain.reached_kept bases X P q.laws x ok q.width q.starts q.owner_is q.named q.announces
+        q.apart b (plain_trails T) r
 
     -- a sender of the machine is one of the bus
-    core_at : (p : ℕ) (v : Sender E) → slice_get (of_bus bases x b).senders p ≡ Some v → (slice_get b.side.senders p ≡ Some v.core)
+    core_at : (p : ℕ) (v : Sender E) → slice_get (of_bus bases x b).senders p ≡ Some v
+        → (slice_get b.side.senders p ≡ Some v.core)
         × (v.reuse ≡ None)
     core_at p v at =
-        let c = made_there with_a_row_each (slice_get b.side.senders p) v (sym (slice_get-map with_a_row_each b.side.senders p) ∙ at) in
+        let c = made_there with_a_row_each (slice_get b.side.senders p) v
+        (sym (slice_get-map with_a_row_each b.side.senders p) ∙ at) in
         (c.1 ∙ ap (λ (y : Sender E). Some y.core) (sym c.2), ap (λ (y : Sender E). y.reuse) c.2)
 
     -- and its receivers are those of the bus
     reads_at : (r : ℕ) (v : Receiving) → slice_get b.receivers r ≡ Some v
         → (v.log_at ≡ log_at x) × IsReceiver x k.frames (slice_index b.side.words 0) (placed x v)
     reads_at r v at =
-        let o = k.lawful.keeps.receiving r v at in
-        (o.log, record { senders = o.senders; log = refl; len_at = o.len_at; log_words = o.log_words; receives = o.receives })
+        let o = k.lawful.keeps.receiving r v at in (
+          o.log,
+          record {
+            senders = o.senders;
+            log = refl;
+            len_at = o.len_at;
+            log_words = o.log_words;
+            receives = o.receives;
+          },
+        )
 
     -- the bus with a row for each tenure is framed
     pub framed_at_none : IsFramed P (of_bus bases x b) T
@@ -129,19 +165,31 @@ module _ {E : Type 0} (X : Election E) (P : Protocol E (Unit {0}) ℕ) where
       room = k.lawful.words;
       sending = k.lawful.keeps.sending;
       core_of = λ p v at. (core_at p v at).0;
-      sender_of = λ p c at. (with_a_row_each c, slice_get-map with_a_row_each b.side.senders p ∙ ap (option_map with_a_row_each) at, refl);
+      sender_of = λ p c at. (
+        with_a_row_each c,
+        slice_get-map with_a_row_each b.side.senders p ∙ ap (option_map with_a_row_each) at,
+        refl,
+      );
       starts = λ p v at. ap (log_start x) (core_at p v at).1;
       rows = λ p v at. ap rows_in (core_at p v at).1;
-      puts = λ p v at. k.tied.puts p ∙ ap (λ o. map (λ i. i.message) (of_sender p (order_of k.frames)) ++ waiting_of o) (core_at p v at).0;
+      puts = λ p v at.
+          k.tied.puts p
+          ∙ ap (λ o. map (λ i. i.message) (of_sender p (order_of k.frames)) ++ waiting_of o)
+          (core_at p v at).0;
       length = refl;
       stage = refl;
       log = λ j low. refl;
+      ahead = λ p t v page stored at is j low. refl;
       found = λ p t v e o q at runs low from to is. ap (λ w. slice_index b.side.words (register w))
           (sym (same_Some _ _ (subst (λ r. in_row x r t (Some o) ≡ Some q) (core_at p v at).1 is)));
       reads = reads_at;
       given = λ r v at. (k.tied.heard r v at).given_is;
-      takers = (plain.by_frames bases X P q.laws x ok q.width q.starts q.owner_is q.named q.announces q.apart b (plain_trails T) k).takers;
-      promises = (plain.by_frames bases X P q.laws x ok q.width q.starts q.owner_is q.named q.announces q.apart b (plain_trails T) k).promises;
+      takers =
+          (plain.by_frames bases X P q.laws x ok q.width q.starts q.owner_is q.named q.announces
+          q.apart b (plain_trails T) k).takers;
+      promises =
+          (plain.by_frames bases X P q.laws x ok q.width q.starts q.owner_is q.named q.announces
+          q.apart b (plain_trails T) k).promises;
     }
 
   -- ---- with rows that are used again
@@ -158,11 +206,13 @@ module _ {E : Type 0} (X : Election E) (P : Protocol E (Unit {0}) ℕ) where
     abbrev y : CyclicProtocol E
     y = protocol_of m l.reclaimer l.owners
 
-    kept : HasKept X P q.laws m.layout sits.ok q.width q.starts q.owner_is q.named q.announces q.apart rows two T.heard y T.pins T.actions
+    kept : HasKept X P q.laws m.layout sits.ok q.width q.starts q.owner_is q.named q.announces
+        q.apart rows two T.heard y T.pins T.actions
     kept = protocol_kept X P rows m T q sits.ok two l
 
     keeps : IsKeptProtocol X m.layout rows y T.pins T.actions T.heard
-    keeps = protocol_promised X P q.laws m.layout sits.ok q.width q.starts q.owner_is q.named q.announces q.apart rows two y T.pins
+    keeps = protocol_promised X P q.laws m.layout sits.ok q.width q.starts q.owner_is q.named
+        q.announces q.apart rows two y T.pins
         T.actions T.heard l.led
 
     -- where its log begins
@@ -170,10 +220,17 @@ module _ {E : Type 0} (X : Election E) (P : Protocol E (Unit {0}) ℕ) where
     place_is = ap (log_place m.layout) l.reuse
 
     -- what is known of its core is known of a sender
-    sender_there : (p : ℕ) (c : Core E) (o : Option (Sender E)) → slice_get m.senders p ≡ o → core_in o ≡ Some c
+    sender_there : (p : ℕ) (c : Core E) (o : Option (Sender E)) → slice_get m.senders p ≡ o
+        → core_in o ≡ Some c
         → (v : Sender E) × (slice_get m.senders p ≡ Some v) × (v.core ≡ c)
     sender_there p c None i e = absurd cc
     sender_there p c (Some v) i e = (v, i, same_Some _ _ e)
+
+    -- each word below the length stands in its own cell, as nothing was overwritten
+    stands : (j : ℕ) → j < kept.V 0
+        → slice_index m.words (log_from m.layout rows + j) ≡ kept.V (log_at m.layout + j)
+    stands j low = found_straight m.layout rows y.reclamation kept.V kept.kept.W j kept.kept.laid
+        kept.kept.stored.few (let a = kept.kept.stored.low in omega arith)
 
     -- the words of its log are those of the frames
     log_read : log_of m ≡ log_words kept.frames
@@ -181,14 +238,20 @@ module _ {E : Type 0} (X : Election E) (P : Protocol E (Unit {0}) ℕ) where
         let fits = kept.kept.sending.log.fits in
         ap (λ n. words_read_from (slice_index m.words) n (slice_index m.words 0)) place_is
         ∙ ap (words_read_from (slice_index m.words) (log_from m.layout rows)) kept.kept.laid.length
-        ∙ read_alike (kept.V 0) (slice_index m.words) kept.V (log_from m.layout rows) (log_at m.layout)
-        (λ j low. kept.kept.laid.log j (omega arith))
+        ∙ read_alike (kept.V 0) (slice_index m.words) kept.V (log_from m.layout rows)
+        (log_at m.layout)
+        (λ j low. stands j low)
         ∙ kept.kept.sending.log.words_are
 
     -- so these spell the order of which the promise holds
-    order_same : (keeps.order ≡ order_of kept.frames) × (keeps.owners ≡ map tenure_and_owner kept.frames)
-    order_same = spells_one m.layout.senders (log_of m) keeps.order (order_of kept.frames) keeps.owners
-        (map tenure_and_owner kept.frames) (subst (λ n. Spells m.layout.senders (words_read_from (slice_index m.words) n (slice_index m.words 0)) keeps.order keeps.owners) (sym place_is) keeps.by.spelled) record {
+    order_same : (keeps.order ≡ order_of kept.frames)
+        × (keeps.owners ≡ map tenure_and_owner kept.frames)
+    order_same =
+        spells_one m.layout.senders (log_of m) keeps.order (order_of kept.frames) keeps.owners
+        (map tenure_and_owner kept.frames)
+        (subst (λ n. Spells m.layout.senders
+        (words_read_from (slice_index m.words) n (slice_index m.words 0)) keeps.order keeps.owners)
+        (sym place_is) keeps.by.spelled) record {
           frames = kept.frames;
           lawful = kept.kept.sending.log.lawful;
           words_are = sym log_read;
@@ -197,28 +260,40 @@ module _ {E : Type 0} (X : Election E) (P : Protocol E (Unit {0}) ℕ) where
         }
 
     -- a step of an election finds what is its tenure's, whose row is its own still
-    found_at : (p t : ℕ) (v : Sender E) (e : E) (o d : Op) → slice_get m.senders p ≡ Some v → v.core.phase ≡ Electing t e → t < m.layout.rows
-        → row_at m.layout t ≤ register o → register o < row_at m.layout t + m.layout.width → in_row m.layout v.reuse t (Some o) ≡ Some d
+    found_at : (p t : ℕ) (v : Sender E) (e : E) (o d : Op) → slice_get m.senders p ≡ Some v
+        → v.core.phase ≡ Electing t e → t < m.layout.rows
+        → row_at m.layout t ≤ register o → register o < row_at m.layout t + m.layout.width
+        → in_row m.layout v.reuse t (Some o) ≡ Some d
         → slice_index m.words (register d) ≡ kept.V (register o)
     found_at p t v e o d at runs below low high is =
         let u = l.participants p v at in
         let pinned = (kept.kept.participants p v.core (ap core_in at)).electing t e runs in
-        let live = alive_pinned sizes two y.reclamation T.pins (reclamation_keeps sizes two y.reclamation T.pins kept.kept.reached) p t pinned in
-        let f : ℕ → ℕ = λ place. row_of (sizes_with m.layout u.0.rows) t + (place - row_at m.layout t) in
-        let due : Some (on_place f o) ≡ Some d = subst (λ (w : Sender E). in_row m.layout w.reuse t (Some o) ≡ Some d) u.1 is in
-        let place : row_at m.layout t + (register o - row_at m.layout t) ≡ register o = omega arith in
+        let live = alive_pinned sizes two y.reclamation T.pins
+        (reclamation_keeps sizes two y.reclamation T.pins kept.kept.reached) p t pinned in
+        let f : ℕ → ℕ =
+        λ place. row_of (sizes_with m.layout u.0.rows) t + (place - row_at m.layout t) in
+        let due : Some (on_place f o) ≡ Some d =
+        subst (λ (w : Sender E). in_row m.layout w.reuse t (Some o) ≡ Some d) u.1 is in
+        let place : row_at m.layout t + (register o - row_at m.layout t) ≡ register o =
+        omega arith in
         let within : register o - row_at m.layout t < m.layout.width = omega arith in
         ap (λ w. slice_index m.words (register w)) (sym (same_Some _ _ due))
-        ∙ ap (slice_index m.words) (same_register f o ∙ ap (λ r. row_of (sizes_with m.layout r) t + (register o - row_at m.layout t)) u.2)
+        ∙ ap (slice_index m.words) (same_register f o
+        ∙ ap (λ r. row_of (sizes_with m.layout r) t + (register o - row_at m.layout t)) u.2)
         ∙ kept.kept.laid.row t (register o - row_at m.layout t) below within live ∙ ap kept.V place
 
     -- its receivers read the log of these frames
     reads_some : (r : ℕ) (v : Receiving) → slice_get m.receivers r ≡ Some v
-        → (v.log_at ≡ log_place m.layout m.reuse) × IsReceiver m.layout kept.frames (kept.V 0) (placed m.layout v)
+        → (v.log_at ≡ log_place m.layout m.reuse)
+        × IsReceiver m.layout kept.frames (kept.V 0) (placed m.layout v)
     reads_some r v at =
         let hears = kept.kept.hears.each r v at in
-        let size : length (log_words kept.frames) ≡ kept.V 0 = sym (ap length kept.kept.sending.log.words_are) ∙ length-read kept.V (log_at m.layout) (kept.V 0) in
-        (hears.log ∙ sym place_is, subst (λ n. IsReceiver m.layout kept.frames n (placed m.layout v)) size hears.own)
+        let size : length (log_words kept.frames) ≡ kept.V 0 =
+        sym (ap length kept.kept.sending.log.words_are)
+        ∙ length-read kept.V (log_at m.layout) (kept.V 0) in (
+          hears.log ∙ sym place_is,
+          subst (λ n. IsReceiver m.layout kept.frames n (placed m.layout v)) size hears.own,
+        )
 
     -- the machine is framed
     pub framed_at_some : IsFramed P m T
@@ -231,42 +306,66 @@ module _ {E : Type 0} (X : Election E) (P : Protocol E (Unit {0}) ℕ) where
       sending = kept.kept.sending;
       core_of = λ p v at. ap core_in at;
       sender_of = λ p c at. sender_there p c (slice_get m.senders p) refl at;
-      starts = λ p v at. let u = l.participants p v at in ap (λ (w : Sender E). log_start m.layout w.reuse) u.1 ∙ ap (log_from m.layout) u.2 ∙ sym place_is;
-      rows = λ p v at. let u = l.participants p v at in ap (λ (w : Sender E). rows_in w.reuse) u.1 ∙ ap Some u.2 ∙ sym l.reuse;
-      puts = λ p v at. kept.kept.notes.put p ∙ ap (λ o. map (λ i. i.message) (of_sender p (order_of kept.frames)) ++ waiting_of o) (ap core_in at);
+      starts = λ p v at.
+          let u = l.participants p v at in
+          ap (λ (w : Sender E). log_start m.layout w.reuse) u.1 ∙ ap (log_from m.layout) u.2
+          ∙ sym place_is;
+      rows = λ p v at.
+          let u = l.participants p v at in
+          ap (λ (w : Sender E). rows_in w.reuse) u.1 ∙ ap Some u.2 ∙ sym l.reuse;
+      puts = λ p v at.
+          kept.kept.notes.put p
+          ∙ ap (λ o. map (λ i. i.message) (of_sender p (order_of kept.frames)) ++ waiting_of o)
+          (ap core_in at);
       length = kept.kept.laid.length;
       stage = kept.kept.laid.stage;
-      log = λ j low. ap (λ n. slice_index m.words (n + j)) place_is ∙ kept.kept.laid.log j low;
+      log = λ j low. ap (λ n. slice_index m.words (n + j)) place_is ∙ stands j low;
+      ahead = λ p t v page stored at is j low. ap (λ n. slice_index m.words (n + j)) place_is
+          ∙ found_straight m.layout rows y.reclamation kept.V kept.kept.W j kept.kept.laid
+          kept.kept.stored.few
+          (let all = kept.kept.stored.writing p t page stored v.core (ap core_in at) is in
+          omega arith);
       found = found_at;
       reads = reads_some;
       given = λ r v at. (kept.kept.hears.each r v at).hears.given_is;
       takers = keeps.by.takers;
-      promises = subst (λ o. Promises (base_of m) T.actions T.heard o (map tenure_and_owner kept.frames)) order_same.0
-          (subst (Promises (base_of m) T.actions T.heard keeps.order) order_same.1 keeps.by.promises);
+      promises = subst
+          (λ o. Promises (base_of m) T.actions T.heard o (map tenure_and_owner kept.frames))
+          order_same.0
+          (subst (Promises (base_of m) T.actions T.heard keeps.order) order_same.1
+          keeps.by.promises);
     }
 
     -- ---- its rows
     -- each step of an election is on a word of the row that its tenure uses
-    within : (p t word : ℕ) (v : Sender E) (e : E) (o : Op) → slice_get m.senders p ≡ Some v → situation X v ≡ Does (Elects t e)
+    within : (p t word : ℕ) (v : Sender E) (e : E) (o : Op) → slice_get m.senders p ≡ Some v
+        → situation X v ≡ Does (Elects t e)
         → (line_now X v).op word ≡ Some o
         → (row_of sizes t ≤ register o) × (register o < row_of sizes t + m.layout.width)
     within p t word v e o at i next =
         let u = l.participants p v at in
         let there = ap core_in (at ∙ ap Some u.1) in
-        let runs = ap (λ (w : Sender E). w.core.phase) (sym u.1) ∙ (tells X v.core (Elects t e) (own_is X v (Elects t e) i)).0 in
-        let due : in_row v.core.layout v.reuse t (X.op e word) ≡ Some o = sym (ap (λ w. (line X v w).op word) i) ∙ next in
+        let runs =
+        ap (λ (w : Sender E). w.core.phase) (sym u.1)
+        ∙ (tells X v.core (Elects t e) (own_is X v (Elects t e) i)).0 in
+        let due : in_row v.core.layout v.reuse t (X.op e word) ≡ Some o =
+        sym (ap (λ w. (line X v w).op word) i) ∙ next in
         by u.0 there (kept.kept.sending.parts p u.0.core there).layout u.2 runs (X.op e word) refl
         (subst (λ (w : Sender E). in_row w.core.layout w.reuse t (X.op e word) ≡ Some o) u.1 due)
       where
-        by : (u : Participant E) → y.senders p ≡ Some u.core → u.core.layout ≡ m.layout → u.rows ≡ rows → u.core.phase ≡ Electing t e
-            → (d : Option Op) → X.op e word ≡ d → in_row u.core.layout (Some (reuse_of u)) t d ≡ Some o
+        by : (u : Participant E) → y.senders p ≡ Some u.core → u.core.layout ≡ m.layout
+            → u.rows ≡ rows → u.core.phase ≡ Electing t e
+            → (d : Option Op) → X.op e word ≡ d
+            → in_row u.core.layout (Some (reuse_of u)) t d ≡ Some o
             → (row_of sizes t ≤ register o) × (register o < row_of sizes t + m.layout.width)
         by u there layout same_rows runs None n q = absurd cc
         by u there layout same_rows runs (Some w) n q =
             let f = place_for {E = E} u.core.layout u.rows (Elects t e) in
-            let same : f ≡ place_for m.layout rows (Elects t e) = ap (λ g. place_for g u.rows (Elects t e)) layout
+            let same : f ≡ place_for m.layout rows (Elects t e) =
+            ap (λ g. place_for g u.rows (Elects t e)) layout
             ∙ ap (λ r. place_for m.layout r (Elects t e)) same_rows in
-            let where_is : register o ≡ place_for m.layout rows (Elects t e) (register w) = sym (ap register (same_Some _ _ q))
+            let where_is : register o ≡ place_for m.layout rows (Elects t e) (register w) =
+            sym (ap register (same_Some _ _ q))
             ∙ same_register f w ∙ ap (λ g. g (register w)) same in
             let row = keeps.by.within p u.core t e word w there runs n in (
               subst (λ n. row_of sizes t ≤ n) (sym where_is) row.0,
@@ -274,14 +373,16 @@ module _ {E : Type 0} (X : Election E) (P : Protocol E (Unit {0}) ℕ) where
             )
 
     -- no step clears a word of a row in which anybody stands
-    spares : (p q t place word : ℕ) (v : Sender E) (s : Reclaiming) (o : Op) → slice_get m.senders p ≡ Some v
+    spares : (p q t place word : ℕ) (v : Sender E) (s : Reclaiming) (o : Op)
+        → slice_get m.senders p ≡ Some v
         → situation X v ≡ Clears s → (line_now X v).op word ≡ Some o → Stands sizes q (T.pins q) t
         → place < m.layout.width
         → register o ≢ row_of sizes t + place
     spares p q t place word v s o at i next stands low same =
         let c = clearing X v s i in
         let mine : l.reclaimer ≡ Some s = sym (l.holder p v c.tenure at c.held) ∙ c.reclaims in
-        let due : Some (Store record { 0 = s.row + s.cleared } 0) ≡ Some o = sym (ap (λ w. (line X v w).op word) i) ∙ next in
+        let due : Some (Store record { 0 = s.row + s.cleared } 0) ≡ Some o =
+        sym (ap (λ w. (line X v w).op word) i) ∙ next in
         spared sizes y.reclamation T.pins keeps.by.safe s mine c.step q t place stands low
         (ap register (same_Some _ _ due) ∙ same)
 
@@ -304,12 +405,15 @@ module _ {E : Type 0} (X : Election E) (P : Protocol E (Unit {0}) ℕ) where
     by : (o : Option ℕ) → m.reuse ≡ o → IsFramed P m T
     by None e =
         let i = reached_at_none X m T r e in
-        subst (λ y. IsFramed P y T) (sym i.is) (framed_at_none m.bases m.layout s.serves s.ok i.bus T i.reached)
+        subst (λ y. IsFramed P y T) (sym i.is)
+        (framed_at_none m.bases m.layout s.serves s.ok i.bus T i.reached)
     by (Some rows) e = framed_at_some m T s rows (led_some X P m T s r rows e)
 
   -- and its rows are used again as is promised
-  pub reuses : (m : Machine E) (T : Trails) → Sits X P m → Reached X m T → ReusesSafely X m T m.reuse
+  pub reuses : (m : Machine E) (T : Trails) → Sits X P m → Reached X m T
+      → ReusesSafely X m T m.reuse
   reuses m T s r = by m.reuse refl where
     by : (o : Option ℕ) → m.reuse ≡ o → ReusesSafely X m T m.reuse
     by None e = subst (ReusesSafely X m T) (sym e) tt
-    by (Some rows) e = subst (ReusesSafely X m T) (sym e) (reuses_at_some m T s rows (led_some X P m T s r rows e))
+    by (Some rows) e =
+        subst (ReusesSafely X m T) (sym e) (reuses_at_some m T s rows (led_some X P m T s r rows e))

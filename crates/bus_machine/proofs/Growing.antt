@@ -12,7 +12,8 @@ use Rattle.bus_machine.specs.Machine.{Machine, Trails, Reached, Happens, log_of,
 use Rattle.bus_machine.specs.Promise.{words_joined}
 
 -- one event, by trails that lead to the machine before it
-module _ {E : Type 0} (X : Election E) (P : Protocol E (Unit {0}) ℕ) (m m' : Machine E) (T : Trails) (e : Event) (a : Answer) (s : Sits X P m)
+module _ {E : Type 0} (X : Election E) (P : Protocol E (Unit {0}) ℕ) (m m' : Machine E) (T : Trails)
+    (e : Event) (a : Answer) (s : Sits X P m)
     (r : Reached X m T) (h : Happens X m e a m') where
   -- these words join the log
   pub joins : log_of m' ≡ log_of m ++ words_joined X m e

@@ -1,5 +1,8 @@
--- What a machine that a program holds goes by: room, sums that fit, numbers that fit, no page under way between turns, and its log.
-use Rattle.std.proofs.Common.{◌≡◌, ◌≢◌, ◌⊎◌, inl, inr, ℕ, ◌+◌, ◌-◌, ◌*◌, ◌<◌, ◌≤◌, ◌^◌, Bool, true, false, cond, ◌==◌, is_some, Option, Some, None, List, length, take, drop, slice_get, slice_index, arith, refl, sym, ◌∙◌, ap, subst}
+-- What a machine that a program holds goes by: room, sums that fit, numbers that fit, no page under
+-- way between turns, and its log.
+use Rattle.std.proofs.Common.{◌≡◌, ◌≢◌, ◌⊎◌, inl, inr, ℕ, ◌+◌, ◌-◌, ◌*◌, ◌<◌, ◌≤◌, ◌^◌, Bool, true}
+use Rattle.std.proofs.Common.{false, cond, ◌==◌, is_some, Option, Some, None, List, length, take}
+use Rattle.std.proofs.Common.{drop, slice_get, slice_index, arith, refl, sym, ◌∙◌, ap, subst}
 use Rattle.std.specs.Prelude.{IfSome}
 use Rattle.std.proofs.Math.ListN.{length-set}
 use Rattle.std.proofs.lemmas.Bool.{true≢false}
@@ -47,25 +50,33 @@ use Rattle.bus_machine.proofs.Joining.{log_behind}
 use Rattle.bus_machine.proofs.Paging.{takes_it}
 use Rattle.bus_machine.proofs.Takes.{owns_page}
 use Rattle.bus_machine.proofs.Taking.{takers_told, counted}
-use Rattle.bus_machine.specs.Machine.{base_of, Machine, Trails, Reached, Then, Happens, found, has_stopped, trails_grown, log_place, log_of, owners_told, turn_answer, going}
+use Rattle.bus_machine.specs.Machine.{base_of, Machine, Trails, Reached, Then, Happens, found}
+use Rattle.bus_machine.specs.Machine.{has_stopped, trails_grown, log_place, log_of, owners_told}
+use Rattle.bus_machine.specs.Machine.{turn_answer, going}
 use Rattle.bus_machine.specs.Playing.{IsHeld, AreRows}
 use Rattle.bus_machine.specs.Promise.{HasRows}
 
 -- ---- whatever happens
 module _ {E : Type 0} (X : Election E) where
-  many_after : (m m' : Machine E) (e : Event) (a : Answer) → Happens X m e a m' → length m'.senders ≡ length m.senders
-  many_after m m' (Put s bytes) a h = ap (λ (y : Machine E). length y.senders) h.after ∙ length-set m.senders s _
-  many_after m m' (Ask s asked) a h = ap (λ (y : Machine E). length y.senders) h.after ∙ length-set m.senders s _
-  many_after m m' (Turn s word) a h = ap (λ (y : Machine E). length y.senders) h.after ∙ length-set m.senders s _
+  many_after : (m m' : Machine E) (e : Event) (a : Answer) → Happens X m e a m'
+      → length m'.senders ≡ length m.senders
+  many_after m m' (Put s bytes) a h =
+      ap (λ (y : Machine E). length y.senders) h.after ∙ length-set m.senders s _
+  many_after m m' (Ask s asked) a h =
+      ap (λ (y : Machine E). length y.senders) h.after ∙ length-set m.senders s _
+  many_after m m' (Turn s word) a h =
+      ap (λ (y : Machine E). length y.senders) h.after ∙ length-set m.senders s _
   many_after m m' (Recv r) a h = ap (λ (y : Machine E). length y.senders) h.after
   many_after m m' (Stop s) a h = ap (λ (y : Machine E). length y.senders) h.after
 
-  pub held_after : (m m' : Machine E) (e : Event) (a : Answer) → IsHeld X m → Happens X m e a m' → IsHeld X m'
+  pub held_after : (m m' : Machine E) (e : Event) (a : Answer) → IsHeld X m → Happens X m e a m'
+      → IsHeld X m'
   held_after m m' e a h d =
       let i = event_reuse X m m' e a d in
       record {
         senders_few = subst (λ x. x.senders ≤ MOST_SENDERS) (sym i.0) h.senders_few;
-        rows = subst (λ x. AreRows x m'.reuse) (sym i.0) (subst (AreRows m.layout) (sym i.1) h.rows);
+        rows =
+            subst (λ x. AreRows x m'.reuse) (sym i.0) (subst (AreRows m.layout) (sym i.1) h.rows);
         capacity_few = subst (λ x. x.capacity ≤ 65536) (sym i.0) h.capacity_few;
         senders = many_after m m' e a d ∙ h.senders ∙ sym (ap (λ x. x.senders) i.0);
         trails = trails_grown X m e a h.trails;
@@ -74,15 +85,33 @@ module _ {E : Type 0} (X : Election E) where
 
 -- ---- what a step adds to
 -- A step of an election stands where its row does, and adds as much there.
-step_there : (x : Layout) (r : Option Reuse) (t : ℕ) (d : Option Op) (q : Op) → in_row x r t d ≡ Some q → (o : Op) × (d ≡ Some o) × ((n : ℕ) → SumFits o n → SumFits q n)
+step_there : (x : Layout) (r : Option Reuse) (t : ℕ) (d : Option Op) (q : Op)
+    → in_row x r t d ≡ Some q → (o : Op) × (d ≡ Some o) × ((n : ℕ) → SumFits o n → SumFits q n)
 step_there x None t d q e = (q, e, λ n h. h)
 step_there x (Some r) t None q e = absurd cc
-step_there x (Some r) t (Some (Load at)) q e = (Load at, refl, λ n h. subst (λ w. SumFits w n) (same_Some _ _ e) h)
-step_there x (Some r) t (Some (Store at m)) q e = (Store at m, refl, λ n h. subst (λ w. SumFits w n) (same_Some _ _ e) h)
-step_there x (Some r) t (Some (Add at m)) q e = (Add at m, refl, λ n h. subst (λ w. SumFits w n) (same_Some _ _ e) h)
-step_there x (Some r) t (Some (Cas at m k)) q e = (Cas at m k, refl, λ n h. subst (λ w. SumFits w n) (same_Some _ _ e) h)
+step_there x (Some r) t (Some (Load at)) q e = (
+  Load at,
+  refl,
+  λ n h. subst (λ w. SumFits w n) (same_Some _ _ e) h,
+)
+step_there x (Some r) t (Some (Store at m)) q e = (
+  Store at m,
+  refl,
+  λ n h. subst (λ w. SumFits w n) (same_Some _ _ e) h,
+)
+step_there x (Some r) t (Some (Add at m)) q e = (
+  Add at m,
+  refl,
+  λ n h. subst (λ w. SumFits w n) (same_Some _ _ e) h,
+)
+step_there x (Some r) t (Some (Cas at m k)) q e = (
+  Cas at m k,
+  refl,
+  λ n h. subst (λ w. SumFits w n) (same_Some _ _ e) h,
+)
 
-module _ {E : Type 0} (X : Election E) (P : Protocol E (Unit {0}) ℕ) (m : Machine E) (T : Trails) (s : Serves X P m.layout) (f : IsFramed P m T)
+module _ {E : Type 0} (X : Election E) (P : Protocol E (Unit {0}) ℕ) (m : Machine E) (T : Trails)
+    (s : Serves X P m.layout) (f : IsFramed P m T)
     (p : ℕ) (v : Sender E) (at : slice_get m.senders p ≡ Some v) (word : ℕ) (q : Op) where
   abbrev FitsHere : Op → Type 0
   FitsHere o = SumFits o (slice_index m.words (register o))
@@ -90,23 +119,32 @@ module _ {E : Type 0} (X : Election E) (P : Protocol E (Unit {0}) ℕ) (m : Mach
   part : Part (base_of m) m.layout f.V f.frames p v.core
   part = f.sending.parts p v.core (f.core_of p v at)
 
-  election_fits : (t : ℕ) (e : E) → v.core.phase ≡ phase.Electing t e → in_row v.core.layout v.reuse t (X.op e word) ≡ Some q → FitsHere q
+  election_fits : (t : ℕ) (e : E) → v.core.phase ≡ phase.Electing t e
+      → in_row v.core.layout v.reuse t (X.op e word) ≡ Some q → FitsHere q
   election_fits t e runs due =
       let step = step_there v.core.layout v.reuse t (X.op e word) q due in
       let tenures = f.sending.tenures in
-      let stands : of_some standing_of (f.cores p) ≡ Some (Runs t e) = ap (of_some standing_of) (f.core_of p v at) ∙ ap (λ w. Some (stands_at w)) runs in
+      let stands : of_some standing_of (f.cores p) ≡ Some (Runs t e) =
+      ap (of_some standing_of) (f.core_of p v at) ∙ ap (λ w. Some (stands_at w)) runs in
       let has = tenures.electing p t e stands in
-      let row = within_its_row X.op X.fed P s.laws m.layout.senders m.layout.rows 2 f.V (f.V 1) (is_some m.home) (λ o. of_some standing_of (f.cores o)) (λ o. least_of (f.cores o)) f.owners tenures p t e word step.0 stands step.1 in
+      let row = within_its_row X.op X.fed P s.laws m.layout.senders m.layout.rows 2 f.V (f.V 1)
+      (is_some m.home) (λ o. of_some standing_of (f.cores o)) (λ o. least_of (f.cores o)) f.owners
+      tenures p t e word step.0 stands step.1 in
       let from = row.1 in
       let to = row.2 in
       let width = s.width in
       let wide = ap (λ n. t * n) width in
-      let here : in_row m.layout v.reuse t (Some step.0) ≡ Some q = sym (ap (λ x. in_row x v.reuse t (Some step.0)) part.layout) ∙ sym (ap (in_row v.core.layout v.reuse t) step.1) ∙ due in
+      let here : in_row m.layout v.reuse t (Some step.0) ≡ Some q =
+      sym (ap (λ x. in_row x v.reuse t (Some step.0)) part.layout)
+      ∙ sym (ap (in_row v.core.layout v.reuse t) step.1) ∙ due in
       let found = f.found p t v e step.0 q at runs row.0 (omega arith) (omega arith) here in
-      subst (SumFits q) (sym found) (step.2 (f.V (register step.0)) (s.laws.fits m.layout.senders (2 + t * P.width m.layout.senders) f.V (tenures.elections t) p e word step.0 (tenures.kept t has.0) has.2 step.1))
+      subst (SumFits q) (sym found) (step.2 (f.V (register step.0))
+      (s.laws.fits m.layout.senders (2 + t * P.width m.layout.senders) f.V (tenures.elections t) p e
+      word step.0 (tenures.kept t has.0) has.2 step.1))
 
   sums_by : (z : Situation E) → situation X v ≡ z → (line X v z).op word ≡ Some q → FitsHere q
-  sums_by (Does (Elects t e)) i due = election_fits t e (tells X v.core (Elects t e) (own_is X v (Elects t e) i)).0 due
+  sums_by (Does (Elects t e)) i due =
+      election_fits t e (tells X v.core (Elects t e) (own_is X v (Elects t e) i)).0 due
   sums_by (Does IsClosed) i due = absurd cc
   sums_by (Does IsIdle) i due = absurd cc
   sums_by (Does IsSpent) i due = absurd cc
@@ -120,16 +158,29 @@ module _ {E : Type 0} (X : Election E) (P : Protocol E (Unit {0}) ℕ) (m : Mach
 
 module _ {E : Type 0} (X : Election E) (P : Protocol E (Unit {0}) ℕ) where
   -- ---- its sizes are served
-  layout_ok : (x : Layout) (o : Option ℕ) → x.senders ≤ MOST_SENDERS → x.capacity ≤ 65536 → AreRows x o → IsLayout x
-  layout_ok x None few small r = record { senders = few; rows = omega arith; capacity = omega arith }
-  layout_ok x (Some rows) few small r = record { senders = few; rows = (let e = r.1 in omega arith); capacity = omega arith }
+  layout_ok : (x : Layout) (o : Option ℕ) → x.senders ≤ MOST_SENDERS → x.capacity ≤ 65536
+      → AreRows x o → IsLayout x
+  layout_ok x None few small r = record {
+    senders = few;
+    rows = omega arith;
+    capacity = omega arith;
+  }
+  layout_ok x (Some rows) few small r = record {
+    senders = few;
+    rows = (let e = r.1 in omega arith);
+    capacity = omega arith;
+  }
 
   has_rows : (x : Layout) (o : Option ℕ) → AreRows x o → HasRows o
   has_rows x None r = tt
   has_rows x (Some rows) r = r.0.0
 
   pub sits : (m : Machine E) → Serves X P m.layout → IsHeld X m → Sits X P m
-  sits m s h = record { serves = s; ok = layout_ok m.layout m.reuse h.senders_few h.capacity_few h.rows; rows = has_rows m.layout m.reuse h.rows }
+  sits m s h = record {
+    serves = s;
+    ok = layout_ok m.layout m.reuse h.senders_few h.capacity_few h.rows;
+    rows = has_rows m.layout m.reuse h.rows;
+  }
 
   module _ (m : Machine E) (s : Serves X P m.layout) (h : IsHeld X m) where
     -- by the frames of its log
@@ -137,32 +188,44 @@ module _ {E : Type 0} (X : Election E) (P : Protocol E (Unit {0}) ℕ) where
     its_frames = framed X P m h.trails (sits m s h) h.reached
 
     pub log_below : slice_index m.words 0 ≤ m.layout.capacity
-    log_below = subst (λ n. n ≤ m.layout.capacity) (sym its_frames.length) its_frames.sending.log.fits
+    log_below =
+        subst (λ n. n ≤ m.layout.capacity) (sym its_frames.length) its_frames.sending.log.fits
 
     -- there is a first word, and the log is among the words
-    pub word_there : (words : List ℕ) → words ≡ m.words → (capacity : ℕ) → capacity ≡ m.layout.capacity → (1 ≤ length words) × (capacity ≤ length words)
+    pub word_there : (words : List ℕ) → words ≡ m.words → (capacity : ℕ)
+        → capacity ≡ m.layout.capacity → (1 ≤ length words) × (capacity ≤ length words)
     word_there words words_are capacity capacity_is =
-        let size : length words ≡ log_place m.layout m.reuse + m.layout.capacity = ap length words_are ∙ its_frames.room in
+        let size : length words ≡ log_place m.layout m.reuse + m.layout.capacity =
+        ap length words_are ∙ its_frames.room in
         let two = log_behind m.layout m.reuse in
         (omega arith, omega arith)
 
-    pub log_within : (words : List ℕ) → words ≡ m.words → (capacity : ℕ) → capacity ≡ m.layout.capacity → length words - capacity + slice_index words 0 ≤ length words
+    pub log_within : (words : List ℕ) → words ≡ m.words → (capacity : ℕ)
+        → capacity ≡ m.layout.capacity
+        → length words - capacity + slice_index words 0 ≤ length words
     log_within words words_are capacity capacity_is =
-        let size : length words ≡ log_place m.layout m.reuse + m.layout.capacity = ap length words_are ∙ its_frames.room in
+        let size : length words ≡ log_place m.layout m.reuse + m.layout.capacity =
+        ap length words_are ∙ its_frames.room in
         let low = log_below in
         let same = ap (λ l. slice_index l 0) words_are in
         omega arith
 
     -- the log stands behind all other words
     pub log_is : (words : List ℕ) → words ≡ m.words → (capacity : ℕ) → capacity ≡ m.layout.capacity
-        → take (length words - capacity + slice_index words 0 - (length words - capacity)) (drop (length words - capacity) words) ≡ log_of m
+        → take (length words - capacity + slice_index words 0 - (length words - capacity))
+        (drop (length words - capacity) words) ≡ log_of m
     log_is words words_are capacity capacity_is =
-        let size : length words ≡ log_place m.layout m.reuse + m.layout.capacity = ap length words_are ∙ its_frames.room in
+        let size : length words ≡ log_place m.layout m.reuse + m.layout.capacity =
+        ap length words_are ∙ its_frames.room in
         let at : length words - capacity ≡ log_place m.layout m.reuse = omega arith in
         let low = log_below in
-        let many : length words - capacity + slice_index words 0 - (length words - capacity) ≡ slice_index m.words 0 = let same = ap (λ l. slice_index l 0) words_are in omega arith in
-        ap (λ k. take k (drop (length words - capacity) words)) many ∙ ap (λ k. take (slice_index m.words 0) (drop k words)) at ∙ ap (λ l. take (slice_index m.words 0) (drop (log_place m.layout m.reuse) l)) words_are
-        ∙ sym (read-list m.words (log_place m.layout m.reuse) (slice_index m.words 0) (let w = its_frames.room in omega arith))
+        let many : length words - capacity + slice_index words 0 - (length words - capacity)
+        ≡ slice_index m.words 0 = let same = ap (λ l. slice_index l 0) words_are in omega arith in
+        ap (λ k. take k (drop (length words - capacity) words)) many
+        ∙ ap (λ k. take (slice_index m.words 0) (drop k words)) at
+        ∙ ap (λ l. take (slice_index m.words 0) (drop (log_place m.layout m.reuse) l)) words_are
+        ∙ sym (read-list m.words (log_place m.layout m.reuse) (slice_index m.words 0)
+        (let w = its_frames.room in omega arith))
 
     -- at most so many owners are told
     pub owners_few : (rows : ℕ) → m.reuse ≡ Some rows → length m.owners ≤ rows
@@ -181,53 +244,69 @@ module _ {E : Type 0} (X : Election E) (P : Protocol E (Unit {0}) ℕ) where
       its_part = its_frames.sending.parts p v.core (its_frames.core_of p v at)
 
       pub room : length m.words ≡ words_all v
-      room = its_frames.room ∙ ap (λ n. n + m.layout.capacity) (sym (its_frames.starts p v at)) ∙ ap (λ x. log_start x v.reuse + x.capacity) (sym its_part.layout)
+      room =
+          its_frames.room ∙ ap (λ n. n + m.layout.capacity) (sym (its_frames.starts p v at))
+          ∙ ap (λ x. log_start x v.reuse + x.capacity) (sym its_part.layout)
 
-      pub sums : (word : ℕ) (o : Op) → (line_now X v).op word ≡ Some o → SumFits o (slice_index m.words (register o))
+      pub sums : (word : ℕ) (o : Op) → (line_now X v).op word ≡ Some o
+          → SumFits o (slice_index m.words (register o))
       sums word o next = sums_fit X P m h.trails s its_frames p v at word o next
 
       pub laid : AwaitsItsPage v.core.phase → ⊥
-      laid waits = subst (Fits (base_of m) its_frames.V its_frames.frames v.core) waits.is its_part.fits
+      laid waits =
+          subst (Fits (base_of m) its_frames.V its_frames.frames v.core) waits.is its_part.fits
 
       pub numbers : next_of v.core.queue < 2 ^ 48
-      numbers = numbers_fit X P s.laws m.layout (sits m s h).ok s.width its_frames.V m.home its_frames.owners its_frames.frames p its_frames.cores its_frames.sending v.core (its_frames.core_of p v at)
+      numbers = numbers_fit X P s.laws m.layout (sits m s h).ok s.width its_frames.V m.home
+          its_frames.owners its_frames.frames p its_frames.cores its_frames.sending v.core
+          (its_frames.core_of p v at)
 
     -- who takes a page takes that of the tenure behind all whose pages were taken
-    taken_before : (p : ℕ) (v : Sender E) → slice_get m.senders p ≡ Some v → (t : ℕ) → situation X v ≡ Does (TakesPage t) → m.reuse ≡ None
+    taken_before : (p : ℕ) (v : Sender E) → slice_get m.senders p ≡ Some v → (t : ℕ)
+        → situation X v ≡ Does (TakesPage t) → m.reuse ≡ None
         → (length m.owners ≡ t) × (t < m.layout.rows)
     taken_before p v at t takes fresh =
         let f = its_frames in
         let k = takers_told X P m h.trails (sits m s h) h.reached in
         let all : m.owners ≡ k.all = k.told ∙ ap (λ o. owners_told o k.all) fresh in
-        let many : t ≡ length k.all = counted m h.trails f k.all k.takers t (takes_it X P m h.trails (sits m s h) f p v t at takes).stage in
+        let many : t ≡ length k.all = counted m h.trails f k.all k.takers t
+        (takes_it X P m h.trails (sits m s h) f p v t at takes).stage in
         let e = tells X v.core (TakesPage t) (own_is X v (TakesPage t) takes) in
-        let stands : of_some standing_of (f.cores p) ≡ Some (Runs t e.0) = ap (of_some standing_of) (f.core_of p v at) ∙ ap (λ w. Some (stands_at w)) e.1 in
+        let stands : of_some standing_of (f.cores p) ≡ Some (Runs t e.0) =
+        ap (of_some standing_of) (f.core_of p v at) ∙ ap (λ w. Some (stands_at w)) e.1 in
         (ap length all ∙ sym many, (f.sending.tenures.electing p t e.0 stands).0)
 
     -- there is room for one owner more
-    pub owner_fits : (p : ℕ) (v : Sender E) → going m p ≡ Some v → (word t : ℕ) → turn_answer m (line_now X v) word ≡ turn.Own t → length m.owners < 256
+    pub owner_fits : (p : ℕ) (v : Sender E) → going m p ≡ Some v → (word t : ℕ)
+        → turn_answer m (line_now X v) word ≡ turn.Own t → length m.owners < 256
     owner_fits p v goes word t told = by m.reuse refl where
       by : (r : Option ℕ) → m.reuse ≡ r → length m.owners < 256
       by None fresh =
           let at = shown_there (has_stopped m p) (slice_get m.senders p) v goes in
-          let all = taken_before p v at t (owns_page X v t (situation X v) (found m (line_now X v) word) word told) fresh in
+          let all = taken_before p v at t
+          (owns_page X v t (situation X v) (found m (line_now X v) word) word told) fresh in
           let many = all.0 in
           let below = all.1 in
           let few = subst (AreRows m.layout) fresh h.rows in
           omega arith
-      by (Some rows) used = let a = owners_few rows used in let b = (rows_within rows used).1 in omega arith
+      by (Some rows) used =
+          let a = owners_few rows used in let b = (rows_within rows used).1 in omega arith
 
     -- ---- a receiver that there is
     module _ (r : ℕ) (v : Receiving) (at : slice_get m.receivers r ≡ Some v) where
-      its_reads : (v.log_at ≡ log_place m.layout m.reuse) × IsReceiver m.layout its_frames.frames (its_frames.V 0) (placed m.layout v)
+      its_reads : (v.log_at ≡ log_place m.layout m.reuse)
+          × IsReceiver m.layout its_frames.frames (its_frames.V 0) (placed m.layout v)
       its_reads = its_frames.reads r v at
 
       pub loads_within : IfSome (receiving_op v) (λ o. register o < length m.words)
       loads_within = by v.ended (v.place == v.known) (eqb_tells v.place v.known) where
         by : (e q : Bool) → ((q ≡ true) × (v.place ≡ v.known)) ⊎ ((q ≡ false) × (v.place ≢ v.known))
-            → IfSome (cond {A = Option Op} e None (cond q (Some (Load record { 0 = v.length_at })) (Some (Load record { 0 = v.log_at + v.place })))) (λ o. register o < length m.words)
+            → IfSome (cond {A = Option Op} e None (cond q (Some (Load record { 0 = v.length_at }))
+            (Some (Load record { 0 = v.log_at + v.place })))) (λ o. register o < length m.words)
         by true q how = tt
-        by false true how = let first = its_reads.1.len_at in let some = (word_there m.words refl m.layout.capacity refl).0 in omega arith
+        by false true how =
+            let first = its_reads.1.len_at in
+            let some = (word_there m.words refl m.layout.capacity refl).0 in omega arith
         by false false (inl how) = absurd (true≢false (sym how.0))
         by false false (inr how) =
             let own = its_reads.1.receives in
@@ -245,14 +324,19 @@ module _ {E : Type 0} (X : Election E) (P : Protocol E (Unit {0}) ℕ) where
           let own = its_reads.1.receives in
           let a = own.place_below in
           let b = own.known_below in
-          let size : length (log_of m) ≡ its_frames.V 0 = length-read (slice_index m.words) (log_place m.layout m.reuse) (slice_index m.words 0) ∙ its_frames.length in
+          let size : length (log_of m) ≡ its_frames.V 0 =
+          length-read (slice_index m.words) (log_place m.layout m.reuse) (slice_index m.words 0)
+          ∙ its_frames.length in
           omega arith
 
     -- what stands below the place of a receiver is what it was given
     pub heard : (r : ℕ) → r < length m.receivers → (order : Order)
-        → ((frames : List Frame) (v : Receiving) → AreFrames m.layout.senders frames → log_of m ≡ log_words frames → slice_get m.receivers r ≡ Some v → order ≡ given_at frames v)
+        → ((frames : List Frame) (v : Receiving) → AreFrames m.layout.senders frames
+        → log_of m ≡ log_words frames → slice_get m.receivers r ≡ Some v
+        → order ≡ given_at frames v)
         → (T : Trails) → Reached X m T → order ≡ order_given (T.heard r)
     heard r l order stands T reached =
         let f = framed X P m T (sits m s h) reached in
         let there = one_there m.receivers r l in
-        stands f.frames there.0 f.sending.log.lawful (log_framed P m T f) there.1 ∙ sym (f.given r there.0 there.1)
+        stands f.frames there.0 f.sending.log.lawful (log_framed P m T f) there.1
+        ∙ sym (f.given r there.0 there.1)

@@ -1,13 +1,15 @@
--- What the page knows, who has it while it is out, and where a word of the log is stored, by the frames of the log.
-use Rattle.std.proofs.Common.{◌≡◌, ℕ, ◌+◌, ◌*◌, Bool, true, false, is_some, Option, Some, None, List, length, map, slice_get, slice_index}
-use Rattle.std.proofs.Common.{refl, sym, ◌∙◌, ap, subst}
+-- What the page knows, who has it while it is out, and where a word of the log is stored, by the
+-- frames of the log.
+use Rattle.std.proofs.Common.{◌≡◌, ℕ, ◌+◌, ◌*◌, Bool, true, false, is_some, Option, Some, None}
+use Rattle.std.proofs.Common.{List, length, map, slice_get, slice_index, refl, sym, ◌∙◌, ap, subst}
 use Rattle.std.proofs.Common.{arith, cond, [], ◌++◌}
 use Rattle.std.proofs.lemmas.Bool.{true≢false}
 use Rattle.std.proofs.lemmas.List.{append-nil, length-append}
 use Rattle.std.proofs.lemmas.Option.{same_Some}
 use Rattle.bus_batch.proofs.FrameLaws.{spells_one}
 use Rattle.bus_batch.specs.Batches.{frame_of}
-use Rattle.bus_batch.specs.Frames.{Order, Spells, AreFrames, order_of, log_words, tenure_and_owner, frame_words, has_gone}
+use Rattle.bus_batch.specs.Frames.{Order, Spells, AreFrames, order_of, log_words, tenure_and_owner}
+use Rattle.bus_batch.specs.Frames.{frame_words, has_gone}
 use Rattle.bus_core.proofs.Situated.{own_is}
 use Rattle.bus_core.specs.Reusing.Keeping.{held_of}
 use Rattle.bus_core.specs.Senders.{Sender, Does, log_start, situation}
@@ -46,9 +48,11 @@ pub record HasPage {E : Type 0} (t : ℕ) (ph : Phase E) : Type 0 where
   pub published : Bool
   pub has : ph ≡ phase.Holding t page stored published
 
-module _ (base : ℕ → ℕ) {E : Type 0} (words : ℕ → ℕ) (frames : List Rattle.bus_batch.specs.Frames.Frame) (c : Core E) where
+module _ (base : ℕ → ℕ) {E : Type 0} (words : ℕ → ℕ)
+    (frames : List Rattle.bus_batch.specs.Frames.Frame) (c : Core E) where
   -- between turns the page that is held is in the phase
-  page_held : (t : ℕ) (ph : Phase E) → Fits base words frames c ph → stands_at ph ≡ Holds t → HasPage t ph
+  page_held : (t : ℕ) (ph : Phase E) → Fits base words frames c ph → stands_at ph ≡ Holds t
+      → HasPage t ph
   page_held t phase.Resting fits e = absurd cc
   page_held t (phase.Electing u f) fits e = absurd cc
   page_held t (phase.Taken u) fits e = absurd fits
@@ -63,27 +67,34 @@ module _ (base : ℕ → ℕ) {E : Type 0} (words : ℕ → ℕ) (frames : List 
   page_held t (phase.Giving u reason) fits e = absurd fits
 
 -- a sender that there is
-core_found : {E : Type 0} (o : Option (Core E)) (s : Standing E) → of_some standing_of o ≡ Some s → (c : Core E) × (o ≡ Some c)
+core_found : {E : Type 0} (o : Option (Core E)) (s : Standing E) → of_some standing_of o ≡ Some s
+    → (c : Core E) × (o ≡ Some c)
 core_found None s e = absurd cc
 core_found (Some c) s e = (c, refl)
 
-module _ {E : Type 0} (P : Protocol E (Unit {0}) ℕ) (m : Machine E) (T : Trails) (f : IsFramed P m T) where
+module _ {E : Type 0} (P : Protocol E (Unit {0}) ℕ) (m : Machine E) (T : Trails)
+    (f : IsFramed P m T) where
   -- the order that the log spells is that of the frames
-  pub order_same : (order : Order) (owners : List (ℕ × SenderNo)) → Spells m.layout.senders (log_of m) order owners
+  pub order_same : (order : Order) (owners : List (ℕ × SenderNo))
+      → Spells m.layout.senders (log_of m) order owners
       → order_of f.frames ≡ order
   order_same order owners s =
-      let here : Spells m.layout.senders (log_of m) (order_of f.frames) (map tenure_and_owner f.frames) = record {
+      let here : Spells m.layout.senders (log_of m) (order_of f.frames)
+      (map tenure_and_owner f.frames) = record {
         frames = f.frames;
         lawful = f.sending.log.lawful;
         words_are = sym (log_framed P m T f);
         order_is = refl;
         owners_are = refl;
       } in
-      (spells_one m.layout.senders (log_of m) (order_of f.frames) order (map tenure_and_owner f.frames) owners here s).0
+      (spells_one m.layout.senders (log_of m) (order_of f.frames) order
+      (map tenure_and_owner f.frames) owners here s).0
 
-module _ {E : Type 0} (X : Election E) (P : Protocol E (Unit {0}) ℕ) (m : Machine E) (T : Trails) (f : IsFramed P m T) where
+module _ {E : Type 0} (X : Election E) (P : Protocol E (Unit {0}) ℕ) (m : Machine E) (T : Trails)
+    (f : IsFramed P m T) where
   -- a page at home knows the order
-  pub knows : (order : Order) (owners : List (ℕ × SenderNo)) → Spells m.layout.senders (log_of m) order owners → (page : Page)
+  pub knows : (order : Order) (owners : List (ℕ × SenderNo))
+      → Spells m.layout.senders (log_of m) order owners → (page : Page)
       → m.home ≡ Some page → KnowsOrder (base_of m) page order
   knows order owners s page at = elim f.sending.tenures.stage_is [
     | Open stage here many ↦
@@ -91,8 +102,11 @@ module _ {E : Type 0} (X : Election E) (P : Protocol E (Unit {0}) ℕ) (m : Mach
         record {
           entries = k.entries;
           next = λ q low. k.next q low
-              ∙ ap (λ (o : Order). base_of m q + length (of_sender q o)) (order_same P m T f order owners s);
-          left = λ q low. k.left q low ∙ ap (λ (o : Order). Some (has_gone q o)) (order_same P m T f order owners s);
+              ∙ ap (λ (o : Order). base_of m q + length (of_sender q o))
+              (order_same P m T f order owners s);
+          left = λ q low.
+              k.left q low
+              ∙ ap (λ (o : Order). Some (has_gone q o)) (order_same P m T f order owners s);
         }
     | Held holder stage away many holds ↦ absurd (true≢false (sym (ap is_some at) ∙ away))
   ]
@@ -121,11 +135,13 @@ module _ {E : Type 0} (X : Election E) (P : Protocol E (Unit {0}) ℕ) (m : Mach
     many_words : length (log_words f.frames) ≡ f.V 0
     many_words = sym (ap length f.sending.log.words_are) ∙ length-read f.V (log_at m.layout) (f.V 0)
 
-    fits_in : (stored : ℕ) (page : Page) (published : Bool) → core.0.phase ≡ phase.Holding t page stored published
+    fits_in : (stored : ℕ) (page : Page) (published : Bool)
+        → core.0.phase ≡ phase.Holding t page stored published
         → Fits (base_of m) f.V f.frames core.0 (phase.Holding t page stored published)
     fits_in stored page published ph = subst (Fits (base_of m) f.V f.frames core.0) ph part.fits
 
-    front_of : (page : Page) (stored : ℕ) (published : Bool) → core.0.phase ≡ phase.Holding t page stored published → IsFront page published
+    front_of : (page : Page) (stored : ℕ) (published : Bool)
+        → core.0.phase ≡ phase.Holding t page stored published → IsFront page published
     front_of page stored false ph =
         let w = (fits_in stored page false ph).1 in
         let knows = w.page_knows in
@@ -134,7 +150,13 @@ module _ {E : Type 0} (X : Election E) (P : Protocol E (Unit {0}) ℕ) (m : Mach
           known = record {
             order = order_of f.frames;
             owners = map tenure_and_owner f.frames;
-            spelled = record { frames = f.frames; lawful = f.sending.log.lawful; words_are = refl; order_is = refl; owners_are = refl };
+            spelled = record {
+              frames = f.frames;
+              lawful = f.sending.log.lawful;
+              words_are = refl;
+              order_is = refl;
+              owners_are = refl;
+            };
             words = knows.words ∙ sym many_words;
             knows = record { entries = knows.entries; next = knows.next; left = knows.left };
             ended = knows.ended;
@@ -158,7 +180,13 @@ module _ {E : Type 0} (X : Election E) (P : Protocol E (Unit {0}) ℕ) (m : Mach
           known = record {
             order = order_of w.front;
             owners = map tenure_and_owner w.front;
-            spelled = record { frames = w.front; lawful = lawful; words_are = refl; order_is = refl; owners_are = refl };
+            spelled = record {
+              frames = w.front;
+              lawful = lawful;
+              words_are = refl;
+              order_is = refl;
+              owners_are = refl;
+            };
             words = omega arith;
             knows = record { entries = knows.entries; next = knows.next; left = knows.left };
             ended = knows.ended;
@@ -168,8 +196,9 @@ module _ {E : Type 0} (X : Election E) (P : Protocol E (Unit {0}) ℕ) (m : Mach
         }
 
     -- the owner has the page
-    with_owner : (all : List ℕ) → f.owners ≡ all → f.V 1 ≡ 2 * t + 1 → length f.owners ≡ t + 1 → IsWithOwner m T all
-    with_owner all same stage many =
+    with_owner : log_of m ≡ T.log → (all : List ℕ) → f.owners ≡ all → f.V 1 ≡ 2 * t + 1
+        → length f.owners ≡ t + 1 → IsWithOwner m T all
+    with_owner published_is all same stage many =
         let v = f.sender_of holder core.0 core.1 in
         let owns = (f.sending.tenures.holding holder t holds).2 in
         let w = f.takers.took t holder owns in
@@ -189,27 +218,36 @@ module _ {E : Type 0} (X : Election E) (P : Protocol E (Unit {0}) ℕ) (m : Mach
           has = ap (λ (c : Core E). c.phase) v.2 ∙ has_page.has;
           front = k.front;
           knows = k.known;
-          behind = subst (λ (c : Core E). log_of m ≡ k.front ++ cond has_page.published (frame_words (frame_of c.queue t)) [])
+          behind =
+              sym published_is
+              ∙ subst (λ (c : Core E).
+              log_of m ≡ k.front ++ cond has_page.published (frame_words (frame_of c.queue t)) [])
               (sym v.2) k.behind;
         }
 
   -- a page that is out is with the owner of the open tenure
-  pub out : (k : TakersTold m.reuse m.owners T.actions) → m.home ≡ None → IsWithOwner m T k.all
-  out k away = elim f.sending.tenures.stage_is [
+  pub out : (all : log_of m ≡ T.log) (k : TakersTold m.reuse m.owners T.actions) → m.home ≡ None
+      → IsWithOwner m T k.all
+  out published_is k away = elim f.sending.tenures.stage_is [
     | Open stage here many ↦ absurd (true≢false (sym here ∙ ap is_some away))
     | Held holder stage gone many holds ↦
-        with_owner f.sending.tenures.ended holder holds k.all (takers_one f.owners k.all T.actions f.takers k.takers) stage many
+        with_owner f.sending.tenures.ended holder holds published_is k.all
+        (takers_one f.owners k.all T.actions f.takers k.takers) stage many
   ]
 
   -- who holds a page took it
-  pub owns : (k : TakersTold m.reuse m.owners T.actions) (p : ℕ) (v : Sender E) (t : ℕ) → slice_get m.senders p ≡ Some v
+  pub owns : (k : TakersTold m.reuse m.owners T.actions) (p : ℕ) (v : Sender E) (t : ℕ)
+      → slice_get m.senders p ≡ Some v
       → held_of v.core.phase ≡ Some t → slice_get k.all t ≡ Some p
   owns k p v t at held =
-      let holds = ap (of_some standing_of) (f.core_of p v at) ∙ ap Some (held_stands v.core.phase t held) in
-      subst (λ l. slice_get l t ≡ Some p) (takers_one f.owners k.all T.actions f.takers k.takers) (f.sending.tenures.holding p t holds).2
+      let holds =
+      ap (of_some standing_of) (f.core_of p v at) ∙ ap Some (held_stands v.core.phase t held) in
+      subst (λ l. slice_get l t ≡ Some p) (takers_one f.owners k.all T.actions f.takers k.takers)
+      (f.sending.tenures.holding p t holds).2
 
   -- a page at home counts the pages that were taken
-  pub counts : (k : TakersTold m.reuse m.owners T.actions) (page : Page) → m.home ≡ Some page → page.tenures ≡ length k.all
+  pub counts : (k : TakersTold m.reuse m.owners T.actions) (page : Page) → m.home ≡ Some page
+      → page.tenures ≡ length k.all
   counts k page at = elim f.sending.tenures.stage_is [
     | Open stage here many ↦
         (f.sending.page_knows page f.sending.tenures.ended at stage).0.tenures ∙ sym many
@@ -227,18 +265,23 @@ module _ {E : Type 0} (X : Election E) (P : Protocol E (Unit {0}) ℕ) (m : Mach
     its_start = ap (λ x. log_start x v.reuse) its_part.layout ∙ f.starts p v at
 
     -- who stores a word has not published
-    word_unpublished : (t : ℕ) (page : Page) (stored : ℕ) (published : Bool) → v.core.phase ≡ phase.Holding t page stored published
+    word_unpublished : (t : ℕ) (page : Page) (stored : ℕ) (published : Bool)
+        → v.core.phase ≡ phase.Holding t page stored published
         → situation_of X v.core ≡ StoresWord t page stored → published ≡ false
     word_unpublished t page stored false ph i = refl
-    word_unpublished t page stored true ph i = absurd (let bad = sym (ap (situation_at X v.core) ph) ∙ i in cc)
+    word_unpublished t page stored true ph i =
+        absurd (let bad = sym (ap (situation_at X v.core) ph) ∙ i in cc)
 
     -- the page of who has not published knows the length
-    pub writes : (t : ℕ) (page : Page) (stored : ℕ) → v.core.phase ≡ phase.Holding t page stored false
+    pub writes : (t : ℕ) (page : Page) (stored : ℕ)
+        → v.core.phase ≡ phase.Holding t page stored false
         → IsWriting (base_of m) f.V f.frames v.core t page stored
-    writes t page stored ph = let fits = subst (Fits (base_of m) f.V f.frames v.core) ph its_part.fits in fits.1
+    writes t page stored ph =
+        let fits = subst (Fits (base_of m) f.V f.frames v.core) ph its_part.fits in fits.1
 
     -- it is stored past the length
-    pub past : (t : ℕ) (page : Page) (stored word : ℕ) (o : Op) → situation X v ≡ Does (StoresWord t page stored)
+    pub past : (t : ℕ) (page : Page) (stored word : ℕ) (o : Op)
+        → situation X v ≡ Does (StoresWord t page stored)
         → (line_now X v).op word ≡ Some o
         → register o ≡ log_place m.layout m.reuse + slice_index m.words 0 + stored
     past t page stored word o i next =
@@ -247,7 +290,8 @@ module _ {E : Type 0} (X : Election E) (P : Protocol E (Unit {0}) ℕ) (m : Mach
         let fresh = word_unpublished t page stored ph.0 ph.1 own in
         let w = writes t page stored (ph.1 ∙ ap (phase.Holding t page stored) fresh) in
         let knows : page.words ≡ slice_index m.words 0 = w.page_knows.words ∙ sym f.length in
-        let due : (line_now X v).op word ≡ Some (Store record { 0 = log_start v.core.layout v.reuse + page.words + stored }
+        let due : (line_now X v).op word
+        ≡ Some (Store record { 0 = log_start v.core.layout v.reuse + page.words + stored }
         (slice_index (frame_words (frame_of v.core.queue t)) stored)) =
         ap (λ z. (line X v z).op word) i in
         ap register (same_Some _ _ (sym next ∙ due)) ∙ ap (λ n. n + page.words + stored) its_start

@@ -19,19 +19,33 @@ module _ {E : Type 0} (X : Election E) (P : Protocol E (Unit {0}) ℕ) where
     pub rows : HasRows m.reuse
 
   pub sits_before : (w m : Machine E) (e : Event) (a : Answer) → Happens X w e a m → Sits m → Sits w
-  sits_before w m e a h s = let i = event_reuse X w m e a h in record { serves = subst (Serves X P) i.0 s.serves; ok = subst IsLayout i.0 s.ok; rows = subst HasRows i.1 s.rows }
+  sits_before w m e a h s =
+      let i = event_reuse X w m e a h in
+      record {
+        serves = subst (Serves X P) i.0 s.serves;
+        ok = subst IsLayout i.0 s.ok;
+        rows = subst HasRows i.1 s.rows;
+      }
 
   pub sits_after : (w m : Machine E) (e : Event) (a : Answer) → Happens X w e a m → Sits w → Sits m
-  sits_after w m e a h s = let i = event_reuse X w m e a h in record { serves = subst (Serves X P) (sym i.0) s.serves; ok = subst IsLayout (sym i.0) s.ok; rows = subst HasRows (sym i.1) s.rows }
+  sits_after w m e a h s =
+      let i = event_reuse X w m e a h in
+      record {
+        serves = subst (Serves X P) (sym i.0) s.serves;
+        ok = subst IsLayout (sym i.0) s.ok;
+        rows = subst HasRows (sym i.1) s.rows;
+      }
 
   -- ---- rows that are used again
   pub two_rows : (m : Machine E) → Sits m → (rows : ℕ) → m.reuse ≡ Some rows → 2 ≤ rows
   two_rows m s rows used = subst HasRows used s.rows
 
   -- the trails lead to its protocol
-  pub led_some : (m : Machine E) (T : Trails) → Sits m → Reached X m T → (rows : ℕ) → m.reuse ≡ Some rows → IsLed X rows m T
+  pub led_some : (m : Machine E) (T : Trails) → Sits m → Reached X m T → (rows : ℕ)
+      → m.reuse ≡ Some rows → IsLed X rows m T
   led_some m T s (Start w new) rows used = new_led X rows w new used
   led_some m T s (Next w v U f a before h) rows used =
       let t = sits_before w v f a h s in
       let was = sym (event_reuse X w v f a h).1 ∙ used in
-      event_led X P rows w U t.serves t.ok (two_rows w t rows was) (led_some w U t before rows was) v f a h
+      event_led X P rows w U t.serves t.ok (two_rows w t rows was) (led_some w U t before rows was)
+      v f a h

@@ -14,8 +14,11 @@ pub mod Joining
 pub mod Bounding
 pub mod Staying
 pub mod Growing
+pub mod History
 pub mod Gone
+pub mod EachSender
 pub mod Ending
+pub mod Entering
 pub mod Remembering
 pub mod Losing
 pub mod Telling

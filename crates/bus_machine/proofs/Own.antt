@@ -4,18 +4,23 @@ use Rattle.bus_core.specs.Senders.{Does, Scans, Clears, reclaiming, at_home, pin
 use Rattle.bus_core.specs.declared.reuses.Reuse.{Reuse}
 use Rattle.bus_presence.specs.Reclaimers.{Reclaiming}
 use Rattle.bus_presence.specs.declared.pins.Pin.{Pin}
-use Rattle.bus_presence.specs.declared.pins.Pin.TheVariants.{Away, Announcing, Validating, Pinned, Unpinning, Invalidated}
-use Rattle.bus_tenure.specs.Situations.{Situation as Own, IsClosed, IsIdle, IsSpent, LooksAtStage, Elects, TakesPage, AwaitsPage, StoresWord, StoresLength, GivesBack, HasHanded}
+use Rattle.bus_presence.specs.declared.pins.Pin.TheVariants.{Away, Announcing, Validating, Pinned}
+use Rattle.bus_presence.specs.declared.pins.Pin.TheVariants.{Unpinning, Invalidated}
+use Rattle.bus_tenure.specs.Situations.{Situation as Own, IsClosed, IsIdle, IsSpent, LooksAtStage}
+use Rattle.bus_tenure.specs.Situations.{Elects, TakesPage, AwaitsPage, StoresWord, StoresLength}
+use Rattle.bus_tenure.specs.Situations.{GivesBack, HasHanded}
 
 module _ {E : Type 0} where
-  by_reclaimed : (s : Reclaiming) (w z : Own E) (a b : Bool) → cond a (Scans s) (cond b (Clears s) (Does w)) ≡ Does z → w ≡ z
+  by_reclaimed : (s : Reclaiming) (w z : Own E) (a b : Bool)
+      → cond a (Scans s) (cond b (Clears s) (Does w)) ≡ Does z → w ≡ z
   by_reclaimed s w z true b i = absurd cc
   by_reclaimed s w z false true i = absurd cc
   by_reclaimed s w z false false i = cc
 
   by_reclaimer : (s : Option Reclaiming) (w z : Own E) → reclaiming s w ≡ Does z → w ≡ z
   by_reclaimer None w z i = cc
-  by_reclaimer (Some s) w z i = by_reclaimed s w z (nat_lt s.scanned s.senders) (nat_lt s.cleared s.width) i
+  by_reclaimer (Some s) w z i =
+      by_reclaimed s w z (nat_lt s.scanned s.senders) (nat_lt s.cleared s.width) i
 
   by_home : (s : Option Reclaiming) (w z : Own E) → at_home s w ≡ Does z → w ≡ z
   by_home s (GivesBack t page reason) z i = by_reclaimer s (GivesBack t page reason) z i

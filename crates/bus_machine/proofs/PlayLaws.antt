@@ -1,5 +1,6 @@
 -- Events that are played one after another, and what is said of all of them.
-use Rattle.std.proofs.Common.{Bool, ◌≡◌, ℕ, ◌≤◌, Option, Some, None, List, [], ◌∷◌, ◌++◌, arith, refl, sym, ◌∙◌, ap, subst, append_assoc}
+use Rattle.std.proofs.Common.{Bool, ◌≡◌, ℕ, ◌≤◌, Option, Some, None, List, [], ◌∷◌, ◌++◌, arith}
+use Rattle.std.proofs.Common.{refl, sym, ◌∙◌, ap, subst, append_assoc}
 use Rattle.std.proofs.lemmas.List.{append-nil}
 use Rattle.bus_register.specs.Protocol.{Protocol}
 use Rattle.bus_adoptcommit.specs.declared.verdicts.Verdict.{Verdict}
@@ -15,61 +16,106 @@ use Rattle.bus_machine.proofs.Promised.{promised}
 use Rattle.bus_machine.proofs.Staying.{Longer, stays_long, grown_longer, promise_stays}
 use Rattle.bus_machine.specs.Machine.{Machine, Trails, Reached, trails_grown, log_of, stage_of}
 use Rattle.bus_machine.specs.Playing.{Answers, AllAnswered, trails_after, words_after, Played}
+use Rattle.bus_machine.proofs.History.{history}
 use Rattle.bus_machine.specs.Promise.{HasGoneOn, actions_in, words_joined}
 
 -- one event more
-pub answered_more : {S : Type 0} (X : Election (Elector S)) (P : Protocol S Bool Verdict) (events : List Event) (old mid new : Machine (Elector S)) (e : Event) (a : Answer) → AllAnswered X P old events mid → Answers X P mid e a new → AllAnswered X P old (events ++ e ∷ []) new
+pub answered_more : {S : Type 0} (X : Election (Elector S)) (P : Protocol S Bool Verdict)
+    (events : List Event) (old mid new : Machine (Elector S)) (e : Event) (a : Answer)
+    → AllAnswered X P old events mid → Answers X P mid e a new
+    → AllAnswered X P old (events ++ e ∷ []) new
 answered_more X P [] old mid new e a h w = (new, a, subst (λ y. Answers X P y e a new) h w, refl)
-answered_more X P (f ∷ events) old mid new e a h w = (h.0, h.1, h.2, answered_more X P events h.0 mid new e a h.3 w)
+answered_more X P (f ∷ events) old mid new e a h w = (
+  h.0,
+  h.1,
+  h.2,
+  answered_more X P events h.0 mid new e a h.3 w,
+)
 
 longer_still : (T U V : Trails) → Longer T U → Longer U V → Longer T V
-longer_still T U V h k = record { actions = λ q. prefix_after (T.actions q) (U.actions q) (V.actions q) (h.actions q) (k.actions q); heard = λ q. prefix_after (T.heard q) (U.heard q) (V.heard q) (h.heard q) (k.heard q) }
+longer_still T U V h k = record {
+  actions = λ q. prefix_after (T.actions q) (U.actions q) (V.actions q) (h.actions q) (k.actions q);
+  heard = λ q. prefix_after (T.heard q) (U.heard q) (V.heard q) (h.heard q) (k.heard q);
+}
 
 module _ {S : Type 0} (X : Election (Elector S)) (Q : Protocol S Bool Verdict) where
-  run_same : (events : List Event) (old new : Machine (Elector S)) → AllAnswered X Q old events new → (new.layout ≡ old.layout) × (new.reuse ≡ old.reuse)
-  run_same [] old new run = (ap (λ (y : Machine (Elector S)). y.layout) run, ap (λ (y : Machine (Elector S)). y.reuse) run)
-  run_same (e ∷ events) old new run = let one = event_reuse X old run.0 e run.1 run.2.happens in let rest = run_same events run.0 new run.3 in (rest.0 ∙ one.0, rest.1 ∙ one.1)
+  run_same : (events : List Event) (old new : Machine (Elector S)) → AllAnswered X Q old events new
+      → (new.layout ≡ old.layout) × (new.reuse ≡ old.reuse)
+  run_same [] old new run = (
+    ap (λ (y : Machine (Elector S)). y.layout) run,
+    ap (λ (y : Machine (Elector S)). y.reuse) run,
+  )
+  run_same (e ∷ events) old new run =
+      let one = event_reuse X old run.0 e run.1 run.2.happens in
+      let rest = run_same events run.0 new run.3 in (rest.0 ∙ one.0, rest.1 ∙ one.1)
 
-  run_grows : (events : List Event) (old new : Machine (Elector S)) → AllAnswered X Q old events new → IsPrefix (log_of old) (log_of new)
+  run_grows : (events : List Event) (old new : Machine (Elector S)) → AllAnswered X Q old events new
+      → IsPrefix (log_of old) (log_of new)
   run_grows [] old new run = same_prefix (log_of old) (log_of new) (ap log_of run)
-  run_grows (e ∷ events) old new run = prefix_after (log_of old) (log_of run.0) (log_of new) run.2.follows.grows (run_grows events run.0 new run.3)
+  run_grows (e ∷ events) old new run = prefix_after (log_of old) (log_of run.0) (log_of new)
+      run.2.follows.grows (run_grows events run.0 new run.3)
 
   -- the words that have joined
-  run_joins : (events : List Event) (old new : Machine (Elector S)) (run : AllAnswered X Q old events new)
+  run_joins : (events : List Event) (old new : Machine (Elector S))
+      (run : AllAnswered X Q old events new)
       → log_of new ≡ log_of old ++ words_after X Q old events new run
   run_joins [] old new run = ap log_of run ∙ sym (append-nil (log_of old))
   run_joins (e ∷ events) old new run =
-      run_joins events run.0 new run.3 ∙ ap (λ w. w ++ words_after X Q run.0 events new run.3) run.2.follows.joins
+      run_joins events run.0 new run.3
+      ∙ ap (λ w. w ++ words_after X Q run.0 events new run.3) run.2.follows.joins
       ∙ append_assoc (log_of old) (words_joined X old e) (words_after X Q run.0 events new run.3)
 
-  run_rises : (events : List Event) (old new : Machine (Elector S)) → AllAnswered X Q old events new → stage_of old ≤ stage_of new
+  run_rises : (events : List Event) (old new : Machine (Elector S)) → AllAnswered X Q old events new
+      → stage_of old ≤ stage_of new
   run_rises [] old new run = let same = ap stage_of run in omega arith
-  run_rises (e ∷ events) old new run = let one = run.2.follows.rises in let rest = run_rises events run.0 new run.3 in omega arith
+  run_rises (e ∷ events) old new run =
+      let one = run.2.follows.rises in let rest = run_rises events run.0 new run.3 in omega arith
 
-  run_reached : (events : List Event) (old new : Machine (Elector S)) (run : AllAnswered X Q old events new) (T : Trails) → Reached X old T → Reached X new (trails_after X Q old events new run T)
+  run_reached : (events : List Event) (old new : Machine (Elector S))
+      (run : AllAnswered X Q old events new) (T : Trails) → Reached X old T
+      → Reached X new (trails_after X Q old events new run T)
   run_reached [] old new run T r = subst (λ y. Reached X y T) (sym run) r
-  run_reached (e ∷ events) old new run T r = run_reached events run.0 new run.3 (trails_grown X old e run.1 T) (run.2.follows.reached T r)
+  run_reached (e ∷ events) old new run T r =
+      run_reached events run.0 new run.3 (trails_grown X old e run.1 T) (run.2.follows.reached T r)
 
-  run_longer : (events : List Event) (old new : Machine (Elector S)) (run : AllAnswered X Q old events new) (T : Trails) → Longer T (trails_after X Q old events new run T)
+  run_longer : (events : List Event) (old new : Machine (Elector S))
+      (run : AllAnswered X Q old events new) (T : Trails)
+      → Longer T (trails_after X Q old events new run T)
   run_longer [] old new run T = stays_long T
-  run_longer (e ∷ events) old new run T = longer_still T (trails_grown X old e run.1 T) (trails_after X Q run.0 events new run.3 (trails_grown X old e run.1 T)) (grown_longer X old T e run.1) (run_longer events run.0 new run.3 (trails_grown X old e run.1 T))
+  run_longer (e ∷ events) old new run T = longer_still T (trails_grown X old e run.1 T)
+      (trails_after X Q run.0 events new run.3 (trails_grown X old e run.1 T))
+      (grown_longer X old T e run.1)
+      (run_longer events run.0 new run.3 (trails_grown X old e run.1 T))
 
-  gone_still : (m m' : Machine (Elector S)) (o : Option ℕ) (t : ℕ) → stage_of m ≤ stage_of m' → HasGoneOn m o t → HasGoneOn m' o t
+  gone_still : (m m' : Machine (Elector S)) (o : Option ℕ) (t : ℕ) → stage_of m ≤ stage_of m'
+      → HasGoneOn m o t → HasGoneOn m' o t
   gone_still m m' None t rises gone = gone
   gone_still m m' (Some rows) t rises gone = omega arith
 
-  run_stays : (events : List Event) (old new : Machine (Elector S)) (run : AllAnswered X Q old events new) (T : Trails) → Reached X old T → (t s : ℕ) → HasGoneOn old old.reuse t → actions_in t ((trails_after X Q old events new run T).actions s) ≡ actions_in t (T.actions s)
+  run_stays : (events : List Event) (old new : Machine (Elector S))
+      (run : AllAnswered X Q old events new) (T : Trails) → Reached X old T → (t s : ℕ)
+      → HasGoneOn old old.reuse t
+      → actions_in t ((trails_after X Q old events new run T).actions s)
+      ≡ actions_in t (T.actions s)
   run_stays [] old new run T r t s gone = refl
   run_stays (e ∷ events) old new run T r t s gone =
       let one = run.2.follows in
-      let still = subst (λ o. HasGoneOn run.0 o t) (sym (event_reuse X old run.0 e run.1 run.2.happens).1) (gone_still old run.0 old.reuse t one.rises gone) in
-      run_stays events run.0 new run.3 (trails_grown X old e run.1 T) (one.reached T r) t s still ∙ one.stays T r t s gone
+      let still = subst (λ o. HasGoneOn run.0 o t)
+      (sym (event_reuse X old run.0 e run.1 run.2.happens).1)
+      (gone_still old run.0 old.reuse t one.rises gone) in
+      run_stays events run.0 new run.3 (trails_grown X old e run.1 T) (one.reached T r) t s still
+      ∙ one.stays T r t s gone
 
-  sits_on : (P : Protocol (Elector S) (Unit {0}) ℕ) (events : List Event) (old new : Machine (Elector S)) → AllAnswered X Q old events new → Sits X P old → Sits X P new
+  sits_on :
+      (P : Protocol (Elector S) (Unit {0}) ℕ) (events : List Event) (old new : Machine (Elector S))
+      → AllAnswered X Q old events new → Sits X P old → Sits X P new
   sits_on P [] old new run s = subst (Sits X P) (sym run) s
-  sits_on P (e ∷ events) old new run s = sits_on P events run.0 new run.3 (sits_after X P old run.0 e run.1 run.2.happens s)
+  sits_on P (e ∷ events) old new run s =
+      sits_on P events run.0 new run.3 (sits_after X P old run.0 e run.1 run.2.happens s)
 
-  pub played : (P : Protocol (Elector S) (Unit {0}) ℕ) (events : List Event) (old new : Machine (Elector S)) → Sits X P old → AllAnswered X Q old events new → Played X Q old events new
+  pub played :
+      (P : Protocol (Elector S) (Unit {0}) ℕ) (events : List Event) (old new : Machine (Elector S))
+      → Sits X P old → AllAnswered X Q old events new → Played X Q old events new
   played P events old new s run = record {
     answered = run;
     extends = record {
@@ -77,8 +123,15 @@ module _ {S : Type 0} (X : Election (Elector S)) (Q : Protocol S Bool Verdict) w
       grows = run_grows events old new run;
       rises = run_rises events old new run;
       reached = λ T r. run_reached events old new run T r;
-      promised = λ T r. promise_stays X old new T (trails_after X Q old events new run T) (ap (λ (x : Layout). x.senders) (run_same events old new run).0) (promised X P old T s r)
-          (promised X P new (trails_after X Q old events new run T) (sits_on P events old new run s) (run_reached events old new run T r)) (run_grows events old new run) (run_longer events old new run T);
+      promised = λ T r. promise_stays X old new T (trails_after X Q old events new run T)
+          (ap (λ (x : Layout). x.senders) (run_same events old new run).0) (promised X P old T s r)
+          (promised X P new (trails_after X Q old events new run T) (sits_on P events old new run s)
+          (run_reached events old new run T r)) (subst (λ (u : List ℕ × List ℕ). IsPrefix u.0 u.1)
+          (λ i. (
+            history X P old T s r i,
+            history X P new (trails_after X Q old events new run T) (sits_on P events old new run s)
+                (run_reached events old new run T r) i,
+          )) (run_grows events old new run)) (run_longer events old new run T);
       stays = λ T r t q gone. run_stays events old new run T r t q gone;
     };
   }

@@ -6,9 +6,11 @@ use Rattle.bus_machine.specs.Promise.{IsPromised, ReusesRows, ReusesSafely}
 use Rattle.bus_machine.specs.PromiseRefusals.{PromiseRefuses}
 
 nothing_at : {A : Type 0} (i : ℕ) (x : A) (l : List A) → l ≡ [] → slice_get l i ≡ Some x → ⊥
-nothing_at i x l none e = absurd (let bad : None ≡ Some x = sym (ap (λ w. slice_get w i) none) ∙ e in cc)
+nothing_at i x l none e =
+    absurd (let bad : None ≡ Some x = sym (ap (λ w. slice_get w i) none) ∙ e in cc)
 
-reuses : {E : Type 0} (X : Election E) (m : Machine E) (T : Trails) (rows : ℕ) → m.reuse ≡ Some rows → IsPromised X m T → ReusesRows X m T rows
+reuses : {E : Type 0} (X : Election E) (m : Machine E) (T : Trails) (rows : ℕ) → m.reuse ≡ Some rows
+    → IsPromised X m T → ReusesRows X m T rows
 reuses X m T rows some kept = subst (ReusesSafely X m T) some kept.by.reuse
 
 pub refused : {E : Type 0} (X : Election E) (m : Machine E) (T : Trails) → PromiseRefuses X m T
@@ -17,13 +19,15 @@ refused {E} X m T = record {
     two_owners = λ t s s' o o' e f apart kept. apart (kept.by.promises.one_owner t s s' o o' e f);
     owner_without_page = λ t s none owns untaken kept.
         let told = kept.by.takers in
-        let all = sym (told.told ∙ ap (λ r. Rattle.bus_machine.specs.Machine.owners_told r told.all) none) in
+        let all =
+        sym (told.told ∙ ap (λ r. Rattle.bus_machine.specs.Machine.owners_told r told.all) none) in
         let took = told.takers.took t s (ap (λ l. slice_get l t) all ∙ owns) in
         untaken took.0 took.1;
   };
   rows = λ rows some. record {
     enters_without_presence = λ p v t e at elects none kept.
-        let s = (reuses X m T rows some kept).stands p v t e at elects in nothing_at s.entered _ (T.pins p) none s.enters;
+        let s = (reuses X m T rows some kept).stands p v t e at elects in
+        nothing_at s.entered _ (T.pins p) none s.enters;
     two_tenures_of_a_row = λ p q v w t u e f at elects there runs row apart kept.
         let k = reuses X m T rows some kept in
         apart (k.safe.alone p q t u (k.stands p v t e at elects) (k.stands q w u f there runs) row);

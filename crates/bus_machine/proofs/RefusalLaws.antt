@@ -1,10 +1,13 @@
 -- Answers, memories and machines that the definitions refuse.
-use Rattle.std.proofs.Common.{◌+◌, ◌≡◌, ◌⊎◌, inl, inr, ℕ, ◌≤◌, Bool, true, false, cond, Option, Some, None, IsSome, List, [], ◌∷◌, ◌++◌, drop, length, map, slice_get, slice_index, arith, refl, sym, ◌∙◌, ap, subst}
+use Rattle.std.proofs.Common.{◌+◌, ◌≡◌, ◌⊎◌, inl, inr, ℕ, ◌≤◌, Bool, true, false, cond, Option}
+use Rattle.std.proofs.Common.{Some, None, IsSome, List, [], ◌∷◌, ◌++◌, drop, length, map}
+use Rattle.std.proofs.Common.{slice_get, slice_index, arith, refl, sym, ◌∙◌, ap, subst}
 use Rattle.std.proofs.lemmas.Bool.{true≢false}
 use Rattle.std.proofs.lemmas.Option.{same_Some, slice_get_within}
 use Rattle.std.proofs.lemmas.List.{append-nil, length-append}
 use Rattle.bus_batch.proofs.FrameLaws.{same_frame, same_log, spells_one}
-use Rattle.bus_batch.specs.Frames.{Frame, Order, Spells, AreFrames, frame_words, items_of, log_words, order_of, has_end, has_gone, tenure_and_owner}
+use Rattle.bus_batch.specs.Frames.{Frame, Order, Spells, AreFrames, frame_words, items_of}
+use Rattle.bus_batch.specs.Frames.{log_words, order_of, has_end, has_gone, tenure_and_owner}
 use Rattle.bus_batch.specs.declared.batches.Phase.TheVariants as batch
 use Rattle.bus_batch.specs.declared.messages.Mark.TheVariants as mark
 use Rattle.bus_batch.specs.declared.messages.Item.{Item}
@@ -33,9 +36,13 @@ use Rattle.bus_machine.proofs.Ending.{has_gone_last}
 use Rattle.bus_machine.proofs.SameActions.{says_no_more}
 use Rattle.bus_register.specs.Proved.TableLaws.{get_set_same}
 use Rattle.bus_machine.specs.Bounding.{steps_towards, steps_of_pin, IsNamedFirst}
-use Rattle.bus_machine.specs.Machine.{base_of, Machine, Trails, TakesMark, has_stopped, mark_in, log_of, stage_of}
-use Rattle.bus_machine.specs.Promise.{IsPagedBy, ReusesSafely, words_of_frame}
-use Rattle.bus_machine.specs.Refusals.{LossesRefuse, AnswersRefuse, SaysMore, NumbersRefuse, BoundsRefuse, FollowsRefuse, PagesRefuse, MemoriesRefuse, WordsRefuse, MarksRefuse}
+use Rattle.bus_machine.specs.Machine.{base_of, Machine, Trails, TakesMark, has_stopped, mark_in}
+use Rattle.bus_machine.specs.Machine.{log_of, stage_of}
+use Rattle.bus_machine.specs.Promise.{IsPagedBy, ReusesSafely}
+use Rattle.bus_machine.specs.Machine.{words_of_frame}
+use Rattle.bus_machine.specs.Refusals.{LossesRefuse, AnswersRefuse, SaysMore, NumbersRefuse}
+use Rattle.bus_machine.specs.Refusals.{BoundsRefuse, FollowsRefuse, PagesRefuse, MemoriesRefuse}
+use Rattle.bus_machine.specs.Refusals.{WordsRefuse, MarksRefuse}
 use Rattle.bus_machine.specs.Remembering.{HasEnded, HasLeftIt, rows_in}
 use Rattle.bus_machine.specs.Telling.{ClosedTells}
 use Rattle.bus_world.proofs.Framing.{not_nil}
@@ -61,71 +68,93 @@ last_one (f ∷ front) [] w u e = absurd (not_nil front w (ap (drop 1) e))
 last_one (f ∷ front) (g ∷ back) w u e = last_one front back w u (ap (drop 1) e)
 
 -- what counts up from a first number begins with it
-counts_from : (first : ℕ) (i : Item) (items rest : List Item) → AreCounted first items → items ≡ i ∷ rest → i.number ≡ first
+counts_from : (first : ℕ) (i : Item) (items rest : List Item) → AreCounted first items
+    → items ≡ i ∷ rest → i.number ≡ first
 counts_from first i items rest are e = (subst (AreCounted first) e are).0
 
 unpinning_is : (t u : ℕ) → Unpinning t ≡ Unpinning u → t ≡ u
 unpinning_is t u e = cc
 
 -- a log whose order goes on has not ended
-goes_on : {E : Type 0} (m : Machine E) (order : Order) (owners : List (ℕ × SenderNo)) → Spells m.layout.senders (log_of m) order owners
+goes_on : {E : Type 0} (m : Machine E) (order : Order) (owners : List (ℕ × SenderNo))
+    → Spells m.layout.senders (log_of m) order owners
     → order.ended ≡ false → HasEnded m → ⊥
 goes_on m order owners spelled goes w =
-    let one = spells_one m.layout.senders (log_of m) w.order order w.owners owners w.spelled spelled in
+    let one =
+    spells_one m.layout.senders (log_of m) w.order order w.owners owners w.spelled spelled in
     true≢false (sym w.ended ∙ ap (λ (o : Order). o.ended) one.0 ∙ goes)
 
 -- nor has a sender left in one that has not its leave mark
 stays_in : {E : Type 0} (m : Machine E) (s : ℕ) (order : Order) (owners : List (ℕ × SenderNo))
     → Spells m.layout.senders (log_of m) order owners → has_gone s order ≡ false → HasLeftIt m s → ⊥
 stays_in m s order owners spelled stays w =
-    let one = spells_one m.layout.senders (log_of m) w.order order w.owners owners w.spelled spelled in
+    let one =
+    spells_one m.layout.senders (log_of m) w.order order w.owners owners w.spelled spelled in
     true≢false (sym w.left ∙ ap (has_gone s) one.0 ∙ stays)
 
 -- so its batch is not closed
 not_closed : {E : Type 0} (m : Machine E) (s : ℕ) (order : Order) (owners : List (ℕ × SenderNo))
-    → Spells m.layout.senders (log_of m) order owners → order.ended ≡ false → has_gone s order ≡ false → HasEnded m ⊎ HasLeftIt m s → ⊥
-not_closed m s order owners spelled goes stays (inl ended) = goes_on m order owners spelled goes ended
-not_closed m s order owners spelled goes stays (inr left) = stays_in m s order owners spelled stays left
+    → Spells m.layout.senders (log_of m) order owners → order.ended ≡ false
+    → has_gone s order ≡ false → HasEnded m ⊎ HasLeftIt m s → ⊥
+not_closed m s order owners spelled goes stays (inl ended) =
+    goes_on m order owners spelled goes ended
+not_closed m s order owners spelled goes stays (inr left) =
+    stays_in m s order owners spelled stays left
 
-closed_last : {E : Type 0} (m : Machine E) (s : ℕ) (v : Sender E) → ClosedTells m s v → HasEnded m ⊎ HasLeftIt m s
+closed_last : {E : Type 0} (m : Machine E) (s : ℕ) (v : Sender E) → ClosedTells m s v
+    → HasEnded m ⊎ HasLeftIt m s
 closed_last m s v (inl ended) = inl ended
 closed_last m s v (inr left) = inr left.1
 
 -- who is told to have left has its mark in the order
-left_told : {E : Type 0} (m : Machine E) (s t : ℕ) → HasLeft m.layout.senders (log_of m) s t → HasLeftIt m s
+left_told : {E : Type 0} (m : Machine E) (s t : ℕ) → HasLeft m.layout.senders (log_of m) s t
+    → HasLeftIt m s
 left_told m s t w = record {
   order = order_of (w.earlier ++ w.frame ∷ []);
   owners = map tenure_and_owner (w.earlier ++ w.frame ∷ []);
-  spelled = record { frames = w.earlier ++ w.frame ∷ []; lawful = w.lawful; words_are = w.words_are; order_is = refl; owners_are = refl };
-  left = subst (λ n. has_gone n (order_of (w.earlier ++ w.frame ∷ [])) ≡ true) w.owner (has_gone_last w.earlier w.frame w.says);
+  spelled = record {
+    frames = w.earlier ++ w.frame ∷ [];
+    lawful = w.lawful;
+    words_are = w.words_are;
+    order_is = refl;
+    owners_are = refl;
+  };
+  left = subst (λ n. has_gone n (order_of (w.earlier ++ w.frame ∷ [])) ≡ true) w.owner
+      (has_gone_last w.earlier w.frame w.says);
 }
 
 -- and its mark is the last frame of the log
-left_last : {E : Type 0} (m : Machine E) (s t : ℕ) (front : List Frame) (f : Frame) → AreFrames m.layout.senders (front ++ f ∷ [])
-    → log_words (front ++ f ∷ []) ≡ log_of m → (w : HasLeft m.layout.senders (log_of m) s t) → w.frame ≡ f
+left_last : {E : Type 0} (m : Machine E) (s t : ℕ) (front : List Frame) (f : Frame)
+    → AreFrames m.layout.senders (front ++ f ∷ [])
+    → log_words (front ++ f ∷ []) ≡ log_of m → (w : HasLeft m.layout.senders (log_of m) s t)
+    → w.frame ≡ f
 left_last m s t front f lawful are w =
     last_one w.earlier front w.frame f
-    (same_log m.layout.senders 0 0 (w.earlier ++ w.frame ∷ []) (front ++ f ∷ []) w.lawful lawful (w.words_are ∙ sym are))
+    (same_log m.layout.senders 0 0 (w.earlier ++ w.frame ∷ []) (front ++ f ∷ []) w.lawful lawful
+    (w.words_are ∙ sym are))
 
 -- what is told delivered is the last frame of the log
 delivered_last : {E : Type 0} (m : Machine E) (s t first last : ℕ) (front : List Frame) (f : Frame)
     → AreFrames m.layout.senders (front ++ f ∷ []) → log_words (front ++ f ∷ []) ≡ log_of m
     → (w : HasDelivered m.layout.senders (log_of m) s t first last) → w.frame ≡ f
 delivered_last m s t first last front f lawful are w =
-    last_one w.earlier front w.frame f (same_log m.layout.senders 0 0 (w.earlier ++ w.frame ∷ []) (front ++ f ∷ []) w.lawful lawful (w.words_are ∙ sym are))
+    last_one w.earlier front w.frame f (same_log m.layout.senders 0 0 (w.earlier ++ w.frame ∷ [])
+    (front ++ f ∷ []) w.lawful lawful (w.words_are ∙ sym are))
 
 -- an empty log has not ended
 none_ended : {E : Type 0} (m : Machine E) → log_of m ≡ [] → HasEnded m → ⊥
 none_ended m empty w =
     let none = none_spelled w.spelled.frames (w.spelled.words_are ∙ empty) in
-    let ended : (order_of w.spelled.frames).ended ≡ true = ap (λ (o : Order). o.ended) w.spelled.order_is ∙ w.ended in
+    let ended : (order_of w.spelled.frames).ended ≡ true =
+    ap (λ (o : Order). o.ended) w.spelled.order_is ∙ w.ended in
     true≢false (sym ended ∙ ap has_end none)
 
 -- and nobody has left in it
 none_left : {E : Type 0} (m : Machine E) (s : ℕ) → log_of m ≡ [] → HasLeftIt m s → ⊥
 none_left m s empty w =
     let none = none_spelled w.spelled.frames (w.spelled.words_are ∙ empty) in
-    let gone : has_gone s (order_of w.spelled.frames) ≡ true = ap (has_gone s) w.spelled.order_is ∙ w.left in
+    let gone : has_gone s (order_of w.spelled.frames) ≡ true =
+    ap (has_gone s) w.spelled.order_is ∙ w.left in
     true≢false (sym gone ∙ ap (λ fs. has_gone s (order_of fs)) none)
 
 none_closed : {E : Type 0} (m : Machine E) (s : ℕ) → log_of m ≡ [] → HasEnded m ⊎ HasLeftIt m s → ⊥
@@ -135,10 +164,14 @@ none_closed m s empty (inr left) = none_left m s empty left
 module _ {E : Type 0} (m : Machine E) where
   pub losses_refused : LossesRefuse m
   losses_refused = record {
-    idle_loser = λ D p v o at lost none l. let w = l p v o at lost in nothing_there w.elected.place _ (ap (λ d. slice_get d w.elected.place) (sym none) ∙ w.elected.at);
+    idle_loser = λ D p v o at lost none l.
+        let w = l p v o at lost in
+        nothing_there w.elected.place _
+        (ap (λ d. slice_get d w.elected.place) (sym none) ∙ w.elected.at);
     own_loser = λ D p v o at lost same l. (l p v o at lost).other same;
     wrong_owner = λ D p v o t u at lost parts only apart l. let w = l p v o at lost in
-        apart (only o.0 (subst (λ r. Elected (D p) r o.0) (unpinning_is w.tenure t (sym w.parts ∙ parts)) w.elected));
+        apart (only o.0 (subst (λ r. Elected (D p) r o.0)
+        (unpinning_is w.tenure t (sym w.parts ∙ parts)) w.elected));
   }
 
   pub answers_refused : (p : ℕ) (v : Sender E) (actions : List Action) → AnswersRefuse m p v actions
@@ -147,22 +180,30 @@ module _ {E : Type 0} (m : Machine E) where
     lost_to_itself = λ t o same told. told.1 same;
     own_untaken = λ t untaken told. untaken told.1.0 told.1.1;
     delivered_nothing = λ t first last empty told.
-        not_nil told.earlier told.frame (none_spelled (told.earlier ++ told.frame ∷ []) (told.words_are ∙ empty));
+        not_nil told.earlier told.frame
+        (none_spelled (told.earlier ++ told.frame ∷ []) (told.words_are ∙ empty));
     delivered_elsewhere = λ t first last front f lawful are other told.
-        other (ap (λ (g : Frame). g.tenure) (sym (delivered_last m p t first last front f lawful are told)) ∙ told.tenure);
+        other (ap (λ (g : Frame). g.tenure)
+        (sym (delivered_last m p t first last front f lawful are told)) ∙ told.tenure);
     delivered_by_another = λ t first last front f lawful are other told.
-        other (ap (λ (g : Frame). g.owner.0) (sym (delivered_last m p t first last front f lawful are told)) ∙ told.owner);
+        other (ap (λ (g : Frame). g.owner.0)
+        (sym (delivered_last m p t first last front f lawful are told)) ∙ told.owner);
     delivered_from_elsewhere = λ t first last front f i rest lawful are items other told.
         let same = delivered_last m p t first last front f lawful are told in
-        other (counts_from first i (items_of told.frame) rest told.numbers (ap items_of same ∙ items));
+        other
+        (counts_from first i (items_of told.frame) rest told.numbers (ap items_of same ∙ items));
     full_with_room = λ room told. omega arith;
-    left_without_mark = λ t order owners spelled stays told. stays_in m p order owners spelled stays (left_told m p t told);
+    left_without_mark = λ t order owners spelled stays told.
+        stays_in m p order owners spelled stays (left_told m p t told);
     left_elsewhere = λ t front f lawful are other told.
-        other (ap (λ (g : Frame). g.tenure) (sym (left_last m p t front f lawful are told)) ∙ told.tenure);
+        other (ap (λ (g : Frame). g.tenure) (sym (left_last m p t front f lawful are told))
+        ∙ told.tenure);
     left_by_another = λ t front f lawful are other told.
-        other (ap (λ (g : Frame). g.owner.0) (sym (left_last m p t front f lawful are told)) ∙ told.owner);
+        other (ap (λ (g : Frame). g.owner.0) (sym (left_last m p t front f lawful are told))
+        ∙ told.owner);
     closed_with_nothing = λ empty told. none_closed m p empty (closed_last m p v told);
-    closed_too_soon = λ order owners spelled goes stays told. not_closed m p order owners spelled goes stays (closed_last m p v told);
+    closed_too_soon = λ order owners spelled goes stays told.
+        not_closed m p order owners spelled goes stays (closed_last m p v told);
     closed_by_leaving = λ order owners spelled goes apart told. elim told [
       | inl ended ↦ goes_on m order owners spelled goes ended
       | inr left ↦ apart left.0
@@ -173,22 +214,28 @@ module _ {E : Type 0} (m : Machine E) where
     ];
     spent_unseen = λ stage one none told. elim told [
       | inl ended ↦ omega arith
-      | inr last ↦ (let e = last.2.elected in nothing_there e.place _ (ap (λ d. slice_get d e.place) (sym none) ∙ e.at))
+      | inr last ↦
+          (let e = last.2.elected in
+          nothing_there e.place _ (ap (λ d. slice_get d e.place) (sym none) ∙ e.at))
     ];
     behind_apart = λ t q none told. true≢false (sym (subst IsSome none told));
   }
 
 -- ---- marks
 -- what waits at a sender that was to close or to leave
-waits_as : {E : Type 0} (old new : Machine E) (s : ℕ) (asked : Mark) (a : Answer) (v : Sender E) → TakesMark old s asked a new
+waits_as : {E : Type 0} (old new : Machine E) (s : ℕ) (asked : Mark) (a : Answer) (v : Sender E)
+    → TakesMark old s asked a new
     → slice_get new.senders s ≡ Some v → v ≡ mark_in v asked
 waits_as {E} old new s asked a v h there =
     let at = shown_there (has_stopped old s) (slice_get old.senders s) h.sender h.goes in
-    let set = get_set_same old.senders s (mark_in h.sender asked) (slice_get_within old.senders s h.sender at) in
-    let is : mark_in h.sender asked ≡ v = same_Some _ _ (sym set ∙ ap (λ (y : Machine E). slice_get y.senders s) (sym h.after) ∙ there) in
+    let set = get_set_same old.senders s (mark_in h.sender asked)
+    (slice_get_within old.senders s h.sender at) in
+    let is : mark_in h.sender asked ≡ v =
+    same_Some _ _ (sym set ∙ ap (λ (y : Machine E). slice_get y.senders s) (sym h.after) ∙ there) in
     subst (λ u. u ≡ mark_in u asked) is refl
 
-phase_as : {E : Type 0} (v : Sender E) (asked : Mark) → v ≡ mark_in v asked → v.core.queue.phase ≡ batch.Marking asked
+phase_as : {E : Type 0} (v : Sender E) (asked : Mark) → v ≡ mark_in v asked
+    → v.core.queue.phase ≡ batch.Marking asked
 phase_as {E} v asked e = ap (λ (u : Sender E). u.core.queue.phase) e
 
 pub marks_refused : {E : Type 0} (X : Election E) (old new : Machine E) → MarksRefuse X old new
@@ -202,7 +249,9 @@ marks_refused X old new = record {
       let bad : batch.Marking mark.Leave ≡ batch.Marking mark.End = sym ph
       ∙ phase_as v mark.End (waits_as old new s mark.End a v h there) in cc;
   leave_waits_not = λ s v a there ph h.
-      let bad : batch.Open ≡ batch.Marking mark.Leave = sym ph ∙ phase_as v mark.Leave (waits_as old new s mark.Leave a v h there) in cc;
+      let bad : batch.Open ≡ batch.Marking mark.Leave =
+      sym ph ∙ phase_as v mark.Leave (waits_as old new s mark.Leave a v h there) in
+      cc;
 }
 
 -- numbers of messages
@@ -216,82 +265,113 @@ numbers_refused = record {
 
 -- two steps towards the page of tenure 0
 two_steps : (n k : ℕ) (rest : List Action)
-    → 2 ≤ steps_towards 0 (Stepped (Some 0) kind.Announce n None turn.Going ∷ Stepped (Some 0) kind.WriteFirst k None turn.Going ∷ rest)
+    → 2
+    ≤ steps_towards 0 (Stepped (Some 0) kind.Announce n None turn.Going
+    ∷ Stepped (Some 0) kind.WriteFirst k None turn.Going ∷ rest)
 two_steps n k rest = omega arith
 
 -- steps towards a page
-pub bounds_refused : {E : Type 0} (X : Election E) (bound : ℕ) (m : Machine E) (T : Trails) → BoundsRefuse X bound m T
+pub bounds_refused : {E : Type 0} (X : Election E) (bound : ℕ) (m : Machine E) (T : Trails)
+    → BoundsRefuse X bound m T
 bounds_refused X bound m T = record {
   too_many = λ s n k rest are b.
-      let low = subst (λ l. steps_towards 0 l ≤ 1) are (b.most s 0) in let two = two_steps n k rest in omega arith;
+      let low = subst (λ l. steps_towards 0 l ≤ 1) are (b.most s 0) in
+      let two = two_steps n k rest in omega arith;
   none_left = λ s v t e at ph none b. let some = (b.left s v t e at ph).0 in omega arith;
-  too_many_of_pin = λ s a c are b. let low = subst (λ l. steps_of_pin 0 l ≤ 3) are (b.most s 0) in let four : 4 ≤ 3 = low in omega arith;
-  unnamed = λ s e entries are none b. let w = subst IsNamedFirst are (b.first s) in let bad : None ≡ Some w.0 = sym none ∙ w.1 in cc;
+  too_many_of_pin = λ s a c are b.
+      let low = subst (λ l. steps_of_pin 0 l ≤ 3) are (b.most s 0) in
+      let four : 4 ≤ 3 = low in omega arith;
+  unnamed = λ s e entries are none b.
+      let w = subst IsNamedFirst are (b.first s) in
+      let bad : None ≡ Some w.0 = sym none ∙ w.1 in cc;
 }
 
 -- who did more in a tenure did not do the same
 pub says_more : (t : ℕ) (before after : List Action) → SaysMore t before after
 says_more t before after = record {
   elected_late = λ o never late same. never ((says_no_more t before after same).elected o late);
-  taken_late = λ place never late same. let was = (says_no_more t before after same).took place late in never was.0 was.1;
+  taken_late = λ place never late same.
+      let was = (says_no_more t before after same).took place late in never was.0 was.1;
 }
 
 -- a frame has a word
 nothing_joins : (xs : List ℕ) (f : Frame) → xs ≡ xs ++ frame_words f → ⊥
-nothing_joins xs f e = let many = ap length e in let more = length-append xs (frame_words f) in omega arith
+nothing_joins xs f e =
+    let many = ap length e in let more = length-append xs (frame_words f) in omega arith
 
 -- what joins one front is the same
 front_off : (xs ys zs : List ℕ) → xs ++ ys ≡ xs ++ zs → ys ≡ zs
 front_off [] ys zs e = e
 front_off (x ∷ xs) ys zs e = front_off xs ys zs (ap (drop 1) e)
 
-pub follows_refused : {E : Type 0} (X : Election E) (old : Machine E) (e : Event) (a : Answer) (new : Machine E) → FollowsRefuse X old e a new
+pub follows_refused :
+    {E : Type 0} (X : Election E) (old : Machine E) (e : Event) (a : Answer) (new : Machine E)
+    → FollowsRefuse X old e a new
 follows_refused X old e a new = record {
   falls = λ n k rest rest' was now f.
       let more = f.rises in
       let before : stage_of old ≡ 2 = ap (λ l. slice_index l 1) was in
       let after : stage_of new ≡ 1 = ap (λ l. slice_index l 1) now in omega arith;
-  grows_unpublished = λ none other f. other (f.joins ∙ ap (λ o. log_of old ++ words_of_frame o) none ∙ append-nil (log_of old));
-  publishes_nothing = λ g some same f. nothing_joins (log_of old) g (sym same ∙ f.joins ∙ ap (λ o. log_of old ++ words_of_frame o) some);
+  grows_unpublished = λ none other f.
+      other (f.joins ∙ ap (λ o. log_of old ++ words_of_frame o) none ∙ append-nil (log_of old));
+  publishes_nothing = λ g some same f. nothing_joins (log_of old) g
+      (sym same ∙ f.joins ∙ ap (λ o. log_of old ++ words_of_frame o) some);
   other_frame = λ senders g k some lawful lawful' apart has f.
-      let both = front_off (log_of old) (frame_words k) (frame_words g) (sym has ∙ f.joins ∙ ap (λ o. log_of old ++ words_of_frame o) some)
+      let both = front_off (log_of old) (frame_words k) (frame_words g)
+      (sym has ∙ f.joins ∙ ap (λ o. log_of old ++ words_of_frame o) some)
       in
       apart (same_frame senders k g [] [] lawful' lawful (ap (λ w. w ++ []) both)).0;
 }
 
 -- who holds a page holds one
-held_so : {E : Type 0} (t u : ℕ) (page page' : Page) (stored stored' : ℕ) (published published' : Bool)
-    → ◌≡◌ {A = Phase E} (phase.Holding t page stored published) (phase.Holding u page' stored' published')
+held_so : {E : Type 0} (t u : ℕ) (page page' : Page) (stored stored' : ℕ)
+    (published published' : Bool)
+    → ◌≡◌ {A = Phase E} (phase.Holding t page stored published)
+    (phase.Holding u page' stored' published')
     → (page ≡ page') × (published ≡ published')
 held_so t u page page' stored stored' published published' e = (cc, cc)
 
 pub pages_refused : {E : Type 0} (X : Election E) (m : Machine E) (T : Trails) → PagesRefuse X m T
 pages_refused {E} X m T = record {
-  home_while_held = λ page t home held p. let k = subst (IsPagedBy (stage_of m) _ _) home p.by.paged in let a = k.0 in omega arith;
-  out_while_open = λ t home opened p. let k = subst (IsPagedBy (stage_of m) _ _) home p.by.paged in let a = k.1 in omega arith;
+  home_while_held = λ page t home held p.
+      let k = subst (IsPagedBy (stage_of m) _ _) home p.by.paged in let a = k.0 in omega arith;
+  out_while_open = λ t home opened p.
+      let k = subst (IsPagedBy (stage_of m) _ _) home p.by.paged in let a = k.1 in omega arith;
   other_tenure = λ page home apart p. apart (subst (IsPagedBy (stage_of m) _ _) home p.by.paged).0;
   other_items = λ page order owners s home spelled few apart p.
-      let one = spells_one m.layout.senders (log_of m) order p.order owners p.owners spelled p.by.spelled in
-      apart ((p.by.knows page home).next s few ∙ ap (λ (o : Order). base_of m s + length (of_sender s o)) (sym one.0));
+      let stood = subst (λ l. Spells m.layout.senders l order owners) p.by.stands spelled in
+      let one =
+      spells_one m.layout.senders T.log order p.order owners p.owners stood p.by.spelled in
+      apart ((p.by.knows page home).next s few
+      ∙ ap (λ (o : Order). base_of m s + length (of_sender s o)) (sym one.0));
   other_leavers = λ page order owners s home spelled few apart p.
-      let one = spells_one m.layout.senders (log_of m) order p.order owners p.owners spelled p.by.spelled in
-      apart ((p.by.knows page home).left s few ∙ ap (λ (o : Order). Some (has_gone s o)) (sym one.0));
+      let stood = subst (λ l. Spells m.layout.senders l order owners) p.by.stands spelled in
+      let one =
+      spells_one m.layout.senders T.log order p.order owners p.owners stood p.by.spelled in
+      apart
+      ((p.by.knows page home).left s few ∙ ap (λ (o : Order). Some (has_gone s o)) (sym one.0));
   out_other_leavers = λ s v t page stored q order owners away at holds spelled few apart p.
       let w = p.by.out away in
       let held : held_of v.core.phase ≡ Some t = ap held_of holds in
       let stage = p.by.holds s v t at held in
       let opened = w.stage in
       let same : w.tenure ≡ t = omega arith in
-      let owner_is : w.owner ≡ s = same_Some _ _ (sym w.last ∙ ap (slice_get p.by.takers.all) same ∙ p.by.owns s v t at held) in
-      let sender_is : w.sender ≡ v = same_Some _ _ (sym w.there ∙ ap (slice_get m.senders) owner_is ∙ at) in
+      let owner_is : w.owner ≡ s =
+      same_Some _ _ (sym w.last ∙ ap (slice_get p.by.takers.all) same ∙ p.by.owns s v t at held) in
+      let sender_is : w.sender ≡ v =
+      same_Some _ _ (sym w.there ∙ ap (slice_get m.senders) owner_is ∙ at) in
       let has = held_so t w.tenure page w.page stored w.stored false w.published
       (sym holds ∙ ap (λ (u : Sender E). u.core.phase) (sym sender_is) ∙ w.has) in
-      let front_is : w.front ≡ log_of m = sym (append-nil w.front)
+      let front_is : w.front ≡ T.log = sym (append-nil w.front)
       ∙ ap (λ b. w.front ++ cond b (frame_words (frame_of w.sender.core.queue w.tenure)) []) has.1
       ∙ sym w.behind in
-      let known = subst (λ f. Spells m.layout.senders f w.knows.order w.knows.owners) front_is w.knows.spelled in
-      let one = spells_one m.layout.senders (log_of m) w.knows.order order w.knows.owners owners known spelled in
-      apart (ap (λ (g : Page). slice_get g.left q) has.0 ∙ w.knows.knows.left q few ∙ ap (λ (o : Order). Some (has_gone q o)) one.0);
+      let known = subst (λ f. Spells m.layout.senders f w.knows.order w.knows.owners) front_is
+      w.knows.spelled in
+      let stood = subst (λ l. Spells m.layout.senders l order owners) p.by.stands spelled in
+      let one =
+      spells_one m.layout.senders T.log w.knows.order order w.knows.owners owners known stood in
+      apart (ap (λ (g : Page). slice_get g.left q) has.0 ∙ w.knows.knows.left q few
+      ∙ ap (λ (o : Order). Some (has_gone q o)) one.0);
   counts_untaken = λ page home one idle p.
       let all = p.by.takers.all in
       let many : length all ≡ 1 = sym (p.by.counts page home) ∙ one in
@@ -302,16 +382,23 @@ pages_refused {E} X m T = record {
       let stage = p.by.holds s v t at held in
       let again = p.by.holds q w u there holds in
       let same : u ≡ t = omega arith in
-      apart (same_Some s q (sym (p.by.owns s v t at held) ∙ ap (slice_get p.by.takers.all) (sym same) ∙ p.by.owns q w u there holds));
+      apart (same_Some s q (sym (p.by.owns s v t at held)
+      ∙ ap (slice_get p.by.takers.all) (sym same) ∙ p.by.owns q w u there holds));
   holds_untaken = λ s v t at held untaken p.
       let took = p.by.takers.takers.took t s (p.by.owns s v t at held) in untaken took.0 took.1;
-  out_of_hands = λ away nobody p. let w = p.by.out away in nobody w.owner w.sender w.tenure w.there (ap held_of w.has);
+  out_of_hands = λ away nobody p.
+      let w = p.by.out away in nobody w.owner w.sender w.tenure w.there (ap held_of w.has);
 }
 
 -- who has left by the order that the log spells has left in it
 left_by_it : {E : Type 0} (m : Machine E) (s : ℕ) (order : Order) (owners : List (ℕ × SenderNo))
     → Spells m.layout.senders (log_of m) order owners → has_gone s order ≡ true → HasLeftIt m s
-left_by_it m s order owners spelled gone = record { order = order; owners = owners; spelled = spelled; left = gone }
+left_by_it m s order owners spelled gone = record {
+  order = order;
+  owners = owners;
+  spelled = spelled;
+  left = gone;
+}
 
 never_at_rest : {E : Type 0} (t : ℕ) (ph : Phase E) → HasPublished t ph → ph ≡ phase.Resting → ⊥
 never_at_rest t ph (Published page stored) e = cc
@@ -321,19 +408,24 @@ rows_same : (r rows : ℕ) → ◌≡◌ {A = Option ℕ} (Some r) (Some rows) �
 rows_same r rows e = same_Some r rows e
 
 -- memories of what is not so
-pub memories_refused : {E : Type 0} (X : Election E) (m : Machine E) (T : Trails) → MemoriesRefuse X m T
+pub memories_refused : {E : Type 0} (X : Election E) (m : Machine E) (T : Trails)
+    → MemoriesRefuse X m T
 memories_refused X m T = record {
-  closed_with_nothing = λ s v at closed empty p. none_closed m s empty ((p.by.remembers s v at).closed closed);
+  closed_with_nothing =
+      λ s v at closed empty p. none_closed m s empty ((p.by.remembers s v at).closed closed);
   closed_too_soon = λ s v order owners at closed spelled goes stays p.
       not_closed m s order owners spelled goes stays ((p.by.remembers s v at).closed closed);
   open_after_leaving = λ s v order owners at open_is spelled gone p.
       elim ((p.by.remembers s v at).gone (left_by_it m s order owners spelled gone)) [
         | inl closed ↦ (let bad : batch.Open ≡ batch.Closed = sym open_is ∙ closed in cc)
-        | inr now ↦ (let bad : is_leaving batch.Open ≡ true = ap is_leaving (sym open_is) ∙ now.leaves in true≢false (sym bad))
+        | inr now ↦
+            (let bad : is_leaving batch.Open ≡ true = ap is_leaving (sym open_is) ∙ now.leaves in
+            true≢false (sym bad))
       ];
   leaving_after_leaving = λ s v order owners at leaving ph spelled gone p.
       elim ((p.by.remembers s v at).gone (left_by_it m s order owners spelled gone)) [
-        | inl closed ↦ (let bad : batch.Marking mark.Leave ≡ batch.Closed = sym leaving ∙ closed in cc)
+        | inl closed ↦
+            (let bad : batch.Marking mark.Leave ≡ batch.Closed = sym leaving ∙ closed in cc)
         | inr now ↦ never_at_rest now.tenure v.core.phase now.published ph
       ];
   open_after_asking = λ s v asked at open_is did p. elim ((p.by.remembers s v at).asked asked did) [
@@ -343,24 +435,40 @@ memories_refused X m T = record {
   other_number = λ s v at other p. other (p.by.remembers s v at).is.me;
   other_layout = λ s v at other p. other (p.by.remembers s v at).is.layout;
   other_mark = λ s v at other p. other (p.by.remembers s v at).is.marks;
-  other_rows = λ s v r rows at used again other p. other (rows_same r.rows rows (ap rows_in (sym again) ∙ (p.by.remembers s v at).rows ∙ used));
+  other_rows = λ s v r rows at used again other p.
+      other (rows_same r.rows rows (ap rows_in (sym again) ∙ (p.by.remembers s v at).rows ∙ used));
   first_as_one = λ s v at first idle p.
       let n = (p.by.remembers s v at).numbers in
       let none : length (puts (T.actions s)) ≡ 0 = ap (λ l. length (puts l)) idle in omega arith;
   past_at_first = λ s v at one stage idle p. elim ((p.by.remembers s v at).past 0 (omega arith)) [
     | inl ended ↦ omega arith
-    | inr lost ↦ (let e = lost.elected in nothing_there e.place _ (ap (λ d. slice_get d e.place) (sym idle) ∙ e.at))
+    | inr lost ↦
+        (let e = lost.elected in
+        nothing_there e.place _ (ap (λ d. slice_get d e.place) (sym idle) ∙ e.at))
   ];
-  begins_ahead = λ s v t at begun stage p. let low = (p.by.remembers s v at).begun t begun in omega arith;
-  runs_ahead = λ s v t e at ph stage p. let low = (p.by.remembers s v at).entered t (ap tenure_of ph) in omega arith;
+  begins_ahead =
+      λ s v t at begun stage p. let low = (p.by.remembers s v at).begun t begun in omega arith;
+  runs_ahead = λ s v t e at ph stage p.
+      let low = (p.by.remembers s v at).entered t (ap tenure_of ph) in omega arith;
   busy_at_rest = λ s v at rests busy p. true≢false (sym busy ∙ (p.by.remembers s v at).idle rests);
-  idle_in_a_tenure = λ s v t at in_it idle p. true≢false (sym ((p.by.remembers s v at).busy t in_it) ∙ idle);
+  idle_in_a_tenure =
+      λ s v t at in_it idle p. true≢false (sym ((p.by.remembers s v at).busy t in_it) ∙ idle);
+  puts_once_begun = λ s len v t at begun can p.
+      true≢false (sym ((p.by.remembers s v at).seen_busy t begun) ∙ can.idle);
+  closes_once_begun = λ s v t at begun can p.
+      true≢false (sym ((p.by.remembers s v at).seen_busy t begun) ∙ can.idle);
+  busy_with_none_begun =
+      λ s len v at none busy p. true≢false (sym busy.1 ∙ (p.by.remembers s v at).seen_idle none);
+  busy_to_close =
+      λ s v at none busy p. true≢false (sym busy.1 ∙ (p.by.remembers s v at).seen_idle none);
 }
 
 -- words of the log stored below the length, and words cleared of rows in which somebody stands
 pub words_refused : {E : Type 0} (X : Election E) (m : Machine E) (T : Trails) → WordsRefuse X m T
 words_refused X m T = record {
-  below_the_length = λ s v t page stored word o at i next below p. let is = p.by.past s v t page stored word o at i next in omega arith;
+  below_the_length = λ s v t page stored word o at i next below p.
+      let is = p.by.past s v t page stored word o at i next in omega arith;
   clears_under_a_stander = λ rows p q t place word v s o used at i next stands low same k.
-      (subst (ReusesSafely X m T) used k.by.reuse).spares p q t place word v s o at i next stands low same;
+      (subst (ReusesSafely X m T) used k.by.reuse).spares p q t place word v s o at i next stands
+      low same;
 }

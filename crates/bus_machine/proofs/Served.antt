@@ -12,8 +12,16 @@ use Rattle.bus_world.proofs.Serving.{Serves, serves}
 use Rattle.bus_world.specs.declared.shapes.Shape.{Shape}
 use Rattle.bus_machine.specs.Playing.{layout_of}
 
-module _ {S : Type 0} (kind_of : S → Option Kind) (op : S → ℕ → Option Op) (fed : S → ℕ → ℕ → S) (P : Protocol S Bool Verdict) (named : (s : S) (word : ℕ) → is_some (kind_of s) ≡ is_some (op s word)) (own_kinds : (s : S) (k : Kind) → kind_of s ≡ Some k → IsOfRatifier k)
-    (shape : Shape) (laws : Laws (election_with kind_of op fed P).op (election_with kind_of op fed P).fed (elections P shape.rounds) OneOwner) where
-  pub served : (reuse : Option ℕ) → Serves (election_with kind_of op fed P) (elections P shape.rounds) (layout_of P shape reuse)
-  served None = serves kind_of op fed P named own_kinds shape.senders shape.rounds shape.rows shape.log_words laws
-  served (Some rows) = serves kind_of op fed P named own_kinds shape.senders shape.rounds TENURES shape.log_words laws
+module _ {S : Type 0} (kind_of : S → Option Kind) (op : S → ℕ → Option Op) (fed : S → ℕ → ℕ → S)
+    (P : Protocol S Bool Verdict)
+    (named : (s : S) (word : ℕ) → is_some (kind_of s) ≡ is_some (op s word))
+    (own_kinds : (s : S) (k : Kind) → kind_of s ≡ Some k → IsOfRatifier k)
+    (shape : Shape)
+    (laws : Laws (election_with kind_of op fed P).op (election_with kind_of op fed P).fed
+    (elections P shape.rounds) OneOwner) where
+  pub served : (reuse : Option ℕ)
+      → Serves (election_with kind_of op fed P) (elections P shape.rounds) (layout_of P shape reuse)
+  served None = serves kind_of op fed P named own_kinds shape.senders shape.rounds shape.rows
+      shape.log_words laws
+  served (Some rows) = serves kind_of op fed P named own_kinds shape.senders shape.rounds TENURES
+      shape.log_words laws

@@ -1,7 +1,9 @@
 -- Who takes the page is told so by the answer of its turn, and nobody else.
-use Rattle.std.proofs.Common.{◌≡◌, ℕ, List, [], ◌∷◌, ◌++◌, Option, Some, None, Bool, true, false, cond, refl, sym, ◌∙◌, ap}
+use Rattle.std.proofs.Common.{◌≡◌, ℕ, List, [], ◌∷◌, ◌++◌, Option, Some, None, Bool, true, false}
+use Rattle.std.proofs.Common.{cond, refl, sym, ◌∙◌, ap}
 use Rattle.std.proofs.lemmas.Bool.{true≢false}
-use Rattle.bus_core.specs.Senders.{Sender, Situation, Does, Announces, Validates, Unpins, Withdraws, Scans, Clears}
+use Rattle.bus_core.specs.Senders.{Sender, Situation, Does, Announces, Validates, Unpins}
+use Rattle.bus_core.specs.Senders.{Withdraws, Scans, Clears}
 use Rattle.bus_core.specs.Table.{line, answer_elected, lost_of}
 use Rattle.bus_core.specs.declared.reuses.Reuse.{Reuse}
 use Rattle.bus_core.specs.Reusing.Turns.{answer_of_loss, answer_of_reclaim}
@@ -15,23 +17,31 @@ use Rattle.bus_world.proofs.PlayingLaws.{owners_told}
 use Rattle.bus_world.specs.Turning.{owners_by}
 
 module _ {E : Type 0} (X : Election E) (v : Sender E) where
-  loss_told : (t s : ℕ) (owners : List ℕ) (l : Option SenderNo) → owners ≡ owners_by (answer_of_loss t l) s owners
+  loss_told : (t s : ℕ) (owners : List ℕ) (l : Option SenderNo)
+      → owners ≡ owners_by (answer_of_loss t l) s owners
   loss_told t s owners None = refl
   loss_told t s owners (Some o) = refl
 
-  reclaimer_told : (s : ℕ) (owners : List ℕ) (b : Option Behind) → owners ≡ owners_by (answer_of_reclaim b) s owners
+  reclaimer_told : (s : ℕ) (owners : List ℕ) (b : Option Behind)
+      → owners ≡ owners_by (answer_of_reclaim b) s owners
   reclaimer_told s owners None = refl
   reclaimer_told s owners (Some b) = refl
 
-  elected_told : (t : ℕ) (e : E) (s : ℕ) (owners : List ℕ) (got word : ℕ) (r : Option Reuse) → owners ≡ owners_by (answer_elected v.core r t (X.owner (X.fed e got word))) s owners
+  elected_told : (t : ℕ) (e : E) (s : ℕ) (owners : List ℕ) (got word : ℕ) (r : Option Reuse)
+      → owners ≡ owners_by (answer_elected v.core r t (X.owner (X.fed e got word))) s owners
   elected_told t e s owners got word None = owners_told X v.core s owners (Elects t e) got word
   elected_told t e s owners got word (Some r) = refl
 
-  pub takes_told : (z : Situation E) (s : ℕ) (owners : List ℕ) (got word : ℕ) → cond (line X v z).takes (owners ++ s ∷ []) owners ≡ owners_by ((line X v z).answer got word) s owners
-  takes_told (Does LooksAtStage) s owners got word = owners_told X v.core s owners LooksAtStage got word
+  pub takes_told : (z : Situation E) (s : ℕ) (owners : List ℕ) (got word : ℕ)
+      → cond (line X v z).takes (owners ++ s ∷ []) owners
+      ≡ owners_by ((line X v z).answer got word) s owners
+  takes_told (Does LooksAtStage) s owners got word =
+      owners_told X v.core s owners LooksAtStage got word
   takes_told (Does (Elects t e)) s owners got word = elected_told t e s owners got word v.reuse
-  takes_told (Does (GivesBack t page reason)) s owners got word = owners_told X v.core s owners (GivesBack t page reason) got word
-  takes_told (Does (HasHanded t reason)) s owners got word = owners_told X v.core s owners (HasHanded t reason) got word
+  takes_told (Does (GivesBack t page reason)) s owners got word =
+      owners_told X v.core s owners (GivesBack t page reason) got word
+  takes_told (Does (HasHanded t reason)) s owners got word =
+      owners_told X v.core s owners (HasHanded t reason) got word
   takes_told (Does z) s owners got word = refl
   takes_told (Announces t) s owners got word = refl
   takes_told (Validates t) s owners got word = refl
@@ -60,7 +70,11 @@ module _ {E : Type 0} (X : Election E) (v : Sender E) (t : ℕ) where
   same_own : (u : ℕ) → turn.Own u ≡ turn.Own t → u ≡ t
   same_own u e = cc
 
-  pub owns_page : (z : Situation E) (got word : ℕ) → (line X v z).answer got word ≡ turn.Own t → z ≡ Does (TakesPage t)
+  pub owns_page : (z : Situation E) (got word : ℕ) → (line X v z).answer got word ≡ turn.Own t
+      → z ≡ Does (TakesPage t)
   owns_page z got word own =
-      let taken = by_takes z (is_taken (line X v z).takes 0 (takes_told X v z 0 [] got word ∙ ap (λ a. owners_by a 0 []) own)) in
-      taken.1 ∙ ap (λ n. Does (TakesPage n)) (same_own taken.0 (sym (ap (λ y. (line X v y).answer got word) taken.1) ∙ own))
+      let taken = by_takes z (is_taken (line X v z).takes 0
+      (takes_told X v z 0 [] got word ∙ ap (λ a. owners_by a 0 []) own)) in
+      taken.1
+      ∙ ap (λ n. Does (TakesPage n))
+      (same_own taken.0 (sym (ap (λ y. (line X v y).answer got word) taken.1) ∙ own))

@@ -1,5 +1,7 @@
 -- What an event is answered is so.
-use Rattle.std.proofs.Common.{◌≡◌, ◌⊎◌, inl, inr, ℕ, ◌-◌, ◌/◌, ◌<◌, ◌≤◌, ◌==◌, nat_le, Bool, true, false, cond, Option, Some, None, IsSome, List, [], ◌∷◌, ◌++◌, length, slice_get, slice_index, arith, refl, sym, ◌∙◌, ap, subst}
+use Rattle.std.proofs.Common.{◌≡◌, ◌⊎◌, inl, inr, ℕ, ◌-◌, ◌/◌, ◌<◌, ◌≤◌, ◌==◌, nat_le, Bool, true}
+use Rattle.std.proofs.Common.{false, cond, Option, Some, None, IsSome, List, [], ◌∷◌, ◌++◌, length}
+use Rattle.std.proofs.Common.{slice_get, slice_index, arith, refl, sym, ◌∙◌, ap, subst}
 use Rattle.std.proofs.lemmas.Bool.{leb-true, true≢false}
 use Rattle.std.proofs.lemmas.Bool.Decides.{eqb_tells}
 use Rattle.std.proofs.lemmas.Grind.{flat_map-append}
@@ -13,9 +15,11 @@ use Rattle.bus_batch.specs.declared.messages.Mark.TheVariants as mark
 use Rattle.bus_core.proofs.Looking.{closed_at, spent_at}
 use Rattle.bus_core.proofs.Reusing.Tells.{Shows, gives_shows}
 use Rattle.bus_core.proofs.Situated.{own_is}
-use Rattle.bus_core.specs.Reusing.Telling.{HasPublished, Published, HandsOnSent, LacksRoom, FindsNoRoom, HandsOnFull}
+use Rattle.bus_core.specs.Reusing.Telling.{HasPublished, Published, HandsOnSent, LacksRoom}
+use Rattle.bus_core.specs.Reusing.Telling.{FindsNoRoom, HandsOnFull}
 use Rattle.bus_core.specs.Reusing.Turns.{answer_of_loss, answer_of_reclaim}
-use Rattle.bus_core.specs.Senders.{Sender, Situation, Does, Announces, Validates, Unpins, Withdraws, Scans, Clears, pinning, situation_by, situation}
+use Rattle.bus_core.specs.Senders.{Sender, Situation, Does, Announces, Validates, Unpins}
+use Rattle.bus_core.specs.Senders.{Withdraws, Scans, Clears, pinning, situation_by, situation}
 use Rattle.bus_core.specs.Table.{lost_of, line, answer_elected}
 use Rattle.bus_core.specs.declared.reuses.Reuse.{Reuse}
 use Rattle.bus_presence.specs.Reclaimers.{behind_of}
@@ -27,7 +31,10 @@ use Rattle.bus_register.specs.declared.kinds.Kind.TheVariants as kind
 use Rattle.bus_register.specs.declared.registers.SenderNo.{SenderNo}
 use Rattle.bus_tenure.proofs.Situated.{tells as tells_phase}
 use Rattle.bus_tenure.specs.Core.{Core, Election, Layout, is_marking}
-use Rattle.bus_tenure.specs.Situations.{Situation as Own, IsClosed, IsIdle, IsSpent, LooksAtStage, Elects, TakesPage, AwaitsPage, StoresWord, StoresLength, GivesBack, HasHanded, waits, answer_sent, answer_of_return, situation_of}
+use Rattle.bus_tenure.specs.Situations.{Situation as Own, IsClosed, IsIdle, IsSpent, LooksAtStage}
+use Rattle.bus_tenure.specs.Situations.{Elects, TakesPage, AwaitsPage, StoresWord, StoresLength}
+use Rattle.bus_tenure.specs.Situations.{GivesBack, HasHanded, waits, answer_sent, answer_of_return}
+use Rattle.bus_tenure.specs.Situations.{situation_of}
 use Rattle.bus_tenure.specs.declared.phases.Phase.{Phase}
 use Rattle.bus_tenure.specs.declared.phases.Reason.{Reason}
 use Rattle.bus_tenure.specs.declared.phases.Reason.TheVariants.{Sent, FoundEnd, NoRoom}
@@ -42,7 +49,7 @@ use Rattle.bus_world.specs.Telling.{HasDelivered, HasLeft}
 use Rattle.bus_world.specs.World.{Event, Put, Ask, Turn, Recv, Stop}
 use Rattle.bus_world.specs.declared.events.Answer.{Answer}
 use Rattle.bus_world.specs.declared.events.Answer.TheVariants as answer
-use Rattle.bus_machine.proofs.Bounding.{actions_of_it}
+use Rattle.bus_machine.proofs.EachSender.{actions_of_it}
 use Rattle.bus_machine.proofs.Ending.{elected_more, ended_of, published_ends, found_ends, none_left}
 use Rattle.bus_machine.proofs.Framed.{IsFramed, framed, log_framed}
 use Rattle.bus_machine.proofs.Joining.{reused}
@@ -50,23 +57,28 @@ use Rattle.bus_machine.proofs.Leading.{Sits, sits_after}
 use Rattle.bus_machine.proofs.Losing.{losses}
 use Rattle.bus_machine.proofs.Remembering.{all_recall, done, remembered, saw}
 use Rattle.bus_machine.proofs.Staying.{grown_longer}
-use Rattle.bus_machine.specs.Machine.{base_of, Machine, Trails, Reached, Then, Happens, TakesPut, TakesTurn, found, has_stopped, log_of, log_place, stage_of, trails_grown, turn_answer}
+use Rattle.bus_machine.specs.Machine.{base_of, Machine, Trails, Reached, Then, Happens, TakesPut}
+use Rattle.bus_machine.specs.Machine.{TakesTurn, found, has_stopped, log_of, log_place, stage_of}
+use Rattle.bus_machine.specs.Machine.{trails_grown, turn_answer}
 use Rattle.bus_machine.specs.Promise.{pin_of}
 use Rattle.bus_machine.specs.Remembering.{NoneIsLeft, Remembers, rows_in}
 use Rattle.bus_machine.specs.Telling.{TurnTells, ClosedTells, PutTells, SenderTells, EventTells}
 
 -- whose frame is no mark has messages to send
-some_messages : (ph : BatchPhase) (n : ℕ) → (0 < n) ⊎ ((m : Mark) × (ph ≡ batch.Marking m)) → is_marking ph ≡ false → 0 < n
+some_messages : (ph : BatchPhase) (n : ℕ) → (0 < n) ⊎ ((m : Mark) × (ph ≡ batch.Marking m))
+    → is_marking ph ≡ false → 0 < n
 some_messages ph n (inl some) e = some
 some_messages ph n (inr marking) e = absurd (true≢false (sym (ap is_marking marking.1) ∙ e))
 
 -- the presence of who parts from a tenure is that tenure's
-unpins_it : {E : Type 0} (q : Option Reuse) (z : Own E) (t u : ℕ) → situation_by q z ≡ Unpins t → pin_of q ≡ Unpinning u → u ≡ t
+unpins_it : {E : Type 0} (q : Option Reuse) (z : Own E) (t u : ℕ) → situation_by q z ≡ Unpins t
+    → pin_of q ≡ Unpinning u → u ≡ t
 unpins_it None z t u i e = absurd (let bad = i in cc)
 unpins_it (Some q) z t u i e = let same = sym (ap (λ p. pinning p q.reclaimer z) e) ∙ i in cc
 
 -- ---- a turn of sender s
-module _ {E : Type 0} (X : Election E) (P : Protocol E (Unit {0}) ℕ) (m m' : Machine E) (T : Trails) (s word : ℕ) (a : Answer) (sits : Sits X P m)
+module _ {E : Type 0} (X : Election E) (P : Protocol E (Unit {0}) ℕ) (m m' : Machine E) (T : Trails)
+    (s word : ℕ) (a : Answer) (sits : Sits X P m)
     (r : Reached X m T) (h : TakesTurn X m s word a m') where
   abbrev v : Sender E
   v = h.sender
@@ -102,24 +114,32 @@ module _ {E : Type 0} (X : Election E) (P : Protocol E (Unit {0}) ℕ) (m m' : M
 
   -- no tenure is left to whom none is left that it may enter
   spent : c.layout.rows ≤ c.least → NoneIsLeft m s (U.actions s)
-  spent past = none_left m s (T.actions s) (U.actions s) more c.least k.past (subst (λ (x : Layout). x.rows ≤ c.least) part.layout past)
+  spent past = none_left m s (T.actions s) (U.actions s) more c.least k.past
+      (subst (λ (x : Layout). x.rows ≤ c.least) part.layout past)
 
   -- after a look at the stage
-  looked : (b d : Bool) → nat_le c.layout.rows (stage_of m / 2) ≡ d → Told (cond b turn.Waiting (cond d turn.Spent turn.Going))
+  looked : (b d : Bool) → nat_le c.layout.rows (stage_of m / 2) ≡ d
+      → Told (cond b turn.Waiting (cond d turn.Spent turn.Going))
   looked true d i = tt
-  looked false true i = let past = leb-true _ _ i in let rows = ap (λ (x : Layout). x.rows) part.layout in inl (omega arith)
+  looked false true i =
+      let past = leb-true _ _ i in
+      let rows = ap (λ (x : Layout). x.rows) part.layout in inl (omega arith)
   looked false false i = tt
 
   -- after a step of an election
   elected : (t : ℕ) (e : E) → situation X v ≡ Does (Elects t e) → (q : Option Reuse) (o : Option ℕ)
-      → X.owner (X.fed e (found m (line X v (Does (Elects t e))) word) word) ≡ o → Told (answer_elected c q t o)
+      → X.owner (X.fed e (found m (line X v (Does (Elects t e))) word) word) ≡ o
+      → Told (answer_elected c q t o)
   elected t e i None None owned = tt
   elected t e i None (Some o) owned = by (o == c.me) (eqb_tells o c.me) where
-    by : (b : Bool) → ((b ≡ true) × (o ≡ c.me)) ⊎ ((b ≡ false) × (o ≡ c.me → ⊥)) → Told (cond b turn.Going (turn.Lost t record { 0 = o }))
+    by : (b : Bool) → ((b ≡ true) × (o ≡ c.me)) ⊎ ((b ≡ false) × (o ≡ c.me → ⊥))
+        → Told (cond b turn.Going (turn.Lost t record { 0 = o }))
     by true how = tt
     by false (inl how) = absurd (true≢false (sym how.0))
-    by false (inr how) =
-        (saw X P m m' T s word a sits r h (all_recall X P m T sits r) t e i o owned, λ same. how.1 (same ∙ sym part.me))
+    by false (inr how) = (
+      saw X P m m' T s word a sits r h (all_recall X P m T sits r) t e i o owned,
+      λ same. how.1 (same ∙ sym part.me),
+    )
   elected t e i (Some q) o owned = tt
 
   -- who takes the page was elected
@@ -132,10 +152,12 @@ module _ {E : Type 0} (X : Election E) (P : Protocol E (Unit {0}) ℕ) (m m' : M
         found = n;
         chose = None;
         answer = told;
-        at = ap (λ l. slice_get l (length (T.actions s))) (done X P m m' T s word a sits r h (all_recall X P m T sits r) (Does (TakesPage t)) i)
+        at = ap (λ l. slice_get l (length (T.actions s)))
+            (done X P m m' T s word a sits r h (all_recall X P m T sits r) (Does (TakesPage t)) i)
             ∙ push_here (T.actions s) d (length (T.actions s)) refl;
       } in
-      let after = framed X P m' U (sits_after X P m m' (Turn s word) a h sits) (Then m m' T (Turn s word) a r h) in
+      let after = framed X P m' U (sits_after X P m m' (Turn s word) a h sits)
+      (Then m m' T (Turn s word) a r h) in
       (after.promises.took_own t s (length (T.actions s)) took, (length (T.actions s), took))
 
   -- its frame is the last
@@ -144,7 +166,8 @@ module _ {E : Type 0} (X : Election E) (P : Protocol E (Unit {0}) ℕ) (m m' : M
     its_words = ap log_words (sym last) ∙ sym (log_framed P m T f)
 
     -- it delivers its messages
-    delivers : 0 < length c.queue.messages → HasDelivered m.layout.senders (log_of m) s t c.queue.first (next_of c.queue - 1)
+    delivers : 0 < length c.queue.messages
+        → HasDelivered m.layout.senders (log_of m) s t c.queue.first (next_of c.queue - 1)
     delivers some = record {
       earlier = front;
       frame = frame_of c.queue t;
@@ -170,31 +193,40 @@ module _ {E : Type 0} (X : Election E) (P : Protocol E (Unit {0}) ℕ) (m m' : M
     }
 
   -- of whom the page goes back with its frame in the log
-  sent : (t : ℕ) (ph : Phase E) → HasPublished t ph → Fits (base_of m) f.V f.frames c ph → (q : BatchPhase) → c.queue.phase ≡ q
+  sent : (t : ℕ) (ph : Phase E) → HasPublished t ph → Fits (base_of m) f.V f.frames c ph
+      → (q : BatchPhase) → c.queue.phase ≡ q
       → (c.queue.phase ≡ batch.Marking mark.End → Told turn.Closed) → Told (answer_sent c.queue t q)
   sent t ph (Published page stored) fits batch.Open i end =
-      delivers t fits.1.front fits.1.frames_are (some_messages c.queue.phase (length c.queue.messages) fits.0.something (ap is_marking i))
+      delivers t fits.1.front fits.1.frames_are
+      (some_messages c.queue.phase (length c.queue.messages) fits.0.something (ap is_marking i))
   sent t ph (Published page stored) fits (batch.Marking mark.End) i end = end i
-  sent t ph (Published page stored) fits (batch.Marking mark.Leave) i end = leaves t fits.1.front fits.1.frames_are i
+  sent t ph (Published page stored) fits (batch.Marking mark.Leave) i end =
+      leaves t fits.1.front fits.1.frames_are i
   sent t ph (Published page stored) fits batch.Closed i end =
-      delivers t fits.1.front fits.1.frames_are (some_messages c.queue.phase (length c.queue.messages) fits.0.something (ap is_marking i))
+      delivers t fits.1.front fits.1.frames_are
+      (some_messages c.queue.phase (length c.queue.messages) fits.0.something (ap is_marking i))
   sent t ph HandsOnSent fits q i end = absurd fits
 
   -- or with no room for it
-  full : (t : ℕ) (ph : Phase E) → LacksRoom c t ph → Fits (base_of m) f.V f.frames c ph → Told turn.Full
+  full : (t : ℕ) (ph : Phase E) → LacksRoom c t ph → Fits (base_of m) f.V f.frames c ph
+      → Told turn.Full
   full t ph (FindsNoRoom page stored past) fits =
       let words_are = fits.1.page_knows.words in
       let capacity_is = ap (λ (x : Layout). x.capacity) part.layout in
-      let size = length-read (slice_index m.words) (log_place m.layout m.reuse) (slice_index m.words 0) in
+      let size =
+      length-read (slice_index m.words) (log_place m.layout m.reuse) (slice_index m.words 0) in
       let same = f.length in
       omega arith
   full t ph HandsOnFull fits = absurd fits
 
   -- of whom the page goes back
-  returned : (t : ℕ) (reason : Reason) → Shows c t c.phase reason → Told (answer_of_return c.queue t reason)
+  returned : (t : ℕ) (reason : Reason) → Shows c t c.phase reason
+      → Told (answer_of_return c.queue t reason)
   returned t Sent w = sent t c.phase w part.fits c.queue.phase refl
-      (λ i. inl (ended_of P m T f (published_ends (base_of m) f.V f.frames c t c.phase w i part.fits)))
-  returned t FoundEnd w = inl (ended_of P m T f (found_ends (base_of m) f.V f.frames c t c.phase w part.fits))
+      (λ i.
+      inl (ended_of P m T f (published_ends (base_of m) f.V f.frames c t c.phase w i part.fits)))
+  returned t FoundEnd w =
+      inl (ended_of P m T f (found_ends (base_of m) f.V f.frames c t c.phase w part.fits))
   returned t NoRoom w = full t c.phase w part.fits
 
   -- whose batch is closed
@@ -202,15 +234,20 @@ module _ {E : Type 0} (X : Election E) (P : Protocol E (Unit {0}) ℕ) (m m' : M
   closed_told shut = elim (k.closed shut) [ inl ended ↦ inl ended | inr left ↦ inr (shut, left) ]
 
   -- who withdraws has seen to whom it lost
-  lost : (t : ℕ) → situation X v ≡ Unpins t → (o : Option SenderNo) → lost_of v.reuse ≡ o → Told (answer_of_loss t o)
+  lost : (t : ℕ) → situation X v ≡ Unpins t → (o : Option SenderNo) → lost_of v.reuse ≡ o
+      → Told (answer_of_loss t o)
   lost t i None is = tt
   lost t i (Some o) is =
       let w = losses X P m T sits r s v o at is in
-      let same = unpins_it v.reuse _ t w.tenure i w.parts in
-      (elected_more (T.actions s) (U.actions s) t o.0 more (subst (λ u. Elected (T.actions s) u o.0) same w.elected), w.other)
+      let same = unpins_it v.reuse _ t w.tenure i w.parts in (
+        elected_more (T.actions s) (U.actions s) t o.0 more
+            (subst (λ u. Elected (T.actions s) u o.0) same w.elected),
+        w.other,
+      )
 
   -- only who uses rows again is behind
-  behind : (z : Situation E) → situation X v ≡ z → ((y : Own E) → Does y ≡ z → ⊥) → (b : Option Behind) → Told (answer_of_reclaim b)
+  behind : (z : Situation E) → situation X v ≡ z → ((y : Own E) → Does y ≡ z → ⊥)
+      → (b : Option Behind) → Told (answer_of_reclaim b)
   behind z i other None = tt
   behind z i other (Some b) =
       let again = reused v.reuse (situation_of X c) z i other in
@@ -221,31 +258,40 @@ module _ {E : Type 0} (X : Election E) (P : Protocol E (Unit {0}) ℕ) (m m' : M
   by_turn (Does IsClosed) i = closed_told (closed_at X v (own_is X v IsClosed i))
   by_turn (Does IsIdle) i = tt
   by_turn (Does IsSpent) i = spent (spent_at X v (own_is X v IsSpent i))
-  by_turn (Does LooksAtStage) i = looked (waits c (stage_of m)) (nat_le c.layout.rows (stage_of m / 2)) refl
-  by_turn (Does (Elects t e)) i = elected t e i v.reuse (X.owner (X.fed e (found m (line X v (Does (Elects t e))) word) word)) refl
+  by_turn (Does LooksAtStage) i =
+      looked (waits c (stage_of m)) (nat_le c.layout.rows (stage_of m / 2)) refl
+  by_turn (Does (Elects t e)) i = elected t e i v.reuse
+      (X.owner (X.fed e (found m (line X v (Does (Elects t e))) word) word)) refl
   by_turn (Does (TakesPage t)) i = takes t i
   by_turn (Does (AwaitsPage t)) i = tt
   by_turn (Does (StoresWord t page stored)) i = tt
   by_turn (Does (StoresLength t page stored)) i = tt
-  by_turn (Does (GivesBack t page reason)) i = returned t reason (gives_shows X c t page reason (own_is X v (GivesBack t page reason) i))
+  by_turn (Does (GivesBack t page reason)) i =
+      returned t reason (gives_shows X c t page reason (own_is X v (GivesBack t page reason) i))
   by_turn (Does (HasHanded t reason)) i =
-      absurd (subst (Fits (base_of m) f.V f.frames c) (tells_phase X c (HasHanded t reason) (own_is X v (HasHanded t reason) i)) part.fits)
+      absurd (subst (Fits (base_of m) f.V f.frames c)
+      (tells_phase X c (HasHanded t reason) (own_is X v (HasHanded t reason) i)) part.fits)
   by_turn (Announces t) i = tt
   by_turn (Validates t) i = tt
   by_turn (Unpins t) i = lost t i (lost_of v.reuse) refl
   by_turn (Withdraws t) i = tt
-  by_turn (Scans q) i = behind (Scans q) i (λ y e. cc) (behind_of q (found m (line X v (Scans q)) word))
-  by_turn (Clears q) i = behind (Clears q) i (λ y e. cc) (behind_of q (found m (line X v (Clears q)) word))
+  by_turn (Scans q) i =
+      behind (Scans q) i (λ y e. cc) (behind_of q (found m (line X v (Scans q)) word))
+  by_turn (Clears q) i =
+      behind (Clears q) i (λ y e. cc) (behind_of q (found m (line X v (Clears q)) word))
 
   -- so its answer tells what is so
   turn_told : EventTells m (Turn s word) a U
   turn_told =
       subst (λ o. SenderTells m s o (U.actions s) a) (sym h.goes)
-      (subst (SenderTells m s (Some v) (U.actions s)) (sym h.answered) (by_turn (situation X v) refl))
+      (subst (SenderTells m s (Some v) (U.actions s)) (sym h.answered)
+      (by_turn (situation X v) refl))
 
 -- ---- a put
-put_told : {E : Type 0} (X : Election E) (P : Protocol E (Unit {0}) ℕ) (m m' : Machine E) (T : Trails) (s : ℕ) (bytes : List ℕ) (a : Answer)
-    → Sits X P m → Reached X m T → TakesPut m s bytes a m' → EventTells m (Put s bytes) a (trails_grown X m (Put s bytes) a T)
+put_told : {E : Type 0} (X : Election E) (P : Protocol E (Unit {0}) ℕ) (m m' : Machine E)
+    (T : Trails) (s : ℕ) (bytes : List ℕ) (a : Answer)
+    → Sits X P m → Reached X m T → TakesPut m s bytes a m'
+    → EventTells m (Put s bytes) a (trails_grown X m (Put s bytes) a T)
 put_told X P m m' T s bytes a sits r h =
     let v = h.sender in
     let n = next_of v.core.queue in
@@ -253,12 +299,16 @@ put_told X P m m' T s bytes a sits r h =
     let at = shown_there (has_stopped m s) (slice_get m.senders s) v h.goes in
     let before = (remembered X P m T sits r s v at).numbers in
     let now = actions_of_it s ds T.actions s refl in
-    let many = ap length (flat_map-append put_of (T.actions s) ds) ∙ length-append (puts (T.actions s)) (bytes ∷ []) in
-    subst (λ d. PutTells (base_of m s) ((trails_grown X m (Put s bytes) d T).actions s) d) (sym h.answered)
+    let many =
+    ap length (flat_map-append put_of (T.actions s) ds)
+    ∙ length-append (puts (T.actions s)) (bytes ∷ []) in
+    subst (λ d. PutTells (base_of m s) ((trails_grown X m (Put s bytes) d T).actions s) d)
+    (sym h.answered)
     (subst (λ l. PutTells (base_of m s) l (answer.Number n)) (sym now) (omega arith))
 
 -- ---- whatever happens
-pub told : {E : Type 0} (X : Election E) (P : Protocol E (Unit {0}) ℕ) (m m' : Machine E) (T : Trails) (e : Event) (a : Answer) → Sits X P m
+pub told : {E : Type 0} (X : Election E) (P : Protocol E (Unit {0}) ℕ) (m m' : Machine E)
+    (T : Trails) (e : Event) (a : Answer) → Sits X P m
     → Reached X m T → Happens X m e a m' → EventTells m e a (trails_grown X m e a T)
 told X P m m' T (Put s bytes) a sits r h = put_told X P m m' T s bytes a sits r h
 told X P m m' T (Ask s asked) a sits r h = tt

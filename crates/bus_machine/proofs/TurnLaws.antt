@@ -1,21 +1,28 @@
 -- A turn in its three parts: the page comes home, the step is taken, the page is laid.
-use Rattle.std.proofs.Common.{◌≡◌, inl, inr, ℕ, ◌+◌, ◌<◌, ◌/◌, ◌==◌, Bool, true, false, cond, nat_le, length, Option, Some, None, List, refl, sym, ◌∙◌, ap, subst, slice_index}
+use Rattle.std.proofs.Common.{◌≡◌, inl, inr, ℕ, ◌+◌, ◌<◌, ◌/◌, ◌==◌, Bool, true, false, cond}
+use Rattle.std.proofs.Common.{nat_le, length, Option, Some, None, List, refl, sym, ◌∙◌, ap, subst}
+use Rattle.std.proofs.Common.{slice_index}
 use Rattle.std.specs.Prelude.{◌⊎◌, IsSome, IfSome}
 use Rattle.std.proofs.lemmas.Bool.{true≢false}
 use Rattle.bus_core.specs.Keeping.{core_without}
-use Rattle.bus_core.specs.Senders.{Sender, Situation, Does, Announces, Validates, Unpins, Withdraws, Scans, Clears, situation, situation_by, pinning}
+use Rattle.bus_core.specs.Senders.{Sender, Situation, Does, Announces, Validates, Unpins}
+use Rattle.bus_core.specs.Senders.{Withdraws, Scans, Clears, situation, situation_by, pinning}
 use Rattle.bus_core.specs.Table.{Line, line, line_now, rest_at, in_row, seen}
 use Rattle.bus_core.specs.Telling.{FeedTells, RestTells}
 use Rattle.bus_core.specs.declared.reuses.Reuse.{Reuse}
 use Rattle.bus_presence.specs.Reclaimers.{Reclaiming}
 use Rattle.bus_presence.specs.declared.pins.Pin.{Pin}
-use Rattle.bus_presence.specs.declared.pins.Pin.TheVariants.{Away, Announcing, Validating, Pinned, Unpinning, Invalidated}
+use Rattle.bus_presence.specs.declared.pins.Pin.TheVariants.{Away, Announcing, Validating, Pinned}
+use Rattle.bus_presence.specs.declared.pins.Pin.TheVariants.{Unpinning, Invalidated}
 use Rattle.bus_register.specs.Words.{register, SumFits}
 use Rattle.bus_register.specs.declared.registers.Op.{Op}
 use Rattle.bus_tenure.proofs.Situated.{tells}
 use Rattle.bus_tenure.specs.Core.{Core, Election, Layout}
 use Rattle.bus_tenure.specs.Seen.{AwaitsItsPage}
-use Rattle.bus_tenure.specs.Situations.{Situation as Own, IsClosed, IsIdle, IsSpent, LooksAtStage, Elects, TakesPage, AwaitsPage, StoresWord, StoresLength, GivesBack, HasHanded, situation_of, PageMove, Stays, Comes, Returns, waits, core_begun, core_elected}
+use Rattle.bus_tenure.specs.Situations.{Situation as Own, IsClosed, IsIdle, IsSpent, LooksAtStage}
+use Rattle.bus_tenure.specs.Situations.{Elects, TakesPage, AwaitsPage, StoresWord, StoresLength}
+use Rattle.bus_tenure.specs.Situations.{GivesBack, HasHanded, situation_of, PageMove, Stays, Comes}
+use Rattle.bus_tenure.specs.Situations.{Returns, waits, core_begun, core_elected}
 use Rattle.bus_tenure.specs.declared.pages.Page.{Page}
 use Rattle.bus_tenure.specs.declared.phases.Phase.{Phase}
 use Rattle.bus_tenure.specs.declared.phases.Phase.TheVariants as phase
@@ -32,7 +39,9 @@ use Rattle.bus_machine.specs.Turning.{HasStepped, HasTurned}
 
 module _ {E : Type 0} where
   -- ---- a sender that has handed the page on
-  handed_at : (u : Pin) (s : Option Reclaiming) (w z : Own E) (t : ℕ) (reason : Reason) → pinning u s w ≡ Does z → pinning {E = E} u s (HasHanded t reason) ≡ Does (HasHanded t reason)
+  handed_at : (u : Pin) (s : Option Reclaiming) (w z : Own E) (t : ℕ) (reason : Reason)
+      → pinning u s w ≡ Does z
+      → pinning {E = E} u s (HasHanded t reason) ≡ Does (HasHanded t reason)
   handed_at Away s w z t reason i = refl
   handed_at (Announcing k) s w z t reason i = absurd cc
   handed_at (Validating k) s w z t reason i = absurd cc
@@ -40,7 +49,9 @@ module _ {E : Type 0} where
   handed_at (Unpinning k) s w z t reason i = absurd cc
   handed_at (Invalidated k) s w z t reason i = absurd cc
 
-  pub handed_by : (r : Option Reuse) (w z : Own E) (t : ℕ) (reason : Reason) → situation_by r w ≡ Does z → situation_by {E = E} r (HasHanded t reason) ≡ Does (HasHanded t reason)
+  pub handed_by : (r : Option Reuse) (w z : Own E) (t : ℕ) (reason : Reason)
+      → situation_by r w ≡ Does z
+      → situation_by {E = E} r (HasHanded t reason) ≡ Does (HasHanded t reason)
   handed_by None w z t reason i = refl
   handed_by (Some r) w z t reason i = handed_at r.pin r.reclaimer w z t reason i
 
@@ -60,8 +71,11 @@ module _ {E : Type 0} (X : Election E) (v : Sender E) where
   given m = record v { core = core_without m v.core }
 
   -- out of whose hands the page has gone has the same line, with the rest of the move
-  after_hand : (z : Situation E) → situation X v ≡ z → line_now X (given (line X v z).move) ≡ record (line X v z) { move = after_step (line X v z).move }
-  after_hand (Does (GivesBack t page reason)) i = ap (line X (given (Returns t reason page))) (handed_by v.reuse (situation_of X c) (GivesBack t page reason) t reason i)
+  after_hand : (z : Situation E) → situation X v ≡ z
+      → line_now X (given (line X v z).move)
+      ≡ record (line X v z) { move = after_step (line X v z).move }
+  after_hand (Does (GivesBack t page reason)) i = ap (line X (given (Returns t reason page)))
+      (handed_by v.reuse (situation_of X c) (GivesBack t page reason) t reason i)
   after_hand (Does IsClosed) i = ap (line X v) i
   after_hand (Does IsIdle) i = ap (line X v) i
   after_hand (Does IsSpent) i = ap (line X v) i
@@ -80,19 +94,24 @@ module _ {E : Type 0} (X : Election E) (v : Sender E) where
   after_hand (Clears s) i = ap (line X v) i
 
   -- ---- a turn without a step leaves the sender as it is, and answers that it rests
-  module _ (word : ℕ) (goes : (t : ℕ) (e : E) → situation_of X c ≡ Elects t e → IsSome (X.op e word)) where
-    placed : (x : Layout) (r : Option Reuse) (t : ℕ) (o : Option Op) → IsSome o → in_row x r t o ≡ None → ⊥
+  module _ (word : ℕ)
+      (goes : (t : ℕ) (e : E) → situation_of X c ≡ Elects t e → IsSome (X.op e word)) where
+    placed : (x : Layout) (r : Option Reuse) (t : ℕ) (o : Option Op) → IsSome o
+        → in_row x r t o ≡ None → ⊥
     placed x None t None some e = true≢false (sym some)
     placed x None t (Some o) some e = cc
     placed x (Some r) t None some e = true≢false (sym some)
     placed x (Some r) t (Some o) some e = cc
 
-    pub idle : (z : Situation E) → situation X v ≡ z → (line X v z).op word ≡ None → ((got : ℕ) → (line X v z).fed got word ≡ v) × ((got : ℕ) → (line X v z).answer got word ≡ rest_at (line X v z))
+    pub idle : (z : Situation E) → situation X v ≡ z → (line X v z).op word ≡ None
+        → ((got : ℕ) → (line X v z).fed got word ≡ v)
+        × ((got : ℕ) → (line X v z).answer got word ≡ rest_at (line X v z))
     idle (Does IsClosed) i e = (λ got. refl, λ got. refl)
     idle (Does IsIdle) i e = (λ got. refl, λ got. refl)
     idle (Does IsSpent) i e = (λ got. refl, λ got. refl)
     idle (Does (AwaitsPage t)) i e = (λ got. refl, λ got. refl)
-    idle (Does (Elects t k)) i e = absurd (placed c.layout v.reuse t (X.op k word) (goes t k (own_of v.reuse (situation_of X c) (Elects t k) i)) e)
+    idle (Does (Elects t k)) i e = absurd (placed c.layout v.reuse t (X.op k word)
+        (goes t k (own_of v.reuse (situation_of X c) (Elects t k) i)) e)
     idle (Does LooksAtStage) i e = absurd cc
     idle (Does (TakesPage t)) i e = absurd cc
     idle (Does (StoresWord t page stored)) i e = absurd cc
@@ -106,7 +125,8 @@ module _ {E : Type 0} (X : Election E) (v : Sender E) where
     idle (Scans s) i e = absurd cc
     idle (Clears s) i e = absurd cc
 
-    pub idle_step : (cells : List ℕ) (told : Answered) → (line_now X v).op word ≡ None → told ≡ rest_at (line_now X v) → HasStepped (line_now X v) cells word told cells v
+    pub idle_step : (cells : List ℕ) (told : Answered) → (line_now X v).op word ≡ None
+        → told ≡ rest_at (line_now X v) → HasStepped (line_now X v) cells word told cells v
     idle_step cells told none rests =
         let i = idle (situation X v) refl none in
         record {
@@ -117,13 +137,20 @@ module _ {E : Type 0} (X : Election E) (v : Sender E) where
         }
 
     -- and for the reason that it answers it has nothing to do
-    rest_tells : (AwaitsItsPage c.phase → ⊥) → (z : Situation E) → situation X v ≡ z → (line X v z).op word ≡ None
-        → (rest_at (line X v z) ≡ turn.Going) ⊎ RestTells v (rest_at (line X v z)) → RestTells v (rest_at (line X v z))
+    rest_tells : (AwaitsItsPage c.phase → ⊥) → (z : Situation E) → situation X v ≡ z
+        → (line X v z).op word ≡ None
+        → (rest_at (line X v z) ≡ turn.Going) ⊎ RestTells v (rest_at (line X v z))
+        → RestTells v (rest_at (line X v z))
     rest_tells laid (Does IsClosed) i e w = elim w [ inl bad ↦ absurd cc | inr told ↦ told ]
     rest_tells laid (Does IsIdle) i e w = elim w [ inl bad ↦ absurd cc | inr told ↦ told ]
     rest_tells laid (Does IsSpent) i e w = elim w [ inl bad ↦ absurd cc | inr told ↦ told ]
-    rest_tells laid (Does (AwaitsPage t)) i e w = absurd (laid record { tenure = t; is = tells X c (AwaitsPage t) (own_of v.reuse (situation_of X c) (AwaitsPage t) i) })
-    rest_tells laid (Does (Elects t k)) i e w = absurd (placed c.layout v.reuse t (X.op k word) (goes t k (own_of v.reuse (situation_of X c) (Elects t k) i)) e)
+    rest_tells laid (Does (AwaitsPage t)) i e w = absurd (laid record {
+      tenure = t;
+      is = tells X c (AwaitsPage t) (own_of v.reuse (situation_of X c) (AwaitsPage t) i);
+    })
+    rest_tells laid (Does (Elects t k)) i e w = absurd
+        (placed c.layout v.reuse t (X.op k word)
+        (goes t k (own_of v.reuse (situation_of X c) (Elects t k) i)) e)
     rest_tells laid (Does LooksAtStage) i e w = absurd cc
     rest_tells laid (Does (TakesPage t)) i e w = absurd cc
     rest_tells laid (Does (StoresWord t page stored)) i e w = absurd cc
@@ -137,15 +164,21 @@ module _ {E : Type 0} (X : Election E) (v : Sender E) where
     rest_tells laid (Scans s) i e w = absurd cc
     rest_tells laid (Clears s) i e w = absurd cc
 
-    pub idle_tells : (AwaitsItsPage c.phase → ⊥) → (cells : List ℕ) (told : Answered) → (line_now X v).op word ≡ None → told ≡ rest_at (line_now X v)
-        → (told ≡ turn.Going) ⊎ RestTells v told → StepTells X cells v ((line_now X v).op word) word told
+    pub idle_tells : (AwaitsItsPage c.phase → ⊥) → (cells : List ℕ) (told : Answered)
+        → (line_now X v).op word ≡ None → told ≡ rest_at (line_now X v)
+        → (told ≡ turn.Going) ⊎ RestTells v told
+        → StepTells X cells v ((line_now X v).op word) word told
     idle_tells laid cells told none rests says =
         subst (λ o. StepTells X cells v o word told) (sym none) (subst (RestTells v) (sym rests)
-        (rest_tells laid (situation X v) refl none (subst (λ t. (t ≡ turn.Going) ⊎ RestTells v t) rests says)))
+        (rest_tells laid (situation X v) refl none
+        (subst (λ t. (t ≡ turn.Going) ⊎ RestTells v t) rests says)))
 
   -- a step that found this number tells of it what the sender tells
-  pub step_tells : (word : ℕ) (cells : List ℕ) (o : Op) (got : ℕ) (told : Answered) → (line_now X v).op word ≡ Some o → got ≡ slice_index cells (register o) → FeedTells X v got word told → StepTells X cells v ((line_now X v).op word) word told
-  step_tells word cells o got told e found w = subst (λ d. StepTells X cells v d word told) (sym e) (subst (λ n. FeedTells X v n word told) found w)
+  pub step_tells : (word : ℕ) (cells : List ℕ) (o : Op) (got : ℕ) (told : Answered)
+      → (line_now X v).op word ≡ Some o → got ≡ slice_index cells (register o)
+      → FeedTells X v got word told → StepTells X cells v ((line_now X v).op word) word told
+  step_tells word cells o got told e found w = subst (λ d. StepTells X cells v d word told) (sym e)
+      (subst (λ n. FeedTells X v n word told) found w)
 
   -- ---- the phase that a step has left tells whether the page is laid
   module _ (laid : AwaitsItsPage c.phase → ⊥) where
@@ -154,12 +187,16 @@ module _ {E : Type 0} (X : Election E) (v : Sender E) where
 
     stage_lays : (got : ℕ) (r : Option Reuse) → laying (seen X c r got).core.phase ≡ Stays
     stage_lays got None = by_tests (waits c got) (nat_le c.layout.rows (got / 2)) where
-      by_tests : (a b : Bool) → laying (cond a c (cond b (record c { least = got / 2 }) (core_begun X c (got / 2)))).phase ≡ Stays
+      by_tests : (a b : Bool)
+          → laying
+          (cond a c (cond b (record c { least = got / 2 }) (core_begun X c (got / 2)))).phase
+          ≡ Stays
       by_tests true b = same_lays
       by_tests false true = same_lays
       by_tests false false = refl
     stage_lays got (Some r) = by_tests (waits c got) (nat_le c.layout.rows (got / 2)) where
-      by_tests : (a b : Bool) → laying (cond a c (cond b (record c { least = got / 2 }) c)).phase ≡ Stays
+      by_tests : (a b : Bool)
+          → laying (cond a c (cond b (record c { least = got / 2 }) c)).phase ≡ Stays
       by_tests true b = same_lays
       by_tests false true = same_lays
       by_tests false false = same_lays
@@ -171,18 +208,28 @@ module _ {E : Type 0} (X : Election E) (v : Sender E) where
     elected_lays : (t : ℕ) (e : E) (o : Option ℕ) → laying (core_elected c t e o).phase ≡ Stays
     elected_lays t e None = refl
     elected_lays t e (Some o) = by_test (o == c.me) where
-      by_test : (a : Bool) → laying (cond a (record c { phase = phase.Electing t e }) (record c { queue = record c.queue { busy = false }; least = t + 1; phase = phase.Resting })).phase ≡ Stays
+      by_test : (a : Bool)
+          → laying (cond a (record c { phase = phase.Electing t e }) (record c {
+            queue = record c.queue { busy = false };
+            least = t + 1;
+            phase = phase.Resting;
+          })).phase ≡ Stays
       by_test true = refl
       by_test false = refl
 
-    lays : (z : Situation E) → situation X v ≡ z → (got word : ℕ) → laying ((line X v z).fed got word).core.phase ≡ after_step (line X v z).move
+    lays : (z : Situation E) → situation X v ≡ z → (got word : ℕ)
+        → laying ((line X v z).fed got word).core.phase ≡ after_step (line X v z).move
     lays (Does IsClosed) i got word = same_lays
     lays (Does IsIdle) i got word = same_lays
     lays (Does IsSpent) i got word = same_lays
     lays (Does LooksAtStage) i got word = stage_lays got v.reuse
-    lays (Does (Elects t e)) i got word = elected_lays t (X.fed e got word) (X.owner (X.fed e got word))
+    lays (Does (Elects t e)) i got word =
+        elected_lays t (X.fed e got word) (X.owner (X.fed e got word))
     lays (Does (TakesPage t)) i got word = refl
-    lays (Does (AwaitsPage t)) i got word = absurd (laid record { tenure = t; is = tells X c (AwaitsPage t) (own_of v.reuse (situation_of X c) (AwaitsPage t) i) })
+    lays (Does (AwaitsPage t)) i got word = absurd (laid record {
+      tenure = t;
+      is = tells X c (AwaitsPage t) (own_of v.reuse (situation_of X c) (AwaitsPage t) i);
+    })
     lays (Does (StoresWord t page stored)) i got word = refl
     lays (Does (StoresLength t page stored)) i got word = refl
     lays (Does (GivesBack t page reason)) i got word = refl
@@ -195,40 +242,64 @@ module _ {E : Type 0} (X : Election E) (v : Sender E) where
     lays (Clears s) i got word = same_lays
 
     -- ---- the three parts together
-    home_parts : (m : PageMove) (home : Option Page) → home_moved (after_step m) (home_moved (before_step m) home) ≡ home_moved m home
+    home_parts : (m : PageMove) (home : Option Page)
+        → home_moved (after_step m) (home_moved (before_step m) home) ≡ home_moved m home
     home_parts Stays home = refl
     home_parts (Comes t) home = refl
     home_parts (Returns t reason page) home = refl
 
-    sender_parts : (m : PageMove) (home : Option Page) (now : Sender E) → moved (after_step m) (home_moved (before_step m) home) now ≡ moved (after_step m) home now
+    sender_parts : (m : PageMove) (home : Option Page) (now : Sender E)
+        → moved (after_step m) (home_moved (before_step m) home) now ≡ moved (after_step m) home now
     sender_parts Stays home now = refl
     sender_parts (Comes t) home now = refl
     sender_parts (Returns t reason page) home now = refl
 
-    module _ (cells : List ℕ) (home : Option Page) (word : ℕ) (handed : Sender E) (taken : handed ≡ given (line_now X v).move) where
+    module _ (cells : List ℕ) (home : Option Page) (word : ℕ) (handed : Sender E)
+        (taken : handed ≡ given (line_now X v).move) where
       abbrev l : Line E
       l = line_now X v
 
       left : line_now X handed ≡ record l { move = after_step l.move }
       left = ap (line_now X) taken ∙ after_hand (situation X v) refl
 
-      pub sums_so : ((o : Op) → l.op word ≡ Some o → SumFits o (slice_index cells (register o))) → (o : Op) → (line_now X handed).op word ≡ Some o → SumFits o (slice_index cells (register o))
+      pub sums_so : ((o : Op) → l.op word ≡ Some o → SumFits o (slice_index cells (register o)))
+          → (o : Op) → (line_now X handed).op word ≡ Some o
+          → SumFits o (slice_index cells (register o))
       sums_so fits o e = fits o (sym (ap (λ (k : Line E). k.op word) left) ∙ e)
 
-      pub turned : (told : Answered) (cells' : List ℕ) (rest : Option Page) (now : Sender E) → rest ≡ home_moved (before_step l.move) home → HasStepped (line_now X handed) cells word told cells' now
-          → HasTurned l cells home word told cells' (home_moved (laying now.core.phase) rest) (moved (laying now.core.phase) rest now)
+      pub turned : (told : Answered) (cells' : List ℕ) (rest : Option Page) (now : Sender E)
+          → rest ≡ home_moved (before_step l.move) home
+          → HasStepped (line_now X handed) cells word told cells' now
+          → HasTurned l cells home word told cells' (home_moved (laying now.core.phase) rest)
+          (moved (laying now.core.phase) rest now)
       turned told cells' rest now at_home step' =
-          let step : HasStepped (record l { move = after_step l.move }) cells word told cells' now = subst (λ k. HasStepped k cells word told cells' now) left step' in
-          let lays_so : laying now.core.phase ≡ after_step l.move = ap (λ (w : Sender E). laying w.core.phase) step.sender_is ∙ lays (situation X v) refl _ word in
+          let step : HasStepped (record l { move = after_step l.move }) cells word told cells' now =
+          subst (λ k. HasStepped k cells word told cells' now) left step' in
+          let lays_so : laying now.core.phase ≡ after_step l.move =
+          ap (λ (w : Sender E). laying w.core.phase) step.sender_is
+          ∙ lays (situation X v) refl _ word in
           record {
             on_word = step.on_word;
             words_are = step.words_are;
-            home_is = ap (λ m. home_moved m rest) lays_so ∙ ap (home_moved (after_step l.move)) at_home ∙ home_parts l.move home;
-            sender_is = ap (λ m. moved m rest now) lays_so ∙ ap (λ r. moved (after_step l.move) r now) at_home ∙ sender_parts l.move home now ∙ ap (moved (after_step l.move) home) step.sender_is;
+            home_is =
+                ap (λ m. home_moved m rest) lays_so ∙ ap (home_moved (after_step l.move)) at_home
+                ∙ home_parts l.move home;
+            sender_is =
+                ap (λ m. moved m rest now) lays_so
+                ∙ ap (λ r. moved (after_step l.move) r now) at_home ∙ sender_parts l.move home now
+                ∙ ap (moved (after_step l.move) home) step.sender_is;
             answer_is = step.answer_is;
           }
 
       -- with what the page and the sender are then
-      pub turned_as : (told : Answered) (cells' : List ℕ) (rest : Option Page) (now : Sender E) → rest ≡ home_moved (before_step l.move) home → HasStepped (line_now X handed) cells word told cells' now
-          → (home' : Option Page) (last : Sender E) → home' ≡ home_moved (laying now.core.phase) rest → last ≡ moved (laying now.core.phase) rest now → HasTurned l cells home word told cells' home' last
-      turned_as told cells' rest now at_home step home' last i j = subst (λ q. HasTurned l cells home word told cells' q last) (sym i) (subst (HasTurned l cells home word told cells' (home_moved (laying now.core.phase) rest)) (sym j) (turned told cells' rest now at_home step))
+      pub turned_as : (told : Answered) (cells' : List ℕ) (rest : Option Page) (now : Sender E)
+          → rest ≡ home_moved (before_step l.move) home
+          → HasStepped (line_now X handed) cells word told cells' now
+          → (home' : Option Page) (last : Sender E)
+          → home' ≡ home_moved (laying now.core.phase) rest
+          → last ≡ moved (laying now.core.phase) rest now
+          → HasTurned l cells home word told cells' home' last
+      turned_as told cells' rest now at_home step home' last i j = subst
+          (λ q. HasTurned l cells home word told cells' q last) (sym i)
+          (subst (HasTurned l cells home word told cells' (home_moved (laying now.core.phase) rest))
+          (sym j) (turned told cells' rest now at_home step))

@@ -1,6 +1,6 @@
 -- How many steps a sender takes in a tenure towards its page.
-use Rattle.std.specs.Prelude.{◌≡◌, ℕ, ◌+◌, ◌-◌, ◌≤◌, Bool, true, false, Option, Some, None, List, [], ◌∷◌, filter, length, slice_get, ◌==◌}
-use Rattle.std.specs.Prelude.{if◌then◌else◌}
+use Rattle.std.specs.Prelude.{◌≡◌, ℕ, ◌+◌, ◌-◌, ◌≤◌, Bool, true, false, Option, Some, None, List}
+use Rattle.std.specs.Prelude.{[], ◌∷◌, filter, length, slice_get, ◌==◌, if◌then◌else◌}
 use Rattle.bus_core.specs.Senders.{Sender}
 use Rattle.bus_presence.specs.Reclamation.{Entry}
 use Rattle.bus_register.specs.declared.kinds.Kind.{Kind}
@@ -19,7 +19,8 @@ is_of_holder kind.StoreLength = true
 is_of_holder kind.GivePageBack = true
 is_of_holder k = false
 
--- the action is a step in this tenure towards its page: one of its election, or the one that takes the page
+-- the action is a step in this tenure towards its page: one of its election, or the one that takes
+-- the page
 abbrev pub is_towards : ℕ → Action → Bool
 is_towards t (HasPut number bytes) = false
 is_towards t (HasMarked mark) = false
@@ -30,15 +31,19 @@ is_towards t (Stepped (Some u) k found chose answer) = if is_of_holder k then fa
 abbrev pub steps_towards : ℕ → List Action → ℕ
 steps_towards t actions = length (filter (is_towards t) actions)
 
--- Of these trails: no sender takes more steps towards the page of a tenure, the one that takes it included; and while its election runs, or
--- has chosen it, one turn at least is left, and those that are left and those that it took are no more.
-pub record AreBounded {E : Type 0} (X : Election E) (bound : ℕ) (m : Machine E) (T : Trails) : Type 0 where
+-- Of these trails: no sender takes more steps towards the page of a tenure, the one that takes it
+-- included; and while its election runs, or has chosen it, one turn at least is left, and those
+-- that are left and those that it took are no more.
+pub record AreBounded {E : Type 0} (X : Election E) (bound : ℕ) (m : Machine E) (T : Trails) :
+    Type 0 where
   pub most : (s t : ℕ) → steps_towards t (T.actions s) ≤ bound
-  pub left : (s : ℕ) (v : Sender E) (t : ℕ) (e : E) → slice_get m.senders s ≡ Some v → v.core.phase ≡ Electing t e
+  pub left : (s : ℕ) (v : Sender E) (t : ℕ) (e : E) → slice_get m.senders s ≡ Some v
+      → v.core.phase ≡ Electing t e
       → (1 ≤ X.turns_left e) × (steps_towards t (T.actions s) + X.turns_left e ≤ bound)
 
 -- ---- steps of a pin, where rows are used again
--- the tenure whose presence a sender stored last, after this step: a presence is 1 more than its tenure
+-- the tenure whose presence a sender stored last, after this step: a presence is 1 more than its
+-- tenure
 abbrev pub named_by : Op → Option ℕ → Option ℕ
 named_by (Load r) now = now
 named_by (Store r number) now = if number == 0 then now else Some (number - 1)
@@ -52,9 +57,11 @@ is_tenure t (Some u) = u == t
 -- how many of these steps are of this tenure, where another was named before
 abbrev pub pins_from : ℕ → Option ℕ → List Entry → ℕ
 pins_from t now [] = 0
-pins_from t now (e ∷ entries) = (if is_tenure t (named_by e.op now) then 1 else 0) + pins_from t (named_by e.op now) entries
+pins_from t now (e ∷ entries) =
+    (if is_tenure t (named_by e.op now) then 1 else 0) + pins_from t (named_by e.op now) entries
 
--- how many steps of its pin of this tenure a sender took: the store of the tenure's presence, and those up to the next such store
+-- how many steps of its pin of this tenure a sender took: the store of the tenure's presence, and
+-- those up to the next such store
 abbrev pub steps_of_pin : ℕ → List Entry → ℕ
 steps_of_pin t entries = pins_from t None entries
 
@@ -63,7 +70,8 @@ abbrev pub IsNamedFirst : List Entry → Type 0
 IsNamedFirst [] = Unit {0}
 IsNamedFirst (e ∷ entries) = (t : ℕ) × (named_by e.op None ≡ Some t)
 
--- Of these trails: beside those steps a sender takes three at most for its pin of a tenure, and each step of a pin is of some tenure.
+-- Of these trails: beside those steps a sender takes three at most for its pin of a tenure, and
+-- each step of a pin is of some tenure.
 pub record PinsAreBounded (T : Trails) : Type 0 where
   pub most : (s t : ℕ) → steps_of_pin t (T.pins s) ≤ 3
   pub first : (s : ℕ) → IsNamedFirst (T.pins s)

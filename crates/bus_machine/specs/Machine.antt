@@ -1,8 +1,12 @@
--- The bus as a machine that plays events, with a row of words for each tenure or with rows that are used again; and which trails lead to it.
-use Rattle.std.specs.Prelude.{◌≡◌, ℕ, ◌+◌, ◌-◌, ◌<◌, Bool, true, Option, Some, None, List, [], ◌∷◌, ◌++◌, All, drop, length, slice_get, slice_index, slice_set, replicate, if◌then◌else◌}
+-- The bus as a machine that plays events, with a row of words for each tenure or with rows that are
+-- used again; and which trails lead to it.
+use Rattle.std.specs.Prelude.{◌≡◌, ℕ, ◌+◌, ◌-◌, ◌<◌, Bool, true, Option, Some, None, List, [], ◌∷◌}
+use Rattle.std.specs.Prelude.{◌++◌, All, drop, length, slice_get, slice_index, slice_set}
+use Rattle.std.specs.Prelude.{replicate, if◌then◌else◌}
 use Rattle.bus_register.specs.declared.registers.Op.{Op}
 use Rattle.bus_register.specs.Words.{register}
 use Rattle.bus_batch.specs.Batches.{next_of, CanPut, CanClose}
+use Rattle.bus_batch.specs.Frames.{Frame, frame_words}
 use Rattle.bus_batch.specs.declared.batches.Phase.TheVariants.{Marking}
 use Rattle.bus_batch.specs.declared.messages.Mark.{Mark}
 use Rattle.bus_deliverylog.specs.Receiving.{Receiving}
@@ -13,16 +17,20 @@ use Rattle.bus_tenure.specs.Situations.{PageMove}
 use Rattle.bus_tenure.specs.declared.pages.Page.{Page}
 use Rattle.bus_tenure.specs.declared.turns.Turn.{Turn as Answered}
 use Rattle.bus_core.specs.Keeping.{queue_of, new_sender}
-use Rattle.bus_core.specs.Senders.{Sender, Situation, Does, Announces, Validates, Unpins, Withdraws, Scans, Clears, situation}
+use Rattle.bus_core.specs.Senders.{Sender, Situation, Does, Announces, Validates, Unpins}
+use Rattle.bus_core.specs.Senders.{Withdraws, Scans, Clears, situation}
 use Rattle.bus_core.specs.Table.{Line, line_now}
 use Rattle.bus_core.specs.Reusing.Participants.{log_from}
 use Rattle.bus_world.specs.Headline.{Action}
 use Rattle.bus_world.specs.Log.{words_read_from}
 use Rattle.bus_world.specs.Playing.{asked_answer}
-use Rattle.bus_world.specs.Trails.{step_action, put_actions, mark_actions, no_actions, no_answers, actions_with, answers_with}
-use Rattle.bus_world.specs.Turning.{words_after, number_found, home_moved, core_moved, after_step, owners_by}
+use Rattle.bus_world.specs.Trails.{step_action, put_actions, mark_actions, no_actions, no_answers}
+use Rattle.bus_world.specs.Trails.{actions_with, answers_with}
+use Rattle.bus_world.specs.Turning.{words_after, number_found, home_moved, core_moved, after_step}
+use Rattle.bus_world.specs.Turning.{owners_by}
 use Rattle.bus_world.specs.Starting.{IsNewReceiver}
-use Rattle.bus_world.specs.World.{Event, Put, Ask, Turn, Recv, Stop, is_set, no_stops, AreBases, first_page, RecvDoes}
+use Rattle.bus_world.specs.World.{Event, Put, Ask, Turn, Recv, Stop, is_set, no_stops, AreBases}
+use Rattle.bus_world.specs.World.{first_page, RecvDoes}
 use Rattle.bus_world.specs.declared.events.Answer.{Answer}
 use Rattle.bus_world.specs.declared.events.Answer.TheVariants as answer
 
@@ -38,7 +46,8 @@ pub record Machine (E : Type 0) : Type 0 where
   pub receivers : List Receiving
   -- of each sender whether it has stopped
   pub stopped : List Bool
-  -- who took the pages, by tenure: all of them, or the last, of which there are at most as many as rows that are used again
+  -- who took the pages, by tenure: all of them, or the last, of which there are at most as many as
+  -- rows that are used again
   pub owners : List ℕ
 
 -- the number of a sender's first message
@@ -52,7 +61,8 @@ log_place x (Some rows) = log_from x rows
 
 -- the words of the log below the length
 abbrev pub log_of : {E : Type 0} → Machine E → List ℕ
-log_of b = words_read_from (slice_index b.words) (log_place b.layout b.reuse) (slice_index b.words 0)
+log_of b =
+    words_read_from (slice_index b.words) (log_place b.layout b.reuse) (slice_index b.words 0)
 
 -- twice the tenure that is open, and one more while its page is out
 abbrev pub stage_of : {E : Type 0} → Machine E → ℕ
@@ -79,10 +89,15 @@ abbrev pub with_sender : {E : Type 0} → Machine E → ℕ → Sender E → Mac
 with_sender b s v = record b { senders = slice_set b.senders s v }
 
 abbrev pub put_in : {E : Type 0} → Sender E → List ℕ → Sender E
-put_in v bytes = record v { core = record v.core { queue = record v.core.queue { messages = v.core.queue.messages ++ bytes ∷ [] } } }
+put_in v bytes = record v {
+  core = record v.core {
+    queue = record v.core.queue { messages = v.core.queue.messages ++ bytes ∷ [] };
+  };
+}
 
 abbrev pub mark_in : {E : Type 0} → Sender E → Mark → Sender E
-mark_in v mark = record v { core = record v.core { queue = record v.core.queue { phase = Marking mark } } }
+mark_in v mark =
+    record v { core = record v.core { queue = record v.core.queue { phase = Marking mark } } }
 
 -- a sender, with the page laid before it where it has taken it
 abbrev pub moved : {E : Type 0} → PageMove → Option Page → Sender E → Sender E
@@ -101,7 +116,8 @@ machine_after b s l word =
     record b {
       words = words_after b.words (l.op word);
       home = home_moved l.move b.home;
-      senders = slice_set b.senders s (moved (after_step l.move) b.home (l.fed (found b l word) word));
+      senders =
+          slice_set b.senders s (moved (after_step l.move) b.home (l.fed (found b l word) word));
       owners = owners_told b.reuse (owners_by (turn_answer b l word) s b.owners);
     }
 
@@ -112,7 +128,8 @@ IsOnWord b None = Unit {0}
 IsOnWord b (Some o) = register o < length b.words
 
 -- a sender that goes on takes a turn
-pub record TakesTurn {E : Type 0} (X : Election E) (old : Machine E) (s word : ℕ) (a : Answer) (new : Machine E) : Type 0 where
+pub record TakesTurn {E : Type 0} (X : Election E) (old : Machine E) (s word : ℕ) (a : Answer)
+    (new : Machine E) : Type 0 where
   pub sender : Sender E
   pub goes : going old s ≡ Some sender
   pub within : IsOnWord old ((line_now X sender).op word)
@@ -120,7 +137,8 @@ pub record TakesTurn {E : Type 0} (X : Election E) (old : Machine E) (s word : �
   pub after : new ≡ machine_after old s (line_now X sender) word
 
 -- it takes a message into its batch, and answers the number of the message
-pub record TakesPut {E : Type 0} (old : Machine E) (s : ℕ) (bytes : List ℕ) (a : Answer) (new : Machine E) : Type 0 where
+pub record TakesPut {E : Type 0} (old : Machine E) (s : ℕ) (bytes : List ℕ) (a : Answer)
+    (new : Machine E) : Type 0 where
   pub sender : Sender E
   pub goes : going old s ≡ Some sender
   pub are_bytes : All (λ byte. byte < 256) bytes
@@ -129,7 +147,8 @@ pub record TakesPut {E : Type 0} (old : Machine E) (s : ℕ) (bytes : List ℕ) 
   pub after : new ≡ with_sender old s (put_in sender bytes)
 
 -- it lets this mark wait, and answers that it does
-pub record TakesMark {E : Type 0} (old : Machine E) (s : ℕ) (mark : Mark) (a : Answer) (new : Machine E) : Type 0 where
+pub record TakesMark {E : Type 0} (old : Machine E) (s : ℕ) (mark : Mark) (a : Answer)
+    (new : Machine E) : Type 0 where
   pub sender : Sender E
   pub goes : going old s ≡ Some sender
   pub can : CanClose (queue_of sender.core.queue sender.reuse)
@@ -137,14 +156,16 @@ pub record TakesMark {E : Type 0} (old : Machine E) (s : ℕ) (mark : Mark) (a :
   pub after : new ≡ with_sender old s (mark_in sender mark)
 
 -- it stops, which changes nothing else
-pub record StopsNow {E : Type 0} (old : Machine E) (s : ℕ) (a : Answer) (new : Machine E) : Type 0 where
+pub record StopsNow {E : Type 0} (old : Machine E) (s : ℕ) (a : Answer) (new : Machine E) :
+    Type 0 where
   pub sender : Sender E
   pub goes : going old s ≡ Some sender
   pub answered : a ≡ answer.Stopped
   pub after : new ≡ record old { stopped = slice_set old.stopped s true }
 
 -- a receiver takes a turn
-pub record Hears {E : Type 0} (old : Machine E) (r : ℕ) (a : Answer) (new : Machine E) : Type 0 where
+pub record Hears {E : Type 0} (old : Machine E) (r : ℕ) (a : Answer) (new : Machine E) :
+    Type 0 where
   pub receiver : Receiving
   pub next : Receiving
   pub heard : RecvTurn
@@ -153,7 +174,8 @@ pub record Hears {E : Type 0} (old : Machine E) (r : ℕ) (a : Answer) (new : Ma
   pub answered : a ≡ answer.Recv heard
   pub after : new ≡ record old { receivers = slice_set old.receivers r next }
 
--- Event e happens, a is its answer, and new is what is left. Nothing is assumed of who is scheduled, of the random words, or of who stops.
+-- Event e happens, a is its answer, and new is what is left. Nothing is assumed of who is
+-- scheduled, of the random words, or of who stops.
 abbrev pub Happens : {E : Type 0} → Election E → Machine E → Event → Answer → Machine E → Type 0
 Happens X old (Put s bytes) a new = TakesPut old s bytes a new
 Happens X old (Ask s mark) a new = TakesMark old s mark a new
@@ -161,37 +183,85 @@ Happens X old (Turn s word) a new = TakesTurn X old s word a new
 Happens X old (Recv r) a new = Hears old r a new
 Happens X old (Stop s) a new = StopsNow old s a new
 
--- ---- what happened: the steps of pins and of reclamations, the actions of senders, the answers of receivers
+-- ---- what happened: the steps of pins and of reclamations, the actions of senders, the answers of
+-- receivers
 pub record Trails : Type 0 where
   pub pins : Entries
   pub reclaims : Entries
   pub actions : ℕ → List Action
   pub heard : ℕ → List RecvTurn
+  -- all words that were ever published
+  pub log : List ℕ
 
 abbrev pub no_machine_trails : Trails
-no_machine_trails = record { pins = no_trails; reclaims = no_trails; actions = no_actions; heard = no_answers }
+no_machine_trails = record {
+  pins = no_trails;
+  reclaims = no_trails;
+  actions = no_actions;
+  heard = no_answers;
+  log = [];
+}
 
 abbrev pub entered : Entries → ℕ → Option Op → ℕ → Entries
 entered T s None got = T
 entered T s (Some o) got = trails_with_entry T s record { op = o; got = got }
 
+-- the words of a frame, where there is one
+abbrev pub words_of_frame : Option Frame → List ℕ
+words_of_frame None = []
+words_of_frame (Some f) = frame_words f
+
+-- what is published, with a step by this line
+abbrev pub log_grown : {E : Type 0} → Line E → List ℕ → List ℕ
+log_grown l log = log ++ words_of_frame l.publishes
+
 -- what a turn adds, in this situation, by this line
-abbrev pub turn_trails : {E : Type 0} → Situation E → Line E → ℕ → ℕ → ℕ → Answered → Trails → Trails
-turn_trails (Does z) l s got word told T = record T { actions = actions_with s (step_action l.kind l.tenure got (l.chosen got word) told) T.actions }
-turn_trails (Announces t) l s got word told T = record T { pins = entered T.pins s (l.op word) got; actions = actions_with s [] T.actions }
-turn_trails (Validates t) l s got word told T = record T { pins = entered T.pins s (l.op word) got; actions = actions_with s [] T.actions }
-turn_trails (Unpins t) l s got word told T = record T { pins = entered T.pins s (l.op word) got; actions = actions_with s [] T.actions }
-turn_trails (Withdraws t) l s got word told T = record T { pins = entered T.pins s (l.op word) got; actions = actions_with s [] T.actions }
-turn_trails (Scans r) l s got word told T = record T { reclaims = entered T.reclaims s (l.op word) got; actions = actions_with s [] T.actions }
-turn_trails (Clears r) l s got word told T = record T { reclaims = entered T.reclaims s (l.op word) got; actions = actions_with s [] T.actions }
+abbrev pub turn_trails : {E : Type 0} → Situation E → Line E → ℕ → ℕ → ℕ → Answered → Trails
+    → Trails
+turn_trails (Does z) l s got word told T = record T {
+  actions = actions_with s (step_action l.kind l.tenure got (l.chosen got word) told) T.actions;
+  log = log_grown l T.log;
+}
+turn_trails (Announces t) l s got word told T = record T {
+  pins = entered T.pins s (l.op word) got;
+  actions = actions_with s [] T.actions;
+  log = log_grown l T.log;
+}
+turn_trails (Validates t) l s got word told T = record T {
+  pins = entered T.pins s (l.op word) got;
+  actions = actions_with s [] T.actions;
+  log = log_grown l T.log;
+}
+turn_trails (Unpins t) l s got word told T = record T {
+  pins = entered T.pins s (l.op word) got;
+  actions = actions_with s [] T.actions;
+  log = log_grown l T.log;
+}
+turn_trails (Withdraws t) l s got word told T = record T {
+  pins = entered T.pins s (l.op word) got;
+  actions = actions_with s [] T.actions;
+  log = log_grown l T.log;
+}
+turn_trails (Scans r) l s got word told T = record T {
+  reclaims = entered T.reclaims s (l.op word) got;
+  actions = actions_with s [] T.actions;
+  log = log_grown l T.log;
+}
+turn_trails (Clears r) l s got word told T = record T {
+  reclaims = entered T.reclaims s (l.op word) got;
+  actions = actions_with s [] T.actions;
+  log = log_grown l T.log;
+}
 
 -- of the sender that goes on, by its answer
-abbrev pub turn_grown : {E : Type 0} → Election E → Machine E → ℕ → Option (Sender E) → ℕ → Answer → Trails → Trails
+abbrev pub turn_grown : {E : Type 0} → Election E → Machine E → ℕ → Option (Sender E) → ℕ → Answer
+    → Trails → Trails
 turn_grown X b s None word a T = T
 turn_grown X b s (Some v) word (answer.Number n) T = T
 turn_grown X b s (Some v) word answer.Closing T = T
 turn_grown X b s (Some v) word answer.Leaving T = T
-turn_grown X b s (Some v) word (answer.Turn t) T = turn_trails (situation X v) (line_now X v) s (found b (line_now X v) word) word t T
+turn_grown X b s (Some v) word (answer.Turn t) T =
+    turn_trails (situation X v) (line_now X v) s (found b (line_now X v) word) word t T
 turn_grown X b s (Some v) word (answer.Recv t) T = T
 turn_grown X b s (Some v) word answer.Stopped T = T
 
@@ -205,24 +275,29 @@ heard_grown r answer.Stopped H = H
 
 -- what an event with this answer adds: a stop is no action
 abbrev pub trails_grown : {E : Type 0} → Election E → Machine E → Event → Answer → Trails → Trails
-trails_grown X b (Put s bytes) a T = record T { actions = actions_with s (put_actions bytes a) T.actions }
+trails_grown X b (Put s bytes) a T =
+    record T { actions = actions_with s (put_actions bytes a) T.actions }
 trails_grown X b (Ask s mark) a T = record T { actions = actions_with s (mark_actions a) T.actions }
 trails_grown X b (Turn s word) a T = turn_grown X b s (going b s) word a T
 trails_grown X b (Recv r) a T = record T { heard = heard_grown r a T.heard }
 trails_grown X b (Stop s) a T = T
 
 -- ---- what is reached
--- nothing has happened: words of zero, the page at home, senders and receivers at their starts, none of which has stopped
+-- nothing has happened: words of zero, the page at home, senders and receivers at their starts,
+-- none of which has stopped
 pub record IsNew {E : Type 0} (b : Machine E) : Type 0 where
   pub bases_are : AreBases b.bases
   pub words : b.words ≡ replicate (log_place b.layout b.reuse + b.layout.capacity) 0
   pub home : b.home ≡ Some (first_page b.bases)
-  pub senders : (p : ℕ) (v : Sender E) → slice_get b.senders p ≡ Some v → (p < b.layout.senders) × (v ≡ new_sender b.layout p b.reuse (base_of b p))
-  pub receivers : (r : ℕ) (v : Receiving) → slice_get b.receivers r ≡ Some v → IsNewReceiver b.layout.senders (log_place b.layout b.reuse) b.layout.capacity v
+  pub senders : (p : ℕ) (v : Sender E) → slice_get b.senders p ≡ Some v
+      → (p < b.layout.senders) × (v ≡ new_sender b.layout p b.reuse (base_of b p))
+  pub receivers : (r : ℕ) (v : Receiving) → slice_get b.receivers r ≡ Some v
+      → IsNewReceiver b.layout.senders (log_place b.layout b.reuse) b.layout.capacity v
   pub stopped : b.stopped ≡ no_stops
   pub owners : b.owners ≡ []
 
 -- These trails lead to this machine, from a new one, by one event after another.
 pub data Reached {E : Type 0} (X : Election E) : Machine E → Trails → Type 0 where
   New : (b : Machine E) → IsNew b → Reached X b no_machine_trails
-  Then : (b b' : Machine E) (T : Trails) (e : Event) (a : Answer) → Reached X b T → Happens X b e a b' → Reached X b' (trails_grown X b e a T)
+  Then : (b b' : Machine E) (T : Trails) (e : Event) (a : Answer) → Reached X b T
+      → Happens X b e a b' → Reached X b' (trails_grown X b e a T)

@@ -1,7 +1,11 @@
--- The machine as a program holds it: which shapes are served, what each call tells, and what is said of events one after another.
-use Rattle.std.specs.Prelude.{◌≡◌, ℕ, ◌^◌, ◌<◌, ◌≤◌, Bool, true, false, Option, Some, None, List, [], ◌∷◌, ◌++◌, length, take}
-use Rattle.std.specs.Prelude.{slice_get, slice_index}
-use Rattle.bus_register.specs.declared.limits.TheConstants.{MOST_SENDERS, MOST_RECEIVERS, MOST_ROUNDS, MOST_ROWS, LEAST_LOG_WORDS, MOST_LOG_WORDS, TENURES}
+-- The machine as a program holds it: which shapes are served, what each call tells, and what is
+-- said of events one after another.
+use Rattle.std.specs.Prelude.{◌≡◌, ℕ, ◌^◌, ◌<◌, ◌≤◌, Bool, true, false, Option, Some, None, List}
+use Rattle.std.specs.Prelude.{[], ◌∷◌, ◌++◌, length, take, slice_get, slice_index}
+use Rattle.bus_register.specs.declared.limits.TheConstants.{MOST_SENDERS, MOST_RECEIVERS}
+use Rattle.bus_register.specs.declared.limits.TheConstants.{MOST_ROUNDS, MOST_ROWS}
+use Rattle.bus_register.specs.declared.limits.TheConstants.{LEAST_LOG_WORDS, MOST_LOG_WORDS}
+use Rattle.bus_register.specs.declared.limits.TheConstants.{TENURES}
 use Rattle.bus_register.specs.Protocol.{Protocol}
 use Rattle.bus_adoptcommit.specs.declared.verdicts.Verdict.{Verdict}
 use Rattle.bus_batch.specs.Batches.{IsPutFault, IsCloseFault}
@@ -23,12 +27,14 @@ use Rattle.bus_world.specs.declared.events.StepFault.TheVariants as fault
 use Rattle.bus_world.specs.declared.shapes.MakeFault.{MakeFault}
 use Rattle.bus_world.specs.declared.shapes.MakeFault.TheVariants as make
 use Rattle.bus_world.specs.declared.shapes.Shape.{Shape}
-use Rattle.bus_machine.specs.Machine.{Machine, Trails, Happens, IsNew, Reached, trails_grown, has_stopped, no_machine_trails}
+use Rattle.bus_machine.specs.Machine.{Machine, Trails, Happens, IsNew, Reached, trails_grown}
+use Rattle.bus_machine.specs.Machine.{has_stopped, no_machine_trails}
 use Rattle.bus_machine.specs.Promise.{Extends, Follows, words_joined}
 use Rattle.bus_machine.specs.Telling.{Causes, Says, Tells, OpensOnly}
 
 -- ---- shapes
--- the sizes of a bus of this shape, over such ratifiers: its rows are its tenures, or are used again by up to 2^40 of them
+-- the sizes of a bus of this shape, over such ratifiers: its rows are its tenures, or are used
+-- again by up to 2^40 of them
 abbrev pub layout_of : {S : Type 0} → Protocol S Bool Verdict → Shape → Option ℕ → Layout
 layout_of P shape None = layout_with P shape.senders shape.rounds shape.rows shape.log_words
 layout_of P shape (Some rows) = layout_with P shape.senders shape.rounds TENURES shape.log_words
@@ -52,8 +58,19 @@ RoomFor P shape None = words_of (layout_of P shape None) ≤ 2 ^ 63
 RoomFor P shape (Some rows) = Unit {0}
 
 -- the bus of these parts
-abbrev pub machine_of : {E S : Type 0} → Protocol S Bool Verdict → Shape → Option ℕ → List ℕ → List ℕ → Option Page → List (Sender E) → List Receiving → List Bool → List ℕ → Machine E
-machine_of P shape reuse bases words home senders receivers stopped owners = record { layout = layout_of P shape reuse; reuse = reuse; bases = bases; words = words; home = home; senders = senders; receivers = receivers; stopped = stopped; owners = owners }
+abbrev pub machine_of : {E S : Type 0} → Protocol S Bool Verdict → Shape → Option ℕ → List ℕ
+    → List ℕ → Option Page → List (Sender E) → List Receiving → List Bool → List ℕ → Machine E
+machine_of P shape reuse bases words home senders receivers stopped owners = record {
+  layout = layout_of P shape reuse;
+  reuse = reuse;
+  bases = bases;
+  words = words;
+  home = home;
+  senders = senders;
+  receivers = receivers;
+  stopped = stopped;
+  owners = owners;
+}
 
 -- a bus of this shape is served
 pub record IsServed (shape : Shape) (reuse : Option ℕ) : Type 0 where
@@ -66,23 +83,32 @@ pub record IsServed (shape : Shape) (reuse : Option ℕ) : Type 0 where
 -- why no bus is made: each cause where it holds and no earlier one
 abbrev pub MakeRefused : Shape → Option ℕ → MakeFault → Type 0
 MakeRefused shape reuse make.Senders = Beyond 1 MOST_SENDERS shape.senders
-MakeRefused shape reuse make.Receivers = Within 1 MOST_SENDERS shape.senders × Beyond 1 MOST_RECEIVERS shape.receivers
-MakeRefused shape reuse make.Rounds = Within 1 MOST_SENDERS shape.senders × Within 1 MOST_RECEIVERS shape.receivers × Beyond 1 MOST_ROUNDS shape.rounds
-MakeRefused shape reuse make.Rows = Within 1 MOST_SENDERS shape.senders × Within 1 MOST_RECEIVERS shape.receivers × Within 1 MOST_ROUNDS shape.rounds × Beyond (least_rows reuse) (most_rows reuse) shape.rows
+MakeRefused shape reuse make.Receivers =
+    Within 1 MOST_SENDERS shape.senders × Beyond 1 MOST_RECEIVERS shape.receivers
+MakeRefused shape reuse make.Rounds =
+    Within 1 MOST_SENDERS shape.senders × Within 1 MOST_RECEIVERS shape.receivers
+    × Beyond 1 MOST_ROUNDS shape.rounds
+MakeRefused shape reuse make.Rows =
+    Within 1 MOST_SENDERS shape.senders × Within 1 MOST_RECEIVERS shape.receivers
+    × Within 1 MOST_ROUNDS shape.rounds × Beyond (least_rows reuse) (most_rows reuse) shape.rows
 MakeRefused shape reuse make.LogWords =
-    Within 1 MOST_SENDERS shape.senders × Within 1 MOST_RECEIVERS shape.receivers × Within 1 MOST_ROUNDS shape.rounds × Within (least_rows reuse) (most_rows reuse) shape.rows × Beyond LEAST_LOG_WORDS MOST_LOG_WORDS shape.log_words
+    Within 1 MOST_SENDERS shape.senders × Within 1 MOST_RECEIVERS shape.receivers
+    × Within 1 MOST_ROUNDS shape.rounds × Within (least_rows reuse) (most_rows reuse) shape.rows
+    × Beyond LEAST_LOG_WORDS MOST_LOG_WORDS shape.log_words
 -- of a bus of which no sitting was before
 MakeRefused shape reuse make.NotEnded = ⊥
 MakeRefused shape reuse make.Numbers = ⊥
 MakeRefused shape reuse make.NoMemory = IsServed shape reuse
 
 -- ---- a next sitting
--- the page of a sitting that a bus can go on with: it has ended, and each next number leaves room for a whole log
+-- the page of a sitting that a bus can go on with: it has ended, and each next number leaves room
+-- for a whole log
 pub record IsFollowed (page : Page) : Type 0 where
   pub ended : page.ended ≡ true
   pub low : (s : ℕ) → slice_index page.next s < FIRST_NUMBERS
 
--- why no bus is made that is to go on with it: of all 64 senders the next number is looked at, whatever the shape
+-- why no bus is made that is to go on with it: of all 64 senders the next number is looked at,
+-- whatever the shape
 abbrev pub AfterRefused : Shape → Option ℕ → Page → MakeFault → Type 0
 AfterRefused shape reuse page make.Senders = MakeRefused shape reuse make.Senders
 AfterRefused shape reuse page make.Receivers = MakeRefused shape reuse make.Receivers
@@ -90,7 +116,9 @@ AfterRefused shape reuse page make.Rounds = MakeRefused shape reuse make.Rounds
 AfterRefused shape reuse page make.Rows = MakeRefused shape reuse make.Rows
 AfterRefused shape reuse page make.LogWords = MakeRefused shape reuse make.LogWords
 AfterRefused shape reuse page make.NotEnded = IsServed shape reuse × (page.ended ≡ false)
-AfterRefused shape reuse page make.Numbers = IsServed shape reuse × (page.ended ≡ true) × (s : ℕ) × (s < MOST_SENDERS) × (FIRST_NUMBERS ≤ slice_index page.next s)
+AfterRefused shape reuse page make.Numbers =
+    IsServed shape reuse × (page.ended ≡ true) × (s : ℕ) × (s < MOST_SENDERS)
+    × (FIRST_NUMBERS ≤ slice_index page.next s)
 AfterRefused shape reuse page make.NoMemory = IsServed shape reuse × IsFollowed page
 
 -- what is wrong with the page itself
@@ -101,7 +129,8 @@ PageRefused page make.Rounds = ⊥
 PageRefused page make.Rows = ⊥
 PageRefused page make.LogWords = ⊥
 PageRefused page make.NotEnded = page.ended ≡ false
-PageRefused page make.Numbers = (page.ended ≡ true) × (s : ℕ) × (s < MOST_SENDERS) × (FIRST_NUMBERS ≤ slice_index page.next s)
+PageRefused page make.Numbers =
+    (page.ended ≡ true) × (s : ℕ) × (s < MOST_SENDERS) × (FIRST_NUMBERS ≤ slice_index page.next s)
 PageRefused page make.NoMemory = ⊥
 
 abbrev pub MayNotFollow : Option Page → MakeFault → Type 0
@@ -123,7 +152,8 @@ MayFollow None = Unit {0}
 MayFollow (Some page) = IsFollowed page
 
 -- a new bus of this shape, over such ratifiers, of a sitting that begins with these numbers
-pub record IsMade {E S : Type 0} (X : Election E) (P : Protocol S Bool Verdict) (shape : Shape) (reuse : Option ℕ) (bases : List ℕ) (m : Machine E) : Type 0 where
+pub record IsMade {E S : Type 0} (X : Election E) (P : Protocol S Bool Verdict) (shape : Shape)
+    (reuse : Option ℕ) (bases : List ℕ) (m : Machine E) : Type 0 where
   pub served : IsServed shape reuse
   pub layout : m.layout ≡ layout_of P shape reuse
   pub rows : m.reuse ≡ reuse
@@ -135,30 +165,40 @@ pub record IsMade {E S : Type 0} (X : Election E) (P : Protocol S Bool Verdict) 
 
 -- ---- why an event is refused
 -- there is no such sender; or it has stopped; or it has a cause of its own
-abbrev pub SenderRefused : {E : Type 0} → Option (Sender E) → Bool → StepFault → (Sender E → Type 0) → Type 0
+abbrev pub SenderRefused : {E : Type 0} → Option (Sender E) → Bool → StepFault → (Sender E → Type 0)
+    → Type 0
 SenderRefused None stopped why own = why ≡ fault.NoSuchSender
 SenderRefused (Some v) true why own = why ≡ fault.Stopped
 SenderRefused (Some v) false why own = own v
 
 abbrev pub PutRefused : {E : Type 0} → ℕ → StepFault → Sender E → Type 0
-PutRefused len why v = (cause : PutFault) × IsPutFault (queue_of v.core.queue v.reuse) len cause × (why ≡ fault.Put cause)
+PutRefused len why v =
+    (cause : PutFault) × IsPutFault (queue_of v.core.queue v.reuse) len cause
+    × (why ≡ fault.Put cause)
 
 abbrev pub CloseRefused : {E : Type 0} → StepFault → Sender E → Type 0
-CloseRefused why v = (cause : CloseFault) × IsCloseFault (queue_of v.core.queue v.reuse) cause × (why ≡ fault.Close cause)
+CloseRefused why v =
+    (cause : CloseFault) × IsCloseFault (queue_of v.core.queue v.reuse) cause
+    × (why ≡ fault.Close cause)
 
--- each fault where its cause holds and no earlier one; both marks have the same, and turns and stops none of their own
+-- each fault where its cause holds and no earlier one; both marks have the same, and turns and
+-- stops none of their own
 abbrev pub Refused : {E : Type 0} → Machine E → Event → StepFault → Type 0
-Refused m (Put s bytes) why = SenderRefused (slice_get m.senders s) (has_stopped m s) why (PutRefused (length bytes) why)
-Refused m (Ask s mark) why = SenderRefused (slice_get m.senders s) (has_stopped m s) why (CloseRefused why)
+Refused m (Put s bytes) why =
+    SenderRefused (slice_get m.senders s) (has_stopped m s) why (PutRefused (length bytes) why)
+Refused m (Ask s mark) why =
+    SenderRefused (slice_get m.senders s) (has_stopped m s) why (CloseRefused why)
 Refused m (Turn s word) why = SenderRefused (slice_get m.senders s) (has_stopped m s) why (λ v. ⊥)
 Refused m (Recv r) why = RecvRefused (slice_get m.receivers r) why
 Refused m (Stop s) why = SenderRefused (slice_get m.senders s) (has_stopped m s) why (λ v. ⊥)
 
 -- ---- what a call tells
--- The event happened, and this was its answer. The sender whose turn it was had a cause for its step; what the answer tells is so, of that
--- sender and what its step found, and by whatever trails led to the old machine; the stage leaves that of an open tenure only by who takes
--- its page; and the new machine follows the old one.
-pub record Answers {S : Type 0} (X : Election (Elector S)) (P : Protocol S Bool Verdict) (old : Machine (Elector S)) (e : Event) (a : Answer) (new : Machine (Elector S)) : Type 0 where
+-- The event happened, and this was its answer. The sender whose turn it was had a cause for its
+-- step; what the answer tells is so, of that sender and what its step found, and by whatever trails
+-- led to the old machine; the stage leaves that of an open tenure only by who takes its page; and
+-- the new machine follows the old one.
+pub record Answers {S : Type 0} (X : Election (Elector S)) (P : Protocol S Bool Verdict)
+    (old : Machine (Elector S)) (e : Event) (a : Answer) (new : Machine (Elector S)) : Type 0 where
   pub happens : Happens X old e a new
   pub causes : Causes X P old e
   pub says : Says X old e a
@@ -167,35 +207,48 @@ pub record Answers {S : Type 0} (X : Election (Elector S)) (P : Protocol S Bool 
   pub follows : Follows X old e a new
 
 -- the event is refused, and nothing has changed
-pub record Refuses {E : Type 0} (old : Machine E) (e : Event) (why : StepFault) (new : Machine E) : Type 0 where
+pub record Refuses {E : Type 0} (old : Machine E) (e : Event) (why : StepFault) (new : Machine E) :
+    Type 0 where
   pub refused : Refused old e why
   pub nothing : new ≡ old
 
 -- ---- events one after another
 -- each is answered
-abbrev pub AllAnswered : {S : Type 0} → Election (Elector S) → Protocol S Bool Verdict → Machine (Elector S) → List Event → Machine (Elector S) → Type 0
+abbrev pub AllAnswered : {S : Type 0} → Election (Elector S) → Protocol S Bool Verdict
+    → Machine (Elector S) → List Event → Machine (Elector S) → Type 0
 AllAnswered X P old [] new = new ≡ old
-AllAnswered {S} X P old (e ∷ events) new = (mid : Machine (Elector S)) × (a : Answer) × Answers X P old e a mid × AllAnswered X P mid events new
+AllAnswered {S} X P old (e ∷ events) new =
+    (mid : Machine (Elector S)) × (a : Answer) × Answers X P old e a mid
+    × AllAnswered X P mid events new
 
 -- the trails after these events with their answers
-abbrev pub trails_after : {S : Type 0} (X : Election (Elector S)) (P : Protocol S Bool Verdict) (old : Machine (Elector S)) (events : List Event) (new : Machine (Elector S)) → AllAnswered X P old events new → Trails → Trails
+abbrev pub trails_after : {S : Type 0} (X : Election (Elector S)) (P : Protocol S Bool Verdict)
+    (old : Machine (Elector S)) (events : List Event) (new : Machine (Elector S))
+    → AllAnswered X P old events new → Trails → Trails
 trails_after X P old [] new run T = T
-trails_after X P old (e ∷ events) new run T = trails_after X P run.0 events new run.3 (trails_grown X old e run.1 T)
+trails_after X P old (e ∷ events) new run T =
+    trails_after X P run.0 events new run.3 (trails_grown X old e run.1 T)
 
 -- the words that join the log with these events, one after another
-abbrev pub words_after : {S : Type 0} (X : Election (Elector S)) (P : Protocol S Bool Verdict) (old : Machine (Elector S))
+abbrev pub words_after : {S : Type 0} (X : Election (Elector S)) (P : Protocol S Bool Verdict)
+    (old : Machine (Elector S))
     (events : List Event)
     (new : Machine (Elector S)) → AllAnswered X P old events new → List ℕ
 words_after X P old [] new run = []
-words_after X P old (e ∷ events) new run = words_joined X old e ++ words_after X P run.0 events new run.3
+words_after X P old (e ∷ events) new run =
+    words_joined X old e ++ words_after X P run.0 events new run.3
 
 -- all were answered, and what is left follows what there was
-pub record Played {S : Type 0} (X : Election (Elector S)) (P : Protocol S Bool Verdict) (old : Machine (Elector S)) (events : List Event) (new : Machine (Elector S)) : Type 0 where
+pub record Played {S : Type 0} (X : Election (Elector S)) (P : Protocol S Bool Verdict)
+    (old : Machine (Elector S)) (events : List Event) (new : Machine (Elector S)) : Type 0 where
   pub answered : AllAnswered X P old events new
-  pub extends : Extends X old new (words_after X P old events new answered) (trails_after X P old events new answered)
+  pub extends : Extends X old new (words_after X P old events new answered)
+      (trails_after X P old events new answered)
 
 -- the event at a place is the first that is refused: those before it have happened, and no other
-pub record Stops {S : Type 0} (X : Election (Elector S)) (P : Protocol S Bool Verdict) (old : Machine (Elector S)) (events : List Event) (place : ℕ) (why : StepFault) (new : Machine (Elector S)) : Type 0 where
+pub record Stops {S : Type 0} (X : Election (Elector S)) (P : Protocol S Bool Verdict)
+    (old : Machine (Elector S)) (events : List Event) (place : ℕ) (why : StepFault)
+    (new : Machine (Elector S)) : Type 0 where
   pub played : Played X P old (take place events) new
   pub event : Event
   pub at : slice_get events place ≡ Some event

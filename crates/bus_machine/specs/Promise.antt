@@ -1,6 +1,7 @@
 -- What is promised of the machine, and how an event leaves the promise: of both kinds of rows.
-use Rattle.std.specs.Prelude.{◌≡◌, ◌≢◌, ℕ, ◌+◌, ◌*◌, ◌/◌, ◌<◌, ◌≤◌, Bool, false, Option, Some, None, List, [], ◌++◌, filter, length, map}
-use Rattle.std.specs.Prelude.{slice_get, slice_index, ◌==◌, if◌then◌else◌}
+use Rattle.std.specs.Prelude.{◌≡◌, ◌≢◌, ℕ, ◌+◌, ◌*◌, ◌/◌, ◌<◌, ◌≤◌, Bool, false, Option, Some}
+use Rattle.std.specs.Prelude.{None, List, [], ◌++◌, filter, length, map, slice_get, slice_index}
+use Rattle.std.specs.Prelude.{◌==◌, if◌then◌else◌}
 use Rattle.bus_register.specs.declared.limits.TheConstants.{MOST_SENDERS}
 use Rattle.bus_register.specs.declared.registers.Op.{Op}
 use Rattle.bus_register.specs.declared.registers.SenderNo.{SenderNo}
@@ -24,12 +25,14 @@ use Rattle.bus_tenure.specs.Core.{Election}
 use Rattle.bus_tenure.specs.Situations.{Elects, TakesPage, StoresWord}
 use Rattle.bus_tenure.specs.declared.pages.Page.{Page}
 use Rattle.bus_tenure.specs.declared.phases.Phase.TheVariants.{Electing, Holding}
-use Rattle.bus_world.specs.Headline.{Action, HasPut, HasMarked, Stepped, Took, puts, order_given, IsPrefix, Promises}
+use Rattle.bus_world.specs.Headline.{Action, HasPut, HasMarked, Stepped, Took, puts, order_given}
+use Rattle.bus_world.specs.Headline.{IsPrefix, Promises}
 use Rattle.bus_world.specs.Trails.{Takers}
 use Rattle.bus_world.specs.Waiting.{waiting_at}
 use Rattle.bus_world.specs.World.{Event, Put, Ask, Turn, Recv, Stop}
 use Rattle.bus_world.specs.declared.events.Answer.{Answer}
-use Rattle.bus_machine.specs.Machine.{Machine, Trails, base_of, Reached, trails_grown, owners_told, log_place, log_of, stage_of, going}
+use Rattle.bus_machine.specs.Machine.{Machine, Trails, base_of, Reached, trails_grown, owners_told}
+use Rattle.bus_machine.specs.Machine.{log_place, log_of, stage_of, going, words_of_frame}
 use Rattle.bus_machine.specs.Remembering.{Remembers}
 
 -- a row for each tenure, or two rows or more
@@ -38,8 +41,10 @@ HasRows None = Unit {0}
 HasRows (Some rows) = LEAST_ROWS_AGAIN ≤ rows
 
 -- ---- who took the pages
--- all of them took the pages by these actions, by tenure; and these are those of them that are still told
-pub record TakersTold (reuse : Option ℕ) (owners : List ℕ) (actions : ℕ → List Action) : Type 0 where
+-- all of them took the pages by these actions, by tenure; and these are those of them that are
+-- still told
+pub record TakersTold (reuse : Option ℕ) (owners : List ℕ) (actions : ℕ → List Action) :
+    Type 0 where
   pub all : List ℕ
   pub takers : Takers all actions
   pub told : owners ≡ owners_told reuse all
@@ -55,26 +60,39 @@ pin_in (Some v) = pin_of v.reuse
 
 -- the words, how far the pin of each sender has come, and the reclamation of who holds the page
 abbrev pub reclamation_of : {E : Type 0} → Machine E → Option Reclaiming → Reclamation
-reclamation_of m reclaimer = record { words = slice_index m.words; pins = λ p. pin_in (slice_get m.senders p); reclaimer = reclaimer }
+reclamation_of m reclaimer = record {
+  words = slice_index m.words;
+  pins = λ p. pin_in (slice_get m.senders p);
+  reclaimer = reclaimer;
+}
 
 -- over so many rows
-pub record ReusesRows {E : Type 0} (X : Election E) (m : Machine E) (T : Trails) (rows : ℕ) : Type 0 where
+pub record ReusesRows {E : Type 0} (X : Election E) (m : Machine E) (T : Trails) (rows : ℕ) :
+    Type 0 where
   pub reclaimer : Option Reclaiming
-  pub holder : (p : ℕ) (v : Sender E) (t : ℕ) → slice_get m.senders p ≡ Some v → held_of v.core.phase ≡ Some t → reclaimer_in v.reuse ≡ reclaimer
-  -- its trails lead to its reclamation by moves of a reclamation: so no row is cleared while somebody stands in a tenure of it, ..
+  pub holder : (p : ℕ) (v : Sender E) (t : ℕ) → slice_get m.senders p ≡ Some v
+      → held_of v.core.phase ≡ Some t → reclaimer_in v.reuse ≡ reclaimer
+  -- its trails lead to its reclamation by moves of a reclamation: so no row is cleared while
+  -- somebody stands in a tenure of it, ..
   pub reached : ReclamationReached (sizes_with m.layout rows) (reclamation_of m reclaimer) T.pins
   pub safe : IsSafe (sizes_with m.layout rows) (reclamation_of m reclaimer) T.pins
   -- .. and while a page is out, the row of the next tenure was never used, or it is reclaimed
   pub ready : (t : ℕ) → stage_of m ≡ 2 * t + 1 → reclaimer ≡ None → t + 1 < rows
-  -- whose election runs stands in its tenure: it stored its presence, then loaded the stage of that tenure, and has not cleared it since
-  pub stands : (p : ℕ) (v : Sender E) (t : ℕ) (e : E) → slice_get m.senders p ≡ Some v → v.core.phase ≡ Electing t e → Stands (sizes_with m.layout rows) p (T.pins p) t
+  -- whose election runs stands in its tenure: it stored its presence, then loaded the stage of that
+  -- tenure, and has not cleared it since
+  pub stands : (p : ℕ) (v : Sender E) (t : ℕ) (e : E) → slice_get m.senders p ≡ Some v
+      → v.core.phase ≡ Electing t e → Stands (sizes_with m.layout rows) p (T.pins p) t
   -- and its next step is on a word of the row that this tenure uses
-  pub within : (p t word : ℕ) (v : Sender E) (e : E) (o : Op) → slice_get m.senders p ≡ Some v → situation X v ≡ Does (Elects t e)
+  pub within : (p t word : ℕ) (v : Sender E) (e : E) (o : Op) → slice_get m.senders p ≡ Some v
+      → situation X v ≡ Does (Elects t e)
       → (line_now X v).op word ≡ Some o
-      → (row_of (sizes_with m.layout rows) t ≤ register o) × (register o < row_of (sizes_with m.layout rows) t + m.layout.width)
+      → (row_of (sizes_with m.layout rows) t ≤ register o)
+      × (register o < row_of (sizes_with m.layout rows) t + m.layout.width)
   -- no step clears a word of a row in which anybody stands
-  pub spares : (p q t place word : ℕ) (v : Sender E) (s : Reclaiming) (o : Op) → slice_get m.senders p ≡ Some v → situation X v ≡ Clears s
-      → (line_now X v).op word ≡ Some o → Stands (sizes_with m.layout rows) q (T.pins q) t → place < m.layout.width
+  pub spares : (p q t place word : ℕ) (v : Sender E) (s : Reclaiming) (o : Op)
+      → slice_get m.senders p ≡ Some v → situation X v ≡ Clears s
+      → (line_now X v).op word ≡ Some o → Stands (sizes_with m.layout rows) q (T.pins q) t
+      → place < m.layout.width
       → register o ≢ row_of (sizes_with m.layout rows) t + place
 
 abbrev pub ReusesSafely : {E : Type 0} → Election E → Machine E → Trails → Option ℕ → Type 0
@@ -82,20 +100,24 @@ ReusesSafely X m T None = Unit {0}
 ReusesSafely X m T (Some rows) = ReusesRows X m T rows
 
 -- ---- the page
--- The page is out while a tenure is held. At home it knows how many tenures have ended, how many words the log has, and whether the order
--- has ended.
+-- The page is out while a tenure is held. At home it knows how many tenures have ended, how many
+-- words the log has, and whether the order has ended.
 abbrev pub IsPagedBy : (stage len : ℕ) → Bool → Option Page → Type 0
 IsPagedBy stage len ended None = (t : ℕ) × (stage ≡ 2 * t + 1)
-IsPagedBy stage len ended (Some page) = (stage ≡ 2 * page.tenures) × (page.words ≡ len) × (page.ended ≡ ended)
+IsPagedBy stage len ended (Some page) =
+    (stage ≡ 2 * page.tenures) × (page.words ≡ len) × (page.ended ≡ ended)
 
 -- it knows the next number of each sender behind this order, and who has left by it
 pub record KnowsOrder (base : ℕ → ℕ) (page : Page) (order : Order) : Type 0 where
   pub entries : length page.next ≡ MOST_SENDERS
-  pub next : (s : ℕ) → s < MOST_SENDERS → slice_index page.next s ≡ base s + length (of_sender s order)
+  pub next : (s : ℕ) → s < MOST_SENDERS
+      → slice_index page.next s ≡ base s + length (of_sender s order)
   pub left : (s : ℕ) → s < MOST_SENDERS → slice_get page.left s ≡ Some (has_gone s order)
 
--- A page that is out knows what the log was when it left home: how many words it had, the order that these spell, and the tenures.
-pub record KnowsFront (base : ℕ → ℕ) (senders tenure : ℕ) (page : Page) (front : List ℕ) : Type 0 where
+-- A page that is out knows what the log was when it left home: how many words it had, the order
+-- that these spell, and the tenures.
+pub record KnowsFront (base : ℕ → ℕ) (senders tenure : ℕ) (page : Page) (front : List ℕ) :
+    Type 0 where
   pub order : Order
   pub owners : List (ℕ × SenderNo)
   pub spelled : Spells senders front order owners
@@ -104,8 +126,8 @@ pub record KnowsFront (base : ℕ → ℕ) (senders tenure : ℕ) (page : Page) 
   pub ended : page.ended ≡ order.ended
   pub tenures : page.tenures ≡ tenure
 
--- While it is out, who took it last of all has it: the owner of the tenure that is held. Behind the words that it knows stands the owner's
--- frame, once that is published, and nothing else.
+-- While it is out, who took it last of all has it: the owner of the tenure that is held. Behind the
+-- words that it knows stands the owner's frame, once that is published, and nothing else.
 pub record IsWithOwner {E : Type 0} (m : Machine E) (T : Trails) (owners : List ℕ) : Type 0 where
   pub tenure : ℕ
   pub stage : stage_of m ≡ 2 * tenure + 1
@@ -121,7 +143,8 @@ pub record IsWithOwner {E : Type 0} (m : Machine E) (T : Trails) (owners : List 
   pub has : sender.core.phase ≡ Holding tenure page stored published
   pub front : List ℕ
   pub knows : KnowsFront (base_of m) m.layout.senders tenure page front
-  pub behind : log_of m ≡ front ++ (if published then frame_words (frame_of sender.core.queue tenure) else [])
+  pub behind : T.log
+      ≡ front ++ (if published then frame_words (frame_of sender.core.queue tenure) else [])
 
 -- the page is at home, and the stage is that of this tenure
 pub record FindsPage {E : Type 0} (m : Machine E) (t : ℕ) : Type 0 where
@@ -130,31 +153,42 @@ pub record FindsPage {E : Type 0} (m : Machine E) (t : ℕ) : Type 0 where
   pub stage : stage_of m ≡ 2 * t
 
 -- ---- the promise
--- of these trails, with the order and the owners of frames that the words below the length spell
-pub record IsPromisedBy {E : Type 0} (X : Election E) (m : Machine E) (T : Trails) (order : Order) (owners : List (ℕ × SenderNo)) : Type 0 where
-  pub spelled : Spells m.layout.senders (log_of m) order owners
+-- of these trails, with the order and the owners of frames that the words of the log spell, which
+-- are those that were published
+pub record IsPromisedBy {E : Type 0} (X : Election E) (m : Machine E) (T : Trails) (order : Order)
+    (owners : List (ℕ × SenderNo)) : Type 0 where
+  pub stands : log_of m ≡ T.log
+  pub spelled : Spells m.layout.senders T.log order owners
   pub takers : TakersTold m.reuse m.owners T.actions
   pub promises : Promises (base_of m) T.actions T.heard order owners
   pub paged : IsPagedBy (stage_of m) (slice_index m.words 0) order.ended m.home
-  -- who takes the page of a tenure with its next step finds it at home, in that tenure; and who holds it, holds that of the tenure
-  pub finds : (s : ℕ) (v : Sender E) (t : ℕ) → slice_get m.senders s ≡ Some v → situation X v ≡ Does (TakesPage t) → FindsPage m t
-  pub holds : (s : ℕ) (v : Sender E) (t : ℕ) → slice_get m.senders s ≡ Some v → held_of v.core.phase ≡ Some t → stage_of m ≡ 2 * t + 1
+  -- who takes the page of a tenure with its next step finds it at home, in that tenure; and who
+  -- holds it, holds that of the tenure
+  pub finds : (s : ℕ) (v : Sender E) (t : ℕ) → slice_get m.senders s ≡ Some v
+      → situation X v ≡ Does (TakesPage t) → FindsPage m t
+  pub holds : (s : ℕ) (v : Sender E) (t : ℕ) → slice_get m.senders s ≡ Some v
+      → held_of v.core.phase ≡ Some t → stage_of m ≡ 2 * t + 1
   -- and it is who took that page: so nobody but the owner of the tenure that is held has one
-  pub owns : (s : ℕ) (v : Sender E) (t : ℕ) → slice_get m.senders s ≡ Some v → held_of v.core.phase ≡ Some t → slice_get takers.all t ≡ Some s
+  pub owns : (s : ℕ) (v : Sender E) (t : ℕ) → slice_get m.senders s ≡ Some v
+      → held_of v.core.phase ≡ Some t → slice_get takers.all t ≡ Some s
   -- a page at home counts the pages that were taken
   pub counts : (page : Page) → m.home ≡ Some page → page.tenures ≡ length takers.all
-  -- it knows the next number of each sender behind the order, and who has left in it; a page that is out is with the owner of the tenure
-  -- that is held
+  -- it knows the next number of each sender behind the order, and who has left in it; a page that
+  -- is out is with the owner of the tenure that is held
   pub knows : (page : Page) → m.home ≡ Some page → KnowsOrder (base_of m) page order
   pub out : m.home ≡ None → IsWithOwner m T takers.all
   -- a word of the log is stored past its length, behind those of the same frame that are stored
-  pub past : (s : ℕ) (v : Sender E) (t : ℕ) (page : Page) (stored word : ℕ) (o : Op) → slice_get m.senders s ≡ Some v
+  pub past : (s : ℕ) (v : Sender E) (t : ℕ) (page : Page) (stored word : ℕ) (o : Op)
+      → slice_get m.senders s ≡ Some v
       → situation X v ≡ Does (StoresWord t page stored) → (line_now X v).op word ≡ Some o
       → register o ≡ log_place m.layout m.reuse + slice_index m.words 0 + stored
   -- what a sender has put is what stands of it in the order, and then what waits
-  pub sent : (s : ℕ) (v : Sender E) → slice_get m.senders s ≡ Some v → puts (T.actions s) ≡ map (λ i. i.message) (of_sender s order) ++ waiting_at v.core v.core.phase
+  pub sent : (s : ℕ) (v : Sender E) → slice_get m.senders s ≡ Some v
+      → puts (T.actions s)
+      ≡ map (λ i. i.message) (of_sender s order) ++ waiting_at v.core v.core.phase
   -- what each sender goes by is so
-  pub remembers : (s : ℕ) (v : Sender E) → slice_get m.senders s ≡ Some v → Remembers m s v (T.actions s)
+  pub remembers : (s : ℕ) (v : Sender E) → slice_get m.senders s ≡ Some v
+      → Remembers m s v (T.actions s)
   pub reuse : ReusesSafely X m T m.reuse
 
 pub record IsPromised {E : Type 0} (X : Election E) (m : Machine E) (T : Trails) : Type 0 where
@@ -162,9 +196,10 @@ pub record IsPromised {E : Type 0} (X : Election E) (m : Machine E) (T : Trails)
   pub owners : List (ℕ × SenderNo)
   pub by : IsPromisedBy X m T order owners
 
--- As it held before, so it holds after, of more trails: the order, the owners of frames and of pages, and what each receiver was
--- given are extended, and never otherwise changed.
-pub record StaysPromised {E : Type 0} (X : Election E) (old : Machine E) (T : Trails) (new : Machine E) (T' : Trails) : Type 0 where
+-- As it held before, so it holds after, of more trails: the order, the owners of frames and of
+-- pages, and what each receiver was given are extended, and never otherwise changed.
+pub record StaysPromised {E : Type 0} (X : Election E) (old : Machine E) (T : Trails)
+    (new : Machine E) (T' : Trails) : Type 0 where
   pub before : IsPromised X old T
   pub after : IsPromised X new T'
   pub order : IsPrefixOfOrder before.order after.order
@@ -178,7 +213,8 @@ abbrev pub HasGoneOn : {E : Type 0} → Machine E → Option ℕ → ℕ → Typ
 HasGoneOn m None t = ⊥
 HasGoneOn m (Some rows) t = t + rows ≤ stage_of m / 2
 
--- the action is a step in this tenure: one of its election, the one that takes its page, or one of who holds that page
+-- the action is a step in this tenure: one of its election, the one that takes its page, or one of
+-- who holds that page
 abbrev pub is_in : ℕ → Action → Bool
 is_in t (HasPut number bytes) = false
 is_in t (HasMarked mark) = false
@@ -203,28 +239,27 @@ frame_published X m (Turn s word) = frame_next X (going m s)
 frame_published X m (Recv r) = None
 frame_published X m (Stop s) = None
 
--- the words of a frame, where there is one
-abbrev pub words_of_frame : Option Frame → List ℕ
-words_of_frame None = []
-words_of_frame (Some f) = frame_words f
-
 -- the words that join the log with an event
 abbrev pub words_joined : {E : Type 0} → Election E → Machine E → Event → List ℕ
 words_joined X m e = words_of_frame (frame_published X m e)
 
 -- ---- one machine follows another
--- The log below the length is extended by these words, and by no others, and never otherwise changed. The stage never falls. Whatever
--- trails led to the old machine, with these ones they lead to the new one, and the promise stays; and of a tenure whose row had gone on
--- before, no sender has an action more: no step of its election, and none of who holds its page. So what was elected there stays as it is.
-pub record Extends {E : Type 0} (X : Election E) (old new : Machine E) (joined : List ℕ) (grown : Trails → Trails) : Type 0 where
+-- The log below the length is extended by these words, and by no others, and never otherwise
+-- changed. The stage never falls. Whatever trails led to the old machine, with these ones they lead
+-- to the new one, and the promise stays; and of a tenure whose row had gone on before, no sender
+-- has an action more: no step of its election, and none of who holds its page. So what was elected
+-- there stays as it is.
+pub record Extends {E : Type 0} (X : Election E) (old new : Machine E) (joined : List ℕ)
+    (grown : Trails → Trails) : Type 0 where
   pub joins : log_of new ≡ log_of old ++ joined
   pub grows : IsPrefix (log_of old) (log_of new)
   pub rises : stage_of old ≤ stage_of new
   pub reached : (T : Trails) → Reached X old T → Reached X new (grown T)
   pub promised : (T : Trails) → Reached X old T → StaysPromised X old T new (grown T)
-  pub stays : (T : Trails) → Reached X old T → (t s : ℕ) → HasGoneOn old old.reuse t → actions_in t ((grown T).actions s) ≡ actions_in t (T.actions s)
+  pub stays : (T : Trails) → Reached X old T → (t s : ℕ) → HasGoneOn old old.reuse t
+      → actions_in t ((grown T).actions s) ≡ actions_in t (T.actions s)
 
--- By an event with this answer: the frame of a sender whose turn stores a length joins the log with that step, and with no other event
--- does any word join it.
+-- By an event with this answer: the frame of a sender whose turn stores a length joins the log with
+-- that step, and with no other event does any word join it.
 abbrev pub Follows : {E : Type 0} → Election E → Machine E → Event → Answer → Machine E → Type 0
 Follows X old e a new = Extends X old new (words_joined X old e) (trails_grown X old e a)

@@ -9,7 +9,7 @@ ghost use Rattle.bus_world.specs.Headline.{Action};
 ghost use Rattle.bus_world.specs.World.{Event};
 ghost use Rattle.bus_world.specs.declared.events.Answer.{Answer};
 ghost use Rattle.bus_machine.specs.LogRefusals.{LogsRefuse};
-ghost use Rattle.bus_machine.specs.Machine.{Machine, Trails, Reached, Happens};
+ghost use Rattle.bus_machine.specs.Machine.{Machine, Trails, Reached, Happens, log_of};
 ghost use Rattle.bus_machine.specs.Bounding.{AreBounded, PinsAreBounded};
 ghost use Rattle.bus_machine.specs.Promise.{IsPromised, HasRows, Follows};
 ghost use Rattle.bus_machine.specs.Promise.{actions_in};
@@ -52,6 +52,20 @@ pub fn events_keep_promise<Q: Ratifier>()
         → Happens X old event given new
         → Follows X old event given new × Tells X old event given
         × OpensOnly X old event given new }
+{
+    election_is_lawful::<Q>();
+}
+
+/// The words of the log below the length are all that was ever published, by all that led to the
+/// machine.
+pub fn history_stands<Q: Ratifier>()
+    ensures { let X = election_of Q.Ratifier in
+        (senders rounds rows capacity : ℕ)
+        → IsLayout (layout_with Q.protocol senders rounds rows capacity)
+        → (machine : Machine (Elector Q)) (trails : Trails)
+        → machine.layout ≡ layout_with Q.protocol senders rounds rows capacity
+        → HasRows machine.reuse → Reached X machine trails
+        → log_of machine ≡ trails.log }
 {
     election_is_lawful::<Q>();
 }
@@ -156,8 +170,9 @@ pub fn machines_refuse<Q: Ratifier>()
         → BoundsRefuse X bound machine trails }
 {}
 
-/// Of no machine the promise holds in which a sender has put a message that neither stands in the
-/// log nor waits, or whose first word below the length is zero.
+/// Of no machine the promise holds in which a word below the length is another than the one that
+/// was published there, or the first of them is zero. Nor of one in which what a sender has put is
+/// not what stands of it in the log and then what waits.
 pub fn logs_refuse<Q: Ratifier>()
     ensures { let X = election_of Q.Ratifier in
         (machine : Machine (Elector Q)) (trails : Trails) → LogsRefuse X machine trails }

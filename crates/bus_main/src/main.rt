@@ -1,6 +1,7 @@
 //! The program `bus`. `bus ratify`, `bus replay` and `bus trace` read a script from standard input
 //! and write its answer to standard output, `bus trace --svg` a picture of it, `bus trace --html` a
-//! web page that steps through it, and `bus log` the words of a log. `bus run` lets threads share a
+//! web page that steps through it, `bus trace --play` one on which one also plays, and `bus log`
+//! the words of a log. `bus run` lets threads share a
 //! bus, and writes what came of it.
 //!
 //! Where a script or a log was refused, standard error says why, as a hint.
@@ -11,17 +12,12 @@
 #![tactic(auto)]
 
 ghost use Rattle.std.specs.Prelude.{◌≤◌, ◌^◌};
+ghost use Rattle.bus_commands.specs.Tasks.{ReadsInput};
 
 use bus_adoptcommit::ThreeWord;
+use bus_commands::answering::{answer, print};
 use bus_commands::command_line::{Task, parse};
-use bus_commands::log::log;
-use bus_commands::picture::picture;
-use bus_commands::printing::{print_log, print_run};
-use bus_commands::ratify::ratify;
-use bus_commands::replay::replay;
 use bus_commands::streams::{LOG_LIMIT, SCRIPT_LIMIT, read_whole};
-use bus_commands::trace::trace;
-use bus_commands::webpage::webpage;
 use bus_reasons::{Reads, reason_of};
 use bus_register::NoMemory;
 use bus_run::RunFault;
@@ -67,12 +63,13 @@ fn do_task<R: AllocGlobal + Input + Print + Eprint + Threads + Wait + Sync>(
 ) -> ExitCode {
     match task {
         Task::Ratify => do_reading(rt, task, Reads::Ratify, SCRIPT_LIMIT),
-        Task::Replay | Task::Trace | Task::Picture | Task::Webpage => {
-            do_reading(rt, task, Reads::Replay, SCRIPT_LIMIT)
-        }
+        Task::Replay => do_reading(rt, task, Reads::Replay, SCRIPT_LIMIT),
+        Task::Trace => do_reading(rt, task, Reads::Replay, SCRIPT_LIMIT),
+        Task::Picture => do_reading(rt, task, Reads::Replay, SCRIPT_LIMIT),
+        Task::Webpage(_) => do_reading(rt, task, Reads::Replay, SCRIPT_LIMIT),
         Task::Log { senders } => do_reading(rt, task, Reads::Log { senders }, LOG_LIMIT),
-        Task::RunLog(request) => end(rt, print_log(rt, rt.alloc(), request, &mut io::writer(rt))),
-        Task::Run(request) => end(rt, print_run(rt, rt.alloc(), request, &mut io::writer(rt))),
+        Task::RunLog(_) => end(rt, print(rt, rt.alloc(), task, &mut io::writer(rt))),
+        Task::Run(_) => end(rt, print(rt, rt.alloc(), task, &mut io::writer(rt))),
     }
 }
 
@@ -84,13 +81,14 @@ fn do_reading<R: AllocGlobal + Input + Print + Eprint>(
     reads: Reads,
     limit: usize,
 ) -> ExitCode
-    requires { limit ≤ 2 ^ 32 }
+    requires task { ReadsInput task }
+    requires limit { limit ≤ 2 ^ 32 }
 {
     let input = match read_whole(rt.alloc(), &mut rt.reader(), limit) {
         Ok(input) => input,
         Err(fault) => return end(rt, Err(fault)),
     };
-    let ended = answer(rt, task, input.as_slice());
+    let ended = answer_to_input(rt, task, input.as_slice());
     if ended == Ok(Outcome::Refused) {
         say_why(rt, reads, input.as_slice());
     }
@@ -116,29 +114,21 @@ fn answer_again(alloc: Global, reads: Reads, input: &[u8]) -> Result<Answer, NoM
     }
 }
 
-/// Writes what a command that reads answers to its input.
-fn answer<R: AllocGlobal + Print + Eprint>(
+/// Writes what a command that reads answers to its input, and says where a script was refused of
+/// which a picture or a web page was written.
+fn answer_to_input<R: AllocGlobal + Print + Eprint>(
     rt: &R,
     task: Task,
     mut input: &[u8],
-) -> Result<Outcome, RunFault> {
-    let mut writer = io::writer(rt);
+) -> Result<Outcome, RunFault>
+    requires { ReadsInput task }
+{
+    let given = answer(rt.alloc(), task, &mut input, &mut io::writer(rt))?;
     match task {
-        Task::Replay => replay::<ThreeWord, _, _>(rt.alloc(), &mut input, &mut writer),
-        Task::Trace => trace::<ThreeWord, _, _>(rt.alloc(), &mut input, &mut writer),
-        Task::Picture => {
-            let answer = picture::<ThreeWord, _, _>(rt.alloc(), &mut input, &mut writer)?;
-            say_where(rt, &answer);
-            Ok(answer.outcome)
-        }
-        Task::Webpage => {
-            let answer = webpage::<ThreeWord, _, _>(rt.alloc(), &mut input, &mut writer)?;
-            say_where(rt, &answer);
-            Ok(answer.outcome)
-        }
-        Task::Log { senders } => log(rt.alloc(), senders, &mut input, &mut writer),
-        _ => ratify(rt.alloc(), &mut input, &mut writer),
+        Task::Picture | Task::Webpage(_) => say_where(rt, &given),
+        _ => {}
     }
+    Ok(given.outcome)
 }
 
 /// The words of the command line, of which the first is the program's name.

@@ -12,16 +12,21 @@ use Rattle.bus_ownerbits.specs.ElectionAsks.{AsksAsTold}
 use Rattle.bus_ownerbits.specs.ElectionKeeps.{wants_at}
 use Rattle.bus_ownerbits.specs.ElectionNames.{calls_at}
 
-object_asks : {S T : Type 0} (P : Protocol S Bool Verdict) (C : Protocol T Bool Bool) → ((q : S) → P.wants_word q ≡ false) → (x : Object S T) → object_wants P C x ≡ object_calls C x
+object_asks : {S T : Type 0} (P : Protocol S Bool Verdict) (C : Protocol T Bool Bool)
+    → ((q : S) → P.wants_word q ≡ false) → (x : Object S T) → object_wants P C x ≡ object_calls C x
 object_asks P C never (Ratify q) = never q
 object_asks P C never (Concile c) = refl
 object_asks P C never (Fall f) = refl
 
-stage_asks : {S T : Type 0} (P : Protocol S Bool Verdict) (C : Protocol T Bool Bool) → ((q : S) → P.wants_word q ≡ false) → (stage : Stage (Decider S T)) (s : Electing (Decider S T)) → wants_at (decide_protocol P C) stage s ≡ calls_at C stage
+stage_asks : {S T : Type 0} (P : Protocol S Bool Verdict) (C : Protocol T Bool Bool)
+    → ((q : S) → P.wants_word q ≡ false)
+    → (stage : Stage (Decider S T)) (s : Electing (Decider S T))
+    → wants_at (decide_protocol P C) stage s ≡ calls_at C stage
 stage_asks P C never Announce s = refl
 stage_asks P C never (Propose d) s = object_asks P C never d.object
 stage_asks P C never (Search i) s = refl
 stage_asks P C never Alone s = refl
 
-pub asks_as_told : {S T : Type 0} (P : Protocol S Bool Verdict) (C : Protocol T Bool Bool) → ((q : S) → P.wants_word q ≡ false) → AsksAsTold P C
+pub asks_as_told : {S T : Type 0} (P : Protocol S Bool Verdict) (C : Protocol T Bool Bool)
+    → ((q : S) → P.wants_word q ≡ false) → AsksAsTold P C
 asks_as_told P C never rounds s = stage_asks P C never s.stage s

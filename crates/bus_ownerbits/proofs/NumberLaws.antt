@@ -1,5 +1,7 @@
 -- What follows of numbers and their bits.
-use Rattle.std.proofs.Common.{add-one, ◌≡◌, ℕ, zero, suc, ◌+◌, ◌*◌, ◌-◌, ◌/◌, ◌%◌, ◌<◌, ◌≤◌, ◌^◌, ◌==◌, nat_lt, Bool, true, false, cond, inl, inr, ◌⊎◌, arith, sym, ◌∙◌, ap, subst}
+use Rattle.std.proofs.Common.{add-one, ◌≡◌, ℕ, zero, suc, ◌+◌, ◌*◌, ◌-◌, ◌/◌, ◌%◌, ◌<◌, ◌≤◌, ◌^◌}
+use Rattle.std.proofs.Common.{◌==◌, nat_lt, Bool, true, false, cond, inl, inr, ◌⊎◌, arith, sym}
+use Rattle.std.proofs.Common.{◌∙◌, ap, subst}
 use Rattle.std.proofs.Math.Nat.{div-one, pow-suc}
 use Rattle.std.proofs.lemmas.Nat.{div-mul-add, mod_below, pow_pos, pow_below}
 use Rattle.std.proofs.lemmas.Bool.{cases_eq, cases_lt, lt-ltb, le-ltb}
@@ -42,7 +44,10 @@ at_least s l c e =
     omega arith
 
 digit_of : (x : ℕ) → x < 2 → digit (x == 1) ≡ x
-digit_of x h = elim (eqb_tells x 1) [ inl e ↦ ap digit e.0 ∙ sym e.1 | inr e ↦ ap digit e.0 ∙ (let n = e.1 in omega arith) ]
+digit_of x h = elim (eqb_tells x 1) [
+  | inl e ↦ ap digit e.0 ∙ sym e.1
+  | inr e ↦ ap digit e.0 ∙ (let n = e.1 in omega arith)
+]
 
 pow-suc' : (k : ℕ) → 2 ^ suc k ≡ 2 * 2 ^ k
 pow-suc' k = let p = pow-suc 2 k in omega arith
@@ -73,7 +78,8 @@ next_bit c k =
     let p = pow_pos k in
     let e : 2 ^ (k + 1) ≡ 2 * 2 ^ k = ap (λ z. 2 ^ z) (add-one k) ∙ pow-suc' k in
     let h : c / 2 ^ (k + 1) ≡ (c / 2 ^ k) / 2 = ap (λ z. c / z) e ∙ half c (2 ^ k) p in
-    let d : digit (bit_at k c) ≡ (c / 2 ^ k) % 2 = digit_of ((c / 2 ^ k) % 2) (odd_less (c / 2 ^ k)) in
+    let d : digit (bit_at k c) ≡ (c / 2 ^ k) % 2 =
+    digit_of ((c / 2 ^ k) % 2) (odd_less (c / 2 ^ k)) in
     let x = halved (c / 2 ^ k) in
     omega arith
 
@@ -85,15 +91,22 @@ all_bits c = div-one c
 
 -- the bits of the numbers below n
 pub pow_up : (i j : ℕ) → i ≤ j → 2 ^ i ≤ 2 ^ j
-pow_up i j h = elim (cases_eq i j) [ inl e ↦ let f : 2 ^ i ≡ 2 ^ j = ap (λ z. 2 ^ z) e in omega arith | inr ne ↦ let f = pow_below i j (omega arith) in omega arith ]
+pow_up i j h = elim (cases_eq i j) [
+  | inl e ↦ let f : 2 ^ i ≡ 2 ^ j = ap (λ z. 2 ^ z) e in omega arith
+  | inr ne ↦ let f = pow_below i j (omega arith) in omega arith
+]
 
 spells : (n b : ℕ) → 2 ^ b < n → n ≤ 2 ^ suc b → IsBits n (suc b)
 spells n b low high = record {
   enough = high;
-  least = λ k h. elim (tested k (suc b)) [ inl t ↦ absurd (let u = pow_up k b (let x = t.1 in omega arith) in omega arith) | inr t ↦ t.1 ];
+  least = λ k h. elim (tested k (suc b)) [
+    | inl t ↦ absurd (let u = pow_up k b (let x = t.1 in omega arith) in omega arith)
+    | inr t ↦ t.1
+  ];
 }
 
-count_is : (n : ℕ) (a b c d e f : Bool) → nat_lt 1 n ≡ a → nat_lt 2 n ≡ b → nat_lt 4 n ≡ c → nat_lt 8 n ≡ d → nat_lt 16 n ≡ e → nat_lt 32 n ≡ f
+count_is : (n : ℕ) (a b c d e f : Bool) → nat_lt 1 n ≡ a → nat_lt 2 n ≡ b → nat_lt 4 n ≡ c
+    → nat_lt 8 n ≡ d → nat_lt 16 n ≡ e → nat_lt 32 n ≡ f
     → bits_of n ≡ 0 + cond a 1 0 + cond b 1 0 + cond c 1 0 + cond d 1 0 + cond e 1 0 + cond f 1 0
 count_is n a b c d e f p q r s t u = rw (p, q, r, s, t, u)
 
@@ -102,18 +115,49 @@ bits_are n some few =
     let below : (a : ℕ) → a < n → nat_lt a n ≡ true = λ a h. lt-ltb a n h in
     let above : (a : ℕ) → n ≤ a → nat_lt a n ≡ false = λ a h. le-ltb a n h in
     elim (tested 1 n) [
-      | inr t ↦ let h = t.1 in let e : n ≡ 1 = omega arith in subst (λ z. IsBits z (bits_of z)) (sym e) record { enough = omega arith; least = λ k g. omega arith }
+      | inr t ↦
+          let h = t.1 in
+          let e : n ≡ 1 = omega arith in
+          subst (λ z. IsBits z (bits_of z)) (sym e)
+          record { enough = omega arith; least = λ k g. omega arith }
       | inl t1 ↦ let h1 = t1.1 in elim (tested 2 n) [
-        | inr t ↦ let h = t.1 in subst (IsBits n) (sym (count_is n true false false false false false (below 1 h1) (above 2 h) (above 4 (omega arith)) (above 8 (omega arith)) (above 16 (omega arith)) (above 32 (omega arith)))) (spells n 0 h1 h)
+        | inr t ↦
+            let h = t.1 in
+            subst (IsBits n)
+            (sym (count_is n true false false false false false (below 1 h1) (above 2 h)
+            (above 4 (omega arith)) (above 8 (omega arith)) (above 16 (omega arith))
+            (above 32 (omega arith)))) (spells n 0 h1 h)
         | inl t2 ↦ let h2 = t2.1 in elim (tested 4 n) [
-          | inr t ↦ let h = t.1 in subst (IsBits n) (sym (count_is n true true false false false false (below 1 h1) (below 2 h2) (above 4 h) (above 8 (omega arith)) (above 16 (omega arith)) (above 32 (omega arith)))) (spells n 1 h2 h)
+          | inr t ↦
+              let h = t.1 in
+              subst (IsBits n)
+              (sym (count_is n true true false false false false (below 1 h1) (below 2 h2)
+              (above 4 h) (above 8 (omega arith)) (above 16 (omega arith))
+              (above 32 (omega arith)))) (spells n 1 h2 h)
           | inl t4 ↦ let h4 = t4.1 in elim (tested 8 n) [
-            | inr t ↦ let h = t.1 in subst (IsBits n) (sym (count_is n true true true false false false (below 1 h1) (below 2 h2) (below 4 h4) (above 8 h) (above 16 (omega arith)) (above 32 (omega arith)))) (spells n 2 h4 h)
+            | inr t ↦
+                let h = t.1 in
+                subst (IsBits n)
+                (sym (count_is n true true true false false false (below 1 h1) (below 2 h2)
+                (below 4 h4) (above 8 h) (above 16 (omega arith)) (above 32 (omega arith))))
+                (spells n 2 h4 h)
             | inl t8 ↦ let h8 = t8.1 in elim (tested 16 n) [
-              | inr t ↦ let h = t.1 in subst (IsBits n) (sym (count_is n true true true true false false (below 1 h1) (below 2 h2) (below 4 h4) (below 8 h8) (above 16 h) (above 32 (omega arith)))) (spells n 3 h8 h)
+              | inr t ↦
+                  let h = t.1 in
+                  subst (IsBits n)
+                  (sym (count_is n true true true true false false (below 1 h1) (below 2 h2)
+                  (below 4 h4) (below 8 h8) (above 16 h) (above 32 (omega arith))))
+                  (spells n 3 h8 h)
               | inl t16 ↦ let h16 = t16.1 in elim (tested 32 n) [
-                | inr t ↦ let h = t.1 in subst (IsBits n) (sym (count_is n true true true true true false (below 1 h1) (below 2 h2) (below 4 h4) (below 8 h8) (below 16 h16) (above 32 h))) (spells n 4 h16 h)
-                | inl t32 ↦ subst (IsBits n) (sym (count_is n true true true true true true (below 1 h1) (below 2 h2) (below 4 h4) (below 8 h8) (below 16 h16) (below 32 t32.1))) (spells n 5 t32.1 few)
+                | inr t ↦
+                    let h = t.1 in
+                    subst (IsBits n)
+                    (sym (count_is n true true true true true false (below 1 h1) (below 2 h2)
+                    (below 4 h4) (below 8 h8) (below 16 h16) (above 32 h))) (spells n 4 h16 h)
+                | inl t32 ↦ subst (IsBits n)
+                    (sym (count_is n true true true true true true (below 1 h1) (below 2 h2)
+                    (below 4 h4) (below 8 h8) (below 16 h16) (below 32 t32.1)))
+                    (spells n 5 t32.1 few)
               ]
             ]
           ]
@@ -126,4 +170,7 @@ pub same_bits : (n a b : ℕ) → IsBits n a → IsBits n b → a ≡ b
 same_bits n a b x y = let p = x.least b y.enough in let q = y.least a x.enough in omega arith
 
 pub bits_enough : (n : ℕ) → n ≤ 64 → n ≤ 2 ^ bits_of n
-bits_enough n few = elim (tested 0 n) [ inl t ↦ (bits_are n t.1 few).enough | inr t ↦ let h = t.1 in omega arith ]
+bits_enough n few = elim (tested 0 n) [
+  | inl t ↦ (bits_are n t.1 few).enough
+  | inr t ↦ let h = t.1 in omega arith
+]

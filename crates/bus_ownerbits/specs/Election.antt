@@ -1,6 +1,8 @@
--- One process in an election of at most 64 processes: it announces itself, and then proposes its candidate's bits, from the
--- highest, to a binary decision for each. After a bit that does not fit its candidate, it looks for another one.
-use Rattle.std.specs.Prelude.{ℕ, ◌+◌, ◌*◌, ◌-◌, ◌/◌, ◌^◌, Bool, Option, Some, None, ◌==◌, nat_lt, if◌then◌else◌}
+-- One process in an election of at most 64 processes: it announces itself, and then proposes its
+-- candidate's bits, from the highest, to a binary decision for each. After a bit that does not fit
+-- its candidate, it looks for another one.
+use Rattle.std.specs.Prelude.{ℕ, ◌+◌, ◌*◌, ◌-◌, ◌/◌, ◌^◌, Bool, Option, Some, None, ◌==◌, nat_lt}
+use Rattle.std.specs.Prelude.{if◌then◌else◌}
 use Rattle.bus_register.specs.declared.kinds.Kind.{Kind}
 use Rattle.bus_register.specs.declared.kinds.Kind.TheVariants as kinds
 use Rattle.bus_register.specs.declared.registers.Op.{Op}
@@ -30,13 +32,17 @@ pub record Electing (S : Type 0) : Type 0 where
   pub turns : ℕ
   pub stage : Stage S
 
--- the first word of the decision of the bit of value 2 ^ k: the announcements come before all decisions
+-- the first word of the decision of the bit of value 2 ^ k: the announcements come before all
+-- decisions
 abbrev pub place : {S : Type 0} → Decisions S → Electing S → ℕ → ℕ
 place D s k = s.at + s.n + k * (D s.rounds).width s.n
 
 -- the process proposes its candidate's next bit
 abbrev pub proposing : {S : Type 0} → Decisions S → Electing S → Electing S
-proposing D s = record s { stage = Propose ((D s.rounds).started s.n s.me (bit_at (s.left - 1) s.candidate) (place D s (s.left - 1))) }
+proposing D s = record s {
+  stage = Propose
+      ((D s.rounds).started s.n s.me (bit_at (s.left - 1) s.candidate) (place D s (s.left - 1)));
+}
 
 -- it goes on with its candidate; where there is no bit it is alone
 abbrev pub going : {S : Type 0} → Decisions S → Electing S → Electing S
@@ -48,7 +54,10 @@ fits_bits s number = number / 2 ^ s.left == s.spelled
 
 -- it goes on where its candidate fits, and else searches from the lowest number that fits
 abbrev pub seeking : {S : Type 0} → Decisions S → Electing S → Electing S
-seeking D s = if fits_bits s s.candidate then going D s else (if nat_lt (s.spelled * 2 ^ s.left) s.n then record s { stage = Search (s.spelled * 2 ^ s.left) } else going D s)
+seeking D s =
+    if fits_bits s s.candidate then going D s
+    else (if nat_lt (s.spelled * 2 ^ s.left) s.n
+    then record s { stage = Search (s.spelled * 2 ^ s.left) } else going D s)
 
 -- one more bit is decided
 abbrev pub with_bit : {S : Type 0} → Electing S → Bool → Electing S
@@ -63,17 +72,22 @@ decided_by D s (Some bit) = if nat_lt 1 s.left then seeking D (with_bit s bit) e
 abbrev pub search_after : {S : Type 0} → Decisions S → Electing S → ℕ → ℕ → Electing S
 search_after D s i got =
     if got == 0
-    then (if nat_lt (i + 1) s.n then (if fits_bits s (i + 1) then record s { stage = Search (i + 1) } else going D (record s { candidate = i })) else going D (record s { candidate = i }))
+    then (if nat_lt (i + 1) s.n
+    then (if fits_bits s (i + 1) then record s { stage = Search (i + 1) }
+    else going D (record s { candidate = i })) else going D (record s { candidate = i }))
     else going D (record s { candidate = i })
 
-abbrev pub fed_at : {S : Type 0} → Decisions S → (S → ℕ → ℕ → S) → Stage S → Electing S → ℕ → ℕ → Electing S
+abbrev pub fed_at : {S : Type 0} → Decisions S → (S → ℕ → ℕ → S) → Stage S → Electing S → ℕ → ℕ
+    → Electing S
 fed_at D fed Announce s got word = going D s
-fed_at D fed (Propose d) s got word = decided_by D (record s { stage = Propose (fed d got word) }) ((D s.rounds).output (fed d got word))
+fed_at D fed (Propose d) s got word = decided_by D (record s { stage = Propose (fed d got word) })
+    ((D s.rounds).output (fed d got word))
 fed_at D fed (Search i) s got word = search_after D s i got
 fed_at D fed Alone s got word = s
 
 -- what the process holds after a step that found this number
-abbrev pub election_fed : {S : Type 0} → Decisions S → (S → ℕ → ℕ → S) → Electing S → ℕ → ℕ → Electing S
+abbrev pub election_fed : {S : Type 0} → Decisions S → (S → ℕ → ℕ → S) → Electing S → ℕ → ℕ
+    → Electing S
 election_fed D fed s got word = fed_at D fed s.stage (record s { turns = s.turns - 1 }) got word
 
 abbrev pub op_at : {S : Type 0} → (S → ℕ → Option Op) → Stage S → Electing S → ℕ → Option Op

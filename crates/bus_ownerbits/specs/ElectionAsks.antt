@@ -10,4 +10,7 @@ use Rattle.bus_ownerbits.specs.ElectionNames.{calls_of}
 
 -- an election asks where its machine says so
 abbrev pub AsksAsTold : {S T : Type 0} → Protocol S Bool Verdict → Protocol T Bool Bool → Type 0
-AsksAsTold {S = S} {T = T} P C = (rounds : ℕ) (s : Electing (Decider S T)) → (election_protocol (decide_protocol P C) (decision_cost P.steps) rounds).wants_word s ≡ calls_of C s
+AsksAsTold {S = S} {T = T} P C =
+    (rounds : ℕ) (s : Electing (Decider S T))
+    → (election_protocol (decide_protocol P C) (decision_cost P.steps) rounds).wants_word s
+    ≡ calls_of C s

@@ -1,4 +1,5 @@
--- When the numbers of an election fit, so that each word has a place and the owner is a sender's number.
+-- When the numbers of an election fit, so that each word has a place and the owner is a sender's
+-- number.
 use Rattle.std.specs.Prelude.{ℕ, ◌+◌, ◌*◌, ◌<◌, ◌≤◌, ◌^◌}
 use Rattle.bus_register.specs.declared.limits.TheConstants.{MOST_PROCESSES, MOST_ROUNDS}
 use Rattle.bus_ownerbits.specs.declared.stages.Stage.{Stage}
@@ -11,7 +12,8 @@ StageFits n (Propose d) = Unit {0}
 StageFits n (Search i) = i < n
 StageFits n Alone = Unit {0}
 
-pub record Sized {S : Type 0} (D : Decisions S) (n me rounds at left spelled : ℕ) (stage : Stage S) : Type 0 where
+pub record Sized {S : Type 0} (D : Decisions S) (n me rounds at left spelled : ℕ)
+    (stage : Stage S) : Type 0 where
   pub below : me < n
   pub few : n ≤ MOST_PROCESSES
   pub rounds_some : 1 ≤ rounds

@@ -14,5 +14,6 @@ abbrev pub Elector : Type 0 → Type 0
 Elector S = Electing (Decider S ConciliatorState)
 
 -- the protocol of such an election, of so many rounds for each bit
-abbrev pub elections : {S : Type 0} → Protocol S Bool Verdict → ℕ → Protocol (Elector S) (Unit {0}) ℕ
+abbrev pub elections : {S : Type 0} → Protocol S Bool Verdict → ℕ
+    → Protocol (Elector S) (Unit {0}) ℕ
 elections P rounds = election_protocol (decisions P) (decision_cost P.steps) rounds

@@ -6,7 +6,7 @@ ghost use Rattle.bus_ownerbits.specs.Sizes.{IsBits, bits_of, election_bound};
 
 use bus_adoptcommit::Ratifier;
 use bus_register::limits::{MOST_PROCESSES, MOST_ROUNDS};
-use bus_votecount::tallies::MOST_VOTES;
+use bus_walkcoin::tallies::MOST_VOTES;
 
 /// How many bits the numbers below `n` have: the least count of bits that spell `n` numbers.
 pub fn bits(n: u64) -> u64

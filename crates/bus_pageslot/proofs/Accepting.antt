@@ -1,5 +1,6 @@
 -- What a sender accepts between its steps: its actions as its batch shows them.
-use Rattle.std.proofs.Common.{◌≡◌, ℕ, ◌+◌, ◌≤◌, false, cond, List, [], ◌∷◌, ◌++◌, length, drop, arith, refl, sym, ◌∙◌, ap}
+use Rattle.std.proofs.Common.{◌≡◌, ℕ, ◌+◌, ◌≤◌, false, cond, List, [], ◌∷◌, ◌++◌, length, drop}
+use Rattle.std.proofs.Common.{arith, refl, sym, ◌∙◌, ap}
 use Rattle.std.proofs.lemmas.List.{append-nil, length-append, length-drop, drop_all, drop-append-le}
 use Rattle.bus_batch.specs.Batches.{Pending, next_of, CanPut, CanClose}
 use Rattle.bus_batch.specs.declared.batches.Phase.{Phase}
@@ -21,7 +22,12 @@ module _ {C : Type 0} (P : Process C) (L : ProcessLaws P) (c : C) where
     pub longer : length (P.queue c).messages ≤ length (P.queue d).messages
 
   pub stays : (d : C) (actions : List Action) → Accepts P c d actions → Stays d
-  stays d actions Nothing = record { me = refl; table_layout = refl; first = refl; longer = omega arith }
+  stays d actions Nothing = record {
+    me = refl;
+    table_layout = refl;
+    first = refl;
+    longer = omega arith;
+  }
   stays e all (Message d actions bytes more can small) =
       let h = stays d actions more in
       let k = L.message d bytes in
@@ -30,7 +36,10 @@ module _ {C : Type 0} (P : Process C) (L : ProcessLaws P) (c : C) where
         me = k.me ∙ h.me;
         table_layout = k.table_layout ∙ h.table_layout;
         first = ap (λ (q : Pending). q.first) waits ∙ h.first;
-        longer = let a = h.longer in let b = length-append (P.queue d).messages (bytes ∷ []) in let size = ap (λ (q : Pending). length q.messages) waits in omega arith;
+        longer =
+            let a = h.longer in
+            let b = length-append (P.queue d).messages (bytes ∷ []) in
+            let size = ap (λ (q : Pending). length q.messages) waits in omega arith;
       }
   stays e all (Marks d actions mark more can) =
       let h = stays d actions more in
@@ -40,12 +49,16 @@ module _ {C : Type 0} (P : Process C) (L : ProcessLaws P) (c : C) where
         me = k.me ∙ h.me;
         table_layout = k.table_layout ∙ h.table_layout;
         first = ap (λ (q : Pending). q.first) waits ∙ h.first;
-        longer = let a = h.longer in let size = ap (λ (q : Pending). length q.messages) waits in omega arith;
+        longer =
+            let a = h.longer in
+            let size = ap (λ (q : Pending). length q.messages) waits in omega arith;
       }
 
-pub puts_from-snoc : (n : ℕ) (xs : List (List ℕ)) (bytes : List ℕ) (k : ℕ) → k ≡ n + length xs → puts_from n (xs ++ bytes ∷ []) ≡ puts_from n xs ++ HasPut k bytes ∷ []
+pub puts_from-snoc : (n : ℕ) (xs : List (List ℕ)) (bytes : List ℕ) (k : ℕ) → k ≡ n + length xs
+    → puts_from n (xs ++ bytes ∷ []) ≡ puts_from n xs ++ HasPut k bytes ∷ []
 puts_from-snoc n [] bytes k e = ap (λ z. HasPut z bytes ∷ []) (let z : n ≡ k = omega arith in z)
-puts_from-snoc n (x ∷ xs) bytes k e = ap (λ z. HasPut n x ∷ z) (puts_from-snoc (n + 1) xs bytes k (omega arith))
+puts_from-snoc n (x ∷ xs) bytes k e =
+    ap (λ z. HasPut n x ∷ z) (puts_from-snoc (n + 1) xs bytes k (omega arith))
 
 open_is : (ph : Phase) → ph ≡ Open → is_marking ph ≡ false
 open_is ph e = ap is_marking e
@@ -61,41 +74,60 @@ none_marked : (before now : Phase) → now ≡ Open → marks_since before now �
 none_marked before now e = ap (marks_since before) e
 
 -- with one message more in its batch
-since_message : (before now : Pending) (bytes : List ℕ) → now.first ≡ before.first → length before.messages ≤ length now.messages → CanPut now (length bytes) → accepted_since before (record now { messages = now.messages ++ bytes ∷ [] }) ≡ accepted_since before now ++ HasPut (next_of now) bytes ∷ []
+since_message : (before now : Pending) (bytes : List ℕ) → now.first ≡ before.first
+    → length before.messages ≤ length now.messages → CanPut now (length bytes)
+    → accepted_since before (record now { messages = now.messages ++ bytes ∷ [] })
+    ≡ accepted_since before now ++ HasPut (next_of now) bytes ∷ []
 since_message before now bytes first longer can =
     let k = length before.messages in
-    let none : marks_since before.phase now.phase ≡ [] = none_marked before.phase now.phase can.is_open in
-    let moved : drop k (now.messages ++ bytes ∷ []) ≡ drop k now.messages ++ bytes ∷ [] = drop-append-le k now.messages (bytes ∷ []) longer in
+    let none : marks_since before.phase now.phase ≡ [] =
+    none_marked before.phase now.phase can.is_open in
+    let moved : drop k (now.messages ++ bytes ∷ []) ≡ drop k now.messages ++ bytes ∷ [] =
+    drop-append-le k now.messages (bytes ∷ []) longer in
     let size = length-drop k now.messages in
-    ap (λ z. puts_from (next_of before) (drop k (now.messages ++ bytes ∷ [])) ++ z) none ∙ append-nil (puts_from (next_of before) (drop k (now.messages ++ bytes ∷ [])))
-    ∙ ap (puts_from (next_of before)) moved ∙ puts_from-snoc (next_of before) (drop k now.messages) bytes (next_of now) (omega arith)
-    ∙ ap (λ z. z ++ HasPut (next_of now) bytes ∷ []) (sym (append-nil (puts_from (next_of before) (drop k now.messages))) ∙ ap (λ z. puts_from (next_of before) (drop k now.messages) ++ z) (sym none))
+    ap (λ z. puts_from (next_of before) (drop k (now.messages ++ bytes ∷ [])) ++ z) none
+    ∙ append-nil (puts_from (next_of before) (drop k (now.messages ++ bytes ∷ [])))
+    ∙ ap (puts_from (next_of before)) moved
+    ∙ puts_from-snoc (next_of before) (drop k now.messages) bytes (next_of now) (omega arith)
+    ∙ ap (λ z. z ++ HasPut (next_of now) bytes ∷ [])
+    (sym (append-nil (puts_from (next_of before) (drop k now.messages)))
+    ∙ ap (λ z. puts_from (next_of before) (drop k now.messages) ++ z) (sym none))
 
 -- with a mark that waits
 since_mark : (before now : Pending) (mark : Mark) → CanClose now → (is_marking before.phase ≡ false)
-    → accepted_since before (record now { phase = Marking mark }) ≡ accepted_since before now ++ HasMarked mark ∷ []
+    → accepted_since before (record now { phase = Marking mark })
+    ≡ accepted_since before now ++ HasMarked mark ∷ []
 since_mark before now mark can was =
     let k = length before.messages in
-    let none : marks_since before.phase now.phase ≡ [] = none_marked before.phase now.phase can.is_open in
-    let marked : marks_since before.phase (Marking mark) ≡ HasMarked mark ∷ [] = ap (λ z. cond z [] (HasMarked mark ∷ [])) was in
+    let none : marks_since before.phase now.phase ≡ [] =
+    none_marked before.phase now.phase can.is_open in
+    let marked : marks_since before.phase (Marking mark) ≡ HasMarked mark ∷ [] =
+    ap (λ z. cond z [] (HasMarked mark ∷ [])) was in
     ap (λ z. puts_from (next_of before) (drop k now.messages) ++ z) marked
-    ∙ ap (λ z. z ++ HasMarked mark ∷ []) (sym (append-nil (puts_from (next_of before) (drop k now.messages)))
+    ∙ ap (λ z. z ++ HasMarked mark ∷ [])
+    (sym (append-nil (puts_from (next_of before) (drop k now.messages)))
     ∙ ap (λ z. puts_from (next_of before) (drop k now.messages) ++ z) (sym none))
 
 module _ {C : Type 0} (P : Process C) (L : ProcessLaws P) (c : C) where
   -- a sender that accepts something had no mark before
-  pub was_open : (d : C) (actions : List Action) → Accepts P c d actions → (P.queue d).phase ≡ Open → is_marking (P.queue c).phase ≡ false
+  pub was_open : (d : C) (actions : List Action) → Accepts P c d actions → (P.queue d).phase ≡ Open
+      → is_marking (P.queue c).phase ≡ false
   was_open d actions Nothing e = open_is (P.queue c).phase e
   was_open f all (Message d actions bytes more can small) e = was_open d actions more can.is_open
   was_open f all (Marks d actions mark more can) e = was_open d actions more can.is_open
 
-  pub since_is : (d : C) (actions : List Action) → Accepts P c d actions → accepted_since (P.queue c) (P.queue d) ≡ actions
+  pub since_is : (d : C) (actions : List Action) → Accepts P c d actions
+      → accepted_since (P.queue c) (P.queue d) ≡ actions
   since_is d actions Nothing =
       ap (λ z. puts_from (next_of (P.queue c)) z ++ marks_since (P.queue c).phase (P.queue c).phase)
-      (drop_all (length (P.queue c).messages) (P.queue c).messages (omega arith)) ∙ marked_once (P.queue c).phase
+      (drop_all (length (P.queue c).messages) (P.queue c).messages (omega arith))
+      ∙ marked_once (P.queue c).phase
   since_is f all (Message d actions bytes more can small) =
       let h = stays P L c d actions more in
-      ap (accepted_since (P.queue c)) (L.message_waits d bytes) ∙ since_message (P.queue c) (P.queue d) bytes h.first h.longer can ∙ ap (λ z. z ++ HasPut (next_of (P.queue d)) bytes ∷ []) (since_is d actions more)
-  since_is f all (Marks d actions mark more can) = ap (accepted_since (P.queue c)) (L.mark_waits d mark)
+      ap (accepted_since (P.queue c)) (L.message_waits d bytes)
+      ∙ since_message (P.queue c) (P.queue d) bytes h.first h.longer can
+      ∙ ap (λ z. z ++ HasPut (next_of (P.queue d)) bytes ∷ []) (since_is d actions more)
+  since_is f all (Marks d actions mark more can) =
+      ap (accepted_since (P.queue c)) (L.mark_waits d mark)
       ∙ since_mark (P.queue c) (P.queue d) mark can (was_open d actions more can.is_open)
       ∙ ap (λ z. z ++ HasMarked mark ∷ []) (since_is d actions more)

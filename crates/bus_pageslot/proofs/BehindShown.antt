@@ -1,8 +1,10 @@
 -- A sender that answers Behind shows the load of the presence that it found.
-use Rattle.std.proofs.Common.{◌≡◌, ℕ, ◌+◌, Option, Some, None, [], ◌∷◌, ◌++◌, refl, sym, ◌∙◌, ap, arith}
+use Rattle.std.proofs.Common.{◌≡◌, ℕ, ◌+◌, Option, Some, None, [], ◌∷◌, ◌++◌, refl, sym, ◌∙◌, ap}
+use Rattle.std.proofs.Common.{arith}
 use Rattle.std.specs.Prelude.{IsSomeAnd}
 use Rattle.std.proofs.lemmas.Option.{same_Some}
-use Rattle.bus_core.specs.Senders.{Sender, Situation, Does, Announces, Validates, Unpins, Withdraws, Scans, Clears, situation}
+use Rattle.bus_core.specs.Senders.{Sender, Situation, Does, Announces, Validates, Unpins}
+use Rattle.bus_core.specs.Senders.{Withdraws, Scans, Clears, situation}
 use Rattle.bus_core.specs.Table.{line}
 use Rattle.bus_core.specs.Telling.{FeedTells, IsBehind}
 use Rattle.bus_core.specs.declared.reuses.Reuse.{Reuse}
@@ -16,7 +18,9 @@ use Rattle.bus_register.specs.declared.registers.Op.TheVariants.{Load, Store}
 use Rattle.bus_register.specs.declared.registers.SenderNo.{SenderNo}
 use Rattle.bus_tenure.proofs.Situated.{tells}
 use Rattle.bus_tenure.specs.Core.{Election}
-use Rattle.bus_tenure.specs.Situations.{IsClosed, IsIdle, IsSpent, LooksAtStage, Elects, TakesPage, AwaitsPage, StoresWord, StoresLength, GivesBack, HasHanded, situation_of}
+use Rattle.bus_tenure.specs.Situations.{IsClosed, IsIdle, IsSpent, LooksAtStage, Elects, TakesPage}
+use Rattle.bus_tenure.specs.Situations.{AwaitsPage, StoresWord, StoresLength, GivesBack, HasHanded}
+use Rattle.bus_tenure.specs.Situations.{situation_of}
 use Rattle.bus_tenure.specs.declared.turns.Turn.TheVariants as turn
 use Rattle.bus_automaton.specs.OneProcess.{adds_by, process_of}
 use Rattle.bus_automaton.specs.SenderTrails.{SenderTrail}
@@ -38,16 +42,20 @@ module _ {E : Type 0} (X : Election E) (v : Sender E) (word : ℕ) (r : Reuse) (
   no_step e = cc
 
   abbrev Shows : Situation E → Type 0
-  Shows z = (got : ℕ) → got ≡ 1 + t → (adds_by z (line X v z) got word).reclaims ≡ record { op = loading; got = 1 + t } ∷ []
+  Shows z =
+      (got : ℕ) → got ≡ 1 + t
+      → (adds_by z (line X v z) got word).reclaims ≡ record { op = loading; got = 1 + t } ∷ []
 
-  shown : (held : ℕ) → held_of v.core.phase ≡ Some held → (z : Situation E) → situation X v ≡ z → (line X v z).op word ≡ Some loading → Shows z
+  shown : (held : ℕ) → held_of v.core.phase ≡ Some held → (z : Situation E) → situation X v ≡ z
+      → (line X v z).op word ≡ Some loading → Shows z
   shown held h (Does IsClosed) i e = absurd (no_step e)
   shown held h (Does IsIdle) i e = absurd (no_step e)
   shown held h (Does IsSpent) i e = absurd (no_step e)
   shown held h (Does (AwaitsPage u)) i e = absurd (no_step e)
   shown held h (Does LooksAtStage) i e = absurd (stage_not (same_Some _ _ e))
   shown held h (Does (Elects u k)) i e =
-      let elects = tells X v.core (Elects u k) (own_of v.reuse (situation_of X v.core) (Elects u k) i) in
+      let elects =
+      tells X v.core (Elects u k) (own_of v.reuse (situation_of X v.core) (Elects u k) i) in
       absurd (let bad : None ≡ Some held = ap held_of (sym elects.0) ∙ h in cc)
   shown held h (Does (TakesPage u)) i e = absurd (store_not _ _ (same_Some _ _ e))
   shown held h (Does (StoresWord u page stored)) i e = absurd (store_not _ _ (same_Some _ _ e))
@@ -65,17 +73,23 @@ module _ {E : Type 0} (X : Election E) (old new : SenderSeat (Sender E)) (word t
     (h : TookAndTold (process_of X) (FeedTells X) old word (turn.Behind t p) new) where
   -- its seat shows this load
   abbrev Loaded : Reuse → Type 0
-  Loaded r = (sender_trail_of (process_of X) new).reclaims ≡ (sender_trail_of (process_of X) old).reclaims
-      ++ record { op = Load record { 0 = presence_at (sizes_with old.core.core.layout r.rows) p.0 }; got = 1 + t } ∷ []
+  Loaded r =
+      (sender_trail_of (process_of X) new).reclaims ≡ (sender_trail_of (process_of X) old).reclaims
+      ++ record {
+        op = Load record { 0 = presence_at (sizes_with old.core.core.layout r.rows) p.0 };
+        got = 1 + t;
+      } ∷ []
 
   loaded : (r : Reuse) → IsBehind X old.core h.took.got word t p.0 r → Loaded r
   loaded r behind =
       let told : h.took.got ≡ h.took.found = h.took.told _ behind.loads in
       ap (λ (k : SenderTrail). k.reclaims) h.took.sender_trail
       ∙ ap (λ l. (sender_trail_of (process_of X) old).reclaims ++ l)
-      (shown X old.core word r p.0 t behind.tenure behind.held (situation X old.core) refl behind.loads h.took.found (sym told ∙ behind.found))
+      (shown X old.core word r p.0 t behind.tenure behind.held (situation X old.core) refl
+      behind.loads h.took.found (sym told ∙ behind.found))
 
-  by_reuse : (r : Option Reuse) → IsSomeAnd r (λ q. IsBehind X old.core h.took.got word t p.0 q) → IsSomeAnd r (λ q. Loaded q)
+  by_reuse : (r : Option Reuse) → IsSomeAnd r (λ q. IsBehind X old.core h.took.got word t p.0 q)
+      → IsSomeAnd r (λ q. Loaded q)
   by_reuse None behind = behind
   by_reuse (Some r) behind = loaded r behind
 

@@ -1,6 +1,8 @@
--- What waits with a sender while the page is at home was answered the numbers from that on which the page says.
-use Rattle.std.proofs.Common.{◌≡◌, ℕ, zero, suc, ◌+◌, ◌*◌, ◌<◌, Option, Some, None, inl, inr, List, [], ◌∷◌, ◌++◌, length, map, take}
-use Rattle.std.proofs.Common.{slice_get, slice_index, arith, refl, sym, ◌∙◌, ap, subst, append_assoc}
+-- What waits with a sender while the page is at home was answered the numbers from that on which
+-- the page says.
+use Rattle.std.proofs.Common.{◌≡◌, ℕ, zero, suc, ◌+◌, ◌*◌, ◌<◌, Option, Some, None, inl, inr, List}
+use Rattle.std.proofs.Common.{[], ◌∷◌, ◌++◌, length, map, take, slice_get, slice_index, arith}
+use Rattle.std.proofs.Common.{refl, sym, ◌∙◌, ap, subst, append_assoc}
 use mathlib.Core.Option.{some-injective}
 use mathlib.Core.Option as maybe
 use lib.ListN.{get_elem?}
@@ -47,7 +49,8 @@ pub record WasPut (actions : List Action) (i : ℕ) (bytes : List ℕ) : Type 0 
   pub before : length (puts (take place actions)) ≡ i
 
 behind_other : (a : Action) (rest : List Action) (i : ℕ) (bytes : List ℕ)
-    → ((more : List Action) → puts (a ∷ more) ≡ puts more) → WasPut rest i bytes → WasPut (a ∷ rest) i bytes
+    → ((more : List Action) → puts (a ∷ more) ≡ puts more) → WasPut rest i bytes
+    → WasPut (a ∷ rest) i bytes
 behind_other a rest i bytes none h = record {
   place = suc h.place;
   number = h.number;
@@ -55,20 +58,28 @@ behind_other a rest i bytes none h = record {
   before = ap length (none (take h.place rest)) ∙ h.before;
 }
 
-was_put : (actions : List Action) (i : ℕ) (bytes : List ℕ) → slice_get (puts actions) i ≡ Some bytes → WasPut actions i bytes
+was_put : (actions : List Action) (i : ℕ) (bytes : List ℕ) → slice_get (puts actions) i ≡ Some bytes
+    → WasPut actions i bytes
 was_put [] i bytes e = absurd (let bad : None ≡ Some bytes = e in let wrong : ⊥ = cc in wrong)
 was_put (HasPut n m ∷ rest) zero bytes e =
-    record { place = 0; number = n; at = ap (λ b. Some (HasPut n b)) (same_Some _ _ e); before = refl }
+    record {
+      place = 0;
+      number = n;
+      at = ap (λ b. Some (HasPut n b)) (same_Some _ _ e);
+      before = refl;
+    }
 was_put (HasPut n m ∷ rest) (suc i) bytes e =
     let h = was_put rest i bytes e in
     record { place = suc h.place; number = h.number; at = h.at; before = ap suc h.before }
-was_put (HasMarked mark ∷ rest) i bytes e = behind_other (HasMarked mark) rest i bytes (λ more. refl) (was_put rest i bytes e)
+was_put (HasMarked mark ∷ rest) i bytes e =
+    behind_other (HasMarked mark) rest i bytes (λ more. refl) (was_put rest i bytes e)
 was_put (Stepped t k found chose a ∷ rest) i bytes e =
     behind_other (Stepped t k found chose a) rest i bytes (λ more. refl) (was_put rest i bytes e)
 
 -- ---- what is accepted behind it
 module _ {C : Type 0} (P : Process C) (K : ProcessLaws P) (c : C) where
-  pub more_answered : (did : List Action) → WereAnswered did (P.queue c).first (P.queue c).messages → (d : C) (actions : List Action)
+  pub more_answered : (did : List Action) → WereAnswered did (P.queue c).first (P.queue c).messages
+      → (d : C) (actions : List Action)
       → Accepts P c d actions → WereAnswered (did ++ actions) (P.queue c).first (P.queue d).messages
   more_answered did h d _ Nothing k message at =
       let w = h k message at in (w.0, ap (λ l. slice_get l w.0) (append-nil did) ∙ w.1)
@@ -77,19 +88,27 @@ module _ {C : Type 0} (P : Process C) (K : ProcessLaws P) (c : C) where
       let all : slice_get (before ++ bytes ∷ []) k ≡ Some message =
       ap (λ (q : Pending). slice_get q.messages k) (sym (K.message_waits d bytes)) ∙ at in
       let here = HasPut (next_of (P.queue d)) bytes in
-      let same : (did ++ actions) ++ here ∷ [] ≡ did ++ (actions ++ here ∷ []) = append_assoc did actions (here ∷ []) in
+      let same : (did ++ actions) ++ here ∷ [] ≡ did ++ (actions ++ here ∷ []) =
+      append_assoc did actions (here ∷ []) in
       elim (got_split before (bytes ∷ []) k message all) [
         | inl old ↦
-            let w = more_answered did h d actions more k message old in
-            (w.0, ap (λ l. slice_get l w.0) (sym same) ∙ got_before (did ++ actions) (here ∷ []) w.0 _ w.1)
+            let w = more_answered did h d actions more k message old in (
+              w.0,
+              ap (λ l. slice_get l w.0) (sym same)
+                  ∙ got_before (did ++ actions) (here ∷ []) w.0 _ w.1,
+            )
         | inr last ↦
-            let j : last.0 ≡ 0 = (let l = slice_get_within (bytes ∷ []) last.0 message last.2 in omega arith) in
-            let is : bytes ≡ message = same_Some _ _ (ap (slice_get (bytes ∷ [])) (sym j) ∙ last.2) in
+            let j : last.0 ≡ 0 =
+            (let l = slice_get_within (bytes ∷ []) last.0 message last.2 in omega arith) in
+            let is : bytes ≡ message =
+            same_Some _ _ (ap (slice_get (bytes ∷ [])) (sym j) ∙ last.2) in
             let first = (stays P K c d actions more).first in
-            let number : next_of (P.queue d) ≡ (P.queue c).first + k = (let p = last.1 in omega arith) in (
+            let number : next_of (P.queue d) ≡ (P.queue c).first + k =
+            (let p = last.1 in omega arith) in (
               length (did ++ actions),
               ap (λ l. slice_get l (length (did ++ actions))) (sym same)
-                  ∙ got_after (did ++ actions) (here ∷ []) 0 here refl (length (did ++ actions)) (omega arith)
+                  ∙ got_after (did ++ actions) (here ∷ []) 0 here refl (length (did ++ actions))
+                  (omega arith)
                   ∙ ap (λ (z : ℕ × List ℕ). Some (HasPut z.0 z.1)) (λ i. (number i, is i)),
             )
       ]
@@ -103,16 +122,20 @@ module _ {C : Type 0} (P : Process C) (K : ProcessLaws P) (c : C) where
 
 -- ---- while the page is at home
 -- who holds no page has all that waits in its batch
-all_wait : {E : Type 0} (c : Core E) (ph : Phase E) → ((t : ℕ) → held_of ph ≡ Some t → ⊥) → waiting_at c ph ≡ c.queue.messages
+all_wait : {E : Type 0} (c : Core E) (ph : Phase E) → ((t : ℕ) → held_of ph ≡ Some t → ⊥)
+    → waiting_at c ph ≡ c.queue.messages
 all_wait c phase.Resting not = refl
 all_wait c (phase.Electing t e) not = refl
 all_wait c (phase.Taken t) not = absurd (not t refl)
 all_wait c (phase.Holding t page stored published) not = absurd (not t refl)
 all_wait c (phase.Giving t reason) not = absurd (not t refl)
 
-module _ {E : Type 0} (X : Election E) (x : Layout) (reuse : Option ℕ) (bases : List ℕ) (most : ℕ → ℕ → ℕ)
-    (L : AutomatonLaws (process_of X) (bus_of X x reuse bases)) (s : State (Option Page) (View (Sender E)))
-    (h : HasHistory X x reuse bases most s) (page : Page) (home : s.homes ≡ slot_of (Some page) ∷ [])
+module _ {E : Type 0} (X : Election E) (x : Layout) (reuse : Option ℕ) (bases : List ℕ)
+    (most : ℕ → ℕ → ℕ)
+    (L : AutomatonLaws (process_of X) (bus_of X x reuse bases))
+    (s : State (Option Page) (View (Sender E)))
+    (h : HasHistory X x reuse bases most s) (page : Page)
+    (home : s.homes ≡ slot_of (Some page) ∷ [])
     (j : ℕ) (v : Sender E) (sender_trail : SenderTrail) (shown : Shown s j v sender_trail) where
   abbrev m : Machine E
   m = h.history.machine
@@ -124,7 +147,8 @@ module _ {E : Type 0} (X : Election E) (x : Layout) (reuse : Option ℕ) (bases 
   me = v.core.me
 
   at_home : m.home ≡ Some page
-  at_home = slot_is m.home page (some-injective _ _ (ap (λ (hs : List (maybe.Option (Option Page))). get_elem? hs 0) (sym h.homes ∙ home)))
+  at_home = slot_is m.home page (some-injective _ _
+      (ap (λ (hs : List (maybe.Option (Option Page))). get_elem? hs 0) (sym h.homes ∙ home)))
 
   there : slice_get m.senders me ≡ Some v
   there = h.senders j v sender_trail shown
@@ -133,23 +157,32 @@ module _ {E : Type 0} (X : Election E) (x : Layout) (reuse : Option ℕ) (bases 
   trail_is = ap (λ (t : SenderTrail). t.actions) (h.trails j v sender_trail shown)
 
   below : me < MOST_SENDERS
-  below = let few = h.reached.served.senders in let one = (L.senders h.history me v h.reached there).below in omega arith
+  below =
+      let few = h.reached.served.senders in
+      let one = (L.senders h.history me v h.reached there).below in omega arith
 
   stage : stage_of m ≡ 2 * page.tenures
-  stage = (subst (IsPagedBy (stage_of m) (slice_index m.words 0) h.promised.order.ended) at_home h.promised.by.paged).0
+  stage =
+      (subst (IsPagedBy (stage_of m) (slice_index m.words 0) h.promised.order.ended) at_home
+      h.promised.by.paged).0
 
   waits : waiting_at v.core v.core.phase ≡ v.core.queue.messages
-  waits = all_wait v.core v.core.phase (λ t held. let odd = h.promised.by.holds me v t there held in let even = stage in omega arith)
+  waits = all_wait v.core v.core.phase
+      (λ t held. let odd = h.promised.by.holds me v t there held in let even = stage in omega arith)
 
-  sent : puts (T.actions me) ≡ map (λ (i : Item). i.message) (of_sender me h.promised.order) ++ v.core.queue.messages
-  sent = h.promised.by.sent me v there ∙ ap (λ l. map (λ (i : Item). i.message) (of_sender me h.promised.order) ++ l) waits
+  sent : puts (T.actions me)
+      ≡ map (λ (i : Item). i.message) (of_sender me h.promised.order) ++ v.core.queue.messages
+  sent =
+      h.promised.by.sent me v there
+      ∙ ap (λ l. map (λ (i : Item). i.message) (of_sender me h.promised.order) ++ l) waits
 
   pub first_is : slice_index page.next me ≡ v.core.queue.first
   first_is =
       let knows = (h.promised.by.knows page at_home).next me below in
       let numbers = (h.promised.by.remembers me v there).numbers in
       let size = ap length sent in
-      let parts = length-append (map (λ (i : Item). i.message) (of_sender me h.promised.order)) v.core.queue.messages in
+      let parts = length-append (map (λ (i : Item). i.message) (of_sender me h.promised.order))
+      v.core.queue.messages in
       let items = length-map (of_sender me h.promised.order) (λ (i : Item). i.message) in
       omega arith
 
@@ -166,7 +199,8 @@ module _ {E : Type 0} (X : Election E) (x : Layout) (reuse : Option ℕ) (bases 
       let before = w.before in (
         w.place,
         ap (λ l. slice_get l w.place) (sym trail_is) ∙ w.at
-            ∙ ap (λ n. Some (HasPut n bytes)) (let is : w.number ≡ v.core.queue.first + k = omega arith in is),
+            ∙ ap (λ n. Some (HasPut n bytes))
+            (let is : w.number ≡ v.core.queue.first + k = omega arith in is),
       )
 
   module _ (K : ProcessLaws (process_of X)) where
@@ -191,7 +225,8 @@ module _ {E : Type 0} (X : Election E) (x : Layout) (reuse : Option ℕ) (bases 
     go_on d actions more =
         let k = stays P K v d actions more in (
           ap (slice_index page.next) k.me ∙ first_is ∙ sym (k.first ∙ first_same),
-          subst (λ n. WereAnswered (sender_trail.actions ++ actions) n (P.queue d).messages) (sym k.first)
+          subst (λ n. WereAnswered (sender_trail.actions ++ actions) n (P.queue d).messages)
+              (sym k.first)
               (more_answered P K v sender_trail.actions shown_answered d actions more),
         )
 

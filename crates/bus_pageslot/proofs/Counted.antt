@@ -1,17 +1,22 @@
 -- A step of a sender is one step more that its seat shows.
-use Rattle.std.proofs.Common.{◌≡◌, inl, inr, ℕ, ◌+◌, ◌≤◌, Bool, false, Option, Some, None, is_some, List, [], ◌∷◌, ◌++◌, length, drop, arith, refl, ◌∙◌, ap}
+use Rattle.std.proofs.Common.{◌≡◌, inl, inr, ℕ, ◌+◌, ◌<◌, ◌≤◌, Bool, false, Option, Some, None}
+use Rattle.std.proofs.Common.{is_some, cond, List, [], ◌∷◌, ◌++◌, length, drop, arith, refl, sym}
+use Rattle.std.proofs.Common.{◌∙◌, ap}
 use Rattle.std.proofs.lemmas.Bool.{cases_lt}
+use Rattle.std.proofs.lemmas.Bool.Decides.{eqb_tells}
 use Rattle.std.proofs.lemmas.List.{length-append}
 use Rattle.bus_adoptcommit.specs.declared.verdicts.Verdict.{Verdict}
 use Rattle.bus_batch.specs.Batches.{Pending, next_of}
 use Rattle.bus_batch.specs.declared.batches.Phase.{Phase}
 use Rattle.bus_batch.specs.declared.batches.Phase.TheVariants.{Open, Marking, Closed}
-use Rattle.bus_core.specs.Senders.{Situation, Does, Announces, Validates, Unpins, Withdraws, Scans, Clears, situation}
+use Rattle.bus_core.specs.Senders.{Situation, Does, Announces, Validates, Unpins, Withdraws, Scans}
+use Rattle.bus_core.specs.Senders.{Clears, situation}
 use Rattle.bus_core.specs.Table.{Line, line_now}
 use Rattle.bus_register.specs.Protocol.{Protocol}
 use Rattle.bus_register.specs.declared.kinds.Kind.{Kind}
 use Rattle.bus_register.specs.declared.registers.Op.{Op}
 use Rattle.bus_deliverylog.specs.declared.receiving.RecvTurn.{RecvTurn}
+use Rattle.bus_tenure.specs.Core.{length_at}
 use Rattle.bus_tenure.specs.Elections.{election_with}
 use Rattle.bus_tenure.specs.declared.turns.Turn.{Turn}
 use Rattle.bus_world.specs.Headline.{Action, HasPut, HasMarked, Stepped}
@@ -22,20 +27,24 @@ use Rattle.bus_automaton.specs.OneProcess.{entries, adds_by}
 use Rattle.bus_automaton.specs.Processes.{TableLayout, Process}
 use Rattle.bus_automaton.specs.SenderTrails.{SenderTrail, with_sender_trail}
 use Rattle.bus_pageslot.specs.declared.rule.View.{View}
-use Rattle.bus_pageslot.specs.declared.rule.View.TheVariants.{Maker, Sender, Tap, Meeting, Telling, Spent}
-use Rattle.bus_pageslot.specs.Listening.{Hears}
+use Rattle.bus_pageslot.specs.declared.rule.View.TheVariants.{Maker, Sender, Tap, Meeting, Telling}
+use Rattle.bus_pageslot.specs.declared.rule.View.TheVariants.{Spent}
+use Rattle.bus_pageslot.specs.Listening.{Hears, due_load}
 use Rattle.bus_pageslot.specs.ReceiverViews.{ReceiverView}
-use Rattle.bus_pageslot.specs.Rule.{Sat, sender_trail_in}
+use Rattle.bus_pageslot.specs.Rule.{Sat, sender_trail_in, receiver_view_in}
 use Rattle.bus_pageslot.specs.Seats.{SenderSeat, Took, sender_trail_of}
-use Rattle.bus_pageslot.specs.Steps.{puts_from, marks_since, accepted_since, since_in, all_in, Due, GoesOn}
+use Rattle.bus_pageslot.specs.Steps.{puts_from, marks_since, accepted_since, since_in, all_in, Due}
+use Rattle.bus_pageslot.specs.Steps.{GoesOn}
 use Rattle.bus_pageslot.specs.StepsShown.{steps_among, steps_in, steps_shown}
 
 -- ---- what is accepted is no step
-steps_among-append : (xs ys : List Action) → steps_among (xs ++ ys) ≡ steps_among xs + steps_among ys
+steps_among-append : (xs ys : List Action)
+    → steps_among (xs ++ ys) ≡ steps_among xs + steps_among ys
 steps_among-append [] ys = omega arith
 steps_among-append (HasPut number bytes ∷ xs) ys = steps_among-append xs ys
 steps_among-append (HasMarked mark ∷ xs) ys = steps_among-append xs ys
-steps_among-append (Stepped t k found chose answer ∷ xs) ys = let h = steps_among-append xs ys in omega arith
+steps_among-append (Stepped t k found chose answer ∷ xs) ys =
+    let h = steps_among-append xs ys in omega arith
 
 puts_are_none : (first : ℕ) (messages : List (List ℕ)) → steps_among (puts_from first messages) ≡ 0
 puts_are_none first [] = refl
@@ -50,7 +59,8 @@ marks_are_none before Closed = refl
 
 accepted_are_none : (before now : Pending) → steps_among (accepted_since before now) ≡ 0
 accepted_are_none before now =
-    let put : List Action = puts_from (next_of before) (drop (length before.messages) now.messages) in
+    let put : List Action =
+    puts_from (next_of before) (drop (length before.messages) now.messages) in
     let parts = steps_among-append put (marks_since before.phase now.phase) in
     let a = puts_are_none (next_of before) (drop (length before.messages) now.messages) in
     let b = marks_are_none before.phase now.phase in
@@ -64,7 +74,8 @@ since_is_none P (Meeting x e y f) d = refl
 since_is_none P (Telling c sender_trail stored x e) d = refl
 since_is_none P Spent d = refl
 
-all_counted : {C : Type 0} (P : Process C) (v : View C) (d : C) → steps_in (all_in P v d) ≡ steps_in (sender_trail_in v)
+all_counted : {C : Type 0} (P : Process C) (v : View C) (d : C)
+    → steps_in (all_in P v d) ≡ steps_in (sender_trail_in v)
 all_counted P v d =
     let t : SenderTrail = sender_trail_in v in
     let parts = steps_among-append t.actions (since_in P v d) in
@@ -72,14 +83,16 @@ all_counted P v d =
     omega arith
 
 -- ---- a step is one
-more_counted : (t more : SenderTrail) → steps_in (with_sender_trail t more) ≡ steps_in t + steps_in more
+more_counted : (t more : SenderTrail)
+    → steps_in (with_sender_trail t more) ≡ steps_in t + steps_in more
 more_counted t more =
     let a = steps_among-append t.actions more.actions in
     let b = length-append t.pins more.pins in
     let c = length-append t.reclaims more.reclaims in
     omega arith
 
-some_kind : (due : Option Kind) (o : Op) (t : Option ℕ) (got : ℕ) (chose : Option ℕ) (answer : Turn) → is_some due ≡ is_some (Some o)
+some_kind : (due : Option Kind) (o : Op) (t : Option ℕ) (got : ℕ) (chose : Option ℕ) (answer : Turn)
+    → is_some due ≡ is_some (Some o)
     → steps_among (step_action due t got chose answer) ≡ 1
 some_kind None o t got chose answer e = absurd cc
 some_kind (Some k) o t got chose answer e = refl
@@ -87,22 +100,33 @@ some_kind (Some k) o t got chose answer e = refl
 one_entry : (due : Option Op) (o : Op) (got : ℕ) → due ≡ Some o → length (entries due got) ≡ 1
 one_entry due o got e = ap (λ d. length (entries d got)) e
 
-line_counted : {E : Type 0} (z : Situation E) (l : Line E) (got word : ℕ) (o : Op) → l.op word ≡ Some o → is_some l.kind ≡ is_some (l.op word)
+line_counted : {E : Type 0} (z : Situation E) (l : Line E) (got word : ℕ) (o : Op)
+    → l.op word ≡ Some o → is_some l.kind ≡ is_some (l.op word)
     → steps_in (adds_by z l got word) ≡ 1
 line_counted (Does y) l got word o due named =
-    let h = some_kind l.kind o l.tenure got (l.chosen got word) (l.answer got word) (named ∙ ap is_some due) in omega arith
-line_counted (Announces t) l got word o due named = let h = one_entry (l.op word) o got due in omega arith
-line_counted (Validates t) l got word o due named = let h = one_entry (l.op word) o got due in omega arith
-line_counted (Unpins t) l got word o due named = let h = one_entry (l.op word) o got due in omega arith
-line_counted (Withdraws t) l got word o due named = let h = one_entry (l.op word) o got due in omega arith
-line_counted (Scans s) l got word o due named = let h = one_entry (l.op word) o got due in omega arith
-line_counted (Clears s) l got word o due named = let h = one_entry (l.op word) o got due in omega arith
+    let h = some_kind l.kind o l.tenure got (l.chosen got word) (l.answer got word)
+    (named ∙ ap is_some due) in
+    omega arith
+line_counted (Announces t) l got word o due named =
+    let h = one_entry (l.op word) o got due in omega arith
+line_counted (Validates t) l got word o due named =
+    let h = one_entry (l.op word) o got due in omega arith
+line_counted (Unpins t) l got word o due named =
+    let h = one_entry (l.op word) o got due in omega arith
+line_counted (Withdraws t) l got word o due named =
+    let h = one_entry (l.op word) o got due in omega arith
+line_counted (Scans s) l got word o due named =
+    let h = one_entry (l.op word) o got due in omega arith
+line_counted (Clears s) l got word o due named =
+    let h = one_entry (l.op word) o got due in omega arith
 
 -- what each step adds to the trail is one step
 abbrev pub CountsOne : {C : Type 0} → Process C → Type 0
-CountsOne {C} P = (d : C) (got word : ℕ) (o : Op) → P.op d word ≡ Some o → steps_in (P.adds d got word) ≡ 1
+CountsOne {C} P =
+    (d : C) (got word : ℕ) (o : Op) → P.op d word ≡ Some o → steps_in (P.adds d got word) ≡ 1
 
-pub counts_one : {S : Type 0} (kind_of : S → Option Kind) (op : S → ℕ → Option Op) (fed : S → ℕ → ℕ → S) (Q : Protocol S Bool Verdict)
+pub counts_one : {S : Type 0} (kind_of : S → Option Kind) (op : S → ℕ → Option Op)
+    (fed : S → ℕ → ℕ → S) (Q : Protocol S Bool Verdict)
     → ProcessLaws (process_with kind_of op fed Q) → CountsOne (process_with kind_of op fed Q)
 unfolding process_with
 counts_one kind_of op fed Q L d got word o due =
@@ -111,7 +135,9 @@ counts_one kind_of op fed Q L d got word o due =
 
 module _ {C : Type 0} (P : Process C) (one : CountsOne P) where
   -- so its seat shows one more
-  pub goes_counted : (k : Option C) (word : ℕ) (m : Sat C) (words : ℕ) (o : Op) (got : ℕ) (m' : Sat C) → Due P k word m words o → GoesOn P k word m got m'
+  pub goes_counted :
+      (k : Option C) (word : ℕ) (m : Sat C) (words : ℕ) (o : Op) (got : ℕ) (m' : Sat C)
+      → Due P k word m words o → GoesOn P k word m got m'
       → steps_shown m'.0 ≡ steps_shown m.0 + 1
   goes_counted None word m words o got m' due gone = absurd due
   goes_counted (Some d) word m words o got m' due gone =
@@ -123,7 +149,8 @@ module _ {C : Type 0} (P : Process C) (one : CountsOne P) where
       omega arith
 
   -- and so does its trail, of a turn
-  pub took_counted : (old new : SenderSeat C) (word : ℕ) (answer : Turn) (o : Op) → P.op old.core word ≡ Some o → Took P old word answer new
+  pub took_counted : (old new : SenderSeat C) (word : ℕ) (answer : Turn) (o : Op)
+      → P.op old.core word ≡ Some o → Took P old word answer new
       → steps_in (sender_trail_of P new) ≡ steps_in (sender_trail_of P old) + 1
   took_counted old new word answer o due took =
       let now = ap steps_in took.sender_trail in
@@ -132,9 +159,43 @@ module _ {C : Type 0} (P : Process C) (one : CountsOne P) where
       omega arith
 
 -- ---- a load is one
-pub hears_counted : {C : Type 0} (x : TableLayout) (e : ReceiverView) (answer : RecvTurn) (m : Sat C) → e.ended ≡ false → e.place ≤ length e.known → Hears (Tap x e, []) answer m
-    → steps_shown m.0 ≡ e.loads + 1
+pub hears_counted :
+    {C : Type 0} (x : TableLayout) (e : ReceiverView) (answer : RecvTurn) (m : Sat C)
+    → e.ended ≡ false → e.place ≤ length e.known → Hears (Tap x e, []) answer m
+    → steps_shown m.0 ≡ length e.loads + 1
 hears_counted {C} x e answer m going within h = elim (cases_lt e.place (length e.known)) [
-  | inl l ↦ ap (λ (y : Sat C). steps_shown y.0) (h.at_word going l).finds.now
-  | inr l ↦ ap (λ (y : Sat C). steps_shown y.0) (h.at_length going (omega arith)).finds.now
+  | inl l ↦
+      ap (λ (y : Sat C). steps_shown y.0) (h.at_word going l).finds.now
+      ∙ length-append e.loads ((x.log + e.place) ∷ [])
+  | inr l ↦
+      ap (λ (y : Sat C). steps_shown y.0) (h.at_length going (omega arith)).finds.now
+      ∙ length-append e.loads (length_at ∷ [])
+]
+
+-- and the word that it is of is noted
+due_at_length : (x : TableLayout) (e : ReceiverView) → e.place ≡ length e.known
+    → due_load x e ≡ length_at
+due_at_length x e same = elim (eqb_tells e.place (length e.known)) [
+  | inl i ↦ ap (λ b. cond b length_at (x.log + e.place)) i.0
+  | inr i ↦ absurd (i.1 same)
+]
+
+due_at_word : (x : TableLayout) (e : ReceiverView) → e.place < length e.known
+    → due_load x e ≡ x.log + e.place
+due_at_word x e below = elim (eqb_tells e.place (length e.known)) [
+  | inl i ↦ absurd (let same = i.1 in omega (arith, below))
+  | inr i ↦ ap (λ b. cond b length_at (x.log + e.place)) i.0
+]
+
+pub hears_noted : {C : Type 0} (x : TableLayout) (e : ReceiverView) (answer : RecvTurn) (m : Sat C)
+    → e.ended ≡ false → e.place ≤ length e.known → Hears (Tap x e, []) answer m
+    → (receiver_view_in m.0).loads ≡ e.loads ++ due_load x e ∷ []
+hears_noted {C} x e answer m going within h = elim (cases_lt e.place (length e.known)) [
+  | inl l ↦
+      ap (λ (y : Sat C). (receiver_view_in y.0).loads) (h.at_word going l).finds.now
+      ∙ ap (λ w. e.loads ++ w ∷ []) (sym (due_at_word x e l))
+  | inr l ↦
+      let same : e.place ≡ length e.known = omega arith in
+      ap (λ (y : Sat C). (receiver_view_in y.0).loads) (h.at_length going same).finds.now
+      ∙ ap (λ w. e.loads ++ w ∷ []) (sym (due_at_length x e same))
 ]

@@ -1,5 +1,6 @@
 -- A sender's step extends the log, and never makes it shorter.
-use Rattle.std.proofs.Common.{◌≡◌, ℕ, ◌<◌, Option, Some, List, [], ◌∷◌, length, slice_index, slice_set, arith, sym, ◌∙◌, ap, subst}
+use Rattle.std.proofs.Common.{◌≡◌, ℕ, ◌<◌, Option, Some, List, [], ◌∷◌, length, slice_index}
+use Rattle.std.proofs.Common.{slice_set, arith, sym, ◌∙◌, ap, subst}
 use mathlib.Core.Option.{some}
 use lib.ListN.{get_elem?}
 use Rattle.std.proofs.lemmas.List.{get_or-set_same}
@@ -13,7 +14,7 @@ use Rattle.bus_world.specs.Turning.{words_after}
 use Rattle.bus_world.proofs.LogLaws.{length-read}
 use Rattle.bus_pageslot.specs.declared.rule.View.{View}
 use Rattle.bus_pageslot.specs.declared.rule.View.TheVariants.{Sender}
-use Rattle.bus_automaton.specs.Processes.{TableLayout, Process, Automaton, log_below}
+use Rattle.bus_automaton.specs.Processes.{TableLayout, Process, Automaton, log_below, log_in}
 use Rattle.bus_automaton.specs.Lawful.{AutomatonLaws}
 use Rattle.bus_pageslot.specs.Rule.{Sat, sender_trail_in, stored_in, IsSeated, TableInvariant}
 use Rattle.bus_pageslot.specs.Steps.{IsDue}
@@ -25,25 +26,41 @@ has_word : (ws : List ℕ) (v : ℕ) → v < slice_index ws 0 → 0 < length ws
 has_word [] v l = absurd (omega arith)
 has_word (w ∷ ws) v l = omega arith
 
-module _ {C : Type 0} (P : Process C) (A : Automaton C) (L : AutomatonLaws P A) (s : State (Option Page) (View C)) (r : TableInvariant P A s) (id : ℕ) (m : Sat C) (at : get_elem? s.views id ≡ some m.0) (d : C) (word many : ℕ) where
-  pub extends : (o : Op) → IsDue P d word m many o → IsPrefix (log_below A.table_layout s.words) (log_below A.table_layout (words_after s.words (Some o)))
+module _ {C : Type 0} (P : Process C) (A : Automaton C) (L : AutomatonLaws P A)
+    (s : State (Option Page) (View C)) (r : TableInvariant P A s) (id : ℕ) (m : Sat C)
+    (at : get_elem? s.views id ≡ some m.0) (d : C) (word many : ℕ) where
+  pub extends : (o : Op) → IsDue P d word m many o
+      → IsPrefix (log_below A.table_layout s.words)
+      (log_below A.table_layout (words_after s.words (Some o)))
   extends o due =
       let c = due.shown in
-      let seated : IsSeated P A r.state r.seat id c (sender_trail_in m.0) (stored_in m.0) = r.views id (Sender c (sender_trail_in m.0) (stored_in m.0)) (at ∙ ap (λ (y : Sat C). some y.0) due.me) in
+      let seated : IsSeated P A r.state r.seat id c (sender_trail_in m.0) (stored_in m.0) =
+      r.views id (Sender c (sender_trail_in m.0) (stored_in m.0))
+      (at ∙ ap (λ (y : Sat C). some y.0) due.me) in
       let grown = accepted P A L r.state r.reached c seated.core d due.actions due.accepts in
       let z = grown.state in
       let is = L.senders z (P.me c) d grown.changes.reached grown.changes.here in
       let within = subst (λ (x : TableLayout). register o < x.words) is.table_layout due.below in
-      let done = L.step z (P.me c) d word o grown.changes.reached grown.changes.here due.due within in
+      let done =
+      L.step z (P.me c) d word o grown.changes.reached grown.changes.here due.due within in
       let before : s.words ≡ A.words z = r.words ∙ sym grown.words in
-      let now : words_after s.words (Some o) ≡ A.words done.state = ap (λ w. words_after w (Some o)) before ∙ sym done.words in
-      subst (λ (w : List ℕ × List ℕ). IsPrefix (log_below A.table_layout w.0) (log_below A.table_layout w.1)) (λ i. (sym before i, sym now i)) (front A z done.state done.grows)
+      let now : words_after s.words (Some o) ≡ A.words done.state =
+      ap (λ w. words_after w (Some o)) before ∙ sym done.words in
+      let first : log_in A z ≡ log_below A.table_layout s.words =
+      sym (L.log z grown.changes.reached).stands ∙ ap (log_below A.table_layout) (sym before) in
+      let last : log_in A done.state ≡ log_below A.table_layout (words_after s.words (Some o)) =
+      sym (L.log done.state done.changes.reached).stands
+      ∙ ap (log_below A.table_layout) (sym now) in
+      subst (λ (w : List ℕ × List ℕ). IsPrefix w.0 w.1) (λ i. (first i, last i))
+      (front A z done.state done.grows)
 
   -- so no length goes back
-  pub never_shorter : (v : ℕ) → v < slice_index s.words 0 → ¬ IsDue P d word m many (Store record { 0 = 0 } v)
+  pub never_shorter : (v : ℕ) → v < slice_index s.words 0
+      → ¬ IsDue P d word m many (Store record { 0 = 0 } v)
   never_shorter v less due =
       let W = slice_set s.words 0 v in
-      let front = no_shorter (log_below A.table_layout s.words) (log_below A.table_layout W) (extends (Store record { 0 = 0 } v) due) in
+      let front = no_shorter (log_below A.table_layout s.words) (log_below A.table_layout W)
+      (extends (Store record { 0 = 0 } v) due) in
       let before = length-read (slice_index s.words) A.table_layout.log (slice_index s.words 0) in
       let after = length-read (slice_index W) A.table_layout.log (slice_index W 0) in
       let stored : slice_index W 0 ≡ v = get_or-set_same s.words 0 v 0 (has_word s.words v less) in

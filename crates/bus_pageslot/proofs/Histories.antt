@@ -1,5 +1,6 @@
 -- What stands behind a table: a machine, and what led to it.
-use Rattle.std.proofs.Common.{◌≡◌, ◌⊎◌, ℕ, ◌<◌, Bool, Option, Some, None, List, slice_index, inl, inr}
+use Rattle.std.proofs.Common.{◌≡◌, ◌⊎◌, ℕ, ◌<◌, Bool, Option, Some, None, List, slice_index, inl}
+use Rattle.std.proofs.Common.{inr, ap, ◌∙◌}
 use mathlib.Core.Option.{some}
 use lib.ListN.{get_elem?}
 use Rattle.atomic_table.specs.Table.{State}
@@ -20,7 +21,8 @@ use Rattle.bus_world.specs.declared.shapes.Shape.{Shape}
 use Rattle.bus_automaton.specs.Buses.{process_with, automaton_with}
 use Rattle.bus_automaton.specs.Lawful.{AutomatonLaws}
 use Rattle.bus_automaton.specs.OneAutomaton.{bus_of, trail_of}
-use Rattle.bus_automaton.specs.OneProcess.{process_of}
+use Rattle.bus_automaton.specs.OneProcess.{process_of, table_layout_by}
+use Rattle.bus_automaton.specs.Processes.{log_below}
 use Rattle.bus_automaton.specs.SenderTrails.{SenderTrail, new_sender_trail}
 use Rattle.bus_automaton.specs.declared.plans.Plan.{Plan}
 use Rattle.bus_pageslot.specs.Histories.{Shown, IsShown, HasHistory}
@@ -29,7 +31,8 @@ use Rattle.bus_pageslot.specs.declared.rule.View.{View}
 use Rattle.bus_pageslot.specs.declared.rule.View.TheVariants as view
 
 -- ---- a bus of any plan is the one automaton
-module _ {S : Type 0} (kind_of : S → Option Kind) (op : S → ℕ → Option Op) (fed : S → ℕ → ℕ → S) (Q : Protocol S Bool Verdict) (plan : Plan) where
+module _ {S : Type 0} (kind_of : S → Option Kind) (op : S → ℕ → Option Op) (fed : S → ℕ → ℕ → S)
+    (Q : Protocol S Bool Verdict) (plan : Plan) where
   abbrev pub elector : Election (Elector S)
   elector = election_with kind_of op fed Q
 
@@ -42,7 +45,8 @@ module _ {S : Type 0} (kind_of : S → Option Kind) (op : S → ℕ → Option O
   unfolding process_with automaton_with
   rule_is s r = r
 
-  pub laws_are : AutomatonLaws (process_with kind_of op fed Q) (automaton_with kind_of op fed Q plan)
+  pub laws_are : AutomatonLaws (process_with kind_of op fed Q)
+      (automaton_with kind_of op fed Q plan)
       → AutomatonLaws (process_of elector) (bus_of elector sizes plan.reuse plan.bases)
   unfolding process_with automaton_with
   laws_are h = h
@@ -55,30 +59,52 @@ sized Q G h shape None = h shape.senders shape.rounds shape.rows shape.log_words
 sized Q G h shape (Some rows) = h shape.senders shape.rounds TENURES shape.log_words
 
 -- ---- of a table of which the rule holds
-module _ {E : Type 0} (X : Election E) (x : Layout) (reuse : Option ℕ) (bases : List ℕ) (s : State (Option Page) (View (Sender E)))
+module _ {E : Type 0} (X : Election E) (x : Layout) (reuse : Option ℕ) (bases : List ℕ)
+    (s : State (Option Page) (View (Sender E)))
     (r : TableInvariant (process_of X) (bus_of X x reuse bases) s) where
   seated : (j : ℕ) (v : Sender E) (sender_trail : SenderTrail) → Shown s j v sender_trail
-      → (stored : ℕ) × IsSeated (process_of X) (bus_of X x reuse bases) r.state r.seat j v sender_trail stored
+      → (stored : ℕ)
+      × IsSeated (process_of X) (bus_of X x reuse bases) r.state r.seat j v sender_trail stored
   seated j v sender_trail (inl h) = (h.0, r.views j (view.Sender v sender_trail h.0) h.1)
-  seated j v sender_trail (inr h) = (h.0, (r.views j (view.Telling v sender_trail h.0 h.1 h.2) h.3).0)
+  seated j v sender_trail (inr h) = (
+    h.0,
+    (r.views j (view.Telling v sender_trail h.0 h.1 h.2) h.3).0,
+  )
 
   -- who shows in no seat has done nothing
-  shows : (p j : ℕ) (v : View (Sender E)) → get_elem? s.views j ≡ some v → Seats (process_of X) p v → p < x.senders
+  shows : (p j : ℕ) (v : View (Sender E)) → get_elem? s.views j ≡ some v → Seats (process_of X) p v
+      → p < x.senders
       → IsShown s p ⊎ (trail_of bases r.state.trails p ≡ new_sender_trail (slice_index bases p))
-  shows p j (view.Maker y made) at me below = inr ((r.views j (view.Maker y made) at).1 p me below).sender_trail_is
+  shows p j (view.Maker y made) at me below =
+      inr ((r.views j (view.Maker y made) at).1 p me below).sender_trail_is
   shows p j (view.Sender c sender_trail stored) at me below =
-      inl (record { seat = j; sender = c; sender_trail = sender_trail; me = me; shown = inl (stored, at) })
+      inl (record {
+        seat = j;
+        sender = c;
+        sender_trail = sender_trail;
+        me = me;
+        shown = inl (stored, at);
+      })
   shows p j (view.Tap y e) at me below = absurd me
   shows p j (view.Meeting y e y' e') at me below = absurd me
   shows p j (view.Telling c sender_trail stored y e) at me below =
-      inl (record { seat = j; sender = c; sender_trail = sender_trail; me = me; shown = inr (stored, y, e, at) })
+      inl (record {
+        seat = j;
+        sender = c;
+        sender_trail = sender_trail;
+        me = me;
+        shown = inr (stored, y, e, at);
+      })
   shows p j view.Spent at me below = absurd me
 
   pub has_history : (most : ℕ → ℕ → ℕ)
-      → IsPromised X r.state.machine r.state.trails × LossesAreSeen r.state.machine r.state.trails.actions
-      → AreBounded X (most x.senders x.rounds) r.state.machine r.state.trails × PinsAreBounded r.state.trails
+      → IsPromised X r.state.machine r.state.trails
+      × LossesAreSeen r.state.machine r.state.trails.actions
+      → AreBounded X (most x.senders x.rounds) r.state.machine r.state.trails
+      × PinsAreBounded r.state.trails
+      → log_below (table_layout_by x reuse) r.state.machine.words ≡ r.state.trails.log
       → HasHistory X x reuse bases most s
-  has_history most h bounded = record {
+  has_history most h bounded stands = record {
     history = r.state;
     reached = r.reached;
     words = r.words;
@@ -86,6 +112,7 @@ module _ {E : Type 0} (X : Election E) (x : Layout) (reuse : Option ℕ) (bases 
     senders = λ j v sender_trail is. (seated j v sender_trail is).1.core;
     trails = λ j v sender_trail is. (seated j v sender_trail is).1.sender_trail_is;
     all = λ p below. let a = r.all p below in shows p a.0 a.1 a.2 a.3 below;
+    stands = ap (log_below (table_layout_by x reuse)) r.words ∙ stands;
     promised = h.0;
     losses = h.1;
     bounded = bounded;

@@ -1,29 +1,31 @@
 -- Joined seats: how seats are joined, what they learn, and how they are cut apart again.
-use Rattle.std.proofs.Common.{◌≡◌, ◌≢◌, ℕ, ◌≤◌, Option, List, [], ◌∷◌, ◌++◌, length, map, set, slice_index, arith, refl, sym, ◌∙◌, ap, subst, ⊎_elim}
+use Rattle.std.proofs.Common.{◌≡◌, ◌≢◌, ℕ, Option, List, [], ◌∷◌, ◌++◌, map, set}
+use Rattle.std.proofs.Common.{slice_index, arith, refl, sym, ◌∙◌, ap, subst, ⊎_elim}
 use mathlib.Core.Option.{some}
 use lib.ListN.{get_elem?}
-use Rattle.atomic_table.specs.Seated.{TableId}
 use Rattle.atomic_table.specs.Table.{State, keeps, Allows, Splits, Joins}
 use Rattle.atomic_table.proofs.Lists.{at_set, at_snoc, set_else}
 use Rattle.bus_batch.specs.declared.messages.Item.{Item}
 use Rattle.bus_batch.specs.Frames.{AreFrames, order_of, tenure_and_owner}
 use Rattle.bus_batch.proofs.FrameLaws.{same_log}
 use Rattle.bus_deliverylog.specs.Orders.{of_sender}
-use Rattle.bus_deliverylog.specs.Receiving.{Receiving}
+use Rattle.bus_tenure.specs.Core.{length_at}
 use Rattle.bus_tenure.specs.declared.pages.Page.{Page}
-use Rattle.bus_world.specs.Headline.{Action, puts, IsPrefix}
+use Rattle.bus_world.specs.Headline.{Action, puts}
 use Rattle.bus_pageslot.specs.ReceiverViews.{ReceiverView, receiver_view_knowing, HasHeard, Agree}
 use Rattle.bus_pageslot.specs.declared.rule.View.{View}
-use Rattle.bus_pageslot.specs.declared.rule.View.TheVariants.{Maker, Sender, Tap, Meeting, Telling, Spent}
-use Rattle.bus_automaton.specs.Processes.{TableLayout, Process, Automaton, log_below, log_in}
+use Rattle.bus_pageslot.specs.declared.rule.View.TheVariants.{Maker, Sender, Tap, Meeting, Telling}
+use Rattle.bus_pageslot.specs.declared.rule.View.TheVariants.{Spent}
+use Rattle.bus_automaton.specs.Processes.{TableLayout, Process, Automaton, log_in}
 use Rattle.bus_automaton.specs.Lawful.{AutomatonLaws}
-use Rattle.bus_pageslot.specs.Rule.{Sat, Seats, IsSeated, KnowsLog, IsTrueOf, TableInvariant, views_joined, first_of, second_of, all_knowing, receiver_view_in, with_receiver_view, known_in, capacity_in, IsFirst}
+use Rattle.bus_pageslot.specs.Rule.{Sat, Seats, IsSeated, KnowsLog, IsTrueOf, TableInvariant}
+use Rattle.bus_pageslot.specs.Rule.{views_joined, first_of, second_of, all_knowing}
+use Rattle.bus_pageslot.specs.Rule.{receiver_view_in, known_in}
+use Rattle.bus_pageslot.specs.Rule.{IsFirst}
 use Rattle.bus_pageslot.specs.Steps.{Accepts, Meets, Met, Learns, KnowsSent}
-use Rattle.bus_pageslot.specs.Seats.{ReceiverSeat, IsTap}
 use Rattle.bus_automaton.specs.SenderTrails.{SenderTrail}
 use Rattle.bus_pageslot.proofs.AllSeats.{still_seen, seen_longer}
 use Rattle.bus_pageslot.proofs.Hearing.{agree}
-use Rattle.bus_pageslot.proofs.ReaderLaws.{fits_learnt}
 use Rattle.bus_pageslot.proofs.Loads.{reloaded, whole, size, fits}
 use Rattle.bus_pageslot.proofs.Reaching.{accepted}
 
@@ -38,7 +40,10 @@ IsPair Spent = ⊥
 
 module _ {C : Type 0} (P : Process C) (A : Automaton C) where
   -- one view replaced
-  abbrev reviewed : (s : State (Option Page) (View C)) (r : TableInvariant P A s) (id : ℕ) (v w : View C) → get_elem? s.views id ≡ some v → ((p : ℕ) → Seats P p v → Seats P p w) → IsTrueOf P A r.state r.seat id w
+  abbrev reviewed :
+      (s : State (Option Page) (View C)) (r : TableInvariant P A s) (id : ℕ) (v w : View C)
+      → get_elem? s.views id ≡ some v → ((p : ℕ) → Seats P p v → Seats P p w)
+      → IsTrueOf P A r.state r.seat id w
       → TableInvariant P A record { words = s.words; homes = s.homes; views = set s.views id w }
   reviewed s r id v w at still fits = record {
     state = r.state;
@@ -47,32 +52,45 @@ module _ {C : Type 0} (P : Process C) (A : Automaton C) where
     slot = r.slot;
     seat = r.seat;
     views = λ j v e. ⊎_elim
-        (λ (u : (j ≡ id) × (w ≡ v)). subst (λ (y : ℕ × View C). IsTrueOf P A r.state r.seat y.0 y.1) (λ i. (sym u.0 i, u.1 i)) fits)
+        (λ (u : (j ≡ id) × (w ≡ v)). subst (λ (y : ℕ × View C). IsTrueOf P A r.state r.seat y.0 y.1)
+        (λ i. (sym u.0 i, u.1 i)) fits)
         (λ (u : (j ≢ id) × (get_elem? s.views j ≡ some v)). r.views j v u.1)
         (at_set s.views id j w v e);
     all = λ p below. still_seen P s.views id v w at p (still p) (r.all p below);
   }
 
   -- a receiver's seat goes into another
-  pub joins_allowed : (v : View C) → IsFirst v → (y : TableLayout) (l : ReceiverView) (id other : ℕ) → Joins (TableInvariant P A) id v other (Tap y l) (views_joined v (Tap y l)) Spent
+  pub joins_allowed : (v : View C) → IsFirst v → (y : TableLayout) (l : ReceiverView) (id other : ℕ)
+      → Joins (TableInvariant P A) id v other (Tap y l) (views_joined v (Tap y l)) Spent
   joins_allowed (Maker x made) is y l id other = absurd is
   joins_allowed (Sender c t stored) is y l id other = λ s r at apart there.
       let w : View C = Telling c t stored y l in
       let h = r.views id (Sender c t stored) at in
       let k = r.views other (Tap y l) (sym (set_else s.views id other w apart) ∙ there) in
-      reviewed (record { words = s.words; homes = s.homes; views = set s.views id w }) (reviewed s r id (Sender c t stored) w at (λ p is. is) (h, k)) other (Tap y l) Spent there (λ p is. is) tt
+      reviewed (record { words = s.words; homes = s.homes; views = set s.views id w })
+      (reviewed s r id (Sender c t stored) w at (λ p is. is) (h, k)) other (Tap y l) Spent there
+      (λ p is. is) tt
   joins_allowed (Tap x e) is y l id other = λ s r at apart there.
       let w : View C = Meeting x e y l in
       let h = r.views id (Tap x e) at in
       let k = r.views other (Tap y l) (sym (set_else s.views id other w apart) ∙ there) in
-      reviewed (record { words = s.words; homes = s.homes; views = set s.views id w }) (reviewed s r id (Tap x e) w at (λ p is. is) (h, k)) other (Tap y l) Spent there (λ p is. is) tt
+      reviewed (record { words = s.words; homes = s.homes; views = set s.views id w })
+      (reviewed s r id (Tap x e) w at (λ p is. is) (h, k)) other (Tap y l) Spent there (λ p is. is)
+      tt
   joins_allowed (Meeting x k z m) is y l id other = absurd is
   joins_allowed (Telling c t stored z m) is y l id other = absurd is
   joins_allowed Spent is y l id other = absurd is
 
   -- one view replaced, and a receiver's added
-  parted : (s : State (Option Page) (View C)) (r : TableInvariant P A s) (id : ℕ) (v w : View C) → get_elem? s.views id ≡ some v → ((p : ℕ) → Seats P p v → Seats P p w) → IsTrueOf P A r.state r.seat id w → (y : TableLayout) (l : ReceiverView) → KnowsLog A r.state y l
-      → TableInvariant P A record { words = s.words; homes = s.homes; views = set s.views id w ++ Tap y l ∷ [] }
+  parted : (s : State (Option Page) (View C)) (r : TableInvariant P A s) (id : ℕ) (v w : View C)
+      → get_elem? s.views id ≡ some v → ((p : ℕ) → Seats P p v → Seats P p w)
+      → IsTrueOf P A r.state r.seat id w → (y : TableLayout) (l : ReceiverView)
+      → KnowsLog A r.state y l
+      → TableInvariant P A record {
+        words = s.words;
+        homes = s.homes;
+        views = set s.views id w ++ Tap y l ∷ [];
+      }
   parted s r id v w at still fits y l log =
       let one = reviewed s r id v w at still fits in
       record {
@@ -89,15 +107,21 @@ module _ {C : Type 0} (P : Process C) (A : Automaton C) where
       }
 
   -- joined seats are cut apart
-  pub parts_allowed : (v : View C) → IsPair v → (id : ℕ) → Splits (TableInvariant P A) id v (first_of v) (second_of v)
+  pub parts_allowed : (v : View C) → IsPair v → (id : ℕ)
+      → Splits (TableInvariant P A) id v (first_of v) (second_of v)
   parts_allowed (Maker x made) is id = absurd is
   parts_allowed (Sender c t stored) is id = absurd is
   parts_allowed (Tap x k) is id = absurd is
-  parts_allowed (Meeting x k y l) is id = λ s r at. let h = r.views id (Meeting x k y l) at in parted s r id (Meeting x k y l) (Tap x k) at (λ p is. is) h.0 y l h.1
-  parts_allowed (Telling c t stored y l) is id = λ s r at. let h = r.views id (Telling c t stored y l) at in parted s r id (Telling c t stored y l) (Sender c t stored) at (λ p is. is) h.0 y l h.1
+  parts_allowed (Meeting x k y l) is id = λ s r at.
+      let h = r.views id (Meeting x k y l) at in
+      parted s r id (Meeting x k y l) (Tap x k) at (λ p is. is) h.0 y l h.1
+  parts_allowed (Telling c t stored y l) is id = λ s r at.
+      let h = r.views id (Telling c t stored y l) at in
+      parted s r id (Telling c t stored y l) (Sender c t stored) at (λ p is. is) h.0 y l h.1
   parts_allowed Spent is id = absurd is
 
-  pub pairs : (v : View C) → IsFirst v → (y : TableLayout) (l : ReceiverView) → IsPair (views_joined v (Tap y l))
+  pub pairs : (v : View C) → IsFirst v → (y : TableLayout) (l : ReceiverView)
+      → IsPair (views_joined v (Tap y l))
   pairs (Maker x made) is y l = absurd is
   pairs (Sender c t stored) is y l = tt
   pairs (Tap x k) is y l = tt
@@ -114,38 +138,54 @@ module _ {C : Type 0} (P : Process C) (A : Automaton C) where
   still_pair Spent known is = absurd is
 
 -- two receivers of one bus agree
-both_agree : {C : Type 0} (A : Automaton C) (z : A.State) (x y : TableLayout) (e f : ReceiverView) → KnowsLog A z x e → KnowsLog A z y f → Agree e f
+both_agree : {C : Type 0} (A : Automaton C) (z : A.State) (x y : TableLayout) (e f : ReceiverView)
+    → KnowsLog A z x e → KnowsLog A z y f → Agree e f
 both_agree A z x y e f h k =
-    let same : k.frames ≡ h.frames = same_log A.table_layout.senders 0 0 k.frames h.frames k.lawful h.lawful (k.words_are ∙ sym h.words_are) in
-    agree A.table_layout.senders h.frames h.lawful e f h.heard (subst (λ fs. HasHeard fs f) same k.heard)
+    let same : k.frames ≡ h.frames = same_log A.table_layout.senders 0 0 k.frames h.frames k.lawful
+    h.lawful (k.words_are ∙ sym h.words_are) in
+    agree A.table_layout.senders h.frames h.lawful e f h.heard
+    (subst (λ fs. HasHeard fs f) same k.heard)
 
 module _ {C : Type 0} (P : Process C) (A : Automaton C) (L : AutomatonLaws P A) where
   -- what the log holds of a sender, with all that it has accepted
-  knows_sent : (s : State (Option Page) (View C)) (r : TableInvariant P A s) (id : ℕ) (c : C) (sender_trail : SenderTrail) (stored : ℕ) → IsSeated P A r.state r.seat id c sender_trail stored
-      → (e : C) (actions : List Action) → Accepts P c e actions → KnowsSent P e (sender_trail.actions ++ actions) stored (log_in A r.state)
+  knows_sent : (s : State (Option Page) (View C)) (r : TableInvariant P A s) (id : ℕ) (c : C)
+      (sender_trail : SenderTrail) (stored : ℕ)
+      → IsSeated P A r.state r.seat id c sender_trail stored
+      → (e : C) (actions : List Action) → Accepts P c e actions
+      → KnowsSent P e (sender_trail.actions ++ actions) stored (log_in A r.state)
   knows_sent s r id c sender_trail stored h e actions more =
       let m = accepted P A L r.state r.reached c h.core e actions more in
       let z = m.state in
       let log = L.log z m.changes.reached in
       let is = L.senders z (P.me c) e m.changes.reached m.changes.here in
-      let same : log_in A z ≡ log_in A r.state = ap (log_below A.table_layout) m.words in
+      let same : log_in A z ≡ log_in A r.state = m.log in
       let order = order_of log.frames in
       record {
         order = order;
         owners = map tenure_and_owner log.frames;
         spelled = record {
           frames = log.frames;
-          lawful = subst (λ (x : TableLayout). AreFrames x.senders log.frames) (sym is.table_layout) log.lawful;
+          lawful = subst (λ (x : TableLayout). AreFrames x.senders log.frames) (sym is.table_layout)
+              log.lawful;
           words_are = log.words_are ∙ same;
           order_is = refl;
           owners_are = refl;
         };
-        sent = ap (λ q. map (λ (i : Item). i.message) (of_sender q order) ++ P.waiting e) is.me ∙ L.sent z (P.me c) e log.frames m.changes.reached m.changes.here log.lawful log.words_are ∙ ap puts (ap (λ t. t.actions) m.changes.sender_trail ∙ ap (λ t. t.actions ++ actions) h.sender_trail_is);
-        long = let l = size P A s r in let w = ap (λ w. slice_index w 0) r.words in let a = h.reached in omega arith;
+        sent =
+            ap (λ q. map (λ (i : Item). i.message) (of_sender q order) ++ P.waiting e) is.me
+            ∙ L.sent z (P.me c) e log.frames m.changes.reached m.changes.here log.lawful
+            log.words_are
+            ∙ ap puts (ap (λ t. t.actions) m.changes.sender_trail
+            ∙ ap (λ t. t.actions ++ actions) h.sender_trail_is);
+        long =
+            let l = size P A L s r in
+            let w = ap (λ w. slice_index w 0) r.words in let a = h.reached in omega arith;
       }
 
   -- joined seats load the length
-  pub meets_allowed : (v : View C) (carried : List (ℕ × Option Page)) → IsPair v → (slots id : ℕ) → Allows (TableInvariant P A) slots id (v, carried) 0 (λ n. n) (λ n. Meets P (v, carried) n)
+  pub meets_allowed : (v : View C) (carried : List (ℕ × Option Page)) → IsPair v → (slots id : ℕ)
+      → Allows (TableInvariant P A) slots id (v, carried) 0 (λ n. n)
+      (λ n m'. (0 ≡ length_at) × Meets P (v, carried) n m')
   meets_allowed (Maker x made) carried is slots id = absurd is
   meets_allowed (Sender c t stored) carried is slots id = absurd is
   meets_allowed (Tap x k) carried is slots id = absurd is
@@ -155,8 +195,24 @@ module _ {C : Type 0} (P : Process C) (A : Automaton C) (L : AutomatonLaws P A) 
         Meeting x (receiver_view_knowing k all) y (receiver_view_knowing l all),
         keeps,
         tt,
-        reloaded P A s r 0 id (Meeting x k y l) (Meeting x (receiver_view_knowing k all) y (receiver_view_knowing l all)) at (λ p is. is) (whole A r.state x k h.0, whole A r.state y l h.1),
-        record { known = all; now = refl; length_is = size P A s r; grows = (h.0.front, h.1.front, fits P A L s r x h.0.table_layout, fits P A L s r y h.1.table_layout, both_agree A r.state x y k l h.0 h.1) },
+        reloaded P A s r 0 id (Meeting x k y l)
+            (Meeting x (receiver_view_knowing k all) y (receiver_view_knowing l all)) at
+            (λ p is. is) (whole A r.state x k h.0, whole A r.state y l h.1),
+        (
+          refl,
+          record {
+            known = all;
+            now = refl;
+            length_is = size P A L s r;
+            grows = (
+              h.0.front,
+              h.1.front,
+              fits P A L s r x h.0.table_layout,
+              fits P A L s r y h.1.table_layout,
+              both_agree A r.state x y k l h.0 h.1,
+            );
+          },
+        ),
       )
   meets_allowed (Telling c t stored y l) carried is slots id = λ s r count at range.
       let h = r.views id (Telling c t stored y l) at in
@@ -164,48 +220,92 @@ module _ {C : Type 0} (P : Process C) (A : Automaton C) (L : AutomatonLaws P A) 
         Telling c t stored y (receiver_view_knowing l all),
         keeps,
         tt,
-        reloaded P A s r 0 id (Telling c t stored y l) (Telling c t stored y (receiver_view_knowing l all)) at (λ p is. is) (h.0, whole A r.state y l h.1),
-        record { known = all; now = refl; length_is = size P A s r; grows = (h.1.front, fits P A L s r y h.1.table_layout, knows_sent s r id c t stored h.0) },
+        reloaded P A s r 0 id (Telling c t stored y l)
+            (Telling c t stored y (receiver_view_knowing l all)) at (λ p is. is)
+            (h.0, whole A r.state y l h.1),
+        (
+          refl,
+          record {
+            known = all;
+            now = refl;
+            length_is = size P A L s r;
+            grows = (
+              h.1.front,
+              fits P A L s r y h.1.table_layout,
+              knows_sent s r id c t stored h.0,
+            );
+          },
+        ),
       )
   meets_allowed Spent carried is slots id = absurd is
 
 -- what a receiver is told, and what two that meet learn
 module _ {C : Type 0} (P : Process C) where
-  told_at : (c : C) (t : SenderTrail) (stored : ℕ) (carried : List (ℕ × Option Page)) (y : TableLayout) (l : ReceiverView) (got : ℕ) (m' n' : Sat C) → Met P (Sender c t stored, carried) (Tap y l, []) got m' n'
-      → (m' ≡ (Sender c t stored, carried)) × Learns (Tap y l, []) got n' × ((e : C) (actions : List Action) → Accepts P c e actions → KnowsSent P e (t.actions ++ actions) stored (known_in n'.0))
+  told_at : (c : C) (t : SenderTrail) (stored : ℕ) (carried : List (ℕ × Option Page))
+      (y : TableLayout) (l : ReceiverView) (got : ℕ) (m' n' : Sat C)
+      → Met P (Sender c t stored, carried) (Tap y l, []) got m' n'
+      → (m' ≡ (Sender c t stored, carried)) × Learns (Tap y l, []) got n'
+      × ((e : C) (actions : List Action) → Accepts P c e actions
+      → KnowsSent P e (t.actions ++ actions) stored (known_in n'.0))
   told_at c t stored carried y l got m' n' h = (
     h.first,
-    record { known = h.known; now = h.second; grows = h.grows.0; length_is = h.length_is; within = h.grows.1 },
-    subst (λ (y : Sat C). (e : C) (actions : List Action) → Accepts P c e actions → KnowsSent P e (t.actions ++ actions) stored (known_in y.0)) (sym h.second) h.grows.2,
+    record {
+      known = h.known;
+      now = h.second;
+      grows = h.grows.0;
+      length_is = h.length_is;
+      within = h.grows.1;
+    },
+    subst (λ (y : Sat C).
+        (e : C) (actions : List Action) → Accepts P c e actions
+        → KnowsSent P e (t.actions ++ actions) stored (known_in y.0)) (sym h.second) h.grows.2,
   )
 
-  pub told_of : (c : C) (t : SenderTrail) (stored : ℕ) (carried : List (ℕ × Option Page)) (y : TableLayout) (l : ReceiverView) (m n : Sat C) (got : ℕ) (m' n' : Sat C) → m ≡ (Sender c t stored, carried) → n ≡ (Tap y l, []) → Met P m n got m' n'
-      → (m' ≡ m) × Learns n got n' × ((e : C) (actions : List Action) → Accepts P c e actions → KnowsSent P e (t.actions ++ actions) stored (known_in n'.0))
+  pub told_of : (c : C) (t : SenderTrail) (stored : ℕ) (carried : List (ℕ × Option Page))
+      (y : TableLayout) (l : ReceiverView) (m n : Sat C) (got : ℕ) (m' n' : Sat C)
+      → m ≡ (Sender c t stored, carried) → n ≡ (Tap y l, []) → Met P m n got m' n'
+      → (m' ≡ m) × Learns n got n'
+      × ((e : C) (actions : List Action) → Accepts P c e actions
+      → KnowsSent P e (t.actions ++ actions) stored (known_in n'.0))
   told_of c t stored carried y l m n got m' n' em en h =
-      subst (λ (y : Sat C × Sat C). (m' ≡ y.0) × Learns y.1 got n' × ((e : C) (actions : List Action) → Accepts P c e actions → KnowsSent P e (t.actions ++ actions) stored (known_in n'.0))) (λ i. (sym em i, sym en i))
-      (told_at c t stored carried y l got m' n' (subst (λ (y : Sat C × Sat C). Met P y.0 y.1 got m' n') (λ i. (em i, en i)) h))
+      subst (λ (y : Sat C × Sat C).
+      (m' ≡ y.0) × Learns y.1 got n'
+      × ((e : C) (actions : List Action) → Accepts P c e actions
+      → KnowsSent P e (t.actions ++ actions) stored (known_in n'.0))) (λ i. (sym em i, sym en i))
+      (told_at c t stored carried y l got m' n'
+      (subst (λ (y : Sat C × Sat C). Met P y.0 y.1 got m' n') (λ i. (em i, en i)) h))
 
-  met_at : (x : TableLayout) (k : ReceiverView) (y : TableLayout) (l : ReceiverView) (got : ℕ) (m' n' : Sat C) → Met P (Tap x k, []) (Tap y l, []) got m' n' → Learns (Tap x k, []) got m' × Learns (Tap y l, []) got n' × (known_in n'.0 ≡ known_in m'.0) × Agree k l
+  met_at : (x : TableLayout) (k : ReceiverView) (y : TableLayout) (l : ReceiverView) (got : ℕ)
+      (m' n' : Sat C) → Met P (Tap x k, []) (Tap y l, []) got m' n'
+      → Learns (Tap x k, []) got m' × Learns (Tap y l, []) got n' × (known_in n'.0 ≡ known_in m'.0)
+      × Agree k l
   met_at x k y l got m' n' h = (
-    record { known = h.known; now = h.first; grows = h.grows.0; length_is = h.length_is; within = h.grows.2 },
-    record { known = h.known; now = h.second; grows = h.grows.1; length_is = h.length_is; within = h.grows.3 },
+    record {
+      known = h.known;
+      now = h.first;
+      grows = h.grows.0;
+      length_is = h.length_is;
+      within = h.grows.2;
+    },
+    record {
+      known = h.known;
+      now = h.second;
+      grows = h.grows.1;
+      length_is = h.length_is;
+      within = h.grows.3;
+    },
     ap (λ (y : Sat C). known_in y.0) h.second ∙ sym (ap (λ (y : Sat C). known_in y.0) h.first),
     h.grows.4,
   )
 
-  pub met_of : (x : TableLayout) (k : ReceiverView) (y : TableLayout) (l : ReceiverView) (m n : Sat C) (got : ℕ) (m' n' : Sat C) → m ≡ (Tap x k, []) → n ≡ (Tap y l, []) → Met P m n got m' n' → Learns m got m' × Learns n got n' × (known_in n'.0 ≡ known_in m'.0) × Agree (receiver_view_in m.0) (receiver_view_in n.0)
+  pub met_of : (x : TableLayout) (k : ReceiverView) (y : TableLayout) (l : ReceiverView)
+      (m n : Sat C) (got : ℕ) (m' n' : Sat C) → m ≡ (Tap x k, []) → n ≡ (Tap y l, [])
+      → Met P m n got m' n'
+      → Learns m got m' × Learns n got n' × (known_in n'.0 ≡ known_in m'.0)
+      × Agree (receiver_view_in m.0) (receiver_view_in n.0)
   met_of x k y l m n got m' n' em en h =
-      subst (λ (y : Sat C × Sat C). Learns y.0 got m' × Learns y.1 got n' × (known_in n'.0 ≡ known_in m'.0) × Agree (receiver_view_in y.0.0) (receiver_view_in y.1.0)) (λ i. (sym em i, sym en i))
-      (met_at x k y l got m' n' (subst (λ (y : Sat C × Sat C). Met P y.0 y.1 got m' n') (λ i. (em i, en i)) h))
-
-  -- a receiver after it has learnt
-  pub learned : (s : ReceiverSeat C) (log known got : ℕ) (r : Receiving) (m' : Sat C) (table : TableId) → IsTap s log known r → Learns s.me got m' → table.words ≡ s.table_id.words → IsTap (record { table_id = table; me = m' }) log got r
-  learned s log known got r m' table h l wide =
-      let t = h.sits in
-      let now : m' ≡ (Tap t.table_layout (receiver_view_knowing t.receiver_view l.known), []) = l.now ∙ (λ i. (with_receiver_view (t.me i).0 (receiver_view_knowing (receiver_view_in (t.me i).0) l.known), (t.me i).1)) in
-      let grows : IsPrefix t.receiver_view.known l.known = subst (λ (y : Sat C). IsPrefix (known_in y.0) l.known) t.me l.grows in
-      let within : length l.known ≤ t.table_layout.capacity = subst (λ (y : Sat C). length l.known ≤ capacity_in y.0) t.me l.within in
-      record {
-        sits = record { table_layout = t.table_layout; receiver_view = receiver_view_knowing t.receiver_view l.known; me = now; log_is = t.log_is; within = within; room = t.room; few = t.few; behind = t.behind; wide = wide ∙ t.wide; fit = fits_learnt t.table_layout.senders t.receiver_view (receiver_view_knowing t.receiver_view l.known) r t.fit refl refl grows };
-        known_is = sym l.length_is ∙ ap (λ (y : Sat C). length (known_in y.0)) (sym now);
-      }
+      subst (λ (y : Sat C × Sat C).
+      Learns y.0 got m' × Learns y.1 got n' × (known_in n'.0 ≡ known_in m'.0)
+      × Agree (receiver_view_in y.0.0) (receiver_view_in y.1.0)) (λ i. (sym em i, sym en i))
+      (met_at x k y l got m' n'
+      (subst (λ (y : Sat C × Sat C). Met P y.0 y.1 got m' n') (λ i. (em i, en i)) h))

@@ -1,5 +1,7 @@
 -- A receiver's loads are allowed.
-use Rattle.std.proofs.Common.{◌≡◌, ◌≢◌, ℕ, ◌+◌, ◌-◌, ◌<◌, ◌≤◌, Option, List, [], ◌++◌, length, false, set, slice_get, slice_index, slice_set, arith, refl, sym, ◌∙◌, ap, subst, ⊎_elim, inl, inr}
+use Rattle.std.proofs.Common.{◌≡◌, ◌≢◌, ℕ, ◌+◌, ◌-◌, ◌<◌, ◌≤◌, Option, List, [], ◌++◌, length}
+use Rattle.std.proofs.Common.{false, set, slice_get, slice_index, slice_set, arith, refl, sym, ◌∙◌}
+use Rattle.std.proofs.Common.{ap, subst, ⊎_elim, inl, inr}
 use mathlib.Core.Option.{some}
 use lib.ListN.{get_elem?}
 use Rattle.std.proofs.lemmas.List.{append-nil, length-append, get_or_append_left, set-get_or}
@@ -8,24 +10,35 @@ use Rattle.atomic_table.proofs.Lists.{at_set}
 use Rattle.bus_register.specs.Proved.TableLaws.{some_or_none, here_not}
 use Rattle.bus_batch.specs.Frames.{AreFrames, log_pieces}
 use Rattle.bus_deliverylog.specs.Receiving.{turn_of}
+use Rattle.bus_tenure.specs.Core.{length_at}
 use Rattle.bus_tenure.specs.declared.pages.Page.{Page}
 use Rattle.bus_world.specs.Headline.{IsPrefix}
 use Rattle.bus_world.proofs.LogLaws.{length-read, index-read}
 use Rattle.bus_world.proofs.ReceivingLaws.{length-log_pieces}
-use Rattle.bus_pageslot.specs.ReceiverViews.{ReceiverView, receiver_view_after_load, receiver_view_knowing, heard_length, heard_word, length_turn, HasHeard}
+use Rattle.bus_pageslot.specs.ReceiverViews.{ReceiverView, receiver_view_after_load}
+use Rattle.bus_pageslot.specs.ReceiverViews.{receiver_view_knowing, heard_length, heard_word}
+use Rattle.bus_pageslot.specs.ReceiverViews.{length_turn, HasHeard}
 use Rattle.bus_pageslot.specs.declared.rule.View.{View}
 use Rattle.bus_pageslot.specs.declared.rule.View.TheVariants.{Tap}
 use Rattle.bus_automaton.specs.Processes.{TableLayout, Process, Automaton, log_in}
 use Rattle.bus_automaton.specs.Lawful.{AutomatonLaws}
-use Rattle.bus_pageslot.specs.Rule.{Sat, Seats, KnowsLog, IsTrueOf, TableInvariant, receiver_view_in, known_in, with_receiver_view, senders_in, table_layout_in, capacity_in}
+use Rattle.bus_pageslot.specs.Rule.{Sat, Seats, KnowsLog, IsTrueOf, TableInvariant}
+use Rattle.bus_pageslot.specs.Rule.{receiver_view_in, known_in, with_receiver_view, senders_in}
+use Rattle.bus_pageslot.specs.Rule.{table_layout_in, capacity_in, log_word_in}
 use Rattle.bus_pageslot.specs.Steps.{Learns, Reads}
 use Rattle.bus_pageslot.specs.Listening.{FindsLength, FindsWord}
 use Rattle.bus_pageslot.proofs.AllSeats.{still_seen}
 use Rattle.bus_pageslot.proofs.Hearing.{heard_loaded, heard_learnt, heard_quiet, heard_good}
 
 -- one view replaced, after a load
-pub reloaded : {C : Type 0} (P : Process C) (A : Automaton C) (s : State (Option Page) (View C)) (r : TableInvariant P A s) (i id : ℕ) (v w : View C) → get_elem? s.views id ≡ some v → ((p : ℕ) → Seats P p v → Seats P p w) → IsTrueOf P A r.state r.seat id w
-    → TableInvariant P A record { words = slice_set s.words i (slice_index s.words i); homes = s.homes; views = set s.views id w }
+pub reloaded : {C : Type 0} (P : Process C) (A : Automaton C) (s : State (Option Page) (View C))
+    (r : TableInvariant P A s) (i id : ℕ) (v w : View C) → get_elem? s.views id ≡ some v
+    → ((p : ℕ) → Seats P p v → Seats P p w) → IsTrueOf P A r.state r.seat id w
+    → TableInvariant P A record {
+      words = slice_set s.words i (slice_index s.words i);
+      homes = s.homes;
+      views = set s.views id w;
+    }
 reloaded {C} P A s r i id v w at still fits = record {
   state = r.state;
   reached = r.reached;
@@ -33,41 +46,57 @@ reloaded {C} P A s r i id v w at still fits = record {
   slot = r.slot;
   seat = r.seat;
   views = λ j v e. ⊎_elim
-      (λ (u : (j ≡ id) × (w ≡ v)). subst (λ (y : ℕ × View C). IsTrueOf P A r.state r.seat y.0 y.1) (λ i. (sym u.0 i, u.1 i)) fits)
+      (λ (u : (j ≡ id) × (w ≡ v)). subst (λ (y : ℕ × View C). IsTrueOf P A r.state r.seat y.0 y.1)
+      (λ i. (sym u.0 i, u.1 i)) fits)
       (λ (u : (j ≢ id) × (get_elem? s.views j ≡ some v)). r.views j v u.1)
       (at_set s.views id j w v e);
   all = λ p below. still_seen P s.views id v w at p (still p) (r.all p below);
 }
 
 -- a receiver that knows the whole log, and has read what it had read
-knows_all : {C : Type 0} (A : Automaton C) (z : A.State) (x : TableLayout) (e e' : ReceiverView) → (h : KnowsLog A z x e) → e'.known ≡ log_in A z → e'.place ≡ e.place → HasHeard h.frames e' → KnowsLog A z x e'
+knows_all : {C : Type 0} (A : Automaton C) (z : A.State) (x : TableLayout) (e e' : ReceiverView)
+    → (h : KnowsLog A z x e) → e'.known ≡ log_in A z → e'.place ≡ e.place → HasHeard h.frames e'
+    → KnowsLog A z x e'
 knows_all A z x e e' h all place heard = record {
   table_layout = h.table_layout;
   front = record { rest = []; together = append-nil e'.known ∙ all };
-  below = (let a = h.below in let l = length-append e.known h.front.rest in let t = ap length h.front.together in let s = ap length all in omega arith);
+  below =
+      (let a = h.below in
+      let l = length-append e.known h.front.rest in
+      let t = ap length h.front.together in let s = ap length all in omega arith);
   frames = h.frames;
   lawful = h.lawful;
   words_are = h.words_are;
   heard = heard;
 }
 
-pub whole : {C : Type 0} (A : Automaton C) (z : A.State) (x : TableLayout) (e : ReceiverView) → KnowsLog A z x e → KnowsLog A z x (receiver_view_knowing e (log_in A z))
-whole A z x e h = knows_all A z x e (receiver_view_knowing e (log_in A z)) h refl refl (heard_learnt h.frames e h.heard (log_in A z))
-
--- the log is as long as the length that is found
-pub size : {C : Type 0} (P : Process C) (A : Automaton C) (s : State (Option Page) (View C)) (r : TableInvariant P A s) → length (log_in A r.state) ≡ slice_index s.words 0
-size P A s r = length-read (slice_index (A.words r.state)) A.table_layout.log (slice_index (A.words r.state) 0) ∙ ap (λ w. slice_index w 0) (sym r.words)
+pub whole : {C : Type 0} (A : Automaton C) (z : A.State) (x : TableLayout) (e : ReceiverView)
+    → KnowsLog A z x e → KnowsLog A z x (receiver_view_knowing e (log_in A z))
+whole A z x e h = knows_all A z x e (receiver_view_knowing e (log_in A z)) h refl refl
+    (heard_learnt h.frames e h.heard (log_in A z))
 
 module _ {C : Type 0} (P : Process C) (A : Automaton C) (L : AutomatonLaws P A) where
+  -- the log is as long as the length that is found
+  pub size : (s : State (Option Page) (View C)) (r : TableInvariant P A s)
+      → length (log_in A r.state) ≡ slice_index s.words 0
+  size s r =
+      sym (ap length (L.log r.state r.reached).stands)
+      ∙ length-read (slice_index (A.words r.state)) A.table_layout.log
+      (slice_index (A.words r.state) 0) ∙ ap (λ w. slice_index w 0) (sym r.words)
+
   -- and fits the log's words
-  pub fits : (s : State (Option Page) (View C)) (r : TableInvariant P A s) (x : TableLayout) → x ≡ A.table_layout → length (log_in A r.state) ≤ x.capacity
+  pub fits : (s : State (Option Page) (View C)) (r : TableInvariant P A s) (x : TableLayout)
+      → x ≡ A.table_layout → length (log_in A r.state) ≤ x.capacity
   fits s r x is =
       let most = (L.log r.state r.reached).fits in
-      let l = length-read (slice_index (A.words r.state)) A.table_layout.log (slice_index (A.words r.state) 0) in
+      let l = size s r in
+      let w = ap (λ w. slice_index w 0) r.words in
       let capacity = ap (λ (z : TableLayout). z.capacity) is in
       omega arith
 
-  pub length_allowed : (slots id : ℕ) (m : Sat C) (x : TableLayout) (e : ReceiverView) → m.0 ≡ Tap x e → Allows (TableInvariant P A) slots id m 0 (λ n. n) (λ n. Learns m n)
+  pub length_allowed : (slots id : ℕ) (m : Sat C) (x : TableLayout) (e : ReceiverView)
+      → m.0 ≡ Tap x e
+      → Allows (TableInvariant P A) slots id m 0 (λ n. n) (λ n m'. (0 ≡ length_at) × Learns m n m')
   length_allowed slots id m x e is s r count at range =
       let here : get_elem? s.views id ≡ some (Tap x e) = at ∙ ap (λ (v : View C). some v) is in
       let h : KnowsLog A r.state x e = r.views id (Tap x e) here in
@@ -75,18 +104,30 @@ module _ {C : Type 0} (P : Process C) (A : Automaton C) (L : AutomatonLaws P A) 
         Tap x (receiver_view_knowing e all),
         keeps,
         tt,
-        reloaded P A s r 0 id (Tap x e) (Tap x (receiver_view_knowing e all)) here (λ p is. is) (whole A r.state x e h),
-        record {
-          known = all;
-          now = λ i. (with_receiver_view (sym is i) (receiver_view_knowing (receiver_view_in (sym is i)) all), m.1);
-          grows = subst (λ (v : View C). IsPrefix (known_in v) all) (sym is) h.front;
-          length_is = size P A s r;
-          within = subst (λ (v : View C). length all ≤ capacity_in v) (sym is) (fits s r x h.table_layout);
-        },
+        reloaded P A s r 0 id (Tap x e) (Tap x (receiver_view_knowing e all)) here (λ p is. is)
+            (whole A r.state x e h),
+        (
+          refl,
+          record {
+            known = all;
+            now = λ i. (
+              with_receiver_view (sym is i)
+                  (receiver_view_knowing (receiver_view_in (sym is i)) all),
+              m.1,
+            );
+            grows = subst (λ (v : View C). IsPrefix (known_in v) all) (sym is) h.front;
+            length_is = size s r;
+            within = subst (λ (v : View C). length all ≤ capacity_in v) (sym is)
+                (fits s r x h.table_layout);
+          },
+        ),
       )
 
   -- by a turn
-  pub length_heard_allowed : (slots id : ℕ) (m : Sat C) (x : TableLayout) (e : ReceiverView) → m.0 ≡ Tap x e → e.ended ≡ false → Allows (TableInvariant P A) slots id m 0 (λ n. n) (λ n. FindsLength m n)
+  pub length_heard_allowed : (slots id : ℕ) (m : Sat C) (x : TableLayout) (e : ReceiverView)
+      → m.0 ≡ Tap x e → e.ended ≡ false
+      → Allows (TableInvariant P A) slots id m 0 (λ n. n)
+      (λ n m'. (0 ≡ length_at) × FindsLength m n m')
   length_heard_allowed slots id m x e is going s r count at range =
       let here : get_elem? s.views id ≡ some (Tap x e) = at ∙ ap (λ (v : View C). some v) is in
       let h : KnowsLog A r.state x e = r.views id (Tap x e) here in
@@ -96,68 +137,136 @@ module _ {C : Type 0} (P : Process C) (A : Automaton C) (L : AutomatonLaws P A) 
         Tap x e',
         keeps,
         tt,
-        reloaded P A s r 0 id (Tap x e) (Tap x e') here (λ p is. is) (knows_all A r.state x e e' h refl refl (heard_quiet h.frames e h.heard all got going)),
-        record {
-          known = all;
-          now = λ i. (with_receiver_view (sym is i) (heard_length (receiver_view_in (sym is i)) all (length_turn (receiver_view_in (sym is i)).place got)), m.1);
-          grows = subst (λ (v : View C). IsPrefix (known_in v) all) (sym is) h.front;
-          length_is = size P A s r;
-          within = subst (λ (v : View C). length all ≤ capacity_in v) (sym is) (fits s r x h.table_layout);
-        },
+        reloaded P A s r 0 id (Tap x e) (Tap x e') here (λ p is. is)
+            (knows_all A r.state x e e' h refl refl (heard_quiet h.frames e h.heard all got going)),
+        (
+          refl,
+          record {
+            known = all;
+            now = λ i. (
+              with_receiver_view (sym is i) (heard_length (receiver_view_in (sym is i)) all
+                  (length_turn (receiver_view_in (sym is i)).place got)),
+              m.1,
+            );
+            grows = subst (λ (v : View C). IsPrefix (known_in v) all) (sym is) h.front;
+            length_is = size s r;
+            within = subst (λ (v : View C). length all ≤ capacity_in v) (sym is)
+                (fits s r x h.table_layout);
+          },
+        ),
       )
 
 -- the word that a receiver knows at a place
-known_word : {C : Type 0} (P : Process C) (A : Automaton C) (s : State (Option Page) (View C)) (r : TableInvariant P A s) (x : TableLayout) (e : ReceiverView) → KnowsLog A r.state x e → (place : ℕ) → place < length e.known → slice_index s.words (x.log + place) ≡ slice_index e.known place
-known_word {C} P A s r x e h place below =
+known_word : {C : Type 0} (P : Process C) (A : Automaton C) (L : AutomatonLaws P A)
+    (s : State (Option Page) (View C)) (r : TableInvariant P A s) (x : TableLayout)
+    (e : ReceiverView) → KnowsLog A r.state x e → (place : ℕ) → place < length e.known
+    → slice_index s.words (x.log + place) ≡ slice_index e.known place
+known_word {C} P A L s r x e h place below =
     let W : ℕ → ℕ = slice_index (A.words r.state) in
+    let stands = (L.log r.state r.reached).stands in
     let long = length-read W A.table_layout.log (W 0) in
+    let whole = ap length stands in
     let log : x.log ≡ A.table_layout.log = ap (λ (z : TableLayout). z.log) h.table_layout in
     let more = ap length h.front.together in let parts = length-append e.known h.front.rest in
     let low : place < W 0 = omega arith in
-    ap (λ w. slice_index w (x.log + place)) r.words ∙ ap (λ z. W (z + place)) log ∙ sym (index-read W A.table_layout.log (W 0) place low) ∙ ap (λ z. slice_index z place) (sym h.front.together) ∙ get_or_append_left e.known h.front.rest 0 place below
+    ap (λ w. slice_index w (x.log + place)) r.words ∙ ap (λ z. W (z + place)) log
+    ∙ sym (index-read W A.table_layout.log (W 0) place low) ∙ ap (λ z. slice_index z place) stands
+    ∙ ap (λ z. slice_index z place) (sym h.front.together)
+    ∙ get_or_append_left e.known h.front.rest 0 place below
 
-pub word_allowed : {C : Type 0} (P : Process C) (A : Automaton C) (slots id : ℕ) (m : Sat C) (x : TableLayout) (e : ReceiverView) (place : ℕ) → m.0 ≡ Tap x e → place < length e.known
-    → Allows (TableInvariant P A) slots id m (x.log + place) (λ n. n) (λ n. Reads m (x.log + place) n)
-word_allowed {C} P A slots id m x e place is below s r count at range =
+pub word_allowed : {C : Type 0} (P : Process C) (A : Automaton C) (L : AutomatonLaws P A)
+    (slots id : ℕ) (m : Sat C) (x : TableLayout) (e : ReceiverView) (place : ℕ) → m.0 ≡ Tap x e
+    → place < length e.known
+    → Allows (TableInvariant P A) slots id m (x.log + place) (λ n. n)
+    (λ n. Reads m (x.log + place) n)
+word_allowed {C} P A L slots id m x e place is below s r count at range =
     let at_view : get_elem? s.views id ≡ some (Tap x e) = at ∙ ap (λ (v : View C). some v) is in
     let h : KnowsLog A r.state x e = r.views id (Tap x e) at_view in
     let here : x.log + place - x.log ≡ place = omega arith in (
-      Tap x (receiver_view_after_load e),
+      Tap x (receiver_view_after_load e (x.log + place)),
       keeps,
       tt,
-      reloaded P A s r (x.log + place) id (Tap x e) (Tap x (receiver_view_after_load e)) at_view (λ p is. is) (record { table_layout = h.table_layout; front = h.front; below = h.below; frames = h.frames; lawful = h.lawful; words_are = h.words_are; heard = heard_loaded h.frames e h.heard }),
+      reloaded P A s r (x.log + place) id (Tap x e)
+          (Tap x (receiver_view_after_load e (x.log + place))) at_view (λ p is. is) (record {
+            table_layout = h.table_layout;
+            front = h.front;
+            below = h.below;
+            frames = h.frames;
+            lawful = h.lawful;
+            words_are = h.words_are;
+            heard = heard_loaded h.frames e h.heard (x.log + place);
+          }),
       record {
-        now = λ i. (with_receiver_view (sym is i) (receiver_view_after_load (receiver_view_in (sym is i))), m.1);
-        got_is = known_word P A s r x e h place below ∙ ap (slice_index e.known) (sym here) ∙ ap (λ (v : View C). slice_index (known_in v) (x.log + place - (table_layout_in v).log)) (sym is);
+        now = λ i. (
+          with_receiver_view (sym is i)
+              (receiver_view_after_load (receiver_view_in (sym is i)) (x.log + place)),
+          m.1,
+        );
+        got_is =
+            known_word P A L s r x e h place below ∙ ap (slice_index e.known) (sym here)
+            ∙ ap
+            (λ (v : View C). slice_index (known_in v) (x.log + place - (table_layout_in v).log))
+            (sym is);
       },
     )
 
 -- by a turn: the word gives what it gives in the log
-pub word_heard_allowed : {C : Type 0} (P : Process C) (A : Automaton C) (slots id : ℕ) (m : Sat C) (x : TableLayout) (e : ReceiverView) → m.0 ≡ Tap x e → e.ended ≡ false → e.place < length e.known
-    → Allows (TableInvariant P A) slots id m (x.log + e.place) (λ n. n) (λ n. FindsWord m n)
-word_heard_allowed {C} P A slots id m x e is going below s r count at range =
+pub word_heard_allowed : {C : Type 0} (P : Process C) (A : Automaton C) (L : AutomatonLaws P A)
+    (slots id : ℕ) (m : Sat C) (x : TableLayout) (e : ReceiverView) → m.0 ≡ Tap x e
+    → e.ended ≡ false → e.place < length e.known
+    → Allows (TableInvariant P A) slots id m (x.log + e.place) (λ n. n)
+    (λ n m'. (x.log + e.place ≡ log_word_in m.0 (receiver_view_in m.0).place) × FindsWord m n m')
+word_heard_allowed {C} P A L slots id m x e is going below s r count at range =
     let here : get_elem? s.views id ≡ some (Tap x e) = at ∙ ap (λ (v : View C). some v) is in
     let h : KnowsLog A r.state x e = r.views id (Tap x e) here in
-    let more = ap length h.front.together in let parts = length-append e.known h.front.rest in let words = ap length h.words_are in let pieces = length-log_pieces h.frames in
+    let more = ap length h.front.together in
+    let parts = length-append e.known h.front.rest in
+    let words = ap length h.words_are in let pieces = length-log_pieces h.frames in
     let there : e.place < length (log_pieces h.frames) = omega arith in
     elim (some_or_none (slice_get (log_pieces h.frames) e.place)) [
       | inl nobody ↦ absurd (here_not (log_pieces h.frames) e.place there nobody)
       | inr found ↦
-          let e' : ReceiverView = heard_word e found.0 (turn_of found.0) in (
+          let e' : ReceiverView = heard_word e (x.log + e.place) found.0 (turn_of found.0) in (
             Tap x e',
             keeps,
             tt,
             reloaded P A s r (x.log + e.place) id (Tap x e) (Tap x e') here (λ p is. is)
-                (record { table_layout = h.table_layout; front = h.front; below = (omega arith); frames = h.frames; lawful = h.lawful; words_are = h.words_are; heard = heard_good h.frames e h.heard found.0 going found.1 }),
-            record {
-              got_is = known_word P A s r x e h e.place below ∙ ap (λ (v : View C). slice_index (known_in v) (receiver_view_in v).place) (sym is);
-              found = found.0;
-              frames = h.frames;
-              rest = h.front.rest;
-              lawful = subst (λ (n : ℕ). AreFrames n h.frames) (ap (λ (z : TableLayout). z.senders) (sym h.table_layout) ∙ ap (λ (v : View C). senders_in v) (sym is)) h.lawful;
-              words_are = h.words_are ∙ sym h.front.together ∙ ap (λ (v : View C). known_in v ++ h.front.rest) (sym is);
-              at = ap (λ (v : View C). slice_get (log_pieces h.frames) (receiver_view_in v).place) is ∙ found.1;
-              now = λ i. (with_receiver_view (sym is i) (heard_word (receiver_view_in (sym is i)) found.0 (turn_of found.0)), m.1);
-            },
+                (record {
+                  table_layout = h.table_layout;
+                  front = h.front;
+                  below = (omega arith);
+                  frames = h.frames;
+                  lawful = h.lawful;
+                  words_are = h.words_are;
+                  heard = heard_good h.frames e h.heard (x.log + e.place) found.0 going found.1;
+                }),
+            (
+              ap (λ (v : View C). log_word_in v (receiver_view_in v).place) (sym is),
+              record {
+                got_is =
+                    known_word P A L s r x e h e.place below
+                    ∙ ap (λ (v : View C). slice_index (known_in v) (receiver_view_in v).place)
+                    (sym is);
+                found = found.0;
+                frames = h.frames;
+                rest = h.front.rest;
+                lawful = subst (λ (n : ℕ). AreFrames n h.frames)
+                    (ap (λ (z : TableLayout). z.senders) (sym h.table_layout)
+                    ∙ ap (λ (v : View C). senders_in v) (sym is)) h.lawful;
+                words_are =
+                    h.words_are ∙ sym h.front.together
+                    ∙ ap (λ (v : View C). known_in v ++ h.front.rest) (sym is);
+                at =
+                    ap (λ (v : View C). slice_get (log_pieces h.frames) (receiver_view_in v).place)
+                    is
+                    ∙ found.1;
+                now = λ i. (
+                  with_receiver_view (sym is i) (heard_word (receiver_view_in (sym is i))
+                      (log_word_in (sym is i) (receiver_view_in (sym is i)).place) found.0
+                      (turn_of found.0)),
+                  m.1,
+                );
+              },
+            ),
           )
     ]

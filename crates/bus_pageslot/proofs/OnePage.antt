@@ -1,5 +1,7 @@
--- What the seats show and the words below the length fix the page of promises; and without a seat of each sender there is none.
-use Rattle.std.proofs.Common.{◌≡◌, ℕ, zero, suc, ◌<◌, Option, List, [], ◌∷◌, inl, inr, arith, sym, ◌∙◌, ap, subst}
+-- What the seats show and the words below the length fix the page of promises; and without a seat
+-- of each sender there is none.
+use Rattle.std.proofs.Common.{◌≡◌, ℕ, zero, suc, ◌<◌, Option, List, [], ◌∷◌, inl, inr, arith, sym}
+use Rattle.std.proofs.Common.{◌∙◌, ap, subst}
 use mathlib.Core.Option.{some, some-injective, some-ne-none}
 use lib.ListN.{get_elem?}
 use Rattle.std.proofs.lemmas.Bool.{cases_lt}
@@ -9,13 +11,15 @@ use Rattle.bus_tenure.specs.declared.pages.Page.{Page}
 use Rattle.bus_world.specs.Headline.{Action}
 use Rattle.bus_automaton.specs.SenderTrails.{SenderTrail}
 use Rattle.bus_pageslot.specs.declared.rule.View.{View}
-use Rattle.bus_pageslot.specs.declared.rule.View.TheVariants.{Maker, Sender, Tap, Meeting, Telling, Spent}
+use Rattle.bus_pageslot.specs.declared.rule.View.TheVariants.{Maker, Sender, Tap, Meeting, Telling}
+use Rattle.bus_pageslot.specs.declared.rule.View.TheVariants.{Spent}
 use Rattle.bus_pageslot.specs.Rule.{Seats, TableInvariant}
 use Rattle.bus_automaton.specs.Processes.{TableLayout, Process, Automaton, log_below}
 use Rattle.bus_pageslot.specs.Promised.{Fits, ShowsActions, IsPromised}
 
 -- what a view shows of a sender is what it is true of
-same_at : {C : Type 0} (P : Process C) (actions actions' : ℕ → List Action) (log : List ℕ) (p : ℕ) (v : View C) → ShowsActions P p (actions p) v → Fits P actions' log v → actions p ≡ actions' p
+same_at : {C : Type 0} (P : Process C) (actions actions' : ℕ → List Action) (log : List ℕ) (p : ℕ)
+    (v : View C) → ShowsActions P p (actions p) v → Fits P actions' log v → actions p ≡ actions' p
 same_at P actions actions' log p (Maker x made) h f = h.1 ∙ sym (f p h.0)
 same_at P actions actions' log p (Sender c t stored) h f = h.1 ∙ sym f ∙ ap actions' h.0
 same_at P actions actions' log p (Tap x e) h f = absurd h
@@ -27,26 +31,42 @@ the_one : {A : Type 0} (a b : A) (j : ℕ) → get_elem? (a ∷ []) j ≡ some b
 the_one a b zero e = some-injective a b e
 the_one a b (suc j) e = absurd (some-ne-none b (sym e))
 
-module _ {C : Type 0} (P : Process C) (x : TableLayout) (base : ℕ → ℕ) (s : State (Option Page) (View C)) where
+module _ {C : Type 0} (P : Process C) (x : TableLayout) (base : ℕ → ℕ)
+    (s : State (Option Page) (View C)) where
   same_actions : (h k : IsPromised P x base s) (p : ℕ) → h.actions p ≡ k.actions p
   same_actions h k p = elim (cases_lt p x.senders) [
-    | inl below ↦ let w = h.shown p below in same_at P h.actions k.actions (log_below x s.words) p w.1 w.3 (k.views w.0 w.1 w.2)
+    | inl below ↦
+        let w = h.shown p below in
+        same_at P h.actions k.actions (log_below x s.words) p w.1 w.3 (k.views w.0 w.1 w.2)
     | inr past ↦ h.nobody p past ∙ sym (k.nobody p past)
   ]
 
-  pub one_page : (h k : IsPromised P x base s) → ((p : ℕ) → h.actions p ≡ k.actions p) × (h.order ≡ k.order) × (h.owners ≡ k.owners)
-  one_page h k = let o = spells_one x.senders (log_below x s.words) h.order k.order h.owners k.owners h.spelled k.spelled in (same_actions h k, o.0, o.1)
+  pub one_page : (h k : IsPromised P x base s)
+      → ((p : ℕ) → h.actions p ≡ k.actions p) × (h.order ≡ k.order) × (h.owners ≡ k.owners)
+  one_page h k =
+      let o = spells_one x.senders (log_below x s.words) h.order k.order h.owners k.owners h.spelled
+      k.spelled in
+      (same_actions h k, o.0, o.1)
 
   -- the seat of sender 0 alone, of two or more
-  module _ (many : 1 < x.senders) (c : C) (sender_trail : SenderTrail) (stored : ℕ) (me : P.me c ≡ 0) (is : s.views ≡ Sender c sender_trail stored ∷ []) where
+  module _ (many : 1 < x.senders) (c : C) (sender_trail : SenderTrail) (stored : ℕ)
+      (me : P.me c ≡ 0) (is : s.views ≡ Sender c sender_trail stored ∷ []) where
     only : (j : ℕ) (v : View C) → get_elem? s.views j ≡ some v → Sender c sender_trail stored ≡ v
-    only j v at = the_one (Sender c sender_trail stored) v j (subst (λ (vs : List (View C)). get_elem? vs j ≡ some v) is at)
+    only j v at = the_one (Sender c sender_trail stored) v j
+        (subst (λ (vs : List (View C)). get_elem? vs j ≡ some v) is at)
 
     pub no_page : ¬ IsPromised P x base s
-    no_page r = let h = r.shown 1 many in let one : (P.me c ≡ 1) × (r.actions 1 ≡ sender_trail.actions) = subst (ShowsActions P 1 (r.actions 1)) (sym (only h.0 h.1 h.2)) h.3 in let wrong = one.0 in omega arith
+    no_page r =
+        let h = r.shown 1 many in
+        let one : (P.me c ≡ 1) × (r.actions 1 ≡ sender_trail.actions) =
+        subst (ShowsActions P 1 (r.actions 1)) (sym (only h.0 h.1 h.2)) h.3 in
+        let wrong = one.0 in omega arith
 
-pub no_bus : {C : Type 0} (P : Process C) (A : Automaton C) (s : State (Option Page) (View C)) → 1 < A.table_layout.senders → (c : C) (sender_trail : SenderTrail) (stored : ℕ) → P.me c ≡ 0 → s.views ≡ Sender c sender_trail stored ∷ [] → ¬ TableInvariant P A s
+pub no_bus : {C : Type 0} (P : Process C) (A : Automaton C) (s : State (Option Page) (View C))
+    → 1 < A.table_layout.senders → (c : C) (sender_trail : SenderTrail) (stored : ℕ) → P.me c ≡ 0
+    → s.views ≡ Sender c sender_trail stored ∷ [] → ¬ TableInvariant P A s
 no_bus {C} P A s many c sender_trail stored me is r =
     let h = r.all 1 many in
-    let only : Sender c sender_trail stored ≡ h.1 = the_one (Sender c sender_trail stored) h.1 h.0 (subst (λ (vs : List (View C)). get_elem? vs h.0 ≡ some h.1) is h.2) in
+    let only : Sender c sender_trail stored ≡ h.1 = the_one (Sender c sender_trail stored) h.1 h.0
+    (subst (λ (vs : List (View C)). get_elem? vs h.0 ≡ some h.1) is h.2) in
     let one : P.me c ≡ 1 = subst (Seats P 1) (sym only) h.3 in omega arith

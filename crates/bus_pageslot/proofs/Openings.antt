@@ -1,5 +1,7 @@
 -- The table at its start, and how senders get their seats.
-use Rattle.std.proofs.Common.{◌≡◌, ◌≢◌, ℕ, zero, suc, ◌+◌, ◌<◌, false, length-set, Option, Some, List, [], ◌∷◌, ◌++◌, length, set, slice_get, get_or, replicate, arith, refl, sym, ◌∙◌, ap, subst, ⊎_elim, inl, inr, ◌⊎◌}
+use Rattle.std.proofs.Common.{◌≡◌, ◌≢◌, ℕ, zero, suc, ◌+◌, ◌<◌, false, length-set, Option, Some}
+use Rattle.std.proofs.Common.{List, [], ◌∷◌, ◌++◌, length, set, slice_get, get_or, replicate}
+use Rattle.std.proofs.Common.{arith, refl, sym, ◌∙◌, ap, subst, ⊎_elim, inl, inr, ◌⊎◌}
 use mathlib.Core.Option.{some, some-injective, some-ne-none}
 use lib.ListN.{get_elem?}
 use Rattle.std.proofs.lemmas.Bool.{cases_eq, cases_lt}
@@ -16,10 +18,13 @@ use Rattle.bus_tenure.specs.declared.pages.Page.{Page}
 use Rattle.bus_world.specs.World.{first_page}
 use Rattle.bus_pageslot.specs.ReceiverViews.{new_receiver_view}
 use Rattle.bus_pageslot.specs.declared.rule.View.{View}
-use Rattle.bus_pageslot.specs.declared.rule.View.TheVariants.{Maker, Sender, Tap, Meeting, Telling, Spent}
-use Rattle.bus_automaton.specs.Processes.{TableLayout, Process, Automaton, IsCounted, base_in, log_in}
+use Rattle.bus_pageslot.specs.declared.rule.View.TheVariants.{Maker, Sender, Tap, Meeting, Telling}
+use Rattle.bus_pageslot.specs.declared.rule.View.TheVariants.{Spent}
+use Rattle.bus_automaton.specs.Processes.{TableLayout, Process, Automaton, IsCounted, base_in}
+use Rattle.bus_automaton.specs.Processes.{log_in}
 use Rattle.bus_automaton.specs.Lawful.{AutomatonLaws, Opens}
-use Rattle.bus_pageslot.specs.Rule.{slot_of, Sat, tap_left, tap_right, sender_trail_in, stored_in, cut_left, cut_right, KnowsLog, IsTrueOf, TableInvariant}
+use Rattle.bus_pageslot.specs.Rule.{slot_of, Sat, tap_left, tap_right, sender_trail_in, stored_in}
+use Rattle.bus_pageslot.specs.Rule.{cut_left, cut_right, KnowsLog, IsTrueOf, TableInvariant}
 use Rattle.bus_pageslot.specs.Steps.{Numbers, carried_of}
 use Rattle.bus_pageslot.specs.Steps.Accepts.{Nothing}
 use Rattle.bus_pageslot.specs.Seats.{SenderSeat, ReceiverSeat, Shows, table_of}
@@ -30,26 +35,46 @@ use Rattle.bus_pageslot.proofs.Hearing.{heard_new}
 use Rattle.bus_pageslot.proofs.Numbering.{numbers_next}
 use Rattle.atomic_table.specs.Seated.{TableId}
 
-at_end : {A : Type 0} (l : List A) (a b : A) (j : ℕ) → get_elem? (l ++ a ∷ []) j ≡ some b → (get_elem? l j ≡ some b) ⊎ ((j ≡ length l) × (a ≡ b))
+at_end : {A : Type 0} (l : List A) (a b : A) (j : ℕ) → get_elem? (l ++ a ∷ []) j ≡ some b
+    → (get_elem? l j ≡ some b) ⊎ ((j ≡ length l) × (a ≡ b))
 at_end [] a b zero e = inr (refl, some-injective a b e)
 at_end [] a b (suc j) e = absurd (some-ne-none b (sym e))
 at_end (x ∷ xs) a b zero e = inl e
 at_end (x ∷ xs) a b (suc j) e = ⊎_elim (λ h. inl h) (λ t. inr (ap suc t.0, t.1)) (at_end xs a b j e)
 
 -- a receiver that knows nothing, of a log with these frames
-knows_new : {C : Type 0} (A : Automaton C) (z : A.State) (x : TableLayout) → x ≡ A.table_layout → (frames : List Frame) → AreFrames A.table_layout.senders frames → log_words frames ≡ log_in A z → KnowsLog A z x new_receiver_view
-knows_new A z x table_layout frames lawful words = record { table_layout = table_layout; front = record { rest = log_in A z; together = refl }; below = omega arith; frames = frames; lawful = lawful; words_are = words; heard = heard_new frames }
+knows_new : {C : Type 0} (A : Automaton C) (z : A.State) (x : TableLayout) → x ≡ A.table_layout
+    → (frames : List Frame) → AreFrames A.table_layout.senders frames
+    → log_words frames ≡ log_in A z → KnowsLog A z x new_receiver_view
+knows_new A z x table_layout frames lawful words = record {
+  table_layout = table_layout;
+  front = record { rest = log_in A z; together = refl };
+  below = omega arith;
+  frames = frames;
+  lawful = lawful;
+  words_are = words;
+  heard = heard_new frames;
+}
 
 module _ {C : Type 0} (P : Process C) (A : Automaton C) (L : AutomatonLaws P A) where
   abbrev first : View C
   first = Maker A.table_layout 0
 
   module _ (o : Opens P A) where
-    only : (j : ℕ) (v : View C) → get_elem? (first ∷ []) j ≡ some v → IsTrueOf P A o.state (λ p. 0) j v
-    only zero v e = subst (IsTrueOf P A o.state (λ p. 0) 0) (some-injective first v e) (refl, λ p low high. record { here = refl; core = o.senders p high; sender_trail_is = o.sender_trail p })
+    only : (j : ℕ) (v : View C) → get_elem? (first ∷ []) j ≡ some v
+        → IsTrueOf P A o.state (λ p. 0) j v
+    only zero v e = subst (IsTrueOf P A o.state (λ p. 0) 0) (some-injective first v e) (
+      refl,
+      λ p low high. record {
+        here = refl;
+        core = o.senders p high;
+        sender_trail_is = o.sender_trail p;
+      },
+    )
     only (suc j) v e = absurd (some-ne-none v (sym e))
 
-    pub opens : (ws : List ℕ) → ws ≡ replicate A.table_layout.words 0 → TableInvariant P A (opening ws (Some (first_page A.bases) ∷ []) first)
+    pub opens : (ws : List ℕ) → ws ≡ replicate A.table_layout.words 0
+        → TableInvariant P A (opening ws (Some (first_page A.bases) ∷ []) first)
     opens ws zeros = record {
       state = o.state;
       reached = o.reached;
@@ -60,20 +85,45 @@ module _ {C : Type 0} (P : Process C) (A : Automaton C) (L : AutomatonLaws P A) 
       all = λ p below. (0, first, refl, omega arith);
     }
 
-  module _ (z : A.State) (seat : ℕ → ℕ) (k id count : ℕ) (mine : seat k ≡ id) (j : ℕ) (other : j ≢ id) where
+  module _ (z : A.State) (seat : ℕ → ℕ) (k id count : ℕ) (mine : seat k ≡ id) (j : ℕ)
+      (other : j ≢ id) where
     seats_still : (q : ℕ) → seat q ≡ j → put k count seat q ≡ j
     seats_still q at = put_beside k count seat q (λ e. other (sym at ∙ ap seat e ∙ mine)) ∙ at
 
     cut_others : (v : View C) → IsTrueOf P A z seat j v → IsTrueOf P A z (put k count seat) j v
-    cut_others (Maker x made) h = (h.0, λ q low high. let u = h.1 q low high in record { here = seats_still q u.here; core = u.core; sender_trail_is = u.sender_trail_is })
-    cut_others (Sender c t stored) h = record { here = seats_still (P.me c) h.here; core = h.core; sender_trail_is = h.sender_trail_is; reached = h.reached }
+    cut_others (Maker x made) h = (
+      h.0,
+      λ q low high.
+          let u = h.1 q low high in
+          record {
+            here = seats_still q u.here;
+            core = u.core;
+            sender_trail_is = u.sender_trail_is;
+          },
+    )
+    cut_others (Sender c t stored) h = record {
+      here = seats_still (P.me c) h.here;
+      core = h.core;
+      sender_trail_is = h.sender_trail_is;
+      reached = h.reached;
+    }
     cut_others (Tap x e) h = h
     cut_others (Meeting x e y f) h = h
-    cut_others (Telling c t stored x e) h = (record { here = seats_still (P.me c) h.0.here; core = h.0.core; sender_trail_is = h.0.sender_trail_is; reached = h.0.reached }, h.1)
+    cut_others (Telling c t stored x e) h = (
+      record {
+        here = seats_still (P.me c) h.0.here;
+        core = h.0.core;
+        sender_trail_is = h.0.sender_trail_is;
+        reached = h.0.reached;
+      },
+      h.1,
+    )
     cut_others Spent h = tt
 
   -- a seat for one more sender
-  pub cut_allowed : (id : ℕ) (x : TableLayout) (made : ℕ) → made < A.table_layout.senders → Splits (TableInvariant P A) id (Maker x made) (cut_left (Maker x made)) (cut_right (Some (A.started made)) (base_in A made))
+  pub cut_allowed : (id : ℕ) (x : TableLayout) (made : ℕ) → made < A.table_layout.senders
+      → Splits (TableInvariant P A) id (Maker x made) (cut_left (Maker x made))
+      (cut_right (Some (A.started made)) (base_in A made))
   cut_allowed id x made below s r at =
       let old = r.views id (Maker x made) at in
       let c : C = A.started made in
@@ -90,16 +140,34 @@ module _ {C : Type 0} (P : Process C) (A : Automaton C) (L : AutomatonLaws P A) 
         slot = r.slot;
         seat = seat;
         all = λ p in_range. elim (cases_eq p made) [
-          | inl e ↦ (count, right, at_last (set s.views id left) right count (length-set s.views id left), me ∙ sym e)
-          | inr n ↦ seen_longer P (set s.views id left) right p (still_seen P s.views id (Maker x made) left at p (λ is. omega (arith, n)) (r.all p in_range))
+          | inl e ↦ (
+            count,
+            right,
+            at_last (set s.views id left) right count (length-set s.views id left),
+            me ∙ sym e,
+          )
+          | inr n ↦ seen_longer P (set s.views id left) right p
+              (still_seen P s.views id (Maker x made) left at p (λ is. omega (arith, n))
+              (r.all p in_range))
         ];
         views = λ j v e. elim (at_end (set s.views id left) right v j e) [
           | inl u ↦ ⊎_elim
-              (λ (y : (j ≡ id) × (left ≡ v)). subst (λ (z : ℕ × View C). IsTrueOf P A r.state seat z.0 z.1) (λ i. (sym y.0 i, y.1 i))
-              (old.0, λ q low high. let w = old.1 q (omega arith) high in record { here = put_beside made count r.seat q (λ y. omega (arith, y)) ∙ w.here; core = w.core; sender_trail_is = w.sender_trail_is }))
-              (λ (y : (j ≢ id) × (get_elem? s.views j ≡ some v)). cut_others r.state r.seat made id count mine.here j y.0 v (r.views j v y.1))
+              (λ (y : (j ≡ id) × (left ≡ v)). subst
+              (λ (z : ℕ × View C). IsTrueOf P A r.state seat z.0 z.1) (λ i. (sym y.0 i, y.1 i)) (
+                old.0,
+                λ q low high.
+                    let w = old.1 q (omega arith) high in
+                    record {
+                      here = put_beside made count r.seat q (λ y. omega (arith, y)) ∙ w.here;
+                      core = w.core;
+                      sender_trail_is = w.sender_trail_is;
+                    },
+              ))
+              (λ (y : (j ≢ id) × (get_elem? s.views j ≡ some v)).
+              cut_others r.state r.seat made id count mine.here j y.0 v (r.views j v y.1))
               (at_set s.views id j left v u)
-          | inr u ↦ subst (λ (z : ℕ × View C). IsTrueOf P A r.state seat z.0 z.1) (λ i. (sym (u.0 ∙ length-set s.views id left) i, u.1 i))
+          | inr u ↦ subst (λ (z : ℕ × View C). IsTrueOf P A r.state seat z.0 z.1)
+              (λ i. (sym (u.0 ∙ length-set s.views id left) i, u.1 i))
               (record {
                 here = ap seat me ∙ put_here made count r.seat;
                 core = ap (A.sender r.state) me ∙ mine.core;
@@ -110,7 +178,9 @@ module _ {C : Type 0} (P : Process C) (A : Automaton C) (L : AutomatonLaws P A) 
       }
 
   -- a seat for one more receiver
-  pub tap_allowed : (id : ℕ) (x : TableLayout) (made : ℕ) → Splits (TableInvariant P A) id (Maker x made) (tap_left (Maker x made)) (tap_right (Maker x made))
+  pub tap_allowed : (id : ℕ) (x : TableLayout) (made : ℕ)
+      → Splits (TableInvariant P A) id (Maker x made) (tap_left (Maker x made))
+      (tap_right (Maker x made))
   tap_allowed id x made s r at =
       let log = L.log r.state r.reached in
       let maker : View C = Maker x made in
@@ -122,20 +192,28 @@ module _ {C : Type 0} (P : Process C) (A : Automaton C) (L : AutomatonLaws P A) 
         words = r.words;
         slot = r.slot;
         seat = r.seat;
-        all = λ p below. seen_longer P (set s.views id maker) tap p (still_seen P s.views id maker maker at p (λ is. is) (r.all p below));
+        all = λ p below. seen_longer P (set s.views id maker) tap p
+            (still_seen P s.views id maker maker at p (λ is. is) (r.all p below));
         views = λ j v e. elim (at_end (set s.views id maker) tap v j e) [
           | inl u ↦ ⊎_elim
-              (λ (y : (j ≡ id) × (maker ≡ v)). subst (λ (z : ℕ × View C). IsTrueOf P A r.state r.seat z.0 z.1) (λ i. (sym y.0 i, y.1 i)) old)
+              (λ (y : (j ≡ id) × (maker ≡ v)). subst
+              (λ (z : ℕ × View C). IsTrueOf P A r.state r.seat z.0 z.1) (λ i. (sym y.0 i, y.1 i))
+              old)
               (λ (y : (j ≢ id) × (get_elem? s.views j ≡ some v)). r.views j v y.1)
               (at_set s.views id j maker v u)
-          | inr u ↦ subst (IsTrueOf P A r.state r.seat j) u.1 (knows_new A r.state x old.0 log.frames log.lawful log.words_are)
+          | inr u ↦ subst (IsTrueOf P A r.state r.seat j) u.1
+              (knows_new A r.state x old.0 log.frames log.lawful log.words_are)
         ];
       }
 
 -- a sender shows the seat that was made for it
-pub shows_new : {C : Type 0} (P : Process C) (A : Automaton C) → AutomatonLaws P A → Opens P A → (k : ℕ) → k < A.table_layout.senders → (c : C) (s : Seat (Option Page) (View C)) → c ≡ A.started k → s.me ≡ (cut_right (Some (A.started k)) (base_in A k), []) → s.table_id.words ≡ A.table_layout.words → s.table_id.slots ≡ 1 → Shows P c s
+pub shows_new : {C : Type 0} (P : Process C) (A : Automaton C) → AutomatonLaws P A → Opens P A
+    → (k : ℕ) → k < A.table_layout.senders → (c : C) (s : Seat (Option Page) (View C))
+    → c ≡ A.started k → s.me ≡ (cut_right (Some (A.started k)) (base_in A k), [])
+    → s.table_id.words ≡ A.table_layout.words → s.table_id.slots ≡ 1 → Shows P c s
 shows_new {C} P A L o k below c s is me words slots =
-    let now : s.me ≡ (Sender c (new_sender_trail (base_in A k)) 0, []) = me ∙ ap (λ (y : C). (Sender y (new_sender_trail (base_in A k)) 0, [])) (sym is) in
+    let now : s.me ≡ (Sender c (new_sender_trail (base_in A k)) 0, []) =
+    me ∙ ap (λ (y : C). (Sender y (new_sender_trail (base_in A k)) 0, [])) (sym is) in
     let away : P.holds c ≡ false = ap P.holds is ∙ L.started_away k in
     record {
       shown = c;
@@ -143,42 +221,69 @@ shows_new {C} P A L o k below c s is me words slots =
       accepts = Nothing;
       counted = subst (IsCounted P) (sym is) (o.counted k);
       laid = ap P.awaits is ∙ L.started_laid k;
-      numbered = subst (λ (y : C × SenderTrail). Numbers P y.0 y.1) (λ i. (sym is i, sym (ap (λ (m : Sat C). sender_trail_in m.0) now) i))
-          (numbers_next P A L o.state o.reached k (A.started k) (L.started_me k) (o.senders k below) (new_sender_trail (base_in A k)) (o.sender_trail k));
-      me = now ∙ (λ i. (Sender c (sender_trail_in (sym now i).0) (stored_in (sym now i).0), carried_of (sym away i)));
-      words = words ∙ ap (λ (x : TableLayout). x.words) (sym (ap P.table_layout is ∙ L.started_table_layout k));
+      numbered = subst (λ (y : C × SenderTrail). Numbers P y.0 y.1)
+          (λ i. (sym is i, sym (ap (λ (m : Sat C). sender_trail_in m.0) now) i))
+          (numbers_next P A L o.state o.reached k (A.started k) (L.started_me k) (o.senders k below)
+          (new_sender_trail (base_in A k)) (o.sender_trail k));
+      me =
+          now
+          ∙ (λ i. (
+            Sender c (sender_trail_in (sym now i).0) (stored_in (sym now i).0),
+            carried_of (sym away i),
+          ));
+      words =
+          words
+          ∙ ap (λ (x : TableLayout). x.words)
+          (sym (ap P.table_layout is ∙ L.started_table_layout k));
       slots = slots;
     }
 
-pub one_more : {C : Type 0} (P : Process C) (A : Automaton C) (table : TableId) (many : ℕ) (senders : List (SenderSeat C)) (s : SenderSeat C) → AreNewSeats P A table many senders → IsNewSeat P A table many s → AreNewSeats P A table (many + 1) (senders ++ s ∷ [])
+pub one_more : {C : Type 0} (P : Process C) (A : Automaton C) (table : TableId) (many : ℕ)
+    (senders : List (SenderSeat C)) (s : SenderSeat C) → AreNewSeats P A table many senders
+    → IsNewSeat P A table many s → AreNewSeats P A table (many + 1) (senders ++ s ∷ [])
 one_more P A table many senders s h new = record {
   many_are = length-append senders (s ∷ []) ∙ (let z = h.many_are in omega arith);
   each = λ p y e.
-      let within = slice_get_within (senders ++ s ∷ []) p y e in let size = length-append senders (s ∷ []) in
+      let within = slice_get_within (senders ++ s ∷ []) p y e in
+      let size = length-append senders (s ∷ []) in
       elim (cases_lt p (length senders)) [
         | inl l ↦ h.each p y (sym (push_beside senders s p (λ i. absurd (omega arith))) ∙ e)
         | inr l ↦
             let here : p ≡ length senders = omega arith in
-            subst (λ z. IsNewSeat P A table z y) (sym here) (subst (IsNewSeat P A table (length senders)) (same_Some _ _ (sym (push_here senders s (length senders) refl) ∙ ap (slice_get (senders ++ s ∷ [])) (sym here) ∙ e))
+            subst (λ z. IsNewSeat P A table z y) (sym here)
+            (subst (IsNewSeat P A table (length senders))
+            (same_Some _ _ (sym (push_here senders s (length senders) refl)
+            ∙ ap (slice_get (senders ++ s ∷ [])) (sym here) ∙ e))
             (subst (λ z. IsNewSeat P A table z s) (sym h.many_are) new))
       ];
 }
 
-pub one_more_tap : {C : Type 0} (x : TableLayout) (table : TableId) (many : ℕ) (taps : List (ReceiverSeat C)) (t : ReceiverSeat C) → AreNewTaps x table many taps → IsNewTap x table t → AreNewTaps x table (many + 1) (taps ++ t ∷ [])
+pub one_more_tap : {C : Type 0} (x : TableLayout) (table : TableId) (many : ℕ)
+    (taps : List (ReceiverSeat C)) (t : ReceiverSeat C) → AreNewTaps x table many taps
+    → IsNewTap x table t → AreNewTaps x table (many + 1) (taps ++ t ∷ [])
 one_more_tap x table many taps t h new = record {
   many_are = length-append taps (t ∷ []) ∙ (let z = h.many_are in omega arith);
   each = λ r y e.
-      let within = slice_get_within (taps ++ t ∷ []) r y e in let size = length-append taps (t ∷ []) in
+      let within = slice_get_within (taps ++ t ∷ []) r y e in
+      let size = length-append taps (t ∷ []) in
       elim (cases_lt r (length taps)) [
         | inl l ↦ h.each r y (sym (push_beside taps t r (λ i. absurd (omega arith))) ∙ e)
         | inr l ↦
             let here : r ≡ length taps = omega arith in
-            subst (IsNewTap x table) (same_Some _ _ (sym (push_here taps t (length taps) refl) ∙ ap (slice_get (taps ++ t ∷ [])) (sym here) ∙ e)) new
+            subst (IsNewTap x table) (same_Some _ _
+            (sym (push_here taps t (length taps) refl) ∙ ap (slice_get (taps ++ t ∷ [])) (sym here)
+            ∙ e)) new
       ];
 }
 
-pub all_here : {C : Type 0} (P : Process C) (A : Automaton C) (table : TableId) (many : ℕ) (senders : List (SenderSeat C)) → AreNewSeats P A table many senders → All (λ s. table_of s ≡ table) senders
-all_here P A table many senders h p other within = (h.each p (get_or senders p other) (slice_get-get_or senders p other within)).table_is
+pub all_here : {C : Type 0} (P : Process C) (A : Automaton C) (table : TableId) (many : ℕ)
+    (senders : List (SenderSeat C)) → AreNewSeats P A table many senders
+    → All (λ s. table_of s ≡ table) senders
+all_here P A table many senders h p other within =
+    (h.each p (get_or senders p other) (slice_get-get_or senders p other within)).table_is
 
-pub all_taps_here : {C : Type 0} (x : TableLayout) (table : TableId) (many : ℕ) (taps : List (ReceiverSeat C)) → AreNewTaps x table many taps → All (λ t. t.table_id ≡ table) taps
-all_taps_here x table many taps h r other within = (h.each r (get_or taps r other) (slice_get-get_or taps r other within)).table_is
+pub all_taps_here :
+    {C : Type 0} (x : TableLayout) (table : TableId) (many : ℕ) (taps : List (ReceiverSeat C))
+    → AreNewTaps x table many taps → All (λ t. t.table_id ≡ table) taps
+all_taps_here x table many taps h r other within =
+    (h.each r (get_or taps r other) (slice_get-get_or taps r other within)).table_is

@@ -1,5 +1,6 @@
 -- The turn of a sender with which no page moves: its step alone.
-use Rattle.std.proofs.Common.{◌≡◌, ◌⊎◌, inl, inr, ℕ, ◌<◌, ◌≤◌, ne_eqb, arith, Bool, false, cond, Option, Some, None, IsSome, [], refl, sym, ◌∙◌, ap, subst}
+use Rattle.std.proofs.Common.{◌≡◌, ◌⊎◌, inl, inr, ℕ, ◌<◌, ◌≤◌, ne_eqb, arith, Bool, false, cond}
+use Rattle.std.proofs.Common.{Option, Some, None, IsSome, [], refl, sym, ◌∙◌, ap, subst}
 use Rattle.std.proofs.lemmas.Bool.{true≢false}
 use Rattle.atomic_table.specs.declared.shared.Seat.{Seat}
 use Rattle.bus_register.specs.declared.registers.Op.{Op}
@@ -17,29 +18,40 @@ use Rattle.atomic_table.specs.Seated.{TableId}
 use Rattle.bus_pageslot.specs.Rule.{sender_trail_in, stored_in}
 use Rattle.bus_pageslot.specs.declared.rule.View.TheVariants.{Sender}
 use Rattle.bus_pageslot.specs.Seats.{SenderSeat, Shows, TookAndTold, actions_of}
-use Rattle.bus_pageslot.specs.Steps.{stored_by, Gone, IsDue, carried_of, out_with, laid_at, slot_in, slots_emptied}
+use Rattle.bus_pageslot.specs.Steps.{stored_by, Gone, IsDue, carried_of, out_with, laid_at}
+use Rattle.bus_pageslot.specs.Steps.{slot_in, slots_emptied}
 use Rattle.bus_pageslot.specs.Steps.Accepts.{Nothing}
 use Rattle.bus_pageslot.specs.declared.rule.View.{View}
-use Rattle.bus_pageslot.specs.Turns.{Tellings, TurnsPlainly, GoesPlainly, First, Next, AsksOn, Goes, DrawsOn, word_drawn}
+use Rattle.bus_pageslot.specs.Turns.{Tellings, TurnsPlainly, GoesPlainly, First, Next, AsksOn}
+use Rattle.bus_pageslot.specs.Turns.{Goes, DrawsOn, word_drawn}
 use Rattle.bus_pageslot.proofs.Sending.{turned_puts, drawn_on}
-use Rattle.bus_pageslot.proofs.Walks.{core_is, stored_now, laid_now, numbered_now, me_now, all_now, counted_now, wide_now}
+use Rattle.bus_pageslot.proofs.Walks.{core_is, stored_now, laid_now, numbered_now, me_now, all_now}
+use Rattle.bus_pageslot.proofs.Walks.{counted_now, wide_now}
 
 module _ {C : Type 0} (P : Process C) (d : C) (stays : P.move d ≡ Stays) where
   -- its step is due
-  pub due_staying : (s : Seat (Option Page) (View C)) (word : ℕ) (o : Op) → Shows P d s → P.op d word ≡ Some o → register o < (P.table_layout d).words
+  pub due_staying : (s : Seat (Option Page) (View C)) (word : ℕ) (o : Op) → Shows P d s
+      → P.op d word ≡ Some o → register o < (P.table_layout d).words
       → IsDue P d word s.me s.table_id.words o
   due_staying s word o shows due below = record {
     shown = shows.shown;
     actions = shows.actions;
     accepts = shows.accepts;
-    me = shows.me ∙ (λ i. (Sender shows.shown (sender_trail_in s.me.0) (stored_in s.me.0), out_with (sym stays i) (carried_of (P.holds d))));
+    me =
+        shows.me
+        ∙ (λ i. (
+          Sender shows.shown (sender_trail_in s.me.0) (stored_in s.me.0),
+          out_with (sym stays i) (carried_of (P.holds d)),
+        ));
     due = due;
     below = below;
     wide = shows.words;
   }
 
-  module _ (K : ProcessLaws P) (s s' : Seat (Option Page) (View C)) (word got : ℕ) (shows : Shows P d s) (handed : d ≡ P.handed d)
-      (gone : Gone P d word s.me got s'.me) (d' : C) (fed : d' ≡ P.fed d got word) (same : s'.table_id ≡ s.table_id) where
+  module _ (K : ProcessLaws P) (s s' : Seat (Option Page) (View C)) (word got : ℕ)
+      (shows : Shows P d s) (handed : d ≡ P.handed d)
+      (gone : Gone P d word s.me got s'.me) (d' : C) (fed : d' ≡ P.fed d got word)
+      (same : s'.table_id ≡ s.table_id) where
     carried : s.me.1 ≡ carried_of (P.holds d)
     carried = ap (λ x. x.1) shows.me
 
@@ -47,7 +59,10 @@ module _ {C : Type 0} (P : Process C) (d : C) (stays : P.move d ≡ Stays) where
     out = λ i. (s.me.0, out_with (sym stays i) s.me.1)
 
     waits_not : P.awaits d' ≡ false
-    waits_not = ap P.awaits fed ∙ (subst (EndsBy P d (P.fed d got word) (P.after d gone.home got word) gone.home) stays gone.ends).1
+    waits_not =
+        ap P.awaits fed
+        ∙ (subst (EndsBy P d (P.fed d got word) (P.after d gone.home got word) gone.home) stays
+        gone.ends).1
 
     laid : d' ≡ laid_at P d' (P.awaits d') (slot_in s'.me.1)
     laid = λ i. laid_at P d' (sym waits_not i) (slot_in s'.me.1)
@@ -61,17 +76,24 @@ module _ {C : Type 0} (P : Process C) (d : C) (stays : P.move d ≡ Stays) where
       shown = d';
       actions = [];
       accepts = Nothing;
-      counted = counted_now P K d s.me s.me s'.me word got carried d d' handed out gone fed s'.me d' laid emptied;
-      me = me_now P K d s.me s.me s'.me word got carried d d' handed out gone fed s'.me d' laid emptied;
-      laid = laid_now P K d s.me s.me s'.me word got carried d d' handed out gone fed s'.me d' laid emptied;
-      numbered = numbered_now P K d s.me s.me s'.me word got carried d d' handed out gone fed s'.me d' laid emptied;
-      words = wide_now P K d s.me s.me s'.me word got carried d d' handed out gone fed s'.me d' laid emptied s'.table_id.words (ap (λ (z : TableId). z.words) same ∙ shows.words);
+      counted = counted_now P K d s.me s.me s'.me word got carried d d' handed out gone fed s'.me d'
+          laid emptied;
+      me = me_now P K d s.me s.me s'.me word got carried d d' handed out gone fed s'.me d' laid
+          emptied;
+      laid = laid_now P K d s.me s.me s'.me word got carried d d' handed out gone fed s'.me d' laid
+          emptied;
+      numbered = numbered_now P K d s.me s.me s'.me word got carried d d' handed out gone fed s'.me
+          d' laid emptied;
+      words = wide_now P K d s.me s.me s'.me word got carried d d' handed out gone fed s'.me d' laid
+          emptied s'.table_id.words (ap (λ (z : TableId). z.words) same ∙ shows.words);
       slots = ap (λ (z : TableId). z.slots) same ∙ shows.slots;
     }
 
     -- it took its turn, of which this is told
-    pub told_staying : (Tells : C → ℕ → ℕ → Turn → Type 0) (turn : Turn) → turn ≡ P.answer d got word → Tells d got word turn
-        → TookAndTold P Tells (record { core = d; seat = s }) word turn (record { core = d'; seat = s' })
+    pub told_staying : (Tells : C → ℕ → ℕ → Turn → Type 0) (turn : Turn)
+        → turn ≡ P.answer d got word → Tells d got word turn
+        → TookAndTold P Tells (record { core = d; seat = s }) word turn
+        (record { core = d'; seat = s' })
     told_staying Tells turn answer tells = record {
       took = record {
         got = got;
@@ -81,10 +103,13 @@ module _ {C : Type 0} (P : Process C) (d : C) (stays : P.move d ≡ Stays) where
         taken = gone.taken;
         same_core = gone.core;
         same_answer = gone.answer;
-        core = core_is P K d s.me s.me s'.me word got carried d d' handed out gone fed s'.me d' laid emptied;
+        core = core_is P K d s.me s.me s'.me word got carried d d' handed out gone fed s'.me d' laid
+            emptied;
         answer = answer;
-        sender_trail = all_now P K d s.me s.me s'.me word got carried d d' handed out gone fed s'.me d' laid emptied;
-        stored = stored_now P K d s.me s.me s'.me word got carried d d' handed out gone fed s'.me d' laid emptied;
+        sender_trail = all_now P K d s.me s.me s'.me word got carried d d' handed out gone fed s'.me
+            d' laid emptied;
+        stored = stored_now P K d s.me s.me s'.me word got carried d d' handed out gone fed s'.me d'
+            laid emptied;
       };
       tells = tells;
     }
@@ -95,53 +120,75 @@ due_some None some none = absurd (true≢false (sym some))
 due_some (Some o) some none = cc
 
 -- a store behind the length leaves the length that was stored last
-pub stored_behind : (at value before : ℕ) → 2 ≤ at → stored_by (Some (Store record { 0 = at } value)) before ≡ before
-stored_behind at value before behind = ap (λ b. cond b value before) (ne_eqb at 0 (λ e. absurd (omega arith)))
+pub stored_behind : (at value before : ℕ) → 2 ≤ at
+    → stored_by (Some (Store record { 0 = at } value)) before ≡ before
+stored_behind at value before behind =
+    ap (λ b. cond b value before) (ne_eqb at 0 (λ e. absurd (omega arith)))
 
 -- ---- turns that answer Going and draw no word, one after another
 -- nobody asks behind one
-plain_asking : {C F : Type 0} {L : C → Type 0} (P : Process C) (T : Tellings C) (Tells : F → Bool → F → Type 0) (first : SenderSeat C) (given f : F) (old new : SenderSeat C)
-    → AsksOn P T Tells first given old f → TurnsPlainly P T L old new → AsksOn P T Tells first given new f
-plain_asking P T Tells first given f old new before one = Goes old f 0 Going new before one.turned refl refl
+plain_asking : {C F : Type 0} {L : C → Type 0} (P : Process C) (T : Tellings C)
+    (Tells : F → Bool → F → Type 0) (first : SenderSeat C) (given f : F) (old new : SenderSeat C)
+    → AsksOn P T Tells first given old f → TurnsPlainly P T L old new
+    → AsksOn P T Tells first given new f
+plain_asking P T Tells first given f old new before one =
+    Goes old f 0 Going new before one.turned refl refl
 
 -- nor behind more
-pub goes_asking : {C F : Type 0} {L : C → Type 0} (P : Process C) (T : Tellings C) (Tells : F → Bool → F → Type 0) (first : SenderSeat C) (given f : F) (old new : SenderSeat C)
-    → AsksOn P T Tells first given old f → GoesPlainly P T L old new → AsksOn P T Tells first given new f
-goes_asking P T Tells first given f old _ before (First new one) = plain_asking P T Tells first given f old new before one
+pub goes_asking : {C F : Type 0} {L : C → Type 0} (P : Process C) (T : Tellings C)
+    (Tells : F → Bool → F → Type 0) (first : SenderSeat C) (given f : F) (old new : SenderSeat C)
+    → AsksOn P T Tells first given old f → GoesPlainly P T L old new
+    → AsksOn P T Tells first given new f
+goes_asking P T Tells first given f old _ before (First new one) =
+    plain_asking P T Tells first given f old new before one
 goes_asking P T Tells first given f old _ before (Next mid new goes one) =
-    plain_asking P T Tells first given f mid new (goes_asking P T Tells first given f old mid before goes) one
+    plain_asking P T Tells first given f mid new
+    (goes_asking P T Tells first given f old mid before goes) one
 
 -- one draws no word
-plain_drawing : {C : Type 0} {L : C → Type 0} (P : Process C) (T : Tellings C) (first : SenderSeat C) (given words : Stream) (old new : SenderSeat C)
-    → DrawsOn P T first given old words → TurnsPlainly P T L old new → DrawsOn P T first given new words
+plain_drawing : {C : Type 0} {L : C → Type 0} (P : Process C) (T : Tellings C)
+    (first : SenderSeat C) (given words : Stream) (old new : SenderSeat C)
+    → DrawsOn P T first given old words → TurnsPlainly P T L old new
+    → DrawsOn P T first given new words
 plain_drawing P T first given words old new before one =
-    drawn_on P T first given old words 0 Going new words (ap (λ b. word_drawn b words) (sym one.wordless)) before one.turned
+    drawn_on P T first given old words 0 Going new words
+    (ap (λ b. word_drawn b words) (sym one.wordless)) before one.turned
 
 -- nor do more
-pub goes_drawing : {C : Type 0} {L : C → Type 0} (P : Process C) (T : Tellings C) (first : SenderSeat C) (given words : Stream) (old new : SenderSeat C)
-    → DrawsOn P T first given old words → GoesPlainly P T L old new → DrawsOn P T first given new words
-goes_drawing P T first given words old _ before (First new one) = plain_drawing P T first given words old new before one
+pub goes_drawing : {C : Type 0} {L : C → Type 0} (P : Process C) (T : Tellings C)
+    (first : SenderSeat C) (given words : Stream) (old new : SenderSeat C)
+    → DrawsOn P T first given old words → GoesPlainly P T L old new
+    → DrawsOn P T first given new words
+goes_drawing P T first given words old _ before (First new one) =
+    plain_drawing P T first given words old new before one
 goes_drawing P T first given words old _ before (Next mid new goes one) =
-    plain_drawing P T first given words mid new (goes_drawing P T first given words old mid before goes) one
+    plain_drawing P T first given words mid new
+    (goes_drawing P T first given words old mid before goes) one
 
 -- none puts a message
-pub goes_putting : {C : Type 0} {L : C → Type 0} (P : Process C) (T : Tellings C) → ProcessLaws P → (old new : SenderSeat C) → GoesPlainly P T L old new
+pub goes_putting : {C : Type 0} {L : C → Type 0} (P : Process C) (T : Tellings C) → ProcessLaws P
+    → (old new : SenderSeat C) → GoesPlainly P T L old new
     → puts (actions_of P new) ≡ puts (actions_of P old)
 goes_putting P T K old _ (First new one) = turned_puts P T K old 0 Going new one.turned
-goes_putting P T K old _ (Next mid new goes one) = turned_puts P T K mid 0 Going new one.turned ∙ goes_putting P T K old mid goes
+goes_putting P T K old _ (Next mid new goes one) =
+    turned_puts P T K mid 0 Going new one.turned ∙ goes_putting P T K old mid goes
 
 -- none so far, or one or more
-abbrev pub Taken : {C : Type 0} → Process C → Tellings C → (C → Type 0) → SenderSeat C → SenderSeat C → ℕ → Type 0
+abbrev pub Taken : {C : Type 0} → Process C → Tellings C → (C → Type 0) → SenderSeat C
+    → SenderSeat C → ℕ → Type 0
 Taken P T L first new count = ((count ≡ 0) × (new ≡ first)) ⊎ GoesPlainly P T L first new
 
 -- and then one more
-pub taken_next : {C : Type 0} (P : Process C) (T : Tellings C) (L : C → Type 0) (first old new : SenderSeat C) (count : ℕ) → Taken P T L first old count
+pub taken_next : {C : Type 0} (P : Process C) (T : Tellings C) (L : C → Type 0)
+    (first old new : SenderSeat C) (count : ℕ) → Taken P T L first old count
     → TurnsPlainly P T L old new → GoesPlainly P T L first new
-taken_next P T L first old new count (inl none) one = First new (subst (λ y. TurnsPlainly P T L y new) none.1 one)
+taken_next P T L first old new count (inl none) one =
+    First new (subst (λ y. TurnsPlainly P T L y new) none.1 one)
 taken_next P T L first old new count (inr goes) one = Next old new goes one
 
 -- where some were to be taken, some were
-pub taken_some : {C : Type 0} (P : Process C) (T : Tellings C) (L : C → Type 0) (first new : SenderSeat C) (count : ℕ) → Taken P T L first new count
+pub taken_some : {C : Type 0} (P : Process C) (T : Tellings C) (L : C → Type 0)
+    (first new : SenderSeat C) (count : ℕ) → Taken P T L first new count
     → 0 < count → GoesPlainly P T L first new
 taken_some P T L first new count (inl none) some = let zero = none.0 in absurd (omega arith)
 taken_some P T L first new count (inr goes) some = goes

@@ -1,5 +1,6 @@
 -- What the calls of a sender say, as its process has it.
-use Rattle.std.proofs.Common.{◌≡◌, inl, inr, ℕ, ◌+◌, Bool, true, false, Option, Some, None, IsSome, List, ◌∷◌, refl, sym, ◌∙◌, ap}
+use Rattle.std.proofs.Common.{◌≡◌, inl, inr, ℕ, ◌+◌, Bool, true, false, Option, Some, None, IsSome}
+use Rattle.std.proofs.Common.{List, ◌∷◌, refl, sym, ◌∙◌, ap}
 use Rattle.std.specs.Prelude.{IsTrue, ◌↔◌, ◌⊎◌}
 use Rattle.atomic_table.specs.Table.{rest}
 use Rattle.bus_adoptcommit.specs.declared.verdicts.Verdict.{Verdict}
@@ -17,7 +18,8 @@ use Rattle.bus_core.specs.Reusing.Turns.{queue_seen}
 use Rattle.bus_machine.specs.Machine.{log_place, moved}
 use Rattle.bus_machine.specs.Remembering.{rows_in}
 use Rattle.bus_presence.specs.declared.pins.Pin.{Pin}
-use Rattle.bus_presence.specs.declared.pins.Pin.TheVariants.{Away, Announcing, Validating, Pinned, Unpinning, Invalidated}
+use Rattle.bus_presence.specs.declared.pins.Pin.TheVariants.{Away, Announcing, Validating, Pinned}
+use Rattle.bus_presence.specs.declared.pins.Pin.TheVariants.{Unpinning, Invalidated}
 use Rattle.bus_register.specs.Protocol.{Protocol}
 use Rattle.bus_register.specs.declared.kinds.Kind.{Kind}
 use Rattle.bus_register.specs.declared.registers.Op.{Op}
@@ -36,7 +38,8 @@ use Rattle.bus_pageslot.specs.Steps.{out_with}
 
 -- ---- a batch that is on its way
 -- what does not look at that is of it what it is of the batch
-seen_same : {A : Type 0} (f : Pending → A) → ((q : Pending) → f (record q { busy = true }) ≡ f q) → (q : Pending) (pin : Pin)
+seen_same : {A : Type 0} (f : Pending → A) → ((q : Pending) → f (record q { busy = true }) ≡ f q)
+    → (q : Pending) (pin : Pin)
     → f (queue_seen q pin) ≡ f q
 seen_same f h q Away = refl
 seen_same f h q (Announcing t) = h q
@@ -45,31 +48,36 @@ seen_same f h q (Pinned t) = h q
 seen_same f h q (Unpinning t) = h q
 seen_same f h q (Invalidated t) = h q
 
-pub queue_same : {A : Type 0} (f : Pending → A) → ((q : Pending) → f (record q { busy = true }) ≡ f q) → (q : Pending) (r : Option Reuse)
+pub queue_same : {A : Type 0} (f : Pending → A)
+    → ((q : Pending) → f (record q { busy = true }) ≡ f q) → (q : Pending) (r : Option Reuse)
     → f (queue_of q r) ≡ f q
 queue_same f h q None = refl
 queue_same f h q (Some r) = seen_same f h q r.pin
 
 -- ---- the page
 -- the page that goes out of its hands is out with its seat, and none where none goes
-pub given_out : (m : PageMove) (page : Page) (carried : List (ℕ × Option Page)) → page_out m ≡ Some page
+pub given_out : (m : PageMove) (page : Page) (carried : List (ℕ × Option Page))
+    → page_out m ≡ Some page
     → out_with m carried ≡ (0, Some page) ∷ rest carried
 given_out Stays page carried e = absurd (let bad : None ≡ Some page = e in cc)
 given_out (Comes t) page carried e = absurd (let bad : None ≡ Some page = e in cc)
 given_out (Returns t reason own) page carried e = ap (λ o. (0, o) ∷ rest carried) e
 
-pub nothing_out : (m : PageMove) (carried : List (ℕ × Option Page)) → page_out m ≡ None → out_with m carried ≡ carried
+pub nothing_out : (m : PageMove) (carried : List (ℕ × Option Page)) → page_out m ≡ None
+    → out_with m carried ≡ carried
 nothing_out Stays carried e = refl
 nothing_out (Comes t) carried e = refl
 nothing_out (Returns t reason own) carried e = absurd (let bad : Some own ≡ None = e in cc)
 
 module _ {E : Type 0} where
-  without_is : (v : Sender E) (m : PageMove) → record v { core = core_without m v.core } ≡ moved (before_step m) None v
+  without_is : (v : Sender E) (m : PageMove)
+      → record v { core = core_without m v.core } ≡ moved (before_step m) None v
   without_is v Stays = refl
   without_is v (Comes t) = refl
   without_is v (Returns t reason page) = refl
 
-  taken_not : (ph : Phase E) (b : Bool) → ((t : ℕ) → ph ≡ phase.Taken t → ⊥) → IsTrue b ↔ AwaitsItsPage ph → b ≡ false
+  taken_not : (ph : Phase E) (b : Bool) → ((t : ℕ) → ph ≡ phase.Taken t → ⊥)
+      → IsTrue b ↔ AwaitsItsPage ph → b ≡ false
   taken_not ph true none h = absurd (let w = h.0 refl in none w.tenure w.is)
   taken_not ph false none h = refl
 
@@ -77,7 +85,8 @@ module _ {E : Type 0} where
   awaited phase.Resting b h = taken_not phase.Resting b (λ t e. cc) h
   awaited (phase.Electing u e) b h = taken_not (phase.Electing u e) b (λ t i. cc) h
   awaited (phase.Taken t) b h = h.1 (record { tenure = t; is = refl })
-  awaited (phase.Holding u page stored published) b h = taken_not (phase.Holding u page stored published) b (λ t e. cc) h
+  awaited (phase.Holding u page stored published) b h =
+      taken_not (phase.Holding u page stored published) b (λ t e. cc) h
   awaited (phase.Giving u reason) b h = taken_not (phase.Giving u reason) b (λ t e. cc) h
 
   awaits_by : (ph : Phase E) → is_taken ph ≡ true → AwaitsItsPage ph
@@ -89,9 +98,12 @@ module _ {E : Type 0} where
 
   -- the page is laid before it
   abbrev Lays : Sender E → Page → Sender E → Type 0
-  Lays v page new = (t : ℕ) → v.core.phase ≡ phase.Taken t → new ≡ record v { core = record v.core { phase = phase.Holding t page 0 false } }
+  Lays v page new =
+      (t : ℕ) → v.core.phase ≡ phase.Taken t
+      → new ≡ record v { core = record v.core { phase = phase.Holding t page 0 false } }
 
-  laid_by : (v : Sender E) (page : Page) (new : Sender E) → Lays v page new → AwaitsItsPage v.core.phase
+  laid_by : (v : Sender E) (page : Page) (new : Sender E) → Lays v page new
+      → AwaitsItsPage v.core.phase
       → new ≡ moved (laying v.core.phase) (Some page) v
   laid_by v page new h w = h w.tenure w.is ∙ sym (ap (λ ph. moved (laying ph) (Some page) v) w.is)
 
@@ -100,7 +112,8 @@ start_same : (x : Layout) (r : Option Reuse) → log_start x r ≡ log_place x (
 start_same x None = refl
 start_same x (Some r) = refl
 
-module _ {S : Type 0} (kind_of : S → Option Kind) (op : S → ℕ → Option Op) (fed : S → ℕ → ℕ → S) (Q : Protocol S Bool Verdict)
+module _ {S : Type 0} (kind_of : S → Option Kind) (op : S → ℕ → Option Op) (fed : S → ℕ → ℕ → S)
+    (Q : Protocol S Bool Verdict)
     (v : Sender (Elector S)) where
   abbrev X : Election (Elector S)
   X = election_with kind_of op fed Q
@@ -128,11 +141,13 @@ module _ {S : Type 0} (kind_of : S → Option Kind) (op : S → ℕ → Option O
   unfolding process_with
   words_are = ap (λ at. at + v.core.layout.capacity) (start_same v.core.layout v.reuse)
 
-  pub given_is : (page : Option Page) → page ≡ page_out (line_now X v).move → page ≡ page_out (P.move v)
+  pub given_is : (page : Option Page) → page ≡ page_out (line_now X v).move
+      → page ≡ page_out (P.move v)
   unfolding process_with
   given_is page is = is
 
-  pub handed_is : (new : Sender (Elector S)) → new ≡ record v { core = core_without (line_now X v).move v.core } → new ≡ P.handed v
+  pub handed_is : (new : Sender (Elector S))
+      → new ≡ record v { core = core_without (line_now X v).move v.core } → new ≡ P.handed v
   unfolding process_with
   handed_is new is = is ∙ without_is v (line_now X v).move
 
@@ -140,7 +155,8 @@ module _ {S : Type 0} (kind_of : S → Option Kind) (op : S → ℕ → Option O
   unfolding process_with
   awaits_is b h = awaited v.core.phase b h
 
-  pub laid_is : (page : Page) (new : Sender (Elector S)) → P.awaits v ≡ true → Lays v page new → new ≡ P.laid v page
+  pub laid_is : (page : Page) (new : Sender (Elector S)) → P.awaits v ≡ true → Lays v page new
+      → new ≡ P.laid v page
   unfolding process_with
   laid_is page new e h = laid_by v page new h (awaits_by v.core.phase e)
 
@@ -166,6 +182,7 @@ module _ {S : Type 0} (kind_of : S → Option Kind) (op : S → ℕ → Option O
   plain_draws_none plain = plain_wordless X v plain
 
   -- ---- an answer where no step is due
-  pub rest_is_told : (a : Turn) → (a ≡ turn.Going) ⊎ RestTells v a → (a ≡ turn.Going → ⊥) → RestTells v a
+  pub rest_is_told : (a : Turn) → (a ≡ turn.Going) ⊎ RestTells v a → (a ≡ turn.Going → ⊥)
+      → RestTells v a
   rest_is_told a (inl going) not = absurd (not going)
   rest_is_told a (inr tells) not = tells

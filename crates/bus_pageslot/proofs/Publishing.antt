@@ -1,5 +1,6 @@
 -- The log of a table grows by the frame of who stores its length.
-use Rattle.std.proofs.Common.{◌≡◌, ℕ, Option, Some, List, ◌++◌, slice_get, slice_index, sym, ◌∙◌, ap}
+use Rattle.std.proofs.Common.{◌≡◌, ℕ, Option, Some, List, ◌++◌, slice_get, slice_index, sym, ◌∙◌}
+use Rattle.std.proofs.Common.{ap}
 use Rattle.std.proofs.lemmas.Option.{same_Some}
 use mathlib.Core.Option.{some}
 use lib.ListN.{get_elem?}
@@ -7,7 +8,8 @@ use Rattle.atomic_table.specs.Table.{State}
 use Rattle.bus_core.specs.Senders.{Sender}
 use Rattle.bus_core.specs.Table.{line_now}
 use Rattle.bus_machine.specs.Machine.{Machine, going, log_of, log_place}
-use Rattle.bus_machine.specs.Promise.{Follows, frame_next, words_of_frame}
+use Rattle.bus_machine.specs.Promise.{Follows, frame_next}
+use Rattle.bus_machine.specs.Machine.{words_of_frame}
 use Rattle.bus_register.specs.declared.registers.Op.{Op}
 use Rattle.bus_tenure.specs.Core.{Election, Layout}
 use Rattle.bus_tenure.specs.declared.pages.Page.{Page}
@@ -26,17 +28,23 @@ use Rattle.bus_pageslot.specs.declared.rule.View.{View}
 use Rattle.bus_pageslot.proofs.Stepping as stepping
 
 -- the log of a machine is that of its words
-pub log_is : {E : Type 0} (m : Machine E) (x : Layout) (reuse : Option ℕ) → m.layout ≡ x → m.reuse ≡ reuse
+pub log_is : {E : Type 0} (m : Machine E) (x : Layout) (reuse : Option ℕ) → m.layout ≡ x
+    → m.reuse ≡ reuse
     → log_of m ≡ log_below (table_layout_by x reuse) m.words
 log_is m x reuse sizes rows =
-    ap (λ y. words_read_from (slice_index m.words) (log_place y m.reuse) (slice_index m.words 0)) sizes
+    ap (λ y. words_read_from (slice_index m.words) (log_place y m.reuse) (slice_index m.words 0))
+    sizes
     ∙ ap (λ q. words_read_from (slice_index m.words) (log_place x q) (slice_index m.words 0)) rows
 
-pub joins_frame : {E : Type 0} (X : Election E) (x : Layout) (reuse : Option ℕ) (bases : List ℕ) (L : AutomatonLaws (process_of X) (bus_of X x reuse bases))
-    (s : State (Option Page) (View (Sender E))) (r : TableInvariant (process_of X) (bus_of X x reuse bases) s) (id : ℕ) (m : Sat (Sender E))
-    (at : get_elem? s.views id ≡ some m.0) (d : Sender E) (word many : ℕ) (o : Op) (is_due : IsDue (process_of X) d word m many o)
+pub joins_frame : {E : Type 0} (X : Election E) (x : Layout) (reuse : Option ℕ) (bases : List ℕ)
+    (L : AutomatonLaws (process_of X) (bus_of X x reuse bases))
+    (s : State (Option Page) (View (Sender E)))
+    (r : TableInvariant (process_of X) (bus_of X x reuse bases) s) (id : ℕ) (m : Sat (Sender E))
+    (at : get_elem? s.views id ≡ some m.0) (d : Sender E) (word many : ℕ) (o : Op)
+    (is_due : IsDue (process_of X) d word m many o)
     → stepping.OfEvents X (Follows X) x
-    → log_below (table_layout_by x reuse) (words_after s.words (Some o)) ≡ log_below (table_layout_by x reuse) s.words ++ words_of_frame (line_now X d).publishes
+    → log_below (table_layout_by x reuse) (words_after s.words (Some o))
+    ≡ log_below (table_layout_by x reuse) s.words ++ words_of_frame (line_now X d).publishes
 joins_frame {E} X x reuse bases L s r id m at d word many o is_due law =
     let z = stepping.z X x reuse bases L s r id m at d word many o is_due in
     let b = z.machine in
@@ -47,12 +55,20 @@ joins_frame {E} X x reuse bases L s r id m at d word many o is_due law =
     let low = stepping.low X x reuse bases L s r id m at d word many o is_due in
     let same = stepping.words_are X x reuse bases L s r id m at d word many o is_due in
     let turn = takes_turn X x reuse bases z h p d here word o is_due.due low in
-    let goes : going b p ≡ Some d = turn.goes ∙ ap Some (same_Some _ _ (sym (shown_there (is_set (slice_get b.stopped p)) (slice_get b.senders p) turn.sender turn.goes) ∙ here)) in
-    let follows = stepping.turn_is X x reuse bases L s r id m at d word many o is_due (Follows X) law in
+    let goes : going b p ≡ Some d =
+    turn.goes
+    ∙ ap Some (same_Some _ _
+    (sym
+    (shown_there (is_set (slice_get b.stopped p)) (slice_get b.senders p) turn.sender turn.goes)
+    ∙ here)) in
+    let follows =
+    stepping.turn_is X x reuse bases L s r id m at d word many o is_due (Follows X) law in
     let before : log_of b ≡ log_below (table_layout_by x reuse) s.words =
     log_is b x reuse h.layout h.rows_are ∙ ap (log_below (table_layout_by x reuse)) (sym same) in
     let after : log_of new ≡ log_below (table_layout_by x reuse) (words_after s.words (Some o)) =
     log_is new x reuse h.layout h.rows_are
-    ∙ ap (log_below (table_layout_by x reuse)) (stepping.words_now X x reuse bases L s r id m at d word many o is_due ∙ ap (λ w. words_after w (Some o)) (sym same)) in
+    ∙ ap (log_below (table_layout_by x reuse))
+    (stepping.words_now X x reuse bases L s r id m at d word many o is_due
+    ∙ ap (λ w. words_after w (Some o)) (sym same)) in
     sym after ∙ follows.joins ∙ ap (λ g. log_of b ++ words_of_frame (frame_next X g)) goes
     ∙ ap (λ l. l ++ words_of_frame (line_now X d).publishes) before

@@ -1,16 +1,23 @@
--- What a sender answers without a step is so: it is a turn of the machine behind the table, which adds no action.
-use Rattle.std.proofs.Common.{◌≡◌, ℕ, ◌+◌, ◌*◌, ◌<◌, cond, eq-eqb, Option, Some, inl, inr, List, [], ◌++◌, slice_get, slice_index, arith, refl, sym, ◌∙◌, ap, subst}
+-- What a sender answers without a step is so: it is a turn of the machine behind the table, which
+-- adds no action.
+use Rattle.std.proofs.Common.{◌≡◌, ℕ, ◌+◌, ◌*◌, ◌<◌, cond, eq-eqb, Option, Some, inl, inr, List}
+use Rattle.std.proofs.Common.{[], ◌++◌, slice_get, slice_index, arith, refl, sym, ◌∙◌, ap, subst}
 use Rattle.std.proofs.lemmas.List.{append-nil}
 use Rattle.atomic_table.specs.Table.{State}
-use Rattle.bus_core.specs.Senders.{Sender, Situation, Does, Announces, Validates, Unpins, Withdraws, Scans, Clears, situation}
+use Rattle.bus_core.specs.Senders.{Sender, Situation, Does, Announces, Validates, Unpins}
+use Rattle.bus_core.specs.Senders.{Withdraws, Scans, Clears, situation}
 use Rattle.bus_core.specs.Table.{Line, line, line_now, rests, rest_at}
-use Rattle.bus_machine.specs.Machine.{Machine, Trails, Happens, IsOnWord, going, found, log_of, log_place, stage_of, machine_after, turn_answer, turn_grown, turn_trails}
+use Rattle.bus_machine.specs.Machine.{Machine, Trails, Happens, IsOnWord, going, found, log_of}
+use Rattle.bus_machine.specs.Machine.{log_place, stage_of, machine_after, turn_answer, turn_grown}
+use Rattle.bus_machine.specs.Machine.{turn_trails}
 use Rattle.bus_machine.specs.Promise.{HasRows}
 use Rattle.bus_machine.specs.Remembering.{NoneIsLeft}
 use Rattle.bus_machine.specs.Telling.{Tells, TurnTells, SenderTells}
 use Rattle.bus_machine.proofs.RefusalLaws.{answers_refused}
 use Rattle.bus_tenure.specs.Core.{Election, Layout}
-use Rattle.bus_tenure.specs.Situations.{Situation as Own, IsClosed, IsIdle, IsSpent, LooksAtStage, Elects, TakesPage, AwaitsPage, StoresWord, StoresLength, GivesBack, HasHanded}
+use Rattle.bus_tenure.specs.Situations.{Situation as Own, IsClosed, IsIdle, IsSpent, LooksAtStage}
+use Rattle.bus_tenure.specs.Situations.{Elects, TakesPage, AwaitsPage, StoresWord, StoresLength}
+use Rattle.bus_tenure.specs.Situations.{GivesBack, HasHanded}
 use Rattle.bus_tenure.specs.declared.pages.Page.{Page}
 use Rattle.bus_tenure.specs.declared.turns.Turn.{Turn as Answered}
 use Rattle.bus_tenure.specs.declared.turns.Turn.TheVariants as turn
@@ -36,8 +43,10 @@ none_more : (s : ℕ) (D : ℕ → List Action) → actions_with s [] D s ≡ D 
 none_more s D = ap (λ b. D s ++ cond b [] []) (eq-eqb s s refl) ∙ append-nil (D s)
 
 -- ---- a turn without a step
-module _ {E : Type 0} (X : Election E) (x : Layout) (reuse : Option ℕ) (bases : List ℕ) (z : MachineHistory E) (h : IsMachineHistory X x reuse bases z)
-    (p : ℕ) (d : Sender E) (here : slice_get z.machine.senders p ≡ Some d) (law : OfEvents X (λ old e a new. Tells X old e a) x) where
+module _ {E : Type 0} (X : Election E) (x : Layout) (reuse : Option ℕ) (bases : List ℕ)
+    (z : MachineHistory E) (h : IsMachineHistory X x reuse bases z)
+    (p : ℕ) (d : Sender E) (here : slice_get z.machine.senders p ≡ Some d)
+    (law : OfEvents X (λ old e a new. Tells X old e a) x) where
   abbrev b : Machine E
   b = z.machine
 
@@ -52,9 +61,12 @@ module _ {E : Type 0} (X : Election E) (x : Layout) (reuse : Option ℕ) (bases 
   At = Situation E × Line E
 
   abbrev TurnIsSo : At → Type 0
-  TurnIsSo a = TurnTells b p d ((turn_trails a.0 a.1 p (found b a.1 0) 0 (turn_answer b a.1 0) T).actions p) (turn_answer b a.1 0)
+  TurnIsSo a = TurnTells b p d
+      ((turn_trails a.0 a.1 p (found b a.1 0) 0 (turn_answer b a.1 0) T).actions p)
+      (turn_answer b a.1 0)
 
-  module _ (own : Own E) (given : Answered) (is : situation X d ≡ Does own) (none : line X d (Does own) ≡ rests d given) where
+  module _ (own : Own E) (given : Answered) (is : situation X d ≡ Does own)
+      (none : line X d (Does own) ≡ rests d given) where
     l_is : line_now X d ≡ rests d given
     l_is = ap (line X d) is ∙ none
 
@@ -71,7 +83,8 @@ module _ {E : Type 0} (X : Election E) (x : Layout) (reuse : Option ℕ) (bases 
     }
 
     now_so : TurnIsSo (situation X d, line_now X d)
-    now_so = subst (λ g. SenderTells b p g ((turn_grown X b p g 0 (answer.Turn told) T).actions p) (answer.Turn told)) goes
+    now_so = subst (λ g. SenderTells b p g ((turn_grown X b p g 0 (answer.Turn told) T).actions p)
+        (answer.Turn told)) goes
         (law h.served b T h.layout (subst HasRows (sym h.rows_are) h.has_rows) h.reached
         (Turn p 0) (answer.Turn told) (machine_after b p (line_now X d) 0) takes_turn T h.reached)
 
@@ -81,7 +94,8 @@ module _ {E : Type 0} (X : Election E) (x : Layout) (reuse : Option ℕ) (bases 
     told_so : TurnTells b p d (T.actions p) given
     told_so = subst (λ a. TurnTells b p d a given) (none_more p T.actions) still_so
 
-  rest_at_so : (s : Situation E) → situation X d ≡ s → TurnTells b p d (T.actions p) (rest_at (line X d s))
+  rest_at_so : (s : Situation E) → situation X d ≡ s
+      → TurnTells b p d (T.actions p) (rest_at (line X d s))
   rest_at_so (Does IsClosed) i = told_so IsClosed turn.Closed i refl
   rest_at_so (Does IsIdle) i = tt
   rest_at_so (Does IsSpent) i = told_so IsSpent turn.Spent i refl
@@ -104,10 +118,14 @@ module _ {E : Type 0} (X : Election E) (x : Layout) (reuse : Option ℕ) (bases 
   rest_so = rest_at_so (situation X d) refl
 
 -- ---- of a sender that a seat shows, with what it has accepted since
-pub rests_truly : {E : Type 0} (X : Election E) (x : Layout) (reuse : Option ℕ) (bases : List ℕ) (most : ℕ → ℕ → ℕ)
-    (L : AutomatonLaws (process_of X) (bus_of X x reuse bases)) (s : State (Option Page) (View (Sender E)))
-    (h : HasHistory X x reuse bases most s) (seat : ℕ) (v d : Sender E) (sender_trail : SenderTrail) (actions : List Action)
-    → Shown s seat v sender_trail → Accepts (process_of X) v d actions → OfEvents X (λ old e a new. Tells X old e a) x
+pub rests_truly : {E : Type 0} (X : Election E) (x : Layout) (reuse : Option ℕ) (bases : List ℕ)
+    (most : ℕ → ℕ → ℕ)
+    (L : AutomatonLaws (process_of X) (bus_of X x reuse bases))
+    (s : State (Option Page) (View (Sender E)))
+    (h : HasHistory X x reuse bases most s) (seat : ℕ) (v d : Sender E) (sender_trail : SenderTrail)
+    (actions : List Action)
+    → Shown s seat v sender_trail → Accepts (process_of X) v d actions
+    → OfEvents X (λ old e a new. Tells X old e a) x
     → IsTrueAnswer x reuse s d (sender_trail.actions ++ actions) ((process_of X).rest d)
 rests_truly {E} X x reuse bases most L s h seat v d sender_trail actions shown more law =
     let P = process_of X in
@@ -119,32 +137,39 @@ rests_truly {E} X x reuse bases most L s h seat v d sender_trail actions shown m
     let its : IsSender P A p d = L.senders z p d grown.changes.reached grown.changes.here in
     let did : z.trails.actions p ≡ sender_trail.actions ++ actions =
     ap (λ (t : SenderTrail). t.actions)
-    (grown.changes.sender_trail ∙ ap (λ (t : SenderTrail). with_actions t actions) (h.trails seat v sender_trail shown)) in
+    (grown.changes.sender_trail
+    ∙ ap (λ (t : SenderTrail). with_actions t actions) (h.trails seat v sender_trail shown)) in
     record {
       machine = z.machine;
       layout = grown.changes.reached.layout;
       rows_are = grown.changes.reached.rows_are;
       words = h.words ∙ sym grown.words;
-      tells = subst (λ q. TurnTells z.machine q d (sender_trail.actions ++ actions) (P.rest d)) (sym its.me)
+      tells = subst (λ q. TurnTells z.machine q d (sender_trail.actions ++ actions) (P.rest d))
+          (sym its.me)
           (subst (λ a. TurnTells z.machine p d a (P.rest d)) did
           (rest_so X x reuse bases z grown.changes.reached p d grown.changes.here law));
     }
 
 -- ---- what is refused
 -- Closed while the length is 0: the log is empty then
-pub closed_refused : {E : Type 0} (x : Layout) (reuse : Option ℕ) (s : State (Option Page) (View (Sender E))) (d : Sender E) (actions : List Action)
+pub closed_refused : {E : Type 0} (x : Layout) (reuse : Option ℕ)
+    (s : State (Option Page) (View (Sender E))) (d : Sender E) (actions : List Action)
     → slice_index s.words 0 ≡ 0 → IsTrueAnswer x reuse s d actions turn.Closed → ⊥
 closed_refused x reuse s d actions none h =
     let m = h.machine in
-    let empty : log_of m ≡ [] = ap (words_read_from (slice_index m.words) (log_place m.layout m.reuse)) (ap (λ ws. slice_index ws 0) (sym h.words) ∙ none) in
+    let empty : log_of m ≡ [] = ap
+    (words_read_from (slice_index m.words) (log_place m.layout m.reuse))
+    (ap (λ ws. slice_index ws 0) (sym h.words) ∙ none) in
     (answers_refused m d.core.me d actions).closed_with_nothing empty h.tells
 
 -- Spent while the last tenure is not opened
-pub spent_refused : {E : Type 0} (x : Layout) (reuse : Option ℕ) (s : State (Option Page) (View (Sender E))) (d : Sender E) (actions : List Action)
+pub spent_refused : {E : Type 0} (x : Layout) (reuse : Option ℕ)
+    (s : State (Option Page) (View (Sender E))) (d : Sender E) (actions : List Action)
     → slice_index s.words 1 + 2 < 2 * x.rows → IsTrueAnswer x reuse s d actions turn.Spent → ⊥
 spent_refused x reuse s d actions low h =
     let m = h.machine in
-    let early : stage_of m + 2 < 2 * m.layout.rows = subst (λ (y : Layout). stage_of m + 2 < 2 * y.rows) (sym h.layout)
+    let early : stage_of m + 2 < 2 * m.layout.rows =
+    subst (λ (y : Layout). stage_of m + 2 < 2 * y.rows) (sym h.layout)
     (subst (λ ws. slice_index ws 1 + 2 < 2 * x.rows) h.words low) in
     let told : NoneIsLeft m d.core.me actions = h.tells in
     elim told [

@@ -1,14 +1,13 @@
 -- The stage of an open tenure is left by its owner alone, which takes the page.
-use Rattle.std.proofs.Common.{◌≡◌, ◌≢◌, ℕ, ◌*◌, Bool, true, false, cond, Option, Some, List, [], ◌∷◌, slice_index, refl, sym, ◌∙◌, ap}
-use Rattle.std.proofs.lemmas.Bool.{true≢false}
+use Rattle.std.proofs.Common.{◌≡◌, ◌≢◌, ℕ, ◌*◌, Option, Some, List, slice_index, sym, ◌∙◌, ap}
 use Rattle.std.proofs.lemmas.Option.{same_Some}
 use mathlib.Core.Option.{some}
 use lib.ListN.{get_elem?}
 use Rattle.atomic_table.specs.Table.{State}
-use Rattle.bus_core.specs.Senders.{Sender, Situation, Does, Announces, Validates, Unpins, Withdraws, Scans, Clears, situation}
+use Rattle.bus_core.specs.Senders.{Sender, Does, situation}
 use Rattle.bus_core.specs.Table.{line, line_now}
 use Rattle.bus_machine.proofs.Own.{own_of}
-use Rattle.bus_machine.proofs.Takes.{takes_told}
+use Rattle.bus_machine.proofs.Takes.{owns_page}
 use Rattle.bus_machine.specs.Machine.{found}
 use Rattle.bus_machine.specs.Telling.{OpensOnly}
 use Rattle.bus_register.specs.Protocol.{Protocol}
@@ -17,9 +16,8 @@ use Rattle.bus_tenure.specs.Core.{Election, Layout}
 use Rattle.bus_tenure.specs.Situations.{TakesPage, situation_of}
 use Rattle.bus_tenure.specs.declared.pages.Page.{Page}
 use Rattle.bus_tenure.specs.declared.turns.Turn.{Turn as Answered}
-use Rattle.bus_tenure.specs.declared.turns.Turn.TheVariants as turn
 use Rattle.bus_world.proofs.Serving.{Serves}
-use Rattle.bus_world.specs.Turning.{words_after, owners_by}
+use Rattle.bus_world.specs.Turning.{words_after}
 use Rattle.bus_world.specs.declared.events.Answer.TheVariants as answer
 use Rattle.bus_automaton.specs.Lawful.{AutomatonLaws}
 use Rattle.bus_automaton.specs.OneAutomaton.{bus_of}
@@ -31,39 +29,19 @@ use Rattle.bus_pageslot.specs.Steps.{IsDue}
 use Rattle.bus_pageslot.specs.declared.rule.View.{View}
 use Rattle.bus_pageslot.proofs.Stepping as stepping
 
--- ---- who answers Own takes the page of that tenure
-module _ {E : Type 0} (X : Election E) (v : Sender E) (t : ℕ) where
-  -- the page is taken with one situation's step
-  by_takes : (z : Situation E) → (line X v z).takes ≡ true → (u : ℕ) × (z ≡ Does (TakesPage u))
-  by_takes (Does (TakesPage u)) e = (u, refl)
-  by_takes (Does z) e = absurd (true≢false (sym e))
-  by_takes (Announces u) e = absurd (true≢false (sym e))
-  by_takes (Validates u) e = absurd (true≢false (sym e))
-  by_takes (Unpins u) e = absurd (true≢false (sym e))
-  by_takes (Withdraws u) e = absurd (true≢false (sym e))
-  by_takes (Scans s) e = absurd (true≢false (sym e))
-  by_takes (Clears s) e = absurd (true≢false (sym e))
-
-  is_taken : (b : Bool) (p : ℕ) → cond b (p ∷ []) [] ≡ p ∷ [] → b ≡ true
-  is_taken true p e = refl
-  is_taken false p e = absurd (let bad : [] ≡ p ∷ [] = e in cc)
-
-  same_own : (u : ℕ) → turn.Own u ≡ turn.Own t → u ≡ t
-  same_own u e = cc
-
-  pub owns_page : (z : Situation E) (got word : ℕ) → (line X v z).answer got word ≡ turn.Own t → z ≡ Does (TakesPage t)
-  owns_page z got word own =
-      let taken = by_takes z (is_taken (line X v z).takes 0 (takes_told X v z 0 [] got word ∙ ap (λ a. owners_by a 0 []) own)) in
-      taken.1 ∙ ap (λ n. Does (TakesPage n)) (same_own taken.0 (sym (ap (λ y. (line X v y).answer got word) taken.1) ∙ own))
-
 same_turn : (a b : Answered) → answer.Turn a ≡ answer.Turn b → a ≡ b
 same_turn a b e = cc
 
-pub owners_leave : {E : Type 0} (X : Election E) (P : Protocol E (Unit {0}) ℕ) (x : Layout) (y : Serves X P x) (reuse : Option ℕ) (bases : List ℕ)
-    (L : AutomatonLaws (process_of X) (bus_of X x reuse bases)) (s : State (Option Page) (View (Sender E)))
-    (r : TableInvariant (process_of X) (bus_of X x reuse bases) s) (id : ℕ) (m : Sat (Sender E)) (at : get_elem? s.views id ≡ some m.0)
-    (d : Sender E) (word many : ℕ) (o : Op) (is_due : IsDue (process_of X) d word m many o) → stepping.OfEvents X (OpensOnly X) x
-    → (t : ℕ) → slice_index s.words 1 ≡ 2 * t → slice_index (words_after s.words (Some o)) 1 ≢ 2 * t → TakesPageOf X d t o
+pub owners_leave : {E : Type 0} (X : Election E) (P : Protocol E (Unit {0}) ℕ) (x : Layout)
+    (y : Serves X P x) (reuse : Option ℕ) (bases : List ℕ)
+    (L : AutomatonLaws (process_of X) (bus_of X x reuse bases))
+    (s : State (Option Page) (View (Sender E)))
+    (r : TableInvariant (process_of X) (bus_of X x reuse bases) s) (id : ℕ) (m : Sat (Sender E))
+    (at : get_elem? s.views id ≡ some m.0)
+    (d : Sender E) (word many : ℕ) (o : Op) (is_due : IsDue (process_of X) d word m many o)
+    → stepping.OfEvents X (OpensOnly X) x
+    → (t : ℕ) → slice_index s.words 1 ≡ 2 * t → slice_index (words_after s.words (Some o)) 1 ≢ 2 * t
+    → TakesPageOf X d t o
 owners_leave {E} X P x y reuse bases L s r id m at d word many o is_due law t is_open leaves =
     let z = stepping.z X x reuse bases L s r id m at d word many o is_due in
     let p = is_due.shown.core.me in
@@ -71,16 +49,22 @@ owners_leave {E} X P x y reuse bases L s r id m at d word many o is_due law t is
     let here = stepping.here X x reuse bases L s r id m at d word many o is_due in
     let same = stepping.words_are X x reuse bases L s r id m at d word many o is_due in
     let now = stepping.words_now X x reuse bases L s r id m at d word many o is_due in
-    let opens = stepping.turn_is X x reuse bases L s r id m at d word many o is_due (OpensOnly X) law t
+    let opens =
+    stepping.turn_is X x reuse bases L s r id m at d word many o is_due (OpensOnly X) law t
     (ap (λ w. slice_index w 1) (sym same) ∙ is_open)
-    (λ e. leaves (ap (λ w. slice_index (words_after w (Some o)) 1) same ∙ ap (λ w. slice_index w 1) (sym now) ∙ e)) in
+    (λ e. leaves (ap (λ w. slice_index (words_after w (Some o)) 1) same
+    ∙ ap (λ w. slice_index w 1) (sym now) ∙ e)) in
     let takes : situation X d ≡ Does (TakesPage t) =
-    owns_page X d t (situation X d) (found z.machine (line_now X d) word) word (same_turn _ _ opens.own) in
-    let own = owner_at X P x y reuse bases z h p d here t (own_of d.reuse (situation_of X d.core) (TakesPage t) takes) in
+    owns_page X d t (situation X d) (found z.machine (line_now X d) word) word
+    (same_turn _ _ opens.own) in
+    let own = owner_at X P x y reuse bases z h p d here t
+    (own_of d.reuse (situation_of X d.core) (TakesPage t) takes) in
     record {
       election = own.election;
       elects = own.elects;
-      chosen = own.chosen ∙ ap Some (sym (stepping.me_is X x reuse bases L s r id m at d word many o is_due));
+      chosen =
+          own.chosen
+          ∙ ap Some (sym (stepping.me_is X x reuse bases L s r id m at d word many o is_due));
       kind = ap (λ u. (line X d u).kind) takes;
       step = sym (same_Some _ _ (ap (λ u. (line X d u).op word) (sym takes) ∙ is_due.due));
     }

@@ -1,5 +1,6 @@
 -- A step that is due of a sender of a table is a turn of the machine behind it.
-use Rattle.std.proofs.Common.{◌≡◌, ℕ, ◌<◌, Option, Some, List, length, slice_get, sym, ◌∙◌, ap, subst}
+use Rattle.std.proofs.Common.{◌≡◌, ℕ, ◌<◌, Option, Some, List, length, slice_get, sym, ◌∙◌, ap}
+use Rattle.std.proofs.Common.{subst}
 use mathlib.Core.Option.{some}
 use lib.ListN.{get_elem?}
 use Rattle.atomic_table.specs.Table.{State}
@@ -27,25 +28,35 @@ use Rattle.bus_pageslot.specs.declared.rule.View.TheVariants as view
 use Rattle.bus_pageslot.proofs.Reaching.{accepted}
 
 -- what is so of each event of a machine of these sizes
-abbrev pub OfEvents : {E : Type 0} → Election E → (Machine E → Event → Answer → Machine E → Type 0) → Layout → Type 0
-OfEvents {E} X G x = IsLayout x → (old : Machine E) (T : Trails) → old.layout ≡ x → HasRows old.reuse → Reached X old T
-    → (event : Event) (given : Answer) (new : Machine E) → Happens X old event given new → G old event given new
+abbrev pub OfEvents : {E : Type 0} → Election E → (Machine E → Event → Answer → Machine E → Type 0)
+    → Layout → Type 0
+OfEvents {E} X G x =
+    IsLayout x → (old : Machine E) (T : Trails) → old.layout ≡ x → HasRows old.reuse
+    → Reached X old T
+    → (event : Event) (given : Answer) (new : Machine E) → Happens X old event given new
+    → G old event given new
 
-module _ {E : Type 0} (X : Election E) (x : Layout) (reuse : Option ℕ) (bases : List ℕ) (L : AutomatonLaws (process_of X) (bus_of X x reuse bases))
-    (s : State (Option Page) (View (Sender E))) (r : TableInvariant (process_of X) (bus_of X x reuse bases) s) (id : ℕ) (m : Sat (Sender E))
-    (at : get_elem? s.views id ≡ some m.0) (d : Sender E) (word many : ℕ) (o : Op) (is_due : IsDue (process_of X) d word m many o) where
+module _ {E : Type 0} (X : Election E) (x : Layout) (reuse : Option ℕ) (bases : List ℕ)
+    (L : AutomatonLaws (process_of X) (bus_of X x reuse bases))
+    (s : State (Option Page) (View (Sender E)))
+    (r : TableInvariant (process_of X) (bus_of X x reuse bases) s) (id : ℕ) (m : Sat (Sender E))
+    (at : get_elem? s.views id ≡ some m.0) (d : Sender E) (word many : ℕ) (o : Op)
+    (is_due : IsDue (process_of X) d word m many o) where
   abbrev pub c : Sender E
   c = is_due.shown
 
   abbrev pub p : ℕ
   p = c.core.me
 
-  pub seated : IsSeated (process_of X) (bus_of X x reuse bases) r.state r.seat id c (sender_trail_in m.0) (stored_in m.0)
-  seated = r.views id (view.Sender c (sender_trail_in m.0) (stored_in m.0)) (at ∙ ap (λ (y : Sat (Sender E)). some y.0) is_due.me)
+  pub seated : IsSeated (process_of X) (bus_of X x reuse bases) r.state r.seat id c
+      (sender_trail_in m.0) (stored_in m.0)
+  seated = r.views id (view.Sender c (sender_trail_in m.0) (stored_in m.0))
+      (at ∙ ap (λ (y : Sat (Sender E)). some y.0) is_due.me)
 
   -- with what it has accepted since its last step
   pub grown : AcceptsIn (bus_of X x reuse bases) r.state p d is_due.actions
-  grown = accepted (process_of X) (bus_of X x reuse bases) L r.state r.reached c seated.core d is_due.actions is_due.accepts
+  grown = accepted (process_of X) (bus_of X x reuse bases) L r.state r.reached c seated.core d
+      is_due.actions is_due.accepts
 
   abbrev pub z : MachineHistory E
   z = grown.state

@@ -18,7 +18,8 @@ pub record BusId : Type 0 where
   pub plan : Plan
 
 -- a table of these sizes, and the seat of its maker
-pub record IsBusTable {C : Type 0} (A : Automaton C) (table : TableId) (maker : Seat (Option Page) (View C)) : Type 0 where
+pub record IsBusTable {C : Type 0} (A : Automaton C) (table : TableId)
+    (maker : Seat (Option Page) (View C)) : Type 0 where
   pub table_is : maker.table_id ≡ table
   pub room : A.table_layout.words ≤ 2 ^ 63
   pub words : table.words ≡ A.table_layout.words
@@ -26,24 +27,28 @@ pub record IsBusTable {C : Type 0} (A : Automaton C) (table : TableId) (maker : 
   pub me : maker.me ≡ (Maker A.table_layout 0, [])
 
 -- a sender of this table before its first turn
-pub record IsNewSeat {C : Type 0} (P : Process C) (A : Automaton C) (table : TableId) (p : ℕ) (s : SenderSeat C) : Type 0 where
+pub record IsNewSeat {C : Type 0} (P : Process C) (A : Automaton C) (table : TableId) (p : ℕ)
+    (s : SenderSeat C) : Type 0 where
   pub core : s.core ≡ A.started p
   pub table_is : table_of s ≡ table
   pub sender_trail : sender_trail_of P s ≡ new_sender_trail (base_in A p)
   pub stored : stored_of s ≡ 0
 
 -- so many of them, in order
-pub record AreNewSeats {C : Type 0} (P : Process C) (A : Automaton C) (table : TableId) (many : ℕ) (senders : List (SenderSeat C)) : Type 0 where
+pub record AreNewSeats {C : Type 0} (P : Process C) (A : Automaton C) (table : TableId) (many : ℕ)
+    (senders : List (SenderSeat C)) : Type 0 where
   pub many_are : length senders ≡ many
   pub each : (p : ℕ) (s : SenderSeat C) → slice_get senders p ≡ Some s → IsNewSeat P A table p s
 
 -- a receiver of this table before its first turn
-pub record IsNewTap {C : Type 0} (x : TableLayout) (table : TableId) (t : ReceiverSeat C) : Type 0 where
+pub record IsNewTap {C : Type 0} (x : TableLayout) (table : TableId) (t : ReceiverSeat C) :
+    Type 0 where
   pub table_is : t.table_id ≡ table
   pub receiver_view : receiver_view_in t.me.0 ≡ new_receiver_view
   pub table_layout : table_layout_in t.me.0 ≡ x
 
 -- so many of them, in order
-pub record AreNewTaps {C : Type 0} (x : TableLayout) (table : TableId) (many : ℕ) (taps : List (ReceiverSeat C)) : Type 0 where
+pub record AreNewTaps {C : Type 0} (x : TableLayout) (table : TableId) (many : ℕ)
+    (taps : List (ReceiverSeat C)) : Type 0 where
   pub many_are : length taps ≡ many
   pub each : (r : ℕ) (t : ReceiverSeat C) → slice_get taps r ≡ Some t → IsNewTap x table t

@@ -10,9 +10,11 @@ use Rattle.bus_pageslot.specs.Rule.{slot_of, known_in, TableInvariant}
 use Rattle.bus_automaton.specs.Processes.{Process, Automaton, base_in, log_below}
 use Rattle.bus_pageslot.specs.Promised.{IsPromised}
 
--- A table of which the rule holds, with this log below the length and this page at home, where a receiver's seat shows what it showed
--- when the bus was ended. So the headline's page holds of what its seats show, and what that receiver knew begins the log.
-pub record IsLeft {C : Type 0} (P : Process C) (A : Automaton C) (seen : View C) (log : List ℕ) (home : Option Page) : Type 0 where
+-- A table of which the rule holds, with this log below the length and this page at home, where a
+-- receiver's seat shows what it showed when the bus was ended. So the headline's page holds of what
+-- its seats show, and what that receiver knew begins the log.
+pub record IsLeft {C : Type 0} (P : Process C) (A : Automaton C) (seen : View C) (log : List ℕ)
+    (home : Option Page) : Type 0 where
   pub table : State (Option Page) (View C)
   pub shown : TableInvariant P A table
   pub here : (seat : ℕ) × (get_elem? table.views seat ≡ some seen)

@@ -8,6 +8,7 @@ pub mod Seats
 pub mod Turns
 pub mod Sendings
 pub mod SendFaults
+pub mod Finishing
 pub mod Buses
 pub mod Endings
 pub mod Outcomes

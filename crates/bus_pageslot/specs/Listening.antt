@@ -1,16 +1,20 @@
 -- A receiver's turns: what one load makes of its seat, and what is answered.
-use Rattle.std.specs.Prelude.{◌≡◌, ℕ, ◌<◌, ◌≤◌, Bool, true, false, Option, Some, None, List, ◌++◌, length, take, slice_get, slice_index}
+use Rattle.std.specs.Prelude.{◌≡◌, ℕ, ◌<◌, ◌≤◌, ◌+◌, true, false, Option, Some, None, List}
+use Rattle.std.specs.Prelude.{◌++◌, length, take, slice_get, slice_index, if◌then◌else◌, ◌==◌}
 use Rattle.bus_batch.specs.declared.messages.Item.{Item}
 use Rattle.bus_batch.specs.declared.messages.Piece.{Piece}
 use Rattle.bus_batch.specs.Frames.{Frame, AreFrames, GivesPiece, log_words, log_pieces}
 use Rattle.bus_deliverylog.specs.declared.receiving.RecvTurn.{RecvTurn}
 use Rattle.bus_deliverylog.specs.declared.receiving.RecvTurn.TheVariants as turn
 use Rattle.bus_deliverylog.specs.Receiving.{turn_of}
+use Rattle.bus_tenure.specs.Core.{length_at}
 use Rattle.bus_world.specs.Headline.{IsPrefix}
+use Rattle.bus_automaton.specs.Processes.{TableLayout}
 use Rattle.bus_pageslot.specs.declared.listening.ItemTurn.{ItemTurn}
 use Rattle.bus_pageslot.specs.declared.listening.ItemTurn.TheVariants as item_turn
-use Rattle.bus_pageslot.specs.ReceiverViews.{heard_length, heard_word, length_turn}
-use Rattle.bus_pageslot.specs.Rule.{Sat, receiver_view_in, known_in, with_receiver_view, senders_in, capacity_in}
+use Rattle.bus_pageslot.specs.ReceiverViews.{ReceiverView, heard_length, heard_word, length_turn}
+use Rattle.bus_pageslot.specs.Rule.{Sat, receiver_view_in, known_in, with_receiver_view}
+use Rattle.bus_pageslot.specs.Rule.{senders_in, capacity_in, log_word_in}
 
 -- ---- what the step tells
 -- of the length: what the receiver knows of the log grows, up to the length that was found
@@ -19,9 +23,14 @@ pub record FindsLength {C : Type 0} (m : Sat C) (got : ℕ) (m' : Sat C) : Type 
   pub grows : IsPrefix (known_in m.0) known
   pub length_is : length known ≡ got
   pub within : length known ≤ capacity_in m.0
-  pub now : m' ≡ (with_receiver_view m.0 (heard_length (receiver_view_in m.0) known (length_turn (receiver_view_in m.0).place got)), m.1)
+  pub now : m' ≡ (
+    with_receiver_view m.0
+        (heard_length (receiver_view_in m.0) known (length_turn (receiver_view_in m.0).place got)),
+    m.1,
+  )
 
--- of the word at the receiver's place: it is the one that it knows there, and gives what it gives in some log that goes on so
+-- of the word at the receiver's place: it is the one that it knows there, and gives what it gives
+-- in some log that goes on so
 pub record FindsWord {C : Type 0} (m : Sat C) (got : ℕ) (m' : Sat C) : Type 0 where
   pub got_is : got ≡ slice_index (known_in m.0) (receiver_view_in m.0).place
   pub found : Option Piece
@@ -30,7 +39,11 @@ pub record FindsWord {C : Type 0} (m : Sat C) (got : ℕ) (m' : Sat C) : Type 0 
   pub lawful : AreFrames (senders_in m.0) frames
   pub words_are : log_words frames ≡ known_in m.0 ++ rest
   pub at : slice_get (log_pieces frames) (receiver_view_in m.0).place ≡ Some found
-  pub now : m' ≡ (with_receiver_view m.0 (heard_word (receiver_view_in m.0) found (turn_of found)), m.1)
+  pub now : m' ≡ (
+    with_receiver_view m.0 (heard_word (receiver_view_in m.0)
+        (log_word_in m.0 (receiver_view_in m.0).place) found (turn_of found)),
+    m.1,
+  )
 
 -- ---- what the turn tells
 -- The step found the length: the answer is Empty exactly where that is the receiver's place.
@@ -39,25 +52,27 @@ pub record HearsLength {C : Type 0} (m : Sat C) (answer : RecvTurn) (m' : Sat C)
   pub finds : FindsLength m got m'
   pub answer_is : answer ≡ length_turn (receiver_view_in m.0).place got
 
--- The step found the word at the receiver's place: the answer is what it gives after the words that were read, in each log that goes
--- on so.
+-- The step found the word at the receiver's place: the answer is what it gives after the words that
+-- were read, in each log that goes on so.
 pub record HearsWord {C : Type 0} (m : Sat C) (answer : RecvTurn) (m' : Sat C) : Type 0 where
   pub got : ℕ
   pub finds : FindsWord m got m'
-  pub gives : GivesPiece (senders_in m.0) (take (receiver_view_in m.0).place (known_in m.0)) got finds.found
+  pub gives : GivesPiece (senders_in m.0) (take (receiver_view_in m.0).place (known_in m.0)) got
+      finds.found
   pub answer_is : answer ≡ turn_of finds.found
 
--- what a turn answers that says whether it took a word that says nothing by itself, and else writes its answer
-abbrev pub answer_of : Bool → RecvTurn → RecvTurn
-answer_of true written = turn.Going
-answer_of false written = written
-
--- One turn of a receiver. After the end it answers so for good, and takes no step. Where it has read all that it knows it loads the
--- length, and else the word at its place.
+-- One turn of a receiver. After the end it answers so for good, and takes no step. Where it has
+-- read all that it knows it loads the length, and else the word at its place.
 pub record Hears {C : Type 0} (m : Sat C) (answer : RecvTurn) (m' : Sat C) : Type 0 where
   pub ended : (receiver_view_in m.0).ended ≡ true → (answer ≡ turn.End) × (m' ≡ m)
-  pub at_length : (receiver_view_in m.0).ended ≡ false → (receiver_view_in m.0).place ≡ length (known_in m.0) → HearsLength m answer m'
-  pub at_word : (receiver_view_in m.0).ended ≡ false → (receiver_view_in m.0).place < length (known_in m.0) → HearsWord m answer m'
+  pub at_length : (receiver_view_in m.0).ended ≡ false
+      → (receiver_view_in m.0).place ≡ length (known_in m.0) → HearsLength m answer m'
+  pub at_word : (receiver_view_in m.0).ended ≡ false
+      → (receiver_view_in m.0).place < length (known_in m.0) → HearsWord m answer m'
+
+-- which word that is, of a receiver that has not ended
+abbrev pub due_load : TableLayout → ReceiverView → ℕ
+due_load x e = if e.place == length e.known then length_at else x.log + e.place
 
 -- ---- an answer of which an item is written in its place
 abbrev pub item_turn_of : RecvTurn → ItemTurn
@@ -77,7 +92,18 @@ item_after (turn.Item item) before = Some item
 item_after (turn.Leave sender) before = before
 item_after turn.End before = before
 
-pub record Writes (answer : RecvTurn) (before : Option Item) (told : ItemTurn) (after : Option Item) : Type 0 where
+-- what stands where a head or a leave mark is written; any other answer leaves what stood there
+-- before
+abbrev pub sign_after : RecvTurn → RecvTurn → RecvTurn
+sign_after turn.Going before = before
+sign_after turn.Empty before = before
+sign_after (turn.Head tenure owner) before = turn.Head tenure owner
+sign_after (turn.Item item) before = before
+sign_after (turn.Leave sender) before = turn.Leave sender
+sign_after turn.End before = before
+
+pub record Writes (answer : RecvTurn) (before : Option Item) (told : ItemTurn)
+    (after : Option Item) : Type 0 where
   pub told_is : told ≡ item_turn_of answer
   pub after_is : after ≡ item_after answer before
 
@@ -89,10 +115,13 @@ WritesOrPlain answer before (Some told) after = Writes answer before told after
 -- turns that took words which say nothing by themselves led from one seat to another
 pub data GoesOnTo {C : Type 0} (first : Sat C) : Sat C → Type 0 where
   At : GoesOnTo first first
-  Onward : (old new : Sat C) → GoesOnTo first old → (receiver_view_in old.0).place < length (known_in old.0) → Hears old turn.Going new → GoesOnTo first new
+  Onward : (old new : Sat C) → GoesOnTo first old
+      → (receiver_view_in old.0).place < length (known_in old.0) → Hears old turn.Going new
+      → GoesOnTo first new
 
 -- Such turns, and a last one, of which an item is written in its place.
-pub record HearsAfter {C : Type 0} (first : Sat C) (before : Option Item) (told : ItemTurn) (after : Option Item) (new : Sat C) : Type 0 where
+pub record HearsAfter {C : Type 0} (first : Sat C) (before : Option Item) (told : ItemTurn)
+    (after : Option Item) (new : Sat C) : Type 0 where
   pub old : Sat C
   pub going : GoesOnTo first old
   pub answer : RecvTurn

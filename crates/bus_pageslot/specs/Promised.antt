@@ -10,7 +10,8 @@ use Rattle.bus_tenure.specs.declared.pages.Page.{Page}
 use Rattle.bus_world.specs.Headline.{Action, IsPrefix, Promises}
 use Rattle.bus_automaton.specs.Processes.{TableLayout, Process, log_below}
 use Rattle.bus_pageslot.specs.declared.rule.View.{View}
-use Rattle.bus_pageslot.specs.declared.rule.View.TheVariants.{Maker, Sender, Tap, Meeting, Telling, Spent}
+use Rattle.bus_pageslot.specs.declared.rule.View.TheVariants.{Maker, Sender, Tap, Meeting, Telling}
+use Rattle.bus_pageslot.specs.declared.rule.View.TheVariants.{Spent}
 
 -- a view is true of these actions of senders, and shows a beginning of this log of its receivers
 abbrev pub Fits : {C : Type 0} → Process C → (ℕ → List Action) → List ℕ → View C → Type 0
@@ -18,16 +19,20 @@ Fits P actions log (Maker x made) = (p : ℕ) → made ≤ p → actions p ≡ [
 Fits P actions log (Sender c sender_trail stored) = actions (P.me c) ≡ sender_trail.actions
 Fits P actions log (Tap x e) = IsPrefix e.known log
 Fits P actions log (Meeting x e y f) = IsPrefix e.known log × IsPrefix f.known log
-Fits P actions log (Telling c sender_trail stored x e) = (actions (P.me c) ≡ sender_trail.actions) × IsPrefix e.known log
+Fits P actions log (Telling c sender_trail stored x e) =
+    (actions (P.me c) ≡ sender_trail.actions) × IsPrefix e.known log
 Fits P actions log Spent = Unit {0}
 
--- a view shows that the sender p did just these actions: those of its trail, or none while it has no seat of its own
+-- a view shows that the sender p did just these actions: those of its trail, or none while it has
+-- no seat of its own
 abbrev pub ShowsActions : {C : Type 0} → Process C → ℕ → List Action → View C → Type 0
 ShowsActions P p actions (Maker x made) = (made ≤ p) × (actions ≡ [])
-ShowsActions P p actions (Sender c sender_trail stored) = (P.me c ≡ p) × (actions ≡ sender_trail.actions)
+ShowsActions P p actions (Sender c sender_trail stored) =
+    (P.me c ≡ p) × (actions ≡ sender_trail.actions)
 ShowsActions P p actions (Tap x e) = ⊥
 ShowsActions P p actions (Meeting x e y f) = ⊥
-ShowsActions P p actions (Telling c sender_trail stored x e) = (P.me c ≡ p) × (actions ≡ sender_trail.actions)
+ShowsActions P p actions (Telling c sender_trail stored x e) =
+    (P.me c ≡ p) × (actions ≡ sender_trail.actions)
 ShowsActions P p actions Spent = ⊥
 
 -- a view shows this trail of a receiver of its
@@ -41,17 +46,24 @@ ShowsTrail trail Spent = ⊥
 
 -- what a receiver was answered: nothing, or what some seat shows
 abbrev pub IsShownTrail : {C : Type 0} → State (Option Page) (View C) → List RecvTurn → Type 0
-IsShownTrail {C} s trail = (trail ≡ []) ⊎ ((j : ℕ) × (v : View C) × (get_elem? s.views j ≡ some v) × ShowsTrail trail v)
+IsShownTrail {C} s trail =
+    (trail ≡ []) ⊎ ((j : ℕ) × (v : View C) × (get_elem? s.views j ≡ some v) × ShowsTrail trail v)
 
--- Of a sitting whose numbers begin with these, the page of promises holds of the actions that the seats show, and of what they show that receivers were answered, however these are
--- numbered, with the order and the owners that the words below the length spell; and what a receiver knows is a beginning of these
--- words. There are no other actions than those that are shown: each sender shows all of its own up to its last step, and nobody else has any.
-pub record IsPromised {C : Type 0} (P : Process C) (x : TableLayout) (base : ℕ → ℕ) (s : State (Option Page) (View C)) : Type 0 where
+-- Of a sitting whose numbers begin with these, the page of promises holds of the actions that the
+-- seats show, and of what they show that receivers were answered, however these are numbered, with
+-- the order and the owners that the words below the length spell; and what a receiver knows is a
+-- beginning of these words. There are no other actions than those that are shown: each sender shows
+-- all of its own up to its last step, and nobody else has any.
+pub record IsPromised {C : Type 0} (P : Process C) (x : TableLayout) (base : ℕ → ℕ)
+    (s : State (Option Page) (View C)) : Type 0 where
   pub actions : ℕ → List Action
-  pub shown : (p : ℕ) → p < x.senders → (j : ℕ) × (v : View C) × (get_elem? s.views j ≡ some v) × ShowsActions P p (actions p) v
+  pub shown : (p : ℕ) → p < x.senders
+      → (j : ℕ) × (v : View C) × (get_elem? s.views j ≡ some v) × ShowsActions P p (actions p) v
   pub nobody : (p : ℕ) → x.senders ≤ p → actions p ≡ []
   pub order : Order
   pub owners : List (ℕ × SenderNo)
   pub spelled : Spells x.senders (log_below x s.words) order owners
-  pub promises : (heard : ℕ → List RecvTurn) → ((r : ℕ) → IsShownTrail s (heard r)) → Promises base actions heard order owners
-  pub views : (j : ℕ) (v : View C) → get_elem? s.views j ≡ some v → Fits P actions (log_below x s.words) v
+  pub promises : (heard : ℕ → List RecvTurn) → ((r : ℕ) → IsShownTrail s (heard r))
+      → Promises base actions heard order owners
+  pub views : (j : ℕ) (v : View C) → get_elem? s.views j ≡ some v
+      → Fits P actions (log_below x s.words) v

@@ -1,6 +1,8 @@
--- The rule of the table. Its words and its slot are those of a state that executions of a bus lead to, of senders that did what the views
--- of its seats show: so between any two steps all that is promised of the machine holds of what threads did.
-use Rattle.std.specs.Prelude.{◌≡◌, ℕ, ◌+◌, ◌<◌, ◌≤◌, List, [], ◌∷◌, length, Option, Some, None, slice_index}
+-- The rule of the table. Its words and its slot are those of a state that executions of a bus lead
+-- to, of senders that did what the views of its seats show: so between any two steps all that is
+-- promised of the machine holds of what threads did.
+use Rattle.std.specs.Prelude.{◌≡◌, ℕ, ◌+◌, ◌<◌, ◌≤◌, List, [], ◌∷◌, length, Option, Some, None}
+use Rattle.std.specs.Prelude.{slice_index}
 use mathlib.Core.Option.{some, none}
 use mathlib.Core.Option as maybe
 use lib.ListN.{get_elem?}
@@ -8,11 +10,14 @@ use Rattle.atomic_table.specs.Table.{State, Me}
 use Rattle.bus_batch.specs.Frames.{Frame, AreFrames, log_words}
 use Rattle.bus_tenure.specs.declared.pages.Page.{Page}
 use Rattle.bus_world.specs.Headline.{IsPrefix}
-use Rattle.bus_pageslot.specs.ReceiverViews.{ReceiverView, new_receiver_view, receiver_view_knowing, HasHeard}
-use Rattle.bus_automaton.specs.Processes.{TableLayout, no_table_layout, Process, Automaton, base_in, log_in}
+use Rattle.bus_pageslot.specs.ReceiverViews.{ReceiverView, new_receiver_view}
+use Rattle.bus_pageslot.specs.ReceiverViews.{receiver_view_knowing, HasHeard}
+use Rattle.bus_automaton.specs.Processes.{TableLayout, no_table_layout, Process, Automaton}
+use Rattle.bus_automaton.specs.Processes.{base_in, log_in}
 use Rattle.bus_automaton.specs.SenderTrails.{SenderTrail, new_sender_trail, no_sender_trail}
 use Rattle.bus_pageslot.specs.declared.rule.View.{View}
-use Rattle.bus_pageslot.specs.declared.rule.View.TheVariants.{Maker, Sender, Tap, Meeting, Telling, Spent}
+use Rattle.bus_pageslot.specs.declared.rule.View.TheVariants.{Maker, Sender, Tap, Meeting, Telling}
+use Rattle.bus_pageslot.specs.declared.rule.View.TheVariants.{Spent}
 
 abbrev pub slot_of : Option Page → maybe.Option (Option Page)
 slot_of (Some page) = some (Some page)
@@ -48,7 +53,8 @@ cut_left (Meeting x e y f) = Meeting x e y f
 cut_left (Telling c sender_trail stored x e) = Telling c sender_trail stored x e
 cut_left Spent = Spent
 
--- and the view of the new seat: of the sender that the call picks, whose first message has this number
+-- and the view of the new seat: of the sender that the call picks, whose first message has this
+-- number
 abbrev pub cut_right : {C : Type 0} → Option C → ℕ → View C
 cut_right None first = Spent
 cut_right (Some c) first = Sender c (new_sender_trail first) 0
@@ -100,6 +106,10 @@ senders_in v = (table_layout_in v).senders
 abbrev pub capacity_in : {C : Type 0} → View C → ℕ
 capacity_in v = (table_layout_in v).capacity
 
+-- which word of its table is this word of the log
+abbrev pub log_word_in : {C : Type 0} → View C → ℕ → ℕ
+log_word_in v place = (table_layout_in v).log + place
+
 -- two seats joined: of two receivers, or of a sender and a receiver
 abbrev pub views_joined : {C : Type 0} → View C → View C → View C
 views_joined (Tap x e) (Tap y f) = Meeting x e y f
@@ -150,26 +160,33 @@ abbrev pub all_knowing : {C : Type 0} → View C → List ℕ → View C
 all_knowing (Maker x made) known = Maker x made
 all_knowing (Sender c sender_trail stored) known = Sender c sender_trail stored
 all_knowing (Tap x e) known = Tap x (receiver_view_knowing e known)
-all_knowing (Meeting x e y f) known = Meeting x (receiver_view_knowing e known) y (receiver_view_knowing f known)
-all_knowing (Telling c sender_trail stored x e) known = Telling c sender_trail stored x (receiver_view_knowing e known)
+all_knowing (Meeting x e y f) known =
+    Meeting x (receiver_view_knowing e known) y (receiver_view_knowing f known)
+all_knowing (Telling c sender_trail stored x e) known =
+    Telling c sender_trail stored x (receiver_view_knowing e known)
 all_knowing Spent known = Spent
 
 -- ---- what the views say of a bus
--- the seat j is that of this sender, which has done just this, and has stored no length but those that the log has reached
-pub record IsSeated {C : Type 0} (P : Process C) (A : Automaton C) (z : A.State) (seat : ℕ → ℕ) (j : ℕ) (c : C) (sender_trail : SenderTrail) (stored : ℕ) : Type 0 where
+-- the seat j is that of this sender, which has done just this, and has stored no length but those
+-- that the log has reached
+pub record IsSeated {C : Type 0} (P : Process C) (A : Automaton C) (z : A.State) (seat : ℕ → ℕ)
+    (j : ℕ) (c : C) (sender_trail : SenderTrail) (stored : ℕ) : Type 0 where
   pub here : seat (P.me c) ≡ j
   pub core : A.sender z (P.me c) ≡ Some c
   pub sender_trail_is : A.sender_trail z (P.me c) ≡ sender_trail
   pub reached : stored ≤ slice_index (A.words z) 0
 
 -- the sender p has no seat of its own yet, and has done nothing: the seat j is to make one for it
-pub record IsUnseated {C : Type 0} (A : Automaton C) (z : A.State) (seat : ℕ → ℕ) (j p : ℕ) : Type 0 where
+pub record IsUnseated {C : Type 0} (A : Automaton C) (z : A.State) (seat : ℕ → ℕ) (j p : ℕ) :
+    Type 0 where
   pub here : seat p ≡ j
   pub core : A.sender z p ≡ Some (A.started p)
   pub sender_trail_is : A.sender_trail z p ≡ new_sender_trail (base_in A p)
 
--- A receiver knows a beginning of the log, which has some frames; and its turns have answered just what these give, up to its place.
-pub record KnowsLog {C : Type 0} (A : Automaton C) (z : A.State) (x : TableLayout) (e : ReceiverView) : Type 0 where
+-- A receiver knows a beginning of the log, which has some frames; and its turns have answered just
+-- what these give, up to its place.
+pub record KnowsLog {C : Type 0} (A : Automaton C) (z : A.State) (x : TableLayout)
+    (e : ReceiverView) : Type 0 where
   pub table_layout : x ≡ A.table_layout
   pub front : IsPrefix e.known (log_in A z)
   pub below : e.place ≤ length e.known
@@ -178,15 +195,20 @@ pub record KnowsLog {C : Type 0} (A : Automaton C) (z : A.State) (x : TableLayou
   pub words_are : log_words frames ≡ log_in A z
   pub heard : HasHeard frames e
 
-abbrev pub IsTrueOf : {C : Type 0} → Process C → (A : Automaton C) → A.State → (ℕ → ℕ) → ℕ → View C → Type 0
-IsTrueOf P A z seat j (Maker x made) = (x ≡ A.table_layout) × ((p : ℕ) → made ≤ p → p < A.table_layout.senders → IsUnseated A z seat j p)
+abbrev pub IsTrueOf : {C : Type 0} → Process C → (A : Automaton C) → A.State → (ℕ → ℕ) → ℕ → View C
+    → Type 0
+IsTrueOf P A z seat j (Maker x made) =
+    (x ≡ A.table_layout)
+    × ((p : ℕ) → made ≤ p → p < A.table_layout.senders → IsUnseated A z seat j p)
 IsTrueOf P A z seat j (Sender c sender_trail stored) = IsSeated P A z seat j c sender_trail stored
 IsTrueOf P A z seat j (Tap x e) = KnowsLog A z x e
 IsTrueOf P A z seat j (Meeting x e y f) = KnowsLog A z x e × KnowsLog A z y f
-IsTrueOf P A z seat j (Telling c sender_trail stored x e) = IsSeated P A z seat j c sender_trail stored × KnowsLog A z x e
+IsTrueOf P A z seat j (Telling c sender_trail stored x e) =
+    IsSeated P A z seat j c sender_trail stored × KnowsLog A z x e
 IsTrueOf P A z seat j Spent = Unit {0}
 
--- the sender p shows in this view: in its own, or in that of the maker of seats while it has none of its own
+-- the sender p shows in this view: in its own, or in that of the maker of seats while it has none
+-- of its own
 abbrev pub Seats : {C : Type 0} → Process C → ℕ → View C → Type 0
 Seats P p (Maker x made) = made ≤ p
 Seats P p (Sender c sender_trail stored) = P.me c ≡ p
@@ -195,9 +217,10 @@ Seats P p (Meeting x e y f) = ⊥
 Seats P p (Telling c sender_trail stored x e) = P.me c ≡ p
 Seats P p Spent = ⊥
 
--- Executions of the bus lead to a state with these words, and with its page in the slot where that is at home; the views of the seats are
--- true of it; and each of its senders shows in one of them.
-pub record TableInvariant {C : Type 0} (P : Process C) (A : Automaton C) (s : State (Option Page) (View C)) : Type 0 where
+-- Executions of the bus lead to a state with these words, and with its page in the slot where that
+-- is at home; the views of the seats are true of it; and each of its senders shows in one of them.
+pub record TableInvariant {C : Type 0} (P : Process C) (A : Automaton C)
+    (s : State (Option Page) (View C)) : Type 0 where
   pub state : A.State
   pub reached : A.IsReached state
   pub words : s.words ≡ A.words state
@@ -205,4 +228,5 @@ pub record TableInvariant {C : Type 0} (P : Process C) (A : Automaton C) (s : St
   -- of each sender the seat that shows it
   pub seat : ℕ → ℕ
   pub views : (j : ℕ) (v : View C) → get_elem? s.views j ≡ some v → IsTrueOf P A state seat j v
-  pub all : (p : ℕ) → p < A.table_layout.senders → (j : ℕ) × (v : View C) × (get_elem? s.views j ≡ some v) × Seats P p v
+  pub all : (p : ℕ) → p < A.table_layout.senders
+      → (j : ℕ) × (v : View C) × (get_elem? s.views j ≡ some v) × Seats P p v

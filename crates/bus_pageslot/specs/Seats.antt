@@ -1,10 +1,11 @@
 -- What a sender and a receiver of a bus show of their seats.
-use Rattle.std.specs.Prelude.{◌≡◌, ℕ, ◌+◌, ◌-◌, ◌≤◌, ◌^◌, length, take, false, Option, Some, None, List, []}
+use Rattle.std.specs.Prelude.{◌≡◌, ℕ, ◌+◌, ◌≤◌, ◌^◌, length, take, false, Option, Some, None}
+use Rattle.std.specs.Prelude.{List, []}
 use Rattle.atomic_table.specs.declared.shared.Seat.{Seat}
 use Rattle.atomic_table.specs.Seated.{TableId}
 use Rattle.bus_register.specs.declared.registers.Op.{Op}
 use Rattle.bus_batch.specs.declared.messages.Piece.{Piece}
-use Rattle.bus_deliverylog.specs.Receiving.{Receiving, HasReceived}
+use Rattle.bus_deliverylog.specs.Receiving.{LogReading, HasReceived}
 use Rattle.bus_tenure.specs.Situations.{Comes}
 use Rattle.bus_tenure.specs.declared.pages.Page.{Page}
 use Rattle.bus_tenure.specs.declared.turns.Turn.{Turn}
@@ -13,7 +14,7 @@ use Rattle.bus_pageslot.specs.declared.rule.View.{View}
 use Rattle.bus_pageslot.specs.declared.rule.View.TheVariants.{Sender, Tap, Spent}
 use Rattle.bus_pageslot.specs.ReceiverViews.{ReceiverView, new_receiver_view}
 use Rattle.bus_automaton.specs.Processes.{TableLayout, Process, IsCounted}
-use Rattle.bus_pageslot.specs.Rule.{Sat, sender_trail_in, stored_in, known_in}
+use Rattle.bus_pageslot.specs.Rule.{Sat, sender_trail_in, stored_in}
 use Rattle.bus_pageslot.specs.Steps.{Accepts, Numbers, carried_of, all_in, stored_by, Told}
 use Rattle.bus_automaton.specs.SenderTrails.{SenderTrail, with_sender_trail}
 
@@ -42,7 +43,8 @@ abbrev pub stored_of : {C : Type 0} → SenderSeat C → ℕ
 stored_of s = stored_in s.seat.me.0
 
 -- its seat shows it as it was after its last step
-pub record Shows {C : Type 0} (P : Process C) (d : C) (s : Seat (Option Page) (View C)) : Type 0 where
+pub record Shows {C : Type 0} (P : Process C) (d : C) (s : Seat (Option Page) (View C)) :
+    Type 0 where
   pub shown : C
   pub actions : List Action
   pub accepts : Accepts P shown d actions
@@ -54,9 +56,11 @@ pub record Shows {C : Type 0} (P : Process C) (d : C) (s : Seat (Option Page) (V
   pub words : s.table_id.words ≡ (P.table_layout d).words
   pub slots : s.table_id.slots ≡ 1
 
--- A sender took the step that was due of it. It and its answer are those of its turn for the number that the step found; and its trail
--- has this step more, with the number that its word had, which a store does not tell.
-pub record Took {C : Type 0} (P : Process C) (old : SenderSeat C) (word : ℕ) (turn : Turn) (new : SenderSeat C) : Type 0 where
+-- A sender took the step that was due of it. It and its answer are those of its turn for the number
+-- that the step found; and its trail has this step more, with the number that its word had, which a
+-- store does not tell.
+pub record Took {C : Type 0} (P : Process C) (old : SenderSeat C) (word : ℕ) (turn : Turn)
+    (new : SenderSeat C) : Type 0 where
   pub got : ℕ
   pub found : ℕ
   pub told : (o : Op) → P.op old.core word ≡ Some o → Told o found got
@@ -68,11 +72,13 @@ pub record Took {C : Type 0} (P : Process C) (old : SenderSeat C) (word : ℕ) (
   -- what a store found makes no difference
   pub same_core : P.after old.core home got word ≡ P.after old.core home found word
   pub same_answer : P.answer old.core got word ≡ P.answer old.core found word
-  pub sender_trail : sender_trail_of P new ≡ with_sender_trail (sender_trail_of P old) (P.adds old.core found word)
+  pub sender_trail : sender_trail_of P new
+      ≡ with_sender_trail (sender_trail_of P old) (P.adds old.core found word)
   pub stored : stored_of new ≡ stored_by (P.op old.core word) (stored_of old)
 
 -- the same, and what its answer tells of what the sender held and of the number that the step found
-pub record TookAndTold {C : Type 0} (P : Process C) (Tells : C → ℕ → ℕ → Turn → Type 0) (old : SenderSeat C) (word : ℕ) (turn : Turn) (new : SenderSeat C) : Type 0 where
+pub record TookAndTold {C : Type 0} (P : Process C) (Tells : C → ℕ → ℕ → Turn → Type 0)
+    (old : SenderSeat C) (word : ℕ) (turn : Turn) (new : SenderSeat C) : Type 0 where
   pub took : Took P old word turn new
   pub tells : Tells old.core took.got word turn
 
@@ -82,7 +88,15 @@ pub record ReceiverSeat (C : Type 0) : Type 0 where
   pub me : Sat C
 
 abbrev pub nowhere : TableId
-nowhere = record { words = 0; slots = 0; views_name = 0; atom = 0; block = 0; offset = 0; slot_names = [] }
+nowhere = record {
+  words = 0;
+  slots = 0;
+  views_name = 0;
+  atom = 0;
+  block = 0;
+  offset = 0;
+  slot_names = [];
+}
 
 abbrev pub receiver_seat : {C : Type 0} → Seat (Option Page) (View C) → ReceiverSeat C
 receiver_seat s = record { table_id = s.table_id; me = s.me }
@@ -91,24 +105,18 @@ abbrev pub receiver_seat_of : {C : Type 0} → Option (Seat (Option Page) (View 
 receiver_seat_of (Some s) = receiver_seat s
 receiver_seat_of None = record { table_id = nowhere; me = (Spent, []) }
 
--- a reader that knows this length
-abbrev pub knows : ℕ → Receiving → Receiving
-knows k r = record r { known = k }
-
--- A reader beside a seat: it stands where the seat shows, and has read the first words that are known. It may know fewer of them,
--- and believes any length.
-pub record IsFit (senders : ℕ) (e : ReceiverView) (r : Receiving) : Type 0 where
+-- A reader beside a seat: it knows as many words as the seat shows, and has read the first of them.
+pub record IsFit (senders : ℕ) (e : ReceiverView) (r : LogReading) : Type 0 where
+  pub known : r.known ≡ length e.known
   pub place : r.place ≡ e.place
   pub ended : r.ended ≡ e.ended
   pub senders_are : r.frames.senders ≡ senders
   pub within : r.place ≤ r.known
-  pub below : r.known ≤ length e.known
-  pub believes : r.log_words ≡ 2 ^ 64 - 1
   pub pieces : List (Option Piece)
   pub received : HasReceived (take r.place e.known) pieces r
 
 -- a receiver's seat on a table of so many words, with its reader
-pub record IsReceiverView {C : Type 0} (m : Sat C) (words log : ℕ) (r : Receiving) : Type 0 where
+pub record IsReceiverView {C : Type 0} (m : Sat C) (words log : ℕ) (r : LogReading) : Type 0 where
   pub table_layout : TableLayout
   pub receiver_view : ReceiverView
   pub me : m ≡ (Tap table_layout receiver_view, [])
@@ -120,10 +128,9 @@ pub record IsReceiverView {C : Type 0} (m : Sat C) (words log : ℕ) (r : Receiv
   pub wide : words ≡ table_layout.words
   pub fit : IsFit table_layout.senders receiver_view r
 
--- a receiver shows its seat: where the log is, and how much of it it knows
-pub record IsTap {C : Type 0} (s : ReceiverSeat C) (log known : ℕ) (r : Receiving) : Type 0 where
-  pub sits : IsReceiverView s.me s.table_id.words log r
-  pub known_is : known ≡ length (known_in s.me.0)
+-- a receiver shows its seat, and where the log is
+abbrev pub IsTap : {C : Type 0} → ReceiverSeat C → ℕ → LogReading → Type 0
+IsTap s log r = IsReceiverView s.me s.table_id.words log r
 
 -- the seat of a receiver that has taken no step
 pub record IsFresh {C : Type 0} (s : ReceiverSeat C) (log senders : ℕ) : Type 0 where

@@ -8,7 +8,8 @@ use Rattle.bus_register.specs.declared.registers.Op.TheVariants.{Store}
 use Rattle.bus_tenure.specs.Core.{Election, stage_at}
 use Rattle.bus_tenure.specs.declared.phases.Phase.TheVariants.{Electing}
 
--- the step takes the page of the tenure, for a sender that the tenure's election chose: it stores the odd stage
+-- the step takes the page of the tenure, for a sender that the tenure's election chose: it stores
+-- the odd stage
 pub record TakesPageOf {E : Type 0} (X : Election E) (d : Sender E) (t : ℕ) (o : Op) : Type 0 where
   pub election : E
   pub elects : d.core.phase ≡ Electing t election

@@ -1,5 +1,7 @@
 -- What one step of a sender, or of a receiver, makes of its seat.
-use Rattle.std.specs.Prelude.{◌≡◌, ℕ, ◌+◌, ◌-◌, ◌<◌, ◌≤◌, length, map, slice_index, List, [], ◌∷◌, ◌++◌, Option, Some, None, drop, Bool, true, false, if◌then◌else◌, ◌==◌, All}
+use Rattle.std.specs.Prelude.{◌≡◌, ℕ, ◌+◌, ◌-◌, ◌<◌, ◌≤◌, length, map, slice_index, List, [], ◌∷◌}
+use Rattle.std.specs.Prelude.{◌++◌, Option, Some, None, drop, Bool, true, false, if◌then◌else◌}
+use Rattle.std.specs.Prelude.{◌==◌, All}
 use Rattle.atomic_table.specs.Table.{rest}
 use Rattle.bus_register.specs.declared.registers.Op.{Op}
 use Rattle.bus_register.specs.declared.registers.Op.TheVariants.{Load, Store, Add, Cas}
@@ -18,24 +20,34 @@ use Rattle.bus_tenure.specs.declared.pages.Page.{Page}
 use Rattle.bus_world.specs.Headline.{Action, HasPut, HasMarked, puts, IsPrefix}
 use Rattle.bus_pageslot.specs.ReceiverViews.{receiver_view_after_load, receiver_view_knowing, Agree}
 use Rattle.bus_pageslot.specs.declared.rule.View.{View}
-use Rattle.bus_pageslot.specs.declared.rule.View.TheVariants.{Maker, Sender, Tap, Meeting, Telling, Spent}
+use Rattle.bus_pageslot.specs.declared.rule.View.TheVariants.{Maker, Sender, Tap, Meeting, Telling}
+use Rattle.bus_pageslot.specs.declared.rule.View.TheVariants.{Spent}
 use Rattle.bus_automaton.specs.Processes.{Process, IsCounted, EndsBy}
-use Rattle.bus_pageslot.specs.Rule.{Sat, sender_trail_in, stored_in, receiver_view_in, known_in, with_receiver_view, views_joined, first_of, second_of, all_knowing, table_layout_in, capacity_in}
+use Rattle.bus_pageslot.specs.Rule.{Sat, sender_trail_in, stored_in, receiver_view_in, known_in}
+use Rattle.bus_pageslot.specs.Rule.{with_receiver_view, views_joined, first_of, second_of}
+use Rattle.bus_pageslot.specs.Rule.{all_knowing, table_layout_in, capacity_in}
 use Rattle.bus_automaton.specs.SenderTrails.{SenderTrail, with_actions, with_sender_trail}
 
 -- ---- what a sender accepts between its steps
 -- what a sender has accepted makes this sender of c, and adds these actions
 pub data Accepts {C : Type 0} (P : Process C) (c : C) : C → List Action → Type 0 where
   Nothing : Accepts P c c []
-  Message : (d : C) (actions : List Action) (bytes : List ℕ) → Accepts P c d actions → CanPut (P.queue d) (length bytes) → All (λ byte. byte < 256) bytes → Accepts P c (P.with_message d bytes) (actions ++ HasPut (next_of (P.queue d)) bytes ∷ [])
-  Marks : (d : C) (actions : List Action) (mark : Mark) → Accepts P c d actions → CanClose (P.queue d)
+  Message : (d : C) (actions : List Action) (bytes : List ℕ) → Accepts P c d actions
+      → CanPut (P.queue d) (length bytes) → All (λ byte. byte < 256) bytes
+      → Accepts P c (P.with_message d bytes) (actions ++ HasPut (next_of (P.queue d)) bytes ∷ [])
+  Marks : (d : C) (actions : List Action) (mark : Mark) → Accepts P c d actions
+      → CanClose (P.queue d)
       → Accepts P c (P.with_mark d mark) (actions ++ HasMarked mark ∷ [])
 
--- Whatever a sender that has done this accepts next, it numbers each message by how many it has put before, from its first number on.
+-- Whatever a sender that has done this accepts next, it numbers each message by how many it has put
+-- before, from its first number on.
 abbrev pub Numbers : {C : Type 0} → Process C → C → SenderTrail → Type 0
-Numbers {C} P c did = (d : C) (actions : List Action) → Accepts P c d actions → (size : ℕ) → CanPut (P.queue d) size → next_of (P.queue d) ≡ did.first + length (puts (did.actions ++ actions))
+Numbers {C} P c did =
+    (d : C) (actions : List Action) → Accepts P c d actions → (size : ℕ) → CanPut (P.queue d) size
+    → next_of (P.queue d) ≡ did.first + length (puts (did.actions ++ actions))
 
--- the same actions, as the batches show them: the messages of the one that the other does not have yet, and the mark
+-- the same actions, as the batches show them: the messages of the one that the other does not have
+-- yet, and the mark
 abbrev pub puts_from : ℕ → List (List ℕ) → List Action
 puts_from first [] = []
 puts_from first (bytes ∷ more) = HasPut first bytes ∷ puts_from (first + 1) more
@@ -46,7 +58,9 @@ marks_since before (Marking mark) = if is_marking before then [] else HasMarked 
 marks_since before Closed = []
 
 abbrev pub accepted_since : Pending → Pending → List Action
-accepted_since before now = puts_from (next_of before) (drop (length before.messages) now.messages) ++ marks_since before.phase now.phase
+accepted_since before now =
+    puts_from (next_of before) (drop (length before.messages) now.messages)
+    ++ marks_since before.phase now.phase
 
 -- since the last step of a seat with this view its sender, which is now d, has accepted this
 abbrev pub since_in : {C : Type 0} → Process C → View C → C → List Action
@@ -113,8 +127,10 @@ Told (Store at value) found got = Unit {0}
 Told (Add at value) found got = got ≡ found
 Told (Cas at expected value) found got = got ≡ found
 
--- a seat after the step of a sender d, whatever it showed before: d with its turn, and its trail with what it accepted and with this step
-pub record Gone {C : Type 0} (P : Process C) (d : C) (word : ℕ) (m : Sat C) (got : ℕ) (m' : Sat C) : Type 0 where
+-- a seat after the step of a sender d, whatever it showed before: d with its turn, and its trail
+-- with what it accepted and with this step
+pub record Gone {C : Type 0} (P : Process C) (d : C) (word : ℕ) (m : Sat C) (got : ℕ) (m' : Sat C) :
+    Type 0 where
   -- what was at home, and what the word had, before the step
   pub home : Option Page
   pub taken : (t : ℕ) → P.move d ≡ Comes t → (page : Page) × (home ≡ Some page)
@@ -124,9 +140,14 @@ pub record Gone {C : Type 0} (P : Process C) (d : C) (word : ℕ) (m : Sat C) (g
   pub answer : P.answer d got word ≡ P.answer d found word
   pub counted : IsCounted P (P.after d home got word)
   pub laid : P.awaits (P.after d home got word) ≡ false
-  pub numbered : Numbers P (P.after d home got word) (with_sender_trail (all_in P m.0 d) (P.adds d found word))
+  pub numbered : Numbers P (P.after d home got word)
+      (with_sender_trail (all_in P m.0 d) (P.adds d found word))
   pub ends : EndsBy P d (P.fed d got word) (P.after d home got word) home (P.move d)
-  pub now : m' ≡ (Sender (P.after d home got word) (with_sender_trail (all_in P m.0 d) (P.adds d found word)) (stored_by (P.op d word) (stored_in m.0)), carried_by (P.move d) home m.1)
+  pub now : m' ≡ (
+    Sender (P.after d home got word) (with_sender_trail (all_in P m.0 d) (P.adds d found word))
+        (stored_by (P.op d word) (stored_in m.0)),
+    carried_by (P.move d) home m.1,
+  )
 
 -- the same of the sender that a call picks
 abbrev pub GoesOn : {C : Type 0} → Process C → Option C → ℕ → Sat C → ℕ → Sat C → Type 0
@@ -134,11 +155,15 @@ GoesOn P None word m got m' = Unit {0}
 GoesOn P (Some d) word m got m' = Gone P d word m got m'
 
 -- a step o is due of a sender d, whose seat shows it as it was after its last step
-pub record IsDue {C : Type 0} (P : Process C) (d : C) (word : ℕ) (m : Sat C) (words : ℕ) (o : Op) : Type 0 where
+pub record IsDue {C : Type 0} (P : Process C) (d : C) (word : ℕ) (m : Sat C) (words : ℕ) (o : Op) :
+    Type 0 where
   pub shown : C
   pub actions : List Action
   pub accepts : Accepts P shown d actions
-  pub me : m ≡ (Sender shown (sender_trail_in m.0) (stored_in m.0), out_with (P.move d) (carried_of (P.holds d)))
+  pub me : m ≡ (
+    Sender shown (sender_trail_in m.0) (stored_in m.0),
+    out_with (P.move d) (carried_of (P.holds d)),
+  )
   pub due : P.op d word ≡ Some o
   pub below : register o < (P.table_layout d).words
   pub wide : words ≡ (P.table_layout d).words
@@ -156,22 +181,29 @@ pub record Learns {C : Type 0} (m : Sat C) (got : ℕ) (m' : Sat C) : Type 0 whe
   pub length_is : length known ≡ got
   pub within : length known ≤ capacity_in m.0
 
--- What is known is a log that holds of a sender c, which has done these actions, exactly what it has put and does not wait any more,
--- and that reaches to each length that it has stored.
-pub record KnowsSent {C : Type 0} (P : Process C) (c : C) (actions : List Action) (stored : ℕ) (known : List ℕ) : Type 0 where
+-- What is known is a log that holds of a sender c, which has done these actions, exactly what it
+-- has put and does not wait any more, and that reaches to each length that it has stored.
+pub record KnowsSent {C : Type 0} (P : Process C) (c : C) (actions : List Action) (stored : ℕ)
+    (known : List ℕ) : Type 0 where
   pub order : Order
   pub owners : List (ℕ × SenderNo)
   pub spelled : Spells (P.table_layout c).senders known order owners
   pub sent : map (λ (i : Item). i.message) (of_sender (P.me c) order) ++ P.waiting c ≡ puts actions
   pub long : stored ≤ length known
 
--- what the joined seats know of the log grows to this; a sender may have accepted more since its last step; and two receivers agree
+-- what the joined seats know of the log grows to this; a sender may have accepted more since its
+-- last step; and two receivers agree
 abbrev pub GrowsTo : {C : Type 0} → Process C → View C → List ℕ → Type 0
 GrowsTo P (Maker x made) known = Unit {0}
 GrowsTo P (Sender c sender_trail stored) known = Unit {0}
 GrowsTo P (Tap x e) known = Unit {0}
-GrowsTo P (Meeting x e y f) known = IsPrefix e.known known × IsPrefix f.known known × (length known ≤ x.capacity) × (length known ≤ y.capacity) × Agree e f
-GrowsTo {C} P (Telling c sender_trail stored x e) known = IsPrefix e.known known × (length known ≤ x.capacity) × ((a : C) (actions : List Action) → Accepts P c a actions → KnowsSent P a (sender_trail.actions ++ actions) stored known)
+GrowsTo P (Meeting x e y f) known =
+    IsPrefix e.known known × IsPrefix f.known known × (length known ≤ x.capacity)
+    × (length known ≤ y.capacity) × Agree e f
+GrowsTo {C} P (Telling c sender_trail stored x e) known =
+    IsPrefix e.known known × (length known ≤ x.capacity)
+    × ((a : C) (actions : List Action) → Accepts P c a actions
+    → KnowsSent P a (sender_trail.actions ++ actions) stored known)
 GrowsTo P Spent known = Unit {0}
 
 -- of the length, by two joined seats
@@ -191,5 +223,8 @@ pub record Met {C : Type 0} (P : Process C) (m n : Sat C) (got : ℕ) (m' n' : S
 
 -- of a word of the log below the length that it knows, out of turn
 pub record Reads {C : Type 0} (m : Sat C) (word got : ℕ) (m' : Sat C) : Type 0 where
-  pub now : m' ≡ (with_receiver_view m.0 (receiver_view_after_load (receiver_view_in m.0)), m.1)
+  pub now : m' ≡ (
+    with_receiver_view m.0 (receiver_view_after_load (receiver_view_in m.0) word),
+    m.1,
+  )
   pub got_is : got ≡ slice_index (known_in m.0) (word - (table_layout_in m.0).log)

@@ -3,7 +3,8 @@ use Rattle.std.specs.Prelude.{ℕ, ◌+◌, List, [], ◌∷◌, length}
 use Rattle.bus_world.specs.Headline.{Action, HasPut, HasMarked, Stepped}
 use Rattle.bus_automaton.specs.SenderTrails.{SenderTrail}
 use Rattle.bus_pageslot.specs.declared.rule.View.{View}
-use Rattle.bus_pageslot.specs.declared.rule.View.TheVariants.{Maker, Sender, Tap, Meeting, Telling, Spent}
+use Rattle.bus_pageslot.specs.declared.rule.View.TheVariants.{Maker, Sender, Tap, Meeting, Telling}
+use Rattle.bus_pageslot.specs.declared.rule.View.TheVariants.{Spent}
 
 -- among these actions, of which a put and a mark are none
 abbrev pub steps_among : List Action → ℕ
@@ -16,11 +17,12 @@ steps_among (Stepped tenure k found chose answer ∷ more) = steps_among more + 
 abbrev pub steps_in : SenderTrail → ℕ
 steps_in t = steps_among t.actions + length t.pins + length t.reclaims
 
--- those of a view: of a sender its steps, and of a receiver its loads; a seat that makes others has none
+-- those of a view: of a sender its steps, and of a receiver its loads; a seat that makes others has
+-- none
 abbrev pub steps_shown : {C : Type 0} → View C → ℕ
 steps_shown (Maker x made) = 0
 steps_shown (Sender c sender_trail stored) = steps_in sender_trail
-steps_shown (Tap x e) = e.loads
-steps_shown (Meeting x e y f) = e.loads + f.loads
-steps_shown (Telling c sender_trail stored x e) = steps_in sender_trail + e.loads
+steps_shown (Tap x e) = length e.loads
+steps_shown (Meeting x e y f) = length e.loads + length f.loads
+steps_shown (Telling c sender_trail stored x e) = steps_in sender_trail + length e.loads
 steps_shown Spent = 0

@@ -10,8 +10,11 @@ use Rattle.bus_tenure.specs.declared.turns.Turn.{Turn}
 use Rattle.bus_world.specs.Headline.{Action}
 use Rattle.bus_pageslot.specs.declared.rule.View.{View}
 
--- It is so of the words of this table, as a machine of these sizes has them, and of all that the sender did, this step included.
-pub record IsTrueAnswer {E : Type 0} (x : Layout) (reuse : Option ℕ) (s : State (Option Page) (View (Sender E))) (d : Sender E) (actions : List Action) (answer : Turn) : Type 0 where
+-- It is so of the words of this table, as a machine of these sizes has them, and of all that the
+-- sender did, this step included.
+pub record IsTrueAnswer {E : Type 0} (x : Layout) (reuse : Option ℕ)
+    (s : State (Option Page) (View (Sender E))) (d : Sender E) (actions : List Action)
+    (answer : Turn) : Type 0 where
   pub machine : Machine E
   pub layout : machine.layout ≡ x
   pub rows_are : machine.reuse ≡ reuse

@@ -12,74 +12,82 @@ use Rattle.bus_tenure.specs.declared.turns.Turn.TheVariants as turn
 use Rattle.rand_core.specs.Stream.{Stream, next_u32}
 use Rattle.bus_automaton.specs.Processes.{Process}
 use Rattle.bus_pageslot.specs.Seats.{SenderSeat, TookAndTold}
-use Rattle.bus_automaton.specs.LastAnswers.{is_last}
+use Rattle.bus_tenure.specs.Classes.{is_last, is_waiting}
 
--- what an answer tells of the sender as it was: where no step was due, and of a step that found this number, with this random word
+-- what an answer tells of the sender as it was: where no step was due, and of a step that found
+-- this number, with this random word
 pub record Tellings (C : Type 0) : Type 1 where
   pub rest : C → Turn → Type 0
   pub step : C → (got word : ℕ) → Turn → Type 0
 
 -- of the senders of a bus, made of a ratifier's members one by one; this does not unfold of itself
-unfoldable pub tells_with : {S : Type 0} → (S → Option Kind) → (S → ℕ → Option Op) → (S → ℕ → ℕ → S) → Protocol S Bool Verdict → Tellings (Sender (Elector S))
-tells_with kind op fed P = record { rest = RestTells; step = FeedTells (election_with kind op fed P) }
+unfoldable pub tells_with : {S : Type 0} → (S → Option Kind) → (S → ℕ → Option Op) → (S → ℕ → ℕ → S)
+    → Protocol S Bool Verdict → Tellings (Sender (Elector S))
+tells_with kind op fed P = record {
+  rest = RestTells;
+  step = FeedTells (election_with kind op fed P);
+}
 
 -- and of all of them
 abbrev pub tells_by : {S : Type 0} → Ratifying S → Tellings (Sender (Elector S))
 tells_by q = tells_with q.kind_of q.op q.fed q.protocol
 
 -- one turn: the step that is due, and where none is nothing; with what its answer tells
-pub record Turned {C : Type 0} (P : Process C) (T : Tellings C) (old : SenderSeat C) (word : ℕ) (answer : Turn) (new : SenderSeat C) : Type 0 where
-  pub rests : P.op old.core word ≡ None → (new ≡ old) × (answer ≡ P.rest old.core) × T.rest old.core answer
+pub record Turned {C : Type 0} (P : Process C) (T : Tellings C) (old : SenderSeat C) (word : ℕ)
+    (answer : Turn) (new : SenderSeat C) : Type 0 where
+  pub rests : P.op old.core word ≡ None
+      → (new ≡ old) × (answer ≡ P.rest old.core) × T.rest old.core answer
   pub steps : (op : Op) → P.op old.core word ≡ Some op → TookAndTold P T.step old word answer new
 
--- another sender has to go on first: the one that holds the page, or one that pins a tenure still
-abbrev pub is_waiting : Turn → Bool
-is_waiting turn.Idle = false
-is_waiting turn.Waiting = true
-is_waiting turn.Going = false
-is_waiting (turn.Lost t owner) = false
-is_waiting (turn.Own t) = false
-is_waiting (turn.Delivered t first last) = false
-is_waiting (turn.Left t) = false
-is_waiting turn.Full = false
-is_waiting turn.Closed = false
-is_waiting turn.Spent = false
-is_waiting (turn.Behind t sender) = true
-
 -- turns, none of them a last one, led from one sender to another
-pub data TurnsOn {C : Type 0} (P : Process C) (T : Tellings C) (first : SenderSeat C) : SenderSeat C → Type 0 where
+pub data TurnsOn {C : Type 0} (P : Process C) (T : Tellings C) (first : SenderSeat C) : SenderSeat C
+    → Type 0 where
   Here : TurnsOn P T first first
-  More : (old : SenderSeat C) (word : ℕ) (answer : Turn) (new : SenderSeat C) → TurnsOn P T first old → Turned P T old word answer new → is_last answer ≡ false → TurnsOn P T first new
+  More : (old : SenderSeat C) (word : ℕ) (answer : Turn) (new : SenderSeat C)
+      → TurnsOn P T first old → Turned P T old word answer new → is_last answer ≡ false
+      → TurnsOn P T first new
 
 -- a turn of a sender whose next step was plain: it answered Going, and asked for no random word
-pub record TurnsPlainly {C : Type 0} (P : Process C) (T : Tellings C) (Plain : C → Type 0) (old new : SenderSeat C) : Type 0 where
+pub record TurnsPlainly {C : Type 0} (P : Process C) (T : Tellings C) (Plain : C → Type 0)
+    (old new : SenderSeat C) : Type 0 where
   pub plain : Plain old.core
   pub wordless : P.wants_word old.core ≡ false
   pub turned : Turned P T old 0 turn.Going new
 
 -- such turns, one or more, led from one sender to another
-pub data GoesPlainly {C : Type 0} (P : Process C) (T : Tellings C) (Plain : C → Type 0) (first : SenderSeat C) : SenderSeat C → Type 0 where
+pub data GoesPlainly {C : Type 0} (P : Process C) (T : Tellings C) (Plain : C → Type 0)
+    (first : SenderSeat C) : SenderSeat C → Type 0 where
   First : (new : SenderSeat C) → TurnsPlainly P T Plain first new → GoesPlainly P T Plain first new
-  Next : (old new : SenderSeat C) → GoesPlainly P T Plain first old → TurnsPlainly P T Plain old new → GoesPlainly P T Plain first new
+  Next : (old new : SenderSeat C) → GoesPlainly P T Plain first old → TurnsPlainly P T Plain old new
+      → GoesPlainly P T Plain first new
 
 -- turns up to a last one, which answered so
-pub record Sends {C : Type 0} (P : Process C) (T : Tellings C) (first : SenderSeat C) (answer : Turn) (new : SenderSeat C) : Type 0 where
+pub record Sends {C : Type 0} (P : Process C) (T : Tellings C) (first : SenderSeat C)
+    (answer : Turn) (new : SenderSeat C) : Type 0 where
   pub old : SenderSeat C
   pub word : ℕ
   pub before : TurnsOn P T first old
   pub turned : Turned P T old word answer new
   pub last : is_last answer ≡ true
 
--- ---- turns between which a function is asked whether to go on; Tells f told f' where a call of f may tell that, and leaves f'
--- Turns, none of them a last one, led from one sender to another. For each that answered Waiting or Behind, and for no other, there is a call
--- of the function that told to go on; each call found it as the call before had left it. When it was made is not said.
-pub data AsksOn {C F : Type 0} (P : Process C) (T : Tellings C) (Tells : F → Bool → F → Type 0) (first : SenderSeat C) (given : F) : SenderSeat C → F → Type 0 where
+-- ---- turns between which a function is asked whether to go on; Tells f told f' where a call of f
+-- may tell that, and leaves f' Turns, none of them a last one, led from one sender to another. For
+-- each that answered Waiting or Behind, and for no other, there is a call of the function that told
+-- to go on; each call found it as the call before had left it. When it was made is not said.
+pub data AsksOn {C F : Type 0} (P : Process C) (T : Tellings C) (Tells : F → Bool → F → Type 0)
+    (first : SenderSeat C) (given : F) : SenderSeat C → F → Type 0 where
   Begins : AsksOn P T Tells first given first given
-  Goes : (old : SenderSeat C) (f : F) (word : ℕ) (answer : Turn) (new : SenderSeat C) → AsksOn P T Tells first given old f → Turned P T old word answer new → is_last answer ≡ false → is_waiting answer ≡ false → AsksOn P T Tells first given new f
-  Asks : (old : SenderSeat C) (f : F) (word : ℕ) (answer : Turn) (new : SenderSeat C) (f' : F) → AsksOn P T Tells first given old f → Turned P T old word answer new → is_waiting answer ≡ true → Tells f true f' → AsksOn P T Tells first given new f'
+  Goes : (old : SenderSeat C) (f : F) (word : ℕ) (answer : Turn) (new : SenderSeat C)
+      → AsksOn P T Tells first given old f → Turned P T old word answer new → is_last answer ≡ false
+      → is_waiting answer ≡ false → AsksOn P T Tells first given new f
+  Asks : (old : SenderSeat C) (f : F) (word : ℕ) (answer : Turn) (new : SenderSeat C) (f' : F)
+      → AsksOn P T Tells first given old f → Turned P T old word answer new
+      → is_waiting answer ≡ true → Tells f true f' → AsksOn P T Tells first given new f'
 
 -- such turns up to a last one, which answered so
-pub record SendsAsking {C F : Type 0} (P : Process C) (T : Tellings C) (Tells : F → Bool → F → Type 0) (first : SenderSeat C) (given : F) (answer : Turn) (new : SenderSeat C) : Type 0 where
+pub record SendsAsking {C F : Type 0} (P : Process C) (T : Tellings C)
+    (Tells : F → Bool → F → Type 0) (first : SenderSeat C) (given : F) (answer : Turn)
+    (new : SenderSeat C) : Type 0 where
   pub old : SenderSeat C
   pub asked : F
   pub word : ℕ
@@ -87,8 +95,11 @@ pub record SendsAsking {C F : Type 0} (P : Process C) (T : Tellings C) (Tells : 
   pub turned : Turned P T old word answer new
   pub last : is_last answer ≡ true
 
--- such turns up to one that answered Waiting or Behind, after which the function was asked and told to stop
-pub record StopsWaiting {C F : Type 0} (P : Process C) (T : Tellings C) (Tells : F → Bool → F → Type 0) (first : SenderSeat C) (given : F) (new : SenderSeat C) : Type 0 where
+-- such turns up to one that answered Waiting or Behind, after which the function was asked and told
+-- to stop
+pub record StopsWaiting {C F : Type 0} (P : Process C) (T : Tellings C)
+    (Tells : F → Bool → F → Type 0) (first : SenderSeat C) (given : F) (new : SenderSeat C) :
+    Type 0 where
   pub old : SenderSeat C
   pub asked : F
   pub word : ℕ
@@ -100,13 +111,18 @@ pub record StopsWaiting {C F : Type 0} (P : Process C) (T : Tellings C) (Tells :
   pub told : Tells asked false left
 
 -- ---- the random words of turns, from what a generator will answer
--- the word of a turn, and what the generator is left with: of a vote the next word, and else none is drawn
+-- the word of a turn, and what the generator is left with: of a vote the next word, and else none
+-- is drawn
 abbrev pub word_drawn : Bool → Stream → ℕ × Stream
 word_drawn true words = next_u32 words
 word_drawn false words = (0, words)
 
--- Turns led from one sender to another, and their words from what a generator was to answer to what it is left with: each turn that
--- asks for a word takes the next one, and no other word is drawn.
-pub data DrawsOn {C : Type 0} (P : Process C) (T : Tellings C) (first : SenderSeat C) (given : Stream) : SenderSeat C → Stream → Type 0 where
+-- Turns led from one sender to another, and their words from what a generator was to answer to what
+-- it is left with: each turn that asks for a word takes the next one, and no other word is drawn.
+pub data DrawsOn {C : Type 0} (P : Process C) (T : Tellings C) (first : SenderSeat C)
+    (given : Stream) : SenderSeat C → Stream → Type 0 where
   Undrawn : DrawsOn P T first given first given
-  Drawn : (old : SenderSeat C) (words : Stream) (answer : Turn) (new : SenderSeat C) → DrawsOn P T first given old words → Turned P T old (word_drawn (P.wants_word old.core) words).0 answer new → DrawsOn P T first given new (word_drawn (P.wants_word old.core) words).1
+  Drawn : (old : SenderSeat C) (words : Stream) (answer : Turn) (new : SenderSeat C)
+      → DrawsOn P T first given old words
+      → Turned P T old (word_drawn (P.wants_word old.core) words).0 answer new
+      → DrawsOn P T first given new (word_drawn (P.wants_word old.core) words).1

@@ -30,8 +30,9 @@ use std::marker::Model;
 /// A bus with its senders and its receivers.
 type Made<Q> = (Bus<Q>, Vec<Sender<Q>>, Vec<Tap<Q>>);
 
-/// A bus that threads share by `&`, without a lock: each step of a sender or of a receiver is one
-/// atomic step on one word of its table.
+/// A bus that threads share by `&`: each step of a sender or of a receiver is one atomic step on
+/// one word of its table. The election of an owner is wait-free, and the append is not: who is
+/// elected holds the page as one holds a lock, and if it stops there nobody else appends.
 #[derive(Drop)]
 pub struct Bus<Q: Ratifier = ThreeWord> {
     pub(crate) words: Words<Q>,
@@ -148,6 +149,20 @@ impl<Q: Ratifier + Drop> Bus<Q> {
             (MakeRefusedAfter shape (Some shape.rows) (option_copied page.entry)) }
     {
         make(alloc, Plan::cyclic(shape), page)
+    }
+
+    /// How many senders it has.
+    pub fn senders(&self) -> u64
+        ensures { result ≡ self.now.plan.shape.senders }
+    {
+        self.senders
+    }
+
+    /// The number of each sender's first message.
+    pub fn bases(&self) -> [u64; MOST_SENDERS]
+        ensures { result ≡ self.now.plan.bases }
+    {
+        self.bases
     }
 
     /// Ends the bus, by a receiver of it: its log and its page, where the page is at home, and

@@ -16,10 +16,10 @@ ghost use Rattle.bus_core.specs.Telling.{FeedTells};
 ghost use Rattle.bus_deliverylog.specs.declared.receiving.RecvTurn.{RecvTurn};
 ghost use Rattle.bus_core.specs.Reusing.Participants.{sizes_with};
 ghost use Rattle.bus_machine.specs.Playing.{layout_of};
-ghost use Rattle.bus_machine.specs.Promise.{words_of_frame};
+ghost use Rattle.bus_machine.specs.Machine.{words_of_frame};
 ghost use Rattle.bus_ownerbits.specs.Sizes.{election_bound};
 ghost use Rattle.bus_presence.specs.Reclamation.{presence_at};
-ghost use Rattle.bus_tenure.specs.Core.{Layout};
+ghost use Rattle.bus_tenure.specs.Core.{Layout, length_at};
 ghost use Rattle.bus_tenure.specs.Elections.{Elector, election_of};
 ghost use Rattle.bus_tenure.specs.declared.pages.Page.{Page};
 ghost use Rattle.bus_tenure.specs.declared.turns.Turn.{Turn};
@@ -30,15 +30,15 @@ ghost use Rattle.bus_automaton.specs.Buses.{process_by, automaton_by, plan_after
 ghost use Rattle.bus_automaton.specs.Processes.{TableLayout, base_in, log_below};
 ghost use Rattle.bus_automaton.specs.SenderTrails.{SenderTrail, with_sender_trail};
 ghost use Rattle.bus_automaton.specs.declared.plans.Plan.{Plan};
-ghost use Rattle.bus_pageslot.specs.ReceiverViews.{ReceiverView};
+ghost use Rattle.bus_pageslot.specs.ReceiverViews.{ReceiverView, receiver_view_after_load};
 ghost use Rattle.bus_pageslot.specs.declared.rule.View.{View};
 ghost use Rattle.bus_pageslot.specs.declared.rule.View.TheVariants as view;
 ghost use Rattle.bus_pageslot.specs.Buses.{IsNewSeat};
 ghost use Rattle.bus_pageslot.specs.Carried.{WereAnswered};
 ghost use Rattle.bus_pageslot.specs.Histories.{HasHistory, Shown};
-ghost use Rattle.bus_pageslot.specs.Listening.{Hears};
+ghost use Rattle.bus_pageslot.specs.Listening.{Hears, due_load};
 ghost use Rattle.bus_pageslot.specs.Promised.{IsPromised};
-ghost use Rattle.bus_pageslot.specs.Rule.{Sat, TableInvariant, slot_of};
+ghost use Rattle.bus_pageslot.specs.Rule.{Sat, TableInvariant, slot_of, receiver_view_in};
 ghost use Rattle.bus_pageslot.specs.SafeSeats.{AreSafe, LeavesPast};
 ghost use Rattle.bus_pageslot.specs.Seats.{SenderSeat, TookAndTold, sender_trail_of, actions_of};
 ghost use Rattle.bus_pageslot.specs.Sendings.{Carries, waiting_of};
@@ -50,7 +50,9 @@ ghost use Rattle.bus_pageslot.specs.Turns.{Turned, tells_by};
 
 use bus_adoptcommit::Ratifier;
 use bus_automaton::laws::threads_may_go_by;
-use bus_machine::laws::{events_keep_promise, machine_keeps_promise, steps_are_bounded};
+use bus_machine::laws::{
+    events_keep_promise, history_stands, machine_keeps_promise, steps_are_bounded,
+};
 use bus_ownerbits::laws::election_is_lawful;
 
 /// Whenever the rule of the table holds, which is between any two steps of any threads, the page
@@ -128,6 +130,7 @@ pub fn tables_are_machines<Q: Ratifier>()
 {
     machine_keeps_promise::<Q>();
     steps_are_bounded::<Q>();
+    history_stands::<Q>();
 }
 
 /// The log below the length grows with no step of a sender but the one that stores the length, and
@@ -221,18 +224,23 @@ pub fn behind_shows_its_load<Q: Ratifier>()
 {}
 
 /// No turn of a receiver, but after the end, leaves its seat as it was: so none answers without a
-/// step on the table. Nor is a receiver told a length, or met, without one.
+/// step on the table. Nor is a receiver told a length, or met, without one, or by a load of another
+/// word than the length.
 pub fn no_turn_without_a_load<Q: Ratifier>()
     ensures turns { (x : TableLayout) (e : ReceiverView) (answer : RecvTurn) → e.ended ≡ false
         → e.place ≤ length e.known
         → ¬ Hears {C = Sender (Elector Q)} (view.Tap x e, []) answer (view.Tap x e, []) }
     ensures told { (x : TableLayout) (e : ReceiverView) (got : ℕ)
         → ¬ Learns {C = Sender (Elector Q)} (view.Tap x e, []) got (view.Tap x e, []) }
+    ensures elsewhere { (x : TableLayout) (e : ReceiverView) (got word : ℕ) → word ≢ length_at
+        → ¬ Learns {C = Sender (Elector Q)} (view.Tap x e, []) got
+        (view.Tap x (receiver_view_after_load e word), []) }
 {}
 
 /// A turn takes at most one step. Of a sender of which one is due the seat shows one step more
-/// afterwards, and else the sender is as it was. Of a receiver the seat shows one load more, and
-/// after the end it is as it was.
+/// afterwards, and else the sender is as it was. Of a receiver the seat shows one load more, of the
+/// length where it has read all that it knows, and else of the word at its place. After the end it
+/// is as it was.
 pub fn turns_take_one_step<Q: Ratifier>()
     ensures sender { let P = process_by Q.Ratifier in
         (old new : SenderSeat (Sender (Elector Q))) (word : ℕ) (answer : Turn) (o : Op)
@@ -240,7 +248,11 @@ pub fn turns_take_one_step<Q: Ratifier>()
         → steps_in (sender_trail_of P new) ≡ steps_in (sender_trail_of P old) + 1 }
     ensures receiver { (x : TableLayout) (e : ReceiverView) (answer : RecvTurn)
         (m : Sat (Sender (Elector Q))) → e.ended ≡ false → e.place ≤ length e.known
-        → Hears (view.Tap x e, []) answer m → steps_shown m.0 ≡ e.loads + 1 }
+        → Hears (view.Tap x e, []) answer m → steps_shown m.0 ≡ length e.loads + 1 }
+    ensures loads { (x : TableLayout) (e : ReceiverView) (answer : RecvTurn)
+        (m : Sat (Sender (Elector Q))) → e.ended ≡ false → e.place ≤ length e.known
+        → Hears (view.Tap x e, []) answer m
+        → (receiver_view_in m.0).loads ≡ e.loads ++ due_load x e ∷ [] }
 {
     threads_may_go_by::<Q>();
 }

@@ -1,4 +1,4 @@
-//! A bus on a table of words, with no lock.
+//! A bus between threads, on a table of atomic words.
 //!
 //! A bus of one sender and one receiver, from its making to its end:
 //!
@@ -7,6 +7,7 @@
 //! use bus_deliverylog::RecvTurn;
 //! use bus_pageslot::Bus;
 //! use bus_tenure::Turn;
+//! use bus_waiting::Waiter;
 //! use bus_world::Shape;
 //! use rand_pcg::Pcg32;
 //!
@@ -15,7 +16,7 @@
 //! let mut sender = senders.pop().context("a sender")?;
 //! let mut tap = taps.pop().context("a tap")?;
 //! sender.put(b"hello")?;
-//! let sent = sender.send(&rt, &bus, &mut Pcg32::new(0, 0));
+//! let sent = sender.send(&Waiter::yielding(&rt), &bus, &mut Pcg32::new(0, 0));
 //! assert!(rt; matches!(sent, Turn::Delivered { .. }));
 //! assert_eq!(rt; tap.turn(&bus), RecvTurn::Going);
 //! let ended = bus.end(tap)?;

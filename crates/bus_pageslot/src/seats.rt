@@ -1,16 +1,18 @@
 //! A sender with its seat.
 
 ghost use Rattle.std.specs.Prelude.{◌≡◌, ℕ, ◌+◌, ◌<◌, List, [], ◌∷◌, ◌++◌, None};
-ghost use Rattle.std.specs.Prelude.{Some, IfSome, IfNone, IfOk, IfErr, IsSome};
+ghost use Rattle.std.specs.Prelude.{Some, IfSome, IfNone, IfOk, IfErr, IsSome, Err};
 ghost use Rattle.std.specs.Prelude.{OnOk, OnErr, length, ◌-◌, ◌≤◌, IsTrue, true, false, ◌↔◌};
 ghost use Rattle.bus_batch.specs.Batches.{next_of, CanPut, IsPutFault, CanClose, IsCloseFault};
 ghost use Rattle.bus_core.specs.Causes.{HasCause};
 ghost use Rattle.bus_core.specs.Plain.{IsPlain, StoresPlain};
+ghost use Rattle.bus_core.specs.Seen.{tenure_begun};
 ghost use Rattle.bus_core.specs.Telling.{FeedTells, RestTells};
 ghost use Rattle.bus_batch.specs.declared.messages.Mark.TheVariants as mark;
 ghost use Rattle.bus_tenure.specs.Core.{is_closed, is_leaving};
 ghost use Rattle.bus_tenure.specs.declared.turns.Turn.TheVariants as turn;
 ghost use Rattle.bus_tenure.specs.Elections.{election_of};
+ghost use Rattle.bus_tenure.specs.Seen.{HasElection};
 ghost use Rattle.bus_register.specs.declared.kinds.Kind.TheVariants as kind;
 ghost use Rattle.bus_register.specs.declared.registers.Op.{Op as Step};
 ghost use Rattle.bus_world.specs.Headline.{HasPut, HasMarked, puts};
@@ -20,15 +22,17 @@ ghost use Rattle.bus_pageslot.specs.Rule.{known_in, stored_in};
 ghost use Rattle.bus_pageslot.specs.Steps.{Learns, KnowsSent};
 ghost use Rattle.bus_pageslot.specs.Seats.{Shows, TookAndTold, table_of};
 ghost use Rattle.bus_pageslot.specs.Seats.{first_number_of, actions_of, stored_of};
-ghost use Rattle.bus_pageslot.specs.Turns.{tells_by, Sends, is_waiting, GoesPlainly};
+ghost use Rattle.bus_pageslot.specs.Turns.{tells_by, Sends, GoesPlainly};
 ghost use Rattle.bus_pageslot.specs.Turns.{SendsAsking, StopsWaiting, DrawsOn, word_drawn};
 ghost use Rattle.bus_automaton.specs.Buses.{process_by};
-ghost use Rattle.bus_automaton.specs.LastAnswers.{is_last, is_refusal};
+ghost use Rattle.bus_tenure.specs.Classes.{is_last, is_refusal, is_waiting};
 ghost use Rattle.bus_pageslot.specs.Sendings.{waiting_of, SendsOff, KeepsFor, FillsBatches};
 ghost use Rattle.bus_pageslot.specs.Sendings.{KeptAfter};
 ghost use Rattle.bus_pageslot.specs.Sendings.{HasSent, StopsAt, HasSentPart};
 ghost use Rattle.bus_pageslot.specs.Sendings.{Carries, CarryRefused};
 ghost use Rattle.bus_pageslot.specs.SendFaults.{send_fault_text};
+
+mod finishing;
 
 use crate::buses::Bus;
 use crate::rule::BusSeat;
@@ -40,7 +44,7 @@ use bus_core::SenderCore;
 use bus_register::limits::MOST_MESSAGES;
 use bus_register::{Kind, SenderNo};
 use bus_tenure::Turn;
-use crossbeam_utils::Backoff;
+use bus_waiting::Waiter;
 use rand_core::Rng;
 use std::error::Error;
 use std::fmt;
@@ -203,9 +207,18 @@ impl<Q: Ratifier + Drop> Sender<Q> {
     /// How many turns its election takes at most, with the one that takes the page; 0 where none
     /// is begun.
     pub fn turns_left(&self) -> u64
-        ensures { result ≡ (process_by Q.Ratifier).turns_left self.now.core }
+        ensures turns { result ≡ (process_by Q.Ratifier).turns_left self.now.core }
+        ensures running { HasElection self.now.core.core.phase → 1 ≤ result }
     {
         self.core.turns_left()
+    }
+
+    /// The tenure that it has begun, or whose page it has: from the turn on that looked at the
+    /// stage and found a tenure that it may enter. Others may wait for it as long as there is one.
+    pub fn tenure(&self) -> Option<u64>
+        ensures { result ≡ tenure_begun self.now.core }
+    {
+        self.core.tenure()
     }
 
     /// Appends a message of at most 56 bytes to its batch of at most 16, and gives its number,
@@ -267,19 +280,34 @@ impl<Q: Ratifier + Drop> Sender<Q> {
         self.core.leave()
     }
 
+    /// The page lies before it.
+    fn holds_page(&self) -> bool
+        ensures { result ≡ (process_by Q.Ratifier).holds self.now.core }
+    {
+        self.core.holds_page()
+    }
+
     /// Puts the messages that wait in its batch into that of `next`, in their order and behind what
     /// waits there; they wait here too. So what was not sent in one sitting goes on in the next:
     /// put first into the next sender of this number, messages get the numbers that they were
-    /// answered before. Gives BatchFull where they do not fit beside what waits there, and else
-    /// what a put gives. Takes no step. A fault changes nothing.
+    /// answered before.
+    ///
+    /// While it holds the page the answer is Busy: its messages may stand in the order already.
+    /// Else it is BatchFull where they do not fit beside what waits there, and otherwise what a put
+    /// gives, or Ok where none waits. Takes no step. A fault changes nothing.
     pub fn carry_to(&self, next: &mut Sender<Q>) -> Result<(), PutFault>
         ensures carried { OnOk result
             (Carries (process_by Q.Ratifier) self.now next.old next.new) }
+        ensures out { (process_by Q.Ratifier).holds self.now.core ≡ true
+            → result ≡ Err PutFault.Busy }
         ensures fault { IfErr result (CarryRefused (process_by Q.Ratifier) self.now next.old) }
         ensures refused { OnErr result (next.new.core ≡ next.old.core) }
         ensures seat { next.new.seat ≡ next.old.seat }
     {
         threads_may_go_by::<Q>();
+        if self.holds_page() {
+            return Err(PutFault::Busy);
+        }
         let room = (MOST_MESSAGES as u64).saturating_sub(next.pending());
         if self.pending() > room {
             return Err(PutFault::BatchFull);
@@ -410,7 +438,12 @@ impl<Q: Ratifier + Drop> Sender<Q> {
     /// Left, that the leave mark was published in that tenure. After Full, Closed or Spent the
     /// batch is kept. Each vote takes one word of `rng`, and nothing else takes one. It waits for
     /// nothing but its own next turn, and that it ends is not promised.
-    pub fn send<W: Wait, R: Rng>(&mut self, wait: &W, bus: &Bus<Q>, rng: &mut R) -> Turn
+    pub fn send<W: Wait, R: Rng>(
+        &mut self,
+        waiter: &Waiter<'_, W>,
+        bus: &Bus<Q>,
+        rng: &mut R,
+    ) -> Turn
         requires { table_of self.old ≡ bus.now.table }
         ensures table { table_of self.new ≡ table_of self.old }
         ensures sends { Sends (process_by Q.Ratifier) (tells_by Q.Ratifier) self.old result
@@ -422,7 +455,7 @@ impl<Q: Ratifier + Drop> Sender<Q> {
         ensures draws { DrawsOn (process_by Q.Ratifier) (tells_by Q.Ratifier) self.old
             (R.stream rng.old) self.new (R.stream rng.new) }
     {
-        self.send_while(wait, bus, rng, || true).unwrap()
+        self.send_while(waiter, bus, rng, || true).unwrap()
     }
 
     /// As `send`, but that it can be told to stop: each time a turn answers Waiting or Behind it
@@ -431,7 +464,7 @@ impl<Q: Ratifier + Drop> Sender<Q> {
     /// sender holds the page, which nobody else has until then.
     pub fn send_while<W: Wait, R: Rng, F: FnMut() -> bool>(
         &mut self,
-        wait: &W,
+        waiter: &Waiter<'_, W>,
         bus: &Bus<Q>,
         rng: &mut R,
         mut go_on: F,
@@ -454,25 +487,26 @@ impl<Q: Ratifier + Drop> Sender<Q> {
             (R.stream rng.old) self.new (R.stream rng.new) }
     {
         threads_may_go_by::<Q>();
-        let backoff = Backoff::new();
-        for _ in wait.forever() {
+        for _ in waiter.forever() {
             if self.plain_turns(bus) {
-                backoff.reset();
+                waiter.reset();
                 continue;
             }
             let word = self.next_word(rng);
             let turn = self.full_turn(bus, word);
             if ends_sending(turn) {
+                waiter.ring();
                 return Some(turn);
             }
             if !is_waiting(turn) {
-                backoff.reset();
+                waiter.reset();
                 continue;
             }
             if !go_on() {
+                waiter.ring();
                 return None;
             }
-            backoff.snooze();
+            rest_after(turn, waiter);
         }
         unreachable!()
     }
@@ -483,7 +517,7 @@ impl<Q: Ratifier + Drop> Sender<Q> {
     /// It waits as `send` does, and that it ends is not promised.
     pub fn send_all<W: Wait, R: Rng>(
         &mut self,
-        wait: &W,
+        waiter: &Waiter<'_, W>,
         bus: &Bus<Q>,
         rng: &mut R,
         messages: &[Message],
@@ -496,16 +530,16 @@ impl<Q: Ratifier + Drop> Sender<Q> {
             (tells_by Q.Ratifier) self.old messages.now unsent self.new) }
     {
         threads_may_go_by::<Q>();
-        let before = self.send_off(wait, bus, rng);
+        let before = self.send_off(waiter, bus, rng);
         if let Err(fault) = before {
             return Err(self.unsent(0, fault));
         }
         for (put, message) in messages.iter().enumerate() {
-            if let Err(fault) = self.put_or_send(wait, bus, rng, message) {
+            if let Err(fault) = self.put_or_send(waiter, bus, rng, message) {
                 return Err(self.unsent(put, fault));
             }
         }
-        let rest = self.send_off(wait, bus, rng);
+        let rest = self.send_off(waiter, bus, rng);
         if let Err(fault) = rest {
             return Err(self.unsent(messages.len(), fault));
         }
@@ -527,7 +561,7 @@ impl<Q: Ratifier + Drop> Sender<Q> {
     /// Puts a message, once a full batch before it is sent.
     fn put_or_send<W: Wait, R: Rng>(
         &mut self,
-        wait: &W,
+        waiter: &Waiter<'_, W>,
         bus: &Bus<Q>,
         rng: &mut R,
         message: &Message,
@@ -542,7 +576,7 @@ impl<Q: Ratifier + Drop> Sender<Q> {
             messages self.old → StopsAt P T first messages (Some message.now) fault self.new) }
     {
         threads_may_go_by::<Q>();
-        if let Err(fault) = self.make_room(wait, bus, rng) {
+        if let Err(fault) = self.make_room(waiter, bus, rng) {
             return Err(fault);
         }
         match self.put(message.as_slice()) {
@@ -554,7 +588,7 @@ impl<Q: Ratifier + Drop> Sender<Q> {
     /// Sends a full batch.
     fn make_room<W: Wait, R: Rng>(
         &mut self,
-        wait: &W,
+        waiter: &Waiter<'_, W>,
         bus: &Bus<Q>,
         rng: &mut R,
     ) -> Result<(), SendFault>
@@ -573,13 +607,13 @@ impl<Q: Ratifier + Drop> Sender<Q> {
         if self.pending() < MOST_MESSAGES as u64 {
             return Ok(());
         }
-        self.send_off(wait, bus, rng)
+        self.send_off(waiter, bus, rng)
     }
 
     /// Sends what waits in the batch. Ok where nothing waits then.
     fn send_off<W: Wait, R: Rng>(
         &mut self,
-        wait: &W,
+        waiter: &Waiter<'_, W>,
         bus: &Bus<Q>,
         rng: &mut R,
     ) -> Result<(), SendFault>
@@ -591,7 +625,7 @@ impl<Q: Ratifier + Drop> Sender<Q> {
             IfErr result (λ fault. KeepsFor P T self.old fault self.new) }
     {
         threads_may_go_by::<Q>();
-        let turn = self.send(wait, bus, rng);
+        let turn = self.send(waiter, bus, rng);
         if self.pending() > 0 {
             return Err(SendFault::Turn(turn));
         }
@@ -634,4 +668,13 @@ fn is_waiting(turn: Turn) -> bool
     ensures { result ≡ is_waiting turn }
 {
     matches!(turn, Turn::Waiting | Turn::Behind { .. })
+}
+
+/// A turn was answered so, and found nothing. Whoever has the page gives it back and rings. Who
+/// waits behind a sender waits for that one to leave a tenure, which it may do without a ring.
+fn rest_after<W: Wait>(turn: Turn, waiter: &Waiter<'_, W>) {
+    match turn {
+        Turn::Behind { .. } => waiter.pause(),
+        _ => waiter.rest(),
+    }
 }

@@ -5,32 +5,30 @@ ghost use Rattle.bus_automaton.specs.Buses.{process_by};
 ghost use Rattle.bus_pageslot.specs.ReceiverViews.{ReceiverView, Agree, receiver_view_after_load};
 ghost use Rattle.bus_pageslot.specs.declared.rule.View.TheVariants as View;
 ghost use Rattle.bus_pageslot.specs.Rule.{receiver_view_in, known_in, with_receiver_view};
+ghost use Rattle.bus_pageslot.specs.Rule.{log_word_in};
 ghost use Rattle.bus_pageslot.specs.Steps.{Learns, KnowsSent};
 ghost use Rattle.bus_pageslot.specs.Seats.{IsFresh, receiver_seat, table_of, actions_of, stored_of};
-ghost use Rattle.bus_pageslot.specs.Listening.{Hears, HearsAfter, answer_of};
+ghost use Rattle.bus_pageslot.specs.Listening.{Hears, HearsAfter};
 
 use crate::buses::Bus;
-use crate::listening::{ItemTurn, hear, hear_in_place};
+use crate::listening::{ItemTurn, answered, hear, hear_on};
 use crate::rule::BusSeat;
 use crate::seats::Sender;
 use bus_adoptcommit::{Ratifier, ThreeWord};
 use bus_batch::Item;
-use bus_deliverylog::{Reader, RecvTurn};
-use bus_register::Reg;
+use bus_deliverylog::{LogReader, RecvTurn};
 use std::marker::Model;
 
 /// A receiver of a bus: its seat, how much of the log it knows, and what it has read of that. One
 /// thread at a time has it, and no call of it waits or takes memory.
 ///
-/// Its seat shows what its turns have answered, and counts its loads, of which a meeting is three
-/// and counts one; only a step on the table adds to either.
+/// Its seat shows what its turns have answered, and which words it has loaded; a meeting, which is
+/// three loads of the length, counts as one. Only a step on the table adds to either.
 #[derive(Drop)]
 pub struct Tap<Q: Ratifier = ThreeWord> {
     seat: Option<BusSeat<Q>>,
     log: u64,
-    known: u64,
-    /// It may know a shorter length than the seat.
-    reader: Reader,
+    reader: LogReader,
 }
 
 impl<Q: Ratifier> Model for Tap<Q> {
@@ -42,7 +40,7 @@ impl<Q: Ratifier> Model for Tap<Q> {
 
     ghost view = { λ t. receiver_seat_of t.seat };
 
-    ghost invariant = { λ t. IsTap (receiver_seat_of t.seat) t.log t.known t.reader };
+    ghost invariant = { λ t. IsTap (receiver_seat_of t.seat) t.log t.reader };
 }
 
 impl<Q: Ratifier + Drop> Tap<Q> {
@@ -53,8 +51,7 @@ impl<Q: Ratifier + Drop> Tap<Q> {
         Tap {
             seat: Some(seat),
             log,
-            known: 0,
-            reader: Reader::new(senders, Reg(0), Reg(0), u64::MAX),
+            reader: LogReader::new(senders),
         }
     }
 
@@ -71,7 +68,7 @@ impl<Q: Ratifier + Drop> Tap<Q> {
     pub fn known(&self) -> u64
         ensures { result ≡ length (known_in self.now.me.0) }
     {
-        self.known
+        self.reader.known()
     }
 
     /// How many words of the log it has read.
@@ -97,37 +94,22 @@ impl<Q: Ratifier + Drop> Tap<Q> {
         ensures table { self.new.table_id ≡ self.old.table_id }
         ensures hears { Hears self.old.me result self.new.me }
     {
-        let mut answer = RecvTurn::Going;
-        if self.quick_turn(bus, &mut answer) {
-            return RecvTurn::Going;
-        }
-        answer
-    }
-
-    /// One turn, as `turn`. On true its answer is Going, and none is written; else the answer is
-    /// written.
-    #[inline(always)]
-    pub fn quick_turn(&mut self, bus: &Bus<Q>, answer: &mut RecvTurn) -> bool
-        requires { self.old.table_id ≡ bus.now.table }
-        ensures table { self.new.table_id ≡ self.old.table_id }
-        ensures hears { Hears self.old.me (answer_of result answer.new) self.new.me }
-    {
         if self.reader.has_ended() {
-            *answer = RecvTurn::End;
-            return false;
+            return RecvTurn::End;
         }
-        let words = &bus.words;
+        let mut item = None;
+        let mut sign = RecvTurn::Going;
         let mut seat = self.seat.take().unwrap();
-        let went = hear(
-            words,
+        let told = hear(
+            &bus.words,
             &mut seat,
             self.log,
-            &mut self.known,
             &mut self.reader,
-            answer,
+            &mut item,
+            &mut sign,
         );
         self.seat = Some(seat);
-        went
+        answered(told, item, sign)
     }
 
     /// One turn or more. All but the last take words that say nothing by themselves, and answer
@@ -143,14 +125,7 @@ impl<Q: Ratifier + Drop> Tap<Q> {
             return ItemTurn::End;
         }
         let mut seat = self.seat.take().unwrap();
-        let turn = hear_in_place(
-            &bus.words,
-            &mut seat,
-            self.log,
-            &mut self.known,
-            &mut self.reader,
-            item,
-        );
+        let turn = hear_on(&bus.words, &mut seat, self.log, &mut self.reader, item);
         self.seat = Some(seat);
         turn
     }
@@ -164,7 +139,7 @@ impl<Q: Ratifier + Drop> Tap<Q> {
         let mut seat = self.seat.take().unwrap();
         let length = bus.words.load_length(&mut seat);
         self.seat = Some(seat);
-        self.known = length;
+        self.reader.learn(length);
         length
     }
 
@@ -176,7 +151,8 @@ impl<Q: Ratifier + Drop> Tap<Q> {
         ensures loads { self.new.me
             ≡ (
               with_receiver_view self.old.me.0
-                  (receiver_view_after_load (receiver_view_in self.old.me.0)),
+                  (receiver_view_after_load (receiver_view_in self.old.me.0)
+                  (log_word_in self.old.me.0 place)),
               self.old.me.1,
             ) }
         ensures word { result ≡ slice_index (known_in self.old.me.0) place }
@@ -204,9 +180,9 @@ impl<Q: Ratifier + Drop> Tap<Q> {
         let theirs = other.seat.take().unwrap();
         let (length, theirs) = bus.words.meet(&mut mine, theirs);
         self.seat = Some(mine);
-        self.known = length;
+        self.reader.learn(length);
         other.seat = Some(theirs);
-        other.known = length;
+        other.reader.learn(length);
         length
     }
 
@@ -229,7 +205,7 @@ impl<Q: Ratifier + Drop> Tap<Q> {
         let mine = self.seat.take().unwrap();
         let (length, mine) = sender.tell(bus, mine);
         self.seat = Some(mine);
-        self.known = length;
+        self.reader.learn(length);
         length
     }
 }

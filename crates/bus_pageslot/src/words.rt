@@ -1,9 +1,11 @@
 //! All steps on the table's words are here. Each function takes one step, or says how many, and its
-//! seat shows it: a receiver's count of loads, or a sender's list of steps, grows by it.
+//! seat shows it: a receiver's list of the words that it has loaded, or a sender's list of steps,
+//! grows by it.
 //!
 //! No other module has the table, so no other function takes a step. What stands in `shown` is
 //! proved. That a body calls the table no second time is for the reader to see: each has one call,
-//! and `meet` three. What `plays` says is what the call makes the seat show.
+//! and `meet` three. What `plays` says is what the call makes the seat show: of a receiver's load
+//! that the word is the one that is noted.
 
 ghost use Rattle.std.specs.Prelude.{◌≡◌, ℕ, ◌+◌, ◌<◌, Option, Some, [], ◌∷◌, false, length, IfOk};
 ghost use Rattle.std.specs.Slots.{slots_items, slots_len, IsFull};
@@ -133,8 +135,8 @@ impl<Q: Ratifier> Words<Q> {
         }
     }
 
-    /// Puts this into the slot of the page, which is out with the seat, and gives what lay there. No
-    /// step on a word.
+    /// Puts this into the slot of the page, which is out with the seat, and gives what lay there.
+    /// No step on a word.
     #[inline(always)]
     pub(crate) fn exchange(
         &self,
@@ -174,6 +176,7 @@ impl<Q: Ratifier> Words<Q> {
         ensures finds { FindsWord seat.old.me result seat.new.me }
         ensures shown { steps_shown seat.new.me.0 ≡ steps_shown seat.old.me.0 + 1 }
     {
+        threads_may_go_by::<Q>();
         self.table.shared.load::<LoadsWordInTurn<Q>>(seat, at)
     }
 
@@ -200,6 +203,7 @@ impl<Q: Ratifier> Words<Q> {
         ensures reads { Reads seat.old.me at result seat.new.me }
         ensures shown { steps_shown seat.new.me.0 ≡ steps_shown seat.old.me.0 + 1 }
     {
+        threads_may_go_by::<Q>();
         self.table.shared.load::<LoadsWord<Q>>(seat, at)
     }
 

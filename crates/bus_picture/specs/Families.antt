@@ -12,10 +12,16 @@ abbrev pub is_one_of : List (List ℕ) → List ℕ → Bool
 is_one_of texts text = list_any (λ one. bytes_eq text one) texts
 
 abbrev pub looks : List (List ℕ)
-looks = codes "LoadStage" ∷ codes "ReadFirst" ∷ codes "ReadSecond" ∷ codes "ReadOtherMark" ∷ codes "ReadVotes" ∷ codes "ReadAnnouncement" ∷ codes "LoadLength" ∷ codes "LoadLogWord" ∷ codes "LoadStageAgain" ∷ codes "ReadPresence" ∷ []
+looks =
+    codes "LoadStage" ∷ codes "ReadFirst" ∷ codes "ReadSecond" ∷ codes "ReadOtherMark"
+    ∷ codes "ReadVotes" ∷ codes "ReadAnnouncement" ∷ codes "LoadLength" ∷ codes "LoadLogWord"
+    ∷ codes "LoadStageAgain" ∷ codes "ReadPresence" ∷ []
 
 abbrev pub stores : List (List ℕ)
-stores = codes "Announce" ∷ codes "WriteFirst" ∷ codes "WriteSecond" ∷ codes "SetMark" ∷ codes "StoreLogWord" ∷ codes "StoreLength" ∷ codes "Enter" ∷ codes "Withdraw" ∷ codes "ClearRow" ∷ []
+stores =
+    codes "Announce" ∷ codes "WriteFirst" ∷ codes "WriteSecond" ∷ codes "SetMark"
+    ∷ codes "StoreLogWord" ∷ codes "StoreLength" ∷ codes "Enter" ∷ codes "Withdraw"
+    ∷ codes "ClearRow" ∷ []
 
 -- the family of what stands in the column of kinds, where that is a kind's name, a call's or a dash
 abbrev pub family_of : List ℕ → Option Family
@@ -25,7 +31,8 @@ family_of kind =
     (if bytes_eq kind (codes "Vote") then Some family.Add else
     (if bytes_eq kind (codes "Fallback") then Some family.Exchange else
     (if is_one_of (codes "TakePage" ∷ codes "GivePageBack" ∷ []) kind then Some family.Page else
-    (if is_one_of (codes "put" ∷ codes "close" ∷ codes "leave" ∷ codes "stop" ∷ []) kind then Some family.Call else
+    (if is_one_of (codes "put" ∷ codes "close" ∷ codes "leave" ∷ codes "stop" ∷ []) kind
+    then Some family.Call else
     (if bytes_eq kind (codes "-") then Some family.Nothing else None))))))
 
 -- the shape of its mark

@@ -1,5 +1,6 @@
 -- Rows that are looked for.
-use Rattle.std.specs.Prelude.{ℕ, ◌+◌, ◌==◌, ◌&&◌, Bool, false, List, [], ◌∷◌, Option, Some, if◌then◌else◌}
+use Rattle.std.specs.Prelude.{ℕ, ◌+◌, ◌==◌, ◌&&◌, Bool, false, List, [], ◌∷◌, Option, Some}
+use Rattle.std.specs.Prelude.{if◌then◌else◌}
 use Rattle.std.specs.Str.{bytes_eq}
 use Rattle.bus_picture.specs.declared.finding.Found.{Found}
 use Rattle.bus_picture.specs.declared.finding.Wanted.{Wanted}
@@ -35,4 +36,5 @@ fits (wanted.Of p) = is_of p
 -- the last of those rows that pass, where the first has this place and an earlier one was this
 abbrev pub latest : (Shown → Bool) → ℕ → Option Found → List Shown → Option Found
 latest passes place earlier [] = earlier
-latest passes place earlier (s ∷ rows) = latest passes (place + 1) (if passes s then Some (record { place = place; process = s.process }) else earlier) rows
+latest passes place earlier (s ∷ rows) = latest passes (place + 1)
+    (if passes s then Some (record { place = place; process = s.process }) else earlier) rows

@@ -10,8 +10,10 @@ no_columns = record { senders = 0; receivers = 0 }
 
 -- so many columns that this process has one
 abbrev pub wider : Columns → Process → Columns
-wider c (Sender n) = if nat_le c.senders n then record { senders = n + 1; receivers = c.receivers } else c
-wider c (Receiver n) = if nat_le c.receivers n then record { senders = c.senders; receivers = n + 1 } else c
+wider c (Sender n) =
+    if nat_le c.senders n then record { senders = n + 1; receivers = c.receivers } else c
+wider c (Receiver n) =
+    if nat_le c.receivers n then record { senders = c.senders; receivers = n + 1 } else c
 
 abbrev pub columns_from : Columns → List Shown → Columns
 columns_from c [] = c

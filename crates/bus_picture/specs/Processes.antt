@@ -15,8 +15,10 @@ below most (Some n) = if nat_lt n most then Some n else None
 -- the sender or receiver of this number, where a bus can have one
 abbrev pub process_with : (role number : List ℕ) → Option Process
 process_with role number =
-    if bytes_eq role (codes "sender") then option_map Sender (below MOST_SENDERS (number_of number)) else
-    (if bytes_eq role (codes "receiver") then option_map Receiver (below MOST_RECEIVERS (number_of number)) else None)
+    if bytes_eq role (codes "sender") then option_map Sender (below MOST_SENDERS (number_of number))
+    else
+    (if bytes_eq role (codes "receiver")
+    then option_map Receiver (below MOST_RECEIVERS (number_of number)) else None)
 
 -- the process that two words name
 abbrev pub process_in : List (List ℕ) → Option Process

@@ -1,5 +1,6 @@
 -- The lines of a trace that show events.
-use Rattle.std.specs.Prelude.{ℕ, Bool, true, false, not, List, [], ◌∷◌, Option, Some, None, ◌==◌, filter_map}
+use Rattle.std.specs.Prelude.{ℕ, Bool, true, false, not, List, [], ◌∷◌, Option, Some, None, ◌==◌}
+use Rattle.std.specs.Prelude.{filter_map}
 use Rattle.std.specs.List.{slice_split}
 use Rattle.std.specs.Str.{bytes_eq}
 use Rattle.bus_picture.specs.declared.families.Family.{Family}
@@ -24,23 +25,49 @@ pub record Shown : Type 0 where
 
 -- as a program holds it
 abbrev pub row_shown : Row → Shown
-row_shown r = record { process = r.process; family = r.family; number = r.number.now; who = r.who.now; tenure = r.tenure.now; kind = r.kind.now; word = r.word.now; found = r.found.now; after = r.after.now; answer = r.answer.now }
+row_shown r = record {
+  process = r.process;
+  family = r.family;
+  number = r.number.now;
+  who = r.who.now;
+  tenure = r.tenure.now;
+  kind = r.kind.now;
+  word = r.word.now;
+  found = r.found.now;
+  after = r.after.now;
+  answer = r.answer.now;
+}
 
 -- of a process and a family, where these texts name them
-abbrev pub shown_with : Option Process → Option Family → (number who tenure kind word found after answer : List ℕ) → Option Shown
+abbrev pub shown_with : Option Process → Option Family
+    → (number who tenure kind word found after answer : List ℕ) → Option Shown
 shown_with None f number who tenure kind word found after answer = None
 shown_with (Some p) None number who tenure kind word found after answer = None
 shown_with (Some p) (Some f) number who tenure kind word found after answer =
-    Some (record { process = p; family = f; number = number; who = who; tenure = tenure; kind = kind; word = word; found = found; after = after; answer = answer })
+    Some (record {
+      process = p;
+      family = f;
+      number = number;
+      who = who;
+      tenure = tenure;
+      kind = kind;
+      word = word;
+      found = found;
+      after = after;
+      answer = answer;
+    })
 
 -- nine texts, of which the third names a process and the fifth a kind, a call or nothing
 abbrev pub row_of : List (List ℕ) → Option Shown
-row_of (number ∷ line ∷ who ∷ tenure ∷ kind ∷ word ∷ found ∷ after ∷ answer ∷ []) = shown_with (process_of who) (family_of kind) number who tenure kind word found after answer
+row_of (number ∷ line ∷ who ∷ tenure ∷ kind ∷ word ∷ found ∷ after ∷ answer ∷ []) =
+    shown_with (process_of who) (family_of kind) number who tenure kind word found after answer
 row_of other = None
 
--- The rows of a trace, in order: its lines that show events. The names of the columns and a refusal are none.
+-- The rows of a trace, in order: its lines that show events. The names of the columns and a refusal
+-- are none.
 abbrev pub rows_of : List ℕ → List Shown
-rows_of trace = filter_map (λ line. row_of (slice_split (λ b. b == 9) line)) (slice_split (λ b. b == 10) trace)
+rows_of trace =
+    filter_map (λ line. row_of (slice_split (λ b. b == 9) line)) (slice_split (λ b. b == 10) trace)
 
 -- a step that finds a value and leaves it: a load, or a compare_exchange that left what it found
 abbrev pub reads_as : Family → Bool → Bool

@@ -1,5 +1,6 @@
 -- Shapes at places, in units of the picture from its left and its top.
-use Rattle.std.specs.Prelude.{ℕ, Bool, ◌&&◌, ◌||◌, nat_le, nat_lt, List, [], ◌∷◌, ◌++◌, length, slice_index, take, codes, decimal, if◌then◌else◌}
+use Rattle.std.specs.Prelude.{ℕ, Bool, ◌&&◌, ◌||◌, nat_le, nat_lt, List, [], ◌∷◌, ◌++◌, length}
+use Rattle.std.specs.Prelude.{slice_index, take, codes, decimal, if◌then◌else◌}
 use Rattle.std.specs.Str.{bytes_eq}
 
 -- ---- parts
@@ -26,20 +27,26 @@ use_of mark = codes "<use href='#" ++ mark ++ codes "'"
 -- ---- shapes
 -- the name of a process, and its line
 abbrev pub head_at : (x bottom : ℕ) (who : List ℕ) → List ℕ
-head_at x bottom who = codes "<path class='life' d='M" ++ point x 132 ++ down_to bottom ++ codes "<text class='head'" ++ at x 124 ++ text_body who
+head_at x bottom who =
+    codes "<path class='life' d='M" ++ point x 132 ++ down_to bottom ++ codes "<text class='head'"
+    ++ at x 124 ++ text_body who
 
 -- with the number of its tenure
 abbrev pub band_at : (x top bottom : ℕ) (tenure : List ℕ) → List ℕ
-band_at x top bottom tenure = codes "<path class='band' d='M" ++ point x top ++ down_to bottom ++ codes "<text class='tenure' dx='-12' dy='4'" ++ at x top ++ text_body tenure
+band_at x top bottom tenure =
+    codes "<path class='band' d='M" ++ point x top ++ down_to bottom
+    ++ codes "<text class='tenure' dx='-12' dy='4'" ++ at x top ++ text_body tenure
 
 abbrev pub arrow_at : (from_x from_y x y : ℕ) → List ℕ
-arrow_at from_x from_y x y = codes "<path class='arrow' d='M" ++ point from_x from_y ++ codes "L" ++ point x y ++ path_end
+arrow_at from_x from_y x y =
+    codes "<path class='arrow' d='M" ++ point from_x from_y ++ codes "L" ++ point x y ++ path_end
 
 -- the first byte of a character, in UTF-8
 abbrev pub begins_character : ℕ → Bool
 begins_character byte = nat_lt byte 128 || nat_le 192 byte
 
--- an answer that is longer than a column is wide, where a character begins behind its first 18 bytes
+-- an answer that is longer than a column is wide, where a character begins behind its first 18
+-- bytes
 abbrev pub is_cut : List ℕ → Bool
 is_cut answer = nat_lt 20 (length answer) && begins_character (slice_index answer 18)
 
@@ -71,8 +78,12 @@ words_end = codes "</text>" ++ 10 ∷ []
 
 -- how wide and how high a picture is shown
 abbrev pub extent : (width height : ℕ) → List ℕ
-extent width height = codes " width='" ++ decimal width ++ codes "' height='" ++ decimal height ++ codes "'"
+extent width height =
+    codes " width='" ++ decimal width ++ codes "' height='" ++ decimal height ++ codes "'"
 
 -- the beginning of a picture that is so wide and so high
 abbrev pub size : (width height : ℕ) → List ℕ
-size width height = codes "<svg xmlns='http://www.w3.org/2000/svg' font-family='sans-serif' font-size='11'" ++ extent width height ++ codes " viewBox='0 0 " ++ point width height ++ (codes "'>" ++ 10 ∷ [])
+size width height =
+    codes "<svg xmlns='http://www.w3.org/2000/svg' font-family='sans-serif' font-size='11'"
+    ++ extent width height ++ codes " viewBox='0 0 " ++ point width height
+    ++ (codes "'>" ++ 10 ∷ [])

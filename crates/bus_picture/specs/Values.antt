@@ -1,5 +1,6 @@
 -- How what stands in a word is written beside a step, of which a trace has the number.
-use Rattle.std.specs.Prelude.{ℕ, ◌/◌, ◌%◌, ◌^◌, nat_eq, Bool, List, ◌++◌, Option, Some, None, codes, decimal, if◌then◌else◌}
+use Rattle.std.specs.Prelude.{ℕ, ◌/◌, ◌%◌, ◌^◌, nat_eq, Bool, List, ◌++◌, Option, Some, None}
+use Rattle.std.specs.Prelude.{codes, decimal, if◌then◌else◌}
 use Rattle.std.specs.Int.{w64, to_be_bytes}
 use Rattle.std.specs.List.{starts_with, ends_with}
 use Rattle.hex.specs.Hex.{encode_lower}
@@ -24,7 +25,8 @@ log_word_text n = encode_lower (to_be_bytes w64 n)
 -- the number of a word of this name, which is written so
 abbrev pub value_with : (word text : List ℕ) → Option ℕ → List ℕ
 value_with word text None = text
-value_with word text (Some n) = if is_counter word then counter_text n else (if is_log_word word then log_word_text n else text)
+value_with word text (Some n) =
+    if is_counter word then counter_text n else (if is_log_word word then log_word_text n else text)
 
 abbrev pub value_text : (word text : List ℕ) → List ℕ
 value_text word text = value_with word text (number_of text)

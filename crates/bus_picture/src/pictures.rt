@@ -29,7 +29,8 @@ fn push_styles(text: &mut String) -> Result<(), AllocError>
         .life{stroke:#999;stroke-dasharray:2 3}\
         .band{stroke:#ddd;stroke-width:18;stroke-linecap:square}\
         .arrow{stroke:#06c;marker-end:url(#tip)}.head{font-weight:bold;text-anchor:middle}\
-        .tenure{font-size:9px;text-anchor:end}</style>\n\
+        .tenure{font-size:9px;text-anchor:end}\
+        @media(prefers-color-scheme:dark){svg{filter:invert(1) hue-rotate(180deg)}}</style>\n\
         <defs>\
         <marker id='tip' viewBox='0 0 8 8' refX='14' refY='4' markerWidth='8' \
         markerHeight='8' orient='auto'><path d='M0 0L8 4L0 8z' fill='#06c'/></marker>\n\

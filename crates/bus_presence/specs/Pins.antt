@@ -1,11 +1,12 @@
--- A sender's pin of a tenure, one step at a time: it stores its presence, then loads the stage, and stands in the tenure where the
--- stage is still that tenure's; at the end it clears its presence.
+-- A sender's pin of a tenure, one step at a time: it stores its presence, then loads the stage, and
+-- stands in the tenure where the stage is still that tenure's; at the end it clears its presence.
 use Rattle.std.specs.Prelude.{ℕ, ◌+◌, ◌/◌, ◌<◌, Option, Some, None, ◌==◌, if◌then◌else◌}
 use Rattle.bus_register.specs.declared.limits.TheConstants.{TENURES}
 use Rattle.bus_register.specs.declared.registers.Op.{Op}
 use Rattle.bus_register.specs.declared.registers.Op.TheVariants.{Load, Store}
 use Rattle.bus_presence.specs.declared.pins.Pin.{Pin}
-use Rattle.bus_presence.specs.declared.pins.Pin.TheVariants.{Away, Announcing, Validating, Pinned, Unpinning, Invalidated}
+use Rattle.bus_presence.specs.declared.pins.Pin.TheVariants.{Away, Announcing, Validating, Pinned}
+use Rattle.bus_presence.specs.declared.pins.Pin.TheVariants.{Unpinning, Invalidated}
 
 -- the places of its presence and of the stage, and how far its pin has come
 pub record Pinning : Type 0 where
@@ -43,7 +44,8 @@ step_at (Invalidated t) word stage = Some (Store record { 0 = word } 0)
 abbrev pub pin_op : Pinning → Option Op
 pin_op v = step_at v.pin v.word v.stage
 
--- the pin after a step that found this number; the stage of a tenure is twice the tenure, and one more while its page is out
+-- the pin after a step that found this number; the stage of a tenure is twice the tenure, and one
+-- more while its page is out
 abbrev pub pin_fed : Pin → ℕ → Pin
 pin_fed Away got = Away
 pin_fed (Announcing t) got = Validating t

@@ -1,12 +1,15 @@
--- How a holder makes a row ready for the tenure after its own: it loads all presences in rising order, then clears all words of the row.
-use Rattle.std.specs.Prelude.{ℕ, ◌+◌, ◌≤◌, ◌<◌, ◌^◌, Bool, Option, Some, None, ◌==◌, ◌&&◌, nat_lt, nat_le, if◌then◌else◌}
+-- How a holder makes a row ready for the tenure after its own: it loads all presences in rising
+-- order, then clears all words of the row.
+use Rattle.std.specs.Prelude.{ℕ, ◌+◌, ◌≤◌, ◌<◌, ◌^◌, Bool, Option, Some, None, ◌==◌, ◌&&◌, nat_lt}
+use Rattle.std.specs.Prelude.{nat_le, if◌then◌else◌}
 use Rattle.bus_register.specs.declared.limits.TheConstants.{TENURES, MOST_PROCESSES}
 use Rattle.bus_register.specs.declared.registers.Op.{Op}
 use Rattle.bus_register.specs.declared.registers.Op.TheVariants.{Load, Store}
 use Rattle.bus_presence.specs.declared.reclaimers.Behind.{Behind}
 
--- the past tenure of the row; how many senders there are and where their presences stand; where the row stands and how many words it
--- has; how many presences have passed, and how many words are cleared
+-- the past tenure of the row; how many senders there are and where their presences stand; where the
+-- row stands and how many words it has; how many presences have passed, and how many words are
+-- cleared
 pub record Reclaiming : Type 0 where
   pub past : ℕ
   pub senders : ℕ
@@ -36,12 +39,16 @@ reclaim_op s =
 -- after a step that found this number: a presence that names the past tenure does not pass
 abbrev pub reclaim_fed : Reclaiming → ℕ → Reclaiming
 reclaim_fed s got =
-    if nat_lt s.scanned s.senders then (if got == 1 + s.past then s else record s { scanned = s.scanned + 1 }) else
+    if nat_lt s.scanned s.senders
+    then (if got == 1 + s.past then s else record s { scanned = s.scanned + 1 }) else
     (if nat_lt s.cleared s.width then record s { cleared = s.cleared + 1 } else s)
 
--- whom the holder waits for: the sender whose presence was just loaded, where it names the past tenure
+-- whom the holder waits for: the sender whose presence was just loaded, where it names the past
+-- tenure
 abbrev pub behind_of : Reclaiming → ℕ → Option Behind
-behind_of s got = if nat_lt s.scanned s.senders && (got == 1 + s.past) then Some record { tenure = s.past; sender = s.scanned } else None
+behind_of s got =
+    if nat_lt s.scanned s.senders && (got == 1 + s.past)
+    then Some record { tenure = s.past; sender = s.scanned } else None
 
 -- all presences have passed, and a word is left to clear
 pub record IsClearing (s : Reclaiming) : Type 0 where

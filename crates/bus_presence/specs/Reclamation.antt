@@ -1,7 +1,9 @@
--- Senders that pin tenures, and holders that make rows ready, in any order, over the words of the stage, of the presences and of the
--- rows, among other words. Tenure t uses row t mod rows. Of elections, logs and pages nothing is said: whoever stands in a tenure may store any number in
--- its row, and may take its page while that is home.
-use Rattle.std.specs.Prelude.{◌≡◌, ◌⊎◌, ℕ, ◌+◌, ◌-◌, ◌*◌, ◌/◌, ◌%◌, ◌<◌, ◌≤◌, true, Option, Some, None, List, [], ◌∷◌, ◌++◌, nat_lt, ◌==◌, if◌then◌else◌}
+-- Senders that pin tenures, and holders that make rows ready, in any order, over the words of the
+-- stage, of the presences and of the rows, among other words. Tenure t uses row t mod rows. Of
+-- elections, logs and pages nothing is said: whoever stands in a tenure may store any number in its
+-- row, and may take its page while that is home.
+use Rattle.std.specs.Prelude.{◌≡◌, ◌⊎◌, ℕ, ◌+◌, ◌-◌, ◌*◌, ◌/◌, ◌%◌, ◌<◌, ◌≤◌, true, Option, Some}
+use Rattle.std.specs.Prelude.{None, List, [], ◌∷◌, ◌++◌, nat_lt, ◌==◌, if◌then◌else◌}
 use Rattle.bus_register.specs.declared.registers.Op.{Op}
 use Rattle.bus_register.specs.Words.{register, after}
 use Rattle.bus_register.specs.Tables.{put}
@@ -39,7 +41,8 @@ pub record Reclamation : Type 0 where
   -- the holder makes the row of the next tenure ready
   pub reclaimer : Option Reclaiming
 
--- the tenure that is open, or whose page is out: the stage is twice this tenure, and one more while its page is out
+-- the tenure that is open, or whose page is out: the stage is twice this tenure, and one more while
+-- its page is out
 abbrev pub tenure_of : ReclamationSizes → Reclamation → ℕ
 tenure_of x h = h.words (stage_at x) / 2
 
@@ -53,7 +56,15 @@ pinning x h p = record { word = presence_at x p; stage = stage_at x; pin = h.pin
 abbrev pub reclaimer_after : ReclamationSizes → ℕ → Option Reclaiming
 reclaimer_after x t =
     if nat_lt (t + 1) x.rows then None else
-    Some record { past = t + 1 - x.rows; senders = x.senders; presences = presence_at x 0; row = row_of x (t + 1); width = x.width; scanned = 0; cleared = 0 }
+    Some record {
+      past = t + 1 - x.rows;
+      senders = x.senders;
+      presences = presence_at x 0;
+      row = row_of x (t + 1);
+      width = x.width;
+      scanned = 0;
+      cleared = 0;
+    }
 
 -- the row of the tenure after this one may be used: it was not used before, or it is reclaimed
 abbrev pub IsReady : ReclamationSizes → ℕ → Option Reclaiming → Type 0
@@ -86,24 +97,42 @@ words_after h o = put (register o) (after o (number_of_step h o)) h.words
 -- One move, with the trails before and after it. It stores in no row but what a reclaimer clears.
 pub data Moves (x : ReclamationSizes) : Reclamation → Trails → Reclamation → Trails → Type 0 where
   -- a sender begins a tenure
-  Begins : (h : Reclamation) (T : Trails) (p t : ℕ) → p < x.senders → h.pins p ≡ Away → Moves x h T (record h { pins = put p (Announcing t) h.pins }) T
+  Begins : (h : Reclamation) (T : Trails) (p t : ℕ) → p < x.senders → h.pins p ≡ Away
+      → Moves x h T (record h { pins = put p (Announcing t) h.pins }) T
   -- it takes the next step of its pin
   Pins : (h : Reclamation) (T : Trails) (p : ℕ) (o : Op) → pin_op (pinning x h p) ≡ Some o
-      → Moves x h T (record h { words = words_after h o; pins = put p (pin_fed (h.pins p) (number_of_step h o)) h.pins }) (trails_with_entry T p record { op = o; got = number_of_step h o })
+      → Moves x h T (record h {
+        words = words_after h o;
+        pins = put p (pin_fed (h.pins p) (number_of_step h o)) h.pins;
+      }) (trails_with_entry T p record { op = o; got = number_of_step h o })
   -- it is done with the tenure that it stands in
-  Parts : (h : Reclamation) (T : Trails) (p t : ℕ) → h.pins p ≡ Pinned t → Moves x h T (record h { pins = put p (Unpinning t) h.pins }) T
+  Parts : (h : Reclamation) (T : Trails) (p t : ℕ) → h.pins p ≡ Pinned t
+      → Moves x h T (record h { pins = put p (Unpinning t) h.pins }) T
   -- it takes the page of the tenure that it stands in
-  Takes : (h : Reclamation) (T : Trails) (p t : ℕ) → h.pins p ≡ Pinned t → h.words (stage_at x) ≡ 2 * t → Moves x h T (record h { words = put (stage_at x) (2 * t + 1) h.words; reclaimer = reclaimer_after x t }) T
+  Takes : (h : Reclamation) (T : Trails) (p t : ℕ) → h.pins p ≡ Pinned t
+      → h.words (stage_at x) ≡ 2 * t
+      → Moves x h T
+      (record h { words = put (stage_at x) (2 * t + 1) h.words; reclaimer = reclaimer_after x t }) T
   -- the holder takes the next step of its reclaimer
-  Reclaims : (h : Reclamation) (T : Trails) (s : Reclaiming) (o : Op) → h.reclaimer ≡ Some s → reclaim_op s ≡ Some o → Moves x h T (record h { words = words_after h o; reclaimer = Some (reclaim_fed s (number_of_step h o)) }) T
+  Reclaims : (h : Reclamation) (T : Trails) (s : Reclaiming) (o : Op) → h.reclaimer ≡ Some s
+      → reclaim_op s ≡ Some o
+      → Moves x h T
+      (record h { words = words_after h o; reclaimer = Some (reclaim_fed s (number_of_step h o)) })
+      T
   -- the holder gives the page back
-  GivesBack : (h : Reclamation) (T : Trails) (t : ℕ) → h.words (stage_at x) ≡ 2 * t + 1 → IsReady x t h.reclaimer → Moves x h T (record h { words = put (stage_at x) (2 * t + 2) h.words; reclaimer = None }) T
+  GivesBack : (h : Reclamation) (T : Trails) (t : ℕ) → h.words (stage_at x) ≡ 2 * t + 1
+      → IsReady x t h.reclaimer
+      → Moves x h T (record h { words = put (stage_at x) (2 * t + 2) h.words; reclaimer = None }) T
   -- anybody stores a number elsewhere
-  Stores : (h : Reclamation) (T : Trails) (place number : ℕ) → IsElsewhere x place → Moves x h T (record h { words = put place number h.words }) T
+  Stores : (h : Reclamation) (T : Trails) (place number : ℕ) → IsElsewhere x place
+      → Moves x h T (record h { words = put place number h.words }) T
 
--- these trails lead to this reclamation: from a new one, by one event after another, of any sender and in any order
+-- these trails lead to this reclamation: from a new one, by one event after another, of any sender
+-- and in any order
 pub data Reached (x : ReclamationSizes) : Reclamation → Trails → Type 0 where
   New : Reached x new_reclamation no_trails
   Then : (h h' : Reclamation) (T T' : Trails) → Reached x h T → Moves x h T h' T' → Reached x h' T'
   -- a sender stores a number in the row of the tenure that it stands in
-  Works : (h : Reclamation) (T : Trails) (p t place number : ℕ) → Reached x h T → h.pins p ≡ Pinned t → place < x.width → Reached x (record h { words = put (row_of x t + place) number h.words }) T
+  Works : (h : Reclamation) (T : Trails) (p t place number : ℕ) → Reached x h T
+      → h.pins p ≡ Pinned t → place < x.width
+      → Reached x (record h { words = put (row_of x t + place) number h.words }) T

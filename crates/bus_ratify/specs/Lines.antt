@@ -1,5 +1,6 @@
 -- How the lines of a script of `ratify` are spelled.
-use Rattle.std.specs.Prelude.{◌≡◌, ℕ, ◌^◌, ◌<◌, ◌≤◌, Bool, List, [], ◌∷◌, ◌++◌, length, codes, decimal, flat_map}
+use Rattle.std.specs.Prelude.{◌≡◌, ℕ, ◌^◌, ◌<◌, ◌≤◌, Bool, List, [], ◌∷◌, ◌++◌, length, codes}
+use Rattle.std.specs.Prelude.{decimal, flat_map}
 use Rattle.std.specs.List.{AllByRecursion}
 use Rattle.bus_register.specs.Digits.{digit}
 use Rattle.bus_ratify.specs.declared.limits.TheConstants.{MOST_INPUTS}
@@ -20,9 +21,12 @@ pub record IsStepsLine (line : List ℕ) (numbers : List ℕ) : Type 0 where
 -- lines of steps of so many processes, and all their numbers in order
 abbrev pub AreSteps : ℕ → List (ℕ × List ℕ) → List ℕ → Type 0
 AreSteps n [] schedule = schedule ≡ []
-AreSteps n (line ∷ lines) schedule = (steps behind : List ℕ) × IsStepsLine line.1 steps × AllByRecursion (λ p. p < n) steps × AreSteps n lines behind × (schedule ≡ steps ++ behind)
+AreSteps n (line ∷ lines) schedule =
+    (steps behind : List ℕ) × IsStepsLine line.1 steps × AllByRecursion (λ p. p < n) steps
+    × AreSteps n lines behind × (schedule ≡ steps ++ behind)
 
 -- numbered lines of a script: one of inputs, and then lines of steps
 abbrev pub IsScript : List (ℕ × List ℕ) → RatifyScript → Type 0
 IsScript [] script = ⊥
-IsScript (line ∷ lines) script = IsInputsLine line.1 script.inputs × AreSteps (length script.inputs) lines script.schedule
+IsScript (line ∷ lines) script =
+    IsInputsLine line.1 script.inputs × AreSteps (length script.inputs) lines script.schedule

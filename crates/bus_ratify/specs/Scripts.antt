@@ -1,5 +1,7 @@
 -- What a script of `ratify` says, or where and why it is refused.
-use Rattle.std.specs.Prelude.{◌≡◌, ℕ, Bool, true, false, ◌&&◌, List, [], ◌∷◌, ◌++◌, length, Option, Some, None, Result, Ok, Err, ⊤, codes, nat_lt, nat_le, if◌then◌else◌, option_and_then}
+use Rattle.std.specs.Prelude.{◌≡◌, ℕ, Bool, true, false, ◌&&◌, List, [], ◌∷◌, ◌++◌, length, Option}
+use Rattle.std.specs.Prelude.{Some, None, Result, Ok, Err, ⊤, codes, nat_lt, nat_le, if◌then◌else◌}
+use Rattle.std.specs.Prelude.{option_and_then}
 use Rattle.std.specs.List.{list_all}
 use Rattle.std.specs.Str.{bytes_eq}
 use Rattle.bus_script.specs.declared.line_numbers.LineNumber.TheVariants.{AtLine, AtEnd}
@@ -19,7 +21,9 @@ pub record RatifyScript : Type 0 where
 -- ---- one line
 
 abbrev pub bit_of : List ℕ → Option Bool
-bit_of word = if bytes_eq word (codes "0") then Some false else (if bytes_eq word (codes "1") then Some true else None)
+bit_of word =
+    if bytes_eq word (codes "0") then Some false
+    else (if bytes_eq word (codes "1") then Some true else None)
 
 -- a list that has at least so many elements and at most so many
 abbrev pub if_between : {A : Type 0} → ℕ → ℕ → List A → Option (List A)
@@ -30,11 +34,13 @@ if_any xs = if nat_le 1 (length xs) then Some xs else None
 
 -- what a line of the form `inputs BIT ..` says, with as many bits as there can be inputs
 abbrev pub inputs_of : List ℕ → Option (List Bool)
-inputs_of line = option_and_then (if_between 1 MOST_INPUTS) (option_and_then (each_of bit_of) (arguments_of (codes "inputs") line))
+inputs_of line = option_and_then (if_between 1 MOST_INPUTS)
+    (option_and_then (each_of bit_of) (arguments_of (codes "inputs") line))
 
 -- what a line of the form `steps NUMBER ..` says, with one number or more
 abbrev pub steps_of : List ℕ → Option (List ℕ)
-steps_of line = option_and_then if_any (option_and_then (each_of number_of) (arguments_of (codes "steps") line))
+steps_of line =
+    option_and_then if_any (option_and_then (each_of number_of) (arguments_of (codes "steps") line))
 
 -- ---- all lines
 
@@ -44,7 +50,9 @@ refused_at number fault = record { line_number = AtLine number; fault = fault }
 -- The steps of a line, among so many processes. Its form comes before its meaning.
 abbrev pub steps_among : ℕ → ℕ → Option (List ℕ) → Result (List ℕ) Refusal
 steps_among n number None = Err (refused_at number BadLine)
-steps_among n number (Some processes) = if list_all (λ p. nat_lt p n) processes then Ok processes else Err (refused_at number NoSuchProcess)
+steps_among n number (Some processes) =
+    if list_all (λ p. nat_lt p n) processes then Ok processes
+    else Err (refused_at number NoSuchProcess)
 
 -- the steps before, and then those behind, or the first refusal
 abbrev pub then_steps : Result (List ℕ) Refusal → Result (List ℕ) Refusal → Result (List ℕ) Refusal
@@ -55,7 +63,8 @@ then_steps (Ok before) (Ok behind) = Ok (before ++ behind)
 -- the steps of all lines in order, or the refusal of the first line that has one
 abbrev pub schedule_of : ℕ → List (ℕ × List ℕ) → Result (List ℕ) Refusal
 schedule_of n [] = Ok []
-schedule_of n (line ∷ lines) = then_steps (steps_among n line.0 (steps_of line.1)) (schedule_of n lines)
+schedule_of n (line ∷ lines) =
+    then_steps (steps_among n line.0 (steps_of line.1)) (schedule_of n lines)
 
 -- a script, where its schedule is not refused
 abbrev pub with_schedule : List Bool → Result (List ℕ) Refusal → Result RatifyScript Refusal
@@ -88,6 +97,7 @@ Gives view (Ok x) said = said ≡ Ok (view x)
 Gives view (Err fault) said = FailsWith fault said
 
 -- the same of one that puts steps at the end of a schedule
-abbrev pub GivesSteps : Result (Unit {0}) ReadingFault → List ℕ → List ℕ → Result (List ℕ) Refusal → Type 0
+abbrev pub GivesSteps : Result (Unit {0}) ReadingFault → List ℕ → List ℕ → Result (List ℕ) Refusal
+    → Type 0
 GivesSteps (Ok _) old new said = (steps : List ℕ) × (said ≡ Ok steps) × (new ≡ old ++ steps)
 GivesSteps (Err fault) old new said = FailsWith fault said

@@ -25,8 +25,8 @@ fn reason_at<'a>(command: Reads, input: &'a [u8], refusal: Refusal<'_>) -> Optio
     }
 }
 
-/// Where and why the command refused an input with this line, as `line 2: BadLine`: one line without
-/// its end, or nothing if the input was not refused so.
+/// Where and why the command refused an input with this line, as `line 2: BadLine`: one line
+/// without its end, or nothing if the input was not refused so.
 pub fn reason_of(
     alloc: Global,
     command: Reads,

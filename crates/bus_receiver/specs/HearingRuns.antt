@@ -41,4 +41,5 @@ is_leave_of sender turn.End = false
 -- the leave mark of this sender is among the answers that were taken
 abbrev pub takes_leave : ℕ → Hearing → List RecvTurn → Bool
 takes_leave sender h [] = false
-takes_leave sender h (t ∷ turns) = (takes h t && is_leave_of sender t) || takes_leave sender (hears h t) turns
+takes_leave sender h (t ∷ turns) =
+    (takes h t && is_leave_of sender t) || takes_leave sender (hears h t) turns

@@ -31,7 +31,8 @@ is_found turn.End = true
 -- turns that found nothing led from one seat to another
 pub data HearsOn {C : Type 0} (first : Sat C) : Sat C → Type 0 where
   Here : HearsOn first first
-  More : (old : Sat C) (answer : RecvTurn) (new : Sat C) → HearsOn first old → Hears old answer new → is_found answer ≡ false → HearsOn first new
+  More : (old : Sat C) (answer : RecvTurn) (new : Sat C) → HearsOn first old → Hears old answer new
+      → is_found answer ≡ false → HearsOn first new
 
 -- turns up to the first that found a head, an item, a leave mark or the end
 pub record Takes {C : Type 0} (first : Sat C) (answer : RecvTurn) (new : Sat C) : Type 0 where
@@ -53,7 +54,8 @@ is_given turn.End = true
 -- turns that found neither led from one seat to another
 pub data PassesOn {C : Type 0} (first : Sat C) : Sat C → Type 0 where
   Stays : PassesOn first first
-  Passes : (old : Sat C) (answer : RecvTurn) (new : Sat C) → PassesOn first old → Hears old answer new → is_given answer ≡ false → PassesOn first new
+  Passes : (old : Sat C) (answer : RecvTurn) (new : Sat C) → PassesOn first old
+      → Hears old answer new → is_given answer ≡ false → PassesOn first new
 
 -- turns up to the first that found an item or the end, which answered so
 pub record PassesTo {C : Type 0} (first : Sat C) (answer : RecvTurn) (new : Sat C) : Type 0 where
@@ -62,13 +64,18 @@ pub record PassesTo {C : Type 0} (first : Sat C) (answer : RecvTurn) (new : Sat 
   pub hears : Hears old answer new
   pub given : is_given answer ≡ true
 
--- Turns that found neither, and between them a function that is asked whether to go on; Tells f told f' where a call of f may tell
--- that, and leaves f'. For each turn that answered Empty, and for no other, there is a call of it that told to go on; each call found
--- it as the call before had left it. When it was made is not said.
-pub data AsksOn {C F : Type 0} (Tells : F → Bool → F → Type 0) (first : Sat C) (given : F) : Sat C → F → Type 0 where
+-- Turns that found neither, and between them a function that is asked whether to go on; Tells f
+-- told f' where a call of f may tell that, and leaves f'. For each turn that answered Empty, and
+-- for no other, there is a call of it that told to go on; each call found it as the call before had
+-- left it. When it was made is not said.
+pub data AsksOn {C F : Type 0} (Tells : F → Bool → F → Type 0) (first : Sat C) (given : F) : Sat C
+    → F → Type 0 where
   Begins : AsksOn Tells first given first given
-  Goes : (old : Sat C) (f : F) (answer : RecvTurn) (new : Sat C) → AsksOn Tells first given old f → Hears old answer new → is_given answer ≡ false → (answer ≡ turn.Empty → ⊥) → AsksOn Tells first given new f
-  Asks : (old : Sat C) (f : F) (new : Sat C) (f' : F) → AsksOn Tells first given old f → Hears old turn.Empty new → Tells f true f' → AsksOn Tells first given new f'
+  Goes : (old : Sat C) (f : F) (answer : RecvTurn) (new : Sat C) → AsksOn Tells first given old f
+      → Hears old answer new → is_given answer ≡ false → (answer ≡ turn.Empty → ⊥)
+      → AsksOn Tells first given new f
+  Asks : (old : Sat C) (f : F) (new : Sat C) (f' : F) → AsksOn Tells first given old f
+      → Hears old turn.Empty new → Tells f true f' → AsksOn Tells first given new f'
 
 -- the answer of the last turn: an item, the end, or that there is nothing more
 abbrev pub last_of : Next → RecvTurn
@@ -76,14 +83,17 @@ last_of (next.Item item) = turn.Item item
 last_of next.End = turn.End
 last_of next.Stopped = turn.Empty
 
--- what a call found that says whether it was told to stop, and else leaves an item, or none at the end
+-- what a call found that says whether it was told to stop, and else leaves an item, or none at the
+-- end
 abbrev pub next_of : Bool → Option Item → Next
 next_of true left = next.Stopped
 next_of false (Some item) = next.Item item
 next_of false None = next.End
 
--- such turns, and a last one, which answered so; after an Empty the function was asked and told to stop
-pub record PassesWhile {C F : Type 0} (Tells : F → Bool → F → Type 0) (first : Sat C) (given : F) (found : Next) (new : Sat C) : Type 0 where
+-- such turns, and a last one, which answered so; after an Empty the function was asked and told to
+-- stop
+pub record PassesWhile {C F : Type 0} (Tells : F → Bool → F → Type 0) (first : Sat C) (given : F)
+    (found : Next) (new : Sat C) : Type 0 where
   pub old : Sat C
   pub asked : F
   pub before : AsksOn Tells first given old asked
@@ -95,13 +105,16 @@ item_or_end (Some item) = turn.Item item
 item_or_end None = turn.End
 
 -- ---- what it learns of others
--- it was told by this sender, which has done these actions, and knows the log at least up to each length that the sender has stored
-pub record IsTold {C : Type 0} (P : Process C) (c : C) (actions : List Action) (stored : ℕ) (old new : Sat C) : Type 0 where
+-- it was told by this sender, which has done these actions, and knows the log at least up to each
+-- length that the sender has stored
+pub record IsTold {C : Type 0} (P : Process C) (c : C) (actions : List Action) (stored : ℕ)
+    (old new : Sat C) : Type 0 where
   pub got : ℕ
   pub learns : Learns old got new
   pub sent : KnowsSent P c actions stored (known_in new.0)
 
--- Two receivers know the same words, as many as were loaded. What the one behind was answered begins what the other was answered.
+-- Two receivers know the same words, as many as were loaded. What the one behind was answered
+-- begins what the other was answered.
 pub record HaveMet {C : Type 0} (mine theirs mine' theirs' : Sat C) : Type 0 where
   pub got : ℕ
   pub first : Learns mine got mine'

@@ -1,4 +1,5 @@
--- What a sitting takes of a bus in which each of so many senders sends so many messages of so many bytes, and one closes.
+-- What a sitting takes of a bus in which each of so many senders sends so many messages of so many
+-- bytes, and one closes.
 use Rattle.std.specs.Prelude.{◌+◌, ◌-◌, ◌*◌, ◌/◌, ℕ}
 use Rattle.bus_register.specs.declared.limits.TheConstants.{MOST_MESSAGES, MOST_FRAME_WORDS}
 use Rattle.bus_batch.specs.Frames.{data_len}
@@ -13,9 +14,10 @@ tenures_of senders messages = senders * batches_of messages + 1
 
 -- a head for each batch; for each message a word and those of its bytes; two words for the close
 abbrev pub words_of : ℕ → ℕ → ℕ → ℕ
-words_of senders messages bytes = senders * (batches_of messages + messages * (1 + data_len bytes)) + 2
+words_of senders messages bytes =
+    senders * (batches_of messages + messages * (1 + data_len bytes)) + 2
 
--- How many words of a log may be in use when a batch is begun: with two more for the end mark, and a longest frame of each sender, it is not
--- longer than it may be. 0 where there is no such number.
+-- How many words of a log may be in use when a batch is begun: with two more for the end mark, and
+-- a longest frame of each sender, it is not longer than it may be. 0 where there is no such number.
 abbrev pub room_before_close : ℕ → ℕ → ℕ
 room_before_close log_words senders = log_words - 2 - MOST_FRAME_WORDS * senders

@@ -2,9 +2,10 @@
 //! crates below stands here too. Of a sender and a tap of one bus:
 //!
 //!     sender.put(b"hello")?;
-//!     let sent = sender.send(&rt, &bus, &mut Pcg32::new(0, 0));
+//!     let waiter = Waiter::yielding(&rt);
+//!     let sent = sender.send(&waiter, &bus, &mut Pcg32::new(0, 0));
 //!     let mut receiver = Receiver::new(tap);
-//!     let first = receiver.next_item(&rt, &bus).context("the end")?;
+//!     let first = receiver.next_item(&waiter, &bus).context("the end")?;
 //!
 //! The crate `example_hello` is that as a whole program.
 #![tactic(auto)]
@@ -25,6 +26,7 @@ pub use bus_register::limits::{
 };
 pub use bus_register::{Kind, SenderNo};
 pub use bus_tenure::{Page, Turn};
+pub use bus_waiting::Waiter;
 pub use bus_world::{MakeFault, Shape};
 pub use hearing::Heard;
 pub use receivers::{Next, Receiver};

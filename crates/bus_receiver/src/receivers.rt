@@ -15,7 +15,7 @@ use bus_adoptcommit::{Ratifier, ThreeWord};
 use bus_batch::Item;
 use bus_deliverylog::RecvTurn;
 use bus_pageslot::{Bus, EndFault, Ended, ItemTurn, Sender, Tap};
-use crossbeam_utils::Backoff;
+use bus_waiting::Waiter;
 use std::cmp::Ordering;
 use std::marker::Model;
 use std::sync::Wait;
@@ -33,7 +33,7 @@ pub enum Next {
 
 /// A receiver of a bus: it reads the log word by word, from where its tap has come to, which is the
 /// first one of a new tap. One thread at a time has it. No call of it takes memory, and only those
-/// that are passed a `wait` wait.
+/// that are passed a waiter wait.
 #[derive(Drop)]
 pub struct Receiver<Q: Ratifier = ThreeWord> {
     tap: Tap<Q>,
@@ -95,21 +95,20 @@ impl<Q: Ratifier + Drop> Receiver<Q> {
 
     /// Turns, until one finds a head, an item, a leave mark or the end. That it ends is not
     /// promised.
-    pub fn take<W: Wait>(&mut self, wait: &W, bus: &Bus<Q>) -> RecvTurn
+    pub fn take<W: Wait>(&mut self, waiter: &Waiter<'_, W>, bus: &Bus<Q>) -> RecvTurn
         requires { bus_of self.old ≡ bus.now.table }
         ensures table { bus_of self.new ≡ bus_of self.old }
         ensures takes { Takes self.old.me result self.new.me }
     {
-        let backoff = Backoff::new();
-        for _ in wait.forever() {
+        for _ in waiter.forever() {
             let turn = self.turn(bus);
             if finds(&turn) {
                 return turn;
             }
             if turn == RecvTurn::Empty {
-                backoff.snooze();
+                waiter.rest();
             } else {
-                backoff.reset();
+                waiter.reset();
             }
         }
         unreachable!()
@@ -117,23 +116,28 @@ impl<Q: Ratifier + Drop> Receiver<Q> {
 
     /// Turns, until one finds an item or the end: the item, and none at the end and ever after. It
     /// passes over leave marks. It waits as `take` does, and that it ends is not promised.
-    pub fn next_item<W: Wait>(&mut self, wait: &W, bus: &Bus<Q>) -> Option<Item>
+    pub fn next_item<W: Wait>(&mut self, waiter: &Waiter<'_, W>, bus: &Bus<Q>) -> Option<Item>
         requires { bus_of self.old ≡ bus.now.table }
         ensures table { bus_of self.new ≡ bus_of self.old }
         ensures passes { PassesTo self.old.me (item_or_end result) self.new.me }
     {
         let mut item = None;
-        self.next_item_in_place(wait, bus, &mut item);
+        self.next_item_in_place(waiter, bus, &mut item);
         item
     }
 
     /// As `next_item`, with its answer written in place: a large one is moved once less.
-    pub fn next_item_in_place<W: Wait>(&mut self, wait: &W, bus: &Bus<Q>, item: &mut Option<Item>)
+    pub fn next_item_in_place<W: Wait>(
+        &mut self,
+        waiter: &Waiter<'_, W>,
+        bus: &Bus<Q>,
+        item: &mut Option<Item>,
+    )
         requires { bus_of self.old ≡ bus.now.table }
         ensures table { bus_of self.new ≡ bus_of self.old }
         ensures passes { PassesTo self.old.me (item_or_end item.new) self.new.me }
     {
-        if self.pass_while(wait, bus, || true, item) {
+        if self.pass_while(waiter, bus, || true, item) {
             unreachable!()
         }
     }
@@ -143,7 +147,7 @@ impl<Q: Ratifier + Drop> Receiver<Q> {
     /// nowhere else. So what it knows of the log comes first.
     pub fn next_item_while<W: Wait, F: FnMut() -> bool>(
         &mut self,
-        wait: &W,
+        waiter: &Waiter<'_, W>,
         bus: &Bus<Q>,
         go_on: F,
     ) -> Next
@@ -153,7 +157,7 @@ impl<Q: Ratifier + Drop> Receiver<Q> {
         ensures passes { PassesWhile F.step self.old.me go_on result self.new.me }
     {
         let mut item = None;
-        if self.pass_while(wait, bus, go_on, &mut item) {
+        if self.pass_while(waiter, bus, go_on, &mut item) {
             return Next::Stopped;
         }
         match item {
@@ -167,7 +171,7 @@ impl<Q: Ratifier + Drop> Receiver<Q> {
     #[inline(always)]
     fn pass_while<W: Wait, F: FnMut() -> bool>(
         &mut self,
-        wait: &W,
+        waiter: &Waiter<'_, W>,
         bus: &Bus<Q>,
         mut go_on: F,
         item: &mut Option<Item>,
@@ -179,17 +183,16 @@ impl<Q: Ratifier + Drop> Receiver<Q> {
             self.new.me }
     {
         *item = None;
-        let backoff = Backoff::new();
-        for _ in wait.forever() {
+        for _ in waiter.forever() {
             match self.item_turns(bus, item) {
                 ItemTurn::Item | ItemTurn::End => return false,
                 ItemTurn::Empty => {
                     if !go_on() {
                         return true;
                     }
-                    backoff.snooze();
+                    waiter.rest();
                 }
-                ItemTurn::Going => backoff.reset(),
+                ItemTurn::Going => waiter.reset(),
             }
         }
         unreachable!()

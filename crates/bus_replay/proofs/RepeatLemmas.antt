@@ -1,5 +1,7 @@
--- An event that is repeated while it goes on: behind an answer with which it goes on it is not refused.
-use Rattle.std.proofs.Common.{◌≡◌, ℕ, zero, suc, ◌-◌, ◌<◌, Bool, true, false, cond, Option, Some, None, slice_get, refl, sym, ap, subst, ◌∙◌, ◌⊎◌, inl, inr, arith}
+-- An event that is repeated while it goes on: behind an answer with which it goes on it is not
+-- refused.
+use Rattle.std.proofs.Common.{◌≡◌, ℕ, zero, suc, ◌-◌, ◌<◌, Bool, true, false, cond, Option, Some}
+use Rattle.std.proofs.Common.{None, slice_get, refl, sym, ap, subst, ◌∙◌, ◌⊎◌, inl, inr, arith}
 use Rattle.std.proofs.lemmas.Bool.{true≢false}
 use Rattle.std.proofs.lemmas.Option.{slice_get_within}
 use Rattle.bus_register.specs.Protocol.{Protocol}
@@ -24,46 +26,66 @@ stops_so : (a b : Answer) → a ≡ b → goes_on b ≡ false → goes_on a ≡ 
 stops_so a b e stops goes = true≢false (sym goes ∙ ap goes_on e ∙ stops)
 
 -- who goes on is there, and has not stopped
-there : {E : Type 0} (stopped : Bool) (o : Option (Sender E)) (v : Sender E) → cond stopped None o ≡ Some v → (stopped ≡ false)
+there : {E : Type 0} (stopped : Bool) (o : Option (Sender E)) (v : Sender E)
+    → cond stopped None o ≡ Some v → (stopped ≡ false)
     × (o ≡ Some v)
 there true o v e = absurd cc
 there false o v e = (refl, e)
 
 -- no turn of such a sender is refused
-turns : {E : Type 0} (o : Option (Sender E)) (v : Sender E) (stopped : Bool) (why : StepFault) → o ≡ Some v → stopped ≡ false
+turns : {E : Type 0} (o : Option (Sender E)) (v : Sender E) (stopped : Bool) (why : StepFault)
+    → o ≡ Some v → stopped ≡ false
     → SenderRefused o stopped why (λ v. ⊥) → ⊥
 turns None v stopped why at goes refused = absurd cc
 turns (Some w) v true why at goes refused = absurd cc
 turns (Some w) v false why at goes refused = refused
 
-pub not_refused : {E : Type 0} (X : Election E) (old new : Machine E) (e : Event) (a : Answer) (why : StepFault) → Happens X old e a new
+pub not_refused :
+    {E : Type 0} (X : Election E) (old new : Machine E) (e : Event) (a : Answer) (why : StepFault)
+    → Happens X old e a new
     → goes_on a ≡ true → Refused new e why → ⊥
-not_refused X old new (Put s bytes) a why h goes refused = stops_so a (answer.Number _) h.answered refl goes
-not_refused X old new (Ask s mark.End) a why h goes refused = stops_so a answer.Closing h.answered refl goes
-not_refused X old new (Ask s mark.Leave) a why h goes refused = stops_so a answer.Leaving h.answered refl goes
+not_refused X old new (Put s bytes) a why h goes refused =
+    stops_so a (answer.Number _) h.answered refl goes
+not_refused X old new (Ask s mark.End) a why h goes refused =
+    stops_so a answer.Closing h.answered refl goes
+not_refused X old new (Ask s mark.Leave) a why h goes refused =
+    stops_so a answer.Leaving h.answered refl goes
 not_refused {E} X old new (Turn s word) a why h goes refused =
     let here = there (has_stopped old s) (slice_get old.senders s) h.sender h.goes in
-    let unset : has_stopped new s ≡ false = ap (λ (y : Machine E). is_set (slice_get y.stopped s)) h.after ∙ here.0 in
-    let at = ap (λ (y : Machine E). slice_get y.senders s) h.after ∙ get_set_same old.senders s _ (slice_get_within old.senders s h.sender
+    let unset : has_stopped new s ≡ false =
+    ap (λ (y : Machine E). is_set (slice_get y.stopped s)) h.after ∙ here.0 in
+    let at =
+    ap (λ (y : Machine E). slice_get y.senders s) h.after
+    ∙ get_set_same old.senders s _ (slice_get_within old.senders s h.sender
     here.1) in
     turns (slice_get new.senders s) _ (has_stopped new s) why at unset refused
 not_refused {E} X old new (Recv r) a why h goes refused =
-    subst (λ o. RecvRefused o why) (ap (λ (y : Machine E). slice_get y.receivers r) h.after ∙ get_set_same old.receivers r h.next
+    subst (λ o. RecvRefused o why)
+    (ap (λ (y : Machine E). slice_get y.receivers r) h.after ∙ get_set_same old.receivers r h.next
     (slice_get_within old.receivers r h.receiver h.there)) refused
 not_refused X old new (Stop s) a why h goes refused = stops_so a answer.Stopped h.answered refl goes
 
 -- ---- an event again and again
-module _ {S : Type 0} (X : Election (Elector S)) (P : Protocol S Bool Verdict) (e : Event) (old : Machine (Elector S)) (all : ℕ) where
-  -- the last answer so far, from the bus before it, and how what is behind it goes on from the first
+module _ {S : Type 0} (X : Election (Elector S)) (P : Protocol S Bool Verdict) (e : Event)
+    (old : Machine (Elector S)) (all : ℕ) where
+  -- the last answer so far, from the bus before it, and how what is behind it goes on from the
+  -- first
   pub record Repeated (left : ℕ) (last : Answer) (new : Machine (Elector S)) : Type 0 where
     pub before : Machine (Elector S)
     pub answered : Answers X P before e last new
-    pub from_first : (final : Answer) (end : Machine (Elector S)) → Repeats X P before e left final end → Repeats X P old e all final end
+    pub from_first : (final : Answer) (end : Machine (Elector S))
+        → Repeats X P before e left final end → Repeats X P old e all final end
 
-  pub once : (last : Answer) (new : Machine (Elector S)) → Answers X P old e last new → Repeated all last new
-  once last new answered = record { before = old; answered = answered; from_first = λ final end r. r }
+  pub once : (last : Answer) (new : Machine (Elector S)) → Answers X P old e last new
+      → Repeated all last new
+  once last new answered = record {
+    before = old;
+    answered = answered;
+    from_first = λ final end r. r;
+  }
 
-  pub once_more : (left : ℕ) (first last : Answer) (mid new : Machine (Elector S)) → Repeated left first mid → 0 < left
+  pub once_more : (left : ℕ) (first last : Answer) (mid new : Machine (Elector S))
+      → Repeated left first mid → 0 < left
       → goes_on first ≡ true → Answers X P mid e last new → Repeated (left - 1) last new
   once_more zero first last mid new h some goes answered = absurd (omega arith)
   once_more (suc left) first last mid new h some goes answered =
@@ -74,7 +96,8 @@ module _ {S : Type 0} (X : Election (Elector S)) (P : Protocol S Bool Verdict) (
         from_first = λ final end r. h.from_first final end (inr (mid, first, h.answered, goes, r));
       }
 
-  pub at_last : (left : ℕ) (last : Answer) (new : Machine (Elector S)) → Repeated left last new → (left ≡ 0) ⊎ (goes_on last ≡ false)
+  pub at_last : (left : ℕ) (last : Answer) (new : Machine (Elector S)) → Repeated left last new
+      → (left ≡ 0) ⊎ (goes_on last ≡ false)
       → Repeats X P old e all last new
   at_last zero last new h stops = h.from_first last new h.answered
   at_last (suc left) last new h (inl none) = absurd (omega arith)

@@ -1,5 +1,7 @@
--- What `replay` answers to an input: a bus is made and moved by the script's lines, and the text is what they print.
-use Rattle.std.specs.Prelude.{◌≡◌, ◌≢◌, ◌-◌, ℕ, zero, suc, Bool, true, false, ◌⊎◌, Option, Some, None, List, [], ◌∷◌, ◌++◌, length, map, codes}
+-- What `replay` answers to an input: a bus is made and moved by the script's lines, and the text is
+-- what they print.
+use Rattle.std.specs.Prelude.{◌≡◌, ◌≢◌, ◌-◌, ℕ, zero, suc, Bool, true, false, ◌⊎◌, Option, Some}
+use Rattle.std.specs.Prelude.{None, List, [], ◌∷◌, ◌++◌, length, map, codes}
 use Rattle.std.specs.List.{range_with_len}
 use Rattle.bus_register.specs.declared.registers.SenderNo.{SenderNo}
 use Rattle.bus_register.specs.Protocol.{Protocol}
@@ -25,7 +27,8 @@ use Rattle.bus_script.specs.LineNumbers.{refusal_line}
 use Rattle.bus_replay.specs.GoingOn.{goes_on}
 use Rattle.bus_replay.specs.declared.lines.FirstLine.{FirstLine}
 use Rattle.bus_replay.specs.Lines.{Command, first_of, command_of, shape_in, reuse_in}
-use Rattle.bus_replay.specs.Text.{answer_line, step_fault_name, make_fault_name, owners_line, order_text, given_text}
+use Rattle.bus_replay.specs.Text.{answer_line, step_fault_name, make_fault_name, owners_line}
+use Rattle.bus_replay.specs.Text.{order_text, given_text}
 
 -- what lines end with: a bus that they leave, or the one line that names the first refusal
 pub data End (E : Type 0) : Type 0 where
@@ -43,24 +46,31 @@ module _ {S : Type 0} (X : Election (Elector S)) (P : Protocol S Bool Verdict) w
   Repeats m e zero last new = Answers X P m e last new
   Repeats m e (suc more) last new =
       (Answers X P m e last new × (goes_on last ≡ false))
-      ⊎ ((mid : Machine (Elector S)) × (first : Answer) × Answers X P m e first mid × (goes_on first ≡ true) × Repeats mid e more last new)
+      ⊎ ((mid : Machine (Elector S)) × (first : Answer) × Answers X P m e first mid
+      × (goes_on first ≡ true) × Repeats mid e more last new)
 
-  -- What a line prints, and then what is behind it: its last answer, or where it is refused nothing, and no later line is looked at.
-  abbrev pub Asked : Machine (Elector S) → ℕ → Option Command → (Machine (Elector S) → List ℕ → End (Elector S) → Type 0)
+  -- What a line prints, and then what is behind it: its last answer, or where it is refused
+  -- nothing, and no later line is looked at.
+  abbrev pub Asked : Machine (Elector S) → ℕ → Option Command
+      → (Machine (Elector S) → List ℕ → End (Elector S) → Type 0)
       → List ℕ → End (Elector S) → Type 0
-  Asked m number None Behind text end = (text ≡ []) × (end ≡ Stopped (refusal_line (AtLine number) (codes "BadLine")))
+  Asked m number None Behind text end =
+      (text ≡ []) × (end ≡ Stopped (refusal_line (AtLine number) (codes "BadLine")))
   Asked m number (Some c) Behind text end =
-      ((why : StepFault) × RefusedBy m c.event why × (text ≡ []) × (end ≡ Stopped (refusal_line (AtLine number) (step_fault_name why))))
-      ⊎ ((mid : Machine (Elector S)) × (last : Answer) × (rest : List ℕ) × Repeats m c.event (c.times - 1) last mid × Behind mid rest end
+      ((why : StepFault) × RefusedBy m c.event why × (text ≡ [])
+      × (end ≡ Stopped (refusal_line (AtLine number) (step_fault_name why))))
+      ⊎ ((mid : Machine (Elector S)) × (last : Answer) × (rest : List ℕ)
+      × Repeats m c.event (c.times - 1) last mid × Behind mid rest end
       × (text ≡ answer_line c.event last ++ rest))
 
   -- What lines print: each prints its last answer, up to the first that is refused.
   abbrev pub Prints : Machine (Elector S) → List (ℕ × List ℕ) → List ℕ → End (Elector S) → Type 0
   Prints m [] text end = (text ≡ []) × (end ≡ Left m)
-  Prints m (line ∷ lines) text end = Asked m line.0 (command_of line.1) (λ mid rest stop. Prints mid lines rest stop) text end
+  Prints m (line ∷ lines) text end =
+      Asked m line.0 (command_of line.1) (λ mid rest stop. Prints mid lines rest stop) text end
 
-  -- The closing lines, whatever trails led to the bus, as some have: who took the pages; the one order that the words below the length
-  -- spell; and of each receiver what it was given.
+  -- The closing lines, whatever trails led to the bus, as some have: who took the pages; the one
+  -- order that the words below the length spell; and of each receiver what it was given.
   pub record Closes (m : Machine (Elector S)) (text : List ℕ) : Type 0 where
     pub order : Order
     pub owners : List (ℕ × SenderNo)
@@ -68,19 +78,25 @@ module _ {S : Type 0} (X : Election (Elector S)) (P : Protocol S Bool Verdict) w
     pub happened : (T : Trails) × ReachedBy X m T
     pub took : (T : Trails) → ReachedBy X m T → TakersTold m.reuse m.owners T.actions
     pub text_is : (T : Trails) → ReachedBy X m T
-        → text ≡ owners_line m.owners ++ order_text order ++ given_text (given_by T (length m.receivers))
+        → text
+        ≡ owners_line m.owners ++ order_text order ++ given_text (given_by T (length m.receivers))
 
   abbrev pub Ends : End (Elector S) → List ℕ → Outcome → List ℕ → Type 0
-  Ends (Left m) text outcome whole = (closing : List ℕ) × Closes m closing × (outcome ≡ Done) × (whole ≡ text ++ closing)
+  Ends (Left m) text outcome whole =
+      (closing : List ℕ) × Closes m closing × (outcome ≡ Done) × (whole ≡ text ++ closing)
   Ends (Stopped refusal) text outcome whole = (outcome ≡ Refused) × (whole ≡ text ++ refusal)
 
-  -- by what the first line asks for: such a new bus is made and moved by the lines behind it, or it is not made
+  -- by what the first line asks for: such a new bus is made and moved by the lines behind it, or it
+  -- is not made
   abbrev pub Begins : ℕ → Option FirstLine → List (ℕ × List ℕ) → Outcome → List ℕ → Type 0
-  Begins number None lines outcome whole = (outcome ≡ Refused) × (whole ≡ refusal_line (AtLine number) (codes "BadLine"))
+  Begins number None lines outcome whole =
+      (outcome ≡ Refused) × (whole ≡ refusal_line (AtLine number) (codes "BadLine"))
   Begins number (Some first) lines outcome whole =
-      ((why : MakeFault) × MakeRefused (shape_in first) (reuse_in first) why × (why ≢ make.NoMemory) × (outcome ≡ Refused)
+      ((why : MakeFault) × MakeRefused (shape_in first) (reuse_in first) why × (why ≢ make.NoMemory)
+      × (outcome ≡ Refused)
       × (whole ≡ refusal_line (AtLine number) (make_fault_name why)))
-      ⊎ ((m : Machine (Elector S)) × IsMade X P (shape_in first) (reuse_in first) no_bases m × (text : List ℕ) × (end : End (Elector S))
+      ⊎ ((m : Machine (Elector S)) × IsMade X P (shape_in first) (reuse_in first) no_bases m
+      × (text : List ℕ) × (end : End (Elector S))
       × Prints m lines text end × Ends end text outcome whole)
 
   abbrev pub Replays : List (ℕ × List ℕ) → Outcome → List ℕ → Type 0

@@ -1,5 +1,6 @@
 -- What the lines of a script of `replay` say.
-use Rattle.std.specs.Prelude.{ℕ, ◌+◌, ◌-◌, ◌*◌, ◌^◌, Bool, ◌&&◌, List, [], ◌∷◌, length, Option, Some, None, codes, nat_lt, nat_le, if◌then◌else◌, option_and_then}
+use Rattle.std.specs.Prelude.{ℕ, ◌+◌, ◌-◌, ◌*◌, ◌^◌, Bool, ◌&&◌, List, [], ◌∷◌, length, Option}
+use Rattle.std.specs.Prelude.{Some, None, codes, nat_lt, nat_le, if◌then◌else◌, option_and_then}
 use Rattle.std.specs.Option.{option_map}
 use Rattle.std.specs.Str.{bytes_eq}
 use Rattle.bus_batch.specs.declared.messages.Mark.TheVariants as mark
@@ -19,7 +20,9 @@ pub record Command : Type 0 where
 
 -- the value of a digit
 abbrev pub digit_of : ℕ → Option ℕ
-digit_of b = if nat_le 48 b && nat_le b 57 then Some (b - 48) else (if nat_le 97 b && nat_le b 102 then Some (b - 87) else None)
+digit_of b =
+    if nat_le 48 b && nat_le b 57 then Some (b - 48)
+    else (if nat_le 97 b && nat_le b 102 then Some (b - 87) else None)
 
 abbrev pub byte_from : Option ℕ → Option ℕ → Option ℕ
 byte_from None low = None
@@ -30,10 +33,13 @@ byte_from (Some high) (Some low) = Some (16 * high + low)
 abbrev pub pairs_of : List ℕ → Option (List ℕ)
 pairs_of [] = Some []
 pairs_of (high ∷ []) = None
-pairs_of (high ∷ low ∷ digits) = and_before (byte_from (digit_of high) (digit_of low)) (pairs_of digits)
+pairs_of (high ∷ low ∷ digits) =
+    and_before (byte_from (digit_of high) (digit_of low)) (pairs_of digits)
 
 abbrev pub hex_of : List ℕ → Option (List ℕ)
-hex_of word = if bytes_eq word (codes "-") then Some [] else (if nat_lt 0 (length word) then pairs_of word else None)
+hex_of word =
+    if bytes_eq word (codes "-") then Some []
+    else (if nat_lt 0 (length word) then pairs_of word else None)
 
 -- ---- lines
 
@@ -51,7 +57,8 @@ shape_from (n ∷ []) = None
 shape_from (n ∷ m ∷ []) = None
 shape_from (n ∷ m ∷ r ∷ []) = None
 shape_from (n ∷ m ∷ r ∷ t ∷ []) = None
-shape_from (n ∷ m ∷ r ∷ t ∷ l ∷ []) = Some (record { senders = n; receivers = m; rounds = r; rows = t; log_words = l })
+shape_from (n ∷ m ∷ r ∷ t ∷ l ∷ []) =
+    Some (record { senders = n; receivers = m; rounds = r; rows = t; log_words = l })
 shape_from (n ∷ m ∷ r ∷ t ∷ l ∷ x ∷ more) = None
 
 -- what a line `shape N M R T L` says
@@ -62,7 +69,8 @@ shape_of line = option_and_then shape_from (numbers_behind (codes "shape") line)
 abbrev pub cycle_of : List ℕ → Option Shape
 cycle_of line = option_and_then shape_from (numbers_behind (codes "cycle") line)
 
--- the shape of the bus that the first line asks for, and how many of its rows are used again: none where each tenure has one
+-- the shape of the bus that the first line asks for, and how many of its rows are used again: none
+-- where each tenure has one
 abbrev pub shape_in : FirstLine → Shape
 shape_in (Shaped shape) = shape
 shape_in (Cycled shape) = shape
@@ -102,7 +110,8 @@ abbrev pub turn_from : List ℕ → Option Command
 turn_from [] = None
 turn_from (s ∷ []) = None
 turn_from (s ∷ w ∷ []) = None
-turn_from (s ∷ w ∷ k ∷ []) = if nat_lt w (2 ^ 32) && are_times k then Some (record { event = Turn s w; times = k }) else None
+turn_from (s ∷ w ∷ k ∷ []) =
+    if nat_lt w (2 ^ 32) && are_times k then Some (record { event = Turn s w; times = k }) else None
 turn_from (s ∷ w ∷ k ∷ x ∷ more) = None
 
 -- `recv M K`: at most K turns of receiver M

@@ -1,5 +1,6 @@
 -- What `replay` prints.
-use Rattle.std.specs.Prelude.{ℕ, Bool, true, false, List, [], ◌∷◌, ◌++◌, length, codes, decimal, flat_map}
+use Rattle.std.specs.Prelude.{ℕ, Bool, true, false, List, [], ◌∷◌, ◌++◌, length, codes, decimal}
+use Rattle.std.specs.Prelude.{flat_map}
 use Rattle.std.specs.List.{enumerate_from}
 use Rattle.bus_batch.specs.declared.batches.CloseFault.{CloseFault}
 use Rattle.bus_batch.specs.declared.batches.CloseFault.TheVariants as close

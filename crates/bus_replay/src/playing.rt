@@ -8,7 +8,9 @@ ghost use Rattle.bus_machine.specs.Playing.{Refused};
 ghost use Rattle.bus_script.specs.declared.line_numbers.LineNumber.TheVariants.{AtLine};
 ghost use Rattle.bus_script.specs.LineNumbers.{refusal_line};
 ghost use Rattle.bus_replay.specs.Answers.{Repeats};
-ghost use Rattle.bus_replay.specs.GoingOn.{turn_goes_on, recv_goes_on, goes_on};
+ghost use Rattle.bus_replay.specs.GoingOn.{goes_on};
+ghost use Rattle.bus_deliverylog.specs.Receiving.{recv_goes_on};
+ghost use Rattle.bus_tenure.specs.Classes.{still_goes};
 ghost use Rattle.bus_replay.specs.Told.{IsObeyed, ArePlayed};
 
 use crate::lines::command_of;
@@ -24,7 +26,7 @@ use bus_world::{Answer, Event, StepFault};
 use std::alloc::{AllocError, Global};
 
 fn turn_goes_on(turn: Turn) -> bool
-    ensures { result ≡ turn_goes_on turn }
+    ensures { result ≡ still_goes turn }
 {
     matches!(turn, Turn::Going)
 }

@@ -10,5 +10,8 @@ use Rattle.bus_pageslot.specs.Seats.{SenderSeat, actions_of}
 use Rattle.bus_automaton.specs.SenderTrails.{SenderTrail}
 
 -- new senders have put nothing
-pub none_put : {C : Type 0} (P : Process C) (A : Automaton C) (table : TableId) (many : ℕ) (senders : List (SenderSeat C)) → AreNewSeats P A table many senders → All (λ s. puts (actions_of P s) ≡ []) senders
-none_put P A table many senders h k d l = ap (λ (t : SenderTrail). puts t.actions) (h.each k _ (slice_get-get_or senders k d l)).sender_trail
+pub none_put : {C : Type 0} (P : Process C) (A : Automaton C) (table : TableId) (many : ℕ)
+    (senders : List (SenderSeat C)) → AreNewSeats P A table many senders
+    → All (λ s. puts (actions_of P s) ≡ []) senders
+none_put P A table many senders h k d l = ap (λ (t : SenderTrail). puts t.actions)
+    (h.each k _ (slice_get-get_or senders k d l)).sender_trail

@@ -1,8 +1,10 @@
 -- Which bus a run goes by, what that leaves behind, and by which seat.
-use Rattle.std.specs.Prelude.{◌≡◌, ℕ, ◌+◌, List, All, Option, Some, None, length, slice_get}
+use Rattle.std.specs.Prelude.{◌≡◌, ℕ, ◌++◌, List, All, Option, Some, None, length, replicate}
+use Rattle.std.specs.Prelude.{slice_get}
 use Rattle.bus_adoptcommit.specs.ThreeWord.{Local, kind_at, op_of, fed_of}
 use Rattle.bus_adoptcommit.specs.ThreeWordKeeps.{three_word}
 use Rattle.bus_machine.specs.Playing.{IsServed, MakeRefused}
+use Rattle.bus_tenure.specs.Core.{length_at}
 use Rattle.bus_tenure.specs.declared.pages.Page.{Page}
 use Rattle.bus_world.specs.Headline.{IsPrefix}
 use Rattle.bus_world.specs.declared.shapes.MakeFault.{MakeFault}
@@ -19,10 +21,11 @@ use Rattle.bus_pageslot.specs.Turns.{Tellings, tells_with}
 use Rattle.bus_batch.specs.Batches.{Pending}
 use Rattle.bus_run.specs.Told.{HasTold}
 
--- ---- which bus: its senders go by the ratifier of three words, as the types of src/buses.rt have it
--- what the answers of its turns tell
+-- ---- which bus: its senders go by the ratifier of three words, as the types of src/buses.rt have
+-- it what the answers of its turns tell
 abbrev pub run_tells : Tellings Held
-run_tells = tells_with (λ s. kind_at s.progress) (λ s word. op_of s) (λ s got word. fed_of s got) three_word
+run_tells =
+    tells_with (λ s. kind_at s.progress) (λ s word. op_of s) (λ s got word. fed_of s got) three_word
 
 -- what the bus of a run is made by: its shape, and its rows of words are used again
 abbrev pub run_plan : Shape → Plan
@@ -51,11 +54,13 @@ Shown = View Held
 
 -- ---- what is left
 
--- a table of this plan of which the rule holds, and on which some seat shows this, was left with this log, and with this at home
+-- a table of this plan of which the rule holds, and on which some seat shows this, was left with
+-- this log, and with this at home
 abbrev pub IsLeftBy : Plan → Shown → List ℕ → Option Page → Type 0
 IsLeftBy plan seen log home = IsLeft process (automaton plan) seen log home
 
--- its log and its page are those of a table of this plan of which the rule holds, and on which some seat shows this
+-- its log and its page are those of a table of this plan of which the rule holds, and on which some
+-- seat shows this
 pub record IsLeftBehind (plan : Plan) (z : Outcome) : Type 0 where
   pub seen : Shown
   pub left : IsLeftBy plan seen z.log (Some z.page)
@@ -65,15 +70,21 @@ abbrev pub IsEndedBy : Plan → (Shown → Type 0) → Outcome → Type 0
 IsEndedBy plan Ends z = (behind : IsLeftBehind plan z) × Ends behind.seen
 
 -- ---- the seat by which a run's bus is ended
--- the seat shows what it did, but for the words of the log that it knows, which are more, and for so many loads more
+-- the seat shows what it did, but for the words of the log that it knows, which are more, and for
+-- so many loads of the length more
 pub record HasLearnt (times : ℕ) (old new : Shown) : Type 0 where
   pub known : List ℕ
-  pub now : new ≡ with_receiver_view old (record (receiver_view_in old) { known = known; loads = (receiver_view_in old).loads + times })
+  pub now : new
+      ≡ with_receiver_view old (record (receiver_view_in old) {
+        known = known;
+        loads = (receiver_view_in old).loads ++ replicate times length_at;
+      })
   pub grows : IsPrefix (known_in old) known
 
--- it is the first receiver's after one load for each sender, and knows a log of a bus of so many senders that has of each just the numbers
--- below this one at its front
-pub record IsToldByAll {D : Type 0} (sender : D → SenderSeat Held) (senders messages : ℕ) (send_workers : List D) (seats : List Shown) (seen : Shown) : Type 0 where
+-- it is the first receiver's after one load for each sender, and knows a log of a bus of so many
+-- senders that has of each just the numbers below this one at its front
+pub record IsToldByAll {D : Type 0} (sender : D → SenderSeat Held) (senders messages : ℕ)
+    (send_workers : List D) (seats : List Shown) (seen : Shown) : Type 0 where
   pub first : Shown
   pub first_is : slice_get seats 0 ≡ Some first
   pub learnt : HasLearnt (length send_workers) first seen

@@ -1,7 +1,8 @@
 -- What is printed where a command could not do its work.
 use Rattle.std.specs.Prelude.{ℕ, List, codes}
 use Rattle.bus_run.specs.declared.faults.RunFault.{RunFault}
-use Rattle.bus_run.specs.declared.faults.RunFault.TheVariants.{Read, Write, TooMuch, NoMemory, Make, Spawn, Gate, Stopped, Audit}
+use Rattle.bus_run.specs.declared.faults.RunFault.TheVariants.{Read, Write, TooMuch, NoMemory}
+use Rattle.bus_run.specs.declared.faults.RunFault.TheVariants.{Make, Spawn, Gate, Stopped, Audit}
 use Rattle.bus_world.specs.declared.shapes.MakeFault.{MakeFault}
 use Rattle.bus_world.specs.declared.shapes.MakeFault.TheVariants as make
 

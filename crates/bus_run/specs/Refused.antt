@@ -1,5 +1,6 @@
 -- What is no audit that was passed, no run that ended well, and no sender that has sent all.
-use Rattle.std.specs.Prelude.{◌≡◌, ℕ, ◌+◌, ◌<◌, ◌≤◌, true, false, Some, List, [], ◌∷◌, All, length, slice_index, slice_get}
+use Rattle.std.specs.Prelude.{◌≡◌, ℕ, ◌+◌, ◌<◌, ◌≤◌, true, false, Some, List, [], ◌∷◌, All, length}
+use Rattle.std.specs.Prelude.{slice_index, slice_get}
 use Rattle.std.specs.Int.{w64, to_be_bytes}
 use Rattle.bus_register.specs.declared.limits.TheConstants.{MOST_SENDERS}
 use Rattle.bus_register.specs.declared.registers.SenderNo.{SenderNo}
@@ -28,8 +29,11 @@ zeros = to_be_bytes w64 0
 -- Of what a bus left behind, whose words spell this order: an audit that passes ..
 pub record AuditRefuses (left : Outcome) (order : Order) (h : Hearing) : Type 0 where
   -- .. a note that has an item of a sender too few, or one too many
-  pub too_few : (s : ℕ) → s < MOST_SENDERS → slice_index h.counts s + 1 ≡ length (of_sender s order) → ¬ OfOrder left (λ o. All (IsFair o) (h ∷ []))
-  pub too_many : (s : ℕ) → s < MOST_SENDERS → slice_index h.counts s ≡ length (of_sender s order) + 1 → ¬ OfOrder left (λ o. All (IsFair o) (h ∷ []))
+  pub too_few : (s : ℕ) → s < MOST_SENDERS → slice_index h.counts s + 1 ≡ length (of_sender s order)
+      → ¬ OfOrder left (λ o. All (IsFair o) (h ∷ []))
+  pub too_many : (s : ℕ) → s < MOST_SENDERS
+      → slice_index h.counts s ≡ length (of_sender s order) + 1
+      → ¬ OfOrder left (λ o. All (IsFair o) (h ∷ []))
   -- .. one that has no end, ..
   pub unended : h.ended ≡ false → ¬ OfOrder left (λ o. All (IsFair o) (h ∷ []))
   -- .. or an order that a sender has left
@@ -40,29 +44,39 @@ pub record AuditRefuses (left : Outcome) (order : Order) (h : Hearing) : Type 0 
 -- Of runs in which each sender was to send so many messages, one that ended well with ..
 pub record RunRefuses (shape : Shape) (messages : ℕ) (left : Outcome) : Type 0 where
   -- .. nothing in its log, ..
-  pub nothing_sent : (heards : List Hearing) → 0 < shape.senders → 0 < messages → left.log ≡ [] → ¬ IsRunReport shape messages left heards
+  pub nothing_sent : (heards : List Hearing) → 0 < shape.senders → 0 < messages → left.log ≡ []
+      → ¬ IsRunReport shape messages left heards
   -- .. one message of a sender too few, ..
-  pub one_unsent : (heards : List Hearing) (order : Order) (owners : List (ℕ × SenderNo)) (s : ℕ) → Spells left.senders left.log order owners → s < shape.senders
+  pub one_unsent : (heards : List Hearing) (order : Order) (owners : List (ℕ × SenderNo)) (s : ℕ)
+      → Spells left.senders left.log order owners → s < shape.senders
       → length (of_sender s order) + 1 ≡ messages → ¬ IsRunReport shape messages left heards
   -- .. a zero in place of the number that was due, ..
-  pub zero_sent : (heards : List Hearing) (order : Order) (owners : List (ℕ × SenderNo)) (s : ℕ) (item : Item) → Spells left.senders left.log order owners → s < shape.senders
-      → slice_get (of_sender s order) 1 ≡ Some item → item.message ≡ zeros → ¬ IsRunReport shape messages left heards
+  pub zero_sent :
+      (heards : List Hearing) (order : Order) (owners : List (ℕ × SenderNo)) (s : ℕ) (item : Item)
+      → Spells left.senders left.log order owners → s < shape.senders
+      → slice_get (of_sender s order) 1 ≡ Some item → item.message ≡ zeros
+      → ¬ IsRunReport shape messages left heards
   -- .. an order that has not ended, ..
-  pub unclosed : (heards : List Hearing) (order : Order) (owners : List (ℕ × SenderNo)) → Spells left.senders left.log order owners → order.ended ≡ false
+  pub unclosed : (heards : List Hearing) (order : Order) (owners : List (ℕ × SenderNo))
+      → Spells left.senders left.log order owners → order.ended ≡ false
       → ¬ IsRunReport shape messages left heards
   -- .. or a receiver that was given an item less
-  pub one_unheard : (h : Hearing) (order : Order) (owners : List (ℕ × SenderNo)) → Spells left.senders left.log order owners → h.items + 1 ≡ length (items_in order.entries)
+  pub one_unheard : (h : Hearing) (order : Order) (owners : List (ℕ × SenderNo))
+      → Spells left.senders left.log order owners → h.items + 1 ≡ length (items_in order.entries)
       → ¬ IsRunReport shape messages left (h ∷ [])
 
 -- A sender has not sent all that ..
 pub record SenderRefuses (s : SenderSeat Held) : Type 0 where
   -- .. put nothing, where messages were asked for, ..
-  pub nothing_put : (messages : ℕ) → 0 < messages → puts (actions_of process s) ≡ [] → ¬ HasSent messages s
+  pub nothing_put : (messages : ℕ) → 0 < messages → puts (actions_of process s) ≡ []
+      → ¬ HasSent messages s
   -- .. put a zero twice, ..
-  pub zeros_put : (messages : ℕ) → puts (actions_of process s) ≡ zeros ∷ zeros ∷ [] → ¬ HasSent messages s
+  pub zeros_put : (messages : ℕ) → puts (actions_of process s) ≡ zeros ∷ zeros ∷ []
+      → ¬ HasSent messages s
   -- .. or has a message that waits; nor does it close then
   pub one_waits : (messages : ℕ) → 0 < length (batch_of s).messages → ¬ HasSent messages s
-  pub closes_before : (answer : Turn) (new : SenderSeat Held) → 0 < length (batch_of s).messages → ¬ ClosesOn s answer new
+  pub closes_before : (answer : Turn) (new : SenderSeat Held) → 0 < length (batch_of s).messages
+      → ¬ ClosesOn s answer new
 
 -- Nobody has told a message by a log of no words, or of which the bus has no such sender.
 pub record TellingRefuses (senders s many : ℕ) : Type 0 where

@@ -1,5 +1,6 @@
 -- What `run` prints of a run.
-use Rattle.std.specs.Prelude.{◌≡◌, ℕ, zero, suc, Bool, true, false, List, [], ◌∷◌, ◌++◌, codes, decimal, flat_map, length}
+use Rattle.std.specs.Prelude.{◌≡◌, ℕ, zero, suc, Bool, true, false, List, [], ◌∷◌, ◌++◌, codes}
+use Rattle.std.specs.Prelude.{decimal, flat_map, length}
 use Rattle.std.specs.List.{enumerate_from}
 use Rattle.bus_register.specs.declared.registers.SenderNo.{SenderNo}
 use Rattle.bus_batch.specs.Frames.{Order, Spells}
@@ -24,7 +25,8 @@ end_text true = codes " end"
 end_text false = []
 
 abbrev pub receiver_line : ℕ → Hearing → List ℕ
-receiver_line r h = codes "receiver " ++ decimal r ++ codes ": " ++ decimal h.items ++ end_text h.ended ++ 10 ∷ []
+receiver_line r h =
+    codes "receiver " ++ decimal r ++ codes ": " ++ decimal h.items ++ end_text h.ended ++ 10 ∷ []
 
 -- a line for each receiver, of which the first has this number
 abbrev pub receiver_lines : ℕ → List Hearing → List ℕ
@@ -32,13 +34,17 @@ receiver_lines first heards = flat_map (λ g. receiver_line g.0 g.1) (enumerate_
 
 -- what the page knows, under an audit that was passed
 abbrev pub page_lines : Page → List ℕ
-page_lines page = codes "tenures " ++ decimal page.tenures ++ 10 ∷ codes "words " ++ decimal page.words ++ 10 ∷ codes "audit ok" ++ 10 ∷ []
+page_lines page =
+    codes "tenures " ++ decimal page.tenures ++ 10 ∷ codes "words " ++ decimal page.words
+    ++ 10 ∷ codes "audit ok" ++ 10 ∷ []
 
 abbrev pub report_text : Order → Page → ℕ → List Hearing → List ℕ
-report_text order page senders heards = sender_lines order senders ++ receiver_lines 0 heards ++ page_lines page
+report_text order page senders heards =
+    sender_lines order senders ++ receiver_lines 0 heards ++ page_lines page
 
--- What is printed of a run that ended well: of each sender how many items the order has, of each receiver the total that it noted and
--- whether it was given the end, and the tenures and words that the page knows.
+-- What is printed of a run that ended well: of each sender how many items the order has, of each
+-- receiver the total that it noted and whether it was given the end, and the tenures and words that
+-- the page knows.
 pub record IsRunText (senders receivers messages : ℕ) (text : List ℕ) : Type 0 where
   pub left : Outcome
   pub heards : List Hearing

@@ -7,7 +7,8 @@ use Rattle.bus_deliverylog.specs.Orders.{of_sender}
 use Rattle.bus_world.specs.Headline.{IsPrefix}
 use Rattle.bus_run.specs.Numbers.{numbers_below}
 
--- a beginning of these words is a log of a bus of so many senders, and has of sender s just the numbers below many
+-- a beginning of these words is a log of a bus of so many senders, and has of sender s just the
+-- numbers below many
 pub record HasTold (senders s many : ℕ) (words : List ℕ) : Type 0 where
   pub front : List ℕ
   pub begins : IsPrefix front words

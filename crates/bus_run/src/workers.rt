@@ -32,7 +32,7 @@ use bus_pageslot::OfBus;
 use bus_receiver::Heard;
 use bus_register::limits::MOST_MESSAGES;
 use bus_tenure::Turn;
-use crossbeam_utils::Backoff;
+use bus_waiting::Waiter;
 use rand_chacha::ChaCha8Rng;
 use rand_core::SeedableRng;
 use std::alloc::{AllocError, Global};
@@ -150,7 +150,8 @@ impl<B: OfBus> SendWorker<B> {
         ensures fault { self.new.fault ≡ self.old.fault }
         ensures sends { SendsOn self.old.sender result self.new.sender }
     {
-        self.sender.send(wait, &the.bus, &mut self.rng)
+        let waiter = Waiter::yielding(wait);
+        self.sender.send(&waiter, &the.bus, &mut self.rng)
     }
 
     /// Says that its sender was stopped, unless it had a fault before.
@@ -305,17 +306,17 @@ impl<B: OfBus, W: Wait> Work<ReceiveWorker<B>> for HearAll<'_, B, W> {
     /// Takes until the end and notes each answer, or until the bus was given up and has nothing
     /// more.
     fn work(&self, mut receive_worker: ReceiveWorker<B>) -> ReceiveWorker<B> {
-        let backoff = Backoff::new();
-        for _ in self.wait.forever() {
+        let waiter = Waiter::yielding(self.wait);
+        for _ in waiter.forever() {
             match receive_worker.hear(self.the) {
                 RecvTurn::End => return receive_worker,
                 RecvTurn::Empty => {
                     if self.given_up.load(Ordering::SeqCst) {
                         return receive_worker;
                     }
-                    backoff.snooze();
+                    waiter.rest();
                 }
-                _ => backoff.reset(),
+                _ => waiter.reset(),
             }
         }
         unreachable!()

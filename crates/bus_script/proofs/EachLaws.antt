@@ -8,6 +8,7 @@ behind front None = None
 behind front (Some back) = Some (front ++ back)
 
 -- one more of those behind goes over to the front
-pub behind_one_more : {A : Type 0} (front : List A) (x : A) (back : Option (List A)) → behind (front ++ x ∷ []) back ≡ behind front (and_before (Some x) back)
+pub behind_one_more : {A : Type 0} (front : List A) (x : A) (back : Option (List A))
+    → behind (front ++ x ∷ []) back ≡ behind front (and_before (Some x) back)
 behind_one_more front x None = refl
 behind_one_more front x (Some back) = ap (λ l. Some l) (append_assoc front (x ∷ []) back)

@@ -1,5 +1,7 @@
 -- What all scripts are made of: lines, words and numbers. A script is bytes, and need not be text.
-use Rattle.std.specs.Prelude.{ℕ, ◌^◌, ◌==◌, Bool, true, not, ◌&&◌, ◌||◌, List, [], ◌∷◌, length, slice_index, Option, Some, None, nat_lt, nat_le, filter, if◌then◌else◌}
+use Rattle.std.specs.Prelude.{ℕ, ◌^◌, ◌==◌, Bool, true, not, ◌&&◌, ◌||◌, List, [], ◌∷◌, length}
+use Rattle.std.specs.Prelude.{slice_index, Option, Some, None, nat_lt, nat_le, filter}
+use Rattle.std.specs.Prelude.{if◌then◌else◌}
 use Rattle.std.specs.List.{onto_first, slice_split, enumerate_from}
 use Rattle.std.specs.Str.{all_ascii_digits, bytes_eq}
 use Rattle.std.specs.Str.Parse.{digits_value}
@@ -16,19 +18,24 @@ is_passed_over (b ∷ bytes) = b == 35
 
 -- the lines that are not passed over, each with its number, where the first of all has this number
 abbrev pub lines_from : ℕ → List ℕ → List (ℕ × List ℕ)
-lines_from number bytes = filter (λ line. not (is_passed_over line.1)) (enumerate_from number (lines_of bytes))
+lines_from number bytes =
+    filter (λ line. not (is_passed_over line.1)) (enumerate_from number (lines_of bytes))
 
 -- the lines of a script that are not passed over; all lines are numbered, from 1
 abbrev pub script_lines : List ℕ → List (ℕ × List ℕ)
 script_lines bytes = lines_from 1 bytes
 
--- What stands between the spaces of a line, in order. A space too many makes a word of no byte, which fits no form.
+-- What stands between the spaces of a line, in order. A space too many makes a word of no byte,
+-- which fits no form.
 abbrev pub words_of : List ℕ → List (List ℕ)
 words_of line = slice_split (λ b. b == 32) line
 
 -- digits, the first of them no `0` unless it is alone, of a number below 2^64
 abbrev pub is_number : List ℕ → Bool
-is_number word = nat_lt 0 (length word) && all_ascii_digits word && (nat_le (length word) 1 || not (slice_index word 0 == 48)) && nat_lt (digits_value 10 word) (2 ^ 64)
+is_number word =
+    nat_lt 0 (length word) && all_ascii_digits word
+    && (nat_le (length word) 1 || not (slice_index word 0 == 48))
+    && nat_lt (digits_value 10 word) (2 ^ 64)
 
 -- the number that a word is
 abbrev pub number_of : List ℕ → Option ℕ

@@ -13,4 +13,6 @@ ended_lines lines = flat_map (λ line. line ++ 10 ∷ []) lines
 -- Lines of a text: each is ended by a line feed, or each but the last, which then has a byte.
 pub record IsText (text : List ℕ) (lines : List (List ℕ)) : Type 0 where
   pub each : AllByRecursion IsLine lines
-  pub spelled : (text ≡ ended_lines lines) ⊎ ((front : List (List ℕ)) × (last : List ℕ) × (lines ≡ front ++ last ∷ []) × (0 < length last) × (text ≡ ended_lines front ++ last))
+  pub spelled : (text ≡ ended_lines lines)
+      ⊎ ((front : List (List ℕ)) × (last : List ℕ) × (lines ≡ front ++ last ∷ [])
+      × (0 < length last) × (text ≡ ended_lines front ++ last))

@@ -3,6 +3,7 @@ pub mod ElectionTurns
 pub mod Caused
 pub mod Situated
 pub mod Looking
+mod Publishing
 mod Electing
 pub mod Inverted
 pub mod Rows

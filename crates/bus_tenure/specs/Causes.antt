@@ -1,5 +1,5 @@
--- Why a sender takes a step in its tenures: what holds of it before the step, read off what it holds. Which kind of step wants which of
--- these is a list of bus_core (HasCause).
+-- Why a sender takes a step in its tenures: what holds of it before the step, read off what it
+-- holds. Which kind of step wants which of these is a list of bus_core (HasCause).
 use Rattle.std.specs.Prelude.{◌≡◌, ◌≢◌, ℕ, ◌+◌, ◌<◌, ◌≤◌, ◌⊎◌, Bool, true, false, Some, None}
 use Rattle.bus_register.specs.Protocol.{Protocol}
 use Rattle.bus_adoptcommit.specs.declared.verdicts.Verdict.{Verdict}
@@ -31,12 +31,16 @@ pub record LooksForTenure {E : Type 0} (c : Core E) : Type 0 where
   pub tenure_left : c.least < c.layout.rows
 
 -- its election is as it started
-pub record BeginsElection {S : Type 0} (P : Protocol S Bool Verdict) (c : Core (Elector S)) : Type 0 where
+pub record BeginsElection {S : Type 0} (P : Protocol S Bool Verdict) (c : Core (Elector S)) :
+    Type 0 where
   pub tenure : ℕ
-  pub starts : c.phase ≡ Electing tenure ((elections P c.layout.rounds).started c.layout.senders c.me tt (row_at c.layout tenure))
+  pub starts : c.phase
+      ≡ Electing tenure
+      ((elections P c.layout.rounds).started c.layout.senders c.me tt (row_at c.layout tenure))
 
 -- its election has no owner yet, and is at the decision of a bit, where it stands thus
-pub record IsDeciding {S : Type 0} (P : Protocol S Bool Verdict) (c : Core (Elector S)) (decision : Decider S ConciliatorState) : Type 0 where
+pub record IsDeciding {S : Type 0} (P : Protocol S Bool Verdict) (c : Core (Elector S))
+    (decision : Decider S ConciliatorState) : Type 0 where
   pub tenure : ℕ
   pub election : Elector S
   pub elects : c.phase ≡ Electing tenure election
@@ -44,7 +48,8 @@ pub record IsDeciding {S : Type 0} (P : Protocol S Bool Verdict) (c : Core (Elec
   pub unended : (elections P c.layout.rounds).output election ≡ None
 
 -- it is in a ratifier of a bit's decision, and has taken its first step there, or has not
-pub record IsInRatifier {S : Type 0} (P : Protocol S Bool Verdict) (c : Core (Elector S)) (begun : Bool) : Type 0 where
+pub record IsInRatifier {S : Type 0} (P : Protocol S Bool Verdict) (c : Core (Elector S))
+    (begun : Bool) : Type 0 where
   pub decision : Decider S ConciliatorState
   pub deciding : IsDeciding P c decision
   pub ratifier : S
@@ -52,7 +57,8 @@ pub record IsInRatifier {S : Type 0} (P : Protocol S Bool Verdict) (c : Core (El
   pub stands : P.has_begun ratifier ≡ begun
 
 -- it is in a conciliator of a bit's decision, at this stage of it
-pub record IsInConciliator {S : Type 0} (P : Protocol S Bool Verdict) (c : Core (Elector S)) (stage : Stage) : Type 0 where
+pub record IsInConciliator {S : Type 0} (P : Protocol S Bool Verdict) (c : Core (Elector S))
+    (stage : Stage) : Type 0 where
   pub decision : Decider S ConciliatorState
   pub deciding : IsDeciding P c decision
   pub conciliator : ConciliatorState
@@ -60,7 +66,8 @@ pub record IsInConciliator {S : Type 0} (P : Protocol S Bool Verdict) (c : Core 
   pub stands : conciliator.stage ≡ stage
 
 -- it has seen the other mark of a conciliator set, and asks the coin, which is at this phase
-pub record AsksCoin {S : Type 0} (P : Protocol S Bool Verdict) (c : Core (Elector S)) (phase : Phase) : Type 0 where
+pub record AsksCoin {S : Type 0} (P : Protocol S Bool Verdict) (c : Core (Elector S))
+    (phase : Phase) : Type 0 where
   pub coin : CoinState
   pub asks : IsInConciliator P c (AskCoin coin)
   pub stands : coin.phase ≡ phase
@@ -70,14 +77,16 @@ abbrev pub CountsVotes : {S : Type 0} → Protocol S Bool Verdict → Core (Elec
 CountsVotes P c = AsksCoin P c ReadVotes
 
 -- it is at the fallback word of a bit's decision, past all rounds
-pub record IsAtFallback {S : Type 0} (P : Protocol S Bool Verdict) (c : Core (Elector S)) : Type 0 where
+pub record IsAtFallback {S : Type 0} (P : Protocol S Bool Verdict) (c : Core (Elector S)) :
+    Type 0 where
   pub decision : Decider S ConciliatorState
   pub deciding : IsDeciding P c decision
   pub fallback : Fallback
   pub here : decision.object ≡ Fall fallback
   pub last : decision.after ≡ 0
 
--- it has seen a bit decided, not the last, the bits so far do not fit its candidate, and the number that it searches is a sender's
+-- it has seen a bit decided, not the last, the bits so far do not fit its candidate, and the number
+-- that it searches is a sender's
 pub record SearchesCandidate {S : Type 0} (c : Core (Elector S)) : Type 0 where
   pub tenure : ℕ
   pub election : Elector S
@@ -90,14 +99,16 @@ pub record SearchesCandidate {S : Type 0} (c : Core (Elector S)) : Type 0 where
   pub unfit : fits_bits election election.candidate ≡ false
 
 -- its election has ended, at the last bit, and the bits spell the sender itself
-pub record IsElected {S : Type 0} (P : Protocol S Bool Verdict) (c : Core (Elector S)) : Type 0 where
+pub record IsElected {S : Type 0} (P : Protocol S Bool Verdict) (c : Core (Elector S)) :
+    Type 0 where
   pub tenure : ℕ
   pub election : Elector S
   pub elects : c.phase ≡ Electing tenure election
   pub last_bit : election.left ≤ 1
   pub spells : (elections P c.layout.rounds).output election ≡ Some c.me
 
--- the page lies before it, the order has not ended, its frame fits the log, and so many words of it are stored
+-- the page lies before it, the order has not ended, its frame fits the log, and so many words of it
+-- are stored
 pub record HoldsFitting {E : Type 0} (c : Core E) (stored : ℕ) : Type 0 where
   pub tenure : ℕ
   pub page : Page
@@ -115,14 +126,16 @@ pub record HasWordLeft {E : Type 0} (c : Core E) : Type 0 where
 pub record HasStoredAll {E : Type 0} (c : Core E) : Type 0 where
   pub holds : HoldsFitting c (frame_len c)
 
--- the page lies before it, and the length is stored, or the order has ended, or its frame does not fit the log
+-- the page lies before it, and the length is stored, or the order has ended, or its frame does not
+-- fit the log
 pub record LeavesPage {E : Type 0} (c : Core E) : Type 0 where
   pub tenure : ℕ
   pub page : Page
   pub stored : ℕ
   pub published : Bool
   pub holds : c.phase ≡ Holding tenure page stored published
-  pub why : (published ≡ true) ⊎ ((page.ended ≡ true) ⊎ (c.layout.capacity < page.words + frame_len c))
+  pub why : (published ≡ true)
+      ⊎ ((page.ended ≡ true) ⊎ (c.layout.capacity < page.words + frame_len c))
 
 -- it has handed the page on
 pub record HasHandedOn {E : Type 0} (c : Core E) : Type 0 where

@@ -1,5 +1,6 @@
 -- One sender: the words of the bus that it is on, its batch, and the tenure that it has begun.
-use Rattle.std.specs.Prelude.{ℕ, ◌+◌, ◌*◌, Bool, true, false, Option, List, [], ◌∷◌, length, nat_le, slice_set, if◌then◌else◌}
+use Rattle.std.specs.Prelude.{ℕ, ◌+◌, ◌*◌, Bool, true, false, Option, List, [], ◌∷◌, length}
+use Rattle.std.specs.Prelude.{nat_le, slice_set, if◌then◌else◌}
 use Rattle.bus_register.specs.declared.kinds.Kind.{Kind}
 use Rattle.bus_register.specs.declared.registers.Op.{Op}
 use Rattle.bus_batch.specs.Batches.{Pending, next_of, frame_of}
@@ -95,7 +96,8 @@ frame_len c = length (frame_words (frame_of c.queue 0))
 abbrev pub has_room : {E : Type 0} → Core E → Page → Bool
 has_room c page = nat_le (page.words + frame_len c) c.layout.capacity
 
--- the page as a holder hands it on: the numbers, who left, the end mark, the tenures and the words brought up to date
+-- the page as a holder hands it on: the numbers, who left, the end mark, the tenures and the words
+-- brought up to date
 abbrev pub page_after : {E : Type 0} → Core E → ℕ → Page → Reason → Page
 page_after c t page Sent = record {
   next = slice_set page.next c.me (next_of c.queue);

@@ -3,7 +3,9 @@ use Rattle.std.specs.Prelude.{◌≡◌, ◌⊎◌, ℕ, ◌+◌, ◌<◌, ◌�
 use Rattle.bus_batch.specs.Batches.{frame_of}
 use Rattle.bus_batch.specs.Frames.{frame_words}
 use Rattle.bus_tenure.specs.Core.{Core, Election, frame_len}
-use Rattle.bus_tenure.specs.Situations.{Situation as Own, IsClosed, IsIdle, IsSpent, LooksAtStage, Elects, TakesPage, AwaitsPage, StoresWord, StoresLength, GivesBack, HasHanded, situation_of}
+use Rattle.bus_tenure.specs.Situations.{Situation as Own, IsClosed, IsIdle, IsSpent, LooksAtStage}
+use Rattle.bus_tenure.specs.Situations.{Elects, TakesPage, AwaitsPage, StoresWord, StoresLength}
+use Rattle.bus_tenure.specs.Situations.{GivesBack, HasHanded, situation_of}
 use Rattle.bus_tenure.specs.declared.phases.Reason.{Reason}
 use Rattle.bus_tenure.specs.declared.turns.Turn.TheVariants as turn
 use Rattle.bus_tenure.specs.declared.doings.Doing.{Doing}
@@ -34,8 +36,10 @@ pub record IsWord (d : Doing) : Type 0 where
   pub stored : ℕ
   pub is : d ≡ doing.Word tenure words stored
 
--- with its next step it stores this word of its frame, behind so many words of the log and of the frame
-pub record StoresNext {E : Type 0} (X : Election E) (c : Core E) (tenure words stored value : ℕ) : Type 0 where
+-- with its next step it stores this word of its frame, behind so many words of the log and of the
+-- frame
+pub record StoresNext {E : Type 0} (X : Election E) (c : Core E) (tenure words stored value : ℕ) :
+    Type 0 where
   pub due : doing_of (situation_of X c) ≡ doing.Word tenure words stored
   pub word : value ≡ slice_index (frame_words (frame_of c.queue tenure)) stored
   pub room : words + frame_len c ≤ c.layout.capacity

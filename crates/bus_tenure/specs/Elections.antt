@@ -1,5 +1,5 @@
--- The election that a sender goes by, made of any ratifier's members: with binary decisions out of that ratifier, the
--- conciliator and the fallback word.
+-- The election that a sender goes by, made of any ratifier's members: with binary decisions out of
+-- that ratifier, the conciliator and the fallback word.
 use Rattle.std.specs.Prelude.{◌≡◌, ℕ, Bool, false, Option, Some}
 use Rattle.bus_register.specs.declared.kinds.Kind.{Kind}
 use Rattle.bus_register.specs.declared.registers.Op.{Op}
@@ -14,18 +14,27 @@ pub use Rattle.bus_ownerbits.specs.Electors.{Elector, elections}
 use Rattle.bus_ownerbits.specs.ElectionNames.{calls_of}
 use Rattle.bus_tenure.specs.Core.{Layout, Election}
 
--- what a sender's part in an election keeps: it is of its row, stands as it started until its first step, and has chosen no other
-pub record ElectorKeeps {S : Type 0} (P : Protocol S Bool Verdict) (rounds n me at : ℕ) (e : Elector S) : Type 0 where
+-- what a sender's part in an election keeps: it is of its row, stands as it started until its first
+-- step, and has chosen no other
+pub record ElectorKeeps {S : Type 0} (P : Protocol S Bool Verdict) (rounds n me at : ℕ)
+    (e : Elector S) : Type 0 where
   pub belongs : (elections P rounds).Belongs n me at e
-  pub unbegun : (elections P rounds).has_begun e ≡ false → e ≡ (elections P rounds).started n me tt at
+  pub unbegun : (elections P rounds).has_begun e ≡ false
+      → e ≡ (elections P rounds).started n me tt at
   pub unlost : (o : ℕ) → (elections P rounds).output e ≡ Some o → o ≡ me
 
 -- the members of a ratifier, as a bound names them together
 abbrev pub Ratifying : Type 0 → Type 1
-Ratifying S = record { kind_of : S → Option Kind; op : S → ℕ → Option Op; fed : S → ℕ → ℕ → S; protocol : Protocol S Bool Verdict }
+Ratifying S = record {
+  kind_of : S → Option Kind;
+  op : S → ℕ → Option Op;
+  fed : S → ℕ → ℕ → S;
+  protocol : Protocol S Bool Verdict;
+}
 
 -- what a sender goes by, made of a ratifier's members one by one
-abbrev pub election_with : {S : Type 0} → (S → Option Kind) → (S → ℕ → Option Op) → (S → ℕ → ℕ → S) → Protocol S Bool Verdict → Election (Elector S)
+abbrev pub election_with : {S : Type 0} → (S → Option Kind) → (S → ℕ → Option Op) → (S → ℕ → ℕ → S)
+    → Protocol S Bool Verdict → Election (Elector S)
 election_with kind op fed P = record {
   kind_of = election_kind (λ d. object_kind kind conciliator_kind d.object);
   op = election_op (decide_op op conciliator_op);
@@ -42,4 +51,10 @@ election_of q = election_with q.kind_of q.op q.fed q.protocol
 
 -- the sizes of a bus of so many senders, rounds, rows and log words
 abbrev pub layout_with : {S : Type 0} → Protocol S Bool Verdict → ℕ → ℕ → ℕ → ℕ → Layout
-layout_with P senders rounds rows capacity = record { senders = senders; rounds = rounds; rows = rows; width = (elections P rounds).width senders; capacity = capacity }
+layout_with P senders rounds rows capacity = record {
+  senders = senders;
+  rounds = rounds;
+  rows = rows;
+  width = (elections P rounds).width senders;
+  capacity = capacity;
+}

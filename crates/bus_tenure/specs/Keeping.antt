@@ -4,7 +4,8 @@ use Rattle.bus_register.specs.declared.limits.TheConstants.{MOST_SENDERS, MOST_R
 use Rattle.bus_batch.specs.Batches.{Pending, HasSomething}
 use Rattle.bus_batch.specs.declared.batches.Phase.TheVariants.{Closed}
 use Rattle.bus_tenure.specs.declared.phases.Phase.{Phase}
-use Rattle.bus_tenure.specs.declared.phases.Phase.TheVariants.{Resting, Electing, Taken, Holding, Giving}
+use Rattle.bus_tenure.specs.declared.phases.Phase.TheVariants.{Resting, Electing, Taken, Holding}
+use Rattle.bus_tenure.specs.declared.phases.Phase.TheVariants.{Giving}
 use Rattle.bus_tenure.specs.Core.{Layout, Core, row_at, words_of, frame_len}
 
 -- the sizes of a bus, with so many words in each row
@@ -29,14 +30,17 @@ pub record IsInTenure {E : Type 0} (c : Core E) (tenure : ℕ) : Type 0 where
   pub below : tenure < c.layout.rows
   pub under_way : IsUnderWay c.queue
 
--- with the page before it: so many words of the frame are stored; where the length is, the frame has its room
-pub record IsHolding {E : Type 0} (c : Core E) (tenure words stored : ℕ) (published : Bool) : Type 0 where
+-- with the page before it: so many words of the frame are stored; where the length is, the frame
+-- has its room
+pub record IsHolding {E : Type 0} (c : Core E) (tenure words stored : ℕ) (published : Bool) :
+    Type 0 where
   pub in_tenure : IsInTenure c tenure
   pub within : stored ≤ frame_len c
   pub room : published ≡ true → words + frame_len c ≤ c.layout.capacity
 
 -- in an election, whose local state belongs to the row of the tenure
-pub record IsElecting {E : Type 0} (Belongs : ℕ → E → Type 0) (c : Core E) (tenure : ℕ) (election : E) : Type 0 where
+pub record IsElecting {E : Type 0} (Belongs : ℕ → E → Type 0) (c : Core E) (tenure : ℕ)
+    (election : E) : Type 0 where
   pub in_tenure : IsInTenure c tenure
   pub belongs : Belongs (row_at c.layout tenure) election
 
@@ -48,7 +52,8 @@ PhaseKeeps Belongs c (Holding t page stored published) = IsHolding c t page.word
 PhaseKeeps Belongs c (Giving t reason) = IsInTenure c t
 
 -- the batch is the sender's own, and as the phase has it
-pub record SenderInvariant {E : Type 0} (width : ℕ) (Belongs : ℕ → E → Type 0) (c : Core E) : Type 0 where
+pub record SenderInvariant {E : Type 0} (width : ℕ) (Belongs : ℕ → E → Type 0) (c : Core E) :
+    Type 0 where
   pub sizes : AreSizes c.layout width
   pub me_below : c.me < c.layout.senders
   pub sender_is : c.queue.sender.0 ≡ c.me

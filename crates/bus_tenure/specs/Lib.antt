@@ -6,5 +6,7 @@ pub mod Keeping
 pub mod Seen
 pub mod Bounds
 pub mod Text
+pub mod Classes
 pub mod Doings
+pub mod Publishing
 pub mod Proved

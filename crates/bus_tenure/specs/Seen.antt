@@ -1,8 +1,9 @@
 -- What is seen of a sender from outside, beside its steps and answers.
-use Rattle.std.specs.Prelude.{◌≡◌, ℕ, true, Option, Some, None}
+use Rattle.std.specs.Prelude.{◌≡◌, ℕ, Bool, true, false, Option, Some, None}
 use Rattle.bus_tenure.specs.declared.pages.Page.{Page}
 use Rattle.bus_tenure.specs.declared.phases.Phase.{Phase}
-use Rattle.bus_tenure.specs.declared.phases.Phase.TheVariants.{Resting, Electing, Taken, Holding, Giving}
+use Rattle.bus_tenure.specs.declared.phases.Phase.TheVariants.{Resting, Electing, Taken, Holding}
+use Rattle.bus_tenure.specs.declared.phases.Phase.TheVariants.{Giving}
 use Rattle.bus_tenure.specs.Core.{Election}
 
 -- the turns that are left, at most, until the page is taken: 0 where no election is begun
@@ -31,6 +32,14 @@ pub record HasElection {E : Type 0} (phase : Phase E) : Type 0 where
 pub record AwaitsItsPage {E : Type 0} (phase : Phase E) : Type 0 where
   pub tenure : ℕ
   pub is : phase ≡ Taken tenure
+
+-- a page stands before it
+abbrev pub is_holding : {E : Type 0} → Phase E → Bool
+is_holding Resting = false
+is_holding (Electing t e) = false
+is_holding (Taken t) = false
+is_holding (Holding t page stored published) = true
+is_holding (Giving t reason) = false
 
 -- its frame stands below the length, and it has the page still
 pub record HoldsPublished {E : Type 0} (phase : Phase E) : Type 0 where

@@ -1,6 +1,8 @@
--- The table of a sender's turns. A sender is in one situation, the first that applies, and each situation has one line, which says
--- all of a turn in it: the step, what the sender holds and answers after it, and what becomes of the page and of the frame.
-use Rattle.std.specs.Prelude.{ℕ, ◌+◌, ◌-◌, ◌*◌, ◌/◌, ◌%◌, Bool, true, false, Option, Some, None, [], nat_lt, nat_le, ◌==◌, ◌&&◌, if◌then◌else◌, is_some, slice_index}
+-- The table of a sender's turns. A sender is in one situation, the first that applies, and each
+-- situation has one line, which says all of a turn in it: the step, what the sender holds and
+-- answers after it, and what becomes of the page and of the frame.
+use Rattle.std.specs.Prelude.{ℕ, ◌+◌, ◌-◌, ◌*◌, ◌/◌, ◌%◌, Bool, true, false, Option, Some, None}
+use Rattle.std.specs.Prelude.{[], nat_lt, nat_le, ◌==◌, ◌&&◌, if◌then◌else◌, is_some, slice_index}
 use Rattle.bus_register.specs.declared.kinds.Kind.{Kind}
 use Rattle.bus_register.specs.declared.kinds.Kind.TheVariants as kind
 use Rattle.bus_register.specs.declared.registers.Op.{Op}
@@ -10,12 +12,14 @@ use Rattle.bus_batch.specs.declared.batches.Phase.{Phase as BatchPhase}
 use Rattle.bus_batch.specs.declared.batches.Phase.TheVariants.{Open, Marking, Closed}
 use Rattle.bus_batch.specs.declared.messages.Mark.TheVariants as mark
 use Rattle.bus_batch.specs.Frames.{Frame, frame_words}
-use Rattle.bus_tenure.specs.Core.{Core, Election, length_at, stage_at, row_at, log_at, is_marking, is_closed, is_empty, frame_len, has_room, page_after}
+use Rattle.bus_tenure.specs.Core.{Core, Election, length_at, stage_at, row_at, log_at, is_marking}
+use Rattle.bus_tenure.specs.Core.{is_closed, is_empty, frame_len, has_room, page_after}
 use Rattle.bus_tenure.specs.declared.pages.Page.{Page}
 use Rattle.bus_tenure.specs.declared.phases.Reason.{Reason}
 use Rattle.bus_tenure.specs.declared.phases.Reason.TheVariants.{Sent, FoundEnd, NoRoom}
 use Rattle.bus_tenure.specs.declared.phases.Phase.{Phase}
-use Rattle.bus_tenure.specs.declared.phases.Phase.TheVariants.{Resting, Electing, Taken, Holding, Giving}
+use Rattle.bus_tenure.specs.declared.phases.Phase.TheVariants.{Resting, Electing, Taken, Holding}
+use Rattle.bus_tenure.specs.declared.phases.Phase.TheVariants.{Giving}
 use Rattle.bus_tenure.specs.declared.turns.Turn.{Turn}
 use Rattle.bus_tenure.specs.declared.turns.Turn.TheVariants as turn
 
@@ -47,7 +51,8 @@ pub data Situation (E : Type 0) : Type 0 where
 abbrev pub resting : {E : Type 0} → Core E → Situation E
 resting c =
     if is_closed c.queue.phase then IsClosed else
-    (if is_empty c.queue.messages && (if is_marking c.queue.phase then false else true) then IsIdle else
+    (if is_empty c.queue.messages && (if is_marking c.queue.phase then false else true) then IsIdle
+    else
     (if nat_le c.layout.rows c.least then IsSpent else LooksAtStage))
 
 abbrev pub electing : {E : Type 0} → Election E → ℕ → E → Situation E
@@ -57,7 +62,9 @@ abbrev pub holding : {E : Type 0} → Core E → ℕ → Page → ℕ → Bool �
 holding c t page stored published =
     if published then GivesBack t page Sent else
     (if page.ended then GivesBack t page FoundEnd else
-    (if has_room c page then (if nat_lt stored (frame_len c) then StoresWord t page stored else StoresLength t page stored) else GivesBack t page NoRoom))
+    (if has_room c page
+    then (if nat_lt stored (frame_len c) then StoresWord t page stored
+    else StoresLength t page stored) else GivesBack t page NoRoom))
 
 abbrev pub situation_at : {E : Type 0} → Election E → Core E → Phase E → Situation E
 situation_at X c Resting = resting c
@@ -103,7 +110,8 @@ pub record Line (E : Type 0) : Type 0 where
   -- the frame that joins the log with the step
   pub publishes : Option Frame
 
--- a line with nothing in it: no tenure is begun, no step is due, and the sender is this one, with this answer
+-- a line with nothing in it: no tenure is begun, no step is due, and the sender is this one, with
+-- this answer
 abbrev pub blank : {E : Type 0} → Core E → Turn → Line E
 blank c answer = record {
   tenure = None;
@@ -123,13 +131,18 @@ blank c answer = record {
 abbrev pub rests : {E : Type 0} → Core E → Turn → Line E
 rests c answer = record (blank c answer) { rest = Some answer }
 
--- in this tenure this step is due, after which the sender is this one, with this answer, whatever the step found
+-- in this tenure this step is due, after which the sender is this one, with this answer, whatever
+-- the step found
 abbrev pub steps : {E : Type 0} → ℕ → Kind → Op → Core E → Turn → Line E
-steps t kind op after answer = record (blank after answer) { tenure = Some t; kind = Some kind; op = λ word. Some op }
+steps t kind op after answer =
+    record (blank after answer) { tenure = Some t; kind = Some kind; op = λ word. Some op }
 
 -- ---- what a step leaves that depends on what it found
 abbrev pub core_begun : {E : Type 0} → Election E → Core E → ℕ → Core E
-core_begun X c t = record c { queue = record c.queue { busy = true }; phase = Electing t (X.started c.layout.senders c.me c.layout.rounds (row_at c.layout t)) }
+core_begun X c t = record c {
+  queue = record c.queue { busy = true };
+  phase = Electing t (X.started c.layout.senders c.me c.layout.rounds (row_at c.layout t));
+}
 
 -- the stage is that of a held tenure, or of one that it may not enter any more
 abbrev pub waits : {E : Type 0} → Core E → ℕ → Bool
@@ -137,20 +150,29 @@ waits c got = if got % 2 == 0 then nat_lt (got / 2) c.least else true
 
 -- the tenure that it may begin where the stage is this
 abbrev pub tenure_begun : {E : Type 0} → Core E → ℕ → Option ℕ
-tenure_begun c got = if waits c got then None else (if nat_le c.layout.rows (got / 2) then None else Some (got / 2))
+tenure_begun c got =
+    if waits c got then None else (if nat_le c.layout.rows (got / 2) then None else Some (got / 2))
 
 abbrev pub core_after_stage : {E : Type 0} → Election E → Core E → ℕ → Core E
 core_after_stage X c got =
     if waits c got then c else
-    (if nat_le c.layout.rows (got / 2) then record c { least = got / 2 } else core_begun X c (got / 2))
+    (if nat_le c.layout.rows (got / 2) then record c { least = got / 2 }
+    else core_begun X c (got / 2))
 
 abbrev pub answer_of_stage : {E : Type 0} → Core E → ℕ → Turn
-answer_of_stage c got = if waits c got then turn.Waiting else (if nat_le c.layout.rows (got / 2) then turn.Spent else turn.Going)
+answer_of_stage c got =
+    if waits c got then turn.Waiting
+    else (if nat_le c.layout.rows (got / 2) then turn.Spent else turn.Going)
 
 -- it lost this tenure to an owner that is not itself
 abbrev pub core_elected : {E : Type 0} → Core E → ℕ → E → Option ℕ → Core E
 core_elected c t e None = record c { phase = Electing t e }
-core_elected c t e (Some o) = if o == c.me then record c { phase = Electing t e } else record c { queue = record c.queue { busy = false }; least = t + 1; phase = Resting }
+core_elected c t e (Some o) =
+    if o == c.me then record c { phase = Electing t e } else record c {
+      queue = record c.queue { busy = false };
+      least = t + 1;
+      phase = Resting;
+    }
 
 abbrev pub answer_of_election : {E : Type 0} → Core E → ℕ → Option ℕ → Turn
 answer_of_election c t None = turn.Going
@@ -159,12 +181,22 @@ answer_of_election c t (Some o) = if o == c.me then turn.Going else turn.Lost t 
 -- ---- what the end of a tenure leaves
 -- the queue back from a tenure: its contents kept, or sent, or kept for good
 abbrev pub queue_after : Reason → Pending → Pending
-queue_after Sent q = record { sender = q.sender; first = next_of q; messages = []; phase = phase_sent q.phase; busy = false }
+queue_after Sent q = record {
+  sender = q.sender;
+  first = next_of q;
+  messages = [];
+  phase = phase_sent q.phase;
+  busy = false;
+}
 queue_after FoundEnd q = record q { phase = Closed; busy = false }
 queue_after NoRoom q = record q { busy = false }
 
 abbrev pub core_at_rest : {E : Type 0} → Core E → Reason → ℕ → Core E
-core_at_rest c reason t = record c { queue = queue_after reason c.queue; least = t + 1; phase = Resting }
+core_at_rest c reason t = record c {
+  queue = queue_after reason c.queue;
+  least = t + 1;
+  phase = Resting;
+}
 
 -- the answer once its frame stands in the log: the end mark, its leave mark, or its messages
 abbrev pub answer_sent : Pending → ℕ → BatchPhase → Turn
@@ -198,15 +230,27 @@ line_of X c (Elects t e) = record (blank c turn.Going) {
   answer = λ got word. answer_of_election c t (X.owner (X.fed e got word));
   chosen = λ got word. X.owner (X.fed e got word);
 }
-line_of X c (TakesPage t) = record (steps t kind.TakePage (Store record { 0 = stage_at } (2 * t + 1)) (record c { phase = Taken t }) (turn.Own t)) { move = Comes t; takes = true }
+line_of X c (TakesPage t) =
+    record (steps t kind.TakePage (Store record { 0 = stage_at } (2 * t + 1))
+    (record c { phase = Taken t }) (turn.Own t)) { move = Comes t; takes = true }
 line_of X c (AwaitsPage t) = record (blank c turn.Going) { tenure = Some t; move = Comes t }
 line_of X c (StoresWord t page stored) =
-    steps t kind.StoreLogWord (Store record { 0 = log_at c.layout + page.words + stored } (slice_index (frame_words (frame_of c.queue t)) stored)) (record c { phase = Holding t page (stored + 1) false }) turn.Going
+    steps t kind.StoreLogWord (Store record { 0 = log_at c.layout + page.words + stored }
+    (slice_index (frame_words (frame_of c.queue t)) stored))
+    (record c { phase = Holding t page (stored + 1) false }) turn.Going
 line_of X c (StoresLength t page stored) =
-    record (steps t kind.StoreLength (Store record { 0 = length_at } (page.words + frame_len c)) (record c { phase = Holding t page stored true }) turn.Going) { publishes = Some (frame_of c.queue t) }
+    record (steps t kind.StoreLength (Store record { 0 = length_at } (page.words + frame_len c))
+    (record c { phase = Holding t page stored true }) turn.Going) {
+      publishes = Some (frame_of c.queue t);
+    }
 line_of X c (GivesBack t page reason) =
-    record (steps t kind.GivePageBack (Store record { 0 = stage_at } (2 * t + 2)) (core_at_rest c reason t) (answer_of_return c.queue t reason)) { move = Returns t reason (page_after c t page reason) }
-line_of X c (HasHanded t reason) = steps t kind.GivePageBack (Store record { 0 = stage_at } (2 * t + 2)) (core_at_rest c reason t) (answer_of_return c.queue t reason)
+    record (steps t kind.GivePageBack (Store record { 0 = stage_at } (2 * t + 2))
+    (core_at_rest c reason t) (answer_of_return c.queue t reason)) {
+      move = Returns t reason (page_after c t page reason);
+    }
+line_of X c (HasHanded t reason) = steps t kind.GivePageBack
+    (Store record { 0 = stage_at } (2 * t + 2)) (core_at_rest c reason t)
+    (answer_of_return c.queue t reason)
 
 -- ---- a line, read by its parts
 abbrev pub kind_at : {E : Type 0} → Election E → Core E → Situation E → Option Kind

@@ -9,7 +9,8 @@ turn_text turn.Waiting = codes "waiting"
 turn_text turn.Going = codes "going"
 turn_text (turn.Lost t o) = codes "lost " ++ decimal t ++ codes " " ++ decimal o.0
 turn_text (turn.Own t) = codes "own " ++ decimal t
-turn_text (turn.Delivered t first last) = codes "delivered " ++ decimal t ++ codes " " ++ decimal first ++ codes " " ++ decimal last
+turn_text (turn.Delivered t first last) =
+    codes "delivered " ++ decimal t ++ codes " " ++ decimal first ++ codes " " ++ decimal last
 turn_text (turn.Left t) = codes "left " ++ decimal t
 turn_text turn.Full = codes "full"
 turn_text turn.Closed = codes "closed"

@@ -14,7 +14,7 @@ ghost use Rattle.bus_tenure.specs.Core.{is_leaving, is_closed, frame_len, has_ro
 ghost use Rattle.bus_tenure.specs.Elections.{election_of, elections, layout_with, ElectorKeeps};
 ghost use Rattle.bus_tenure.specs.Keeping.{SenderInvariant, IsInTenure};
 ghost use Rattle.bus_tenure.specs.Seen.{turns_of, tenure_of, HasElection, AwaitsItsPage};
-ghost use Rattle.bus_tenure.specs.Seen.{HoldsPublished};
+ghost use Rattle.bus_tenure.specs.Seen.{HoldsPublished, is_holding};
 ghost use Rattle.bus_tenure.specs.Situations.{core_begun, LooksAtStage, GivesBack, resting};
 ghost use Rattle.bus_tenure.specs.Situations.{holding, situation_of, kind_at, op_at, core_at_rest};
 ghost use Rattle.bus_tenure.specs.Situations.{core_after_stage, tenure_begun, fed_at};
@@ -407,6 +407,16 @@ impl<Q: Ratifier + Drop> Turns<Q> {
                 *behind = stored;
                 true
             }
+            _ => false,
+        }
+    }
+
+    /// The page lies before it.
+    pub fn holds_page(&self) -> bool
+        ensures { result ≡ is_holding self.now.phase }
+    {
+        match &self.phase {
+            Phase::Holding { .. } => true,
             _ => false,
         }
     }

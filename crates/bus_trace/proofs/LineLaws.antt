@@ -1,5 +1,8 @@
--- Each line of a trace has nine columns, of which the third names who is asked and the fifth a kind, a call or nothing.
-use Rattle.std.proofs.Common.{◌≡◌, ℕ, ◌+◌, ◌-◌, ◌/◌, ◌%◌, ◌==◌, ◌<◌, ◌≤◌, cond, Option, Some, None, List, [], ◌∷◌, ◌++◌, codes, decimal, flat_map, nat_lt, nat_le, slice_get, slice_index, refl, arith}
+-- Each line of a trace has nine columns, of which the third names who is asked and the fifth a
+-- kind, a call or nothing.
+use Rattle.std.proofs.Common.{◌≡◌, ℕ, ◌+◌, ◌-◌, ◌/◌, ◌%◌, ◌==◌, ◌<◌, ◌≤◌, cond, Option, Some, None}
+use Rattle.std.proofs.Common.{List, [], ◌∷◌, ◌++◌, codes, decimal, flat_map, nat_lt, nat_le}
+use Rattle.std.proofs.Common.{slice_get, slice_index, refl, arith}
 use Rattle.std.proofs.lemmas.List.Elements.{All-nil}
 use Rattle.bus_register.specs.declared.kinds.Kind.{Kind}
 use Rattle.bus_register.specs.declared.kinds.Kind.TheVariants as kind
@@ -31,10 +34,14 @@ use Rattle.bus_picture.specs.declared.families.Family.TheVariants as family
 use Rattle.bus_picture.specs.declared.processes.Process.TheVariants.{Sender, Receiver}
 use Rattle.bus_picture.specs.Families.{family_of, family_at}
 use Rattle.bus_picture.proofs.FamilyLaws.{has_family}
-use Rattle.bus_picture.proofs.PlainTexts.{IsPlain, plain_by, plain_append, plain_cons, plain_cond, glyph_cases, plain_decimal}
-use Rattle.bus_picture.proofs.ReadingLaws.{IsMiddle, IsWho, IsReadable, readable, sender_known, receiver_known}
-use Rattle.bus_trace.specs.Words.{TraceSizes, ratifier_word, round_word, decision_word, row_word, word_name}
-use Rattle.bus_trace.specs.Rows.{tenure_text, no_step, step_text, action_text, actions_text, due_text, receiving_text, sender_text, columns, row_text}
+use Rattle.bus_picture.proofs.PlainTexts.{IsPlain, plain_by, plain_append, plain_cons, plain_cond}
+use Rattle.bus_picture.proofs.PlainTexts.{glyph_cases, plain_decimal}
+use Rattle.bus_picture.proofs.ReadingLaws.{IsMiddle, IsWho, IsReadable, readable, sender_known}
+use Rattle.bus_picture.proofs.ReadingLaws.{receiver_known}
+use Rattle.bus_trace.specs.Words.{TraceSizes, ratifier_word, round_word, decision_word, row_word}
+use Rattle.bus_trace.specs.Words.{word_name}
+use Rattle.bus_trace.specs.Rows.{tenure_text, no_step, step_text, action_text, actions_text}
+use Rattle.bus_trace.specs.Rows.{due_text, receiving_text, sender_text, columns, row_text}
 
 -- ---- texts
 plain_behind : (n : ℕ) → IsPlain (behind n)
@@ -73,50 +80,75 @@ plain_kind kind.ClearRow = plain_by (codes "ClearRow") refl
 numbered_word : (name : List ℕ) (n : ℕ) → IsPlain name → IsPlain (name ++ behind n)
 numbered_word name n h = plain_append name (behind n) h (plain_behind n)
 
-and_more : (name : List ℕ) (n : ℕ) (more : List ℕ) → IsPlain name → IsPlain more → IsPlain (name ++ behind n ++ 32 ∷ more)
-and_more name n more h k = plain_append (name ++ behind n) (32 ∷ more) (numbered_word name n h) (plain_cons 32 more (omega arith) k)
+and_more : (name : List ℕ) (n : ℕ) (more : List ℕ) → IsPlain name → IsPlain more
+    → IsPlain (name ++ behind n ++ 32 ∷ more)
+and_more name n more h k = plain_append (name ++ behind n) (32 ∷ more) (numbered_word name n h)
+    (plain_cons 32 more (omega arith) k)
 
 plain_ratifier : (p : TraceSizes) (k : ℕ) → IsPlain (ratifier_word p k)
-plain_ratifier p k = plain_cond (p.ratifier == 3) (cond (k == 0) (codes "input 0") (cond (k == 1) (codes "input 1") (codes "proposal"))) (codes "word" ++ behind k)
-    (plain_cond (k == 0) (codes "input 0") (cond (k == 1) (codes "input 1") (codes "proposal")) (plain_by (codes "input 0") refl) (plain_cond (k == 1) (codes "input 1") (codes "proposal") (plain_by (codes "input 1") refl) (plain_by (codes "proposal") refl)))
+plain_ratifier p k = plain_cond (p.ratifier == 3)
+    (cond (k == 0) (codes "input 0") (cond (k == 1) (codes "input 1") (codes "proposal")))
+    (codes "word" ++ behind k)
+    (plain_cond (k == 0) (codes "input 0") (cond (k == 1) (codes "input 1") (codes "proposal"))
+    (plain_by (codes "input 0") refl) (plain_cond (k == 1) (codes "input 1") (codes "proposal")
+    (plain_by (codes "input 1") refl) (plain_by (codes "proposal") refl)))
     (numbered_word (codes "word") k (plain_by (codes "word") refl))
 
 plain_round : (p : TraceSizes) (k : ℕ) → IsPlain (round_word p k)
-plain_round p k = plain_cond (k == 0) (codes "mark 0") (cond (k == 1) (codes "mark 1") (cond (k == 2) (codes "counter") (ratifier_word p (k - 3)))) (plain_by (codes "mark 0") refl) (
-    plain_cond (k == 1) (codes "mark 1") (cond (k == 2) (codes "counter") (ratifier_word p (k - 3))) (plain_by (codes "mark 1") refl) (
-    plain_cond (k == 2) (codes "counter") (ratifier_word p (k - 3)) (plain_by (codes "counter") refl) (plain_ratifier p (k - 3))))
+plain_round p k = plain_cond (k == 0) (codes "mark 0")
+    (cond (k == 1) (codes "mark 1") (cond (k == 2) (codes "counter") (ratifier_word p (k - 3))))
+    (plain_by (codes "mark 0") refl) (
+    plain_cond (k == 1) (codes "mark 1") (cond (k == 2) (codes "counter") (ratifier_word p (k - 3)))
+    (plain_by (codes "mark 1") refl) (
+    plain_cond (k == 2) (codes "counter") (ratifier_word p (k - 3))
+    (plain_by (codes "counter") refl) (plain_ratifier p (k - 3))))
 
 plain_decision : (p : TraceSizes) (k : ℕ) → IsPlain (decision_word p k)
 plain_decision p k =
     let round : ℕ = (k + 3) / (3 + p.ratifier) in
     let word : List ℕ = round_word p ((k + 3) % (3 + p.ratifier)) in
-    plain_cond (round == p.rounds) (codes "fallback") (codes "round" ++ behind (round + 1) ++ 32 ∷ word) (plain_by (codes "fallback") refl) (and_more (codes "round") (round + 1) word (plain_by (codes "round") refl) (plain_round p ((k + 3) % (3 + p.ratifier))))
+    plain_cond (round == p.rounds) (codes "fallback")
+    (codes "round" ++ behind (round + 1) ++ 32 ∷ word) (plain_by (codes "fallback") refl)
+    (and_more (codes "round") (round + 1) word (plain_by (codes "round") refl)
+    (plain_round p ((k + 3) % (3 + p.ratifier))))
 
 plain_row_word : (p : TraceSizes) (k : ℕ) → IsPlain (row_word p k)
 plain_row_word p k =
     let bit : ℕ = (k - p.senders) / p.decision in
     let word : List ℕ = decision_word p ((k - p.senders) % p.decision) in
-    plain_cond (nat_lt k p.senders) (codes "announcement" ++ behind k) (codes "bit" ++ behind bit ++ 32 ∷ word) (numbered_word (codes "announcement") k (plain_by (codes "announcement") refl)) (
-    and_more (codes "bit") bit word (plain_by (codes "bit") refl) (plain_decision p ((k - p.senders) % p.decision)))
+    plain_cond (nat_lt k p.senders) (codes "announcement" ++ behind k)
+    (codes "bit" ++ behind bit ++ 32 ∷ word)
+    (numbered_word (codes "announcement") k (plain_by (codes "announcement") refl)) (
+    and_more (codes "bit") bit word (plain_by (codes "bit") refl)
+    (plain_decision p ((k - p.senders) % p.decision)))
 
 plain_word : (p : TraceSizes) (r : ℕ) → IsPlain (word_name p r)
 plain_word p r =
-    let row : List ℕ = codes "row" ++ behind ((r - 2 - p.presences) / p.row) ++ 32 ∷ row_word p ((r - 2 - p.presences) % p.row) in
+    let row : List ℕ =
+    codes "row" ++ behind ((r - 2 - p.presences) / p.row)
+    ++ 32 ∷ row_word p ((r - 2 - p.presences) % p.row) in
     let log : List ℕ = cond (nat_le p.log r) (codes "log" ++ behind (r - p.log)) row in
-    let presence : List ℕ = cond (nat_lt (r - 2) p.presences) (codes "presence" ++ behind (r - 2)) log in
+    let presence : List ℕ =
+    cond (nat_lt (r - 2) p.presences) (codes "presence" ++ behind (r - 2)) log in
     let other : List ℕ = cond (r == 1) (codes "stage") presence in
     plain_cond (r == 0) (codes "length") other (plain_by (codes "length") refl) (
     plain_cond (r == 1) (codes "stage") presence (plain_by (codes "stage") refl) (
-    plain_cond (nat_lt (r - 2) p.presences) (codes "presence" ++ behind (r - 2)) log (numbered_word (codes "presence") (r - 2) (plain_by (codes "presence") refl)) (
-    plain_cond (nat_le p.log r) (codes "log" ++ behind (r - p.log)) row (numbered_word (codes "log") (r - p.log) (plain_by (codes "log") refl)) (
-    and_more (codes "row") ((r - 2 - p.presences) / p.row) (row_word p ((r - 2 - p.presences) % p.row)) (plain_by (codes "row") refl) (plain_row_word p ((r - 2 - p.presences) % p.row))))))
+    plain_cond (nat_lt (r - 2) p.presences) (codes "presence" ++ behind (r - 2)) log
+    (numbered_word (codes "presence") (r - 2) (plain_by (codes "presence") refl)) (
+    plain_cond (nat_le p.log r) (codes "log" ++ behind (r - p.log)) row
+    (numbered_word (codes "log") (r - p.log) (plain_by (codes "log") refl)) (
+    and_more (codes "row") ((r - 2 - p.presences) / p.row)
+    (row_word p ((r - 2 - p.presences) % p.row)) (plain_by (codes "row") refl)
+    (plain_row_word p ((r - 2 - p.presences) % p.row))))))
 
 -- ---- answers
 then_number : (front : List ℕ) (n : ℕ) → IsPlain front → IsPlain (front ++ decimal n)
 then_number front n h = plain_append front (decimal n) h (plain_decimal n)
 
-then_space : (front more : List ℕ) → IsPlain front → IsPlain more → IsPlain (front ++ codes " " ++ more)
-then_space front more h k = plain_append (front ++ codes " ") more (plain_append front (codes " ") h (plain_by (codes " ") refl)) k
+then_space : (front more : List ℕ) → IsPlain front → IsPlain more
+    → IsPlain (front ++ codes " " ++ more)
+then_space front more h k = plain_append (front ++ codes " ") more
+    (plain_append front (codes " ") h (plain_by (codes " ") refl)) k
 
 then_another : (front : List ℕ) (n : ℕ) → IsPlain front → IsPlain (front ++ codes " " ++ decimal n)
 then_another front n h = then_space front (decimal n) h (plain_decimal n)
@@ -125,37 +157,48 @@ plain_turn : (t : Turned) → IsPlain (turn_text t)
 plain_turn turn.Idle = plain_by (codes "idle") refl
 plain_turn turn.Waiting = plain_by (codes "waiting") refl
 plain_turn turn.Going = plain_by (codes "going") refl
-plain_turn (turn.Lost t o) = then_another (codes "lost " ++ decimal t) o.0 (then_number (codes "lost ") t (plain_by (codes "lost ") refl))
+plain_turn (turn.Lost t o) = then_another (codes "lost " ++ decimal t) o.0
+    (then_number (codes "lost ") t (plain_by (codes "lost ") refl))
 plain_turn (turn.Own t) = then_number (codes "own ") t (plain_by (codes "own ") refl)
-plain_turn (turn.Delivered t first last) = then_another (codes "delivered " ++ decimal t ++ codes " " ++ decimal first) last (then_another (codes "delivered " ++ decimal t) first (then_number (codes "delivered ") t (plain_by (codes "delivered ") refl)))
+plain_turn (turn.Delivered t first last) = then_another
+    (codes "delivered " ++ decimal t ++ codes " " ++ decimal first) last
+    (then_another (codes "delivered " ++ decimal t) first
+    (then_number (codes "delivered ") t (plain_by (codes "delivered ") refl)))
 plain_turn (turn.Left t) = then_number (codes "left ") t (plain_by (codes "left ") refl)
 plain_turn turn.Full = plain_by (codes "full") refl
 plain_turn turn.Closed = plain_by (codes "closed") refl
 plain_turn turn.Spent = plain_by (codes "spent") refl
-plain_turn (turn.Behind t s) = then_another (codes "behind " ++ decimal t) s.0 (then_number (codes "behind ") t (plain_by (codes "behind ") refl))
+plain_turn (turn.Behind t s) = then_another (codes "behind " ++ decimal t) s.0
+    (then_number (codes "behind ") t (plain_by (codes "behind ") refl))
 
 digit_plain : (n : ℕ) → 32 ≤ hex_digit n
 digit_plain n = glyph_cases (nat_lt n 10) n
 
 pair_plain : (byte : ℕ) → IsPlain (hex_pair byte)
-pair_plain byte = plain_cons (hex_digit (byte / 16)) (hex_digit (byte % 16) ∷ []) (digit_plain (byte / 16)) (plain_cons (hex_digit (byte % 16)) [] (digit_plain (byte % 16)) (All-nil (λ b. 32 ≤ b)))
+pair_plain byte = plain_cons (hex_digit (byte / 16)) (hex_digit (byte % 16) ∷ [])
+    (digit_plain (byte / 16))
+    (plain_cons (hex_digit (byte % 16)) [] (digit_plain (byte % 16)) (All-nil (λ b. 32 ≤ b)))
 
 pairs_plain : (bytes : List ℕ) → IsPlain (flat_map hex_pair bytes)
 pairs_plain [] = All-nil (λ b. 32 ≤ b)
-pairs_plain (b ∷ bytes) = plain_append (hex_pair b) (flat_map hex_pair bytes) (pair_plain b) (pairs_plain bytes)
+pairs_plain (b ∷ bytes) =
+    plain_append (hex_pair b) (flat_map hex_pair bytes) (pair_plain b) (pairs_plain bytes)
 
 plain_hex : (bytes : List ℕ) → IsPlain (hex_text bytes)
 plain_hex [] = plain_by (codes "-") refl
 plain_hex (b ∷ bytes) = pairs_plain (b ∷ bytes)
 
 plain_item : (i : Item) → IsPlain (item_text i)
-plain_item i = then_space (decimal i.sender.0 ++ codes " " ++ decimal i.number) (hex_text i.message) (then_another (decimal i.sender.0) i.number (plain_decimal i.sender.0)) (plain_hex i.message)
+plain_item i = then_space (decimal i.sender.0 ++ codes " " ++ decimal i.number) (hex_text i.message)
+    (then_another (decimal i.sender.0) i.number (plain_decimal i.sender.0)) (plain_hex i.message)
 
 plain_recv : (t : RecvTurn) → IsPlain (recv_text t)
 plain_recv recv.Going = plain_by (codes "going") refl
 plain_recv recv.Empty = plain_by (codes "empty") refl
-plain_recv (recv.Head t o) = then_another (codes "head " ++ decimal t) o.0 (then_number (codes "head ") t (plain_by (codes "head ") refl))
-plain_recv (recv.Item i) = plain_append (codes "item ") (item_text i) (plain_by (codes "item ") refl) (plain_item i)
+plain_recv (recv.Head t o) = then_another (codes "head " ++ decimal t) o.0
+    (then_number (codes "head ") t (plain_by (codes "head ") refl))
+plain_recv (recv.Item i) =
+    plain_append (codes "item ") (item_text i) (plain_by (codes "item ") refl) (plain_item i)
 plain_recv (recv.Leave s) = then_number (codes "leave ") s.0 (plain_by (codes "leave ") refl)
 plain_recv recv.End = plain_by (codes "end") refl
 
@@ -171,13 +214,29 @@ plain_answer answer.Stopped = plain_by (codes "stopped") refl
 dash : IsPlain (codes "-")
 dash = plain_by (codes "-") refl
 
-without_step : (name : List ℕ) (f : Family) → family_of name ≡ Some f → IsPlain name → IsMiddle (no_step name)
-without_step name f known plain = record { tenure = codes "-"; kind = name; word = codes "-"; found = codes "-"; after = codes "-"; family = f; known = known; plain_tenure = dash; plain_kind = plain; plain_word = dash; plain_found = dash; plain_after = dash; is = refl }
+without_step : (name : List ℕ) (f : Family) → family_of name ≡ Some f → IsPlain name
+    → IsMiddle (no_step name)
+without_step name f known plain = record {
+  tenure = codes "-";
+  kind = name;
+  word = codes "-";
+  found = codes "-";
+  after = codes "-";
+  family = f;
+  known = known;
+  plain_tenure = dash;
+  plain_kind = plain;
+  plain_word = dash;
+  plain_found = dash;
+  plain_after = dash;
+  is = refl;
+}
 
 nothing_done : IsMiddle (no_step (codes "-"))
 nothing_done = without_step (codes "-") family.Nothing refl dash
 
-with_step : (p : TraceSizes) (tenure : Option ℕ) (k : Kind) (found : ℕ) (o : Option Op) → IsMiddle (step_text p tenure k found o)
+with_step : (p : TraceSizes) (tenure : Option ℕ) (k : Kind) (found : ℕ) (o : Option Op)
+    → IsMiddle (step_text p tenure k found o)
 with_step p tenure k found None = nothing_done
 with_step p tenure k found (Some o) = record {
   tenure = tenure_text tenure;
@@ -196,28 +255,36 @@ with_step p tenure k found (Some o) = record {
 }
 
 of_action : (p : TraceSizes) (o : Option Op) (d : Action) → IsMiddle (action_text p o d)
-of_action p o (HasPut number bytes) = without_step (codes "put") family.Call refl (plain_by (codes "put") refl)
-of_action p o (HasMarked mark.End) = without_step (codes "close") family.Call refl (plain_by (codes "close") refl)
-of_action p o (HasMarked mark.Leave) = without_step (codes "leave") family.Call refl (plain_by (codes "leave") refl)
+of_action p o (HasPut number bytes) =
+    without_step (codes "put") family.Call refl (plain_by (codes "put") refl)
+of_action p o (HasMarked mark.End) =
+    without_step (codes "close") family.Call refl (plain_by (codes "close") refl)
+of_action p o (HasMarked mark.Leave) =
+    without_step (codes "leave") family.Call refl (plain_by (codes "leave") refl)
 of_action p o (Stepped tenure k found chose answer) = with_step p tenure k found o
 
-of_actions : (p : TraceSizes) (o : Option Op) (actions : List Action) → IsMiddle (actions_text p o actions)
+of_actions : (p : TraceSizes) (o : Option Op) (actions : List Action)
+    → IsMiddle (actions_text p o actions)
 of_actions p o [] = nothing_done
 of_actions p o (d ∷ actions) = of_action p o d
 
-of_due : (p : TraceSizes) (words : ℕ → ℕ) (tenure : Option ℕ) (k : Option Kind) (o : Option Op) → IsMiddle (due_text p words tenure k o)
+of_due : (p : TraceSizes) (words : ℕ → ℕ) (tenure : Option ℕ) (k : Option Kind) (o : Option Op)
+    → IsMiddle (due_text p words tenure k o)
 of_due p words tenure None o = nothing_done
 of_due p words tenure (Some k) None = nothing_done
 of_due p words tenure (Some k) (Some o) = with_step p tenure k (words (register o)) (Some o)
 
-of_receiving : (p : TraceSizes) (words : ℕ → ℕ) (v : Option Receiving) → IsMiddle (receiving_text p words v)
+of_receiving : (p : TraceSizes) (words : ℕ → ℕ) (v : Option Receiving)
+    → IsMiddle (receiving_text p words v)
 of_receiving p words None = nothing_done
 of_receiving p words (Some v) = of_due p words None (receiving_kind v) (receiving_op v)
 
-of_sender : {E : Type 0} (p : TraceSizes) (X : Election E) (words : ℕ → ℕ) (v : Option (OneSender E)) (word : ℕ)
+of_sender : {E : Type 0} (p : TraceSizes) (X : Election E) (words : ℕ → ℕ)
+    (v : Option (OneSender E)) (word : ℕ)
     → IsMiddle (sender_text p X words v word)
 of_sender p X words None word = nothing_done
-of_sender p X words (Some v) word = of_due p words (line_now X v).tenure (line_now X v).kind ((line_now X v).op word)
+of_sender p X words (Some v) word =
+    of_due p words (line_now X v).tenure (line_now X v).kind ((line_now X v).op word)
 
 a_stop : IsMiddle (no_step (codes "stop"))
 a_stop = without_step (codes "stop") family.Call refl (plain_by (codes "stop") refl)
@@ -231,21 +298,39 @@ AsksFew (Recv r) = r < MOST_RECEIVERS
 AsksFew (Stop s) = s < MOST_SENDERS
 
 a_sender : (s : ℕ) → s < MOST_SENDERS → IsWho (codes "sender" ++ behind s)
-a_sender s few = record { process = Sender s; known = sender_known s few; plain = numbered_word (codes "sender") s (plain_by (codes "sender") refl) }
+a_sender s few = record {
+  process = Sender s;
+  known = sender_known s few;
+  plain = numbered_word (codes "sender") s (plain_by (codes "sender") refl);
+}
 
 a_receiver : (r : ℕ) → r < MOST_RECEIVERS → IsWho (codes "receiver" ++ behind r)
-a_receiver r few = record { process = Receiver r; known = receiver_known r few; plain = numbered_word (codes "receiver") r (plain_by (codes "receiver") refl) }
+a_receiver r few = record {
+  process = Receiver r;
+  known = receiver_known r few;
+  plain = numbered_word (codes "receiver") r (plain_by (codes "receiver") refl);
+}
 
 -- ---- lines
-pub line_read : {E : Type 0} (p : TraceSizes) (X : Election E) (line : ℕ) (m : Machine E) (e : Event) (a : Answer) → AsksFew e
+pub line_read : {E : Type 0} (p : TraceSizes) (X : Election E) (line : ℕ) (m : Machine E)
+    (e : Event) (a : Answer) → AsksFew e
     → IsReadable (row_text p X line m e a)
-line_read p X line m (Put s bytes) a few = readable (decimal line) (codes "sender" ++ behind s) (columns p X m (Put s bytes) a)
-    (answer_text a) (plain_decimal line) (a_sender s few) (of_actions p None (put_actions bytes a)) (plain_answer a)
-line_read p X line m (Ask s mark) a few = readable (decimal line) (codes "sender" ++ behind s) (columns p X m (Ask s mark) a)
-    (answer_text a) (plain_decimal line) (a_sender s few) (of_actions p None (mark_actions a)) (plain_answer a)
-line_read p X line m (Turn s word) a few = readable (decimal line) (codes "sender" ++ behind s) (columns p X m (Turn s word) a)
-    (answer_text a) (plain_decimal line) (a_sender s few) (of_sender p X (slice_index m.words) (going m s) word) (plain_answer a)
-line_read p X line m (Recv r) a few = readable (decimal line) (codes "receiver" ++ behind r) (columns p X m (Recv r) a) (answer_text a)
-    (plain_decimal line) (a_receiver r few) (of_receiving p (slice_index m.words) (slice_get m.receivers r)) (plain_answer a)
-line_read p X line m (Stop s) a few = readable (decimal line) (codes "sender" ++ behind s) (columns p X m (Stop s) a) (answer_text a)
+line_read p X line m (Put s bytes) a few =
+    readable (decimal line) (codes "sender" ++ behind s) (columns p X m (Put s bytes) a)
+    (answer_text a) (plain_decimal line) (a_sender s few) (of_actions p None (put_actions bytes a))
+    (plain_answer a)
+line_read p X line m (Ask s mark) a few =
+    readable (decimal line) (codes "sender" ++ behind s) (columns p X m (Ask s mark) a)
+    (answer_text a) (plain_decimal line) (a_sender s few) (of_actions p None (mark_actions a))
+    (plain_answer a)
+line_read p X line m (Turn s word) a few =
+    readable (decimal line) (codes "sender" ++ behind s) (columns p X m (Turn s word) a)
+    (answer_text a) (plain_decimal line) (a_sender s few)
+    (of_sender p X (slice_index m.words) (going m s) word) (plain_answer a)
+line_read p X line m (Recv r) a few = readable (decimal line) (codes "receiver" ++ behind r)
+    (columns p X m (Recv r) a) (answer_text a)
+    (plain_decimal line) (a_receiver r few)
+    (of_receiving p (slice_index m.words) (slice_get m.receivers r)) (plain_answer a)
+line_read p X line m (Stop s) a few =
+    readable (decimal line) (codes "sender" ++ behind s) (columns p X m (Stop s) a) (answer_text a)
     (plain_decimal line) (a_sender s few) a_stop (plain_answer a)

@@ -1,5 +1,6 @@
 -- The lines of a script, obeyed one by one.
-use Rattle.std.proofs.Common.{◌≡◌, ℕ, ◌+◌, ◌-◌, Bool, Option, Some, None, List, [], ◌∷◌, ◌++◌, refl, sym, ap, subst, ◌∙◌, append_assoc, inl, inr}
+use Rattle.std.proofs.Common.{◌≡◌, ℕ, ◌+◌, ◌-◌, Bool, Option, Some, None, List, [], ◌∷◌, ◌++◌}
+use Rattle.std.proofs.Common.{refl, sym, ap, subst, ◌∙◌, append_assoc, inl, inr}
 use Rattle.std.proofs.lemmas.List.{append-nil}
 use Rattle.bus_register.specs.Protocol.{Protocol}
 use Rattle.bus_adoptcommit.specs.declared.verdicts.Verdict.{Verdict}
@@ -18,33 +19,44 @@ use Rattle.bus_replay.specs.Lines.{Command, command_of, shape_in, reuse_in}
 use Rattle.bus_replay.specs.Text.{answer_line, step_fault_name}
 use Rattle.bus_replay.specs.Answers.{End, Left, Stopped, Asked, Prints}
 use Rattle.bus_trace.specs.Rows.{header}
-use Rattle.bus_trace.specs.Traces.{repeat_rows, asked_rows, printed_rows, numbered_rows, ArePrinted, Begins}
+use Rattle.bus_trace.specs.Traces.{repeat_rows, asked_rows, printed_rows, numbered_rows}
+use Rattle.bus_trace.specs.Traces.{ArePrinted, Begins}
 use Rattle.bus_trace.specs.Obeying.{Grows, IsRepeated, IsObeyed, ArePlayed}
 use Rattle.bus_trace.specs.Words.{TraceSizes, sizes_of}
 use Rattle.bus_trace.proofs.RowLemmas.{grown_more, grown_none}
 
-module _ {S : Type 0} (X : Election (Elector S)) (P : Protocol S Bool Verdict) (p : TraceSizes) where
+module _ {S : Type 0} (X : Election (Elector S)) (P : Protocol S Bool Verdict)
+    (p : TraceSizes) where
   -- what is played behind a line, and its lines
   abbrev Behinds : Type 1
   Behinds = Machine (Elector S) → List ℕ → End (Elector S) → Type 0
 
   abbrev Rows : Behinds → Type 0
-  Rows Behind = (mid : Machine (Elector S)) (rest : List ℕ) (end : End (Elector S)) → Behind mid rest end → List (List ℕ)
+  Rows Behind =
+      (mid : Machine (Elector S)) (rest : List ℕ) (end : End (Elector S)) → Behind mid rest end
+      → List (List ℕ)
 
   -- ---- one line
-  module _ (b : Machine (Elector S)) (line : ℕ × List ℕ) (b' : Machine (Elector S)) (old : List ℕ) (before : ℕ) where
-    -- whatever is played behind a line whose command was answered, its lines stand before those of that
-    behind_answered : (o : Option Command) (c : Command) (new : List ℕ) (after : ℕ) → Some c ≡ o → IsRepeated X P p line.0 b c.event
+  module _ (b : Machine (Elector S)) (line : ℕ × List ℕ) (b' : Machine (Elector S)) (old : List ℕ)
+      (before : ℕ) where
+    -- whatever is played behind a line whose command was answered, its lines stand before those of
+    -- that
+    behind_answered : (o : Option Command) (c : Command) (new : List ℕ) (after : ℕ) → Some c ≡ o
+        → IsRepeated X P p line.0 b c.event
         (c.times - 1) old before new after None b'
         → (printed : List ℕ) × (rows : List (List ℕ)) × Grows old before new after rows
-        × ((Behind : Behinds) (behind : Rows Behind) (rest : List ℕ) (end : End (Elector S)) (run : Behind b' rest end)
-        → (whole : Asked X P b line.0 o Behind (printed ++ rest) end) × (asked_rows X P p b line.0 o Behind behind (printed ++ rest) end
+        × ((Behind : Behinds) (behind : Rows Behind) (rest : List ℕ) (end : End (Elector S))
+        (run : Behind b' rest end)
+        → (whole : Asked X P b line.0 o Behind (printed ++ rest) end)
+        × (asked_rows X P p b line.0 o Behind behind (printed ++ rest) end
         whole ≡ rows ++ behind b' rest end run))
     behind_answered None c new after is h = absurd cc
     behind_answered (Some d) c new after is h =
         subst (λ o. (printed : List ℕ) × (rows : List (List ℕ)) × Grows old before new after rows
-        × ((Behind : Behinds) (behind : Rows Behind) (rest : List ℕ) (end : End (Elector S)) (run : Behind b' rest end)
-        → (whole : Asked X P b line.0 o Behind (printed ++ rest) end) × (asked_rows X P p b line.0 o Behind behind (printed ++ rest) end
+        × ((Behind : Behinds) (behind : Rows Behind) (rest : List ℕ) (end : End (Elector S))
+        (run : Behind b' rest end)
+        → (whole : Asked X P b line.0 o Behind (printed ++ rest) end)
+        × (asked_rows X P p b line.0 o Behind behind (printed ++ rest) end
         whole ≡ rows ++ behind b' rest end run))) is (
           answer_line c.event h.0,
           repeat_rows X P p line.0 b c.event (c.times - 1) h.0 b' h.1,
@@ -53,106 +65,150 @@ module _ {S : Type 0} (X : Election (Elector S)) (P : Protocol S Bool Verdict) (
               (inr (b', h.0, rest, h.1, run, refl), refl),
         )
 
-    pub answered : (c : Command) (new : List ℕ) (after : ℕ) → Some c ≡ command_of line.1 → IsRepeated X P p line.0 b c.event
-        (c.times - 1) old before new after None b' → IsObeyed X P p b line old before new after outcome.Done b'
+    pub answered : (c : Command) (new : List ℕ) (after : ℕ) → Some c ≡ command_of line.1
+        → IsRepeated X P p line.0 b c.event
+        (c.times - 1) old before new after None b'
+        → IsObeyed X P p b line old before new after outcome.Done b'
     answered c new after is h =
         let d = behind_answered (command_of line.1) c new after is h in (
           d.0,
           d.1,
           d.2,
-          λ lines rest end run. d.3 (λ mid more stop. Prints X P mid lines more stop) (λ mid more stop behind. printed_rows X
+          λ lines rest end run. d.3 (λ mid more stop. Prints X P mid lines more stop)
+              (λ mid more stop behind. printed_rows X
               P p mid lines more stop behind) rest end run,
         )
 
     -- a command that was refused
-    fault_asked : (o : Option Command) (c : Command) (why : StepFault) → Some c ≡ o → RefusedBy b c.event why
+    fault_asked : (o : Option Command) (c : Command) (why : StepFault) → Some c ≡ o
+        → RefusedBy b c.event why
         → (Behind : Behinds) (behind : Rows Behind)
-        → (whole : Asked X P b line.0 o Behind [] (Stopped (refusal_line (AtLine line.0) (step_fault_name why))))
-        × (asked_rows X P p b line.0 o Behind behind [] (Stopped (refusal_line (AtLine line.0) (step_fault_name why))) whole ≡ [])
+        → (whole : Asked X P b line.0 o Behind []
+        (Stopped (refusal_line (AtLine line.0) (step_fault_name why))))
+        × (asked_rows X P p b line.0 o Behind behind []
+        (Stopped (refusal_line (AtLine line.0) (step_fault_name why))) whole ≡ [])
     fault_asked None c why is h Behind behind = absurd cc
     fault_asked (Some d) c why is h Behind behind =
-        subst (λ o. (whole : Asked X P b line.0 o Behind [] (Stopped (refusal_line (AtLine line.0) (step_fault_name why))))
-        × (asked_rows X P p b line.0 o Behind behind [] (Stopped (refusal_line (AtLine line.0) (step_fault_name why))) whole ≡ [])) is
+        subst
+        (λ o.
+        (whole : Asked X P b line.0 o Behind []
+        (Stopped (refusal_line (AtLine line.0) (step_fault_name why))))
+        × (asked_rows X P p b line.0 o Behind behind []
+        (Stopped (refusal_line (AtLine line.0) (step_fault_name why))) whole ≡ [])) is
         (inl (why, h, refl, refl), refl)
 
-    pub refused : (c : Command) (why : StepFault) (mid new : List ℕ) (after : ℕ) → Some c ≡ command_of line.1 → RefusedBy b c.event why
+    pub refused : (c : Command) (why : StepFault) (mid new : List ℕ) (after : ℕ)
+        → Some c ≡ command_of line.1 → RefusedBy b c.event why
         → mid ≡ old
-        → new ≡ mid ++ refusal_line (AtLine line.0) (step_fault_name why) → IsObeyed X P p b line old before new after outcome.Refused b'
+        → new ≡ mid ++ refusal_line (AtLine line.0) (step_fault_name why)
+        → IsObeyed X P p b line old before new after outcome.Refused b'
     refused c why mid new after is h same text = (
       refusal_line (AtLine line.0) (step_fault_name why),
       text ∙ ap (λ (l : List ℕ). l ++ refusal_line (AtLine line.0)
           (step_fault_name why)) same,
-      λ lines. fault_asked (command_of line.1) c why is h (λ m more stop. Prints X P m lines more stop)
+      λ lines.
+          fault_asked (command_of line.1) c why is h (λ m more stop. Prints X P m lines more stop)
           (λ m more stop behind. printed_rows X P p m lines more stop behind),
     )
 
   -- ---- all lines
   module _ (b : Machine (Elector S)) (lines : List (ℕ × List ℕ)) (old : List ℕ) (before : ℕ) where
     -- these lines were put: those of what is played behind them come behind them
-    pub record Played (left : List (ℕ × List ℕ)) (new : List ℕ) (after : ℕ) (now : Machine (Elector S)) : Type 0 where
+    pub record Played (left : List (ℕ × List ℕ)) (new : List ℕ) (after : ℕ)
+        (now : Machine (Elector S)) : Type 0 where
       pub printed : List ℕ
       pub rows : List (List ℕ)
       pub grown : Grows old before new after rows
       pub from_first : (rest : List ℕ) (end : End (Elector S)) (run : Prints X P now left rest end)
-          → (whole : Prints X P b lines (printed ++ rest) end) × (printed_rows X P p b lines (printed ++ rest) end whole ≡ rows ++
+          → (whole : Prints X P b lines (printed ++ rest) end)
+          × (printed_rows X P p b lines (printed ++ rest) end whole ≡ rows ++
           printed_rows X P p now left rest end run)
 
     pub none_played : Played lines old before b
-    none_played = record { printed = []; rows = []; grown = grown_none old before; from_first = λ rest end run. (run, refl) }
+    none_played = record {
+      printed = [];
+      rows = [];
+      grown = grown_none old before;
+      from_first = λ rest end run. (run, refl);
+    }
 
     -- a run of lines, with the text that it prints written in another way
-    moved : (text text' : List ℕ) (end : End (Elector S)) (rows : List (List ℕ)) → text ≡ text' → (whole : Prints X P b lines text end)
+    moved : (text text' : List ℕ) (end : End (Elector S)) (rows : List (List ℕ)) → text ≡ text'
+        → (whole : Prints X P b lines text end)
         × (printed_rows X P p b lines text end whole ≡ rows)
-        → (whole : Prints X P b lines text' end) × (printed_rows X P p b lines text' end whole ≡ rows)
-    moved text text' end rows e h = subst (λ l. (whole : Prints X P b lines l end) × (printed_rows X P p b lines l end whole ≡ rows)) e h
+        → (whole : Prints X P b lines text' end)
+        × (printed_rows X P p b lines text' end whole ≡ rows)
+    moved text text' end rows e h = subst
+        (λ l. (whole : Prints X P b lines l end) × (printed_rows X P p b lines l end whole ≡ rows))
+        e h
 
-    module _ (left behind : List (ℕ × List ℕ)) (line : ℕ × List ℕ) (mid : List ℕ) (between : ℕ) (new : List ℕ) (after : ℕ)
-        (now next : Machine (Elector S)) (o : Outcome) (h : Played left mid between now) (is : line ∷ behind ≡ left) where
-      onward : (rest : List ℕ) (end : End (Elector S)) (rows : List (List ℕ)) → (run : Prints X P now (line ∷ behind) rest end)
+    module _ (left behind : List (ℕ × List ℕ)) (line : ℕ × List ℕ) (mid : List ℕ) (between : ℕ)
+        (new : List ℕ) (after : ℕ)
+        (now next : Machine (Elector S)) (o : Outcome) (h : Played left mid between now)
+        (is : line ∷ behind ≡ left) where
+      onward : (rest : List ℕ) (end : End (Elector S)) (rows : List (List ℕ))
+          → (run : Prints X P now (line ∷ behind) rest end)
           × (printed_rows X P p now (line ∷ behind) rest end run ≡ rows)
-          → (whole : Prints X P b lines (h.printed ++ rest) end) × (printed_rows X P p b lines (h.printed ++ rest) end whole ≡ h.rows ++
+          → (whole : Prints X P b lines (h.printed ++ rest) end)
+          × (printed_rows X P p b lines (h.printed ++ rest) end whole ≡ h.rows ++
           rows)
       onward rest end rows r =
-          let there = subst (λ l. (run : Prints X P now l rest end) × (printed_rows X P p now l rest end run ≡ rows)) is r in
+          let there = subst
+          (λ l. (run : Prints X P now l rest end) × (printed_rows X P p now l rest end run ≡ rows))
+          is r in
           let whole = h.from_first rest end there.0 in
           (whole.0, whole.1 ∙ ap (λ (l : List (List ℕ)). h.rows ++ l) there.1)
 
       -- one more line was obeyed
-      pub one_played : o ≡ outcome.Done → IsObeyed X P p now line mid between new after o next → Played behind new after next
+      pub one_played : o ≡ outcome.Done → IsObeyed X P p now line mid between new after o next
+          → Played behind new after next
       one_played done obeyed =
-          let d : IsObeyed X P p now line mid between new after outcome.Done next = subst (λ r. IsObeyed X P p now line mid between new
+          let d : IsObeyed X P p now line mid between new after outcome.Done next =
+          subst (λ r. IsObeyed X P p now line mid between new
           after r next) done obeyed in
           record {
             printed = h.printed ++ d.0;
             rows = h.rows ++ d.1;
             grown = grown_more old mid new before between after h.rows d.1 h.grown d.2;
             from_first = λ rest end run.
-                moved (h.printed ++ (d.0 ++ rest)) ((h.printed ++ d.0) ++ rest) end ((h.rows ++ d.1) ++ printed_rows X P p next behind rest
+                moved (h.printed ++ (d.0 ++ rest)) ((h.printed ++ d.0) ++ rest) end
+                ((h.rows ++ d.1) ++ printed_rows X P p next behind rest
                 end run) (sym (append_assoc h.printed d.0 rest))
-                (let w = onward (d.0 ++ rest) end (d.1 ++ printed_rows X P p next behind rest end run) (d.3 behind rest end run) in
-                (w.0, w.1 ∙ sym (append_assoc h.rows d.1 (printed_rows X P p next behind rest end run))));
+                (let w = onward (d.0 ++ rest) end
+                (d.1 ++ printed_rows X P p next behind rest end run) (d.3 behind rest end run) in (
+                  w.0,
+                  w.1 ∙ sym (append_assoc h.rows d.1 (printed_rows X P p next behind rest end run)),
+                ));
           }
 
       -- a line was refused
-      pub one_refused : o ≡ outcome.Refused → IsObeyed X P p now line mid between new after o next → ArePlayed X P p b lines old before new
+      pub one_refused : o ≡ outcome.Refused → IsObeyed X P p now line mid between new after o next
+          → ArePlayed X P p b lines old before new
           outcome.Refused next
       one_refused stops obeyed =
-          let d : IsObeyed X P p now line mid between new after outcome.Refused next = subst (λ r. IsObeyed X P p now line mid between new
+          let d : IsObeyed X P p now line mid between new after outcome.Refused next =
+          subst (λ r. IsObeyed X P p now line mid between new
           after r next) stops obeyed in
           let w = onward [] (Stopped d.0) [] (d.2 behind) in (
             d.0,
             h.printed ++ [],
             w.0,
-            d.1 ∙ ap (λ (l : List ℕ). l ++ d.0) h.grown.text_is ∙ ap (λ (l : List (List ℕ)). old ++ numbered_rows (before + 1) l ++ d.0)
+            d.1 ∙ ap (λ (l : List ℕ). l ++ d.0) h.grown.text_is
+                ∙ ap (λ (l : List (List ℕ)). old ++ numbered_rows (before + 1) l ++ d.0)
                 (sym (w.1 ∙ append-nil h.rows)),
           )
 
     -- no line is left
-    pub all_played : (left : List (ℕ × List ℕ)) (new : List ℕ) (after : ℕ) (now : Machine (Elector S)) → Played left new after now
+    pub all_played :
+        (left : List (ℕ × List ℕ)) (new : List ℕ) (after : ℕ) (now : Machine (Elector S))
+        → Played left new after now
         → left ≡ [] → ArePlayed X P p b lines old before new outcome.Done now
     all_played left new after now h none =
-        let end : (run : Prints X P now left [] (Left now)) × (printed_rows X P p now left [] (Left now) run ≡ []) = subst
-        (λ l. (run : Prints X P now l [] (Left now)) × (printed_rows X P p now l [] (Left now) run ≡ [])) (sym none)
+        let end : (run : Prints X P now left [] (Left now))
+        × (printed_rows X P p now left [] (Left now) run ≡ []) = subst
+        (λ l.
+        (run : Prints X P now l [] (Left now)) × (printed_rows X P p now l [] (Left now) run ≡ []))
+        (sym none)
         ((refl, refl), refl) in
         let whole = h.from_first [] (Left now) end.0 in (
           h.printed ++ [],
@@ -162,26 +218,38 @@ module _ {S : Type 0} (X : Election (Elector S)) (P : Protocol S Bool Verdict) (
         )
 
     -- ---- the whole text
-    -- the lines behind the first one moved a new bus, and all that was put behind the names of the columns is theirs
-    pub printed : (b' : Machine (Elector S)) (o : Outcome) (whole : List ℕ) → old ≡ header → before ≡ 0
+    -- the lines behind the first one moved a new bus, and all that was put behind the names of the
+    -- columns is theirs
+    pub printed : (b' : Machine (Elector S)) (o : Outcome) (whole : List ℕ) → old ≡ header
+        → before ≡ 0
         → ArePlayed X P p b lines old before whole o b' → ArePrinted X P p b lines o whole
-    printed b' o whole old_is none h = all o (subst (λ l. ArePlayed X P p b lines l 0 whole o b') old_is
+    printed b' o whole old_is none h =
+        all o (subst (λ l. ArePlayed X P p b lines l 0 whole o b') old_is
         (subst (λ j. ArePlayed X P p b lines old j whole o b') none h))
       where
-        all : (r : Outcome) → ArePlayed X P p b lines header 0 whole r b' → ArePrinted X P p b lines r whole
+        all : (r : Outcome) → ArePlayed X P p b lines header 0 whole r b'
+            → ArePrinted X P p b lines r whole
         all outcome.Done h = (
           h.0,
           Left b',
           h.1,
           refl,
           h.2
-              ∙ sym (append-nil (header ++ numbered_rows 1 (printed_rows X P p b lines h.0 (Left b') h.1))),
+              ∙ sym
+              (append-nil
+              (header ++ numbered_rows 1 (printed_rows X P p b lines h.0 (Left b') h.1))),
         )
         all outcome.Refused h = (h.1, Stopped h.0, h.2, refl, h.3)
 
 -- a new bus was made
-pub begun : {S : Type 0} (X : Election (Elector S)) (P : Protocol S Bool Verdict) (p : TraceSizes) (line : ℕ) (first : FirstLine)
+pub begun : {S : Type 0} (X : Election (Elector S)) (P : Protocol S Bool Verdict) (p : TraceSizes)
+    (line : ℕ) (first : FirstLine)
     (lines : List (ℕ × List ℕ)) (b : Machine (Elector S)) (o : Outcome) (whole : List ℕ)
-    → IsMade X P (shape_in first) (reuse_in first) no_bases b → p ≡ sizes_of P (shape_in first) (reuse_in first) → ArePrinted X P p b lines o whole
+    → IsMade X P (shape_in first) (reuse_in first) no_bases b
+    → p ≡ sizes_of P (shape_in first) (reuse_in first) → ArePrinted X P p b lines o whole
     → Begins X P line (Some first) lines o whole
-begun X P p line first lines b o whole made sizes rows = inr (b, made, subst (λ q. ArePrinted X P q b lines o whole) sizes rows)
+begun X P p line first lines b o whole made sizes rows = inr (
+  b,
+  made,
+  subst (λ q. ArePrinted X P q b lines o whole) sizes rows,
+)

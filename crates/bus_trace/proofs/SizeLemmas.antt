@@ -16,19 +16,35 @@ pub record AreFew (shape : Shape) (presences : ℕ) : Type 0 where
   pub rows : shape.rows ≤ 256
   pub presences_few : presences ≤ MOST_SENDERS
 
-pub few_apart : (first : FirstLine) (shape : Shape) → first ≡ Shaped shape → IsServed (shape_in first) (reuse_in first) → AreFew shape 0
+pub few_apart : (first : FirstLine) (shape : Shape) → first ≡ Shaped shape
+    → IsServed (shape_in first) (reuse_in first) → AreFew shape 0
 few_apart first shape is served =
     let s : IsServed shape None = subst (λ f. IsServed (shape_in f) (reuse_in f)) is served in
-    record { senders = s.senders.1; rounds = s.rounds.1; rows = s.rows.1; presences_few = omega arith }
+    record {
+      senders = s.senders.1;
+      rounds = s.rounds.1;
+      rows = s.rows.1;
+      presences_few = omega arith;
+    }
 
-pub few_again : (first : FirstLine) (shape : Shape) → first ≡ Cycled shape → IsServed (shape_in first) (reuse_in first)
+pub few_again : (first : FirstLine) (shape : Shape) → first ≡ Cycled shape
+    → IsServed (shape_in first) (reuse_in first)
     → AreFew shape shape.senders
 few_again first shape is served =
-    let s : IsServed shape (Some shape.rows) = subst (λ f. IsServed (shape_in f) (reuse_in f)) is served in
-    record { senders = s.senders.1; rounds = s.rounds.1; rows = (let few = s.rows.1 in omega arith); presences_few = s.senders.1 }
+    let s : IsServed shape (Some shape.rows) =
+    subst (λ f. IsServed (shape_in f) (reuse_in f)) is served in
+    record {
+      senders = s.senders.1;
+      rounds = s.rounds.1;
+      rows = (let few = s.rows.1 in omega arith);
+      presences_few = s.senders.1;
+    }
 
-pub rows_fit : (shape : Shape) (presences w width : ℕ) → AreFew shape presences → w ≤ 1024 → width ≡ shape.senders + bits_of shape.senders *
+pub rows_fit : (shape : Shape) (presences w width : ℕ) → AreFew shape presences → w ≤ 1024
+    → width ≡ shape.senders + bits_of shape.senders *
     (shape.rounds * w + (shape.rounds - 1) * 3 + 1) → shape.rows * width ≤ 256 * 65536
 rows_fit shape presences w width few narrow is =
-    let row : width ≤ 65536 = (let all = few_words shape.senders shape.rounds w few.senders few.rounds narrow in omega arith) in
+    let row : width ≤ 65536 =
+    (let all = few_words shape.senders shape.rounds w few.senders few.rounds narrow in
+    omega arith) in
     mul-le-mul few.rows row

@@ -1,5 +1,7 @@
 -- The step of an event: of which tenure it is, and what stands in its word afterwards.
-use Rattle.std.proofs.Common.{◌≡◌, ℕ, ◌+◌, ◌<◌, ◌==◌, Bool, true, false, cond, Option, Some, None, List, length, slice_get, slice_index, is_some, nat_lt, refl, sym, ap, subst, ◌∙◌}
+use Rattle.std.proofs.Common.{◌≡◌, ℕ, ◌+◌, ◌<◌, ◌==◌, Bool, true, false, cond, Option, Some, None}
+use Rattle.std.proofs.Common.{List, length, slice_get, slice_index, is_some, nat_lt, refl, sym, ap}
+use Rattle.std.proofs.Common.{subst, ◌∙◌}
 use Rattle.std.proofs.lemmas.List.{get_or-set_same}
 use Rattle.std.proofs.lemmas.Option.{same_Some}
 use Rattle.bus_register.specs.Protocol.{Protocol}
@@ -19,11 +21,14 @@ use Rattle.bus_deliverylog.specs.Receiving.{Receiving}
 use Rattle.bus_machine.specs.Machine.{Machine, Happens, IsOnWord, has_stopped}
 use Rattle.bus_presence.specs.Reclaimers.{Reclaiming}
 use Rattle.bus_presence.specs.declared.pins.Pin.{Pin}
-use Rattle.bus_presence.specs.declared.pins.Pin.TheVariants.{Away, Announcing, Validating, Pinned, Unpinning, Invalidated}
+use Rattle.bus_presence.specs.declared.pins.Pin.TheVariants.{Away, Announcing, Validating, Pinned}
+use Rattle.bus_presence.specs.declared.pins.Pin.TheVariants.{Unpinning, Invalidated}
 use Rattle.bus_tenure.specs.Core.{Core, Election, is_closed, has_room, frame_len}
 use Rattle.bus_tenure.specs.Elections.{Elector}
 use Rattle.bus_tenure.specs.Seen.{tenure_of}
-use Rattle.bus_tenure.specs.Situations.{Situation as Own, IsClosed, IsIdle, IsSpent, LooksAtStage, Elects, TakesPage, AwaitsPage, StoresWord, StoresLength, GivesBack, HasHanded, situation_at, situation_of}
+use Rattle.bus_tenure.specs.Situations.{Situation as Own, IsClosed, IsIdle, IsSpent, LooksAtStage}
+use Rattle.bus_tenure.specs.Situations.{Elects, TakesPage, AwaitsPage, StoresWord, StoresLength}
+use Rattle.bus_tenure.specs.Situations.{GivesBack, HasHanded, situation_at, situation_of}
 use Rattle.bus_tenure.specs.declared.pages.Page.{Page}
 use Rattle.bus_tenure.specs.declared.phases.Phase.{Phase}
 use Rattle.bus_tenure.specs.declared.phases.Phase.TheVariants as phase
@@ -41,30 +46,38 @@ use Rattle.bus_trace.proofs.RowLemmas.{there}
 -- ---- the tenure
 module _ {E : Type 0} (X : Election E) (v : Sender E) where
   rests : (s : Option Reclaiming) (a b d : Bool)
-      → None ≡ (line X v (at_home s (cond a IsClosed (cond b IsIdle (cond d IsSpent LooksAtStage))))).tenure
+      → None
+      ≡ (line X v
+      (at_home s (cond a IsClosed (cond b IsIdle (cond d IsSpent LooksAtStage))))).tenure
   rests s true b d = refl
   rests s false true d = refl
   rests s false false true = refl
   rests s false false false = refl
 
-  elects : (s : Option Reclaiming) (t : ℕ) (e : E) (a : Bool) → Some t ≡ (line X v (at_home s (cond a (TakesPage t) (Elects t e)))).tenure
+  elects : (s : Option Reclaiming) (t : ℕ) (e : E) (a : Bool)
+      → Some t ≡ (line X v (at_home s (cond a (TakesPage t) (Elects t e)))).tenure
   elects s t e true = refl
   elects s t e false = refl
 
   module _ (t : ℕ) (held : tenure_of v.core.phase ≡ Some t) (page : Page) where
     reclaims : (s : Reclaiming) (reason : Reason) (a b : Bool)
-        → Some t ≡ (line X v (cond a (Scans s) (cond b (Clears s) (Does (GivesBack t page reason))))).tenure
+        → Some t
+        ≡ (line X v (cond a (Scans s) (cond b (Clears s) (Does (GivesBack t page reason))))).tenure
     reclaims s reason true b = sym held
     reclaims s reason false true = sym held
     reclaims s reason false false = refl
 
-    gives : (s : Option Reclaiming) (reason : Reason) → Some t ≡ (line X v (at_home s (GivesBack t page reason))).tenure
+    gives : (s : Option Reclaiming) (reason : Reason)
+        → Some t ≡ (line X v (at_home s (GivesBack t page reason))).tenure
     gives None reason = refl
-    gives (Some s) reason = reclaims s reason (nat_lt s.scanned s.senders) (nat_lt s.cleared s.width)
+    gives (Some s) reason =
+        reclaims s reason (nat_lt s.scanned s.senders) (nat_lt s.cleared s.width)
 
     holds : (s : Option Reclaiming) (stored : ℕ) (a b d e : Bool)
-        → Some t ≡ (line X v (at_home s (cond a (GivesBack t page Sent) (cond b (GivesBack t page FoundEnd)
-        (cond d (cond e (StoresWord t page stored) (StoresLength t page stored)) (GivesBack t page NoRoom)))))).tenure
+        → Some t
+        ≡ (line X v (at_home s (cond a (GivesBack t page Sent) (cond b (GivesBack t page FoundEnd)
+        (cond d (cond e (StoresWord t page stored) (StoresLength t page stored))
+        (GivesBack t page NoRoom)))))).tenure
     holds s stored true b d e = gives s Sent
     holds s stored false true d e = gives s FoundEnd
     holds s stored false false true true = refl
@@ -77,7 +90,8 @@ module _ {E : Type 0} (X : Election E) (v : Sender E) where
   own_tenure s phase.Resting is = rests s (is_closed v.core.queue.phase) _ _
   own_tenure s (phase.Electing t e) is = elects s t e (is_some (X.owner e))
   own_tenure s (phase.Taken t) is = refl
-  own_tenure s (phase.Holding t page stored published) is = holds t (ap tenure_of is) page s stored published page.ended
+  own_tenure s (phase.Holding t page stored published) is =
+      holds t (ap tenure_of is) page s stored published page.ended
       (has_room v.core page) (nat_lt stored (frame_len v.core))
   own_tenure s (phase.Giving t reason) is = refl
 
@@ -145,70 +159,90 @@ module _ {S : Type 0} (X : Election (Elector S)) (P : Protocol S Bool Verdict) w
     pinned_in kind.LoadLength h = absurd h
     pinned_in kind.LoadLogWord h = absurd h
 
-  tenure_by : (c : Core (Elector S)) (r : Reuse) (u : Pin) → r.pin ≡ u → (k : Kind) → HasCause P (sender c (Some r)) k
-      → tenure_begun_by c u ≡ (line X (sender c (Some r)) (pinning u r.reclaimer (situation_of X c))).tenure
+  tenure_by : (c : Core (Elector S)) (r : Reuse) (u : Pin) → r.pin ≡ u → (k : Kind)
+      → HasCause P (sender c (Some r)) k
+      → tenure_begun_by c u
+      ≡ (line X (sender c (Some r)) (pinning u r.reclaimer (situation_of X c))).tenure
   tenure_by c r Away is k h = own_tenure X (sender c (Some r)) r.reclaimer c.phase refl
   tenure_by c r (Announcing t) is k h = refl
   tenure_by c r (Validating t) is k h = refl
-  tenure_by c r (Pinned t) is k h = sym (pinned_in c r t is k h) ∙ own_tenure X (sender c (Some r)) r.reclaimer c.phase refl
+  tenure_by c r (Pinned t) is k h =
+      sym (pinned_in c r t is k h) ∙ own_tenure X (sender c (Some r)) r.reclaimer c.phase refl
   tenure_by c r (Unpinning t) is k h = refl
   tenure_by c r (Invalidated t) is k h = refl
 
   -- with a cause for a step, the tenure that is begun is that of the line
   pub tenure_is : (c : Core (Elector S)) (o : Option Reuse) (k : Kind) → HasCause P (sender c o) k
       → begun_by c o ≡ (line_now X (sender c o)).tenure
-  tenure_is c None k h = own_tenure X (sender c None) None c.phase refl ∙ ap (λ z. (line X (sender c None) z).tenure)
+  tenure_is c None k h =
+      own_tenure X (sender c None) None c.phase refl ∙ ap (λ z. (line X (sender c None) z).tenure)
       (at_none (situation_of X c))
   tenure_is c (Some r) k h = tenure_by c r r.pin refl k h
 
   -- what code sees of the step that is due
-  pub due_so : (senders : List (Sender (Elector S))) (s word : ℕ) (v : Sender (Elector S)) (t : Option ℕ) (k : Kind) (o : Op)
+  pub due_so : (senders : List (Sender (Elector S))) (s word : ℕ) (v : Sender (Elector S))
+      (t : Option ℕ) (k : Kind) (o : Op)
       → Some v ≡ slice_get senders s → t ≡ begun_by v.core v.reuse → Some k ≡ (line_now X v).kind
-      → HasCause P v k → Some o ≡ (line_now X v).op word → Some (record { tenure = t; kind = k; op = o }) ≡ sender_due X
+      → HasCause P v k → Some o ≡ (line_now X v).op word
+      → Some (record { tenure = t; kind = k; op = o }) ≡ sender_due X
       (slice_get senders s) word
   due_so senders s word v t k o at begun kind_is cause op_is =
       let l = line_now X v in
-      ap (λ u. step_of u (Some k) (Some o)) (begun ∙ tenure_is v.core v.reuse k cause) ∙ ap (λ z. step_of l.tenure z (Some o)) kind_is
+      ap (λ u. step_of u (Some k) (Some o)) (begun ∙ tenure_is v.core v.reuse k cause)
+      ∙ ap (λ z. step_of l.tenure z (Some o)) kind_is
       ∙ ap (step_of l.tenure l.kind) op_is ∙ ap (λ z. sender_due X z word) at
 
 -- ---- what stands in a word after the step on it
-op_of_step : (tenure : Option ℕ) (k : Option Kind) (o : Option Op) (step : Step) → step_of tenure k o ≡ Some step → o ≡ Some step.op
+op_of_step : (tenure : Option ℕ) (k : Option Kind) (o : Option Op) (step : Step)
+    → step_of tenure k o ≡ Some step → o ≡ Some step.op
 op_of_step tenure None o step e = absurd cc
 op_of_step tenure (Some k) None step e = absurd cc
 op_of_step tenure (Some k) (Some o) step e = ap (λ (z : Step). Some z.op) (same_Some _ _ e)
 
-stood : (words : List ℕ) (o : Op) → register o < length words → slice_index (words_after words (Some o)) (register o) ≡ after o
+stood : (words : List ℕ) (o : Op) → register o < length words
+    → slice_index (words_after words (Some o)) (register o) ≡ after o
     (slice_index words (register o))
 stood words o l = get_or-set_same words (register o) (after o (slice_index words (register o))) 0 l
 
 load_leaves : (v : Receiving) (step : Step) (n : ℕ) (a b : Bool)
     → step_of None (cond a None (cond b (Some kind.LoadLength) (Some kind.LoadLogWord)))
-    (cond a None (cond b (Some (Load (record { 0 = v.length_at }))) (Some (Load (record { 0 = v.log_at + v.place }))))) ≡ Some step
+    (cond a None (cond b (Some (Load (record { 0 = v.length_at })))
+    (Some (Load (record { 0 = v.log_at + v.place }))))) ≡ Some step
     → after step.op n ≡ n
 load_leaves v step n true b e = absurd cc
 load_leaves v step n false true e = ap (λ (z : Step). after z.op n) (sym (same_Some _ _ e))
 load_leaves v step n false false e = ap (λ (z : Step). after z.op n) (sym (same_Some _ _ e))
 
-pub leaves : {E : Type 0} (X : Election E) (m m' : Machine E) (e : Event) (a : Answer) (step : Step) → Happens X m e a m'
-    → Some step ≡ due_by X m e → slice_index m'.words (register step.op) ≡ after step.op (slice_index m.words (register step.op))
+pub leaves : {E : Type 0} (X : Election E) (m m' : Machine E) (e : Event) (a : Answer) (step : Step)
+    → Happens X m e a m'
+    → Some step ≡ due_by X m e
+    → slice_index m'.words (register step.op)
+    ≡ after step.op (slice_index m.words (register step.op))
 leaves X m m' (Put s bytes) a step h is = absurd cc
 leaves X m m' (Ask s mark) a step h is = absurd cc
 leaves {E} X m m' (Turn s word) a step h is =
     let l = line_now X h.sender in
-    let due = ap (λ o. sender_due X o word) (sym (there (has_stopped m s) (slice_get m.senders s) h.sender h.goes)) ∙ sym is in
+    let due =
+    ap (λ o. sender_due X o word)
+    (sym (there (has_stopped m s) (slice_get m.senders s) h.sender h.goes)) ∙ sym is in
     let op_is : l.op word ≡ Some step.op = op_of_step l.tenure l.kind (l.op word) step due in
     ap (λ (y : Machine E). slice_index y.words (register step.op)) h.after
-    ∙ ap (λ o. slice_index (words_after m.words o) (register step.op)) op_is ∙ stood m.words step.op (subst (IsOnWord m) op_is h.within)
+    ∙ ap (λ o. slice_index (words_after m.words o) (register step.op)) op_is
+    ∙ stood m.words step.op (subst (IsOnWord m) op_is h.within)
 leaves {E} X m m' (Recv r) a step h is =
     let v = h.receiver in
     ap (λ (y : Machine E). slice_index y.words (register step.op)) h.after
-    ∙ sym (load_leaves v step (slice_index m.words (register step.op)) v.ended (v.place == v.known) (ap receiver_due (sym h.there)
+    ∙ sym (load_leaves v step (slice_index m.words (register step.op)) v.ended (v.place == v.known)
+    (ap receiver_due (sym h.there)
     ∙ sym is))
 leaves X m m' (Stop s) a step h is = absurd cc
 
 -- what was seen of a step
-pub seen_so : (words : ℕ → ℕ) (due : Option Step) (step : Step) (found left : ℕ) → Some step ≡ due → found ≡ words (register step.op)
-    → left ≡ after step.op (words (register step.op)) → Some (record { step = step; found = found; left = left }) ≡ seen_in words due
+pub seen_so : (words : ℕ → ℕ) (due : Option Step) (step : Step) (found left : ℕ) → Some step ≡ due
+    → found ≡ words (register step.op)
+    → left ≡ after step.op (words (register step.op))
+    → Some (record { step = step; found = found; left = left }) ≡ seen_in words due
 seen_so words due step found left is f l =
     ap (λ n. Some record { step = step; found = n; left = left }) f
-    ∙ ap (λ n. Some record { step = step; found = words (register step.op); left = n }) l ∙ ap (seen_in words) is
+    ∙ ap (λ n. Some record { step = step; found = words (register step.op); left = n }) l
+    ∙ ap (seen_in words) is

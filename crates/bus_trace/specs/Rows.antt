@@ -1,5 +1,7 @@
--- The lines of a trace: who took which step, what it found, what stands after it, and what was answered.
-use Rattle.std.specs.Prelude.{ℕ, Option, Some, None, List, [], ◌∷◌, ◌++◌, codes, decimal, slice_get, slice_index}
+-- The lines of a trace: who took which step, what it found, what stands after it, and what was
+-- answered.
+use Rattle.std.specs.Prelude.{ℕ, Option, Some, None, List, [], ◌∷◌, ◌++◌, codes, decimal}
+use Rattle.std.specs.Prelude.{slice_get, slice_index}
 use Rattle.bus_register.specs.declared.kinds.Kind.{Kind}
 use Rattle.bus_register.specs.declared.registers.Op.{Op}
 use Rattle.bus_register.specs.Names.{kind_name}
@@ -23,7 +25,10 @@ column text = text ++ 9 ∷ []
 
 -- the names of the columns
 abbrev pub header : List ℕ
-header = column (codes "number") ++ column (codes "line") ++ column (codes "who") ++ column (codes "tenure") ++ column (codes "kind") ++ column (codes "word") ++ column (codes "found") ++ column (codes "after") ++ codes "answer" ++ 10 ∷ []
+header =
+    column (codes "number") ++ column (codes "line") ++ column (codes "who")
+    ++ column (codes "tenure") ++ column (codes "kind") ++ column (codes "word")
+    ++ column (codes "found") ++ column (codes "after") ++ codes "answer" ++ 10 ∷ []
 
 abbrev pub tenure_text : Option ℕ → List ℕ
 tenure_text None = codes "-"
@@ -31,12 +36,16 @@ tenure_text (Some t) = decimal t
 
 -- tenure, kind, word, found and after, where there is no step on a word: the kind is this text
 abbrev pub no_step : List ℕ → List ℕ
-no_step kind = column (codes "-") ++ column kind ++ column (codes "-") ++ column (codes "-") ++ column (codes "-")
+no_step kind =
+    column (codes "-") ++ column kind ++ column (codes "-") ++ column (codes "-")
+    ++ column (codes "-")
 
 -- the same columns of a step that found this number
 abbrev pub step_text : TraceSizes → Option ℕ → Kind → ℕ → Option Op → List ℕ
 step_text p tenure k found None = no_step (codes "-")
-step_text p tenure k found (Some o) = column (tenure_text tenure) ++ column (kind_name k) ++ column (word_name p (register o)) ++ column (decimal found) ++ column (decimal (after o found))
+step_text p tenure k found (Some o) =
+    column (tenure_text tenure) ++ column (kind_name k) ++ column (word_name p (register o))
+    ++ column (decimal found) ++ column (decimal (after o found))
 
 -- of an action of a sender; a step of it was this one
 abbrev pub action_text : TraceSizes → Option Op → Action → List ℕ
@@ -69,17 +78,19 @@ who_text (Turn s word) = column (codes "sender" ++ behind s)
 who_text (Recv r) = column (codes "receiver" ++ behind r)
 who_text (Stop s) = column (codes "sender" ++ behind s)
 
--- Of a turn of a sender that goes on, the step that is due of it by its line in the table of turns: as a sender, of its pin of a tenure, or
--- of its reclamation. Its tenure is the one that it has begun, or whose page it has: while it clears the row of the next tenure, its own.
+-- Of a turn of a sender that goes on, the step that is due of it by its line in the table of turns:
+-- as a sender, of its pin of a tenure, or of its reclamation. Its tenure is the one that it has
+-- begun, or whose page it has: while it clears the row of the next tenure, its own.
 abbrev pub line_text : {E : Type 0} → TraceSizes → (ℕ → ℕ) → Line E → ℕ → List ℕ
 line_text p words l word = due_text p words l.tenure l.kind (l.op word)
 
-abbrev pub sender_text : {E : Type 0} → TraceSizes → Election E → (ℕ → ℕ) → Option (Sender E) → ℕ → List ℕ
+abbrev pub sender_text : {E : Type 0} → TraceSizes → Election E → (ℕ → ℕ) → Option (Sender E) → ℕ
+    → List ℕ
 sender_text p X words None word = no_step (codes "-")
 sender_text p X words (Some v) word = line_text p words (line_now X v) word
 
--- of a put and of a mark that is asked for the action that it added, of a sender's turn the step that is due of it, and of a receiver
--- the load that it makes
+-- of a put and of a mark that is asked for the action that it added, of a sender's turn the step
+-- that is due of it, and of a receiver the load that it makes
 abbrev pub columns : {E : Type 0} → TraceSizes → Election E → Machine E → Event → Answer → List ℕ
 columns p X m (Put s bytes) a = actions_text p None (put_actions bytes a)
 columns p X m (Ask s mark) a = actions_text p None (mark_actions a)
@@ -88,5 +99,6 @@ columns p X m (Recv r) a = receiving_text p (slice_index m.words) (slice_get m.r
 columns p X m (Stop s) a = no_step (codes "stop")
 
 -- the line of an event that a line of a script asks for, without its number
-abbrev pub row_text : {E : Type 0} → TraceSizes → Election E → ℕ → Machine E → Event → Answer → List ℕ
+abbrev pub row_text : {E : Type 0} → TraceSizes → Election E → ℕ → Machine E → Event → Answer
+    → List ℕ
 row_text p X line m e a = column (decimal line) ++ who_text e ++ columns p X m e a ++ answer_text a

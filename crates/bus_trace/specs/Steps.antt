@@ -41,4 +41,8 @@ due_by X m (Stop s) = None
 -- with the number that it finds in these words, and the one that it leaves
 abbrev pub seen_in : (ℕ → ℕ) → Option Step → Option Seen
 seen_in words None = None
-seen_in words (Some step) = Some (record { step = step; found = words (register step.op); left = after step.op (words (register step.op)) })
+seen_in words (Some step) = Some (record {
+  step = step;
+  found = words (register step.op);
+  left = after step.op (words (register step.op));
+})

@@ -20,7 +20,10 @@ name_told (Recv r) = codes "-"
 name_told (Stop s) = codes "stop"
 
 abbrev pub seen_columns : TraceSizes → Seen → List ℕ
-seen_columns p s = column (tenure_text s.step.tenure) ++ column (kind_name s.step.kind) ++ column (word_name p (register s.step.op)) ++ column (decimal s.found) ++ column (decimal s.left)
+seen_columns p s =
+    column (tenure_text s.step.tenure) ++ column (kind_name s.step.kind)
+    ++ column (word_name p (register s.step.op)) ++ column (decimal s.found)
+    ++ column (decimal s.left)
 
 abbrev pub seen_told : TraceSizes → Event → Option Seen → List ℕ
 seen_told p e None = no_step (name_told e)
@@ -28,7 +31,8 @@ seen_told p e (Some s) = seen_columns p s
 
 -- all columns but the number
 abbrev pub row_told : TraceSizes → ℕ → Event → Option Seen → Answer → List ℕ
-row_told p line e seen a = column (decimal line) ++ who_text e ++ seen_told p e seen ++ answer_text a
+row_told p line e seen a =
+    column (decimal line) ++ who_text e ++ seen_told p e seen ++ answer_text a
 
 -- with the number
 abbrev pub numbered_row : ℕ → List ℕ → List ℕ

@@ -1,5 +1,7 @@
--- What `trace` answers to an input: the lines of the events that `replay` plays of it, one after another, and the first refusal.
-use Rattle.std.specs.Prelude.{◌≡◌, ◌≢◌, ◌-◌, ℕ, zero, suc, Bool, ◌⊎◌, Option, Some, None, List, [], ◌∷◌, ◌++◌, codes, flat_map}
+-- What `trace` answers to an input: the lines of the events that `replay` plays of it, one after
+-- another, and the first refusal.
+use Rattle.std.specs.Prelude.{◌≡◌, ◌≢◌, ◌-◌, ℕ, zero, suc, Bool, ◌⊎◌, Option, Some, None, List, []}
+use Rattle.std.specs.Prelude.{◌∷◌, ◌++◌, codes, flat_map}
 use mathlib.Core.Logic.{inl, inr}
 use Rattle.std.specs.List.{enumerate_from}
 use Rattle.bus_register.specs.Protocol.{Protocol}
@@ -46,16 +48,19 @@ IsRefused refusal outcome whole = (outcome ≡ Refused) × (whole ≡ header ++ 
 module _ {S : Type 0} (X : Election (Elector S)) (P : Protocol S Bool Verdict) where
   -- ---- the lines of what `replay` plays: one for each event of the run
   -- of an event that was repeated while it went on
-  abbrev pub repeat_rows : (p : TraceSizes) (line : ℕ) (m : Machine (Elector S)) (e : Event) (more : ℕ) (last : Answer)
+  abbrev pub repeat_rows : (p : TraceSizes) (line : ℕ) (m : Machine (Elector S)) (e : Event)
+      (more : ℕ) (last : Answer)
       (new : Machine (Elector S)) → Repeats X P m e more last new → List (List ℕ)
   repeat_rows p line m e zero last new run = row_text p X line m e last ∷ []
   repeat_rows p line m e (suc more) last new (inl once) = row_text p X line m e last ∷ []
-  repeat_rows p line m e (suc more) last new (inr run) = row_text p X line m e run.1 ∷ repeat_rows p line run.0 e more last new run.4
+  repeat_rows p line m e (suc more) last new (inr run) =
+      row_text p X line m e run.1 ∷ repeat_rows p line run.0 e more last new run.4
 
   -- of a line of the script, and of those behind it
   abbrev pub asked_rows : (p : TraceSizes) (m : Machine (Elector S)) (line : ℕ) (c : Option Command)
       (Behind : Machine (Elector S) → List ℕ → End (Elector S) → Type 0)
-      → ((mid : Machine (Elector S)) (rest : List ℕ) (end : End (Elector S)) → Behind mid rest end → List (List ℕ))
+      → ((mid : Machine (Elector S)) (rest : List ℕ) (end : End (Elector S)) → Behind mid rest end
+      → List (List ℕ))
       → (text : List ℕ) (end : End (Elector S)) → Asked X P m line c Behind text end → List (List ℕ)
   asked_rows p m line None Behind behind text end run = []
   asked_rows p m line (Some c) Behind behind text end (inl refused) = []
@@ -63,7 +68,8 @@ module _ {S : Type 0} (X : Election (Elector S)) (P : Protocol S Bool Verdict) w
       repeat_rows p line m c.event (c.times - 1) run.1 run.0 run.3 ++ behind run.0 run.2 end run.4
 
   -- of all lines
-  abbrev pub printed_rows : (p : TraceSizes) (m : Machine (Elector S)) (lines : List (ℕ × List ℕ)) (text : List ℕ) (end : End (Elector S))
+  abbrev pub printed_rows : (p : TraceSizes) (m : Machine (Elector S)) (lines : List (ℕ × List ℕ))
+      (text : List ℕ) (end : End (Elector S))
       → Prints X P m lines text end → List (List ℕ)
   printed_rows p m [] text end run = []
   printed_rows p m (line ∷ lines) text end run =
@@ -72,14 +78,18 @@ module _ {S : Type 0} (X : Election (Elector S)) (P : Protocol S Bool Verdict) w
 
   -- ---- the whole text
   -- the lines behind the first one, played on this bus as `replay` plays them
-  abbrev pub ArePrinted : TraceSizes → Machine (Elector S) → List (ℕ × List ℕ) → Outcome → List ℕ → Type 0
+  abbrev pub ArePrinted : TraceSizes → Machine (Elector S) → List (ℕ × List ℕ) → Outcome → List ℕ
+      → Type 0
   ArePrinted p m lines outcome whole =
-      (answers : List ℕ) × (end : End (Elector S)) × (run : Prints X P m lines answers end) × (outcome ≡ outcome_of end)
-      × (whole ≡ header ++ numbered_rows 1 (printed_rows p m lines answers end run) ++ refusal_of end)
+      (answers : List ℕ) × (end : End (Elector S)) × (run : Prints X P m lines answers end)
+      × (outcome ≡ outcome_of end)
+      × (whole
+      ≡ header ++ numbered_rows 1 (printed_rows p m lines answers end run) ++ refusal_of end)
 
   -- by what the first line asks for: such a new bus is made, or it is not made
   abbrev pub Begins : ℕ → Option FirstLine → List (ℕ × List ℕ) → Outcome → List ℕ → Type 0
-  Begins line None lines outcome whole = IsRefused (refusal_line (AtLine line) (codes "BadLine")) outcome whole
+  Begins line None lines outcome whole =
+      IsRefused (refusal_line (AtLine line) (codes "BadLine")) outcome whole
   Begins line (Some first) lines outcome whole =
       ((why : MakeFault) × MakeRefused (shape_in first) (reuse_in first) why × (why ≢ make.NoMemory)
       × IsRefused (refusal_line (AtLine line) (make_fault_name why)) outcome whole)

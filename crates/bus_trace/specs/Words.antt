@@ -1,5 +1,6 @@
 -- What the words of a bus are called, each by what it is.
-use Rattle.std.specs.Prelude.{ℕ, ◌+◌, ◌-◌, ◌/◌, ◌%◌, ◌==◌, Bool, Option, Some, None, List, ◌∷◌, ◌++◌, codes, nat_lt, nat_le, if◌then◌else◌}
+use Rattle.std.specs.Prelude.{ℕ, ◌+◌, ◌-◌, ◌/◌, ◌%◌, ◌==◌, Bool, Option, Some, None, List, ◌∷◌}
+use Rattle.std.specs.Prelude.{◌++◌, codes, nat_lt, nat_le, if◌then◌else◌}
 use Rattle.bus_register.specs.Protocol.{Protocol}
 use Rattle.bus_adoptcommit.specs.declared.verdicts.Verdict.{Verdict}
 use Rattle.bus_binconsensus.specs.Decisions.{decisions}
@@ -25,14 +26,23 @@ pub record TraceSizes : Type 0 where
 
 -- as a program holds them
 abbrev pub sizes_told : MemoryMap → TraceSizes
-sizes_told p = record { senders = p.senders; presences = p.presences; rounds = p.rounds; ratifier = p.ratifier; decision = p.decision; row = p.row; log = p.log }
+sizes_told p = record {
+  senders = p.senders;
+  presences = p.presences;
+  rounds = p.rounds;
+  ratifier = p.ratifier;
+  decision = p.decision;
+  row = p.row;
+  log = p.log;
+}
 
 -- a presence for each sender where rows are used again
 abbrev pub presences_of : Shape → Option ℕ → ℕ
 presences_of shape None = 0
 presences_of shape (Some rows) = shape.senders
 
--- the sizes of a bus of this shape, over such ratifiers: it has a row for each tenure, or so many rows are used again
+-- the sizes of a bus of this shape, over such ratifiers: it has a row for each tenure, or so many
+-- rows are used again
 abbrev pub sizes_of : {S : Type 0} → Protocol S Bool Verdict → Shape → Option ℕ → TraceSizes
 sizes_of P shape reuse = record {
   senders = shape.senders;
@@ -47,7 +57,9 @@ sizes_of P shape reuse = record {
 -- a ratifier of three words has two inputs and a proposal; the words of another one are numbered
 abbrev pub ratifier_word : TraceSizes → ℕ → List ℕ
 ratifier_word p k =
-    if p.ratifier == 3 then (if k == 0 then codes "input 0" else (if k == 1 then codes "input 1" else codes "proposal")) else
+    if p.ratifier == 3
+    then (if k == 0 then codes "input 0"
+    else (if k == 1 then codes "input 1" else codes "proposal")) else
     (codes "word" ++ behind k)
 
 -- of a round: the words of its conciliator, and then those of its ratifier
@@ -57,17 +69,20 @@ round_word p k =
     (if k == 1 then codes "mark 1" else
     (if k == 2 then codes "counter" else ratifier_word p (k - 3)))
 
--- Of a binary decision: its rounds, and then the fallback word. The first round has no conciliator, so three words less.
+-- Of a binary decision: its rounds, and then the fallback word. The first round has no conciliator,
+-- so three words less.
 abbrev pub decision_word : TraceSizes → ℕ → List ℕ
 decision_word p k =
     if (k + 3) / (3 + p.ratifier) == p.rounds then codes "fallback" else
-    (codes "round" ++ behind ((k + 3) / (3 + p.ratifier) + 1) ++ 32 ∷ round_word p ((k + 3) % (3 + p.ratifier)))
+    (codes "round" ++ behind ((k + 3) / (3 + p.ratifier) + 1)
+    ++ 32 ∷ round_word p ((k + 3) % (3 + p.ratifier)))
 
 -- of a row: the announcements, and then the decision of each bit, from the lowest
 abbrev pub row_word : TraceSizes → ℕ → List ℕ
 row_word p k =
     if nat_lt k p.senders then codes "announcement" ++ behind k else
-    (codes "bit" ++ behind ((k - p.senders) / p.decision) ++ 32 ∷ decision_word p ((k - p.senders) % p.decision))
+    (codes "bit" ++ behind ((k - p.senders) / p.decision)
+    ++ 32 ∷ decision_word p ((k - p.senders) % p.decision))
 
 -- the length, the stage, the presences, the rows, and the log
 abbrev pub word_name : TraceSizes → ℕ → List ℕ
@@ -76,4 +91,5 @@ word_name p r =
     (if r == 1 then codes "stage" else
     (if nat_lt (r - 2) p.presences then codes "presence" ++ behind (r - 2) else
     (if nat_le p.log r then codes "log" ++ behind (r - p.log) else
-    (codes "row" ++ behind ((r - 2 - p.presences) / p.row) ++ 32 ∷ row_word p ((r - 2 - p.presences) % p.row)))))
+    (codes "row" ++ behind ((r - 2 - p.presences) / p.row)
+    ++ 32 ∷ row_word p ((r - 2 - p.presences) % p.row)))))

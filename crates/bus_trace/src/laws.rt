@@ -22,9 +22,10 @@ pub fn traces_are_drawn_whole<Q: Ratifier>()
         → IsTrace X Q.protocol input outcome trace → HasAllLines trace }
 {}
 
-/// What the line of an event shows is what the event adds to the trails: the action of its sender,
-/// or the step of its pin or of its reclamation, with what that found, and the tenure that it has
-/// begun. A stop adds nothing.
+/// What the line of an event shows is what the event adds to the trails. Of a sender that is its
+/// action with the answer of that, or the step of its pin or of its reclamation, with what that
+/// found, and the tenure that it has begun. Of a receiver it is the one answer that it is given,
+/// behind the load that is due of it. A stop adds nothing.
 pub fn rows_show_what_happens<Q: Ratifier>()
     ensures { let X = election_of Q.Ratifier in
         (sizes : TraceSizes) (old : Machine (Elector Q)) (event : Event) (given : Answer)

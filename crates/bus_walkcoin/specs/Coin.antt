@@ -1,14 +1,15 @@
--- The random-walk coin of Aspnes and Herlihy 1990, one step at a time: a process adds one vote to the counter word that all votes of the
--- coin stand in, then loads that word, and goes on by the rule of the coin.
+-- The random-walk coin of Aspnes and Herlihy 1990, one step at a time: a process adds one vote to
+-- the counter word that all votes of the coin stand in, then loads that word, and goes on by the
+-- rule of the coin.
 use Rattle.std.specs.Prelude.{ℕ, ◌<◌, ◌≤◌, Bool, true, false, Option, Some, None, [], ◌∷◌}
-use Rattle.bus_votecount.specs.declared.tallies.TheConstants.{MOST_VOTES}
+use Rattle.bus_walkcoin.specs.declared.tallies.TheConstants.{MOST_VOTES}
 use Rattle.bus_register.specs.declared.limits.TheConstants.{MOST_PROCESSES}
 use Rattle.bus_register.specs.declared.kinds.Kind.{Kind}
 use Rattle.bus_register.specs.declared.kinds.Kind.TheVariants as kind
 use Rattle.bus_register.specs.declared.registers.Op.{Op}
 use Rattle.bus_register.specs.declared.registers.Op.TheVariants.{Load, Add}
-use Rattle.bus_votecount.specs.declared.tallies.Tally.{Tally}
-use Rattle.bus_votecount.specs.Tally.{tally_of, tally_with, add_word_of, votes_of, total_of}
+use Rattle.bus_walkcoin.specs.declared.tallies.Tally.{Tally}
+use Rattle.bus_walkcoin.specs.Tally.{tally_of, tally_with, add_word_of, votes_of, total_of}
 use Rattle.bus_walkcoin.specs.CoinRule.{is_head, settled_bit}
 use Rattle.bus_walkcoin.specs.declared.coins.Phase.{Phase}
 use Rattle.bus_walkcoin.specs.declared.coins.Phase.TheVariants.{Vote, ReadVotes, Answered}

@@ -1,11 +1,13 @@
--- The coin as a protocol: what its word and local states always keep. Nothing is claimed of the answers: coins need not agree.
-use Rattle.std.specs.Prelude.{◌≡◌, ℕ, ◌+◌, ◌*◌, ◌-◌, ◌<◌, ◌≤◌, Bool, true, Option, Some, None, nat_lt, List, map}
+-- The coin as a protocol: what its word and local states always keep. Nothing is claimed of the
+-- answers: coins need not agree.
+use Rattle.std.specs.Prelude.{◌≡◌, ℕ, ◌+◌, ◌*◌, ◌-◌, ◌<◌, ◌≤◌, Bool, true, Option, Some, None}
+use Rattle.std.specs.Prelude.{nat_lt, List, map}
 use Rattle.std.specs.List.{range_with_len}
-use Rattle.bus_votecount.specs.declared.tallies.TheConstants.{MOST_VOTES}
+use Rattle.bus_walkcoin.specs.declared.tallies.TheConstants.{MOST_VOTES}
 use Rattle.bus_register.specs.declared.limits.TheConstants.{MOST_PROCESSES}
 use Rattle.bus_register.specs.Protocol.{Protocol}
-use Rattle.bus_votecount.specs.declared.tallies.Tally.{Tally}
-use Rattle.bus_votecount.specs.Tally.{word_of, votes_of, sum_of}
+use Rattle.bus_walkcoin.specs.declared.tallies.Tally.{Tally}
+use Rattle.bus_walkcoin.specs.Tally.{word_of, votes_of, sum_of}
 use Rattle.bus_walkcoin.specs.declared.coins.Phase.{Phase}
 use Rattle.bus_walkcoin.specs.declared.coins.Phase.TheVariants.{Vote, ReadVotes, Answered}
 use Rattle.bus_walkcoin.specs.Coin.{CoinState, PhaseFits, coin_started, answer_of, wants_of}

@@ -1,16 +1,20 @@
--- What a coin answers (Aspnes and Herlihy 1990, in this project's profile), read off the steps of one process and the numbers that
--- they found: no local state is spoken of here. All votes of a coin stand in one counter word. A process votes, then loads that word,
--- then votes again, and so on, until it has an answer.
-use Rattle.std.specs.Prelude.{ℕ, ◌*◌, ◌-◌, ◌%◌, Bool, true, false, not, ◌&&◌, ◌||◌, Option, Some, None, is_none, List, [], ◌∷◌, map, filter, length, drop, count_by, ℤ, pos, neg_ℤ, int_lt, int_le, ◌==◌, if◌then◌else◌}
-use Rattle.bus_votecount.specs.declared.tallies.TheConstants.{MOST_VOTES}
+-- What a coin answers (Aspnes and Herlihy 1990, in this project's profile), read off the steps of
+-- one process and the numbers that they found: no local state is spoken of here. All votes of a
+-- coin stand in one counter word. A process votes, then loads that word, then votes again, and so
+-- on, until it has an answer.
+use Rattle.std.specs.Prelude.{ℕ, ◌*◌, ◌-◌, ◌%◌, Bool, true, false, not, ◌&&◌, ◌||◌, Option, Some}
+use Rattle.std.specs.Prelude.{None, is_none, List, [], ◌∷◌, map, filter, length, drop, count_by, ℤ}
+use Rattle.std.specs.Prelude.{pos, neg_ℤ, int_lt, int_le, ◌==◌, if◌then◌else◌}
+use Rattle.bus_walkcoin.specs.declared.tallies.TheConstants.{MOST_VOTES}
 use Rattle.bus_register.specs.declared.kinds.Kind.{Kind}
 use Rattle.bus_register.specs.declared.kinds.Kind.TheVariants as kind
 use Rattle.bus_register.specs.declared.registers.Op.{Op}
 use Rattle.bus_register.specs.declared.registers.Op.TheVariants.{Load, Store, Add, Cas}
-use Rattle.bus_votecount.specs.declared.tallies.Tally.{Tally}
-use Rattle.bus_votecount.specs.Tally.{tally_of, add_word_of, total_of}
+use Rattle.bus_walkcoin.specs.declared.tallies.Tally.{Tally}
+use Rattle.bus_walkcoin.specs.Tally.{tally_of, add_word_of, total_of}
 
--- one step of a trail: what it did, what the word was before it, and the random word that was handed in
+-- one step of a trail: what it did, what the word was before it, and the random word that was
+-- handed in
 pub record Entry : Type 0 where
   pub op : Op
   pub got : ℕ
@@ -69,8 +73,9 @@ total_seen trail = total_of (map (λ e. tally_of e.got) (last_steps 1 trail))
 abbrev pub is_round : ℕ → List Entry → Bool
 is_round at trail = are_round at (last_steps 2 trail)
 
--- The rule of the coin: what a process of n answers that has voted so often and has found this total since: at least 2n is true, at
--- most -2n is false, and after 64 votes the sign answers. Else there is no answer, and it votes again.
+-- The rule of the coin: what a process of n answers that has voted so often and has found this
+-- total since: at least 2n is true, at most -2n is false, and after 64 votes the sign answers. Else
+-- there is no answer, and it votes again.
 abbrev pub settled_bit : ℕ → ℕ → ℤ → Option Bool
 settled_bit n votes total = if int_le (pos (2 * n)) total then Some true
     else if int_le total (neg_ℤ (pos (2 * n))) then Some false
@@ -79,7 +84,8 @@ settled_bit n votes total = if int_le (pos (2 * n)) total then Some true
 
 -- the answer: by that rule once the load after a vote is done, and none at any other time
 abbrev pub coin_answer : ℕ → ℕ → List Entry → Option Bool
-coin_answer n at trail = if is_round at trail then settled_bit n (length (votes at trail)) (total_seen trail) else None
+coin_answer n at trail =
+    if is_round at trail then settled_bit n (length (votes at trail)) (total_seen trail) else None
 
 -- no step was taken yet
 abbrev pub is_first : List Entry → Bool
@@ -92,7 +98,9 @@ coin_votes n at trail = (is_first trail || is_round at trail) && is_none (coin_a
 
 -- the step that is due after these: a vote, as the random word falls, or a load of the counter word
 abbrev pub step_due : ℕ → ℕ → List Entry → ℕ → Op
-step_due n at trail word = if coin_votes n at trail then Add record { 0 = at } (add_word_of (is_head word)) else Load record { 0 = at }
+step_due n at trail word =
+    if coin_votes n at trail then Add record { 0 = at } (add_word_of (is_head word))
+    else Load record { 0 = at }
 
 -- and its kind
 abbrev pub kind_due : ℕ → ℕ → List Entry → Kind

@@ -1,3 +1,4 @@
+pub mod Tally
 pub mod CoinRule
 pub mod Coin
 pub mod CoinProtocol

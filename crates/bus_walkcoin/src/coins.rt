@@ -4,10 +4,9 @@ ghost use Rattle.std.specs.Prelude.{◌≡◌, ℕ, ◌≤◌};
 ghost use Rattle.bus_walkcoin.specs.CoinRule.{settled_bit};
 ghost use Rattle.bus_walkcoin.specs.Coin.{after_settled, answer_of, wants_of, coin_started};
 
+use crate::tallies::{MOST_VOTES, Tally, total};
 use bus_register::limits::MOST_PROCESSES;
 use bus_register::{Kind, Machine, Op, Reg, SenderNo};
-use bus_votecount::tallies::MOST_VOTES;
-use bus_votecount::{Tally, total};
 use std::marker::Model;
 
 /// Where a process stands in a coin.

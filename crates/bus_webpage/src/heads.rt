@@ -1,6 +1,6 @@
 //! What a web page begins with, what stands between its parts, and what it ends with.
 
-/// The head of a page, before its styles.
+/// The head of a page, before its title.
 pub const HEAD: &str = r#"<!doctype html>
 <html lang="en">
 <head>
@@ -10,11 +10,16 @@ pub const HEAD: &str = r#"<!doctype html>
 <meta http-equiv="Content-Security-Policy"
 content="default-src 'none'; img-src data:; style-src 'unsafe-inline'; script-src 'unsafe-inline'">
 <link rel="icon" href="data:,">
-<title>Steps of a bus</title>
 "#;
 
-/// The body of a page, up to the bytes of the script.
-pub const BODY: &str = r#"<body>
+/// The title of a page that steps.
+pub const TITLE: &str = r#"<title>Steps of a bus</title>
+"#;
+
+/// What stands between the styles and the ways to go through the steps.
+pub const BODY: &str = r#"</style>
+</head>
+<body>
 <header>
 <h1 class="hidden">Steps of a bus</h1>
 <div class="bar" role="toolbar" aria-label="Go through the steps">
@@ -37,10 +42,16 @@ pub const BODY: &str = r#"<body>
 <button id="larger" aria-label="Larger text" title="+">A+</button>
 <button id="theme" aria-label="Light or dark" title="D">Dark</button>
 </div>
-</header>
+"#;
+
+/// The end of the header, and where the columns begin.
+pub const MAIN: &str = r#"</header>
 <main>
 <div class="column">
-<section class="grows" aria-labelledby="script-title">
+"#;
+
+/// The columns of a page, up to the bytes of the script.
+pub const COLUMNS: &str = r#"<section class="grows" aria-labelledby="script-title">
 <h2 id="script-title">Script</h2>
 <div id="script" class="scroll mono" tabindex="0" role="list"
 aria-labelledby="script-title"></div>
@@ -101,8 +112,10 @@ pub const BEHIND: &str = r#"</script>
 <script>
 "#;
 
-/// The end of a page.
-pub const END: &str = r#"</script>
+/// The end of a page, and of its script, which begins there.
+pub const END: &str = r#"
+begin();
+</script>
 </body>
 </html>
 "#;

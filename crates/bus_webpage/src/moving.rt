@@ -4,6 +4,13 @@
 pub const MOVING: &str = r#"// ---- Going from step to step.
 
 let parts = null;
+const KIND = document.title.toLowerCase();
+
+// A page is named by the comment that its script begins with; where one plays the script changes.
+function pageName() {
+    const comment = !extra.isGrowing && /^#+ *(.*[^ .:])/.exec(page.lines[0] || '');
+    return comment ? comment[1] : KIND;
+}
 
 function show() {
     view.marked = null;
@@ -14,6 +21,7 @@ function show() {
     parts.elections.forEach(showElection);
     parts.lists.forEach((list) => list.show());
     showControls();
+    extra.shows();
     revealMarked();
     drawThread();
 }
@@ -82,12 +90,13 @@ function drawn(tag, marks) {
 
 function showControls() {
     const slider = at('slider');
+    slider.max = at('jump').max = total;
     slider.value = view.step;
     slider.setAttribute('aria-valuetext', 'step ' + view.step + ' of ' + total);
     write(at('place'), view.step + ' of ' + total);
     at('first').disabled = at('back').disabled = view.step === 0;
     at('forward').disabled = at('last').disabled = view.step === total;
-    document.title = 'Step ' + view.step + ' of ' + total + ', steps of a bus';
+    document.title = 'Step ' + view.step + ' of ' + total + ', ' + pageName();
 }
 
 // Goes to a step. A link leaves the step behind it in the browser's history.
@@ -96,32 +105,33 @@ function go(step, isLink) {
     if (isLink) keepPlace();
     view.step = wanted;
     show();
-    if (isLink) {
-        history.pushState(null, '', '#' + wanted);
-    } else {
-        noteFragment();
-    }
+    if (isLink) history.pushState(history.state, '', '#' + wanted);
+    if (!isLink || extra.isGrowing) noteFragment();
 }
 
-// The fragment holds the step; browsers want it written a few times a second at most.
+function fragment() {
+    return '#' + view.step + extra.carried();
+}
+
+// The fragment holds the step; browsers want it written a few times a second at most. One that has
+// a script too is written once there is a pause.
 function noteFragment() {
-    if (view.due) return;
+    if (extra.isGrowing) clearTimeout(view.due);
+    else if (view.due) return;
     const wait = Math.max(0, 400 - (Date.now() - view.written));
-    view.due = setTimeout(keepPlace, wait);
+    view.due = setTimeout(keepPlace, extra.isGrowing ? 700 : wait);
 }
 
 function keepPlace() {
     clearTimeout(view.due);
     view.due = 0;
     view.written = Date.now();
-    const hash = '#' + view.step;
-    if (location.hash === hash) return;
-    history.replaceState(null, '', hash);
+    if (location.hash !== fragment()) history.replaceState(history.state, '', fragment());
 }
 
 function fromFragment() {
-    const asked = /^#(\d+)$/.exec(location.hash);
-    return asked ? Math.min(total, +asked[1]) : 0;
+    const asked = /^#(\d+)(,|$)/.exec(location.hash);
+    return asked ? Math.min(total, +asked[1]) : extra.start();
 }
 
 // ---- Playing.
@@ -170,7 +180,8 @@ const IN_LIST = {ArrowDown: 'ArrowRight', ArrowUp: 'ArrowLeft'};
 
 function onKey(event) {
     const {target} = event;
-    const isTyping = target.id === 'jump' || target.tagName === 'SELECT';
+    const isTyping = ['SELECT', 'TEXTAREA'].includes(target.tagName) ||
+        (target.tagName === 'INPUT' && target.type !== 'range');
     const isPressed = event.key === ' ' && ['BUTTON', 'SUMMARY'].includes(target.tagName);
     if (target.id === 'jump' && event.key === 'Enter') {
         jump();
@@ -225,6 +236,11 @@ function nameTheme() {
     write(at('theme'), isDark() ? 'Light' : 'Dark');
 }
 
+function follow() {
+    extra.follows();
+    move(fromFragment());
+}
+
 function listen() {
     const on = (id, act) => at(id).addEventListener('click', act);
     on('first', () => move(0));
@@ -239,26 +255,32 @@ function listen() {
     at('jump').addEventListener('change', jump);
     document.addEventListener('keydown', onKey);
     document.addEventListener('click', onClick);
-    window.addEventListener('hashchange', () => move(fromFragment()));
-    window.addEventListener('popstate', () => move(fromFragment()));
+    window.addEventListener('hashchange', follow);
+    window.addEventListener('popstate', follow);
     window.addEventListener('resize', measure);
     document.addEventListener('scroll', drawThread, true);
     matchMedia('(prefers-color-scheme: dark)').addEventListener('change', nameTheme);
 }
 
-function begin() {
-    at('slider').max = total;
-    at('jump').max = total;
-    view.step = fromFragment();
+// Builds anew all that shows the page.
+function build() {
+    for (const id of ['script', 'steps', 'processes', 'elections', 'shared', 'log']) {
+        at(id).replaceChildren();
+    }
+    cells.length = 0;
     sharedWords();
     const cards = [...page.processes.values()].map(card);
     cards.forEach((one) => at('processes').append(one.node));
     at('processes').classList.toggle('many', cards.length > 4);
-    parts = {cards, elections: elections(), lists: [scriptList(), stepsList(), logList()]};
+    const lists = [scriptList(), stepsList(), logList()];
+    parts = {cards, elections: growElections([]), lists};
+}
+
+function begin() {
+    extra.opens();
+    view.step = fromFragment();
     listen();
     nameTheme();
     show();
 }
-
-begin();
 "#;

@@ -84,18 +84,23 @@ function countUpTo(list, most) {
 // All that is looked up while stepping. Steps count from 1, and step 0 is before the first. Each
 // word has the steps that stored in it, so what stands there after any step is found at once.
 function readPage() {
-    const lines = scriptLines();
+    const {rows, refusal} = readRows();
+    const page = pageOf(scriptLines(), rows.length > 0, refusal);
+    rows.forEach((row) => noteRow(page, row));
+    return page;
+}
+
+// A page without a row.
+function pageOf(lines, hasBus, refusal) {
     const shape = readShape(lines);
     const page = {
-        ...readRows(), lines, shape, words: new Map(), processes: new Map(), takes: new Map(),
-        firstOfLine: new Map(), log: [], logStores: [], touched: new Set(),
+        rows: [], refusal, lines, shape, words: new Map(), processes: new Map(), takes: new Map(),
+        firstOfLine: new Map(), log: [], logStores: [], touched: new Set(), roles: null,
     };
-    if (shape && page.rows.length) {
+    if (shape && hasBus) {
         for (let s = 0; s < shape.senders; s += 1) processOf(page, 'sender ' + s);
         for (let r = 0; r < shape.receivers; r += 1) processOf(page, 'receiver ' + r);
     }
-    page.rows.forEach((row, at) => noteRow(page, row, at + 1));
-    page.roles = rolesOf(page);
     return page;
 }
 
@@ -117,7 +122,9 @@ function wordOf(page, name) {
     return page.words.get(name);
 }
 
-function noteRow(page, row, step) {
+// A page with one row more.
+function noteRow(page, row) {
+    const step = page.rows.push(row);
     const process = processOf(page, row.who);
     process.steps.push(step);
     if (row.kind === 'put') process.puts.push(step);
@@ -130,7 +137,10 @@ function noteRow(page, row, step) {
     if (row.word === '-') return;
     const word = wordOf(page, row.word);
     if (word.place.row !== undefined) page.touched.add(word.place.row);
-    if (word.place.is === 'log') page.log[word.place.at] = word;
+    if (word.place.is === 'log') {
+        page.log[word.place.at] = word;
+        page.roles = null;
+    }
     if (!stores(row)) return;
     word.stores.push(step);
     if (word.place.is === 'log' || word.place.is === 'length') page.logStores.push(step);
@@ -167,7 +177,12 @@ function messageOf(word) {
     return {bytes: bitsOf(word, 54, 8), number};
 }
 
-// What each log word is, by what stands in the log at the end of the trace.
+// What a log word is, by what stands in the log at the end of the trace.
+function roleOf(page, index) {
+    if (!page.roles) page.roles = rolesOf(page);
+    return page.roles[index] || {is: 'other'};
+}
+
 function rolesOf(page) {
     const roles = [];
     const last = page.rows.length;

@@ -65,6 +65,7 @@ main { display: grid; gap: .5em; padding: .5em .7em; }
     main {
         grid-template-columns: minmax(14em, 22%) minmax(0, 1fr) minmax(14em, 23%); min-height: 0;
     }
+    .column { contain: strict; }
     #middle > section { flex: none; }
     #middle > #step { position: sticky; top: 0; z-index: 1; }
     .grows { flex: 1 1 0; min-height: 5em; display: flex; flex-direction: column; }
@@ -84,7 +85,7 @@ main { display: grid; gap: .5em; padding: .5em .7em; }
 #processes {
     display: grid; gap: .4em; grid-template-columns: repeat(auto-fill, minmax(10.5em, 1fr));
 }
-#processes.many { grid-template-columns: repeat(auto-fill, minmax(9em, 1fr)); font-size: .9em; }
+#processes.many { grid-template-columns: repeat(auto-fill, minmax(10.4em, 1fr)); font-size: .9em; }
 .card {
     border: .14em solid var(--edge); border-radius: .4em; padding: .3em .45em; min-width: 0;
     background: var(--back); overflow-wrap: anywhere;
@@ -160,6 +161,4 @@ caption { text-align: left; font-weight: bold; }
 #thread circle { fill: var(--now); }
 #help { font-size: .85em; }
 .hidden { position: absolute; width: 1px; height: 1px; overflow: hidden; clip-path: inset(50%); }
-</style>
-</head>
 "#;

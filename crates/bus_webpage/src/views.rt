@@ -3,9 +3,15 @@
 /// Shows the processes, the words, the log, the script and the steps.
 pub const VIEWS: &str = r#"// ---- What is shown.
 
-const page = readPage();
-const total = page.rows.length;
+let page = readPage();
+let total = page.rows.length;
 const view = {step: 0, from: 0, playing: 0, due: 0, written: 0, scale: 1, marked: null};
+// What a page on which one plays does besides: what its address has behind the step, what it does
+// before it follows another address, how it opens and at which step, and what it shows besides.
+// Its script grows.
+const extra = {
+    isGrowing: false, carried: () => '', follows() {}, opens: build, start: () => 0, shows() {},
+};
 const HUES = [210, 28, 135, 290, 52, 180, 340, 95];
 
 function at(id) {
@@ -50,26 +56,31 @@ function stepLink(step, text) {
     return node;
 }
 
-// ---- Lists of which only the lines in sight are there.
-function longList(box, count, draw) {
-    const spacer = made('div');
-    const probe = box.appendChild(draw(0));
-    const list = {box, count, drawn: new Map()};
+// ---- Lists of which only the lines in sight are there. They grow with what `countOf` counts. What
+// a browser would lay out anew to say, a list remembers: how far it is scrolled, and its room.
+function longList(box, countOf, draw) {
+    const list = {box, count: 0, height: 0, top: 0, room: 0, drawn: new Map()};
+    list.spacer = box.appendChild(made('div'));
     list.measure = () => {
         list.line = list.state = undefined;
-        box.appendChild(probe);
-        list.height = probe.getBoundingClientRect().height || 1;
-        probe.remove();
-        spacer.style.height = list.height * count + 'px';
+        list.count = list.height = 0;
+        list.room = box.clientHeight;
+        list.show(true);
+    };
+    list.forget = () => {
+        list.line = list.state = undefined;
         list.drawn.forEach((node) => node.remove());
         list.drawn.clear();
-        list.show();
+    };
+    list.grow = () => {
+        if (list.count !== countOf()) growList(list, countOf(), draw);
     };
     list.show = (again) => {
-        const from = Math.max(0, Math.floor(box.scrollTop / list.height) - 5);
-        const to = Math.min(count, from + Math.ceil(box.clientHeight / list.height) + 11);
+        list.grow();
+        const from = Math.max(0, Math.floor(list.top / list.height) - 5);
+        const to = Math.min(list.count, from + Math.ceil(list.room / list.height) + 11);
         for (const [line, node] of list.drawn) {
-            if (again || line < from || line >= to) {
+            if (again || line < from || !(line < to)) {
                 node.remove();
                 list.drawn.delete(line);
             }
@@ -78,11 +89,43 @@ function longList(box, count, draw) {
             if (!list.drawn.has(line)) list.drawn.set(line, placed(box, list, draw(line), line));
         }
     };
-    list.reveal = (line) => reveal(box, line * list.height, list.height);
-    box.appendChild(spacer);
-    box.addEventListener('scroll', () => list.show());
+    list.reveal = (line) => {
+        list.grow();
+        scrollList(list, revealed(list.top, list.room, line * list.height, list.height));
+    };
+    box.onscroll = () => {
+        list.top = box.scrollTop;
+        list.show();
+    };
+    watch(list);
     list.measure();
     return list;
+}
+
+// A list with another count. Its first line says how high each of them is.
+function growList(list, count, draw) {
+    list.count = count;
+    if (count && !list.height) {
+        const probe = list.box.appendChild(draw(0));
+        list.height = probe.getBoundingClientRect().height || 1;
+        probe.remove();
+    }
+    list.spacer.style.height = list.height * count + 'px';
+}
+
+function scrollList(list, top) {
+    if (top === list.top) return;
+    list.box.scrollTop = top;
+    list.top = list.box.scrollTop;
+}
+
+// Parts around a list open and shut, and so its room changes.
+function watch(list) {
+    new ResizeObserver(() => {
+        if (!list.spacer.isConnected) return;
+        list.room = list.box.clientHeight;
+        list.show();
+    }).observe(list.box);
 }
 
 function placed(box, list, node, line) {
@@ -96,12 +139,15 @@ function placed(box, list, node, line) {
 // Scrolls a box, and nothing around it, so that this part of it is in sight, and not below what
 // covers the upper end of the box.
 function reveal(box, top, height, cover = 0) {
-    const margin = Math.min(2 * height, box.clientHeight / 4);
-    if (top - margin - cover < box.scrollTop) {
-        box.scrollTop = Math.max(0, top - margin - cover);
-    } else if (top + height + margin > box.scrollTop + box.clientHeight) {
-        box.scrollTop = top + height + margin - box.clientHeight;
-    }
+    const wanted = revealed(box.scrollTop, box.clientHeight, top, height, cover);
+    if (wanted !== box.scrollTop) box.scrollTop = wanted;
+}
+
+// How far a box is to be scrolled for that.
+function revealed(scrolled, room, top, height, cover = 0) {
+    const margin = Math.min(2 * height, room / 4);
+    if (top - margin - cover < scrolled) return Math.max(0, top - margin - cover);
+    return Math.max(scrolled, top + height + margin - room);
 }
 
 // ---- The list of all steps.
@@ -129,12 +175,12 @@ function markLine(node, step) {
 
 function stepsList() {
     const box = at('steps');
-    if (!total) return {show() {}, measure() {}};
-    const list = longList(box, total, drawStep);
+    const list = longList(box, () => total, drawStep);
     return {
         measure: list.measure,
+        forget: list.forget,
         show() {
-            if (view.step) list.reveal(view.step - 1); else box.scrollTop = 0;
+            if (view.step) list.reveal(view.step - 1); else scrollList(list, 0);
             list.show();
             list.drawn.forEach((node) => markLine(node, +node.dataset.step));
             if (view.step) box.setAttribute('aria-activedescendant', 'step-' + view.step);
@@ -143,7 +189,8 @@ function stepsList() {
     };
 }
 
-// ---- The script. Long ones are a list of which only what is in sight is there.
+// ---- The script. Long ones are a list of which only what is in sight is there, as are those that
+// grow.
 function drawLine(index) {
     const text = page.lines[index];
     const node = made('div', text === '' || text.startsWith('#') ? 'comment' : '');
@@ -155,14 +202,15 @@ function drawLine(index) {
 
 function scriptList() {
     const box = at('script');
-    const isLong = page.lines.length > 2000;
+    const isLong = extra.isGrowing || page.lines.length > 2000;
     const draw = (index) => {
         const node = drawLine(index);
         if (isLong) node.classList.add('fixed');
+        if (isLong) node.title = page.lines[index];
         node.classList.toggle('current', index + 1 === lineNow());
         return node;
     };
-    if (isLong) return longScript(longList(box, page.lines.length, draw));
+    if (isLong) return longScript(longList(box, () => page.lines.length, draw));
     const nodes = page.lines.map((line, index) => box.appendChild(draw(index)));
     let marked = null;
     return {
@@ -188,7 +236,9 @@ function markCurrent(nodes, marked) {
 function longScript(list) {
     return {
         measure: list.measure,
+        forget: list.forget,
         show() {
+            list.grow();
             if (list.line === lineNow()) return;
             list.line = lineNow();
             if (list.line) list.reveal(list.line - 1);
@@ -245,7 +295,7 @@ function showFrom(row) {
 function card(process) {
     const node = made('article', 'card');
     const name = (process.seat === 'sender' ? 'Sender ' : 'Receiver ') + process.number;
-    const parts = {node, process, list: made('ol')};
+    const parts = {node, who: process.who, list: made('ol')};
     const top = made('div', 'top');
     parts.before = stepLink(0, '\u25c0');
     parts.behind = stepLink(0, '\u25b6');
@@ -269,7 +319,7 @@ function card(process) {
 }
 
 function showCard(parts) {
-    const {process} = parts;
+    const process = page.processes.get(parts.who);
     const count = countUpTo(process.steps, view.step);
     const step = count ? process.steps[count - 1] : 0;
     const row = step ? rowAt(step) : null;
@@ -285,7 +335,7 @@ function showCard(parts) {
     if (process.seat === 'sender') write(parts.more, senderNotes(process));
     linkTo(parts.before, process.steps[count - (isNow ? 2 : 1)]);
     linkTo(parts.behind, process.steps[count]);
-    if (process.seat === 'receiver') showGiven(parts);
+    if (process.seat === 'receiver') showGiven(parts, process);
 }
 
 function linkTo(button, step) {
@@ -319,8 +369,7 @@ function holder() {
 }
 
 // What a receiver was given: the latest four, and how many.
-function showGiven(parts) {
-    const {given} = parts.process;
+function showGiven(parts, {given}) {
     const count = countUpTo(given, view.step);
     write(parts.more, 'given ' + counted(count, 'message'));
     if (parts.count === count) return;
@@ -376,21 +425,31 @@ function sharedWords() {
     }
 }
 
-// The rows of words that the trace touches, each in a part that opens and shuts.
-function elections() {
+// The rows of words that the trace touches, each in a part that opens and shuts. One or two are
+// open.
+function growElections(elections) {
     const rows = [...page.touched].sort((one, two) => one - two);
-    const isFew = rows.length <= 2;
-    return rows.map((row) => {
-        const [node, head] = [made('details'), made('summary')];
-        const part = {row, node, head, cells: [], isBuilt: false};
-        part.node.append(part.head);
-        part.node.dataset.row = row;
-        part.isFew = isFew;
-        at('elections').append(part.node);
-        part.node.addEventListener('toggle', () => { if (part.node.open) showElection(part); });
-        if (isFew) part.node.open = true;
-        return part;
-    });
+    for (const row of rows.filter((each) => !elections.some((part) => part.row === each))) {
+        const part = election(row);
+        const behind = elections.findIndex((other) => other.row > row);
+        at('elections').insertBefore(part.node, behind < 0 ? null : elections[behind].node);
+        elections.splice(behind < 0 ? elections.length : behind, 0, part);
+        part.isFew = part.node.open = rows.length <= 2;
+    }
+    for (const part of elections.filter((each) => each.isFew && rows.length > 2)) {
+        part.isFew = false;
+        part.isOpened = true;
+    }
+    return elections;
+}
+
+function election(row) {
+    const [node, head] = [made('details'), made('summary')];
+    const part = {row, node, head, cells: [], isBuilt: false};
+    node.append(head);
+    node.dataset.row = row;
+    node.addEventListener('toggle', () => { if (node.open) showElection(part); });
+    return part;
 }
 
 // Which tenure uses a row, of those up to that of the stage; or undefined.
@@ -489,7 +548,7 @@ function lengthNow() {
 }
 
 function saidWord(index, value) {
-    const role = page.roles[index] || {is: 'other'};
+    const role = roleOf(page, index);
     const head = role.is === 'head' && headOf(value);
     if (head) {
         return 'head, tenure ' + head.tenure + ', sender ' + head.owner + ', ' +
@@ -511,21 +570,22 @@ function saidMessage(index, owner, message) {
 
 function logList() {
     const box = at('log');
-    if (!page.log.length) {
-        box.append(made('p', 'faint', 'No step is on a word of the log.'));
-        return {show() {}, measure() {}};
-    }
-    const list = longList(box, page.log.length, drawWord);
+    const none = box.appendChild(made('p', 'faint', 'No step is on a word of the log.'));
+    const list = longList(box, () => page.log.length, drawWord);
     return {
         measure: list.measure,
+        forget: list.forget,
         show() {
+            none.hidden = page.log.length > 0;
             const now = view.step ? placeOf(rowAt(view.step).word) : {};
             const state = countUpTo(page.logStores, view.step);
             if (now.is === 'log') list.reveal(now.at);
             else if (list.length !== lengthNow()) list.reveal(Math.max(0, lengthNow() - 1));
             list.length = lengthNow();
-            write(at('log-title'), 'Log, ' + counted(list.length, 'word') + ' published');
+            write(at('log-title'), page.log.length ?
+                'Log, ' + counted(list.length, 'word') + ' published' : 'Log');
             if (list.state !== state || now.is === 'log' || list.wasNow) list.show(true);
+            else list.show();
             list.state = state;
             list.wasNow = now.is === 'log';
         },

@@ -1,5 +1,8 @@
--- What a sender accepts between its turns keeps what senders, words, page and owners keep: said of words and senders by number.
-use Rattle.std.proofs.Common.{◌+◌, ◌*◌, ◌≡◌, ℕ, suc, ◌<◌, ◌≤◌, ◌^◌, Bool, true, false, cond, ◌&&◌, ◌==◌, nat_lt, nat_le, Option, Some, List, [], ◌∷◌, ◌++◌, length, filter, arith, refl, sym, ◌∙◌, ap, subst}
+-- What a sender accepts between its turns keeps what senders, words, page and owners keep: said of
+-- words and senders by number.
+use Rattle.std.proofs.Common.{◌+◌, ◌*◌, ◌≡◌, ℕ, suc, ◌<◌, ◌≤◌, ◌^◌, Bool, true, false, cond, ◌&&◌}
+use Rattle.std.proofs.Common.{◌==◌, nat_lt, nat_le, Option, Some, List, [], ◌∷◌, ◌++◌, length}
+use Rattle.std.proofs.Common.{filter, arith, refl, sym, ◌∙◌, ap, subst}
 use Rattle.std.specs.Prelude.{All}
 use Rattle.std.proofs.lemmas.Bool.{and_parts, leb-true, ltb-true, true≢false}
 use Rattle.std.proofs.lemmas.List.{length-append}
@@ -50,7 +53,8 @@ AreAccepted (Puts bytes ∷ more) = All (λ byte. byte < 256) bytes × AreAccept
 AreAccepted (Asks m ∷ more) = AreAccepted more
 
 -- ---- fewer items than words
-shorter : {A : Type 0} (b : Bool) (x : A) (ys : List A) (n : ℕ) → length ys ≤ n → length (cond b (x ∷ ys) ys) ≤ suc n
+shorter : {A : Type 0} (b : Bool) (x : A) (ys : List A) (n : ℕ) → length ys ≤ n
+    → length (cond b (x ∷ ys) ys) ≤ suc n
 shorter true x ys n l = omega arith
 shorter false x ys n l = omega arith
 
@@ -58,8 +62,11 @@ filter_short : (p : Item → Bool) (xs : List Item) → length (filter p xs) ≤
 filter_short p [] = omega arith
 filter_short p (x ∷ xs) = shorter (p x) x (filter p xs) (length xs) (filter_short p xs)
 
-pub sent_short : (senders s : ℕ) (frames : List Frame) → AreFrames senders frames → 17 * sent_count s frames ≤ 16 * length (log_words frames)
-sent_short senders s frames lawful = let a = filter_short (λ i. i.sender.0 == s) (items_in (order_of frames).entries) in let b = items_few senders frames lawful in omega arith
+pub sent_short : (senders s : ℕ) (frames : List Frame) → AreFrames senders frames
+    → 17 * sent_count s frames ≤ 16 * length (log_words frames)
+sent_short senders s frames lawful =
+    let a = filter_short (λ i. i.sender.0 == s) (items_in (order_of frames).entries) in
+    let b = items_few senders frames lawful in omega arith
 
 -- ---- tests
 pub open_is : (ph : Phase) → is_open ph ≡ true → ph ≡ Open
@@ -76,102 +83,166 @@ empty_is [] e = refl
 empty_is (x ∷ xs) e = absurd (true≢false (sym e))
 
 -- a batch that is not on its way is that of a sender that has begun no tenure
-pub idle_rests : (base : ℕ → ℕ) {E : Type 0} (words : ℕ → ℕ) (frames : List Frame) (c : Core E) (ph : SenderPhase E) → Fits base words frames c ph → c.queue.busy ≡ false → ph ≡ phase.Resting
+pub idle_rests : (base : ℕ → ℕ) {E : Type 0} (words : ℕ → ℕ) (frames : List Frame) (c : Core E)
+    (ph : SenderPhase E) → Fits base words frames c ph → c.queue.busy ≡ false → ph ≡ phase.Resting
 idle_rests base words frames c phase.Resting f e = refl
 idle_rests base words frames c (phase.Electing t u) f e = absurd (true≢false (sym f.0.busy ∙ e))
 idle_rests base words frames c (phase.Taken t) f e = absurd f
-idle_rests base words frames c (phase.Holding t page stored true) f e = absurd (true≢false (sym f.0.busy ∙ e))
-idle_rests base words frames c (phase.Holding t page stored false) f e = absurd (true≢false (sym f.0.busy ∙ e))
+idle_rests base words frames c (phase.Holding t page stored true) f e =
+    absurd (true≢false (sym f.0.busy ∙ e))
+idle_rests base words frames c (phase.Holding t page stored false) f e =
+    absurd (true≢false (sym f.0.busy ∙ e))
 idle_rests base words frames c (phase.Giving t reason) f e = absurd f
 
-module _ {E : Type 0} (X : Election E) (P : Protocol E (Unit {0}) ℕ) (laws : Laws X.op X.fed P OneOwner) (x : Layout) (ok : IsLayout x) (width : x.width ≡ P.width x.senders)
-    {base : ℕ → ℕ} (words : ℕ → ℕ) (home : Option Page) (owners : List ℕ) (frames : List Frame) (p : ℕ) where
-  module _ (senders : ℕ → Option (Core E)) (h : Sending base P x words home senders owners frames) (c : Core E) (old : senders p ≡ Some c) where
+module _ {E : Type 0} (X : Election E) (P : Protocol E (Unit {0}) ℕ)
+    (laws : Laws X.op X.fed P OneOwner) (x : Layout) (ok : IsLayout x)
+    (width : x.width ≡ P.width x.senders)
+    {base : ℕ → ℕ} (words : ℕ → ℕ) (home : Option Page) (owners : List ℕ) (frames : List Frame)
+    (p : ℕ) where
+  module _ (senders : ℕ → Option (Core E)) (h : Sending base P x words home senders owners frames)
+      (c : Core E) (old : senders p ≡ Some c) where
     own : Part base x words frames p c
     own = h.parts p c old
 
     -- its numbers stay far below their range
-    first_below : (ph : SenderPhase E) → Fits base words frames c ph → 17 * c.queue.first ≤ 17 * base c.me + 16 * length (log_words frames)
-    first_below phase.Resting f = let short = sent_short x.senders c.me frames h.log.lawful in let first = f.1.0 in omega arith
-    first_below (phase.Electing t u) f = let short = sent_short x.senders c.me frames h.log.lawful in let first = f.1.0 in omega arith
+    first_below : (ph : SenderPhase E) → Fits base words frames c ph
+        → 17 * c.queue.first ≤ 17 * base c.me + 16 * length (log_words frames)
+    first_below phase.Resting f =
+        let short = sent_short x.senders c.me frames h.log.lawful in
+        let first = f.1.0 in omega arith
+    first_below (phase.Electing t u) f =
+        let short = sent_short x.senders c.me frames h.log.lawful in
+        let first = f.1.0 in omega arith
     first_below (phase.Taken t) f = absurd f
     first_below (phase.Holding t page stored true) f =
-        let written = f.1 in let short = sent_short x.senders c.me written.front (front_lawful x.senders 0 written.front (frame_of c.queue t) (subst (AreFrames x.senders) written.frames_are h.log.lawful)).0 in let first = written.goes_on.0 in
-        let more = ap length (ap log_words written.frames_are ∙ log_words-append written.front (frame_of c.queue t)) ∙ length-append (log_words written.front) (frame_words (frame_of c.queue t)) in
+        let written = f.1 in
+        let short = sent_short x.senders c.me written.front
+        (front_lawful x.senders 0 written.front (frame_of c.queue t)
+        (subst (AreFrames x.senders) written.frames_are h.log.lawful)).0 in
+        let first = written.goes_on.0 in
+        let more =
+        ap length
+        (ap log_words written.frames_are ∙ log_words-append written.front (frame_of c.queue t))
+        ∙ length-append (log_words written.front) (frame_words (frame_of c.queue t)) in
         omega arith
-    first_below (phase.Holding t page stored false) f = let short = sent_short x.senders c.me frames h.log.lawful in let first = f.1.goes_on.0 in omega arith
+    first_below (phase.Holding t page stored false) f =
+        let short = sent_short x.senders c.me frames h.log.lawful in
+        let first = f.1.goes_on.0 in omega arith
     first_below (phase.Giving t reason) f = absurd f
 
     pub numbers_fit : next_of c.queue < 2 ^ 48
     numbers_fit =
-        let few = own.queue.few in let low = h.log.low c.me in let first = first_below c.phase own.fits in let cap = ok.capacity in let within = h.log.fits in
+        let few = own.queue.few in
+        let low = h.log.low c.me in
+        let first = first_below c.phase own.fits in
+        let cap = ok.capacity in let within = h.log.fits in
         let size = length-logged h.log in
         omega arith
 
     module _ (senders' : ℕ → Option (Core E)) (beside : Beside p senders senders') where
       unchanged : senders' p ≡ Some c → Sending base P x words home senders' owners frames
-      unchanged new = subst (λ z. Sending base P x words home z owners frames) (sym (bus.same_senders p c senders senders' old new beside)) h
+      unchanged new = subst (λ z. Sending base P x words home z owners frames)
+          (sym (bus.same_senders p c senders senders' old new beside)) h
 
-      replaced : (q : Pending) → c.queue.busy ≡ false → q.busy ≡ false → q.sender ≡ c.queue.sender → q.first ≡ c.queue.first → ((c.queue.phase ≡ Closed) × (c.queue.messages ≡ []) → (q.phase ≡ Closed) × (q.messages ≡ [])) → IsKept q → senders' p ≡ Some (record c { queue = q }) → Sending base P x words home senders' owners frames
+      replaced : (q : Pending) → c.queue.busy ≡ false → q.busy ≡ false → q.sender ≡ c.queue.sender
+          → q.first ≡ c.queue.first
+          → ((c.queue.phase ≡ Closed) × (c.queue.messages ≡ [])
+          → (q.phase ≡ Closed) × (q.messages ≡ [])) → IsKept q
+          → senders' p ≡ Some (record c { queue = q })
+          → Sending base P x words home senders' owners frames
       replaced q idle idle' sender first closed kept new =
           let rests = idle_rests base words frames c c.phase own.fits idle in
           let fits = subst (Fits base words frames c) rests own.fits in
-          bus.spends X P laws x ok width words home senders owners frames h p c (record c { queue = q }) senders' old new beside rests rests (omega arith)
+          bus.spends X P laws x ok width words home senders owners frames h p c
+          (record c { queue = q }) senders' old new beside rests rests (omega arith)
           record {
             layout = own.layout;
             me = own.me;
             below = own.below;
             sender = ap (λ (z : SenderNo). z.0) sender ∙ own.sender;
             queue = kept;
-            fits = subst (Fits base words frames (record c { queue = q })) (sym rests) (idle', (first ∙ fits.1.0, λ gone. closed (fits.1.1 gone)));
+            fits = subst (Fits base words frames (record c { queue = q })) (sym rests)
+                (idle', (first ∙ fits.1.0, λ gone. closed (fits.1.1 gone)));
           }
 
-      put_kept : (bytes : List ℕ) → All (λ byte. byte < 256) bytes → senders' p ≡ Some (put_in c bytes) → Sending base P x words home senders' owners frames
+      put_kept : (bytes : List ℕ) → All (λ byte. byte < 256) bytes
+          → senders' p ≡ Some (put_in c bytes) → Sending base P x words home senders' owners frames
       put_kept bytes small new = by_test (can_put c.queue (length bytes)) refl new
         where
-          by_test : (b : Bool) → can_put c.queue (length bytes) ≡ b → senders' p ≡ Some (cond b (record c { queue = record c.queue { messages = c.queue.messages ++ bytes ∷ [] } }) c) → Sending base P x words home senders' owners frames
+          by_test : (b : Bool) → can_put c.queue (length bytes) ≡ b
+              → senders' p
+              ≡ Some (cond b
+              (record c { queue = record c.queue { messages = c.queue.messages ++ bytes ∷ [] } }) c)
+              → Sending base P x words home senders' owners frames
           by_test false e now = unchanged now
           by_test true e now =
-              let opened = and_parts (is_open c.queue.phase) (cond c.queue.busy false true && (nat_le (length bytes) 56 && nat_lt (length c.queue.messages) 16)) e in
-              let idled = and_parts (cond c.queue.busy false true) (nat_le (length bytes) 56 && nat_lt (length c.queue.messages) 16) opened.1 in
-              let sized = and_parts (nat_le (length bytes) 56) (nat_lt (length c.queue.messages) 16) idled.1 in
+              let opened = and_parts (is_open c.queue.phase)
+              (cond c.queue.busy false true
+              && (nat_le (length bytes) 56 && nat_lt (length c.queue.messages) 16)) e in
+              let idled = and_parts (cond c.queue.busy false true)
+              (nat_le (length bytes) 56 && nat_lt (length c.queue.messages) 16) opened.1 in
+              let sized =
+              and_parts (nat_le (length bytes) 56) (nat_lt (length c.queue.messages) 16) idled.1 in
               let idle = not_busy c.queue.busy idled.0 in
               let is = open_is c.queue.phase opened.0 in
               let short = leb-true (length bytes) 56 sized.0 in
               let room = ltb-true (length c.queue.messages) 16 sized.1 in
               let more = length-append c.queue.messages (bytes ∷ []) in
               let fit = numbers_fit in
-              replaced (record c.queue { messages = c.queue.messages ++ bytes ∷ [] }) idle idle refl refl (λ z. absurd (open_apart (sym is ∙ z.0)))
+              replaced (record c.queue { messages = c.queue.messages ++ bytes ∷ [] }) idle idle refl
+              refl (λ z. absurd (open_apart (sym is ∙ z.0)))
               record {
                 few = (omega arith);
-                each = All-append IsMessage c.queue.messages (bytes ∷ []) own.queue.each (All-from_recursion IsMessage (bytes ∷ []) ((short, small), tt));
+                each = All-append IsMessage c.queue.messages (bytes ∷ []) own.queue.each
+                    (All-from_recursion IsMessage (bytes ∷ []) ((short, small), tt));
                 numbers = (omega arith);
                 alone = λ m z. absurd (let bad = sym is ∙ z in let wrong : ⊥ = cc in wrong);
                 owner_bits = own.queue.owner_bits;
               } now
 
-      mark_kept : (m : Mark) → senders' p ≡ Some (mark_in c m) → Sending base P x words home senders' owners frames
+      mark_kept : (m : Mark) → senders' p ≡ Some (mark_in c m)
+          → Sending base P x words home senders' owners frames
       mark_kept m new = by_test (can_close c.queue) refl new
         where
-          by_test : (b : Bool) → can_close c.queue ≡ b → senders' p ≡ Some (cond b (record c { queue = record c.queue { phase = Marking m } }) c) → Sending base P x words home senders' owners frames
+          by_test : (b : Bool) → can_close c.queue ≡ b
+              → senders' p
+              ≡ Some (cond b (record c { queue = record c.queue { phase = Marking m } }) c)
+              → Sending base P x words home senders' owners frames
           by_test false e now = unchanged now
           by_test true e now =
-              let tests = and_parts (cond c.queue.busy false true) (is_empty c.queue.messages) (and_parts (is_open c.queue.phase) (cond c.queue.busy false true && is_empty c.queue.messages) e).1 in
+              let tests = and_parts (cond c.queue.busy false true) (is_empty c.queue.messages)
+              (and_parts (is_open c.queue.phase)
+              (cond c.queue.busy false true && is_empty c.queue.messages) e).1 in
               let idle = not_busy c.queue.busy tests.0 in
               let none = empty_is c.queue.messages tests.1 in
-              let is = open_is c.queue.phase (and_parts (is_open c.queue.phase) (cond c.queue.busy false true && is_empty c.queue.messages) e).0 in
-              replaced (record c.queue { phase = Marking m }) idle idle refl refl (λ z. absurd (open_apart (sym is ∙ z.0)))
-              record { few = own.queue.few; each = own.queue.each; numbers = own.queue.numbers; alone = λ k z. none; owner_bits = own.queue.owner_bits } now
+              let is = open_is c.queue.phase (and_parts (is_open c.queue.phase)
+              (cond c.queue.busy false true && is_empty c.queue.messages) e).0 in
+              replaced (record c.queue { phase = Marking m }) idle idle refl refl
+              (λ z. absurd (open_apart (sym is ∙ z.0)))
+              record {
+                few = own.queue.few;
+                each = own.queue.each;
+                numbers = own.queue.numbers;
+                alone = λ k z. none;
+                owner_bits = own.queue.owner_bits;
+              } now
 
   -- a sender with all that it has accepted, in the place of the one before
-  pub grows : (more : List Accepted) → AreAccepted more → (senders : ℕ → Option (Core E)) → Sending base P x words home senders owners frames → (c : Core E) → senders p ≡ Some c
-      → (senders' : ℕ → Option (Core E)) → Beside p senders senders' → senders' p ≡ Some (accepting c more) → Sending base P x words home senders' owners frames
+  pub grows : (more : List Accepted) → AreAccepted more → (senders : ℕ → Option (Core E))
+      → Sending base P x words home senders owners frames → (c : Core E) → senders p ≡ Some c
+      → (senders' : ℕ → Option (Core E)) → Beside p senders senders'
+      → senders' p ≡ Some (accepting c more) → Sending base P x words home senders' owners frames
   grows [] each senders h c old senders' beside new = unchanged senders h c old senders' beside new
   grows (Puts bytes ∷ more) each senders h c old senders' beside new =
       let mid : ℕ → Option (Core E) = put p (Some (put_in c bytes)) senders in
-      grows more each.1 mid (put_kept senders h c old mid (put_beside p (Some (put_in c bytes)) senders) bytes each.0 (put_here p (Some (put_in c bytes)) senders)) (put_in c bytes) (put_here p (Some (put_in c bytes)) senders)
+      grows more each.1 mid (put_kept senders h c old mid
+      (put_beside p (Some (put_in c bytes)) senders) bytes each.0
+      (put_here p (Some (put_in c bytes)) senders)) (put_in c bytes)
+      (put_here p (Some (put_in c bytes)) senders)
       senders' (λ q ne. beside q ne ∙ sym (put_beside p (Some (put_in c bytes)) senders q ne)) new
   grows (Asks m ∷ more) each senders h c old senders' beside new =
       let mid : ℕ → Option (Core E) = put p (Some (mark_in c m)) senders in
-      grows more each mid (mark_kept senders h c old mid (put_beside p (Some (mark_in c m)) senders) m (put_here p (Some (mark_in c m)) senders)) (mark_in c m) (put_here p (Some (mark_in c m)) senders)
+      grows more each mid (mark_kept senders h c old mid (put_beside p (Some (mark_in c m)) senders)
+      m (put_here p (Some (mark_in c m)) senders)) (mark_in c m)
+      (put_here p (Some (mark_in c m)) senders)
       senders' (λ q ne. beside q ne ∙ sym (put_beside p (Some (mark_in c m)) senders q ne)) new

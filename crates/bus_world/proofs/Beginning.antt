@@ -1,5 +1,8 @@
--- Words of zero, the page at home and senders at their starts keep what senders, words, page and owners keep.
-use Rattle.std.proofs.Common.{◌≡◌, ℕ, zero, suc, ◌<◌, true, false, Option, Some, None, inl, inr, List, [], replicate, slice_get, slice_index, arith, refl, sym, ◌∙◌, ap, subst}
+-- Words of zero, the page at home and senders at their starts keep what senders, words, page and
+-- owners keep.
+use Rattle.std.proofs.Common.{◌≡◌, ℕ, zero, suc, ◌<◌, true, false, Option, Some, None, inl, inr}
+use Rattle.std.proofs.Common.{List, [], replicate, slice_get, slice_index, arith, refl, sym, ◌∙◌}
+use Rattle.std.proofs.Common.{ap, subst}
 use Rattle.std.proofs.lemmas.Bool.{cases_lt, false≢true}
 use Rattle.std.proofs.lemmas.List.{get_or-replicate, get_or_past, length-replicate}
 use Rattle.std.proofs.lemmas.List.Elements.{All-from_recursion}
@@ -21,16 +24,27 @@ use Rattle.bus_world.proofs.BusLaws as bus
 use Rattle.bus_world.proofs.TenuresLaws as tenures
 
 pub zeros : (n r : ℕ) → slice_index (replicate n 0) r ≡ 0
-zeros n r = elim (cases_lt r n) [ inl l ↦ get_or-replicate n r 0 0 l | inr g ↦ get_or_past (replicate n 0) r 0 (omega (arith, length-replicate {A = ℕ} n 0)) ]
+zeros n r = elim (cases_lt r n) [
+  | inl l ↦ get_or-replicate n r 0 0 l
+  | inr g ↦ get_or_past (replicate n 0) r 0 (omega (arith, length-replicate {A = ℕ} n 0))
+]
 
-pub words_zero : {E : Type 0} {bases : List ℕ} {x : Layout} (b : Bus E) → IsNew bases x b → (r : ℕ) → slice_index b.side.words r ≡ 0
+pub words_zero : {E : Type 0} {bases : List ℕ} {x : Layout} (b : Bus E) → IsNew bases x b → (r : ℕ)
+    → slice_index b.side.words r ≡ 0
 words_zero {E} {bases} {x} b new r = ap (λ z. slice_index z r) new.words ∙ zeros (words_of x) r
 
 pub no_bases_are : AreBases no_bases
-no_bases_are = record { many = length-replicate {A = ℕ} MOST_SENDERS 0; low = λ s. let z = zeros MOST_SENDERS s in omega arith }
+no_bases_are = record {
+  many = length-replicate {A = ℕ} MOST_SENDERS 0;
+  low = λ s. let z = zeros MOST_SENDERS s in omega arith;
+}
 
-module _ {E : Type 0} (X : Election E) (P : Protocol E (Unit {0}) ℕ) (laws : Laws X.op X.fed P OneOwner) (x : Layout) (ok : IsLayout x) (bases : List ℕ) (are : AreBases bases)
-    (words : ℕ → ℕ) (zero_at : (r : ℕ) → words r ≡ 0) (senders : ℕ → Option (Core E)) (new : (p : ℕ) (c : Core E) → senders p ≡ Some c → (p < x.senders) × (c ≡ new_core x (slice_index bases p) p)) where
+module _ {E : Type 0} (X : Election E) (P : Protocol E (Unit {0}) ℕ)
+    (laws : Laws X.op X.fed P OneOwner) (x : Layout) (ok : IsLayout x) (bases : List ℕ)
+    (are : AreBases bases)
+    (words : ℕ → ℕ) (zero_at : (r : ℕ) → words r ≡ 0) (senders : ℕ → Option (Core E))
+    (new : (p : ℕ) (c : Core E) → senders p ≡ Some c
+    → (p < x.senders) × (c ≡ new_core x (slice_index bases p) p)) where
   new_standing : (p : ℕ) (s : Standing E) → of_some standing_of (senders p) ≡ Some s → s ≡ Rests
   new_standing p s e =
       let o = some_of standing_of (senders p) s e in
@@ -49,7 +63,13 @@ module _ {E : Type 0} (X : Election E) (P : Protocol E (Unit {0}) ℕ) (laws : L
         me = refl;
         below = n.0;
         sender = refl;
-        queue = record { few = omega arith; each = All-from_recursion IsMessage [] tt; numbers = (let a = are.low p in omega arith); alone = λ m z. refl; owner_bits = omega arith };
+        queue = record {
+          few = omega arith;
+          each = All-from_recursion IsMessage [] tt;
+          numbers = (let a = are.low p in omega arith);
+          alone = λ m z. refl;
+          owner_bits = omega arith;
+        };
         fits = (refl, (omega arith, λ gone. absurd (false≢true gone)));
       }
 
@@ -59,20 +79,42 @@ module _ {E : Type 0} (X : Election E) (P : Protocol E (Unit {0}) ℕ) (laws : L
   none_left (suc n) (suc s) l = none_left n s (omega arith)
 
   new_knows : Knows (slice_index bases) (first_page bases) [] 0 0
-  new_knows = record { entries = are.many; next = λ s l. omega arith; left = λ s l. none_left MOST_SENDERS s l; ended = refl; tenures = refl; words = refl }
+  new_knows = record {
+    entries = are.many;
+    next = λ s l. omega arith;
+    left = λ s l. none_left MOST_SENDERS s l;
+    ended = refl;
+    tenures = refl;
+    words = refl;
+  }
 
   pub new_sending : Sending (slice_index bases) P x words (Some (first_page bases)) senders [] []
   new_sending = record {
-    tenures = tenures.same X.op X.fed P laws x.senders x.rows 2 words 0 true (λ q. of_some standing_of (senders q)) (λ _. 0) []
-        (tenures.fresh X.op X.fed P laws x.senders x.rows 2 words (λ q. of_some standing_of (senders q)) (λ r a d. zero_at r) new_standing)
+    tenures = tenures.same X.op X.fed P laws x.senders x.rows 2 words 0 true
+        (λ q. of_some standing_of (senders q)) (λ _. 0) []
+        (tenures.fresh X.op X.fed P laws x.senders x.rows 2 words
+        (λ q. of_some standing_of (senders q)) (λ r a d. zero_at r) new_standing)
         words (words 1) true (λ q. of_some standing_of (senders q)) (λ q. least_of (senders q)) []
         (λ r a d. refl) (zero_at 1) refl (λ q. refl) (λ q. new_least q (senders q) refl) refl;
-    log = subst (λ z. Logged (slice_index bases) x.senders x.capacity (log_at x) words z []) (sym (zero_at 0)) record { lawful = tt; words_are = refl; fits = omega arith; low = are.low; counted = λ s. tt };
+    log = subst (λ z. Logged (slice_index bases) x.senders x.capacity (log_at x) words z [])
+        (sym (zero_at 0)) record {
+          lawful = tt;
+          words_are = refl;
+          fits = omega arith;
+          low = are.low;
+          counted = λ s. tt;
+        };
     owned = tt;
     page_knows = λ page t e d.
         let page_is : first_page bases ≡ page = same_Some _ _ e in
-        let t_is : 0 ≡ t = let z = zero_at 1 in omega arith in
-        (subst (λ z. Knows (slice_index bases) z [] t (words 0)) page_is (subst (λ z. Knows (slice_index bases) (first_page bases) [] z (words 0)) t_is (subst (λ z. Knows (slice_index bases) (first_page bases) [] 0 z) (sym (zero_at 0)) new_knows)), tt);
+        let t_is : 0 ≡ t = let z = zero_at 1 in omega arith in (
+          subst (λ z. Knows (slice_index bases) z [] t (words 0)) page_is
+              (subst (λ z. Knows (slice_index bases) (first_page bases) [] z (words 0)) t_is
+              (subst (λ z. Knows (slice_index bases) (first_page bases) [] 0 z) (sym (zero_at 0))
+              new_knows)),
+          tt,
+        );
     parts = new_part;
-    chosen = λ p c t e o f g out. absurd (bus.resting_apart t e (sym (ap (λ (z : Core E). z.phase) (new p c f).1) ∙ g));
+    chosen = λ p c t e o f g out.
+        absurd (bus.resting_apart t e (sym (ap (λ (z : Core E). z.phase) (new p c f).1) ∙ g));
   }

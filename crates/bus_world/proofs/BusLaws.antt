@@ -1,5 +1,8 @@
 -- Each turn of a sender keeps what senders, words, page and owners keep.
-use Rattle.std.proofs.Common.{◌≡◌, ◌≢◌, ℕ, suc, ◌+◌, ◌*◌, ◌<◌, ◌≤◌, Bool, true, false, Option, Some, None, ◌⊎◌, inl, inr, List, [], ◌∷◌, ◌++◌, length, take, cond, ◌||◌, is_some, slice_get, slice_index, slice_set, arith, refl, sym, ◌∙◌, ap, subst}
+use Rattle.std.proofs.Common.{◌≡◌, ◌≢◌, ℕ, suc, ◌+◌, ◌*◌, ◌<◌, ◌≤◌, Bool, true, false, Option}
+use Rattle.std.proofs.Common.{Some, None, ◌⊎◌, inl, inr, List, [], ◌∷◌, ◌++◌, length, take, cond}
+use Rattle.std.proofs.Common.{◌||◌, is_some, slice_get, slice_index, slice_set, arith, refl, sym}
+use Rattle.std.proofs.Common.{◌∙◌, ap, subst}
 use Rattle.std.proofs.lemmas.Bool.{cases_eq, true≢false}
 use Rattle.std.proofs.lemmas.List.{take_more, get_or-set_same, get_or-set_other}
 use Rattle.std.proofs.Math.ListN.{length-set}
@@ -17,7 +20,8 @@ use Rattle.bus_register.specs.Protocol.{Protocol, Laws}
 use Rattle.bus_batch.specs.Batches.{Pending, IsKept, next_of, frame_of, phase_sent}
 use Rattle.bus_batch.specs.declared.batches.Phase.{Phase as BatchPhase}
 use Rattle.bus_batch.specs.declared.batches.Phase.TheVariants.{Open, Marking, Closed}
-use Rattle.bus_batch.specs.Frames.{Frame, frame_words, IsFrame, items_of, has_end, leaves, order_of, has_gone}
+use Rattle.bus_batch.specs.Frames.{Frame, frame_words, IsFrame, items_of, has_end, leaves}
+use Rattle.bus_batch.specs.Frames.{order_of, has_gone}
 use Rattle.bus_tenure.specs.Core.{Core, Election, Layout, is_leaving, log_at, frame_len, page_after}
 use Rattle.bus_tenure.specs.Situations.{core_at_rest, queue_after}
 use Rattle.bus_tenure.specs.declared.phases.Reason.{Reason}
@@ -26,10 +30,16 @@ use Rattle.bus_tenure.specs.declared.pages.Page.{Page}
 use Rattle.bus_tenure.specs.declared.phases.Phase.{Phase}
 use Rattle.bus_tenure.specs.declared.phases.Phase.TheVariants as phase
 use Rattle.bus_world.specs.Log.{words_read_from, next_number, AreCounted, Knows}
-use Rattle.bus_world.specs.Proved.Sending.{AreEarlier, Logged, stands_at, standing_of, least_of, GoesOn, IsWriting, HasBegun, Fits, Part, AreOwned, Sending}
+use Rattle.bus_world.specs.Proved.Sending.{AreEarlier, Logged, stands_at, standing_of, least_of}
+use Rattle.bus_world.specs.Proved.Sending.{GoesOn, IsWriting, HasBegun, Fits, Part, AreOwned}
+use Rattle.bus_world.specs.Proved.Sending.{Sending}
 use Rattle.bus_register.specs.Tables.{put}
-use Rattle.bus_register.specs.Proved.TableLaws.{put_here, put_beside, some_or_none, push_beside, get_set_same, get_set_other}
-use Rattle.bus_world.proofs.LogLaws.{read-agree, Logged-agree, Logged-publish, next-append_other, next-append_owner, gone-append_owner, gone-append_other, SaySame, say_same, has_end-append, AreEarlier-append, AreEarlier-later}
+use Rattle.bus_register.specs.Proved.TableLaws.{put_here, put_beside, some_or_none, push_beside}
+use Rattle.bus_register.specs.Proved.TableLaws.{get_set_same, get_set_other}
+use Rattle.bus_world.proofs.LogLaws.{read-agree, Logged-agree, Logged-publish, next-append_other}
+use Rattle.bus_world.proofs.LogLaws.{next-append_owner, gone-append_owner, gone-append_other}
+use Rattle.bus_world.proofs.LogLaws.{SaySame, say_same, has_end-append, AreEarlier-append}
+use Rattle.bus_world.proofs.LogLaws.{AreEarlier-later}
 use Rattle.bus_batch.proofs.BatchLaws.{is_frame}
 use Rattle.bus_world.proofs.FrameOfBatch.{counted_frame, length-items, ends-body, leaves-body}
 use Rattle.bus_ownerbits.specs.OneOwner.{OneOwner}
@@ -47,7 +57,8 @@ pub record Changes (o : Op) (words words' : ℕ → ℕ) : Type 0 where
 
 -- ---- who has left
 -- a sender that is not closed has not left
-pub still_here : (base : ℕ → ℕ) {E : Type 0} (frames : List Frame) (c : Core E) → GoesOn base frames c → (c.queue.phase ≡ Closed → ⊥) → has_gone c.me (order_of frames) ≡ false
+pub still_here : (base : ℕ → ℕ) {E : Type 0} (frames : List Frame) (c : Core E)
+    → GoesOn base frames c → (c.queue.phase ≡ Closed → ⊥) → has_gone c.me (order_of frames) ≡ false
 still_here base frames c g is_open = by_gone (has_gone c.me (order_of frames)) refl
   where
     by_gone : (b : Bool) → has_gone c.me (order_of frames) ≡ b → b ≡ false
@@ -61,34 +72,45 @@ left_shut (Marking m) e = refl
 left_shut Closed e = refl
 
 -- a page that notes that a sender has left, if it has
-noted_own : (left : List Bool) (me : ℕ) (b : Bool) → slice_get left me ≡ Some false → slice_get (cond b (slice_set left me true) left) me ≡ Some b
+noted_own : (left : List Bool) (me : ℕ) (b : Bool) → slice_get left me ≡ Some false
+    → slice_get (cond b (slice_set left me true) left) me ≡ Some b
 noted_own left me true e = get_set_same left me true (slice_get_within left me false e)
 noted_own left me false e = e
 
-noted_other : (left : List Bool) (me : ℕ) (b : Bool) (s : ℕ) → s ≢ me → slice_get (cond b (slice_set left me true) left) s ≡ slice_get left s
+noted_other : (left : List Bool) (me : ℕ) (b : Bool) (s : ℕ) → s ≢ me
+    → slice_get (cond b (slice_set left me true) left) s ≡ slice_get left s
 noted_other left me true s ne = get_set_other left me true s ne
 noted_other left me false s ne = refl
 
 -- the other words are the same
-pub Knows-len : {base : ℕ → ℕ} (page : Page) (frames : List Frame) (past len len' : ℕ) → len' ≡ len → Knows base page frames past len → Knows base page frames past len'
-Knows-len {base} page frames past len len' e k = subst (λ z. Knows base page frames past z) (sym e) k
+pub Knows-len : {base : ℕ → ℕ} (page : Page) (frames : List Frame) (past len len' : ℕ) → len' ≡ len
+    → Knows base page frames past len → Knows base page frames past len'
+Knows-len {base} page frames past len len' e k =
+    subst (λ z. Knows base page frames past z) (sym e) k
 
-module _ (base : ℕ → ℕ) {E : Type 0} (x : Layout) (words words' : ℕ → ℕ) (frames : List Frame) (c : Core E) (layout : c.layout ≡ x)
+module _ (base : ℕ → ℕ) {E : Type 0} (x : Layout) (words words' : ℕ → ℕ) (frames : List Frame)
+    (c : Core E) (layout : c.layout ≡ x)
     (agree : Agree (log_at x) x.capacity words words') (len : words' 0 ≡ words 0) where
-  writing_stays : (t : ℕ) (page : Page) (stored : ℕ) → IsWriting base words frames c t page stored → IsWriting base words' frames c t page stored
+  writing_stays : (t : ℕ) (page : Page) (stored : ℕ) → IsWriting base words frames c t page stored
+      → IsWriting base words' frames c t page stored
   writing_stays t page stored w = record {
     goes_on = w.goes_on;
     page_knows = Knows-len page frames t (words 0) (words' 0) len w.page_knows;
     earlier = w.earlier;
     stored_below = w.stored_below;
     allowed = w.allowed;
-    words_are = ap (λ z. words_read_from words' (log_at c.layout + z) stored) len ∙ read-agree words words' (log_at c.layout + words 0) stored (λ r a b. agree r (let z = ap log_at layout in omega arith) (bound r a b)) ∙ w.words_are;
+    words_are =
+        ap (λ z. words_read_from words' (log_at c.layout + z) stored) len
+        ∙ read-agree words words' (log_at c.layout + words 0) stored
+        (λ r a b. agree r (let z = ap log_at layout in omega arith) (bound r a b)) ∙ w.words_are;
   } where
-    bound : (r : ℕ) → log_at c.layout + words 0 ≤ r → r < log_at c.layout + words 0 + stored → r < log_at x + x.capacity
+    bound : (r : ℕ) → log_at c.layout + words 0 ≤ r → r < log_at c.layout + words 0 + stored
+        → r < log_at x + x.capacity
     bound r a b =
         let l = ap log_at layout in let cap = ap (λ (z : Layout). z.capacity) layout in
         let positive : 0 < stored = omega arith in
-        let room = (w.allowed positive).1 in let knows = w.page_knows.words in let below = w.stored_below in
+        let room = (w.allowed positive).1 in
+        let knows = w.page_knows.words in let below = w.stored_below in
         omega arith
 
   Fits-agree : (ph : Phase E) → Fits base words frames c ph → Fits base words' frames c ph
@@ -96,38 +118,80 @@ module _ (base : ℕ → ℕ) {E : Type 0} (x : Layout) (words words' : ℕ → 
   Fits-agree (phase.Electing t e) f = f
   Fits-agree (phase.Taken t) f = f
   Fits-agree (phase.Holding t page stored false) f = (f.0, writing_stays t page stored f.1)
-  Fits-agree (phase.Holding t page stored true) f = (f.0, let h = f.1 in record { front = h.front; frames_are = h.frames_are; goes_on = h.goes_on; page_knows = h.page_knows; earlier = h.earlier; is_open = h.is_open; len_is = len ∙ h.len_is })
+  Fits-agree (phase.Holding t page stored true) f = (
+    f.0,
+    let h = f.1 in
+        record {
+          front = h.front;
+          frames_are = h.frames_are;
+          goes_on = h.goes_on;
+          page_knows = h.page_knows;
+          earlier = h.earlier;
+          is_open = h.is_open;
+          len_is = len ∙ h.len_is;
+        },
+  )
   Fits-agree (phase.Giving t reason) f = f
 
-pub Part-agree : {base : ℕ → ℕ} {E : Type 0} (x : Layout) (words words' : ℕ → ℕ) (frames : List Frame) (p : ℕ) (c : Core E) → Agree (log_at x) x.capacity words words' → words' 0 ≡ words 0 → Part base x words frames p c → Part base x words' frames p c
-Part-agree {base} x words words' frames p c agree len h = record { layout = h.layout; me = h.me; below = h.below; sender = h.sender; queue = h.queue; fits = Fits-agree base x words words' frames c h.layout agree len c.phase h.fits }
+pub Part-agree : {base : ℕ → ℕ} {E : Type 0} (x : Layout) (words words' : ℕ → ℕ)
+    (frames : List Frame) (p : ℕ) (c : Core E) → Agree (log_at x) x.capacity words words'
+    → words' 0 ≡ words 0 → Part base x words frames p c → Part base x words' frames p c
+Part-agree {base} x words words' frames p c agree len h = record {
+  layout = h.layout;
+  me = h.me;
+  below = h.below;
+  sender = h.sender;
+  queue = h.queue;
+  fits = Fits-agree base x words words' frames c h.layout agree len c.phase h.fits;
+}
 
 -- a sender that holds no page only counts its own items, and knows whether it has left
-goes_on_same : (base : ℕ → ℕ) {E : Type 0} (frames frames' : List Frame) (c : Core E) → SaySame base c.me frames frames' → GoesOn base frames c → GoesOn base frames' c
+goes_on_same : (base : ℕ → ℕ) {E : Type 0} (frames frames' : List Frame) (c : Core E)
+    → SaySame base c.me frames frames' → GoesOn base frames c → GoesOn base frames' c
 goes_on_same base frames frames' c e g = (g.0 ∙ sym e.0, λ gone. g.1 (sym e.1 ∙ gone))
 
-Fits-rests : (base : ℕ → ℕ) {E : Type 0} (words words' : ℕ → ℕ) (frames frames' : List Frame) (c : Core E) (ph : Phase E) → ((t : ℕ) → stands_at ph ≡ Holds t → ⊥) → SaySame base c.me frames frames' → Fits base words frames c ph → Fits base words' frames' c ph
-Fits-rests base words words' frames frames' c phase.Resting free e f = (f.0, goes_on_same base frames frames' c e f.1)
-Fits-rests base words words' frames frames' c (phase.Electing t u) free e f = (f.0, goes_on_same base frames frames' c e f.1)
+Fits-rests : (base : ℕ → ℕ) {E : Type 0} (words words' : ℕ → ℕ) (frames frames' : List Frame)
+    (c : Core E) (ph : Phase E) → ((t : ℕ) → stands_at ph ≡ Holds t → ⊥)
+    → SaySame base c.me frames frames' → Fits base words frames c ph → Fits base words' frames' c ph
+Fits-rests base words words' frames frames' c phase.Resting free e f =
+    (f.0, goes_on_same base frames frames' c e f.1)
+Fits-rests base words words' frames frames' c (phase.Electing t u) free e f =
+    (f.0, goes_on_same base frames frames' c e f.1)
 Fits-rests base words words' frames frames' c (phase.Taken t) free e f = absurd (free t refl)
-Fits-rests base words words' frames frames' c (phase.Holding t page stored published) free e f = absurd (free t refl)
-Fits-rests base words words' frames frames' c (phase.Giving t reason) free e f = absurd (free t refl)
+Fits-rests base words words' frames frames' c (phase.Holding t page stored published) free e f =
+    absurd (free t refl)
+Fits-rests base words words' frames frames' c (phase.Giving t reason) free e f =
+    absurd (free t refl)
 
-pub Part-rests : {base : ℕ → ℕ} {E : Type 0} (x : Layout) (words words' : ℕ → ℕ) (frames frames' : List Frame) (p : ℕ) (c : Core E) → ((t : ℕ) → stands_at c.phase ≡ Holds t → ⊥) → SaySame base p frames frames' → Part base x words frames p c → Part base x words' frames' p c
+pub Part-rests : {base : ℕ → ℕ} {E : Type 0} (x : Layout) (words words' : ℕ → ℕ)
+    (frames frames' : List Frame) (p : ℕ) (c : Core E) → ((t : ℕ) → stands_at c.phase ≡ Holds t → ⊥)
+    → SaySame base p frames frames' → Part base x words frames p c → Part base x words' frames' p c
 Part-rests {base} x words words' frames frames' p c free e h = record {
   layout = h.layout;
   me = h.me;
   below = h.below;
   sender = h.sender;
   queue = h.queue;
-  fits = Fits-rests base words words' frames frames' c c.phase free (subst (λ z. SaySame base z frames frames') (sym h.me) e) h.fits;
+  fits = Fits-rests base words words' frames frames' c c.phase free
+      (subst (λ z. SaySame base z frames frames') (sym h.me) e) h.fits;
 }
 
-pub part_of : {base : ℕ → ℕ} {E : Type 0} (x : Layout) (words words' : ℕ → ℕ) (frames frames' : List Frame) (p : ℕ) (c : Core E) (ph : Phase E) → Part base x words frames p c → Fits base words' frames' (record c { phase = ph }) ph → Part base x words' frames' p (record c { phase = ph })
-part_of x words words' frames frames' p c ph h f = record { layout = h.layout; me = h.me; below = h.below; sender = h.sender; queue = h.queue; fits = f }
+pub part_of : {base : ℕ → ℕ} {E : Type 0} (x : Layout) (words words' : ℕ → ℕ)
+    (frames frames' : List Frame) (p : ℕ) (c : Core E) (ph : Phase E) → Part base x words frames p c
+    → Fits base words' frames' (record c { phase = ph }) ph
+    → Part base x words' frames' p (record c { phase = ph })
+part_of x words words' frames frames' p c ph h f = record {
+  layout = h.layout;
+  me = h.me;
+  below = h.below;
+  sender = h.sender;
+  queue = h.queue;
+  fits = f;
+}
 
 -- a sender that is as before, beside others that are
-pub same_senders : {E : Type 0} (p : ℕ) (c : Core E) (senders senders' : ℕ → Option (Core E)) → senders p ≡ Some c → senders' p ≡ Some c → Beside p senders senders' → senders' ≡ senders
+pub same_senders : {E : Type 0} (p : ℕ) (c : Core E) (senders senders' : ℕ → Option (Core E))
+    → senders p ≡ Some c → senders' p ≡ Some c → Beside p senders senders' → senders' ≡ senders
 same_senders p c senders senders' old new beside = fun_ext (λ q. elim (cases_eq q p) [
   | inl i ↦ ap senders' i ∙ new ∙ sym old ∙ ap senders (sym i)
   | inr ne ↦ beside q ne
@@ -136,10 +200,12 @@ same_senders p c senders senders' old new beside = fun_ext (λ q. elim (cases_eq
 pub resting_apart : {E : Type 0} (t : ℕ) (e : E) → phase.Resting ≡ phase.Electing t e → ⊥
 resting_apart t e h = cc
 
-pub holding_apart : {E : Type 0} (u : ℕ) (page : Page) (k : ℕ) (published : Bool) (t : ℕ) (e : E) → phase.Holding u page k published ≡ phase.Electing t e → ⊥
+pub holding_apart : {E : Type 0} (u : ℕ) (page : Page) (k : ℕ) (published : Bool) (t : ℕ) (e : E)
+    → phase.Holding u page k published ≡ phase.Electing t e → ⊥
 holding_apart u page k published t e h = cc
 
-pub same_electing : {E : Type 0} (t u : ℕ) (e f : E) → phase.Electing t e ≡ phase.Electing u f → (t ≡ u) × (e ≡ f)
+pub same_electing : {E : Type 0} (t u : ℕ) (e f : E) → phase.Electing t e ≡ phase.Electing u f
+    → (t ≡ u) × (e ≡ f)
 same_electing t u e f h = (cc, cc)
 
 not_busy : (reason : Reason) (q : Pending) → (queue_after reason q).busy ≡ false
@@ -161,31 +227,72 @@ IsUnsent Sent = ⊥
 IsUnsent FoundEnd = Unit {0}
 IsUnsent NoRoom = Unit {0}
 
-unsent_goes_on : (base : ℕ → ℕ) {E : Type 0} (frames : List Frame) (reason : Reason) → IsUnsent reason → (c : Core E) (t : ℕ) → GoesOn base frames c → GoesOn base frames (core_at_rest c reason t)
+unsent_goes_on : (base : ℕ → ℕ) {E : Type 0} (frames : List Frame) (reason : Reason)
+    → IsUnsent reason → (c : Core E) (t : ℕ) → GoesOn base frames c
+    → GoesOn base frames (core_at_rest c reason t)
 unsent_goes_on base frames Sent u c t g = absurd u
 unsent_goes_on base frames FoundEnd u c t g = (g.0, λ gone. (refl, (g.1 gone).1))
 unsent_goes_on base frames NoRoom u c t g = g
 
-unsent_queue : (reason : Reason) → IsUnsent reason → (q : Pending) → IsKept q → IsKept (queue_after reason q)
+unsent_queue : (reason : Reason) → IsUnsent reason → (q : Pending) → IsKept q
+    → IsKept (queue_after reason q)
 unsent_queue Sent u q is = absurd u
-unsent_queue FoundEnd u q is = record { few = is.few; each = is.each; numbers = is.numbers; alone = λ m e. absurd cc; owner_bits = is.owner_bits }
-unsent_queue NoRoom u q is = record { few = is.few; each = is.each; numbers = is.numbers; alone = is.alone; owner_bits = is.owner_bits }
+unsent_queue FoundEnd u q is = record {
+  few = is.few;
+  each = is.each;
+  numbers = is.numbers;
+  alone = λ m e. absurd cc;
+  owner_bits = is.owner_bits;
+}
+unsent_queue NoRoom u q is = record {
+  few = is.few;
+  each = is.each;
+  numbers = is.numbers;
+  alone = is.alone;
+  owner_bits = is.owner_bits;
+}
 
-unsent_knows : {base : ℕ → ℕ} {E : Type 0} (reason : Reason) → IsUnsent reason → (c : Core E) (t : ℕ) (page : Page) (frames : List Frame) (len : ℕ) → Knows base page frames t len → Knows base (page_after c t page reason) frames (t + 1) len
+unsent_knows : {base : ℕ → ℕ} {E : Type 0} (reason : Reason) → IsUnsent reason
+    → (c : Core E) (t : ℕ) (page : Page) (frames : List Frame) (len : ℕ)
+    → Knows base page frames t len → Knows base (page_after c t page reason) frames (t + 1) len
 unsent_knows Sent u c t page frames len k = absurd u
-unsent_knows FoundEnd u c t page frames len k = record { entries = k.entries; next = k.next; left = k.left; ended = k.ended; tenures = refl; words = k.words }
-unsent_knows NoRoom u c t page frames len k = record { entries = k.entries; next = k.next; left = k.left; ended = k.ended; tenures = refl; words = k.words }
+unsent_knows FoundEnd u c t page frames len k = record {
+  entries = k.entries;
+  next = k.next;
+  left = k.left;
+  ended = k.ended;
+  tenures = refl;
+  words = k.words;
+}
+unsent_knows NoRoom u c t page frames len k = record {
+  entries = k.entries;
+  next = k.next;
+  left = k.left;
+  ended = k.ended;
+  tenures = refl;
+  words = k.words;
+}
 
-AreOwned-push : (owners : List ℕ) (o : ℕ) (frames : List Frame) → AreOwned owners frames → AreOwned (owners ++ o ∷ []) frames
+AreOwned-push : (owners : List ℕ) (o : ℕ) (frames : List Frame) → AreOwned owners frames
+    → AreOwned (owners ++ o ∷ []) frames
 AreOwned-push owners o [] a = tt
-AreOwned-push owners o (f ∷ frames) a = (push_beside owners o f.tenure (let l = slice_get_within owners f.tenure f.owner.0 a.0 in omega arith) ∙ a.0, AreOwned-push owners o frames a.1)
+AreOwned-push owners o (f ∷ frames) a = (
+  push_beside owners o f.tenure
+      (let l = slice_get_within owners f.tenure f.owner.0 a.0 in omega arith) ∙ a.0,
+  AreOwned-push owners o frames a.1,
+)
 
-AreOwned-append : (owners : List ℕ) (frames : List Frame) (f : Frame) → AreOwned owners frames → slice_get owners f.tenure ≡ Some f.owner.0 → AreOwned owners (frames ++ f ∷ [])
+AreOwned-append : (owners : List ℕ) (frames : List Frame) (f : Frame) → AreOwned owners frames
+    → slice_get owners f.tenure ≡ Some f.owner.0 → AreOwned owners (frames ++ f ∷ [])
 AreOwned-append owners [] f a e = (e, tt)
 AreOwned-append owners (g ∷ frames) f a e = (a.0, AreOwned-append owners frames f a.1 e)
 
-module _ {E : Type 0} (X : Election E) (P : Protocol E (Unit {0}) ℕ) (laws : Laws X.op X.fed P OneOwner) (x : Layout) (ok : IsLayout x) (width : x.width ≡ P.width x.senders) where
-  module _ {base : ℕ → ℕ} (words : ℕ → ℕ) (home : Option Page) (senders : ℕ → Option (Core E)) (owners : List ℕ) (frames : List Frame) (h : Sending base P x words home senders owners frames) where
+module _ {E : Type 0} (X : Election E) (P : Protocol E (Unit {0}) ℕ)
+    (laws : Laws X.op X.fed P OneOwner) (x : Layout) (ok : IsLayout x)
+    (width : x.width ≡ P.width x.senders) where
+  module _ {base : ℕ → ℕ} (words : ℕ → ℕ) (home : Option Page) (senders : ℕ → Option (Core E))
+      (owners : List ℕ) (frames : List Frame)
+      (h : Sending base P x words home senders owners frames) where
     abbrev S : ℕ → Option (Standing E)
     S q = of_some standing_of (senders q)
 
@@ -196,7 +303,9 @@ module _ {E : Type 0} (X : Election E) (P : Protocol E (Unit {0}) ℕ) (laws : L
     unstarted : (p at : ℕ) → p < x.senders → P.output (P.started x.senders p tt at) ≡ None
     unstarted p at below = elim (some_or_none (X.op (P.started x.senders p tt at) 0)) [
       | inr o ↦ laws.unended (P.started x.senders p tt at) 0 o.0 o.1
-      | inl none ↦ absurd (true≢false (sym (laws.ends (P.started x.senders p tt at) 0 none).1 ∙ (laws.starts x.senders p at tt below (let z = ok.senders in omega arith)).fresh))
+      | inl none ↦ absurd
+          (true≢false (sym (laws.ends (P.started x.senders p tt at) 0 none).1
+          ∙ (laws.starts x.senders p at tt below (let z = ok.senders in omega arith)).fresh))
     ]
 
     -- where a sender stands
@@ -212,7 +321,8 @@ module _ {E : Type 0} (X : Election E) (P : Protocol E (Unit {0}) ℕ) (laws : L
         let i = h.tenures.holding p t a in let j = h.tenures.holding q u b in
         same_Some _ _ (sym i.2 ∙ ap (slice_get owners) (i.0 ∙ sym j.0) ∙ j.2)
 
-    module _ (p : ℕ) (c c' : Core E) (senders' : ℕ → Option (Core E)) (old : senders p ≡ Some c) (new : senders' p ≡ Some c') (beside : Beside p senders senders') where
+    module _ (p : ℕ) (c c' : Core E) (senders' : ℕ → Option (Core E)) (old : senders p ≡ Some c)
+        (new : senders' p ≡ Some c') (beside : Beside p senders senders') where
       abbrev S' : ℕ → Option (Standing E)
       S' q = of_some standing_of (senders' q)
 
@@ -240,38 +350,65 @@ module _ {E : Type 0} (X : Election E) (P : Protocol E (Unit {0}) ℕ) (laws : L
         | inr ne ↦ S-beside q ne
       ]
 
-      parts_from : (words' : ℕ → ℕ) (frames' : List Frame) → ((q : ℕ) (d : Core E) → q ≢ p → senders q ≡ Some d → Part base x words' frames' q d) → Part base x words' frames' p c' → (q : ℕ) (d : Core E) → senders' q ≡ Some d → Part base x words' frames' q d
+      parts_from : (words' : ℕ → ℕ) (frames' : List Frame)
+          → ((q : ℕ) (d : Core E) → q ≢ p → senders q ≡ Some d → Part base x words' frames' q d)
+          → Part base x words' frames' p c' → (q : ℕ) (d : Core E) → senders' q ≡ Some d
+          → Part base x words' frames' q d
       parts_from words' frames' others own q d e = elim (cases_eq q p) [
-        | inl i ↦ subst (λ z. Part base x words' frames' z d) (sym i) (subst (Part base x words' frames' p) (same_Some _ _ (sym new ∙ ap senders' (sym i) ∙ e)) own)
+        | inl i ↦ subst (λ z. Part base x words' frames' z d) (sym i)
+            (subst (Part base x words' frames' p)
+            (same_Some _ _ (sym new ∙ ap senders' (sym i) ∙ e)) own)
         | inr ne ↦ others q d ne (sym (beside q ne) ∙ e)
       ]
 
-      chosen_from : ((t : ℕ) (e : E) (o : ℕ) → c'.phase ≡ phase.Electing t e → P.output e ≡ Some o → o ≡ p) → (q : ℕ) (d : Core E) (t : ℕ) (e : E) (o : ℕ) → senders' q ≡ Some d → d.phase ≡ phase.Electing t e → P.output e ≡ Some o → o ≡ q
+      chosen_from :
+          ((t : ℕ) (e : E) (o : ℕ) → c'.phase ≡ phase.Electing t e → P.output e ≡ Some o → o ≡ p)
+          → (q : ℕ) (d : Core E) (t : ℕ) (e : E) (o : ℕ) → senders' q ≡ Some d
+          → d.phase ≡ phase.Electing t e → P.output e ≡ Some o → o ≡ q
       chosen_from own q d t e o a b out = elim (cases_eq q p) [
-        | inl i ↦ own t e o (ap (λ z. z.phase) (same_Some _ _ (sym new ∙ ap senders' (sym i) ∙ a)) ∙ b) out ∙ sym i
+        | inl i ↦
+            own t e o (ap (λ z. z.phase) (same_Some _ _ (sym new ∙ ap senders' (sym i) ∙ a)) ∙ b)
+            out ∙ sym i
         | inr ne ↦ h.chosen q d t e o (sym (beside q ne) ∙ a) b out
       ]
 
-      chosen_resting : c'.phase ≡ phase.Resting → (q : ℕ) (d : Core E) (t : ℕ) (e : E) (o : ℕ) → senders' q ≡ Some d → d.phase ≡ phase.Electing t e → P.output e ≡ Some o → o ≡ q
+      chosen_resting : c'.phase ≡ phase.Resting → (q : ℕ) (d : Core E) (t : ℕ) (e : E) (o : ℕ)
+          → senders' q ≡ Some d → d.phase ≡ phase.Electing t e → P.output e ≡ Some o → o ≡ q
       chosen_resting rests = chosen_from (λ t e o a b. absurd (resting_apart t e (sym rests ∙ a)))
 
-      chosen_holding : (u : ℕ) (page : Page) (k : ℕ) (published : Bool) → c'.phase ≡ phase.Holding u page k published → (q : ℕ) (d : Core E) (t : ℕ) (e : E) (o : ℕ) → senders' q ≡ Some d → d.phase ≡ phase.Electing t e → P.output e ≡ Some o → o ≡ q
-      chosen_holding u page k published holds = chosen_from (λ t e o a b. absurd (holding_apart u page k published t e (sym holds ∙ a)))
+      chosen_holding : (u : ℕ) (page : Page) (k : ℕ) (published : Bool)
+          → c'.phase ≡ phase.Holding u page k published
+          → (q : ℕ) (d : Core E) (t : ℕ) (e : E) (o : ℕ) → senders' q ≡ Some d
+          → d.phase ≡ phase.Electing t e → P.output e ≡ Some o → o ≡ q
+      chosen_holding u page k published holds =
+          chosen_from (λ t e o a b. absurd (holding_apart u page k published t e (sym holds ∙ a)))
 
       -- the others, where p alone may hold the page
-      others_rest : (t : ℕ) (words' : ℕ → ℕ) (frames' : List Frame) → S p ≡ Some (Holds t) → ((q : ℕ) → q ≢ p → SaySame base q frames frames') → (q : ℕ) (d : Core E) → q ≢ p → senders q ≡ Some d → Part base x words' frames' q d
-      others_rest t words' frames' holds same q d ne e = Part-rests x words words' frames frames' q d (λ u f. ne (sym (one_holder p q t u holds (stand q d e ∙ ap Some f)))) (same q ne) (h.parts q d e)
+      others_rest : (t : ℕ) (words' : ℕ → ℕ) (frames' : List Frame) → S p ≡ Some (Holds t)
+          → ((q : ℕ) → q ≢ p → SaySame base q frames frames') → (q : ℕ) (d : Core E) → q ≢ p
+          → senders q ≡ Some d → Part base x words' frames' q d
+      others_rest t words' frames' holds same q d ne e = Part-rests x words words' frames frames' q
+          d (λ u f. ne (sym (one_holder p q t u holds (stand q d e ∙ ap Some f)))) (same q ne)
+          (h.parts q d e)
 
-      others_agree : (words' : ℕ → ℕ) → Agree (log_at x) x.capacity words words' → words' 0 ≡ words 0 → (q : ℕ) (d : Core E) → q ≢ p → senders q ≡ Some d → Part base x words' frames q d
-      others_agree words' agree len q d ne e = Part-agree x words words' frames q d agree len (h.parts q d e)
+      others_agree : (words' : ℕ → ℕ) → Agree (log_at x) x.capacity words words'
+          → words' 0 ≡ words 0 → (q : ℕ) (d : Core E) → q ≢ p → senders q ≡ Some d
+          → Part base x words' frames q d
+      others_agree words' agree len q d ne e =
+          Part-agree x words words' frames q d agree len (h.parts q d e)
 
       -- ── a load of the stage that raises the first tenure it may enter ──
-      pub spends : c'.phase ≡ phase.Resting → c.phase ≡ phase.Resting → c.least ≤ c'.least → Part base x words frames p c' → Sending base P x words home senders' owners frames
+      pub spends : c'.phase ≡ phase.Resting → c.phase ≡ phase.Resting → c.least ≤ c'.least
+          → Part base x words frames p c' → Sending base P x words home senders' owners frames
       spends rests core_at_rest more part = record {
-        tenures = tenures.same X.op X.fed P laws x.senders x.rows 2 words (words 1) (is_some home) S L' owners
-            (tenures.raises X.op X.fed P laws x.senders x.rows 2 words (words 1) (is_some home) S L owners h.tenures p L' (stand p c old ∙ ap (λ z. Some (stands_at z)) core_at_rest) L-beside
+        tenures = tenures.same X.op X.fed P laws x.senders x.rows 2 words (words 1) (is_some home) S
+            L' owners
+            (tenures.raises X.op X.fed P laws x.senders x.rows 2 words (words 1) (is_some home) S L
+            owners h.tenures p L' (stand p c old ∙ ap (λ z. Some (stands_at z)) core_at_rest)
+            L-beside
             (let a = least_is p c old in let b = ap least_of new in omega arith))
-            words (words 1) (is_some home) S' L' owners (λ r a b. refl) refl refl (S-same (ap stands_at (rests ∙ sym core_at_rest))) (λ q. refl) refl;
+            words (words 1) (is_some home) S' L' owners (λ r a b. refl) refl refl
+            (S-same (ap stands_at (rests ∙ sym core_at_rest))) (λ q. refl) refl;
         log = h.log;
         owned = h.owned;
         page_knows = h.page_knows;
@@ -280,27 +417,44 @@ module _ {E : Type 0} (X : Election E) (P : Protocol E (Unit {0}) ℕ) (laws : L
       }
 
       -- ── a load of the stage that begins a tenure which was opened ──
-      pub begins : (t : ℕ) → c.phase ≡ phase.Resting → 2 * t ≤ words 1 → c.least ≤ t → t < x.rows → p < x.senders → c'.phase ≡ phase.Electing t (P.started x.senders p tt (2 + t * P.width x.senders)) → c'.least ≡ c.least → Part base x words frames p c' → Sending base P x words home senders' owners frames
+      pub begins : (t : ℕ) → c.phase ≡ phase.Resting → 2 * t ≤ words 1 → c.least ≤ t → t < x.rows
+          → p < x.senders
+          → c'.phase ≡ phase.Electing t (P.started x.senders p tt (2 + t * P.width x.senders))
+          → c'.least ≡ c.least → Part base x words frames p c'
+          → Sending base P x words home senders' owners frames
       begins t core_at_rest reached enters room below began least part = record {
-        tenures = tenures.same X.op X.fed P laws x.senders x.rows 2 words (words 1) (is_some home) S' L owners
-            (tenures.begins X.op X.fed P laws x.senders x.rows 2 words (words 1) (is_some home) S L owners h.tenures p t below (omega (arith, ok.senders)) (stand p c old ∙ ap (λ z. Some (stands_at z)) core_at_rest) reached
-            (let a = least_is p c old in omega arith) room S' (now ∙ ap (λ z. Some (stands_at z)) began) S-beside)
-            words (words 1) (is_some home) S' L' owners (λ r a b. refl) refl refl (λ q. refl) (L-same least) refl;
+        tenures = tenures.same X.op X.fed P laws x.senders x.rows 2 words (words 1) (is_some home)
+            S' L owners
+            (tenures.begins X.op X.fed P laws x.senders x.rows 2 words (words 1) (is_some home) S L
+            owners h.tenures p t below (omega (arith, ok.senders))
+            (stand p c old ∙ ap (λ z. Some (stands_at z)) core_at_rest) reached
+            (let a = least_is p c old in omega arith) room S'
+            (now ∙ ap (λ z. Some (stands_at z)) began) S-beside)
+            words (words 1) (is_some home) S' L' owners (λ r a b. refl) refl refl (λ q. refl)
+            (L-same least) refl;
         log = h.log;
         owned = h.owned;
         page_knows = h.page_knows;
         parts = parts_from words frames (λ q d ne e. h.parts q d e) part;
         chosen = chosen_from (λ u e o a b. absurd (
-            let e_is = (same_electing t u (P.started x.senders p tt (2 + t * P.width x.senders)) e (sym began ∙ a)).1 in
-            let bad : None ≡ Some o = sym (unstarted p (2 + t * P.width x.senders) below) ∙ ap P.output e_is ∙ b in
+            let e_is =
+            (same_electing t u (P.started x.senders p tt (2 + t * P.width x.senders)) e
+            (sym began ∙ a)).1 in
+            let bad : None ≡ Some o =
+            sym (unstarted p (2 + t * P.width x.senders) below) ∙ ap P.output e_is ∙ b in
             let wrong : ⊥ = cc in wrong));
       }
 
       -- words of rows and words of the log are apart
-      in_row : (t : ℕ) → t < x.rows → (r : ℕ) → r < 2 + t * P.width x.senders + P.width x.senders → r < log_at x
-      in_row t room r l = let apart = row_within t x.rows (P.width x.senders) room in let w = ap (λ z. x.rows * z) width in omega arith
+      in_row : (t : ℕ) → t < x.rows → (r : ℕ) → r < 2 + t * P.width x.senders + P.width x.senders
+          → r < log_at x
+      in_row t room r l =
+          let apart = row_within t x.rows (P.width x.senders) room in
+          let w = ap (λ z. x.rows * z) width in omega arith
 
-      module _ (t : ℕ) (e : E) (word : ℕ) (o : Op) (words' : ℕ → ℕ) (elects : c.phase ≡ phase.Electing t e) (next : X.op e word ≡ Some o) (step : Changes o words words') where
+      module _ (t : ℕ) (e : E) (word : ℕ) (o : Op) (words' : ℕ → ℕ)
+          (elects : c.phase ≡ phase.Electing t e) (next : X.op e word ≡ Some o)
+          (step : Changes o words words') where
         abbrev later : E
         later = X.fed e (words (register o)) word
 
@@ -308,11 +462,14 @@ module _ {E : Type 0} (X : Election E) (P : Protocol E (Unit {0}) ℕ) (laws : L
         runs = stand p c old ∙ ap (λ z. Some (stands_at z)) elects
 
         -- its word is one of its row
-        row_bounds : (t < x.rows) × (2 + t * P.width x.senders ≤ register o) × (register o < 2 + t * P.width x.senders + P.width x.senders)
-        row_bounds = tenures.within_its_row X.op X.fed P laws x.senders x.rows 2 words (words 1) (is_some home) S L owners h.tenures p t e word o runs next
+        row_bounds : (t < x.rows) × (2 + t * P.width x.senders ≤ register o)
+            × (register o < 2 + t * P.width x.senders + P.width x.senders)
+        row_bounds = tenures.within_its_row X.op X.fed P laws x.senders x.rows 2 words (words 1)
+            (is_some home) S L owners h.tenures p t e word o runs next
 
         outside : (r : ℕ) → (r < 2) ⊎ (log_at x ≤ r) → words' r ≡ words r
-        outside r c = step.elsewhere r (let b = in_row t row_bounds.0 (register o) row_bounds.2 in let a = row_bounds.1 in elim c [ inl l ↦ omega arith | inr l ↦ omega arith ])
+        outside r c = step.elsewhere r (let b = in_row t row_bounds.0 (register o) row_bounds.2 in
+            let a = row_bounds.1 in elim c [ inl l ↦ omega arith | inr l ↦ omega arith ])
 
         stepped : Stepped 2 (x.rows * P.width x.senders) o words words'
         stepped = record { here = step.here; elsewhere = λ r a b ne. step.elsewhere r ne }
@@ -321,61 +478,94 @@ module _ {E : Type 0} (X : Election E) (P : Protocol E (Unit {0}) ℕ) (laws : L
         log_agrees r a b = outside r (inr a)
 
         row_log : Logged base x.senders x.capacity (log_at x) words' (words' 0) frames
-        row_log = subst (λ z. Logged base x.senders x.capacity (log_at x) words' z frames) (sym (outside 0 (inl (omega arith)))) (Logged-agree x.senders x.capacity (log_at x) words (words 0) frames h.log words' (λ r a b. log_agrees r a (let z = h.log.fits in omega arith)))
+        row_log = subst (λ z. Logged base x.senders x.capacity (log_at x) words' z frames)
+            (sym (outside 0 (inl (omega arith)))) (Logged-agree x.senders x.capacity (log_at x)
+            words (words 0) frames h.log words'
+            (λ r a b. log_agrees r a (let z = h.log.fits in omega arith)))
 
-        knows_row : (page : Page) (u : ℕ) → home ≡ Some page → words' 1 ≡ 2 * u → Knows base page frames u (words' 0) × AreEarlier u frames
-        knows_row page u a b = let k = h.page_knows page u a (sym (outside 1 (inl (omega arith))) ∙ b) in (Knows-len page frames u (words 0) (words' 0) (outside 0 (inl (omega arith))) k.0, k.1)
+        knows_row : (page : Page) (u : ℕ) → home ≡ Some page → words' 1 ≡ 2 * u
+            → Knows base page frames u (words' 0) × AreEarlier u frames
+        knows_row page u a b =
+            let k = h.page_knows page u a (sym (outside 1 (inl (omega arith))) ∙ b) in
+            (Knows-len page frames u (words 0) (words' 0) (outside 0 (inl (omega arith))) k.0, k.1)
 
         -- ── a step of its election ──
-        pub elects_on : c'.phase ≡ phase.Electing t later → c'.least ≡ c.least → ((u : ℕ) → P.output later ≡ Some u → u ≡ p) → Part base x words' frames p c' → Sending base P x words' home senders' owners frames
+        pub elects_on : c'.phase ≡ phase.Electing t later → c'.least ≡ c.least
+            → ((u : ℕ) → P.output later ≡ Some u → u ≡ p) → Part base x words' frames p c'
+            → Sending base P x words' home senders' owners frames
         elects_on goes least mine part = record {
-          tenures = tenures.same X.op X.fed P laws x.senders x.rows 2 words' (words 1) (is_some home) S' L owners
-              (tenures.elects X.op X.fed P laws x.senders x.rows 2 words (words 1) (is_some home) S L owners h.tenures p t e word o runs next words' stepped S' (now ∙ ap (λ z. Some (stands_at z)) goes) S-beside)
-              words' (words' 1) (is_some home) S' L' owners (λ r a b. refl) (outside 1 (inl (omega arith))) refl (λ q. refl) (L-same least) refl;
+          tenures = tenures.same X.op X.fed P laws x.senders x.rows 2 words' (words 1)
+              (is_some home) S' L owners
+              (tenures.elects X.op X.fed P laws x.senders x.rows 2 words (words 1) (is_some home) S
+              L owners h.tenures p t e word o runs next words' stepped S'
+              (now ∙ ap (λ z. Some (stands_at z)) goes) S-beside)
+              words' (words' 1) (is_some home) S' L' owners (λ r a b. refl)
+              (outside 1 (inl (omega arith))) refl (λ q. refl) (L-same least) refl;
           log = row_log;
           owned = h.owned;
           page_knows = knows_row;
-          parts = parts_from words' frames (others_agree words' log_agrees (outside 0 (inl (omega arith)))) part;
-          chosen = chosen_from (λ u f v a b. mine v (ap P.output (same_electing t u later f (sym goes ∙ a)).1 ∙ b));
+          parts = parts_from words' frames
+              (others_agree words' log_agrees (outside 0 (inl (omega arith)))) part;
+          chosen = chosen_from
+              (λ u f v a b. mine v (ap P.output (same_electing t u later f (sym goes ∙ a)).1 ∙ b));
         }
 
         -- ── its last step, which chooses another ──
-        pub loses : (u : ℕ) → P.output later ≡ Some u → u ≢ p → c'.phase ≡ phase.Resting → c'.least ≡ t + 1 → Part base x words' frames p c' → Sending base P x words' home senders' owners frames
+        pub loses : (u : ℕ) → P.output later ≡ Some u → u ≢ p → c'.phase ≡ phase.Resting
+            → c'.least ≡ t + 1 → Part base x words' frames p c'
+            → Sending base P x words' home senders' owners frames
         loses u out other rests least part =
             let mid : ℕ → Option (Standing E) = put p (Some (Runs t later)) S in
-            let at_mid = tenures.elects X.op X.fed P laws x.senders x.rows 2 words (words 1) (is_some home) S L owners h.tenures p t e word o runs next words' stepped mid (put_here p (Some (Runs t later)) S) (put_beside p (Some (Runs t later)) S) in
+            let at_mid = tenures.elects X.op X.fed P laws x.senders x.rows 2 words (words 1)
+            (is_some home) S L owners h.tenures p t e word o runs next words' stepped mid
+            (put_here p (Some (Runs t later)) S) (put_beside p (Some (Runs t later)) S) in
             record {
-              tenures = tenures.same X.op X.fed P laws x.senders x.rows 2 words' (words 1) (is_some home) S' L' owners
-                  (tenures.loses X.op X.fed P laws x.senders x.rows 2 words' (words 1) (is_some home) mid L owners at_mid p t u later (put_here p (Some (Runs t later)) S) out other S' (now ∙ ap (λ z. Some (stands_at z)) rests)
-                  (λ q ne. S-beside q ne ∙ sym (put_beside p (Some (Runs t later)) S q ne)) L' (ap least_of new ∙ least) L-beside)
-                  words' (words' 1) (is_some home) S' L' owners (λ r a b. refl) (outside 1 (inl (omega arith))) refl (λ q. refl) (λ q. refl) refl;
+              tenures = tenures.same X.op X.fed P laws x.senders x.rows 2 words' (words 1)
+                  (is_some home) S' L' owners
+                  (tenures.loses X.op X.fed P laws x.senders x.rows 2 words' (words 1)
+                  (is_some home) mid L owners at_mid p t u later
+                  (put_here p (Some (Runs t later)) S) out other S'
+                  (now ∙ ap (λ z. Some (stands_at z)) rests)
+                  (λ q ne. S-beside q ne ∙ sym (put_beside p (Some (Runs t later)) S q ne)) L'
+                  (ap least_of new ∙ least) L-beside)
+                  words' (words' 1) (is_some home) S' L' owners (λ r a b. refl)
+                  (outside 1 (inl (omega arith))) refl (λ q. refl) (λ q. refl) refl;
               log = row_log;
               owned = h.owned;
               page_knows = knows_row;
-              parts = parts_from words' frames (others_agree words' log_agrees (outside 0 (inl (omega arith)))) part;
+              parts = parts_from words' frames
+                  (others_agree words' log_agrees (outside 0 (inl (omega arith)))) part;
               chosen = chosen_resting rests;
             }
 
       -- ── it takes the page ──
-      module _ (t : ℕ) (e : E) (page : Page) (words' : ℕ → ℕ) (elects : c.phase ≡ phase.Electing t e) (out : P.output e ≡ Some p) (at_home : home ≡ Some page)
-          (stage : words' 1 ≡ 2 * t + 1) (elsewhere : (r : ℕ) → r ≢ 1 → words' r ≡ words r) (goes : c' ≡ record c { phase = phase.Holding t page 0 false }) where
+      module _ (t : ℕ) (e : E) (page : Page) (words' : ℕ → ℕ)
+          (elects : c.phase ≡ phase.Electing t e) (out : P.output e ≡ Some p)
+          (at_home : home ≡ Some page)
+          (stage : words' 1 ≡ 2 * t + 1) (elsewhere : (r : ℕ) → r ≢ 1 → words' r ≡ words r)
+          (goes : c' ≡ record c { phase = phase.Holding t page 0 false }) where
         elected : S p ≡ Some (Runs t e)
         elected = stand p c old ∙ ap (λ z. Some (stands_at z)) elects
 
         opened : words 1 ≡ 2 * t
-        opened = (tenures.finds_home X.op X.fed P laws x.senders x.rows 2 words (words 1) (is_some home) S L owners h.tenures p t e elected out).0
+        opened =
+            (tenures.finds_home X.op X.fed P laws x.senders x.rows 2 words (words 1) (is_some home)
+            S L owners h.tenures p t e elected out).0
 
         part : Part base x words frames p c
         part = h.parts p c old
 
-        fits_then : HasBegun c.queue × IsWriting base words' frames (record c { phase = phase.Holding t page 0 false }) t page 0
+        fits_then : HasBegun c.queue
+            × IsWriting base words' frames (record c { phase = phase.Holding t page 0 false }) t
+            page 0
         fits_then =
             let f = subst (Fits base words frames c) elects part.fits in
             let k = h.page_knows page t at_home opened in (
               f.0,
               record {
                 goes_on = f.1;
-                page_knows = Knows-len page frames t (words 0) (words' 0) (elsewhere 0 (omega arith)) k.0;
+                page_knows =
+                    Knows-len page frames t (words 0) (words' 0) (elsewhere 0 (omega arith)) k.0;
                 earlier = k.1;
                 stored_below = omega arith;
                 allowed = λ z. absurd (omega arith);
@@ -391,37 +581,54 @@ module _ {E : Type 0} (X : Election E) (P : Protocol E (Unit {0}) ℕ) (laws : L
 
         pub takes : Sending base P x words' None senders' (owners ++ p ∷ []) frames
         takes = record {
-          tenures = tenures.same X.op X.fed P laws x.senders x.rows 2 words (2 * t + 1) false S' L (owners ++ p ∷ [])
-              (tenures.takes X.op X.fed P laws x.senders x.rows 2 words (words 1) (is_some home) S L owners h.tenures p t e elected out S' (now ∙ ap (λ z. Some (stands_at z.phase)) goes) S-beside)
-              words' (words' 1) false S' L' (owners ++ p ∷ []) (λ r a b. stage_past r a) stage refl (λ q. refl) (L-same (ap (λ z. z.least) goes)) refl;
-          log = subst (λ z. Logged base x.senders x.capacity (log_at x) words' z frames) (sym (elsewhere 0 (omega arith))) (Logged-agree x.senders x.capacity (log_at x) words (words 0) frames h.log words' (λ r a b. log_past r a));
+          tenures = tenures.same X.op X.fed P laws x.senders x.rows 2 words (2 * t + 1) false S' L
+              (owners ++ p ∷ [])
+              (tenures.takes X.op X.fed P laws x.senders x.rows 2 words (words 1) (is_some home) S L
+              owners h.tenures p t e elected out S' (now ∙ ap (λ z. Some (stands_at z.phase)) goes)
+              S-beside)
+              words' (words' 1) false S' L' (owners ++ p ∷ []) (λ r a b. stage_past r a) stage refl
+              (λ q. refl) (L-same (ap (λ z. z.least) goes)) refl;
+          log = subst (λ z. Logged base x.senders x.capacity (log_at x) words' z frames)
+              (sym (elsewhere 0 (omega arith))) (Logged-agree x.senders x.capacity (log_at x) words
+              (words 0) frames h.log words' (λ r a b. log_past r a));
           owned = AreOwned-push owners p frames h.owned;
           page_knows = λ g u a b. absurd cc;
-          parts = parts_from words' frames (others_agree words' (λ r a b. log_past r a) (elsewhere 0 (omega arith)))
-              (subst (Part base x words' frames p) (sym goes) (part_of x words words' frames frames p c (phase.Holding t page 0 false) part fits_then));
+          parts = parts_from words' frames
+              (others_agree words' (λ r a b. log_past r a) (elsewhere 0 (omega arith)))
+              (subst (Part base x words' frames p) (sym goes)
+              (part_of x words words' frames frames p c (phase.Holding t page 0 false) part
+              fits_then));
           chosen = chosen_holding t page 0 false (ap (λ z. z.phase) goes);
         }
 
       -- ── what a holder does ──
-      module _ (t : ℕ) (page : Page) (stored : ℕ) (published : Bool) (holds : c.phase ≡ phase.Holding t page stored published) where
+      module _ (t : ℕ) (page : Page) (stored : ℕ) (published : Bool)
+          (holds : c.phase ≡ phase.Holding t page stored published) where
         own_part : Part base x words frames p c
         own_part = h.parts p c old
 
         is_holder : S p ≡ Some (Holds t)
         is_holder = stand p c old ∙ ap (λ z. Some (stands_at z)) holds
 
-        held : (t ≡ h.tenures.ended) × (words 1 ≡ 2 * t + 1) × (slice_get owners t ≡ Some p) × (L p ≤ t)
+        held : (t ≡ h.tenures.ended) × (words 1 ≡ 2 * t + 1) × (slice_get owners t ≡ Some p)
+            × (L p ≤ t)
         held = h.tenures.holding p t is_holder
 
         -- ── it stores the next word of its frame ──
-        module _ (words' : ℕ → ℕ) (none_yet : published ≡ false) (is_open : page.ended ≡ false) (room : page.words + frame_len c ≤ c.layout.capacity) (more : stored < frame_len c)
-            (word : words' (log_at c.layout + page.words + stored) ≡ slice_index (frame_words (frame_of c.queue t)) stored) (elsewhere : (r : ℕ) → r ≢ log_at c.layout + page.words + stored → words' r ≡ words r)
+        module _ (words' : ℕ → ℕ) (none_yet : published ≡ false) (is_open : page.ended ≡ false)
+            (room : page.words + frame_len c ≤ c.layout.capacity) (more : stored < frame_len c)
+            (word : words' (log_at c.layout + page.words + stored)
+            ≡ slice_index (frame_words (frame_of c.queue t)) stored)
+            (elsewhere : (r : ℕ) → r ≢ log_at c.layout + page.words + stored → words' r ≡ words r)
             (goes : c' ≡ record c { phase = phase.Holding t page (stored + 1) false }) where
           writing : HasBegun c.queue × IsWriting base words frames c t page stored
-          writing = subst (λ z. Fits base words frames c (phase.Holding t page stored z)) none_yet (subst (Fits base words frames c) holds own_part.fits)
+          writing = subst (λ z. Fits base words frames c (phase.Holding t page stored z)) none_yet
+              (subst (Fits base words frames c) holds own_part.fits)
 
           place : log_at c.layout + page.words + stored ≡ log_at x + words 0 + stored
-          place = ap (λ z. log_at z + page.words + stored) own_part.layout ∙ ap (λ z. log_at x + z + stored) writing.1.page_knows.words
+          place =
+              ap (λ z. log_at z + page.words + stored) own_part.layout
+              ∙ ap (λ z. log_at x + z + stored) writing.1.page_knows.words
 
           past : (r : ℕ) → r < log_at x + words 0 + stored → words' r ≡ words r
           past r l = elsewhere r (let e = place in omega arith)
@@ -432,7 +639,8 @@ module _ {E : Type 0} (X : Election E) (P : Protocol E (Unit {0}) ℕ) (laws : L
           stage_same : words' 1 ≡ words 1
           stage_same = past 1 (omega arith)
 
-          one_more : IsWriting base words' frames (record c { phase = phase.Holding t page (stored + 1) false }) t page (stored + 1)
+          one_more : IsWriting base words' frames
+              (record c { phase = phase.Holding t page (stored + 1) false }) t page (stored + 1)
           one_more = let w = writing.1 in record {
             goes_on = w.goes_on;
             page_knows = Knows-len page frames t (words 0) (words' 0) len_same w.page_knows;
@@ -441,34 +649,59 @@ module _ {E : Type 0} (X : Election E) (P : Protocol E (Unit {0}) ℕ) (laws : L
             allowed = λ z. (is_open, room);
             words_are =
                 let at = log_at c.layout + words' 0 in
-                let same_at : log_at c.layout + words' 0 ≡ log_at x + words 0 = ap (λ z. log_at c.layout + z) len_same ∙ ap (λ z. log_at z + words 0) own_part.layout in
-                let before : words_read_from words' (log_at c.layout + words' 0) stored ≡ take stored (frame_words (frame_of c.queue t)) =
-                read-agree words words' (log_at c.layout + words' 0) stored (λ r a b. past r (omega arith)) ∙ ap (λ z. words_read_from words (log_at c.layout + z) stored) len_same ∙ w.words_are in
-                let last : words' (log_at c.layout + words' 0 + stored) ≡ slice_index (frame_words (frame_of c.queue t)) stored = ap words' (let e = place in omega arith) ∙ word in
-                ap (words_read_from words' (log_at c.layout + words' 0)) (let e : stored + 1 ≡ suc stored = omega arith in e) ∙ ap (λ z. z ++ words' (log_at c.layout + words' 0 + stored) ∷ []) before ∙ ap (λ z. take stored (frame_words (frame_of c.queue t)) ++ z ∷ []) last
+                let same_at : log_at c.layout + words' 0 ≡ log_at x + words 0 =
+                ap (λ z. log_at c.layout + z) len_same
+                ∙ ap (λ z. log_at z + words 0) own_part.layout in
+                let before : words_read_from words' (log_at c.layout + words' 0) stored
+                ≡ take stored (frame_words (frame_of c.queue t)) =
+                read-agree words words' (log_at c.layout + words' 0) stored
+                (λ r a b. past r (omega arith))
+                ∙ ap (λ z. words_read_from words (log_at c.layout + z) stored) len_same
+                ∙ w.words_are in
+                let last : words' (log_at c.layout + words' 0 + stored)
+                ≡ slice_index (frame_words (frame_of c.queue t)) stored =
+                ap words' (let e = place in omega arith) ∙ word in
+                ap (words_read_from words' (log_at c.layout + words' 0))
+                (let e : stored + 1 ≡ suc stored = omega arith in e)
+                ∙ ap (λ z. z ++ words' (log_at c.layout + words' 0 + stored) ∷ []) before
+                ∙ ap (λ z. take stored (frame_words (frame_of c.queue t)) ++ z ∷ []) last
                 ∙ sym (take_more (frame_words (frame_of c.queue t)) stored 0 more);
           }
 
           pub writes : Sending base P x words' home senders' owners frames
           writes = record {
-            tenures = tenures.same X.op X.fed P laws x.senders x.rows 2 words (words 1) (is_some home) S L owners h.tenures words' (words' 1) (is_some home) S' L' owners
-                (λ r a b. past r (let w = ap (λ z. x.rows * z) width in omega arith)) stage_same refl (S-same (ap (λ z. stands_at z.phase) goes ∙ sym (ap stands_at holds))) (L-same (ap (λ z. z.least) goes)) refl;
-            log = subst (λ z. Logged base x.senders x.capacity (log_at x) words' z frames) (sym len_same) (Logged-agree x.senders x.capacity (log_at x) words (words 0) frames h.log words' (λ r a b. past r (omega arith)));
+            tenures = tenures.same X.op X.fed P laws x.senders x.rows 2 words (words 1)
+                (is_some home) S L owners h.tenures words' (words' 1) (is_some home) S' L' owners
+                (λ r a b. past r (let w = ap (λ z. x.rows * z) width in omega arith)) stage_same
+                refl (S-same (ap (λ z. stands_at z.phase) goes ∙ sym (ap stands_at holds)))
+                (L-same (ap (λ z. z.least) goes)) refl;
+            log = subst (λ z. Logged base x.senders x.capacity (log_at x) words' z frames)
+                (sym len_same) (Logged-agree x.senders x.capacity (log_at x) words (words 0) frames
+                h.log words' (λ r a b. past r (omega arith)));
             owned = h.owned;
-            page_knows = λ g u a b. let k = h.page_knows g u a (sym stage_same ∙ b) in (Knows-len g frames u (words 0) (words' 0) len_same k.0, k.1);
-            parts = parts_from words' frames (others_rest t words' frames is_holder (λ q ne. (refl, refl))) (subst (Part base x words' frames p) (sym goes) (part_of x words words' frames frames p c (phase.Holding t page (stored + 1) false) own_part (writing.0, one_more)));
+            page_knows = λ g u a b.
+                let k = h.page_knows g u a (sym stage_same ∙ b) in
+                (Knows-len g frames u (words 0) (words' 0) len_same k.0, k.1);
+            parts = parts_from words' frames
+                (others_rest t words' frames is_holder (λ q ne. (refl, refl)))
+                (subst (Part base x words' frames p) (sym goes)
+                (part_of x words words' frames frames p c (phase.Holding t page (stored + 1) false)
+                own_part (writing.0, one_more)));
             chosen = chosen_holding t page (stored + 1) false (ap (λ z. z.phase) goes);
           }
 
         -- ── it stores the length ──
-        module _ (words' : ℕ → ℕ) (none_yet : published ≡ false) (is_open : page.ended ≡ false) (room : page.words + frame_len c ≤ c.layout.capacity) (all : frame_len c ≤ stored)
-            (word : words' 0 ≡ page.words + frame_len c) (elsewhere : (r : ℕ) → r ≢ 0 → words' r ≡ words r)
+        module _ (words' : ℕ → ℕ) (none_yet : published ≡ false) (is_open : page.ended ≡ false)
+            (room : page.words + frame_len c ≤ c.layout.capacity) (all : frame_len c ≤ stored)
+            (word : words' 0 ≡ page.words + frame_len c)
+            (elsewhere : (r : ℕ) → r ≢ 0 → words' r ≡ words r)
             (goes : c' ≡ record c { phase = phase.Holding t page stored true }) where
           abbrev f : Frame
           f = frame_of c.queue t
 
           written : HasBegun c.queue × IsWriting base words frames c t page stored
-          written = subst (λ z. Fits base words frames c (phase.Holding t page stored z)) none_yet (subst (Fits base words frames c) holds own_part.fits)
+          written = subst (λ z. Fits base words frames c (phase.Holding t page stored z)) none_yet
+              (subst (Fits base words frames c) holds own_part.fits)
 
           in_rows : t < x.rows
           in_rows = (h.tenures.owned t p held.2).0
@@ -480,44 +713,69 @@ module _ {E : Type 0} (X : Election E) (P : Protocol E (Unit {0}) ℕ) (laws : L
           still_open = sym written.1.page_knows.ended ∙ is_open
 
           frame_lawful : IsFrame x.senders f
-          frame_lawful = is_frame c.queue x.senders t written.0.something own_part.queue (let a = sender_is in let b = own_part.below in omega arith) (let a = in_rows in let b = ok.rows in omega arith)
+          frame_lawful = is_frame c.queue x.senders t written.0.something own_part.queue
+              (let a = sender_is in let b = own_part.below in omega arith)
+              (let a = in_rows in let b = ok.rows in omega arith)
 
           all_stored : stored ≡ frame_len c
           all_stored = let a = written.1.stored_below in omega arith
 
-          whole : words_read_from words (log_at x + words 0) (length (frame_words f)) ≡ frame_words f
+          whole : words_read_from words (log_at x + words 0) (length (frame_words f))
+              ≡ frame_words f
           whole =
-              ap (λ z. words_read_from words (log_at z + words 0) (length (frame_words f))) (sym own_part.layout) ∙ ap (words_read_from words (log_at c.layout + words 0)) (sym all_stored) ∙ written.1.words_are
+              ap (λ z. words_read_from words (log_at z + words 0) (length (frame_words f)))
+              (sym own_part.layout)
+              ∙ ap (words_read_from words (log_at c.layout + words 0)) (sym all_stored)
+              ∙ written.1.words_are
               ∙ ap (λ z. take z (frame_words f)) all_stored ∙ take-length (frame_words f)
 
           len_now : words' 0 ≡ words 0 + length (frame_words f)
           len_now = word ∙ ap (λ z. z + frame_len c) written.1.page_knows.words
 
           counts : AreCounted (next_number base f.owner.0 frames) (items_of f)
-          counts = subst (λ z. AreCounted z (items_of f)) (written.1.goes_on.0 ∙ ap (λ z. next_number base z frames) (own_part.me ∙ sym sender_is)) (counted_frame c.queue t)
+          counts = subst (λ z. AreCounted z (items_of f))
+              (written.1.goes_on.0
+              ∙ ap (λ z. next_number base z frames) (own_part.me ∙ sym sender_is))
+              (counted_frame c.queue t)
 
           has_stayed : has_gone f.owner.0 (order_of frames) ≡ false
-          has_stayed = subst (λ z. has_gone z (order_of frames) ≡ false) (own_part.me ∙ sym sender_is) (still_here base frames c written.1.goes_on written.0.is_open)
+          has_stayed = subst (λ z. has_gone z (order_of frames) ≡ false)
+              (own_part.me ∙ sym sender_is)
+              (still_here base frames c written.1.goes_on written.0.is_open)
 
           pub publishes : Sending base P x words' home senders' owners (frames ++ f ∷ [])
           publishes = record {
-            tenures = tenures.same X.op X.fed P laws x.senders x.rows 2 words (words 1) (is_some home) S L owners h.tenures words' (words' 1) (is_some home) S' L' owners
-                (λ r a b. elsewhere r (omega arith)) (elsewhere 1 (omega arith)) refl (S-same (ap (λ z. stands_at z.phase) goes ∙ sym (ap stands_at holds))) (L-same (ap (λ z. z.least) goes)) refl;
-            log = subst (λ z. Logged base x.senders x.capacity (log_at x) words' z (frames ++ f ∷ [])) (sym len_now)
-                (Logged-agree x.senders x.capacity (log_at x) words (words 0 + length (frame_words f)) (frames ++ f ∷ [])
-                (Logged-publish x.senders x.capacity (log_at x) words (words 0) frames h.log f frame_lawful still_open has_stayed written.1.earlier counts whole
-                (let a = written.1.page_knows.words in let b = ap (λ (z : Layout). z.capacity) own_part.layout in omega arith))
+            tenures = tenures.same X.op X.fed P laws x.senders x.rows 2 words (words 1)
+                (is_some home) S L owners h.tenures words' (words' 1) (is_some home) S' L' owners
+                (λ r a b. elsewhere r (omega arith)) (elsewhere 1 (omega arith)) refl
+                (S-same (ap (λ z. stands_at z.phase) goes ∙ sym (ap stands_at holds)))
+                (L-same (ap (λ z. z.least) goes)) refl;
+            log = subst
+                (λ z. Logged base x.senders x.capacity (log_at x) words' z (frames ++ f ∷ []))
+                (sym len_now)
+                (Logged-agree x.senders x.capacity (log_at x) words
+                (words 0 + length (frame_words f)) (frames ++ f ∷ [])
+                (Logged-publish x.senders x.capacity (log_at x) words (words 0) frames h.log f
+                frame_lawful still_open has_stayed written.1.earlier counts whole
+                (let a = written.1.page_knows.words in
+                let b = ap (λ (z : Layout). z.capacity) own_part.layout in omega arith))
                 words' (λ r a b. elsewhere r (omega arith)));
             owned = AreOwned-append owners frames f h.owned (held.2 ∙ ap Some (sym sender_is));
-            page_knows = λ g u a b. absurd (let y = elsewhere 1 (omega arith) in let z = held.1 in omega arith);
-            parts = parts_from words' (frames ++ f ∷ []) (others_rest t words' (frames ++ f ∷ []) is_holder (λ q ne. say_same base q frames f (λ e. ne (e ∙ sender_is))))
-                (subst (Part base x words' (frames ++ f ∷ []) p) (sym goes) (part_of x words words' frames (frames ++ f ∷ []) p c (phase.Holding t page stored true) own_part (
+            page_knows = λ g u a b.
+                absurd (let y = elsewhere 1 (omega arith) in let z = held.1 in omega arith);
+            parts = parts_from words' (frames ++ f ∷ [])
+                (others_rest t words' (frames ++ f ∷ []) is_holder
+                (λ q ne. say_same base q frames f (λ e. ne (e ∙ sender_is))))
+                (subst (Part base x words' (frames ++ f ∷ []) p) (sym goes)
+                (part_of x words words' frames (frames ++ f ∷ []) p c
+                (phase.Holding t page stored true) own_part (
                   written.0,
                   record {
                     front = frames;
                     frames_are = refl;
                     goes_on = written.1.goes_on;
-                    page_knows = Knows-len page frames t (words 0) page.words written.1.page_knows.words written.1.page_knows;
+                    page_knows = Knows-len page frames t (words 0) page.words
+                        written.1.page_knows.words written.1.page_knows;
                     earlier = written.1.earlier;
                     is_open = is_open;
                     len_is = word;
@@ -527,72 +785,139 @@ module _ {E : Type 0} (X : Election E) (P : Protocol E (Unit {0}) ℕ) (laws : L
           }
 
         -- ── it gives the page back ──
-        module _ (reason : Reason) (words' : ℕ → ℕ) (stage : words' 1 ≡ 2 * t + 2) (elsewhere : (r : ℕ) → r ≢ 1 → words' r ≡ words r) (goes : c' ≡ core_at_rest c reason t)
-            (goes_on_now : GoesOn base frames (core_at_rest c reason t)) (queue_now : IsKept (queue_after reason c.queue)) (knows_now : Knows base (page_after c t page reason) frames (t + 1) (words 0)) (earlier_now : AreEarlier (t + 1) frames) where
+        module _ (reason : Reason) (words' : ℕ → ℕ) (stage : words' 1 ≡ 2 * t + 2)
+            (elsewhere : (r : ℕ) → r ≢ 1 → words' r ≡ words r) (goes : c' ≡ core_at_rest c reason t)
+            (goes_on_now : GoesOn base frames (core_at_rest c reason t))
+            (queue_now : IsKept (queue_after reason c.queue))
+            (knows_now : Knows base (page_after c t page reason) frames (t + 1) (words 0))
+            (earlier_now : AreEarlier (t + 1) frames) where
           rests_now : Fits base words' frames (core_at_rest c reason t) phase.Resting
           rests_now = (not_busy reason c.queue, goes_on_now)
 
-          pub gives_back : Sending base P x words' (Some (page_after c t page reason)) senders' owners frames
+          pub gives_back : Sending base P x words' (Some (page_after c t page reason)) senders'
+              owners frames
           gives_back = record {
-            tenures = tenures.same X.op X.fed P laws x.senders x.rows 2 words (2 * t + 2) true S' L' owners
-                (tenures.gives X.op X.fed P laws x.senders x.rows 2 words (words 1) (is_some home) S L owners h.tenures p t is_holder S' (now ∙ ap (λ z. Some (stands_at z.phase)) goes) S-beside L' (ap least_of new ∙ ap (λ z. z.least) goes) L-beside)
-                words' (words' 1) true S' L' owners (λ r a b. elsewhere r (omega arith)) stage refl (λ q. refl) (λ q. refl) refl;
-            log = subst (λ z. Logged base x.senders x.capacity (log_at x) words' z frames) (sym (elsewhere 0 (omega arith))) (Logged-agree x.senders x.capacity (log_at x) words (words 0) frames h.log words' (λ r a b. elsewhere r (omega arith)));
+            tenures = tenures.same X.op X.fed P laws x.senders x.rows 2 words (2 * t + 2) true S' L'
+                owners
+                (tenures.gives X.op X.fed P laws x.senders x.rows 2 words (words 1) (is_some home) S
+                L owners h.tenures p t is_holder S' (now ∙ ap (λ z. Some (stands_at z.phase)) goes)
+                S-beside L' (ap least_of new ∙ ap (λ z. z.least) goes) L-beside)
+                words' (words' 1) true S' L' owners (λ r a b. elsewhere r (omega arith)) stage refl
+                (λ q. refl) (λ q. refl) refl;
+            log = subst (λ z. Logged base x.senders x.capacity (log_at x) words' z frames)
+                (sym (elsewhere 0 (omega arith))) (Logged-agree x.senders x.capacity (log_at x)
+                words (words 0) frames h.log words' (λ r a b. elsewhere r (omega arith)));
             owned = h.owned;
             page_knows = λ g u a b.
                 let g_is : page_after c t page reason ≡ g = same_Some _ _ a in
                 let u_is : t + 1 ≡ u = omega arith in (
-                  subst (λ z. Knows base z frames u (words' 0)) g_is (subst (λ z. Knows base (page_after c t page reason) frames z (words' 0)) u_is (Knows-len (page_after c t page reason) frames (t + 1) (words 0) (words' 0) (elsewhere 0 (omega arith)) knows_now)),
+                  subst (λ z. Knows base z frames u (words' 0)) g_is
+                      (subst (λ z. Knows base (page_after c t page reason) frames z (words' 0)) u_is
+                      (Knows-len (page_after c t page reason) frames (t + 1) (words 0) (words' 0)
+                      (elsewhere 0 (omega arith)) knows_now)),
                   subst (λ z. AreEarlier z frames) u_is earlier_now,
                 );
-            parts = parts_from words' frames (others_agree words' (λ r a b. elsewhere r (omega arith)) (elsewhere 0 (omega arith))) (subst (Part base x words' frames p) (sym goes) record {
-              layout = own_part.layout;
-              me = own_part.me;
-              below = own_part.below;
-              sender = ap (λ (z : SenderNo). z.0) (sender_after reason c.queue) ∙ own_part.sender;
-              queue = queue_now;
-              fits = rests_now;
-            });
+            parts = parts_from words' frames (others_agree words'
+                (λ r a b. elsewhere r (omega arith)) (elsewhere 0 (omega arith)))
+                (subst (Part base x words' frames p) (sym goes) record {
+                  layout = own_part.layout;
+                  me = own_part.me;
+                  below = own_part.below;
+                  sender =
+                      ap (λ (z : SenderNo). z.0) (sender_after reason c.queue) ∙ own_part.sender;
+                  queue = queue_now;
+                  fits = rests_now;
+                });
             chosen = chosen_resting (ap (λ z. z.phase) goes);
           }
 
         -- what was not published changes nothing
-        module _ (words' : ℕ → ℕ) (stage : words' 1 ≡ 2 * t + 2) (elsewhere : (r : ℕ) → r ≢ 1 → words' r ≡ words r) where
-          pub gives_unsent : (reason : Reason) → IsUnsent reason → published ≡ false → c' ≡ core_at_rest c reason t → Sending base P x words' (Some (page_after c t page reason)) senders' owners frames
+        module _ (words' : ℕ → ℕ) (stage : words' 1 ≡ 2 * t + 2)
+            (elsewhere : (r : ℕ) → r ≢ 1 → words' r ≡ words r) where
+          pub gives_unsent : (reason : Reason) → IsUnsent reason → published ≡ false
+              → c' ≡ core_at_rest c reason t
+              → Sending base P x words' (Some (page_after c t page reason)) senders' owners frames
           gives_unsent reason unsent none_yet goes =
-              let w = subst (λ z. Fits base words frames c (phase.Holding t page stored z)) none_yet (subst (Fits base words frames c) holds own_part.fits) in
-              gives_back reason words' stage elsewhere goes (unsent_goes_on base frames reason unsent c t w.1.goes_on) (unsent_queue reason unsent c.queue own_part.queue) (unsent_knows reason unsent c t page frames (words 0) w.1.page_knows) (AreEarlier-later t (t + 1) frames (omega arith) w.1.earlier)
+              let w = subst (λ z. Fits base words frames c (phase.Holding t page stored z)) none_yet
+              (subst (Fits base words frames c) holds own_part.fits) in
+              gives_back reason words' stage elsewhere goes
+              (unsent_goes_on base frames reason unsent c t w.1.goes_on)
+              (unsent_queue reason unsent c.queue own_part.queue)
+              (unsent_knows reason unsent c t page frames (words 0) w.1.page_knows)
+              (AreEarlier-later t (t + 1) frames (omega arith) w.1.earlier)
 
-          pub gives_sent : published ≡ true → c' ≡ core_at_rest c Sent t → Sending base P x words' (Some (page_after c t page Sent)) senders' owners frames
+          pub gives_sent : published ≡ true → c' ≡ core_at_rest c Sent t
+              → Sending base P x words' (Some (page_after c t page Sent)) senders' owners frames
           gives_sent sent_yet goes =
-              let w = subst (λ z. Fits base words frames c (phase.Holding t page stored z)) sent_yet (subst (Fits base words frames c) holds own_part.fits) in
+              let w = subst (λ z. Fits base words frames c (phase.Holding t page stored z)) sent_yet
+              (subst (Fits base words frames c) holds own_part.fits) in
               let f = frame_of c.queue t in
               let me_is : c.queue.sender.0 ≡ c.me = own_part.sender ∙ sym own_part.me in
               let base_now : next_of c.queue ≡ next_number base c.me frames =
-              ap (λ z. z + length c.queue.messages) w.1.goes_on.0 ∙ ap (λ z. next_number base c.me w.1.front + z) (sym (length-items c.queue t own_part.queue))
-              ∙ ap (λ z. next_number base z w.1.front + length (items_of f)) (sym me_is) ∙ sym (next-append_owner base w.1.front f) ∙ ap (λ z. next_number base z (w.1.front ++ f ∷ [])) me_is ∙ ap (next_number base c.me) (sym w.1.frames_are) in
+              ap (λ z. z + length c.queue.messages) w.1.goes_on.0
+              ∙ ap (λ z. next_number base c.me w.1.front + z)
+              (sym (length-items c.queue t own_part.queue))
+              ∙ ap (λ z. next_number base z w.1.front + length (items_of f)) (sym me_is)
+              ∙ sym (next-append_owner base w.1.front f)
+              ∙ ap (λ z. next_number base z (w.1.front ++ f ∷ [])) me_is
+              ∙ ap (next_number base c.me) (sym w.1.frames_are) in
               let k = w.1.page_knows in
-              let small : c.me < MOST_SENDERS = let a = own_part.me in let b = own_part.below in let d = ok.senders in omega arith in
-              let stayed : has_gone c.me (order_of w.1.front) ≡ false = still_here base w.1.front c w.1.goes_on w.0.is_open in
+              let small : c.me < MOST_SENDERS =
+              let a = own_part.me in let b = own_part.below in let d = ok.senders in omega arith in
+              let stayed : has_gone c.me (order_of w.1.front) ≡ false =
+              still_here base w.1.front c w.1.goes_on w.0.is_open in
               let gone_now : has_gone c.me (order_of frames) ≡ is_leaving c.queue.phase =
-              ap (λ z. has_gone c.me (order_of z)) w.1.frames_are ∙ ap (λ z. has_gone z (order_of (w.1.front ++ f ∷ []))) (sym me_is) ∙ gone-append_owner w.1.front f ∙ ap (λ z. has_gone z (order_of w.1.front) || leaves f.body) me_is
+              ap (λ z. has_gone c.me (order_of z)) w.1.frames_are
+              ∙ ap (λ z. has_gone z (order_of (w.1.front ++ f ∷ []))) (sym me_is)
+              ∙ gone-append_owner w.1.front f
+              ∙ ap (λ z. has_gone z (order_of w.1.front) || leaves f.body) me_is
               ∙ ap (λ b. b || leaves f.body) stayed ∙ leaves-body c.queue in
-              let others_gone : (s : ℕ) → s ≢ c.me → has_gone s (order_of w.1.front) ≡ has_gone s (order_of frames) =
-              λ s ne. sym (gone-append_other s w.1.front f (λ e. ne (e ∙ me_is))) ∙ ap (λ z. has_gone s (order_of z)) (sym w.1.frames_are) in
-              gives_back Sent words' stage elsewhere goes (base_now, λ gone. (left_shut c.queue.phase (sym gone_now ∙ gone), refl))
-              record { few = omega arith; each = none_short; numbers = (let a = own_part.queue.numbers in omega arith); alone = λ m z. refl; owner_bits = own_part.queue.owner_bits }
+              let others_gone : (s : ℕ) → s ≢ c.me
+              → has_gone s (order_of w.1.front) ≡ has_gone s (order_of frames) =
+              λ s ne.
+              sym (gone-append_other s w.1.front f (λ e. ne (e ∙ me_is)))
+              ∙ ap (λ z. has_gone s (order_of z)) (sym w.1.frames_are) in
+              gives_back Sent words' stage elsewhere goes (
+                base_now,
+                λ gone. (left_shut c.queue.phase (sym gone_now ∙ gone), refl),
+              )
+              record {
+                few = omega arith;
+                each = none_short;
+                numbers = (let a = own_part.queue.numbers in omega arith);
+                alone = λ m z. refl;
+                owner_bits = own_part.queue.owner_bits;
+              }
               record {
                 entries = length-set page.next c.me (next_of c.queue) ∙ k.entries;
                 next = λ s l. elim (cases_eq s c.me) [
-                  | inl i ↦ ap (slice_index (slice_set page.next c.me (next_of c.queue))) i ∙ get_or-set_same page.next c.me (next_of c.queue) 0 (let a = k.entries in omega arith) ∙ base_now ∙ ap (λ z. next_number base z frames) (sym i)
-                  | inr ne ↦ get_or-set_other page.next c.me s (next_of c.queue) 0 ne ∙ k.next s l ∙ sym (next-append_other base s w.1.front f (λ e. ne (e ∙ me_is))) ∙ ap (next_number base s) (sym w.1.frames_are)
+                  | inl i ↦
+                      ap (slice_index (slice_set page.next c.me (next_of c.queue))) i
+                      ∙ get_or-set_same page.next c.me (next_of c.queue) 0
+                      (let a = k.entries in omega arith) ∙ base_now
+                      ∙ ap (λ z. next_number base z frames) (sym i)
+                  | inr ne ↦
+                      get_or-set_other page.next c.me s (next_of c.queue) 0 ne ∙ k.next s l
+                      ∙ sym (next-append_other base s w.1.front f (λ e. ne (e ∙ me_is)))
+                      ∙ ap (next_number base s) (sym w.1.frames_are)
                 ];
                 left = λ s l. elim (cases_eq s c.me) [
-                  | inl i ↦ ap (slice_get (page_after c t page Sent).left) i ∙ noted_own page.left c.me (is_leaving c.queue.phase) (k.left c.me small ∙ ap Some stayed) ∙ ap Some (sym gone_now) ∙ ap (λ z. Some (has_gone z (order_of frames))) (sym i)
-                  | inr ne ↦ noted_other page.left c.me (is_leaving c.queue.phase) s ne ∙ k.left s l ∙ ap Some (others_gone s ne)
+                  | inl i ↦
+                      ap (slice_get (page_after c t page Sent).left) i
+                      ∙ noted_own page.left c.me (is_leaving c.queue.phase)
+                      (k.left c.me small ∙ ap Some stayed) ∙ ap Some (sym gone_now)
+                      ∙ ap (λ z. Some (has_gone z (order_of frames))) (sym i)
+                  | inr ne ↦
+                      noted_other page.left c.me (is_leaving c.queue.phase) s ne ∙ k.left s l
+                      ∙ ap Some (others_gone s ne)
                 ];
-                ended = sym (ends-body c.queue) ∙ sym (has_end-append w.1.front f (sym k.ended ∙ w.1.is_open)) ∙ ap has_end (sym w.1.frames_are);
+                ended =
+                    sym (ends-body c.queue)
+                    ∙ sym (has_end-append w.1.front f (sym k.ended ∙ w.1.is_open))
+                    ∙ ap has_end (sym w.1.frames_are);
                 tenures = refl;
                 words = sym w.1.len_is;
               }
-              (subst (AreEarlier (t + 1)) (sym w.1.frames_are) (AreEarlier-append (t + 1) w.1.front f (AreEarlier-later t (t + 1) w.1.front (omega arith) w.1.earlier) (omega arith)))
+              (subst (AreEarlier (t + 1)) (sym w.1.frames_are)
+              (AreEarlier-append (t + 1) w.1.front f
+              (AreEarlier-later t (t + 1) w.1.front (omega arith) w.1.earlier) (omega arith)))

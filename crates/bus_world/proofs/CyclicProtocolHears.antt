@@ -1,5 +1,8 @@
--- Receivers of a bus whose rows are used again are as those of one that has a row for each tenure, whose log lies elsewhere.
-use Rattle.std.proofs.Common.{◌≡◌, ℕ, ◌+◌, ◌<◌, Bool, true, false, cond, Option, Some, None, inl, inr, List, [], ◌∷◌, ◌++◌, length, take, arith, refl, sym, ◌∙◌, ap, subst}
+-- Receivers of a bus whose rows are used again are as those of one that has a row for each tenure,
+-- whose log lies elsewhere.
+use Rattle.std.proofs.Common.{◌≡◌, ℕ, ◌+◌, ◌<◌, Bool, true, false, cond, Option, Some, None, inl}
+use Rattle.std.proofs.Common.{inr, List, [], ◌∷◌, ◌++◌, length, take, arith, refl, sym, ◌∙◌, ap}
+use Rattle.std.proofs.Common.{subst}
 use Rattle.std.proofs.lemmas.Bool.{cases_eq, cases_lt, true≢false}
 use Rattle.std.proofs.lemmas.Bool.Decides.{eqb_tells}
 use Rattle.std.proofs.lemmas.List.{append-nil, length-append}
@@ -28,18 +31,21 @@ abbrev pub placed : Layout → Receiving → Receiving
 placed x v = record v { log_at = log_at x }
 
 -- it has read the log as far as its place, and has been told what stands there
-pub record HearsCyclic (x : Layout) (rows : ℕ) (frames : List Frame) (v : Receiving) (trail : List RecvTurn) : Type 0 where
+pub record HearsCyclic (x : Layout) (rows : ℕ) (frames : List Frame) (v : Receiving)
+    (trail : List RecvTurn) : Type 0 where
   pub log : v.log_at ≡ log_from x rows
   pub own : IsReceiver x frames (length (log_words frames)) (placed x v)
   pub hears : Hears frames (placed x v) trail
 
 -- as does each receiver; who is none was answered nothing
-pub record AllHear (x : Layout) (rows : ℕ) (receivers : ℕ → Option Receiving) (frames : List Frame) (H : ℕ → List RecvTurn) : Type 0 where
+pub record AllHear (x : Layout) (rows : ℕ) (receivers : ℕ → Option Receiving) (frames : List Frame)
+    (H : ℕ → List RecvTurn) : Type 0 where
   pub each : (r : ℕ) (v : Receiving) → receivers r ≡ Some v → HearsCyclic x rows frames v (H r)
   pub silent : (r : ℕ) → receivers r ≡ None → H r ≡ []
 
 -- ---- a receiver that has read nothing
-new_hears : (x : Layout) (rows : ℕ) (v : Receiving) → IsNewReceiver x.senders (log_from x rows) x.capacity v → HearsCyclic x rows [] v []
+new_hears : (x : Layout) (rows : ℕ) (v : Receiving)
+    → IsNewReceiver x.senders (log_from x rows) x.capacity v → HearsCyclic x rows [] v []
 new_hears x rows v new = record {
   log = new.log_is;
   own = record {
@@ -47,7 +53,12 @@ new_hears x rows v new = record {
     log = refl;
     len_at = new.length_is;
     log_words = new.words_are;
-    receives = record { place_below = let a = new.known in let b = new.place in omega arith; known_below = let a = new.known in omega arith; has_read = subst (λ k. HasRead x.senders (take k []) (take k []) v.frames) (sym new.place) new.read };
+    receives = record {
+      place_below = let a = new.known in let b = new.place in omega arith;
+      known_below = let a = new.known in omega arith;
+      has_read =
+          subst (λ k. HasRead x.senders (take k []) (take k []) v.frames) (sym new.place) new.read;
+    };
   };
   hears = record {
     given_is = sym (ap (λ k. order_in (take k [])) new.place);
@@ -58,13 +69,22 @@ new_hears x rows v new = record {
   };
 }
 
-pub all_new : (x : Layout) (rows : ℕ) (receivers : ℕ → Option Receiving) → ((r : ℕ) (v : Receiving) → receivers r ≡ Some v → IsNewReceiver x.senders (log_from x rows) x.capacity v) → AllHear x rows receivers [] no_answers
-all_new x rows receivers new = record { each = λ r v e. new_hears x rows v (new r v e); silent = λ r e. refl }
+pub all_new : (x : Layout) (rows : ℕ) (receivers : ℕ → Option Receiving)
+    → ((r : ℕ) (v : Receiving) → receivers r ≡ Some v
+    → IsNewReceiver x.senders (log_from x rows) x.capacity v)
+    → AllHear x rows receivers [] no_answers
+all_new x rows receivers new = record {
+  each = λ r v e. new_hears x rows v (new r v e);
+  silent = λ r e. refl;
+}
 
 -- ---- a log that has grown
-hears_after : (x : Layout) (rows : ℕ) (frames : List Frame) (f : Frame) (v : Receiving) (trail : List RecvTurn) → HearsCyclic x rows frames v trail → HearsCyclic x rows (frames ++ f ∷ []) v trail
+hears_after : (x : Layout) (rows : ℕ) (frames : List Frame) (f : Frame) (v : Receiving)
+    (trail : List RecvTurn) → HearsCyclic x rows frames v trail
+    → HearsCyclic x rows (frames ++ f ∷ []) v trail
 hears_after x rows frames f v trail h =
-    let more = ap length (log_words-append frames f) ∙ length-append (log_words frames) (frame_words f) in
+    let more =
+    ap length (log_words-append frames f) ∙ length-append (log_words frames) (frame_words f) in
     let o = h.own in
     record {
       log = h.log;
@@ -73,30 +93,49 @@ hears_after x rows frames f v trail h =
         log = refl;
         len_at = o.len_at;
         log_words = o.log_words;
-        receives = Receives-append x.senders frames f (length (log_words frames)) (length (log_words (frames ++ f ∷ []))) v.place v.known v.frames refl (omega arith) o.receives;
+        receives = Receives-append x.senders frames f (length (log_words frames))
+            (length (log_words (frames ++ f ∷ []))) v.place v.known v.frames refl (omega arith)
+            o.receives;
       };
-      hears = hears_later frames (f ∷ []) (placed x v) trail (let a = o.receives.place_below in let b = o.receives.known_below in omega arith) h.hears;
+      hears = hears_later frames (f ∷ []) (placed x v) trail
+          (let a = o.receives.place_below in let b = o.receives.known_below in omega arith) h.hears;
     }
 
-pub all_after : (x : Layout) (rows : ℕ) (receivers : ℕ → Option Receiving) (frames : List Frame) (f : Frame) (H : ℕ → List RecvTurn) → AllHear x rows receivers frames H → AllHear x rows receivers (frames ++ f ∷ []) H
-all_after x rows receivers frames f H h = record { each = λ r v e. hears_after x rows frames f v (H r) (h.each r v e); silent = h.silent }
+pub all_after : (x : Layout) (rows : ℕ) (receivers : ℕ → Option Receiving) (frames : List Frame)
+    (f : Frame) (H : ℕ → List RecvTurn) → AllHear x rows receivers frames H
+    → AllHear x rows receivers (frames ++ f ∷ []) H
+all_after x rows receivers frames f H h = record {
+  each = λ r v e. hears_after x rows frames f v (H r) (h.each r v e);
+  silent = h.silent;
+}
 
 -- ---- a turn
 -- words whose log lies elsewhere
-module _ {base : ℕ → ℕ} (x : Layout) (rows : ℕ) (frames : List Frame) (W V : ℕ → ℕ) (log : Logged base x.senders x.capacity (log_at x) V (V 0) frames) (first : W 0 ≡ V 0) (same : (k : ℕ) → k < x.capacity → W (log_from x rows + k) ≡ V (log_at x + k))
-    (v : Receiving) (trail : List RecvTurn) (h : HearsCyclic x rows frames v trail) (answer : RecvTurn) (next : Receiving) where
+module _ {base : ℕ → ℕ} (x : Layout) (rows : ℕ) (frames : List Frame) (W V : ℕ → ℕ)
+    (log : Logged base x.senders x.capacity (log_at x) V (V 0) frames) (first : W 0 ≡ V 0)
+    (same : (k : ℕ) → k < V 0 → W (log_from x rows + k) ≡ V (log_at x + k))
+    (v : Receiving) (trail : List RecvTurn) (h : HearsCyclic x rows frames v trail)
+    (answer : RecvTurn) (next : Receiving) where
   own : IsReceiver x frames (V 0) (placed x v)
   own = subst (λ k. IsReceiver x frames k (placed x v)) (length-logged log) h.own
 
   found_same : recv_found W v ≡ recv_found V (placed x v)
   found_same = elim (eqb_tells v.place v.known) [
-    | inl y ↦ ap (λ q. cond q (W v.length_at) (W (v.log_at + v.place))) y.0 ∙ ap W h.own.len_at ∙ first ∙ sym (ap V h.own.len_at) ∙ sym (ap (λ q. cond q (V v.length_at) (V (log_at x + v.place))) y.0)
+    | inl y ↦
+        ap (λ q. cond q (W v.length_at) (W (v.log_at + v.place))) y.0 ∙ ap W h.own.len_at ∙ first
+        ∙ sym (ap V h.own.len_at)
+        ∙ sym (ap (λ q. cond q (V v.length_at) (V (log_at x + v.place))) y.0)
     | inr y ↦
-        let low : v.place < x.capacity = let a = own.receives.place_below in let b = own.receives.known_below in let c = log.fits in let d = y.1 in omega arith in
-        ap (λ q. cond q (W v.length_at) (W (v.log_at + v.place))) y.0 ∙ ap (λ q. W (q + v.place)) h.log ∙ same v.place low ∙ sym (ap (λ q. cond q (V v.length_at) (V (log_at x + v.place))) y.0)
+        let low : v.place < V 0 =
+        let a = own.receives.place_below in
+        let b = own.receives.known_below in let d = y.1 in omega arith in
+        ap (λ q. cond q (W v.length_at) (W (v.log_at + v.place))) y.0
+        ∙ ap (λ q. W (q + v.place)) h.log ∙ same v.place low
+        ∙ sym (ap (λ q. cond q (V v.length_at) (V (log_at x + v.place))) y.0)
   ]
 
-  step_placed : (got : ℕ) → RecvStep v got answer next → RecvStep (placed x v) got answer (placed x next)
+  step_placed : (got : ℕ) → RecvStep v got answer next
+      → RecvStep (placed x v) got answer (placed x next)
   step_placed got s = record {
     senders = s.senders;
     at_length = λ e. let t = s.at_length e in record {
@@ -105,85 +144,71 @@ module _ {base : ℕ → ℕ} (x : Layout) (rows : ℕ) (frames : List Frame) (W
       less = λ i. ((t.less i).0, ap (placed x) (t.less i).1);
       beyond = λ i j. ((t.beyond i j).0, ap (placed x) (t.beyond i j).1);
     };
-    at_word = λ ne words pieces had. elim (s.at_word ne words pieces record { read = had.read; place = had.place }) [
-      | inl bad ↦ inl (bad.0, bad.1, ap (placed x) bad.2)
-      | inr good ↦ inr record {
-        found = good.found;
-        gives = good.gives;
-        answer_is = good.answer_is;
-        received = record { read = good.received.read; place = good.received.place };
-        new_is = ap (placed x) good.new_is;
-      }
-    ];
+    at_word = s.at_word;
+    registers = ap (placed x) s.registers;
   }
 
   does_placed : RecvDoes W v answer next → RecvDoes V (placed x v) answer (placed x next)
   does_placed d = record {
     ended = λ e. ((d.ended e).0, ap (placed x) (d.ended e).1);
-    going = λ e. subst (λ g. RecvStep (placed x v) g answer (placed x next)) found_same (step_placed (recv_found W v) (d.going e));
+    going = λ e. subst (λ g. RecvStep (placed x v) g answer (placed x next)) found_same
+        (step_placed (recv_found W v) (d.going e));
   }
 
   -- its log lies where it lay
   log_stays : RecvDoes W v answer next → next.log_at ≡ v.log_at
   log_stays d = by_end v.ended refl
     where
-      at_known : v.place ≡ v.known → RecvStep v (recv_found W v) answer next → next.log_at ≡ v.log_at
-      at_known e s =
-          let t = s.at_length e in
-          let got = recv_found W v in
-          elim (cases_lt v.known got) [
-            | inl l ↦ elim (cases_lt v.log_words got) [
-              | inl beyond ↦ ap (λ (q : Receiving). q.log_at) (t.beyond l beyond).1
-              | inr within ↦ ap (λ (q : Receiving). q.log_at) (t.more l within).1
-            ]
-            | inr g ↦ elim (cases_eq got v.known) [
-              | inl i ↦ ap (λ (q : Receiving). q.log_at) (t.same i).1
-              | inr ne ↦ ap (λ (q : Receiving). q.log_at) (t.less (omega arith)).1
-            ]
-          ]
-
       by_end : (q : Bool) → v.ended ≡ q → next.log_at ≡ v.log_at
       by_end true e = ap (λ (q : Receiving). q.log_at) (d.ended e).1
-      by_end false e = elim (cases_eq v.place v.known) [
-        | inl i ↦ at_known i (d.going e)
-        | inr ne ↦
-            let had = received x frames V log (placed x v) own in
-            elim ((d.going e).at_word ne (take v.place (log_words frames)) (take v.place (log_pieces frames)) record { read = had.read; place = had.place }) [
-              | inl bad ↦ ap (λ (q : Receiving). q.log_at) bad.2
-              | inr good ↦ ap (λ (q : Receiving). q.log_at) good.new_is
-            ]
-      ]
+      by_end false e = ap (λ (q : Receiving). q.log_at) (d.going e).registers
 
   pub turn_hears : RecvDoes W v answer next → HearsCyclic x rows frames next (trail ++ answer ∷ [])
   turn_hears d =
       let e = does_placed d in
       record {
         log = log_stays d ∙ h.log;
-        own = subst (λ k. IsReceiver x frames k (placed x next)) (sym (length-logged log)) (receiver_more x frames V log (placed x v) own answer (placed x next) e);
+        own = subst (λ k. IsReceiver x frames k (placed x next)) (sym (length-logged log))
+            (receiver_more x frames V log (placed x v) own answer (placed x next) e);
         hears = hears_more x frames V log (placed x v) own trail h.hears answer (placed x next) e;
       }
 
 -- a turn of receiver r
-pub one_hears : (x : Layout) (rows : ℕ) (frames : List Frame) (receivers : ℕ → Option Receiving) (H : ℕ → List RecvTurn) → AllHear x rows receivers frames H → (r : ℕ) (v next : Receiving) (answer : RecvTurn) → receivers r ≡ Some v
-    → (HearsCyclic x rows frames v (H r) → HearsCyclic x rows frames next (H r ++ answer ∷ [])) → AllHear x rows (put r (Some next) receivers) frames (answers_with r answer H)
+pub one_hears : (x : Layout) (rows : ℕ) (frames : List Frame) (receivers : ℕ → Option Receiving)
+    (H : ℕ → List RecvTurn) → AllHear x rows receivers frames H
+    → (r : ℕ) (v next : Receiving) (answer : RecvTurn) → receivers r ≡ Some v
+    → (HearsCyclic x rows frames v (H r) → HearsCyclic x rows frames next (H r ++ answer ∷ []))
+    → AllHear x rows (put r (Some next) receivers) frames (answers_with r answer H)
 one_hears x rows frames receivers H h r v next answer at turns = record {
   each = λ q w e. elim (eqb_tells q r) [
     | inl y ↦
-        let w_is : next ≡ w = same_Some _ _ (sym (ap (put r (Some next) receivers) y.1 ∙ put_here r (Some next) receivers) ∙ e) in
+        let w_is : next ≡ w = same_Some _ _
+        (sym (ap (put r (Some next) receivers) y.1 ∙ put_here r (Some next) receivers) ∙ e) in
         let now = turns (h.each r v at) in
-        subst (λ t. HearsCyclic x rows frames w (H q ++ cond t (answer ∷ []) [])) (sym y.0) (subst (λ s. HearsCyclic x rows frames w (H s ++ answer ∷ [])) (sym y.1) (subst (λ s. HearsCyclic x rows frames s (H r ++ answer ∷ [])) w_is now))
-    | inr y ↦ subst (λ t. HearsCyclic x rows frames w (H q ++ cond t (answer ∷ []) [])) (sym y.0) (subst (HearsCyclic x rows frames w) (sym (append-nil (H q))) (h.each q w (sym (put_beside r (Some next) receivers q y.1) ∙ e)))
+        subst (λ t. HearsCyclic x rows frames w (H q ++ cond t (answer ∷ []) [])) (sym y.0)
+        (subst (λ s. HearsCyclic x rows frames w (H s ++ answer ∷ [])) (sym y.1)
+        (subst (λ s. HearsCyclic x rows frames s (H r ++ answer ∷ [])) w_is now))
+    | inr y ↦ subst (λ t. HearsCyclic x rows frames w (H q ++ cond t (answer ∷ []) [])) (sym y.0)
+        (subst (HearsCyclic x rows frames w) (sym (append-nil (H q)))
+        (h.each q w (sym (put_beside r (Some next) receivers q y.1) ∙ e)))
   ];
   silent = λ q e. elim (eqb_tells q r) [
-    | inl y ↦ absurd (let bad : None ≡ Some next = sym e ∙ ap (put r (Some next) receivers) y.1 ∙ put_here r (Some next) receivers in cc)
-    | inr y ↦ ap (λ t. H q ++ cond t (answer ∷ []) []) y.0 ∙ append-nil (H q) ∙ h.silent q (sym (put_beside r (Some next) receivers q y.1) ∙ e)
+    | inl y ↦ absurd (let bad : None ≡ Some next =
+        sym e ∙ ap (put r (Some next) receivers) y.1 ∙ put_here r (Some next) receivers in
+        cc)
+    | inr y ↦
+        ap (λ t. H q ++ cond t (answer ∷ []) []) y.0 ∙ append-nil (H q)
+        ∙ h.silent q (sym (put_beside r (Some next) receivers q y.1) ∙ e)
   ];
 }
 
 -- ---- as it is told of each
-pub told_in : (x : Layout) (rows : ℕ) (receivers : ℕ → Option Receiving) (frames : List Frame) (H : ℕ → List RecvTurn) → AllHear x rows receivers frames H → (r : ℕ) → IsTold frames (of_some (λ v. Some (placed x v)) (receivers r)) (H r)
+pub told_in : (x : Layout) (rows : ℕ) (receivers : ℕ → Option Receiving) (frames : List Frame)
+    (H : ℕ → List RecvTurn) → AllHear x rows receivers frames H → (r : ℕ)
+    → IsTold frames (of_some (λ v. Some (placed x v)) (receivers r)) (H r)
 told_in x rows receivers frames H h r = by_some (receivers r) refl
   where
-    by_some : (o : Option Receiving) → receivers r ≡ o → IsTold frames (of_some (λ v. Some (placed x v)) o) (H r)
+    by_some : (o : Option Receiving) → receivers r ≡ o
+        → IsTold frames (of_some (λ v. Some (placed x v)) o) (H r)
     by_some None e = h.silent r e
     by_some (Some v) e = (h.each r v e).hears

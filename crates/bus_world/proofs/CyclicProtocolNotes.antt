@@ -1,5 +1,8 @@
--- What senders have noted stays true: what each has put, how its messages were numbered, and who asked for a mark.
-use Rattle.std.proofs.Common.{◌+◌, ◌≡◌, ◌≢◌, ℕ, true, false, cond, ◌&&◌, nat_lt, nat_le, Option, Some, None, inl, inr, List, [], ◌∷◌, ◌++◌, length, map, slice_get, arith, refl, sym, ◌∙◌, ap, subst}
+-- What senders have noted stays true: what each has put, how its messages were numbered, and who
+-- asked for a mark.
+use Rattle.std.proofs.Common.{◌+◌, ◌≡◌, ◌≢◌, ℕ, true, false, cond, ◌&&◌, nat_lt, nat_le, Option}
+use Rattle.std.proofs.Common.{Some, None, inl, inr, List, [], ◌∷◌, ◌++◌, length, map, slice_get}
+use Rattle.std.proofs.Common.{arith, refl, sym, ◌∙◌, ap, subst}
 use Rattle.std.proofs.lemmas.Bool.{and_parts, cases_eq}
 use Rattle.std.proofs.lemmas.Bool.Decides.{eqb_tells}
 use Rattle.std.proofs.lemmas.Grind.{flat_map-append}
@@ -21,7 +24,8 @@ use Rattle.bus_world.proofs.Waiting.{waiting_at, waiting_of}
 use Rattle.bus_world.specs.Proved.Machines.{is_open, can_put, can_close}
 use Rattle.bus_world.specs.Trails.{actions_with, step_action}
 use Rattle.bus_world.proofs.Accepting.{idle_rests, not_busy}
-use Rattle.bus_world.proofs.Asking.{Askings, askings_on, one_waits, frames_later, own_asked, own_asks}
+use Rattle.bus_world.proofs.Asking.{Askings, askings_on, one_waits, frames_later, own_asked}
+use Rattle.bus_world.proofs.Asking.{own_asks}
 use Rattle.bus_world.proofs.EventTrails.{numbered_more, same_number, marked_apart, stepped_apart}
 use Rattle.bus_tenure.specs.declared.turns.Turn.{Turn as Answered}
 use Rattle.bus_register.specs.declared.kinds.Kind.{Kind}
@@ -31,7 +35,8 @@ use Rattle.bus_world.proofs.Places.{none_in, only_one}
 abbrev pub sent_by : List Frame → ℕ → List (List ℕ)
 sent_by frames q = map (λ (i : Item). i.message) (of_sender q (order_of frames))
 
-pub record IsNoted {E : Type 0} (base : ℕ → ℕ) (senders : ℕ → Option (Core E)) (frames : List Frame) (D : ℕ → List Action) : Type 0 where
+pub record IsNoted {E : Type 0} (base : ℕ → ℕ) (senders : ℕ → Option (Core E)) (frames : List Frame)
+    (D : ℕ → List Action) : Type 0 where
   -- what a sender has put: its messages in the order, and those that wait
   pub put : (s : ℕ) → puts (D s) ≡ sent_by frames s ++ waiting_of (senders s)
   pub counted : (s : ℕ) → AreNumbered (base s) (D s)
@@ -46,57 +51,101 @@ pub record PutsNothing (ds : List Action) : Type 0 where
   pub none : puts ds ≡ []
   pub never : (j n : ℕ) (bytes : List ℕ) → slice_get ds j ≡ Some (HasPut n bytes) → ⊥
 
-module _ {base : ℕ → ℕ} {E : Type 0} (senders : ℕ → Option (Core E)) (frames : List Frame) (D : ℕ → List Action) (n : IsNoted base senders frames D) (p : ℕ) (c : Core E) (old : senders p ≡ Some c) where
+module _ {base : ℕ → ℕ} {E : Type 0} (senders : ℕ → Option (Core E)) (frames : List Frame)
+    (D : ℕ → List Action) (n : IsNoted base senders frames D) (p : ℕ) (c : Core E)
+    (old : senders p ≡ Some c) where
   -- of the others nothing is noted
   noted_other : (ds : List Action) (q : ℕ) → q ≢ p → actions_with p ds D q ≡ D q
-  noted_other ds q ne = elim (eqb_tells q p) [ inl y ↦ absurd (ne y.1) | inr z ↦ ap (λ b. D q ++ cond b ds []) z.0 ∙ append-nil (D q) ]
+  noted_other ds q ne = elim (eqb_tells q p) [
+    | inl y ↦ absurd (ne y.1)
+    | inr z ↦ ap (λ b. D q ++ cond b ds []) z.0 ∙ append-nil (D q)
+  ]
 
   noted_own : (ds : List Action) (q : ℕ) → q ≡ p → actions_with p ds D q ≡ D q ++ ds
-  noted_own ds q e = elim (eqb_tells q p) [ inl y ↦ ap (λ b. D q ++ cond b ds []) y.0 | inr z ↦ absurd (z.1 e) ]
+  noted_own ds q e = elim (eqb_tells q p) [
+    | inl y ↦ ap (λ b. D q ++ cond b ds []) y.0
+    | inr z ↦ absurd (z.1 e)
+  ]
 
   -- a turn: messages go from a batch into the order
-  pub noted_turn : (senders' : ℕ → Option (Core E)) → Beside p senders senders' → (c' : Core E) → senders' p ≡ Some c' → (frames' : List Frame) (ds : List Action) → PutsNothing ds
-      → ((q : ℕ) → sent_by frames' q ++ waiting_of (senders' q) ≡ sent_by frames q ++ waiting_of (senders q)) → ((m : Mark) → c'.queue.phase ≡ Marking m → c.queue.phase ≡ Marking m)
-      → ((i : ℕ) (f : Frame) (m : Mark) → slice_get frames' i ≡ Some f → f.body ≡ Marked m → Asked m (actions_with p ds D f.owner.0)) → IsNoted base senders' frames' (actions_with p ds D)
+  pub noted_turn : (senders' : ℕ → Option (Core E)) → Beside p senders senders' → (c' : Core E)
+      → senders' p ≡ Some c' → (frames' : List Frame) (ds : List Action) → PutsNothing ds
+      → ((q : ℕ)
+      → sent_by frames' q ++ waiting_of (senders' q) ≡ sent_by frames q ++ waiting_of (senders q))
+      → ((m : Mark) → c'.queue.phase ≡ Marking m → c.queue.phase ≡ Marking m)
+      → ((i : ℕ) (f : Frame) (m : Mark) → slice_get frames' i ≡ Some f → f.body ≡ Marked m
+      → Asked m (actions_with p ds D f.owner.0))
+      → IsNoted base senders' frames' (actions_with p ds D)
   noted_turn senders' beside c' new frames' ds nothing waits marking says = record {
     put = λ q. elim (cases_eq q p) [
-      | inl e ↦ ap puts (noted_own ds q e) ∙ flat_map-append put_of (D q) ds ∙ ap (λ z. puts (D q) ++ z) nothing.none ∙ append-nil (puts (D q)) ∙ n.put q ∙ sym (waits q)
+      | inl e ↦
+          ap puts (noted_own ds q e) ∙ flat_map-append put_of (D q) ds
+          ∙ ap (λ z. puts (D q) ++ z) nothing.none ∙ append-nil (puts (D q)) ∙ n.put q
+          ∙ sym (waits q)
       | inr ne ↦ ap puts (noted_other ds q ne) ∙ n.put q ∙ sym (waits q)
     ];
     counted = λ q. elim (cases_eq q p) [
-      | inl e ↦ subst (AreNumbered (base q)) (sym (noted_own ds q e)) (numbered_more (base q) (D q) ds (n.counted q) (λ j m bytes at. absurd (nothing.never j m bytes at)))
+      | inl e ↦ subst (AreNumbered (base q)) (sym (noted_own ds q e))
+          (numbered_more (base q) (D q) ds (n.counted q)
+          (λ j m bytes at. absurd (nothing.never j m bytes at)))
       | inr ne ↦ subst (AreNumbered (base q)) (sym (noted_other ds q ne)) (n.counted q)
     ];
-    askings = askings_on senders frames D n.askings p c old ds senders' beside c' new frames' (λ m e. own_asked senders frames D n.askings p c old ds m (marking m e)) says;
+    askings = askings_on senders frames D n.askings p c old ds senders' beside c' new frames'
+        (λ m e. own_asked senders frames D n.askings p c old ds m (marking m e)) says;
   }
 
   -- where the frames stay
-  pub noted_over : (senders' : ℕ → Option (Core E)) → Beside p senders senders' → (c' : Core E) → senders' p ≡ Some c' → (ds : List Action) → PutsNothing ds → waiting_of (Some c') ≡ waiting_of (Some c) → ((m : Mark) → c'.queue.phase ≡ Marking m → c.queue.phase ≡ Marking m)
+  pub noted_over : (senders' : ℕ → Option (Core E)) → Beside p senders senders' → (c' : Core E)
+      → senders' p ≡ Some c' → (ds : List Action) → PutsNothing ds
+      → waiting_of (Some c') ≡ waiting_of (Some c)
+      → ((m : Mark) → c'.queue.phase ≡ Marking m → c.queue.phase ≡ Marking m)
       → IsNoted base senders' frames (actions_with p ds D)
-  noted_over senders' beside c' new ds nothing waits marking = noted_turn senders' beside c' new frames ds nothing (λ q. elim (cases_eq q p) [
-    | inl e ↦ ap (λ z. sent_by frames q ++ waiting_of z) (ap senders' e ∙ new) ∙ ap (λ z. sent_by frames q ++ z) waits ∙ ap (λ z. sent_by frames q ++ waiting_of z) (sym (ap senders e ∙ old))
-    | inr ne ↦ ap (λ z. sent_by frames q ++ waiting_of z) (beside q ne)
-  ]) marking (frames_later senders frames D n.askings p c old ds)
+  noted_over senders' beside c' new ds nothing waits marking =
+      noted_turn senders' beside c' new frames ds nothing (λ q. elim (cases_eq q p) [
+        | inl e ↦
+            ap (λ z. sent_by frames q ++ waiting_of z) (ap senders' e ∙ new)
+            ∙ ap (λ z. sent_by frames q ++ z) waits
+            ∙ ap (λ z. sent_by frames q ++ waiting_of z) (sym (ap senders e ∙ old))
+        | inr ne ↦ ap (λ z. sent_by frames q ++ waiting_of z) (beside q ne)
+      ]) marking (frames_later senders frames D n.askings p c old ds)
 
   -- ---- what it accepts
   module _ (words : ℕ → ℕ) (fits : Fits base words frames c c.phase) (me : c.me ≡ p) where
     abbrev with_batch : Pending → ℕ → Option (Core E)
     with_batch q = put p (Some (record c { queue = q })) senders
 
-    pub noted_put : (bytes : List ℕ) → can_put c.queue (length bytes) ≡ true → IsNoted base (with_batch (record c.queue { messages = c.queue.messages ++ bytes ∷ [] })) frames (actions_with p (HasPut (next_of c.queue) bytes ∷ []) D)
+    pub noted_put : (bytes : List ℕ) → can_put c.queue (length bytes) ≡ true
+        → IsNoted base (with_batch (record c.queue { messages = c.queue.messages ++ bytes ∷ [] }))
+        frames (actions_with p (HasPut (next_of c.queue) bytes ∷ []) D)
     noted_put bytes can = record {
       put = λ q. elim (cases_eq q p) [
-        | inl e ↦ ap puts (noted_own ds q e) ∙ flat_map-append put_of (D q) ds ∙ ap (λ z. z ++ bytes ∷ []) (n.put q) ∙ append_assoc (sent_by frames q) (waiting_of (senders q)) (bytes ∷ [])
-            ∙ ap (λ z. sent_by frames q ++ (waiting_of z ++ bytes ∷ [])) (ap senders e ∙ old) ∙ ap (λ z. sent_by frames q ++ (z ++ bytes ∷ [])) before ∙ sym (ap (λ z. sent_by frames q ++ z) after) ∙ sym (ap (λ z. sent_by frames q ++ waiting_of z) (ap later e ∙ put_here p (Some c') senders))
-        | inr ne ↦ ap puts (noted_other ds q ne) ∙ n.put q ∙ sym (ap (λ z. sent_by frames q ++ waiting_of z) (put_beside p (Some c') senders q ne))
+        | inl e ↦
+            ap puts (noted_own ds q e) ∙ flat_map-append put_of (D q) ds
+            ∙ ap (λ z. z ++ bytes ∷ []) (n.put q)
+            ∙ append_assoc (sent_by frames q) (waiting_of (senders q)) (bytes ∷ [])
+            ∙ ap (λ z. sent_by frames q ++ (waiting_of z ++ bytes ∷ [])) (ap senders e ∙ old)
+            ∙ ap (λ z. sent_by frames q ++ (z ++ bytes ∷ [])) before
+            ∙ sym (ap (λ z. sent_by frames q ++ z) after)
+            ∙ sym
+            (ap (λ z. sent_by frames q ++ waiting_of z) (ap later e ∙ put_here p (Some c') senders))
+        | inr ne ↦
+            ap puts (noted_other ds q ne) ∙ n.put q
+            ∙ sym (ap (λ z. sent_by frames q ++ waiting_of z) (put_beside p (Some c') senders q ne))
       ];
       counted = λ q. elim (cases_eq q p) [
-        | inl e ↦ subst (AreNumbered (base q)) (sym (noted_own ds q e)) (numbered_more (base q) (D q) ds (n.counted q) (λ j m b at.
-            let one = only_one (HasPut (next_of c.queue) bytes) j (HasPut m b) at in
-            (one.0, sym (same_number (next_of c.queue) m bytes b one.1) ∙ number ∙ sym (ap (λ z. base z + length (puts (D z))) e))))
+        | inl e ↦ subst (AreNumbered (base q)) (sym (noted_own ds q e))
+            (numbered_more (base q) (D q) ds (n.counted q) (λ j m b at.
+            let one = only_one (HasPut (next_of c.queue) bytes) j (HasPut m b) at in (
+              one.0,
+              sym (same_number (next_of c.queue) m bytes b one.1) ∙ number
+                  ∙ sym (ap (λ z. base z + length (puts (D z))) e),
+            )))
         | inr ne ↦ subst (AreNumbered (base q)) (sym (noted_other ds q ne)) (n.counted q)
       ];
-      askings = askings_on senders frames D n.askings p c old ds later (put_beside p (Some c') senders) c' (put_here p (Some c') senders) frames (λ m e. own_asked senders frames D n.askings p c old ds m e) (frames_later senders frames D n.askings p c old ds);
+      askings = askings_on senders frames D n.askings p c old ds later
+          (put_beside p (Some c') senders) c' (put_here p (Some c') senders) frames
+          (λ m e. own_asked senders frames D n.askings p c old ds m e)
+          (frames_later senders frames D n.askings p c old ds);
     } where
       c' : Core E
       c' = record c { queue = record c.queue { messages = c.queue.messages ++ bytes ∷ [] } }
@@ -109,8 +158,12 @@ module _ {base : ℕ → ℕ} {E : Type 0} (senders : ℕ → Option (Core E)) (
 
       rests : c.phase ≡ phase.Resting
       rests =
-          let tests = (and_parts (is_open c.queue.phase) (cond c.queue.busy false true && (nat_le (length bytes) 56 && nat_lt (length c.queue.messages) 16)) can).1 in
-          idle_rests base words frames c c.phase fits (not_busy c.queue.busy (and_parts (cond c.queue.busy false true) (nat_le (length bytes) 56 && nat_lt (length c.queue.messages) 16) tests).0)
+          let tests =
+          (and_parts (is_open c.queue.phase) (cond c.queue.busy false true
+          && (nat_le (length bytes) 56 && nat_lt (length c.queue.messages) 16)) can).1 in
+          idle_rests base words frames c c.phase fits
+          (not_busy c.queue.busy (and_parts (cond c.queue.busy false true)
+          (nat_le (length bytes) 56 && nat_lt (length c.queue.messages) 16) tests).0)
 
       before : waiting_of (Some c) ≡ c.queue.messages
       before = ap (waiting_at c) rests
@@ -119,25 +172,45 @@ module _ {base : ℕ → ℕ} {E : Type 0} (senders : ℕ → Option (Core E)) (
       after = ap (waiting_at c') rests
 
       first : c.queue.first ≡ next_number base p frames
-      first = (subst (Fits base words frames c) rests fits).1.0 ∙ ap (λ z. next_number base z frames) me
+      first =
+          (subst (Fits base words frames c) rests fits).1.0 ∙ ap (λ z. next_number base z frames) me
 
       number : next_of c.queue ≡ base p + length (puts (D p))
       number =
-          let a = ap length (n.put p ∙ ap (λ z. sent_by frames p ++ waiting_of z) old ∙ ap (λ z. sent_by frames p ++ z) before) in
-          let b = length-append (sent_by frames p) c.queue.messages in let d = length_mapped (of_sender p (order_of frames)) in let e = first in omega arith
+          let a = ap length (n.put p ∙ ap (λ z. sent_by frames p ++ waiting_of z) old
+          ∙ ap (λ z. sent_by frames p ++ z) before) in
+          let b = length-append (sent_by frames p) c.queue.messages in
+          let d = length_mapped (of_sender p (order_of frames)) in let e = first in omega arith
 
-    pub noted_mark : (m : Mark) → can_close c.queue ≡ true → IsNoted base (with_batch (record c.queue { phase = Marking m })) frames (actions_with p (HasMarked m ∷ []) D)
+    pub noted_mark : (m : Mark) → can_close c.queue ≡ true
+        → IsNoted base (with_batch (record c.queue { phase = Marking m })) frames
+        (actions_with p (HasMarked m ∷ []) D)
     noted_mark m can = record {
       put = λ q. elim (cases_eq q p) [
-        | inl e ↦ ap puts (noted_own (HasMarked m ∷ []) q e) ∙ flat_map-append put_of (D q) (HasMarked m ∷ []) ∙ append-nil (puts (D q)) ∙ n.put q ∙ ap (λ z. sent_by frames q ++ waiting_of z) (ap senders e ∙ old) ∙ ap (λ z. sent_by frames q ++ z) (ap (waiting_at c) rests)
-            ∙ sym (ap (λ z. sent_by frames q ++ z) (ap (waiting_at c') rests)) ∙ sym (ap (λ z. sent_by frames q ++ waiting_of z) (ap later e ∙ put_here p (Some c') senders))
-        | inr ne ↦ ap puts (noted_other (HasMarked m ∷ []) q ne) ∙ n.put q ∙ sym (ap (λ z. sent_by frames q ++ waiting_of z) (put_beside p (Some c') senders q ne))
+        | inl e ↦
+            ap puts (noted_own (HasMarked m ∷ []) q e)
+            ∙ flat_map-append put_of (D q) (HasMarked m ∷ []) ∙ append-nil (puts (D q)) ∙ n.put q
+            ∙ ap (λ z. sent_by frames q ++ waiting_of z) (ap senders e ∙ old)
+            ∙ ap (λ z. sent_by frames q ++ z) (ap (waiting_at c) rests)
+            ∙ sym (ap (λ z. sent_by frames q ++ z) (ap (waiting_at c') rests))
+            ∙ sym
+            (ap (λ z. sent_by frames q ++ waiting_of z) (ap later e ∙ put_here p (Some c') senders))
+        | inr ne ↦
+            ap puts (noted_other (HasMarked m ∷ []) q ne) ∙ n.put q
+            ∙ sym (ap (λ z. sent_by frames q ++ waiting_of z) (put_beside p (Some c') senders q ne))
       ];
       counted = λ q. elim (cases_eq q p) [
-        | inl e ↦ subst (AreNumbered (base q)) (sym (noted_own (HasMarked m ∷ []) q e)) (numbered_more (base q) (D q) (HasMarked m ∷ []) (n.counted q) (λ j k b at. absurd (marked_apart m k b (only_one (HasMarked m) j (HasPut k b) at).1)))
-        | inr ne ↦ subst (AreNumbered (base q)) (sym (noted_other (HasMarked m ∷ []) q ne)) (n.counted q)
+        | inl e ↦ subst (AreNumbered (base q)) (sym (noted_own (HasMarked m ∷ []) q e))
+            (numbered_more (base q) (D q) (HasMarked m ∷ []) (n.counted q)
+            (λ j k b at. absurd (marked_apart m k b (only_one (HasMarked m) j (HasPut k b) at).1)))
+        | inr ne ↦
+            subst (AreNumbered (base q)) (sym (noted_other (HasMarked m ∷ []) q ne)) (n.counted q)
       ];
-      askings = askings_on senders frames D n.askings p c old (HasMarked m ∷ []) later (put_beside p (Some c') senders) c' (put_here p (Some c') senders) frames (λ k e. own_asks senders frames D n.askings p c old (HasMarked m ∷ []) k (one_waits m k e)) (frames_later senders frames D n.askings p c old (HasMarked m ∷ []));
+      askings = askings_on senders frames D n.askings p c old (HasMarked m ∷ []) later
+          (put_beside p (Some c') senders) c' (put_here p (Some c') senders) frames
+          (λ k e.
+          own_asks senders frames D n.askings p c old (HasMarked m ∷ []) k (one_waits m k e))
+          (frames_later senders frames D n.askings p c old (HasMarked m ∷ []));
     } where
       c' : Core E
       c' = record c { queue = record c.queue { phase = Marking m } }
@@ -147,13 +220,23 @@ module _ {base : ℕ → ℕ} {E : Type 0} (senders : ℕ → Option (Core E)) (
 
       rests : c.phase ≡ phase.Resting
       rests =
-          let tests = (and_parts (is_open c.queue.phase) (cond c.queue.busy false true && is_empty c.queue.messages) can).1 in
-          idle_rests base words frames c c.phase fits (not_busy c.queue.busy (and_parts (cond c.queue.busy false true) (is_empty c.queue.messages) tests).0)
+          let tests =
+          (and_parts (is_open c.queue.phase)
+          (cond c.queue.busy false true && is_empty c.queue.messages) can).1 in
+          idle_rests base words frames c c.phase fits
+          (not_busy c.queue.busy
+          (and_parts (cond c.queue.busy false true) (is_empty c.queue.messages) tests).0)
 
 -- a turn's actions are steps
-pub steps_put_nothing : (k : Option Kind) (tenure : Option ℕ) (got : ℕ) (chose : Option ℕ) (a : Answered) → PutsNothing (step_action k tenure got chose a)
-steps_put_nothing None tenure got chose a = record { none = refl; never = λ j n bytes e. none_in j _ e }
-steps_put_nothing (Some k) tenure got chose a = record { none = refl; never = λ j n bytes e. stepped_apart tenure k got chose a n bytes (only_one _ j _ e).1 }
+pub steps_put_nothing :
+    (k : Option Kind) (tenure : Option ℕ) (got : ℕ) (chose : Option ℕ) (a : Answered)
+    → PutsNothing (step_action k tenure got chose a)
+steps_put_nothing None tenure got chose a =
+    record { none = refl; never = λ j n bytes e. none_in j _ e }
+steps_put_nothing (Some k) tenure got chose a = record {
+  none = refl;
+  never = λ j n bytes e. stepped_apart tenure k got chose a n bytes (only_one _ j _ e).1;
+}
 
 pub nothing_put : PutsNothing []
 nothing_put = record { none = refl; never = λ j n bytes e. none_in j _ e }

@@ -12,11 +12,13 @@ use Rattle.bus_batch.specs.declared.batches.Phase.TheVariants.{Open, Marking, Cl
 use Rattle.bus_tenure.specs.Core.{is_closing, is_leaving}
 use Rattle.bus_world.specs.Log.{AreCounted}
 
-counted_items : (owner : SenderNo) (base : ℕ) (ms : List (List ℕ)) → AreCounted base (map (item_of owner) (numbered_messages base ms))
+counted_items : (owner : SenderNo) (base : ℕ) (ms : List (List ℕ))
+    → AreCounted base (map (item_of owner) (numbered_messages base ms))
 counted_items owner base [] = tt
 counted_items owner base (m ∷ ms) = (refl, counted_items owner (base + 1) ms)
 
-counted_at : (ph : Phase) (q : Pending) → AreCounted q.first (body_items q.sender (body_of ph q.first q.messages))
+counted_at : (ph : Phase) (q : Pending)
+    → AreCounted q.first (body_items q.sender (body_of ph q.first q.messages))
 counted_at Open q = counted_items q.sender q.first q.messages
 counted_at (Marking m) q = tt
 counted_at Closed q = counted_items q.sender q.first q.messages
@@ -25,13 +27,19 @@ counted_at Closed q = counted_items q.sender q.first q.messages
 pub counted_frame : (q : Pending) (t : ℕ) → AreCounted q.first (items_of (frame_of q t))
 counted_frame q t = counted_at q.phase q
 
-items_at : (ph : Phase) (q : Pending) → q.phase ≡ ph → IsKept q → length (body_items q.sender (body_of ph q.first q.messages)) ≡ length q.messages
-items_at Open q e is = length-map (numbered_messages q.first q.messages) (item_of q.sender) ∙ length-numbered q.first q.messages
+items_at : (ph : Phase) (q : Pending) → q.phase ≡ ph → IsKept q
+    → length (body_items q.sender (body_of ph q.first q.messages)) ≡ length q.messages
+items_at Open q e is =
+    length-map (numbered_messages q.first q.messages) (item_of q.sender)
+    ∙ length-numbered q.first q.messages
 items_at (Marking m) q e is = sym (ap length (is.alone m e))
-items_at Closed q e is = length-map (numbered_messages q.first q.messages) (item_of q.sender) ∙ length-numbered q.first q.messages
+items_at Closed q e is =
+    length-map (numbered_messages q.first q.messages) (item_of q.sender)
+    ∙ length-numbered q.first q.messages
 
 -- as many items as messages
-pub length-items : (q : Pending) (t : ℕ) → IsKept q → length (items_of (frame_of q t)) ≡ length q.messages
+pub length-items : (q : Pending) (t : ℕ) → IsKept q
+    → length (items_of (frame_of q t)) ≡ length q.messages
 length-items q t is = items_at q.phase q refl is
 
 ends_at : (ph : Phase) (q : Pending) → ends (body_of ph q.first q.messages) ≡ is_closing ph

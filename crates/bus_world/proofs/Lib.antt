@@ -27,6 +27,8 @@ pub mod Refused
 pub mod FrameOwners
 pub mod Beginning
 pub mod CyclicProtocolWords
+pub mod RingWords
+pub mod Standing
 pub mod CyclicProtocolNotes
 pub mod CyclicProtocolHears
 pub mod CyclicProtocolLaws

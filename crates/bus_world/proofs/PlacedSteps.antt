@@ -4,7 +4,8 @@ use Rattle.bus_register.specs.declared.registers.Op.{Op}
 use Rattle.bus_register.specs.declared.registers.Op.TheVariants.{Load, Store, Add, Cas}
 use Rattle.bus_register.specs.Words.{register}
 use Rattle.bus_presence.specs.Reclaimers.{Reclaiming, reclaim_op}
-use Rattle.bus_core.specs.Proved.ParticipantTable.{Goes, due_beside, due_home, due_reclaimed, reclaim_due}
+use Rattle.bus_core.specs.Proved.ParticipantTable.{Goes, due_beside, due_home, due_reclaimed}
+use Rattle.bus_core.specs.Proved.ParticipantTable.{reclaim_due}
 use Rattle.bus_core.specs.Reusing.Turns.{on_place, op_placed}
 use Rattle.bus_tenure.specs.Situations.{Situation}
 use Rattle.bus_world.specs.Turning.{number_found}
@@ -16,12 +17,14 @@ same_register f (Store at n) = refl
 same_register f (Add at n) = refl
 same_register f (Cas at n m) = refl
 
-pub placed_found : (f : ℕ → ℕ) (w : ℕ → ℕ) (d : Option Op) → number_found w (op_placed f d) ≡ word_found f w d
+pub placed_found : (f : ℕ → ℕ) (w : ℕ → ℕ) (d : Option Op)
+    → number_found w (op_placed f d) ≡ word_found f w d
 placed_found f w None = refl
 placed_found f w (Some o) = ap w (same_register f o)
 
 -- who goes on as a sender is in its situation
-pub due_goes : {E : Type 0} (v : Option Op) (s : Option Reclaiming) (z w : Situation E) → due_beside v s z ≡ Goes w → z ≡ w
+pub due_goes : {E : Type 0} (v : Option Op) (s : Option Reclaiming) (z w : Situation E)
+    → due_beside v s z ≡ Goes w → z ≡ w
 due_goes (Some p) s z w e = absurd cc
 due_goes None s z w e = by_home (reclaim_due z s) e
   where

@@ -9,7 +9,8 @@ use Rattle.bus_adoptcommit.specs.declared.verdicts.Verdict.{Verdict}
 use Rattle.bus_walkcoin.specs.declared.coins.Phase.{Phase as CoinPhase}
 use Rattle.bus_walkcoin.specs.declared.coins.Phase.TheVariants as coin
 use Rattle.bus_walkcoin.specs.Coin.{kind_at as coin_kind_at}
-use Rattle.bus_coinconc.specs.Conciliator.{ConciliatorState, conciliator_kind, conciliator_op, kind_at as concile_kind_at}
+use Rattle.bus_coinconc.specs.Conciliator.{ConciliatorState, conciliator_kind, conciliator_op}
+use Rattle.bus_coinconc.specs.Conciliator.{kind_at as concile_kind_at}
 use Rattle.bus_coinconc.specs.declared.conciliators.Stage.{Stage as ConcileStage}
 use Rattle.bus_coinconc.specs.declared.conciliators.Stage.TheVariants as concile
 use Rattle.bus_coinconc.specs.Proved.ConciliatorSteps.{conciliator_names_each_step}
@@ -27,7 +28,8 @@ use Rattle.bus_tenure.specs.Core.{Election, Layout}
 use Rattle.bus_tenure.specs.Elections.{election_with, elections, layout_with}
 use Rattle.bus_world.proofs.EventTrails.{announce_first}
 
-pub record Serves {E : Type 0} (X : Election E) (P : Protocol E (Unit {0}) ℕ) (x : Layout) : Type 0 where
+pub record Serves {E : Type 0} (X : Election E) (P : Protocol E (Unit {0}) ℕ) (x : Layout) :
+    Type 0 where
   pub laws : Laws X.op X.fed P OneOwner
   pub width : x.width ≡ P.width x.senders
   pub starts : (n me at : ℕ) → X.started n me x.rounds at ≡ P.started n me tt at
@@ -58,28 +60,41 @@ takes_ratifier (inr (inl e)) = cc
 takes_ratifier (inr (inr (inl e))) = cc
 takes_ratifier (inr (inr (inr e))) = cc
 
-module _ {S : Type 0} (kind_of : S → Option Kind) (own_kinds : (s : S) (k : Kind) → kind_of s ≡ Some k → IsOfRatifier k) where
-  takes_object : (o : Object S ConciliatorState) → object_kind kind_of conciliator_kind o ≡ Some kind.TakePage → ⊥
+module _ {S : Type 0} (kind_of : S → Option Kind)
+    (own_kinds : (s : S) (k : Kind) → kind_of s ≡ Some k → IsOfRatifier k) where
+  takes_object : (o : Object S ConciliatorState)
+      → object_kind kind_of conciliator_kind o ≡ Some kind.TakePage → ⊥
   takes_object (Ratify q) e = takes_ratifier (own_kinds q kind.TakePage e)
   takes_object (Concile s) e = takes_conciliator s.stage e
   takes_object (Fall f) e = takes_fallback f.decided e
 
-  takes_stage : (s : Stage (Decider S ConciliatorState)) → election_kind_at (λ d. object_kind kind_of conciliator_kind d.object) s ≡ Some kind.TakePage → ⊥
+  takes_stage : (s : Stage (Decider S ConciliatorState))
+      → election_kind_at (λ d. object_kind kind_of conciliator_kind d.object) s ≡ Some kind.TakePage
+      → ⊥
   takes_stage stage.Announce e = cc
   takes_stage (stage.Propose d) e = takes_object d.object e
   takes_stage (stage.Search i) e = cc
   takes_stage stage.Alone e = cc
 
 -- the election of any ratifier, of any sizes
-module _ {S : Type 0} (kind_of : S → Option Kind) (op : S → ℕ → Option Op) (fed : S → ℕ → ℕ → S) (P : Protocol S Bool Verdict) (named : (s : S) (word : ℕ) → is_some (kind_of s) ≡ is_some (op s word)) (own_kinds : (s : S) (k : Kind) → kind_of s ≡ Some k → IsOfRatifier k)
-    (senders rounds rows capacity : ℕ) (laws : Laws (election_with kind_of op fed P).op (election_with kind_of op fed P).fed (elections P rounds) OneOwner) where
-  pub serves : Serves (election_with kind_of op fed P) (elections P rounds) (layout_with P senders rounds rows capacity)
+module _ {S : Type 0} (kind_of : S → Option Kind) (op : S → ℕ → Option Op) (fed : S → ℕ → ℕ → S)
+    (P : Protocol S Bool Verdict)
+    (named : (s : S) (word : ℕ) → is_some (kind_of s) ≡ is_some (op s word))
+    (own_kinds : (s : S) (k : Kind) → kind_of s ≡ Some k → IsOfRatifier k)
+    (senders rounds rows capacity : ℕ)
+    (laws : Laws (election_with kind_of op fed P).op (election_with kind_of op fed P).fed
+    (elections P rounds) OneOwner) where
+  pub serves : Serves (election_with kind_of op fed P) (elections P rounds)
+      (layout_with P senders rounds rows capacity)
   serves = record {
     laws = laws;
     width = refl;
     starts = λ n me at. refl;
     owner_is = λ e. refl;
-    named = election_named (λ d. object_kind kind_of conciliator_kind d.object) (decide_op op conciliator_op) (λ d word. objects_named kind_of op named conciliator_kind conciliator_op conciliator_names_each_step d.object word);
-    announces = λ e begun. announce_first (λ d. object_kind kind_of conciliator_kind d.object) e.stage begun;
+    named = election_named (λ d. object_kind kind_of conciliator_kind d.object)
+        (decide_op op conciliator_op) (λ d word. objects_named kind_of op named conciliator_kind
+        conciliator_op conciliator_names_each_step d.object word);
+    announces = λ e begun.
+        announce_first (λ d. object_kind kind_of conciliator_kind d.object) e.stage begun;
     apart = λ e takes. takes_stage kind_of own_kinds e.stage takes;
   }

@@ -1,16 +1,19 @@
 -- Who goes on, and who has stopped.
-use Rattle.std.proofs.Common.{◌≡◌, ℕ, zero, suc, Bool, true, false, cond, Option, Some, None, List, [], ◌∷◌, get_or, slice_get}
+use Rattle.std.proofs.Common.{◌≡◌, ℕ, zero, suc, Bool, true, false, cond, Option, Some, None, List}
+use Rattle.std.proofs.Common.{[], ◌∷◌, get_or, slice_get}
 use Rattle.std.proofs.lemmas.Option.{none-some}
 use Rattle.bus_tenure.specs.Core.{Core}
 use Rattle.bus_world.specs.Proved.Machines.{Bus, has_stopped, going}
 use Rattle.bus_world.specs.World.{is_set}
 
-pub shown_there : {A : Type 0} (t : Bool) (o : Option A) (v : A) → cond t None o ≡ Some v → o ≡ Some v
+pub shown_there : {A : Type 0} (t : Bool) (o : Option A) (v : A) → cond t None o ≡ Some v
+    → o ≡ Some v
 shown_there true o v e = absurd (none-some v e)
 shown_there false o v e = e
 
 -- who goes on is there
-pub is_there : {E : Type 0} (b : Bus E) (s : ℕ) (c : Core E) → going b s ≡ Some c → slice_get b.side.senders s ≡ Some c
+pub is_there : {E : Type 0} (b : Bus E) (s : ℕ) (c : Core E) → going b s ≡ Some c
+    → slice_get b.side.senders s ≡ Some c
 is_there b s c e = shown_there (has_stopped b s) (slice_get b.side.senders s) c e
 
 -- ---- what is refused as a stop is

@@ -1,5 +1,8 @@
 -- A turn of a sender keeps what ties the trails to the senders' side.
-use Rattle.std.proofs.Common.{◌≡◌, ◌≢◌, ℕ, ◌+◌, ◌*◌, ◌/◌, ◌<◌, ◌≤◌, Bool, true, false, cond, ◌&&◌, ◌==◌, nat_lt, nat_le, Option, Some, None, is_some, ◌⊎◌, inl, inr, List, [], ◌∷◌, ◌++◌, length, slice_get, slice_index, slice_set, arith, refl, sym, ◌∙◌, ap, subst}
+use Rattle.std.proofs.Common.{◌≡◌, ◌≢◌, ℕ, ◌+◌, ◌*◌, ◌/◌, ◌<◌, ◌≤◌, Bool, true, false, cond, ◌&&◌}
+use Rattle.std.proofs.Common.{◌==◌, nat_lt, nat_le, Option, Some, None, is_some, ◌⊎◌, inl, inr}
+use Rattle.std.proofs.Common.{List, [], ◌∷◌, ◌++◌, length, slice_get, slice_index, slice_set}
+use Rattle.std.proofs.Common.{arith, refl, sym, ◌∙◌, ap, subst}
 use Rattle.std.proofs.lemmas.Bool.{cases_lt, leb-false, true≢false}
 use Rattle.std.proofs.lemmas.Bool.Decides.{eqb_tells}
 use Rattle.std.proofs.lemmas.List.{append-nil}
@@ -10,10 +13,16 @@ use Rattle.bus_register.specs.declared.registers.Op.{Op}
 use Rattle.bus_register.specs.declared.registers.Op.TheVariants.{Load, Store}
 use Rattle.bus_register.specs.Words.{register}
 use Rattle.bus_register.specs.Tables.{of_some, put, Agree, Beside}
-use Rattle.bus_register.specs.Proved.TableLaws.{put_here, put_beside, some_or_none, get_set_same, get_set_other}
+use Rattle.bus_register.specs.Proved.TableLaws.{put_here, put_beside, some_or_none, get_set_same}
+use Rattle.bus_register.specs.Proved.TableLaws.{get_set_other}
 use Rattle.bus_register.specs.Protocol.{Protocol, Laws, Starts, counted_input}
-use Rattle.bus_tenure.specs.Core.{Core, Election, Layout, log_at, row_at, frame_len, has_room, is_empty, is_marking, is_closed}
-use Rattle.bus_tenure.specs.Situations.{Situation, IsClosed, IsIdle, IsSpent, LooksAtStage, Elects, TakesPage, StoresWord, StoresLength, GivesBack, situation_at, situation_of, resting, electing, holding, core_begun, waits, core_elected, core_at_rest, answer_at, op_at, kind_at}
+use Rattle.bus_tenure.specs.Core.{Core, Election, Layout, log_at, row_at, frame_len, has_room}
+use Rattle.bus_tenure.specs.Core.{is_empty, is_marking, is_closed}
+use Rattle.bus_tenure.specs.Situations.{Situation, IsClosed, IsIdle, IsSpent, LooksAtStage, Elects}
+use Rattle.bus_tenure.specs.Situations.{TakesPage, StoresWord, StoresLength, GivesBack}
+use Rattle.bus_tenure.specs.Situations.{situation_at, situation_of, resting, electing, holding}
+use Rattle.bus_tenure.specs.Situations.{core_begun, waits, core_elected, core_at_rest, answer_at}
+use Rattle.bus_tenure.specs.Situations.{op_at, kind_at}
 use Rattle.bus_tenure.specs.Proved.LineParts.{tenure_at, chosen_at}
 use Rattle.bus_tenure.specs.declared.pages.Page.{Page}
 use Rattle.bus_tenure.specs.declared.phases.Reason.{Reason}
@@ -39,21 +48,33 @@ use Rattle.bus_world.specs.Trails.{step_action}
 use Rattle.bus_world.specs.Proved.Trails.{turn_actions}
 use Rattle.bus_world.proofs.Tying.{next_at, next_tenure, Tables, PageTies}
 use Rattle.bus_world.proofs.Places.{got_after}
-use Rattle.bus_world.proofs.TableTrails.{IsPlain, plain_none, plain_step, one_elected, one_took, Longer, announced_still, takers_stay, takers_more, GoesOn, tables_stay, tables_step}
+use Rattle.bus_world.proofs.TableTrails.{IsPlain, plain_none, plain_step, one_elected, one_took}
+use Rattle.bus_world.proofs.TableTrails.{Longer, announced_still, takers_stay, takers_more, GoesOn}
+use Rattle.bus_world.proofs.TableTrails.{tables_stay, tables_step}
 
 -- what words, senders and owners keep with trails
-pub record TiesOf {E : Type 0} (P : Protocol E (Unit {0}) ℕ) (x : Layout) (words : ℕ → ℕ) (senders : ℕ → Option (Core E)) (owners : List ℕ) (actions : ℕ → List Action) : Type 0 where
+pub record TiesOf {E : Type 0} (P : Protocol E (Unit {0}) ℕ) (x : Layout) (words : ℕ → ℕ)
+    (senders : ℕ → Option (Core E)) (owners : List ℕ) (actions : ℕ → List Action) : Type 0 where
   pub tables : Tables P x words senders actions
   pub takers : PageTies owners actions
 
 -- what the senders' side of a machine keeps with them
-abbrev pub Ties : {E : Type 0} → Protocol E (Unit {0}) ℕ → Layout → Side E → (ℕ → List Action) → Type 0
-Ties P x side actions = TiesOf P x (slice_index side.words) (slice_get side.senders) side.owners actions
+abbrev pub Ties : {E : Type 0} → Protocol E (Unit {0}) ℕ → Layout → Side E → (ℕ → List Action)
+    → Type 0
+Ties P x side actions =
+    TiesOf P x (slice_index side.words) (slice_get side.senders) side.owners actions
 
-pub longer_by : (p : ℕ) (ds : List Action) (D : ℕ → List Action) → Longer p ds D (λ q. D q ++ cond (q == p) ds [])
+pub longer_by : (p : ℕ) (ds : List Action) (D : ℕ → List Action)
+    → Longer p ds D (λ q. D q ++ cond (q == p) ds [])
 longer_by p ds D = record {
-  own = elim (eqb_tells p p) [ inl y ↦ ap (λ t. D p ++ cond t ds []) y.0 | inr n ↦ absurd (n.1 refl) ];
-  others = λ q ne. elim (eqb_tells q p) [ inl y ↦ absurd (ne y.1) | inr n ↦ ap (λ t. D q ++ cond t ds []) n.0 ∙ append-nil (D q) ];
+  own = elim (eqb_tells p p) [
+    | inl y ↦ ap (λ t. D p ++ cond t ds []) y.0
+    | inr n ↦ absurd (n.1 refl)
+  ];
+  others = λ q ne. elim (eqb_tells q p) [
+    | inl y ↦ absurd (ne y.1)
+    | inr n ↦ ap (λ t. D q ++ cond t ds []) n.0 ∙ append-nil (D q)
+  ];
 }
 
 taken_apart : {E : Type 0} (t u : ℕ) (f : E) → phase.Taken t ≡ phase.Electing u f → ⊥
@@ -64,23 +85,41 @@ module _ {E : Type 0} (c : Core E) (t : ℕ) (later : E) where
   elected_next None = refl
   elected_next (Some o) = by_test (o == c.me)
     where
-      by_test : (b : Bool) → next_tenure (cond b (record c { phase = phase.Electing t later }) (record c { queue = record c.queue { busy = false }; least = t + 1; phase = phase.Resting })) ≡ t + 1
+      by_test : (b : Bool)
+          → next_tenure (cond b (record c { phase = phase.Electing t later }) (record c {
+            queue = record c.queue { busy = false };
+            least = t + 1;
+            phase = phase.Resting;
+          })) ≡ t + 1
       by_test true = refl
       by_test false = refl
 
-  elected_phase : (owner : Option ℕ) (u : ℕ) (f : E) → (core_elected c t later owner).phase ≡ phase.Electing u f → (t ≡ u) × (later ≡ f)
+  elected_phase : (owner : Option ℕ) (u : ℕ) (f : E)
+      → (core_elected c t later owner).phase ≡ phase.Electing u f → (t ≡ u) × (later ≡ f)
   elected_phase None u f i = bus.same_electing t u later f i
   elected_phase (Some o) u f i = by_test (o == c.me) i
     where
-      by_test : (b : Bool) → (cond b (record c { phase = phase.Electing t later }) (record c { queue = record c.queue { busy = false }; least = t + 1; phase = phase.Resting })).phase ≡ phase.Electing u f → (t ≡ u) × (later ≡ f)
+      by_test : (b : Bool)
+          → (cond b (record c { phase = phase.Electing t later }) (record c {
+            queue = record c.queue { busy = false };
+            least = t + 1;
+            phase = phase.Resting;
+          })).phase ≡ phase.Electing u f → (t ≡ u) × (later ≡ f)
       by_test true j = bus.same_electing t u later f j
       by_test false j = absurd (bus.resting_apart u f j)
 
-module _ {base : ℕ → ℕ} {E : Type 0} (X : Election E) (P : Protocol E (Unit {0}) ℕ) (laws : Laws X.op X.fed P OneOwner) (x : Layout) (ok : IsLayout x) (width : x.width ≡ P.width x.senders)
-    (starts : (n me at : ℕ) → X.started n me x.rounds at ≡ P.started n me tt at) (owner_is : (e : E) → X.owner e ≡ P.output e)
-    (named : (e : E) (word : ℕ) → is_some (X.kind_of e) ≡ is_some (X.op e word)) (announces : (e : E) → P.has_begun e ≡ false → X.kind_of e ≡ Some kind.Announce) (apart : (e : E) → X.kind_of e ≡ Some kind.TakePage → ⊥)
-    (words : ℕ → ℕ) (home : Option Page) (senders : ℕ → Option (Core E)) (owners : List ℕ) (frames : List Frame) (h : Sending base P x words home senders owners frames)
-    (p : ℕ) (c : Core E) (old : senders p ≡ Some c) (D : ℕ → List Action) (T : TiesOf P x words senders owners D)
+module _ {base : ℕ → ℕ} {E : Type 0} (X : Election E) (P : Protocol E (Unit {0}) ℕ)
+    (laws : Laws X.op X.fed P OneOwner) (x : Layout) (ok : IsLayout x)
+    (width : x.width ≡ P.width x.senders)
+    (starts : (n me at : ℕ) → X.started n me x.rounds at ≡ P.started n me tt at)
+    (owner_is : (e : E) → X.owner e ≡ P.output e)
+    (named : (e : E) (word : ℕ) → is_some (X.kind_of e) ≡ is_some (X.op e word))
+    (announces : (e : E) → P.has_begun e ≡ false → X.kind_of e ≡ Some kind.Announce)
+    (apart : (e : E) → X.kind_of e ≡ Some kind.TakePage → ⊥)
+    (words : ℕ → ℕ) (home : Option Page) (senders : ℕ → Option (Core E)) (owners : List ℕ)
+    (frames : List Frame) (h : Sending base P x words home senders owners frames)
+    (p : ℕ) (c : Core E) (old : senders p ≡ Some c) (D : ℕ → List Action)
+    (T : TiesOf P x words senders owners D)
     (words' : ℕ → ℕ) (senders' : ℕ → Option (Core E)) (beside : Beside p senders senders') where
   part : Part base x words frames p c
   part = h.parts p c old
@@ -88,20 +127,29 @@ module _ {base : ℕ → ℕ} {E : Type 0} (X : Election E) (P : Protocol E (Uni
   abbrev with_actions : List Action → ℕ → List Action
   with_actions ds q = D q ++ cond (q == p) ds []
 
-  follows : (c' : Core E) → senders' p ≡ Some c' → next_tenure c ≤ next_tenure c' → GoesOn p c c' senders senders'
+  follows : (c' : Core E) → senders' p ≡ Some c' → next_tenure c ≤ next_tenure c'
+      → GoesOn p c c' senders senders'
   follows c' new l = record { before = old; now = new; others = beside; rises = l }
 
   -- nothing is elected and no page taken
-  pub calm : (c' : Core E) → senders' p ≡ Some c' → (ds : List Action) → Agree 2 (x.rows * P.width x.senders) words words' → next_tenure c ≤ next_tenure c' → ((t : ℕ) (e : E) → c'.phase ≡ phase.Electing t e → c.phase ≡ phase.Electing t e) → IsPlain ds
+  pub calm : (c' : Core E) → senders' p ≡ Some c' → (ds : List Action)
+      → Agree 2 (x.rows * P.width x.senders) words words' → next_tenure c ≤ next_tenure c'
+      → ((t : ℕ) (e : E) → c'.phase ≡ phase.Electing t e → c.phase ≡ phase.Electing t e)
+      → IsPlain ds
       → TiesOf P x words' senders' owners (with_actions ds)
   calm c' new ds agree rises same plain = record {
-    tables = tables_stay X P laws x words words' D (with_actions ds) p ds (longer_by p ds D) senders senders' c c' (follows c' new rises) T.tables agree same plain.none_elected;
-    takers = takers_stay p ds D (with_actions ds) (longer_by p ds D) owners plain.none_took T.takers;
+    tables = tables_stay X P laws x words words' D (with_actions ds) p ds (longer_by p ds D) senders
+        senders' c c' (follows c' new rises) T.tables agree same plain.none_elected;
+    takers =
+        takers_stay p ds D (with_actions ds) (longer_by p ds D) owners plain.none_took T.takers;
   }
 
   -- a step on a word outside of all rows
-  outside : (o : Op) → bus.Changes o words words' → (register o < 2) ⊎ (2 + x.rows * P.width x.senders ≤ register o) → Agree 2 (x.rows * P.width x.senders) words words'
-  outside o step apart q a b = step.elsewhere q (elim apart [ inl l ↦ omega arith | inr l ↦ omega arith ])
+  outside : (o : Op) → bus.Changes o words words'
+      → (register o < 2) ⊎ (2 + x.rows * P.width x.senders ≤ register o)
+      → Agree 2 (x.rows * P.width x.senders) words words'
+  outside o step apart q a b =
+      step.elsewhere q (elim apart [ inl l ↦ omega arith | inr l ↦ omega arith ])
 
   -- ---- it begins a tenure that it may enter
   module _ (t : ℕ) (rests : c.phase ≡ phase.Resting) (least : c.least ≤ t) (room : t < x.rows) where
@@ -113,8 +161,10 @@ module _ {base : ℕ → ℕ} {E : Type 0} (X : Election E) (P : Protocol E (Uni
 
     start_is : start ≡ X.started c.layout.senders c.me c.layout.rounds (row_at c.layout t)
     start_is =
-        sym (starts x.senders p (2 + t * P.width x.senders)) ∙ ap (λ z. X.started x.senders p x.rounds (2 + t * z)) (sym width)
-        ∙ ap (λ z. X.started x.senders z x.rounds (row_at x t)) (sym part.me) ∙ ap (λ (z : Layout). X.started z.senders c.me z.rounds (row_at z t)) (sym part.layout)
+        sym (starts x.senders p (2 + t * P.width x.senders))
+        ∙ ap (λ z. X.started x.senders p x.rounds (2 + t * z)) (sym width)
+        ∙ ap (λ z. X.started x.senders z x.rounds (row_at x t)) (sym part.me)
+        ∙ ap (λ (z : Layout). X.started z.senders c.me z.rounds (row_at z t)) (sym part.layout)
 
     few : x.senders ≤ 64
     few = let z = ok.senders in omega arith
@@ -135,18 +185,36 @@ module _ {base : ℕ → ℕ} {E : Type 0} (X : Election E) (P : Protocol E (Uni
     absent : T.tables.elections t p ≡ None
     absent = T.tables.ahead p c t old (let a = next_was_least in omega arith)
 
-    pub begins : Agree 2 (x.rows * P.width x.senders) words words' → senders' p ≡ Some (core_begun X c t) → (ds : List Action) → IsPlain ds → TiesOf P x words' senders' owners (with_actions ds)
+    pub begins : Agree 2 (x.rows * P.width x.senders) words words'
+        → senders' p ≡ Some (core_begun X c t) → (ds : List Action) → IsPlain ds
+        → TiesOf P x words' senders' owners (with_actions ds)
     begins agree new ds plain =
-        let in_row : (u : ℕ) → u < x.rows → Agree (2 + u * P.width x.senders) (P.width x.senders) words words' = λ u l r a b. let z = row_within u x.rows (P.width x.senders) l in agree r (omega arith) (omega arith) in
+        let in_row : (u : ℕ) → u < x.rows
+        → Agree (2 + u * P.width x.senders) (P.width x.senders) words words' = λ u l r a b.
+        let z = row_within u x.rows (P.width x.senders) l in agree r (omega arith) (omega arith) in
         let row_now : ℕ → Option E = put p (Some start) (T.tables.elections t) in
-        let kept_now : P.Keeps x.senders (2 + t * P.width x.senders) words' row_now = laws.frame x.senders (2 + t * P.width x.senders) words words' row_now row_now
-        (laws.enters x.senders (2 + t * P.width x.senders) words (T.tables.elections t) row_now p tt (T.tables.kept t room) part.below few absent (put_here p (Some start) (T.tables.elections t)) (put_beside p (Some start) (T.tables.elections t)))
+        let kept_now : P.Keeps x.senders (2 + t * P.width x.senders) words' row_now =
+        laws.frame x.senders (2 + t * P.width x.senders) words words' row_now row_now
+        (laws.enters x.senders (2 + t * P.width x.senders) words (T.tables.elections t) row_now p tt
+        (T.tables.kept t room) part.below few absent
+        (put_here p (Some start) (T.tables.elections t))
+        (put_beside p (Some start) (T.tables.elections t)))
         (in_row t room) (λ q. refl) in
         record {
-          tables = tables_step X P laws x words words' D (with_actions ds) p ds (longer_by p ds D) senders senders' c (core_begun X c t) (follows (core_begun X c t) new (let a = next_was_least in omega arith)) T.tables
-              t room start kept_now (λ u l ne. in_row u l) (omega arith) (λ u f i. let s = bus.same_electing t u (X.started c.layout.senders c.me c.layout.rounds (row_at c.layout t)) f i in (s.0, start_is ∙ s.1))
-              (λ o i. none-some o (ap (of_some P.output) (sym absent) ∙ i)) (λ i. absurd (not_begun (P.has_begun start) fresh.fresh i)) (λ o i. absurd (none-some o (sym unstarted ∙ i))) (λ u o a. absurd (plain.none_elected u o a));
-          takers = takers_stay p ds D (with_actions ds) (longer_by p ds D) owners plain.none_took T.takers;
+          tables = tables_step X P laws x words words' D (with_actions ds) p ds (longer_by p ds D)
+              senders senders' c (core_begun X c t)
+              (follows (core_begun X c t) new (let a = next_was_least in omega arith)) T.tables
+              t room start kept_now (λ u l ne. in_row u l) (omega arith)
+              (λ u f i.
+              let s = bus.same_electing t u
+              (X.started c.layout.senders c.me c.layout.rounds (row_at c.layout t)) f i in
+              (s.0, start_is ∙ s.1))
+              (λ o i. none-some o (ap (of_some P.output) (sym absent) ∙ i))
+              (λ i. absurd (not_begun (P.has_begun start) fresh.fresh i))
+              (λ o i. absurd (none-some o (sym unstarted ∙ i)))
+              (λ u o a. absurd (plain.none_elected u o a));
+          takers = takers_stay p ds D (with_actions ds) (longer_by p ds D) owners plain.none_took
+              T.takers;
         }
 
   -- ---- a turn in a situation, with this random word, whatever it answers
@@ -155,13 +223,18 @@ module _ {base : ℕ → ℕ} {E : Type 0} (X : Election E) (P : Protocol E (Uni
     found_by o = number_found words o
 
     abbrev its_actions : Situation E → List Action
-    its_actions z = step_action (kind_at X c z) (tenure_at X c z) (found_by (op_at X c z word)) (chosen_at X c z (found_by (op_at X c z word)) word) answer
+    its_actions z = step_action (kind_at X c z) (tenure_at X c z) (found_by (op_at X c z word))
+        (chosen_at X c z (found_by (op_at X c z word)) word) answer
 
     abbrev pub KeptTies : Situation E → Type 0
-    KeptTies z = Steps (op_at X c z word) words words' → senders' p ≡ Some (core_after X c z home (found_by (op_at X c z word)) word) → TiesOf P x words' senders' (owners_after X c z p owners) (with_actions (its_actions z))
+    KeptTies z =
+        Steps (op_at X c z word) words words'
+        → senders' p ≡ Some (core_after X c z home (found_by (op_at X c z word)) word)
+        → TiesOf P x words' senders' (owners_after X c z p owners) (with_actions (its_actions z))
 
     -- no step
-    idle : Steps None words words' → senders' p ≡ Some c → TiesOf P x words' senders' owners (with_actions [])
+    idle : Steps None words words' → senders' p ≡ Some c
+        → TiesOf P x words' senders' owners (with_actions [])
     idle same new = calm c new [] (λ q a b. same q) (omega arith) (λ t e i. i) plain_none
 
     choose : (b : Bool) (s u : Situation E) → KeptTies s → KeptTies u → KeptTies (cond b s u)
@@ -188,16 +261,30 @@ module _ {base : ℕ → ℕ} {E : Type 0} (X : Election E) (P : Protocol E (Uni
           agrees : Agree 2 (x.rows * P.width x.senders) words words'
           agrees = outside (Load record { 0 = 1 }) step (inl (omega arith))
 
-          by_room : (b : Bool) → nat_le c.layout.rows (got / 2) ≡ b → waits c got ≡ false → senders' p ≡ Some (cond b (record c { least = got / 2 }) (core_begun X c (got / 2))) → TiesOf P x words' senders' owners (with_actions looked)
-          by_room true d e new = calm (record c { least = got / 2 }) new looked agrees (let a = next_is in let b : next_tenure (record c { least = got / 2 }) ≡ got / 2 = ap (next_at (record c { least = got / 2 })) rests in let g = (open_stage c got e).1 in omega arith) (λ t f i. i) looked_plain
-          by_room false d e new = begins (got / 2) rests (open_stage c got e).1 (let a = leb-false c.layout.rows (got / 2) d in let b = ap (λ (z : Layout). z.rows) part.layout in omega arith) agrees new looked looked_plain
+          by_room : (b : Bool) → nat_le c.layout.rows (got / 2) ≡ b → waits c got ≡ false
+              → senders' p ≡ Some (cond b (record c { least = got / 2 }) (core_begun X c (got / 2)))
+              → TiesOf P x words' senders' owners (with_actions looked)
+          by_room true d e new = calm (record c { least = got / 2 }) new looked agrees
+              (let a = next_is in
+              let b : next_tenure (record c { least = got / 2 }) ≡ got / 2 =
+              ap (next_at (record c { least = got / 2 })) rests in
+              let g = (open_stage c got e).1 in omega arith) (λ t f i. i) looked_plain
+          by_room false d e new = begins (got / 2) rests (open_stage c got e).1
+              (let a = leb-false c.layout.rows (got / 2) d in
+              let b = ap (λ (z : Layout). z.rows) part.layout in omega arith) agrees new looked
+              looked_plain
 
-          by_waits : (b : Bool) → waits c got ≡ b → senders' p ≡ Some (cond b c (cond (nat_le c.layout.rows (got / 2)) (record c { least = got / 2 }) (core_begun X c (got / 2)))) → TiesOf P x words' senders' owners (with_actions looked)
+          by_waits : (b : Bool) → waits c got ≡ b
+              → senders' p
+              ≡ Some (cond b c (cond (nat_le c.layout.rows (got / 2)) (record c { least = got / 2 })
+              (core_begun X c (got / 2)))) → TiesOf P x words' senders' owners (with_actions looked)
           by_waits true e new = calm c new looked agrees (omega arith) (λ t f i. i) looked_plain
           by_waits false e new = by_room (nat_le c.layout.rows (got / 2)) refl e new
 
       rest_kept : KeptTies (resting c)
-      rest_kept = choose (is_closed c.queue.phase) IsClosed _ idle (choose (is_empty c.queue.messages && cond (is_marking c.queue.phase) false true) IsIdle _ idle (choose (nat_le c.layout.rows c.least) IsSpent LooksAtStage idle looks))
+      rest_kept = choose (is_closed c.queue.phase) IsClosed _ idle
+          (choose (is_empty c.queue.messages && cond (is_marking c.queue.phase) false true) IsIdle _
+          idle (choose (nat_le c.layout.rows c.least) IsSpent LooksAtStage idle looks))
 
     -- ---- an election
     module _ (t : ℕ) (e : E) (elects : c.phase ≡ phase.Electing t e) where
@@ -216,9 +303,16 @@ module _ {base : ℕ → ℕ} {E : Type 0} (X : Election E) (P : Protocol E (Uni
       -- it takes the page
       take_kept : (o : ℕ) → X.owner e ≡ Some o → KeptTies (TakesPage t)
       take_kept o own step new = record {
-        tables = tables_stay X P laws x words words' D (with_actions taking) p taking (longer_by p taking D) senders senders' c (core_with_page c t home) (follows (core_with_page c t home) (new ∙ ap Some (with_page home)) (let a = next_was in let b = laid_next home in omega arith)) T.tables
-            (outside (Store record { 0 = 1 } (2 * t + 1)) step (inl (omega arith))) (λ u f i. absurd (laid_apart home u f i)) (λ u v a. none-some v (one_elected (Some t) kind.TakePage got None answer u v a).1);
-        takers = takers_more p taking D (with_actions taking) (longer_by p taking D) owners t got None answer refl many (T.tables.elected t p p (ap (of_some P.output) local ∙ out ∙ ap Some mine)) T.takers;
+        tables = tables_stay X P laws x words words' D (with_actions taking) p taking
+            (longer_by p taking D) senders senders' c (core_with_page c t home)
+            (follows (core_with_page c t home) (new ∙ ap Some (with_page home))
+            (let a = next_was in let b = laid_next home in omega arith)) T.tables
+            (outside (Store record { 0 = 1 } (2 * t + 1)) step (inl (omega arith)))
+            (λ u f i. absurd (laid_apart home u f i))
+            (λ u v a. none-some v (one_elected (Some t) kind.TakePage got None answer u v a).1);
+        takers = takers_more p taking D (with_actions taking) (longer_by p taking D) owners t got
+            None answer refl many
+            (T.tables.elected t p p (ap (of_some P.output) local ∙ out ∙ ap Some mine)) T.takers;
       } where
         out : P.output e ≡ Some o
         out = sym (owner_is e) ∙ own
@@ -227,9 +321,13 @@ module _ {base : ℕ → ℕ} {E : Type 0} (X : Election E) (P : Protocol E (Uni
         mine = h.chosen p c t e o old elects out
 
         many : length owners ≡ t
-        many = (tenures.finds_home X.op X.fed P laws x.senders x.rows 2 words (words 1) (is_some home) (λ q. of_some (λ d. Some (stands_at d.phase)) (senders q)) (λ q. least_of (senders q)) owners h.tenures p t e runs (out ∙ ap Some mine)).2
+        many =
+            (tenures.finds_home X.op X.fed P laws x.senders x.rows 2 words (words 1) (is_some home)
+            (λ q. of_some (λ d. Some (stands_at d.phase)) (senders q)) (λ q. least_of (senders q))
+            owners h.tenures p t e runs (out ∙ ap Some mine)).2
 
-        with_page : (z : Option Page) → core_with_page (record c { phase = phase.Taken t }) t z ≡ core_with_page c t z
+        with_page : (z : Option Page)
+            → core_with_page (record c { phase = phase.Taken t }) t z ≡ core_with_page c t z
         with_page None = refl
         with_page (Some page) = refl
 
@@ -237,12 +335,14 @@ module _ {base : ℕ → ℕ} {E : Type 0} (X : Election E) (P : Protocol E (Uni
         laid_next None = refl
         laid_next (Some page) = refl
 
-        laid_apart : (z : Option Page) (u : ℕ) (f : E) → (core_with_page c t z).phase ≡ phase.Electing u f → ⊥
+        laid_apart : (z : Option Page) (u : ℕ) (f : E)
+            → (core_with_page c t z).phase ≡ phase.Electing u f → ⊥
         laid_apart None u f i = taken_apart t u f i
         laid_apart (Some page) u f i = bus.holding_apart t page 0 false u f i
 
       -- it takes a step of its election
-      module _ (o : Op) (next : X.op e word ≡ Some o) (k : Kind) (kind_is : X.kind_of e ≡ Some k) (step : bus.Changes o words words') where
+      module _ (o : Op) (next : X.op e word ≡ Some o) (k : Kind) (kind_is : X.kind_of e ≡ Some k)
+          (step : bus.Changes o words words') where
         abbrev found_now : ℕ
         found_now = words (register o)
 
@@ -255,91 +355,166 @@ module _ {base : ℕ → ℕ} {E : Type 0} (X : Election E) (P : Protocol E (Uni
         abbrev ds : List Action
         ds = action ∷ []
 
-        row : (t < x.rows) × (2 + t * P.width x.senders ≤ register o) × (register o < 2 + t * P.width x.senders + P.width x.senders)
-        row = tenures.within_its_row X.op X.fed P laws x.senders x.rows 2 words (words 1) (is_some home) (λ q. of_some (λ d. Some (stands_at d.phase)) (senders q)) (λ q. least_of (senders q)) owners h.tenures p t e word o runs next
+        row : (t < x.rows) × (2 + t * P.width x.senders ≤ register o)
+            × (register o < 2 + t * P.width x.senders + P.width x.senders)
+        row = tenures.within_its_row X.op X.fed P laws x.senders x.rows 2 words (words 1)
+            (is_some home) (λ q. of_some (λ d. Some (stands_at d.phase)) (senders q))
+            (λ q. least_of (senders q)) owners h.tenures p t e word o runs next
 
-        kept_then : P.Keeps x.senders (2 + t * P.width x.senders) words' (put p (Some later) (T.tables.elections t))
-        kept_then = laws.moves x.senders (2 + t * P.width x.senders) words words' (T.tables.elections t) (put p (Some later) (T.tables.elections t)) p e word o (T.tables.kept t row.0) local next (put_here p (Some later) (T.tables.elections t)) (put_beside p (Some later) (T.tables.elections t))
+        kept_then : P.Keeps x.senders (2 + t * P.width x.senders) words'
+            (put p (Some later) (T.tables.elections t))
+        kept_then = laws.moves x.senders (2 + t * P.width x.senders) words words'
+            (T.tables.elections t) (put p (Some later) (T.tables.elections t)) p e word o
+            (T.tables.kept t row.0) local next (put_here p (Some later) (T.tables.elections t))
+            (put_beside p (Some later) (T.tables.elections t))
             record { here = step.here; elsewhere = λ r a b ne. step.elsewhere r ne }
 
-        other_row : (u : ℕ) → u < x.rows → u ≢ t → Agree (2 + u * P.width x.senders) (P.width x.senders) words words'
+        other_row : (u : ℕ) → u < x.rows → u ≢ t
+            → Agree (2 + u * P.width x.senders) (P.width x.senders) words words'
         other_row u l ne r a b = step.elsewhere r (elim (cases_lt u t) [
           | inl y ↦ (let z = row_within u t (P.width x.senders) y in let w = row.1 in omega arith)
-          | inr y ↦ (let z = row_within t u (P.width x.senders) (omega arith) in let w = row.2 in omega arith)
+          | inr y ↦
+              (let z = row_within t u (P.width x.senders) (omega arith) in
+              let w = row.2 in omega arith)
         ])
 
         action_at : slice_get (with_actions ds p) (length (D p) + 0) ≡ Some action
-        action_at = ap (λ z. slice_get z (length (D p) + 0)) (longer_by p ds D).own ∙ got_after (D p) ds 0 action refl (length (D p) + 0) refl
+        action_at =
+            ap (λ z. slice_get z (length (D p) + 0)) (longer_by p ds D).own
+            ∙ got_after (D p) ds 0 action refl (length (D p) + 0) refl
 
         announced_now : counted_input P later ≡ Some tt → Announced (with_actions ds p) t
         announced_now i = by_begun (P.has_begun e) refl
           where
             by_begun : (b : Bool) → P.has_begun e ≡ b → Announced (with_actions ds p) t
-            by_begun true j = announced_still p ds D (with_actions ds) (longer_by p ds D) p t (T.tables.announced t p (ap (of_some (counted_input P)) local ∙ ap (λ b. cond b (Some (P.input e)) None) j))
+            by_begun true j = announced_still p ds D (with_actions ds) (longer_by p ds D) p t
+                (T.tables.announced t p
+                (ap (of_some (counted_input P)) local ∙ ap (λ b. cond b (Some (P.input e)) None) j))
             by_begun false j =
                 let is : k ≡ kind.Announce = same_Some _ _ (sym kind_is ∙ announces e j) in
-                record { place = length (D p) + 0; found = found_now; chose = X.owner later; answer = answer; at = action_at ∙ ap (λ z. Some (Stepped (Some t) z found_now (X.owner later) answer)) is }
+                record {
+                  place = length (D p) + 0;
+                  found = found_now;
+                  chose = X.owner later;
+                  answer = answer;
+                  at =
+                      action_at
+                      ∙ ap (λ z. Some (Stepped (Some t) z found_now (X.owner later) answer)) is;
+                }
 
         elected_now : (v : ℕ) → P.output later ≡ Some v → Elected (with_actions ds p) t v
-        elected_now v i = record { place = length (D p) + 0; step = k; found = found_now; answer = answer; at = action_at ∙ ap (λ z. Some (Stepped (Some t) k found_now z answer)) (owner_is later ∙ i) }
+        elected_now v i = record {
+          place = length (D p) + 0;
+          step = k;
+          found = found_now;
+          answer = answer;
+          at =
+              action_at
+              ∙ ap (λ z. Some (Stepped (Some t) k found_now z answer)) (owner_is later ∙ i);
+        }
 
         abbrev c' : Core E
         c' = core_elected c t later (X.owner later)
 
         step_kept : senders' p ≡ Some c' → TiesOf P x words' senders' owners (with_actions ds)
         step_kept new = record {
-          tables = tables_step X P laws x words words' D (with_actions ds) p ds (longer_by p ds D) senders senders' c c' (follows c' new (let a = next_was in let b = elected_next c t later (X.owner later) in omega arith)) T.tables
-              t row.0 later kept_then other_row (let b = elected_next c t later (X.owner later) in omega arith) (elected_phase c t later (X.owner later)) (λ v i. none-some v (sym (laws.unended e word o next) ∙ ap (of_some P.output) (sym local) ∙ i))
-              announced_now elected_now (λ u v a. let one = one_elected (Some t) k found_now (X.owner later) answer u v a in (same_Some _ _ one.0, sym (owner_is later) ∙ one.1));
-          takers = takers_stay p ds D (with_actions ds) (longer_by p ds D) owners (λ u i a. apart e (kind_is ∙ ap Some (one_took (Some t) k found_now (X.owner later) answer u i a).2)) T.takers;
+          tables = tables_step X P laws x words words' D (with_actions ds) p ds (longer_by p ds D)
+              senders senders' c c' (follows c' new
+              (let a = next_was in let b = elected_next c t later (X.owner later) in omega arith))
+              T.tables
+              t row.0 later kept_then other_row
+              (let b = elected_next c t later (X.owner later) in omega arith)
+              (elected_phase c t later (X.owner later))
+              (λ v i. none-some v
+              (sym (laws.unended e word o next) ∙ ap (of_some P.output) (sym local) ∙ i))
+              announced_now elected_now (λ u v a.
+              let one = one_elected (Some t) k found_now (X.owner later) answer u v a in
+              (same_Some _ _ one.0, sym (owner_is later) ∙ one.1));
+          takers = takers_stay p ds D (with_actions ds) (longer_by p ds D) owners
+              (λ u i a. apart e
+              (kind_is ∙ ap Some (one_took (Some t) k found_now (X.owner later) answer u i a).2))
+              T.takers;
         }
 
       elect_kept : KeptTies (electing X t e)
       elect_kept = by_output (X.owner e) refl
         where
-          by_output : (owner : Option ℕ) → X.owner e ≡ owner → KeptTies (cond (is_some owner) (TakesPage t) (Elects t e))
+          by_output : (owner : Option ℕ) → X.owner e ≡ owner
+              → KeptTies (cond (is_some owner) (TakesPage t) (Elects t e))
           by_output (Some o) i = take_kept o i
           by_output None i = by_step (has_step).0 (has_step).1
             where
               has_step : (o : Op) × (X.op e word ≡ Some o)
               has_step = elim (some_or_none (X.op e word)) [
                 | inr o ↦ o
-                | inl stop ↦ absurd (let a = (laws.ends e word stop).0 in true≢false (sym a ∙ ap is_some (sym (owner_is e) ∙ i)))
+                | inl stop ↦ absurd (let a = (laws.ends e word stop).0 in
+                    true≢false (sym a ∙ ap is_some (sym (owner_is e) ∙ i)))
               ]
 
               has_kind : (o : Op) → X.op e word ≡ Some o → (k : Kind) × (X.kind_of e ≡ Some k)
               has_kind o next = elim (some_or_none (X.kind_of e)) [
                 | inr k ↦ k
-                | inl none ↦ absurd (true≢false (ap is_some (sym next) ∙ sym (named e word) ∙ ap is_some none))
+                | inl none ↦ absurd
+                    (true≢false (ap is_some (sym next) ∙ sym (named e word) ∙ ap is_some none))
               ]
 
               by_step : (o : Op) → X.op e word ≡ Some o → KeptTies (Elects t e)
               by_step o next =
                   let k = has_kind o next in
-                  subst (λ z. Steps z words words' → senders' p ≡ Some (core_elected c t (X.fed e (number_found words z) word) (X.owner (X.fed e (number_found words z) word)))
-                  → TiesOf P x words' senders' owners (with_actions (step_action (X.kind_of e) (Some t) (number_found words z) (X.owner (X.fed e (number_found words z) word)) answer))) (sym next)
-                  (subst (λ z. bus.Changes o words words' → senders' p ≡ Some (core_elected c t (X.fed e (words (register o)) word) (X.owner (X.fed e (words (register o)) word)))
-                  → TiesOf P x words' senders' owners (with_actions (step_action z (Some t) (words (register o)) (X.owner (X.fed e (words (register o)) word)) answer))) (sym k.1)
+                  subst (λ z.
+                  Steps z words words'
+                  → senders' p
+                  ≡ Some (core_elected c t (X.fed e (number_found words z) word)
+                  (X.owner (X.fed e (number_found words z) word)))
+                  → TiesOf P x words' senders' owners
+                  (with_actions (step_action (X.kind_of e) (Some t) (number_found words z)
+                  (X.owner (X.fed e (number_found words z) word)) answer))) (sym next)
+                  (subst (λ z.
+                  bus.Changes o words words'
+                  → senders' p
+                  ≡ Some (core_elected c t (X.fed e (words (register o)) word)
+                  (X.owner (X.fed e (words (register o)) word)))
+                  → TiesOf P x words' senders' owners
+                  (with_actions (step_action z (Some t) (words (register o))
+                  (X.owner (X.fed e (words (register o)) word)) answer))) (sym k.1)
                   (step_kept o next k.0 k.1))
 
     -- ---- a holder of the page
-    module _ (t : ℕ) (page : Page) (stored : ℕ) (published : Bool) (holds : c.phase ≡ phase.Holding t page stored published) where
+    module _ (t : ℕ) (page : Page) (stored : ℕ) (published : Bool)
+        (holds : c.phase ≡ phase.Holding t page stored published) where
       next_held : next_tenure c ≡ t + 1
       next_held = ap (next_at c) holds
 
       gives : (reason : Reason) → KeptTies (GivesBack t page reason)
-      gives reason step new = calm (core_at_rest c reason t) new _ (outside (Store record { 0 = 1 } (2 * t + 2)) step (inl (omega arith))) (let a = next_held in omega arith) (λ u f i. absurd (bus.resting_apart u f i)) (plain_step _ _ _ _ (λ e. cc))
+      gives reason step new = calm (core_at_rest c reason t) new _
+          (outside (Store record { 0 = 1 } (2 * t + 2)) step (inl (omega arith)))
+          (let a = next_held in omega arith) (λ u f i. absurd (bus.resting_apart u f i))
+          (plain_step _ _ _ _ (λ e. cc))
 
       stores : KeptTies (StoresWord t page stored)
-      stores step new = calm (record c { phase = phase.Holding t page (stored + 1) false }) new _ (outside (Store record { 0 = log_at c.layout + page.words + stored } (slice_index (frame_words (frame_of c.queue t)) stored)) step (inr (let l = ap log_at part.layout in let w = ap (λ z. x.rows * z) width in omega arith)))
-          (let a = next_held in omega arith) (λ u f i. absurd (bus.holding_apart t page (stored + 1) false u f i)) (plain_step _ _ _ _ (λ e. cc))
+      stores step new = calm (record c { phase = phase.Holding t page (stored + 1) false }) new _
+          (outside (Store record { 0 = log_at c.layout + page.words + stored }
+          (slice_index (frame_words (frame_of c.queue t)) stored)) step
+          (inr
+          (let l = ap log_at part.layout in let w = ap (λ z. x.rows * z) width in omega arith)))
+          (let a = next_held in omega arith)
+          (λ u f i. absurd (bus.holding_apart t page (stored + 1) false u f i))
+          (plain_step _ _ _ _ (λ e. cc))
 
       publishes : KeptTies (StoresLength t page stored)
-      publishes step new = calm (record c { phase = phase.Holding t page stored true }) new _ (outside (Store record { 0 = 0 } (page.words + frame_len c)) step (inl (omega arith))) (let a = next_held in omega arith) (λ u f i. absurd (bus.holding_apart t page stored true u f i)) (plain_step _ _ _ _ (λ e. cc))
+      publishes step new = calm (record c { phase = phase.Holding t page stored true }) new _
+          (outside (Store record { 0 = 0 } (page.words + frame_len c)) step (inl (omega arith)))
+          (let a = next_held in omega arith)
+          (λ u f i. absurd (bus.holding_apart t page stored true u f i))
+          (plain_step _ _ _ _ (λ e. cc))
 
       hold_kept : KeptTies (holding c t page stored published)
-      hold_kept = choose published (GivesBack t page Sent) _ (gives Sent) (choose page.ended (GivesBack t page FoundEnd) _ (gives FoundEnd)
-          (choose (has_room c page) (cond (nat_lt stored (frame_len c)) (StoresWord t page stored) (StoresLength t page stored)) (GivesBack t page NoRoom) (choose (nat_lt stored (frame_len c)) (StoresWord t page stored) (StoresLength t page stored) stores publishes) (gives NoRoom)))
+      hold_kept = choose published (GivesBack t page Sent) _ (gives Sent)
+          (choose page.ended (GivesBack t page FoundEnd) _ (gives FoundEnd)
+          (choose (has_room c page) (cond (nat_lt stored (frame_len c)) (StoresWord t page stored)
+          (StoresLength t page stored)) (GivesBack t page NoRoom)
+          (choose (nat_lt stored (frame_len c)) (StoresWord t page stored)
+          (StoresLength t page stored) stores publishes) (gives NoRoom)))
 
     -- ---- any turn
     turn_at : (ph : Phase E) → c.phase ≡ ph → KeptTies (situation_at X c ph)
@@ -353,8 +528,12 @@ module _ {base : ℕ → ℕ} {E : Type 0} (X : Election E) (P : Protocol E (Uni
     turn_tied = turn_at c.phase refl
 
   -- a put or a close: the sender rests on, and the batch alone is another
-  pub batch_tied : (c' : Core E) → senders' p ≡ Some c' → (ds : List Action) → c'.phase ≡ c.phase → c'.least ≡ c.least → IsPlain ds → ((q : ℕ) → words' q ≡ words q) → TiesOf P x words' senders' owners (with_actions ds)
-  batch_tied c' new ds same least plain words_same = calm c' new ds (λ q a b. words_same q) (let a = by_phase c.phase in let b = ap (next_at c') same in omega arith) (λ t e i. sym same ∙ i) plain
+  pub batch_tied : (c' : Core E) → senders' p ≡ Some c' → (ds : List Action) → c'.phase ≡ c.phase
+      → c'.least ≡ c.least → IsPlain ds → ((q : ℕ) → words' q ≡ words q)
+      → TiesOf P x words' senders' owners (with_actions ds)
+  batch_tied c' new ds same least plain words_same = calm c' new ds (λ q a b. words_same q)
+      (let a = by_phase c.phase in let b = ap (next_at c') same in omega arith)
+      (λ t e i. sym same ∙ i) plain
     where
       by_phase : (ph : Phase E) → next_at c' ph ≡ next_at c ph
       by_phase phase.Resting = least
@@ -364,10 +543,17 @@ module _ {base : ℕ → ℕ} {E : Type 0} (X : Election E) (P : Protocol E (Uni
       by_phase (phase.Giving t reason) = refl
 
 -- ---- on lists
-module _ {base : ℕ → ℕ} {E : Type 0} (X : Election E) (P : Protocol E (Unit {0}) ℕ) (laws : Laws X.op X.fed P OneOwner) (x : Layout) (ok : IsLayout x) (width : x.width ≡ P.width x.senders)
-    (starts : (n me at : ℕ) → X.started n me x.rounds at ≡ P.started n me tt at) (owner_is : (e : E) → X.owner e ≡ P.output e)
-    (named : (e : E) (word : ℕ) → is_some (X.kind_of e) ≡ is_some (X.op e word)) (announces : (e : E) → P.has_begun e ≡ false → X.kind_of e ≡ Some kind.Announce) (apart : (e : E) → X.kind_of e ≡ Some kind.TakePage → ⊥)
-    (side : Side E) (frames : List Frame) (h : IsSide base P x side frames) (p : ℕ) (c : Core E) (old : slice_get side.senders p ≡ Some c) (word : ℕ) (D : ℕ → List Action) (T : Ties P x side D) where
+module _ {base : ℕ → ℕ} {E : Type 0} (X : Election E) (P : Protocol E (Unit {0}) ℕ)
+    (laws : Laws X.op X.fed P OneOwner) (x : Layout) (ok : IsLayout x)
+    (width : x.width ≡ P.width x.senders)
+    (starts : (n me at : ℕ) → X.started n me x.rounds at ≡ P.started n me tt at)
+    (owner_is : (e : E) → X.owner e ≡ P.output e)
+    (named : (e : E) (word : ℕ) → is_some (X.kind_of e) ≡ is_some (X.op e word))
+    (announces : (e : E) → P.has_begun e ≡ false → X.kind_of e ≡ Some kind.Announce)
+    (apart : (e : E) → X.kind_of e ≡ Some kind.TakePage → ⊥)
+    (side : Side E) (frames : List Frame) (h : IsSide base P x side frames) (p : ℕ) (c : Core E)
+    (old : slice_get side.senders p ≡ Some c) (word : ℕ) (D : ℕ → List Action)
+    (T : Ties P x side D) where
   abbrev W : ℕ → ℕ
   W = slice_index side.words
 
@@ -377,16 +563,40 @@ module _ {base : ℕ → ℕ} {E : Type 0} (X : Election E) (P : Protocol E (Uni
   abbrev core_now : Core E
   core_now = core_after X c (situation_of X c) side.home (number_found W taken_step) word
 
-  pub turn_ties : Ties P x (side_after X side p c (situation_of X c) word) (λ q. D q ++ cond (q == p) (turn_actions X c (situation_of X c) (number_found (slice_index side.words) (op_at X c (situation_of X c) word)) word (answer.Turn (answer_at X c (situation_of X c) (number_found (slice_index side.words) (op_at X c (situation_of X c) word)) word))) [])
+  pub turn_ties : Ties P x (side_after X side p c (situation_of X c) word)
+      (λ q.
+      D q
+      ++ cond (q == p) (turn_actions X c (situation_of X c)
+      (number_found (slice_index side.words) (op_at X c (situation_of X c) word)) word
+      (answer.Turn (answer_at X c (situation_of X c)
+      (number_found (slice_index side.words) (op_at X c (situation_of X c) word)) word))) [])
   turn_ties =
       let senders' = slice_get (slice_set side.senders p core_now) in
-      let within = turn_within X P laws x ok width starts owner_is W side.home (slice_get side.senders) side.owners frames h.sending p c old word (slice_index (words_after side.words taken_step)) senders' (get_set_other side.senders p core_now) in
-      turn_tied X P laws x ok width starts owner_is named announces apart W side.home (slice_get side.senders) side.owners frames h.sending p c old D T (slice_index (words_after side.words taken_step)) senders' (get_set_other side.senders p core_now)
+      let within = turn_within X P laws x ok width starts owner_is W side.home
+      (slice_get side.senders) side.owners frames h.sending p c old word
+      (slice_index (words_after side.words taken_step)) senders'
+      (get_set_other side.senders p core_now) in
+      turn_tied X P laws x ok width starts owner_is named announces apart W side.home
+      (slice_get side.senders) side.owners frames h.sending p c old D T
+      (slice_index (words_after side.words taken_step)) senders'
+      (get_set_other side.senders p core_now)
       word (answer_at X c (situation_of X c) (number_found W taken_step) word)
-      (stepped-steps side.words taken_step (λ o due. let a = within o due in let b = h.words in omega arith)) (get_set_same side.senders p core_now (slice_get_within side.senders p c old))
+      (stepped-steps side.words taken_step
+      (λ o due. let a = within o due in let b = h.words in omega arith))
+      (get_set_same side.senders p core_now (slice_get_within side.senders p c old))
 
   -- a put or a close
-  pub batch_ties : (c' : Core E) (ds : List Action) → c'.phase ≡ c.phase → c'.least ≡ c.least → IsPlain ds → Ties P x record { words = side.words; home = side.home; senders = slice_set side.senders p c'; owners = side.owners } (λ q. D q ++ cond (q == p) ds [])
+  pub batch_ties : (c' : Core E) (ds : List Action) → c'.phase ≡ c.phase → c'.least ≡ c.least
+      → IsPlain ds
+      → Ties P x record {
+        words = side.words;
+        home = side.home;
+        senders = slice_set side.senders p c';
+        owners = side.owners;
+      } (λ q. D q ++ cond (q == p) ds [])
   batch_ties c' ds same least plain =
-      batch_tied X P laws x ok width starts owner_is named announces apart W side.home (slice_get side.senders) side.owners frames h.sending p c old D T W (slice_get (slice_set side.senders p c')) (get_set_other side.senders p c')
-      c' (get_set_same side.senders p c' (slice_get_within side.senders p c old)) ds same least plain (λ q. refl)
+      batch_tied X P laws x ok width starts owner_is named announces apart W side.home
+      (slice_get side.senders) side.owners frames h.sending p c old D T W
+      (slice_get (slice_set side.senders p c')) (get_set_other side.senders p c')
+      c' (get_set_same side.senders p c' (slice_get_within side.senders p c old)) ds same least
+      plain (λ q. refl)

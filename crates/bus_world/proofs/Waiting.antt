@@ -1,5 +1,6 @@
 -- What senders have put, and what an event puts and publishes.
-use Rattle.std.proofs.Common.{ℕ, cond, ◌==◌, Option, Some, None, List, [], ◌∷◌, ◌++◌, length, map, slice_get}
+use Rattle.std.proofs.Common.{ℕ, cond, ◌==◌, Option, Some, None, List, [], ◌∷◌, ◌++◌, length, map}
+use Rattle.std.proofs.Common.{slice_get}
 use Rattle.bus_batch.specs.Frames.{Frame, order_of}
 use Rattle.bus_deliverylog.specs.Orders.{of_sender}
 use Rattle.bus_tenure.specs.Core.{Core, Election}
@@ -37,7 +38,9 @@ waiting_of (Some c) = waiting_at c c.phase
 
 -- what a sender has put: its messages in the order, and those that are not in it yet
 abbrev pub put_by : {E : Type 0} → Bus E → List Frame → ℕ → List (List ℕ)
-put_by bus frames s = map (λ i. i.message) (of_sender s (order_of frames)) ++ waiting_of (slice_get bus.side.senders s)
+put_by bus frames s =
+    map (λ i. i.message) (of_sender s (order_of frames))
+    ++ waiting_of (slice_get bus.side.senders s)
 
 abbrev pub accepted_by : {E : Type 0} → Option (Core E) → List ℕ → List (List ℕ)
 accepted_by None bytes = []

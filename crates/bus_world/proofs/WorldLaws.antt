@@ -1,5 +1,8 @@
 -- Every event keeps the bus lawful, and a lawful bus keeps its promises.
-use Rattle.std.proofs.Common.{◌≡◌, ◌≢◌, ℕ, zero, suc, ◌+◌, ◌<◌, Bool, true, false, cond, ◌&&◌, ◌==◌, nat_lt, nat_le, Option, Some, None, ◌⊎◌, inl, inr, List, [], ◌∷◌, ◌++◌, length, map, take, slice_get, slice_index, slice_set, arith, refl, sym, ◌∙◌, ap, subst, append_assoc}
+use Rattle.std.proofs.Common.{◌≡◌, ◌≢◌, ℕ, zero, suc, ◌+◌, ◌<◌, Bool, true, false, cond, ◌&&◌}
+use Rattle.std.proofs.Common.{◌==◌, nat_lt, nat_le, Option, Some, None, ◌⊎◌, inl, inr, List, []}
+use Rattle.std.proofs.Common.{◌∷◌, ◌++◌, length, map, take, slice_get, slice_index, slice_set}
+use Rattle.std.proofs.Common.{arith, refl, sym, ◌∙◌, ap, subst, append_assoc}
 use Rattle.std.specs.Prelude.{All}
 use Rattle.std.proofs.lemmas.Bool.{and_parts, cases_eq, cases_lt}
 use Rattle.std.proofs.lemmas.Bool.Decides.{eqb_tells}
@@ -24,85 +27,131 @@ use Rattle.bus_world.proofs.ReceivingLaws.{goes_on, Receives-known, Receives-wor
 use Rattle.bus_world.specs.Proved.Receiving.{Receives, IsReceiver}
 use Rattle.bus_batch.specs.Reading.{HasRead}
 use Rattle.bus_deliverylog.specs.declared.receiving.RecvTurn.{RecvTurn}
-use Rattle.bus_deliverylog.specs.Receiving.{Receiving, HasReceived}
+use Rattle.bus_deliverylog.specs.Receiving.{Receiving, LogReading, HasReceived, reading_of}
 use Rattle.bus_ownerbits.specs.OneOwner.{OneOwner}
 use Rattle.bus_world.proofs.Beginning as beginning
-use Rattle.bus_world.specs.World.{IsLayout, Event, Put, Ask, Turn, Recv, Stop, recv_found, RecvStep, RecvDoes, first_page}
-use Rattle.bus_world.specs.Proved.Machines.{Side, side_after, going, IsEvent, Happens, SenderDoes, ReceiverDoes, Bus, is_open, can_put, can_close, put_in, mark_in, with_sender, IsNew}
+use Rattle.bus_world.specs.World.{IsLayout, Event, Put, Ask, Turn, Recv, Stop, recv_found}
+use Rattle.bus_world.specs.World.{RecvStep, RecvDoes, first_page}
+use Rattle.bus_world.specs.Proved.Machines.{Side, side_after, going, IsEvent, Happens, SenderDoes}
+use Rattle.bus_world.specs.Proved.Machines.{ReceiverDoes, Bus, is_open, can_put, can_close, put_in}
+use Rattle.bus_world.specs.Proved.Machines.{mark_in, with_sender, IsNew}
 use Rattle.bus_world.proofs.TurningLaws.{IsSide, side_of}
 use Rattle.bus_world.proofs.TurningLaws as turning
 use Rattle.bus_world.proofs.PutLaws as puts
 use Rattle.bus_world.proofs.Accepting as accepting
-use Rattle.bus_world.proofs.Accepting.{Accepted, Puts, Asks, accept, AreAccepted, not_busy, idle_rests}
+use Rattle.bus_world.proofs.Accepting.{Accepted, Puts, Asks, accept, AreAccepted, not_busy}
+use Rattle.bus_world.proofs.Accepting.{idle_rests}
 use Rattle.bus_tenure.specs.declared.phases.Reason.{Reason}
 use Rattle.bus_register.specs.Proved.TableLaws.{get_set_same, get_set_other}
 use Rattle.bus_world.specs.Proved.Invariants.{LawfulBus}
-use Rattle.bus_world.proofs.Waiting.{with_frame, frames_after, frames_by, event_frames, accepted_by, accepted, waiting_at, put_by, waiting_of}
+use Rattle.bus_world.proofs.Waiting.{with_frame, frames_after, frames_by, event_frames}
+use Rattle.bus_world.proofs.Waiting.{accepted_by, accepted, waiting_at, put_by, waiting_of}
 
 -- ---- numbers
-pub counted_at : (first : ℕ) (items : List Item) (k : ℕ) (i : Item) → AreCounted first items → slice_get items k ≡ Some i → i.number ≡ first + k
+pub counted_at : (first : ℕ) (items : List Item) (k : ℕ) (i : Item) → AreCounted first items
+    → slice_get items k ≡ Some i → i.number ≡ first + k
 counted_at first [] k i a e = absurd cc
-counted_at first (x ∷ items) zero i a e = ap (λ (z : Item). z.number) (sym (same_Some _ _ e)) ∙ a.0 ∙ (let z : first ≡ first + 0 = omega arith in z)
-counted_at first (x ∷ items) (suc k) i a e = counted_at (first + 1) items k i a.1 e ∙ (let z : first + 1 + k ≡ first + suc k = omega arith in z)
+counted_at first (x ∷ items) zero i a e =
+    ap (λ (z : Item). z.number) (sym (same_Some _ _ e)) ∙ a.0
+    ∙ (let z : first ≡ first + 0 = omega arith in z)
+counted_at first (x ∷ items) (suc k) i a e =
+    counted_at (first + 1) items k i a.1 e
+    ∙ (let z : first + 1 + k ≡ first + suc k = omega arith in z)
 
-same_side : {base : ℕ → ℕ} {E : Type 0} (P : Protocol E (Unit {0}) ℕ) (x : Layout) (frames : List Frame) (side side' : Side E) → side' ≡ side → IsSide base P x side frames → IsSide base P x side' frames
+same_side : {base : ℕ → ℕ} {E : Type 0} (P : Protocol E (Unit {0}) ℕ) (x : Layout)
+    (frames : List Frame) (side side' : Side E) → side' ≡ side → IsSide base P x side frames
+    → IsSide base P x side' frames
 same_side {base} P x frames side side' e h = subst (λ z. IsSide base P x z frames) (sym e) h
 
-module _ {E : Type 0} (X : Election E) (P : Protocol E (Unit {0}) ℕ) (laws : Laws X.op X.fed P OneOwner) (x : Layout) (ok : IsLayout x) (width : x.width ≡ P.width x.senders)
-    (starts : (n me at : ℕ) → X.started n me x.rounds at ≡ P.started n me tt at) (owner_is : (e : E) → X.owner e ≡ P.output e) where
-  module _ {base : ℕ → ℕ} (side : Side E) (frames : List Frame) (h : IsSide base P x side frames) (p : ℕ) (c : Core E) (old : slice_get side.senders p ≡ Some c) where
+module _ {E : Type 0} (X : Election E) (P : Protocol E (Unit {0}) ℕ)
+    (laws : Laws X.op X.fed P OneOwner) (x : Layout) (ok : IsLayout x)
+    (width : x.width ≡ P.width x.senders)
+    (starts : (n me at : ℕ) → X.started n me x.rounds at ≡ P.started n me tt at)
+    (owner_is : (e : E) → X.owner e ≡ P.output e) where
+  module _ {base : ℕ → ℕ} (side : Side E) (frames : List Frame) (h : IsSide base P x side frames)
+      (p : ℕ) (c : Core E) (old : slice_get side.senders p ≡ Some c) where
     -- what it accepts keeps what the senders keep
-    accept_lawful : (a : Accepted) → AreAccepted (a ∷ []) → IsSide base P x (with_sender side p (accept c a)) frames
+    accept_lawful : (a : Accepted) → AreAccepted (a ∷ [])
+        → IsSide base P x (with_sender side p (accept c a)) frames
     accept_lawful a each = record {
       words = h.words;
-      sending = accepting.grows X P laws x ok width (slice_index side.words) side.home side.owners frames p (a ∷ []) each (slice_get side.senders) h.sending c old (slice_get (slice_set side.senders p (accept c a)))
-          (get_set_other side.senders p (accept c a)) (get_set_same side.senders p (accept c a) (slice_get_within side.senders p c old));
+      sending = accepting.grows X P laws x ok width (slice_index side.words) side.home side.owners
+          frames p (a ∷ []) each (slice_get side.senders) h.sending c old
+          (slice_get (slice_set side.senders p (accept c a)))
+          (get_set_other side.senders p (accept c a))
+          (get_set_same side.senders p (accept c a) (slice_get_within side.senders p c old));
     }
 
 -- ---- receivers
-module _ {base : ℕ → ℕ} (x : Layout) (frames : List Frame) (words : ℕ → ℕ) (log : Logged base x.senders x.capacity (log_at x) words (words 0) frames) (v : Receiving) (h : IsReceiver x frames (words 0) v) where
-  pub received : HasReceived (take v.place (log_words frames)) (take v.place (log_pieces frames)) v
+module _ {base : ℕ → ℕ} (x : Layout) (frames : List Frame) (words : ℕ → ℕ)
+    (log : Logged base x.senders x.capacity (log_at x) words (words 0) frames) (v : Receiving)
+    (h : IsReceiver x frames (words 0) v) where
+  pub received : HasReceived (take v.place (log_words frames)) (take v.place (log_pieces frames))
+      (reading_of v)
   received = record {
-    read = subst (λ z. HasRead z (take v.place (log_words frames)) (take v.place (log_pieces frames)) v.frames) (sym h.senders) h.receives.has_read;
-    place = sym (length-take v.place (log_words frames) ∙ (let a = h.receives.place_below in let b = h.receives.known_below in let d = length-logged log in omega arith));
+    read = subst (λ z.
+        HasRead z (take v.place (log_words frames)) (take v.place (log_pieces frames)) v.frames)
+        (sym h.senders) h.receives.has_read;
+    place = sym (length-take v.place (log_words frames)
+        ∙ (let a = h.receives.place_below in
+        let b = h.receives.known_below in let d = length-logged log in omega arith));
   }
 
   module _ (answer : RecvTurn) (next : Receiving) where
-    at_length : v.place ≡ v.known → RecvStep v (words 0) answer next → IsReceiver x frames (words 0) next
+    at_length : v.place ≡ v.known → RecvStep v (words 0) answer next
+        → IsReceiver x frames (words 0) next
     at_length e s = elim (cases_lt v.known (words 0)) [
       | inl l ↦
-          let t = ((s.at_length e).more l (let a = log.fits in let b = h.log_words in omega arith)).1 in
+          let t =
+          ((s.at_length e).more l (let a = log.fits in let b = h.log_words in omega arith)).1 in
           subst (IsReceiver x frames (words 0)) (sym t) record {
             senders = h.senders;
             log = h.log;
             len_at = h.len_at;
             log_words = h.log_words;
-            receives = Receives-known x.senders frames (words 0) v.place v.known v.frames h.receives (omega arith);
+            receives = Receives-known x.senders frames (words 0) v.place v.known v.frames h.receives
+                (omega arith);
           }
       | inr l ↦
           let t = ((s.at_length e).same (let a = h.receives.known_below in omega arith)).1 in
           subst (IsReceiver x frames (words 0)) (sym t) h
     ]
 
-    at_word : v.place ≢ v.known → RecvStep v (words (log_at x + v.place)) answer next → IsReceiver x frames (words 0) next
+    at_word : v.place ≢ v.known → RecvStep v (words (log_at x + v.place)) answer next
+        → IsReceiver x frames (words 0) next
     at_word ne s =
         let more : v.place < v.known = let a = h.receives.place_below in omega arith in
         let word_is : slice_index (log_words frames) v.place ≡ words (log_at x + v.place) =
-        ap (λ z. slice_index z v.place) (sym log.words_are) ∙ index-read words (log_at x) (words 0) v.place (let a = h.receives.known_below in omega arith) in
-        elim (s.at_word ne (take v.place (log_words frames)) (take v.place (log_pieces frames)) received) [
-          | inl bad ↦ absurd (subst (λ z. IsBadWord z (take v.place (log_words frames)) (words (log_at x + v.place))) h.senders bad.0
-              (goes_on x.senders frames (words 0) v.place v.known v.frames h.receives log.lawful (length-logged log) more (words (log_at x + v.place)) word_is))
+        ap (λ z. slice_index z v.place) (sym log.words_are)
+        ∙ index-read words (log_at x) (words 0) v.place
+        (let a = h.receives.known_below in omega arith) in
+        elim (s.at_word ne (take v.place (log_words frames)) (take v.place (log_pieces frames))
+        received) [
+          | inl bad ↦ absurd
+              (subst
+              (λ z. IsBadWord z (take v.place (log_words frames)) (words (log_at x + v.place)))
+              h.senders bad.0
+              (goes_on x.senders frames (words 0) v.place v.known v.frames h.receives log.lawful
+              (length-logged log) more (words (log_at x + v.place)) word_is))
           | inr good ↦
               let senders_now : next.frames.senders ≡ x.senders = s.senders ∙ h.senders in
               let n = good.new_is in
               record {
                 senders = senders_now;
-                log = ap (λ (z : Receiving). z.log_at) n ∙ h.log;
-                len_at = ap (λ (z : Receiving). z.length_at) n ∙ h.len_at;
-                log_words = ap (λ (z : Receiving). z.log_words) n ∙ h.log_words;
-                receives = subst (λ z. Receives x.senders frames (words 0) z next.known next.frames) (sym (ap (λ (z : Receiving). z.place) n)) (subst (λ z. Receives x.senders frames (words 0) (v.place + 1) z next.frames) (sym (ap (λ (z : Receiving). z.known) n))
-                    (Receives-word x.senders frames (words 0) v.place v.known v.frames h.receives log.lawful (length-logged log) more (words (log_at x + v.place)) word_is good.found next.frames
-                    (subst (λ z. HasRead z (take v.place (log_words frames) ++ words (log_at x + v.place) ∷ []) (take v.place (log_pieces frames) ++ good.found ∷ []) next.frames) senders_now good.received.read)));
+                log = ap (λ (z : Receiving). z.log_at) s.registers ∙ h.log;
+                len_at = ap (λ (z : Receiving). z.length_at) s.registers ∙ h.len_at;
+                log_words = ap (λ (z : Receiving). z.log_words) s.registers ∙ h.log_words;
+                receives = subst (λ z. Receives x.senders frames (words 0) z next.known next.frames)
+                    (sym (ap (λ (z : LogReading). z.place) n))
+                    (subst (λ z. Receives x.senders frames (words 0) (v.place + 1) z next.frames)
+                    (sym (ap (λ (z : LogReading). z.known) n))
+                    (Receives-word x.senders frames (words 0) v.place v.known v.frames h.receives
+                    log.lawful (length-logged log) more (words (log_at x + v.place)) word_is
+                    good.found next.frames
+                    (subst (λ z. HasRead z
+                    (take v.place (log_words frames) ++ words (log_at x + v.place) ∷ [])
+                    (take v.place (log_pieces frames) ++ good.found ∷ []) next.frames) senders_now
+                    good.received.read)));
               }
         ]
 
@@ -112,8 +161,12 @@ module _ {base : ℕ → ℕ} (x : Layout) (frames : List Frame) (words : ℕ �
       where
         goes : RecvStep v (recv_found words v) answer next → IsReceiver x frames (words 0) next
         goes step = elim (eqb_tells v.place v.known) [
-          | inl y ↦ at_length y.1 (subst (λ z. RecvStep v z answer next) (ap (λ q. cond q (words v.length_at) (words (v.log_at + v.place))) y.0 ∙ ap words h.len_at) step)
-          | inr y ↦ at_word y.1 (subst (λ z. RecvStep v z answer next) (ap (λ q. cond q (words v.length_at) (words (v.log_at + v.place))) y.0 ∙ ap (λ q. words (q + v.place)) h.log) step)
+          | inl y ↦ at_length y.1 (subst (λ z. RecvStep v z answer next)
+              (ap (λ q. cond q (words v.length_at) (words (v.log_at + v.place))) y.0
+              ∙ ap words h.len_at) step)
+          | inr y ↦ at_word y.1 (subst (λ z. RecvStep v z answer next)
+              (ap (λ q. cond q (words v.length_at) (words (v.log_at + v.place))) y.0
+              ∙ ap (λ q. words (q + v.place)) h.log) step)
         ]
 
         by_end : (q : Bool) → v.ended ≡ q → IsReceiver x frames (words 0) next
@@ -121,35 +174,61 @@ module _ {base : ℕ → ℕ} (x : Layout) (frames : List Frame) (words : ℕ �
         by_end false e = goes (does.going e)
 
 -- receivers, where the log has grown
-module _ {base : ℕ → ℕ} (x : Layout) (frames : List Frame) (words words' : ℕ → ℕ) (log : Logged base x.senders x.capacity (log_at x) words (words 0) frames) where
-  same_len : (log' : Logged base x.senders x.capacity (log_at x) words' (words' 0) frames) → words' 0 ≡ words 0
+module _ {base : ℕ → ℕ} (x : Layout) (frames : List Frame) (words words' : ℕ → ℕ)
+    (log : Logged base x.senders x.capacity (log_at x) words (words 0) frames) where
+  same_len : (log' : Logged base x.senders x.capacity (log_at x) words' (words' 0) frames)
+      → words' 0 ≡ words 0
   same_len log' = sym (length-logged log') ∙ length-logged log
 
-  receiver_stays : (log' : Logged base x.senders x.capacity (log_at x) words' (words' 0) frames) (v : Receiving) → IsReceiver x frames (words 0) v → IsReceiver x frames (words' 0) v
+  receiver_stays :
+      (log' : Logged base x.senders x.capacity (log_at x) words' (words' 0) frames) (v : Receiving)
+      → IsReceiver x frames (words 0) v → IsReceiver x frames (words' 0) v
   receiver_stays log' v h = subst (λ z. IsReceiver x frames z v) (sym (same_len log')) h
 
-  receiver_follows : (f : Frame) (log' : Logged base x.senders x.capacity (log_at x) words' (words' 0) (frames ++ f ∷ [])) (v : Receiving) → IsReceiver x frames (words 0) v → IsReceiver x (frames ++ f ∷ []) (words' 0) v
+  receiver_follows : (f : Frame)
+      (log' : Logged base x.senders x.capacity (log_at x) words' (words' 0) (frames ++ f ∷ []))
+      (v : Receiving) → IsReceiver x frames (words 0) v
+      → IsReceiver x (frames ++ f ∷ []) (words' 0) v
   receiver_follows f log' v h =
       let size = length-logged log in
       let size' = length-logged log' in
-      let more = ap length (log_words-append frames f) ∙ length-append (log_words frames) (frame_words f) in
-      record { senders = h.senders; log = h.log; len_at = h.len_at; log_words = h.log_words; receives = Receives-append x.senders frames f (words 0) (words' 0) v.place v.known v.frames size (omega arith) h.receives }
+      let more =
+      ap length (log_words-append frames f) ∙ length-append (log_words frames) (frame_words f) in
+      record {
+        senders = h.senders;
+        log = h.log;
+        len_at = h.len_at;
+        log_words = h.log_words;
+        receives = Receives-append x.senders frames f (words 0) (words' 0) v.place v.known v.frames
+            size (omega arith) h.receives;
+      }
 
 -- a turn publishes at most one frame
-one_or_none : (more : Option Frame) (frames : List Frame) → (with_frame more frames ≡ frames) ⊎ ((f : Frame) × (with_frame more frames ≡ frames ++ f ∷ []))
+one_or_none : (more : Option Frame) (frames : List Frame)
+    → (with_frame more frames ≡ frames)
+    ⊎ ((f : Frame) × (with_frame more frames ≡ frames ++ f ∷ []))
 one_or_none None frames = inl refl
 one_or_none (Some f) frames = inr (f, refl)
 
-lawful_of : {base : ℕ → ℕ} {E : Type 0} {P : Protocol E (Unit {0}) ℕ} {x : Layout} {b : Bus E} {frames : List Frame} → IsSide base P x b.side frames → ((r : ℕ) (v : Receiving) → slice_get b.receivers r ≡ Some v → IsReceiver x frames (slice_index b.side.words 0) v) → LawfulBus base P x b frames
-lawful_of side receiving = record { words = side.words; keeps = record { sending = side.sending; receiving = receiving } }
+lawful_of : {base : ℕ → ℕ} {E : Type 0} {P : Protocol E (Unit {0}) ℕ} {x : Layout} {b : Bus E}
+    {frames : List Frame} → IsSide base P x b.side frames
+    → ((r : ℕ) (v : Receiving) → slice_get b.receivers r ≡ Some v
+    → IsReceiver x frames (slice_index b.side.words 0) v) → LawfulBus base P x b frames
+lawful_of side receiving = record {
+  words = side.words;
+  keeps = record { sending = side.sending; receiving = receiving };
+}
 
 -- the frames of one bus begin those of the other
 pub record Continues (frames frames' : List Frame) : Type 0 where
   pub more : List Frame
   pub together : frames ++ more ≡ frames'
 
-module _ {E : Type 0} (X : Election E) (P : Protocol E (Unit {0}) ℕ) (laws : Laws X.op X.fed P OneOwner) (x : Layout) (ok : IsLayout x) (width : x.width ≡ P.width x.senders)
-    (starts : (n me at : ℕ) → X.started n me x.rounds at ≡ P.started n me tt at) (owner_is : (e : E) → X.owner e ≡ P.output e) where
+module _ {E : Type 0} (X : Election E) (P : Protocol E (Unit {0}) ℕ)
+    (laws : Laws X.op X.fed P OneOwner) (x : Layout) (ok : IsLayout x)
+    (width : x.width ≡ P.width x.senders)
+    (starts : (n me at : ℕ) → X.started n me x.rounds at ≡ P.started n me tt at)
+    (owner_is : (e : E) → X.owner e ≡ P.output e) where
   -- what an event leaves: a lawful bus, whose log continues the one before
   pub record Left (base : ℕ → ℕ) (frames : List Frame) (b : Bus E) : Type 0 where
     pub frames_now : List Frame
@@ -161,45 +240,88 @@ module _ {E : Type 0} (X : Election E) (P : Protocol E (Unit {0}) ℕ) (laws : L
     pub left : Left base frames b
     pub now_is : left.frames_now ≡ target
 
-  module _ {base : ℕ → ℕ} (b : Bus E) (frames : List Frame) (h : LawfulBus base P x b frames) (b' : Bus E) where
+  module _ {base : ℕ → ℕ} (b : Bus E) (frames : List Frame) (h : LawfulBus base P x b frames)
+      (b' : Bus E) where
     -- the receivers are the same, and so is the log
     quiet : IsSide base P x b'.side frames → b'.receivers ≡ b.receivers → Left base frames b'
     quiet side same = record {
       frames_now = frames;
-      lawful = lawful_of side (λ r v e. receiver_stays x frames (slice_index b.side.words) (slice_index b'.side.words) h.keeps.sending.log side.sending.log v (h.keeps.receiving r v (ap (λ z. slice_get z r) (sym same) ∙ e)));
+      lawful = lawful_of side (λ r v e. receiver_stays x frames (slice_index b.side.words)
+          (slice_index b'.side.words) h.keeps.sending.log side.sending.log v
+          (h.keeps.receiving r v (ap (λ z. slice_get z r) (sym same) ∙ e)));
       continues = record { more = []; together = append-nil frames };
     }
 
-    longer : (f : Frame) → IsSide base P x b'.side (frames ++ f ∷ []) → b'.receivers ≡ b.receivers → Left base frames b'
+    longer : (f : Frame) → IsSide base P x b'.side (frames ++ f ∷ []) → b'.receivers ≡ b.receivers
+        → Left base frames b'
     longer f side same = record {
       frames_now = frames ++ f ∷ [];
-      lawful = lawful_of side (λ r v e. receiver_follows x frames (slice_index b.side.words) (slice_index b'.side.words) h.keeps.sending.log f side.sending.log v (h.keeps.receiving r v (ap (λ z. slice_get z r) (sym same) ∙ e)));
+      lawful = lawful_of side (λ r v e. receiver_follows x frames (slice_index b.side.words)
+          (slice_index b'.side.words) h.keeps.sending.log f side.sending.log v
+          (h.keeps.receiving r v (ap (λ z. slice_get z r) (sym same) ∙ e)));
       continues = record { more = f ∷ []; together = refl };
     }
 
-    put_left : (s : ℕ) (bytes : List ℕ) → All (λ byte. byte < 256) bytes → (o : Option (Core E)) → going b s ≡ o → SenderDoes b.side o (λ c. with_sender b.side s (put_in c bytes)) b'.side → b'.receivers ≡ b.receivers → After base frames frames b'
+    put_left : (s : ℕ) (bytes : List ℕ) → All (λ byte. byte < 256) bytes → (o : Option (Core E))
+        → going b s ≡ o → SenderDoes b.side o (λ c. with_sender b.side s (put_in c bytes)) b'.side
+        → b'.receivers ≡ b.receivers → After base frames frames b'
     unfolding quiet longer
-    put_left s bytes small None i d same = record { left = quiet (same_side P x frames b.side b'.side d (side_of h)) same; now_is = refl }
-    put_left s bytes small (Some c) i d same = record { left = quiet (same_side P x frames (with_sender b.side s (put_in c bytes)) b'.side d (accept_lawful X P laws x ok width starts owner_is b.side frames (side_of h) s c (is_there b s c i) (Puts bytes) (small, tt))) same; now_is = refl }
+    put_left s bytes small None i d same = record {
+      left = quiet (same_side P x frames b.side b'.side d (side_of h)) same;
+      now_is = refl;
+    }
+    put_left s bytes small (Some c) i d same = record {
+      left = quiet (same_side P x frames (with_sender b.side s (put_in c bytes)) b'.side d
+          (accept_lawful X P laws x ok width starts owner_is b.side frames (side_of h) s c
+          (is_there b s c i) (Puts bytes) (small, tt))) same;
+      now_is = refl;
+    }
 
-    mark_left : (s : ℕ) (m : Mark) (o : Option (Core E)) → going b s ≡ o → SenderDoes b.side o (λ c. with_sender b.side s (mark_in c m)) b'.side → b'.receivers ≡ b.receivers → After base frames frames b'
+    mark_left : (s : ℕ) (m : Mark) (o : Option (Core E)) → going b s ≡ o
+        → SenderDoes b.side o (λ c. with_sender b.side s (mark_in c m)) b'.side
+        → b'.receivers ≡ b.receivers → After base frames frames b'
     unfolding quiet longer
-    mark_left s m None i d same = record { left = quiet (same_side P x frames b.side b'.side d (side_of h)) same; now_is = refl }
-    mark_left s m (Some c) i d same = record { left = quiet (same_side P x frames (with_sender b.side s (mark_in c m)) b'.side d (accept_lawful X P laws x ok width starts owner_is b.side frames (side_of h) s c (is_there b s c i) (Asks m) tt)) same; now_is = refl }
+    mark_left s m None i d same = record {
+      left = quiet (same_side P x frames b.side b'.side d (side_of h)) same;
+      now_is = refl;
+    }
+    mark_left s m (Some c) i d same = record {
+      left = quiet (same_side P x frames (with_sender b.side s (mark_in c m)) b'.side d
+          (accept_lawful X P laws x ok width starts owner_is b.side frames (side_of h) s c
+          (is_there b s c i) (Asks m) tt)) same;
+      now_is = refl;
+    }
 
-    turn_left : (s word : ℕ) (o : Option (Core E)) → going b s ≡ o → SenderDoes b.side o (λ c. side_after X b.side s c (situation_of X c) word) b'.side → b'.receivers ≡ b.receivers → After base frames (frames_by X o frames) b'
+    turn_left : (s word : ℕ) (o : Option (Core E)) → going b s ≡ o
+        → SenderDoes b.side o (λ c. side_after X b.side s c (situation_of X c) word) b'.side
+        → b'.receivers ≡ b.receivers → After base frames (frames_by X o frames) b'
     unfolding quiet longer
-    turn_left s word None i d same = record { left = quiet (same_side P x frames b.side b'.side d (side_of h)) same; now_is = refl }
+    turn_left s word None i d same = record {
+      left = quiet (same_side P x frames b.side b'.side d (side_of h)) same;
+      now_is = refl;
+    }
     turn_left s word (Some c) i d same =
-        let side = subst (λ z. IsSide base P x z (frames_after X c (situation_of X c) frames)) (sym d) (turning.turn_lawful X P laws x ok width starts owner_is b.side frames (side_of h) s c (is_there b s c i) word) in
+        let side = subst (λ z. IsSide base P x z (frames_after X c (situation_of X c) frames))
+        (sym d) (turning.turn_lawful X P laws x ok width starts owner_is b.side frames (side_of h) s
+        c (is_there b s c i) word) in
         elim (one_or_none (line_of X c (situation_of X c)).publishes frames) [
-          | inl e ↦ record { left = quiet (subst (IsSide base P x b'.side) e side) same; now_is = sym e }
-          | inr f ↦ record { left = longer f.0 (subst (IsSide base P x b'.side) f.1 side) same; now_is = sym f.1 }
+          | inl e ↦ record {
+            left = quiet (subst (IsSide base P x b'.side) e side) same;
+            now_is = sym e;
+          }
+          | inr f ↦ record {
+            left = longer f.0 (subst (IsSide base P x b'.side) f.1 side) same;
+            now_is = sym f.1;
+          }
         ]
 
-    recv_left : (r : ℕ) (o : Option Receiving) → slice_get b.receivers r ≡ o → b'.side ≡ b.side → ReceiverDoes b.side.words b.receivers r o b'.receivers → After base frames frames b'
+    recv_left : (r : ℕ) (o : Option Receiving) → slice_get b.receivers r ≡ o → b'.side ≡ b.side
+        → ReceiverDoes b.side.words b.receivers r o b'.receivers → After base frames frames b'
     unfolding quiet longer
-    recv_left r None i d rs = record { left = quiet (same_side P x frames b.side b'.side d (side_of h)) rs; now_is = refl }
+    recv_left r None i d rs = record {
+      left = quiet (same_side P x frames b.side b'.side d (side_of h)) rs;
+      now_is = refl;
+    }
     recv_left r (Some v) i d rs =
         let words = slice_index b.side.words in
         let log = h.keeps.sending.log in
@@ -209,20 +331,32 @@ module _ {E : Type 0} (X : Election E) (P : Protocol E (Unit {0}) ℕ) (laws : L
           now_is = refl;
           left = record {
             frames_now = frames;
-            lawful = lawful_of {b = b'} (same_side P x frames b.side b'.side d (side_of h)) (λ q w e. subst (λ z. IsReceiver x frames (slice_index z.words 0) w) (sym d) (elim (cases_eq q r) [
-              | inl j ↦ subst (IsReceiver x frames (words 0)) (same_Some _ _ (sym (get_set_same b.receivers r rs.0 (slice_get_within b.receivers r v i)) ∙ ap (λ z. slice_get z r) (sym rs.3) ∙ ap (slice_get b'.receivers) (sym j) ∙ e)) next_is
-              | inr ne ↦ h.keeps.receiving q w (sym (get_set_other b.receivers r rs.0 q ne) ∙ ap (λ z. slice_get z q) (sym rs.3) ∙ e)
-            ]));
+            lawful = lawful_of {b = b'} (same_side P x frames b.side b'.side d (side_of h))
+                (λ q w e. subst (λ z. IsReceiver x frames (slice_index z.words 0) w) (sym d)
+                (elim (cases_eq q r) [
+                  | inl j ↦ subst (IsReceiver x frames (words 0))
+                      (same_Some _ _
+                      (sym (get_set_same b.receivers r rs.0 (slice_get_within b.receivers r v i))
+                      ∙ ap (λ z. slice_get z r) (sym rs.3) ∙ ap (slice_get b'.receivers) (sym j)
+                      ∙ e)) next_is
+                  | inr ne ↦ h.keeps.receiving q w
+                      (sym (get_set_other b.receivers r rs.0 q ne)
+                      ∙ ap (λ z. slice_get z q) (sym rs.3) ∙ e)
+                ]));
             continues = record { more = []; together = append-nil frames };
           };
         }
 
     stop_left : b'.side ≡ b.side → b'.receivers ≡ b.receivers → After base frames frames b'
     unfolding quiet
-    stop_left d same = record { left = quiet (same_side P x frames b.side b'.side d (side_of h)) same; now_is = refl }
+    stop_left d same = record {
+      left = quiet (same_side P x frames b.side b'.side d (side_of h)) same;
+      now_is = refl;
+    }
 
     -- whatever happens next
-    pub event_left : (e : Event) → IsEvent e → Happens X b e b' → After base frames (event_frames X b e frames) b'
+    pub event_left : (e : Event) → IsEvent e → Happens X b e b'
+        → After base frames (event_frames X b e frames) b'
     event_left (Put s bytes) is d = put_left s bytes is (going b s) refl d.0 d.1
     event_left (Ask s m) is d = mark_left s m (going b s) refl d.0 d.1
     event_left (Turn s word) is d = turn_left s word (going b s) refl d.0 d.1
@@ -231,74 +365,138 @@ module _ {E : Type 0} (X : Election E) (P : Protocol E (Unit {0}) ℕ) (laws : L
 
     -- ---- what it puts
     bus_same : b'.side ≡ b.side → (fs : List Frame) (q : ℕ) → put_by b' fs q ≡ put_by b fs q
-    bus_same d fs q = ap (λ z. map (λ i. i.message) (of_sender q (order_of fs)) ++ waiting_of (slice_get z.senders q)) d
+    bus_same d fs q = ap (λ z.
+        map (λ i. i.message) (of_sender q (order_of fs)) ++ waiting_of (slice_get z.senders q)) d
 
     -- a sender that is another, or has another batch
-    module _ (s : ℕ) (c c' : Core E) (old : slice_get b.side.senders s ≡ Some c) (now : b'.side.senders ≡ slice_set b.side.senders s c') (more : List (List ℕ)) (waits : waiting_of (Some c') ≡ waiting_of (Some c) ++ more) where
+    module _ (s : ℕ) (c c' : Core E) (old : slice_get b.side.senders s ≡ Some c)
+        (now : b'.side.senders ≡ slice_set b.side.senders s c') (more : List (List ℕ))
+        (waits : waiting_of (Some c') ≡ waiting_of (Some c) ++ more) where
       at_sender : put_by b' frames s ≡ put_by b frames s ++ more
       at_sender =
           let front = map (λ (i : Item). i.message) (of_sender s (order_of frames)) in
-          ap (λ z. front ++ waiting_of (slice_get z s)) now ∙ ap (λ z. front ++ waiting_of z) (get_set_same b.side.senders s c' (slice_get_within b.side.senders s c old)) ∙ ap (λ z. front ++ z) waits
-          ∙ sym (append_assoc front (waiting_of (Some c)) more) ∙ ap (λ z. (front ++ waiting_of z) ++ more) (sym old)
+          ap (λ z. front ++ waiting_of (slice_get z s)) now
+          ∙ ap (λ z. front ++ waiting_of z)
+          (get_set_same b.side.senders s c' (slice_get_within b.side.senders s c old))
+          ∙ ap (λ z. front ++ z) waits
+          ∙ sym (append_assoc front (waiting_of (Some c)) more)
+          ∙ ap (λ z. (front ++ waiting_of z) ++ more) (sym old)
 
       at_other : (q : ℕ) → q ≢ s → put_by b' frames q ≡ put_by b frames q
-      at_other q ne = ap (λ z. map (λ (i : Item). i.message) (of_sender q (order_of frames)) ++ waiting_of (slice_get z q)) now ∙ ap (λ z. map (λ (i : Item). i.message) (of_sender q (order_of frames)) ++ waiting_of z) (get_set_other b.side.senders s c' q ne)
+      at_other q ne =
+          ap (λ z.
+          map (λ (i : Item). i.message) (of_sender q (order_of frames))
+          ++ waiting_of (slice_get z q)) now
+          ∙ ap (λ z. map (λ (i : Item). i.message) (of_sender q (order_of frames)) ++ waiting_of z)
+          (get_set_other b.side.senders s c' q ne)
 
-    put_waits : (c : Core E) (bytes : List ℕ) → Fits base (slice_index b.side.words) frames c c.phase → waiting_of (Some (put_in c bytes)) ≡ waiting_of (Some c) ++ cond (can_put c.queue (length bytes)) (bytes ∷ []) []
+    put_waits : (c : Core E) (bytes : List ℕ)
+        → Fits base (slice_index b.side.words) frames c c.phase
+        → waiting_of (Some (put_in c bytes))
+        ≡ waiting_of (Some c) ++ cond (can_put c.queue (length bytes)) (bytes ∷ []) []
     put_waits c bytes fits = by_test (can_put c.queue (length bytes)) refl
       where
-        by_test : (t : Bool) → can_put c.queue (length bytes) ≡ t → waiting_of (Some (cond t (record c { queue = record c.queue { messages = c.queue.messages ++ bytes ∷ [] } }) c)) ≡ waiting_of (Some c) ++ cond t (bytes ∷ []) []
+        by_test : (t : Bool) → can_put c.queue (length bytes) ≡ t
+            → waiting_of
+            (Some (cond t
+            (record c { queue = record c.queue { messages = c.queue.messages ++ bytes ∷ [] } }) c))
+            ≡ waiting_of (Some c) ++ cond t (bytes ∷ []) []
         by_test false e = sym (append-nil (waiting_of (Some c)))
         by_test true e =
-            let tests = (and_parts (is_open c.queue.phase) (cond c.queue.busy false true && (nat_le (length bytes) 56 && nat_lt (length c.queue.messages) 16)) e).1 in
-            let idle = not_busy c.queue.busy (and_parts (cond c.queue.busy false true) (nat_le (length bytes) 56 && nat_lt (length c.queue.messages) 16) tests).0 in
+            let tests =
+            (and_parts (is_open c.queue.phase) (cond c.queue.busy false true
+            && (nat_le (length bytes) 56 && nat_lt (length c.queue.messages) 16)) e).1 in
+            let idle = not_busy c.queue.busy (and_parts (cond c.queue.busy false true)
+            (nat_le (length bytes) 56 && nat_lt (length c.queue.messages) 16) tests).0 in
             let rests = idle_rests base (slice_index b.side.words) frames c c.phase fits idle in
-            ap (waiting_at (record c { queue = record c.queue { messages = c.queue.messages ++ bytes ∷ [] } })) rests ∙ ap (λ z. z ++ bytes ∷ []) (sym (ap (waiting_at c) rests))
+            ap
+            (waiting_at
+            (record c { queue = record c.queue { messages = c.queue.messages ++ bytes ∷ [] } }))
+            rests ∙ ap (λ z. z ++ bytes ∷ []) (sym (ap (waiting_at c) rests))
 
-    mark_waits : (c : Core E) (m : Mark) → Fits base (slice_index b.side.words) frames c c.phase → waiting_of (Some (mark_in c m)) ≡ waiting_of (Some c) ++ []
+    mark_waits : (c : Core E) (m : Mark) → Fits base (slice_index b.side.words) frames c c.phase
+        → waiting_of (Some (mark_in c m)) ≡ waiting_of (Some c) ++ []
     mark_waits c m fits = by_test (can_close c.queue) refl
       where
-        by_test : (t : Bool) → can_close c.queue ≡ t → waiting_of (Some (cond t (record c { queue = record c.queue { phase = Marking m } }) c)) ≡ waiting_of (Some c) ++ []
+        by_test : (t : Bool) → can_close c.queue ≡ t
+            → waiting_of
+            (Some (cond t (record c { queue = record c.queue { phase = Marking m } }) c))
+            ≡ waiting_of (Some c) ++ []
         by_test false e = sym (append-nil (waiting_of (Some c)))
         by_test true e =
-            let tests = (and_parts (is_open c.queue.phase) (cond c.queue.busy false true && is_empty c.queue.messages) e).1 in
-            let idle = not_busy c.queue.busy (and_parts (cond c.queue.busy false true) (is_empty c.queue.messages) tests).0 in
+            let tests =
+            (and_parts (is_open c.queue.phase)
+            (cond c.queue.busy false true && is_empty c.queue.messages) e).1 in
+            let idle = not_busy c.queue.busy
+            (and_parts (cond c.queue.busy false true) (is_empty c.queue.messages) tests).0 in
             let rests = idle_rests base (slice_index b.side.words) frames c c.phase fits idle in
-            ap (waiting_at (record c { queue = record c.queue { phase = Marking m } })) rests ∙ sym (ap (waiting_at c) rests) ∙ sym (append-nil (waiting_of (Some c)))
+            ap (waiting_at (record c { queue = record c.queue { phase = Marking m } })) rests
+            ∙ sym (ap (waiting_at c) rests) ∙ sym (append-nil (waiting_of (Some c)))
 
-    own_part : (s : ℕ) (c : Core E) → slice_get b.side.senders s ≡ Some c → Part base x (slice_index b.side.words) frames s c
+    own_part : (s : ℕ) (c : Core E) → slice_get b.side.senders s ≡ Some c
+        → Part base x (slice_index b.side.words) frames s c
     own_part s c i = h.keeps.sending.parts s c i
 
-    put_puts : (s : ℕ) (bytes : List ℕ) (o : Option (Core E)) → going b s ≡ o → SenderDoes b.side o (λ c. with_sender b.side s (put_in c bytes)) b'.side → (q : ℕ) → put_by b' frames q ≡ put_by b frames q ++ cond (q == s) (accepted_by o bytes) []
-    put_puts s bytes None i d q = bus_same d frames q ∙ sym (append-nil (put_by b frames q)) ∙ ap (λ z. put_by b frames q ++ z) (sym (same_arms (q == s)))
+    put_puts : (s : ℕ) (bytes : List ℕ) (o : Option (Core E)) → going b s ≡ o
+        → SenderDoes b.side o (λ c. with_sender b.side s (put_in c bytes)) b'.side → (q : ℕ)
+        → put_by b' frames q ≡ put_by b frames q ++ cond (q == s) (accepted_by o bytes) []
+    put_puts s bytes None i d q =
+        bus_same d frames q ∙ sym (append-nil (put_by b frames q))
+        ∙ ap (λ z. put_by b frames q ++ z) (sym (same_arms (q == s)))
       where
         same_arms : (t : Bool) → cond {A = List (List ℕ)} t [] [] ≡ []
         same_arms true = refl
         same_arms false = refl
     put_puts s bytes (Some c) i d q = elim (eqb_tells q s) [
-      | inl y ↦ subst (λ z. put_by b' frames z ≡ put_by b frames z ++ cond (q == s) (accepted_by (Some c) bytes) []) (sym y.1) (at_sender s c (put_in c bytes) (is_there b s c i) (ap (λ (z : Side E). z.senders) d) (accepted_by (Some c) bytes) (put_waits c bytes (own_part s c (is_there b s c i)).fits)
+      | inl y ↦ subst (λ z.
+          put_by b' frames z ≡ put_by b frames z ++ cond (q == s) (accepted_by (Some c) bytes) [])
+          (sym y.1) (at_sender s c (put_in c bytes) (is_there b s c i)
+          (ap (λ (z : Side E). z.senders) d) (accepted_by (Some c) bytes)
+          (put_waits c bytes (own_part s c (is_there b s c i)).fits)
           ∙ ap (λ t. put_by b frames s ++ cond t (accepted_by (Some c) bytes) []) (sym y.0))
-      | inr y ↦ at_other s c (put_in c bytes) (is_there b s c i) (ap (λ (z : Side E). z.senders) d) (accepted_by (Some c) bytes) (put_waits c bytes (own_part s c (is_there b s c i)).fits) q y.1 ∙ sym (append-nil (put_by b frames q)) ∙ ap (λ t. put_by b frames q ++ cond t (accepted_by (Some c) bytes) []) (sym y.0)
+      | inr y ↦
+          at_other s c (put_in c bytes) (is_there b s c i) (ap (λ (z : Side E). z.senders) d)
+          (accepted_by (Some c) bytes) (put_waits c bytes (own_part s c (is_there b s c i)).fits) q
+          y.1 ∙ sym (append-nil (put_by b frames q))
+          ∙ ap (λ t. put_by b frames q ++ cond t (accepted_by (Some c) bytes) []) (sym y.0)
     ]
 
-    mark_puts : (s : ℕ) (m : Mark) (o : Option (Core E)) → going b s ≡ o → SenderDoes b.side o (λ c. with_sender b.side s (mark_in c m)) b'.side → (q : ℕ) → put_by b' frames q ≡ put_by b frames q ++ []
+    mark_puts : (s : ℕ) (m : Mark) (o : Option (Core E)) → going b s ≡ o
+        → SenderDoes b.side o (λ c. with_sender b.side s (mark_in c m)) b'.side → (q : ℕ)
+        → put_by b' frames q ≡ put_by b frames q ++ []
     mark_puts s m None i d q = bus_same d frames q ∙ sym (append-nil (put_by b frames q))
     mark_puts s m (Some c) i d q = elim (cases_eq q s) [
-      | inl y ↦ subst (λ z. put_by b' frames z ≡ put_by b frames z ++ []) (sym y) (at_sender s c (mark_in c m) (is_there b s c i) (ap (λ (z : Side E). z.senders) d) [] (mark_waits c m (own_part s c (is_there b s c i)).fits))
-      | inr ne ↦ at_other s c (mark_in c m) (is_there b s c i) (ap (λ (z : Side E). z.senders) d) [] (mark_waits c m (own_part s c (is_there b s c i)).fits) q ne ∙ sym (append-nil (put_by b frames q))
+      | inl y ↦ subst (λ z. put_by b' frames z ≡ put_by b frames z ++ []) (sym y)
+          (at_sender s c (mark_in c m) (is_there b s c i) (ap (λ (z : Side E). z.senders) d) []
+          (mark_waits c m (own_part s c (is_there b s c i)).fits))
+      | inr ne ↦
+          at_other s c (mark_in c m) (is_there b s c i) (ap (λ (z : Side E). z.senders) d) []
+          (mark_waits c m (own_part s c (is_there b s c i)).fits) q ne
+          ∙ sym (append-nil (put_by b frames q))
     ]
 
-    never_giving : (c : Core E) (ph : SenderPhase E) → c.phase ≡ ph → Fits base (slice_index b.side.words) frames c ph → (t : ℕ) (reason : Reason) → ph ≡ phase.Giving t reason → ⊥
-    never_giving c ph e fits t reason g = subst (Fits base (slice_index b.side.words) frames c) g fits
+    never_giving : (c : Core E) (ph : SenderPhase E) → c.phase ≡ ph
+        → Fits base (slice_index b.side.words) frames c ph → (t : ℕ) (reason : Reason)
+        → ph ≡ phase.Giving t reason → ⊥
+    never_giving c ph e fits t reason g =
+        subst (Fits base (slice_index b.side.words) frames c) g fits
 
-    turn_event_puts : (s word : ℕ) (o : Option (Core E)) → going b s ≡ o → SenderDoes b.side o (λ c. side_after X b.side s c (situation_of X c) word) b'.side → (q : ℕ) → put_by b' (frames_by X o frames) q ≡ put_by b frames q ++ []
+    turn_event_puts : (s word : ℕ) (o : Option (Core E)) → going b s ≡ o
+        → SenderDoes b.side o (λ c. side_after X b.side s c (situation_of X c) word) b'.side
+        → (q : ℕ) → put_by b' (frames_by X o frames) q ≡ put_by b frames q ++ []
     turn_event_puts s word None i d q = bus_same d frames q ∙ sym (append-nil (put_by b frames q))
     turn_event_puts s word (Some c) i d q =
         let part = own_part s c (is_there b s c i) in
-        ap (λ (z : Side E). map (λ (v : Item). v.message) (of_sender q (order_of (frames_after X c (situation_of X c) frames))) ++ waiting_of (slice_get z.senders q)) d
-        ∙ puts.turn_puts X b.side frames s c (is_there b s c i) part.queue part.sender word (λ t reason g. never_giving c c.phase refl part.fits t reason g) q ∙ sym (append-nil (put_by b frames q))
+        ap (λ (z : Side E).
+        map (λ (v : Item). v.message)
+        (of_sender q (order_of (frames_after X c (situation_of X c) frames)))
+        ++ waiting_of (slice_get z.senders q)) d
+        ∙ puts.turn_puts X b.side frames s c (is_there b s c i) part.queue part.sender word
+        (λ t reason g. never_giving c c.phase refl part.fits t reason g) q
+        ∙ sym (append-nil (put_by b frames q))
 
-    pub event_puts : (e : Event) → Happens X b e b' → (q : ℕ) → put_by b' (event_frames X b e frames) q ≡ put_by b frames q ++ accepted b e q
+    pub event_puts : (e : Event) → Happens X b e b' → (q : ℕ)
+        → put_by b' (event_frames X b e frames) q ≡ put_by b frames q ++ accepted b e q
     event_puts (Put s bytes) d q = put_puts s bytes (going b s) refl d.0 q
     event_puts (Ask s m) d q = mark_puts s m (going b s) refl d.0 q
     event_puts (Turn s word) d q = turn_event_puts s word (going b s) refl d.0 q
@@ -307,13 +505,20 @@ module _ {E : Type 0} (X : Election E) (P : Protocol E (Unit {0}) ℕ) (laws : L
 
   -- ---- a new bus is lawful
   module _ (bases : List ℕ) (b : Bus E) (new : IsNew bases x b) where
-    new_sending : Sending (slice_index bases) P x (slice_index b.side.words) b.side.home (slice_get b.side.senders) b.side.owners []
-    new_sending = subst (λ z. Sending (slice_index bases) P x (slice_index b.side.words) z (slice_get b.side.senders) b.side.owners []) (sym new.home)
-        (subst (λ z. Sending (slice_index bases) P x (slice_index b.side.words) (Some (first_page bases)) (slice_get b.side.senders) z []) (sym new.owners)
-        (beginning.new_sending X P laws x ok bases new.bases_are (slice_index b.side.words) (beginning.words_zero b new) (slice_get b.side.senders) new.senders))
+    new_sending : Sending (slice_index bases) P x (slice_index b.side.words) b.side.home
+        (slice_get b.side.senders) b.side.owners []
+    new_sending = subst (λ z. Sending (slice_index bases) P x (slice_index b.side.words) z
+        (slice_get b.side.senders) b.side.owners []) (sym new.home)
+        (subst (λ z. Sending (slice_index bases) P x (slice_index b.side.words)
+        (Some (first_page bases)) (slice_get b.side.senders) z []) (sym new.owners)
+        (beginning.new_sending X P laws x ok bases new.bases_are (slice_index b.side.words)
+        (beginning.words_zero b new) (slice_get b.side.senders) new.senders))
 
     pub new_is_lawful : LawfulBus (slice_index bases) P x b []
-    new_is_lawful = lawful_of (record { words = ap length new.words ∙ length-replicate (words_of x) 0; sending = new_sending }) (λ r v e.
+    new_is_lawful = lawful_of (record {
+      words = ap length new.words ∙ length-replicate (words_of x) 0;
+      sending = new_sending;
+    }) (λ r v e.
         let n = new.receivers r v e in
         let none : take v.place (log_words []) ≡ [] = take-nil v.place in
         record {
@@ -324,6 +529,8 @@ module _ {E : Type 0} (X : Election E) (P : Protocol E (Unit {0}) ℕ) (laws : L
           receives = record {
             place_below = (let a = n.known in let d = n.place in omega arith);
             known_below = (let a = n.known in omega arith);
-            has_read = subst (λ z. HasRead x.senders (take z (log_words [])) (take z (log_pieces [])) v.frames) (sym n.place) n.read;
+            has_read = subst
+                (λ z. HasRead x.senders (take z (log_words [])) (take z (log_pieces [])) v.frames)
+                (sym n.place) n.read;
           };
         })

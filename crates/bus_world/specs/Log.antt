@@ -1,5 +1,6 @@
 -- The words of a log, the numbers of its items, and the page that knows of it.
-use Rattle.std.specs.Prelude.{◌≡◌, ℕ, zero, suc, ◌+◌, ◌<◌, List, [], ◌∷◌, ◌++◌, length, Some, slice_get, slice_index}
+use Rattle.std.specs.Prelude.{◌≡◌, ℕ, zero, suc, ◌+◌, ◌<◌, List, [], ◌∷◌, ◌++◌, length, Some}
+use Rattle.std.specs.Prelude.{slice_get, slice_index}
 use Rattle.bus_register.specs.declared.limits.TheConstants.{MOST_SENDERS}
 use Rattle.bus_batch.specs.declared.messages.Item.{Item}
 use Rattle.bus_batch.specs.Frames.{Frame, order_of, has_end, has_gone}
@@ -24,11 +25,13 @@ AreCounted first (i ∷ items) = (i.number ≡ first) × AreCounted (first + 1) 
 abbrev pub next_number : (ℕ → ℕ) → ℕ → List Frame → ℕ
 next_number base s frames = base s + sent_count s frames
 
--- the page knows the next number of each sender behind these frames, who has left in them, whether they have ended, the tenures, the length
+-- the page knows the next number of each sender behind these frames, who has left in them, whether
+-- they have ended, the tenures, the length
 pub record Knows (base : ℕ → ℕ) (page : Page) (frames : List Frame) (past len : ℕ) : Type 0 where
   pub entries : length page.next ≡ MOST_SENDERS
   pub next : (s : ℕ) → s < MOST_SENDERS → slice_index page.next s ≡ next_number base s frames
-  pub left : (s : ℕ) → s < MOST_SENDERS → slice_get page.left s ≡ Some (has_gone s (order_of frames))
+  pub left : (s : ℕ) → s < MOST_SENDERS
+      → slice_get page.left s ≡ Some (has_gone s (order_of frames))
   pub ended : page.ended ≡ has_end frames
   pub tenures : page.tenures ≡ past
   pub words : page.words ≡ len

@@ -3,7 +3,8 @@ use Rattle.std.specs.Prelude.{◌≡◌, ℕ, false, Some, List, [], length, sli
 use Rattle.bus_batch.specs.Reading.{HasRead}
 use Rattle.bus_deliverylog.specs.Receiving.{Receiving}
 
--- a receiver that has read nothing, of so many senders, with the log that begins at this place and has so many words
+-- a receiver that has read nothing, of so many senders, with the log that begins at this place and
+-- has so many words
 pub record IsNewReceiver (senders log capacity : ℕ) (v : Receiving) : Type 0 where
   pub senders_are : v.frames.senders ≡ senders
   pub log_is : v.log_at ≡ log
@@ -15,6 +16,8 @@ pub record IsNewReceiver (senders log capacity : ℕ) (v : Receiving) : Type 0 w
   pub read : HasRead senders [] [] v.frames
 
 -- so many receivers, each at its start
-pub record AreNewReceivers (senders log capacity many : ℕ) (receivers : List Receiving) : Type 0 where
+pub record AreNewReceivers (senders log capacity many : ℕ) (receivers : List Receiving) :
+    Type 0 where
   pub many_are : length receivers ≡ many
-  pub each : (r : ℕ) (v : Receiving) → slice_get receivers r ≡ Some v → IsNewReceiver senders log capacity v
+  pub each : (r : ℕ) (v : Receiving) → slice_get receivers r ≡ Some v
+      → IsNewReceiver senders log capacity v

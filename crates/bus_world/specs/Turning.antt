@@ -1,5 +1,6 @@
 -- One turn of one sender: the words, the page, and who took it.
-use Rattle.std.specs.Prelude.{ℕ, false, Option, Some, None, List, [], ◌∷◌, ◌++◌, slice_index, slice_set}
+use Rattle.std.specs.Prelude.{ℕ, false, Option, Some, None, List, [], ◌∷◌, ◌++◌, slice_index}
+use Rattle.std.specs.Prelude.{slice_set}
 use Rattle.bus_register.specs.declared.registers.Op.{Op}
 use Rattle.bus_register.specs.Words.{register, after}
 use Rattle.bus_tenure.specs.Core.{Core}
@@ -37,7 +38,8 @@ core_moved Stays home c = c
 core_moved (Comes t) home c = core_with_page c t home
 core_moved (Returns t reason page) home c = record c { phase = phase.Giving t reason }
 
--- of a turn's move the part before its step: a page that is given back goes home, out of the hands of the sender
+-- of a turn's move the part before its step: a page that is given back goes home, out of the hands
+-- of the sender
 abbrev pub before_step : PageMove → PageMove
 before_step Stays = Stays
 before_step (Comes t) = Stays

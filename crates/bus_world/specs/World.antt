@@ -1,10 +1,12 @@
 -- The sizes of a bus, its events, what a receiver does in a turn, and what a new bus is.
-use Rattle.std.specs.Prelude.{◌≡◌, ◌≢◌, ℕ, ◌+◌, ◌<◌, Bool, true, false, Option, Some, None, List, length, replicate, slice_index, if◌then◌else◌, ◌==◌, ◌≤◌}
+use Rattle.std.specs.Prelude.{◌≡◌, ◌≢◌, ℕ, ◌+◌, ◌<◌, Bool, true, false, Option, Some, None, List}
+use Rattle.std.specs.Prelude.{length, replicate, slice_index, if◌then◌else◌, ◌==◌, ◌≤◌}
 use Rattle.bus_register.specs.declared.limits.TheConstants.{MOST_SENDERS, MOST_LOG_WORDS, TENURES}
 use Rattle.bus_batch.specs.declared.messages.Mark.{Mark}
 use Rattle.bus_deliverylog.specs.declared.receiving.RecvTurn.{RecvTurn}
 use Rattle.bus_deliverylog.specs.declared.receiving.RecvTurn.TheVariants.{End as RecvEnd}
-use Rattle.bus_deliverylog.specs.Receiving.{Receiving, HasReceived, TakesLength, TakesWord}
+use Rattle.bus_deliverylog.specs.Receiving.{Receiving, TakesLength, TakesNext, reading_of}
+use Rattle.bus_deliverylog.specs.Receiving.{with_reading}
 use Rattle.bus_tenure.specs.Core.{Layout}
 use Rattle.bus_tenure.specs.declared.pages.Page.{Page}
 use Rattle.bus_world.specs.declared.limits.TheConstants.{FIRST_NUMBERS}
@@ -19,8 +21,9 @@ abbrev pub is_set : Option Bool → Bool
 is_set None = false
 is_set (Some t) = t
 
--- What may happen next, in any order and number: nothing is assumed of who is scheduled, of the random words, or of who stops.
--- A sender stops by an event of its own, or just by having none any more.
+-- What may happen next, in any order and number: nothing is assumed of who is scheduled, of the
+-- random words, or of who stops. A sender stops by an event of its own, or just by having none any
+-- more.
 pub data Event : Type 0 where
   Put : (sender : ℕ) → (bytes : List ℕ) → Event
   -- a close asks for the end mark, a leave for the leave mark
@@ -34,18 +37,21 @@ pub data Event : Type 0 where
 pub record RecvStep (old : Receiving) (got : ℕ) (answer : RecvTurn) (new : Receiving) : Type 0 where
   pub senders : new.frames.senders ≡ old.frames.senders
   pub at_length : old.place ≡ old.known → TakesLength old got answer new
-  pub at_word : old.place ≢ old.known → (words : List ℕ) (pieces : List _) → HasReceived words pieces old → TakesWord words pieces old got answer new
+  pub at_word : old.place ≢ old.known → TakesNext (reading_of old) got answer (reading_of new)
+  pub registers : new ≡ with_reading old (reading_of new)
 
 abbrev pub recv_found : (ℕ → ℕ) → Receiving → ℕ
 recv_found words v = if v.place == v.known then words v.length_at else words (v.log_at + v.place)
 
 -- one turn of a receiver: after the end it answers End for good, and takes no step
-pub record RecvDoes (words : ℕ → ℕ) (old : Receiving) (answer : RecvTurn) (new : Receiving) : Type 0 where
+pub record RecvDoes (words : ℕ → ℕ) (old : Receiving) (answer : RecvTurn) (new : Receiving) :
+    Type 0 where
   pub ended : old.ended ≡ true → (answer ≡ RecvEnd) × (new ≡ old)
   pub going : old.ended ≡ false → RecvStep old (recv_found words old) answer new
 
 -- ---- a new bus
--- the numbers that a sitting begins with, by sender: each is below its range by a whole log at least
+-- the numbers that a sitting begins with, by sender: each is below its range by a whole log at
+-- least
 pub record AreBases (bases : List ℕ) : Type 0 where
   pub many : length bases ≡ MOST_SENDERS
   pub low : (s : ℕ) → slice_index bases s < FIRST_NUMBERS
@@ -55,7 +61,13 @@ abbrev pub no_bases : List ℕ
 no_bases = replicate MOST_SENDERS 0
 
 abbrev pub first_page : List ℕ → Page
-first_page bases = record { next = bases; left = replicate MOST_SENDERS false; ended = false; tenures = 0; words = 0 }
+first_page bases = record {
+  next = bases;
+  left = replicate MOST_SENDERS false;
+  ended = false;
+  tenures = 0;
+  words = 0;
+}
 
 -- nobody has stopped
 abbrev pub no_stops : List Bool

@@ -1,5 +1,6 @@
 -- The transfers: their messages, and what they do.
-use Rattle.std.specs.Prelude.{◌≡◌, ℕ, ◌+◌, ◌-◌, ◌<◌, ◌≤◌, List, [], ◌∷◌, length, slice_index, slice_set}
+use Rattle.std.specs.Prelude.{◌≡◌, ℕ, ◌+◌, ◌-◌, ◌<◌, ◌≤◌, List, [], ◌∷◌, length, slice_index}
+use Rattle.std.specs.Prelude.{slice_set}
 use Rattle.example_ledger.specs.declared.Transfer.{Transfer}
 
 -- `>`, the account that pays, the account that is paid, and the amount
@@ -8,18 +9,24 @@ message_of transfer = 62 ∷ transfer.from ∷ transfer.to ∷ transfer.amount �
 
 -- both accounts are there, and the one that pays has the amount
 abbrev pub IsCovered : Transfer → List ℕ → Type 0
-IsCovered transfer balances = (transfer.from < length balances) × (transfer.to < length balances) × (transfer.amount ≤ slice_index balances transfer.from)
+IsCovered transfer balances =
+    (transfer.from < length balances) × (transfer.to < length balances)
+    × (transfer.amount ≤ slice_index balances transfer.from)
 
 -- the message is of a transfer that is covered
 abbrev pub CanBePaid : List ℕ → List ℕ → Type 0
-CanBePaid message balances = (transfer : Transfer) × (message ≡ message_of transfer) × IsCovered transfer balances
+CanBePaid message balances =
+    (transfer : Transfer) × (message ≡ message_of transfer) × IsCovered transfer balances
 
--- the balances once the amount was taken from one account, and once it was given to the other, which may be the same
+-- the balances once the amount was taken from one account, and once it was given to the other,
+-- which may be the same
 abbrev pub after_taking : Transfer → List ℕ → List ℕ
-after_taking transfer balances = slice_set balances transfer.from (slice_index balances transfer.from - transfer.amount)
+after_taking transfer balances =
+    slice_set balances transfer.from (slice_index balances transfer.from - transfer.amount)
 
 abbrev pub after_giving : Transfer → List ℕ → List ℕ
-after_giving transfer balances = slice_set balances transfer.to (slice_index balances transfer.to + transfer.amount)
+after_giving transfer balances =
+    slice_set balances transfer.to (slice_index balances transfer.to + transfer.amount)
 
 -- the balances after a transfer that is covered
 abbrev pub after_transfer : Transfer → List ℕ → List ℕ

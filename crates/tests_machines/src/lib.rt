@@ -1,5 +1,5 @@
-//! Tests of the machine: senders by themselves, the world with both kinds of rows, what replays and
-//! traces write. They stand above the crates that they test, so that none of those is proved once
+//! Tests of the machine: senders by themselves, the world with both kinds of rows, and replays.
+//! They stand above the crates that they test, so that none of those is proved once
 //! more for its tests.
 #![tactic(auto)]
 
@@ -9,7 +9,5 @@ mod cyclic;
 mod replays;
 #[cfg(test)]
 mod senders;
-#[cfg(test)]
-mod traces;
 #[cfg(test)]
 mod worlds;

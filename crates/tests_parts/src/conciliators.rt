@@ -5,8 +5,7 @@ ghost use Rattle.bus_register.specs.Words.{register};
 
 use bus_coinconc::Conciliator;
 use bus_register::{Cells, Kind, Machine, Op, Reg, SenderNo};
-use bus_votecount::{Tally, total};
-use bus_walkcoin::WalkCoin;
+use bus_walkcoin::{Tally, WalkCoin, total};
 use std::process::Abort;
 
 /// A machine of either sort.

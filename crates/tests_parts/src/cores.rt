@@ -60,53 +60,81 @@ fn turns(rt: &impl Abort, core: &mut SenderCore<ThreeWord>, cells: &mut Cells) -
     Turn::Going
 }
 
+/// Wants that the next step is of this kind, and answers this.
+fn takes(
+    rt: &impl Abort,
+    core: &mut SenderCore<ThreeWord>,
+    cells: &mut Cells,
+    kind: Kind,
+    want: Turn,
+) {
+    assert_eq!(rt; core.kind(), Some(kind));
+    assert_eq!(rt; step(rt, core, cells), want);
+}
+
+/// Wants that a message is taken with this number.
+fn puts(rt: &impl Abort, core: &mut SenderCore<ThreeWord>, bytes: &[u8], number: u64) {
+    assert!(rt; core.next_number() < 16);
+    assert_eq!(rt; core.put(bytes), Ok(number));
+    assert_eq!(rt; core.next_number(), number.saturating_add(1));
+}
+
+/// Wants this tenure, so many turns that are left of its election, and no random word.
+fn stands_in(rt: &impl Abort, core: &SenderCore<ThreeWord>, tenure: Option<u64>, turns: u64) {
+    assert_eq!(rt; core.tenure(), tenure);
+    assert_eq!(rt; core.turns_left(), turns);
+    assert!(rt; !core.wants_word());
+}
+
+/// It takes the page of a bus that has had no tenure.
+fn lays<R: Abort + AllocGlobal>(rt: &R, core: &mut SenderCore<ThreeWord>) {
+    assert!(rt; core.awaits_page());
+    let page = OwnedPage::new(rt.alloc(), first_page());
+    core.lay(page.expect(rt, "memory"));
+}
+
+/// The page that goes home has one message of sender 0, in three words of one tenure.
+fn gives_page(rt: &impl Abort, core: &mut SenderCore<ThreeWord>) {
+    let taken = core.take_out().expect(rt, "the page");
+    let page = taken.get();
+    assert_eq!(rt; (page.next[0], page.next[1]), (1, 0));
+    assert_eq!(rt; (page.tenures, page.words), (1, 3));
+}
+
+/// Nothing waits, and what is put then finds no tenure.
+fn is_done(rt: &impl Abort, core: &mut SenderCore<ThreeWord>) {
+    assert_eq!(rt; core.number().0, 0);
+    assert_eq!(rt; core.pending(), 0);
+    assert_eq!(rt; core.rest(), Turn::Idle);
+    puts(rt, core, b"b", 1);
+    assert_eq!(rt; core.rest(), Turn::Spent);
+}
+
 #[test]
 fn alone_in_the_first_tenure(rt: HostRuntime) -> Result<(), Fail> {
     let mut cells = Cells::new(rt.alloc(), 40)?;
     let mut core = SenderCore::<ThreeWord>::new(2, SenderNo(0), 1, 1, 16, 0);
-    let number = core.put(b"a").ok().expect(&rt, "put");
-    assert_eq!(rt; number, 0);
-    assert_eq!(rt; core.number().0, 0);
-    assert_eq!(rt; core.next_number(), 1);
-    assert_eq!(rt; core.tenure(), None);
-    assert_eq!(rt; core.turns_left(), 0);
-    assert_eq!(rt; core.kind(), Some(Kind::LoadStage));
-    assert_eq!(rt; step(&rt, &mut core, &mut cells), Turn::Going);
-    assert_eq!(rt; core.tenure(), Some(0));
-    assert_eq!(rt; core.turns_left(), 9);
-    assert!(rt; !core.wants_word());
+    puts(&rt, &mut core, b"a", 0);
+    stands_in(&rt, &core, None, 0);
+    takes(&rt, &mut core, &mut cells, Kind::LoadStage, Turn::Going);
+    stands_in(&rt, &core, Some(0), 9);
     assert_eq!(rt; turns(&rt, &mut core, &mut cells), Turn::Own { tenure: 0 });
     assert_eq!(rt; word(&rt, &cells, STAGE), 1);
-    assert!(rt; core.awaits_page());
-    core.lay(OwnedPage::new(rt.alloc(), first_page())?);
+    lays(&rt, &mut core);
     for _ in 0..3 {
-        assert_eq!(rt; core.kind(), Some(Kind::StoreLogWord));
-        assert_eq!(rt; step(&rt, &mut core, &mut cells), Turn::Going);
+        takes(&rt, &mut core, &mut cells, Kind::StoreLogWord, Turn::Going);
     }
-    assert_eq!(rt; core.kind(), Some(Kind::StoreLength));
-    assert_eq!(rt; step(&rt, &mut core, &mut cells), Turn::Going);
+    takes(&rt, &mut core, &mut cells, Kind::StoreLength, Turn::Going);
     assert_eq!(rt; word(&rt, &cells, LENGTH), 3);
-    let taken = core.take_out().expect(&rt, "the page");
-    let page = taken.get();
-    assert_eq!(rt; (page.next[0], page.next[1]), (1, 0));
-    assert_eq!(rt; page.tenures, 1);
-    assert_eq!(rt; page.words, 3);
-    let turn = step(&rt, &mut core, &mut cells);
-    assert_eq!(rt;
-        turn,
-        Turn::Delivered {
-            tenure: 0,
-            first: 0,
-            last: 0
-        }
-    );
+    gives_page(&rt, &mut core);
+    let delivered = Turn::Delivered {
+        tenure: 0,
+        first: 0,
+        last: 0,
+    };
+    assert_eq!(rt; step(&rt, &mut core, &mut cells), delivered);
     assert_eq!(rt; word(&rt, &cells, STAGE), 2);
-    assert_eq!(rt; core.pending(), 0);
-    assert_eq!(rt; core.rest(), Turn::Idle);
-    assert_eq!(rt; core.next_number(), 1);
-    let next = core.put(b"b").ok().expect(&rt, "put");
-    assert_eq!(rt; next, 1);
-    assert_eq!(rt; core.rest(), Turn::Spent);
+    is_done(&rt, &mut core);
     Ok(())
 }
 

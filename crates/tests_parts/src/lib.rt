@@ -24,8 +24,4 @@ mod presences;
 #[cfg(test)]
 mod ratifiers;
 #[cfg(test)]
-mod ratify;
-#[cfg(test)]
-mod reasons;
-#[cfg(test)]
 mod scripts;

@@ -4,16 +4,15 @@ mod log;
 mod replay;
 mod run;
 mod streams;
-mod tour;
 mod webpages;
 
-use self::replay::refuses;
 use self::streams::{FailingReader, FullWriter, StuckWriter};
 use bus_commands::command_line::{Task, parse};
 use bus_commands::printing::Request;
 use bus_commands::ratify::ratify;
 use bus_run::RunFault;
 use bus_script::Outcome;
+use bus_webpage::Purpose;
 use clap::error::ErrorKind;
 use std::io;
 use std::process::Abort;
@@ -27,24 +26,7 @@ fn with_comment<R: Abort + AllocGlobal>(rt: &R, first: &[u8], length: usize) -> 
 }
 
 #[test]
-fn refused_and_oversized_scripts(rt: HostRuntime) {
-    refuses(&rt, b"shape 1 1 1 1\n", "line 1: BadLine\n");
-    refuses(&rt, b"# x", "end: BadLine\n");
-    for script in [
-        b"shape 1 1 1 1 16\nturn 0 4294967296 1\n".as_slice(),
-        b"shape 1 1 1 1 16\nturn 0 0 10001\n".as_slice(),
-        b"shape 1 1 1 1 16\nturn 0 0 0\n".as_slice(),
-    ] {
-        refuses(&rt, script, "line 2: BadLine\n");
-    }
-    refuses(
-        &rt,
-        b"shape 1 1 1 1 16\nput 0 \
-          61616161616161616161616161616161616161616161616161616161\
-          6161616161616161616161616161616161616161616161616161616161\n",
-        "line 2: TooLong\n",
-    );
-
+fn oversized_scripts(rt: HostRuntime) {
     let longest = with_comment(&rt, b"inputs 1\n", 1_048_567);
     assert_eq!(rt; longest.len(), 1_048_576);
     let mut reader = longest.as_slice();
@@ -148,7 +130,8 @@ fn tasks(rt: HostRuntime) {
     names_task(&rt, &["replay"], Task::Replay);
     names_task(&rt, &["trace"], Task::Trace);
     names_task(&rt, &["trace", "--svg"], Task::Picture);
-    names_task(&rt, &["trace", "--html"], Task::Webpage);
+    names_task(&rt, &["trace", "--html"], Task::Webpage(Purpose::Step));
+    names_task(&rt, &["trace", "--play"], Task::Webpage(Purpose::Play));
     names_task(&rt, &["run"], Task::Run(run));
     names_task(&rt, &["run", "--log"], Task::RunLog(run));
     names_task(&rt, &["log"], Task::Log { senders: 3 });

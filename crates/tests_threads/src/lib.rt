@@ -1,14 +1,19 @@
-//! Tests of the bus for threads: its seats, its receivers and whole runs. They stand above the
-//! crates that they test, so that none of those is proved once more for its tests.
+//! Tests of the bus for threads: its turns beside a machine's, its seats, its receivers and whole
+//! runs. They stand above the crates that they test, so that none of those is proved once more for
+//! its tests.
 #![tactic(auto)]
 
+#[cfg(test)]
+mod both;
 #[cfg(test)]
 mod receivers;
 #[cfg(test)]
 mod receivers_cyclic;
 #[cfg(test)]
-mod receivers_world;
-#[cfg(test)]
 mod runs;
+#[cfg(test)]
+mod schedules;
+#[cfg(test)]
+mod scripts;
 #[cfg(test)]
 mod seats;

@@ -11,6 +11,7 @@ use bus_pageslot::{Bus, Ended, SendFault, Sender, Unsent};
 use bus_receiver::{Heard, Next, Receiver, tenures_needed, words_needed};
 use bus_register::SenderNo;
 use bus_tenure::Turn;
+use bus_waiting::Waiter;
 use bus_world::Shape;
 use rand_pcg::Pcg32;
 use std::alloc::Global;
@@ -178,7 +179,7 @@ fn takes<R: Wait + Abort>(rt: &R, bus: &Few, receiver: &mut TestReceiver, want: 
     requires { bus_of receiver.old ≡ bus.now.table }
     ensures { bus_of receiver.new ≡ bus.now.table }
 {
-    assert_eq!(rt; receiver.take(rt, bus), want);
+    assert_eq!(rt; receiver.take(&Waiter::yielding(rt), bus), want);
 }
 
 /// The next item, which is waited for as long as this says.
@@ -186,7 +187,7 @@ fn found<R: Wait>(rt: &R, bus: &Few, receiver: &mut TestReceiver, waits: bool) -
     requires { bus_of receiver.old ≡ bus.now.table }
     ensures { bus_of receiver.new ≡ bus.now.table }
 {
-    receiver.next_item_while(rt, bus, || waits)
+    receiver.next_item_while(&Waiter::yielding(rt), bus, || waits)
 }
 
 /// The same, and sees what it is.
@@ -316,7 +317,7 @@ fn gives_none<R: Wait + Abort>(rt: &R, bus: &Few, receiver: &mut TestReceiver)
     requires { bus_of receiver.old ≡ bus.now.table }
     ensures { bus_of receiver.new ≡ bus.now.table }
 {
-    assert_eq!(rt; receiver.next_item(rt, bus), None);
+    assert_eq!(rt; receiver.next_item(&Waiter::yielding(rt), bus), None);
 }
 
 #[test]
@@ -335,7 +336,8 @@ fn items_alone(rt: HostRuntime) {
 fn waits_for<R: Wait + Abort>(rt: &R, bus: &Few, receiver: &mut TestReceiver) -> Item
     requires { bus_of receiver.old ≡ bus.now.table }
 {
-    receiver.next_item(rt, bus).expect(rt, "an item")
+    let item = receiver.next_item(&Waiter::yielding(rt), bus);
+    item.expect(rt, "an item")
 }
 
 #[test]
@@ -368,7 +370,8 @@ fn sends_all<R: Wait + Abort>(
     requires { table_of sender.old ≡ bus.now.table }
     ensures { table_of sender.new ≡ bus.now.table }
 {
-    assert_eq!(rt; sender.send_all(rt, bus, rng, messages), want);
+    let waiter = Waiter::yielding(rt);
+    assert_eq!(rt; sender.send_all(&waiter, bus, rng, messages), want);
 }
 
 /// The number that the next message gets.
@@ -386,7 +389,8 @@ fn sends_alone<R: Wait + Abort>(
 )
     requires { table_of sender.old ≡ bus.now.table }
 {
-    assert_eq!(rt; sender.send_while(rt, bus, rng, || false), want);
+    let waiter = Waiter::yielding(rt);
+    assert_eq!(rt; sender.send_while(&waiter, bus, rng, || false), want);
 }
 
 /// So many messages wait, and the order is open.

@@ -9,6 +9,7 @@ use bus_pageslot::{Bus, Sender};
 use bus_receiver::Receiver;
 use bus_register::SenderNo;
 use bus_tenure::Turn;
+use bus_waiting::Waiter;
 use bus_world::Shape;
 use rand_pcg::Pcg32;
 use std::alloc::Global;
@@ -43,8 +44,9 @@ fn passes<R: Wait + Abort>(
         first: number,
         last: number,
     };
-    assert_eq!(rt; sender.send(rt, bus, &mut Pcg32::new(0, 0)), delivered);
-    let item = receiver.next_item(rt, bus).expect(rt, "an item");
+    let waiter = Waiter::yielding(rt);
+    assert_eq!(rt; sender.send(&waiter, bus, &mut Pcg32::new(0, 0)), delivered);
+    let item = receiver.next_item(&waiter, bus).expect(rt, "an item");
     assert_eq!(rt; (item.sender, item.number), (SenderNo(0), number));
     assert_eq!(rt; item.message.as_slice(), b"a".as_slice());
 }

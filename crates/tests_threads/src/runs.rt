@@ -9,6 +9,7 @@ use bus_run::buses::Bus;
 use bus_run::workers::generator;
 use bus_run::{AuditFault, Gate, OpenGate, RunFault, audit, run};
 use bus_tenure::Turn;
+use bus_waiting::Waiter;
 use bus_world::{MakeFault, Shape};
 use std::process::Abort;
 use std::sync::Wait;
@@ -28,7 +29,8 @@ fn ended_with_one<R: Abort + Wait + AllocGlobal>(rt: &R) -> Ended {
     let mut sender = senders.pop().expect(rt, "a sender");
     let tap = taps.pop().expect(rt, "a pass");
     assert_eq!(rt; sender.put(b"a"), Ok(0));
-    let sent = sender.send(rt, &bus, &mut generator(7, 0));
+    let waiter = Waiter::yielding(rt);
+    let sent = sender.send(&waiter, &bus, &mut generator(7, 0));
     assert!(rt; matches!(sent, Turn::Delivered { .. }));
     bus.end(tap).expect(rt, "the page is home")
 }

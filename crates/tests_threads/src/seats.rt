@@ -1,26 +1,24 @@
-//! A bus as its callers use it, in one thread and in two. It has a row for each tenure, but in
-//! `cyclic`. What a test does is written over any ratifier and proved once; the test names the one
-//! at work.
+//! A bus as its callers use it: calls beside its turns, and senders in threads of their own. It has
+//! a row for each tenure, but in `cyclic`. What turns answer, `scripts` and `schedules` see. What a
+//! test does is written over any ratifier and proved once; the test names the one at work.
 
 ghost use Rattle.std.specs.Prelude.{◌≡◌, ◌<◌, All};
 ghost use Rattle.bus_pageslot.specs.Seats.{table_of};
 
 mod cyclic;
-mod elections;
+mod finishing;
 mod leaving;
 mod making;
 mod sittings;
-mod stops;
 
-use self::making::{
-    has_page_out, last_of, last_tap, left, made, one_and_four, pair, pair_of, small, three,
-};
+use self::making::{last_of, last_tap, left, made, pair, pair_of, small};
 use bus_adoptcommit::{Ratifier, ThreeWord};
 use bus_batch::{CloseFault, Item, Message, PutFault};
 use bus_deliverylog::read_log;
 use bus_pageslot::{Bus, EndFault, Ended, Sender, Tap};
 use bus_register::{Kind, SenderNo};
 use bus_tenure::Turn;
+use bus_waiting::Waiter;
 use bus_world::{MakeFault, Shape};
 use rand_pcg::Pcg32;
 use std::alloc::Global;
@@ -187,56 +185,6 @@ fn told_and_meet(rt: HostRuntime) {
     tells_and_meets::<ThreeWord, HostRuntime>(&rt, rt.alloc());
 }
 
-/// In a tenure nothing more is put, and no close.
-fn is_busy<Q: Ratifier + Drop, R: Abort>(rt: &R, alloc: Global) {
-    let (bus, mut sender, _, _) = small::<Q>(rt, alloc);
-    assert_eq!(rt; sender.number(), SenderNo(0));
-    turns(rt, &bus, &mut sender, &[Turn::Idle]);
-    puts(rt, &mut sender, b"a", Ok(0));
-    assert_eq!(rt; sender.pending(), 1);
-    is_due(rt, &sender, Kind::LoadStage);
-    turns(rt, &bus, &mut sender, &[Turn::Going]);
-    is_due(rt, &sender, Kind::Announce);
-    assert_eq!(rt; (sender.turns_left(), sender.wants_word()), (2, false));
-    puts(rt, &mut sender, b"b", Err(PutFault::Busy));
-    closes(rt, &mut sender, Err(CloseFault::Busy));
-}
-
-#[test]
-fn busy_in_a_tenure(rt: HostRuntime) {
-    is_busy::<ThreeWord, HostRuntime>(&rt, rt.alloc());
-}
-
-/// Turns up to the first that is not going, at most so many, and sees what it answers. The words
-/// of its votes go from 0 to 4 and round again.
-fn goes<Q: Ratifier + Drop>(
-    rt: &impl Abort,
-    bus: &Bus<Q>,
-    sender: &mut Sender<Q>,
-    most: u32,
-    want: Turn,
-)
-    requires { table_of sender.old ≡ bus.now.table }
-    ensures { table_of sender.new ≡ bus.now.table }
-{
-    is_answer(rt, first_answer(bus, sender, most, 5), want);
-}
-
-/// The bus ended with an a and an end mark.
-fn ends_closed(rt: &impl Abort, ended: &Ended) {
-    let log = [
-        WORDS[0],
-        WORDS[1],
-        WORDS[2],
-        0x4000_0100_0000_0001,
-        0xC000_0000_0000_0000,
-    ];
-    assert_eq!(rt; ended.log(), log.as_slice());
-    let page = *ended.page();
-    assert_eq!(rt; (page.next[0], page.next[1]), (1, 0));
-    assert_eq!(rt; (page.ended, page.tenures, page.words), (true, 2, 5));
-}
-
 /// Two receivers meet, from when on both know so many words.
 fn meet<Q: Ratifier + Drop>(
     rt: &impl Abort,
@@ -267,92 +215,10 @@ fn tells<Q: Ratifier + Drop>(
     assert_eq!(rt; tap.known(), words);
 }
 
-/// A message and a close, and what they leave behind.
-fn closes_and_ends<Q: Ratifier + Drop, R: Abort>(rt: &R, alloc: Global) {
-    let (bus, mut sender, mut first, mut second) = small::<Q>(rt, alloc);
-    puts(rt, &mut sender, b"a", Ok(0));
-    goes(rt, &bus, &mut sender, 20, Turn::Own { tenure: 0 });
-    goes(rt, &bus, &mut sender, 20, DELIVERED);
-    closes(rt, &mut sender, Ok(()));
-    goes(rt, &bus, &mut sender, 20, Turn::Own { tenure: 1 });
-    goes(rt, &bus, &mut sender, 20, Turn::Closed);
-    puts(rt, &mut sender, b"b", Err(PutFault::Closed));
-    meet(rt, &bus, &mut first, &mut second, 5);
-    ends_closed(rt, &left(rt, bus, second));
-}
-
-#[test]
-fn closed_and_ended(rt: HostRuntime) {
-    closes_and_ends::<ThreeWord, HostRuntime>(&rt, rt.alloc());
-}
-
-/// A sender is dropped with the page.
-fn ends_with_page_out<Q: Ratifier + Drop, R: Abort>(rt: &R, alloc: Global) {
-    let shape = Shape {
-        senders: 2,
-        receivers: 1,
-        rounds: 4,
-        rows: 256,
-        log_words: 65536,
-    };
-    let (bus, _, mut sender, tap) = pair::<Q>(rt, alloc, shape);
-    puts(rt, &mut sender, b"a", Ok(0));
-    goes(rt, &bus, &mut sender, 1000, Turn::Own { tenure: 0 });
-    drop(sender);
-    has_page_out(rt, bus, tap);
-}
-
-#[test]
-fn end_with_page_out(rt: HostRuntime) {
-    ends_with_page_out::<ThreeWord, HostRuntime>(&rt, rt.alloc());
-}
-
 /// So many items of senders 0 and 1, and so many words.
 fn has_numbers(rt: &impl Abort, ended: &Ended, want: (u64, u64, usize)) {
     let next = ended.page().next;
     assert_eq!(rt; (next[0], next[1], ended.log().len()), want);
-}
-
-/// Each takes 400 turns, one after one of the other. Says which of them delivered.
-fn alternate<Q: Ratifier + Drop>(
-    bus: &Bus<Q>,
-    first: &mut Sender<Q>,
-    second: &mut Sender<Q>,
-) -> (bool, bool)
-    requires { (table_of first.old ≡ bus.now.table) × (table_of second.old ≡ bus.now.table) }
-{
-    let (mut first_sent, mut second_sent) = (false, false);
-    for turn in 0..400u32 {
-        if let Turn::Delivered { .. } = take_turn(bus, first, turn % 3) {
-            first_sent = true;
-        }
-        if let Turn::Delivered { .. } = take_turn(bus, second, turn % 2) {
-            second_sent = true;
-        }
-    }
-    (first_sent, second_sent)
-}
-
-/// Two senders, of which the first takes one turn for each of the second's.
-fn take_turns<Q: Ratifier + Drop, R: Abort>(rt: &R, alloc: Global) {
-    let shape = Shape {
-        senders: 2,
-        receivers: 1,
-        rounds: 1,
-        rows: 4,
-        log_words: 64,
-    };
-    let (bus, mut first, mut second, tap) = pair::<Q>(rt, alloc, shape);
-    puts(rt, &mut first, b"a", Ok(0));
-    puts(rt, &mut second, b"b", Ok(0));
-    let sent = alternate(&bus, &mut first, &mut second);
-    assert_eq!(rt; sent, (true, true));
-    has_numbers(rt, &left(rt, bus, tap), (1, 1, 6));
-}
-
-#[test]
-fn two_senders_take_turns(rt: HostRuntime) {
-    take_turns::<ThreeWord, HostRuntime>(&rt, rt.alloc());
 }
 
 /// Sends three messages, one after another, and says whether all were delivered.
@@ -431,7 +297,7 @@ fn sends_twenty<Q: Ratifier + Drop>(wait: &impl Wait, bus: &Bus<Q>, mut sender: 
     let mut delivered = 0u32;
     for _ in 0..20 {
         let put = sender.put(b"abc");
-        let sent = sender.send(wait, bus, &mut rng);
+        let sent = sender.send(&Waiter::yielding(wait), bus, &mut rng);
         if put.is_ok() && matches!(sent, Turn::Delivered { .. }) {
             delivered = delivered.saturating_add(1);
         }
@@ -555,68 +421,6 @@ fn delivers<Q: Ratifier + Drop>(
     ends_in(rt, bus, sender, 99, delivered(tenure, number));
 }
 
-/// Tenure 0 is lost to this sender.
-fn lost(owner: u8) -> Turn {
-    Turn::Lost {
-        tenure: 0,
-        owner: SenderNo(owner),
-    }
-}
-
-/// A candidate changes while it is voted on.
-fn changes_candidate<Q: Ratifier + Drop, R: Abort + AllocGlobal>(rt: &R) {
-    let (bus, mut one, mut four, tap) = one_and_four::<Q>(rt, rt.alloc());
-    assert_eq!(rt; (one.number(), four.number()), (SenderNo(1), SenderNo(4)));
-    puts(rt, &mut one, b"a", Ok(0));
-    puts(rt, &mut four, b"b", Ok(0));
-    ends_in(rt, &bus, &mut four, 14, Turn::Going);
-    ends_in(rt, &bus, &mut one, 99, lost(4));
-    delivers(rt, &bus, &mut four, 0, 0);
-    let ended = left(rt, bus, tap);
-    leaves(rt, &ended, 5, &[item(rt, 4, 0, b'b')], &[(0, SenderNo(4))]);
-}
-
-#[test]
-fn candidate_changes(rt: HostRuntime) {
-    changes_candidate::<ThreeWord, HostRuntime>(&rt);
-}
-
-/// Two items of sender 0, and then one of sender 1.
-fn leaves_three<R: Abort + AllocGlobal>(rt: &R, ended: &Ended) {
-    let items = [
-        item(rt, 0, 0, b'a'),
-        item(rt, 0, 1, b'c'),
-        item(rt, 1, 0, b'b'),
-    ];
-    let owners = [(0, SenderNo(0)), (1, SenderNo(0)), (2, SenderNo(1))];
-    leaves(rt, ended, 2, &items, &owners);
-}
-
-/// A sender that comes late to an old tenure.
-fn comes_late<Q: Ratifier + Drop, R: Abort + AllocGlobal>(rt: &R) {
-    let shape = Shape {
-        senders: 2,
-        receivers: 1,
-        rows: 4,
-        ..SMALL
-    };
-    let (bus, mut zero, mut one, tap) = pair::<Q>(rt, rt.alloc(), shape);
-    puts(rt, &mut zero, b"a", Ok(0));
-    puts(rt, &mut one, b"b", Ok(0));
-    ends_in(rt, &bus, &mut one, 1, Turn::Going);
-    delivers(rt, &bus, &mut zero, 0, 0);
-    puts(rt, &mut zero, b"c", Ok(1));
-    delivers(rt, &bus, &mut zero, 1, 1);
-    ends_in(rt, &bus, &mut one, 99, lost(0));
-    delivers(rt, &bus, &mut one, 2, 0);
-    leaves_three(rt, &left(rt, bus, tap));
-}
-
-#[test]
-fn late_to_an_old_tenure(rt: HostRuntime) {
-    comes_late::<ThreeWord, HostRuntime>(&rt);
-}
-
 /// As many senders and receivers as the shape says, or no memory.
 fn makes_as_many<Q: Ratifier + Drop, R: Abort>(rt: &R, alloc: Global) {
     match Bus::<Q>::new(alloc, SMALL) {
@@ -637,9 +441,20 @@ fn refuses<Q: Ratifier + Drop, R: Abort>(rt: &R, alloc: Global, shape: Shape, fa
 
 #[test]
 fn shapes_that_are_refused(rt: HostRuntime) {
-    let shape = Shape {
+    let receivers = Shape {
         receivers: 9,
         ..SMALL
     };
-    refuses::<ThreeWord, HostRuntime>(&rt, rt.alloc(), shape, MakeFault::Receivers);
+    let senders = Shape {
+        senders: 65,
+        ..SMALL
+    };
+    for (shape, fault) in [
+        (receivers, MakeFault::Receivers),
+        (senders, MakeFault::Senders),
+        (Shape { rounds: 0, ..SMALL }, MakeFault::Rounds),
+        (Shape { rows: 0, ..SMALL }, MakeFault::Rows),
+    ] {
+        refuses::<ThreeWord, HostRuntime>(&rt, rt.alloc(), shape, fault);
+    }
 }

@@ -91,6 +91,19 @@ faults! {
     }
 }
 
+faults! {
+    /// Why senders tell no page of a sitting whose order has ended.
+    PageError {
+        /// None of them has closed the order.
+        NotEnded = 49: "the order has not ended",
+        /// They are of two buses.
+        OtherBus = 51: "the handles are of two buses",
+        /// A sender was not answered `Closed` or `Left` yet, or they are not all senders of the bus
+        /// in their order.
+        Unanswered = 52: "a sender was not answered that the order has ended",
+    }
+}
+
 /// Two handles are of two buses, and tell one another nothing; nothing has changed.
 #[derive(Clone, Copy, Debug, PartialEq, Eq)]
 pub struct OtherBus;
@@ -117,6 +130,10 @@ pub enum SendError {
 impl fmt::Display for SendError {
     fn fmt(&self, f: &mut fmt::Formatter<'_>) -> fmt::Result {
         match self {
+            SendError::Turn(Turn::Full) => f.write_str(
+                "what waits is not sent: full; another sender with which nothing waits can end \
+                 the order",
+            ),
             SendError::Turn(turn) => write!(f, "what waits is not sent: {turn}"),
             SendError::Put(why) => why.fmt(f),
             SendError::Close(why) => why.fmt(f),
@@ -137,7 +154,8 @@ pub struct Unsent {
 
 impl fmt::Display for Unsent {
     fn fmt(&self, f: &mut fmt::Formatter<'_>) -> fmt::Result {
-        write!(f, "after {} messages: {}", self.put, self.why)
+        let messages = if self.put == 1 { "message" } else { "messages" };
+        write!(f, "after {} {messages}: {}", self.put, self.why)
     }
 }
 

@@ -1,9 +1,15 @@
 //! A broadcast bus between threads, over the proved archive of `crates/bus_c`.
 //!
 //! Up to 64 senders put messages of up to 56 bytes. All of them stand in one order, and each of up
-//! to 8 receivers hears all of it. The calls that take a turn take no lock and wait for nothing.
-//! `send`, `send_all`, `end_order` and `next_item` go on as long as it takes; that they end is not
-//! promised.
+//! to 8 receivers hears all of it. The calls that take a turn wait for nothing. `send`, `send_all`,
+//! `end_order` and `next_item` go on as long as it takes; that they end is not promised. A thread
+//! that waits sleeps until the `Bell` of its bus rings (`Waiting`). `send_while` and
+//! `next_item_while` can be told to stop. In async code `send_async`, `send_all_async`,
+//! `end_order_async` and `next_item_async` wait in any executor.
+//!
+//! The election of the next sender is wait-free: each takes a stated number of its own turns. The
+//! append is not, since the sender that is elected holds the page as one holds a lock. If it stops
+//! there, all others wait for good.
 //!
 //! ```
 //! use kioskbasil::{Bus, Shape};
@@ -28,15 +34,22 @@
 //! What is proved is said of the archive's functions (`crates/bus_c`). Trusted besides are this
 //! crate, which has the `unsafe` code so that its users need none, the compilers and the C library.
 
+mod bell;
 mod errors;
 mod raw;
 mod receivers;
 mod senders;
+mod sizes;
 mod waiting;
 
-pub use errors::{CloseError, EndError, OpenError, OtherBus, PutError, SendError, Unsent};
-pub use receivers::{Heard, Item, Receiver};
+pub use bell::Bell;
+pub use errors::{
+    CloseError, EndError, OpenError, OtherBus, PageError, PutError, SendError, Unsent,
+};
+pub use receivers::{Heard, Item, Next, Receiver};
 pub use senders::{Sender, Turn};
+pub use sizes::{room_to_close, tenures_needed, words_needed};
+pub use waiting::Waiting;
 
 /// Senders of a bus: at most 64.
 pub const MOST_SENDERS: usize = 64;
@@ -77,8 +90,29 @@ impl Shape {
     }
 }
 
-/// What a bus leaves behind.
+/// With which numbers the next sitting goes on, and whether the order has ended. `Ended` has it, or
+/// `Bus::senders_page` gives it while the senders are kept. No program makes one by hand.
+#[derive(Clone, Copy, Debug, PartialEq, Eq)]
+#[non_exhaustive]
+pub struct Page {
+    /// The number that the next item of each sender would have.
+    pub next: [u64; MOST_SENDERS],
+    /// The order has ended.
+    pub ended: bool,
+}
+
+impl From<&Ended> for Page {
+    fn from(ended: &Ended) -> Page {
+        Page {
+            next: ended.next,
+            ended: ended.ended,
+        }
+    }
+}
+
+/// What a bus leaves behind. No program makes one by hand.
 #[derive(Clone, Debug, PartialEq, Eq)]
+#[non_exhaustive]
 pub struct Ended {
     /// The words of its log.
     pub log: Vec<u64>,
@@ -129,18 +163,66 @@ impl Bus {
     /// ```
     pub fn open_after(
         shape: Shape,
-        before: &Ended,
+        before: impl Into<Page>,
     ) -> Result<(Vec<Sender>, Vec<Receiver>), OpenError> {
+        let page = before.into();
         let left = raw::Left {
-            counts: before.counts,
-            bases: before.bases,
-            next: before.next,
-            words: before.log.len() as u64,
-            tenures: before.tenures,
-            ended: before.ended,
-            gone: before.left,
+            next: page.next,
+            ended: page.ended,
+            ..raw::Left::NONE
         };
         Bus::opened(shape, Some(&left))
+    }
+
+    /// The page of a sitting whose order has ended, by all senders of its bus, in their order, once
+    /// each was answered `Closed` or `Left`. They stay as they are: so open the next sitting after
+    /// it, and carry to that what waits with them.
+    ///
+    /// ```
+    /// use kioskbasil::{Bus, PageError, Shape, Turn};
+    ///
+    /// let (mut senders, _receivers) = Bus::open(Shape::of(2, 1))?;
+    /// assert_eq!(senders[0].put(b"late"), Ok(0));
+    /// senders[1].end_order()?;
+    /// assert_eq!(Bus::senders_page(&mut senders), Err(PageError::Unanswered));
+    /// assert_eq!(senders[0].send(), Turn::Closed);
+    /// let page = Bus::senders_page(&mut senders)?;
+    /// let (mut after, mut receivers) = Bus::open_after(Shape::of(2, 1), page)?;
+    /// senders[0].carry_to(&mut after[0])?;
+    /// after[0].send_all(["more"])?;
+    /// assert_eq!(receivers[0].next_item().map(|item| item.number), Some(0));
+    /// # Ok::<(), Box<dyn std::error::Error>>(())
+    /// ```
+    pub fn senders_page<'a>(
+        senders: impl IntoIterator<Item = &'a mut Sender>,
+    ) -> Result<Page, PageError> {
+        let mut senders: Vec<_> = senders.into_iter().collect();
+        let many = senders.len() as u64;
+        let first = senders.first_mut().ok_or(PageError::NotEnded)?;
+        let place = first.bus_place();
+        let mut left = raw::Left::NONE;
+        // SAFETY: the handle is that of a `Sender`, and the pointer is of a value of this function.
+        match unsafe { raw::bus_c_begin_page(first.raw(), many, &mut left) } {
+            0 => {}
+            code => return Err(PageError::of_code(code)),
+        }
+        for (number, sender) in senders.into_iter().enumerate() {
+            if sender.bus_place() != place {
+                return Err(PageError::OtherBus);
+            }
+            // SAFETY: as above.
+            match unsafe { raw::bus_c_note_sender(sender.raw(), number as u64, &mut left) } {
+                0 => {}
+                code => return Err(PageError::of_code(code)),
+            }
+        }
+        if !left.ended {
+            return Err(PageError::NotEnded);
+        }
+        Ok(Page {
+            next: left.next,
+            ended: left.ended,
+        })
     }
 
     fn opened(
@@ -173,20 +255,19 @@ impl Bus {
         if code != 0 {
             return Err(OpenError::of_code(code));
         }
-        let senders = senders
-            .into_iter()
-            .take(shape.senders)
-            .map(Sender::of_raw)
-            .collect();
-        let receivers = receivers
-            .into_iter()
-            .take(shape.receivers)
-            .map(Receiver::of_raw)
-            .collect();
-        Ok((senders, receivers))
+        let bell = Bell::default();
+        let senders = senders.into_iter().take(many);
+        let receivers = receivers.into_iter().take(ears).enumerate();
+        let log_words = shape.log_words as usize;
+        Ok((
+            senders.map(|raw| Sender::of_raw(raw, &bell)).collect(),
+            receivers
+                .map(|(number, raw)| Receiver::of_raw(raw, number, log_words, &bell))
+                .collect(),
+        ))
     }
 
-    /// Ends a bus by all handles that are left of it.
+    /// Ends a bus by all handles that are left of it, of which each sender finishes first.
     ///
     /// ```
     /// use kioskbasil::{Bus, EndError, Shape};
@@ -201,7 +282,11 @@ impl Bus {
         senders: impl IntoIterator<Item = Sender>,
         receivers: impl IntoIterator<Item = Receiver>,
     ) -> Result<Ended, EndError> {
-        senders.into_iter().for_each(drop);
+        let mut senders: Vec<Sender> = senders.into_iter().collect();
+        for sender in &mut senders {
+            sender.finish();
+        }
+        drop(senders);
         let mut receivers = receivers.into_iter();
         let last = receivers.next().ok_or(EndError::NoReceiver)?;
         receivers.for_each(drop);

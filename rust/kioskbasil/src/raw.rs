@@ -152,7 +152,10 @@ extern "C" {
     ) -> u32;
     pub fn bus_c_sender(sender: *mut RawSender, shown: *mut SenderShown) -> u32;
     pub fn bus_c_sender_bus(sender: *mut RawSender, place: *mut *const u8) -> u32;
-    pub fn bus_c_free_sender(sender: *mut RawSender);
+    pub fn bus_c_begin_page(sender: *mut RawSender, senders: u64, left: *mut Left) -> u32;
+    pub fn bus_c_note_sender(sender: *mut RawSender, number: u64, left: *mut Left) -> u32;
+    pub fn bus_c_finish(sender: *mut RawSender, answer: *mut TurnAnswer) -> u32;
+    pub fn bus_c_free_sender(sender: *mut RawSender) -> u32;
     pub fn bus_c_hear_once(receiver: *mut RawReceiver, answer: *mut HeardAnswer) -> u32;
     pub fn bus_c_hear(
         receiver: *mut RawReceiver,
@@ -202,10 +205,16 @@ fn tried(at: *mut c_void) -> Tried {
     }
 }
 
+/// To which alignment `malloc` gives memory. More is refused.
+const MOST_ALIGN: usize = 2 * std::mem::size_of::<usize>();
+
 /// # Safety
-/// The archive alone calls it.
+/// The archive alone calls it. What it has to keep stands in `examples/c/heap.c`.
 #[no_mangle]
 pub unsafe extern "C" fn rattle_alloc(size: usize, align: usize) -> Tried {
+    if align > MOST_ALIGN {
+        return tried(ptr::null_mut());
+    }
     tried(malloc(if size == 0 { align } else { size }))
 }
 
@@ -218,6 +227,9 @@ pub unsafe extern "C" fn rattle_realloc(
     size: usize,
     align: usize,
 ) -> Tried {
+    if align > MOST_ALIGN {
+        return tried(ptr::null_mut());
+    }
     tried(realloc(old, if size == 0 { align } else { size }))
 }
 

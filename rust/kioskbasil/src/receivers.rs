@@ -2,10 +2,11 @@
 
 use crate::errors::{EndError, OtherBus};
 use crate::raw::{self, RawItem};
-use crate::waiting::BackOff;
-use crate::{Ended, Sender};
+use crate::waiting::{BackOff, Polled};
+use crate::{Bell, Ended, Sender, Waiting, MOST_SENDERS};
 use std::cmp::Ordering;
 use std::ops::Deref;
+use std::task::{Context, Poll};
 use std::{fmt, ptr};
 
 /// A message of the order. It is its bytes.
@@ -73,6 +74,17 @@ pub enum Heard {
     End,
 }
 
+/// What `Receiver::next_item_while` came to.
+#[derive(Clone, Copy, Debug, PartialEq, Eq)]
+pub enum Next {
+    /// The next item.
+    Item(Item),
+    /// The order has ended, and all of it was given.
+    End,
+    /// There is nothing more by now, and it was told not to go on.
+    Stopped,
+}
+
 /// How many items cross the border at once.
 const BATCH: usize = 32;
 
@@ -87,6 +99,12 @@ pub struct Receiver {
     given: usize,
     many: usize,
     ended: bool,
+    /// How many words its bus's log can have.
+    log_words: usize,
+    bell: Bell,
+    /// Its place at the bell.
+    place: usize,
+    waiting: Waiting,
 }
 
 // SAFETY: the archive proves `Send` of what the handle leads to.
@@ -106,13 +124,22 @@ impl Drop for Receiver {
 }
 
 impl Receiver {
-    pub(crate) fn of_raw(raw: raw::RawReceiver) -> Receiver {
+    pub(crate) fn of_raw(
+        raw: raw::RawReceiver,
+        number: usize,
+        log_words: usize,
+        bell: &Bell,
+    ) -> Receiver {
         Receiver {
             raw,
             ready: [RawItem::NONE; BATCH],
             given: 0,
             many: 0,
             ended: false,
+            log_words,
+            bell: bell.clone(),
+            place: MOST_SENDERS + number,
+            waiting: Waiting::default(),
         }
     }
 
@@ -219,18 +246,90 @@ impl Receiver {
         items.len() - before
     }
 
-    /// The next item, and None at the end and ever after. It backs off while there is none.
+    /// The bell of its bus.
+    pub fn bell(&self) -> &Bell {
+        &self.bell
+    }
+
+    /// Sets how `next_item` and `next_item_while` wait; at first by `Waiting::Sleep`.
+    pub fn set_waiting(&mut self, waiting: Waiting) {
+        self.waiting = waiting;
+    }
+
+    /// The next item, and None at the end and ever after. It waits while there is none.
     pub fn next_item(&mut self) -> Option<Item> {
-        let mut back_off = BackOff::default();
+        match self.next_item_while(|| true) {
+            Next::Item(item) => Some(item),
+            Next::End | Next::Stopped => None,
+        }
+    }
+
+    /// As `next_item`, but that it can be told to stop: each time nothing is there it asks
+    /// `go_on`, and gives `Stopped` where that says no. A call that sleeps asks once the bell
+    /// rings, so whoever makes `go_on` say no rings it.
+    ///
+    /// ```
+    /// use kioskbasil::{Bus, Next, Shape};
+    /// use std::sync::atomic::{AtomicBool, Ordering};
+    ///
+    /// let (_senders, mut receivers) = Bus::open(Shape::of(1, 1))?;
+    /// let (mut receiver, stop) = (receivers.remove(0), AtomicBool::new(false));
+    /// let bell = receiver.bell().clone();
+    /// std::thread::scope(|scope| {
+    ///     let go_on = || !stop.load(Ordering::SeqCst);
+    ///     let hears = scope.spawn(move || receiver.next_item_while(go_on));
+    ///     stop.store(true, Ordering::SeqCst);
+    ///     bell.ring();
+    ///     assert_eq!(hears.join().unwrap(), Next::Stopped);
+    /// });
+    /// # Ok::<(), kioskbasil::OpenError>(())
+    /// ```
+    pub fn next_item_while(&mut self, mut go_on: impl FnMut() -> bool) -> Next {
+        let mut back_off = BackOff::new(self.waiting);
         loop {
             if let Some(item) = self.try_item() {
-                return Some(item);
+                return Next::Item(item);
             }
             if self.has_ended() {
-                return None;
+                return Next::End;
             }
-            back_off.snooze();
+            if !go_on() {
+                return Next::Stopped;
+            }
+            back_off.wait(&self.bell, self.place);
         }
+    }
+
+    /// As `next_item`, for tasks: where there is no item, the task is woken once one may be there.
+    /// Of the tasks that poll one receiver in turn the last one is woken.
+    ///
+    /// `futures::stream::poll_fn(move |context| receiver.poll_item(context))` is a stream.
+    pub fn poll_item(&mut self, context: &mut Context<'_>) -> Poll<Option<Item>> {
+        for listens in [false, true] {
+            if let Some(item) = self.try_item() {
+                return Poll::Ready(Some(item));
+            }
+            if self.has_ended() {
+                return Poll::Ready(None);
+            }
+            if !listens {
+                self.bell.listen(self.place, context.waker());
+            }
+        }
+        Poll::Pending
+    }
+
+    /// As `next_item`, for tasks. Where the future is dropped no item is lost.
+    ///
+    /// ```no_run
+    /// # async fn hear(receiver: &mut kioskbasil::Receiver) {
+    /// while let Some(item) = receiver.next_item_async().await {
+    ///     println!("{} says {:?}", item.sender, &item[..]);
+    /// }
+    /// # }
+    /// ```
+    pub async fn next_item_async(&mut self) -> Option<Item> {
+        Polled(|context: &mut Context<'_>| self.poll_item(context)).await
     }
 
     /// A sender of its bus tells it of the log: it knows from then on all that the sender has
@@ -295,14 +394,16 @@ impl Receiver {
         place
     }
 
-    /// Ends the bus by this handle, where it is the last one.
+    /// Ends the bus by this handle, where it is the last one. It takes memory for the words of the
+    /// log, as many as that can have until it is known how many it has.
     pub fn end(mut self) -> Result<Ended, EndError> {
-        let mut log = vec![0; 65_536];
+        let mut log = vec![0; self.log_words];
         let mut left = raw::Left::NONE;
         // SAFETY: as in `shown`; the log has room for the longest one.
         match unsafe { raw::bus_c_end(&mut self.raw, log.as_mut_ptr(), log.len(), &mut left) } {
             0 => {
                 log.truncate(left.words as usize);
+                log.shrink_to_fit();
                 Ok(Ended {
                     log,
                     counts: left.counts,

@@ -2,8 +2,11 @@
 
 use crate::errors::{CloseError, PutError, SendError, Unsent};
 use crate::raw;
-use crate::waiting::{BackOff, Words};
-use std::{fmt, ptr};
+use crate::waiting::{nap, wake_after, BackOff, Polled, Words};
+use crate::{Bell, Waiting};
+use std::task::{Context, Poll};
+use std::time::Duration;
+use std::{fmt, ptr, thread};
 
 /// The answer to a turn of a sender.
 #[derive(Clone, Copy, Debug, PartialEq, Eq)]
@@ -30,8 +33,9 @@ pub enum Turn {
     /// No tenure is left to this sender: all have ended, or it lost the last one, whose owner may
     /// still end the order. The batch is kept.
     Spent,
-    /// Where rows are used again: this sender keeps the row of this tenure, which is to be used
-    /// next.
+    /// Where rows are used again: this sender holds the page, and `sender` keeps the row of that
+    /// tenure, which is to be used next. Its messages may stand in the order already, so nothing is
+    /// carried from it until it has given the page back.
     Behind { tenure: u64, sender: u8 },
 }
 
@@ -88,10 +92,24 @@ impl fmt::Display for Turn {
 }
 
 /// A sender of a bus. It may go to another thread, and one thread at a time has it.
+///
+/// One that is dropped within a tenure, also by a panic or by an error on its way up, first takes the
+/// turns that are left of it, as `finish` does. Where another sender's pin is in the way it asks
+/// again for 0.1 s. If that other one takes no turn meanwhile, and be it that this thread drops it
+/// next, the page is out: all others wait for good, as they do where a thread is killed, or never
+/// comes back, within a tenure. `Bus::end` lets all senders finish before it gives any up.
 pub struct Sender {
     raw: raw::RawSender,
-    words: Words,
+    random: Words,
     number: u8,
+    /// A close of it was taken.
+    closes: bool,
+    /// A leave of it was taken.
+    leaves: bool,
+    /// How many of its last turns answered `Behind`.
+    behind: u32,
+    bell: Bell,
+    waiting: Waiting,
 }
 
 // SAFETY: the archive proves `Send` of what the handle leads to.
@@ -105,19 +123,37 @@ impl fmt::Debug for Sender {
     }
 }
 
+/// How often a sender that is dropped asks again where another sender's pin is in the way.
+const MOST_ASKED: u32 = 1000;
+
+/// How long it waits before it asks again.
+const PAUSE: Duration = Duration::from_micros(100);
+
 impl Drop for Sender {
     fn drop(&mut self) {
+        for _ in 0..MOST_ASKED {
+            match self.finish() {
+                Some(Turn::Behind { .. }) => thread::sleep(PAUSE),
+                _ => break,
+            }
+        }
         // SAFETY: the handle is this value's own.
-        unsafe { raw::bus_c_free_sender(&mut self.raw) }
+        unsafe { raw::bus_c_free_sender(&mut self.raw) };
+        self.bell.ring();
     }
 }
 
 impl Sender {
-    pub(crate) fn of_raw(raw: raw::RawSender) -> Sender {
+    pub(crate) fn of_raw(raw: raw::RawSender, bell: &Bell) -> Sender {
         let mut sender = Sender {
             raw,
-            words: Words::new(),
+            random: Words::new(),
             number: 0,
+            closes: false,
+            leaves: false,
+            behind: 0,
+            bell: bell.clone(),
+            waiting: Waiting::default(),
         };
         sender.number = sender.shown().number;
         sender
@@ -145,9 +181,80 @@ impl Sender {
         self.shown().next_number
     }
 
+    /// The number of the first message that waits in its batch, or else of the next one.
+    pub fn goes_on_from(&mut self) -> u64 {
+        let shown = self.shown();
+        shown.next_number - shown.pending
+    }
+
+    /// The last length of the log, in words, that it has stored; 0 before the first. Its batch
+    /// stands in the order once this is greater than it was when the batch was begun, also where the
+    /// answer has not come yet.
+    ///
+    /// ```
+    /// # use kioskbasil::{Bus, Shape};
+    /// let (mut senders, _receivers) = Bus::open(Shape::of(1, 1))?;
+    /// senders[0].put(b"8 bytes!")?;
+    /// assert_eq!(senders[0].words(), 0);
+    /// senders[0].send_all(["x"])?;
+    /// assert_eq!(senders[0].words(), 6);
+    /// # Ok::<(), Box<dyn std::error::Error>>(())
+    /// ```
+    pub fn words(&mut self) -> u64 {
+        self.shown().words
+    }
+
     /// It sends nothing more. False as long as its close or leave waits to be sent.
     pub fn is_closed(&mut self) -> bool {
         self.shown().is_closed
+    }
+
+    /// It has asked to leave, and its leave mark waits to be sent.
+    ///
+    /// ```
+    /// # use kioskbasil::{Bus, Shape, Turn};
+    /// let (mut senders, _receivers) = Bus::open(Shape::of(1, 1))?;
+    /// senders[0].leave()?;
+    /// assert!(senders[0].is_leaving() && !senders[0].is_closed());
+    /// assert!(matches!(senders[0].send(), Turn::Left { .. }));
+    /// assert!(!senders[0].is_leaving() && senders[0].is_closed());
+    /// # Ok::<(), Box<dyn std::error::Error>>(())
+    /// ```
+    pub fn is_leaving(&mut self) -> bool {
+        self.leaves && !self.is_closed()
+    }
+
+    /// A close of it was taken, be it sent or not.
+    pub fn has_closed(&self) -> bool {
+        self.closes
+    }
+
+    /// How many turns its election takes at most, with the one that takes the page; 0 where none is
+    /// begun.
+    ///
+    /// ```
+    /// # use kioskbasil::{Bus, Shape, Turn};
+    /// let (mut senders, _receivers) = Bus::open(Shape { rounds: 1, ..Shape::of(2, 1) })?;
+    /// senders[0].put(b"x")?;
+    /// assert_eq!(senders[0].turns_left(), 0);
+    /// while senders[0].turns_left() == 0 {
+    ///     assert_eq!(senders[0].turn(0), Turn::Going);
+    /// }
+    /// assert_eq!(senders[0].turns_left(), 9);
+    /// # Ok::<(), Box<dyn std::error::Error>>(())
+    /// ```
+    pub fn turns_left(&mut self) -> u64 {
+        self.shown().turns_left
+    }
+
+    /// The bell of its bus.
+    pub fn bell(&self) -> &Bell {
+        &self.bell
+    }
+
+    /// Sets how the calls wait that send; at first by `Waiting::Sleep`.
+    pub fn set_waiting(&mut self, waiting: Waiting) {
+        self.waiting = waiting;
     }
 
     /// Its next turn uses its random word.
@@ -178,8 +285,11 @@ impl Sender {
     /// Puts the messages that wait in its batch into that of `next`, in their order and behind what
     /// waits there; they wait here too. `next` may be of any bus. Takes no step. So what was not
     /// sent goes on with another sender: put first into the sender of this number of a next
-    /// sitting, each message gets the number that it was answered before. It gives `BatchFull`
-    /// where they do not fit beside what waits there, and else what a put gives. An error changes
+    /// sitting, each message gets the number that it was answered before.
+    ///
+    /// It gives `Busy` while this sender holds the page, as it does after `Turn::Behind`: its
+    /// messages may stand in the order already. Else it is Ok where none waits, `BatchFull` where
+    /// they do not fit beside what waits there, and otherwise what a put gives. An error changes
     /// nothing.
     ///
     /// ```
@@ -221,7 +331,10 @@ impl Sender {
     pub fn close(&mut self) -> Result<(), CloseError> {
         // SAFETY: as in `shown`.
         match unsafe { raw::bus_c_close(&mut self.raw) } {
-            0 => Ok(()),
+            0 => {
+                self.closes = true;
+                Ok(())
+            }
             code => Err(CloseError::of_code(code)),
         }
     }
@@ -257,7 +370,10 @@ impl Sender {
     pub fn leave(&mut self) -> Result<(), CloseError> {
         // SAFETY: as in `shown`.
         match unsafe { raw::bus_c_leave(&mut self.raw) } {
-            0 => Ok(()),
+            0 => {
+                self.leaves = true;
+                Ok(())
+            }
             code => Err(CloseError::of_code(code)),
         }
     }
@@ -267,7 +383,24 @@ impl Sender {
         let mut told = raw::TurnAnswer::default();
         // SAFETY: as in `shown`.
         let code = unsafe { raw::bus_c_turn(&mut self.raw, word, &mut told) };
-        Turn::of(code, told)
+        self.answered(Turn::of(code, told))
+    }
+
+    /// Rings where this may be news to others: the page is back, or items are there. The holder of
+    /// the page has given them at its first `Behind`.
+    fn answered(&mut self, turn: Turn) -> Turn {
+        self.behind = match turn {
+            Turn::Behind { .. } => self.behind.saturating_add(1),
+            _ => 0,
+        };
+        match turn {
+            Turn::Delivered { .. } | Turn::Left { .. } | Turn::Full | Turn::Closed => {
+                self.bell.ring()
+            }
+            Turn::Behind { .. } if self.behind == 1 => self.bell.ring(),
+            _ => {}
+        }
+        turn
     }
 
     /// A turn with this random word, and then turns that use none, up to the first that does not
@@ -287,35 +420,148 @@ impl Sender {
         let mut told = raw::TurnAnswer::default();
         // SAFETY: as in `shown`.
         let code = unsafe { raw::bus_c_turns(&mut self.raw, word, u64::MAX, &mut told) };
-        Turn::of(code, told)
+        self.answered(Turn::of(code, told))
     }
 
-    /// Turns until Idle, Delivered, Left, Full, Closed or Spent. It backs off while another sender
-    /// has to go on first.
+    /// The turns that are left of the tenure that it has begun, so that no other sender waits for
+    /// it. None where it has begun none, and then no turn is taken.
+    ///
+    /// Else it is the answer of the last turn: Delivered or Left; Lost, Waiting (it came too late for
+    /// the tenure) or Full, and the batch is kept; or Closed. Or it is Behind, where another sender's
+    /// pin is in the way: it holds the page still, and may be asked again. It begins no tenure, and
+    /// waits for nobody.
+    ///
+    /// ```
+    /// use kioskbasil::{Bus, Shape, Turn};
+    ///
+    /// let (mut senders, _receivers) = Bus::open(Shape::of(1, 1))?;
+    /// senders[0].put(b"begun")?;
+    /// assert_eq!(senders[0].finish(), None);
+    /// assert_eq!(senders[0].turn(0), Turn::Going);
+    /// let (tenure, first, last) = (0, 0, 0);
+    /// assert_eq!(senders[0].finish(), Some(Turn::Delivered { tenure, first, last }));
+    /// # Ok::<(), Box<dyn std::error::Error>>(())
+    /// ```
+    pub fn finish(&mut self) -> Option<Turn> {
+        let mut told = raw::TurnAnswer::default();
+        // SAFETY: as in `shown`.
+        match unsafe { raw::bus_c_finish(&mut self.raw, &mut told) } {
+            0 => None,
+            code => Some(self.answered(Turn::of(code, told))),
+        }
+    }
+
+    /// Turns until Idle, Delivered, Left, Full, Closed or Spent. It waits while another sender has
+    /// to go on first.
     #[must_use = "Full and Spent send nothing"]
     pub fn send(&mut self) -> Turn {
-        let mut back_off = BackOff::default();
         loop {
-            let word = self.words.next();
-            match self.turns(word) {
-                Turn::Waiting | Turn::Behind { .. } => back_off.snooze(),
-                Turn::Going | Turn::Lost { .. } | Turn::Own { .. } => back_off.reset(),
-                last => return last,
+            if let Some(last) = self.send_while(|| true) {
+                return last;
             }
+        }
+    }
+
+    /// As `send`, but that it can be told to stop: each time a turn answers `Waiting` or `Behind`
+    /// it asks `go_on`, and gives None where that says no. The batch is kept, and any later turn
+    /// goes on with it. After `Behind` this sender holds the page, for which all others wait: so go
+    /// on soon. A call that sleeps asks once the bell rings, so whoever makes `go_on` say no rings
+    /// it.
+    ///
+    /// ```
+    /// use kioskbasil::{Bus, Shape, Turn};
+    ///
+    /// let (mut senders, _receivers) = Bus::open(Shape::of(2, 1))?;
+    /// let (anna, bert) = senders.split_at_mut(1);
+    /// bert[0].put(b"b")?;
+    /// while bert[0].turn(0) != (Turn::Own { tenure: 0 }) {}
+    /// anna[0].put(b"a")?;
+    /// assert_eq!(anna[0].send_while(|| false), None);
+    /// assert_eq!(anna[0].pending(), 1);
+    /// assert!(matches!(bert[0].send(), Turn::Delivered { .. }));
+    /// assert!(matches!(anna[0].send(), Turn::Delivered { .. }));
+    /// # Ok::<(), Box<dyn std::error::Error>>(())
+    /// ```
+    #[must_use = "None says that it was told to stop; Full and Spent send nothing"]
+    pub fn send_while(&mut self, mut go_on: impl FnMut() -> bool) -> Option<Turn> {
+        let mut back_off = BackOff::new(self.waiting);
+        loop {
+            let word = self.random.next();
+            match self.turns(word) {
+                Turn::Waiting | Turn::Behind { .. } if !go_on() => return None,
+                Turn::Waiting => back_off.wait(&self.bell, usize::from(self.number)),
+                Turn::Behind { .. } => back_off.wait_behind(self.behind),
+                Turn::Going | Turn::Lost { .. } | Turn::Own { .. } => back_off.reset(),
+                last => return Some(last),
+            }
+        }
+    }
+
+    /// As `send`, for tasks: where another sender has to go on first, the task is woken once it may
+    /// have done so.
+    pub fn poll_send(&mut self, context: &mut Context<'_>) -> Poll<Turn> {
+        let mut listens = false;
+        loop {
+            let word = self.random.next();
+            match self.turns(word) {
+                Turn::Waiting if listens => return Poll::Pending,
+                Turn::Waiting => {
+                    let place = usize::from(self.number);
+                    self.bell.listen(place, context.waker());
+                    listens = true;
+                }
+                Turn::Behind { .. } => {
+                    wake_after(nap(self.behind), context.waker());
+                    return Poll::Pending;
+                }
+                Turn::Going | Turn::Lost { .. } | Turn::Own { .. } => {}
+                last => return Poll::Ready(last),
+            }
+        }
+    }
+
+    /// As `send`, for tasks. Where the future is dropped the batch is kept, and any later turn goes
+    /// on with it. It keeps nobody waiting meanwhile, but where the last turn answered `Behind`.
+    #[allow(unused_attributes)] // before Rust 1.67 the next one said nothing of an async function
+    #[must_use = "Full and Spent send nothing"]
+    pub async fn send_async(&mut self) -> Turn {
+        Polled(|context: &mut Context<'_>| self.poll_send(context)).await
+    }
+
+    /// What the last answer says of what waited, be it messages or a mark.
+    fn sent_off(&mut self, last: Turn) -> Result<(), SendError> {
+        match last {
+            Turn::Closed if self.pending() == 0 => Ok(()),
+            Turn::Full | Turn::Closed | Turn::Spent => Err(SendError::Turn(last)),
+            _ => Ok(()),
         }
     }
 
     fn send_off(&mut self) -> Result<(), SendError> {
-        while self.pending() > 0 {
-            match self.send() {
-                Turn::Delivered { .. } => {}
-                other => return Err(SendError::Turn(other)),
-            }
-        }
-        Ok(())
+        let last = self.send();
+        self.sent_off(last)
     }
 
-    /// Sends what waits and then these, in their order, in batches of at most 16.
+    async fn send_off_async(&mut self) -> Result<(), SendError> {
+        let last = self.send_async().await;
+        self.sent_off(last)
+    }
+
+    /// Sends what waits, a close or a leave too, and then these, in their order, in batches of at
+    /// most 16. Ok says that nothing waits any more.
+    ///
+    /// ```
+    /// use kioskbasil::{Bus, SendError, Shape, Turn};
+    ///
+    /// let mut shape = Shape::of(2, 1);
+    /// shape.log_words = 16;
+    /// let (mut senders, _receivers) = Bus::open(shape)?;
+    /// senders[0].send_all([&[1; 56][..], &[2; 40]])?;
+    /// senders[1].leave()?;
+    /// let nothing: [&str; 0] = [];
+    /// assert_eq!(senders[1].send_all(nothing).unwrap_err().why, SendError::Turn(Turn::Full));
+    /// # Ok::<(), Box<dyn std::error::Error>>(())
+    /// ```
     pub fn send_all<M: AsRef<[u8]>>(
         &mut self,
         messages: impl IntoIterator<Item = M>,
@@ -326,21 +572,79 @@ impl Sender {
             if self.pending() == 16 {
                 self.send_off().map_err(|why| Unsent { put, why })?;
             }
-            self.put(message.as_ref()).map_err(|why| Unsent {
-                put,
-                why: SendError::Put(why),
-            })?;
+            let taken = self.put(message.as_ref()).map_err(SendError::Put);
+            taken.map_err(|why| Unsent { put, why })?;
             put += 1;
         }
         self.send_off().map_err(|why| Unsent { put, why })
     }
 
-    /// Closes, and sends that: Ok where the order has ended then.
-    pub fn end_order(&mut self) -> Result<(), SendError> {
-        self.close().map_err(SendError::Close)?;
-        match self.send() {
-            Turn::Closed => Ok(()),
-            other => Err(SendError::Turn(other)),
+    /// As `send_all`, for tasks. Where the future is dropped the batch keeps what it has, and the
+    /// messages behind are not put.
+    pub async fn send_all_async<M: AsRef<[u8]>>(
+        &mut self,
+        messages: impl IntoIterator<Item = M>,
+    ) -> Result<(), Unsent> {
+        let mut put = 0;
+        self.send_off_async()
+            .await
+            .map_err(|why| Unsent { put, why })?;
+        for message in messages {
+            if self.pending() == 16 {
+                self.send_off_async()
+                    .await
+                    .map_err(|why| Unsent { put, why })?;
+            }
+            let taken = self.put(message.as_ref()).map_err(SendError::Put);
+            taken.map_err(|why| Unsent { put, why })?;
+            put += 1;
         }
+        self.send_off_async()
+            .await
+            .map_err(|why| Unsent { put, why })
+    }
+
+    /// Closes, and sends that: Ok where the order has ended then. After an error `Close` nothing has
+    /// changed. After `Turn` the close waits, and another call goes on with it; so it does where
+    /// `close` was called before.
+    ///
+    /// ```
+    /// use kioskbasil::{Bus, SendError, Shape, Turn};
+    ///
+    /// let mut shape = Shape::of(2, 1);
+    /// shape.log_words = 16;
+    /// let (mut senders, _receivers) = Bus::open(shape)?;
+    /// senders[0].send_all([&[1; 56][..], &[2; 40]])?;
+    /// for _ in 0..2 {
+    ///     assert_eq!(senders[1].end_order(), Err(SendError::Turn(Turn::Full)));
+    /// }
+    /// # Ok::<(), Box<dyn std::error::Error>>(())
+    /// ```
+    pub fn end_order(&mut self) -> Result<(), SendError> {
+        self.begin_to_end()?;
+        let last = self.send();
+        ended_by(last)
+    }
+
+    /// As `end_order`, for tasks. Where the future is dropped the close waits, and another call
+    /// goes on with it.
+    pub async fn end_order_async(&mut self) -> Result<(), SendError> {
+        self.begin_to_end()?;
+        let last = self.send_async().await;
+        ended_by(last)
+    }
+
+    fn begin_to_end(&mut self) -> Result<(), SendError> {
+        match self.closes {
+            true => Ok(()),
+            false => self.close().map_err(SendError::Close),
+        }
+    }
+}
+
+fn ended_by(last: Turn) -> Result<(), SendError> {
+    match last {
+        Turn::Closed => Ok(()),
+        other => Err(SendError::Turn(other)),
     }
 }

@@ -1,30 +1,119 @@
 //! Waiting and random words, of which the archive has none.
 
+use crate::Bell;
 use std::collections::hash_map::RandomState;
+use std::future::Future;
 use std::hash::{BuildHasher, Hasher};
+use std::pin::Pin;
+use std::task::{Context, Poll, Waker};
 use std::time::Duration;
 use std::{hint, thread};
 
+/// How a thread waits in the calls of a handle that wait.
+#[derive(Clone, Copy, Debug, Default, PartialEq, Eq)]
+pub enum Waiting {
+    /// It spins. For threads that each have a core of their own.
+    Spin,
+    /// It spins and then yields, again and again.
+    Yield,
+    /// It spins, yields, and then sleeps until the bell of its bus rings.
+    #[default]
+    Sleep,
+}
+
+/// After how many looks a thread yields, and after how many it sleeps.
+const SPINS: u32 = 6;
+const YIELDS: u32 = 64;
+
+/// A thread sleeps so long at most: who is to ring may be stopped before it does, and what the
+/// program asks between two looks may take the wake-up for its own.
+const LONGEST_SLEEP: Duration = Duration::from_millis(100);
+
 /// Waits longer and longer from call to call.
-#[derive(Default)]
-pub(crate) struct BackOff(u32);
+pub(crate) struct BackOff {
+    waiting: Waiting,
+    step: u32,
+    listens: bool,
+}
 
 impl BackOff {
-    pub(crate) fn snooze(&mut self) {
-        if self.0 < 6 {
-            for _ in 0..1u32 << self.0 {
+    pub(crate) fn new(waiting: Waiting) -> BackOff {
+        BackOff {
+            waiting,
+            step: 0,
+            listens: false,
+        }
+    }
+
+    /// Waits for the bell: spins, then yields, then listens, so that the caller looks once more,
+    /// and then sleeps.
+    pub(crate) fn wait(&mut self, bell: &Bell, place: usize) {
+        if self.backs_off() {
+            return;
+        }
+        if self.listens {
+            thread::park_timeout(LONGEST_SLEEP);
+        }
+        bell.listen_here(place);
+        self.listens = true;
+    }
+
+    /// Waits for a sender that is in the middle of its turns, which no ring follows.
+    pub(crate) fn wait_behind(&mut self, looks: u32) {
+        if !self.backs_off() {
+            thread::sleep(nap(looks).unwrap_or_default());
+        }
+    }
+
+    fn backs_off(&mut self) -> bool {
+        if self.waiting == Waiting::Spin || self.step < SPINS {
+            for _ in 0..1u32 << self.step.min(SPINS) {
                 hint::spin_loop();
             }
-        } else if self.0 < 64 {
+        } else if self.waiting == Waiting::Yield || self.step < YIELDS {
             thread::yield_now();
         } else {
-            thread::sleep(Duration::from_micros(100));
+            return false;
         }
-        self.0 = (self.0 + 1).min(64);
+        self.step = (self.step + 1).min(YIELDS);
+        true
     }
 
     pub(crate) fn reset(&mut self) {
-        self.0 = 0;
+        self.step = 0;
+        self.listens = false;
+    }
+}
+
+/// For how long a sender that was behind at so many looks sleeps: for 0.1 ms, 0.2 ms and so on up
+/// to 12.8 ms; at first not at all.
+pub(crate) fn nap(looks: u32) -> Option<Duration> {
+    let naps = looks.checked_sub(YIELDS)?;
+    Some(Duration::from_micros(100 << naps.min(7)))
+}
+
+/// Wakes a task after a nap, which a thread takes in its place, or at once where there is none.
+pub(crate) fn wake_after(nap: Option<Duration>, waker: &Waker) {
+    let sleeper = waker.clone();
+    let started = nap.map(|nap| {
+        thread::Builder::new().spawn(move || {
+            thread::sleep(nap);
+            sleeper.wake();
+        })
+    });
+    if !matches!(started, Some(Ok(_))) {
+        waker.wake_by_ref();
+    }
+}
+
+/// The future of what is polled by a function.
+pub(crate) struct Polled<F>(pub(crate) F);
+
+impl<T, F: FnMut(&mut Context<'_>) -> Poll<T> + Unpin> Future for Polled<F> {
+    type Output = T;
+
+    fn poll(mut self: Pin<&mut Self>, context: &mut Context<'_>) -> Poll<T> {
+        (self.0)(context)
     }
 }
 

@@ -1,7 +1,9 @@
 //! Threads over one bus: all receivers hear one order, which has each sender's messages in their
 //! order.
 
-use kioskbasil::{Bus, EndError, Ended, Item, OpenError, OtherBus, PutError, Shape, Turn};
+use kioskbasil::{
+    Bus, EndError, Item, OpenError, OtherBus, Page, PageError, PutError, SendError, Shape, Turn,
+};
 use std::cmp::Ordering;
 use std::error::Error;
 use std::thread;
@@ -108,6 +110,56 @@ fn a_bus_that_is_not_ended() {
     let (mut senders, receivers) = Bus::open(Shape::of(1, 1)).unwrap();
     senders[0].put(b"x").unwrap();
     while !matches!(senders[0].turn(0), Turn::Own { .. }) {}
+    assert_eq!(Bus::end(senders, receivers).unwrap().counts[0], 1);
+}
+
+/// A thread panics within a tenure, after each of its turns: the other sends and ends the order.
+#[test]
+fn senders_that_panic() {
+    for again in [false, true] {
+        for turns in 0..20 {
+            let shape = Shape {
+                again,
+                ..Shape::of(2, 1)
+            };
+            let (mut senders, receivers) = Bus::open(shape).unwrap();
+            let mut other = senders.pop().unwrap();
+            let mut first = senders.pop().unwrap();
+            first.put(b"x").unwrap();
+            let fails = std::thread::spawn(move || {
+                for word in 0..turns {
+                    first.turn(word);
+                }
+                panic!("a fault of the program's own, which is to be seen");
+            });
+            other.send_all(["y"]).unwrap();
+            assert!(fails.join().is_err());
+            other.end_order().unwrap();
+            let ended = Bus::end([other], receivers).unwrap();
+            assert_eq!((ended.counts[1], ended.ended), (1, true));
+        }
+    }
+}
+
+/// One that is dropped behind another one takes the page with it.
+#[test]
+fn a_sender_that_is_dropped_behind() {
+    let shape = Shape {
+        again: true,
+        rows: 2,
+        ..Shape::of(2, 1)
+    };
+    let (mut senders, receivers) = Bus::open(shape).unwrap();
+    senders[1].put(b"x").unwrap();
+    for _ in 0..3 {
+        assert_eq!(senders[1].turn(0), Turn::Going);
+    }
+    senders[0].send_all(["y"]).unwrap();
+    senders[0].put(b"z").unwrap();
+    while !matches!(senders[0].turn(0), Turn::Own { .. }) {}
+    let (tenure, sender) = (0, 1);
+    assert_eq!(senders[0].finish(), Some(Turn::Behind { tenure, sender }));
+    drop(senders.remove(0));
     assert_eq!(Bus::end(senders, receivers).unwrap_err(), EndError::PageOut);
 }
 
@@ -203,23 +255,17 @@ fn what_was_not_sent_goes_on() {
     let (first, second) = senders.split_at_mut(1);
     assert_eq!(first[0].carry_to(&mut second[0]), Err(PutError::Closed));
 
-    // The old sender keeps its bus, so the next numbers are those that a receiver counts.
-    let mut counted = Ended {
-        log: Vec::new(),
-        counts: [0; 64],
-        bases: [0; 64],
-        next: [0; 64],
-        tenures: 0,
-        ended: true,
-        left: [false; 64],
-    };
-    for item in receivers[0].by_ref() {
-        counted.next[usize::from(item.sender)] = item.number + 1;
-    }
-    let (mut after, mut ears) = Bus::open_after(Shape::of(2, 1), &counted).unwrap();
+    // The old senders keep their bus, so the next numbers are those that they tell.
+    assert_eq!(
+        Bus::senders_page(&mut senders[..1]),
+        Err(PageError::Unanswered)
+    );
+    let page = Bus::senders_page(&mut senders).unwrap();
+    let (mut after, mut ears) = Bus::open_after(Shape::of(2, 1), page).unwrap();
     assert_eq!(senders[0].carry_to(&mut after[0]), Ok(()));
     assert_eq!((senders[0].pending(), after[0].pending()), (1, 1));
-    assert_eq!(Bus::end(senders, receivers).unwrap().next, counted.next);
+    assert_eq!(receivers[0].by_ref().count(), 1);
+    assert_eq!(Page::from(&Bus::end(senders, receivers).unwrap()), page);
     assert_eq!(after[0].put(b"c"), Ok(2));
     assert!(matches!(
         after[0].send(),
@@ -240,4 +286,113 @@ fn what_was_not_sent_goes_on() {
     assert_eq!(one[0].carry_to(&mut two[0]), Err(PutError::BatchFull));
     assert!(matches!(two[0].turn(0), Turn::Going));
     assert_eq!(two[0].carry_to(&mut one[0]), Err(PutError::BatchFull));
+}
+
+#[test]
+fn numbers_of_a_later_sitting() {
+    let shape = Shape::of(2, 1);
+    let (mut first, ears) = Bus::open(shape).unwrap();
+    for sender in &mut first {
+        sender.send_all(["a"]).unwrap();
+    }
+    first[0].end_order().unwrap();
+    let ended = Bus::end(first, ears).unwrap();
+    let (mut second, _ears) = Bus::open_after(shape, &ended).unwrap();
+    second[0].send_all(["b"]).unwrap();
+    assert_eq!(second[1].put(b"late"), Ok(1));
+    second[0].end_order().unwrap();
+    assert_eq!(second[1].send(), Turn::Closed);
+    let page = Bus::senders_page(&mut second).unwrap();
+    assert_eq!(page.next[..3], [2, 1, 0]);
+    let (mut third, mut ears) = Bus::open_after(shape, page).unwrap();
+    second[1].carry_to(&mut third[1]).unwrap();
+    third[1].send_all(["c"]).unwrap();
+    assert_eq!(ears[0].next_item().map(|item| item.number), Some(1));
+}
+
+#[test]
+fn no_page_of_an_order_that_has_not_ended() {
+    let (mut senders, _receivers) = Bus::open(Shape::of(2, 1)).unwrap();
+    for sender in &mut senders {
+        sender.leave().unwrap();
+        assert!(matches!(sender.send(), Turn::Left { .. }));
+    }
+    assert_eq!(Bus::senders_page(&mut senders), Err(PageError::NotEnded));
+    assert_eq!(Bus::senders_page([]), Err(PageError::NotEnded));
+    let (mut others, _ears) = Bus::open(Shape::of(2, 1)).unwrap();
+    let (one, two) = (&mut senders[0], &mut others[1]);
+    assert_eq!(two.end_order(), Ok(()));
+    assert_eq!(Bus::senders_page([one, two]), Err(PageError::OtherBus));
+}
+
+/// Two senders over two rows, of which the second shows its presence in tenure 0 and stops.
+fn with_a_late_sender() -> (Vec<kioskbasil::Sender>, Vec<kioskbasil::Receiver>) {
+    let shape = Shape {
+        rows: 2,
+        rounds: 1,
+        ..Shape::of(2, 1)
+    };
+    let (mut senders, receivers) = Bus::open(shape).unwrap();
+    senders[1].put(b"late").unwrap();
+    for _ in 0..3 {
+        assert_eq!(senders[1].turn(0), Turn::Going);
+    }
+    (senders, receivers)
+}
+
+#[test]
+fn nothing_is_carried_while_the_page_is_out() {
+    let (mut senders, mut receivers) = with_a_late_sender();
+    let (mut others, mut ears) = with_a_late_sender();
+    senders[0].send_all(["a"]).unwrap();
+    let words = senders[0].words();
+    senders[0].put(b"b").unwrap();
+    let last = (0..100)
+        .map(|_| senders[0].turns(1))
+        .find(|last| !matches!(last, Turn::Going | Turn::Own { .. }));
+    assert!(matches!(last, Some(Turn::Behind { sender: 1, .. })));
+    assert_eq!(
+        (senders[0].pending(), senders[0].words() > words),
+        (1, true)
+    );
+    assert_eq!(senders[0].carry_to(&mut others[0]), Err(PutError::Busy));
+    assert_eq!(others[0].send(), Turn::Idle);
+    assert_eq!(receivers[0].hear(&mut Vec::new()), 2);
+    assert_eq!(ears[0].hear(&mut Vec::new()), 0);
+}
+
+#[test]
+fn marks_are_sent_or_reported() {
+    let nothing: [&str; 0] = [];
+    let shape = Shape {
+        log_words: 16,
+        ..Shape::of(2, 1)
+    };
+    let (mut senders, _receivers) = Bus::open(shape).unwrap();
+    senders[0].leave().unwrap();
+    assert_eq!(senders[0].send_all(nothing), Ok(()));
+    assert!(senders[0].is_closed());
+    senders[1].send_all([&[1u8; 56][..], &[2; 24]]).unwrap();
+    let full = Err(SendError::Turn(Turn::Full));
+    for _ in 0..2 {
+        assert_eq!(senders[1].end_order(), full);
+        assert_eq!(senders[1].send_all(nothing).map_err(|u| u.why), full);
+        assert!(!senders[1].is_closed());
+    }
+    let (mut senders, _receivers) = Bus::open(Shape::of(2, 1)).unwrap();
+    senders[0].close().unwrap();
+    assert_eq!(senders[0].end_order(), Ok(()));
+    assert_eq!(senders[0].end_order(), Ok(()));
+}
+
+#[test]
+fn an_end_takes_no_more_memory_than_its_log() {
+    let shape = Shape {
+        log_words: 16,
+        ..Shape::of(1, 1)
+    };
+    let (mut senders, receivers) = Bus::open(shape).unwrap();
+    senders[0].end_order().unwrap();
+    let ended = Bus::end(senders, receivers).unwrap();
+    assert_eq!((ended.log.len(), ended.log.capacity()), (2, 2));
 }

@@ -16,11 +16,26 @@ not_reading k w (inl e) = not_storing k (inl e) w
 not_reading k w (inr e) = not_storing k (inr e) w
 
 -- what comes after k
-pub to_read_first : (k next : Kind) → (k ≡ kind.WriteFirst) ⊎ (k ≡ kind.ReadFirst) → kind.ReadFirst ≡ next → ComesAfter k next
-to_read_first k next from is = record { reads_first = λ w. from; writes_second = λ w. absurd (let z = is ∙ w in cc); reads_second = λ w. absurd (let z = is ∙ w in cc) }
+pub to_read_first : (k next : Kind) → (k ≡ kind.WriteFirst) ⊎ (k ≡ kind.ReadFirst)
+    → kind.ReadFirst ≡ next → ComesAfter k next
+to_read_first k next from is = record {
+  reads_first = λ w. from;
+  writes_second = λ w. absurd (let z = is ∙ w in cc);
+  reads_second = λ w. absurd (let z = is ∙ w in cc);
+}
 
-pub to_write_second : (k next : Kind) → k ≡ kind.ReadFirst → kind.WriteSecond ≡ next → ComesAfter k next
-to_write_second k next from is = record { reads_first = λ w. absurd (let z = is ∙ w in cc); writes_second = λ w. from; reads_second = λ w. absurd (let z = is ∙ w in cc) }
+pub to_write_second : (k next : Kind) → k ≡ kind.ReadFirst → kind.WriteSecond ≡ next
+    → ComesAfter k next
+to_write_second k next from is = record {
+  reads_first = λ w. absurd (let z = is ∙ w in cc);
+  writes_second = λ w. from;
+  reads_second = λ w. absurd (let z = is ∙ w in cc);
+}
 
-pub to_read_second : (k next : Kind) → k ≢ kind.WriteFirst → kind.ReadSecond ≡ next → ComesAfter k next
-to_read_second k next from is = record { reads_first = λ w. absurd (let z = is ∙ w in cc); writes_second = λ w. absurd (let z = is ∙ w in cc); reads_second = λ w. from }
+pub to_read_second : (k next : Kind) → k ≢ kind.WriteFirst → kind.ReadSecond ≡ next
+    → ComesAfter k next
+to_read_second k next from is = record {
+  reads_first = λ w. absurd (let z = is ∙ w in cc);
+  writes_second = λ w. absurd (let z = is ∙ w in cc);
+  reads_second = λ w. from;
+}

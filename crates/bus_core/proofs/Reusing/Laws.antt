@@ -19,21 +19,36 @@ use Rattle.bus_ownerbits.specs.Sizes.{decision_cost}
 use Rattle.bus_tenure.specs.Elections.{elections, election_with}
 use Rattle.bus_core.proofs.Reusing.Keeps.{ElectionsKeep}
 
-module _ {S : Type 0} (kind : S → Option Kind) (op : S → ℕ → Option Op) (fed : S → ℕ → ℕ → S) (P : Protocol S Bool Verdict) (laws : Laws op fed P Legal) (wordless : (s : S) → P.wants_word s ≡ false) where
+module _ {S : Type 0} (kind : S → Option Kind) (op : S → ℕ → Option Op) (fed : S → ℕ → ℕ → S)
+    (P : Protocol S Bool Verdict) (laws : Laws op fed P Legal)
+    (wordless : (s : S) → P.wants_word s ≡ false) where
   law : DecideLaw op fed P conciliator_op conciliator_fed conciliator_protocol
-  law = decide_law op fed P laws wordless conciliator_op conciliator_fed conciliator_protocol Conciles conciliator_laws (λ ins outs o. o.valid) (λ n. refl)
+  law = decide_law op fed P laws wordless conciliator_op conciliator_fed conciliator_protocol
+      Conciles conciliator_laws (λ ins outs o. o.valid) (λ n. refl)
 
   -- a decision takes no more steps than it costs
-  cheap : (rounds n : ℕ) → (decide_protocol P conciliator_protocol rounds).steps n ≤ decision_cost P.steps rounds n
+  cheap : (rounds n : ℕ)
+      → (decide_protocol P conciliator_protocol rounds).steps n ≤ decision_cost P.steps rounds n
   cheap rounds n = let e = law.steps rounds n in omega arith
 
-  elections_law : (rounds : ℕ) → Laws (election_op (decide_op op conciliator_op)) (election_fed (decide_protocol P conciliator_protocol) (decide_fed P conciliator_protocol fed conciliator_fed)) (elections P rounds) OneOwner
-  elections_law rounds = election_laws (decide_op op conciliator_op) (decide_fed P conciliator_protocol fed conciliator_fed) (decide_protocol P conciliator_protocol) (decision_cost P.steps) law.laws cheap rounds
+  elections_law : (rounds : ℕ)
+      → Laws (election_op (decide_op op conciliator_op))
+      (election_fed (decide_protocol P conciliator_protocol)
+      (decide_fed P conciliator_protocol fed conciliator_fed)) (elections P rounds) OneOwner
+  elections_law rounds = election_laws (decide_op op conciliator_op)
+      (decide_fed P conciliator_protocol fed conciliator_fed)
+      (decide_protocol P conciliator_protocol) (decision_cost P.steps) law.laws cheap rounds
 
-  pub elections_keep : ElectionsKeep (election_with kind op fed P) (λ x. (elections P x.rounds).width x.senders) (λ x me. (elections P x.rounds).Belongs x.senders me)
+  pub elections_keep : ElectionsKeep (election_with kind op fed P)
+      (λ x. (elections P x.rounds).width x.senders)
+      (λ x me. (elections P x.rounds).Belongs x.senders me)
   elections_keep = record {
-    starts = λ x me at below few. ((elections_law x.rounds).starts x.senders me at tt below few).belongs;
-    above = λ x me at e word o b i. ((elections_law x.rounds).goes x.senders me at e 0 word o b i).above;
-    below = λ x me at e word o b i. ((elections_law x.rounds).goes x.senders me at e 0 word o b i).below;
-    goes = λ x me at e got word o b i. ((elections_law x.rounds).goes x.senders me at e got word o b i).belongs;
+    starts =
+        λ x me at below few. ((elections_law x.rounds).starts x.senders me at tt below few).belongs;
+    above = λ x me at e word o b i.
+        ((elections_law x.rounds).goes x.senders me at e 0 word o b i).above;
+    below = λ x me at e word o b i.
+        ((elections_law x.rounds).goes x.senders me at e 0 word o b i).below;
+    goes = λ x me at e got word o b i.
+        ((elections_law x.rounds).goes x.senders me at e got word o b i).belongs;
   }

@@ -1,10 +1,13 @@
--- With None a line is that of a sender with a row for each tenure; with Some the line that is due is what is due of a participant.
+-- With None a line is that of a sender with a row for each tenure; with Some the line that is due
+-- is what is due of a participant.
 use Rattle.std.specs.Prelude.{◌≡◌, ℕ, Option, Some, None}
 use Rattle.bus_batch.specs.Frames.{Frame}
 use Rattle.bus_tenure.specs.Core.{Core, Election}
-use Rattle.bus_tenure.specs.Situations.{PageMove, Stays, Line as OwnLine, line_of, situation_of as own_situation}
+use Rattle.bus_tenure.specs.Situations.{PageMove, Stays, Line as OwnLine, line_of}
+use Rattle.bus_tenure.specs.Situations.{situation_of as own_situation}
 use Rattle.bus_core.specs.Proved.ParticipantTable.{Due, Pins, Reclaims, Goes}
-use Rattle.bus_core.specs.Proved.ParticipantTurns.{due, op_due, kind_due, wants_due, rest_due, participant_due, answer_due}
+use Rattle.bus_core.specs.Proved.ParticipantTurns.{due, op_due, kind_due, wants_due, rest_due}
+use Rattle.bus_core.specs.Proved.ParticipantTurns.{participant_due, answer_due}
 use Rattle.bus_core.specs.Reusing.Turns.{Participant}
 use Rattle.bus_core.specs.Senders.{Sender}
 use Rattle.bus_core.specs.Table.{Line, line_now, rest_at}
@@ -38,7 +41,9 @@ line_with_a_row_each l = record {
 }
 
 abbrev pub AtNone : {E : Type 0} → Election E → Type 0
-AtNone {E} X = (c : Core E) → line_now X (with_a_row_each c) ≡ line_with_a_row_each (line_of X c (own_situation X c))
+AtNone {E} X =
+    (c : Core E)
+    → line_now X (with_a_row_each c) ≡ line_with_a_row_each (line_of X c (own_situation X c))
 
 -- how the page moves with what is due
 abbrev pub move_of : {E : Type 0} → Election E → Core E → Due E → PageMove
@@ -52,7 +57,8 @@ publishes_of X c (Reclaims s o) = None
 publishes_of X c (Goes z) = (line_of X c z).publishes
 
 -- a line is that of a participant of which this is due
-pub record IsLineOf {E : Type 0} (X : Election E) (v : Participant E) (d : Due E) (l : Line E) : Type 0 where
+pub record IsLineOf {E : Type 0} (X : Election E) (v : Participant E) (d : Due E) (l : Line E) :
+    Type 0 where
   pub kind : l.kind ≡ kind_due X v d
   pub op : (word : ℕ) → l.op word ≡ op_due X v d word
   pub wants : l.wants_word ≡ wants_due X v d

@@ -1,6 +1,8 @@
--- The table of a participant, a sender of a bus whose rows are used again: what it does beside the turns of a sender that has a row for each
--- tenure. It stores its presence before it enters a tenure and clears it afterwards; as a holder it makes the row of the next tenure ready.
--- Where no step of its pin is due, one line says for each situation of such a sender what a participant does otherwise.
+-- The table of a participant, a sender of a bus whose rows are used again: what it does beside the
+-- turns of a sender that has a row for each tenure. It stores its presence before it enters a
+-- tenure and clears it afterwards; as a holder it makes the row of the next tenure ready. Where no
+-- step of its pin is due, one line says for each situation of such a sender what a participant does
+-- otherwise.
 use Rattle.std.specs.Prelude.{ℕ, ◌+◌, ◌-◌, ◌/◌, Option, Some, None, ◌==◌, if◌then◌else◌}
 use Rattle.bus_register.specs.declared.registers.Op.{Op}
 use Rattle.bus_register.specs.declared.registers.SenderNo.{SenderNo}
@@ -9,12 +11,16 @@ use Rattle.bus_presence.specs.Reclaimers.{Reclaiming, reclaim_op}
 use Rattle.bus_presence.specs.Reclamation.{presence_at, row_of}
 use Rattle.bus_presence.specs.Reclamation as reclamation
 use Rattle.bus_presence.specs.declared.pins.Pin.{Pin}
-use Rattle.bus_presence.specs.declared.pins.Pin.TheVariants.{Away, Announcing, Validating, Pinned, Unpinning, Invalidated}
+use Rattle.bus_presence.specs.declared.pins.Pin.TheVariants.{Away, Announcing, Validating, Pinned}
+use Rattle.bus_presence.specs.declared.pins.Pin.TheVariants.{Unpinning, Invalidated}
 use Rattle.bus_tenure.specs.Core.{Core, Election, Layout, stage_at, row_at, log_at}
-use Rattle.bus_tenure.specs.Situations.{Situation, IsClosed, IsIdle, IsSpent, LooksAtStage, Elects, TakesPage, AwaitsPage, StoresWord, StoresLength, GivesBack, HasHanded, situation_of, fed_at, answer_at, core_begun}
+use Rattle.bus_tenure.specs.Situations.{Situation, IsClosed, IsIdle, IsSpent, LooksAtStage, Elects}
+use Rattle.bus_tenure.specs.Situations.{TakesPage, AwaitsPage, StoresWord, StoresLength, GivesBack}
+use Rattle.bus_tenure.specs.Situations.{HasHanded, situation_of, fed_at, answer_at, core_begun}
 use Rattle.bus_tenure.specs.declared.turns.Turn.{Turn}
 use Rattle.bus_tenure.specs.declared.turns.Turn.TheVariants as turn
-use Rattle.bus_core.specs.Reusing.Participants.{sizes_with, log_from, core_seen, pin_seen, pin_elected, lost_elected}
+use Rattle.bus_core.specs.Reusing.Participants.{sizes_with, log_from, core_seen, pin_seen}
+use Rattle.bus_core.specs.Reusing.Participants.{pin_elected, lost_elected}
 
 -- ---- a line of the table
 -- what a participant's turn is in a situation of the sender that it is
@@ -23,8 +29,8 @@ pub record ParticipantLine (E : Type 0) : Type 0 where
   pub place : Layout → (rows place : ℕ) → ℕ
   -- of the reclaimer that it has: what comes before the step
   pub reclaimer_before : Option Reclaiming → Option Reclaiming
-  -- after a step that found this number, with this random word: what it holds as a sender, how far its pin has come, and who won the
-  -- tenure that it lost
+  -- after a step that found this number, with this random word: what it holds as a sender, how far
+  -- its pin has come, and who won the tenure that it lost
   pub core : Election E → Core E → (got word : ℕ) → Core E
   pub pin : Election E → Core E → Pin → (got word : ℕ) → Pin
   pub lost : Election E → Core E → Option SenderNo → (got word : ℕ) → Option SenderNo
@@ -54,8 +60,9 @@ abbrev pub steps_alike : {E : Type 0} → Situation E → ParticipantLine E
 steps_alike z = record (steps_as z turn.Going) { answer = λ X c got word. answer_at X c z got word }
 
 -- ---- THE TABLE: one line for each situation
--- No step of the election is answered by Lost. The reclamation begins with the page that is taken, comes before the step that gives the page
--- back, and is over with that; a page that is handed on already has its reclamation behind it.
+-- No step of the election is answered by Lost. The reclamation begins with the page that is taken,
+-- comes before the step that gives the page back, and is over with that; a page that is handed on
+-- already has its reclamation behind it.
 abbrev pub participant_line : {E : Type 0} → Situation E → ParticipantLine E
 participant_line IsClosed = rests_as turn.Closed
 participant_line IsIdle = rests_as turn.Idle
@@ -74,10 +81,17 @@ participant_line (TakesPage t) = record (steps_as (TakesPage t) (turn.Own t)) {
   reclaimer_after = λ x rows s. reclamation.reclaimer_after (sizes_with x rows) t;
 }
 participant_line (AwaitsPage t) = steps_as (AwaitsPage t) turn.Going
-participant_line (StoresWord t page stored) = record (steps_as (StoresWord t page stored) turn.Going) { place = λ x rows r. log_from x rows + (r - log_at x) }
+participant_line (StoresWord t page stored) =
+    record (steps_as (StoresWord t page stored) turn.Going) {
+      place = λ x rows r. log_from x rows + (r - log_at x);
+    }
 participant_line (StoresLength t page stored) = steps_as (StoresLength t page stored) turn.Going
-participant_line (GivesBack t page reason) = record (steps_alike (GivesBack t page reason)) { reclaimer_before = λ s. s; reclaimer_after = λ x rows s. None }
-participant_line (HasHanded t reason) = record (steps_alike (HasHanded t reason)) { reclaimer_after = λ x rows s. None }
+participant_line (GivesBack t page reason) = record (steps_alike (GivesBack t page reason)) {
+  reclaimer_before = λ s. s;
+  reclaimer_after = λ x rows s. None;
+}
+participant_line (HasHanded t reason) =
+    record (steps_alike (HasHanded t reason)) { reclaimer_after = λ x rows s. None }
 
 -- ---- a line, read by its parts
 abbrev pub place_for : {E : Type 0} → Layout → ℕ → Situation E → ℕ → ℕ
@@ -92,7 +106,8 @@ core_going X c z got word = (participant_line z).core X c got word
 abbrev pub pin_going : {E : Type 0} → Election E → Core E → Pin → Situation E → ℕ → ℕ → Pin
 pin_going X c v z got word = (participant_line z).pin X c v got word
 
-abbrev pub reclaimer_going : {E : Type 0} → Layout → ℕ → Option Reclaiming → Situation E → Option Reclaiming
+abbrev pub reclaimer_going : {E : Type 0} → Layout → ℕ → Option Reclaiming → Situation E
+    → Option Reclaiming
 reclaimer_going x rows s z = (participant_line z).reclaimer_after x rows s
 
 abbrev pub answer_going : {E : Type 0} → Election E → Core E → Situation E → ℕ → ℕ → Turn
@@ -121,11 +136,14 @@ due_beside (Some o) s z = Pins o
 due_beside None s z = due_home (reclaim_due z s) z
 
 -- of sender p, which holds this, whose pin has come so far, with the reclaimer of the holder
-abbrev pub due_of : {E : Type 0} → Election E → Layout → ℕ → ℕ → Core E → Pin → Option Reclaiming → Due E
-due_of X x rows p c pin reclaimer = due_beside (step_at pin (presence_at (sizes_with x rows) p) stage_at) reclaimer (situation_of X c)
+abbrev pub due_of : {E : Type 0} → Election E → Layout → ℕ → ℕ → Core E → Pin → Option Reclaiming
+    → Due E
+due_of X x rows p c pin reclaimer = due_beside
+    (step_at pin (presence_at (sizes_with x rows) p) stage_at) reclaimer (situation_of X c)
 
 -- ---- what it holds after a step of its pin
--- a sender that has looked at the stage again begins the tenure, where the stage is of that tenure still
+-- a sender that has looked at the stage again begins the tenure, where the stage is of that tenure
+-- still
 abbrev pub core_looked : {E : Type 0} → Election E → Core E → Pin → ℕ → Core E
 core_looked X c Away got = c
 core_looked X c (Announcing t) got = c

@@ -1,5 +1,5 @@
--- The turns of a participant: what is due of it, its next step, what it holds after that step, and what it answers. The table of a sender
--- of either kind of rows says the same of it.
+-- The turns of a participant: what is due of it, its next step, what it holds after that step, and
+-- what it answers. The table of a sender of either kind of rows says the same of it.
 use Rattle.std.specs.Prelude.{ℕ, ◌+◌, Bool, false, Option, Some, None, nat_lt, if◌then◌else◌}
 use Rattle.bus_register.specs.declared.kinds.Kind.{Kind}
 use Rattle.bus_register.specs.declared.kinds.Kind.TheVariants as kind
@@ -8,14 +8,17 @@ use Rattle.bus_register.specs.declared.registers.SenderNo.{SenderNo}
 use Rattle.bus_presence.specs.Pins.{pin_fed}
 use Rattle.bus_presence.specs.Reclaimers.{Reclaiming, reclaim_fed, behind_of}
 use Rattle.bus_presence.specs.declared.pins.Pin.{Pin}
-use Rattle.bus_presence.specs.declared.pins.Pin.TheVariants.{Away, Announcing, Validating, Pinned, Unpinning, Invalidated}
+use Rattle.bus_presence.specs.declared.pins.Pin.TheVariants.{Away, Announcing, Validating, Pinned}
+use Rattle.bus_presence.specs.declared.pins.Pin.TheVariants.{Unpinning, Invalidated}
 use Rattle.bus_tenure.specs.Core.{Core, Election}
 use Rattle.bus_tenure.specs.Situations.{Situation, op_at, kind_at, wants_at}
 use Rattle.bus_tenure.specs.Proved.LineParts.{rest_at}
 use Rattle.bus_tenure.specs.declared.turns.Turn.{Turn}
 use Rattle.bus_tenure.specs.declared.turns.Turn.TheVariants as turn
 use Rattle.bus_core.specs.Reusing.Participants.{log_from}
-use Rattle.bus_core.specs.Proved.ParticipantTable.{place_for, participant_line, Due, Pins, Reclaims, Goes, due_of, core_looked, core_going, pin_going, reclaimer_going, answer_going}
+use Rattle.bus_core.specs.Proved.ParticipantTable.{place_for, participant_line, Due, Pins}
+use Rattle.bus_core.specs.Proved.ParticipantTable.{Reclaims, Goes, due_of, core_looked, core_going}
+use Rattle.bus_core.specs.Proved.ParticipantTable.{pin_going, reclaimer_going, answer_going}
 use Rattle.bus_core.specs.Reusing.Turns.{Participant, op_placed, answer_of_loss, answer_of_reclaim}
 
 -- all words of the bus
@@ -66,11 +69,19 @@ rest_due X v (Goes z) = rest_at X v.core z
 
 -- ---- what it holds after a step that found this number
 -- who won the tenure that it lost
-abbrev pub lost_going : {E : Type 0} → Election E → Core E → Option SenderNo → Situation E → ℕ → ℕ → Option SenderNo
+abbrev pub lost_going : {E : Type 0} → Election E → Core E → Option SenderNo → Situation E → ℕ → ℕ
+    → Option SenderNo
 lost_going X c l z got word = (participant_line z).lost X c l got word
 
-abbrev pub participant_due : {E : Type 0} → Election E → Participant E → Due E → ℕ → ℕ → Participant E
-participant_due X v (Pins o) got word = record { core = core_looked X v.core v.pin got; pin = pin_fed v.pin got; reclaimer = v.reclaimer; lost = None; rows = v.rows }
+abbrev pub participant_due : {E : Type 0} → Election E → Participant E → Due E → ℕ → ℕ
+    → Participant E
+participant_due X v (Pins o) got word = record {
+  core = core_looked X v.core v.pin got;
+  pin = pin_fed v.pin got;
+  reclaimer = v.reclaimer;
+  lost = None;
+  rows = v.rows;
+}
 participant_due X v (Reclaims s o) got word = record v { reclaimer = Some (reclaim_fed s got) }
 participant_due X v (Goes z) got word = record {
   core = core_going X v.core z got word;

@@ -5,13 +5,15 @@ use Rattle.bus_register.specs.declared.limits.TheConstants.{TENURES}
 use Rattle.bus_presence.specs.Reclaimers.{Reclaiming, is_reclaimed}
 use Rattle.bus_presence.specs.Reclamation.{ReclamationSizes, IsReady, presence_at, row_of}
 use Rattle.bus_presence.specs.declared.pins.Pin.{Pin}
-use Rattle.bus_presence.specs.declared.pins.Pin.TheVariants.{Away, Announcing, Validating, Pinned, Unpinning, Invalidated}
+use Rattle.bus_presence.specs.declared.pins.Pin.TheVariants.{Away, Announcing, Validating, Pinned}
+use Rattle.bus_presence.specs.declared.pins.Pin.TheVariants.{Unpinning, Invalidated}
 use Rattle.bus_tenure.specs.Core.{Core, row_at}
 use Rattle.bus_tenure.specs.Causes.{LooksForTenure}
 use Rattle.bus_tenure.specs.Keeping.{AreSizes}
 use Rattle.bus_tenure.specs.declared.phases.Reason.{Reason}
 use Rattle.bus_tenure.specs.declared.phases.Phase.{Phase}
-use Rattle.bus_tenure.specs.declared.phases.Phase.TheVariants.{Resting, Electing, Taken, Holding, Giving}
+use Rattle.bus_tenure.specs.declared.phases.Phase.TheVariants.{Resting, Electing, Taken, Holding}
+use Rattle.bus_tenure.specs.declared.phases.Phase.TheVariants.{Giving}
 use Rattle.bus_core.specs.declared.limits.TheConstants.{LEAST_ROWS_AGAIN, MOST_ROWS_AGAIN}
 use Rattle.bus_core.specs.Reusing.Turns.{Participant, sizes_of}
 
@@ -62,13 +64,16 @@ pub record IsReclaimerAfter (x : ReclamationSizes) (t : ℕ) (s : Reclaiming) : 
   pub row : s.row ≡ row_of x (t + 1)
   pub width : s.width ≡ x.width
 
--- the row of the tenure after this one is ready: it was never used before, or a reclamation of just this row is done
+-- the row of the tenure after this one is ready: it was never used before, or a reclamation of just
+-- this row is done
 pub record IsRowReady (x : ReclamationSizes) (t : ℕ) (reclaimer : Option Reclaiming) : Type 0 where
   pub ready : IsReady x t reclaimer
   pub of : (s : Reclaiming) → reclaimer ≡ Some s → IsReclaimerAfter x t s
 
--- Only a holder of the page reclaims, for the tenure after its own. Once it has handed the page on, it is done with that.
-pub record IsHeldReclaimer {E : Type 0} (x : ReclamationSizes) (phase : Phase E) (s : Reclaiming) : Type 0 where
+-- Only a holder of the page reclaims, for the tenure after its own. Once it has handed the page on,
+-- it is done with that.
+pub record IsHeldReclaimer {E : Type 0} (x : ReclamationSizes) (phase : Phase E) (s : Reclaiming) :
+    Type 0 where
   pub tenure : ℕ
   pub held : held_of phase ≡ Some tenure
   pub after : IsReclaimerAfter x tenure s
@@ -79,9 +84,10 @@ abbrev pub ReclaimerKeeps : {E : Type 0} → ReclamationSizes → Phase E → Op
 ReclaimerKeeps x phase None = (t : ℕ) → held_of phase ≡ Some t → t + 1 < x.rows
 ReclaimerKeeps x phase (Some s) = IsHeldReclaimer x phase s
 
--- Who remembers an owner, which is another sender, parts from the tenure that it lost, and has begun no other. Who parts from a tenure and
--- remembers no owner has taken its page.
-pub record HasLost {E : Type 0} (me : ℕ) (phase : Phase E) (pin : Pin) (owner : SenderNo) : Type 0 where
+-- Who remembers an owner, which is another sender, parts from the tenure that it lost, and has
+-- begun no other. Who parts from a tenure and remembers no owner has taken its page.
+pub record HasLost {E : Type 0} (me : ℕ) (phase : Phase E) (pin : Pin) (owner : SenderNo) :
+    Type 0 where
   pub tenure : ℕ
   pub parts : pin ≡ Unpinning tenure
   pub rests : phase ≡ Resting
@@ -91,7 +97,8 @@ abbrev pub LostKeeps : {E : Type 0} → ℕ → Phase E → Pin → Option Sende
 LostKeeps me phase pin None = (t : ℕ) → pin ≡ Unpinning t → held_of phase ≡ Some t
 LostKeeps me phase pin (Some o) = HasLost me phase pin o
 
-pub record ParticipantKeeps {E : Type 0} (width : ℕ) (Belongs : ℕ → E → Type 0) (v : Participant E) : Type 0 where
+pub record ParticipantKeeps {E : Type 0} (width : ℕ) (Belongs : ℕ → E → Type 0)
+    (v : Participant E) : Type 0 where
   pub sizes : AreSizes v.core.layout width
   pub tenures : v.core.layout.rows ≡ TENURES
   pub rows_some : LEAST_ROWS_AGAIN ≤ v.rows

@@ -13,15 +13,17 @@ pub data Returns {E : Type 0} (t : ℕ) : Situation E → Type 0 where
   Gives : (page : Page) (reason : Reason) → Returns t (GivesBack t page reason)
   Says : (reason : Reason) → Returns t (HasHanded t reason)
 
--- ---- what it held when it gave the page back: the page itself, or, where the page is handed on already, the reason for that
--- its frame stands in the log: it has stored the length that takes it in
+-- ---- what it held when it gave the page back: the page itself, or, where the page is handed on
+-- already, the reason for that its frame stands in the log: it has stored the length that takes it
+-- in
 pub data HasPublished {E : Type 0} (t : ℕ) : Phase E → Type 0 where
   Published : (page : Page) (stored : ℕ) → HasPublished t (Holding t page stored true)
   HandsOnSent : HasPublished t (Giving t Sent)
 
 -- its frame does not fit behind the words that the page counts, and no length took it in
 pub data LacksRoom {E : Type 0} (c : Core E) (t : ℕ) : Phase E → Type 0 where
-  FindsNoRoom : (page : Page) (stored : ℕ) → c.layout.capacity < page.words + frame_len c → LacksRoom c t (Holding t page stored false)
+  FindsNoRoom : (page : Page) (stored : ℕ) → c.layout.capacity < page.words + frame_len c
+      → LacksRoom c t (Holding t page stored false)
   HandsOnFull : LacksRoom c t (Giving t NoRoom)
 
 -- the page says that the order has ended, and no length took its frame in

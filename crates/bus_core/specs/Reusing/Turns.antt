@@ -1,5 +1,5 @@
--- What a participant holds, and parts of its turns by which the table of a sender goes: on which word a step lies, what tenure it has begun,
--- and what it answers.
+-- What a participant holds, and parts of its turns by which the table of a sender goes: on which
+-- word a step lies, what tenure it has begun, and what it answers.
 use Rattle.std.specs.Prelude.{ℕ, true, Option, Some, None}
 use Rattle.bus_register.specs.declared.registers.Op.{Op}
 use Rattle.bus_register.specs.declared.registers.Op.TheVariants.{Load, Store, Add, Cas}
@@ -9,7 +9,8 @@ use Rattle.bus_presence.specs.Reclaimers.{Reclaiming}
 use Rattle.bus_presence.specs.Reclamation.{ReclamationSizes}
 use Rattle.bus_presence.specs.declared.reclaimers.Behind.{Behind}
 use Rattle.bus_presence.specs.declared.pins.Pin.{Pin}
-use Rattle.bus_presence.specs.declared.pins.Pin.TheVariants.{Away, Announcing, Validating, Pinned, Unpinning, Invalidated}
+use Rattle.bus_presence.specs.declared.pins.Pin.TheVariants.{Away, Announcing, Validating, Pinned}
+use Rattle.bus_presence.specs.declared.pins.Pin.TheVariants.{Unpinning, Invalidated}
 use Rattle.bus_tenure.specs.Core.{Core}
 use Rattle.bus_tenure.specs.Seen.{tenure_of}
 use Rattle.bus_tenure.specs.declared.turns.Turn.{Turn}
@@ -53,8 +54,9 @@ tenure_begun_by c (Unpinning t) = Some t
 tenure_begun_by c (Invalidated t) = Some t
 
 -- ---- its answers
--- The answer Lost comes once, with the step that clears the presence: the batch comes back then. Likewise a sender that saw another
--- tenure's stage answers Waiting with the step that clears its presence.
+-- The answer Lost comes once, with the step that clears the presence: the batch comes back then.
+-- Likewise a sender that saw another tenure's stage answers Waiting with the step that clears its
+-- presence.
 abbrev pub answer_of_loss : ℕ → Option SenderNo → Turn
 answer_of_loss t None = turn.Going
 answer_of_loss t (Some o) = turn.Lost t o
@@ -65,7 +67,8 @@ answer_of_reclaim None = turn.Going
 answer_of_reclaim (Some b) = turn.Behind b.tenure record { 0 = b.sender }
 
 -- ---- puts, marks and the page
--- its batch, which is on its way from the load of the stage that begins a tenure until the answer that ends it
+-- its batch, which is on its way from the load of the stage that begins a tenure until the answer
+-- that ends it
 abbrev pub queue_seen : Pending → Pin → Pending
 queue_seen q Away = q
 queue_seen q (Announcing t) = record q { busy = true }

@@ -1,4 +1,5 @@
-//! What each step on a word makes its seat show. Only `words` can pick one.
+//! What each step on a word makes its seat show. Only `words` can pick one. Each load of a receiver
+//! says here of which word it is: `step.word` is the word that the step was on.
 
 use crate::rule::{Seated, Told, View};
 use atomic_table::{Join, Play, Split};
@@ -53,9 +54,11 @@ pub(super) struct LoadsLength<Q> {
 }
 
 impl<Q: Ratifier> Play<Option<OwnedPage>, View<SenderCore<Q>>> for LoadsLength<Q> {
+    ghost use Rattle.std.specs.Prelude.{◌≡◌};
     ghost use Rattle.bus_pageslot.specs.Steps.{Learns};
+    ghost use Rattle.bus_tenure.specs.Core.{length_at};
 
-    ghost then = { λ _ m got m'. Learns m got m' };
+    ghost then = { λ step m got m'. (step.word ≡ length_at) × Learns m got m' };
 }
 
 /// A receiver's seat loaded a word that it knows.
@@ -75,9 +78,11 @@ pub(super) struct LoadsLengthInTurn<Q> {
 }
 
 impl<Q: Ratifier> Play<Option<OwnedPage>, View<SenderCore<Q>>> for LoadsLengthInTurn<Q> {
+    ghost use Rattle.std.specs.Prelude.{◌≡◌};
     ghost use Rattle.bus_pageslot.specs.Listening.{FindsLength};
+    ghost use Rattle.bus_tenure.specs.Core.{length_at};
 
-    ghost then = { λ _ m got m'. FindsLength m got m' };
+    ghost then = { λ step m got m'. (step.word ≡ length_at) × FindsLength m got m' };
 }
 
 /// By a turn of it a receiver's seat loaded the word at its place.
@@ -86,9 +91,12 @@ pub(super) struct LoadsWordInTurn<Q> {
 }
 
 impl<Q: Ratifier> Play<Option<OwnedPage>, View<SenderCore<Q>>> for LoadsWordInTurn<Q> {
+    ghost use Rattle.std.specs.Prelude.{◌≡◌};
     ghost use Rattle.bus_pageslot.specs.Listening.{FindsWord};
+    ghost use Rattle.bus_pageslot.specs.Rule.{receiver_view_in, log_word_in};
 
-    ghost then = { λ _ m got m'. FindsWord m got m' };
+    ghost then = { λ step m got m'. (step.word ≡ log_word_in m.0 (receiver_view_in m.0).place)
+        × FindsWord m got m' };
 }
 
 /// A receiver's seat goes into another seat.
@@ -124,8 +132,11 @@ pub(super) struct LoadsJoined<Q> {
 }
 
 impl<Q: Ratifier> Play<Option<OwnedPage>, View<SenderCore<Q>>> for LoadsJoined<Q> {
+    ghost use Rattle.std.specs.Prelude.{◌≡◌};
     ghost use Rattle.bus_automaton.specs.Buses.{process_with};
     ghost use Rattle.bus_pageslot.specs.Steps.{Meets};
+    ghost use Rattle.bus_tenure.specs.Core.{length_at};
 
-    ghost then = { λ _ m got m'. Meets (process_with Q.kind_of Q.op Q.fed Q.protocol) m got m' };
+    ghost then = { λ step m got m'. (step.word ≡ length_at)
+        × Meets (process_with Q.kind_of Q.op Q.fed Q.protocol) m got m' };
 }

@@ -1,6 +1,8 @@
--- Senders and receivers of a bus whose rows are used again, in any order: the reclamation, with its pins and the holder's reclaimer, whose words are those
--- of the bus, with the page, the senders, the receivers and who took the pages. Tenure t uses row t mod rows.
-use Rattle.std.specs.Prelude.{◌≡◌, ℕ, ◌<◌, Option, Some, None, List, [], ◌∷◌, All, length, slice_index, if◌then◌else◌}
+-- Senders and receivers of a bus whose rows are used again, in any order: the reclamation, with its
+-- pins and the holder's reclaimer, whose words are those of the bus, with the page, the senders,
+-- the receivers and who took the pages. Tenure t uses row t mod rows.
+use Rattle.std.specs.Prelude.{◌≡◌, ℕ, ◌<◌, Option, Some, None, List, [], ◌∷◌, All, length}
+use Rattle.std.specs.Prelude.{slice_index, if◌then◌else◌}
 use Rattle.bus_register.specs.declared.registers.Op.{Op}
 use Rattle.bus_register.specs.Words.{register, after}
 use Rattle.bus_register.specs.Tables.{put}
@@ -10,7 +12,9 @@ use Rattle.bus_deliverylog.specs.Receiving.{Receiving}
 use Rattle.bus_deliverylog.specs.declared.receiving.RecvTurn.{RecvTurn}
 use Rattle.bus_presence.specs.Pins.{pin_fed}
 use Rattle.bus_presence.specs.Reclaimers.{Reclaiming, reclaim_fed}
-use Rattle.bus_presence.specs.Reclamation.{Reclamation, Trails, no_trails, new_reclamation, trails_with_entry, number_of_step, words_after as reclamation_words}
+use Rattle.bus_presence.specs.Reclamation.{Reclamation, Trails, no_trails, new_reclamation}
+use Rattle.bus_presence.specs.Reclamation.{trails_with_entry, number_of_step}
+use Rattle.bus_presence.specs.Reclamation.{words_after as reclamation_words}
 use Rattle.bus_presence.specs.declared.pins.Pin.TheVariants.{Away}
 use Rattle.bus_tenure.specs.Core.{Core, Election, Layout}
 use Rattle.bus_tenure.specs.Situations.{Situation, line_of, op_at, kind_at}
@@ -18,9 +22,12 @@ use Rattle.bus_tenure.specs.Proved.LineParts.{tenure_at, chosen_at}
 use Rattle.bus_tenure.specs.declared.pages.Page.{Page}
 use Rattle.bus_tenure.specs.declared.turns.Turn.{Turn as Answered}
 use Rattle.bus_core.specs.Reusing.Participants.{log_from}
-use Rattle.bus_core.specs.Proved.ParticipantTable.{Due, Pins, Reclaims, Goes, due_of, place_for, core_looked, core_going, pin_going, reclaimer_going, answer_going}
+use Rattle.bus_core.specs.Proved.ParticipantTable.{Due, Pins, Reclaims, Goes, due_of, place_for}
+use Rattle.bus_core.specs.Proved.ParticipantTable.{core_looked, core_going, pin_going}
+use Rattle.bus_core.specs.Proved.ParticipantTable.{reclaimer_going, answer_going}
 use Rattle.bus_world.specs.Turning.{core_moved, after_step}
-use Rattle.bus_world.specs.Proved.Machines.{home_after, owners_after, new_core, can_put, can_close, put_in, mark_in}
+use Rattle.bus_world.specs.Proved.Machines.{home_after, owners_after, new_core, can_put, can_close}
+use Rattle.bus_world.specs.Proved.Machines.{put_in, mark_in}
 use Rattle.bus_world.specs.Headline.{Action, HasPut, HasMarked}
 use Rattle.bus_world.specs.Trails.{step_action, no_actions, no_answers, actions_with, answers_with}
 use Rattle.bus_world.specs.Starting.{IsNewReceiver}
@@ -39,62 +46,91 @@ pub record CyclicProtocol (E : Type 0) : Type 0 where
 -- ---- a step on the word that lies at another place
 abbrev pub words_stepped : (ℕ → ℕ) → (ℕ → ℕ) → Option Op → ℕ → ℕ
 words_stepped place words None = words
-words_stepped place words (Some o) = put (place (register o)) (after o (words (place (register o)))) words
+words_stepped place words (Some o) =
+    put (place (register o)) (after o (words (place (register o)))) words
 
 abbrev pub word_found : (ℕ → ℕ) → (ℕ → ℕ) → Option Op → ℕ
 word_found place words None = 0
 word_found place words (Some o) = words (place (register o))
 
 -- ---- a turn of sender p, which held this, with this random word
-abbrev pub protocol_pin_stepped : {E : Type 0} → Election E → CyclicProtocol E → ℕ → Core E → Op → CyclicProtocol E
+abbrev pub protocol_pin_stepped : {E : Type 0} → Election E → CyclicProtocol E → ℕ → Core E → Op
+    → CyclicProtocol E
 protocol_pin_stepped X y p c o = record y {
-  reclamation = record y.reclamation { words = reclamation_words y.reclamation o; pins = put p (pin_fed (y.reclamation.pins p) (number_of_step y.reclamation o)) y.reclamation.pins };
-  senders = put p (Some (core_looked X c (y.reclamation.pins p) (number_of_step y.reclamation o))) y.senders;
+  reclamation = record y.reclamation {
+    words = reclamation_words y.reclamation o;
+    pins =
+        put p (pin_fed (y.reclamation.pins p) (number_of_step y.reclamation o)) y.reclamation.pins;
+  };
+  senders = put p (Some (core_looked X c (y.reclamation.pins p) (number_of_step y.reclamation o)))
+      y.senders;
 }
 
 abbrev pub protocol_reclaimed : {E : Type 0} → CyclicProtocol E → Reclaiming → Op → CyclicProtocol E
-protocol_reclaimed y s o = record y { reclamation = record y.reclamation { words = reclamation_words y.reclamation o; reclaimer = Some (reclaim_fed s (number_of_step y.reclamation o)) } }
+protocol_reclaimed y s o = record y {
+  reclamation = record y.reclamation {
+    words = reclamation_words y.reclamation o;
+    reclaimer = Some (reclaim_fed s (number_of_step y.reclamation o));
+  };
+}
 
 -- as a sender that has a row for each tenure, in this situation
-abbrev pub protocol_after_going : {E : Type 0} → Election E → Layout → ℕ → CyclicProtocol E → ℕ → Core E → Situation E → ℕ → CyclicProtocol E
+abbrev pub protocol_after_going : {E : Type 0} → Election E → Layout → ℕ → CyclicProtocol E → ℕ
+    → Core E → Situation E → ℕ → CyclicProtocol E
 protocol_after_going X x rows y p c z word = record y {
   reclamation = record {
     words = words_stepped (place_for x rows z) y.reclamation.words (op_at X c z word);
-    pins = put p (pin_going X c (y.reclamation.pins p) z (word_found (place_for x rows z) y.reclamation.words (op_at X c z word)) word) y.reclamation.pins;
+    pins = put p (pin_going X c (y.reclamation.pins p) z
+        (word_found (place_for x rows z) y.reclamation.words (op_at X c z word)) word)
+        y.reclamation.pins;
     reclaimer = reclaimer_going x rows y.reclamation.reclaimer z;
   };
   home = home_after X c z y.home;
-  senders = put p (Some (core_moved (after_step (line_of X c z).move) y.home (core_going X c z (word_found (place_for x rows z) y.reclamation.words (op_at X c z word)) word))) y.senders;
+  senders = put p
+      (Some (core_moved (after_step (line_of X c z).move) y.home
+      (core_going X c z (word_found (place_for x rows z) y.reclamation.words (op_at X c z word))
+      word))) y.senders;
   owners = owners_after X c z p y.owners;
 }
 
-abbrev pub protocol_after : {E : Type 0} → Election E → Layout → ℕ → CyclicProtocol E → ℕ → Core E → Due E → ℕ → CyclicProtocol E
+abbrev pub protocol_after : {E : Type 0} → Election E → Layout → ℕ → CyclicProtocol E → ℕ → Core E
+    → Due E → ℕ → CyclicProtocol E
 protocol_after X x rows y p c (Pins o) word = protocol_pin_stepped X y p c o
 protocol_after X x rows y p c (Reclaims s o) word = protocol_reclaimed y s o
 protocol_after X x rows y p c (Goes z) word = protocol_after_going X x rows y p c z word
 
 -- the step of a pin joins the trail of its sender
 abbrev pub trails_with : {E : Type 0} → CyclicProtocol E → ℕ → Due E → Trails → Trails
-trails_with y p (Pins o) T = trails_with_entry T p record { op = o; got = number_of_step y.reclamation o }
+trails_with y p (Pins o) T =
+    trails_with_entry T p record { op = o; got = number_of_step y.reclamation o }
 trails_with y p (Reclaims s o) T = T
 trails_with y p (Goes z) T = T
 
 -- ---- what a sender does
--- Its actions, but for the steps of pins and of reclaimers, of which a pin's stand in the trail of the reclamation.
-abbrev pub going_actions : {E : Type 0} → Election E → Layout → ℕ → CyclicProtocol E → Core E → Situation E → ℕ → Answered → List Action
+-- Its actions, but for the steps of pins and of reclaimers, of which a pin's stand in the trail of
+-- the reclamation.
+abbrev pub going_actions : {E : Type 0} → Election E → Layout → ℕ → CyclicProtocol E → Core E
+    → Situation E → ℕ → Answered → List Action
 going_actions X x rows y c z word answer =
-    let got = word_found (place_for x rows z) y.reclamation.words (op_at X c z word) in step_action (kind_at X c z) (tenure_at X c z) got (chosen_at X c z got word) answer
+    let got = word_found (place_for x rows z) y.reclamation.words (op_at X c z word) in
+    step_action (kind_at X c z) (tenure_at X c z) got (chosen_at X c z got word) answer
 
-abbrev pub due_actions : {E : Type 0} → Election E → Layout → ℕ → CyclicProtocol E → Core E → Due E → ℕ → Answered → List Action
+abbrev pub due_actions : {E : Type 0} → Election E → Layout → ℕ → CyclicProtocol E → Core E → Due E
+    → ℕ → Answered → List Action
 due_actions X x rows y c (Pins o) word answer = []
 due_actions X x rows y c (Reclaims s o) word answer = []
 due_actions X x rows y c (Goes z) word answer = going_actions X x rows y c z word answer
 
--- What a turn answers that adds an action: what is due of what its step found. Of a turn that adds none nothing is said here.
-abbrev pub AnswersDue : {E : Type 0} → Election E → Layout → ℕ → CyclicProtocol E → Core E → Due E → ℕ → Answered → Type 0
+-- What a turn answers that adds an action: what is due of what its step found. Of a turn that adds
+-- none nothing is said here.
+abbrev pub AnswersDue : {E : Type 0} → Election E → Layout → ℕ → CyclicProtocol E → Core E → Due E
+    → ℕ → Answered → Type 0
 AnswersDue X x rows y c (Pins o) word answer = Unit {0}
 AnswersDue X x rows y c (Reclaims s o) word answer = Unit {0}
-AnswersDue X x rows y c (Goes z) word answer = answer ≡ answer_going X c z (word_found (place_for x rows z) y.reclamation.words (op_at X c z word)) word
+AnswersDue X x rows y c (Goes z) word answer =
+    answer
+    ≡ answer_going X c z (word_found (place_for x rows z) y.reclamation.words (op_at X c z word))
+    word
 
 -- ---- what leads to such a protocol
 -- nothing has happened: words of zero, the page at home, senders and receivers at their starts
@@ -102,23 +138,42 @@ pub record IsNewProtocol {E : Type 0} (x : Layout) (rows : ℕ) (y : CyclicProto
   pub bases_are : AreBases y.bases
   pub reclamation : y.reclamation ≡ new_reclamation
   pub home : y.home ≡ Some (first_page y.bases)
-  pub senders : (p : ℕ) (c : Core E) → y.senders p ≡ Some c → (p < x.senders) × (c ≡ new_core x (slice_index y.bases p) p)
-  pub receivers : (r : ℕ) (v : Receiving) → y.receivers r ≡ Some v → IsNewReceiver x.senders (log_from x rows) x.capacity v
+  pub senders : (p : ℕ) (c : Core E) → y.senders p ≡ Some c
+      → (p < x.senders) × (c ≡ new_core x (slice_index y.bases p) p)
+  pub receivers : (r : ℕ) (v : Receiving) → y.receivers r ≡ Some v
+      → IsNewReceiver x.senders (log_from x rows) x.capacity v
   pub owners : y.owners ≡ []
 
 -- the turn that sender p takes next, which holds this
 abbrev pub due_in : {E : Type 0} → Election E → Layout → ℕ → CyclicProtocol E → ℕ → Core E → Due E
 due_in X x rows y p c = due_of X x rows p c (y.reclamation.pins p) y.reclamation.reclaimer
 
--- These trails, actions and answers lead to a protocol: from a new one, by one thing after another, of anybody and in any order. A sender takes
--- a turn with any random word; or one that pins no tenure puts a message, closes or leaves; or a receiver takes a turn.
-pub data Led {E : Type 0} (X : Election E) (x : Layout) (rows : ℕ) : CyclicProtocol E → Trails → (ℕ → List Action) → (ℕ → List RecvTurn) → Type 0 where
-  NewProtocol : (y : CyclicProtocol E) → IsNewProtocol x rows y → Led X x rows y no_trails no_actions no_answers
-  Turned : (y : CyclicProtocol E) (T : Trails) (D : ℕ → List Action) (H : ℕ → List RecvTurn) (p : ℕ) (c : Core E) (word : ℕ) (answer : Answered) → Led X x rows y T D H → y.senders p ≡ Some c → AnswersDue X x rows y c (due_in X x rows y p c) word answer
-      → Led X x rows (protocol_after X x rows y p c (due_in X x rows y p c) word) (trails_with y p (due_in X x rows y p c) T) (actions_with p (due_actions X x rows y c (due_in X x rows y p c) word answer) D) H
-  PutIn : (y : CyclicProtocol E) (T : Trails) (D : ℕ → List Action) (H : ℕ → List RecvTurn) (p : ℕ) (c : Core E) (bytes : List ℕ) → Led X x rows y T D H → y.senders p ≡ Some c → y.reclamation.pins p ≡ Away → All (λ byte. byte < 256) bytes
-      → Led X x rows (record y { senders = put p (Some (put_in c bytes)) y.senders }) T (actions_with p (if can_put c.queue (length bytes) then HasPut (next_of c.queue) bytes ∷ [] else []) D) H
-  MarkedIn : (y : CyclicProtocol E) (T : Trails) (D : ℕ → List Action) (H : ℕ → List RecvTurn) (p : ℕ) (c : Core E) (mark : Mark) → Led X x rows y T D H → y.senders p ≡ Some c → y.reclamation.pins p ≡ Away
-      → Led X x rows (record y { senders = put p (Some (mark_in c mark)) y.senders }) T (actions_with p (if can_close c.queue then HasMarked mark ∷ [] else []) D) H
-  Heard : (y : CyclicProtocol E) (T : Trails) (D : ℕ → List Action) (H : ℕ → List RecvTurn) (r : ℕ) (v next : Receiving) (answer : RecvTurn) → Led X x rows y T D H → y.receivers r ≡ Some v → RecvDoes y.reclamation.words v answer next
-      → Led X x rows (record y { receivers = put r (Some next) y.receivers }) T D (answers_with r answer H)
+-- These trails, actions and answers lead to a protocol: from a new one, by one thing after another,
+-- of anybody and in any order. A sender takes a turn with any random word; or one that pins no
+-- tenure puts a message, closes or leaves; or a receiver takes a turn.
+pub data Led {E : Type 0} (X : Election E) (x : Layout) (rows : ℕ) : CyclicProtocol E → Trails
+    → (ℕ → List Action) → (ℕ → List RecvTurn) → Type 0 where
+  NewProtocol : (y : CyclicProtocol E) → IsNewProtocol x rows y
+      → Led X x rows y no_trails no_actions no_answers
+  Turned : (y : CyclicProtocol E) (T : Trails) (D : ℕ → List Action) (H : ℕ → List RecvTurn) (p : ℕ)
+      (c : Core E) (word : ℕ) (answer : Answered) → Led X x rows y T D H → y.senders p ≡ Some c
+      → AnswersDue X x rows y c (due_in X x rows y p c) word answer
+      → Led X x rows (protocol_after X x rows y p c (due_in X x rows y p c) word)
+      (trails_with y p (due_in X x rows y p c) T)
+      (actions_with p (due_actions X x rows y c (due_in X x rows y p c) word answer) D) H
+  PutIn : (y : CyclicProtocol E) (T : Trails) (D : ℕ → List Action) (H : ℕ → List RecvTurn) (p : ℕ)
+      (c : Core E) (bytes : List ℕ) → Led X x rows y T D H → y.senders p ≡ Some c
+      → y.reclamation.pins p ≡ Away → All (λ byte. byte < 256) bytes
+      → Led X x rows (record y { senders = put p (Some (put_in c bytes)) y.senders }) T
+      (actions_with p
+      (if can_put c.queue (length bytes) then HasPut (next_of c.queue) bytes ∷ [] else []) D) H
+  MarkedIn : (y : CyclicProtocol E) (T : Trails) (D : ℕ → List Action) (H : ℕ → List RecvTurn)
+      (p : ℕ) (c : Core E) (mark : Mark) → Led X x rows y T D H → y.senders p ≡ Some c
+      → y.reclamation.pins p ≡ Away
+      → Led X x rows (record y { senders = put p (Some (mark_in c mark)) y.senders }) T
+      (actions_with p (if can_close c.queue then HasMarked mark ∷ [] else []) D) H
+  Heard : (y : CyclicProtocol E) (T : Trails) (D : ℕ → List Action) (H : ℕ → List RecvTurn) (r : ℕ)
+      (v next : Receiving) (answer : RecvTurn) → Led X x rows y T D H → y.receivers r ≡ Some v
+      → RecvDoes y.reclamation.words v answer next
+      → Led X x rows (record y { receivers = put r (Some next) y.receivers }) T D
+      (answers_with r answer H)

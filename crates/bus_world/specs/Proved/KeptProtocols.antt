@@ -19,25 +19,35 @@ use Rattle.bus_world.specs.Proved.CyclicProtocols.{CyclicProtocol}
 
 -- ---- what is promised of it
 -- of its trails, actions and answers, with one order and one list of tenures and owners
-pub record KeepsPromises {E : Type 0} (X : Election E) (x : Layout) (rows : ℕ) (y : CyclicProtocol E) (T : Trails) (D : ℕ → List Action) (H : ℕ → List RecvTurn) (order : Order) (owners : List (ℕ × SenderNo)) : Type 0 where
-  -- its trails lead to its reclamation by moves of a reclamation: so no row is cleared while somebody stands in a tenure of it, ..
+pub record KeepsPromises {E : Type 0} (X : Election E) (x : Layout) (rows : ℕ)
+    (y : CyclicProtocol E) (T : Trails) (D : ℕ → List Action) (H : ℕ → List RecvTurn)
+    (order : Order) (owners : List (ℕ × SenderNo)) : Type 0 where
+  -- its trails lead to its reclamation by moves of a reclamation: so no row is cleared while
+  -- somebody stands in a tenure of it, ..
   pub reached : Reached (sizes_with x rows) y.reclamation T
   pub safe : IsSafe (sizes_with x rows) y.reclamation T
   -- .. and while a page is out, the row of the next tenure was never used, or it is reclaimed
-  pub ready : (t : ℕ) → y.reclamation.words stage_at ≡ 2 * t + 1 → y.reclamation.reclaimer ≡ None → t + 1 < rows
-  -- whose election runs stands in its tenure: it stored its presence, then loaded the stage of that tenure, and has not cleared it since
-  pub stands : (p : ℕ) (c : Core E) (t : ℕ) (e : E) → y.senders p ≡ Some c → c.phase ≡ Electing t e → Stands (sizes_with x rows) p (T p) t
+  pub ready : (t : ℕ) → y.reclamation.words stage_at ≡ 2 * t + 1 → y.reclamation.reclaimer ≡ None
+      → t + 1 < rows
+  -- whose election runs stands in its tenure: it stored its presence, then loaded the stage of that
+  -- tenure, and has not cleared it since
+  pub stands : (p : ℕ) (c : Core E) (t : ℕ) (e : E) → y.senders p ≡ Some c → c.phase ≡ Electing t e
+      → Stands (sizes_with x rows) p (T p) t
   -- and its next step is on a word of the row that this tenure uses
-  pub within : (p : ℕ) (c : Core E) (t : ℕ) (e : E) (word : ℕ) (o : Op) → y.senders p ≡ Some c → c.phase ≡ Electing t e → X.op e word ≡ Some o
-      → (row_of (sizes_with x rows) t ≤ place_for x rows (Elects t e) (register o)) × (place_for x rows (Elects t e) (register o) < row_of (sizes_with x rows) t + x.width)
+  pub within : (p : ℕ) (c : Core E) (t : ℕ) (e : E) (word : ℕ) (o : Op) → y.senders p ≡ Some c
+      → c.phase ≡ Electing t e → X.op e word ≡ Some o
+      → (row_of (sizes_with x rows) t ≤ place_for x rows (Elects t e) (register o))
+      × (place_for x rows (Elects t e) (register o) < row_of (sizes_with x rows) t + x.width)
   -- who took the pages is who did so by its actions
   pub takers : Takers y.owners D
   -- the words below the length spell the order and the owners
-  pub spelled : Spells x.senders (words_read_from y.reclamation.words (log_from x rows) (y.reclamation.words 0)) order owners
+  pub spelled : Spells x.senders
+      (words_read_from y.reclamation.words (log_from x rows) (y.reclamation.words 0)) order owners
   -- the headline's promise, also of tenures whose rows have gone on to others
   pub promises : Promises (slice_index y.bases) D H order owners
 
-pub record IsKeptProtocol {E : Type 0} (X : Election E) (x : Layout) (rows : ℕ) (y : CyclicProtocol E) (T : Trails) (D : ℕ → List Action) (H : ℕ → List RecvTurn) : Type 0 where
+pub record IsKeptProtocol {E : Type 0} (X : Election E) (x : Layout) (rows : ℕ)
+    (y : CyclicProtocol E) (T : Trails) (D : ℕ → List Action) (H : ℕ → List RecvTurn) : Type 0 where
   pub order : Order
   pub owners : List (ℕ × SenderNo)
   pub by : KeepsPromises X x rows y T D H order owners

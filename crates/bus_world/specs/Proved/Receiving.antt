@@ -6,7 +6,8 @@ use Rattle.bus_deliverylog.specs.Receiving.{Receiving}
 use Rattle.bus_tenure.specs.Core.{Layout, log_at}
 
 -- a receiver at this place, which knows this length, has read the words below its place
-pub record Receives (n : ℕ) (frames : List Frame) (len place known : ℕ) (reading : Reading) : Type 0 where
+pub record Receives (n : ℕ) (frames : List Frame) (len place known : ℕ) (reading : Reading) :
+    Type 0 where
   pub place_below : place ≤ known
   pub known_below : known ≤ len
   pub has_read : HasRead n (take place (log_words frames)) (take place (log_pieces frames)) reading

@@ -1,5 +1,7 @@
--- How events extend the trails, which trails lead to a bus with a row for each tenure, and what is promised of it then.
-use Rattle.std.specs.Prelude.{ℕ, Option, Some, None, List, [], ◌∷◌, ◌++◌, slice_index, if◌then◌else◌, ◌==◌}
+-- How events extend the trails, which trails lead to a bus with a row for each tenure, and what is
+-- promised of it then.
+use Rattle.std.specs.Prelude.{ℕ, Option, Some, None, List, [], ◌∷◌, ◌++◌, slice_index}
+use Rattle.std.specs.Prelude.{if◌then◌else◌, ◌==◌}
 use Rattle.bus_register.specs.declared.registers.SenderNo.{SenderNo}
 use Rattle.bus_batch.specs.Frames.{Order, Spells}
 use Rattle.bus_deliverylog.specs.declared.receiving.RecvTurn.{RecvTurn}
@@ -16,25 +18,31 @@ use Rattle.bus_world.specs.declared.events.Answer.{Answer}
 use Rattle.bus_world.specs.declared.events.Answer.TheVariants as answer
 use Rattle.bus_world.specs.Trails.{step_action, put_actions, mark_actions, Takers}
 
--- what a turn of a sender in this situation adds to its trail, where its step found this number and this is its answer
-abbrev pub turn_actions : {E : Type 0} → Election E → Core E → Situation E → ℕ → ℕ → Answer → List Action
+-- what a turn of a sender in this situation adds to its trail, where its step found this number and
+-- this is its answer
+abbrev pub turn_actions : {E : Type 0} → Election E → Core E → Situation E → ℕ → ℕ → Answer
+    → List Action
 turn_actions X c z got word (answer.Number n) = []
 turn_actions X c z got word answer.Closing = []
 turn_actions X c z got word answer.Leaving = []
-turn_actions X c z got word (answer.Turn t) = step_action (kind_at X c z) (tenure_at X c z) got (chosen_at X c z got word) t
+turn_actions X c z got word (answer.Turn t) =
+    step_action (kind_at X c z) (tenure_at X c z) got (chosen_at X c z got word) t
 turn_actions X c z got word (answer.Recv t) = []
 turn_actions X c z got word answer.Stopped = []
 
 -- of the sender that there is
-abbrev pub turning_actions : {E : Type 0} → Election E → List ℕ → Option (Core E) → ℕ → Answer → List Action
+abbrev pub turning_actions : {E : Type 0} → Election E → List ℕ → Option (Core E) → ℕ → Answer
+    → List Action
 turning_actions X words None word a = []
-turning_actions X words (Some c) word a = turn_actions X c (situation_of X c) (number_found (slice_index words) (op_at X c (situation_of X c) word)) word a
+turning_actions X words (Some c) word a = turn_actions X c (situation_of X c)
+    (number_found (slice_index words) (op_at X c (situation_of X c) word)) word a
 
 -- what an event with this answer adds to the trail of sender q: a stop is no action
 abbrev pub actions_of : {E : Type 0} → Election E → Bus E → Event → Answer → ℕ → List Action
 actions_of X b (Put s bytes) a q = if q == s then put_actions bytes a else []
 actions_of X b (Ask s asked) a q = if q == s then mark_actions a else []
-actions_of X b (Turn s word) a q = if q == s then turning_actions X b.side.words (going b s) word a else []
+actions_of X b (Turn s word) a q =
+    if q == s then turning_actions X b.side.words (going b s) word a else []
 actions_of X b (Recv r) a q = []
 actions_of X b (Stop s) a q = []
 
@@ -63,16 +71,26 @@ abbrev pub no_trails : Trails
 no_trails = record { actions = λ s. []; heard = λ r. [] }
 
 abbrev pub trails_grown : {E : Type 0} → Election E → Bus E → Event → Answer → Trails → Trails
-trails_grown X b e a T = record { actions = λ s. T.actions s ++ actions_of X b e a s; heard = λ r. T.heard r ++ heard_of e a r }
+trails_grown X b e a T = record {
+  actions = λ s. T.actions s ++ actions_of X b e a s;
+  heard = λ r. T.heard r ++ heard_of e a r;
+}
 
--- these trails lead to this bus: from a new one, of which nothing has happened, by one event after another
-pub data Reached {E : Type 0} (X : Election E) (bases : List ℕ) (x : Layout) : Bus E → Trails → Type 0 where
+-- these trails lead to this bus: from a new one, of which nothing has happened, by one event after
+-- another
+pub data Reached {E : Type 0} (X : Election E) (bases : List ℕ) (x : Layout) : Bus E → Trails
+    → Type 0 where
   New : (b : Bus E) → IsNew bases x b → Reached X bases x b no_trails
-  Then : (b b' : Bus E) (T : Trails) (e : Event) (a : Answer) → Reached X bases x b T → IsEvent e → Happens X b e b' → Answers X b e a b' → Reached X bases x b' (trails_grown X b e a T)
+  Then : (b b' : Bus E) (T : Trails) (e : Event) (a : Answer) → Reached X bases x b T → IsEvent e
+      → Happens X b e b' → Answers X b e a b' → Reached X bases x b' (trails_grown X b e a T)
 
 -- ---- what is promised of a bus
--- the promise holds of these trails, with the order and the owners that the words below the length spell
-pub record IsPromisedBy {E : Type 0} (bases : List ℕ) (x : Layout) (b : Bus E) (T : Trails) (order : Order) (owners : List (ℕ × SenderNo)) : Type 0 where
-  pub spelled : Spells x.senders (words_read_from (slice_index b.side.words) (log_at x) (slice_index b.side.words 0)) order owners
+-- the promise holds of these trails, with the order and the owners that the words below the length
+-- spell
+pub record IsPromisedBy {E : Type 0} (bases : List ℕ) (x : Layout) (b : Bus E) (T : Trails)
+    (order : Order) (owners : List (ℕ × SenderNo)) : Type 0 where
+  pub spelled : Spells x.senders
+      (words_read_from (slice_index b.side.words) (log_at x) (slice_index b.side.words 0)) order
+      owners
   pub takers : Takers b.side.owners T.actions
   pub promises : Promises (slice_index bases) T.actions T.heard order owners

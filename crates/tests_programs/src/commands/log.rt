@@ -29,12 +29,3 @@ fn log_of_a_run(rt: HostRuntime) {
     assert_eq!(rt; items, 15);
     assert!(rt; told.ends_with(b"end\n"));
 }
-
-#[test]
-fn torn_log(rt: HostRuntime) {
-    let mut reader = b"4000020000000000\n8040000000000000\n".as_slice();
-    let mut told = Vec::new(rt.alloc());
-    let result = log(rt.alloc(), 2, &mut reader, &mut told);
-    assert_eq!(rt; result, Ok(Outcome::Refused));
-    assert_eq!(rt; told.as_slice(), b"end: Torn\n".as_slice());
-}

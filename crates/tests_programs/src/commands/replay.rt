@@ -7,16 +7,6 @@ use bus_commands::replay::replay;
 use bus_run::RunFault;
 use bus_script::Outcome;
 use std::io;
-use std::process::Abort;
-
-/// Wants that a script is refused with this text.
-pub fn refuses<R: Abort + AllocGlobal>(rt: &R, script: &[u8], text: &str) {
-    let mut reader = script;
-    let mut written = Vec::new(rt.alloc());
-    let result = replay::<ThreeWord, _, _>(rt.alloc(), &mut reader, &mut written);
-    assert_eq!(rt; result, Ok(Outcome::Refused), "where {text} is wanted");
-    assert_eq!(rt; written.as_slice(), text.as_bytes());
-}
 
 #[test]
 fn oversized_replay(rt: HostRuntime) {

@@ -3,9 +3,14 @@
 use bus_adoptcommit::ThreeWord;
 use bus_commands::webpage::webpage;
 use bus_script::Outcome;
-use bus_webpage::heads::{BEHIND, BETWEEN, BODY, END, HEAD};
+use bus_webpage::Purpose;
+use bus_webpage::heads::{BEHIND, BETWEEN, BODY, COLUMNS, END, HEAD, MAIN, TITLE};
+use bus_webpage::interpreter::INTERPRETER;
 use bus_webpage::meaning::MEANING;
 use bus_webpage::moving::MOVING;
+use bus_webpage::openings::{FIRST_SCRIPT, OPENINGS};
+use bus_webpage::play_heads::{FIRST_HEAD, GAME, INTERPRETER_HEAD, PLAY_STYLES, PLAY_TITLE, TURNS};
+use bus_webpage::playing::PLAYING;
 use bus_webpage::reading::READING;
 use bus_webpage::styles::STYLES;
 use bus_webpage::views::VIEWS;
@@ -17,8 +22,43 @@ const HEADER: &str = "number\tline\twho\ttenure\tkind\tword\tfound\tafter\tanswe
 fn by_parts<R: Abort + AllocGlobal>(rt: &R, digits: &str, lines: &str) -> Vec<u8> {
     let mut page = Vec::new(rt.alloc());
     for part in [
-        HEAD, STYLES, BODY, digits, BETWEEN, HEADER, lines, BEHIND, READING, MEANING, VIEWS,
-        MOVING, END,
+        HEAD, TITLE, STYLES, BODY, MAIN, COLUMNS, digits, BETWEEN, HEADER, lines, BEHIND, READING,
+        MEANING, VIEWS, MOVING, END,
+    ] {
+        page.extend_from_slice(part.as_bytes()).expect(rt, "memory");
+    }
+    page
+}
+
+/// A page on which one plays, of its parts.
+fn played_by_parts<R: Abort + AllocGlobal>(rt: &R, digits: &str, lines: &str) -> Vec<u8> {
+    let mut page = Vec::new(rt.alloc());
+    for part in [
+        HEAD,
+        PLAY_TITLE,
+        STYLES,
+        PLAY_STYLES,
+        BODY,
+        TURNS,
+        MAIN,
+        GAME,
+        COLUMNS,
+        digits,
+        BETWEEN,
+        HEADER,
+        lines,
+        FIRST_HEAD,
+        FIRST_SCRIPT,
+        INTERPRETER_HEAD,
+        INTERPRETER,
+        BEHIND,
+        READING,
+        MEANING,
+        VIEWS,
+        MOVING,
+        OPENINGS,
+        PLAYING,
+        END,
     ] {
         page.extend_from_slice(part.as_bytes()).expect(rt, "memory");
     }
@@ -35,7 +75,7 @@ fn shows<R: Abort + AllocGlobal>(
 ) {
     let mut reader = script;
     let mut written = Vec::new(rt.alloc());
-    let result = webpage::<ThreeWord, _, _>(rt.alloc(), &mut reader, &mut written);
+    let result = webpage::<ThreeWord, _, _>(rt.alloc(), Purpose::Step, &mut reader, &mut written);
     let answer = result.expect(rt, "a web page");
     assert_eq!(rt; answer.outcome, outcome);
     assert_eq!(rt; written.as_slice(), by_parts(rt, digits, lines).as_slice());
@@ -81,5 +121,20 @@ fn a_page_of_any_bytes(rt: HostRuntime) {
         Outcome::Done,
         "23203c2f7363726970743eff0a73686170652031203120312031203136",
         "",
+    );
+}
+
+/// A page on which one plays has the interpreter and the openings, and the lines of its script.
+#[test]
+fn a_page_to_play_on(rt: HostRuntime) {
+    let mut reader = b"shape 1 1 1 1 16\nput 0 -\n".as_slice();
+    let mut written = Vec::new(rt.alloc());
+    let result = webpage::<ThreeWord, _, _>(rt.alloc(), Purpose::Play, &mut reader, &mut written);
+    assert_eq!(&rt; result.expect(&rt, "a web page").outcome, Outcome::Done);
+    let digits = "736861706520312031203120312031360a7075742030202d0a";
+    let lines = "1\t2\tsender 0\t-\tput\t-\t-\t-\tnumber 0\n";
+    assert_eq!(&rt;
+        written.as_slice(),
+        played_by_parts(&rt, digits, lines).as_slice()
     );
 }

@@ -15,101 +15,6 @@ const TWO: Shape = Shape {
     log_words: 64,
 };
 
-/// Asks a sender to leave, which is answered so.
-fn asks<Q: Ratifier + Drop>(rt: &impl Abort, sender: &mut Sender<Q>, want: Result<(), CloseFault>)
-    ensures { table_of sender.new ≡ table_of sender.old }
-{
-    assert_eq!(rt; sender.leave(), want);
-}
-
-/// Whether a leave mark waits, and whether the sender sends nothing more.
-fn is_going<Q: Ratifier + Drop>(rt: &impl Abort, sender: &Sender<Q>, want: (bool, bool)) {
-    assert_eq!(rt; (sender.is_leaving(), sender.is_closed()), want);
-}
-
-/// Neither a message nor a mark is taken.
-fn takes_nothing<Q: Ratifier + Drop>(rt: &impl Abort, sender: &mut Sender<Q>)
-    ensures { table_of sender.new ≡ table_of sender.old }
-{
-    puts(rt, sender, b"a", Err(PutFault::Closed));
-    closes(rt, sender, Err(CloseFault::Closed));
-    asks(rt, sender, Err(CloseFault::Closed));
-}
-
-/// The bus ended with the leave mark of sender 0, and then a b of sender 1.
-fn ends_with_both(rt: &impl Abort, ended: &Ended) {
-    let log = [
-        0x4000_0100_0000_0000,
-        0xC000_0000_0000_0001,
-        0x4040_0200_0000_0001,
-        0x8040_0000_0000_0000,
-        0x6200_0000_0000_0000,
-    ];
-    assert_eq!(rt; ended.log(), log.as_slice());
-    let page = *ended.page();
-    assert_eq!(rt; (page.next[0], page.next[1]), (0, 1));
-    assert_eq!(rt; (page.left[0], page.left[1]), (true, false));
-    assert_eq!(rt; (page.ended, page.tenures, page.words), (false, 2, 5));
-}
-
-/// Of two senders these have left, each after so many items.
-fn says_who_left<R: Abort + AllocGlobal>(rt: &R, ended: &Ended, want: &[(SenderNo, u64)]) {
-    let read = read_log(rt.alloc(), ended.log(), 2).expect(rt, "a log");
-    assert_eq!(rt; read.order.left.as_slice(), want);
-}
-
-/// Sender 0 leaves in tenure 0, and sender 1 goes on.
-fn one_leaves<Q: Ratifier + Drop, R: Abort + AllocGlobal>(
-    rt: &R,
-    made: (Bus<Q>, Vec<Sender<Q>>, Vec<Tap<Q>>),
-)
-    requires senders { All (λ s. table_of s ≡ made.0.table) made.1.items }
-    requires taps { All (λ t. t.table_id ≡ made.0.table) made.2.items }
-{
-    let (bus, mut zero, mut one, tap) = pair_of(rt, made);
-    puts(rt, &mut one, b"b", Ok(0));
-    asks(rt, &mut zero, Ok(()));
-    is_going(rt, &zero, (true, false));
-    takes_nothing(rt, &mut zero);
-    ends_in(rt, &bus, &mut zero, 99, Turn::Own { tenure: 0 });
-    ends_in(rt, &bus, &mut zero, 99, Turn::Left { tenure: 0 });
-    ends_in(rt, &bus, &mut zero, 1, Turn::Closed);
-    is_going(rt, &zero, (false, true));
-    takes_nothing(rt, &mut zero);
-    delivers(rt, &bus, &mut one, 1, 0);
-    let ended = left(rt, bus, tap);
-    ends_with_both(rt, &ended);
-    says_who_left(rt, &ended, &[(SenderNo(0), 0)]);
-}
-
-#[test]
-fn one_of_two_leaves(rt: HostRuntime) {
-    let made = Bus::<ThreeWord>::new(rt.alloc(), TWO).expect(&rt, "memory");
-    one_leaves::<ThreeWord, HostRuntime>(&rt, made);
-}
-
-#[test]
-fn one_of_two_leaves_where_rows_are_used_again(rt: HostRuntime) {
-    let shape = Shape { rows: 2, ..TWO };
-    let made = Bus::<ThreeWord>::cyclic(rt.alloc(), shape, None).expect(&rt, "memory");
-    one_leaves::<ThreeWord, HostRuntime>(&rt, made);
-}
-
-/// A leave is refused where a close is.
-fn is_refused<Q: Ratifier + Drop, R: Abort>(rt: &R, alloc: Global) {
-    let (bus, mut sender, _, _) = small::<Q>(rt, alloc);
-    puts(rt, &mut sender, b"a", Ok(0));
-    asks(rt, &mut sender, Err(CloseFault::Pending));
-    turns(rt, &bus, &mut sender, &[Turn::Going]);
-    asks(rt, &mut sender, Err(CloseFault::Busy));
-    closes(rt, &mut sender, Err(CloseFault::Busy));
-}
-
-#[test]
-fn leaves_that_are_refused(rt: HostRuntime) {
-    is_refused::<ThreeWord, HostRuntime>(&rt, rt.alloc());
-}
-
 /// Sends one message, and says whether it was delivered.
 fn sends_one<Q: Ratifier + Drop>(
     wait: &impl Wait,
@@ -121,7 +26,7 @@ fn sends_one<Q: Ratifier + Drop>(
     ensures { table_of sender.new ≡ bus.now.table }
 {
     let put = sender.put(b"abc");
-    let sent = sender.send(wait, bus, rng);
+    let sent = sender.send(&Waiter::yielding(wait), bus, rng);
     put.is_ok() && matches!(sent, Turn::Delivered { .. })
 }
 
@@ -138,7 +43,7 @@ fn sends_and_leaves<Q: Ratifier + Drop>(
     let second = sends_one(wait, bus, &mut sender, &mut rng);
     let third = sends_one(wait, bus, &mut sender, &mut rng);
     let asked = sender.leave();
-    let answer = sender.send(wait, bus, &mut rng);
+    let answer = sender.send(&Waiter::yielding(wait), bus, &mut rng);
     first && second && third && asked.is_ok() && matches!(answer, Turn::Left { .. })
 }
 

@@ -93,64 +93,9 @@ pub(super) fn pair_of<Q: Ratifier + Drop>(
     (bus, first, second, tap)
 }
 
-/// A bus of five senders with one tenure, its senders 1 and 4, and a receiver.
-pub(super) fn one_and_four<Q: Ratifier + Drop>(
-    rt: &impl Abort,
-    alloc: Global,
-) -> (Bus<Q>, Sender<Q>, Sender<Q>, Tap<Q>)
-    ensures senders { (table_of result.1 ≡ result.0.table)
-        × (table_of result.2 ≡ result.0.table) }
-    ensures tap { result.3.table_id ≡ result.0.table }
-{
-    let shape = Shape {
-        senders: 5,
-        receivers: 1,
-        rows: 1,
-        ..SMALL
-    };
-    let (bus, mut senders, mut taps) = made(rt, alloc, shape);
-    let tap = last_tap(rt, &bus, &mut taps);
-    let four = last_of(rt, &bus, &mut senders);
-    drop(last_of(rt, &bus, &mut senders));
-    drop(last_of(rt, &bus, &mut senders));
-    let one = last_of(rt, &bus, &mut senders);
-    (bus, one, four, tap)
-}
-
-/// A bus of three senders and a receiver.
-pub(super) fn three<Q: Ratifier + Drop>(
-    rt: &impl Abort,
-    alloc: Global,
-) -> (Bus<Q>, Sender<Q>, Sender<Q>, Sender<Q>, Tap<Q>)
-    ensures senders { (table_of result.1 ≡ result.0.table)
-        × (table_of result.2 ≡ result.0.table) × (table_of result.3 ≡ result.0.table) }
-    ensures tap { result.4.table_id ≡ result.0.table }
-{
-    let shape = Shape {
-        senders: 3,
-        receivers: 1,
-        rounds: 2,
-        rows: 4,
-        log_words: 64,
-    };
-    let (bus, mut senders, mut taps) = made(rt, alloc, shape);
-    let tap = last_tap(rt, &bus, &mut taps);
-    let two = last_of(rt, &bus, &mut senders);
-    let one = last_of(rt, &bus, &mut senders);
-    let zero = last_of(rt, &bus, &mut senders);
-    (bus, zero, one, two, tap)
-}
-
 /// What the bus leaves behind, whose page is at home.
 pub(super) fn left<Q: Ratifier + Drop>(rt: &impl Abort, bus: Bus<Q>, tap: Tap<Q>) -> Ended
     requires { tap.table_id ≡ bus.table }
 {
     bus.end(tap).expect(rt, "the page is home")
-}
-
-/// The bus leaves nothing behind, since its page is out.
-pub(super) fn has_page_out<Q: Ratifier + Drop>(rt: &impl Abort, bus: Bus<Q>, tap: Tap<Q>)
-    requires { tap.table_id ≡ bus.table }
-{
-    assert_eq!(rt; bus.end(tap).err(), Some(EndFault::PageOut));
 }

@@ -4,7 +4,12 @@ use Rattle.bench_rounds.proofs.Checking.{one_more}
 use Rattle.bench_rounds.proofs.checks.check_sums.Goals as goal
 
 pub loop-receive_worker-preserved : goal.loop-receive_worker-preserved
-loop-receive_worker-preserved g c = one_more (λ receive_worker. receive_worker.sum ≡ c.args.sum) c.args.receive_workers.now c.loop-receive_worker.receive_worker-index c.receive_worker-item.result c.loop-receive_worker-test.true c.receive_worker-item.is c.loop-receive_worker.invariant c.if-receive_worker-sum.false
+loop-receive_worker-preserved g c = one_more (λ receive_worker. receive_worker.sum ≡ c.args.sum)
+    c.args.receive_workers.now c.loop-receive_worker.receive_worker-index
+    c.receive_worker-item.result c.loop-receive_worker-test.true c.receive_worker-item.is
+    c.loop-receive_worker.invariant c.if-receive_worker-sum.false
 
 pub returns : goal.returns
-returns g c = subst (All (λ receive_worker. receive_worker.sum ≡ c.args.sum)) (take_all c.loop-receive_worker.receive_worker-index c.args.receive_workers.now c.loop-receive_worker-test.false) c.loop-receive_worker.invariant
+returns g c = subst (All (λ receive_worker. receive_worker.sum ≡ c.args.sum))
+    (take_all c.loop-receive_worker.receive_worker-index c.args.receive_workers.now
+    c.loop-receive_worker-test.false) c.loop-receive_worker.invariant

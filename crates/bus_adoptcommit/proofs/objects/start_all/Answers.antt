@@ -8,4 +8,7 @@ loop-i-preserved g c =
     let inputs = c.args.inputs.now in
     let i = c.loop-i.i in
     let lt : i < length inputs = omega arith in
-    starts_one _ _ _ g.met.Q.Ratifier.laws (length inputs) i inputs c.loop-i.processes.items c.push.new.self.items _ c.start-process.result c.loop-i.invariant (slice_get-get_or inputs i _ lt) lt c.requires.few c.start-process.ensures c.in_ok-push.ensures.items
+    starts_one _ _ _ g.met.Q.Ratifier.laws (length inputs) i inputs c.loop-i.processes.items
+    c.push.new.self.items _ c.start-process.result c.loop-i.invariant
+    (slice_get-get_or inputs i _ lt) lt c.requires.few c.start-process.ensures
+    c.in_ok-push.ensures.items

@@ -7,5 +7,7 @@ pub returns : goal.returns
 returns g c senders rounds rows capacity reuse bases =
     let P = g.Q.Ratifier.protocol in
     let X = election_with g.Q.Machine.kind_of g.Q.Machine.op g.Q.Machine.fed P in
-    let s = serves g.Q.Machine.kind_of g.Q.Machine.op g.Q.Machine.fed P g.met.Q.Machine.names_each_step g.met.Q.Ratifier.own_kinds senders rounds rows capacity (c.election_is_lawful.ensures.lawful.laws rounds) in
+    let s = serves g.Q.Machine.kind_of g.Q.Machine.op g.Q.Machine.fed P
+    g.met.Q.Machine.names_each_step g.met.Q.Ratifier.own_kinds senders rounds rows capacity
+    (c.election_is_lawful.ensures.lawful.laws rounds) in
     automaton_laws X (elections P rounds) (layout_with P senders rounds rows capacity) s reuse bases

@@ -5,4 +5,5 @@ use Rattle.bus_automaton.proofs.laws.automaton_opens.Goals as goal
 pub returns : goal.returns
 returns g c senders rounds rows capacity reuse bases ok has are =
     let P = g.Q.Ratifier.protocol in
-    opens (election_with g.Q.Machine.kind_of g.Q.Machine.op g.Q.Machine.fed P) (layout_with P senders rounds rows capacity) reuse bases ok has are
+    opens (election_with g.Q.Machine.kind_of g.Q.Machine.op g.Q.Machine.fed P)
+    (layout_with P senders rounds rows capacity) reuse bases ok has are

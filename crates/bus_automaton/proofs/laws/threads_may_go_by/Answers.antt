@@ -19,12 +19,15 @@ returns-clause-process g c =
     let X = election_with g.Q.Machine.kind_of g.Q.Machine.op g.Q.Machine.fed P in
     let law = c.election_is_lawful.ensures.lawful.laws 0 in
     process_laws X (elections P 0) law
-    (serves g.Q.Machine.kind_of g.Q.Machine.op g.Q.Machine.fed P g.met.Q.Machine.names_each_step g.met.Q.Ratifier.own_kinds 0 0 0 0 law).named
+    (serves g.Q.Machine.kind_of g.Q.Machine.op g.Q.Machine.fed P g.met.Q.Machine.names_each_step
+    g.met.Q.Ratifier.own_kinds 0 0 0 0 law).named
 
 pub returns-clause-tells : goal.returns-clause-tells
 unfolding process_with
 returns-clause-tells g c v got word answer w =
-    handed_tells (election_with g.Q.Machine.kind_of g.Q.Machine.op g.Q.Machine.fed g.Q.Ratifier.protocol) v got word answer w
+    handed_tells
+    (election_with g.Q.Machine.kind_of g.Q.Machine.op g.Q.Machine.fed g.Q.Ratifier.protocol) v got
+    word answer w
 
 pub returns-clause-rests : goal.returns-clause-rests
 unfolding process_with
@@ -33,11 +36,13 @@ returns-clause-rests g c v word laid none going =
     let X = election_with g.Q.Machine.kind_of g.Q.Machine.op g.Q.Machine.fed P in
     let law = c.election_is_lawful.ensures.lawful.laws 0 in
     rest_tells X (elections P 0) law
-    (serves g.Q.Machine.kind_of g.Q.Machine.op g.Q.Machine.fed P g.met.Q.Machine.names_each_step g.met.Q.Ratifier.own_kinds 0 0 0 0 law).owner_is
+    (serves g.Q.Machine.kind_of g.Q.Machine.op g.Q.Machine.fed P g.met.Q.Machine.names_each_step
+    g.met.Q.Ratifier.own_kinds 0 0 0 0 law).owner_is
     v word laid none going
 
 pub returns-clause-one_cause : goal.returns-clause-one_cause
-returns-clause-one_cause g c plan page why other r s = one_cause_after plan.shape plan.reuse page why other r s
+returns-clause-one_cause g c plan page why other r s =
+    one_cause_after plan.shape plan.reuse page why other r s
 
 pub returns-clause-memory : goal.returns-clause-memory
 returns-clause-memory g c plan None ok are r = ((r, ok, are), tt)
@@ -56,7 +61,8 @@ returns-clause-automaton g c plan =
     let P = g.Q.Ratifier.protocol in
     let X = election_with g.Q.Machine.kind_of g.Q.Machine.op g.Q.Machine.fed P in
     automaton_laws X (elections P plan.shape.rounds) (layout_of P plan.shape plan.reuse)
-    (served g.Q.Machine.kind_of g.Q.Machine.op g.Q.Machine.fed P g.met.Q.Machine.names_each_step g.met.Q.Ratifier.own_kinds plan.shape
+    (served g.Q.Machine.kind_of g.Q.Machine.op g.Q.Machine.fed P g.met.Q.Machine.names_each_step
+    g.met.Q.Ratifier.own_kinds plan.shape
     (c.election_is_lawful.ensures.lawful.laws plan.shape.rounds) plan.reuse) plan.reuse plan.bases
 
 pub returns-clause-opens : goal.returns-clause-opens
@@ -64,7 +70,8 @@ unfolding process_with automaton_with
 returns-clause-opens g c plan h =
     let P = g.Q.Ratifier.protocol in
     let X = election_with g.Q.Machine.kind_of g.Q.Machine.op g.Q.Machine.fed P in
-    opens X (layout_of P plan.shape plan.reuse) plan.reuse plan.bases (is_layout P plan.shape plan.reuse h.0) (has_rows plan.shape plan.reuse h.0 h.1) h.2
+    opens X (layout_of P plan.shape plan.reuse) plan.reuse plan.bases
+    (is_layout P plan.shape plan.reuse h.0) (has_rows plan.shape plan.reuse h.0 h.1) h.2
 
 pub returns-clause-bases : goal.returns-clause-bases
 unfolding automaton_with

@@ -4,7 +4,9 @@ use Rattle.bus_batch.proofs.batches.spell.Given as goal
 
 abbrev pub invariant-loop-i : goal.invariant-loop-i
 invariant-loop-i l = record {
-  own : l.body.items ≡ (l.fn.body.items ++ message_word (length l.message) l.number ∷ []) ++ words_of_bytes l.i l.message;
+  own : l.body.items
+      ≡ (l.fn.body.items ++ message_word (length l.message) l.number ∷ [])
+      ++ words_of_bytes l.i l.message;
   within : l.i ≤ l.i-end;
   end : l.i-end ≡ data_len (length l.message);
 }

@@ -1,5 +1,7 @@
-use Rattle.bus_batch.proofs.RefusalLaws.{none_after_end, none_after_leaving, none_with_head_after_leaving, none_with_another_mark}
-use Rattle.bus_batch.proofs.RefusalLaws.{none_with_more_than_a_mark, none_of_same_tenure, none_of_stranger, none_of_nothing, none_so_long}
+use Rattle.bus_batch.proofs.RefusalLaws.{none_after_end, none_after_leaving}
+use Rattle.bus_batch.proofs.RefusalLaws.{none_with_head_after_leaving, none_with_another_mark}
+use Rattle.bus_batch.proofs.RefusalLaws.{none_with_more_than_a_mark, none_of_same_tenure}
+use Rattle.bus_batch.proofs.RefusalLaws.{none_of_stranger, none_of_nothing, none_so_long}
 use Rattle.bus_batch.proofs.RefusalLaws.{none_unfillable, none_padded}
 use Rattle.bus_batch.proofs.laws.no_log_has.Goals as goal
 

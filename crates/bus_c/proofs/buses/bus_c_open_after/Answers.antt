@@ -18,9 +18,17 @@ returns-in-Ok-hand_out c = record {
 pub returns-in-Err-hand_out : goal.returns-in-Err-hand_out
 returns-in-Err-hand_out c = record {
   given = Err NoMemory;
-  opens = ((c.in-Ok.ensures.served, c.in-Ok.ensures.follows), c.in-Err-hand_out.ensures.refused.0, c.in-Err-hand_out.ensures.refused.1);
+  opens = (
+    (c.in-Ok.ensures.served, c.in-Ok.ensures.follows),
+    c.in-Err-hand_out.ensures.refused.0,
+    c.in-Err-hand_out.ensures.refused.1,
+  );
   code = refl;
 }
 
 pub returns-in-Err : goal.returns-in-Err
-returns-in-Err c = record { given = Err c.in-Err.fault; opens = (c.in-Err.ensures.fault, refl, refl); code = c.refused_code.ensures }
+returns-in-Err c = record {
+  given = Err c.in-Err.fault;
+  opens = (c.in-Err.ensures.fault, refl, refl);
+  code = c.refused_code.ensures;
+}

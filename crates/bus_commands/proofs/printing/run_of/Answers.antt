@@ -7,4 +7,6 @@ use Rattle.bus_commands.proofs.printing.run_of.Goals as goal
 
 pub returns-clause-report : goal.returns-clause-report
 returns-clause-report g c =
-    subst (λ n. IfOk c.run.result (λ (report : Report). IsRunReport (shape_of_run c.args.request.senders c.args.request.receivers) n report.ended report.heards.items)) c.min-messages.ensures c.run.ensures.report
+    subst (λ n. IfOk c.run.result (λ (report : Report). IsRunReport
+    (shape_of_run c.args.request.senders c.args.request.receivers) n report.ended
+    report.heards.items)) c.min-messages.ensures c.run.ensures.report

@@ -4,7 +4,8 @@ use Rattle.bus_commands.proofs.streams.read_whole.Given as goal
 
 abbrev pub invariant-loop-chunk : goal.invariant-loop-chunk
 invariant-loop-chunk g l = record {
-  taken : Consumes (g.R.Read.remaining l.initial.reader) (g.R.Read.remaining l.reader) l.input.items;
+  taken : Consumes (g.R.Read.remaining l.initial.reader) (g.R.Read.remaining l.reader)
+      l.input.items;
   room : vec_len l.input ≤ l.initial.limit + 1;
 }
 

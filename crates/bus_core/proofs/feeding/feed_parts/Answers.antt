@@ -8,12 +8,18 @@ use Rattle.bus_core.proofs.feeding.feed_parts.Goals as goal
 
 pub returns-in-Does-clause-state : goal.returns-in-Does-clause-state
 returns-in-Does-clause-state g c =
-    let X = election_with g.Q.Machine.kind_of g.Q.Machine.op g.Q.Machine.fed g.Q.Ratifier.protocol in
+    let X =
+    election_with g.Q.Machine.kind_of g.Q.Machine.op g.Q.Machine.fed g.Q.Ratifier.protocol in
     let v = sender c.args.turns.now c.args.reuse.now in
-    c.own_feed.ensures.state ∙ ap (λ z. (line X v z).fed c.args.got c.args.word) (sym (does_by v.reuse (situation_of X v.core) c.in-Does.doing (c.requires.step ∙ c.in-Does.is)))
+    c.own_feed.ensures.state
+    ∙ ap (λ z. (line X v z).fed c.args.got c.args.word)
+    (sym (does_by v.reuse (situation_of X v.core) c.in-Does.doing (c.requires.step ∙ c.in-Does.is)))
 
 pub returns-in-Does-clause-answer : goal.returns-in-Does-clause-answer
 returns-in-Does-clause-answer g c =
-    let X = election_with g.Q.Machine.kind_of g.Q.Machine.op g.Q.Machine.fed g.Q.Ratifier.protocol in
+    let X =
+    election_with g.Q.Machine.kind_of g.Q.Machine.op g.Q.Machine.fed g.Q.Ratifier.protocol in
     let v = sender c.args.turns.now c.args.reuse.now in
-    c.own_feed.ensures.answer ∙ ap (λ z. (line X v z).answer c.args.got c.args.word) (sym (does_by v.reuse (situation_of X v.core) c.in-Does.doing (c.requires.step ∙ c.in-Does.is)))
+    c.own_feed.ensures.answer
+    ∙ ap (λ z. (line X v z).answer c.args.got c.args.word)
+    (sym (does_by v.reuse (situation_of X v.core) c.in-Does.doing (c.requires.step ∙ c.in-Does.is)))

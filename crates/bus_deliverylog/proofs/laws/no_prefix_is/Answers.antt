@@ -1,4 +1,5 @@
-use Rattle.bus_deliverylog.proofs.FaultLaws.{none_skips, none_repeats, none_ended, none_skips_a_leave, none_leaves_early}
+use Rattle.bus_deliverylog.proofs.FaultLaws.{none_skips, none_repeats, none_ended}
+use Rattle.bus_deliverylog.proofs.FaultLaws.{none_skips_a_leave, none_leaves_early}
 use Rattle.bus_deliverylog.proofs.laws.no_prefix_is.Goals as goal
 
 pub returns-clause-skips : goal.returns-clause-skips

@@ -17,6 +17,8 @@ pub returns-clause-exact : goal.returns-clause-exact
 returns-clause-exact c order owners spelt =
     let r = c.in_ok-read.ensures.read in
     let whole : Spells c.args.senders c.args.words.now (order_in r.pieces) (owners_in r.pieces) =
-    subst (λ z. Spells z c.args.words.now (order_in r.pieces) (owners_in r.pieces)) r.senders_are (c.inside.ensures.whole c.args.words.now r.pieces r.had c.if-inside.false) in
-    let same = spells_one c.args.senders c.args.words.now (order_in r.pieces) order (owners_in r.pieces) owners whole spelt in
+    subst (λ z. Spells z c.args.words.now (order_in r.pieces) (owners_in r.pieces)) r.senders_are
+    (c.inside.ensures.whole c.args.words.now r.pieces r.had c.if-inside.false) in
+    let same = spells_one c.args.senders c.args.words.now (order_in r.pieces) order
+    (owners_in r.pieces) owners whole spelt in
     (r.order_is ∙ same.0, r.owners_are ∙ same.1)

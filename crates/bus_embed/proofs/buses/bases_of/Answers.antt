@@ -11,5 +11,6 @@ loop-place-preserved c =
     let bases = c.loop-place.bases in
     let place = c.loop-place.place in (
       length-set bases place c.base.result ∙ long,
-      one_place_more firsts bases place c.base.result (omega (arith, long, test)) c.loop-place.invariant.1 c.base.ensures.base,
+      one_place_more firsts bases place c.base.result (omega (arith, long, test))
+          c.loop-place.invariant.1 c.base.ensures.base,
     )

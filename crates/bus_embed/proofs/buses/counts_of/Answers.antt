@@ -11,6 +11,8 @@ loop-place-preserved c =
     let counts = c.loop-place.counts in
     let place = c.loop-place.place in (
       length-set counts place c.count.result ∙ long,
-      λ order owners s spells below. one_place_more (λ k. length (of_sender k order)) counts place c.count.result (omega (arith, long, test))
-          (λ k low. c.loop-place.invariant.1 order owners k spells low) (c.count.ensures.counts order owners spells) s below,
+      λ order owners s spells below. one_place_more (λ k. length (of_sender k order)) counts place
+          c.count.result (omega (arith, long, test))
+          (λ k low. c.loop-place.invariant.1 order owners k spells low)
+          (c.count.ensures.counts order owners spells) s below,
     )

@@ -8,5 +8,6 @@ use Rattle.bus_embed.proofs.buses.counts_of.Given as goal
 abbrev pub invariant-loop-place : goal.invariant-loop-place
 invariant-loop-place l =
     (length l.counts ≡ MOST_SENDERS)
-    × ((order : Order) (owners : List (ℕ × SenderNo)) (s : ℕ) → Spells l.ended.senders l.ended.log order owners → s < l.place
+    × ((order : Order) (owners : List (ℕ × SenderNo)) (s : ℕ)
+    → Spells l.ended.senders l.ended.log order owners → s < l.place
     → slice_index l.counts s ≡ length (of_sender s order))

@@ -9,7 +9,10 @@ loop-place-preserved g c =
     let p = c.loop-place.place in
     let room : p < length c.args.old.now = search rules in
     let base = take p c.args.new.now ++ drop p c.args.old.now in (
-      ap (λ l. slice_set l p c.index-new-place.result) inv.0 ∙ ap (λ x. slice_set base p x) c.index-new-place.is ∙ over_next c.args.new.now c.args.old.now p c.index-new-place.result c.loop-place-test.true room,
+      ap (λ l. slice_set l p c.index-new-place.result) inv.0
+          ∙ ap (λ x. slice_set base p x) c.index-new-place.is
+          ∙ over_next c.args.new.now c.args.old.now p c.index-new-place.result
+          c.loop-place-test.true room,
       length-set c.loop-place.old p c.index-new-place.result ∙ inv.1,
       omega (arith, c.loop-place-test.true),
       omega (arith, room),

@@ -5,6 +5,8 @@ use Rattle.bus_logtext.proofs.laws.inputs_are_words.Goals as goal
 
 pub returns : goal.returns
 returns c = λ input words. (
-  λ e. let k = lines_spelled 0 (script_lines input) words (omega arith) e in (k.0, omega (arith, k.1)),
+  λ e.
+      let k = lines_spelled 0 (script_lines input) words (omega arith) e in
+      (k.0, omega (arith, k.1)),
   λ h. lines_read 0 (script_lines input) words h.0 (omega (arith, h.1)),
 )

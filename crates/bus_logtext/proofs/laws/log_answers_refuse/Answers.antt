@@ -3,7 +3,8 @@ use Rattle.bus_script.specs.declared.answers.Outcome.TheVariants.{Done, Refused}
 use Rattle.bus_batch.specs.Frames.{log_words}
 use Rattle.hex.specs.Hex.{decode_pairs}
 use Rattle.bus_logtext.specs.Text.{log_text}
-use Rattle.bus_logtext.proofs.AnswerLemmas.{Answers, not_told, not_told_bad, not_refused, no_line_more, placed, told_so}
+use Rattle.bus_logtext.proofs.AnswerLemmas.{Answers, not_told, not_told_bad, not_refused}
+use Rattle.bus_logtext.proofs.AnswerLemmas.{no_line_more, placed, told_so}
 use Rattle.bus_logtext.proofs.laws.log_answers_refuse.Goals as goal
 
 pub returns-clause-letter : goal.returns-clause-letter
@@ -19,7 +20,9 @@ returns-clause-torn c = λ senders input words text is torn told. not_told (reco
 }) senders words text torn (subst (λ said. Answers senders said Done text) is told)
 
 pub returns-clause-other : goal.returns-clause-other
-returns-clause-other c = λ senders input text frames lawful is told. told_so senders (log_words frames) text frames lawful refl (subst (λ said. Answers senders said Done text) is told)
+returns-clause-other c = λ senders input text frames lawful is told. told_so senders
+    (log_words frames) text frames lawful refl
+    (subst (λ said. Answers senders said Done text) is told)
 
 pub returns-clause-bad : goal.returns-clause-bad
 returns-clause-bad c = λ senders place input words text is bad told. not_told_bad (record {
@@ -30,13 +33,17 @@ returns-clause-bad c = λ senders place input words text is bad told. not_told_b
 }) senders place words text bad (subst (λ said. Answers senders said Done text) is told)
 
 pub returns-clause-line_refused : goal.returns-clause-line_refused
-returns-clause-line_refused c = λ senders input text refusal is told. let h = subst (λ said. Answers senders said Done text) is told in let e = h.0 in absurd cc
+returns-clause-line_refused c = λ senders input text refusal is told.
+    let h = subst (λ said. Answers senders said Done text) is told in let e = h.0 in absurd cc
 
 pub returns-clause-line_more : goal.returns-clause-line_more
-returns-clause-line_more c = λ senders input line frames lawful is some told. no_line_more senders frames line lawful some (subst (λ said. Answers senders said Done (log_text frames ++ line)) is told)
+returns-clause-line_more c = λ senders input line frames lawful is some told.
+    no_line_more senders frames line lawful some
+    (subst (λ said. Answers senders said Done (log_text frames ++ line)) is told)
 
 pub returns-clause-end_unread : goal.returns-clause-end_unread
-returns-clause-end_unread c = λ senders told. let e = told_so senders [] _ [] tt refl told in absurd cc
+returns-clause-end_unread c =
+    λ senders told. let e = told_so senders [] _ [] tt refl told in absurd cc
 
 pub returns-clause-whole : goal.returns-clause-whole
 returns-clause-whole c = λ senders input text frames lawful is told. not_refused (record {

@@ -8,5 +8,9 @@ use Rattle.bus_logtext.proofs.words.print_words.Goals as goal
 pub returns-clause-read : goal.returns-clause-read
 returns-clause-read c = λ few.
     let printed : string_bytes c.loop-word.text ≡ words_text c.args.words.now =
-    sym (append-nil (string_bytes c.loop-word.text)) ∙ ap (λ l. string_bytes c.loop-word.text ++ words_text l) (sym (drop_all c.loop-word.word-index c.args.words.now (omega arith))) ∙ c.loop-word.invariant in
-    ap words_of printed ∙ words_read_again c.args.words.now (λ k. Fits-lt-pow (c.type_inv.words k)) few
+    sym (append-nil (string_bytes c.loop-word.text))
+    ∙ ap (λ l. string_bytes c.loop-word.text ++ words_text l)
+    (sym (drop_all c.loop-word.word-index c.args.words.now (omega arith)))
+    ∙ c.loop-word.invariant in
+    ap words_of printed
+    ∙ words_read_again c.args.words.now (λ k. Fits-lt-pow (c.type_inv.words k)) few

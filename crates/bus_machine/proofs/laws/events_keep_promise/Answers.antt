@@ -14,11 +14,19 @@ returns g c senders rounds rows capacity ok old trails same has reached event gi
     let P = g.Q.Ratifier.protocol in
     let X = election_with g.Q.Machine.kind_of g.Q.Machine.op g.Q.Machine.fed P in
     let R = elections P rounds in
-    let s = serves g.Q.Machine.kind_of g.Q.Machine.op g.Q.Machine.fed P g.met.Q.Machine.names_each_step g.met.Q.Ratifier.own_kinds senders rounds rows capacity (c.election_is_lawful.ensures.lawful.laws rounds) in
-    let t : Sits X R old = record { serves = subst (Serves X R) (sym same) s; ok = subst IsLayout (sym same) ok; rows = has } in
+    let s = serves g.Q.Machine.kind_of g.Q.Machine.op g.Q.Machine.fed P
+    g.met.Q.Machine.names_each_step g.met.Q.Ratifier.own_kinds senders rounds rows capacity
+    (c.election_is_lawful.ensures.lawful.laws rounds) in
+    let t : Sits X R old = record {
+      serves = subst (Serves X R) (sym same) s;
+      ok = subst IsLayout (sym same) ok;
+      rows = has;
+    } in
     let told = tells X R old trails t reached new event given happens in
     let U = trails_grown X old event given trails in (
       follows X R old trails t reached new event given happens,
       told,
-      opens_only X old new trails U event given (promised X R old trails t reached) (promised X R new U (sits_after X R old new event given happens t) (Then old new trails event given reached happens)) told happens,
+      opens_only X old new trails U event given (promised X R old trails t reached)
+          (promised X R new U (sits_after X R old new event given happens t)
+          (Then old new trails event given reached happens)) told happens,
     )

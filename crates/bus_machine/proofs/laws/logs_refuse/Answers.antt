@@ -3,4 +3,6 @@ use Rattle.bus_machine.proofs.LogRefused.{logs_refused}
 use Rattle.bus_machine.proofs.laws.logs_refuse.Goals as goal
 
 pub returns : goal.returns
-returns g c machine trails = logs_refused (election_with g.Q.Machine.kind_of g.Q.Machine.op g.Q.Machine.fed g.Q.Ratifier.protocol) machine trails
+returns g c machine trails = logs_refused
+    (election_with g.Q.Machine.kind_of g.Q.Machine.op g.Q.Machine.fed g.Q.Ratifier.protocol) machine
+    trails

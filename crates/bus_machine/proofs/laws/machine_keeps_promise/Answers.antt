@@ -12,6 +12,12 @@ returns g c senders rounds rows capacity ok machine trails same has reached =
     let P = g.Q.Ratifier.protocol in
     let X = election_with g.Q.Machine.kind_of g.Q.Machine.op g.Q.Machine.fed P in
     let R = elections P rounds in
-    let s = serves g.Q.Machine.kind_of g.Q.Machine.op g.Q.Machine.fed P g.met.Q.Machine.names_each_step g.met.Q.Ratifier.own_kinds senders rounds rows capacity (c.election_is_lawful.ensures.lawful.laws rounds) in
-    let t : Sits X R machine = record { serves = subst (Serves X R) (sym same) s; ok = subst IsLayout (sym same) ok; rows = has } in
+    let s = serves g.Q.Machine.kind_of g.Q.Machine.op g.Q.Machine.fed P
+    g.met.Q.Machine.names_each_step g.met.Q.Ratifier.own_kinds senders rounds rows capacity
+    (c.election_is_lawful.ensures.lawful.laws rounds) in
+    let t : Sits X R machine = record {
+      serves = subst (Serves X R) (sym same) s;
+      ok = subst IsLayout (sym same) ok;
+      rows = has;
+    } in
     (promised X R machine trails t reached, losses X R machine trails t reached)

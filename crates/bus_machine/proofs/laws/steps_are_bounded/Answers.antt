@@ -14,13 +14,20 @@ returns g c senders rounds rows capacity ok machine trails same has reached =
     let P = g.Q.Ratifier.protocol in
     let X = election_with g.Q.Machine.kind_of g.Q.Machine.op g.Q.Machine.fed P in
     let R = elections P rounds in
-    let s = serves g.Q.Machine.kind_of g.Q.Machine.op g.Q.Machine.fed P g.met.Q.Machine.names_each_step g.met.Q.Ratifier.own_kinds senders
+    let s = serves g.Q.Machine.kind_of g.Q.Machine.op g.Q.Machine.fed P
+    g.met.Q.Machine.names_each_step g.met.Q.Ratifier.own_kinds senders
     rounds rows capacity (c.election_is_lawful.ensures.lawful.laws rounds) in
-    let t : Sits X R machine = record { serves = subst (Serves X R) (sym same) s; ok = subst IsLayout (sym same) ok; rows = has } in
-    let many : R.steps machine.layout.senders + 1 ≡ election_bound P.steps senders rounds = ap (λ (x : Layout). R.steps x.senders + 1) same
+    let t : Sits X R machine = record {
+      serves = subst (Serves X R) (sym same) s;
+      ok = subst IsLayout (sym same) ok;
+      rows = has;
+    } in
+    let many : R.steps machine.layout.senders + 1 ≡ election_bound P.steps senders rounds =
+    ap (λ (x : Layout). R.steps x.senders + 1) same
     ∙ omega arith in (
       bounded X R machine trails t reached (election_bound P.steps senders rounds) many (λ e. refl)
-          (λ p at e belongs. c.election_is_lawful.ensures.lawful.turns_last rounds machine.layout.senders p at e belongs),
+          (λ p at e belongs. c.election_is_lawful.ensures.lawful.turns_last rounds
+          machine.layout.senders p at e belongs),
       pins_bounded X R
           machine trails t reached,
     )

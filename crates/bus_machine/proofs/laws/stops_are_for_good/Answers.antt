@@ -4,5 +4,6 @@ use Rattle.bus_machine.proofs.laws.stops_are_for_good.Goals as goal
 
 pub returns : goal.returns
 returns g c =
-    let X = election_with g.Q.Machine.kind_of g.Q.Machine.op g.Q.Machine.fed g.Q.Ratifier.protocol in
+    let X =
+    election_with g.Q.Machine.kind_of g.Q.Machine.op g.Q.Machine.fed g.Q.Ratifier.protocol in
     record { stops = for_good X g.Q.Ratifier.protocol; refuses = refuses X }

@@ -10,13 +10,19 @@ use Rattle.bus_world.specs.World.{AreBases}
 use Rattle.bus_pageslot.proofs.buses.make.Goals as goal
 
 pub build-requires : goal.build-requires
-build-requires g c = subst Serves (sym c.in_ok-next.ensures.plan)
-    (c.in_default.ensures.served refl, c.requires, subst AreBases (ap (λ (p : Plan). p.bases) c.in_ok-next.ensures.plan) c.in_ok-next.ensures.bases)
+build-requires g c = subst Serves (sym c.in_ok-next.ensures.plan) (
+  c.in_default.ensures.served refl,
+  c.requires,
+  subst AreBases (ap (λ (p : Plan). p.bases) c.in_ok-next.ensures.plan)
+      c.in_ok-next.ensures.bases,
+)
 
 pub returns-in_err-made-clause-fault : goal.returns-in_err-made-clause-fault
 returns-in_err-made-clause-fault g c =
-    passed_up _ _ (MakeRefusedAfter c.args.plan.shape c.args.plan.reuse (option_copied c.args.page)) c.from_residual-in_err-made.ensures
-    (no_memory_after c.args.plan.shape c.args.plan.reuse (option_copied c.args.page) (c.in_default.ensures.served refl) c.in_ok-next.ensures.follows)
+    passed_up _ _ (MakeRefusedAfter c.args.plan.shape c.args.plan.reuse (option_copied c.args.page))
+    c.from_residual-in_err-made.ensures
+    (no_memory_after c.args.plan.shape c.args.plan.reuse (option_copied c.args.page)
+    (c.in_default.ensures.served refl) c.in_ok-next.ensures.follows)
 
 pub returns-clause-plan : goal.returns-clause-plan
 returns-clause-plan g c = c.in_ok-made.ensures.plan ∙ c.in_ok-next.ensures.plan
@@ -24,12 +30,16 @@ returns-clause-plan g c = c.in_ok-made.ensures.plan ∙ c.in_ok-next.ensures.pla
 pub returns-clause-senders : goal.returns-clause-senders
 returns-clause-senders g c =
     let P = process_with g.Q.Machine.kind_of g.Q.Machine.op g.Q.Machine.fed g.Q.Ratifier.protocol in
-    let A = automaton_with g.Q.Machine.kind_of g.Q.Machine.op g.Q.Machine.fed g.Q.Ratifier.protocol in
+    let A =
+    automaton_with g.Q.Machine.kind_of g.Q.Machine.op g.Q.Machine.fed g.Q.Ratifier.protocol in
     let made = c.in_ok-made.made in
-    subst (λ (p : Plan). AreNewSeats P (A p) made.0.table p.shape.senders made.1.items) c.in_ok-next.ensures.plan c.in_ok-made.ensures.senders
+    subst (λ (p : Plan). AreNewSeats P (A p) made.0.table p.shape.senders made.1.items)
+    c.in_ok-next.ensures.plan c.in_ok-made.ensures.senders
 
 pub returns-clause-taps : goal.returns-clause-taps
 returns-clause-taps g c =
-    let A = automaton_with g.Q.Machine.kind_of g.Q.Machine.op g.Q.Machine.fed g.Q.Ratifier.protocol in
+    let A =
+    automaton_with g.Q.Machine.kind_of g.Q.Machine.op g.Q.Machine.fed g.Q.Ratifier.protocol in
     let made = c.in_ok-made.made in
-    subst (λ (p : Plan). AreNewTaps (A p).table_layout made.0.table p.shape.receivers made.2.items) c.in_ok-next.ensures.plan c.in_ok-made.ensures.taps
+    subst (λ (p : Plan). AreNewTaps (A p).table_layout made.0.table p.shape.receivers made.2.items)
+    c.in_ok-next.ensures.plan c.in_ok-made.ensures.taps

@@ -10,9 +10,13 @@ unfolding process_with
 returns g c plan s id m d word many o r at due =
     let Q = g.Q.Ratifier.protocol in
     let X = elector g.Q.Machine.kind_of g.Q.Machine.op g.Q.Machine.fed Q plan in
-    told_truly X (sizes g.Q.Machine.kind_of g.Q.Machine.op g.Q.Machine.fed Q plan) plan.reuse plan.bases c.threads_may_go_by.ensures.process
-    (laws_are g.Q.Machine.kind_of g.Q.Machine.op g.Q.Machine.fed Q plan (c.threads_may_go_by.ensures.automaton plan)) s
-    (rule_is g.Q.Machine.kind_of g.Q.Machine.op g.Q.Machine.fed Q plan s r) id m at d word many o due
-    (sized Q (OfEvents X (λ old e a new. Tells X old e a)) (λ a b d e ok old T same rows reached event given new happens.
+    told_truly X (sizes g.Q.Machine.kind_of g.Q.Machine.op g.Q.Machine.fed Q plan) plan.reuse
+    plan.bases c.threads_may_go_by.ensures.process
+    (laws_are g.Q.Machine.kind_of g.Q.Machine.op g.Q.Machine.fed Q plan
+    (c.threads_may_go_by.ensures.automaton plan)) s
+    (rule_is g.Q.Machine.kind_of g.Q.Machine.op g.Q.Machine.fed Q plan s r) id m at d word many o
+    due
+    (sized Q (OfEvents X (λ old e a new. Tells X old e a))
+    (λ a b d e ok old T same rows reached event given new happens.
     (c.events_keep_promise.ensures a b d e ok old T same rows reached event given new happens).1)
     plan.shape plan.reuse)

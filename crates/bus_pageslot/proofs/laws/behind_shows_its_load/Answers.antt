@@ -6,4 +6,6 @@ use Rattle.bus_pageslot.proofs.laws.behind_shows_its_load.Goals as goal
 pub returns : goal.returns
 unfolding process_with
 returns g c old new word t p h =
-    behind_shown (election_with g.Q.Machine.kind_of g.Q.Machine.op g.Q.Machine.fed g.Q.Ratifier.protocol) old new word t p h
+    behind_shown
+    (election_with g.Q.Machine.kind_of g.Q.Machine.op g.Q.Machine.fed g.Q.Ratifier.protocol) old new
+    word t p h

@@ -5,9 +5,11 @@ use Rattle.bus_pageslot.proofs.laws.no_page_without_each_sender.Goals as goal
 pub returns-clause-shown : goal.returns-clause-shown
 returns-clause-shown g c plan s v sender_trail stored many me is =
     let P = process_with g.Q.Machine.kind_of g.Q.Machine.op g.Q.Machine.fed g.Q.Ratifier.protocol in
-    let A = automaton_with g.Q.Machine.kind_of g.Q.Machine.op g.Q.Machine.fed g.Q.Ratifier.protocol plan in
+    let A =
+    automaton_with g.Q.Machine.kind_of g.Q.Machine.op g.Q.Machine.fed g.Q.Ratifier.protocol plan in
     no_bus P A s many v sender_trail stored me is
 
 pub returns-clause-promised : goal.returns-clause-promised
 returns-clause-promised g c x base s v sender_trail stored many me is =
-    no_page (process_with g.Q.Machine.kind_of g.Q.Machine.op g.Q.Machine.fed g.Q.Ratifier.protocol) x base s many v sender_trail stored me is
+    no_page (process_with g.Q.Machine.kind_of g.Q.Machine.op g.Q.Machine.fed g.Q.Ratifier.protocol)
+    x base s many v sender_trail stored me is

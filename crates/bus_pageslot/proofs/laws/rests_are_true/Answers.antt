@@ -11,10 +11,13 @@ unfolding process_with
 returns-clause-rests g c plan s seat v d sender_trail actions r shown more =
     let Q = g.Q.Ratifier.protocol in
     let X = elector g.Q.Machine.kind_of g.Q.Machine.op g.Q.Machine.fed Q plan in
-    rests_truly X (sizes g.Q.Machine.kind_of g.Q.Machine.op g.Q.Machine.fed Q plan) plan.reuse plan.bases (election_bound Q.steps)
-    (laws_are g.Q.Machine.kind_of g.Q.Machine.op g.Q.Machine.fed Q plan (c.threads_may_go_by.ensures.automaton plan)) s
+    rests_truly X (sizes g.Q.Machine.kind_of g.Q.Machine.op g.Q.Machine.fed Q plan) plan.reuse
+    plan.bases (election_bound Q.steps)
+    (laws_are g.Q.Machine.kind_of g.Q.Machine.op g.Q.Machine.fed Q plan
+    (c.threads_may_go_by.ensures.automaton plan)) s
     (c.tables_are_machines.ensures plan s r) seat v d sender_trail actions shown more
-    (sized Q (OfEvents X (λ old e a new. Tells X old e a)) (λ a b d e ok old T same rows reached event given new happens.
+    (sized Q (OfEvents X (λ old e a new. Tells X old e a))
+    (λ a b d e ok old T same rows reached event given new happens.
     (c.events_keep_promise.ensures a b d e ok old T same rows reached event given new happens).1)
     plan.shape plan.reuse)
 

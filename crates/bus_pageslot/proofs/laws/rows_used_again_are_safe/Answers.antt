@@ -7,4 +7,5 @@ pub returns : goal.returns
 returns g c plan rows s is r =
     let Q = g.Q.Ratifier.protocol in
     are_safe (elector g.Q.Machine.kind_of g.Q.Machine.op g.Q.Machine.fed Q plan)
-    (sizes g.Q.Machine.kind_of g.Q.Machine.op g.Q.Machine.fed Q plan) plan.reuse plan.bases s (election_bound Q.steps) (c.tables_are_machines.ensures plan s r) rows is
+    (sizes g.Q.Machine.kind_of g.Q.Machine.op g.Q.Machine.fed Q plan) plan.reuse plan.bases s
+    (election_bound Q.steps) (c.tables_are_machines.ensures plan s r) rows is

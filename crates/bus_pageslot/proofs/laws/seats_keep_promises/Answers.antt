@@ -5,5 +5,6 @@ use Rattle.bus_pageslot.proofs.laws.seats_keep_promises.Goals as goal
 pub returns : goal.returns
 returns g c plan s r =
     let P = process_with g.Q.Machine.kind_of g.Q.Machine.op g.Q.Machine.fed g.Q.Ratifier.protocol in
-    let A = automaton_with g.Q.Machine.kind_of g.Q.Machine.op g.Q.Machine.fed g.Q.Ratifier.protocol plan in
+    let A =
+    automaton_with g.Q.Machine.kind_of g.Q.Machine.op g.Q.Machine.fed g.Q.Ratifier.protocol plan in
     seats_promised P A (c.threads_may_go_by.ensures.automaton plan) s r

@@ -9,24 +9,31 @@ pub returns-clause-log : goal.returns-clause-log
 unfolding automaton_with
 returns-clause-log g c =
     let plan = c.args.plan in
-    c.log_word.ensures.at ∙ log_at_place g.Q.Ratifier.protocol plan.shape plan.reuse c.width-width.result c.width-width.ensures.protocol
+    c.log_word.ensures.at
+    ∙ log_at_place g.Q.Ratifier.protocol plan.shape plan.reuse c.width-width.result
+    c.width-width.ensures.protocol
 
 pub returns-clause-words : goal.returns-clause-words
 unfolding automaton_with
 returns-clause-words g c =
     let Q = g.Q.Ratifier.protocol in
     let plan = c.args.plan in
-    let log = c.log_word.ensures.at ∙ log_at_place Q plan.shape plan.reuse c.width-width.result c.width-width.ensures.protocol in
+    let log =
+    c.log_word.ensures.at
+    ∙ log_at_place Q plan.shape plan.reuse c.width-width.result c.width-width.ensures.protocol in
     ap (λ n. n + plan.shape.log_words) log
-    ∙ ap (λ n. log_place (layout_of Q plan.shape plan.reuse) plan.reuse + n) (sym (capacity_of Q plan.shape plan.reuse))
+    ∙ ap (λ n. log_place (layout_of Q plan.shape plan.reuse) plan.reuse + n)
+    (sym (capacity_of Q plan.shape plan.reuse))
 
 pub returns-clause-capacity : goal.returns-clause-capacity
 unfolding automaton_with
-returns-clause-capacity g c = sym (capacity_of g.Q.Ratifier.protocol c.args.plan.shape c.args.plan.reuse)
+returns-clause-capacity g c =
+    sym (capacity_of g.Q.Ratifier.protocol c.args.plan.shape c.args.plan.reuse)
 
 pub returns-clause-senders : goal.returns-clause-senders
 unfolding automaton_with
-returns-clause-senders g c = sym (senders_are g.Q.Ratifier.protocol c.args.plan.shape c.args.plan.reuse)
+returns-clause-senders g c =
+    sym (senders_are g.Q.Ratifier.protocol c.args.plan.shape c.args.plan.reuse)
 
 pub returns-clause-bases : goal.returns-clause-bases
 unfolding automaton_with

@@ -9,18 +9,25 @@ pub new-requires-clause-room : goal.new-requires-clause-room
 unfolding automaton_with
 new-requires-clause-room g c =
     let Q = g.Q.Ratifier.protocol in
-    subst (λ r. (table_layout_by (layout_of Q c.args.plan.shape r) r).words ≤ 2 ^ 63) c.in-None.is c.requires.room
+    subst (λ r. (table_layout_by (layout_of Q c.args.plan.shape r) r).words ≤ 2 ^ 63) c.in-None.is
+    c.requires.room
 
 pub returns-in-None : goal.returns-in-None
 unfolding automaton_with
 returns-in-None g c =
     let Q = g.Q.Ratifier.protocol in
-    c.new.ensures ∙ ap (λ n. new_sender (layout_of Q c.args.plan.shape None) c.args.me.0 None (slice_index c.args.plan.bases n)) c.from.ensures
-    ∙ ap (λ r. new_sender (layout_of Q c.args.plan.shape r) c.args.me.0 r (slice_index c.args.plan.bases c.args.me.0)) (sym c.in-None.is)
+    c.new.ensures
+    ∙ ap (λ n. new_sender (layout_of Q c.args.plan.shape None) c.args.me.0 None
+    (slice_index c.args.plan.bases n)) c.from.ensures
+    ∙ ap (λ r. new_sender (layout_of Q c.args.plan.shape r) c.args.me.0 r
+    (slice_index c.args.plan.bases c.args.me.0)) (sym c.in-None.is)
 
 pub returns-in-Some : goal.returns-in-Some
 unfolding automaton_with
 returns-in-Some g c =
     let Q = g.Q.Ratifier.protocol in
-    c.cyclic.ensures ∙ ap (λ n. new_sender (layout_of Q c.args.plan.shape (Some c.in-Some.rows)) c.args.me.0 (Some c.in-Some.rows) (slice_index c.args.plan.bases n)) c.from.ensures
-    ∙ ap (λ r. new_sender (layout_of Q c.args.plan.shape r) c.args.me.0 r (slice_index c.args.plan.bases c.args.me.0)) (sym c.in-Some.is)
+    c.cyclic.ensures
+    ∙ ap (λ n. new_sender (layout_of Q c.args.plan.shape (Some c.in-Some.rows)) c.args.me.0
+    (Some c.in-Some.rows) (slice_index c.args.plan.bases n)) c.from.ensures
+    ∙ ap (λ r. new_sender (layout_of Q c.args.plan.shape r) c.args.me.0 r
+    (slice_index c.args.plan.bases c.args.me.0)) (sym c.in-Some.is)

@@ -6,21 +6,30 @@ use Rattle.bus_pageslot.proofs.Openings.{one_more_tap}
 use Rattle.bus_pageslot.proofs.seating.tap_all.Goals as goal
 
 pub tap_next-tap-requires-clause-wide : goal.tap_next-tap-requires-clause-wide
-tap_next-tap-requires-clause-wide g c = ap (λ (z : TableId). z.words) c.loop.invariant.table ∙ c.requires.wide
+tap_next-tap-requires-clause-wide g c =
+    ap (λ (z : TableId). z.words) c.loop.invariant.table ∙ c.requires.wide
 
 pub loop-preserved : goal.loop-preserved
 loop-preserved g c =
-    let n = (automaton_with g.Q.Machine.kind_of g.Q.Machine.op g.Q.Machine.fed g.Q.Ratifier.protocol c.args.plan).table_layout in
+    let n =
+    (automaton_with g.Q.Machine.kind_of g.Q.Machine.op g.Q.Machine.fed g.Q.Ratifier.protocol
+    c.args.plan).table_layout in
     let table = c.args.words.now.table in
     record {
       below = omega arith;
-      taps = subst (AreNewTaps n table (c.loop.counter + 1)) (sym c.in_ok-push.ensures.items) (one_more_tap n table c.loop.counter c.loop.taps.items c.tap_next-tap.result c.loop.invariant.taps
-          (subst (λ z. IsNewTap n z c.tap_next-tap.result) c.loop.invariant.table c.tap_next-tap.ensures.tap));
+      taps = subst (AreNewTaps n table (c.loop.counter + 1)) (sym c.in_ok-push.ensures.items)
+          (one_more_tap n table c.loop.counter c.loop.taps.items c.tap_next-tap.result
+          c.loop.invariant.taps
+          (subst (λ z. IsNewTap n z c.tap_next-tap.result) c.loop.invariant.table
+          c.tap_next-tap.ensures.tap));
       table = c.tap_next-tap.ensures.table ∙ c.loop.invariant.table;
       maker = c.tap_next-tap.ensures.maker ∙ c.loop.invariant.maker;
     }
 
 pub returns : goal.returns
 returns g c =
-    let all : c.loop.counter ≡ c.args.plan.shape.receivers = let b = c.loop.invariant.below in omega arith in
-    subst (λ n. AreNewTaps (automaton_with g.Q.Machine.kind_of g.Q.Machine.op g.Q.Machine.fed g.Q.Ratifier.protocol c.args.plan).table_layout c.args.words.now.table n c.loop.taps.items) all c.loop.invariant.taps
+    let all : c.loop.counter ≡ c.args.plan.shape.receivers =
+    let b = c.loop.invariant.below in omega arith in
+    subst (λ n. AreNewTaps (automaton_with g.Q.Machine.kind_of g.Q.Machine.op g.Q.Machine.fed
+    g.Q.Ratifier.protocol c.args.plan).table_layout c.args.words.now.table n c.loop.taps.items) all
+    c.loop.invariant.taps

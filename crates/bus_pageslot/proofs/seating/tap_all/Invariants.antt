@@ -7,7 +7,12 @@ use Rattle.bus_pageslot.proofs.seating.tap_all.Given as goal
 abbrev pub invariant-loop : goal.invariant-loop
 invariant-loop g l = record {
   below : l.counter ≤ l.plan.shape.receivers;
-  taps : AreNewTaps (automaton_with g.Q.Machine.kind_of g.Q.Machine.op g.Q.Machine.fed g.Q.Ratifier.protocol l.plan).table_layout l.words.table l.counter l.taps.items;
+  taps : AreNewTaps (automaton_with g.Q.Machine.kind_of g.Q.Machine.op g.Q.Machine.fed
+      g.Q.Ratifier.protocol l.plan).table_layout l.words.table l.counter l.taps.items;
   table : l.maker.table_id ≡ l.words.table;
-  maker : l.maker.me ≡ (Maker (automaton_with g.Q.Machine.kind_of g.Q.Machine.op g.Q.Machine.fed g.Q.Ratifier.protocol l.plan).table_layout l.plan.shape.senders, []);
+  maker : l.maker.me ≡ (
+    Maker (automaton_with g.Q.Machine.kind_of g.Q.Machine.op g.Q.Machine.fed g.Q.Ratifier.protocol
+        l.plan).table_layout l.plan.shape.senders,
+    [],
+  );
 }

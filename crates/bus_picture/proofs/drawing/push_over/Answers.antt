@@ -11,5 +11,7 @@ returns c =
     grown (string_bytes c.args.text.now) _ (words_end)
     (grown (string_bytes c.args.text.now) _ (what_text (row_shown c.args.row.now))
     (grown (string_bytes c.args.text.now) _ (words_at (edge c.args.columns) (down c.args.place))
-    (grown (string_bytes c.args.text.now) _ (number_at (down c.args.place) c.args.row.now.number.now) c.in_ok-push_mark.ensures c.in_ok-push_number.ensures)
+    (grown (string_bytes c.args.text.now) _
+    (number_at (down c.args.place) c.args.row.now.number.now) c.in_ok-push_mark.ensures
+    c.in_ok-push_number.ensures)
     c.in_ok-push_beside.ensures) c.in_ok-push_what.ensures) c.in_ok-push_str.ensures.bytes

@@ -7,6 +7,11 @@ use Rattle.bus_picture.proofs.pictures.push_unders.Goals as goal
 
 pub loop-place-preserved : goal.loop-place-preserved
 loop-place-preserved c =
-    ap (λ t. t ++ unders_text c.args.columns (map row_shown c.args.rows.now) (arrows_of (map row_shown c.args.rows.now)) (c.loop-place.place + 1) (map row_shown (drop (c.loop-place.place + 1) c.args.rows.now))) c.in_ok-push_under.ensures
-    ∙ under_more c.args.columns c.args.rows.now c.loop-place.place _ (string_bytes c.loop-place.text) c.loop-place-test.true
+    ap (λ t.
+    t
+    ++ unders_text c.args.columns (map row_shown c.args.rows.now)
+    (arrows_of (map row_shown c.args.rows.now)) (c.loop-place.place + 1)
+    (map row_shown (drop (c.loop-place.place + 1) c.args.rows.now))) c.in_ok-push_under.ensures
+    ∙ under_more c.args.columns c.args.rows.now c.loop-place.place _
+    (string_bytes c.loop-place.text) c.loop-place-test.true
     ∙ c.loop-place.invariant

@@ -5,4 +5,6 @@ use Rattle.bus_picture.proofs.shapes.push_beside_at.Goals as goal
 
 pub returns : goal.returns
 returns c =
-    grown (string_bytes c.args.text.now) _ (text_body (short c.args.answer.now)) (grown (string_bytes c.args.text.now) _ (at c.args.x c.args.y) c.in_ok-push_str.ensures.bytes c.in_ok-push_at.ensures) c.in_ok-push_short.ensures
+    grown (string_bytes c.args.text.now) _ (text_body (short c.args.answer.now))
+    (grown (string_bytes c.args.text.now) _ (at c.args.x c.args.y) c.in_ok-push_str.ensures.bytes
+    c.in_ok-push_at.ensures) c.in_ok-push_short.ensures

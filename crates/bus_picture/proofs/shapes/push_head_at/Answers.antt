@@ -5,4 +5,10 @@ use Rattle.bus_picture.proofs.shapes.push_head_at.Goals as goal
 
 pub returns : goal.returns
 returns c =
-    grown (string_bytes c.args.text.now) _ (text_body c.args.who.now) (grown (string_bytes c.args.text.now) _ (at c.args.x 124) (grown (string_bytes c.args.text.now) _ (codes "<text class='head'") (grown (string_bytes c.args.text.now) _ (down_to c.args.bottom) (grown (string_bytes c.args.text.now) _ (point c.args.x 132) c.in_ok-push_str.ensures.bytes c.in_ok-push_point.ensures) c.in_ok-push_down_to.ensures) c.in_ok-push_str-2.ensures.bytes) c.in_ok-push_at.ensures) c.in_ok-push_said.ensures
+    grown (string_bytes c.args.text.now) _ (text_body c.args.who.now)
+    (grown (string_bytes c.args.text.now) _ (at c.args.x 124)
+    (grown (string_bytes c.args.text.now) _ (codes "<text class='head'")
+    (grown (string_bytes c.args.text.now) _ (down_to c.args.bottom)
+    (grown (string_bytes c.args.text.now) _ (point c.args.x 132) c.in_ok-push_str.ensures.bytes
+    c.in_ok-push_point.ensures) c.in_ok-push_down_to.ensures) c.in_ok-push_str-2.ensures.bytes)
+    c.in_ok-push_at.ensures) c.in_ok-push_said.ensures

@@ -5,4 +5,7 @@ use Rattle.bus_picture.proofs.shapes.push_mark_at.Goals as goal
 
 pub returns : goal.returns
 returns c =
-    grown (string_bytes c.args.text.now) _ (answer_at c.args.x c.args.y c.args.answer.now) (grown (string_bytes c.args.text.now) _ (codes "/>") (grown (string_bytes c.args.text.now) _ (at c.args.x c.args.y) c.in_ok-push_use.ensures c.in_ok-push_at.ensures) c.in_ok-push_str.ensures.bytes) c.in_ok-push_answer_at.ensures
+    grown (string_bytes c.args.text.now) _ (answer_at c.args.x c.args.y c.args.answer.now)
+    (grown (string_bytes c.args.text.now) _ (codes "/>")
+    (grown (string_bytes c.args.text.now) _ (at c.args.x c.args.y) c.in_ok-push_use.ensures
+    c.in_ok-push_at.ensures) c.in_ok-push_str.ensures.bytes) c.in_ok-push_answer_at.ensures

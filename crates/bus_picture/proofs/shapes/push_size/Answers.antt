@@ -8,5 +8,6 @@ returns c =
     grown (string_bytes c.args.text.now) _ (codes "'>" ++ 10 ∷ [])
     (grown (string_bytes c.args.text.now) _ (point c.args.width c.args.height)
     (grown (string_bytes c.args.text.now) _ (codes " viewBox='0 0 ")
-    (grown (string_bytes c.args.text.now) _ (extent c.args.width c.args.height) c.in_ok-push_str.ensures.bytes c.in_ok-push_extent.ensures)
+    (grown (string_bytes c.args.text.now) _ (extent c.args.width c.args.height)
+    c.in_ok-push_str.ensures.bytes c.in_ok-push_extent.ensures)
     c.in_ok-push_str-2.ensures.bytes) c.in_ok-push_point.ensures) c.in_ok-push_str-3.ensures.bytes

@@ -12,5 +12,7 @@ pub returns : goal.returns
 returns g c rounds x two few wide h T L played =
     let P = g.Q.Ratifier.protocol in
     let op = election_op (decide_op g.Q.Machine.op conciliator_op) in
-    let fed = election_fed (decisions P) (decide_fed P conciliator_protocol g.Q.Machine.fed conciliator_fed) in
-    tenures_apart op fed (elections P rounds) OneOwner (c.election_is_lawful.ensures.lawful.laws rounds) x two few wide h T L played
+    let fed = election_fed (decisions P)
+    (decide_fed P conciliator_protocol g.Q.Machine.fed conciliator_fed) in
+    tenures_apart op fed (elections P rounds) OneOwner
+    (c.election_is_lawful.ensures.lawful.laws rounds) x two few wide h T L played

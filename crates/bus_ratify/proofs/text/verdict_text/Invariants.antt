@@ -5,4 +5,7 @@ use Rattle.bus_ratify.specs.Text.{verdict_line, verdict_text}
 use Rattle.bus_ratify.proofs.text.verdict_text.Given as goal
 
 abbrev pub invariant-loop-process : goal.invariant-loop-process
-invariant-loop-process l = string_bytes l.text ++ flat_map (λ x. verdict_line x.0 x.1) (enumerate_from l.process (drop l.process l.verdicts)) ≡ verdict_text l.verdicts
+invariant-loop-process l =
+    string_bytes l.text
+    ++ flat_map (λ x. verdict_line x.0 x.1) (enumerate_from l.process (drop l.process l.verdicts))
+    ≡ verdict_text l.verdicts

@@ -5,13 +5,18 @@ use Rattle.bus_replay.proofs.answers.answer_from.Goals as goal
 
 pub returns-in-Done : goal.returns-in-Done
 returns-in-Done g c =
-    let X = election_with g.Q.Machine.kind_of g.Q.Machine.op g.Q.Machine.fed g.Q.Ratifier.protocol in
-    closed X g.Q.Ratifier.protocol c.args.bus c.play.new.bus c.args.lines c.in_ok-play.field-0 (string_bytes c.new-text.result)
-    (string_bytes c.play.new.text) (string_bytes c.push_closing.new.text) c.in-Done.is c.new-text.ensures.bytes c.in_ok-play.ensures
+    let X =
+    election_with g.Q.Machine.kind_of g.Q.Machine.op g.Q.Machine.fed g.Q.Ratifier.protocol in
+    closed X g.Q.Ratifier.protocol c.args.bus c.play.new.bus c.args.lines c.in_ok-play.field-0
+    (string_bytes c.new-text.result)
+    (string_bytes c.play.new.text) (string_bytes c.push_closing.new.text) c.in-Done.is
+    c.new-text.ensures.bytes c.in_ok-play.ensures
     c.in_ok-push_closing-in-Done.ensures
 
 pub returns : goal.returns
 returns g c =
-    let X = election_with g.Q.Machine.kind_of g.Q.Machine.op g.Q.Machine.fed g.Q.Ratifier.protocol in
-    stopped X g.Q.Ratifier.protocol c.args.bus c.play.new.bus c.args.lines c.in_ok-play.field-0 (string_bytes c.new-text.result)
+    let X =
+    election_with g.Q.Machine.kind_of g.Q.Machine.op g.Q.Machine.fed g.Q.Ratifier.protocol in
+    stopped X g.Q.Ratifier.protocol c.args.bus c.play.new.bus c.args.lines c.in_ok-play.field-0
+    (string_bytes c.new-text.result)
     (string_bytes c.play.new.text) c.in-Refused.is c.new-text.ensures.bytes c.in_ok-play.ensures

@@ -8,7 +8,10 @@ use Rattle.bus_replay.proofs.closing.push_all_given.Given as goal
 
 abbrev pub invariant-loop-receiver : goal.invariant-loop-receiver
 invariant-loop-receiver g l =
-    let X = election_with g.Q.Machine.kind_of g.Q.Machine.op g.Q.Machine.fed g.Q.Ratifier.protocol in
+    let X =
+    election_with g.Q.Machine.kind_of g.Q.Machine.op g.Q.Machine.fed g.Q.Ratifier.protocol in
     (trails : Trails) → Reached X l.bus trails
-    → string_bytes l.text ++ lines_from l.receiver (drop l.receiver (given_by trails (length l.bus.receivers))) ≡ string_bytes l.fn.text ++
+    → string_bytes l.text
+    ++ lines_from l.receiver (drop l.receiver (given_by trails (length l.bus.receivers)))
+    ≡ string_bytes l.fn.text ++
     given_text (given_by trails (length l.bus.receivers))

@@ -8,12 +8,16 @@ use Rattle.bus_replay.proofs.closing.push_closing.Goals as goal
 
 pub returns : goal.returns
 returns g c =
-    let X = election_with g.Q.Machine.kind_of g.Q.Machine.op g.Q.Machine.fed g.Q.Ratifier.protocol in
+    let X =
+    election_with g.Q.Machine.kind_of g.Q.Machine.op g.Q.Machine.fed g.Q.Ratifier.protocol in
     let read = c.in_ok-order.ensures.spells in
     let order = order_held c.in_ok-order.order in
     on_ok_weaker c.push_all_given.result
-    (λ all. closes X g.Q.Ratifier.protocol c.args.bus.now (string_bytes c.args.text.now) (string_bytes c.push_order.new.text)
-    (string_bytes c.push_all_given.new.text) (map (λ s. s.0) c.owners.result.now) order read.0 read.1
-    c.owners.ensures.state c.owners.ensures.took c.promises.ensures.happened (c.in_ok-push_order.ensures
+    (λ all. closes X g.Q.Ratifier.protocol c.args.bus.now (string_bytes c.args.text.now)
+    (string_bytes c.push_order.new.text)
+    (string_bytes c.push_all_given.new.text) (map (λ s. s.0) c.owners.result.now) order read.0
+    read.1
+    c.owners.ensures.state c.owners.ensures.took c.promises.ensures.happened
+    (c.in_ok-push_order.ensures
     ∙ ap (λ l. l ++ order_text order) c.in_ok-push_owners.ensures) all)
     c.push_all_given.ensures

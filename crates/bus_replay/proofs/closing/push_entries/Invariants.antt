@@ -6,5 +6,6 @@ use Rattle.bus_replay.proofs.closing.push_entries.Given as goal
 
 abbrev pub invariant-loop-mark : goal.invariant-loop-mark
 invariant-loop-mark l =
-    string_bytes l.text ++ flat_map entry_line (merged_from l.before l.rest (drop l.mark-index l.left))
+    string_bytes l.text
+    ++ flat_map entry_line (merged_from l.before l.rest (drop l.mark-index l.left))
     ≡ string_bytes l.fn.text ++ flat_map entry_line (merged l.items l.left)

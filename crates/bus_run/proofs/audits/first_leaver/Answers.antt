@@ -11,7 +11,10 @@ returns-then-page-number-clause-some c =
       below,
       λ order owners spells. (
         c.loop-number.invariant order owners spells,
-        sym (get_or_from_slice_get c.page-page.result.now.left c.loop-number.number (has_gone c.loop-number.number order) false (c.page-page.ensures.left c.loop-number.number order owners below spells)) ∙ c.if-page-number.true,
+        sym (get_or_from_slice_get c.page-page.result.now.left c.loop-number.number
+            (has_gone c.loop-number.number order) false
+            (c.page-page.ensures.left c.loop-number.number order owners below spells))
+            ∙ c.if-page-number.true,
       ),
     )
 
@@ -22,8 +25,12 @@ loop-number-preserved c = λ order owners spells s lt. elim (cases_lt s c.loop-n
       let at : s ≡ c.loop-number.number = omega arith in
       let below : c.loop-number.number < MOST_SENDERS = omega arith in
       subst (λ n. has_gone n order ≡ false) (sym at)
-      (sym (get_or_from_slice_get c.page-page.result.now.left c.loop-number.number (has_gone c.loop-number.number order) false (c.page-page.ensures.left c.loop-number.number order owners below spells)) ∙ c.if-page-number.false)
+      (sym (get_or_from_slice_get c.page-page.result.now.left c.loop-number.number
+      (has_gone c.loop-number.number order) false
+      (c.page-page.ensures.left c.loop-number.number order owners below spells))
+      ∙ c.if-page-number.false)
 ]
 
 pub returns-clause-none : goal.returns-clause-none
-returns-clause-none c = λ is order owners spells s lt. c.loop-number.invariant order owners spells s (omega arith)
+returns-clause-none c =
+    λ is order owners spells s lt. c.loop-number.invariant order owners spells s (omega arith)

@@ -7,7 +7,12 @@ use Rattle.bus_run.proofs.closing.are_in_order.Goals as goal
 
 pub loop-place-preserved : goal.loop-place-preserved
 loop-place-preserved g c =
-    one_more_in_order (λ send_worker. number_of send_worker.sender) c.args.send_workers.now c.loop-place.place c.index-send_workers-place.result c.loop-place-test.true c.index-send_workers-place.is c.loop-place.invariant (sym c.number.ensures ∙ c.if-number-place.false)
+    one_more_in_order (λ send_worker. number_of send_worker.sender) c.args.send_workers.now
+    c.loop-place.place c.index-send_workers-place.result c.loop-place-test.true
+    c.index-send_workers-place.is c.loop-place.invariant
+    (sym c.number.ensures ∙ c.if-number-place.false)
 
 pub returns-clause-order : goal.returns-clause-order
-returns-clause-order g c = λ is. subst (AreInOrder (λ send_worker. number_of send_worker.sender)) (take_all c.loop-place.place c.args.send_workers.now c.loop-place-test.false) c.loop-place.invariant
+returns-clause-order g c = λ is. subst (AreInOrder (λ send_worker. number_of send_worker.sender))
+    (take_all c.loop-place.place c.args.send_workers.now c.loop-place-test.false)
+    c.loop-place.invariant

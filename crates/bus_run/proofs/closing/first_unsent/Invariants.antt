@@ -4,4 +4,5 @@ use Rattle.bus_run.specs.Stops.{HasSent}
 use Rattle.bus_run.proofs.closing.first_unsent.Given as goal
 
 abbrev pub invariant-loop-place : goal.invariant-loop-place
-invariant-loop-place g l = All (λ send_worker. HasSent l.messages send_worker.sender) (take l.place l.send_workers)
+invariant-loop-place g l =
+    All (λ send_worker. HasSent l.messages send_worker.sender) (take l.place l.send_workers)

@@ -12,6 +12,7 @@ invariant-loop-receive_worker g l = record {
   many : vec_len l.heards ≡ length l.yielded;
   room : vec_capacity l.heards ≡ vec_capacity l.fn.room;
   table : IfSome l.first (λ r. bus_of r ≡ g.B.OfBus.table);
-  first : IfSome l.first (λ r. slice_get (map (λ receive_worker. receive_worker.receiver.me.0) l.yielded) 0 ≡ Some r.me.0);
+  first : IfSome l.first (λ r.
+      slice_get (map (λ receive_worker. receive_worker.receiver.me.0) l.yielded) 0 ≡ Some r.me.0);
   some : l.first ≡ None → l.yielded ≡ [];
 }

@@ -10,4 +10,6 @@ pub returns-clause-learnt : goal.returns-clause-learnt
 returns-clause-learnt g c = one_learnt _ _ _ c.told.ensures.told.learns
 
 pub returns-clause-told : goal.returns-clause-told
-returns-clause-told g c = told_now process c.args.send_worker.sender.core _ _ _ (number_of c.args.send_worker.sender) c.args.messages c.told.ensures.told.sent refl (none_waits c.args.send_worker.sender.core c.requires.sent.0) c.requires.sent.1
+returns-clause-told g c = told_now process c.args.send_worker.sender.core _ _ _
+    (number_of c.args.send_worker.sender) c.args.messages c.told.ensures.told.sent refl
+    (none_waits c.args.send_worker.sender.core c.requires.sent.0) c.requires.sent.1

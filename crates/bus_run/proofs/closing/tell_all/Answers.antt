@@ -11,7 +11,8 @@ pub loop-send_worker-init : goal.loop-send_worker-init
 loop-send_worker-init g c = record {
   table = c.requires.table;
   learnt = none_learnt c.args.first.me.0;
-  told = All-nil (λ send_worker. HasTold (senders_of send_worker.sender) (number_of send_worker.sender) c.args.messages (known_in c.args.first.me.0));
+  told = All-nil (λ send_worker. HasTold (senders_of send_worker.sender)
+      (number_of send_worker.sender) c.args.messages (known_in c.args.first.me.0));
 }
 
 pub loop-send_worker-preserved : goal.loop-send_worker-preserved
@@ -21,10 +22,21 @@ loop-send_worker-preserved g c =
     record {
       table = c.tell.ensures.table;
       learnt =
-          subst (λ n. HasLearnt n c.args.first.me.0 c.tell.new.receiver.me.0) (sym (length-append c.loop-send_worker.yielded (c.in-Some.send_worker ∷ [])))
-          (more_learnt (length c.loop-send_worker.yielded) c.args.first.me.0 c.loop-send_worker.first.me.0 c.tell.new.receiver.me.0 c.loop-send_worker.invariant.learnt c.tell.ensures.learnt);
+          subst (λ n. HasLearnt n c.args.first.me.0 c.tell.new.receiver.me.0)
+          (sym (length-append c.loop-send_worker.yielded (c.in-Some.send_worker ∷ [])))
+          (more_learnt (length c.loop-send_worker.yielded) c.args.first.me.0
+          c.loop-send_worker.first.me.0 c.tell.new.receiver.me.0 c.loop-send_worker.invariant.learnt
+          c.tell.ensures.learnt);
       told =
-          All-push (λ send_worker. HasTold (senders_of send_worker.sender) (number_of send_worker.sender) c.args.messages after) c.loop-send_worker.yielded c.in-Some.send_worker
-          (All-weaker (λ send_worker. HasTold (senders_of send_worker.sender) (number_of send_worker.sender) c.args.messages before) (λ send_worker. HasTold (senders_of send_worker.sender) (number_of send_worker.sender) c.args.messages after) (λ send_worker told. still_told (senders_of send_worker.sender) (number_of send_worker.sender) c.args.messages before after told (grown 1 c.loop-send_worker.first.me.0 c.tell.new.receiver.me.0 c.tell.ensures.learnt)) c.loop-send_worker.yielded c.loop-send_worker.invariant.told)
+          All-push (λ send_worker. HasTold (senders_of send_worker.sender)
+          (number_of send_worker.sender) c.args.messages after) c.loop-send_worker.yielded
+          c.in-Some.send_worker
+          (All-weaker (λ send_worker. HasTold (senders_of send_worker.sender)
+          (number_of send_worker.sender) c.args.messages before)
+          (λ send_worker. HasTold (senders_of send_worker.sender) (number_of send_worker.sender)
+          c.args.messages after) (λ send_worker told. still_told (senders_of send_worker.sender)
+          (number_of send_worker.sender) c.args.messages before after told
+          (grown 1 c.loop-send_worker.first.me.0 c.tell.new.receiver.me.0 c.tell.ensures.learnt))
+          c.loop-send_worker.yielded c.loop-send_worker.invariant.told)
           c.tell.ensures.told;
     }

@@ -10,5 +10,6 @@ abbrev pub invariant-loop-send_worker : goal.invariant-loop-send_worker
 invariant-loop-send_worker g l = record {
   table : bus_of l.first ≡ g.B.OfBus.table;
   learnt : HasLearnt (length l.yielded) l.fn.first.me.0 l.first.me.0;
-  told : All (λ send_worker. HasTold (senders_of send_worker.sender) (number_of send_worker.sender) l.messages (known_in l.first.me.0)) l.yielded;
+  told : All (λ send_worker. HasTold (senders_of send_worker.sender) (number_of send_worker.sender)
+      l.messages (known_in l.first.me.0)) l.yielded;
 }

@@ -11,6 +11,12 @@ loop-tap-preserved g c =
     let pushed = c.in_ok-push.ensures.items in
     let h = c.loop-tap.invariant in
     record {
-      receivers = ap (map (λ receive_worker. receive_worker.receiver)) pushed ∙ map-append (λ receive_worker. receive_worker.receiver) before (receive_worker ∷ []) ∙ ap (λ z. z ++ receive_worker.receiver ∷ []) h.receivers ∙ ap (λ t. c.loop-tap.yielded ++ t ∷ []) c.new.ensures.receiver;
-      fresh = All-same (λ receive_worker. receive_worker.heard ≡ nothing) _ _ pushed (All-push (λ receive_worker. receive_worker.heard ≡ nothing) before receive_worker h.fresh c.new.ensures.fresh);
+      receivers =
+          ap (map (λ receive_worker. receive_worker.receiver)) pushed
+          ∙ map-append (λ receive_worker. receive_worker.receiver) before (receive_worker ∷ [])
+          ∙ ap (λ z. z ++ receive_worker.receiver ∷ []) h.receivers
+          ∙ ap (λ t. c.loop-tap.yielded ++ t ∷ []) c.new.ensures.receiver;
+      fresh = All-same (λ receive_worker. receive_worker.heard ≡ nothing) _ _ pushed
+          (All-push (λ receive_worker. receive_worker.heard ≡ nothing) before receive_worker h.fresh
+          c.new.ensures.fresh);
     }

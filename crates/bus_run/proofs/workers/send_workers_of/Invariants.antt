@@ -7,6 +7,7 @@ use Rattle.bus_run.proofs.workers.send_workers_of.Given as goal
 abbrev pub invariant-loop-sender : goal.invariant-loop-sender
 invariant-loop-sender g l = record {
   senders : map (λ send_worker. send_worker.sender) l.send_workers.items ≡ l.yielded;
-  words : All (λ send_worker. send_worker.rng ≡ generator_of l.seed (number_of send_worker.sender)) l.send_workers.items;
+  words : All (λ send_worker. send_worker.rng ≡ generator_of l.seed (number_of send_worker.sender))
+      l.send_workers.items;
   unstopped : All (λ send_worker. send_worker.fault ≡ None) l.send_workers.items;
 }

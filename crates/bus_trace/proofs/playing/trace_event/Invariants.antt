@@ -9,9 +9,12 @@ use Rattle.bus_trace.proofs.playing.trace_event.Given as goal
 abbrev pub invariant-loop-more : goal.invariant-loop-more
 invariant-loop-more g l = record {
   counted : IsCounted (string_bytes l.sheet.text) l.sheet.lines;
-  repeated : Repeated (election_with g.Q.Machine.kind_of g.Q.Machine.op g.Q.Machine.fed g.Q.Ratifier.protocol) g.Q.Ratifier.protocol
+  repeated : Repeated
+      (election_with g.Q.Machine.kind_of g.Q.Machine.op g.Q.Machine.fed g.Q.Ratifier.protocol)
+      g.Q.Ratifier.protocol
       (sizes_told l.memory_map) l.line (event_told l.event) l.fn.bus (l.fn.times - 1)
-      (string_bytes l.fn.sheet.text) l.fn.sheet.lines l.more l.last l.bus (string_bytes l.sheet.text) l.sheet.lines;
+      (string_bytes l.fn.sheet.text) l.fn.sheet.lines l.more l.last l.bus
+      (string_bytes l.sheet.text) l.sheet.lines;
 }
 
 abbrev pub decreases-loop-more : goal.decreases-loop-more

@@ -17,10 +17,14 @@ returns-in-None-clause-obeyed g c =
     let command = command_told c.in-Some.command in
     let old = string_bytes c.args.sheet.now.text in
     let new = string_bytes c.trace_event.new.sheet.text in
-    answered X P p c.args.bus.now (c.args.line.number, c.args.line.bytes.now) c.trace_event.new.bus old c.args.sheet.now.lines command new
-    c.trace_event.new.sheet.lines (sym (ap (option_map command_told) c.in-Some.is) ∙ c.in_ok-command.ensures)
-    (subst (λ f. IsRepeated X P p c.args.line.number c.args.bus.now command.event (command.times - 1) old c.args.sheet.now.lines new
-    c.trace_event.new.sheet.lines f c.trace_event.new.bus) c.in-None.is c.in_ok-trace_event.ensures.repeated)
+    answered X P p c.args.bus.now (c.args.line.number, c.args.line.bytes.now) c.trace_event.new.bus
+    old c.args.sheet.now.lines command new
+    c.trace_event.new.sheet.lines
+    (sym (ap (option_map command_told) c.in-Some.is) ∙ c.in_ok-command.ensures)
+    (subst (λ f. IsRepeated X P p c.args.line.number c.args.bus.now command.event
+    (command.times - 1) old c.args.sheet.now.lines new
+    c.trace_event.new.sheet.lines f c.trace_event.new.bus) c.in-None.is
+    c.in_ok-trace_event.ensures.repeated)
 
 pub returns-clause-obeyed : goal.returns-clause-obeyed
 returns-clause-obeyed g c =
@@ -30,8 +34,14 @@ returns-clause-obeyed g c =
     let command = command_told c.in-Some.command in
     let old = string_bytes c.args.sheet.now.text in
     let new = string_bytes c.trace_event.new.sheet.text in
-    let stopped = subst (λ f. IsRepeated X P p c.args.line.number c.args.bus.now command.event (command.times - 1) old
-    c.args.sheet.now.lines new c.trace_event.new.sheet.lines f c.trace_event.new.bus) c.in-Some-2.is c.in_ok-trace_event.ensures.repeated in
-    refused X P p c.args.bus.now (c.args.line.number, c.args.line.bytes.now) c.trace_event.new.bus old c.args.sheet.now.lines command
-    c.in-Some-2.fault new (string_bytes c.push_refusal-in-Some-2.new.text) c.trace_event.new.sheet.lines
-    (sym (ap (option_map command_told) c.in-Some.is) ∙ c.in_ok-command.ensures) stopped.0 stopped.1 (c.in_ok-push_refusal-in-Some-2.ensures ∙ ap (λ n. new ++ refusal_line (AtLine c.args.line.number) n) c.step_fault_name-name.ensures)
+    let stopped = subst
+    (λ f. IsRepeated X P p c.args.line.number c.args.bus.now command.event (command.times - 1) old
+    c.args.sheet.now.lines new c.trace_event.new.sheet.lines f c.trace_event.new.bus) c.in-Some-2.is
+    c.in_ok-trace_event.ensures.repeated in
+    refused X P p c.args.bus.now (c.args.line.number, c.args.line.bytes.now) c.trace_event.new.bus
+    old c.args.sheet.now.lines command
+    c.in-Some-2.fault new (string_bytes c.push_refusal-in-Some-2.new.text)
+    c.trace_event.new.sheet.lines
+    (sym (ap (option_map command_told) c.in-Some.is) ∙ c.in_ok-command.ensures) stopped.0 stopped.1
+    (c.in_ok-push_refusal-in-Some-2.ensures
+    ∙ ap (λ n. new ++ refusal_line (AtLine c.args.line.number) n) c.step_fault_name-name.ensures)

@@ -8,7 +8,9 @@ use Rattle.bus_trace.proofs.playing.trace_lines.Given as goal
 abbrev pub invariant-loop-line : goal.invariant-loop-line
 invariant-loop-line g l = record {
   counted : IsCounted (string_bytes l.sheet.text) l.sheet.lines;
-  played : Played (election_with g.Q.Machine.kind_of g.Q.Machine.op g.Q.Machine.fed g.Q.Ratifier.protocol) g.Q.Ratifier.protocol
+  played : Played
+      (election_with g.Q.Machine.kind_of g.Q.Machine.op g.Q.Machine.fed g.Q.Ratifier.protocol)
+      g.Q.Ratifier.protocol
       (sizes_told l.memory_map) l.fn.bus l.fn.lines (string_bytes l.fn.sheet.text) l.fn.sheet.lines
       l.lines (string_bytes l.sheet.text) l.sheet.lines l.bus;
 }

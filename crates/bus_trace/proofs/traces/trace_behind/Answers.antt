@@ -10,6 +10,7 @@ returns-in-Ok g c =
     let P = g.Q.Ratifier.protocol in
     let X = election_with g.Q.Machine.kind_of g.Q.Machine.op g.Q.Machine.fed P in
     IfOk-weaker c.trace_from.result _ _
-    (λ answer h. begun X P (sizes_told c.memory_map_of.result) c.args.number c.args.first c.args.lines c.in-Ok.bus answer.outcome
+    (λ answer h. begun X P (sizes_told c.memory_map_of.result) c.args.number c.args.first
+    c.args.lines c.in-Ok.bus answer.outcome
     (string_bytes answer.text) c.in-Ok.ensures.made c.memory_map_of.ensures h)
     c.trace_from.ensures

@@ -7,10 +7,13 @@ pub overflow_mul-result : goal.overflow_mul-result
 overflow_mul-result g c =
     let q = c.match-first.presences in
     let few : AreFew q.0 q.1 = elim c.match-first.branch [
-      | in-Shape w ↦ subst (λ z. AreFew z.0 z.1) (sym w.presences-is) (few_apart c.args.first w.in-Shape.shape w.in-Shape.is c.requires)
-      | in-Cycle w ↦ subst (λ z. AreFew z.0 z.1) (sym w.presences-is) (few_again c.args.first w.in-Cycle.shape w.in-Cycle.is c.requires)
+      | in-Shape w ↦ subst (λ z. AreFew z.0 z.1) (sym w.presences-is)
+          (few_apart c.args.first w.in-Shape.shape w.in-Shape.is c.requires)
+      | in-Cycle w ↦ subst (λ z. AreFew z.0 z.1) (sym w.presences-is)
+          (few_again c.args.first w.in-Cycle.shape w.in-Cycle.is c.requires)
     ] in
-    let all = rows_fit q.0 q.1 (g.Q.Ratifier.protocol.width q.0.senders) c.width-row.result few (g.met.Q.Ratifier.narrow q.0.senders
+    let all = rows_fit q.0 q.1 (g.Q.Ratifier.protocol.width q.0.senders) c.width-row.result few
+    (g.met.Q.Ratifier.narrow q.0.senders
     (let z = few.senders in omega arith)) c.width-row.ensures.words in
     omega arith
 
@@ -18,10 +21,13 @@ pub overflow_add-result-2 : goal.overflow_add-result-2
 overflow_add-result-2 g c =
     let q = c.match-first.presences in
     let few : AreFew q.0 q.1 = elim c.match-first.branch [
-      | in-Shape w ↦ subst (λ z. AreFew z.0 z.1) (sym w.presences-is) (few_apart c.args.first w.in-Shape.shape w.in-Shape.is c.requires)
-      | in-Cycle w ↦ subst (λ z. AreFew z.0 z.1) (sym w.presences-is) (few_again c.args.first w.in-Cycle.shape w.in-Cycle.is c.requires)
+      | in-Shape w ↦ subst (λ z. AreFew z.0 z.1) (sym w.presences-is)
+          (few_apart c.args.first w.in-Shape.shape w.in-Shape.is c.requires)
+      | in-Cycle w ↦ subst (λ z. AreFew z.0 z.1) (sym w.presences-is)
+          (few_again c.args.first w.in-Cycle.shape w.in-Cycle.is c.requires)
     ] in
-    let all = rows_fit q.0 q.1 (g.Q.Ratifier.protocol.width q.0.senders) c.width-row.result few (g.met.Q.Ratifier.narrow q.0.senders
+    let all = rows_fit q.0 q.1 (g.Q.Ratifier.protocol.width q.0.senders) c.width-row.result few
+    (g.met.Q.Ratifier.narrow q.0.senders
     (let z = few.senders in omega arith)) c.width-row.ensures.words in
     let some = few.presences_few in
     omega arith

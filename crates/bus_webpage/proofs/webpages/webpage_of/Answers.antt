@@ -7,6 +7,8 @@ use Rattle.bus_webpage.proofs.webpages.webpage_of.Goals as goal
 pub returns : goal.returns
 returns c =
     let digits = c.deref.ensures ∙ c.in_ok-digits.ensures in
-    joined opening _ BETWEEN.now c.args.trace.now closing c.new-text.ensures.bytes c.in_ok-push_opening.ensures
-    (c.in_ok-push_str.ensures.bytes ∙ ap (λ (t : List ℕ). string_bytes c.push_opening.new.text ++ t) digits)
+    joined (opening c.args.purpose) _ BETWEEN.now c.args.trace.now (closing c.args.purpose)
+    c.new-text.ensures.bytes c.in_ok-push_opening.ensures
+    (c.in_ok-push_str.ensures.bytes
+    ∙ ap (λ (t : List ℕ). string_bytes c.push_opening.new.text ++ t) digits)
     c.in_ok-push_between.ensures c.in_ok-push_str-2.ensures.bytes c.in_ok-push_closing.ensures

@@ -7,8 +7,10 @@ use Rattle.bus_world.proofs.starts.new_receivers.Goals as goal
 pub loop-preserved : goal.loop-preserved
 loop-preserved c = (
   omega arith,
-  subst (AreNewReceivers c.args.shape.senders c.args.log.0 c.args.shape.log_words (c.loop.counter + 1)) (sym c.in_ok-push.ensures.items)
-      (one_more_receiver c.args.shape.senders c.args.log.0 c.args.shape.log_words c.loop.counter c.loop.receivers.items c.new.result c.loop.invariant.1 record {
+  subst (AreNewReceivers c.args.shape.senders c.args.log.0 c.args.shape.log_words
+      (c.loop.counter + 1)) (sym c.in_ok-push.ensures.items)
+      (one_more_receiver c.args.shape.senders c.args.log.0 c.args.shape.log_words c.loop.counter
+      c.loop.receivers.items c.new.result c.loop.invariant.1 record {
         senders_are = c.new.ensures.senders;
         log_is = c.new.ensures.at.0;
         length_is = c.new.ensures.at.1;
@@ -16,6 +18,7 @@ loop-preserved c = (
         known = c.new.ensures.start.0;
         place = c.new.ensures.start.1;
         going = c.new.ensures.start.2;
-        read = subst (λ z. HasRead z [] [] c.new.result.frames) c.new.ensures.senders c.new.ensures.received.read;
+        read = subst (λ z. HasRead z [] [] c.new.result.frames) c.new.ensures.senders
+            c.new.ensures.received.read;
       }),
 )

@@ -5,7 +5,11 @@ use Rattle.bus_batch.proofs.Batching.{body_least}
 use Rattle.bus_batch.proofs.batches.Batch.frame_len.Goals as goal
 
 pub returns-clause-least : goal.returns-clause-least
-returns-clause-least c = let some = body_least c.args.self.now.phase c.args.self.now.first c.args.self.now.messages c.requires in let e = c.body_len.ensures.len in omega arith
+returns-clause-least c =
+    let some =
+    body_least c.args.self.now.phase c.args.self.now.first c.args.self.now.messages c.requires in
+    let e = c.body_len.ensures.len in omega arith
 
 pub returns-clause-lawful : goal.returns-clause-lawful
-returns-clause-lawful c senders tenure owner below = is_frame c.args.self.now senders tenure c.requires (subst IsKept c.self.view_is c.self.invariant.0) owner below
+returns-clause-lawful c senders tenure owner below = is_frame c.args.self.now senders tenure
+    c.requires (subst IsKept c.self.view_is c.self.invariant.0) owner below

@@ -1,4 +1,5 @@
-use Rattle.std.proofs.Common.{rules, ◌≡◌, ◌+◌, ◌<◌, ◌≤◌, [], ◌∷◌, ◌++◌, length, All, arith, subst, sym, ap, ◌∙◌}
+use Rattle.std.proofs.Common.{rules, ◌≡◌, ◌+◌, ◌<◌, ◌≤◌, [], ◌∷◌, ◌++◌, length, All, arith, subst}
+use Rattle.std.proofs.Common.{sym, ap, ◌∙◌}
 use Rattle.std.specs.List.{flat_map}
 use Rattle.std.proofs.lemmas.List.{length-append, get_or_default}
 use Rattle.bus_register.specs.declared.limits.TheConstants.{MOST_BYTES, MOST_MESSAGES, NUMBERS}
@@ -21,7 +22,9 @@ spell-requires-clause-room c =
 pub invariant_of-self : goal.invariant_of-self
 invariant_of-self c =
     let items = c.push.ensures.items in
-    let long = ap (λ z. length z) items ∙ length-append c.self.inside.messages.items (c.in-Some.message ∷ []) in
+    let long =
+    ap (λ z. length z) items
+    ∙ length-append c.self.inside.messages.items (c.in-Some.message ∷ []) in
     let kept = c.self.invariant.0 in
     let most = c.self.invariant.2 in
     let full = c.is_full.ensures.value in
@@ -30,16 +33,30 @@ invariant_of-self c =
     let space : length c.self.inside.messages.items < MOST_MESSAGES = search rules in
     let same : c.in-Some.message ≡ c.args.bytes.now = search rules in
     let short : length c.args.bytes.now ≤ MOST_BYTES = search rules in
-    let each : All (λ byte. byte < 256) c.args.bytes.now = (λ k d below. subst (λ z. z < 256) (get_or_default c.args.bytes.now k 0 d below) (let e = c.type_inv.bytes k in search rules)) in
+    let each : All (λ byte. byte < 256) c.args.bytes.now =
+    (λ k d below. subst (λ z. z < 256) (get_or_default c.args.bytes.now k 0 d below)
+    (let e = c.type_inv.bytes k in search rules)) in
     let message = subst IsMessage (sym same) (short, each) in
-    let numbers : c.self.inside.first + length c.self.inside.messages.items < NUMBERS = search rules in
-    let own : Numbered = record { number = c.self.inside.first + c.len.result; message = c.in-Some.message } in
+    let numbers : c.self.inside.first + length c.self.inside.messages.items < NUMBERS =
+    search rules in
+    let own : Numbered = record {
+      number = c.self.inside.first + c.len.result;
+      message = c.in-Some.message;
+    } in
     let words = c.spell.ensures
     ∙ ap (λ z. z ++ message_words own) c.self.invariant.1
-    ∙ ap (λ z. flat_map message_words (numbered_messages c.self.inside.first c.self.inside.messages.items) ++ message_words (record { number = c.self.inside.first + z; message = c.in-Some.message })) c.len.ensures.value
+    ∙ ap (λ z.
+    flat_map message_words (numbered_messages c.self.inside.first c.self.inside.messages.items)
+    ++ message_words (record { number = c.self.inside.first + z; message = c.in-Some.message }))
+    c.len.ensures.value
     ∙ sym (words_put c.self.inside.first c.self.inside.messages.items c.in-Some.message)
     ∙ ap (λ z. flat_map message_words (numbered_messages c.self.inside.first z)) (sym items) in
-    let parts = ap (λ z. length z) c.spell.ensures ∙ length-append c.self.inside.body.items (message_words own) in
+    let parts =
+    ap (λ z. length z) c.spell.ensures
+    ∙ length-append c.self.inside.body.items (message_words own) in
     let more = length-message_words own in
-    let few = ap (λ z. length z) same in
-    (kept_put _ c.in-Some.message c.push.new.self.items kept is_open space numbers message items, words, omega arith)
+    let few = ap (λ z. length z) same in (
+      kept_put _ c.in-Some.message c.push.new.self.items kept is_open space numbers message items,
+      words,
+      omega arith,
+    )

@@ -17,12 +17,18 @@ use Rattle.bus_c.specs.contracts.seats.ReceiverSeat as Seat
 use Rattle.bus_c.proofs.seats.ReceiverSeat.TheSendSync.{the_send as seat}
 use Rattle.bus_c.specs.contracts.receiver.CReceiver.{the_row, the_type}
 
-held : (a : Global) (n : ℕ) (p : Ptr) (s : Option Seat.the_row.Denot) → Keyless (receiver_held a n p s)
+held : (a : Global) (n : ℕ) (p : Ptr) (s : Option Seat.the_row.Denot)
+    → Keyless (receiver_held a n p s)
 held a zero p s = tt
-held a (suc n) p s = λ x. (tt, (lies Seat.the_row seat p x, heap.frees.frees a (raw (lone Seat.the_row.mir)) p))
+held a (suc n) p s =
+    λ x. (tt, (lies Seat.the_row seat p x, heap.frees.frees a (raw (lone Seat.the_row.mir)) p))
 
 pub send : IsSend the_row
 send =
-    let all : AllSend (fields the_type) = (search sendable, (handle.the_field_send, (search sendable, tt))) in
+    let all : AllSend (fields the_type) = (
+      search sendable,
+      (handle.the_field_send, (search sendable, tt)),
+    ) in
     owning_send the_type all (λ d. held d.alloc d.live d.at d.held)
-    (λ k. quiet (to the_type) (exits_of k (fields the_type)) ((struct_send (shape the_type) all).leaving k))
+    (λ k. quiet (to the_type) (exits_of k (fields the_type))
+    ((struct_send (shape the_type) all).leaving k))

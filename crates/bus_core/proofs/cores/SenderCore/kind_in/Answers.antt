@@ -7,6 +7,9 @@ use Rattle.bus_core.proofs.cores.SenderCore.kind_in.Goals as goal
 
 pub returns-in-Does : goal.returns-in-Does
 returns-in-Does g c =
-    let X = election_with g.Q.Machine.kind_of g.Q.Machine.op g.Q.Machine.fed g.Q.Ratifier.protocol in
+    let X =
+    election_with g.Q.Machine.kind_of g.Q.Machine.op g.Q.Machine.fed g.Q.Ratifier.protocol in
     let v = c.args.self.now in
-    c.own_kind.ensures ∙ ap (λ z. (line X v z).kind) (sym (does_by v.reuse (situation_of X v.core) c.in-Does.doing (c.requires ∙ c.in-Does.is)))
+    c.own_kind.ensures
+    ∙ ap (λ z. (line X v z).kind)
+    (sym (does_by v.reuse (situation_of X v.core) c.in-Does.doing (c.requires ∙ c.in-Does.is)))

@@ -14,5 +14,9 @@ returns g c =
     let X = election_with g.Q.Machine.kind_of g.Q.Machine.op g.Q.Machine.fed P in
     let i = c.self.inside in
     let v : Sender (Elector g.row.Q.Denot) = record { core = i.turns; reuse = i.reuse } in
-    subst (λ y. IfSome ((line_now X y).op c.args.word) (λ o. LiesAt y (situation X y) (register o))) c.self.view_is
-    (line_lies X _ _ v c.self.invariant (electing_below _ _ i.turns c.is_kept.ensures) (λ t e at word. place_lies g.Q.Machine.op g.Q.Machine.fed P g.met.Q.Ratifier.laws g.met.Q.Ratifier.wordless i.turns.layout.rounds i.turns.layout.senders i.turns.me i.turns i.turns refl c.is_kept.ensures t t e refl at word _ refl) c.args.word)
+    subst (λ y. IfSome ((line_now X y).op c.args.word) (λ o. LiesAt y (situation X y) (register o)))
+    c.self.view_is
+    (line_lies X _ _ v c.self.invariant (electing_below _ _ i.turns c.is_kept.ensures)
+    (λ t e at word. place_lies g.Q.Machine.op g.Q.Machine.fed P g.met.Q.Ratifier.laws
+    g.met.Q.Ratifier.wordless i.turns.layout.rounds i.turns.layout.senders i.turns.me i.turns
+    i.turns refl c.is_kept.ensures t t e refl at word _ refl) c.args.word)

@@ -8,7 +8,8 @@ use Rattle.bus_core.proofs.cores.SenderCore.plain_is_away.Goals as goal
 
 pub returns : goal.returns
 returns g c plain =
-    let X = election_with g.Q.Machine.kind_of g.Q.Machine.op g.Q.Machine.fed g.Q.Ratifier.protocol in
+    let X =
+    election_with g.Q.Machine.kind_of g.Q.Machine.op g.Q.Machine.fed g.Q.Ratifier.protocol in
     let i = c.self.inside in
     let v : Sender (Elector g.row.Q.Denot) = record { core = i.turns; reuse = i.reuse } in
     subst (λ (y : Sender (Elector g.row.Q.Denot)). IsAway y.reuse) c.self.view_is

@@ -12,4 +12,5 @@ returns g c =
     let X = election_with g.Q.Machine.kind_of g.Q.Machine.op g.Q.Machine.fed P in
     let i = c.self.inside in
     let v : Sender (Elector g.row.Q.Denot) = record { core = i.turns; reuse = i.reuse } in
-    subst (λ y. RestIsTold X y (rest_at (line_now X y))) c.self.view_is (rest_told X _ _ v c.self.invariant)
+    subst (λ y. RestIsTold X y (rest_at (line_now X y))) c.self.view_is
+    (rest_told X _ _ v c.self.invariant)

@@ -8,9 +8,13 @@ use Rattle.bus_core.proofs.cores.SenderCore.step_in.Goals as goal
 
 pub returns-in-Does-clause-step : goal.returns-in-Does-clause-step
 returns-in-Does-clause-step g c =
-    let X = election_with g.Q.Machine.kind_of g.Q.Machine.op g.Q.Machine.fed g.Q.Ratifier.protocol in
+    let X =
+    election_with g.Q.Machine.kind_of g.Q.Machine.op g.Q.Machine.fed g.Q.Ratifier.protocol in
     let v = c.args.self.now in
-    c.own_step.ensures.step ∙ ap (λ z. (line X v z).op c.args.word) (sym (does_by v.reuse (situation_of X v.core) c.in-Does.doing (c.requires ∙ c.in-Does.is)))
+    c.own_step.ensures.step
+    ∙ ap (λ z. (line X v z).op c.args.word)
+    (sym (does_by v.reuse (situation_of X v.core) c.in-Does.doing (c.requires ∙ c.in-Does.is)))
 
 pub returns-in-Scans-clause-below : goal.returns-in-Scans-clause-below
-returns-in-Scans-clause-below g c = reclaimed_some _ _ _ _ c.self.view_is c.self.inside.reuse c.self.invariant _ c.reclaimer_step.ensures
+returns-in-Scans-clause-below g c = reclaimed_some _ _ _ _ c.self.view_is c.self.inside.reuse
+    c.self.invariant _ c.reclaimer_step.ensures

@@ -8,15 +8,24 @@ use Rattle.bus_core.proofs.cores.SenderCore.stores_word.Goals as goal
 
 pub returns-clause-stores : goal.returns-clause-stores
 returns-clause-stores g c is =
-    let X = election_with g.Q.Machine.kind_of g.Q.Machine.op g.Q.Machine.fed g.Q.Ratifier.protocol in
+    let X =
+    election_with g.Q.Machine.kind_of g.Q.Machine.op g.Q.Machine.fed g.Q.Ratifier.protocol in
     let i = c.self.inside in
     let v : Sender (Elector g.row.Q.Denot) = record { core = i.turns; reuse = i.reuse } in
-    let away = subst (λ (y : Sender (Elector g.row.Q.Denot)). IsAway y.reuse) (sym c.self.view_is) c.requires in
-    let at = log_start i.turns.layout i.reuse + c.stores_word.new.below + c.stores_word.new.behind in
+    let away = subst (λ (y : Sender (Elector g.row.Q.Denot)). IsAway y.reuse) (sym c.self.view_is)
+    c.requires in
+    let at =
+    log_start i.turns.layout i.reuse + c.stores_word.new.below + c.stores_word.new.behind in
     let place : c.log_start.result + c.stores_word.new.below + c.stores_word.new.behind ≡ at =
     ap (λ n. n + c.stores_word.new.below + c.stores_word.new.behind)
-    (c.log_start.ensures.at ∙ ap (λ (y : Sender (Elector g.row.Q.Denot)). log_start y.core.layout y.reuse) (sym c.self.view_is)) in
-    subst (λ y. StoresPlain X y (c.log_start.result + c.stores_word.new.below + c.stores_word.new.behind) c.frame_word.result) c.self.view_is
-    (word_stores X v _ _ _ (c.stores_word.ensures.word c.if-not-stores_word.false) (λ page. away_word i.reuse away _ page _)
-    (c.log_start.result + c.stores_word.new.below + c.stores_word.new.behind) place c.frame_word.result c.frame_word.ensures.word
+    (c.log_start.ensures.at
+    ∙ ap (λ (y : Sender (Elector g.row.Q.Denot)). log_start y.core.layout y.reuse)
+    (sym c.self.view_is)) in
+    subst (λ y. StoresPlain X y
+    (c.log_start.result + c.stores_word.new.below + c.stores_word.new.behind) c.frame_word.result)
+    c.self.view_is
+    (word_stores X v _ _ _ (c.stores_word.ensures.word c.if-not-stores_word.false)
+    (λ page. away_word i.reuse away _ page _)
+    (c.log_start.result + c.stores_word.new.below + c.stores_word.new.behind) place
+    c.frame_word.result c.frame_word.ensures.word
     c.frame_word.ensures.room c.frame_word.ensures.below)

@@ -19,5 +19,6 @@ returns g c got word =
     subst (λ y. FeedTells X y got word Going) c.self.view_is
     (subst (FeedTells X v got word) (plain_going X v plain got word)
     (line_told X _ _ v got word c.self.invariant
-    (chooses g.Q.Machine.kind_of g.Q.Machine.op g.Q.Machine.fed P g.met.Q.Machine.names_each_step g.met.Q.Ratifier.own_kinds g.met.Q.Ratifier.named_for i.turns c.is_kept.ensures)
+    (chooses g.Q.Machine.kind_of g.Q.Machine.op g.Q.Machine.fed P g.met.Q.Machine.names_each_step
+    g.met.Q.Ratifier.own_kinds g.met.Q.Ratifier.named_for i.turns c.is_kept.ensures)
     (plain_due X v plain word)))

@@ -9,9 +9,12 @@ use Rattle.bus_core.proofs.cores.SenderCore.wants_word_in.Goals as goal
 
 pub returns-in-Does : goal.returns-in-Does
 returns-in-Does g c =
-    let X = election_with g.Q.Machine.kind_of g.Q.Machine.op g.Q.Machine.fed g.Q.Ratifier.protocol in
+    let X =
+    election_with g.Q.Machine.kind_of g.Q.Machine.op g.Q.Machine.fed g.Q.Ratifier.protocol in
     let v = c.self.inside in
     let w = c.args.self.now in
-    c.wants_word.ensures ∙ sym (wants_own X (record { core = v.turns; reuse = v.reuse }) (situation_of X v.turns))
+    c.wants_word.ensures
+    ∙ sym (wants_own X (record { core = v.turns; reuse = v.reuse }) (situation_of X v.turns))
     ∙ ap (λ y. (line X y (Does (situation_of X y.core))).wants_word) c.self.view_is
-    ∙ ap (λ z. (line X w z).wants_word) (sym (does_by w.reuse (situation_of X w.core) c.in-Does.field-0 (c.requires ∙ c.in-Does.is)))
+    ∙ ap (λ z. (line X w z).wants_word)
+    (sym (does_by w.reuse (situation_of X w.core) c.in-Does.field-0 (c.requires ∙ c.in-Does.is)))

@@ -16,6 +16,11 @@ returns-clause-answered g c =
     let X = election_with g.Q.Machine.kind_of g.Q.Machine.op g.Q.Machine.fed P in
     let shape = c.self.inside.shape in
     let R = elections P shape.rounds in
-    let s = served g.Q.Machine.kind_of g.Q.Machine.op g.Q.Machine.fed P g.met.Q.Machine.names_each_step g.met.Q.Ratifier.own_kinds shape (c.election_is_lawful.ensures.lawful.laws shape.rounds) c.self.inside.reuse in
-    subst (λ n. OnOk c.mark_at.result (Answers X P c.args.self.now (Ask n End) answer.Closing c.mark_at.new.self)) c.from.ensures
-    (unit_more c.mark_at.result _ _ c.mark_at.ensures.happens (λ h. answers X P R _ s c.self.invariant c.args.self.now c.self.view_is (Ask c.from.result End) answer.Closing c.mark_at.new.self h tt tt))
+    let s = served g.Q.Machine.kind_of g.Q.Machine.op g.Q.Machine.fed P
+    g.met.Q.Machine.names_each_step g.met.Q.Ratifier.own_kinds shape
+    (c.election_is_lawful.ensures.lawful.laws shape.rounds) c.self.inside.reuse in
+    subst (λ n. OnOk c.mark_at.result
+    (Answers X P c.args.self.now (Ask n End) answer.Closing c.mark_at.new.self)) c.from.ensures
+    (unit_more c.mark_at.result _ _ c.mark_at.ensures.happens
+    (λ h. answers X P R _ s c.self.invariant c.args.self.now c.self.view_is (Ask c.from.result End)
+    answer.Closing c.mark_at.new.self h tt tt))

@@ -1,4 +1,5 @@
-use Rattle.std.proofs.Common.{◌≡◌, ◌<◌, ◌≤◌, length, take, slice_get, Some, subst, sym, ap, ◌∙◌, arith}
+use Rattle.std.proofs.Common.{◌≡◌, ◌<◌, ◌≤◌, length, take, slice_get, Some, subst, sym, ap, ◌∙◌}
+use Rattle.std.proofs.Common.{arith}
 use Rattle.std.proofs.lemmas.List.{length-take}
 use Rattle.std.proofs.lemmas.Option.{same_Some}
 use Rattle.bus_batch.specs.Frames.{AreFrames, log_pieces, order_in}
@@ -18,13 +19,19 @@ slice_bounds-read_front-end g c =
     let X = election_with g.Q.Machine.kind_of g.Q.Machine.op g.Q.Machine.fed P in
     let shape = c.self.inside.shape in
     let R = elections P shape.rounds in
-    let s = served g.Q.Machine.kind_of g.Q.Machine.op g.Q.Machine.fed P g.met.Q.Machine.names_each_step g.met.Q.Ratifier.own_kinds shape (c.election_is_lawful.ensures.lawful.laws shape.rounds) c.self.inside.reuse in
-    let many : c.args.receiver < length c.self.inside.receivers.items = subst (λ y. c.args.receiver < length y.receivers) (sym c.self.view_is) c.requires in
-    let own = there c.self.inside.receivers.items c.args.receiver c.index.result.now many c.index.ensures in
+    let s = served g.Q.Machine.kind_of g.Q.Machine.op g.Q.Machine.fed P
+    g.met.Q.Machine.names_each_step g.met.Q.Ratifier.own_kinds shape
+    (c.election_is_lawful.ensures.lawful.laws shape.rounds) c.self.inside.reuse in
+    let many : c.args.receiver < length c.self.inside.receivers.items =
+    subst (λ y. c.args.receiver < length y.receivers) (sym c.self.view_is) c.requires in
+    let own =
+    there c.self.inside.receivers.items c.args.receiver c.index.result.now many c.index.ensures in
     let within = place_within X R _ s c.self.invariant c.args.receiver c.index.result.now own in
     let place_is : c.place-place.result ≡ c.index.result.now.place = c.place-place.ensures.place in
     let fits : c.place-place.result ≤ length c.log.result.now =
-    subst (λ k. k ≤ length c.log.result.now) (sym place_is) (subst (λ l. c.index.result.now.place ≤ length l) (sym c.log.ensures) (subst (λ y. c.index.result.now.place ≤ length (log_of y)) c.self.view_is within)) in
+    subst (λ k. k ≤ length c.log.result.now) (sym place_is)
+    (subst (λ l. c.index.result.now.place ≤ length l) (sym c.log.ensures)
+    (subst (λ y. c.index.result.now.place ≤ length (log_of y)) c.self.view_is within)) in
     let size = length-take c.place-place.result c.log.result.now in
     omega arith
 
@@ -34,14 +41,27 @@ returns-in-Ok-clause-answered g c trails leads =
     let X = election_with g.Q.Machine.kind_of g.Q.Machine.op g.Q.Machine.fed P in
     let shape = c.self.inside.shape in
     let R = elections P shape.rounds in
-    let s = served g.Q.Machine.kind_of g.Q.Machine.op g.Q.Machine.fed P g.met.Q.Machine.names_each_step g.met.Q.Ratifier.own_kinds shape (c.election_is_lawful.ensures.lawful.laws shape.rounds) c.self.inside.reuse in
-    let many : c.args.receiver < length c.self.inside.receivers.items = subst (λ y. c.args.receiver < length y.receivers) (sym c.self.view_is) c.requires in
-    let own = there c.self.inside.receivers.items c.args.receiver c.index.result.now many c.index.ensures in
+    let s = served g.Q.Machine.kind_of g.Q.Machine.op g.Q.Machine.fed P
+    g.met.Q.Machine.names_each_step g.met.Q.Ratifier.own_kinds shape
+    (c.election_is_lawful.ensures.lawful.laws shape.rounds) c.self.inside.reuse in
+    let many : c.args.receiver < length c.self.inside.receivers.items =
+    subst (λ y. c.args.receiver < length y.receivers) (sym c.self.view_is) c.requires in
+    let own =
+    there c.self.inside.receivers.items c.args.receiver c.index.result.now many c.index.ensures in
     let within = place_within X R _ s c.self.invariant c.args.receiver c.index.result.now own in
     let place_is : c.place-place.result ≡ c.index.result.now.place = c.place-place.ensures.place in
     let fits : c.place-place.result ≤ length c.log.result.now =
-    subst (λ k. k ≤ length c.log.result.now) (sym place_is) (subst (λ l. c.index.result.now.place ≤ length l) (sym c.log.ensures) (subst (λ y. c.index.result.now.place ≤ length (log_of y)) c.self.view_is within)) in
-    heard X P R _ s c.self.invariant c.args.self.now c.self.view_is c.args.receiver c.requires _ (λ frames v lawful words_are here.
-    let same = same_Some _ _ (sym (subst (λ y. slice_get y.receivers c.args.receiver ≡ Some c.index.result.now) c.self.view_is own) ∙ here) in
-    front_given shape.senders c.place-place.result frames c.log.result.now _ _ (subst (λ n. AreFrames n frames) (senders_are P shape c.self.inside.reuse) (subst (λ y. AreFrames y.layout.senders frames) (sym c.self.view_is) lawful)) (c.log.ensures ∙ words_are) fits c.in-Ok.ensures.read
-    ∙ ap (λ k. order_in (take k (log_pieces frames))) (place_is ∙ ap (λ w. w.place) same)) trails leads
+    subst (λ k. k ≤ length c.log.result.now) (sym place_is)
+    (subst (λ l. c.index.result.now.place ≤ length l) (sym c.log.ensures)
+    (subst (λ y. c.index.result.now.place ≤ length (log_of y)) c.self.view_is within)) in
+    heard X P R _ s c.self.invariant c.args.self.now c.self.view_is c.args.receiver c.requires _
+    (λ frames v lawful words_are here.
+    let same = same_Some _ _
+    (sym (subst (λ y. slice_get y.receivers c.args.receiver ≡ Some c.index.result.now)
+    c.self.view_is own) ∙ here) in
+    front_given shape.senders c.place-place.result frames c.log.result.now _ _
+    (subst (λ n. AreFrames n frames) (senders_are P shape c.self.inside.reuse)
+    (subst (λ y. AreFrames y.layout.senders frames) (sym c.self.view_is) lawful))
+    (c.log.ensures ∙ words_are) fits c.in-Ok.ensures.read
+    ∙ ap (λ k. order_in (take k (log_pieces frames))) (place_is ∙ ap (λ w. w.place) same)) trails
+    leads

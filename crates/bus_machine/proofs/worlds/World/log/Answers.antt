@@ -12,8 +12,12 @@ overflow_sub-log g c =
     let X = election_with g.Q.Machine.kind_of g.Q.Machine.op g.Q.Machine.fed P in
     let shape = c.self.inside.shape in
     let R = elections P shape.rounds in
-    let s = served g.Q.Machine.kind_of g.Q.Machine.op g.Q.Machine.fed P g.met.Q.Machine.names_each_step g.met.Q.Ratifier.own_kinds shape (c.election_is_lawful.ensures.lawful.laws shape.rounds) c.self.inside.reuse in
-    let within = (word_there X R _ s c.self.invariant c.as_slice-words.result.now c.as_slice-words.ensures shape.log_words (sym (capacity_of P shape c.self.inside.reuse))).1 in
+    let s = served g.Q.Machine.kind_of g.Q.Machine.op g.Q.Machine.fed P
+    g.met.Q.Machine.names_each_step g.met.Q.Ratifier.own_kinds shape
+    (c.election_is_lawful.ensures.lawful.laws shape.rounds) c.self.inside.reuse in
+    let within =
+    (word_there X R _ s c.self.invariant c.as_slice-words.result.now c.as_slice-words.ensures
+    shape.log_words (sym (capacity_of P shape c.self.inside.reuse))).1 in
     omega arith
 
 pub bounds-words-0 : goal.bounds-words-0
@@ -22,8 +26,12 @@ bounds-words-0 g c =
     let X = election_with g.Q.Machine.kind_of g.Q.Machine.op g.Q.Machine.fed P in
     let shape = c.self.inside.shape in
     let R = elections P shape.rounds in
-    let s = served g.Q.Machine.kind_of g.Q.Machine.op g.Q.Machine.fed P g.met.Q.Machine.names_each_step g.met.Q.Ratifier.own_kinds shape (c.election_is_lawful.ensures.lawful.laws shape.rounds) c.self.inside.reuse in
-    let within = (word_there X R _ s c.self.invariant c.as_slice-words.result.now c.as_slice-words.ensures shape.log_words (sym (capacity_of P shape c.self.inside.reuse))).0 in
+    let s = served g.Q.Machine.kind_of g.Q.Machine.op g.Q.Machine.fed P
+    g.met.Q.Machine.names_each_step g.met.Q.Ratifier.own_kinds shape
+    (c.election_is_lawful.ensures.lawful.laws shape.rounds) c.self.inside.reuse in
+    let within =
+    (word_there X R _ s c.self.invariant c.as_slice-words.result.now c.as_slice-words.ensures
+    shape.log_words (sym (capacity_of P shape c.self.inside.reuse))).0 in
     omega arith
 
 pub overflow_add-result : goal.overflow_add-result
@@ -32,8 +40,11 @@ overflow_add-result g c =
     let X = election_with g.Q.Machine.kind_of g.Q.Machine.op g.Q.Machine.fed P in
     let shape = c.self.inside.shape in
     let R = elections P shape.rounds in
-    let s = served g.Q.Machine.kind_of g.Q.Machine.op g.Q.Machine.fed P g.met.Q.Machine.names_each_step g.met.Q.Ratifier.own_kinds shape (c.election_is_lawful.ensures.lawful.laws shape.rounds) c.self.inside.reuse in
-    let within = log_within X R _ s c.self.invariant c.as_slice-words.result.now c.as_slice-words.ensures shape.log_words (sym (capacity_of P shape c.self.inside.reuse)) in
+    let s = served g.Q.Machine.kind_of g.Q.Machine.op g.Q.Machine.fed P
+    g.met.Q.Machine.names_each_step g.met.Q.Ratifier.own_kinds shape
+    (c.election_is_lawful.ensures.lawful.laws shape.rounds) c.self.inside.reuse in
+    let within = log_within X R _ s c.self.invariant c.as_slice-words.result.now
+    c.as_slice-words.ensures shape.log_words (sym (capacity_of P shape c.self.inside.reuse)) in
     omega arith
 
 pub slice_bounds-result-end : goal.slice_bounds-result-end
@@ -42,8 +53,11 @@ slice_bounds-result-end g c =
     let X = election_with g.Q.Machine.kind_of g.Q.Machine.op g.Q.Machine.fed P in
     let shape = c.self.inside.shape in
     let R = elections P shape.rounds in
-    let s = served g.Q.Machine.kind_of g.Q.Machine.op g.Q.Machine.fed P g.met.Q.Machine.names_each_step g.met.Q.Ratifier.own_kinds shape (c.election_is_lawful.ensures.lawful.laws shape.rounds) c.self.inside.reuse in
-    let within = log_within X R _ s c.self.invariant c.as_slice-words.result.now c.as_slice-words.ensures shape.log_words (sym (capacity_of P shape c.self.inside.reuse)) in
+    let s = served g.Q.Machine.kind_of g.Q.Machine.op g.Q.Machine.fed P
+    g.met.Q.Machine.names_each_step g.met.Q.Ratifier.own_kinds shape
+    (c.election_is_lawful.ensures.lawful.laws shape.rounds) c.self.inside.reuse in
+    let within = log_within X R _ s c.self.invariant c.as_slice-words.result.now
+    c.as_slice-words.ensures shape.log_words (sym (capacity_of P shape c.self.inside.reuse)) in
     omega arith
 
 pub returns : goal.returns
@@ -52,7 +66,11 @@ returns g c =
     let X = election_with g.Q.Machine.kind_of g.Q.Machine.op g.Q.Machine.fed P in
     let shape = c.self.inside.shape in
     let R = elections P shape.rounds in
-    let s = served g.Q.Machine.kind_of g.Q.Machine.op g.Q.Machine.fed P g.met.Q.Machine.names_each_step g.met.Q.Ratifier.own_kinds shape (c.election_is_lawful.ensures.lawful.laws shape.rounds) c.self.inside.reuse in
+    let s = served g.Q.Machine.kind_of g.Q.Machine.op g.Q.Machine.fed P
+    g.met.Q.Machine.names_each_step g.met.Q.Ratifier.own_kinds shape
+    (c.election_is_lawful.ensures.lawful.laws shape.rounds) c.self.inside.reuse in
     let words = c.as_slice-words.result.now in
     let at = length words - shape.log_words in
-    subst (λ y. take (at + slice_index words 0 - at) (drop at words) ≡ log_of y) c.self.view_is (log_is X R _ s c.self.invariant words c.as_slice-words.ensures shape.log_words (sym (capacity_of P shape c.self.inside.reuse)))
+    subst (λ y. take (at + slice_index words 0 - at) (drop at words) ≡ log_of y) c.self.view_is
+    (log_is X R _ s c.self.invariant words c.as_slice-words.ensures shape.log_words
+    (sym (capacity_of P shape c.self.inside.reuse)))

@@ -13,7 +13,9 @@ log_word-log-requires-clause-width g c =
     let P = g.Q.Ratifier.protocol in
     let X = election_with g.Q.Machine.kind_of g.Q.Machine.op g.Q.Machine.fed P in
     let served = c.in_default.ensures.served refl in
-    let few = few_words c.args.shape.senders c.args.shape.rounds (P.width c.args.shape.senders) served.senders.1 served.rounds.1 (g.met.Q.Ratifier.narrow c.args.shape.senders (let k = served.senders.1 in omega arith)) in
+    let few = few_words c.args.shape.senders c.args.shape.rounds (P.width c.args.shape.senders)
+    served.senders.1 served.rounds.1
+    (g.met.Q.Ratifier.narrow c.args.shape.senders (let k = served.senders.1 in omega arith)) in
     let width_is = c.width-width.ensures.words in
     omega arith
 
@@ -22,18 +24,40 @@ invariant_of-result g c =
     let P = g.Q.Ratifier.protocol in
     let X = election_with g.Q.Machine.kind_of g.Q.Machine.op g.Q.Machine.fed P in
     let served = c.in_default.ensures.served refl in
-    let new = made_new P c.args.shape c.args.reuse c.width-width.result c.log_word-log.result c.width-width.ensures.protocol c.log_word-log.ensures.at c.in_ok-bases.bases c.in_ok-bases.ensures.are _ (ap Some c.in_ok-home.ensures) c.in_ok-cells.cells c.in_ok-cells.ensures c.in_ok-senders.senders.items c.in_ok-senders.ensures c.args.shape.receivers c.in_ok-receivers.receivers.items c.in_ok-receivers.ensures _ refl _ (ap (map (λ s. s.0)) c.new-2.ensures) in
-    made_held X P c.args.shape c.args.reuse served c.requires _ new refl refl c.in_ok-senders.ensures.many_are
+    let new = made_new P c.args.shape c.args.reuse c.width-width.result c.log_word-log.result
+    c.width-width.ensures.protocol c.log_word-log.ensures.at c.in_ok-bases.bases
+    c.in_ok-bases.ensures.are _ (ap Some c.in_ok-home.ensures) c.in_ok-cells.cells
+    c.in_ok-cells.ensures c.in_ok-senders.senders.items c.in_ok-senders.ensures
+    c.args.shape.receivers c.in_ok-receivers.receivers.items c.in_ok-receivers.ensures _ refl _
+    (ap (map (λ s. s.0)) c.new-2.ensures) in
+    made_held X P c.args.shape c.args.reuse served c.requires _ new refl refl
+    c.in_ok-senders.ensures.many_are
 
 pub returns-clause-made : goal.returns-clause-made
 returns-clause-made g c =
     let P = g.Q.Ratifier.protocol in
     let X = election_with g.Q.Machine.kind_of g.Q.Machine.op g.Q.Machine.fed P in
     let served = c.in_default.ensures.served refl in
-    let new = made_new P c.args.shape c.args.reuse c.width-width.result c.log_word-log.result c.width-width.ensures.protocol c.log_word-log.ensures.at c.in_ok-bases.bases c.in_ok-bases.ensures.are _ (ap Some c.in_ok-home.ensures) c.in_ok-cells.cells c.in_ok-cells.ensures c.in_ok-senders.senders.items c.in_ok-senders.ensures c.args.shape.receivers c.in_ok-receivers.receivers.items c.in_ok-receivers.ensures _ refl _ (ap (map (λ s. s.0)) c.new-2.ensures) in
-    record { served = served; layout = refl; rows = refl; bases_are = c.in_ok-bases.ensures.bases; new = new; senders = c.in_ok-senders.ensures.many_are; receivers = c.in_ok-receivers.ensures.many_are; begins = New _ new }
+    let new = made_new P c.args.shape c.args.reuse c.width-width.result c.log_word-log.result
+    c.width-width.ensures.protocol c.log_word-log.ensures.at c.in_ok-bases.bases
+    c.in_ok-bases.ensures.are _ (ap Some c.in_ok-home.ensures) c.in_ok-cells.cells
+    c.in_ok-cells.ensures c.in_ok-senders.senders.items c.in_ok-senders.ensures
+    c.args.shape.receivers c.in_ok-receivers.receivers.items c.in_ok-receivers.ensures _ refl _
+    (ap (map (λ s. s.0)) c.new-2.ensures) in
+    record {
+      served = served;
+      layout = refl;
+      rows = refl;
+      bases_are = c.in_ok-bases.ensures.bases;
+      new = new;
+      senders = c.in_ok-senders.ensures.many_are;
+      receivers = c.in_ok-receivers.ensures.many_are;
+      begins = New _ new;
+    }
 
 pub returns-in_err-receivers-clause-fault : goal.returns-in_err-receivers-clause-fault
 returns-in_err-receivers-clause-fault g c =
-    passed_up _ _ (MakeRefusedAfter c.args.shape c.args.reuse (option_copied c.args.page)) c.from_residual-in_err-receivers.ensures
-    (no_memory_after c.args.shape c.args.reuse (option_copied c.args.page) (c.in_default.ensures.served refl) c.in_ok-bases.ensures.follows)
+    passed_up _ _ (MakeRefusedAfter c.args.shape c.args.reuse (option_copied c.args.page))
+    c.from_residual-in_err-receivers.ensures
+    (no_memory_after c.args.shape c.args.reuse (option_copied c.args.page)
+    (c.in_default.ensures.served refl) c.in_ok-bases.ensures.follows)

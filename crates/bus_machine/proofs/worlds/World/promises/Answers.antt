@@ -22,7 +22,9 @@ returns-clause-happened g c =
     let X = election_with g.Q.Machine.kind_of g.Q.Machine.op g.Q.Machine.fed P in
     let shape = c.self.inside.shape in
     let R = elections P shape.rounds in
-    let s = served g.Q.Machine.kind_of g.Q.Machine.op g.Q.Machine.fed P g.met.Q.Machine.names_each_step g.met.Q.Ratifier.own_kinds shape (c.election_is_lawful.ensures.lawful.laws shape.rounds) c.self.inside.reuse in
+    let s = served g.Q.Machine.kind_of g.Q.Machine.op g.Q.Machine.fed P
+    g.met.Q.Machine.names_each_step g.met.Q.Ratifier.own_kinds shape
+    (c.election_is_lawful.ensures.lawful.laws shape.rounds) c.self.inside.reuse in
     happened X P R _ s c.self.invariant c.args.self.now c.self.view_is
 
 pub returns-clause-promised : goal.returns-clause-promised
@@ -31,7 +33,9 @@ returns-clause-promised g c =
     let X = election_with g.Q.Machine.kind_of g.Q.Machine.op g.Q.Machine.fed P in
     let shape = c.self.inside.shape in
     let R = elections P shape.rounds in
-    let s = served g.Q.Machine.kind_of g.Q.Machine.op g.Q.Machine.fed P g.met.Q.Machine.names_each_step g.met.Q.Ratifier.own_kinds shape (c.election_is_lawful.ensures.lawful.laws shape.rounds) c.self.inside.reuse in
+    let s = served g.Q.Machine.kind_of g.Q.Machine.op g.Q.Machine.fed P
+    g.met.Q.Machine.names_each_step g.met.Q.Ratifier.own_kinds shape
+    (c.election_is_lawful.ensures.lawful.laws shape.rounds) c.self.inside.reuse in
     promised X P R _ s c.self.invariant c.args.self.now c.self.view_is
 
 pub returns-clause-losses : goal.returns-clause-losses
@@ -40,7 +44,9 @@ returns-clause-losses g c =
     let X = election_with g.Q.Machine.kind_of g.Q.Machine.op g.Q.Machine.fed P in
     let shape = c.self.inside.shape in
     let R = elections P shape.rounds in
-    let s = served g.Q.Machine.kind_of g.Q.Machine.op g.Q.Machine.fed P g.met.Q.Machine.names_each_step g.met.Q.Ratifier.own_kinds shape (c.election_is_lawful.ensures.lawful.laws shape.rounds) c.self.inside.reuse in
+    let s = served g.Q.Machine.kind_of g.Q.Machine.op g.Q.Machine.fed P
+    g.met.Q.Machine.names_each_step g.met.Q.Ratifier.own_kinds shape
+    (c.election_is_lawful.ensures.lawful.laws shape.rounds) c.self.inside.reuse in
     losses_seen X P R _ s c.self.invariant c.args.self.now c.self.view_is
 
 pub returns-clause-bounded : goal.returns-clause-bounded
@@ -49,8 +55,12 @@ returns-clause-bounded g c =
     let X = election_with g.Q.Machine.kind_of g.Q.Machine.op g.Q.Machine.fed P in
     let shape = c.self.inside.shape in
     let R = elections P shape.rounds in
-    let s = served g.Q.Machine.kind_of g.Q.Machine.op g.Q.Machine.fed P g.met.Q.Machine.names_each_step g.met.Q.Ratifier.own_kinds shape (c.election_is_lawful.ensures.lawful.laws shape.rounds) c.self.inside.reuse in
+    let s = served g.Q.Machine.kind_of g.Q.Machine.op g.Q.Machine.fed P
+    g.met.Q.Machine.names_each_step g.met.Q.Ratifier.own_kinds shape
+    (c.election_is_lawful.ensures.lawful.laws shape.rounds) c.self.inside.reuse in
     let l = layout_of P shape c.self.inside.reuse in
-    steps_bounded X P R _ s c.self.invariant c.args.self.now c.self.view_is (λ x. election_bound P.steps x.senders x.rounds)
+    steps_bounded X P R _ s c.self.invariant c.args.self.now c.self.view_is
+    (λ x. election_bound P.steps x.senders x.rounds)
     (bound_is P shape c.self.inside.reuse) (λ e. refl)
-    (λ p at e belongs. c.election_is_lawful.ensures.lawful.turns_last shape.rounds l.senders p at e belongs)
+    (λ p at e belongs.
+    c.election_is_lawful.ensures.lawful.turns_last shape.rounds l.senders p at e belongs)

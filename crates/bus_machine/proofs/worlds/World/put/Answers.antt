@@ -15,6 +15,12 @@ returns-clause-answered g c =
     let X = election_with g.Q.Machine.kind_of g.Q.Machine.op g.Q.Machine.fed P in
     let shape = c.self.inside.shape in
     let R = elections P shape.rounds in
-    let s = served g.Q.Machine.kind_of g.Q.Machine.op g.Q.Machine.fed P g.met.Q.Machine.names_each_step g.met.Q.Ratifier.own_kinds shape (c.election_is_lawful.ensures.lawful.laws shape.rounds) c.self.inside.reuse in
-    subst (λ n. IfOk c.put_at.result (λ number. Answers X P c.args.self.now (Put n c.args.bytes.now) (answer.Number number) c.put_at.new.self)) c.from.ensures
-    (ok_more c.put_at.result _ _ c.put_at.ensures.happens (λ number h. answers X P R _ s c.self.invariant c.args.self.now c.self.view_is (Put c.from.result c.args.bytes.now) (answer.Number number) c.put_at.new.self h tt tt))
+    let s = served g.Q.Machine.kind_of g.Q.Machine.op g.Q.Machine.fed P
+    g.met.Q.Machine.names_each_step g.met.Q.Ratifier.own_kinds shape
+    (c.election_is_lawful.ensures.lawful.laws shape.rounds) c.self.inside.reuse in
+    subst (λ n. IfOk c.put_at.result (λ number.
+    Answers X P c.args.self.now (Put n c.args.bytes.now) (answer.Number number) c.put_at.new.self))
+    c.from.ensures
+    (ok_more c.put_at.result _ _ c.put_at.ensures.happens
+    (λ number h. answers X P R _ s c.self.invariant c.args.self.now c.self.view_is
+    (Put c.from.result c.args.bytes.now) (answer.Number number) c.put_at.new.self h tt tt))

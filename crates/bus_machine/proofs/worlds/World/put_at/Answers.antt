@@ -14,9 +14,13 @@ put_to-requires g c =
     let X = election_with g.Q.Machine.kind_of g.Q.Machine.op g.Q.Machine.fed P in
     let shape = c.self.inside.shape in
     let R = elections P shape.rounds in
-    let s = served g.Q.Machine.kind_of g.Q.Machine.op g.Q.Machine.fed P g.met.Q.Machine.names_each_step g.met.Q.Ratifier.own_kinds shape (c.election_is_lawful.ensures.lawful.laws shape.rounds) c.self.inside.reuse in
-    let many = senders_many X _ c.self.invariant c.args.self.now c.self.view_is c.args.sender c.in_ok-goes_on.ensures.there in
-    let at = there c.self.inside.senders.items c.args.sender c.index_mut.result.now many c.index_mut.ensures.value in
+    let s = served g.Q.Machine.kind_of g.Q.Machine.op g.Q.Machine.fed P
+    g.met.Q.Machine.names_each_step g.met.Q.Ratifier.own_kinds shape
+    (c.election_is_lawful.ensures.lawful.laws shape.rounds) c.self.inside.reuse in
+    let many = senders_many X _ c.self.invariant c.args.self.now c.self.view_is c.args.sender
+    c.in_ok-goes_on.ensures.there in
+    let at = there c.self.inside.senders.items c.args.sender c.index_mut.result.now many
+    c.index_mut.ensures.value in
     numbers X R _ s c.self.invariant c.args.sender c.index_mut.result.now at
 
 pub invariant_of-self : goal.invariant_of-self
@@ -25,10 +29,17 @@ invariant_of-self g c =
     let X = election_with g.Q.Machine.kind_of g.Q.Machine.op g.Q.Machine.fed P in
     let shape = c.self.inside.shape in
     let R = elections P shape.rounds in
-    let s = served g.Q.Machine.kind_of g.Q.Machine.op g.Q.Machine.fed P g.met.Q.Machine.names_each_step g.met.Q.Ratifier.own_kinds shape (c.election_is_lawful.ensures.lawful.laws shape.rounds) c.self.inside.reuse in
-    let many = senders_many X _ c.self.invariant c.args.self.now c.self.view_is c.args.sender c.in_ok-goes_on.ensures.there in
-    let at = there c.self.inside.senders.items c.args.sender c.index_mut.result.now many c.index_mut.ensures.value in
-    put_sits X _ c.self.invariant c.args.self.now c.self.view_is c.args.sender c.index_mut.result.now at c.in_ok-goes_on.ensures.goes c.args.bytes.now (small_bytes c.args.bytes.now (λ i. omega (arith, c.type_inv.bytes i))) c.put_to.new.core c.put_to.result c.put_to.ensures.taken c.put_to.ensures.fault c.put_to.ensures.refused
+    let s = served g.Q.Machine.kind_of g.Q.Machine.op g.Q.Machine.fed P
+    g.met.Q.Machine.names_each_step g.met.Q.Ratifier.own_kinds shape
+    (c.election_is_lawful.ensures.lawful.laws shape.rounds) c.self.inside.reuse in
+    let many = senders_many X _ c.self.invariant c.args.self.now c.self.view_is c.args.sender
+    c.in_ok-goes_on.ensures.there in
+    let at = there c.self.inside.senders.items c.args.sender c.index_mut.result.now many
+    c.index_mut.ensures.value in
+    put_sits X _ c.self.invariant c.args.self.now c.self.view_is c.args.sender
+    c.index_mut.result.now at c.in_ok-goes_on.ensures.goes c.args.bytes.now
+    (small_bytes c.args.bytes.now (λ i. omega (arith, c.type_inv.bytes i))) c.put_to.new.core
+    c.put_to.result c.put_to.ensures.taken c.put_to.ensures.fault c.put_to.ensures.refused
 
 pub returns-clause-happens : goal.returns-clause-happens
 returns-clause-happens g c =
@@ -36,10 +47,17 @@ returns-clause-happens g c =
     let X = election_with g.Q.Machine.kind_of g.Q.Machine.op g.Q.Machine.fed P in
     let shape = c.self.inside.shape in
     let R = elections P shape.rounds in
-    let s = served g.Q.Machine.kind_of g.Q.Machine.op g.Q.Machine.fed P g.met.Q.Machine.names_each_step g.met.Q.Ratifier.own_kinds shape (c.election_is_lawful.ensures.lawful.laws shape.rounds) c.self.inside.reuse in
-    let many = senders_many X _ c.self.invariant c.args.self.now c.self.view_is c.args.sender c.in_ok-goes_on.ensures.there in
-    let at = there c.self.inside.senders.items c.args.sender c.index_mut.result.now many c.index_mut.ensures.value in
-    put_happens X _ c.self.invariant c.args.self.now c.self.view_is c.args.sender c.index_mut.result.now at c.in_ok-goes_on.ensures.goes c.args.bytes.now (small_bytes c.args.bytes.now (λ i. omega (arith, c.type_inv.bytes i))) c.put_to.new.core c.put_to.result c.put_to.ensures.taken
+    let s = served g.Q.Machine.kind_of g.Q.Machine.op g.Q.Machine.fed P
+    g.met.Q.Machine.names_each_step g.met.Q.Ratifier.own_kinds shape
+    (c.election_is_lawful.ensures.lawful.laws shape.rounds) c.self.inside.reuse in
+    let many = senders_many X _ c.self.invariant c.args.self.now c.self.view_is c.args.sender
+    c.in_ok-goes_on.ensures.there in
+    let at = there c.self.inside.senders.items c.args.sender c.index_mut.result.now many
+    c.index_mut.ensures.value in
+    put_happens X _ c.self.invariant c.args.self.now c.self.view_is c.args.sender
+    c.index_mut.result.now at c.in_ok-goes_on.ensures.goes c.args.bytes.now
+    (small_bytes c.args.bytes.now (λ i. omega (arith, c.type_inv.bytes i))) c.put_to.new.core
+    c.put_to.result c.put_to.ensures.taken
 
 pub returns-clause-refused : goal.returns-clause-refused
 returns-clause-refused g c =
@@ -47,11 +65,21 @@ returns-clause-refused g c =
     let X = election_with g.Q.Machine.kind_of g.Q.Machine.op g.Q.Machine.fed P in
     let shape = c.self.inside.shape in
     let R = elections P shape.rounds in
-    let s = served g.Q.Machine.kind_of g.Q.Machine.op g.Q.Machine.fed P g.met.Q.Machine.names_each_step g.met.Q.Ratifier.own_kinds shape (c.election_is_lawful.ensures.lawful.laws shape.rounds) c.self.inside.reuse in
-    let many = senders_many X _ c.self.invariant c.args.self.now c.self.view_is c.args.sender c.in_ok-goes_on.ensures.there in
-    let at = there c.self.inside.senders.items c.args.sender c.index_mut.result.now many c.index_mut.ensures.value in
-    put_refuses X _ c.self.invariant c.args.self.now c.self.view_is c.args.sender c.index_mut.result.now at c.in_ok-goes_on.ensures.goes c.args.bytes.now (small_bytes c.args.bytes.now (λ i. omega (arith, c.type_inv.bytes i))) c.put_to.new.core c.put_to.result c.put_to.ensures.fault c.put_to.ensures.refused
+    let s = served g.Q.Machine.kind_of g.Q.Machine.op g.Q.Machine.fed P
+    g.met.Q.Machine.names_each_step g.met.Q.Ratifier.own_kinds shape
+    (c.election_is_lawful.ensures.lawful.laws shape.rounds) c.self.inside.reuse in
+    let many = senders_many X _ c.self.invariant c.args.self.now c.self.view_is c.args.sender
+    c.in_ok-goes_on.ensures.there in
+    let at = there c.self.inside.senders.items c.args.sender c.index_mut.result.now many
+    c.index_mut.ensures.value in
+    put_refuses X _ c.self.invariant c.args.self.now c.self.view_is c.args.sender
+    c.index_mut.result.now at c.in_ok-goes_on.ensures.goes c.args.bytes.now
+    (small_bytes c.args.bytes.now (λ i. omega (arith, c.type_inv.bytes i))) c.put_to.new.core
+    c.put_to.result c.put_to.ensures.fault c.put_to.ensures.refused
 
 pub returns-in_err-goes_on-clause-refused : goal.returns-in_err-goes_on-clause-refused
 returns-in_err-goes_on-clause-refused g c =
-    passed_up _ _ (λ why. Refuses c.args.self.now (Put c.args.sender c.args.bytes.now) why c.args.self.now) c.from_residual.ensures (put_unknown c.args.self.now c.args.sender _ c.in_err-goes_on.ensures.fault c.args.bytes.now)
+    passed_up _ _
+    (λ why. Refuses c.args.self.now (Put c.args.sender c.args.bytes.now) why c.args.self.now)
+    c.from_residual.ensures
+    (put_unknown c.args.self.now c.args.sender _ c.in_err-goes_on.ensures.fault c.args.bytes.now)

@@ -16,18 +16,29 @@ turn_receiver-requires g c =
     let X = election_with g.Q.Machine.kind_of g.Q.Machine.op g.Q.Machine.fed P in
     let shape = c.self.inside.shape in
     let R = elections P shape.rounds in
-    let s = served g.Q.Machine.kind_of g.Q.Machine.op g.Q.Machine.fed P g.met.Q.Machine.names_each_step g.met.Q.Ratifier.own_kinds shape (c.election_is_lawful.ensures.lawful.laws shape.rounds) c.self.inside.reuse in
-    let at = there c.self.inside.receivers.items c.args.receiver c.index_mut-reader.result.now (omega arith) c.index_mut-reader.ensures.value in
+    let s = served g.Q.Machine.kind_of g.Q.Machine.op g.Q.Machine.fed P
+    g.met.Q.Machine.names_each_step g.met.Q.Ratifier.own_kinds shape
+    (c.election_is_lawful.ensures.lawful.laws shape.rounds) c.self.inside.reuse in
+    let at = there c.self.inside.receivers.items c.args.receiver c.index_mut-reader.result.now
+    (omega arith) c.index_mut-reader.ensures.value in
     loads_within X R _ s c.self.invariant c.args.receiver c.index_mut-reader.result.now at
 
 pub invariant_of-self : goal.invariant_of-self
 invariant_of-self g c =
-    let X = election_with g.Q.Machine.kind_of g.Q.Machine.op g.Q.Machine.fed g.Q.Ratifier.protocol in
-    let at = there c.self.inside.receivers.items c.args.receiver c.index_mut-reader.result.now (omega arith) c.index_mut-reader.ensures.value in
-    recv_sits X _ c.self.invariant c.args.self.now c.self.view_is c.args.receiver c.index_mut-reader.result.now c.turn_receiver.new.reader c.turn_receiver.result c.turn_receiver.new.cells at c.turn_receiver.ensures.step c.turn_receiver.ensures.words
+    let X =
+    election_with g.Q.Machine.kind_of g.Q.Machine.op g.Q.Machine.fed g.Q.Ratifier.protocol in
+    let at = there c.self.inside.receivers.items c.args.receiver c.index_mut-reader.result.now
+    (omega arith) c.index_mut-reader.ensures.value in
+    recv_sits X _ c.self.invariant c.args.self.now c.self.view_is c.args.receiver
+    c.index_mut-reader.result.now c.turn_receiver.new.reader c.turn_receiver.result
+    c.turn_receiver.new.cells at c.turn_receiver.ensures.step c.turn_receiver.ensures.words
 
 pub returns-clause-happens : goal.returns-clause-happens
 returns-clause-happens g c =
-    let X = election_with g.Q.Machine.kind_of g.Q.Machine.op g.Q.Machine.fed g.Q.Ratifier.protocol in
-    let at = there c.self.inside.receivers.items c.args.receiver c.index_mut-reader.result.now (omega arith) c.index_mut-reader.ensures.value in
-    recv_happens X _ c.self.invariant c.args.self.now c.self.view_is c.args.receiver c.index_mut-reader.result.now c.turn_receiver.new.reader c.turn_receiver.result c.turn_receiver.new.cells at c.turn_receiver.ensures.step c.turn_receiver.ensures.words
+    let X =
+    election_with g.Q.Machine.kind_of g.Q.Machine.op g.Q.Machine.fed g.Q.Ratifier.protocol in
+    let at = there c.self.inside.receivers.items c.args.receiver c.index_mut-reader.result.now
+    (omega arith) c.index_mut-reader.ensures.value in
+    recv_happens X _ c.self.invariant c.args.self.now c.self.view_is c.args.receiver
+    c.index_mut-reader.result.now c.turn_receiver.new.reader c.turn_receiver.result
+    c.turn_receiver.new.cells at c.turn_receiver.ensures.step c.turn_receiver.ensures.words

@@ -13,10 +13,13 @@ overflow_cast-result g c =
 
 pub returns-in-Some : goal.returns-in-Some
 returns-in-Some g c =
-    owner_some (decide_protocol g.Q.Ratifier.protocol conciliator_protocol) _ _ c.self.view_is c.in-Propose.decision c.in-Propose.is
-    c.in-Some.bit c.from.result (sym (c.decided.ensures c.self.inside.rounds) ∙ c.in-Some.is) c.from.ensures
+    owner_some (decide_protocol g.Q.Ratifier.protocol conciliator_protocol) _ _ c.self.view_is
+    c.in-Propose.decision c.in-Propose.is
+    c.in-Some.bit c.from.result (sym (c.decided.ensures c.self.inside.rounds) ∙ c.in-Some.is)
+    c.from.ensures
 
 pub returns-in-None : goal.returns-in-None
 returns-in-None g c =
-    owner_none (decide_protocol g.Q.Ratifier.protocol conciliator_protocol) _ _ c.self.view_is c.in-Propose.decision c.in-Propose.is
+    owner_none (decide_protocol g.Q.Ratifier.protocol conciliator_protocol) _ _ c.self.view_is
+    c.in-Propose.decision c.in-Propose.is
     (sym (c.decided.ensures c.self.inside.rounds) ∙ c.in-None.is)

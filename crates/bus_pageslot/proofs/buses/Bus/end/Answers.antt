@@ -14,11 +14,18 @@ returns-clause-ended g c =
     let P = process_with g.Q.Machine.kind_of g.Q.Machine.op g.Q.Machine.fed g.Q.Ratifier.protocol in
     let plan_is = ap (λ (b : BusId). b.plan) c.self.view_is in
     let seen_is = ap (λ t. t.me.0) c.into_seat.ensures.receiver_seat in
-    subst (λ (z : Plan × View (Sender (Elector g.row.Q.Denot))). IfOk c.leave.result (λ left. IsLeft P (automaton_with g.Q.Machine.kind_of g.Q.Machine.op g.Q.Machine.fed g.Q.Ratifier.protocol z.0) z.1 left.log (Some left.page))) (λ i. (plan_is i, seen_is i)) c.leave.ensures.ended
+    subst (λ (z : Plan × View (Sender (Elector g.row.Q.Denot))). IfOk c.leave.result
+    (λ left. IsLeft P
+    (automaton_with g.Q.Machine.kind_of g.Q.Machine.op g.Q.Machine.fed g.Q.Ratifier.protocol z.0)
+    z.1 left.log (Some left.page))) (λ i. (plan_is i, seen_is i)) c.leave.ensures.ended
 
 pub returns-clause-out : goal.returns-clause-out
 returns-clause-out g c =
     let P = process_with g.Q.Machine.kind_of g.Q.Machine.op g.Q.Machine.fed g.Q.Ratifier.protocol in
     let plan_is = ap (λ (b : BusId). b.plan) c.self.view_is in
     let seen_is = ap (λ t. t.me.0) c.into_seat.ensures.receiver_seat in
-    subst (λ (z : Plan × View (Sender (Elector g.row.Q.Denot))). OnErr c.leave.result ((log : List ℕ) × IsLeft P (automaton_with g.Q.Machine.kind_of g.Q.Machine.op g.Q.Machine.fed g.Q.Ratifier.protocol z.0) z.1 log None)) (λ i. (plan_is i, seen_is i)) c.leave.ensures.out
+    subst (λ (z : Plan × View (Sender (Elector g.row.Q.Denot))). OnErr c.leave.result
+    ((log : List ℕ)
+    × IsLeft P
+    (automaton_with g.Q.Machine.kind_of g.Q.Machine.op g.Q.Machine.fed g.Q.Ratifier.protocol z.0)
+    z.1 log None)) (λ i. (plan_is i, seen_is i)) c.leave.ensures.out

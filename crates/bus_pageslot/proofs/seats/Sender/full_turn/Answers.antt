@@ -16,16 +16,25 @@ returns-in_default-clause-rests g c none =
     let P = process_with g.Q.Machine.kind_of g.Q.Machine.op g.Q.Machine.fed g.Q.Ratifier.protocol in
     let core = c.self.inside.core in
     let due : P.op core c.args.word ≡ None = sym c.next_of.ensures.step ∙ c.in_default.is in
-    let tells : RestTells core c.rest_of.result = rest_is_told g.Q.Machine.kind_of g.Q.Machine.op g.Q.Machine.fed g.Q.Ratifier.protocol core c.rest_of.result (elim c.rest_of.ensures.tells [ inl x ↦ inl x.0 | inr r ↦ inr r ])
-    (λ going. c.threads_may_go_by.ensures.rests core c.args.word c.self.invariant.0.laid due (sym c.rest_of.ensures.answer ∙ going)) in
-    (refl, c.rest_of.ensures.answer ∙ ap (λ s. P.rest s.core) c.self.view_is, subst (λ s. RestTells s.core c.rest_of.result) c.self.view_is tells)
+    let tells : RestTells core c.rest_of.result = rest_is_told g.Q.Machine.kind_of g.Q.Machine.op
+    g.Q.Machine.fed g.Q.Ratifier.protocol core c.rest_of.result
+    (elim c.rest_of.ensures.tells [ inl x ↦ inl x.0 | inr r ↦ inr r ])
+    (λ going. c.threads_may_go_by.ensures.rests core c.args.word c.self.invariant.0.laid due
+    (sym c.rest_of.ensures.answer ∙ going)) in (
+      refl,
+      c.rest_of.ensures.answer ∙ ap (λ s. P.rest s.core) c.self.view_is,
+      subst (λ s. RestTells s.core c.rest_of.result) c.self.view_is tells,
+    )
 
 pub returns-in_default-clause-steps : goal.returns-in_default-clause-steps
 unfolding process_with
 returns-in_default-clause-steps g c op due =
     let P = process_with g.Q.Machine.kind_of g.Q.Machine.op g.Q.Machine.fed g.Q.Ratifier.protocol in
     absurd (
-    let bad : None ≡ Some op = sym c.in_default.is ∙ c.next_of.ensures.step ∙ ap (λ s. P.op s.core c.args.word) c.self.view_is ∙ due in cc
+    let bad : None ≡ Some op =
+    sym c.in_default.is ∙ c.next_of.ensures.step ∙ ap (λ s. P.op s.core c.args.word) c.self.view_is
+    ∙ due in
+    cc
     )
 
 pub walk-requires-clause-due : goal.walk-requires-clause-due
@@ -35,7 +44,8 @@ walk-requires-clause-due g c = sym c.next_of.ensures.step ∙ c.in-Some.is
 pub walk-requires-clause-below : goal.walk-requires-clause-below
 walk-requires-clause-below g c =
     let core = c.self.inside.core in
-    subst (λ n. register c.in-Some.op < n) (words_are g.Q.Machine.kind_of g.Q.Machine.op g.Q.Machine.fed g.Q.Ratifier.protocol core)
+    subst (λ n. register c.in-Some.op < n)
+    (words_are g.Q.Machine.kind_of g.Q.Machine.op g.Q.Machine.fed g.Q.Ratifier.protocol core)
     (subst (λ r. IfSome r (λ o. register o < words_all core)) c.in-Some.is c.next_of.ensures.below)
 
 pub invariant_of-self : goal.invariant_of-self
@@ -43,7 +53,8 @@ unfolding process_with
 invariant_of-self g c = (
   c.walk.ensures.shows,
   c.length_after-self-inside.ensures ∙ ap (stored_by (Some c.in-Some.op)) c.self.invariant.1
-      ∙ ap (λ o. stored_by o (stored_in c.self.inside.seat.me.0)) (sym (sym c.next_of.ensures.step ∙ c.in-Some.is))
+      ∙ ap (λ o. stored_by o (stored_in c.self.inside.seat.me.0))
+      (sym (sym c.next_of.ensures.step ∙ c.in-Some.is))
       ∙ sym c.walk.ensures.took.took.stored,
 )
 
@@ -52,13 +63,17 @@ unfolding process_with
 returns-clause-rests g c none =
     let P = process_with g.Q.Machine.kind_of g.Q.Machine.op g.Q.Machine.fed g.Q.Ratifier.protocol in
     absurd (
-    let bad : None ≡ Some c.in-Some.op = sym none ∙ ap (λ s. P.op s.core c.args.word) (sym c.self.view_is) ∙ sym c.next_of.ensures.step ∙ c.in-Some.is in
+    let bad : None ≡ Some c.in-Some.op =
+    sym none ∙ ap (λ s. P.op s.core c.args.word) (sym c.self.view_is) ∙ sym c.next_of.ensures.step
+    ∙ c.in-Some.is in
     cc
     )
 
 pub returns-clause-steps : goal.returns-clause-steps
 returns-clause-steps g c op due =
     let P = process_with g.Q.Machine.kind_of g.Q.Machine.op g.Q.Machine.fed g.Q.Ratifier.protocol in
-    let X = election_with g.Q.Machine.kind_of g.Q.Machine.op g.Q.Machine.fed g.Q.Ratifier.protocol in
-    subst (λ z. TookAndTold P (FeedTells X) z c.args.word c.walk.result (record { core = c.walk.new.core; seat = c.walk.new.seat }))
+    let X =
+    election_with g.Q.Machine.kind_of g.Q.Machine.op g.Q.Machine.fed g.Q.Ratifier.protocol in
+    subst (λ z. TookAndTold P (FeedTells X) z c.args.word c.walk.result
+    (record { core = c.walk.new.core; seat = c.walk.new.seat }))
     c.self.view_is c.walk.ensures.took

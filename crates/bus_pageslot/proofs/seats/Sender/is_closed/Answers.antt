@@ -7,4 +7,6 @@ use Rattle.bus_pageslot.proofs.seats.Sender.is_closed.Goals as goal
 pub returns : goal.returns
 returns g c =
     let P = process_with g.Q.Machine.kind_of g.Q.Machine.op g.Q.Machine.fed g.Q.Ratifier.protocol in
-    c.is_closed.ensures ∙ sym (closed_is g.Q.Machine.kind_of g.Q.Machine.op g.Q.Machine.fed g.Q.Ratifier.protocol c.self.inside.core) ∙ ap (λ s. is_closed (P.queue s.core).phase) c.self.view_is
+    c.is_closed.ensures
+    ∙ sym (closed_is g.Q.Machine.kind_of g.Q.Machine.op g.Q.Machine.fed g.Q.Ratifier.protocol
+    c.self.inside.core) ∙ ap (λ s. is_closed (P.queue s.core).phase) c.self.view_is

@@ -8,5 +8,6 @@ pub returns : goal.returns
 returns g c =
     let P = process_with g.Q.Machine.kind_of g.Q.Machine.op g.Q.Machine.fed g.Q.Ratifier.protocol in
     c.is_leaving.ensures
-    ∙ sym (leaving_is g.Q.Machine.kind_of g.Q.Machine.op g.Q.Machine.fed g.Q.Ratifier.protocol c.self.inside.core)
+    ∙ sym (leaving_is g.Q.Machine.kind_of g.Q.Machine.op g.Q.Machine.fed g.Q.Ratifier.protocol
+    c.self.inside.core)
     ∙ ap (λ s. is_leaving (P.queue s.core).phase) c.self.view_is

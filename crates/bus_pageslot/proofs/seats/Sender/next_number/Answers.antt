@@ -7,4 +7,6 @@ use Rattle.bus_pageslot.proofs.seats.Sender.next_number.Goals as goal
 pub returns : goal.returns
 returns g c =
     let P = process_with g.Q.Machine.kind_of g.Q.Machine.op g.Q.Machine.fed g.Q.Ratifier.protocol in
-    c.next_number.ensures ∙ sym (next_is g.Q.Machine.kind_of g.Q.Machine.op g.Q.Machine.fed g.Q.Ratifier.protocol c.self.inside.core) ∙ ap (λ s. next_of (P.queue s.core)) c.self.view_is
+    c.next_number.ensures
+    ∙ sym (next_is g.Q.Machine.kind_of g.Q.Machine.op g.Q.Machine.fed g.Q.Ratifier.protocol
+    c.self.inside.core) ∙ ap (λ s. next_of (P.queue s.core)) c.self.view_is

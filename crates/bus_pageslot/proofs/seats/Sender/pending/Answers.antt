@@ -7,4 +7,7 @@ use Rattle.bus_pageslot.proofs.seats.Sender.pending.Goals as goal
 pub returns : goal.returns
 returns g c =
     let P = process_with g.Q.Machine.kind_of g.Q.Machine.op g.Q.Machine.fed g.Q.Ratifier.protocol in
-    c.pending.ensures ∙ ap length (sym (messages_are g.Q.Machine.kind_of g.Q.Machine.op g.Q.Machine.fed g.Q.Ratifier.protocol c.self.inside.core)) ∙ ap (λ s. length (waiting_of P s)) c.self.view_is
+    c.pending.ensures
+    ∙ ap length
+    (sym (messages_are g.Q.Machine.kind_of g.Q.Machine.op g.Q.Machine.fed g.Q.Ratifier.protocol
+    c.self.inside.core)) ∙ ap (λ s. length (waiting_of P s)) c.self.view_is

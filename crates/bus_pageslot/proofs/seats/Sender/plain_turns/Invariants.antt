@@ -11,5 +11,7 @@ abbrev pub invariant-loop-taken : goal.invariant-loop-taken
 invariant-loop-taken g l =
     let P = process_with g.Q.Machine.kind_of g.Q.Machine.op g.Q.Machine.fed g.Q.Ratifier.protocol in
     let T = tells_with g.Q.Machine.kind_of g.Q.Machine.op g.Q.Machine.fed g.Q.Ratifier.protocol in
-    let X = election_with g.Q.Machine.kind_of g.Q.Machine.op g.Q.Machine.fed g.Q.Ratifier.protocol in
-    Taken P T (IsPlain X) l.fn.self l.self l._taken × (table_of l.self ≡ table_of l.fn.self) × StoresPlain X l.self.core l.at l.value
+    let X =
+    election_with g.Q.Machine.kind_of g.Q.Machine.op g.Q.Machine.fed g.Q.Ratifier.protocol in
+    Taken P T (IsPlain X) l.fn.self l.self l._taken × (table_of l.self ≡ table_of l.fn.self)
+    × StoresPlain X l.self.core l.at l.value

@@ -9,4 +9,5 @@ abbrev pub invariant-loop-put : goal.invariant-loop-put
 invariant-loop-put g l =
     let P = process_with g.Q.Machine.kind_of g.Q.Machine.op g.Q.Machine.fed g.Q.Ratifier.protocol in
     let T = tells_with g.Q.Machine.kind_of g.Q.Machine.op g.Q.Machine.fed g.Q.Ratifier.protocol in
-    FillsBatches P T l.fn.self (take l.put l.messages) l.self × (table_of l.self ≡ table_of l.fn.self)
+    FillsBatches P T l.fn.self (take l.put l.messages) l.self
+    × (table_of l.self ≡ table_of l.fn.self)

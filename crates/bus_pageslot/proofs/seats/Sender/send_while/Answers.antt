@@ -5,7 +5,8 @@ use Rattle.bus_pageslot.specs.Seats.{actions_of}
 use Rattle.bus_pageslot.specs.Turns.{tells_with, Turned, Begins, Goes, Asks, Undrawn}
 use Rattle.bus_pageslot.proofs.Plain.{goes_asking, goes_drawing, goes_putting}
 use Rattle.bus_pageslot.proofs.Keeping.{leaves_batch, going_keeps, refused_keeps}
-use Rattle.bus_pageslot.proofs.Sending.{turned_puts, drawn_on, asks_same, draws_same, goes_on, waiting_goes}
+use Rattle.bus_pageslot.proofs.Sending.{turned_puts, drawn_on, asks_same, draws_same, goes_on}
+use Rattle.bus_pageslot.proofs.Sending.{waiting_goes}
 use Rattle.bus_pageslot.proofs.seats.Sender.send_while.Goals as goal
 
 pub returns-then-ends_sending-clause-sends : goal.returns-then-ends_sending-clause-sends
@@ -17,7 +18,10 @@ returns-then-ends_sending-clause-sends g c =
       asked = c.loop.go_on;
       word = c.next_word-word.result;
       before = asks_same same c.loop.invariant.1;
-      turned = record { rests = c.full_turn-turn.ensures.rests; steps = c.full_turn-turn.ensures.steps };
+      turned = record {
+        rests = c.full_turn-turn.ensures.rests;
+        steps = c.full_turn-turn.ensures.steps;
+      };
       last = sym c.ends_sending.ensures ∙ c.if-ends_sending.true;
     }
 
@@ -27,8 +31,14 @@ returns-then-ends_sending-clause-puts g c =
     let P = process_with g.Q.Machine.kind_of g.Q.Machine.op g.Q.Machine.fed g.Q.Ratifier.protocol in
     let T = tells_with g.Q.Machine.kind_of g.Q.Machine.op g.Q.Machine.fed g.Q.Ratifier.protocol in
     let same = c.plain_turns.ensures.stays c.if-plain_turns.false in
-    let turned : Turned P T c.plain_turns.new.self c.next_word-word.result c.full_turn-turn.result c.full_turn-turn.new.self = record { rests = c.full_turn-turn.ensures.rests; steps = c.full_turn-turn.ensures.steps } in
-    turned_puts P T c.threads_may_go_by.ensures.process c.plain_turns.new.self c.next_word-word.result c.full_turn-turn.result c.full_turn-turn.new.self turned ∙ ap (λ y. puts (actions_of P y)) same ∙ c.loop.invariant.3
+    let turned : Turned P T c.plain_turns.new.self c.next_word-word.result c.full_turn-turn.result
+    c.full_turn-turn.new.self = record {
+      rests = c.full_turn-turn.ensures.rests;
+      steps = c.full_turn-turn.ensures.steps;
+    } in
+    turned_puts P T c.threads_may_go_by.ensures.process c.plain_turns.new.self
+    c.next_word-word.result c.full_turn-turn.result c.full_turn-turn.new.self turned
+    ∙ ap (λ y. puts (actions_of P y)) same ∙ c.loop.invariant.3
 
 pub returns-then-ends_sending-clause-keeps : goal.returns-then-ends_sending-clause-keeps
 unfolding tells_with
@@ -36,12 +46,17 @@ returns-then-ends_sending-clause-keeps g c =
     let P = process_with g.Q.Machine.kind_of g.Q.Machine.op g.Q.Machine.fed g.Q.Ratifier.protocol in
     let T = tells_with g.Q.Machine.kind_of g.Q.Machine.op g.Q.Machine.fed g.Q.Ratifier.protocol in
     let same = c.plain_turns.ensures.stays c.if-plain_turns.false in
-    refused_keeps P T (leaves_batch g.Q.Machine.kind_of g.Q.Machine.op g.Q.Machine.fed g.Q.Ratifier.protocol)
+    refused_keeps P T
+    (leaves_batch g.Q.Machine.kind_of g.Q.Machine.op g.Q.Machine.fed g.Q.Ratifier.protocol)
     c.args.self.now c.full_turn-turn.result c.full_turn-turn.new.self (record {
       old = c.plain_turns.new.self;
       word = c.next_word-word.result;
-      before = goes_on P T (goal.F-step g) c.args.self.now c.args.go_on c.plain_turns.new.self c.loop.go_on (asks_same same c.loop.invariant.1);
-      turned = record { rests = c.full_turn-turn.ensures.rests; steps = c.full_turn-turn.ensures.steps };
+      before = goes_on P T (goal.F-step g) c.args.self.now c.args.go_on c.plain_turns.new.self
+          c.loop.go_on (asks_same same c.loop.invariant.1);
+      turned = record {
+        rests = c.full_turn-turn.ensures.rests;
+        steps = c.full_turn-turn.ensures.steps;
+      };
       last = sym c.ends_sending.ensures ∙ c.if-ends_sending.true;
     })
 
@@ -51,9 +66,12 @@ returns-then-not-go_on-clause-waits g c =
     let P = process_with g.Q.Machine.kind_of g.Q.Machine.op g.Q.Machine.fed g.Q.Ratifier.protocol in
     let T = tells_with g.Q.Machine.kind_of g.Q.Machine.op g.Q.Machine.fed g.Q.Ratifier.protocol in
     let same = c.plain_turns.ensures.stays c.if-plain_turns.false in
-    going_keeps P T (leaves_batch g.Q.Machine.kind_of g.Q.Machine.op g.Q.Machine.fed g.Q.Ratifier.protocol)
-    c.args.self.now c.plain_turns.new.self c.next_word-word.result c.full_turn-turn.result c.full_turn-turn.new.self
-    (goes_on P T (goal.F-step g) c.args.self.now c.args.go_on c.plain_turns.new.self c.loop.go_on (asks_same same c.loop.invariant.1))
+    going_keeps P T
+    (leaves_batch g.Q.Machine.kind_of g.Q.Machine.op g.Q.Machine.fed g.Q.Ratifier.protocol)
+    c.args.self.now c.plain_turns.new.self c.next_word-word.result c.full_turn-turn.result
+    c.full_turn-turn.new.self
+    (goes_on P T (goal.F-step g) c.args.self.now c.args.go_on c.plain_turns.new.self c.loop.go_on
+    (asks_same same c.loop.invariant.1))
     (record { rests = c.full_turn-turn.ensures.rests; steps = c.full_turn-turn.ensures.steps })
     (waiting_goes c.full_turn-turn.result (sym c.is_waiting.ensures ∙ c.if-not-is_waiting.false))
 
@@ -68,10 +86,13 @@ loop-preserved-then-plain_turns g c =
     let T = tells_with g.Q.Machine.kind_of g.Q.Machine.op g.Q.Machine.fed g.Q.Ratifier.protocol in
     let goes = c.plain_turns.ensures.goes c.if-plain_turns.true in (
       c.loop.invariant.0,
-      goes_asking P T (goal.F-step g) c.args.self.now c.args.go_on c.loop.go_on c.loop.self c.plain_turns.new.self c.loop.invariant.1 goes,
+      goes_asking P T (goal.F-step g) c.args.self.now c.args.go_on c.loop.go_on c.loop.self
+          c.plain_turns.new.self c.loop.invariant.1 goes,
       c.plain_turns.ensures.table ∙ c.loop.invariant.2,
-      goes_putting P T c.threads_may_go_by.ensures.process c.loop.self c.plain_turns.new.self goes ∙ c.loop.invariant.3,
-      goes_drawing P T c.args.self.now (g.R.Rng.stream c.args.rng.now) (g.R.Rng.stream c.loop.rng) c.loop.self c.plain_turns.new.self c.loop.invariant.4 goes,
+      goes_putting P T c.threads_may_go_by.ensures.process c.loop.self c.plain_turns.new.self goes
+          ∙ c.loop.invariant.3,
+      goes_drawing P T c.args.self.now (g.R.Rng.stream c.args.rng.now) (g.R.Rng.stream c.loop.rng)
+          c.loop.self c.plain_turns.new.self c.loop.invariant.4 goes,
     )
 
 pub returns-then-not-go_on-clause-stops : goal.returns-then-not-go_on-clause-stops
@@ -80,7 +101,11 @@ returns-then-not-go_on-clause-stops g c =
     let P = process_with g.Q.Machine.kind_of g.Q.Machine.op g.Q.Machine.fed g.Q.Ratifier.protocol in
     let T = tells_with g.Q.Machine.kind_of g.Q.Machine.op g.Q.Machine.fed g.Q.Ratifier.protocol in
     let same = c.plain_turns.ensures.stays c.if-plain_turns.false in
-    let turned : Turned P T c.plain_turns.new.self c.next_word-word.result c.full_turn-turn.result c.full_turn-turn.new.self = record { rests = c.full_turn-turn.ensures.rests; steps = c.full_turn-turn.ensures.steps } in
+    let turned : Turned P T c.plain_turns.new.self c.next_word-word.result c.full_turn-turn.result
+    c.full_turn-turn.new.self = record {
+      rests = c.full_turn-turn.ensures.rests;
+      steps = c.full_turn-turn.ensures.steps;
+    } in
     record {
       old = c.plain_turns.new.self;
       asked = c.loop.go_on;
@@ -99,8 +124,14 @@ returns-then-not-go_on-clause-puts g c =
     let P = process_with g.Q.Machine.kind_of g.Q.Machine.op g.Q.Machine.fed g.Q.Ratifier.protocol in
     let T = tells_with g.Q.Machine.kind_of g.Q.Machine.op g.Q.Machine.fed g.Q.Ratifier.protocol in
     let same = c.plain_turns.ensures.stays c.if-plain_turns.false in
-    let turned : Turned P T c.plain_turns.new.self c.next_word-word.result c.full_turn-turn.result c.full_turn-turn.new.self = record { rests = c.full_turn-turn.ensures.rests; steps = c.full_turn-turn.ensures.steps } in
-    turned_puts P T c.threads_may_go_by.ensures.process c.plain_turns.new.self c.next_word-word.result c.full_turn-turn.result c.full_turn-turn.new.self turned ∙ ap (λ y. puts (actions_of P y)) same ∙ c.loop.invariant.3
+    let turned : Turned P T c.plain_turns.new.self c.next_word-word.result c.full_turn-turn.result
+    c.full_turn-turn.new.self = record {
+      rests = c.full_turn-turn.ensures.rests;
+      steps = c.full_turn-turn.ensures.steps;
+    } in
+    turned_puts P T c.threads_may_go_by.ensures.process c.plain_turns.new.self
+    c.next_word-word.result c.full_turn-turn.result c.full_turn-turn.new.self turned
+    ∙ ap (λ y. puts (actions_of P y)) same ∙ c.loop.invariant.3
 
 -- another sender has to go on first, and the function said yes
 pub loop-preserved : goal.loop-preserved
@@ -109,12 +140,23 @@ loop-preserved g c =
     let P = process_with g.Q.Machine.kind_of g.Q.Machine.op g.Q.Machine.fed g.Q.Ratifier.protocol in
     let T = tells_with g.Q.Machine.kind_of g.Q.Machine.op g.Q.Machine.fed g.Q.Ratifier.protocol in
     let same = c.plain_turns.ensures.stays c.if-plain_turns.false in
-    let turned : Turned P T c.plain_turns.new.self c.next_word-word.result c.full_turn-turn.result c.full_turn-turn.new.self = record { rests = c.full_turn-turn.ensures.rests; steps = c.full_turn-turn.ensures.steps } in (
+    let turned : Turned P T c.plain_turns.new.self c.next_word-word.result c.full_turn-turn.result
+    c.full_turn-turn.new.self = record {
+      rests = c.full_turn-turn.ensures.rests;
+      steps = c.full_turn-turn.ensures.steps;
+    } in (
       search of_calls,
-      Asks c.plain_turns.new.self c.loop.go_on c.next_word-word.result c.full_turn-turn.result c.full_turn-turn.new.self c.go_on.new.self (asks_same same c.loop.invariant.1) turned (sym c.is_waiting.ensures ∙ c.if-not-is_waiting.false) c.if-not-go_on.ensures,
+      Asks c.plain_turns.new.self c.loop.go_on c.next_word-word.result c.full_turn-turn.result
+          c.full_turn-turn.new.self c.go_on.new.self (asks_same same c.loop.invariant.1) turned
+          (sym c.is_waiting.ensures ∙ c.if-not-is_waiting.false) c.if-not-go_on.ensures,
       c.full_turn-turn.ensures.table ∙ c.plain_turns.ensures.table ∙ c.loop.invariant.2,
-      turned_puts P T c.threads_may_go_by.ensures.process c.plain_turns.new.self c.next_word-word.result c.full_turn-turn.result c.full_turn-turn.new.self turned ∙ ap (λ y. puts (actions_of P y)) same ∙ c.loop.invariant.3,
-      drawn_on P T c.args.self.now (g.R.Rng.stream c.args.rng.now) c.plain_turns.new.self (g.R.Rng.stream c.loop.rng) c.next_word-word.result c.full_turn-turn.result c.full_turn-turn.new.self (g.R.Rng.stream c.next_word-word.new.rng) c.next_word-word.ensures (draws_same same c.loop.invariant.4) turned,
+      turned_puts P T c.threads_may_go_by.ensures.process c.plain_turns.new.self
+          c.next_word-word.result c.full_turn-turn.result c.full_turn-turn.new.self turned
+          ∙ ap (λ y. puts (actions_of P y)) same ∙ c.loop.invariant.3,
+      drawn_on P T c.args.self.now (g.R.Rng.stream c.args.rng.now) c.plain_turns.new.self
+          (g.R.Rng.stream c.loop.rng) c.next_word-word.result c.full_turn-turn.result
+          c.full_turn-turn.new.self (g.R.Rng.stream c.next_word-word.new.rng)
+          c.next_word-word.ensures (draws_same same c.loop.invariant.4) turned,
     )
 
 pub loop-preserved-then-not-is_waiting : goal.loop-preserved-then-not-is_waiting
@@ -123,12 +165,24 @@ loop-preserved-then-not-is_waiting g c =
     let P = process_with g.Q.Machine.kind_of g.Q.Machine.op g.Q.Machine.fed g.Q.Ratifier.protocol in
     let T = tells_with g.Q.Machine.kind_of g.Q.Machine.op g.Q.Machine.fed g.Q.Ratifier.protocol in
     let same = c.plain_turns.ensures.stays c.if-plain_turns.false in
-    let turned : Turned P T c.plain_turns.new.self c.next_word-word.result c.full_turn-turn.result c.full_turn-turn.new.self = record { rests = c.full_turn-turn.ensures.rests; steps = c.full_turn-turn.ensures.steps } in (
+    let turned : Turned P T c.plain_turns.new.self c.next_word-word.result c.full_turn-turn.result
+    c.full_turn-turn.new.self = record {
+      rests = c.full_turn-turn.ensures.rests;
+      steps = c.full_turn-turn.ensures.steps;
+    } in (
       c.loop.invariant.0,
-      Goes c.plain_turns.new.self c.loop.go_on c.next_word-word.result c.full_turn-turn.result c.full_turn-turn.new.self (asks_same same c.loop.invariant.1) turned (sym c.ends_sending.ensures ∙ c.if-ends_sending.false) (sym c.is_waiting.ensures ∙ c.if-not-is_waiting.true),
+      Goes c.plain_turns.new.self c.loop.go_on c.next_word-word.result c.full_turn-turn.result
+          c.full_turn-turn.new.self (asks_same same c.loop.invariant.1) turned
+          (sym c.ends_sending.ensures ∙ c.if-ends_sending.false)
+          (sym c.is_waiting.ensures ∙ c.if-not-is_waiting.true),
       c.full_turn-turn.ensures.table ∙ c.plain_turns.ensures.table ∙ c.loop.invariant.2,
-      turned_puts P T c.threads_may_go_by.ensures.process c.plain_turns.new.self c.next_word-word.result c.full_turn-turn.result c.full_turn-turn.new.self turned ∙ ap (λ y. puts (actions_of P y)) same ∙ c.loop.invariant.3,
-      drawn_on P T c.args.self.now (g.R.Rng.stream c.args.rng.now) c.plain_turns.new.self (g.R.Rng.stream c.loop.rng) c.next_word-word.result c.full_turn-turn.result c.full_turn-turn.new.self (g.R.Rng.stream c.next_word-word.new.rng) c.next_word-word.ensures (draws_same same c.loop.invariant.4) turned,
+      turned_puts P T c.threads_may_go_by.ensures.process c.plain_turns.new.self
+          c.next_word-word.result c.full_turn-turn.result c.full_turn-turn.new.self turned
+          ∙ ap (λ y. puts (actions_of P y)) same ∙ c.loop.invariant.3,
+      drawn_on P T c.args.self.now (g.R.Rng.stream c.args.rng.now) c.plain_turns.new.self
+          (g.R.Rng.stream c.loop.rng) c.next_word-word.result c.full_turn-turn.result
+          c.full_turn-turn.new.self (g.R.Rng.stream c.next_word-word.new.rng)
+          c.next_word-word.ensures (draws_same same c.loop.invariant.4) turned,
     )
 
 pub returns-then-ends_sending-clause-draws : goal.returns-then-ends_sending-clause-draws
@@ -137,8 +191,15 @@ returns-then-ends_sending-clause-draws g c =
     let P = process_with g.Q.Machine.kind_of g.Q.Machine.op g.Q.Machine.fed g.Q.Ratifier.protocol in
     let T = tells_with g.Q.Machine.kind_of g.Q.Machine.op g.Q.Machine.fed g.Q.Ratifier.protocol in
     let same = c.plain_turns.ensures.stays c.if-plain_turns.false in
-    let turned : Turned P T c.plain_turns.new.self c.next_word-word.result c.full_turn-turn.result c.full_turn-turn.new.self = record { rests = c.full_turn-turn.ensures.rests; steps = c.full_turn-turn.ensures.steps } in
-    drawn_on P T c.args.self.now (g.R.Rng.stream c.args.rng.now) c.plain_turns.new.self (g.R.Rng.stream c.loop.rng) c.next_word-word.result c.full_turn-turn.result c.full_turn-turn.new.self (g.R.Rng.stream c.next_word-word.new.rng) c.next_word-word.ensures (draws_same same c.loop.invariant.4) turned
+    let turned : Turned P T c.plain_turns.new.self c.next_word-word.result c.full_turn-turn.result
+    c.full_turn-turn.new.self = record {
+      rests = c.full_turn-turn.ensures.rests;
+      steps = c.full_turn-turn.ensures.steps;
+    } in
+    drawn_on P T c.args.self.now (g.R.Rng.stream c.args.rng.now) c.plain_turns.new.self
+    (g.R.Rng.stream c.loop.rng) c.next_word-word.result c.full_turn-turn.result
+    c.full_turn-turn.new.self (g.R.Rng.stream c.next_word-word.new.rng) c.next_word-word.ensures
+    (draws_same same c.loop.invariant.4) turned
 
 pub returns-then-not-go_on-clause-draws : goal.returns-then-not-go_on-clause-draws
 unfolding tells_with
@@ -146,5 +207,12 @@ returns-then-not-go_on-clause-draws g c =
     let P = process_with g.Q.Machine.kind_of g.Q.Machine.op g.Q.Machine.fed g.Q.Ratifier.protocol in
     let T = tells_with g.Q.Machine.kind_of g.Q.Machine.op g.Q.Machine.fed g.Q.Ratifier.protocol in
     let same = c.plain_turns.ensures.stays c.if-plain_turns.false in
-    let turned : Turned P T c.plain_turns.new.self c.next_word-word.result c.full_turn-turn.result c.full_turn-turn.new.self = record { rests = c.full_turn-turn.ensures.rests; steps = c.full_turn-turn.ensures.steps } in
-    drawn_on P T c.args.self.now (g.R.Rng.stream c.args.rng.now) c.plain_turns.new.self (g.R.Rng.stream c.loop.rng) c.next_word-word.result c.full_turn-turn.result c.full_turn-turn.new.self (g.R.Rng.stream c.next_word-word.new.rng) c.next_word-word.ensures (draws_same same c.loop.invariant.4) turned
+    let turned : Turned P T c.plain_turns.new.self c.next_word-word.result c.full_turn-turn.result
+    c.full_turn-turn.new.self = record {
+      rests = c.full_turn-turn.ensures.rests;
+      steps = c.full_turn-turn.ensures.steps;
+    } in
+    drawn_on P T c.args.self.now (g.R.Rng.stream c.args.rng.now) c.plain_turns.new.self
+    (g.R.Rng.stream c.loop.rng) c.next_word-word.result c.full_turn-turn.result
+    c.full_turn-turn.new.self (g.R.Rng.stream c.next_word-word.new.rng) c.next_word-word.ensures
+    (draws_same same c.loop.invariant.4) turned

@@ -9,4 +9,8 @@ abbrev pub invariant-loop : goal.invariant-loop
 invariant-loop g l =
     let P = process_with g.Q.Machine.kind_of g.Q.Machine.op g.Q.Machine.fed g.Q.Ratifier.protocol in
     let T = tells_with g.Q.Machine.kind_of g.Q.Machine.op g.Q.Machine.fed g.Q.Ratifier.protocol in
-    goal.F-IsAlwaysCallable g l.go_on × AsksOn P T (goal.F-step g) l.fn.self l.fn.go_on l.self l.go_on × (table_of l.self ≡ table_of l.fn.self) × (puts (actions_of P l.self) ≡ puts (actions_of P l.fn.self)) × DrawsOn P T l.fn.self (g.R.Rng.stream l.fn.rng) l.self (g.R.Rng.stream l.rng)
+    goal.F-IsAlwaysCallable g l.go_on
+    × AsksOn P T (goal.F-step g) l.fn.self l.fn.go_on l.self l.go_on
+    × (table_of l.self ≡ table_of l.fn.self)
+    × (puts (actions_of P l.self) ≡ puts (actions_of P l.fn.self))
+    × DrawsOn P T l.fn.self (g.R.Rng.stream l.fn.rng) l.self (g.R.Rng.stream l.rng)

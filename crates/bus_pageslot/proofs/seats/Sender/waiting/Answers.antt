@@ -7,5 +7,7 @@ use Rattle.bus_pageslot.proofs.seats.Sender.waiting.Goals as goal
 pub returns : goal.returns
 returns g c =
     let P = process_with g.Q.Machine.kind_of g.Q.Machine.op g.Q.Machine.fed g.Q.Ratifier.protocol in
-    c.waiting.ensures ∙ sym (messages_are g.Q.Machine.kind_of g.Q.Machine.op g.Q.Machine.fed g.Q.Ratifier.protocol c.self.inside.core)
+    c.waiting.ensures
+    ∙ sym (messages_are g.Q.Machine.kind_of g.Q.Machine.op g.Q.Machine.fed g.Q.Ratifier.protocol
+    c.self.inside.core)
     ∙ ap (waiting_of P) c.self.view_is

@@ -14,7 +14,8 @@ use Rattle.bus_pageslot.proofs.words.Words.cut_tap.Goals as goal
 pub split_seat-requires : goal.split_seat-requires
 split_seat-requires g c =
     let P = process_with g.Q.Machine.kind_of g.Q.Machine.op g.Q.Machine.fed g.Q.Ratifier.protocol in
-    let B = automaton_with g.Q.Machine.kind_of g.Q.Machine.op g.Q.Machine.fed g.Q.Ratifier.protocol in
+    let B =
+    automaton_with g.Q.Machine.kind_of g.Q.Machine.op g.Q.Machine.fed g.Q.Ratifier.protocol in
     let table = sym (ap (λ (b : BusId). b.table) c.self.view_is) in
     let plan = c.args.self.now.plan in
     let maker = c.requires.maker in
@@ -22,7 +23,10 @@ split_seat-requires g c =
     let view = c.args.maker.now.me.0 in (
       c.requires.table.0 ∙ table,
       subst (λ (z : TableId). 0 < z.words) table c.requires.table.1,
-      subst (λ (p : Plan). Splits (TableInvariant P (B p)) id view (tap_left view) (tap_right view)) (sym (ap (λ (b : BusId). b.plan) c.self.view_is))
-          (subst (λ (v : View (Held (Elector g.row.Q.Denot))). Splits (TableInvariant P (B plan)) id v (tap_left v) (tap_right v)) (sym (ap (λ m. m.0) maker.2))
+      subst (λ (p : Plan). Splits (TableInvariant P (B p)) id view (tap_left view) (tap_right view))
+          (sym (ap (λ (b : BusId). b.plan) c.self.view_is))
+          (subst (λ (v : View (Held (Elector g.row.Q.Denot))).
+          Splits (TableInvariant P (B plan)) id v (tap_left v) (tap_right v))
+          (sym (ap (λ m. m.0) maker.2))
           (tap_allowed P (B plan) (c.threads_may_go_by.ensures.automaton plan) id maker.0 maker.1)),
     )

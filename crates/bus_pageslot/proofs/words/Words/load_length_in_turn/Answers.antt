@@ -9,10 +9,12 @@ pub load-requires : goal.load-requires
 load-requires g c =
     let P = process_with g.Q.Machine.kind_of g.Q.Machine.op g.Q.Machine.fed g.Q.Ratifier.protocol in
     let key = c.self.inside.table.shared.key in
-    let A = automaton_with g.Q.Machine.kind_of g.Q.Machine.op g.Q.Machine.fed g.Q.Ratifier.protocol key in
+    let A =
+    automaton_with g.Q.Machine.kind_of g.Q.Machine.op g.Q.Machine.fed g.Q.Ratifier.protocol key in
     let table = sym (ap (λ (b : BusId). b.table) c.self.view_is) in
     let tap = c.requires.tap in (
       c.requires.table.0 ∙ table,
       subst (λ (z : TableId). 0 < z.words) table c.requires.table.1,
-      length_heard_allowed P A (c.threads_may_go_by.ensures.automaton key) _ _ c.args.seat.now.me tap.0 tap.1 (ap (λ m. m.0) tap.2) tap.3,
+      length_heard_allowed P A (c.threads_may_go_by.ensures.automaton key) _ _ c.args.seat.now.me
+          tap.0 tap.1 (ap (λ m. m.0) tap.2) tap.3,
     )

@@ -11,13 +11,17 @@ use Rattle.bus_pageslot.proofs.words.Words.load_word.Goals as goal
 pub load-requires : goal.load-requires
 load-requires g c =
     let P = process_with g.Q.Machine.kind_of g.Q.Machine.op g.Q.Machine.fed g.Q.Ratifier.protocol in
-    let A = automaton_with g.Q.Machine.kind_of g.Q.Machine.op g.Q.Machine.fed g.Q.Ratifier.protocol c.self.inside.table.shared.key in
+    let A = automaton_with g.Q.Machine.kind_of g.Q.Machine.op g.Q.Machine.fed g.Q.Ratifier.protocol
+    c.self.inside.table.shared.key in
     let slots = c.self.inside.table.shared.table_id.slots in
     let table = sym (ap (λ (b : BusId). b.table) c.self.view_is) in
     let seat = c.args.seat.now in
     let tap = c.requires.tap in (
       c.requires.table.0 ∙ table,
       subst (λ (z : TableId). c.args.at < z.words) table c.requires.table.1,
-      subst (λ at. Allows (TableInvariant P A) slots seat.id seat.me at (λ n. n) (λ n. Reads seat.me at n)) (sym tap.5)
-          (word_allowed P A slots seat.id seat.me tap.0 tap.1 tap.3 (ap (λ m. m.0) tap.2) tap.4),
+      subst (λ at.
+          Allows (TableInvariant P A) slots seat.id seat.me at (λ n. n) (λ n. Reads seat.me at n))
+          (sym tap.5)
+          (word_allowed P A (c.threads_may_go_by.ensures.automaton c.self.inside.table.shared.key)
+          slots seat.id seat.me tap.0 tap.1 tap.3 (ap (λ m. m.0) tap.2) tap.4),
     )

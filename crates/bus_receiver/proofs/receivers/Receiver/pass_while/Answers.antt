@@ -1,7 +1,8 @@
 use Rattle.std.proofs.Common.{of_calls, refl, sym, ◌∙◌, subst}
 use Rattle.bus_pageslot.specs.Listening.{Hears}
 use Rattle.bus_receiver.specs.Listening.{Begins, Goes, Asks}
-use Rattle.bus_receiver.proofs.Passing.{asks_on_to, only_empty, only_going, last_written, not_stopped}
+use Rattle.bus_receiver.proofs.Passing.{asks_on_to, only_empty, only_going, last_written}
+use Rattle.bus_receiver.proofs.Passing.{not_stopped}
 use Rattle.bus_receiver.proofs.receivers.Receiver.pass_while.Goals as goal
 
 pub loop-init : goal.loop-init
@@ -15,7 +16,9 @@ returns-in-Item-clause-passes g c =
       old = h.old;
       asked = c.loop.go_on;
       before = asks_on_to _ _ _ _ _ _ c.loop.invariant.1 h.going;
-      hears = subst (λ a. Hears h.old a new.self.me) (sym (last_written h.answer c.loop.item new.item c.item_turns.result h.writes c.loop.invariant.3 c.in-Item.is)) h.hears;
+      hears = subst (λ a. Hears h.old a new.self.me)
+          (sym (last_written h.answer c.loop.item new.item c.item_turns.result h.writes
+          c.loop.invariant.3 c.in-Item.is)) h.hears;
       told = λ stopped. absurd (not_stopped new.item stopped);
     }
 
@@ -23,7 +26,8 @@ pub returns-then-not-go_on-clause-passes : goal.returns-then-not-go_on-clause-pa
 returns-then-not-go_on-clause-passes g c =
     let h = c.item_turns.ensures.hears in
     let new = c.item_turns.new in
-    let empty = only_empty h.answer c.loop.item new.item c.item_turns.result h.writes c.in-Empty.is in
+    let empty =
+    only_empty h.answer c.loop.item new.item c.item_turns.result h.writes c.in-Empty.is in
     record {
       old = h.old;
       asked = c.loop.go_on;
@@ -36,9 +40,12 @@ pub loop-preserved-in-Empty : goal.loop-preserved-in-Empty
 loop-preserved-in-Empty g c =
     let h = c.item_turns.ensures.hears in
     let new = c.item_turns.new in
-    let empty = only_empty h.answer c.loop.item new.item c.item_turns.result h.writes c.in-Empty.is in (
+    let empty =
+    only_empty h.answer c.loop.item new.item c.item_turns.result h.writes c.in-Empty.is in (
       search of_calls,
-      Asks h.old c.loop.go_on new.self.me c.go_on.new.self (asks_on_to _ _ _ _ _ _ c.loop.invariant.1 h.going) (subst (λ a. Hears h.old a new.self.me) empty.0 h.hears) c.if-not-go_on.ensures,
+      Asks h.old c.loop.go_on new.self.me c.go_on.new.self
+          (asks_on_to _ _ _ _ _ _ c.loop.invariant.1 h.going)
+          (subst (λ a. Hears h.old a new.self.me) empty.0 h.hears) c.if-not-go_on.ensures,
       c.item_turns.ensures.table ∙ c.loop.invariant.2,
       empty.1 ∙ c.loop.invariant.3,
     )
@@ -47,9 +54,11 @@ pub loop-preserved : goal.loop-preserved
 loop-preserved g c =
     let h = c.item_turns.ensures.hears in
     let new = c.item_turns.new in
-    let goes = only_going h.answer c.loop.item new.item c.item_turns.result h.writes c.in-Going.is in (
+    let goes =
+    only_going h.answer c.loop.item new.item c.item_turns.result h.writes c.in-Going.is in (
       c.loop.invariant.0,
-      Goes h.old c.loop.go_on h.answer new.self.me (asks_on_to _ _ _ _ _ _ c.loop.invariant.1 h.going) h.hears goes.0 goes.1,
+      Goes h.old c.loop.go_on h.answer new.self.me
+          (asks_on_to _ _ _ _ _ _ c.loop.invariant.1 h.going) h.hears goes.0 goes.1,
       c.item_turns.ensures.table ∙ c.loop.invariant.2,
       goes.2 ∙ c.loop.invariant.3,
     )

@@ -14,7 +14,15 @@ returns-then-finds-clause-takes g c = record {
 }
 
 pub loop-preserved-then-eq : goal.loop-preserved-then-eq
-loop-preserved-then-eq g c = (More c.loop.self.me c.turn-turn.result c.turn-turn.new.self.me c.loop.invariant.0 c.turn-turn.ensures.hears (sym c.finds.ensures ∙ c.if-finds.false), c.turn-turn.ensures.table ∙ c.loop.invariant.1)
+loop-preserved-then-eq g c = (
+  More c.loop.self.me c.turn-turn.result c.turn-turn.new.self.me c.loop.invariant.0
+      c.turn-turn.ensures.hears (sym c.finds.ensures ∙ c.if-finds.false),
+  c.turn-turn.ensures.table ∙ c.loop.invariant.1,
+)
 
 pub loop-preserved : goal.loop-preserved
-loop-preserved g c = (More c.loop.self.me c.turn-turn.result c.turn-turn.new.self.me c.loop.invariant.0 c.turn-turn.ensures.hears (sym c.finds.ensures ∙ c.if-finds.false), c.turn-turn.ensures.table ∙ c.loop.invariant.1)
+loop-preserved g c = (
+  More c.loop.self.me c.turn-turn.result c.turn-turn.new.self.me c.loop.invariant.0
+      c.turn-turn.ensures.hears (sym c.finds.ensures ∙ c.if-finds.false),
+  c.turn-turn.ensures.table ∙ c.loop.invariant.1,
+)

@@ -8,4 +8,5 @@ pub returns-clause-some : goal.returns-clause-some
 returns-clause-some c =
     sym c.self.view_is
     ∙ ap (λ (r : Option (Bor (List ℕ))). words_left (option_copied r)) c.in_ok-line.was
-    ∙ word_split c.in_ok-line.line.now c.split_at_first.result.0.now c.split_at_first.result.1 c.split_at_first.ensures.front c.split_at_first.ensures.rest
+    ∙ word_split c.in_ok-line.line.now c.split_at_first.result.0.now c.split_at_first.result.1
+    c.split_at_first.ensures.front c.split_at_first.ensures.rest

@@ -1,0 +1,61 @@
+"""Random scripts for `bus replay`, of both kinds of bus: bench/replay and bench/pages play them."""
+
+def senders_of(dice): # 1 to 8, and at times more
+    return dice.randint(1, 8) if dice.random() < 0.85 else dice.choice((9, 16, 17, 33, 64))
+
+def shaped_script(dice):
+    n, m = senders_of(dice), dice.randint(1, 8)
+    lines = [f"shape {n} {m} {dice.randint(1, 8)} {dice.randint(1, 12)} {dice.choice((16, 24, 64, 300))}"]
+    for _ in range(dice.randint(1, 120)):
+        s = dice.randrange(n)
+        kind = dice.random()
+        if kind < 0.25:
+            lines.append(f"put {s} {bytes(dice.randrange(256) for _ in range(dice.randrange(20))).hex() or '-'}")
+        elif kind < 0.27:
+            lines.append(f"close {s}")
+        elif kind < 0.28:
+            lines.append(f"stop {s}")
+        elif kind < 0.32:
+            lines.append(f"leave {s}")
+        elif kind < 0.85:
+            lines.append(f"turn {s} {dice.getrandbits(32)} {dice.choice((1, 1, 2, 5, 20, 200))}")
+        else:
+            lines.append(f"recv {dice.randrange(m)} {dice.choice((1, 2, 9, 99))}")
+    if dice.random() < 0.4:
+        lines += last_lines(dice, n, m)
+    return "\n".join(lines).encode() + b"\n"
+
+def last_lines(dice, n, m): # what waits is sent, one sender closes, and all receivers hear what there is
+    s = dice.randrange(n)
+    lines = [f"turn {each} {dice.getrandbits(32)} 2000" for each in [*range(n)] * 4]
+    return lines + [f"close {s}"] + [f"turn {s} 1 2000"] * 2 + [f"recv {each} 9999" for each in range(m)]
+
+def cyclic_script(dice): # senders go through tenures one after another; some fall asleep in one, and wake up later or stop
+    n, m, rows = senders_of(dice), dice.randint(1, 8), dice.randint(2, 8)
+    lines = [f"cycle {n} {m} {dice.choice((1, 1, 2, 3, 8))} {rows} {dice.choice((16, 24, 64, 300, 3000, 65536))}"]
+    naps, stops, closes = dice.choice((0.05, 0.1, 0.3, 0.9)), dice.choice((0, 0, 0.01)), dice.choice((0, 0, 0.005))
+    leaves = dice.choice((0, 0.02, 0.1))
+    busiest, asleep = dice.randrange(n), [0] * n
+    for number in range(dice.choice((50, 150, 500))):
+        awake = [s for s in range(n) if asleep[s] <= number] or [*range(n)]
+        if busiest not in awake or dice.random() < 0.1:
+            busiest = dice.choice(awake)
+        s = busiest if dice.random() < 0.6 else dice.choice(awake)
+        if dice.random() < 0.5:
+            lines.append(f"put {s} {bytes(dice.randrange(256) for _ in range(dice.choice((0, 1, 8, 20)))).hex() or '-'}")
+        if dice.random() < naps:
+            lines.append(f"turn {s} {dice.getrandbits(32)} {dice.choice((1, 2, 3, 4, 5, 6, 7, 8, 10, 15, 30))}")
+            asleep[s] = number + dice.choice((0, 3, 20, 60))
+        else:
+            lines += [f"turn {s} {dice.getrandbits(32)} 2000"] * dice.choice((1, 2))
+        if dice.random() < 0.1:
+            lines.append(f"recv {dice.randrange(m)} {dice.choice((1, 2, 9, 99))}")
+        if dice.random() < stops:
+            lines.append(f"stop {dice.randrange(n)}")
+        if dice.random() < closes:
+            lines.append(f"close {s}")
+        if dice.random() < leaves:
+            lines.append(f"leave {dice.choice(awake)}")
+    if dice.random() < 0.4:
+        lines += last_lines(dice, n, m)
+    return "\n".join(lines).encode() + b"\n"

@@ -1,0 +1,379 @@
+#include "engine.h"
+#include "entries.h"
+#include <nats/nats.h>
+#include <pthread.h>
+#include <stdio.h>
+#include <stdlib.h>
+#include <string.h>
+#include <time.h>
+
+enum { BEAT = 1000 /* milliseconds between two signs of life */ };
+
+struct engine_link {
+    const struct bridge_options *options;
+    natsConnection *connection;
+    jsCtx *jetstream;
+    natsSubscription *answers; /* to what was appended */
+    natsSubscription *reading;
+    char inbox[64];
+    char subject[64]; /* of this node's entries */
+    int64_t heard;    /* when there was a sign of life, in milliseconds */
+    uint64_t stored;
+    uint64_t place;
+};
+
+/* Milliseconds of a clock that does not go back. */
+static int64_t now(void) {
+    struct timespec at;
+    clock_gettime(CLOCK_MONOTONIC, &at);
+    return (int64_t)at.tv_sec * 1000 + at.tv_nsec / 1000000;
+}
+
+static bool is_open(struct engine_link *link) {
+    return link->connection && !natsConnection_IsClosed(link->connection);
+}
+
+/* Whether a call went well. If not, what the link waits for. */
+static bool went(struct engine_link *link, natsStatus status, const char *what,
+                 struct bridge_fault *fault) {
+    if (status == NATS_OK) return true;
+    const char *more = nats_GetLastError(NULL);
+    enum bridge_code code = BRIDGE_ENGINE_REFUSES;
+    if (status == NATS_TIMEOUT) code = BRIDGE_ENGINE_SILENT;
+    if (status == NATS_NO_MEMORY) code = BRIDGE_NO_MEMORY;
+    if (status == NATS_NO_RESPONDERS) code = BRIDGE_STREAM_ABSENT;
+    if (!is_open(link)) code = BRIDGE_ENGINE_ABSENT;
+    if (status == NATS_TIMEOUT || !more) more = "";
+    fault_set(fault, code, "%s: %s%s%.120s", what, natsStatus_GetText(status), *more ? ": " : "",
+              more);
+    return false;
+}
+
+static natsStatus connect_options(natsOptions *to, const struct bridge_options *options,
+                                  const char *name, char *list) {
+    const char *servers[16];
+    int many = 0;
+    char *rest = NULL;
+    for (char *one = strtok_r(list, ",", &rest); one && many < 16;
+         one = strtok_r(NULL, ",", &rest)) {
+        servers[many++] = one;
+    }
+    natsStatus status = natsOptions_SetServers(to, servers, many);
+    if (status == NATS_OK) status = natsOptions_SetName(to, name);
+    if (status == NATS_OK) status = natsOptions_SetTimeout(to, (int64_t)options->wait);
+    if (status == NATS_OK) status = natsOptions_SetWriteDeadline(to, (int64_t)options->wait);
+    if (status == NATS_OK) status = natsOptions_SetAllowReconnect(to, false);
+    if (status == NATS_OK) status = natsOptions_SetSendAsap(to, true);
+    return status;
+}
+
+/* An error handler that says nothing: what is wrong is said where it is met. */
+static void pass_over(natsConnection *connection, natsSubscription *subscription, natsStatus status,
+                      void *closure) {
+    (void)connection;
+    (void)subscription;
+    (void)status;
+    (void)closure;
+}
+
+static natsStatus open_connection(struct engine_link *link, const char *name) {
+    const struct bridge_options *options = link->options;
+    char list[sizeof options->engine];
+    natsOptions *set = NULL;
+    jsOptions wait;
+    memcpy(list, options->engine, sizeof list);
+    natsStatus status = natsOptions_Create(&set);
+    if (status == NATS_OK) status = connect_options(set, options, name, list);
+    if (status == NATS_OK) status = natsOptions_SetErrorHandler(set, pass_over, NULL);
+    if (status == NATS_OK) status = natsConnection_Connect(&link->connection, set);
+    natsOptions_Destroy(set);
+    if (status == NATS_OK) status = jsOptions_Init(&wait);
+    if (status == NATS_OK) {
+        wait.Wait = (int64_t)options->wait;
+        status = natsConnection_JetStream(&link->jetstream, link->connection, &wait);
+    }
+    return status;
+}
+
+/* Whether the engine answered an error, and its text. */
+static bool told_error(const char *text, char *to, size_t room) {
+    const char *error = strstr(text, "\"error\"");
+    if (!error) return false;
+    const char *says = strstr(error, "\"description\":\"");
+    says = says ? says + strlen("\"description\":\"") : error;
+    size_t length = strcspn(says, "\"");
+    snprintf(to, room, "%.*s", length < 200 ? (int)length : 200, says);
+    return true;
+}
+
+static uint64_t told_place(const char *text) {
+    const char *at = strstr(text, "\"seq\":");
+    return at ? strtoull(at + strlen("\"seq\":"), NULL, 10) : 0;
+}
+
+/* Notes the engine's answer to an entry. False where it was refused. */
+static bool note_answer(struct engine_link *link, const natsMsg *answer,
+                        struct bridge_fault *fault) {
+    char text[256] = "", error[220];
+    int length = natsMsg_GetDataLength(answer);
+    if (length > 255) length = 255;
+    memcpy(text, length ? natsMsg_GetData(answer) : "", (size_t)length);
+    if (!length) {
+        fault_set(fault, BRIDGE_STREAM_ABSENT, "nobody keeps the stream");
+        return false;
+    }
+    if (told_error(text, error, sizeof error)) {
+        fault_set(fault, BRIDGE_ENGINE_REFUSES, "%s", error);
+        return false;
+    }
+    link->stored++;
+    link->place = told_place(text);
+    return true;
+}
+
+static natsStatus hear_answers(struct engine_link *link) {
+    natsInbox *inbox = NULL;
+    natsStatus status = natsInbox_Create(&inbox);
+    if (status != NATS_OK) return status;
+    snprintf(link->inbox, sizeof link->inbox, "%s", (const char *)inbox);
+    natsInbox_Destroy(inbox);
+    status = natsConnection_SubscribeSync(&link->answers, link->connection, link->inbox);
+    if (status == NATS_OK) status = natsSubscription_SetPendingLimits(link->answers, -1, -1);
+    return status;
+}
+
+/* The client's library is opened once, before two threads use it. */
+static pthread_once_t once = PTHREAD_ONCE_INIT;
+
+static void open_library(void) {
+    nats_Open(-1);
+}
+
+bool engine_connect(struct engine_link **to, const struct bridge_options *options, const char *name,
+                    struct bridge_fault *fault) {
+    struct engine_link *link = calloc(1, sizeof *link);
+    if (!link) return fault_set(fault, BRIDGE_NO_MEMORY, "for a link"), false;
+    pthread_once(&once, open_library);
+    link->options = options;
+    snprintf(link->subject, sizeof link->subject, "%s.%llu", options->stream,
+             (unsigned long long)options->node);
+    natsStatus status = open_connection(link, name);
+    if (status == NATS_OK) status = hear_answers(link);
+    if (status != NATS_OK) {
+        fault_set(fault, BRIDGE_ENGINE_ABSENT, "%s: %s", options->engine,
+                  natsStatus_GetText(status));
+        engine_close(link);
+        return false;
+    }
+    *to = link;
+    return true;
+}
+
+/* Whether a stream keeps all that was appended. */
+static bool keeps_all(const jsStreamConfig *has, struct bridge_fault *fault) {
+    const char *wrong = NULL;
+    if (has->Storage != js_FileStorage) wrong = "it is not kept on disk";
+    if (has->Retention != js_LimitsPolicy) wrong = "it removes entries that were heard";
+    if (has->Discard != js_DiscardNew) wrong = "it removes old entries when it is full";
+    if (has->MaxAge > 0) wrong = "it removes entries by their age";
+    if (has->MaxMsgsPerSubject > 0) wrong = "it has a limit for each node";
+    if (wrong) fault_set(fault, BRIDGE_WRONG_STREAM, "the stream %s: %s", has->Name, wrong);
+    return !wrong;
+}
+
+static natsStatus make_stream(struct engine_link *link, jsStreamInfo **info) {
+    char subjects[64];
+    const char *list[1] = {subjects};
+    jsStreamConfig config;
+    jsErrCode error = 0;
+    jsStreamConfig_Init(&config);
+    snprintf(subjects, sizeof subjects, "%s.*", link->options->stream);
+    config.Name = link->options->stream;
+    config.Subjects = list;
+    config.SubjectsLen = 1;
+    config.Storage = js_FileStorage;
+    config.Retention = js_LimitsPolicy;
+    config.Discard = js_DiscardNew;
+    config.Replicas = (int64_t)link->options->replicas;
+    config.DenyDelete = true;
+    config.DenyPurge = true;
+    if (link->options->entries) config.MaxMsgs = (int64_t)link->options->entries;
+    return js_AddStream(info, link->jetstream, &config, NULL, &error);
+}
+
+bool engine_stream(struct engine_link *link, bool make, struct engine_stream *stream,
+                   struct bridge_fault *fault) {
+    jsStreamInfo *info = NULL;
+    jsErrCode error = 0;
+    natsStatus status =
+        js_GetStreamInfo(&info, link->jetstream, link->options->stream, NULL, &error);
+    if (status == NATS_NOT_FOUND || error == JSStreamNotFoundErr) {
+        if (!make) {
+            return fault_set(fault, BRIDGE_STREAM_ABSENT, "there is no stream %s",
+                             link->options->stream),
+                   false;
+        }
+        status = make_stream(link, &info);
+    }
+    if (!went(link, status, "to look at the stream", fault)) return false;
+    bool good = keeps_all(info->Config, fault);
+    stream->first = info->State.FirstSeq;
+    stream->last = info->State.LastSeq;
+    jsStreamInfo_Destroy(info);
+    return good;
+}
+
+bool engine_last_own(struct engine_link *link, uint64_t *place, struct bridge_fault *fault) {
+    natsMsg *last = NULL;
+    jsErrCode error = 0;
+    natsStatus status =
+        js_GetLastMsg(&last, link->jetstream, link->options->stream, link->subject, NULL, &error);
+    *place = 0;
+    if (status == NATS_NOT_FOUND || error == JSNoMessageFoundErr) return true;
+    if (!went(link, status, "to find the last entry of this node", fault)) return false;
+    *place = natsMsg_GetSequence(last);
+    natsMsg_Destroy(last);
+    return true;
+}
+
+bool engine_append_after(struct engine_link *link, uint64_t after, const uint8_t *bytes,
+                         size_t length, uint64_t *place, struct bridge_fault *fault) {
+    natsMsg *entry = NULL;
+    jsPubAck *stored = NULL;
+    jsErrCode error = 0;
+    char text[24];
+    snprintf(text, sizeof text, "%llu", (unsigned long long)after);
+    natsStatus status =
+        natsMsg_Create(&entry, link->subject, NULL, (const char *)bytes, (int)length);
+    if (status == NATS_OK)
+        status = natsMsgHeader_Set(entry, "Nats-Expected-Last-Subject-Sequence", text);
+    if (status == NATS_OK) status = js_PublishMsg(&stored, link->jetstream, entry, NULL, &error);
+    bool good = went(link, status, "to begin", fault);
+    if (good) *place = stored->Sequence;
+    jsPubAck_Destroy(stored);
+    natsMsg_Destroy(entry);
+    return good;
+}
+
+bool engine_append(struct engine_link *link, const uint8_t *bytes, size_t length,
+                   struct bridge_fault *fault) {
+    natsStatus status = natsConnection_PublishRequest(link->connection, link->subject, link->inbox,
+                                                      bytes, (int)length);
+    return went(link, status, "to append", fault);
+}
+
+bool engine_stored(struct engine_link *link, uint64_t *many, uint64_t *place,
+                   struct bridge_fault *fault) {
+    natsMsg *answer = NULL;
+    natsStatus status;
+    bool good = true;
+    while (good && (status = natsSubscription_NextMsg(&answer, link->answers, 0)) == NATS_OK) {
+        good = note_answer(link, answer, fault);
+        natsMsg_Destroy(answer);
+    }
+    if (good && status != NATS_TIMEOUT)
+        good = went(link, status, "to hear that it is stored", fault);
+    *many = link->stored;
+    *place = link->place;
+    return good;
+}
+
+bool engine_read_from(struct engine_link *link, uint64_t place, struct bridge_fault *fault) {
+    natsInbox *inbox = NULL;
+    jsConsumerInfo *info = NULL;
+    jsConsumerConfig config;
+    jsErrCode error = 0;
+    natsStatus status = natsInbox_Create(&inbox);
+    jsConsumerConfig_Init(&config);
+    config.DeliverSubject = inbox;
+    config.DeliverPolicy = js_DeliverByStartSequence;
+    config.OptStartSeq = place;
+    config.AckPolicy = js_AckNone;
+    config.FlowControl = true;
+    config.Heartbeat = BEAT * 1000000LL;
+    config.MemoryStorage = true;
+    if (status == NATS_OK)
+        status = natsConnection_SubscribeSync(&link->reading, link->connection, inbox);
+    if (status == NATS_OK) status = natsSubscription_SetPendingLimits(link->reading, -1, -1);
+    if (status == NATS_OK) {
+        status =
+            js_AddConsumer(&info, link->jetstream, link->options->stream, &config, NULL, &error);
+    }
+    jsConsumerInfo_Destroy(info);
+    natsInbox_Destroy(inbox);
+    link->heard = now();
+    return went(link, status, "to read the stream", fault);
+}
+
+/* The place of an entry and how many are behind it, from where its acknowledgement would go:
+   $JS.ACK.STREAM.CONSUMER.TRIES.PLACE.COUNT.TIME.BEHIND, with two words more before STREAM where
+   the engine has domains. */
+static bool read_place(const char *reply, struct engine_entry *entry) {
+    const char *word[13];
+    int many = 0;
+    for (const char *at = reply; at && many < 13; many++) {
+        word[many] = at;
+        at = strchr(at, '.');
+        if (at) at++;
+    }
+    if (many < 9 || strncmp(reply, "$JS.ACK.", 8)) return false;
+    int more = many == 9 ? 0 : 2;
+    entry->place = strtoull(word[5 + more], NULL, 10);
+    entry->behind = strtoull(word[8 + more], NULL, 10);
+    return true;
+}
+
+/* A sign of life, which may want an answer before more entries come. */
+static void answer_sign(struct engine_link *link, natsMsg *sign) {
+    const char *reply = natsMsg_GetReply(sign), *stalled = NULL;
+    if (reply && *reply) natsConnection_Publish(link->connection, reply, "", 0);
+    if (natsMsgHeader_Get(sign, "Nats-Consumer-Stalled", &stalled) == NATS_OK && stalled) {
+        natsConnection_Publish(link->connection, stalled, "", 0);
+    }
+}
+
+/* Whether the engine has been silent for too long. */
+static enum engine_read nothing(struct engine_link *link, struct bridge_fault *fault) {
+    int64_t silent = now() - link->heard;
+    if (silent < (int64_t)link->options->wait + BEAT) return ENGINE_NOTHING;
+    fault_set(fault, BRIDGE_ENGINE_SILENT, "no sign of it for %lld ms", (long long)silent);
+    return ENGINE_BROKEN;
+}
+
+enum engine_read engine_next(struct engine_link *link, int64_t milliseconds,
+                             struct engine_entry *entry, struct bridge_fault *fault) {
+    natsMsg *message = NULL;
+    natsStatus status = natsSubscription_NextMsg(&message, link->reading, milliseconds);
+    if (status == NATS_TIMEOUT) return nothing(link, fault);
+    if (!went(link, status, "to hear the next entry", fault)) return ENGINE_BROKEN;
+    link->heard = now();
+    const char *reply = natsMsg_GetReply(message);
+    entry->held = message;
+    entry->bytes = (const uint8_t *)natsMsg_GetData(message);
+    entry->length = (size_t)natsMsg_GetDataLength(message);
+    if (reply && read_place(reply, entry)) return ENGINE_ENTRY;
+    answer_sign(link, message);
+    natsMsg_Destroy(message);
+    return ENGINE_NOTHING;
+}
+
+void engine_release(struct engine_entry *entry) {
+    natsMsg_Destroy(entry->held);
+    entry->held = NULL;
+}
+
+/* The connection is closed first, which ends the client's thread that reads: libnats 3.4.1 follows a
+   subscription that was destroyed while an entry of it came in. */
+void engine_close(struct engine_link *link) {
+    if (!link) return;
+    if (link->connection) natsConnection_Close(link->connection);
+    natsSubscription_Destroy(link->answers);
+    natsSubscription_Destroy(link->reading);
+    jsCtx_Destroy(link->jetstream);
+    natsConnection_Destroy(link->connection);
+    free(link);
+}
+
+void engine_end(void) {
+    nats_CloseAndWait(2000);
+}

@@ -1,0 +1,68 @@
+/* What the uplink, the downlink and the calls of a bridge share. */
+#ifndef BRIDGE_INSIDE_H
+#define BRIDGE_INSIDE_H
+
+#include "bridge.h"
+#include "engine.h"
+#include <pthread.h>
+#include <stdatomic.h>
+
+enum { CHECKPOINTS = 16, CHECKPOINT_NODE = 255, HEARD_ROOM = 32 };
+
+/* What a worker has fetched from its bus and not yet been given, and how far it is. Its own. */
+struct fetched {
+    kioskbasil_item items[HEARD_ROOM];
+    size_t many;
+    size_t at;
+    bool told;      /* its number when the stream had told that */
+    uint64_t sent;  /* the number behind the last that it sent */
+    uint64_t heard; /* and behind the last of its own that it heard since then */
+    atomic_uint_fast64_t given;
+};
+
+struct bridge {
+    struct bridge_options options;
+    uint64_t process; /* the name of this process in its begins */
+    bool make;        /* the stream may be made */
+    uint64_t ahead;   /* messages that a worker may have sent and not heard */
+    atomic_bool stop;
+    _Atomic(struct sittings *) up; /* NULL before the stream has told the numbers */
+    struct sittings *down;
+    struct fetched fetched[BRIDGE_MOST_WORKERS];
+    pthread_mutex_t lock;
+    pthread_cond_t told;    /* that an entry was heard */
+    pthread_cond_t ends;    /* that the bridge stops */
+    struct bridge_node own; /* these under `lock`: of this node, as far as the stream was heard, */
+    uint64_t place;         /* which is up to here */
+    bool failed;
+    struct bridge_fault fault;
+    struct bridge_place *checkpoints; /* the last CHECKPOINTS */
+    uint64_t taken;
+    atomic_uint_fast64_t entries_sent, items_sent, in_flight, behind, items, passed;
+    struct bridge_place *here; /* the downlink's */
+    pthread_t threads[3];
+    int started;
+};
+
+/* Milliseconds of a clock that does not go back. */
+int64_t bridge_now(void);
+
+static inline bool bridge_stops(struct bridge *bridge) {
+    return atomic_load_explicit(&bridge->stop, memory_order_relaxed);
+}
+
+/* Ends the bridge by this fault. */
+void bridge_fail(struct bridge *bridge, const struct bridge_fault *fault);
+
+/* Says why a link is broken and for what it waits, and pauses, each time for longer. Where the
+   fault is final it ends the bridge. */
+void bridge_pause(struct bridge *bridge, const char *link, const struct bridge_fault *fault,
+                  const char *kept, uint64_t *pause);
+
+/* Waits for one of the two for at most so many milliseconds. Under `lock`. */
+void bridge_await(struct bridge *bridge, pthread_cond_t *what, int64_t milliseconds);
+
+void *uplink_run(void *bridge);
+void *downlink_run(void *bridge);
+
+#endif

@@ -1,0 +1,296 @@
+"""An engine and nodes as processes, for examples/nodes/run and bridge/test: they start, are killed, stopped and compared.
+
+`Reader` speaks the protocol of NATS by itself, and `audit` reads a whole stream by it. It says anew which entries count and what
+they do to a map, by the text of bridge/entries.h and examples/nodes/node.c, and shares no line with them.
+"""
+import json
+import os
+import random
+import shutil
+import socket
+import struct
+import subprocess
+import time
+
+HERE = os.path.dirname(os.path.abspath(__file__))
+NODE = os.path.join(HERE, "out", "node")
+
+
+def free_port():
+    with socket.socket() as found:
+        found.bind(("127.0.0.1", 0))
+        return found.getsockname()[1]
+
+
+class Engine:
+    """A NATS server of its own, with its streams in a folder."""
+
+    def __init__(self, folder):
+        self.folder = folder
+        self.port = free_port()
+        self.address = f"nats://127.0.0.1:{self.port}"
+        self.process = None
+        os.makedirs(folder, exist_ok=True)
+        with open(f"{folder}/engine.conf", "w", encoding="utf-8") as to:
+            to.write(f'listen: 127.0.0.1:{self.port}\njetstream {{ store_dir: "{folder}/store" }}\n')
+
+    def start(self, wait=True):
+        self.log = open(f"{self.folder}/engine.log", "a", encoding="utf-8")
+        self.process = subprocess.Popen(["nats-server", "-c", f"{self.folder}/engine.conf"], stdout=self.log, stderr=self.log)
+        until = time.monotonic() + 20
+        while wait:
+            try:
+                with socket.create_connection(("127.0.0.1", self.port), 1):
+                    return
+            except OSError:
+                if time.monotonic() > until or self.process.poll() is not None:
+                    raise SystemExit(f"the engine does not start: see {self.folder}/engine.log")
+                time.sleep(0.02)
+
+    def signal(self, what):
+        self.process.send_signal(what)
+
+    def kill(self):
+        if self.process and self.process.poll() is None:
+            self.process.kill()
+        if self.process:
+            self.process.wait()
+
+    def forget(self):
+        """Removes all that it has stored."""
+        shutil.rmtree(f"{self.folder}/store", ignore_errors=True)
+
+
+class Node:
+    """A process of examples/nodes/node.c, whose lines go to files."""
+
+    def __init__(self, folder, number, options, program=(NODE,)):
+        self.path = f"{folder}/node-{number}"
+        self.command = [*program, "--node", str(number)]
+        for name, value in options.items():
+            self.command += [f"--{name}", str(value)]
+        self.process = None
+
+    def start(self):
+        with open(self.path + ".err", "a", encoding="utf-8") as said, open(self.path + ".out", "w", encoding="utf-8") as out:
+            self.process = subprocess.Popen(self.command, stdout=out, stderr=said)
+        return self
+
+    def runs(self):
+        return self.process.poll() is None
+
+    def kill(self):
+        if self.process and self.runs():
+            self.process.kill()
+        if self.process:
+            self.process.wait()
+
+    def ends(self, seconds):
+        """Its status, or None where it does not end in time."""
+        try:
+            return self.process.wait(seconds)
+        except subprocess.TimeoutExpired:
+            return None
+
+    def said(self):
+        with open(self.path + ".err", encoding="utf-8", errors="replace") as text:
+            return text.read()
+
+    def printed(self):
+        with open(self.path + ".out", encoding="utf-8", errors="replace") as text:
+            return text.read().strip()
+
+    def says(self, words, seconds):
+        """Whether it says this within so many seconds."""
+        until = time.monotonic() + seconds
+        while time.monotonic() < until:
+            if words in self.said():
+                return True
+            time.sleep(0.05)
+        return False
+
+
+class Reader:
+    """A client of NATS, of what is wanted here."""
+
+    def __init__(self, port):
+        self.socket = socket.create_connection(("127.0.0.1", port), 10)
+        self.file = self.socket.makefile("rb")
+        self.file.readline()
+        self.inbox = f"_INBOX.trials{os.getpid()}x{random.getrandbits(32)}"
+        self.early = []
+        self.socket.sendall(b'CONNECT {"verbose":false,"headers":true}\r\n' + f"SUB {self.inbox} 1\r\nSUB {self.inbox}.entries 2\r\n".encode())
+
+    def message(self):
+        """The next message: whether it is an entry, where an answer goes, its headers, and its bytes."""
+        while True:
+            word = self.file.readline().split()
+            if not word:
+                raise AssertionError("the engine has ended the connection")
+            if word[0] == b"PING":
+                self.socket.sendall(b"PONG\r\n")
+            if word[0] == b"MSG":
+                return word[2] == b"2", word[3] if len(word) == 5 else b"", b"", self.file.read(int(word[-1]) + 2)[:-2]
+            if word[0] == b"HMSG":
+                headers, whole = int(word[-2]), self.file.read(int(word[-1]) + 2)
+                return word[2] == b"2", word[3] if len(word) == 6 else b"", whole[:headers], whole[headers:-2]
+
+    def ask(self, subject, given=None):
+        """What JetStream's interface answers."""
+        text = json.dumps(given).encode() if given else b""
+        self.socket.sendall(f"PUB $JS.API.{subject} {self.inbox} {len(text)}\r\n".encode() + text + b"\r\n")
+        while True:
+            told = self.message()
+            if not told[0]:
+                return json.loads(told[3])
+            self.early.append(told)  # an entry that comes before the answer
+
+    def allow(self, stream, entries):
+        config = self.ask(f"STREAM.INFO.{stream}")["config"]
+        return self.ask(f"STREAM.UPDATE.{stream}", {**config, "max_msgs": entries})
+
+    def entries(self, stream):
+        """All entries of a stream, in their order."""
+        last = self.ask(f"STREAM.INFO.{stream}")["state"]["last_seq"]
+        given = {"deliver_subject": self.inbox + ".entries", "deliver_policy": "all", "ack_policy": "none", "replay_policy": "instant",
+                 "flow_control": True, "idle_heartbeat": 1_000_000_000}
+        self.ask(f"CONSUMER.CREATE.{stream}", {"stream_name": stream, "config": given})
+        place = 1
+        while place <= last:
+            _, reply, headers, entry = self.early.pop(0) if self.early else self.message()
+            if headers.startswith(b"NATS/1.0 100"):
+                if reply:
+                    self.socket.sendall(b"PUB " + reply + b" 0\r\n\r\n")
+                continue
+            assert int(reply.split(b".")[-4]) == place, f"entry {reply} came in place of {place}"
+            yield place, entry
+            place += 1
+
+
+KEYS, MOST_NODES, MOST_WORKERS, WORD = 256, 64, 8, (1 << 64) - 1
+
+
+def checksum(data):
+    check = 14695981039346656037
+    for byte in data:
+        check = (check ^ byte) * 1099511628211 & WORD
+    return check
+
+
+def is_entry(entry):
+    """Whether these bytes are an entry."""
+    if len(entry) < 22 or entry[:2] != b"K\x01" or entry[3] >= MOST_NODES:
+        return False
+    count = int.from_bytes(entry[20:22], "little")
+    if entry[2:3] == b"b":
+        return len(entry) == 22 and 1 <= count <= MOST_WORKERS
+    at, many = 22, 0
+    while at + 8 <= len(entry) and entry[at] < MOST_WORKERS and entry[at + 1] <= 48:
+        at, many = at + 8 + entry[at + 1], many + 1
+    return entry[2:3] == b"i" and at == len(entry) and many == count and 1 <= count <= 256
+
+
+def audit(port, stream):
+    """Reads the stream: the checksum that each map has to have, how many items count, and how many entries do not."""
+    epoch, entries, values = {}, {}, [0] * KEYS
+    following = [[0] * MOST_WORKERS for _ in range(MOST_NODES)]
+    items = passed = 0
+    for place, entry in Reader(port).entries(stream):
+        if not is_entry(entry):
+            passed += 1
+            continue
+        kind, node, of, number, count = entry[2:3], entry[3], *struct.unpack_from("<QQH", entry, 4)
+        if kind == b"b":
+            epoch[node], entries[node] = place, 0
+            continue
+        if epoch.get(node) != of or entries[node] != number:
+            passed += 1
+            continue
+        entries[node] += 1
+        at = 22
+        for _ in range(count):
+            sender, length, own = entry[at], entry[at + 1], int.from_bytes(entry[at + 2:at + 8], "little")
+            assert own == following[node][sender], f"number {own} of worker {sender} of node {node} at entry {place}"
+            following[node][sender] += 1
+            message = entry[at + 8:at + 8 + length]
+            value = int.from_bytes(message[2:10], "little")
+            values[message[1]] = value if message[:1] == b"s" else (values[message[1]] * 31 + value) & WORD
+            items += 1
+            at += 8 + length
+    words = [*values, *(number for node in following for number in node), items]
+    return checksum(struct.pack(f"<{len(words)}Q", *words)), items, passed
+
+
+class Kills:
+    """Three nodes and an engine, which are killed at random moments and started again."""
+
+    def __init__(self, folder, seed, kills, seconds, program=NODE, patience=180, pace=20):
+        self.folder, self.dice, self.wanted, self.seconds = folder, random.Random(seed), kills, seconds
+        self.patience = patience
+        self.engine = Engine(folder)
+        # A worker sends 8 messages in `pace` milliseconds, so it has work for longer than the kills take.
+        self.messages = int(seconds * 1.1 * 8000 / pace)
+        self.options = {"engine": self.engine.address, "stream": "nodes", "nodes": 3, "messages": self.messages, "burst": 8, "batch": 8,
+                        "pace": pace, "checkpoint": 500 // pace, "wait": 2000, "pause": 1000, "report": 5}
+        self.nodes = [Node(folder, i, {**self.options, "file": f"{folder}/state-{i}"}, (program,)) for i in range(3)]
+        self.killed = {"engine": 0, "node": 0}
+
+    def victims(self):
+        """Who is killed next: mostly one node, else the engine, both, or all nodes at once."""
+        running = [node for node in self.nodes if node.runs()]
+        chance = self.dice.random()
+        if chance < 0.30 or not running:
+            return [self.engine]
+        if chance < 0.40:
+            return [self.engine, self.dice.choice(running)]
+        if chance < 0.45:
+            return running
+        return [self.dice.choice(running)]
+
+    def kill_some(self):
+        victims = self.victims()
+        self.dice.shuffle(victims)
+        for victim in victims:
+            victim.kill()
+            self.killed["engine" if victim is self.engine else "node"] += 1
+        time.sleep(self.dice.random() ** 2 * 2)
+        for victim in victims:
+            victim.start()
+
+    def many(self):
+        return sum(self.killed.values())
+
+    def run(self):
+        self.engine.start()
+        for node in self.nodes:
+            node.start()
+        began = time.monotonic()
+        while self.many() < self.wanted and any(node.runs() for node in self.nodes):
+            due = began + self.seconds * (self.many() + self.dice.random()) / self.wanted
+            time.sleep(max(0.0, due - time.monotonic()))
+            self.kill_some()
+        until = time.monotonic() + self.seconds + self.patience
+        statuses = [node.ends(max(0.1, until - time.monotonic())) for node in self.nodes]
+        return self.compare(statuses, time.monotonic() - began)
+
+    def compare(self, statuses, took):
+        """Says what came of it; whether all is right."""
+        for node in self.nodes:
+            node.kill()
+        sums = [node.printed().split(": ", 1)[-1] for node in self.nodes]
+        check, items, passed = audit(self.engine.port, "nodes")
+        said = "".join(node.said() for node in self.nodes)
+        wanted = f"4 equal maps {check:016x}, {12 * self.messages} items applied"
+        differ = sum(one != wanted for one in sums) + said.count("DIFFER")
+        lost, twice, changed = said.count("LOST"), said.count("TWICE"), said.count("CHANGED")
+        lost += abs(12 * self.messages - items)
+        print(f"{self.many()} kills in {took:.0f} s: {self.killed['node']} of nodes, {self.killed['engine']} of the engine")
+        print(f"{items} items in the stream, {passed} entries passed over, {said.count('begun as')} nodes taken over")
+        for node, status in zip(self.nodes, statuses):
+            print(f"  {node.printed() or 'nothing printed'} (status {status})")
+        print(f"{differ} differ, {lost} lost, {twice} twice, {changed} changed")
+        return statuses == [0, 0, 0] and self.many() >= self.wanted and not differ + lost + twice + changed
+
+    def close(self):
+        for one in [*self.nodes, self.engine]:
+            one.kill()

@@ -1,0 +1,40 @@
+-- The page of a sitting whose order has ended, by its senders.
+use Rattle.std.specs.Prelude.{◌≡◌, ℕ, ◌<◌, ◌⊎◌, true, Some, None, List, slice_get, slice_index}
+use Rattle.bus_register.specs.declared.limits.TheConstants.{MOST_SENDERS}
+use Rattle.bus_tenure.specs.Core.{is_closed}
+use Rattle.bus_tenure.specs.declared.pages.Page.{Page}
+use Rattle.bus_automaton.specs.Processes.{Process}
+use Rattle.bus_pageslot.specs.Seats.{SenderSeat}
+use Rattle.bus_handles.specs.declared.pages.NoPage.{NoPage}
+use Rattle.bus_handles.specs.declared.pages.NoPage.TheVariants as why
+
+-- the sender of this number, which sends nothing more: it was answered that the order has ended, or
+-- that it has left
+pub record HasParted {C : Type 0} (P : Process C) (number : ℕ) (s : SenderSeat C) : Type 0 where
+  pub number_is : P.me s.core ≡ number
+  pub closed : is_closed (P.queue s.core).phase ≡ true
+
+-- So many of these senders, from the first on, are at their places and send nothing more. Of each
+-- these numbers have that of the first message which waits with it, or else of the next one.
+pub record AreNoted {C : Type 0} (P : Process C) (senders : List (SenderSeat C)) (many : ℕ)
+    (numbers : List ℕ) : Type 0 where
+  pub parted : (place : ℕ) (s : SenderSeat C) → place < many → slice_get senders place ≡ Some s
+      → HasParted P place s
+  pub number : (place : ℕ) (s : SenderSeat C) → place < many → slice_get senders place ≡ Some s
+      → slice_index numbers place ≡ (P.queue s.core).first
+
+-- The page has these numbers of all these senders, and that the order has ended.
+pub record IsPageOf {C : Type 0} (P : Process C) (senders : List (SenderSeat C)) (page : Page) :
+    Type 0 where
+  pub noted : AreNoted P senders MOST_SENDERS page.next
+  pub ended : page.ended ≡ true
+
+-- none was made: all of them send nothing more; or this one is not there, or is not at its place,
+-- or may send still
+abbrev pub NoPageOf : {C : Type 0} → Process C → List (SenderSeat C) → NoPage → Type 0
+NoPageOf {C} P senders why.NotEnded =
+    (place : ℕ) (s : SenderSeat C) → place < MOST_SENDERS → slice_get senders place ≡ Some s
+    → HasParted P place s
+NoPageOf {C} P senders (why.Unanswered number) =
+    (slice_get senders number.0 ≡ None)
+    ⊎ ((s : SenderSeat C) × (slice_get senders number.0 ≡ Some s) × (HasParted P number.0 s → ⊥))

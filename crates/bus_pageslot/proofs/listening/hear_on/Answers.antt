@@ -1,0 +1,26 @@
+use Rattle.std.proofs.Common.{◌≡◌, None, refl, subst, ◌∙◌, arith}
+use Rattle.bus_deliverylog.specs.declared.receiving.RecvTurn.TheVariants as turn
+use Rattle.bus_pageslot.specs.Listening.{Hears, WritesOrPlain, At, Onward}
+use Rattle.bus_pageslot.proofs.ReaderLaws.{unread}
+use Rattle.bus_pageslot.proofs.listening.hear_on.Goals as goal
+
+pub loop-turn-init : goal.loop-turn-init
+loop-turn-init g c = (refl, c.requires.receiver_view, c.requires.going, refl, At)
+
+pub loop-turn-preserved : goal.loop-turn-preserved
+loop-turn-preserved g c =
+    let before = c.loop-turn in
+    let taken = c.hear in
+    let none : taken.result ≡ None = c.in_default.is in
+    let h = taken.ensures.hears in
+    let plain : (h.0 ≡ turn.Going) × (taken.new.item ≡ before.item) =
+    subst (λ t. WritesOrPlain h.0 before.item t taken.new.item) none h.1 in
+    let less = (taken.ensures.plain none).0 in (
+      taken.ensures.table ∙ before.invariant.0,
+      taken.ensures.receiver_view,
+      (taken.ensures.plain none).1,
+      plain.1 ∙ before.invariant.3,
+      Onward before.seat.me taken.new.seat.me before.invariant.4
+          (unread before.invariant.1 (omega (arith, less)))
+          (subst (λ a. Hears before.seat.me a taken.new.seat.me) plain.0 h.3),
+    )

@@ -1,0 +1,109 @@
+use Rattle.std.proofs.Common.{◌+◌, arith, refl, sym, ◌∙◌}
+use Rattle.bus_automaton.specs.Buses.{process_with}
+use Rattle.bus_core.specs.Seen.{tenure_begun}
+use Rattle.bus_pageslot.specs.Finishing.{Begun}
+use Rattle.bus_pageslot.specs.Turns.{tells_with, Undrawn}
+use Rattle.bus_pageslot.proofs.Finishing.{has_finished, finishes_as, finished_keeps, goes_through}
+use Rattle.bus_pageslot.proofs.Finishing.{through_begun, not_some}
+use Rattle.bus_pageslot.proofs.Sending.{turned_puts, drawn_on}
+use Rattle.bus_pageslot.proofs.seats.Sender.finish.Goals as goal
+
+pub returns-then-not-has_begun-clause-none : goal.returns-then-not-has_begun-clause-none
+returns-then-not-has_begun-clause-none g c = (
+  refl,
+  has_finished g.Q.Machine.kind_of g.Q.Machine.op g.Q.Machine.fed g.Q.Ratifier.protocol
+      c.args.self.now (not_some (tenure_begun c.args.self.now.core)
+      (sym c.has_begun.ensures ∙ c.if-not-has_begun.true)),
+)
+
+pub returns-then-not-has_begun-clause-draws : goal.returns-then-not-has_begun-clause-draws
+returns-then-not-has_begun-clause-draws g c = Undrawn
+
+pub turns-init : goal.turns-init
+turns-init g c = (
+  (0, Begun (sym c.has_begun.ensures ∙ c.if-not-has_begun.false), omega arith),
+  refl,
+  refl,
+  Undrawn,
+)
+
+pub turn_begun-turn-requires-clause-begun : goal.turn_begun-turn-requires-clause-begun
+turn_begun-turn-requires-clause-begun g c =
+    let P = process_with g.Q.Machine.kind_of g.Q.Machine.op g.Q.Machine.fed g.Q.Ratifier.protocol in
+    let T = tells_with g.Q.Machine.kind_of g.Q.Machine.op g.Q.Machine.fed g.Q.Ratifier.protocol in
+    let through = c.turns.invariant.0 in
+    through_begun P T c.args.self.now through.0 c.turns.self through.1
+
+-- it goes on
+pub turns-preserved : goal.turns-preserved
+turns-preserved g c =
+    let P = process_with g.Q.Machine.kind_of g.Q.Machine.op g.Q.Machine.fed g.Q.Ratifier.protocol in
+    let T = tells_with g.Q.Machine.kind_of g.Q.Machine.op g.Q.Machine.fed g.Q.Ratifier.protocol in
+    let through = c.turns.invariant.0 in
+    let goes = c.stops.ensures.goes c.if-stops.false in
+    let less = c.turn_begun-turn.ensures.falls goes.0 in
+    let few = through.2 in (
+      (
+        through.0 + 1,
+        goes_through g.Q.Machine.kind_of g.Q.Machine.op g.Q.Machine.fed g.Q.Ratifier.protocol
+            c.args.self.now through.0 c.turns.self c.next_word-word.result
+            c.turn_begun-turn.result c.turn_begun-turn.new.self through.1
+            c.turn_begun-turn.ensures.turned c.turn_begun-turn.ensures.goes goes.0 goes.1,
+        omega arith,
+      ),
+      c.turn_begun-turn.ensures.table ∙ c.turns.invariant.1,
+      turned_puts P T c.threads_may_go_by.ensures.process c.turns.self c.next_word-word.result
+          c.turn_begun-turn.result c.turn_begun-turn.new.self c.turn_begun-turn.ensures.turned
+          ∙ c.turns.invariant.2,
+      drawn_on P T c.args.self.now (g.R.Rng.stream c.args.rng.now) c.turns.self
+          (g.R.Rng.stream c.turns.rng) c.next_word-word.result c.turn_begun-turn.result
+          c.turn_begun-turn.new.self (g.R.Rng.stream c.next_word-word.new.rng)
+          c.next_word-word.ensures c.turns.invariant.3 c.turn_begun-turn.ensures.turned,
+    )
+
+pub turns-smaller : goal.turns-smaller
+turns-smaller g c =
+    c.turn_begun-turn.ensures.falls (c.stops.ensures.goes c.if-stops.false).0
+
+-- it stops
+pub returns-then-stops-clause-finishes : goal.returns-then-stops-clause-finishes
+returns-then-stops-clause-finishes g c =
+    let through = c.turns.invariant.0 in
+    let some = c.turn_begun-turn.ensures.some in
+    let few = through.2 in
+    record {
+      count = through.0;
+      old = c.turns.self;
+      word = c.next_word-word.result;
+      before = through.1;
+      turned = c.turn_begun-turn.ensures.turned;
+      finished = finishes_as g.Q.Machine.kind_of g.Q.Machine.op g.Q.Machine.fed
+          g.Q.Ratifier.protocol c.turn_begun-turn.result c.turn_begun-turn.new.self
+          c.turn_begun-turn.ensures.goes (c.stops.ensures.over c.if-stops.true);
+      few = omega arith;
+    }
+
+pub returns-then-stops-clause-keeps : goal.returns-then-stops-clause-keeps
+returns-then-stops-clause-keeps g c unsent =
+    let through = c.turns.invariant.0 in
+    finished_keeps g.Q.Machine.kind_of g.Q.Machine.op g.Q.Machine.fed g.Q.Ratifier.protocol
+    c.args.self.now c.turns.self through.0 c.next_word-word.result c.turn_begun-turn.result
+    c.turn_begun-turn.new.self through.1 c.turn_begun-turn.ensures.turned
+    c.turn_begun-turn.ensures.goes unsent
+
+pub returns-then-stops-clause-puts : goal.returns-then-stops-clause-puts
+returns-then-stops-clause-puts g c =
+    let P = process_with g.Q.Machine.kind_of g.Q.Machine.op g.Q.Machine.fed g.Q.Ratifier.protocol in
+    let T = tells_with g.Q.Machine.kind_of g.Q.Machine.op g.Q.Machine.fed g.Q.Ratifier.protocol in
+    turned_puts P T c.threads_may_go_by.ensures.process c.turns.self c.next_word-word.result
+    c.turn_begun-turn.result c.turn_begun-turn.new.self c.turn_begun-turn.ensures.turned
+    ∙ c.turns.invariant.2
+
+pub returns-then-stops-clause-draws : goal.returns-then-stops-clause-draws
+returns-then-stops-clause-draws g c =
+    let P = process_with g.Q.Machine.kind_of g.Q.Machine.op g.Q.Machine.fed g.Q.Ratifier.protocol in
+    let T = tells_with g.Q.Machine.kind_of g.Q.Machine.op g.Q.Machine.fed g.Q.Ratifier.protocol in
+    drawn_on P T c.args.self.now (g.R.Rng.stream c.args.rng.now) c.turns.self
+    (g.R.Rng.stream c.turns.rng) c.next_word-word.result c.turn_begun-turn.result
+    c.turn_begun-turn.new.self (g.R.Rng.stream c.next_word-word.new.rng)
+    c.next_word-word.ensures c.turns.invariant.3 c.turn_begun-turn.ensures.turned

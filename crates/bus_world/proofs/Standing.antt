@@ -1,0 +1,32 @@
+-- Frames from one of them on are a log by themselves: what stands of a log whose first frames are
+-- gone can be read as a whole one.
+use Rattle.std.proofs.Common.{◌≡◌, ℕ, ◌+◌, ◌≤◌, List, [], ◌∷◌, ◌++◌, length, map, drop, arith}
+use Rattle.std.proofs.Common.{refl, sym, ◌∙◌, ap, subst}
+use Rattle.std.proofs.Math.Seq.{drop-append_seam}
+use Rattle.std.proofs.lemmas.Grind.{flat_map-append}
+use Rattle.bus_batch.specs.Frames.{Frame, Spells, AreFramesFrom, AreFrames, frame_words, log_words}
+use Rattle.bus_batch.specs.Frames.{order_of, tenure_and_owner}
+
+-- a lower first tenure asks no more
+lower : (n a b : ℕ) (frames : List Frame) → b ≤ a → AreFramesFrom n a frames
+    → AreFramesFrom n b frames
+lower n a b [] low h = tt
+lower n a b (f ∷ frames) low h = (h.0, (let l = h.1 in omega arith), h.2, h.3, h.4)
+
+pub later_frames : (n least : ℕ) (front back : List Frame) → AreFramesFrom n least (front ++ back)
+    → AreFrames n back
+later_frames n least [] back h = lower n least 0 back (omega arith) h
+later_frames n least (f ∷ front) back h = later_frames n (f.tenure + 1) front back h.3
+
+-- the words behind those of some first frames spell what the other frames say
+pub stands_as_log : (n : ℕ) (front back : List Frame) → AreFrames n (front ++ back)
+    → Spells n (drop (length (log_words front)) (log_words (front ++ back))) (order_of back)
+    (map tenure_and_owner back)
+stands_as_log n front back h = record {
+  frames = back;
+  lawful = later_frames n 0 front back h;
+  words_are = sym (ap (drop (length (log_words front))) (flat_map-append frame_words front back)
+      ∙ drop-append_seam (log_words front) (log_words back));
+  order_is = refl;
+  owners_are = refl;
+}

@@ -1,0 +1,244 @@
+//! Random schedules of a bus and a machine.
+
+use crate::both::{Both, last_of, leave_the_same, made};
+use bus_adoptcommit::ThreeWord;
+use bus_machine::World;
+use bus_replay::answers::new_bus;
+use bus_replay::lines::FirstLine;
+use bus_world::{Event, Shape};
+use rand_core::Rng;
+use rand_pcg::Pcg32;
+use std::process::Abort;
+
+/// More turns than three senders of one message each need.
+const MOST_TURNS: u32 = 10_000;
+
+/// So many turns of two senders in a row do not go on where both wait or have no more to do.
+const MOST_IDLE: u32 = 24;
+
+/// A random number below this one.
+fn below(dice: &mut Pcg32, most: u32) -> u32 {
+    dice.next_u32() % most.max(1)
+}
+
+/// Something happens: a put, a close, a leave, some turns of a sender, or some of a receiver; in
+/// one time of 200 a sender stops.
+fn happens<R: Abort + AllocGlobal>(rt: &R, both: &mut Both<'_>, dice: &mut Pcg32) {
+    let sender = u64::from(below(dice, 8)) % both.many().max(1);
+    let receiver = u64::from(below(dice, 4)) % both.hearing().max(1);
+    match below(dice, 200) {
+        0..60 => {
+            let bytes = bytes(rt, dice);
+            both.take(rt, &Event::Put { sender, bytes });
+        }
+        60..64 => {
+            both.take(rt, &Event::Close(sender));
+        }
+        64..70 => {
+            both.take(rt, &Event::Leave(sender));
+        }
+        70 => {
+            both.take(rt, &Event::Stop(sender));
+        }
+        71..170 => turns(rt, both, dice, sender),
+        _ => {
+            for _ in 0..below(dice, 12) {
+                both.take(rt, &Event::Recv(receiver));
+            }
+        }
+    }
+}
+
+/// Some turns of a sender.
+fn turns(rt: &impl Abort, both: &mut Both<'_>, dice: &mut Pcg32, sender: u64) {
+    for _ in 0..below(dice, 24) {
+        let word = dice.next_u32();
+        both.take(rt, &Event::Turn { sender, word });
+    }
+}
+
+/// At most 60 random bytes, which may be more than a message has.
+fn bytes<R: Abort + AllocGlobal>(rt: &R, dice: &mut Pcg32) -> Vec<u8> {
+    let mut bytes = Vec::new(rt.alloc());
+    for _ in 0..below(dice, 61) {
+        let byte = (dice.next_u32() % 256) as u8;
+        bytes.push(byte).expect(rt, "memory");
+    }
+    bytes
+}
+
+/// All senders take turns until the page is at home, or until no turn goes on.
+fn come_home(rt: &impl Abort, both: &mut Both<'_>, dice: &mut Pcg32) {
+    let mut idle = 0u64;
+    for _ in 0..400 {
+        for sender in 0..both.many() {
+            if both.world.page().is_some() || idle / 4 > both.many() {
+                return;
+            }
+            let word = dice.next_u32();
+            let goes_on = both.take(rt, &Event::Turn { sender, word });
+            idle = if goes_on { 0 } else { idle.saturating_add(1) };
+        }
+    }
+}
+
+/// A shape of few tenures and a log that may fill up.
+fn shape(dice: &mut Pcg32) -> Shape {
+    Shape {
+        senders: 1 + u64::from(below(dice, 8)),
+        receivers: 1 + u64::from(below(dice, 3)),
+        rounds: 1 + u64::from(below(dice, 3)),
+        rows: 2 + u64::from(below(dice, 7)),
+        log_words: 16 + u64::from(below(dice, 150)),
+    }
+}
+
+/// What all schedules came to, so that it is seen that enough happened.
+#[derive(Default, Drop)]
+struct Sum {
+    items: u64,
+    left: u64,
+    ended: u64,
+    lost: u64,
+    out: u64,
+}
+
+/// Adds what a schedule came to.
+fn add<R: Abort + AllocGlobal>(rt: &R, sum: &mut Sum, world: &World<ThreeWord>, is_home: bool) {
+    let order = world.order(rt.alloc()).expect(rt, "memory");
+    sum.left = sum.left.saturating_add(order.left.len() as u64);
+    sum.items = sum.items.saturating_add(order.items.len() as u64);
+    sum.ended = sum.ended.saturating_add(u64::from(order.ended));
+    sum.out = sum.out.saturating_add(u64::from(!is_home));
+}
+
+/// A bus and a machine of a random shape, with a row for each tenure or with rows that are used
+/// again, to which random events happen.
+fn schedule<R: Abort + AllocGlobal>(rt: &R, seed: u64, sum: &mut Sum) {
+    let mut dice = Pcg32::new(seed, 1);
+    let shape = shape(&mut dice);
+    let first = if seed % 2 == 0 {
+        FirstLine::Shape(shape)
+    } else {
+        FirstLine::Cycle(shape)
+    };
+    let (bus, senders, mut taps) = made(rt, rt.alloc(), first);
+    let Ok(world) = new_bus::<ThreeWord>(rt.alloc(), first) else {
+        panic!(rt; "memory");
+    };
+    let last = last_of(rt, &bus, &mut taps);
+    let mut both = Both::new(rt, &bus, senders, taps, world);
+    for _ in 0..100 {
+        happens(rt, &mut both, &mut dice);
+    }
+    come_home(rt, &mut both, &mut dice);
+    let (world, lost) = both.into_world();
+    sum.lost = sum.lost.saturating_add(lost);
+    let is_home = leave_the_same(rt, bus, last, &world);
+    add(rt, sum, &world, is_home);
+}
+
+/// A thousand random schedules of up to eight senders and three receivers.
+#[test]
+fn bus_like_world(rt: HostRuntime) {
+    let mut sum = Sum::default();
+    for seed in 0..1000 {
+        schedule(&rt, seed, &mut sum);
+    }
+    assert!(rt; sum.items > 1000, "{} items", sum.items);
+    assert!(rt; sum.left > 100, "{} leave marks", sum.left);
+    assert!(rt; sum.ended > 100, "{} orders that ended", sum.ended);
+    assert!(rt; sum.lost > 100, "{} tenures lost", sum.lost);
+    assert!(rt; sum.out > 10, "{} pages out", sum.out);
+}
+
+/// Three senders, of which the first stops after so many turns, while dice say who is next. Says
+/// whether it has: else no step was left for it.
+fn zero_stops(rt: &impl Abort, both: &mut Both<'_>, dice: &mut Pcg32, steps: u32) -> bool {
+    let mut left = steps;
+    for _ in 0..MOST_TURNS {
+        if left == 0 {
+            both.take(rt, &Event::Stop(0));
+            return true;
+        }
+        if both.rests(0) {
+            return false;
+        }
+        let sender = u64::from(below(dice, 3));
+        let word = dice.next_u32();
+        both.take(rt, &Event::Turn { sender, word });
+        if sender == 0 {
+            left -= 1;
+        }
+    }
+    panic!(rt; "a sender has too many steps")
+}
+
+/// The other two go on until no turn does, and the receiver hears all that there is.
+fn two_go_on(rt: &impl Abort, both: &mut Both<'_>, dice: &mut Pcg32) {
+    let mut idle = 0u32;
+    for _ in 0..400 {
+        let sender = 1 + u64::from(below(dice, 2));
+        let word = dice.next_u32();
+        let goes_on = both.take(rt, &Event::Turn { sender, word });
+        idle = if goes_on { 0 } else { idle.saturating_add(1) };
+        if idle == MOST_IDLE {
+            break;
+        }
+    }
+    for _ in 0..99 {
+        if !both.take(rt, &Event::Recv(0)) {
+            return;
+        }
+    }
+}
+
+/// Under this schedule sender 0 of three stops after so many steps. Says whether the page is at
+/// home then; none where it never takes so many.
+fn stops_after<R: Abort + AllocGlobal>(rt: &R, seed: u64, steps: u32) -> Option<bool> {
+    let shape = Shape {
+        senders: 3,
+        receivers: 1,
+        rounds: 2,
+        rows: 4,
+        log_words: 64,
+    };
+    let first = FirstLine::Shape(shape);
+    let (bus, senders, mut taps) = made(rt, rt.alloc(), first);
+    let last = last_of(rt, &bus, &mut taps);
+    let Ok(world) = new_bus::<ThreeWord>(rt.alloc(), first) else {
+        panic!(rt; "memory");
+    };
+    let mut dice = Pcg32::new(seed, 0);
+    let mut both = Both::new(rt, &bus, senders, taps, world);
+    for sender in 0..3 {
+        let bytes = bytes_of(rt, b"a");
+        both.take(rt, &Event::Put { sender, bytes });
+    }
+    if !zero_stops(rt, &mut both, &mut dice, steps) {
+        return None;
+    }
+    two_go_on(rt, &mut both, &mut dice);
+    let (world, _) = both.into_world();
+    Some(leave_the_same(rt, bus, last, &world))
+}
+
+/// These bytes.
+fn bytes_of<R: Abort + AllocGlobal>(rt: &R, bytes: &[u8]) -> Vec<u8> {
+    Vec::from_slice(rt.alloc(), bytes).expect(rt, "memory")
+}
+
+#[test]
+fn one_of_three_stops_after_each_step(rt: HostRuntime) {
+    let (mut out, mut home) = (0u32, 0u32);
+    for seed in 0..100 {
+        for steps in 1..MOST_TURNS {
+            match stops_after(&rt, seed, steps) {
+                Some(true) => home = home.saturating_add(1),
+                Some(false) => out = out.saturating_add(1),
+                None => break,
+            }
+        }
+    }
+    assert!(&rt; out > 0 && home > 0, "{out} pages out, {home} home");
+}

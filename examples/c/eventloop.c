@@ -1,0 +1,100 @@
+/* An event loop of poll(2) with a bus among what it waits for: it sends the lines that come over a
+   pipe, and prints the messages of the order, while another thread sends and then closes. The loop
+   waits in poll alone. */
+#include "kioskbasil.h"
+#include "waiting.h"
+#include <poll.h>
+#include <pthread.h>
+#include <stdio.h>
+#include <string.h>
+#include <unistd.h>
+
+enum { LINES = 3, TICKS = 5, PAUSE = 20000000 };
+
+static struct bell bell = BELL_NEW;
+
+static void pause_a_little(void) {
+    struct timespec pause = {0, PAUSE};
+    nanosleep(&pause, NULL);
+}
+
+/* A thread that sends by calls that wait, and ends the order. */
+static void *tick(void *given) {
+    kioskbasil_sender *sender = given;
+    uint64_t seed = 2;
+    for (int i = 0; i < TICKS; i++) {
+        pause_a_little();
+        kioskbasil_put(sender, "tick", 4, NULL);
+        if (send_batch(sender, &seed, NULL, &bell) != KIOSKBASIL_DELIVERED) return sender;
+    }
+    return end_order(sender, &seed, &bell) == KIOSKBASIL_CLOSED ? NULL : sender;
+}
+
+/* A thread that knows nothing of the bus, and writes lines to a pipe. */
+static void *write_lines(void *given) {
+    for (int i = 0; i < LINES; i++) {
+        pause_a_little();
+        if (write(*(int *)given, "line", 4) != 4) break;
+    }
+    return NULL;
+}
+
+/* Prints what is there; the last code. */
+static uint32_t print_items(kioskbasil_receiver *receiver) {
+    kioskbasil_item items[16];
+    size_t many;
+    uint32_t code;
+    do {
+        code = kioskbasil_hear(receiver, items, 16, &many);
+        for (size_t i = 0; i < many; i++)
+            printf("%d: %.*s\n", items[i].sender, items[i].length, (char *)items[i].bytes);
+    } while (code == KIOSKBASIL_GOING);
+    return code;
+}
+
+/* Waits in poll for the bell and for lines, until the order has ended. */
+static uint32_t loop(kioskbasil_sender *sender, kioskbasil_receiver *receiver, int lines) {
+    struct pollfd polled[2] = {{bell_descriptor(&bell), POLLIN, 0}, {lines, POLLIN, 0}};
+    uint64_t seed = 1;
+    if (polled[0].fd < 0) return KIOSKBASIL_EMPTY;
+    for (;;) {
+        char line[4];
+        bell_hush(&bell, polled[0].fd);
+        uint32_t sent = send_now(sender, &seed, NULL, &bell);
+        uint32_t heard = print_items(receiver);
+        if (heard != KIOSKBASIL_EMPTY || kioskbasil_refused(sent)) {
+            close(polled[0].fd);
+            return heard;
+        }
+        /* A line is taken once the one before is sent. Behind another sender there is no ring. */
+        polled[1].fd = sent == KIOSKBASIL_WAITING || sent == KIOSKBASIL_BEHIND ? -1 : lines;
+        if (poll(polled, 2, sent == KIOSKBASIL_BEHIND ? 1 : -1) < 0) return KIOSKBASIL_EMPTY;
+        if (polled[1].revents & POLLIN && read(lines, line, sizeof line) == sizeof line)
+            kioskbasil_put(sender, line, sizeof line, NULL);
+    }
+}
+
+int main(void) {
+    kioskbasil_sizes sizes = {.rounds = 1, .rows = 8, .log_words = 4096, .again = true};
+    kioskbasil_sender senders[2] = {KIOSKBASIL_NONE};
+    kioskbasil_receiver receivers[1] = {KIOSKBASIL_NONE};
+    kioskbasil_left left;
+    pthread_t ticking, writing;
+    void *failed;
+    int ends[2];
+    uint32_t code = kioskbasil_open(&sizes, senders, 2, receivers, 1);
+    if (code != KIOSKBASIL_OK) return fprintf(stderr, "eventloop: %s\n", kioskbasil_text(code)), 1;
+    if (pipe(ends) || pthread_create(&ticking, NULL, tick, &senders[1]) ||
+        pthread_create(&writing, NULL, write_lines, &ends[1]))
+        return fprintf(stderr, "eventloop: no pipe, or no thread\n"), 1;
+    code = loop(&senders[0], receivers, ends[0]);
+    pthread_join(ticking, &failed);
+    pthread_join(writing, NULL);
+    if (failed || code != KIOSKBASIL_END) return fprintf(stderr, "eventloop: no end\n"), 1;
+    code = kioskbasil_end(senders, 2, receivers, 1, NULL, 0, &left);
+    bell_free(&bell);
+    if (code != KIOSKBASIL_OK || left.counts[0] != LINES || left.counts[1] != TICKS)
+        return fprintf(stderr, "eventloop: messages are lost\n"), 1;
+    printf("an event loop took %d lines and %d ticks\n", LINES, TICKS);
+    return 0;
+}

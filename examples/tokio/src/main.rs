@@ -1,0 +1,80 @@
+//! Tasks of tokio over a bus: four send, and two hear all as a stream. They run by one thread, and
+//! then by four. `cargo run` in this folder runs it. By Debian's packages librust-tokio-dev and
+//! librust-futures-util-dev it needs no network, as `bench/embed` calls it.
+
+use futures_util::stream::{self, StreamExt};
+use kioskbasil::{Bus, Item, Receiver, Sender, Shape};
+use std::error::Error;
+use std::time::Duration;
+use tokio::runtime::Builder;
+use tokio::time::timeout;
+
+type Fault = Box<dyn Error + Send + Sync>;
+
+const SENDERS: usize = 4;
+const MESSAGES: u8 = 200;
+
+/// Sends all, and gives the sender back.
+async fn send(mut sender: Sender) -> Result<Sender, Fault> {
+    let number = sender.number();
+    let messages = (0..MESSAGES).map(|i| [number, i]);
+    sender.send_all_async(messages).await?;
+    Ok(sender)
+}
+
+/// Hears all, as a stream.
+async fn hear(mut receiver: Receiver) -> (Receiver, Vec<Item>) {
+    let items = stream::poll_fn(|context| receiver.poll_item(context));
+    let heard = items.collect().await;
+    (receiver, heard)
+}
+
+/// A whole sitting; how many items each receiver heard.
+async fn sitting() -> Result<usize, Fault> {
+    let (senders, mut receivers) = Bus::open(Shape::of(SENDERS, 2))?;
+    // A task may give up waiting: here nothing was sent yet.
+    let early = timeout(Duration::from_millis(5), receivers[0].next_item_async());
+    if early.await.is_ok() {
+        return Err("an item that nobody sent".into());
+    }
+    let hearing: Vec<_> = receivers
+        .into_iter()
+        .map(|receiver| tokio::spawn(hear(receiver)))
+        .collect();
+    let sending: Vec<_> = senders
+        .into_iter()
+        .map(|sender| tokio::spawn(send(sender)))
+        .collect();
+    let mut senders = Vec::new();
+    for task in sending {
+        senders.push(task.await??);
+    }
+    senders[0].end_order_async().await?;
+    let (mut receivers, mut heard) = (Vec::new(), Vec::new());
+    for task in hearing {
+        let (receiver, items) = task.await?;
+        receivers.push(receiver);
+        heard.push(items);
+    }
+    Bus::end(senders, receivers)?;
+    if heard[0] != heard[1] {
+        return Err("two receivers heard two orders".into());
+    }
+    Ok(heard[0].len())
+}
+
+fn main() -> Result<(), Fault> {
+    let one = Builder::new_current_thread().enable_time().build()?;
+    let four = Builder::new_multi_thread()
+        .worker_threads(4)
+        .enable_time()
+        .build()?;
+    for runtime in [one, four] {
+        let heard = runtime.block_on(sitting())?;
+        if heard != SENDERS * usize::from(MESSAGES) {
+            return Err("items are lost".into());
+        }
+        println!("{SENDERS} tasks sent, and 2 heard {heard} items in one order");
+    }
+    Ok(())
+}

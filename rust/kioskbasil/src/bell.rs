@@ -1,0 +1,63 @@
+//! The bell of a bus, for which threads and tasks wait.
+
+use std::collections::BTreeMap;
+use std::mem;
+use std::sync::atomic::{AtomicBool, Ordering};
+use std::sync::{Arc, Mutex, MutexGuard, PoisonError};
+use std::task::{Wake, Waker};
+use std::thread::{self, Thread};
+
+/// The bell of a bus: who waits for it looks at the bus again. Any thread may ring it, and all
+/// handles of the bus have it together. Their turns ring it by themselves, so a program needs it
+/// only to have a worker asked whether to go on (`Receiver::next_item_while`, `Sender::send_while`).
+#[derive(Clone, Debug, Default)]
+pub struct Bell(Arc<Listeners>);
+
+#[derive(Debug, Default)]
+struct Listeners {
+    /// Somebody has listened since the last ring.
+    are_there: AtomicBool,
+    /// Whom the next ring wakes, by the place of its handle.
+    wakers: Mutex<BTreeMap<usize, Waker>>,
+}
+
+impl Bell {
+    /// Wakes all that wait.
+    pub fn ring(&self) {
+        if self.0.are_there.swap(false, Ordering::SeqCst) {
+            let woken = mem::take(&mut *self.wakers());
+            woken.into_values().for_each(Waker::wake);
+        }
+    }
+
+    /// The next ring wakes this waker, for the handle of this place. Whoever listens looks at the
+    /// bus once more before it sleeps: what was done before a ring that it missed is there then.
+    pub(crate) fn listen(&self, place: usize, waker: &Waker) {
+        let waker = waker.clone();
+        let mut wakers = self.wakers();
+        let old = wakers.insert(place, waker);
+        self.0.are_there.swap(true, Ordering::SeqCst);
+        // The old one may have a handle in it, which rings when it is dropped.
+        drop(wakers);
+        drop(old);
+    }
+
+    /// As `listen`, for this thread, which a ring unparks.
+    pub(crate) fn listen_here(&self, place: usize) {
+        self.listen(place, &Waker::from(Arc::new(Parked(thread::current()))));
+    }
+
+    fn wakers(&self) -> MutexGuard<'_, BTreeMap<usize, Waker>> {
+        let locked = self.0.wakers.lock();
+        locked.unwrap_or_else(PoisonError::into_inner)
+    }
+}
+
+/// A thread that is parked.
+struct Parked(Thread);
+
+impl Wake for Parked {
+    fn wake(self: Arc<Self>) {
+        self.0.unpark();
+    }
+}
