@@ -567,9 +567,9 @@ static void no_page(bool again) {
     for (int i = 0; i < 2; i++) kioskbasil_free_sender(&mixed[i]), kioskbasil_free_receiver(&r[i]);
 }
 
-/* While a sender holds the page nothing is carried from it, be its message heard already or not;
+/* While a sender has begun a tenure nothing is carried from it, be its message heard already or not;
    before and behind that it is. The other batch is full, which is refused later. */
-static void carrying_with_the_page(bool again) {
+static void carrying_within_a_tenure(bool again) {
     kioskbasil_sender s[1] = {KIOSKBASIL_NONE}, full[1] = {KIOSKBASIL_NONE};
     kioskbasil_receiver r[1] = {KIOSKBASIL_NONE}, ear[1] = {KIOSKBASIL_NONE};
     kioskbasil_sizes sizes = {1, 8, 64, again};
@@ -586,7 +586,7 @@ static void carrying_with_the_page(bool again) {
         kioskbasil_hear(r, items, 4, &many);
         out |= code == KIOSKBASIL_OWN;
         heard_while_out |= many > 0;
-        EXPECT(kioskbasil_carry(s, full), out ? KIOSKBASIL_PUT_BUSY : KIOSKBASIL_PUT_BATCH_FULL);
+        EXPECT(kioskbasil_carry(s, full), KIOSKBASIL_PUT_BUSY);
         EXPECT(pending(s), 1);
         EXPECT(pending(full), 16);
     }
@@ -595,6 +595,31 @@ static void carrying_with_the_page(bool again) {
     EXPECT(pending(full), 16);
     kioskbasil_free_sender(s), kioskbasil_free_sender(full);
     kioskbasil_free_receiver(r), kioskbasil_free_receiver(ear);
+}
+
+/* A sender that has taken so many turns of a tenure is Busy, and then is given up, which sends its
+   message: so that goes out once. */
+static void carried_once(bool again) {
+    for (int turns = 1; turns < 6; turns++) {
+        kioskbasil_sender s[1] = {KIOSKBASIL_NONE}, t[1] = {KIOSKBASIL_NONE};
+        kioskbasil_receiver r[1] = {KIOSKBASIL_NONE}, q[1] = {KIOSKBASIL_NONE};
+        kioskbasil_sizes sizes = {1, 8, 64, again};
+        kioskbasil_item items[4];
+        size_t many = 0;
+        uint64_t seed = 1;
+        EXPECT(kioskbasil_open(&sizes, s, 1, r, 1), KIOSKBASIL_OK);
+        EXPECT(kioskbasil_open(&sizes, t, 1, q, 1), KIOSKBASIL_OK);
+        EXPECT(kioskbasil_put(s, "y", 1, NULL), KIOSKBASIL_OK);
+        for (int i = 0; i < turns; i++) kioskbasil_turn(s, 0, NULL);
+        EXPECT(kioskbasil_carry(s, t), KIOSKBASIL_PUT_BUSY);
+        EXPECT(kioskbasil_free_sender(s), KIOSKBASIL_DELIVERED);
+        EXPECT(send_batch(t, &seed, NULL, NULL), KIOSKBASIL_IDLE);
+        kioskbasil_hear(r, items, 4, &many);
+        EXPECT(many, 1);
+        kioskbasil_hear(q, items, 4, &many);
+        EXPECT(many, 0);
+        kioskbasil_free_sender(t), kioskbasil_free_receiver(r), kioskbasil_free_receiver(q);
+    }
 }
 
 /* A sender that lets go after each of its turns, alone and where the other one has begun too: that
@@ -1206,7 +1231,7 @@ int main(int count, char **words) {
         for (int again = 0; again < 2; again++) {
             several_turns(again), turns_that_vote(again);
             telling(again), apart(again), carrying(again), carrying_later(again), no_page(again);
-            carrying_with_the_page(again);
+            carrying_within_a_tenure(again), carried_once(again);
         }
         behind();
         for (int i = 0; i < 2; i++) letting_go(i == 1), letting_go_behind(i == 1);

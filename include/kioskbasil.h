@@ -109,7 +109,7 @@ enum kioskbasil_code {
   KIOSKBASIL_PUT_CLOSED = 38,     /* put, carry: a close or a leave was accepted, or the order is
                                      known to have ended */
   KIOSKBASIL_PUT_BUSY = 39,       /* put, carry: the batch is on its way; carry: the sender that is
-                                     carried from holds the page */
+                                     carried from has begun a tenure */
   KIOSKBASIL_PUT_TOO_LONG = 40,   /* put: more than 56 bytes */
   KIOSKBASIL_PUT_BATCH_FULL = 41, /* put, carry: more than 16 messages would wait */
   KIOSKBASIL_CLOSE_CLOSED = 42,   /* close, leave: one was accepted, or the order is known to have
@@ -350,11 +350,12 @@ static inline uint32_t kioskbasil_leave(kioskbasil_sender *sender) {
  * behind what waits there; they wait with `sender` too. So what was not sent in one sitting goes on
  * in the next: if it is put first into the next sender of this number, each message gets the number
  * that it was answered before. `next` may be of any bus. Takes no step.
- * PUT_BUSY while `sender` holds the page, as it does after BEHIND, and `next` is another handle: its
- * messages may stand in the order already. Else KIOSKBASIL_OK where none waits; PUT_BATCH_FULL where they do not fit beside
- * what waits there; PUT_CLOSED or PUT_BUSY as a put into `next` would be; or KIOSKBASIL_OK. Unless
- * it is OK nothing is changed. EMPTY_HANDLE where either is empty. One handle may be given twice:
- * its messages wait there already, and it is OK and changes nothing. */
+ * PUT_BUSY while `sender` has begun a tenure, as it has after BEHIND, and `next` is another handle:
+ * its messages may stand in the order already, or come into it by kioskbasil_finish. Else
+ * KIOSKBASIL_OK where none waits; PUT_BATCH_FULL where they do not fit beside what waits there;
+ * PUT_CLOSED or PUT_BUSY as a put into `next` would be; or KIOSKBASIL_OK. Unless it is OK nothing is
+ * changed. EMPTY_HANDLE where either is empty. One handle may be given twice: its messages wait
+ * there already, and it is OK and changes nothing. */
 static inline uint32_t kioskbasil_carry(kioskbasil_sender *sender, kioskbasil_sender *next) {
   kioskbasil_sender_shown own;
   if (!sender || !next) return KIOSKBASIL_NULL;

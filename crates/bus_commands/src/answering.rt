@@ -1,9 +1,9 @@
 //! Which command a task names, and by which ratifier it goes.
 
-ghost use Rattle.std.specs.Prelude.{◌≡◌, ℕ, List, IfOk, IfErr, Ok, Err};
-ghost use Rattle.std.specs.Io.KnownBytes.{Appends};
+ghost use Rattle.std.specs.Prelude.{◌≡◌, ℕ, List, IfOk, IfErr, IsErrOf, Ok, Err};
+ghost use Rattle.std.specs.Io.KnownBytes.{Appends, Keeps};
 ghost use Rattle.bus_script.specs.declared.answers.Outcome.{Outcome};
-ghost use Rattle.bus_commands.specs.Streams.{ReadsWhole, IsScriptFault};
+ghost use Rattle.bus_commands.specs.Streams.{ReadsWhole, IsScriptFault, WritesPart};
 ghost use Rattle.bus_commands.specs.Tasks.{AnswersTask, PrintsTask, ReadsInput, limit_of};
 
 use crate::command_line::Task;
@@ -64,6 +64,11 @@ pub fn print<T: Threads + Wait + Sync, W: Write>(
     requires { ¬ ReadsInput task }
     ensures ok { IfOk result (λ outcome. (outcome ≡ Outcome.Done) × (text : List ℕ)
         × PrintsTask task text × Appends (W.contents writer.old) (W.contents writer.new) text) }
+    // A front of it, where a write failed; with another fault nothing was written.
+    ensures write { IsErrOf result RunFault.Write → (text : List ℕ)
+        × PrintsTask task text × WritesPart (W.contents writer.old) (W.contents writer.new) text }
+    ensures unwritten { IfErr result (λ fault. (fault ≡ RunFault.Write → ⊥)
+        → Keeps (W.contents writer.old) (W.contents writer.new)) }
 {
     match task {
         Task::Run(request) => print_run(rt, alloc, request, writer),

@@ -1,7 +1,7 @@
 -- What calls of a sender and of a receiver answer, as numbers.
 use Rattle.std.specs.Prelude.{◌≡◌, ℕ, ℤ, ◌+◌, ◌<◌, ◌≤◌, ◌⊎◌, Bool, true, false, List, [], ◌∷◌}
 use Rattle.std.specs.Prelude.{◌++◌, None, Some, length, drop, map, Result, Err, IfOk, IfErr, OnOk}
-use Rattle.std.specs.Prelude.{OnErr}
+use Rattle.std.specs.Prelude.{OnErr, IsSome}
 use Rattle.std.specs.Ordering.{nat_cmp}
 use Rattle.bus_register.specs.declared.registers.Op.{Op}
 use Rattle.bus_batch.specs.Batches.{next_of, CanPut, IsPutFault, CanClose, IsCloseFault}
@@ -15,6 +15,7 @@ use Rattle.bus_deliverylog.specs.Receiving.{recv_goes_on}
 use Rattle.bus_tenure.specs.Classes.{still_goes}
 use Rattle.bus_tenure.specs.Core.{is_closed}
 use Rattle.bus_tenure.specs.declared.turns.Turn.{Turn}
+use Rattle.bus_core.specs.Seen.{tenure_begun}
 use Rattle.bus_core.specs.Telling.{FeedTells, RestTells}
 use Rattle.bus_world.specs.Headline.{HasPut, HasMarked, puts}
 use Rattle.bus_pageslot.specs.Listening.{Hears}
@@ -60,11 +61,11 @@ pub record Closes (asked : Mark) (old : SenderSeat Held) (given : Result (Unit {
   pub seat : new.seat ≡ old.seat
 
 -- what waits with a sender was put into the batch of another, behind what waits there, or came to
--- this fault; to Busy where that sender holds the page
+-- this fault; to Busy where that sender has begun a tenure
 pub record CarriesOn (from old : SenderSeat Held) (given : Result (Unit {0}) PutFault)
     (new : SenderSeat Held) : Type 0 where
   pub carried : OnOk given (Carries process from old new)
-  pub out : process.holds from.core ≡ true → given ≡ Err put.Busy
+  pub begun : IsSome (tenure_begun from.core) → given ≡ Err put.Busy
   pub fault : IfErr given (CarryRefused process from old)
   pub refused : OnErr given (new.core ≡ old.core)
   pub seat : new.seat ≡ old.seat

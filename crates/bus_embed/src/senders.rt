@@ -58,7 +58,7 @@ fn put_refused(fault: PutFault) -> u32
 }
 
 /// Puts what waits with a sender into the batch of another, as `SenderHandle::carry_to`: OK, or
-/// the code of the fault, PUT_BUSY where the first one holds the page. The first one keeps it too.
+/// the code of the fault, PUT_BUSY where the first one has begun a tenure. It keeps them too.
 pub fn carry_messages(sender: &SenderHandle<ThreeWord>, next: &mut SenderHandle<ThreeWord>) -> u32
     ensures { CarryAnswered sender.now next.old result next.new }
 {

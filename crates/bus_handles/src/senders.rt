@@ -2,7 +2,7 @@
 
 ghost use Rattle.std.specs.Prelude.{◌≡◌, ℕ, ◌+◌, List, [], ◌∷◌, ◌++◌, length};
 ghost use Rattle.std.specs.Prelude.{Some, None, IfSome, IfNone, IfOk, IfErr, OnOk, OnErr, true};
-ghost use Rattle.std.specs.Prelude.{IsTrue, ◌↔◌, Err};
+ghost use Rattle.std.specs.Prelude.{IsTrue, ◌↔◌, Err, IsSome};
 ghost use Rattle.std.specs.Arc.{arc_value};
 ghost use Rattle.bus_batch.specs.Batches.{next_of, CanPut, IsPutFault, CanClose, IsCloseFault};
 ghost use Rattle.bus_batch.specs.declared.messages.Mark.TheVariants as mark;
@@ -11,6 +11,7 @@ ghost use Rattle.bus_register.specs.declared.kinds.Kind.TheVariants as kind;
 ghost use Rattle.bus_register.specs.declared.registers.Op.{Op};
 ghost use Rattle.bus_world.specs.Headline.{HasPut, HasMarked, puts};
 ghost use Rattle.bus_core.specs.Causes.{HasCause};
+ghost use Rattle.bus_core.specs.Seen.{tenure_begun};
 ghost use Rattle.bus_core.specs.Telling.{FeedTells};
 ghost use Rattle.bus_core.specs.Telling.{RestTells};
 ghost use Rattle.bus_tenure.specs.Elections.{election_of};
@@ -296,14 +297,14 @@ impl<Q: Ratifier + Drop, R: Rng + Drop> SenderHandle<Q, R> {
     /// put first into the next sender of this number, messages get the numbers that they were
     /// answered before.
     ///
-    /// While it holds the page the answer is Busy: its messages may stand in the order already.
-    /// Else it is BatchFull where they do not fit beside what waits there, and otherwise what a put
-    /// gives, or Ok where none waits. Takes no step. A fault changes nothing.
+    /// While it has begun a tenure the answer is Busy: its messages may stand in the order already,
+    /// or come into it by the turns of `finish`. Else it is BatchFull where they do not fit beside
+    /// what waits there, and otherwise what a put gives, or Ok where none waits. Takes no step. A
+    /// fault changes nothing.
     pub fn carry_to<S>(&self, next: &mut SenderHandle<Q, S>) -> Result<(), PutFault>
         ensures carried { OnOk result
             (Carries (process_by Q.Ratifier) self.now next.old next.new) }
-        ensures out { (process_by Q.Ratifier).holds self.now.core ≡ true
-            → result ≡ Err PutFault.Busy }
+        ensures begun { IsSome (tenure_begun self.now.core) → result ≡ Err PutFault.Busy }
         ensures fault { IfErr result (CarryRefused (process_by Q.Ratifier) self.now next.old) }
         ensures refused { OnErr result (next.new.core ≡ next.old.core) }
         ensures seat { next.new.seat ≡ next.old.seat }

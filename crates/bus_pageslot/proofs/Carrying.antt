@@ -7,6 +7,7 @@ use Rattle.bus_batch.specs.Batches.{Pending, next_of, IsShut, IsPutFault}
 use Rattle.bus_batch.specs.declared.batches.Phase.TheVariants.{Open, Marking, Closed}
 use Rattle.bus_batch.specs.declared.batches.PutFault.{PutFault}
 use Rattle.bus_batch.specs.declared.batches.PutFault.TheVariants as put
+use Rattle.bus_core.specs.Senders.{Sender}
 use Rattle.bus_world.specs.Headline.{HasPut}
 use Rattle.bus_automaton.specs.Processes.{Process}
 use Rattle.bus_automaton.specs.Lawful.{ProcessLaws}
@@ -109,23 +110,24 @@ module _ {C : Type 0} (P : Process C) (K : ProcessLaws P) where
       by_cause put.TooLong long = let l = long.2 in omega arith
       by_cause put.BatchFull full = let f = full.3 in omega arith
 
+module _ {E : Type 0} (P : Process (Sender E)) (K : ProcessLaws P) where
   -- so the first is refused, if any is
-  pub refused : (from old : SenderSeat C) (messages rest : List (List ℕ)) (next : List ℕ)
-      (new : SenderSeat C)
+  pub refused : (from old : SenderSeat (Sender E)) (messages rest : List (List ℕ)) (next : List ℕ)
+      (new : SenderSeat (Sender E))
       → TakesAll P old messages new → messages ++ next ∷ rest ≡ waiting_of P from
       → length (waiting_of P old) + length (waiting_of P from) ≤ 16 → length next ≤ 56
       → (why : PutFault) → IsPutFault (P.queue new.core) (length next) why
       → (new ≡ old) × CarryRefused P from old why
   refused from old messages rest next new h all room short why cause =
-      let waits = ap length (takes_waits old messages new h) in
+      let waits = ap length (takes_waits P K old messages new h) in
       let joined = length-append (waiting_of P old) messages in
       let size = ap length all in
       let more = length-append messages (next ∷ rest) in
-      let first = goes_on old messages new next h (omega arith) short why cause in
+      let first = goes_on P K old messages new next h (omega arith) short why cause in
       let fits : MayFit P from old = record { some = omega arith; room = room } in (
         first.1,
         by_cause why fits (omega arith)
-            (subst (λ (s : SenderSeat C). IsPutFault (P.queue s.core) (length next) why) first.1
+            (subst (λ (s : SenderSeat (Sender E)). IsPutFault (P.queue s.core) (length next) why) first.1
             cause),
       )
     where

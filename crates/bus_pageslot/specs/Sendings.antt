@@ -1,11 +1,13 @@
 -- Messages that a sender puts and sends, in batches.
 use Rattle.std.specs.Prelude.{◌≡◌, ℕ, ◌+◌, ◌<◌, ◌≤◌, ◌-◌, Bool, true, false, List, [], ◌∷◌, ◌++◌}
-use Rattle.std.specs.Prelude.{length, take, slice_get, Option, Some, None, ◌⊎◌}
+use Rattle.std.specs.Prelude.{length, take, slice_get, Option, Some, None, IsSome, ◌⊎◌}
 use Rattle.bus_register.specs.declared.limits.TheConstants.{MOST_BYTES, MOST_MESSAGES}
 use Rattle.bus_batch.specs.Batches.{CanPut, IsPutFault, CanClose, next_of}
 use Rattle.bus_batch.specs.declared.batches.PutFault.{PutFault}
 use Rattle.bus_batch.specs.declared.batches.PutFault.TheVariants as put
 use Rattle.bus_batch.specs.declared.messages.Mark.TheVariants as mark
+use Rattle.bus_core.specs.Seen.{tenure_begun}
+use Rattle.bus_core.specs.Senders.{Sender}
 use Rattle.bus_tenure.specs.Core.{is_closing}
 use Rattle.bus_tenure.specs.declared.turns.Turn.{Turn}
 use Rattle.bus_tenure.specs.declared.turns.Turn.TheVariants as turn
@@ -162,12 +164,14 @@ pub record MayFit {C : Type 0} (P : Process C) (from old : SenderSeat C) : Type 
   pub some : 0 < length (waiting_of P from)
   pub room : length (waiting_of P old) + length (waiting_of P from) ≤ MOST_MESSAGES
 
--- why it took none of them: the sender that they wait with holds the page, or they do not fit
+-- why it took none of them: the sender that they wait with has begun a tenure, or they do not fit
 -- there, or its batch takes no message at all
-abbrev pub CarryRefused : {C : Type 0} → Process C → SenderSeat C → SenderSeat C → PutFault → Type 0
+abbrev pub CarryRefused : {E : Type 0} → Process (Sender E) → (from old : SenderSeat (Sender E))
+    → PutFault → Type 0
 CarryRefused P from old put.Closed = MayFit P from old × IsPutFault (P.queue old.core) 0 put.Closed
 CarryRefused P from old put.Busy =
-    (P.holds from.core ≡ true) ⊎ (MayFit P from old × IsPutFault (P.queue old.core) 0 put.Busy)
+    IsSome (tenure_begun from.core)
+    ⊎ (MayFit P from old × IsPutFault (P.queue old.core) 0 put.Busy)
 CarryRefused P from old put.TooLong = ⊥
 CarryRefused P from old put.BatchFull =
     MOST_MESSAGES < length (waiting_of P old) + length (waiting_of P from)

@@ -1,7 +1,7 @@
 //! A sender with its seat.
 
 ghost use Rattle.std.specs.Prelude.{◌≡◌, ℕ, ◌+◌, ◌<◌, List, [], ◌∷◌, ◌++◌, None};
-ghost use Rattle.std.specs.Prelude.{Some, IfSome, IfNone, IfOk, IfErr, IsSome, Err};
+ghost use Rattle.std.specs.Prelude.{Some, IfSome, IfNone, IfOk, IfErr, IsSome, is_some, Err};
 ghost use Rattle.std.specs.Prelude.{OnOk, OnErr, length, ◌-◌, ◌≤◌, IsTrue, true, false, ◌↔◌};
 ghost use Rattle.bus_batch.specs.Batches.{next_of, CanPut, IsPutFault, CanClose, IsCloseFault};
 ghost use Rattle.bus_core.specs.Causes.{HasCause};
@@ -280,11 +280,11 @@ impl<Q: Ratifier + Drop> Sender<Q> {
         self.core.leave()
     }
 
-    /// The page lies before it.
-    fn holds_page(&self) -> bool
-        ensures { result ≡ (process_by Q.Ratifier).holds self.now.core }
+    /// It has begun a tenure.
+    fn has_begun(&self) -> bool
+        ensures { result ≡ is_some (tenure_begun self.now.core) }
     {
-        self.core.holds_page()
+        self.tenure().is_some()
     }
 
     /// Puts the messages that wait in its batch into that of `next`, in their order and behind what
@@ -292,20 +292,20 @@ impl<Q: Ratifier + Drop> Sender<Q> {
     /// put first into the next sender of this number, messages get the numbers that they were
     /// answered before.
     ///
-    /// While it holds the page the answer is Busy: its messages may stand in the order already.
-    /// Else it is BatchFull where they do not fit beside what waits there, and otherwise what a put
-    /// gives, or Ok where none waits. Takes no step. A fault changes nothing.
+    /// While it has begun a tenure the answer is Busy: its messages may stand in the order already,
+    /// or come into it by the turns of `finish`. Else it is BatchFull where they do not fit beside
+    /// what waits there, and otherwise what a put gives, or Ok where none waits. Takes no step. A
+    /// fault changes nothing.
     pub fn carry_to(&self, next: &mut Sender<Q>) -> Result<(), PutFault>
         ensures carried { OnOk result
             (Carries (process_by Q.Ratifier) self.now next.old next.new) }
-        ensures out { (process_by Q.Ratifier).holds self.now.core ≡ true
-            → result ≡ Err PutFault.Busy }
+        ensures begun { IsSome (tenure_begun self.now.core) → result ≡ Err PutFault.Busy }
         ensures fault { IfErr result (CarryRefused (process_by Q.Ratifier) self.now next.old) }
         ensures refused { OnErr result (next.new.core ≡ next.old.core) }
         ensures seat { next.new.seat ≡ next.old.seat }
     {
         threads_may_go_by::<Q>();
-        if self.holds_page() {
+        if self.has_begun() {
             return Err(PutFault::Busy);
         }
         let room = (MOST_MESSAGES as u64).saturating_sub(next.pending());

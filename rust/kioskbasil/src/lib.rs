@@ -1,7 +1,7 @@
 //! A broadcast bus between threads, over the proved archive of `crates/bus_c`.
 //!
 //! Up to 64 senders put messages of up to 56 bytes. All of them stand in one order, and each of up
-//! to 8 receivers hears all of it. The calls that take a turn wait for nothing. `send`, `send_all`,
+//! to 8 receivers hears all of it. The calls that take a turn wait for no other sender or receiver. `send`, `send_all`,
 //! `end_order` and `next_item` go on as long as it takes; that they end is not promised. A thread
 //! that waits sleeps until the `Bell` of its bus rings (`Waiting`). `send_while` and
 //! `next_item_while` can be told to stop. In async code `send_async`, `send_all_async`,

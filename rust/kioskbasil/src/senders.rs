@@ -287,10 +287,10 @@ impl Sender {
     /// sent goes on with another sender: put first into the sender of this number of a next
     /// sitting, each message gets the number that it was answered before.
     ///
-    /// It gives `Busy` while this sender holds the page, as it does after `Turn::Behind`: its
-    /// messages may stand in the order already. Else it is Ok where none waits, `BatchFull` where
-    /// they do not fit beside what waits there, and otherwise what a put gives. An error changes
-    /// nothing.
+    /// It gives `Busy` while this sender has begun a tenure, as it has after `Turn::Behind`: its
+    /// messages may stand in the order already, or come into it by `finish`. Else it is Ok where
+    /// none waits, `BatchFull` where they do not fit beside what waits there, and otherwise what a
+    /// put gives. An error changes nothing.
     ///
     /// ```
     /// use kioskbasil::{Bus, PutError, Shape};

@@ -362,6 +362,23 @@ fn nothing_is_carried_while_the_page_is_out() {
 }
 
 #[test]
+fn nothing_is_carried_within_a_tenure() {
+    for turns in 1..6 {
+        let (mut senders, mut receivers) = Bus::open(Shape::of(1, 1)).unwrap();
+        let (mut others, mut ears) = Bus::open(Shape::of(1, 1)).unwrap();
+        senders[0].put(b"once").unwrap();
+        for _ in 0..turns {
+            senders[0].turn(0);
+        }
+        assert_eq!(senders[0].carry_to(&mut others[0]), Err(PutError::Busy));
+        drop(senders);
+        assert_eq!(others[0].send(), Turn::Idle);
+        assert_eq!(receivers[0].hear(&mut Vec::new()), 1);
+        assert_eq!(ears[0].hear(&mut Vec::new()), 0);
+    }
+}
+
+#[test]
 fn marks_are_sent_or_reported() {
     let nothing: [&str; 0] = [];
     let shape = Shape {

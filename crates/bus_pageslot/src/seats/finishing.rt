@@ -59,13 +59,6 @@ impl<Q: Ratifier + Drop> Sender<Q> {
         }
     }
 
-    /// It has begun a tenure.
-    fn has_begun(&self) -> bool
-        ensures { result ≡ is_some (tenure_begun self.now.core) }
-    {
-        self.tenure().is_some()
-    }
-
     /// After a turn that was answered so another sender is in its way, or its tenure has ended.
     fn stops(&self, turn: Turn) -> bool
         ensures over { result ≡ true
