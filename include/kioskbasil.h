@@ -3,8 +3,8 @@
  * A bus puts the messages of up to 64 senders into one order, which up to 8 receivers hear, each
  * all of it. No call waits, starts a thread, or (but for kioskbasil_open and
  * kioskbasil_open_after) takes memory. A call that is to wait is a loop of the caller's:
- * examples/c/waiting.h has the usual ones, to be copied. There each bus has a bell, by which
- * threads sleep and event loops are woken.
+ * examples/c/waiting.h, in a release kioskbasil_waiting.h, has the usual ones. There each bus has a
+ * bell, by which threads sleep and event loops are woken.
  *
  * STOPS. The election of the next sender is wait-free: each takes a stated number of its own turns.
  * The append is not, since the sender that is elected holds the page as one holds a lock: if its
@@ -36,7 +36,8 @@
  * thread takes that does nothing.
  *
  * MEMORY. The archive asks memory of three functions, rattle_alloc, rattle_realloc and
- * rattle_dealloc. examples/c/heap.c has them, with what each has to keep: link it once.
+ * rattle_dealloc. examples/c/heap.c has them, with what each has to keep: link it once. In a
+ * release libkioskbasil.a has them.
  *
  * WHAT IS TRUSTED OF THE CALLER. Nothing checks that
  *   - a handle starts as zeros, and is not written or copied while it is not empty (moving it and
@@ -351,10 +352,10 @@ static inline uint32_t kioskbasil_leave(kioskbasil_sender *sender) {
  * in the next: if it is put first into the next sender of this number, each message gets the number
  * that it was answered before. `next` may be of any bus. Takes no step.
  * PUT_BUSY while `sender` holds the page, as it does after BEHIND, and `next` is another handle: its
- * messages may stand in the order already. Else KIOSKBASIL_OK where none waits; PUT_BATCH_FULL where they do not fit beside
- * what waits there; PUT_CLOSED or PUT_BUSY as a put into `next` would be; or KIOSKBASIL_OK. Unless
- * it is OK nothing is changed. EMPTY_HANDLE where either is empty. One handle may be given twice:
- * its messages wait there already, and it is OK and changes nothing. */
+ * messages may stand in the order already. Else KIOSKBASIL_OK where none waits; PUT_BATCH_FULL where
+ * they do not fit beside what waits there; PUT_CLOSED or PUT_BUSY as a put into `next` would be; or
+ * KIOSKBASIL_OK. Unless it is OK nothing is changed. EMPTY_HANDLE where either is empty. One handle
+ * may be given twice: its messages wait there already, and it is OK and changes nothing. */
 static inline uint32_t kioskbasil_carry(kioskbasil_sender *sender, kioskbasil_sender *next) {
   kioskbasil_sender_shown own;
   if (!sender || !next) return KIOSKBASIL_NULL;
