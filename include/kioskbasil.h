@@ -3,8 +3,8 @@
  * A bus puts the messages of up to 64 senders into one order, which up to 8 receivers hear, each
  * all of it. No call waits, starts a thread, or (but for kioskbasil_open and
  * kioskbasil_open_after) takes memory. A call that is to wait is a loop of the caller's:
- * examples/c/waiting.h has the usual ones, to be copied. There each bus has a bell, by which
- * threads sleep and event loops are woken.
+ * examples/c/waiting.h, in a release kioskbasil_waiting.h, has the usual ones. There each bus has a
+ * bell, by which threads sleep and event loops are woken.
  *
  * STOPS. The election of the next sender is wait-free: each takes a stated number of its own turns.
  * The append is not, since the sender that is elected holds the page as one holds a lock: if its
@@ -36,7 +36,8 @@
  * thread takes that does nothing.
  *
  * MEMORY. The archive asks memory of three functions, rattle_alloc, rattle_realloc and
- * rattle_dealloc. examples/c/heap.c has them, with what each has to keep: link it once.
+ * rattle_dealloc. examples/c/heap.c has them, with what each has to keep: link it once. In a
+ * release libkioskbasil.a has them.
  *
  * WHAT IS TRUSTED OF THE CALLER. Nothing checks that
  *   - a handle starts as zeros, and is not written or copied while it is not empty (moving it and
