@@ -17,6 +17,12 @@ pub struct RawReceiver {
     live: u32,
 }
 
+// SAFETY: the archive proves `Send` of what the handle leads to.
+unsafe impl Send for RawSender {}
+
+// SAFETY: as above.
+unsafe impl Send for RawReceiver {}
+
 impl RawSender {
     pub const NONE: RawSender = RawSender {
         at: ptr::null_mut(),

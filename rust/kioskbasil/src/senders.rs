@@ -1,12 +1,13 @@
 //! Senders.
 
 use crate::errors::{CloseError, PutError, SendError, Unsent};
+use crate::let_go::LetGo;
 use crate::raw;
 use crate::waiting::{nap, wake_after, BackOff, Polled, Words};
 use crate::{Bell, Waiting};
+use std::sync::Arc;
 use std::task::{Context, Poll};
-use std::time::Duration;
-use std::{fmt, ptr, thread};
+use std::{fmt, mem, ptr};
 
 /// The answer to a turn of a sender.
 #[derive(Clone, Copy, Debug, PartialEq, Eq)]
@@ -94,10 +95,10 @@ impl fmt::Display for Turn {
 /// A sender of a bus. It may go to another thread, and one thread at a time has it.
 ///
 /// One that is dropped within a tenure, also by a panic or by an error on its way up, first takes the
-/// turns that are left of it, as `finish` does. Where another sender's pin is in the way it asks
-/// again for 0.1 s. If that other one takes no turn meanwhile, and be it that this thread drops it
-/// next, the page is out: all others wait for good, as they do where a thread is killed, or never
-/// comes back, within a tenure. `Bus::end` lets all senders finish before it gives any up.
+/// turns that are left of it, as `finish` does. Where another sender's pin is in the way these are
+/// kept: the other handles of the bus take them, at the first of their turns that finds that other
+/// one gone on or dropped. If that one never comes back, all others wait for good, as they do where
+/// a thread is killed within a tenure.
 pub struct Sender {
     raw: raw::RawSender,
     random: Words,
@@ -109,11 +110,9 @@ pub struct Sender {
     /// How many of its last turns answered `Behind`.
     behind: u32,
     bell: Bell,
+    let_go: Arc<LetGo>,
     waiting: Waiting,
 }
-
-// SAFETY: the archive proves `Send` of what the handle leads to.
-unsafe impl Send for Sender {}
 
 impl fmt::Debug for Sender {
     fn fmt(&self, f: &mut fmt::Formatter<'_>) -> fmt::Result {
@@ -123,28 +122,16 @@ impl fmt::Debug for Sender {
     }
 }
 
-/// How often a sender that is dropped asks again where another sender's pin is in the way.
-const MOST_ASKED: u32 = 1000;
-
-/// How long it waits before it asks again.
-const PAUSE: Duration = Duration::from_micros(100);
-
 impl Drop for Sender {
     fn drop(&mut self) {
-        for _ in 0..MOST_ASKED {
-            match self.finish() {
-                Some(Turn::Behind { .. }) => thread::sleep(PAUSE),
-                _ => break,
-            }
-        }
-        // SAFETY: the handle is this value's own.
-        unsafe { raw::bus_c_free_sender(&mut self.raw) };
+        let raw = mem::replace(&mut self.raw, raw::RawSender::NONE);
+        self.let_go.give_up(raw);
         self.bell.ring();
     }
 }
 
 impl Sender {
-    pub(crate) fn of_raw(raw: raw::RawSender, bell: &Bell) -> Sender {
+    pub(crate) fn of_raw(raw: raw::RawSender, bell: &Bell, let_go: &Arc<LetGo>) -> Sender {
         let mut sender = Sender {
             raw,
             random: Words::new(),
@@ -153,6 +140,7 @@ impl Sender {
             leaves: false,
             behind: 0,
             bell: bell.clone(),
+            let_go: let_go.clone(),
             waiting: Waiting::default(),
         };
         sender.number = sender.shown().number;
@@ -378,7 +366,9 @@ impl Sender {
         }
     }
 
-    /// One turn: at most one step on one word of the bus. `word` is the random word of a vote.
+    /// One turn: at most one step on one word of the bus, but where a sender was dropped behind
+    /// this one: then it also takes the turns that are left of that. `word` is the random word of a
+    /// vote.
     pub fn turn(&mut self, word: u32) -> Turn {
         let mut told = raw::TurnAnswer::default();
         // SAFETY: as in `shown`.
@@ -393,12 +383,15 @@ impl Sender {
             Turn::Behind { .. } => self.behind.saturating_add(1),
             _ => 0,
         };
-        match turn {
-            Turn::Delivered { .. } | Turn::Left { .. } | Turn::Full | Turn::Closed => {
-                self.bell.ring()
-            }
-            Turn::Behind { .. } if self.behind == 1 => self.bell.ring(),
-            _ => {}
+        let is_news = match turn {
+            Turn::Delivered { .. } | Turn::Left { .. } | Turn::Full | Turn::Closed => true,
+            Turn::Behind { .. } => self.behind == 1,
+            Turn::Going | Turn::Own { .. } => false,
+            // Behind this one another may have been dropped.
+            Turn::Waiting | Turn::Lost { .. } | Turn::Idle | Turn::Spent => self.let_go.finish(),
+        };
+        if is_news {
+            self.bell.ring();
         }
         turn
     }

@@ -141,13 +141,11 @@ fn senders_that_panic() {
     }
 }
 
-/// One that is dropped behind another one takes the page with it.
-#[test]
-fn a_sender_that_is_dropped_behind() {
+/// Three senders over two rows, of which the first holds the page and is behind the second.
+fn one_behind_another() -> (Vec<kioskbasil::Sender>, Vec<kioskbasil::Receiver>) {
     let shape = Shape {
-        again: true,
         rows: 2,
-        ..Shape::of(2, 1)
+        ..Shape::of(3, 1)
     };
     let (mut senders, receivers) = Bus::open(shape).unwrap();
     senders[1].put(b"x").unwrap();
@@ -159,8 +157,42 @@ fn a_sender_that_is_dropped_behind() {
     while !matches!(senders[0].turn(0), Turn::Own { .. }) {}
     let (tenure, sender) = (0, 1);
     assert_eq!(senders[0].finish(), Some(Turn::Behind { tenure, sender }));
-    drop(senders.remove(0));
-    assert_eq!(Bus::end(senders, receivers).unwrap_err(), EndError::PageOut);
+    (senders, receivers)
+}
+
+/// One that is dropped behind another one gives the page back once that one goes on, or is dropped.
+#[test]
+fn a_sender_that_is_dropped_behind() {
+    for is_dropped in [false, true] {
+        let (mut senders, receivers) = one_behind_another();
+        drop(senders.remove(0));
+        senders[1].put(b"last").unwrap();
+        assert_eq!(senders[1].turns(0), Turn::Waiting);
+        if is_dropped {
+            drop(senders.remove(0));
+        } else {
+            while senders[0].turns(1) == Turn::Going {}
+        }
+        let mut last = senders.pop().unwrap();
+        assert!(matches!(last.send(), Turn::Delivered { .. }));
+        let left = Bus::end(senders.into_iter().chain([last]), receivers).unwrap();
+        assert_eq!(left.counts[..3], [2, 0, 1]);
+    }
+}
+
+/// The bus is ended by those that are left, in either order.
+#[test]
+fn senders_that_are_dropped_in_order() {
+    for is_dropped in [false, true] {
+        let (mut senders, receivers) = one_behind_another();
+        if is_dropped {
+            senders.clear();
+        }
+        assert_eq!(Bus::end(senders, receivers).unwrap().counts[0], 2);
+    }
+    let (senders, receivers) = one_behind_another();
+    std::mem::forget(senders.into_iter().nth(1));
+    assert_eq!(Bus::end([], receivers).unwrap_err(), EndError::InUse);
 }
 
 #[test]
