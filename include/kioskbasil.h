@@ -351,10 +351,10 @@ static inline uint32_t kioskbasil_leave(kioskbasil_sender *sender) {
  * in the next: if it is put first into the next sender of this number, each message gets the number
  * that it was answered before. `next` may be of any bus. Takes no step.
  * PUT_BUSY while `sender` holds the page, as it does after BEHIND, and `next` is another handle: its
- * messages may stand in the order already. Else KIOSKBASIL_OK where none waits; PUT_BATCH_FULL where they do not fit beside
- * what waits there; PUT_CLOSED or PUT_BUSY as a put into `next` would be; or KIOSKBASIL_OK. Unless
- * it is OK nothing is changed. EMPTY_HANDLE where either is empty. One handle may be given twice:
- * its messages wait there already, and it is OK and changes nothing. */
+ * messages may stand in the order already. Else KIOSKBASIL_OK where none waits; PUT_BATCH_FULL where
+ * they do not fit beside what waits there; PUT_CLOSED or PUT_BUSY as a put into `next` would be; or
+ * KIOSKBASIL_OK. Unless it is OK nothing is changed. EMPTY_HANDLE where either is empty. One handle
+ * may be given twice: its messages wait there already, and it is OK and changes nothing. */
 static inline uint32_t kioskbasil_carry(kioskbasil_sender *sender, kioskbasil_sender *next) {
   kioskbasil_sender_shown own;
   if (!sender || !next) return KIOSKBASIL_NULL;
@@ -408,9 +408,9 @@ static inline uint32_t kioskbasil_senders_page(kioskbasil_sender *senders, size_
   bus_c_sender_bus(&senders[0], &first);
   code = bus_c_begin_page(&senders[0], sender_count, &made);
   for (size_t i = 0; i < sender_count && code == KIOSKBASIL_OK; i++) {
-    bus_c_sender_bus(&senders[i], &other);
-    code = bus_c_note_sender(&senders[i], i, &made);
+    code = bus_c_sender_bus(&senders[i], &other);
     if (code == KIOSKBASIL_OK && other != first) code = KIOSKBASIL_OTHER_BUS;
+    if (code == KIOSKBASIL_OK) code = bus_c_note_sender(&senders[i], i, &made);
   }
   if (code == KIOSKBASIL_OK && !made.ended) code = KIOSKBASIL_NOT_ENDED;
   if (code == KIOSKBASIL_OK) *left = made;
@@ -507,7 +507,7 @@ static inline void kioskbasil_free_receiver(kioskbasil_receiver *receiver) {
 
 /* Ends the bus. Each sender takes the turns of kioskbasil_finish. Then it gives up all these
  * handles, which have to be all that are left of one bus, and ends the bus by the first receiver:
- * all handles are empty then, whatever the answer.
+ * all handles are empty then, whatever the answer but NULL, which changes nothing.
  * KIOSKBASIL_OK: the first words of the log stand in `log`, as many as it has room for (`log` may
  * be NULL where `room` is 0; docs/FORMATS.md says what they are), and the rest in *left. IN_USE:
  * other handles had the bus still, and the bus goes with the last of them. PAGE_OUT: a sender that
