@@ -61,6 +61,12 @@ pub const MOST_SENDERS: usize = 64;
 /// Receivers of a bus: at most 8.
 pub const MOST_RECEIVERS: usize = 8;
 
+/// Bytes of a message: at most 56.
+pub const MOST_BYTES: usize = 56;
+
+/// Messages that wait in a batch: at most 16.
+pub const MOST_MESSAGES: usize = 16;
+
 /// The sizes of a bus.
 #[derive(Clone, Copy, Debug, PartialEq, Eq)]
 pub struct Shape {

@@ -1,7 +1,7 @@
 //! The archive's functions, as include/kioskbasil.h declares them, and the memory that they ask
 //! for.
 
-use crate::MOST_SENDERS;
+use crate::{MOST_BYTES, MOST_SENDERS};
 use std::ffi::c_void;
 use std::ptr;
 
@@ -60,7 +60,7 @@ pub struct RawItem {
     pub number: u64,
     pub sender: u8,
     pub length: u8,
-    pub bytes: [u8; 56],
+    pub bytes: [u8; MOST_BYTES],
 }
 
 impl RawItem {
@@ -68,7 +68,7 @@ impl RawItem {
         number: 0,
         sender: 0,
         length: 0,
-        bytes: [0; 56],
+        bytes: [0; MOST_BYTES],
     };
 }
 

@@ -4,7 +4,7 @@ use crate::errors::{EndError, OtherBus};
 use crate::let_go::LetGo;
 use crate::raw::{self, RawItem};
 use crate::waiting::{BackOff, Polled};
-use crate::{Bell, Ended, Sender, Waiting, MOST_SENDERS};
+use crate::{Bell, Ended, Sender, Waiting, MOST_BYTES, MOST_SENDERS};
 use std::cmp::Ordering;
 use std::ops::Deref;
 use std::sync::Arc;
@@ -19,7 +19,7 @@ pub struct Item {
     /// Its number among the messages of its sender, from the base of that on.
     pub number: u64,
     length: u8,
-    bytes: [u8; 56],
+    bytes: [u8; MOST_BYTES],
 }
 
 impl Item {
@@ -38,6 +38,12 @@ impl Deref for Item {
 
     fn deref(&self) -> &[u8] {
         &self.bytes[..usize::from(self.length)]
+    }
+}
+
+impl AsRef<[u8]> for Item {
+    fn as_ref(&self) -> &[u8] {
+        self
     }
 }
 
@@ -67,7 +73,12 @@ pub enum Heard {
     /// It has read all up to the length that it found.
     Empty,
     /// A frame of this owner begins.
-    Head { tenure: u64, owner: u8 },
+    Head {
+        /// The tenure of the frame.
+        tenure: u64,
+        /// The sender whose frame it is.
+        owner: u8,
+    },
     /// The next message of the order.
     Item(Item),
     /// This sender has left, and nothing of it follows.

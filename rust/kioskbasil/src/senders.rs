@@ -4,7 +4,7 @@ use crate::errors::{CloseError, PutError, SendError, Unsent};
 use crate::let_go::LetGo;
 use crate::raw;
 use crate::waiting::{nap, wake_after, BackOff, Polled, Words};
-use crate::{Bell, Waiting};
+use crate::{Bell, Waiting, MOST_MESSAGES};
 use std::sync::Arc;
 use std::task::{Context, Poll};
 use std::{fmt, mem, ptr};
@@ -20,13 +20,31 @@ pub enum Turn {
     /// A step was taken, and more are to come.
     Going,
     /// The election of this tenure chose another sender.
-    Lost { tenure: u64, owner: u8 },
+    Lost {
+        /// The tenure that is lost.
+        tenure: u64,
+        /// The sender that it chose.
+        owner: u8,
+    },
     /// It has taken the page of this tenure.
-    Own { tenure: u64 },
+    Own {
+        /// The tenure whose page it has.
+        tenure: u64,
+    },
     /// Its messages with these numbers stand in the order.
-    Delivered { tenure: u64, first: u64, last: u64 },
+    Delivered {
+        /// The tenure of their frame.
+        tenure: u64,
+        /// The number of the first of them.
+        first: u64,
+        /// The number of the last of them.
+        last: u64,
+    },
     /// Its leave mark stands in the order, by its frame of this tenure: it has left.
-    Left { tenure: u64 },
+    Left {
+        /// The tenure of that frame.
+        tenure: u64,
+    },
     /// Its frame does not fit the log. The batch is kept.
     Full,
     /// The order has ended, or this sender had left.
@@ -37,7 +55,12 @@ pub enum Turn {
     /// Where rows are used again: this sender holds the page, and `sender` keeps the row of that
     /// tenure, which is to be used next. Its messages may stand in the order already, so nothing is
     /// carried from it until it has given the page back.
-    Behind { tenure: u64, sender: u8 },
+    Behind {
+        /// The tenure whose row is to be used next.
+        tenure: u64,
+        /// The sender that keeps it.
+        sender: u8,
+    },
 }
 
 impl Turn {
@@ -562,7 +585,7 @@ impl Sender {
         let mut put = 0;
         self.send_off().map_err(|why| Unsent { put, why })?;
         for message in messages {
-            if self.pending() == 16 {
+            if self.pending() == MOST_MESSAGES as u64 {
                 self.send_off().map_err(|why| Unsent { put, why })?;
             }
             let taken = self.put(message.as_ref()).map_err(SendError::Put);
@@ -583,7 +606,7 @@ impl Sender {
             .await
             .map_err(|why| Unsent { put, why })?;
         for message in messages {
-            if self.pending() == 16 {
+            if self.pending() == MOST_MESSAGES as u64 {
                 self.send_off_async()
                     .await
                     .map_err(|why| Unsent { put, why })?;

@@ -3,6 +3,7 @@
 
 use kioskbasil::{
     Bus, EndError, Item, OpenError, OtherBus, Page, PageError, PutError, SendError, Shape, Turn,
+    MOST_BYTES, MOST_MESSAGES,
 };
 use std::cmp::Ordering;
 use std::error::Error;
@@ -178,6 +179,53 @@ fn a_sender_that_is_dropped_behind() {
         let left = Bus::end(senders.into_iter().chain([last]), receivers).unwrap();
         assert_eq!(left.counts[..3], [2, 0, 1]);
     }
+}
+
+/// Threads drop their senders after any number of turns: the last one sends, and ends the order.
+#[test]
+fn senders_that_are_dropped_at_any_turn() {
+    for run in 0..400u32 {
+        let shape = Shape {
+            rows: 2,
+            rounds: 1,
+            ..Shape::of(4, 1)
+        };
+        let (mut senders, receivers) = Bus::open(shape).unwrap();
+        let mut last = senders.pop().unwrap();
+        let drops = |mut sender: kioskbasil::Sender| {
+            for word in 0..(run * 7 + u32::from(sender.number()) * 13) % 60 {
+                if sender.pending() == 0 {
+                    sender.put(b"x").unwrap();
+                }
+                sender.turn(word);
+            }
+        };
+        thread::scope(|scope| {
+            for sender in senders {
+                scope.spawn(move || drops(sender));
+            }
+            last.send_all(["y"]).unwrap();
+        });
+        last.end_order().unwrap();
+        let ended = Bus::end([last], receivers).unwrap();
+        assert_eq!((ended.counts[3], ended.ended), (1, true));
+    }
+}
+
+/// What one bus gave goes on to another.
+#[test]
+fn items_are_messages() {
+    let (mut senders, mut receivers) = Bus::open(Shape::of(1, 1)).unwrap();
+    let (mut others, mut ears) = Bus::open(Shape::of(1, 1)).unwrap();
+    let said = [[7; MOST_BYTES]; MOST_MESSAGES];
+    senders[0].send_all(said).unwrap();
+    assert_eq!(senders[0].put(&[0; MOST_BYTES + 1]), Err(PutError::TooLong));
+    let mut heard = Vec::new();
+    assert_eq!(receivers[0].hear(&mut heard), MOST_MESSAGES);
+    others[0].send_all(heard).unwrap();
+    assert!(said
+        .iter()
+        .all(|it| ears[0].next_item().unwrap()[..] == it[..]));
 }
 
 /// The bus is ended by those that are left, in either order.
