@@ -409,11 +409,11 @@ impl Sender {
         let is_news = match turn {
             Turn::Delivered { .. } | Turn::Left { .. } | Turn::Full | Turn::Closed => true,
             Turn::Behind { .. } => self.behind == 1,
-            Turn::Going | Turn::Own { .. } => false,
-            // Behind this one another may have been dropped.
-            Turn::Waiting | Turn::Lost { .. } | Turn::Idle | Turn::Spent => self.let_go.finish(),
+            _ => false,
         };
-        if is_news {
+        // Behind this one another may have been dropped.
+        let is_back = self.let_go.finish();
+        if is_news || is_back {
             self.bell.ring();
         }
         turn
