@@ -1,12 +1,18 @@
 /* Tests of the calls that wait, examples/c/waiting.h, and of the sums of include/kioskbasil.h.
-   bench/embed builds and runs it. Prints what failed, and `N passed, M failed` last. */
+   bench/embed builds and runs it. Prints what failed, and `N passed, M failed` last. Whoever lost a
+   wake-up sleeps for 20 s here, and 10 s are too long for any wait. */
+#define BELL_LONGEST_SLEEP 20000
 #include "kioskbasil.h"
 #include "waiting.h"
+#include <errno.h>
 #include <poll.h>
 #include <pthread.h>
 #include <stdatomic.h>
 #include <stdio.h>
 #include <stdlib.h>
+#include <sys/resource.h>
+
+enum { TOO_LONG = 10 };
 
 static long passed, failed;
 
@@ -48,6 +54,12 @@ static void pause_for(long milliseconds) {
     nanosleep(&pause, NULL);
 }
 
+static double now(void) {
+    struct timespec t;
+    clock_gettime(CLOCK_MONOTONIC, &t);
+    return (double)t.tv_sec + (double)t.tv_nsec / 1e9;
+}
+
 static bool goes_on(void *given) {
     struct bus *bus = given;
     atomic_fetch_add(&bus->asked, 1);
@@ -79,6 +91,7 @@ struct waits {
     uint32_t code;
     size_t many;
     kioskbasil_item items[4];
+    double longest; /* of its waits for an item, in seconds */
 };
 
 static void *hears(void *given) {
@@ -115,6 +128,13 @@ static pthread_t start(void *(*what)(void *), struct waits *waits) {
     return thread;
 }
 
+/* Waits for a thread that is to end soon. */
+static void join(pthread_t thread) {
+    double begun = now();
+    pthread_join(thread, NULL);
+    EXPECT(now() - begun < TOO_LONG, true);
+}
+
 /* Two receivers that sleep are woken by a message, and by the end of the order. */
 static void woken_receivers(void) {
     struct bus bus;
@@ -131,7 +151,7 @@ static void woken_receivers(void) {
             EXPECT(send_batch(&bus.s[0], &seed, NULL, &bus.bell), KIOSKBASIL_DELIVERED);
         }
         for (int i = 0; i < 2; i++) {
-            pthread_join(threads[i], NULL);
+            join(threads[i]);
             EXPECT(waits[i].code, end ? KIOSKBASIL_END : KIOSKBASIL_EMPTY);
             EXPECT(waits[i].many, !end);
         }
@@ -148,19 +168,18 @@ static void woken_sender(void) {
     for (int i = 0; i < 2; i++) EXPECT(kioskbasil_put(&bus.s[i], "x", 1, NULL), KIOSKBASIL_OK);
     turn_to(&bus.s[1], KIOSKBASIL_OWN);
     pthread_t thread = start(sends_while, &sending);
-    while (atomic_load(&bus.asked) <= WAITING_YIELDS) pause_for(1);
-    pause_for(30);
+    while (atomic_load(&bus.asked) < WAITING_YIELDS + 2) pause_for(1); /* it sleeps from there on */
     int asked = atomic_load(&bus.asked);
     pause_for(30);
     EXPECT(atomic_load(&bus.asked), asked);
     tell_to_stop(&bus);
-    pthread_join(thread, NULL);
+    join(thread);
     EXPECT(sending.code, KIOSKBASIL_WAITING);
     EXPECT(atomic_load(&bus.asked), asked + 1);
     thread = start(sends, &sending);
     turn_to(&bus.s[1], KIOSKBASIL_DELIVERED);
     bell_ring(&bus.bell);
-    pthread_join(thread, NULL);
+    join(thread);
     EXPECT(sending.code, KIOSKBASIL_DELIVERED);
     hears(&hearing);
     EXPECT(hearing.many, 2);
@@ -177,7 +196,7 @@ static void stopped_receiver(void) {
     open_bus(&bus, 8);
     pthread_t thread = start(hears_while, &hearing);
     tell_to_stop(&bus);
-    pthread_join(thread, NULL);
+    join(thread);
     EXPECT(hearing.code, KIOSKBASIL_EMPTY);
     EXPECT(hearing.many, 0);
     EXPECT(kioskbasil_put(&bus.s[0], "x", 1, NULL), KIOSKBASIL_OK);
@@ -208,13 +227,13 @@ static void behind_another(void) {
     pthread_t heard = start(hears, &hearing);
     EXPECT(kioskbasil_put(&bus.s[0], "y", 1, NULL), KIOSKBASIL_OK);
     pthread_t thread = start(sends, &sending);
-    pthread_join(heard, NULL);
+    join(heard);
     EXPECT(hearing.many, 1);
     EXPECT(hearing.items[0].bytes[0], 'y');
     uint32_t code;
     do code = kioskbasil_turns(&bus.s[1], next_word(&seed), NULL);
     while (code == KIOSKBASIL_GOING);
-    pthread_join(thread, NULL);
+    join(thread);
     EXPECT(sending.code, KIOSKBASIL_DELIVERED);
     free_bus(&bus);
 }
@@ -260,12 +279,60 @@ static void loop_that_sends(void) {
     EXPECT(is_readable(descriptor, 0), false);
     pthread_t thread = start(sends, &other);
     EXPECT(is_readable(descriptor, 10000), true);
-    pthread_join(thread, NULL);
+    join(thread);
     EXPECT(other.code, KIOSKBASIL_DELIVERED);
     bell_hush(&bus.bell, descriptor);
     EXPECT(send_now(&bus.s[0], &seed, NULL, &bus.bell), KIOSKBASIL_DELIVERED);
     close(descriptor);
     free_bus(&bus);
+}
+
+/* A loop whose sender is behind another one rings once, and not at each of its further calls. */
+static void loop_behind(void) {
+    struct bus bus;
+    uint64_t seed = 1;
+    uint32_t code;
+    open_bus(&bus, 2);
+    int descriptor = bell_descriptor(&bus.bell);
+    EXPECT(kioskbasil_put(&bus.s[1], "late", 4, NULL), KIOSKBASIL_OK);
+    for (int i = 0; i < 3; i++) EXPECT(kioskbasil_turn(&bus.s[1], 0, NULL), KIOSKBASIL_GOING);
+    for (int i = 0; i < 2; i++) {
+        bell_hush(&bus.bell, descriptor);
+        EXPECT(kioskbasil_put(&bus.s[0], "x", 1, NULL), KIOSKBASIL_OK);
+        code = send_now(&bus.s[0], &seed, NULL, &bus.bell);
+        EXPECT(code, i ? KIOSKBASIL_BEHIND : KIOSKBASIL_DELIVERED);
+        EXPECT(is_readable(descriptor, 0), true);
+    }
+    bell_hush(&bus.bell, descriptor);
+    for (int i = 0; i < 3; i++)
+        EXPECT(send_now(&bus.s[0], &seed, NULL, &bus.bell), KIOSKBASIL_BEHIND);
+    EXPECT(is_readable(descriptor, 0), false);
+    do code = kioskbasil_turns(&bus.s[1], next_word(&seed), NULL);
+    while (code == KIOSKBASIL_GOING);
+    EXPECT(send_now(&bus.s[0], &seed, NULL, &bus.bell), KIOSKBASIL_DELIVERED);
+    EXPECT(is_readable(descriptor, 0), true);
+    close(descriptor);
+    free_bus(&bus);
+}
+
+/* Where there is one descriptor too few, errno says so, and a later call gives one. */
+static void no_descriptor(void) {
+    struct bell bell = BELL_NEW;
+    struct rlimit before, few;
+    int next = dup(0);
+    close(next);
+    EXPECT(next > 0 && getrlimit(RLIMIT_NOFILE, &before) == 0, true);
+    few = before, few.rlim_cur = (rlim_t)next + 1;
+    EXPECT(setrlimit(RLIMIT_NOFILE, &few), 0);
+    errno = 0;
+    int descriptor = bell_descriptor(&bell), why = errno;
+    EXPECT(setrlimit(RLIMIT_NOFILE, &before), 0);
+    EXPECT(descriptor < 0, true);
+    EXPECT(why, EMFILE);
+    descriptor = bell_descriptor(&bell);
+    EXPECT(descriptor, next);
+    close(descriptor);
+    bell_free(&bell);
 }
 
 /* Many rings and many sleeps, none of which may be missed: two threads play a ball, each of whose
@@ -281,7 +348,9 @@ static void *plays(void *given) {
             me->code |= kioskbasil_put(sender, "ball", 4, NULL);
             me->code |= send_batch(sender, &seed, NULL, &me->bus->bell) ^ KIOSKBASIL_DELIVERED;
         }
+        double begun = now();
         hear_some(&me->bus->r[me->number], me->items, 1, &me->many, &me->bus->bell);
+        if (now() - begun > me->longest) me->longest = now() - begun;
         me->code |= me->items[0].sender ^ (uint32_t)move % 2;
     }
     return NULL;
@@ -298,6 +367,7 @@ static void ball_games(void) {
     for (int i = 0; i < 2; i++) {
         pthread_join(threads[i], NULL);
         EXPECT(players[i].code, KIOSKBASIL_OK);
+        EXPECT(players[i].longest < TOO_LONG, true);
     }
     free_bus(&bus);
 }
@@ -331,6 +401,8 @@ int main(void) {
     behind_another();
     descriptors();
     loop_that_sends();
+    loop_behind();
+    no_descriptor();
     ball_games();
     sums();
     printf("waiting: %ld passed, %ld failed\n", passed, failed);

@@ -410,9 +410,9 @@ static inline uint32_t kioskbasil_senders_page(kioskbasil_sender *senders, size_
   bus_c_sender_bus(&senders[0], &first);
   code = bus_c_begin_page(&senders[0], sender_count, &made);
   for (size_t i = 0; i < sender_count && code == KIOSKBASIL_OK; i++) {
-    bus_c_sender_bus(&senders[i], &other);
-    code = bus_c_note_sender(&senders[i], i, &made);
+    code = bus_c_sender_bus(&senders[i], &other);
     if (code == KIOSKBASIL_OK && other != first) code = KIOSKBASIL_OTHER_BUS;
+    if (code == KIOSKBASIL_OK) code = bus_c_note_sender(&senders[i], i, &made);
   }
   if (code == KIOSKBASIL_OK && !made.ended) code = KIOSKBASIL_NOT_ENDED;
   if (code == KIOSKBASIL_OK) *left = made;
@@ -509,7 +509,7 @@ static inline void kioskbasil_free_receiver(kioskbasil_receiver *receiver) {
 
 /* Ends the bus. Each sender takes the turns of kioskbasil_finish. Then it gives up all these
  * handles, which have to be all that are left of one bus, and ends the bus by the first receiver:
- * all handles are empty then, whatever the answer.
+ * all handles are empty then, whatever the answer but NULL, which changes nothing.
  * KIOSKBASIL_OK: the first words of the log stand in `log`, as many as it has room for (`log` may
  * be NULL where `room` is 0; docs/FORMATS.md says what they are), and the rest in *left. IN_USE:
  * other handles had the bus still, and the bus goes with the last of them. PAGE_OUT: a sender that

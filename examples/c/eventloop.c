@@ -1,6 +1,6 @@
 /* An event loop of poll(2) with a bus among what it waits for: it sends the lines that come over a
-   pipe, and prints the messages of the order, while another thread sends and then closes. The loop
-   waits in poll alone. */
+   pipe, and prints the messages of the order, while another thread sends too. Once it has heard all
+   of them it closes. The loop waits in poll alone. */
 #include "kioskbasil.h"
 #include "waiting.h"
 #include <poll.h>
@@ -18,7 +18,7 @@ static void pause_a_little(void) {
     nanosleep(&pause, NULL);
 }
 
-/* A thread that sends by calls that wait, and ends the order. */
+/* A thread that sends by calls that wait. */
 static void *tick(void *given) {
     kioskbasil_sender *sender = given;
     uint64_t seed = 2;
@@ -27,7 +27,7 @@ static void *tick(void *given) {
         kioskbasil_put(sender, "tick", 4, NULL);
         if (send_batch(sender, &seed, NULL, &bell) != KIOSKBASIL_DELIVERED) return sender;
     }
-    return end_order(sender, &seed, &bell) == KIOSKBASIL_CLOSED ? NULL : sender;
+    return NULL;
 }
 
 /* A thread that knows nothing of the bus, and writes lines to a pipe. */
@@ -39,8 +39,8 @@ static void *write_lines(void *given) {
     return NULL;
 }
 
-/* Prints what is there; the last code. */
-static uint32_t print_items(kioskbasil_receiver *receiver) {
+/* Prints what is there, and counts it; the last code. */
+static uint32_t print_items(kioskbasil_receiver *receiver, size_t *heard) {
     kioskbasil_item items[16];
     size_t many;
     uint32_t code;
@@ -48,6 +48,7 @@ static uint32_t print_items(kioskbasil_receiver *receiver) {
         code = kioskbasil_hear(receiver, items, 16, &many);
         for (size_t i = 0; i < many; i++)
             printf("%d: %.*s\n", items[i].sender, items[i].length, (char *)items[i].bytes);
+        *heard += many;
     } while (code == KIOSKBASIL_GOING);
     return code;
 }
@@ -56,16 +57,18 @@ static uint32_t print_items(kioskbasil_receiver *receiver) {
 static uint32_t loop(kioskbasil_sender *sender, kioskbasil_receiver *receiver, int lines) {
     struct pollfd polled[2] = {{bell_descriptor(&bell), POLLIN, 0}, {lines, POLLIN, 0}};
     uint64_t seed = 1;
+    size_t heard = 0;
     if (polled[0].fd < 0) return KIOSKBASIL_EMPTY;
     for (;;) {
         char line[4];
         bell_hush(&bell, polled[0].fd);
         uint32_t sent = send_now(sender, &seed, NULL, &bell);
-        uint32_t heard = print_items(receiver);
-        if (heard != KIOSKBASIL_EMPTY || kioskbasil_refused(sent)) {
+        uint32_t code = print_items(receiver, &heard);
+        if (code != KIOSKBASIL_EMPTY || kioskbasil_refused(sent)) {
             close(polled[0].fd);
-            return heard;
+            return code;
         }
+        if (heard == LINES + TICKS && kioskbasil_close(sender) == KIOSKBASIL_OK) continue;
         /* A line is taken once the one before is sent. Behind another sender there is no ring. */
         polled[1].fd = sent == KIOSKBASIL_WAITING || sent == KIOSKBASIL_BEHIND ? -1 : lines;
         if (poll(polled, 2, sent == KIOSKBASIL_BEHIND ? 1 : -1) < 0) return KIOSKBASIL_EMPTY;

@@ -4,7 +4,7 @@
 
    Each bus has a bell, which its threads share: a thread that waits sleeps until it rings. The calls
    below that send ring it. So all threads of a bus give them the same bell, or all give NULL: then
-   who waits looks again every 0.1 ms. */
+   who waits looks again every 0.1 ms. No thread is cancelled (pthread_cancel) in any of these. */
 #ifndef KIOSKBASIL_WAITING_H
 #define KIOSKBASIL_WAITING_H
 
@@ -22,6 +22,12 @@
 
 /* ---- the bell: a count of its rings, which tells who listened whether it has rung since */
 
+/* A thread sleeps so many milliseconds at most, by the clock of the day: who is to ring may be
+   stopped before it does. Another number may be defined before this file is included. */
+#ifndef BELL_LONGEST_SLEEP
+#define BELL_LONGEST_SLEEP 100
+#endif
+
 /* It starts as BELL_NEW, and its place stays the same. Its fields are of these functions alone. */
 struct bell {
     uint64_t rings; /* twice as many as it rang, and 1 more where somebody listens */
@@ -34,7 +40,7 @@ struct bell {
 
 /* Rings: whoever listens looks at the bus again. Only two need it: who takes turns by hand, once
    one was answered DELIVERED, LEFT, CLOSED, FULL or BEHIND; and who makes a go_on say no. It is not
-   for signal handlers, and a thread that may be cancelled is not cancelled in it. */
+   for signal handlers. */
 static inline void bell_ring(struct bell *bell) {
     int event;
     if (!(__atomic_fetch_add(&bell->rings, 2, __ATOMIC_SEQ_CST) & 1)) return;
@@ -51,12 +57,12 @@ static inline uint64_t bell_listen(struct bell *bell) {
     return __atomic_or_fetch(&bell->rings, 1, __ATOMIC_SEQ_CST);
 }
 
-/* Sleeps until the bell has rung since bell_listen gave `heard`, for 0.1 s at most: who is to ring
-   may be stopped before it does. */
+/* Sleeps until the bell has rung since bell_listen gave `heard`, for BELL_LONGEST_SLEEP at most. */
 static inline void bell_sleep(struct bell *bell, uint64_t heard) {
     struct timespec end;
     int status = clock_gettime(CLOCK_REALTIME, &end);
-    end.tv_nsec += 100000000;
+    end.tv_sec += BELL_LONGEST_SLEEP / 1000;
+    end.tv_nsec += BELL_LONGEST_SLEEP % 1000 * 1000000;
     if (end.tv_nsec >= 1000000000) {
         end.tv_nsec -= 1000000000;
         end.tv_sec++;
@@ -80,7 +86,7 @@ static inline int bell_descriptor(struct bell *bell) {
     pthread_mutex_unlock(&bell->lock);
     memset(&rings, 0, sizeof rings);
     rings.events = EPOLLIN | EPOLLET; /* so each descriptor sees each ring, and none reads `event` */
-    if (!epoll_ctl(descriptor, EPOLL_CTL_ADD, event, &rings)) return descriptor;
+    if (event >= 0 && !epoll_ctl(descriptor, EPOLL_CTL_ADD, event, &rings)) return descriptor;
     close(descriptor);
     return -1;
 }
@@ -178,7 +184,9 @@ static inline uint32_t send_while(kioskbasil_sender *sender, uint64_t *seed,
     for (;;) {
         before = code;
         code = kioskbasil_turns(sender, next_word(seed), answer);
-        if (bell && is_news(code) && code != before) bell_ring(bell);
+        /* BEHIND is news right after OWN alone: a call that goes on with it does not ring again. */
+        if (bell && is_news(code) && (code != KIOSKBASIL_BEHIND || before == KIOSKBASIL_OWN))
+            bell_ring(bell);
         switch (code) {
         case KIOSKBASIL_WAITING:
         case KIOSKBASIL_BEHIND:

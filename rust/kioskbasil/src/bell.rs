@@ -2,6 +2,7 @@
 
 use std::collections::BTreeMap;
 use std::mem;
+use std::panic::{self, AssertUnwindSafe};
 use std::sync::atomic::{AtomicBool, Ordering};
 use std::sync::{Arc, Mutex, MutexGuard, PoisonError};
 use std::task::{Wake, Waker};
@@ -22,11 +23,11 @@ struct Listeners {
 }
 
 impl Bell {
-    /// Wakes all that wait.
+    /// Wakes all that wait. Where a waker panics, so does this once it has woken the others.
     pub fn ring(&self) {
         if self.0.are_there.swap(false, Ordering::SeqCst) {
             let woken = mem::take(&mut *self.wakers());
-            woken.into_values().for_each(Waker::wake);
+            wake_all(woken.into_values());
         }
     }
 
@@ -50,6 +51,18 @@ impl Bell {
     fn wakers(&self) -> MutexGuard<'_, BTreeMap<usize, Waker>> {
         let locked = self.0.wakers.lock();
         locked.unwrap_or_else(PoisonError::into_inner)
+    }
+}
+
+/// Wakes each, also behind one that panics. That panic goes on then.
+fn wake_all(wakers: impl Iterator<Item = Waker>) {
+    let mut fault = None;
+    for waker in wakers {
+        let woken = panic::catch_unwind(AssertUnwindSafe(|| waker.wake()));
+        fault = fault.or(woken.err());
+    }
+    if let Some(fault) = fault {
+        panic::resume_unwind(fault);
     }
 }
 

@@ -36,6 +36,7 @@
 
 mod bell;
 mod errors;
+mod let_go;
 mod raw;
 mod receivers;
 mod senders;
@@ -51,11 +52,20 @@ pub use senders::{Sender, Turn};
 pub use sizes::{room_to_close, tenures_needed, words_needed};
 pub use waiting::Waiting;
 
+use let_go::LetGo;
+use std::sync::Arc;
+
 /// Senders of a bus: at most 64.
 pub const MOST_SENDERS: usize = 64;
 
 /// Receivers of a bus: at most 8.
 pub const MOST_RECEIVERS: usize = 8;
+
+/// Bytes of a message: at most 56.
+pub const MOST_BYTES: usize = 56;
+
+/// Messages that wait in a batch: at most 16.
+pub const MOST_MESSAGES: usize = 16;
 
 /// The sizes of a bus.
 #[derive(Clone, Copy, Debug, PartialEq, Eq)]
@@ -255,19 +265,22 @@ impl Bus {
         if code != 0 {
             return Err(OpenError::of_code(code));
         }
-        let bell = Bell::default();
+        let (bell, let_go) = (Bell::default(), Arc::<LetGo>::default());
         let senders = senders.into_iter().take(many);
         let receivers = receivers.into_iter().take(ears).enumerate();
         let log_words = shape.log_words as usize;
         Ok((
-            senders.map(|raw| Sender::of_raw(raw, &bell)).collect(),
+            senders
+                .map(|raw| Sender::of_raw(raw, &bell, &let_go))
+                .collect(),
             receivers
-                .map(|(number, raw)| Receiver::of_raw(raw, number, log_words, &bell))
+                .map(|(number, raw)| Receiver::of_raw(raw, number, log_words, &bell, &let_go))
                 .collect(),
         ))
     }
 
-    /// Ends a bus by all handles that are left of it, of which each sender finishes first.
+    /// Ends a bus by all handles that are left of it. Each sender takes the turns that are left of
+    /// its tenure first.
     ///
     /// ```
     /// use kioskbasil::{Bus, EndError, Shape};
@@ -282,11 +295,7 @@ impl Bus {
         senders: impl IntoIterator<Item = Sender>,
         receivers: impl IntoIterator<Item = Receiver>,
     ) -> Result<Ended, EndError> {
-        let mut senders: Vec<Sender> = senders.into_iter().collect();
-        for sender in &mut senders {
-            sender.finish();
-        }
-        drop(senders);
+        senders.into_iter().for_each(drop);
         let mut receivers = receivers.into_iter();
         let last = receivers.next().ok_or(EndError::NoReceiver)?;
         receivers.for_each(drop);

@@ -1,7 +1,7 @@
 //! The archive's functions, as include/kioskbasil.h declares them, and the memory that they ask
 //! for.
 
-use crate::MOST_SENDERS;
+use crate::{MOST_BYTES, MOST_SENDERS};
 use std::ffi::c_void;
 use std::ptr;
 
@@ -16,6 +16,12 @@ pub struct RawReceiver {
     at: *mut c_void,
     live: u32,
 }
+
+// SAFETY: the archive proves `Send` of what the handle leads to.
+unsafe impl Send for RawSender {}
+
+// SAFETY: as above.
+unsafe impl Send for RawReceiver {}
 
 impl RawSender {
     pub const NONE: RawSender = RawSender {
@@ -54,7 +60,7 @@ pub struct RawItem {
     pub number: u64,
     pub sender: u8,
     pub length: u8,
-    pub bytes: [u8; 56],
+    pub bytes: [u8; MOST_BYTES],
 }
 
 impl RawItem {
@@ -62,7 +68,7 @@ impl RawItem {
         number: 0,
         sender: 0,
         length: 0,
-        bytes: [0; 56],
+        bytes: [0; MOST_BYTES],
     };
 }
 

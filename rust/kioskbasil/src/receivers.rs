@@ -1,11 +1,13 @@
 //! Receivers.
 
 use crate::errors::{EndError, OtherBus};
+use crate::let_go::LetGo;
 use crate::raw::{self, RawItem};
 use crate::waiting::{BackOff, Polled};
-use crate::{Bell, Ended, Sender, Waiting, MOST_SENDERS};
+use crate::{Bell, Ended, Sender, Waiting, MOST_BYTES, MOST_SENDERS};
 use std::cmp::Ordering;
 use std::ops::Deref;
+use std::sync::Arc;
 use std::task::{Context, Poll};
 use std::{fmt, ptr};
 
@@ -17,7 +19,7 @@ pub struct Item {
     /// Its number among the messages of its sender, from the base of that on.
     pub number: u64,
     length: u8,
-    bytes: [u8; 56],
+    bytes: [u8; MOST_BYTES],
 }
 
 impl Item {
@@ -36,6 +38,12 @@ impl Deref for Item {
 
     fn deref(&self) -> &[u8] {
         &self.bytes[..usize::from(self.length)]
+    }
+}
+
+impl AsRef<[u8]> for Item {
+    fn as_ref(&self) -> &[u8] {
+        self
     }
 }
 
@@ -65,7 +73,12 @@ pub enum Heard {
     /// It has read all up to the length that it found.
     Empty,
     /// A frame of this owner begins.
-    Head { tenure: u64, owner: u8 },
+    Head {
+        /// The tenure of the frame.
+        tenure: u64,
+        /// The sender whose frame it is.
+        owner: u8,
+    },
     /// The next message of the order.
     Item(Item),
     /// This sender has left, and nothing of it follows.
@@ -104,11 +117,9 @@ pub struct Receiver {
     bell: Bell,
     /// Its place at the bell.
     place: usize,
+    let_go: Arc<LetGo>,
     waiting: Waiting,
 }
-
-// SAFETY: the archive proves `Send` of what the handle leads to.
-unsafe impl Send for Receiver {}
 
 impl fmt::Debug for Receiver {
     fn fmt(&self, f: &mut fmt::Formatter<'_>) -> fmt::Result {
@@ -129,6 +140,7 @@ impl Receiver {
         number: usize,
         log_words: usize,
         bell: &Bell,
+        let_go: &Arc<LetGo>,
     ) -> Receiver {
         Receiver {
             raw,
@@ -139,6 +151,7 @@ impl Receiver {
             log_words,
             bell: bell.clone(),
             place: MOST_SENDERS + number,
+            let_go: let_go.clone(),
             waiting: Waiting::default(),
         }
     }
@@ -167,8 +180,8 @@ impl Receiver {
         Some(Item::of(item))
     }
 
-    /// Takes what there is out of the bus, at most 32 items. True says that more may be there.
-    fn fill(&mut self) -> bool {
+    /// Takes what there is out of the bus, at most 32 items.
+    fn fill(&mut self) {
         self.given = 0;
         self.many = 0;
         // SAFETY: as in `shown`; there is room for so many items.
@@ -182,7 +195,6 @@ impl Receiver {
             )
         };
         self.ended = code == 14;
-        code == 3
     }
 
     /// One turn: one load. Items that wait in its batch are given first.
@@ -397,6 +409,7 @@ impl Receiver {
     /// Ends the bus by this handle, where it is the last one. It takes memory for the words of the
     /// log, as many as that can have until it is known how many it has.
     pub fn end(mut self) -> Result<Ended, EndError> {
+        self.let_go.finish();
         let mut log = vec![0; self.log_words];
         let mut left = raw::Left::NONE;
         // SAFETY: as in `shown`; the log has room for the longest one.

@@ -1,12 +1,13 @@
 //! Senders.
 
 use crate::errors::{CloseError, PutError, SendError, Unsent};
+use crate::let_go::LetGo;
 use crate::raw;
 use crate::waiting::{nap, wake_after, BackOff, Polled, Words};
-use crate::{Bell, Waiting};
+use crate::{Bell, Waiting, MOST_MESSAGES};
+use std::sync::Arc;
 use std::task::{Context, Poll};
-use std::time::Duration;
-use std::{fmt, ptr, thread};
+use std::{fmt, mem, ptr};
 
 /// The answer to a turn of a sender.
 #[derive(Clone, Copy, Debug, PartialEq, Eq)]
@@ -19,13 +20,31 @@ pub enum Turn {
     /// A step was taken, and more are to come.
     Going,
     /// The election of this tenure chose another sender.
-    Lost { tenure: u64, owner: u8 },
+    Lost {
+        /// The tenure that is lost.
+        tenure: u64,
+        /// The sender that it chose.
+        owner: u8,
+    },
     /// It has taken the page of this tenure.
-    Own { tenure: u64 },
+    Own {
+        /// The tenure whose page it has.
+        tenure: u64,
+    },
     /// Its messages with these numbers stand in the order.
-    Delivered { tenure: u64, first: u64, last: u64 },
+    Delivered {
+        /// The tenure of their frame.
+        tenure: u64,
+        /// The number of the first of them.
+        first: u64,
+        /// The number of the last of them.
+        last: u64,
+    },
     /// Its leave mark stands in the order, by its frame of this tenure: it has left.
-    Left { tenure: u64 },
+    Left {
+        /// The tenure of that frame.
+        tenure: u64,
+    },
     /// Its frame does not fit the log. The batch is kept.
     Full,
     /// The order has ended, or this sender had left.
@@ -36,7 +55,12 @@ pub enum Turn {
     /// Where rows are used again: this sender holds the page, and `sender` keeps the row of that
     /// tenure, which is to be used next. Its messages may stand in the order already, so nothing is
     /// carried from it until it has given the page back.
-    Behind { tenure: u64, sender: u8 },
+    Behind {
+        /// The tenure whose row is to be used next.
+        tenure: u64,
+        /// The sender that keeps it.
+        sender: u8,
+    },
 }
 
 impl Turn {
@@ -94,10 +118,10 @@ impl fmt::Display for Turn {
 /// A sender of a bus. It may go to another thread, and one thread at a time has it.
 ///
 /// One that is dropped within a tenure, also by a panic or by an error on its way up, first takes the
-/// turns that are left of it, as `finish` does. Where another sender's pin is in the way it asks
-/// again for 0.1 s. If that other one takes no turn meanwhile, and be it that this thread drops it
-/// next, the page is out: all others wait for good, as they do where a thread is killed, or never
-/// comes back, within a tenure. `Bus::end` lets all senders finish before it gives any up.
+/// turns that are left of it, as `finish` does. Where another sender's pin is in the way these are
+/// kept: the other handles of the bus take them, at the first of their turns that finds that other
+/// one gone on or dropped. If that one never comes back, all others wait for good, as they do where
+/// a thread is killed within a tenure.
 pub struct Sender {
     raw: raw::RawSender,
     random: Words,
@@ -109,11 +133,9 @@ pub struct Sender {
     /// How many of its last turns answered `Behind`.
     behind: u32,
     bell: Bell,
+    let_go: Arc<LetGo>,
     waiting: Waiting,
 }
-
-// SAFETY: the archive proves `Send` of what the handle leads to.
-unsafe impl Send for Sender {}
 
 impl fmt::Debug for Sender {
     fn fmt(&self, f: &mut fmt::Formatter<'_>) -> fmt::Result {
@@ -123,28 +145,16 @@ impl fmt::Debug for Sender {
     }
 }
 
-/// How often a sender that is dropped asks again where another sender's pin is in the way.
-const MOST_ASKED: u32 = 1000;
-
-/// How long it waits before it asks again.
-const PAUSE: Duration = Duration::from_micros(100);
-
 impl Drop for Sender {
     fn drop(&mut self) {
-        for _ in 0..MOST_ASKED {
-            match self.finish() {
-                Some(Turn::Behind { .. }) => thread::sleep(PAUSE),
-                _ => break,
-            }
-        }
-        // SAFETY: the handle is this value's own.
-        unsafe { raw::bus_c_free_sender(&mut self.raw) };
+        let raw = mem::replace(&mut self.raw, raw::RawSender::NONE);
+        self.let_go.give_up(raw);
         self.bell.ring();
     }
 }
 
 impl Sender {
-    pub(crate) fn of_raw(raw: raw::RawSender, bell: &Bell) -> Sender {
+    pub(crate) fn of_raw(raw: raw::RawSender, bell: &Bell, let_go: &Arc<LetGo>) -> Sender {
         let mut sender = Sender {
             raw,
             random: Words::new(),
@@ -153,6 +163,7 @@ impl Sender {
             leaves: false,
             behind: 0,
             bell: bell.clone(),
+            let_go: let_go.clone(),
             waiting: Waiting::default(),
         };
         sender.number = sender.shown().number;
@@ -378,7 +389,9 @@ impl Sender {
         }
     }
 
-    /// One turn: at most one step on one word of the bus. `word` is the random word of a vote.
+    /// One turn: at most one step on one word of the bus, but where a sender was dropped behind
+    /// this one: then it also takes the turns that are left of that. `word` is the random word of a
+    /// vote.
     pub fn turn(&mut self, word: u32) -> Turn {
         let mut told = raw::TurnAnswer::default();
         // SAFETY: as in `shown`.
@@ -393,12 +406,15 @@ impl Sender {
             Turn::Behind { .. } => self.behind.saturating_add(1),
             _ => 0,
         };
-        match turn {
-            Turn::Delivered { .. } | Turn::Left { .. } | Turn::Full | Turn::Closed => {
-                self.bell.ring()
-            }
-            Turn::Behind { .. } if self.behind == 1 => self.bell.ring(),
-            _ => {}
+        let is_news = match turn {
+            Turn::Delivered { .. } | Turn::Left { .. } | Turn::Full | Turn::Closed => true,
+            Turn::Behind { .. } => self.behind == 1,
+            _ => false,
+        };
+        // Behind this one another may have been dropped.
+        let is_back = self.let_go.finish();
+        if is_news || is_back {
+            self.bell.ring();
         }
         turn
     }
@@ -569,7 +585,7 @@ impl Sender {
         let mut put = 0;
         self.send_off().map_err(|why| Unsent { put, why })?;
         for message in messages {
-            if self.pending() == 16 {
+            if self.pending() == MOST_MESSAGES as u64 {
                 self.send_off().map_err(|why| Unsent { put, why })?;
             }
             let taken = self.put(message.as_ref()).map_err(SendError::Put);
@@ -590,7 +606,7 @@ impl Sender {
             .await
             .map_err(|why| Unsent { put, why })?;
         for message in messages {
-            if self.pending() == 16 {
+            if self.pending() == MOST_MESSAGES as u64 {
                 self.send_off_async()
                     .await
                     .map_err(|why| Unsent { put, why })?;

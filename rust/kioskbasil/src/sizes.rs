@@ -1,8 +1,11 @@
 //! What a sitting takes of a bus, as sums. `u64::MAX` stands for all that 64 bits cannot count.
 
+use crate::MOST_MESSAGES;
+
 /// How many batches of at most 16 a sender makes of so many messages.
 fn batches(messages: u64) -> u64 {
-    messages / 16 + u64::from(messages % 16 != 0)
+    let most = MOST_MESSAGES as u64;
+    messages / most + u64::from(messages % most != 0)
 }
 
 /// How many tenures a sitting takes in which each of so many senders sends so many messages, in

@@ -3,6 +3,7 @@
 
 use kioskbasil::{
     Bus, EndError, Item, OpenError, OtherBus, Page, PageError, PutError, SendError, Shape, Turn,
+    MOST_BYTES, MOST_MESSAGES,
 };
 use std::cmp::Ordering;
 use std::error::Error;
@@ -141,13 +142,11 @@ fn senders_that_panic() {
     }
 }
 
-/// One that is dropped behind another one takes the page with it.
-#[test]
-fn a_sender_that_is_dropped_behind() {
+/// Three senders over two rows, of which the first holds the page and is behind the second.
+fn one_behind_another() -> (Vec<kioskbasil::Sender>, Vec<kioskbasil::Receiver>) {
     let shape = Shape {
-        again: true,
         rows: 2,
-        ..Shape::of(2, 1)
+        ..Shape::of(3, 1)
     };
     let (mut senders, receivers) = Bus::open(shape).unwrap();
     senders[1].put(b"x").unwrap();
@@ -159,8 +158,89 @@ fn a_sender_that_is_dropped_behind() {
     while !matches!(senders[0].turn(0), Turn::Own { .. }) {}
     let (tenure, sender) = (0, 1);
     assert_eq!(senders[0].finish(), Some(Turn::Behind { tenure, sender }));
-    drop(senders.remove(0));
-    assert_eq!(Bus::end(senders, receivers).unwrap_err(), EndError::PageOut);
+    (senders, receivers)
+}
+
+/// One that is dropped behind another one gives the page back once that one goes on, or is dropped.
+#[test]
+fn a_sender_that_is_dropped_behind() {
+    for is_dropped in [false, true] {
+        let (mut senders, receivers) = one_behind_another();
+        drop(senders.remove(0));
+        senders[1].put(b"last").unwrap();
+        assert_eq!(senders[1].turns(0), Turn::Waiting);
+        if is_dropped {
+            drop(senders.remove(0));
+        } else {
+            while senders[0].turns(1) == Turn::Going {}
+        }
+        let mut last = senders.pop().unwrap();
+        assert!(matches!(last.send(), Turn::Delivered { .. }));
+        let left = Bus::end(senders.into_iter().chain([last]), receivers).unwrap();
+        assert_eq!(left.counts[..3], [2, 0, 1]);
+    }
+}
+
+/// Threads drop their senders after any number of turns: the last one sends, and ends the order.
+#[test]
+fn senders_that_are_dropped_at_any_turn() {
+    for run in 0..400u32 {
+        let shape = Shape {
+            rows: 2,
+            rounds: 1,
+            ..Shape::of(4, 1)
+        };
+        let (mut senders, receivers) = Bus::open(shape).unwrap();
+        let mut last = senders.pop().unwrap();
+        let drops = |mut sender: kioskbasil::Sender| {
+            for word in 0..(run * 7 + u32::from(sender.number()) * 13) % 60 {
+                if sender.pending() == 0 {
+                    sender.put(b"x").unwrap();
+                }
+                sender.turn(word);
+            }
+        };
+        thread::scope(|scope| {
+            for sender in senders {
+                scope.spawn(move || drops(sender));
+            }
+            last.send_all(["y"]).unwrap();
+        });
+        last.end_order().unwrap();
+        let ended = Bus::end([last], receivers).unwrap();
+        assert_eq!((ended.counts[3], ended.ended), (1, true));
+    }
+}
+
+/// What one bus gave goes on to another.
+#[test]
+fn items_are_messages() {
+    let (mut senders, mut receivers) = Bus::open(Shape::of(1, 1)).unwrap();
+    let (mut others, mut ears) = Bus::open(Shape::of(1, 1)).unwrap();
+    let said = [[7; MOST_BYTES]; MOST_MESSAGES];
+    senders[0].send_all(said).unwrap();
+    assert_eq!(senders[0].put(&[0; MOST_BYTES + 1]), Err(PutError::TooLong));
+    let mut heard = Vec::new();
+    assert_eq!(receivers[0].hear(&mut heard), MOST_MESSAGES);
+    others[0].send_all(heard).unwrap();
+    assert!(said
+        .iter()
+        .all(|it| ears[0].next_item().unwrap()[..] == it[..]));
+}
+
+/// The bus is ended by those that are left, in either order.
+#[test]
+fn senders_that_are_dropped_in_order() {
+    for is_dropped in [false, true] {
+        let (mut senders, receivers) = one_behind_another();
+        if is_dropped {
+            senders.clear();
+        }
+        assert_eq!(Bus::end(senders, receivers).unwrap().counts[0], 2);
+    }
+    let (senders, receivers) = one_behind_another();
+    std::mem::forget(senders.into_iter().nth(1));
+    assert_eq!(Bus::end([], receivers).unwrap_err(), EndError::InUse);
 }
 
 #[test]

@@ -2,12 +2,13 @@
 
 use kioskbasil::{Bus, Item, Next, Receiver, Sender, Shape, Turn, Waiting};
 use std::future::Future;
+use std::panic::{self, AssertUnwindSafe};
 use std::pin::Pin;
 use std::sync::atomic::{AtomicBool, AtomicUsize, Ordering};
 use std::sync::{mpsc, Arc, Mutex};
 use std::task::{Context, Poll, Wake, Waker};
 use std::thread;
-use std::time::Duration;
+use std::time::{Duration, Instant};
 
 const A_WHILE: Duration = Duration::from_millis(30);
 
@@ -107,9 +108,11 @@ fn those_that_sleep_are_told_to_stop() {
             thread::yield_now();
         }
         thread::sleep(A_WHILE);
-        let before = asked.load(Ordering::SeqCst);
+        let (before, begin) = (asked.load(Ordering::SeqCst), Instant::now());
         thread::sleep(A_WHILE);
-        assert_eq!(asked.load(Ordering::SeqCst), before);
+        // Each looks again every 0.1 s. Awake they would look some thousand times.
+        let looks = 50 + begin.elapsed().as_millis() as usize / 10;
+        assert!(asked.load(Ordering::SeqCst) <= before + looks);
         stop.store(true, Ordering::SeqCst);
         bell.ring();
         assert_eq!(sends.join().unwrap(), None);
@@ -278,6 +281,63 @@ fn the_last_task_of_a_handle_is_woken_once() {
     let woken = counts.iter().map(|count| count.0.load(Ordering::SeqCst));
     assert_eq!(woken.collect::<Vec<_>>(), [0, 0, 1]);
     assert!(receivers[0].try_item().is_some());
+}
+
+/// A waker that panics.
+struct Fault;
+
+impl Wake for Fault {
+    fn wake(self: Arc<Self>) {
+        panic!("a fault of the program's own, which is to be seen");
+    }
+}
+
+#[test]
+fn a_waker_that_panics_leaves_nobody_asleep() {
+    let (mut senders, mut receivers) = open(1, 3, 8);
+    let counts: [Arc<Count>; 2] = Default::default();
+    let wakers = [
+        Waker::from(counts[0].clone()),
+        Waker::from(Arc::new(Fault)),
+        Waker::from(counts[1].clone()),
+    ];
+    for (receiver, waker) in receivers.iter_mut().zip(&wakers) {
+        let polled = receiver.poll_item(&mut Context::from_waker(waker));
+        assert_eq!(polled, Poll::Pending);
+    }
+    senders[0].put(b"x").unwrap();
+    let sends = panic::catch_unwind(AssertUnwindSafe(|| senders[0].send()));
+    assert!(sends.is_err());
+    let woken = counts.iter().map(|count| count.0.load(Ordering::SeqCst));
+    assert_eq!(woken.collect::<Vec<_>>(), [1, 1]);
+    assert!(receivers.iter_mut().all(|r| r.try_item().is_some()));
+}
+
+/// Who waits for the page of a sender that was dropped is woken once the other has gone on.
+#[test]
+fn a_task_waits_for_a_page_that_was_let_go() {
+    let (mut senders, _receivers) = open(3, 1, 2);
+    senders[1].put(b"late").unwrap();
+    for _ in 0..3 {
+        assert_eq!(senders[1].turn(0), Turn::Going);
+    }
+    senders[0].send_all(["a"]).unwrap();
+    senders[0].put(b"b").unwrap();
+    let polled = senders[0].poll_send(&mut Context::from_waker(&Waker::from(
+        Arc::<Count>::default(),
+    )));
+    assert_eq!(polled, Poll::Pending);
+    drop(senders.remove(0));
+    let count: Arc<Count> = Arc::default();
+    let waker = Waker::from(count.clone());
+    senders[1].put(b"c").unwrap();
+    let polled = senders[1].poll_send(&mut Context::from_waker(&waker));
+    assert_eq!(polled, Poll::Pending);
+    assert_eq!(count.0.load(Ordering::SeqCst), 0);
+    go_on_late(&mut senders[0]);
+    assert_eq!(count.0.load(Ordering::SeqCst), 1);
+    let polled = senders[1].poll_send(&mut Context::from_waker(&waker));
+    assert!(matches!(polled, Poll::Ready(Turn::Delivered { .. })));
 }
 
 #[test]
