@@ -48,6 +48,8 @@ MUTANTS = [
     ("if (s.cleared < rowWidth(bus))", "if (s.cleared + 1 < rowWidth(bus))"),
     ("s.page.words + s.frame.length <= bus.log", "s.page.words + s.frame.length < bus.log"),
     ("if (s.tenure !== null) return 'Busy';\n    if (s.batch", "if (s.batch"),
+    ("s.value = total > 0 ? 1 : 0;", "s.value = total >= 0 ? 1 : 0;"),
+    ("message.length > 2 * 56", "message.length > 2 * 57"),
 ]
 
 # A sender sees tenure 0 open, falls asleep, and shows itself in it once tenure 2 is held: whoever clears a row then passes it by.
@@ -66,6 +68,13 @@ turn 1 0 1
 turn 0 0 99
 turn 1 0 99
 """
+
+# A sender votes as many heads as tails, up to its last vote; and a message is too long by a byte.
+TIED_COIN = "".join([
+    "shape 2 1 2 1 64\nput 0 61\nput 1 62\nturn 0 0 4\nturn 1 0 4\nturn 0 0 3\nturn 1 0 4\n",
+    32 * "turn 1 1 2\nturn 1 0 2\n",
+    "turn 1 0 99\nturn 0 0 99\nput 1 " + 57 * "61" + "\n",
+])
 
 
 class Node:
@@ -93,9 +102,9 @@ def broken(script, dice):
 
 
 def batch_of(seed, count):
-    """Scripts of both kinds, behind a fixed one; the fourth of five as it is, and the fifth broken; of the others refused lines go."""
-    dice, batch = random.Random(seed), [[LATE_PRESENCE, True]]
-    for number in range(count - 1):
+    """Scripts of both kinds, behind two fixed ones; the fourth of five as it is, and the fifth broken; of the others refused lines go."""
+    dice, batch = random.Random(seed), [[LATE_PRESENCE, True], [TIED_COIN, True]]
+    for number in range(count - len(batch)):
         script = (cyclic_script if number % 2 else shaped_script)(dice)
         if number % 5 == 4:
             script = broken(script, dice)
