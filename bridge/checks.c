@@ -203,14 +203,14 @@ static void *send_numbers(void *given) {
 static void *hear_numbers(void *given) {
     struct ends *own = given;
     kioskbasil_item items[64];
-    unsigned step = 0;
+    struct waiter waiter = {0, 0, 0};
     while (own->heard < SENDERS * EACH && !atomic_load(&is_refused)) {
         size_t many = 0;
         if (sittings_hear(own->sittings, own->number, items, 64, &many) == KIOSKBASIL_EMPTY) {
-            back_off(&step);
+            wait_for(NULL, &waiter);
             continue;
         }
-        step = 0;
+        waiter.step = 0;
         for (size_t i = 0; i < many; i++) {
             own->order[own->heard++] = (uint64_t)items[i].sender << 48 | items[i].number;
         }
