@@ -81,6 +81,14 @@ static bool await(struct uplink *up, uint64_t place, struct bridge_fault *fault)
     return good && !bridge_stops(bridge);
 }
 
+/* How many sittings hold all that all workers may have sent and not heard, in frames of one message
+   each: so many that who sends never waits for the uplink. */
+static uint64_t most_sittings(const struct bridge_options *options) {
+    uint64_t words = 8 * options->workers * options->ahead;
+    uint64_t room = options->log_words - 2 - 129 * options->workers;
+    return 2 + words / room;
+}
+
 /* Opens the bus of what workers send, with the numbers that the stream has told. */
 static bool open_bus(struct uplink *up, const struct bridge_node *node,
                      struct bridge_fault *fault) {
@@ -89,7 +97,7 @@ static bool open_bus(struct uplink *up, const struct bridge_node *node,
     const struct sittings_shape shape = {.senders = bridge->options.workers,
                                          .receivers = 1,
                                          .log_words = bridge->options.log_words,
-                                         .most = 2};
+                                         .most = most_sittings(&bridge->options)};
     uint32_t code = sittings_open(&made, &shape, node->next);
     if (code != KIOSKBASIL_OK) {
         fault_set(fault, BRIDGE_BUS_REFUSES, "the bus of the uplink: %s", kioskbasil_text(code));
