@@ -113,7 +113,7 @@ static enum bridge_code read_file(struct option *options, size_t many, const cha
     enum bridge_code code = BRIDGE_OK;
     for (unsigned at = 1; code == BRIDGE_OK && fgets(line, sizeof line, file); at++) {
         snprintf(where, sizeof where, "%.150s, line %u", path, at);
-        if (strlen(line) == sizeof line - 1) {
+        if (strlen(line) == sizeof line - 1 && line[sizeof line - 2] != '\n') {
             code = fault_set(fault, BRIDGE_BAD_LINE, "longer than 398 characters (%s)", where);
         } else {
             code = read_line(options, many, line, where, fault);
