@@ -129,7 +129,7 @@ static bool begin_epoch(struct uplink *up, struct bridge_fault *fault) {
     uint64_t last;
     if (!engine_connect(&up->link, &bridge->options, "uplink", fault)) return false;
     if (!engine_stream(up->link, bridge->make, &stream, fault)) return false;
-    if (!engine_last_own(up->link, &last, fault) || !await(up, last, fault)) return false;
+    if (!engine_last_own(up->link, &stream, &last, fault) || !await(up, last, fault)) return false;
     entry_begin(begins, (uint8_t)bridge->options.node, bridge->process,
                 (uint16_t)bridge->options.workers);
     if (!engine_append_after(up->link, last, begins, sizeof begins, &up->epoch, fault))
