@@ -8,6 +8,8 @@
 #include <stdlib.h>
 #include <string.h>
 
+enum { LOOK_EACH = 16 /* entries appended between two looks at what was stored and heard */ };
+
 struct kept {
     uint8_t *bytes;
     size_t length;
@@ -199,15 +201,23 @@ static bool look(struct uplink *up, struct bridge_fault *fault) {
     return false;
 }
 
+/* Appends what is there, up to LOOK_EACH entries. How many there were; 0 too where `good` is false. */
+static unsigned append_some(struct uplink *up, bool *good, struct bridge_fault *fault) {
+    unsigned many = 0;
+    while (*good && many < LOOK_EACH && up->many < up->bridge->options.window && gather(up)) {
+        *good = append(up, up->many - 1, fault);
+        many++;
+    }
+    return many;
+}
+
 /* Appends until the link is broken or the bridge stops. */
 static void serve(struct uplink *up, struct bridge_fault *fault) {
-    struct bridge *bridge = up->bridge;
     unsigned step = 0;
     bool good = begin_epoch(up, fault) && go_on(up, fault);
-    while (good && !bridge_stops(bridge)) {
+    while (good && !bridge_stops(up->bridge)) {
         good = look(up, fault);
-        if (good && up->many < bridge->options.window && gather(up)) {
-            good = append(up, up->many - 1, fault);
+        if (append_some(up, &good, fault)) {
             step = 0;
         } else if (good) {
             if (up->many && step > 3) step = 3;
