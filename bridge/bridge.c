@@ -159,12 +159,15 @@ static enum bridge_code open_down(struct bridge *bridge, struct bridge_fault *fa
 
 enum bridge_code bridge_open(struct bridge **to, const struct bridge_options *options,
                              const struct bridge_place *from, struct bridge_fault *fault) {
+    struct bridge_options checked = *options;
+    enum bridge_code code = bridge_options_check(&checked, fault);
+    if (code != BRIDGE_OK) return code;
     struct bridge *bridge = calloc(1, sizeof *bridge);
     if (!bridge) return fault_set(fault, BRIDGE_NO_MEMORY, "for a bridge");
-    bridge->options = *options;
+    bridge->options = checked;
     bridge->process = process_name();
     make_locks(bridge);
-    enum bridge_code code = begin_at(bridge, from, fault);
+    code = begin_at(bridge, from, fault);
     if (code == BRIDGE_OK) code = open_down(bridge, fault);
     if (code == BRIDGE_OK) code = start(bridge, fault);
     if (code != BRIDGE_OK) return bridge_close(bridge), code;

@@ -237,3 +237,16 @@ void bridge_options_list(struct bridge_options *options, struct option list[BRID
     };
     memcpy(list, made, sizeof made);
 }
+
+enum bridge_code bridge_options_check(struct bridge_options *options, struct bridge_fault *fault) {
+    struct option list[BRIDGE_OPTIONS];
+    bridge_options_list(options, list);
+    for (size_t i = 0; i < BRIDGE_OPTIONS; i++) {
+        if (list[i].kind != OPTION_NUMBER) continue;
+        uint64_t is = *(const uint64_t *)list[i].to;
+        if (is >= list[i].least && is <= list[i].most) continue;
+        return fault_set(fault, BRIDGE_OUT_OF_RANGE, "%s is %llu to %llu, and not %llu",
+                         list[i].name, (number)list[i].least, (number)list[i].most, (number)is);
+    }
+    return BRIDGE_OK;
+}
