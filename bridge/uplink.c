@@ -30,6 +30,7 @@ struct uplink {
     uint64_t stored;  /* entries of this link that the engine has stored */
     uint64_t sent;    /* entries of this epoch */
     int64_t progress; /* when an entry was last stored or heard */
+    int64_t began;    /* when this epoch began */
     uint64_t pause;
 };
 
@@ -41,6 +42,7 @@ static void drop_first(struct uplink *up) {
     up->first++;
     up->many--;
     up->base++;
+    up->pause = 0;
     up->progress = bridge_now();
 }
 
@@ -152,8 +154,7 @@ static bool go_on(struct uplink *up, struct bridge_fault *fault) {
     while (up->many && kept_at(up, 0)->number < node.next[kept_at(up, 0)->sender]) drop_first(up);
     up->base = 0;
     up->sent = up->stored = 0;
-    up->pause = 0;
-    up->progress = bridge_now();
+    up->progress = up->began = bridge_now();
     bool good = true;
     for (uint64_t i = 0; i < up->many && good; i++) good = append(up, i, fault);
     return good;
@@ -189,6 +190,7 @@ static bool look(struct uplink *up, struct bridge_fault *fault) {
     up->stored = stored;
     while (node.epoch == up->epoch && up->many && up->base < node.entries) drop_first(up);
     atomic_store_explicit(&up->bridge->in_flight, up->many, memory_order_relaxed);
+    if (bridge_now() - up->began > (int64_t)options->pause) up->pause = 0;
     if (!good || !up->many || bridge_now() - up->progress <= (int64_t)options->wait) return good;
     if (up->stored < up->sent) {
         fault_set(fault, BRIDGE_ENGINE_SILENT, "%llu entries are not answered",
