@@ -320,7 +320,7 @@ static bool read_place(const char *reply, struct engine_entry *entry) {
         at = strchr(at, '.');
         if (at) at++;
     }
-    if (many < 9 || strncmp(reply, "$JS.ACK.", 8)) return false;
+    if (many < 9 || many == 10 || strncmp(reply, "$JS.ACK.", 8)) return false;
     int more = many == 9 ? 0 : 2;
     entry->place = strtoull(word[5 + more], NULL, 10);
     entry->behind = strtoull(word[8 + more], NULL, 10);
