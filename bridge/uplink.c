@@ -203,7 +203,8 @@ static bool look(struct uplink *up, struct bridge_fault *fault) {
     return false;
 }
 
-/* Appends what is there, up to LOOK_EACH entries. How many there were; 0 too where `good` is false. */
+/* Appends what is there, up to LOOK_EACH entries, and gives how many. No longer good: the link is
+   broken. */
 static unsigned append_some(struct uplink *up, bool *good, struct bridge_fault *fault) {
     unsigned many = 0;
     while (*good && many < LOOK_EACH && up->many < up->bridge->options.window && gather(up)) {
