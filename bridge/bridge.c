@@ -79,14 +79,6 @@ static uint64_t process_name(void) {
     return name;
 }
 
-/* How many messages a worker may have sent and not heard. All that all workers have so fits one
-   log, in frames of one message each, so that the bus of the uplink never waits for it. */
-static uint64_t ahead_of(const struct bridge_options *options) {
-    uint64_t words = options->log_words - 2 - 129 * options->workers;
-    uint64_t most = words / (8 * options->workers);
-    return options->ahead < most ? options->ahead : most;
-}
-
 static void report(struct bridge *bridge) {
     struct bridge_shown shown;
     bridge_show(bridge, &shown);
@@ -167,13 +159,15 @@ static enum bridge_code open_down(struct bridge *bridge, struct bridge_fault *fa
 
 enum bridge_code bridge_open(struct bridge **to, const struct bridge_options *options,
                              const struct bridge_place *from, struct bridge_fault *fault) {
+    struct bridge_options checked = *options;
+    enum bridge_code code = bridge_options_check(&checked, fault);
+    if (code != BRIDGE_OK) return code;
     struct bridge *bridge = calloc(1, sizeof *bridge);
     if (!bridge) return fault_set(fault, BRIDGE_NO_MEMORY, "for a bridge");
-    bridge->options = *options;
+    bridge->options = checked;
     bridge->process = process_name();
-    bridge->ahead = ahead_of(options);
     make_locks(bridge);
-    enum bridge_code code = begin_at(bridge, from, fault);
+    code = begin_at(bridge, from, fault);
     if (code == BRIDGE_OK) code = open_down(bridge, fault);
     if (code == BRIDGE_OK) code = start(bridge, fault);
     if (code != BRIDGE_OK) return bridge_close(bridge), code;
@@ -200,7 +194,7 @@ static enum bridge_sent may_send(struct bridge *bridge, struct fetched *own, str
     own->sent = sittings_next_number(up, worker);
     if (!own->told) own->heard = own->sent;
     own->told = true;
-    return own->sent - own->heard + many > bridge->ahead ? BRIDGE_FULL : BRIDGE_SENT;
+    return own->sent - own->heard + many > bridge->options.ahead ? BRIDGE_FULL : BRIDGE_SENT;
 }
 
 enum bridge_sent bridge_send(struct bridge *bridge, size_t worker,

@@ -35,7 +35,7 @@ struct bridge_item {
 
 /* Opens a bridge, which goes on behind this place, or from the start of the stream where `from` is
    NULL. It connects by itself, and tries again for good. The options are copied.
-   BRIDGE_OK, BRIDGE_BUS_REFUSES, BRIDGE_NO_MEMORY or BRIDGE_NO_THREAD. */
+   BRIDGE_OK, BRIDGE_OUT_OF_RANGE, BRIDGE_BUS_REFUSES, BRIDGE_NO_MEMORY or BRIDGE_NO_THREAD. */
 enum bridge_code bridge_open(struct bridge **to, const struct bridge_options *options,
                              const struct bridge_place *from, struct bridge_fault *fault);
 

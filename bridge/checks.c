@@ -60,6 +60,17 @@ static void check_row(struct refused *row, size_t i) {
     if (i == 2) check(!options.create, "no is read");
 }
 
+/* Options that a program has set by itself. */
+static void check_ranges(void) {
+    struct bridge_options options;
+    struct bridge_fault fault;
+    bridge_options_usual(&options);
+    check(bridge_options_check(&options, &fault) == BRIDGE_OK, "the usual options are in range");
+    options.batch = BRIDGE_MOST_BATCH + 1;
+    check(bridge_options_check(&options, &fault) == BRIDGE_OUT_OF_RANGE, "a batch out of range");
+    check(!strcmp(fault.text, "batch is 1 to 256, and not 257"), "which says so");
+}
+
 static void check_options(void) {
     static struct refused rows[] = {
         {BRIDGE_OK, "window = 7 # seven\n\n# more\n stream=a-b_C9\n", {"--node", "63"}},
@@ -203,14 +214,14 @@ static void *send_numbers(void *given) {
 static void *hear_numbers(void *given) {
     struct ends *own = given;
     kioskbasil_item items[64];
-    unsigned step = 0;
+    struct waiter waiter = {0, 0, 0};
     while (own->heard < SENDERS * EACH && !atomic_load(&is_refused)) {
         size_t many = 0;
         if (sittings_hear(own->sittings, own->number, items, 64, &many) == KIOSKBASIL_EMPTY) {
-            back_off(&step);
+            wait_for(NULL, &waiter);
             continue;
         }
-        step = 0;
+        waiter.step = 0;
         for (size_t i = 0; i < many; i++) {
             own->order[own->heard++] = (uint64_t)items[i].sender << 48 | items[i].number;
         }
@@ -276,6 +287,7 @@ static void check_slow(void) {
 
 int main(void) {
     check_options();
+    check_ranges();
     check_entries();
     check_counting();
     check_sittings();

@@ -51,11 +51,10 @@ static bool went(struct engine_link *link, natsStatus status, const char *what,
 
 static natsStatus connect_options(natsOptions *to, const struct bridge_options *options,
                                   const char *name, char *list) {
-    const char *servers[16];
+    const char *servers[sizeof options->engine];
     int many = 0;
     char *rest = NULL;
-    for (char *one = strtok_r(list, ",", &rest); one && many < 16;
-         one = strtok_r(NULL, ",", &rest)) {
+    for (char *one = strtok_r(list, ",", &rest); one; one = strtok_r(NULL, ",", &rest)) {
         servers[many++] = one;
     }
     natsStatus status = natsOptions_SetServers(to, servers, many);
@@ -97,7 +96,7 @@ static natsStatus open_connection(struct engine_link *link, const char *name) {
 
 /* Whether the engine answered an error, and its text. */
 static bool told_error(const char *text, char *to, size_t room) {
-    const char *error = strstr(text, "\"error\"");
+    const char *error = strstr(text, "\"error\":");
     if (!error) return false;
     const char *says = strstr(error, "\"description\":\"");
     says = says ? says + strlen("\"description\":\"") : error;
@@ -160,7 +159,8 @@ bool engine_connect(struct engine_link **to, const struct bridge_options *option
     natsStatus status = open_connection(link, name);
     if (status == NATS_OK) status = hear_answers(link);
     if (status != NATS_OK) {
-        fault_set(fault, BRIDGE_ENGINE_ABSENT, "%s: %s", options->engine,
+        bool full = status == NATS_NO_MEMORY;
+        fault_set(fault, full ? BRIDGE_NO_MEMORY : BRIDGE_ENGINE_ABSENT, "%s: %s", options->engine,
                   natsStatus_GetText(status));
         engine_close(link);
         return false;
@@ -223,12 +223,16 @@ bool engine_stream(struct engine_link *link, bool make, struct engine_stream *st
     return good;
 }
 
-bool engine_last_own(struct engine_link *link, uint64_t *place, struct bridge_fault *fault) {
+/* A stream without entries is not asked: nats-server 2.9.10 ends by a fault of its own where it is
+   asked for an entry of a stream that it is about to make. */
+bool engine_last_own(struct engine_link *link, const struct engine_stream *stream, uint64_t *place,
+                     struct bridge_fault *fault) {
     natsMsg *last = NULL;
     jsErrCode error = 0;
+    *place = 0;
+    if (!stream->last) return true;
     natsStatus status =
         js_GetLastMsg(&last, link->jetstream, link->options->stream, link->subject, NULL, &error);
-    *place = 0;
     if (status == NATS_NOT_FOUND || error == JSNoMessageFoundErr) return true;
     if (!went(link, status, "to find the last entry of this node", fault)) return false;
     *place = natsMsg_GetSequence(last);
@@ -316,7 +320,7 @@ static bool read_place(const char *reply, struct engine_entry *entry) {
         at = strchr(at, '.');
         if (at) at++;
     }
-    if (many < 9 || strncmp(reply, "$JS.ACK.", 8)) return false;
+    if (many < 9 || many == 10 || strncmp(reply, "$JS.ACK.", 8)) return false;
     int more = many == 9 ? 0 : 2;
     entry->place = strtoull(word[5 + more], NULL, 10);
     entry->behind = strtoull(word[8 + more], NULL, 10);

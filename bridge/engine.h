@@ -37,8 +37,10 @@ bool engine_connect(struct engine_link **to, const struct bridge_options *option
 bool engine_stream(struct engine_link *link, bool make, struct engine_stream *stream,
                    struct bridge_fault *fault);
 
-/* The place of the last entry of this node; 0 where there is none. */
-bool engine_last_own(struct engine_link *link, uint64_t *place, struct bridge_fault *fault);
+/* The place of the last entry of this node, in a stream that was just looked at; 0 where there is
+   none. */
+bool engine_last_own(struct engine_link *link, const struct engine_stream *stream, uint64_t *place,
+                     struct bridge_fault *fault);
 
 /* Appends an entry if `after` is still the place of the last one of this node, and waits for its
    place. */

@@ -24,7 +24,6 @@ struct bridge {
     struct bridge_options options;
     uint64_t process; /* the name of this process in its begins */
     bool make;        /* the stream may be made */
-    uint64_t ahead;   /* messages that a worker may have sent and not heard */
     atomic_bool stop;
     _Atomic(struct sittings *) up; /* NULL before the stream has told the numbers */
     struct sittings *down;

@@ -113,7 +113,7 @@ static enum bridge_code read_file(struct option *options, size_t many, const cha
     enum bridge_code code = BRIDGE_OK;
     for (unsigned at = 1; code == BRIDGE_OK && fgets(line, sizeof line, file); at++) {
         snprintf(where, sizeof where, "%.150s, line %u", path, at);
-        if (strlen(line) == sizeof line - 1) {
+        if (strlen(line) == sizeof line - 1 && line[sizeof line - 2] != '\n') {
             code = fault_set(fault, BRIDGE_BAD_LINE, "longer than 398 characters (%s)", where);
         } else {
             code = read_line(options, many, line, where, fault);
@@ -236,4 +236,17 @@ void bridge_options_list(struct bridge_options *options, struct option list[BRID
          .to = &options->create},
     };
     memcpy(list, made, sizeof made);
+}
+
+enum bridge_code bridge_options_check(struct bridge_options *options, struct bridge_fault *fault) {
+    struct option list[BRIDGE_OPTIONS];
+    bridge_options_list(options, list);
+    for (size_t i = 0; i < BRIDGE_OPTIONS; i++) {
+        if (list[i].kind != OPTION_NUMBER) continue;
+        uint64_t is = *(const uint64_t *)list[i].to;
+        if (is >= list[i].least && is <= list[i].most) continue;
+        return fault_set(fault, BRIDGE_OUT_OF_RANGE, "%s is %llu to %llu, and not %llu",
+                         list[i].name, (number)list[i].least, (number)list[i].most, (number)is);
+    }
+    return BRIDGE_OK;
 }

@@ -57,4 +57,7 @@ enum { BRIDGE_OPTIONS = 16 };
 void bridge_options_usual(struct bridge_options *options);
 void bridge_options_list(struct bridge_options *options, struct option list[BRIDGE_OPTIONS]);
 
+/* Whether each number is in its range, of options that no command line gave too. */
+enum bridge_code bridge_options_check(struct bridge_options *options, struct bridge_fault *fault);
+
 #endif

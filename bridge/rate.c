@@ -162,6 +162,12 @@ static void run_engine(struct rate *rate) {
     engine_close(link);
 }
 
+/* So many messages ahead for each worker that the window is what bounds the entries under way. */
+static void fill_window(struct bridge_options *options) {
+    uint64_t ahead = options->window * options->batch / options->workers;
+    options->ahead = ahead < 16 ? 16 : ahead > 8192 ? 8192 : ahead;
+}
+
 /* Hears what is there; of the first worker's own items some are timed. */
 static bool hear(struct worker *worker) {
     struct rate *rate = worker->rate;
@@ -213,6 +219,7 @@ static void run_bridge(struct rate *rate) {
     struct bridge_fault fault;
     struct bridge_shown shown;
     uint64_t number;
+    fill_window(&rate->options);
     if (bridge_open(&rate->bridge, &rate->options, NULL, &fault) != BRIDGE_OK) fails(&fault);
     while (!bridge_next_number(rate->bridge, 0, &number)) pause_for(1);
     uint64_t began = nanoseconds();

@@ -73,14 +73,17 @@ uint32_t sittings_open(struct sittings **to, const struct sittings_shape *shape,
 
 /* As send_batch of waiting.h, but that it ends when all is stopped. */
 static uint32_t send_waiting(struct sittings *sittings, size_t i) {
-    unsigned step = 0;
+    struct waiter waiter = {0, 0, 0};
     while (!atomic_load(&sittings->stop)) {
         uint32_t code =
             kioskbasil_turns(&sittings->senders[i], next_word(&sittings->seeds[i]), NULL);
-        if (code == KIOSKBASIL_WAITING || code == KIOSKBASIL_BEHIND) {
-            back_off(&step);
-        } else if (code != KIOSKBASIL_GOING && code != KIOSKBASIL_LOST && code != KIOSKBASIL_OWN) {
-            return code;
+        switch (code) {
+        case KIOSKBASIL_WAITING: wait_for(NULL, &waiter); break;
+        case KIOSKBASIL_BEHIND: wait_behind(&waiter); break;
+        case KIOSKBASIL_GOING:
+        case KIOSKBASIL_LOST:
+        case KIOSKBASIL_OWN: waiter.step = 0; break;
+        default: return code;
         }
     }
     return SITTINGS_STOPPED;
@@ -145,13 +148,13 @@ static uint32_t open_next(struct sittings *sittings) {
 /* Goes on to the sitting after the one numbered `from`, if nobody has. Waits while the slowest
    receiver is too many sittings behind. */
 static uint32_t go_on(struct sittings *sittings, uint64_t from) {
-    unsigned step = 0;
+    struct waiter waiter = {0, 0, 0};
     uint32_t code = KIOSKBASIL_OK;
     pthread_mutex_lock(&sittings->moving);
     if (atomic_load(&sittings->opened) == from && !atomic_load(&sittings->fault)) {
         while (atomic_load(&sittings->open) >= sittings->shape.most) {
             if (atomic_load(&sittings->stop)) break;
-            back_off(&step);
+            wait_for(NULL, &waiter);
         }
         for (size_t i = 0; i < sittings->shape.senders; i++) {
             pthread_mutex_lock(&sittings->locks[i]);

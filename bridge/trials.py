@@ -1,5 +1,8 @@
 """An engine and nodes as processes, for examples/nodes/run and bridge/test: they start, are killed, stopped and compared.
 
+What happens is placed by progress, and by no clock: each wait is for a condition, and where that does not come in BOUND seconds it
+says which. On a busy machine all of it takes longer, and comes to the same.
+
 `Reader` speaks the protocol of NATS by itself, and `audit` reads a whole stream by it. It says anew which entries count and what
 they do to a map, by the text of bridge/entries.h and examples/nodes/node.c, and shares no line with them.
 """
@@ -7,6 +10,7 @@ import json
 import os
 import random
 import shutil
+import signal
 import socket
 import struct
 import subprocess
@@ -16,10 +20,29 @@ HERE = os.path.dirname(os.path.abspath(__file__))
 NODE = os.path.join(HERE, "out", "node")
 
 
+BOUND = 120  # seconds that a wait may take
+
+
+def wait_for(what, fact, seconds=BOUND):
+    """Waits until fact() is true. Where it stays false: an error that says what() it waited for."""
+    until = time.monotonic() + seconds
+    while not fact():
+        if time.monotonic() > until:
+            raise TimeoutError(f"waited {seconds} s for {what()}")
+        time.sleep(0.02)
+
+
 def free_port():
-    with socket.socket() as found:
-        found.bind(("127.0.0.1", 0))
-        return found.getsockname()[1]
+    """A port that nobody has, below those that clients are given: so nobody takes it while the engine is down."""
+    while True:
+        port = random.SystemRandom().randrange(12000, 32000)
+        with socket.socket() as found:
+            found.setsockopt(socket.SOL_SOCKET, socket.SO_REUSEADDR, 1)
+            try:
+                found.bind(("127.0.0.1", port))
+                return port
+            except OSError:
+                continue
 
 
 class Engine:
@@ -34,18 +57,35 @@ class Engine:
         with open(f"{folder}/engine.conf", "w", encoding="utf-8") as to:
             to.write(f'listen: 127.0.0.1:{self.port}\njetstream {{ store_dir: "{folder}/store" }}\n')
 
-    def start(self, wait=True):
-        self.log = open(f"{self.folder}/engine.log", "a", encoding="utf-8")
-        self.process = subprocess.Popen(["nats-server", "-c", f"{self.folder}/engine.conf"], stdout=self.log, stderr=self.log)
-        until = time.monotonic() + 20
-        while wait:
-            try:
-                with socket.create_connection(("127.0.0.1", self.port), 1):
-                    return
-            except OSError:
-                if time.monotonic() > until or self.process.poll() is not None:
-                    raise SystemExit(f"the engine does not start: see {self.folder}/engine.log")
-                time.sleep(0.02)
+    def start(self):
+        with open(f"{self.folder}/engine.log", "a", encoding="utf-8") as log:
+            self.process = subprocess.Popen(["nats-server", "-c", f"{self.folder}/engine.conf"], stdout=log, stderr=log)
+        wait_for(lambda: f"the engine to take connections: see {self.folder}/engine.log", lambda: self.fell() or self.answers())
+        if self.fell():
+            raise TimeoutError(f"the engine ends by itself: see {self.folder}/engine.log")
+
+    def answers(self):
+        try:
+            with socket.create_connection(("127.0.0.1", self.port), 1):
+                return True
+        except OSError:
+            return False
+
+    def fell(self):
+        """Whether it has ended, and nobody has killed it."""
+        return self.process is not None and self.process.poll() not in (None, -signal.SIGKILL)
+
+    def entries(self, stream):
+        """How many entries the stream has; 0 where the engine does not tell."""
+        try:
+            with Reader(self.port) as reader:
+                return reader.ask(f"STREAM.INFO.{stream}").get("state", {}).get("last_seq", 0)
+        except OSError:
+            return 0
+
+    def wait_entries(self, stream, many):
+        """Waits until the stream has so many entries."""
+        wait_for(lambda: f"entry {many} of {stream}, which has {self.entries(stream)}", lambda: self.entries(stream) >= many)
 
     def signal(self, what):
         self.process.send_signal(what)
@@ -65,6 +105,7 @@ class Node:
     """A process of examples/nodes/node.c, whose lines go to files."""
 
     def __init__(self, folder, number, options, program=(NODE,)):
+        self.number = number
         self.path = f"{folder}/node-{number}"
         self.command = [*program, "--node", str(number)]
         for name, value in options.items():
@@ -85,7 +126,7 @@ class Node:
         if self.process:
             self.process.wait()
 
-    def ends(self, seconds):
+    def ends(self, seconds=BOUND):
         """Its status, or None where it does not end in time."""
         try:
             return self.process.wait(seconds)
@@ -100,14 +141,16 @@ class Node:
         with open(self.path + ".out", encoding="utf-8", errors="replace") as text:
             return text.read().strip()
 
-    def says(self, words, seconds):
-        """Whether it says this within so many seconds."""
-        until = time.monotonic() + seconds
-        while time.monotonic() < until:
-            if words in self.said():
-                return True
-            time.sleep(0.05)
-        return False
+    def says(self, *words, seconds=BOUND):
+        """Whether it says one of these in time. Once it has ended it says no more."""
+        try:
+            wait_for(str, lambda: not self.runs() or any(one in self.said() for one in words), seconds)
+        except TimeoutError:
+            return False
+        return any(one in self.said() for one in words)
+
+    def last_line(self):
+        return (self.said().strip().splitlines() or ["nothing"])[-1]
 
 
 class Reader:
@@ -121,12 +164,19 @@ class Reader:
         self.early = []
         self.socket.sendall(b'CONNECT {"verbose":false,"headers":true}\r\n' + f"SUB {self.inbox} 1\r\nSUB {self.inbox}.entries 2\r\n".encode())
 
+    def __enter__(self):
+        return self
+
+    def __exit__(self, kind, what, trace):
+        self.file.close()
+        self.socket.close()
+
     def message(self):
         """The next message: whether it is an entry, where an answer goes, its headers, and its bytes."""
         while True:
             word = self.file.readline().split()
             if not word:
-                raise AssertionError("the engine has ended the connection")
+                raise ConnectionError("the engine has ended the connection")
             if word[0] == b"PING":
                 self.socket.sendall(b"PONG\r\n")
             if word[0] == b"MSG":
@@ -149,13 +199,12 @@ class Reader:
         config = self.ask(f"STREAM.INFO.{stream}")["config"]
         return self.ask(f"STREAM.UPDATE.{stream}", {**config, "max_msgs": entries})
 
-    def entries(self, stream):
-        """All entries of a stream, in their order."""
+    def entries(self, stream, place=1):
+        """All entries of a stream from this place on, in their order."""
         last = self.ask(f"STREAM.INFO.{stream}")["state"]["last_seq"]
-        given = {"deliver_subject": self.inbox + ".entries", "deliver_policy": "all", "ack_policy": "none", "replay_policy": "instant",
-                 "flow_control": True, "idle_heartbeat": 1_000_000_000}
+        given = {"deliver_subject": self.inbox + ".entries", "deliver_policy": "by_start_sequence", "opt_start_seq": place,
+                 "ack_policy": "none", "replay_policy": "instant", "flow_control": True, "idle_heartbeat": 1_000_000_000}
         self.ask(f"CONSUMER.CREATE.{stream}", {"stream_name": stream, "config": given})
-        place = 1
         while place <= last:
             _, reply, headers, entry = self.early.pop(0) if self.early else self.message()
             if headers.startswith(b"NATS/1.0 100"):
@@ -165,6 +214,21 @@ class Reader:
             assert int(reply.split(b".")[-4]) == place, f"entry {reply} came in place of {place}"
             yield place, entry
             place += 1
+
+
+def all_entries(port, stream):
+    """All entries of a stream. The engine ends the connection of who reads too slowly for it, as on a busy machine: it reads on then."""
+    place, until = 1, time.monotonic() + BOUND
+    while True:
+        try:
+            with Reader(port) as reader:
+                for place, entry in reader.entries(stream, place):
+                    yield place, entry
+                    place, until = place + 1, time.monotonic() + BOUND
+            return
+        except OSError as fault:
+            if time.monotonic() > until:
+                raise TimeoutError(f"waited {BOUND} s for entry {place} of {stream}: {fault}") from fault
 
 
 KEYS, MOST_NODES, MOST_WORKERS, WORD = 256, 64, 8, (1 << 64) - 1
@@ -195,7 +259,7 @@ def audit(port, stream):
     epoch, entries, values = {}, {}, [0] * KEYS
     following = [[0] * MOST_WORKERS for _ in range(MOST_NODES)]
     items = passed = 0
-    for place, entry in Reader(port).entries(stream):
+    for place, entry in all_entries(port, stream):
         if not is_entry(entry):
             passed += 1
             continue
@@ -222,18 +286,19 @@ def audit(port, stream):
 
 
 class Kills:
-    """Three nodes and an engine, which are killed at random moments and started again."""
+    """Three nodes and an engine, which are killed and started again. The next kill comes at an entry of the stream that is drawn at
+    random; or, for three of ten, while what was killed last comes back."""
 
-    def __init__(self, folder, seed, kills, seconds, program=NODE, patience=180, pace=20):
-        self.folder, self.dice, self.wanted, self.seconds = folder, random.Random(seed), kills, seconds
-        self.patience = patience
+    def __init__(self, folder, seed, kills, seconds, program=NODE, patience=BOUND, pace=20):
+        self.folder, self.seed, self.dice, self.wanted, self.patience = folder, seed, random.Random(seed), kills, patience
         self.engine = Engine(folder)
-        # A worker sends 8 messages in `pace` milliseconds, so it has work for longer than the kills take.
+        # A worker sends 8 messages in `pace` milliseconds, so it has work for `seconds` at least.
         self.messages = int(seconds * 1.1 * 8000 / pace)
         self.options = {"engine": self.engine.address, "stream": "nodes", "nodes": 3, "messages": self.messages, "burst": 8, "batch": 8,
                         "pace": pace, "checkpoint": 500 // pace, "wait": 2000, "pause": 1000, "report": 5}
         self.nodes = [Node(folder, i, {**self.options, "file": f"{folder}/state-{i}"}, (program,)) for i in range(3)]
         self.killed = {"engine": 0, "node": 0}
+        self.falls = 0
 
     def victims(self):
         """Who is killed next: mostly one node, else the engine, both, or all nodes at once."""
@@ -260,18 +325,52 @@ class Kills:
     def many(self):
         return sum(self.killed.values())
 
-    def run(self):
+    def lift(self):
+        """Starts an engine again that has ended by a fault of its own."""
+        if self.engine.fell():
+            self.falls += 1
+            shutil.copy(f"{self.folder}/engine.log", f"{self.folder}/fall-{self.falls}.log")
+            self.engine.start()
+
+    def at_entry(self, entry):
+        """Whether the stream is so far, or a node has ended, so that it may never be."""
+        self.lift()
+        return self.engine.entries("nodes") >= entry or not all(node.runs() for node in self.nodes)
+
+    def wait_for_kill(self):
+        """All items fill 12 * messages / 8 entries at least, since each has 8 of them at most: so all kills come before the end."""
+        if self.dice.random() < 0.3:
+            time.sleep(self.dice.random() / 2)
+            return
+        entry = int(1.2 * self.messages * (self.many() + self.dice.random()) / self.wanted)
+        wait_for(lambda: f"entry {entry} of the stream, which has {self.engine.entries('nodes')}", lambda: self.at_entry(entry))
+        time.sleep(self.dice.random() / 50)
+
+    def has_ended(self, node):
+        self.lift()
+        return not node.runs()
+
+    def go(self):
+        """Kills, and waits for the end of all nodes."""
         self.engine.start()
         for node in self.nodes:
             node.start()
-        began = time.monotonic()
-        while self.many() < self.wanted and any(node.runs() for node in self.nodes):
-            due = began + self.seconds * (self.many() + self.dice.random()) / self.wanted
-            time.sleep(max(0.0, due - time.monotonic()))
+        while self.many() < self.wanted and all(node.runs() for node in self.nodes):
+            self.wait_for_kill()
             self.kill_some()
-        until = time.monotonic() + self.seconds + self.patience
-        statuses = [node.ends(max(0.1, until - time.monotonic())) for node in self.nodes]
-        return self.compare(statuses, time.monotonic() - began)
+        for node in self.nodes:
+            wait_for(lambda: f"the end of node {node.number}, which says: {node.last_line()}", lambda: self.has_ended(node), self.patience)
+
+    def run(self):
+        """Whether all is right; it prints what came of it."""
+        began = time.monotonic()
+        good = True
+        try:
+            self.go()
+        except TimeoutError as fault:
+            good = False
+            print(f"seed {self.seed}, after {self.many()} kills: {fault}")
+        return self.compare([node.ends(0.1) for node in self.nodes], time.monotonic() - began) and good
 
     def compare(self, statuses, took):
         """Says what came of it; whether all is right."""
@@ -284,7 +383,9 @@ class Kills:
         differ = sum(one != wanted for one in sums) + said.count("DIFFER")
         lost, twice, changed = said.count("LOST"), said.count("TWICE"), said.count("CHANGED")
         lost += abs(12 * self.messages - items)
-        print(f"{self.many()} kills in {took:.0f} s: {self.killed['node']} of nodes, {self.killed['engine']} of the engine")
+        print(f"{self.many()} kills in {took:.0f} s by seed {self.seed}: {self.killed['node']} of nodes, {self.killed['engine']} of the engine")
+        if self.falls:
+            print(f"the engine ended by a fault of its own {self.falls} times, and was started again")
         print(f"{items} items in the stream, {passed} entries passed over, {said.count('begun as')} nodes taken over")
         for node, status in zip(self.nodes, statuses):
             print(f"  {node.printed() or 'nothing printed'} (status {status})")

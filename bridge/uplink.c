@@ -8,6 +8,8 @@
 #include <stdlib.h>
 #include <string.h>
 
+enum { LOOK_EACH = 16 /* entries appended between two looks at what was stored and heard */ };
+
 struct kept {
     uint8_t *bytes;
     size_t length;
@@ -28,6 +30,7 @@ struct uplink {
     uint64_t stored;  /* entries of this link that the engine has stored */
     uint64_t sent;    /* entries of this epoch */
     int64_t progress; /* when an entry was last stored or heard */
+    int64_t began;    /* when this epoch began */
     uint64_t pause;
 };
 
@@ -39,6 +42,7 @@ static void drop_first(struct uplink *up) {
     up->first++;
     up->many--;
     up->base++;
+    up->pause = 0;
     up->progress = bridge_now();
 }
 
@@ -81,6 +85,14 @@ static bool await(struct uplink *up, uint64_t place, struct bridge_fault *fault)
     return good && !bridge_stops(bridge);
 }
 
+/* How many sittings hold all that all workers may have sent and not heard, in frames of one message
+   each: so many that who sends never waits for the uplink. */
+static uint64_t most_sittings(const struct bridge_options *options) {
+    uint64_t words = 8 * options->workers * options->ahead;
+    uint64_t room = options->log_words - 2 - 129 * options->workers;
+    return 2 + words / room;
+}
+
 /* Opens the bus of what workers send, with the numbers that the stream has told. */
 static bool open_bus(struct uplink *up, const struct bridge_node *node,
                      struct bridge_fault *fault) {
@@ -89,7 +101,7 @@ static bool open_bus(struct uplink *up, const struct bridge_node *node,
     const struct sittings_shape shape = {.senders = bridge->options.workers,
                                          .receivers = 1,
                                          .log_words = bridge->options.log_words,
-                                         .most = 2};
+                                         .most = most_sittings(&bridge->options)};
     uint32_t code = sittings_open(&made, &shape, node->next);
     if (code != KIOSKBASIL_OK) {
         fault_set(fault, BRIDGE_BUS_REFUSES, "the bus of the uplink: %s", kioskbasil_text(code));
@@ -121,7 +133,7 @@ static bool begin_epoch(struct uplink *up, struct bridge_fault *fault) {
     uint64_t last;
     if (!engine_connect(&up->link, &bridge->options, "uplink", fault)) return false;
     if (!engine_stream(up->link, bridge->make, &stream, fault)) return false;
-    if (!engine_last_own(up->link, &last, fault) || !await(up, last, fault)) return false;
+    if (!engine_last_own(up->link, &stream, &last, fault) || !await(up, last, fault)) return false;
     entry_begin(begins, (uint8_t)bridge->options.node, bridge->process,
                 (uint16_t)bridge->options.workers);
     if (!engine_append_after(up->link, last, begins, sizeof begins, &up->epoch, fault))
@@ -142,8 +154,7 @@ static bool go_on(struct uplink *up, struct bridge_fault *fault) {
     while (up->many && kept_at(up, 0)->number < node.next[kept_at(up, 0)->sender]) drop_first(up);
     up->base = 0;
     up->sent = up->stored = 0;
-    up->pause = 0;
-    up->progress = bridge_now();
+    up->progress = up->began = bridge_now();
     bool good = true;
     for (uint64_t i = 0; i < up->many && good; i++) good = append(up, i, fault);
     return good;
@@ -179,6 +190,7 @@ static bool look(struct uplink *up, struct bridge_fault *fault) {
     up->stored = stored;
     while (node.epoch == up->epoch && up->many && up->base < node.entries) drop_first(up);
     atomic_store_explicit(&up->bridge->in_flight, up->many, memory_order_relaxed);
+    if (bridge_now() - up->began > (int64_t)options->pause) up->pause = 0;
     if (!good || !up->many || bridge_now() - up->progress <= (int64_t)options->wait) return good;
     if (up->stored < up->sent) {
         fault_set(fault, BRIDGE_ENGINE_SILENT, "%llu entries are not answered",
@@ -191,15 +203,24 @@ static bool look(struct uplink *up, struct bridge_fault *fault) {
     return false;
 }
 
+/* Appends what is there, up to LOOK_EACH entries, and gives how many. No longer good: the link is
+   broken. */
+static unsigned append_some(struct uplink *up, bool *good, struct bridge_fault *fault) {
+    unsigned many = 0;
+    while (*good && many < LOOK_EACH && up->many < up->bridge->options.window && gather(up)) {
+        *good = append(up, up->many - 1, fault);
+        many++;
+    }
+    return many;
+}
+
 /* Appends until the link is broken or the bridge stops. */
 static void serve(struct uplink *up, struct bridge_fault *fault) {
-    struct bridge *bridge = up->bridge;
     unsigned step = 0;
     bool good = begin_epoch(up, fault) && go_on(up, fault);
-    while (good && !bridge_stops(bridge)) {
+    while (good && !bridge_stops(up->bridge)) {
         good = look(up, fault);
-        if (good && up->many < bridge->options.window && gather(up)) {
-            good = append(up, up->many - 1, fault);
+        if (append_some(up, &good, fault)) {
             step = 0;
         } else if (good) {
             if (up->many && step > 3) step = 3;
