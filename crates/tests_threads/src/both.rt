@@ -2,20 +2,25 @@
 //! machine's place a list of answers would say less: what the machine answers is proved, and
 //! `examples/` has its answers as texts.
 
-ghost use Rattle.std.specs.Prelude.{◌≡◌, All};
+ghost use Rattle.std.specs.Prelude.{◌≡◌};
 ghost use Rattle.bus_pageslot.specs.Seats.{table_of};
 ghost use Rattle.bus_receiver.specs.Listening.{bus_of};
 
+mod calls;
+
+use crate::games::Seats;
 use bus_adoptcommit::ThreeWord;
 use bus_core::SenderCore;
+use bus_deliverylog::RecvTurn;
 use bus_machine::World;
-use bus_pageslot::{Bus, Sender, Tap};
+use bus_pageslot::{Bus, EndFault, Ended, Sender, Tap};
 use bus_receiver::Receiver;
 use bus_register::SenderNo;
+use bus_replay::answers::new_bus;
 use bus_replay::lines::FirstLine;
 use bus_replay::playing::goes_on;
 use bus_tenure::Turn;
-use bus_world::{Answer, Event, Shape, StepFault};
+use bus_world::{Answer, Event, StepFault};
 use std::alloc::Global;
 use std::marker::Model;
 use std::process::Abort;
@@ -67,23 +72,37 @@ impl<'b> BusSender<'b> {
         }
     }
 
-    /// It tells what this sender of a machine does.
-    pub fn tells(&self, rt: &impl Abort, core: &SenderCore<ThreeWord>) {
-        let sender = &self.sender;
-        assert_eq!(rt; sender.number(), core.number());
-        assert_eq!(rt; sender.kind(), core.kind());
-        assert_eq!(rt; sender.pending(), core.pending());
-        assert_eq!(rt; sender.next_number(), core.next_number());
-        assert_eq!(rt; sender.turns_left(), core.turns_left());
-        assert_eq!(rt; sender.wants_word(), core.wants_word());
-        assert_eq!(rt; sender.is_closed(), core.is_closed());
-        assert_eq!(rt; sender.is_leaving(), core.is_leaving());
+    pub fn turn(&mut self, word: u32) -> Turn {
+        let bus = self.bus;
+        self.sender.turn(bus, word)
     }
 
-    pub fn turn(&mut self, word: u32) -> Result<Answer, StepFault> {
-        let bus = self.bus;
-        Ok(Answer::Turn(self.sender.turn(bus, word)))
+    /// It tells what this sender of a machine does.
+    fn tells(&self, rt: &impl Abort, core: &SenderCore<ThreeWord>) {
+        tells_steps(rt, &self.sender, core);
+        tells_numbers(rt, &self.sender, core);
+        tells_marks(rt, &self.sender, core);
     }
+}
+
+/// Both tell the same of the next step.
+fn tells_steps(rt: &impl Abort, sender: &Sender<ThreeWord>, core: &SenderCore<ThreeWord>) {
+    assert!(rt; sender.kind() == core.kind());
+    assert!(rt; sender.turns_left() == core.turns_left());
+    assert!(rt; sender.wants_word() == core.wants_word());
+}
+
+/// Both tell the same of numbers and messages.
+fn tells_numbers(rt: &impl Abort, sender: &Sender<ThreeWord>, core: &SenderCore<ThreeWord>) {
+    assert!(rt; sender.number() == core.number());
+    assert!(rt; sender.pending() == core.pending());
+    assert!(rt; sender.next_number() == core.next_number());
+}
+
+/// Both tell the same of a close and of a leave.
+fn tells_marks(rt: &impl Abort, sender: &Sender<ThreeWord>, core: &SenderCore<ThreeWord>) {
+    assert!(rt; sender.is_closed() == core.is_closed());
+    assert!(rt; sender.is_leaving() == core.is_leaving());
 }
 
 /// A receiver, beside its bus.
@@ -115,9 +134,9 @@ impl<'b> BusReceiver<'b> {
         }
     }
 
-    pub fn turn(&mut self) -> Result<Answer, StepFault> {
+    pub fn turn(&mut self) -> RecvTurn {
         let bus = self.bus;
-        Ok(Answer::Recv(self.receiver.turn(bus)))
+        self.receiver.turn(bus)
     }
 }
 
@@ -132,30 +151,17 @@ pub struct Both<'b> {
 }
 
 impl<'b> Both<'b> {
-    /// These seats of the bus, and the machine.
-    pub fn new<R: Abort + AllocGlobal>(
-        rt: &R,
-        bus: &'b Bus<ThreeWord>,
-        senders: Vec<Sender<ThreeWord>>,
-        taps: Vec<Tap<ThreeWord>>,
-        world: World<ThreeWord>,
-    ) -> Both<'b>
-        requires senders { All (λ s. table_of s ≡ bus.now.table) senders.items }
-        requires taps { All (λ t. t.table_id ≡ bus.now.table) taps.items }
-    {
+    /// These seats of the bus that a first line asks for, and the machine that it asks for.
+    pub fn new<R: Abort + AllocGlobal>(rt: &R, first: FirstLine, seats: Seats<'b>) -> Both<'b> {
+        let Seats { senders, receivers } = seats;
         let mut both = Both {
             senders: Vec::new(rt.alloc()),
-            receivers: Vec::new(rt.alloc()),
-            world,
+            receivers,
+            world: machine(rt, rt.alloc(), first),
             lost: 0,
         };
         for sender in senders {
-            let sender = Some(BusSender::new(bus, sender));
-            both.senders.push(sender).expect(rt, "memory");
-        }
-        for tap in taps {
-            let receiver = BusReceiver::new(bus, tap);
-            both.receivers.push(receiver).expect(rt, "memory");
+            both.senders.push(Some(sender)).expect(rt, "memory");
         }
         both
     }
@@ -188,7 +194,7 @@ impl<'b> Both<'b> {
                 None => Err(StepFault::NoSuchSender),
             },
             Event::Recv(receiver) => match self.receivers.get_mut(*receiver as usize) {
-                Some(found) => found.turn(),
+                Some(found) => Ok(Answer::Recv(found.turn())),
                 None => Err(StepFault::NoSuchReceiver),
             },
         }
@@ -239,7 +245,7 @@ fn answer_of(found: &mut Option<BusSender<'_>>, event: &Event) -> Result<Answer,
         Event::Put { bytes, .. } => sender.put(bytes),
         Event::Close(_) => sender.close(),
         Event::Leave(_) => sender.leave(),
-        Event::Turn { word, .. } => sender.turn(*word),
+        Event::Turn { word, .. } => Ok(Answer::Turn(sender.turn(*word))),
         _ => {
             *found = None;
             Ok(Answer::Stopped)
@@ -261,64 +267,30 @@ fn is_same(got: &Result<Answer, StepFault>, want: &Result<Answer, StepFault>) ->
     }
 }
 
-/// A bus that the first line of a script asks for, with one receiver more, which ends it.
-pub fn made(
-    rt: &impl Abort,
-    alloc: Global,
-    first: FirstLine,
-) -> (Bus<ThreeWord>, Vec<Sender<ThreeWord>>, Vec<Tap<ThreeWord>>)
-    ensures senders { All (λ s. table_of s ≡ result.0.table) result.1.items }
-    ensures taps { All (λ t. t.table_id ≡ result.0.table) result.2.items }
-{
-    match first {
-        FirstLine::Shape(shape) => Bus::new(alloc, with_one_more(shape)).expect(rt, "memory"),
-        FirstLine::Cycle(shape) => {
-            Bus::cyclic(alloc, with_one_more(shape), None).expect(rt, "memory")
-        }
-    }
-}
-
-/// The same shape with one receiver more.
-fn with_one_more(shape: Shape) -> Shape {
-    Shape {
-        receivers: shape.receivers.saturating_add(1),
-        ..shape
-    }
-}
-
-/// Takes the last receiver off.
-pub fn last_of(
-    rt: &impl Abort,
-    bus: &Bus<ThreeWord>,
-    taps: &mut Vec<Tap<ThreeWord>>,
-) -> Receiver<ThreeWord>
-    requires { All (λ t. t.table_id ≡ bus.now.table) taps.old.items }
-    ensures receiver { bus_of result ≡ bus.now.table }
-    ensures rest { All (λ t. t.table_id ≡ bus.now.table) taps.new.items }
-{
-    let _ = bus;
-    Receiver::new(taps.pop().expect(rt, "a receiver"))
+/// The machine that a first line asks for.
+fn machine(rt: &impl Abort, alloc: Global, first: FirstLine) -> World<ThreeWord> {
+    let Ok(world) = new_bus::<ThreeWord>(alloc, first) else {
+        panic!(rt; "memory");
+    };
+    world
 }
 
 /// What the bus leaves is what the machine has: its log and its page, and no page where one is out.
 /// Says whether it is at home.
 pub fn leave_the_same(
     rt: &impl Abort,
-    bus: Bus<ThreeWord>,
-    last: Receiver<ThreeWord>,
+    left: &Result<Ended, EndFault>,
     world: &World<ThreeWord>,
-) -> bool
-    requires { bus_of last ≡ bus.table }
-{
-    match (Receiver::end(bus, last), world.page()) {
+) -> bool {
+    match (left, world.page()) {
         (Ok(ended), Some(page)) => {
-            assert_eq!(rt; ended.log(), world.log());
-            assert_eq!(rt; ended.page(), page);
+            assert!(rt; ended.log() == world.log());
+            assert!(rt; ended.page() == page);
             true
         }
-        (ended, page) => {
+        (left, page) => {
             assert!(rt;
-                ended.is_err() && page.is_none(),
+                left.is_err() && page.is_none(),
                 "the page is out of one alone"
             );
             false

@@ -6,9 +6,9 @@
 #[cfg(test)]
 mod both;
 #[cfg(test)]
-mod receivers;
+mod games;
 #[cfg(test)]
-mod receivers_cyclic;
+mod receivers;
 #[cfg(test)]
 mod runs;
 #[cfg(test)]

@@ -1,15 +1,17 @@
-//! Two receivers of one small bus, and what a listener refuses.
+//! Two receivers of one small bus, and how large a sitting is.
 
 ghost use Rattle.std.specs.Prelude.{◌≡◌};
 ghost use Rattle.bus_pageslot.specs.Seats.{table_of};
 ghost use Rattle.bus_receiver.specs.Listening.{bus_of};
 
+use crate::games::{last_sender, last_tap, made};
 use bus_adoptcommit::ThreeWord;
 use bus_batch::{Item, Message};
 use bus_deliverylog::RecvTurn;
-use bus_pageslot::{Bus, Ended, SendFault, Sender, Unsent};
-use bus_receiver::{Heard, Next, Receiver, tenures_needed, words_needed};
-use bus_register::SenderNo;
+use bus_pageslot::{Bus, Ended, SendFault, Sender, Tap, Unsent};
+use bus_receiver::{Next, Receiver, tenures_needed, words_needed};
+use bus_register::{Kind, SenderNo};
+use bus_replay::lines::FirstLine;
 use bus_tenure::Turn;
 use bus_waiting::Waiter;
 use bus_world::Shape;
@@ -19,10 +21,10 @@ use std::cmp::Ordering;
 use std::process::Abort;
 use std::sync::Wait;
 
-/// One sender, two receivers, two tenures.
+/// One sender, two tenures, and two receivers with the one more.
 const SMALL: Shape = Shape {
     senders: 1,
-    receivers: 2,
+    receivers: 1,
     rounds: 1,
     rows: 2,
     log_words: 64,
@@ -59,15 +61,6 @@ fn hears(rt: &impl Abort, bus: &Few, receiver: &mut TestReceiver, want: &[RecvTu
     }
 }
 
-/// An item of no bytes.
-fn item(sender: u8, number: u64) -> RecvTurn {
-    RecvTurn::Item(Item {
-        sender: SenderNo(sender),
-        number,
-        message: Message::new(),
-    })
-}
-
 /// The first item of the bus below, which carries an a.
 fn item_a(rt: &impl Abort) -> RecvTurn {
     RecvTurn::Item(Item {
@@ -89,7 +82,7 @@ fn head(tenure: u64) -> RecvTurn {
 fn puts(rt: &impl Abort, sender: &mut One, bytes: &[u8], number: u64)
     ensures { table_of sender.new ≡ table_of sender.old }
 {
-    assert_eq!(rt; sender.put(bytes), Ok(number));
+    assert!(rt; sender.put(bytes) == Ok(number));
 }
 
 /// The small bus with its sender and its receivers.
@@ -98,10 +91,11 @@ fn small(rt: &impl Abort, alloc: Global) -> (Few, One, TestReceiver, TestReceive
     ensures first { bus_of result.2 ≡ result.0.table }
     ensures second { bus_of result.3 ≡ result.0.table }
 {
-    let (bus, mut senders, mut taps) = Bus::new(alloc, SMALL).expect(rt, "memory");
-    let second = Receiver::new(taps.pop().expect(rt, "a seat"));
-    let first = Receiver::new(taps.pop().expect(rt, "a seat"));
-    (bus, senders.pop().expect(rt, "a sender"), first, second)
+    let (bus, mut senders, mut taps) = made(rt, alloc, FirstLine::Shape(SMALL));
+    let second = Receiver::new(last_tap(rt, &bus, &mut taps));
+    let first = Receiver::new(last_tap(rt, &bus, &mut taps));
+    let sender = last_sender(rt, &bus, &mut senders);
+    (bus, sender, first, second)
 }
 
 /// The same once the a stands in the log. The first receiver has read it, the second has taken no
@@ -144,12 +138,12 @@ fn hears_an_a(rt: &impl Abort, bus: &Few, receiver: &mut TestReceiver)
 
 /// The places of two receivers.
 fn stand_at(rt: &impl Abort, first: &TestReceiver, second: &TestReceiver, want: (u64, u64)) {
-    assert_eq!(rt; (first.place(), second.place()), want);
+    assert!(rt; (first.place(), second.place()) == want);
 }
 
 /// Which of two receivers has heard the end.
 fn have_ended(rt: &impl Abort, first: &TestReceiver, second: &TestReceiver, want: (bool, bool)) {
-    assert_eq!(rt; (first.has_ended(), second.has_ended()), want);
+    assert!(rt; (first.has_ended(), second.has_ended()) == want);
 }
 
 /// A sender tells a receiver.
@@ -171,7 +165,7 @@ fn meet(
     requires { (bus_of first.old ≡ bus.now.table) × (bus_of second.old ≡ bus.now.table) }
     ensures { (bus_of first.new ≡ bus.now.table) × (bus_of second.new ≡ bus.now.table) }
 {
-    assert_eq!(rt; first.meet(second, bus), want);
+    assert!(rt; first.meet(second, bus) == want);
 }
 
 /// What a receiver takes next, which it waits for.
@@ -179,7 +173,7 @@ fn takes<R: Wait + Abort>(rt: &R, bus: &Few, receiver: &mut TestReceiver, want: 
     requires { bus_of receiver.old ≡ bus.now.table }
     ensures { bus_of receiver.new ≡ bus.now.table }
 {
-    assert_eq!(rt; receiver.take(&Waiter::yielding(rt), bus), want);
+    assert!(rt; receiver.take(&Waiter::yielding(rt), bus) == want);
 }
 
 /// The next item, which is waited for as long as this says.
@@ -195,7 +189,7 @@ fn finds<R: Wait + Abort>(rt: &R, bus: &Few, receiver: &mut TestReceiver, waits:
     requires { bus_of receiver.old ≡ bus.now.table }
     ensures { bus_of receiver.new ≡ bus.now.table }
 {
-    assert_eq!(rt; found(rt, bus, receiver, waits), want);
+    assert!(rt; found(rt, bus, receiver, waits) == want);
 }
 
 #[test]
@@ -213,7 +207,7 @@ fn told_and_meet(rt: HostRuntime) {
 fn asks_to_close(rt: &impl Abort, sender: &mut One)
     ensures { table_of sender.new ≡ table_of sender.old }
 {
-    assert_eq!(rt; sender.close(), Ok(()));
+    assert!(rt; sender.close() == Ok(()));
 }
 
 /// Closes the order in tenure 1.
@@ -235,81 +229,12 @@ fn left(rt: &impl Abort, bus: Few, receiver: TestReceiver) -> Ended
 
 /// So many words, and whether the order was closed.
 fn has_words(rt: &impl Abort, ended: &Ended, want: (usize, bool)) {
-    assert_eq!(rt; (ended.log().len(), ended.page().ended), want);
-}
-
-#[test]
-fn to_the_end(rt: HostRuntime) {
-    let (bus, mut sender, mut first, mut second) = with_an_a(&rt, rt.alloc());
-    closes(&rt, &bus, &mut sender);
-    meet(&rt, &bus, &mut second, &mut first, Ordering::Less);
-    takes(&rt, &bus, &mut first, head(1));
-    hears(&rt, &bus, &mut first, &[RecvTurn::End, RecvTurn::End]);
-    have_ended(&rt, &first, &second, (true, false));
-    has_words(&rt, &left(&rt, bus, second), (5, true));
-}
-
-/// Lets a leave mark wait.
-fn asks_to_leave(rt: &impl Abort, sender: &mut One)
-    ensures { table_of sender.new ≡ table_of sender.old }
-{
-    assert_eq!(rt; sender.leave(), Ok(()));
-}
-
-/// Leaves in tenure 1.
-fn leaves(rt: &impl Abort, bus: &Few, sender: &mut One)
-    requires { table_of sender.old ≡ bus.now.table }
-    ensures { table_of sender.new ≡ bus.now.table }
-{
-    asks_to_leave(rt, sender);
-    turns_to(rt, bus, sender, Turn::Own { tenure: 1 });
-    turns_to(rt, bus, sender, Turn::Left { tenure: 1 });
-}
-
-/// A receiver hears that sender 0 has left, and nothing behind it.
-fn hears_the_leave<R: Wait + Abort>(rt: &R, bus: &Few, receiver: &mut TestReceiver)
-    requires { bus_of receiver.old ≡ bus.now.table }
-    ensures { bus_of receiver.new ≡ bus.now.table }
-{
-    takes(rt, bus, receiver, head(1));
-    takes(rt, bus, receiver, RecvTurn::Leave(SenderNo(0)));
-    hears(rt, bus, receiver, &[RecvTurn::Empty]);
-}
-
-/// A receiver is given one item, and then nothing more.
-fn gives_one<R: Wait + Abort>(rt: &R, bus: &Few, receiver: &mut TestReceiver)
-    requires { bus_of receiver.old ≡ bus.now.table }
-    ensures { bus_of receiver.new ≡ bus.now.table }
-{
-    let item = found(rt, bus, receiver, false);
-    assert!(rt; matches!(item, Next::Item(_)));
-    finds(rt, bus, receiver, false, Next::Stopped);
-}
-
-/// So many words, and whether sender 0 has left.
-fn has_left(rt: &impl Abort, ended: &Ended, want: (usize, bool)) {
-    assert_eq!(rt; (ended.log().len(), ended.page().left[0]), want);
-}
-
-#[test]
-fn who_leaves_is_heard(rt: HostRuntime) {
-    let (bus, mut sender, mut first, mut second) = with_an_a(&rt, rt.alloc());
-    leaves(&rt, &bus, &mut sender);
-    hears_the_leave(&rt, &bus, &mut first);
-    gives_one(&rt, &bus, &mut second);
-    stand_at(&rt, &first, &second, (5, 5));
-    have_ended(&rt, &first, &second, (false, false));
-    has_left(&rt, &left(&rt, bus, second), (5, true));
+    assert!(rt; (ended.log().len(), ended.page().ended) == want);
 }
 
 /// What two receivers know of the log.
 fn know(rt: &impl Abort, first: &TestReceiver, second: &TestReceiver, want: (u64, u64)) {
-    assert_eq!(rt; (first.known(), second.known()), want);
-}
-
-/// It is an item, which carries an a.
-fn is_an_a(rt: &impl Abort, found: &Next) {
-    assert!(rt; matches!(found, Next::Item(item) if item.message.as_slice() == b"a".as_slice()));
+    assert!(rt; (first.known(), second.known()) == want);
 }
 
 /// A receiver finds the end, each time that it waits for an item.
@@ -317,35 +242,86 @@ fn gives_none<R: Wait + Abort>(rt: &R, bus: &Few, receiver: &mut TestReceiver)
     requires { bus_of receiver.old ≡ bus.now.table }
     ensures { bus_of receiver.new ≡ bus.now.table }
 {
-    assert_eq!(rt; receiver.next_item(&Waiter::yielding(rt), bus), None);
-}
-
-#[test]
-fn items_alone(rt: HostRuntime) {
-    let (bus, mut sender, mut first, mut second) = with_an_a(&rt, rt.alloc());
-    know(&rt, &first, &second, (3, 0));
-    finds(&rt, &bus, &mut first, false, Next::Stopped);
-    is_an_a(&rt, &found(&rt, &bus, &mut second, false));
-    closes(&rt, &bus, &mut sender);
-    finds(&rt, &bus, &mut first, true, Next::End);
-    gives_none(&rt, &bus, &mut second);
-    gives_none(&rt, &bus, &mut second);
+    assert!(rt; receiver.next_item(&Waiter::yielding(rt), bus) == None);
 }
 
 /// The next item, which is waited for.
 fn waits_for<R: Wait + Abort>(rt: &R, bus: &Few, receiver: &mut TestReceiver) -> Item
     requires { bus_of receiver.old ≡ bus.now.table }
+    ensures { bus_of receiver.new ≡ bus.now.table }
 {
     let item = receiver.next_item(&Waiter::yielding(rt), bus);
     item.expect(rt, "an item")
 }
 
+/// The same, and sees its number and its bytes.
+fn gives<R: Wait + Abort>(rt: &R, bus: &Few, receiver: &mut TestReceiver, number: u64, bytes: &[u8])
+    requires { bus_of receiver.old ≡ bus.now.table }
+    ensures { bus_of receiver.new ≡ bus.now.table }
+{
+    let item = waits_for(rt, bus, receiver);
+    assert!(rt; (item.sender, item.number) == (SenderNo(0), number));
+    assert!(rt; item.message.as_slice() == bytes);
+}
+
 #[test]
-fn an_item_is_waited_for(rt: HostRuntime) {
-    let (bus, _sender, _first, mut second) = with_an_a(&rt, rt.alloc());
-    let item = waits_for(&rt, &bus, &mut second);
-    assert_eq!(&rt; (item.sender, item.number), (SenderNo(0), 0));
-    assert_eq!(&rt; item.message.as_slice(), b"a".as_slice());
+fn to_the_end(rt: HostRuntime) {
+    let (bus, mut sender, mut first, mut second) = with_an_a(&rt, rt.alloc());
+    know(&rt, &first, &second, (3, 0));
+    gives(&rt, &bus, &mut second, 0, b"a");
+    finds(&rt, &bus, &mut second, false, Next::Stopped);
+    closes(&rt, &bus, &mut sender);
+    takes(&rt, &bus, &mut first, head(1));
+    hears(&rt, &bus, &mut first, &[RecvTurn::End, RecvTurn::End]);
+    have_ended(&rt, &first, &second, (true, false));
+    finds(&rt, &bus, &mut second, true, Next::End);
+    gives_none(&rt, &bus, &mut second);
+    has_words(&rt, &left(&rt, bus, second), (5, true));
+}
+
+/// The words of the a, the first message of sender 0, in tenure 0.
+const WORDS: [u64; 3] = [
+    0x4000_0200_0000_0000,
+    0x8040_0000_0000_0000,
+    0x6100_0000_0000_0000,
+];
+
+/// Loads one word below the length.
+fn loads_one(rt: &impl Abort, bus: &Few, tap: &mut Tap<ThreeWord>, place: u64, want: u64)
+    requires { tap.old.table_id ≡ bus.now.table }
+    ensures { tap.new.table_id ≡ bus.now.table }
+{
+    assert!(rt; place < tap.known());
+    assert!(rt; tap.load_word(bus, place) == want);
+}
+
+/// Loads the length.
+fn loads_length(rt: &impl Abort, bus: &Few, tap: &mut Tap<ThreeWord>, want: u64)
+    requires { tap.old.table_id ≡ bus.now.table }
+    ensures { tap.new.table_id ≡ bus.now.table }
+{
+    assert!(rt; tap.load_length(bus) == want);
+}
+
+/// The next step is for this, and so many words are stored.
+fn is_due(rt: &impl Abort, sender: &One, kind: Option<Kind>, words: u64) {
+    assert!(rt; (sender.kind(), sender.words()) == (kind, words));
+}
+
+#[test]
+fn words_are_loaded(rt: HostRuntime) {
+    let (bus, mut senders, mut taps) = made(&rt, rt.alloc(), FirstLine::Shape(SMALL));
+    let mut tap = last_tap(&rt, &bus, &mut taps);
+    let mut sender = last_sender(&rt, &bus, &mut senders);
+    is_due(&rt, &sender, None, 0);
+    puts(&rt, &mut sender, b"a", 0);
+    is_due(&rt, &sender, Some(Kind::LoadStage), 0);
+    is_delivered(&rt, &bus, &mut sender);
+    is_due(&rt, &sender, None, 3);
+    loads_length(&rt, &bus, &mut tap, 3);
+    loads_one(&rt, &bus, &mut tap, 0, WORDS[0]);
+    loads_one(&rt, &bus, &mut tap, 1, WORDS[1]);
+    loads_one(&rt, &bus, &mut tap, 2, WORDS[2]);
 }
 
 /// The bytes below 17, each a message.
@@ -371,12 +347,12 @@ fn sends_all<R: Wait + Abort>(
     ensures { table_of sender.new ≡ bus.now.table }
 {
     let waiter = Waiter::yielding(rt);
-    assert_eq!(rt; sender.send_all(&waiter, bus, rng, messages), want);
+    assert!(rt; sender.send_all(&waiter, bus, rng, messages) == want);
 }
 
 /// The number that the next message gets.
 fn numbers_next(rt: &impl Abort, sender: &One, want: u64) {
-    assert_eq!(rt; sender.next_number(), want);
+    assert!(rt; sender.next_number() == want);
 }
 
 /// Sends what waits for as long as nobody else goes first, and sees the answer.
@@ -390,12 +366,12 @@ fn sends_alone<R: Wait + Abort>(
     requires { table_of sender.old ≡ bus.now.table }
 {
     let waiter = Waiter::yielding(rt);
-    assert_eq!(rt; sender.send_while(&waiter, bus, rng, || false), want);
+    assert!(rt; sender.send_while(&waiter, bus, rng, || false) == want);
 }
 
 /// So many messages wait, and the order is open.
 fn keeps(rt: &impl Abort, sender: &One, pending: u64) {
-    assert_eq!(rt; sender.pending(), pending);
+    assert!(rt; sender.pending() == pending);
     assert!(rt; !sender.is_closed());
 }
 
@@ -422,42 +398,24 @@ fn stays_behind<R: Wait + Abort>(
 #[test]
 fn all_are_sent(rt: HostRuntime) {
     let messages = seventeen(&rt, rt.alloc());
+    let messages = messages.as_slice();
     let mut rng = Pcg32::new(0, 0);
     let (bus, mut sender, _first, mut second) = small(&rt, rt.alloc());
-    sends_all(
-        &rt,
-        &bus,
-        &mut sender,
-        &mut rng,
-        messages.as_slice(),
-        Ok(()),
-    );
+    sends_all(&rt, &bus, &mut sender, &mut rng, messages, Ok(()));
     numbers_next(&rt, &sender, 17);
-    let item = waits_for(&rt, &bus, &mut second);
-    assert_eq!(&rt;
-        (item.number, item.message.as_slice()),
-        (0, [0u8].as_slice())
-    );
-    stays_behind(&rt, &bus, &mut sender, &mut rng, messages.as_slice());
+    gives(&rt, &bus, &mut second, 0, &[0u8]);
+    stays_behind(&rt, &bus, &mut sender, &mut rng, messages);
 }
 
 /// How many tenures and words a sitting of these needs.
 fn needs(rt: &impl Abort, senders: u64, messages: u64, bytes: u64, tenures: u64, words: u64) {
-    assert_eq!(rt; tenures_needed(senders, messages), tenures);
-    assert_eq!(rt; words_needed(senders, messages, bytes), words);
-}
-
-/// Where the numbers are too large for 64 bits.
-fn needs_most(rt: &impl Abort) {
-    let most = u64::MAX;
-    assert_eq!(rt; tenures_needed(1, most), 1_152_921_504_606_846_977);
-    assert_eq!(rt; tenures_needed(16, most), most);
-    assert_eq!(rt; words_needed(1, most, 56), most);
-    assert_eq!(rt; words_needed(most, most, most), most);
+    assert!(rt; tenures_needed(senders, messages) == tenures);
+    assert!(rt; words_needed(senders, messages, bytes) == words);
 }
 
 #[test]
 fn sizes_of_sittings(rt: HostRuntime) {
+    let most = u64::MAX;
     for (senders, messages, bytes, tenures, words) in [
         (3, 100, 8, 22, 623),
         (8, 400, 8, 201, 6_602),
@@ -465,93 +423,10 @@ fn sizes_of_sittings(rt: HostRuntime) {
         (1, 1, 8, 2, 5),
         (1, 16, 8, 2, 35),
         (1, 17, 8, 3, 38),
+        (1, most, 56, 1_152_921_504_606_846_977, most),
+        (16, most, 56, most, most),
+        (most, most, most, most, most),
     ] {
         needs(&rt, senders, messages, bytes, tenures, words);
     }
-    needs_most(&rt);
-}
-
-/// Notes an answer, and sees whether it is taken.
-fn notes(rt: &impl Abort, heard: &mut Heard, turn: &RecvTurn, want: bool) {
-    let taken = heard.note(turn);
-    assert_eq!(rt; taken, want, "{turn:?}");
-}
-
-/// What a listener takes and refuses before the end.
-fn hears_two_senders(rt: &impl Abort, heard: &mut Heard) {
-    notes(rt, heard, &RecvTurn::Empty, true);
-    notes(rt, heard, &head(0), true);
-    notes(rt, heard, &item(0, 1), false);
-    notes(rt, heard, &item(64, 0), false);
-    notes(rt, heard, &item(0, 0), true);
-    notes(rt, heard, &item(0, 0), false);
-    notes(rt, heard, &item(63, 0), true);
-    notes(rt, heard, &item(0, 1), true);
-    notes(rt, heard, &RecvTurn::Going, true);
-}
-
-/// What it has noted then.
-fn has_heard_two(rt: &impl Abort, heard: &Heard) {
-    assert_eq!(rt;
-        (heard.count(SenderNo(0)), heard.count(SenderNo(63))),
-        (2, 1)
-    );
-    assert_eq!(rt; (heard.count(SenderNo(1)), heard.items()), (0, 3));
-}
-
-/// Whether it has heard the end.
-fn is_at_the_end(rt: &impl Abort, heard: &Heard, want: bool) {
-    assert_eq!(rt; heard.ended(), want);
-}
-
-/// Behind the end it takes nothing but the end.
-fn hears_nothing_more(rt: &impl Abort, heard: &mut Heard) {
-    for turn in [RecvTurn::Going, RecvTurn::Empty, head(1), item(0, 2)] {
-        notes(rt, heard, &turn, false);
-    }
-    notes(rt, heard, &RecvTurn::End, true);
-    assert_eq!(rt; heard.items(), 3);
-}
-
-#[test]
-fn what_a_listener_refuses(rt: HostRuntime) {
-    let mut heard = Heard::new();
-    hears_two_senders(&rt, &mut heard);
-    has_heard_two(&rt, &heard);
-    is_at_the_end(&rt, &heard, false);
-    notes(&rt, &mut heard, &RecvTurn::End, true);
-    is_at_the_end(&rt, &heard, true);
-    hears_nothing_more(&rt, &mut heard);
-}
-
-/// What a listener has noted of a sender: how many items, and whether it has left.
-fn has(rt: &impl Abort, heard: &Heard, sender: u8, want: (u64, bool)) {
-    assert!(rt; sender < 64);
-    let sender = SenderNo(sender);
-    assert_eq!(rt; (heard.count(sender), heard.has_left(sender)), want);
-}
-
-/// That this sender has left.
-fn gone(sender: u8) -> RecvTurn {
-    RecvTurn::Leave(SenderNo(sender))
-}
-
-#[test]
-fn what_a_listener_notes_of_leaving(rt: HostRuntime) {
-    let mut heard = Heard::new();
-    notes(&rt, &mut heard, &item(0, 0), true);
-    has(&rt, &heard, 0, (1, false));
-    notes(&rt, &mut heard, &gone(0), true);
-    has(&rt, &heard, 0, (1, true));
-    notes(&rt, &mut heard, &gone(0), false);
-    notes(&rt, &mut heard, &item(0, 1), false);
-    notes(&rt, &mut heard, &gone(64), false);
-    notes(&rt, &mut heard, &gone(63), true);
-    notes(&rt, &mut heard, &item(1, 0), true);
-    has(&rt, &heard, 63, (0, true));
-    has(&rt, &heard, 1, (1, false));
-    notes(&rt, &mut heard, &RecvTurn::End, true);
-    notes(&rt, &mut heard, &gone(1), false);
-    has(&rt, &heard, 1, (1, false));
-    assert_eq!(rt; heard.items(), 2);
 }

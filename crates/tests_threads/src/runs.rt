@@ -1,71 +1,23 @@
-//! A bus that threads share, and what is said of what it left behind.
+//! Runs: a bus that threads share, the gate that holds them up, and what is refused.
 
-use bus_batch::{Item, Message};
-use bus_deliverylog::RecvTurn;
-use bus_pageslot::Ended;
-use bus_receiver::Heard;
-use bus_register::SenderNo;
-use bus_run::buses::Bus;
-use bus_run::workers::generator;
-use bus_run::{AuditFault, Gate, OpenGate, RunFault, audit, run};
-use bus_tenure::Turn;
-use bus_waiting::Waiter;
-use bus_world::{MakeFault, Shape};
+use bus_run::limits::MOST_MESSAGES_EACH;
+use bus_run::{Gate, Report, RunFault, audit, run};
+use bus_world::MakeFault;
 use std::process::Abort;
 use std::sync::Wait;
 use std::sync::atomic::{AtomicU64, Ordering};
 use std::thread;
+use std::thread::Threads;
 
-/// What a bus left behind on which sender 0 sent one message.
-fn ended_with_one<R: Abort + Wait + AllocGlobal>(rt: &R) -> Ended {
-    let shape = Shape {
-        senders: 1,
-        receivers: 1,
-        rounds: 1,
-        rows: 2,
-        log_words: 64,
-    };
-    let (bus, mut senders, mut taps) = Bus::cyclic(rt.alloc(), shape, None).expect(rt, "memory");
-    let mut sender = senders.pop().expect(rt, "a sender");
-    let tap = taps.pop().expect(rt, "a pass");
-    assert_eq!(rt; sender.put(b"a"), Ok(0));
-    let waiter = Waiter::yielding(rt);
-    let sent = sender.send(&waiter, &bus, &mut generator(7, 0));
-    assert!(rt; matches!(sent, Turn::Delivered { .. }));
-    bus.end(tap).expect(rt, "the page is home")
-}
-
-/// Notes an answer, which is to be taken.
-fn notes(rt: &impl Abort, heard: &mut Heard, turn: &RecvTurn) {
-    assert!(rt; heard.note(turn));
-}
-
-/// The first item of sender 0.
-fn first_item(rt: &impl Abort) -> RecvTurn {
-    RecvTurn::Item(Item {
-        sender: SenderNo(0),
-        number: 0,
-        message: Message::of_bytes(b"a").expect(rt, "short"),
-    })
-}
-
-#[test]
-fn run_of_no_message(rt: HostRuntime) {
-    let gate = FirstOnly::new();
-    let report = run(&rt, rt.alloc(), 1, 1, 0, 7, &gate).expect(&rt, "a run");
-    assert_eq!(rt; gate.arrived.load(Ordering::SeqCst), 0);
-    assert_eq!(rt; report.heards.len(), 1);
-    for heard in &report.heards {
-        assert_eq!(rt; (heard.items(), heard.ended()), (0, true));
-    }
-    let page = report.ended.page();
-    assert_eq!(rt; (page.tenures, page.words), (1, 2));
-}
-
-#[test]
-fn shapes_that_are_refused(rt: HostRuntime) {
-    let result = run(&rt, rt.alloc(), 1, 9, 0, 7, &OpenGate);
-    assert_eq!(rt; result.err(), Some(RunFault::Make(MakeFault::Receivers)));
+/// A run of so many senders, receivers and messages each.
+fn ran<R: Threads + Wait + Abort + AllocGlobal + Sync, G: Gate + Sync>(
+    rt: &R,
+    sizes: (u64, u64, u64),
+    gate: &G,
+) -> Result<Report, RunFault> {
+    let (senders, receivers, messages) = sizes;
+    assert!(rt; messages <= MOST_MESSAGES_EACH);
+    run(rt, rt.alloc(), senders, receivers, messages, 7, gate)
 }
 
 /// The worker that arrives waits until the other sender's has begun to arrive as often.
@@ -92,30 +44,35 @@ impl Gate for Together {
     }
 }
 
+/// Each receiver was given so many items and the end.
+fn has_given(rt: &impl Abort, report: &Report, items: u64) {
+    for heard in &report.heards {
+        assert!(rt; (heard.items(), heard.ended()) == (items, true));
+    }
+}
+
+/// It passes the audit.
+fn is_fair(rt: &impl Abort, report: &Report) {
+    assert!(rt; audit(&report.ended, &report.heards) == Ok(()));
+}
+
 #[test]
 fn workers_overlap(rt: HostRuntime) {
     let gate = Together {
         arrived: [AtomicU64::new(0), AtomicU64::new(0)],
     };
-    let result = run(&rt, rt.alloc(), 2, 1, 32, 7, &gate);
-    assert!(rt; result.is_ok());
+    let report = ran(&rt, (2, 1, 32), &gate).expect(&rt, "a run");
     for arrived in &gate.arrived {
-        assert_eq!(rt; arrived.load(Ordering::SeqCst), 2);
+        assert!(rt; arrived.load(Ordering::SeqCst) == 2);
     }
+    has_given(&rt, &report, 64);
+    is_fair(&rt, &report);
 }
 
 /// Lets the worker of sender 0 through and no other, and counts those that arrive.
 #[derive(Drop)]
 struct FirstOnly {
     arrived: AtomicU64,
-}
-
-impl FirstOnly {
-    fn new() -> FirstOnly {
-        FirstOnly {
-            arrived: AtomicU64::new(0),
-        }
-    }
 }
 
 impl Gate for FirstOnly {
@@ -126,39 +83,16 @@ impl Gate for FirstOnly {
 }
 
 #[test]
-fn gate_and_audit_faults(rt: HostRuntime) {
-    let gate = FirstOnly::new();
-    let result = run(&rt, rt.alloc(), 2, 1, 16, 7, &gate);
-    assert_eq!(rt; result.err(), Some(RunFault::Gate));
-    assert_eq!(rt; gate.arrived.load(Ordering::SeqCst), 2);
-    audit_faults(&rt);
-}
-
-/// What is said of receivers that were not given all.
-fn audit_faults<R: Abort + Wait + AllocGlobal>(rt: &R) {
-    let ended = ended_with_one(rt);
-    assert_eq!(rt; ended.count(SenderNo(0)), 1);
-    let mut heard = Heard::new();
-    assert_eq!(rt;
-        audit(&ended, &[Heard::new()]),
-        Err(AuditFault::Count {
-            receiver: 0,
-            sender: 0
-        })
-    );
-    notes(rt, &mut heard, &first_item(rt));
-    let mut both = [heard, Heard::new()];
-    assert_eq!(rt;
-        audit(&ended, &both),
-        Err(AuditFault::NotEnded { receiver: 0 })
-    );
-    notes(rt, &mut both[0], &RecvTurn::End);
-    assert_eq!(rt; audit(&ended, &both[..1]), Ok(()));
-    assert_eq!(rt;
-        audit(&ended, &both),
-        Err(AuditFault::Count {
-            receiver: 1,
-            sender: 0
-        })
-    );
+fn who_arrives_at_a_gate(rt: HostRuntime) {
+    for (sizes, arrive, fault) in [
+        ((1, 1, 0), 0, None),
+        ((2, 1, 16), 2, Some(RunFault::Gate)),
+        ((1, 9, 16), 0, Some(RunFault::Make(MakeFault::Receivers))),
+    ] {
+        let gate = FirstOnly {
+            arrived: AtomicU64::new(0),
+        };
+        assert!(rt; ran(&rt, sizes, &gate).err() == fault);
+        assert!(rt; gate.arrived.load(Ordering::SeqCst) == arrive);
+    }
 }

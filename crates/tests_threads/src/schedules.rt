@@ -1,14 +1,16 @@
 //! Random schedules of a bus and a machine.
 
-use crate::both::{Both, last_of, leave_the_same, made};
+use crate::both::{Both, leave_the_same};
+use crate::games::{Game, Seats, play_on};
 use bus_adoptcommit::ThreeWord;
 use bus_machine::World;
-use bus_replay::answers::new_bus;
 use bus_replay::lines::FirstLine;
 use bus_world::{Event, Shape};
 use rand_core::Rng;
 use rand_pcg::Pcg32;
 use std::process::Abort;
+use std::sync::Wait;
+use std::thread::Threads;
 
 /// More turns than three senders of one message each need.
 const MOST_TURNS: u32 = 10_000;
@@ -103,6 +105,45 @@ struct Sum {
     out: u64,
 }
 
+/// A bus and a machine to which random events happen.
+#[derive(Drop)]
+struct Random {
+    first: FirstLine,
+    dice: Pcg32,
+    world: Option<World<ThreeWord>>,
+    lost: u64,
+}
+
+impl Game for Random {
+    fn play<R: Threads + Wait + Abort + AllocGlobal + Sync>(&mut self, rt: &R, seats: Seats<'_>) {
+        let mut both = Both::new(rt, self.first, seats);
+        for _ in 0..100 {
+            happens(rt, &mut both, &mut self.dice);
+        }
+        come_home(rt, &mut both, &mut self.dice);
+        let (world, lost) = both.into_world();
+        self.world = Some(world);
+        self.lost = lost;
+    }
+}
+
+/// The game of this seed, with a row for each tenure or with rows that are used again.
+fn game_of(seed: u64) -> Random {
+    let mut dice = Pcg32::new(seed, 1);
+    let shape = shape(&mut dice);
+    let first = if seed % 2 == 0 {
+        FirstLine::Shape(shape)
+    } else {
+        FirstLine::Cycle(shape)
+    };
+    Random {
+        first,
+        dice,
+        world: None,
+        lost: 0,
+    }
+}
+
 /// Adds what a schedule came to.
 fn add<R: Abort + AllocGlobal>(rt: &R, sum: &mut Sum, world: &World<ThreeWord>, is_home: bool) {
     let order = world.order(rt.alloc()).expect(rt, "memory");
@@ -112,29 +153,13 @@ fn add<R: Abort + AllocGlobal>(rt: &R, sum: &mut Sum, world: &World<ThreeWord>, 
     sum.out = sum.out.saturating_add(u64::from(!is_home));
 }
 
-/// A bus and a machine of a random shape, with a row for each tenure or with rows that are used
-/// again, to which random events happen.
-fn schedule<R: Abort + AllocGlobal>(rt: &R, seed: u64, sum: &mut Sum) {
-    let mut dice = Pcg32::new(seed, 1);
-    let shape = shape(&mut dice);
-    let first = if seed % 2 == 0 {
-        FirstLine::Shape(shape)
-    } else {
-        FirstLine::Cycle(shape)
-    };
-    let (bus, senders, mut taps) = made(rt, rt.alloc(), first);
-    let Ok(world) = new_bus::<ThreeWord>(rt.alloc(), first) else {
-        panic!(rt; "memory");
-    };
-    let last = last_of(rt, &bus, &mut taps);
-    let mut both = Both::new(rt, &bus, senders, taps, world);
-    for _ in 0..100 {
-        happens(rt, &mut both, &mut dice);
-    }
-    come_home(rt, &mut both, &mut dice);
-    let (world, lost) = both.into_world();
-    sum.lost = sum.lost.saturating_add(lost);
-    let is_home = leave_the_same(rt, bus, last, &world);
+/// A bus and a machine of a random shape leave the same behind.
+fn schedule<R: Threads + Wait + Abort + AllocGlobal + Sync>(rt: &R, seed: u64, sum: &mut Sum) {
+    let mut game = game_of(seed);
+    let left = play_on(rt, game.first, &mut game);
+    sum.lost = sum.lost.saturating_add(game.lost);
+    let world = game.world.expect(rt, "a machine");
+    let is_home = leave_the_same(rt, &left, &world);
     add(rt, sum, &world, is_home);
 }
 
@@ -193,40 +218,58 @@ fn two_go_on(rt: &impl Abort, both: &mut Both<'_>, dice: &mut Pcg32) {
     }
 }
 
-/// Under this schedule sender 0 of three stops after so many steps. Says whether the page is at
-/// home then; none where it never takes so many.
-fn stops_after<R: Abort + AllocGlobal>(rt: &R, seed: u64, steps: u32) -> Option<bool> {
-    let shape = Shape {
-        senders: 3,
-        receivers: 1,
-        rounds: 2,
-        rows: 4,
-        log_words: 64,
-    };
-    let first = FirstLine::Shape(shape);
-    let (bus, senders, mut taps) = made(rt, rt.alloc(), first);
-    let last = last_of(rt, &bus, &mut taps);
-    let Ok(world) = new_bus::<ThreeWord>(rt.alloc(), first) else {
-        panic!(rt; "memory");
-    };
-    let mut dice = Pcg32::new(seed, 0);
-    let mut both = Both::new(rt, &bus, senders, taps, world);
-    for sender in 0..3 {
-        let bytes = bytes_of(rt, b"a");
-        both.take(rt, &Event::Put { sender, bytes });
-    }
-    if !zero_stops(rt, &mut both, &mut dice, steps) {
-        return None;
-    }
-    two_go_on(rt, &mut both, &mut dice);
-    let (world, _) = both.into_world();
-    Some(leave_the_same(rt, bus, last, &world))
+/// Three senders with a message each, of which the first stops after so many steps.
+#[derive(Drop)]
+struct Stopping {
+    first: FirstLine,
+    dice: Pcg32,
+    steps: u32,
+    /// None where it never took so many.
+    world: Option<World<ThreeWord>>,
 }
 
-/// These bytes.
-fn bytes_of<R: Abort + AllocGlobal>(rt: &R, bytes: &[u8]) -> Vec<u8> {
-    Vec::from_slice(rt.alloc(), bytes).expect(rt, "memory")
+impl Game for Stopping {
+    fn play<R: Threads + Wait + Abort + AllocGlobal + Sync>(&mut self, rt: &R, seats: Seats<'_>) {
+        let mut both = Both::new(rt, self.first, seats);
+        for sender in 0..3 {
+            let bytes = Vec::from_slice(rt.alloc(), b"a").expect(rt, "memory");
+            both.take(rt, &Event::Put { sender, bytes });
+        }
+        if !zero_stops(rt, &mut both, &mut self.dice, self.steps) {
+            return;
+        }
+        two_go_on(rt, &mut both, &mut self.dice);
+        let (world, _) = both.into_world();
+        self.world = Some(world);
+    }
 }
+
+/// Under this schedule sender 0 of three stops after so many steps. Says whether the page is at
+/// home then; none where it never takes so many.
+fn stops_after<R: Threads + Wait + Abort + AllocGlobal + Sync>(
+    rt: &R,
+    seed: u64,
+    steps: u32,
+) -> Option<bool> {
+    let mut game = Stopping {
+        first: FirstLine::Shape(THREE),
+        dice: Pcg32::new(seed, 0),
+        steps,
+        world: None,
+    };
+    let left = play_on(rt, game.first, &mut game);
+    let world = game.world?;
+    Some(leave_the_same(rt, &left, &world))
+}
+
+/// Three senders and a receiver.
+const THREE: Shape = Shape {
+    senders: 3,
+    receivers: 1,
+    rounds: 2,
+    rows: 4,
+    log_words: 64,
+};
 
 #[test]
 fn one_of_three_stops_after_each_step(rt: HostRuntime) {

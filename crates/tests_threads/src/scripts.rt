@@ -1,11 +1,37 @@
 //! Scripts of `replay` on a bus and a machine. The texts of most of them stand in `examples/`.
 
-use crate::both::{Both, last_of, leave_the_same, made};
+use crate::both::{Both, leave_the_same};
+use crate::games::{Game, Seats, play_on};
 use bus_adoptcommit::ThreeWord;
-use bus_replay::answers::new_bus;
-use bus_replay::lines::{command_of, first_of};
+use bus_machine::World;
+use bus_replay::lines::{FirstLine, command_of, first_of};
 use bus_script::Lines;
 use std::process::Abort;
+use std::sync::Wait;
+use std::thread::Threads;
+
+/// The lines of a script behind its first, and then the machine to which they happened.
+#[derive(Drop)]
+struct Script<'s> {
+    first: FirstLine,
+    lines: Lines<'s>,
+    world: Option<World<ThreeWord>>,
+}
+
+impl<'s> Game for Script<'s> {
+    /// The lines happen to a bus and a machine, also behind one that is refused.
+    fn play<R: Threads + Wait + Abort + AllocGlobal + Sync>(&mut self, rt: &R, seats: Seats<'_>) {
+        let mut both = Both::new(rt, self.first, seats);
+        for _ in 0..1_000 {
+            let Some(line) = self.lines.next_line() else {
+                break;
+            };
+            do_line(rt, &mut both, line.bytes);
+        }
+        let (world, _) = both.into_world();
+        self.world = Some(world);
+    }
+}
 
 /// Does what a line says.
 fn do_line<R: Abort + AllocGlobal>(rt: &R, both: &mut Both<'_>, line: &[u8]) {
@@ -18,25 +44,23 @@ fn do_line<R: Abort + AllocGlobal>(rt: &R, both: &mut Both<'_>, line: &[u8]) {
     }
 }
 
-/// The lines of a script behind its first happen to a bus and a machine, also behind one that is
-/// refused. Says how many words the log has then.
-fn play<R: Abort + AllocGlobal>(rt: &R, script: &[u8]) -> usize {
+/// The game of a script, whose first line asks for a bus.
+fn game_of<'s>(rt: &impl Abort, script: &'s [u8]) -> Script<'s> {
     let mut lines = Lines::new(script);
     let first = lines.next_line().expect(rt, "a line");
-    let first = first_of(first.bytes).expect(rt, "a first line");
-    let (bus, senders, mut taps) = made(rt, rt.alloc(), first);
-    let last = last_of(rt, &bus, &mut taps);
-    let Ok(world) = new_bus::<ThreeWord>(rt.alloc(), first) else {
-        panic!(rt; "memory");
-    };
-    let mut both = Both::new(rt, &bus, senders, taps, world);
-    for _ in 0..1_000 {
-        let Some(line) = lines.next_line() else { break };
-        do_line(rt, &mut both, line.bytes);
+    Script {
+        first: first_of(first.bytes).expect(rt, "a first line"),
+        lines,
+        world: None,
     }
-    let (world, _) = both.into_world();
-    leave_the_same(rt, bus, last, &world);
-    world.log().len()
+}
+
+/// A script happens to a bus and a machine, which leave the same behind. Says whether the page is
+/// at home.
+fn plays<R: Threads + Wait + Abort + AllocGlobal + Sync>(rt: &R, script: &[u8]) -> bool {
+    let mut game = game_of(rt, script);
+    let left = play_on(rt, game.first, &mut game);
+    leave_the_same(rt, &left, &game.world.expect(rt, "a machine"))
 }
 
 #[test]
@@ -44,7 +68,6 @@ fn scripts_of_a_bus_like_world(rt: HostRuntime) {
     for script in [
         ALONE,
         CLOSED,
-        PAGE_OUT,
         CANDIDATES,
         LATE,
         LAST_OF_ALL,
@@ -53,13 +76,13 @@ fn scripts_of_a_bus_like_world(rt: HostRuntime) {
         COINS,
         BEHIND,
         ROUND,
-        FOR_GOOD,
         LEAVES,
         LEAVES_AGAIN,
         REFUSALS,
     ] {
-        play(&rt, script);
+        plays(&rt, script);
     }
+    assert!(rt; !plays(&rt, PAGE_OUT) && !plays(&rt, FOR_GOOD));
 }
 
 /// One sender is alone, and has the row of a second tenure left.
@@ -129,50 +152,3 @@ const LEAVES_AGAIN: &[u8] = b"cycle 2 1 1 2 64\nput 1 62\nleave 0\nput 0 61\nclo
 /// A leave is refused where a close is.
 const REFUSALS: &[u8] = b"shape 1 2 1 2 64\nput 0 61\nleave 0\nclose 0\nturn 0 0 1\nleave 0\n\
     close 0\nput 0 62\nput 1 61\nstop 0\nput 0 62\nleave 0\nturn 0 0 1\nstop 0\n";
-
-/// Two senders of a message each, of which each takes a turn in turn.
-fn alternating<R: Abort + AllocGlobal>(rt: &R) -> String {
-    let mut script = String::new(rt.alloc());
-    script
-        .push_str("shape 2 1 1 4 64\nput 0 61\nput 1 62\n")
-        .expect(rt, "memory");
-    for turn in 0..400u32 {
-        let (first, second) = (turn % 3, turn % 2);
-        let lines = format!(in rt.alloc(); "turn 0 {first} 1\nturn 1 {second} 1\n");
-        script
-            .push_str(lines.expect(rt, "memory").as_str())
-            .expect(rt, "memory");
-    }
-    script
-}
-
-/// Of two senders of a message each, sender 0 stops after so many steps, and the other goes on.
-fn stopping<R: Abort + AllocGlobal>(rt: &R, steps: u64) -> String {
-    let mut script = String::new(rt.alloc());
-    let first = "shape 2 1 1 4 64\nput 0 61\nput 1 62\n";
-    script.push_str(first).expect(rt, "memory");
-    for _ in 0..steps {
-        script.push_str("turn 0 0 1\n").expect(rt, "memory");
-    }
-    let last = "stop 0\nturn 1 0 99\nturn 1 0 99\nrecv 0 99\nturn 0 0 1\n";
-    script.push_str(last).expect(rt, "memory");
-    script
-}
-
-/// After 12 steps it has given the page back after one message of one byte.
-#[test]
-fn sender_stops_after_each_step(rt: HostRuntime) {
-    for steps in 1..13 {
-        let script = stopping(&rt, steps);
-        let words = play(&rt, script.as_bytes());
-        let has_all = steps == 12;
-        assert_eq!(rt; words == 6, has_all, "{steps} steps");
-    }
-}
-
-/// Both messages stand in the log, with three words each.
-#[test]
-fn two_senders_take_turns(rt: HostRuntime) {
-    let script = alternating(&rt);
-    assert_eq!(rt; play(&rt, script.as_bytes()), 6);
-}

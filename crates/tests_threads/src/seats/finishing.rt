@@ -1,22 +1,7 @@
 //! A sender that stops within a tenure, and goes through what is left of it: the other one sends,
 //! and the order ends. Or it is behind the other one, and is asked again.
 
-ghost use Rattle.std.specs.Prelude.{◌≡◌, All};
-ghost use Rattle.bus_pageslot.specs.Seats.{table_of};
-
 use super::*;
-
-/// Two senders and a receiver.
-const TWO: Shape = Shape {
-    senders: 2,
-    receivers: 1,
-    rounds: 1,
-    rows: 8,
-    log_words: 64,
-};
-
-/// The same over two rows, which are used again.
-const TWO_AGAIN: Shape = Shape { rows: 2, ..TWO };
 
 /// More turns than the tenure of one message takes, with both senders in its election.
 const MOST_TURNS: u32 = 36;
@@ -30,20 +15,62 @@ struct Sum {
     late: u32,
 }
 
-/// A message waits, and so many turns are taken.
-fn stops_after<Q: Ratifier + Drop>(
-    rt: &impl Abort,
-    bus: &Bus<Q>,
-    sender: &mut Sender<Q>,
-    turns: u32,
-)
-    requires { table_of sender.old ≡ bus.now.table }
-    ensures { table_of sender.new ≡ bus.now.table }
-{
-    puts(rt, sender, b"a", Ok(0));
-    for turn in 0..turns {
-        let _answer = take_turn(bus, sender, turn);
+/// Of two senders the first takes so many turns, and the second so many. Then the first finishes.
+#[derive(Drop)]
+struct LetsGo {
+    turns: (u32, u32),
+    answer: Option<Turn>,
+    /// How many messages the first delivered.
+    delivered: u64,
+}
+
+impl Game for LetsGo {
+    fn play<R: Threads + Wait + Abort + AllocGlobal + Sync>(
+        &mut self,
+        rt: &R,
+        mut seats: Seats<'_>,
+    ) {
+        let mut second = seats.last_sender(rt);
+        let mut first = seats.last_sender(rt);
+        stops_after(rt, &mut first, self.turns.0);
+        stops_after(rt, &mut second, self.turns.1);
+        self.answer = finishes(rt, &mut first);
+        self.delivered = 1u64.saturating_sub(first.alone().pending());
+        drop(first);
+        goes_on(rt, &mut second);
     }
+}
+
+/// A message waits, and so many turns are taken.
+fn stops_after(rt: &impl Abort, sender: &mut BusSender<'_>, turns: u32) {
+    puts(rt, sender, b"a", 0);
+    for turn in 0..turns {
+        let _answer = sender.turn(turn);
+    }
+}
+
+/// It finishes, and has begun no tenure then.
+fn finishes(rt: &impl Abort, sender: &mut BusSender<'_>) -> Option<Turn> {
+    let answer = sender.finish(&mut Pcg32::new(7, 0));
+    has_begun(rt, sender.alone(), None);
+    answer
+}
+
+/// The tenure that a sender has begun, whose election is over.
+fn has_begun(rt: &impl Abort, sender: &Sender<ThreeWord>, tenure: Option<u64>) {
+    assert!(rt; (sender.tenure(), sender.turns_left()) == (tenure, 0));
+}
+
+/// The other one delivers its message, if it has not, and ends the order.
+fn goes_on<R: Wait + Abort>(rt: &R, sender: &mut BusSender<'_>) {
+    let mut rng = Pcg32::new(8, 0);
+    let sent = sender.send(rt, &mut rng);
+    assert!(rt;
+        matches!(sent, Turn::Delivered { .. } | Turn::Idle),
+        "it is answered {sent}"
+    );
+    closes(rt, sender);
+    assert!(rt; sender.send(rt, &mut rng) == Turn::Closed);
 }
 
 /// One more that ended so.
@@ -57,65 +84,35 @@ fn add(rt: &impl Abort, sum: &mut Sum, answer: Option<Turn>) {
     }
 }
 
-/// It finishes, and has begun no tenure then.
-fn finishes<Q: Ratifier + Drop>(
-    rt: &impl Abort,
-    bus: &Bus<Q>,
-    sender: &mut Sender<Q>,
-) -> Option<Turn>
-    requires { table_of sender.old ≡ bus.now.table }
-    ensures { table_of sender.new ≡ bus.now.table }
-{
-    let answer = sender.finish(bus, &mut Pcg32::new(7, 0));
-    assert_eq!(rt; (sender.tenure(), sender.turns_left()), (None, 0));
-    answer
-}
-
-/// The other one delivers its message, if it has not, and ends the order.
-fn goes_on<Q: Ratifier + Drop, R: Wait + Abort>(rt: &R, bus: &Bus<Q>, sender: &mut Sender<Q>)
-    requires { table_of sender.old ≡ bus.now.table }
-    ensures { table_of sender.new ≡ bus.now.table }
-{
-    let mut rng = Pcg32::new(8, 0);
-    let sent = sender.send(&Waiter::yielding(rt), bus, &mut rng);
-    assert!(rt;
-        matches!(sent, Turn::Delivered { .. } | Turn::Idle),
-        "it is answered {sent}"
-    );
-    closes(rt, sender, Ok(()));
-    let ended = sender.send(&Waiter::yielding(rt), bus, &mut rng);
-    is_answer(rt, ended, Turn::Closed);
-}
-
-/// The order has ended, with so many messages of sender 0, and one of sender 1.
-fn has_ended(rt: &impl Abort, ended: &Ended, first: u64) {
-    let counts = (ended.count(SenderNo(0)), ended.count(SenderNo(1)));
-    assert_eq!(rt; counts, (first, 1));
-    assert!(rt; ended.page().ended);
-}
-
-/// Of two senders the first takes so many turns, and the second so many. Then the first finishes.
-fn lets_go<Q: Ratifier + Drop, R: Wait + Abort>(
+/// Plays so, and adds what it came to.
+fn lets_go<R: Threads + Wait + Abort + AllocGlobal + Sync>(
     rt: &R,
-    made: (Bus<Q>, Vec<Sender<Q>>, Vec<Tap<Q>>),
+    first: FirstLine,
     turns: (u32, u32),
     sum: &mut Sum,
-)
-    requires senders { All (λ s. table_of s ≡ made.0.table) made.1.items }
-    requires taps { All (λ t. t.table_id ≡ made.0.table) made.2.items }
-{
-    let (bus, mut first, mut second, tap) = pair_of(rt, made);
-    stops_after(rt, &bus, &mut first, turns.0);
-    stops_after(rt, &bus, &mut second, turns.1);
-    add(rt, sum, finishes(rt, &bus, &mut first));
-    let delivered = 1u64.saturating_sub(first.pending());
-    drop(first);
-    goes_on(rt, &bus, &mut second);
-    has_ended(rt, &left(rt, bus, tap), delivered);
+) {
+    let mut game = LetsGo {
+        turns,
+        answer: None,
+        delivered: 0,
+    };
+    let ended = play_on(rt, first, &mut game).expect(rt, "the page is home");
+    has_ended(rt, &ended, (game.delivered, 1, true));
+    add(rt, sum, game.answer);
 }
 
-/// Enough happened.
-fn is_much(rt: &impl Abort, sum: &Sum, late: u32) {
+/// Senders let go after each turn, and enough happens.
+fn let_go_after_each_turn<R: Threads + Wait + Abort + AllocGlobal + Sync>(
+    rt: &R,
+    line: FirstLine,
+    late: u32,
+) {
+    let mut sum = Sum::default();
+    for first in 0..MOST_TURNS {
+        for second in 0..MOST_TURNS {
+            lets_go(rt, line, (first, second), &mut sum);
+        }
+    }
     assert!(rt; sum.none > 99, "{} had begun no tenure", sum.none);
     assert!(rt; sum.delivered > 99, "{} delivered", sum.delivered);
     assert!(rt; sum.lost > 99, "{} lost", sum.lost);
@@ -124,60 +121,55 @@ fn is_much(rt: &impl Abort, sum: &Sum, late: u32) {
 
 #[test]
 fn senders_let_go_after_each_turn(rt: HostRuntime) {
-    let mut sum = Sum::default();
-    for first in 0..MOST_TURNS {
-        for second in 0..MOST_TURNS {
-            let made = Bus::<ThreeWord>::new(rt.alloc(), TWO).expect(&rt, "memory");
-            lets_go(&rt, made, (first, second), &mut sum);
-        }
-    }
-    is_much(&rt, &sum, 0);
-}
-
-#[test]
-fn senders_let_go_where_rows_are_used_again(rt: HostRuntime) {
-    let mut sum = Sum::default();
-    for first in 0..MOST_TURNS {
-        for second in 0..MOST_TURNS {
-            let made = Bus::<ThreeWord>::cyclic(rt.alloc(), TWO_AGAIN, None).expect(&rt, "memory");
-            lets_go(&rt, made, (first, second), &mut sum);
-        }
-    }
-    is_much(&rt, &sum, 10);
+    let_go_after_each_turn(&rt, FirstLine::Shape(TWO), 0);
+    let_go_after_each_turn(&rt, FirstLine::Cycle(TWO_AGAIN), 10);
 }
 
 /// The second stands in tenure 0, and the first owns tenure 1, whose next one uses that row: it is
 /// behind, and still has its page. Once the other one has taken its turns, it delivers.
-fn is_behind<Q: Ratifier + Drop, R: Wait + Abort>(
-    rt: &R,
-    made: (Bus<Q>, Vec<Sender<Q>>, Vec<Tap<Q>>),
-)
-    requires senders { All (λ s. table_of s ≡ made.0.table) made.1.items }
-    requires taps { All (λ t. t.table_id ≡ made.0.table) made.2.items }
-{
-    let (bus, mut first, mut second, tap) = pair_of(rt, made);
-    stops_after(rt, &bus, &mut second, 3);
-    puts(rt, &mut first, b"a", Ok(0));
-    delivers(rt, &bus, &mut first, 0, 0);
-    puts(rt, &mut first, b"b", Ok(1));
-    ends_in(rt, &bus, &mut first, 99, Turn::Own { tenure: 1 });
-    for _ in 0..2 {
-        let answer = first.finish(&bus, &mut Pcg32::new(7, 0));
-        let sender = SenderNo(1);
-        assert_eq!(rt; answer, Some(Turn::Behind { tenure: 0, sender }));
-        assert_eq!(rt; first.tenure(), Some(1));
+#[derive(Drop)]
+struct IsBehind;
+
+impl Game for IsBehind {
+    fn play<R: Threads + Wait + Abort + AllocGlobal + Sync>(
+        &mut self,
+        rt: &R,
+        mut seats: Seats<'_>,
+    ) {
+        let mut second = seats.last_sender(rt);
+        let mut first = seats.last_sender(rt);
+        stops_after(rt, &mut second, 3);
+        puts(rt, &mut first, b"a", 0);
+        delivers(rt, &mut first, 0, 0);
+        puts(rt, &mut first, b"b", 1);
+        ends_in(rt, &mut first, Turn::Own { tenure: 1 });
+        is_behind(rt, &mut first);
+        is_behind(rt, &mut first);
+        let owner = SenderNo(0);
+        let other = finishes(rt, &mut second);
+        assert!(rt; other == Some(Turn::Lost { tenure: 0, owner }));
+        assert!(rt; finishes(rt, &mut first) == Some(delivered(1, 1)));
+        drop(first);
+        goes_on(rt, &mut second);
     }
-    let other = finishes(rt, &bus, &mut second);
-    let owner = SenderNo(0);
-    assert_eq!(rt; other, Some(Turn::Lost { tenure: 0, owner }));
-    assert_eq!(rt; finishes(rt, &bus, &mut first), Some(delivered(1, 1)));
-    drop(first);
-    goes_on(rt, &bus, &mut second);
-    has_ended(rt, &left(rt, bus, tap), 2);
+}
+
+/// Sender 1 is in its way, and it has tenure 1.
+fn is_behind(rt: &impl Abort, sender: &mut BusSender<'_>) {
+    let answer = sender.finish(&mut Pcg32::new(7, 0));
+    let other = SenderNo(1);
+    assert!(rt;
+        answer
+            == Some(Turn::Behind {
+                tenure: 0,
+                sender: other
+            })
+    );
+    assert!(rt; sender.alone().tenure() == Some(1));
 }
 
 #[test]
 fn a_sender_that_lets_go_is_behind(rt: HostRuntime) {
-    let made = Bus::<ThreeWord>::cyclic(rt.alloc(), TWO_AGAIN, None).expect(&rt, "memory");
-    is_behind(&rt, made);
+    let left = play_on(&rt, FirstLine::Cycle(TWO_AGAIN), &mut IsBehind);
+    has_ended(&rt, &left.expect(&rt, "the page is home"), (2, 1, true));
 }

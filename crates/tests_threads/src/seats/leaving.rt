@@ -1,119 +1,113 @@
-//! Senders that leave, with a row for each tenure and with rows that are used again, in one thread
-//! and in two.
-
-ghost use Rattle.std.specs.Prelude.{◌≡◌, All};
-ghost use Rattle.bus_pageslot.specs.Seats.{table_of};
+//! Two senders, each in a thread of its own, of which one leaves at last: with a row for each
+//! tenure, and with rows that are used again.
 
 use super::*;
+use crate::both::BusReceiver;
+use bus_deliverylog::RecvTurn;
+use bus_receiver::Heard;
+use std::thread;
+use std::thread::join;
 
-/// Two senders and a receiver.
-const TWO: Shape = Shape {
-    senders: 2,
-    receivers: 1,
-    rounds: 1,
-    rows: 4,
-    log_words: 64,
-};
-
-/// Sends one message, and says whether it was delivered.
-fn sends_one<Q: Ratifier + Drop>(
-    wait: &impl Wait,
-    bus: &Bus<Q>,
-    sender: &mut Sender<Q>,
-    rng: &mut Pcg32,
-) -> bool
-    requires { table_of sender.old ≡ bus.now.table }
-    ensures { table_of sender.new ≡ bus.now.table }
-{
-    let put = sender.put(b"abc");
-    let sent = sender.send(&Waiter::yielding(wait), bus, rng);
-    put.is_ok() && matches!(sent, Turn::Delivered { .. })
+/// Both send twenty messages, and the first leaves then. What the receiver is given is noted.
+#[derive(Drop)]
+struct TwoThreads {
+    heard: Heard,
 }
 
-/// Whether three messages were delivered, one by one, and then the leave mark sent.
-fn sends_and_leaves<Q: Ratifier + Drop>(
-    wait: &impl Wait,
-    bus: &Bus<Q>,
-    mut sender: Sender<Q>,
-) -> bool
-    requires { table_of sender ≡ bus.now.table }
-{
-    let mut rng = Pcg32::new(0, u64::from(sender.number().0));
-    let first = sends_one(wait, bus, &mut sender, &mut rng);
-    let second = sends_one(wait, bus, &mut sender, &mut rng);
-    let third = sends_one(wait, bus, &mut sender, &mut rng);
-    let asked = sender.leave();
-    let answer = sender.send(&Waiter::yielding(wait), bus, &mut rng);
-    first && second && third && asked.is_ok() && matches!(answer, Turn::Left { .. })
+impl Game for TwoThreads {
+    fn play<R: Threads + Wait + Abort + AllocGlobal + Sync>(
+        &mut self,
+        rt: &R,
+        mut seats: Seats<'_>,
+    ) {
+        let second = seats.last_sender(rt);
+        let first = seats.last_sender(rt);
+        assert!(rt; both_send(rt, first, second) == (true, 20));
+        hears_all(rt, &mut seats.last_receiver(rt), &mut self.heard);
+    }
 }
 
-/// The first of these two sends three messages and leaves, the second sends twenty, each in a
-/// thread of its own.
-fn both_go<Q: Ratifier + Drop + Send + Sync, R: Threads + Wait + Sync>(
-    rt: &R,
-    bus: &Bus<Q>,
-    first: Sender<Q>,
-    second: Sender<Q>,
-) -> (bool, u32)
-    requires { (table_of first ≡ bus.now.table) × (table_of second ≡ bus.now.table) }
-{
+/// Each of these two sends in a thread of its own.
+fn both_send<R: Threads>(rt: &R, first: BusSender<'_>, second: BusSender<'_>) -> (bool, u32) {
     join(
         rt,
-        move || sends_and_leaves(rt, bus, first),
-        move || sends_twenty(rt, bus, second),
+        move || sends_and_leaves(first),
+        move || sends_and_stays(second),
     )
 }
 
-/// Three items of sender 0, then its leave mark, and twenty items of sender 1 between and behind.
-fn has_all<R: Abort + AllocGlobal>(rt: &R, ended: &Ended) {
-    let counts = (ended.count(SenderNo(0)), ended.count(SenderNo(1)));
-    assert_eq!(rt; counts, (3, 20));
-    assert_eq!(rt; (ended.page().left[0], ended.page().left[1]), (true, false));
-    let read = read_log(rt.alloc(), ended.log(), 2).expect(rt, "a log");
-    assert_eq!(rt; read.order.left.len(), 1);
-    let (sender, place) = read.order.left[0];
-    assert_eq!(rt; sender, SenderNo(0));
-    let mut before = 0u64;
-    for (at, item) in read.order.items.iter().enumerate() {
-        if item.sender == SenderNo(0) {
-            assert!(rt; (at as u64) < place, "nothing of it follows its leave mark");
-            before = before.saturating_add(1);
+/// Turns until what waits is sent, with the answer that says so. Who waits lets others go first.
+fn sent(sender: &mut BusSender<'_>) -> Turn {
+    for turn in 0..10_000_000u32 {
+        let answer = sender.turn(turn % 5);
+        if matches!(answer, Turn::Delivered { .. } | Turn::Left { .. }) {
+            return answer;
+        }
+        if matches!(answer, Turn::Waiting | Turn::Behind { .. }) {
+            thread::yield_now();
         }
     }
-    assert_eq!(rt; before, 3);
+    Turn::Going
 }
 
-/// Two threads, one of which leaves.
-fn one_thread_leaves<
-    Q: Ratifier + Drop + Send + Sync,
-    R: Threads + Wait + Abort + AllocGlobal + Sync,
->(rt: &R, made: (Bus<Q>, Vec<Sender<Q>>, Vec<Tap<Q>>))
-    requires senders { All (λ s. table_of s ≡ made.0.table) made.1.items }
-    requires taps { All (λ t. t.table_id ≡ made.0.table) made.2.items }
-{
-    let (bus, first, second, tap) = pair_of(rt, made);
-    assert_eq!(rt; both_go(rt, &bus, first, second), (true, 20));
-    has_all(rt, &left(rt, bus, tap));
+/// Whether one message was delivered.
+fn sends_one(sender: &mut BusSender<'_>) -> bool {
+    let put = sender.put(b"abc");
+    put.is_ok() && matches!(sent(sender), Turn::Delivered { .. })
+}
+
+/// Sends 20 messages, each in a tenure of its own, and says how many were delivered.
+fn sends_twenty(sender: &mut BusSender<'_>) -> u32 {
+    let mut delivered = 0u32;
+    for _ in 0..20 {
+        if sends_one(sender) {
+            delivered = delivered.saturating_add(1);
+        }
+    }
+    delivered
+}
+
+/// The same of a sender of its own.
+fn sends_and_stays(mut sender: BusSender<'_>) -> u32 {
+    sends_twenty(&mut sender)
+}
+
+/// Whether twenty messages were delivered, and then the leave mark sent.
+fn sends_and_leaves(mut sender: BusSender<'_>) -> bool {
+    let delivered = sends_twenty(&mut sender);
+    let asked = sender.leave();
+    delivered == 20 && asked.is_ok() && matches!(sent(&mut sender), Turn::Left { .. })
+}
+
+/// What there is in the log is noted.
+fn hears_all(rt: &impl Abort, receiver: &mut BusReceiver<'_>, heard: &mut Heard) {
+    for _ in 0..1_000 {
+        let turn = receiver.turn();
+        assert!(rt; heard.note(&turn), "{turn:?} is taken");
+    }
+    assert!(rt; receiver.turn() == RecvTurn::Empty);
+}
+
+/// How many items of a sender were noted, and whether it has left.
+fn has_noted(rt: &impl Abort, heard: &Heard, sender: u8, want: (u64, bool)) {
+    assert!(rt; sender < 64);
+    let sender = SenderNo(sender);
+    assert!(rt; (heard.count(sender), heard.has_left(sender)) == want);
+}
+
+/// Two threads send, and one leaves.
+fn one_thread_leaves<R: Threads + Wait + Abort + AllocGlobal + Sync>(rt: &R, first: FirstLine) {
+    let mut game = TwoThreads {
+        heard: Heard::new(),
+    };
+    let ended = play_on(rt, first, &mut game).expect(rt, "the page is home");
+    has_ended(rt, &ended, (20, 20, false));
+    has_noted(rt, &game.heard, 0, (20, true));
+    has_noted(rt, &game.heard, 1, (20, false));
 }
 
 #[test]
 fn one_of_two_threads_leaves(rt: HostRuntime) {
-    let shape = Shape {
-        rows: 64,
-        log_words: 1024,
-        ..TWO
-    };
-    let made = Bus::<ThreeWord>::new(rt.alloc(), shape).expect(&rt, "memory");
-    one_thread_leaves::<ThreeWord, HostRuntime>(&rt, made);
-}
-
-#[test]
-fn one_of_two_threads_leaves_where_rows_are_used_again(rt: HostRuntime) {
-    let shape = Shape {
-        rows: 2,
-        log_words: 1024,
-        ..TWO
-    };
-    let made = Bus::<ThreeWord>::cyclic(rt.alloc(), shape, None).expect(&rt, "memory");
-    one_thread_leaves::<ThreeWord, HostRuntime>(&rt, made);
+    one_thread_leaves(&rt, FirstLine::Shape(TWO));
+    one_thread_leaves(&rt, FirstLine::Cycle(TWO_AGAIN));
 }

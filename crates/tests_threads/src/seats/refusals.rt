@@ -1,0 +1,75 @@
+//! Shapes and pages of which no bus is made, and what comes where memory is refused.
+
+use super::*;
+use bus_pageslot::Bus;
+use bus_tenure::Page;
+use bus_world::MakeFault;
+use std::alloc::Global;
+
+/// How many senders and receivers a bus has that a first line asks for, after this page, if after
+/// any; or why there is none.
+fn many(alloc: Global, line: FirstLine, page: Option<&Page>) -> Result<(usize, usize), MakeFault> {
+    let made = match (line, page) {
+        (FirstLine::Shape(shape), None) => Bus::<ThreeWord>::new(alloc, shape),
+        (FirstLine::Shape(shape), Some(page)) => Bus::<ThreeWord>::after(alloc, shape, page),
+        (FirstLine::Cycle(shape), page) => Bus::<ThreeWord>::cyclic(alloc, shape, page),
+    };
+    let (_, senders, taps) = made?;
+    Ok((senders.len(), taps.len()))
+}
+
+#[test]
+fn as_many_as_the_shape_says_unless_memory_is_refused(rt: HostRuntime) {
+    match many(rt.alloc(), FirstLine::Shape(TWO), None) {
+        Ok(many) => assert_eq!(rt; many, (2, 1)),
+        Err(fault) => assert_eq!(rt; fault, MakeFault::NoMemory),
+    }
+}
+
+#[test]
+fn shapes_that_are_refused(rt: HostRuntime) {
+    let receivers = Shape {
+        receivers: 9,
+        ..TWO
+    };
+    let senders = Shape { senders: 65, ..TWO };
+    let rounds = Shape { rounds: 0, ..TWO };
+    for (line, fault) in [
+        (FirstLine::Shape(receivers), MakeFault::Receivers),
+        (FirstLine::Shape(senders), MakeFault::Senders),
+        (FirstLine::Shape(rounds), MakeFault::Rounds),
+        (FirstLine::Shape(Shape { rows: 0, ..TWO }), MakeFault::Rows),
+        (FirstLine::Cycle(Shape { rows: 0, ..TWO }), MakeFault::Rows),
+        (FirstLine::Cycle(Shape { rows: 1, ..TWO }), MakeFault::Rows),
+        (FirstLine::Cycle(Shape { rows: 9, ..TWO }), MakeFault::Rows),
+    ] {
+        assert!(rt; many(rt.alloc(), line, None) == Err(fault));
+    }
+}
+
+/// The page of an order that all have left, and whose sender 63 has this next number.
+fn page_with(next: u64, ended: bool) -> Page {
+    let mut numbers = [0; 64];
+    numbers[63] = next;
+    Page {
+        next: numbers,
+        left: [true; 64],
+        ended,
+        tenures: 1,
+        words: 2,
+    }
+}
+
+#[test]
+fn pages_that_are_refused(rt: HostRuntime) {
+    let most = 0xffff_fffe_ffff;
+    for (page, want) in [
+        (page_with(0, false), Err(MakeFault::NotEnded)),
+        (page_with(most + 1, true), Err(MakeFault::Numbers)),
+        (page_with(most, true), Ok((2, 1))),
+    ] {
+        for line in [FirstLine::Shape(TWO), FirstLine::Cycle(TWO_AGAIN)] {
+            assert!(rt; many(rt.alloc(), line, Some(&page)) == want);
+        }
+    }
+}
