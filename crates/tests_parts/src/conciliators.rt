@@ -1,11 +1,12 @@
 //! Steps of coins and conciliators with known answers, and a table against a plain model.
 
-ghost use Rattle.std.specs.Prelude.{◌≡◌, ◌<◌};
-ghost use Rattle.bus_register.specs.Words.{register};
+ghost use Rattle.std.specs.Prelude.{◌<◌};
 
+use crate::steps::{next_random, step, words};
 use bus_coinconc::Conciliator;
 use bus_register::{Cells, Kind, Machine, Op, Reg, SenderNo};
 use bus_walkcoin::{Tally, WalkCoin, total};
+use std::alloc::Global;
 use std::process::Abort;
 
 /// A machine of either sort.
@@ -15,46 +16,11 @@ enum Process {
     Conciliator(Conciliator),
 }
 
-/// The place of the word that a step touches.
-fn place(op: Op) -> u64
-    ensures { result ≡ register op }
-{
-    match op {
-        Op::Load(at) => at.0,
-        Op::Store(at, _) => at.0,
-        Op::Add(at, _) => at.0,
-        Op::Cas(at, _, _) => at.0,
-    }
-}
-
-/// The next step of a machine, taken on the words.
-fn step_machine<M: Machine>(
-    rt: &impl Abort,
-    cells: &mut Cells,
-    machine: &mut M,
-    word: u32,
-) -> Option<Op> {
-    match machine.next(word) {
-        None => None,
-        Some(op) => {
-            assert!(rt; place(op) < cells.len());
-            if let Op::Add(at, value) = op {
-                assert!(rt;
-                    value <= u64::MAX - cells.get(at),
-                    "a vote passes no word's range"
-                );
-            }
-            let got = cells.apply(op);
-            machine.feed(got, word);
-            Some(op)
-        }
-    }
-}
-
-fn step(rt: &impl Abort, cells: &mut Cells, process: &mut Process, word: u32) -> Option<Op> {
+/// Takes the next step of a process, and gives it.
+fn take(rt: &impl Abort, cells: &mut Cells, process: &mut Process, word: u32) -> Option<Op> {
     match process {
-        Process::Coin(coin) => step_machine(rt, cells, coin, word),
-        Process::Conciliator(conciliator) => step_machine(rt, cells, conciliator, word),
+        Process::Coin(coin) => step(rt, cells, coin, word),
+        Process::Conciliator(conciliator) => step(rt, cells, conciliator, word),
     }
 }
 
@@ -79,71 +45,109 @@ fn kind(process: &Process) -> Option<Kind> {
     }
 }
 
+/// A process of a coin of so many, whose counter is this word.
+fn coin(rt: &impl Abort, n: u64, at: u64) -> Process {
+    assert!(rt; n <= 8);
+    Process::Coin(WalkCoin::start(n, SenderNo(0), Reg(at)))
+}
+
+/// A process of a conciliator of so many with this input, whose words begin with this one.
+fn conciliator(rt: &impl Abort, n: u64, me: u8, input: bool, at: u64) -> Process {
+    assert!(rt; n <= 8 && at < 8);
+    Process::Conciliator(Conciliator::start(n, SenderNo(me), input, Reg(at)))
+}
+
 /// Steps to the end, with these two random words by turns, one for each vote. Gives how many steps
 /// were taken.
-fn run(rt: &impl Abort, cells: &mut Cells, process: &mut Process, words: [u32; 2]) -> u64 {
+fn run(rt: &impl Abort, cells: &mut Cells, process: &mut Process, random: [u32; 2]) -> u64 {
     let mut taken: u64 = 0;
     let mut first = true;
     for _ in 0..1000 {
-        let word = if first { words[0] } else { words[1] };
+        let word = if first { random[0] } else { random[1] };
         if wants_word(process) {
             first = !first;
         }
-        if step(rt, cells, process, word).is_some() {
+        if take(rt, cells, process, word).is_some() {
             taken = taken.wrapping_add(1);
         }
     }
     taken
 }
 
+/// A process that steps alone, with these random words by turns, ends after so many steps with
+/// this output.
+fn ends(
+    rt: &impl Abort,
+    cells: &mut Cells,
+    mut process: Process,
+    random: [u32; 2],
+    steps: u64,
+    wanted: bool,
+) {
+    assert_eq!(rt; run(rt, cells, &mut process, random), steps);
+    assert_eq!(rt; output(&process), Some(wanted));
+}
+
 #[test]
-fn coin_and_conciliator_steps(rt: HostRuntime) {
-    let tally = Tally::of_word(0x0000_0003_0000_0002);
-    assert!(rt; tally == Tally { heads: 3, tails: 2 });
-    assert!(rt; tally.word() == 0x0000_0003_0000_0002);
-    assert!(rt; tally.vote(true) == Tally { heads: 4, tails: 2 });
+fn tallies_are_words(rt: HostRuntime) {
+    assert!(rt; Tally::of_word(0x0000_0003_0000_0002) == Tally { heads: 3, tails: 2 });
+    assert!(rt; Tally { heads: 3, tails: 2 }.word() == 0x0000_0003_0000_0002);
     assert!(rt; Tally::add_word(true) == 0x0000_0001_0000_0000);
     assert!(rt; Tally::add_word(false) == 1);
+}
+
+#[test]
+fn tallies_are_added(rt: HostRuntime) {
+    let tally = Tally { heads: 3, tails: 2 };
+    assert!(rt; tally.vote(true) == Tally { heads: 4, tails: 2 });
     assert!(rt; total(&[tally, Tally { heads: 0, tails: 4 }]) == -3);
+}
 
-    let mut cells = Cells::new(rt.alloc(), 1).expect(&rt, "memory");
-    let mut coin = Process::Coin(WalkCoin::start(1, SenderNo(0), Reg(0)));
-    assert!(rt; run(&rt, &mut cells, &mut coin, [1, 1]) == 4);
-    assert!(rt; output(&coin) == Some(true));
+#[test]
+fn coin_steps(rt: HostRuntime) {
+    assert_eq!(rt; WalkCoin::width(2), 1);
+    ends(&rt, &mut words(&rt, 1), coin(&rt, 1, 0), [1, 1], 4, true);
+    ends(&rt, &mut words(&rt, 1), coin(&rt, 1, 0), [1, 0], 128, false);
+    let mut cells = words(&rt, 1);
+    ends(&rt, &mut cells, coin(&rt, 2, 0), [1, 1], 8, true);
+    ends(&rt, &mut cells, coin(&rt, 2, 0), [0, 0], 16, false);
+}
 
-    let mut cells = Cells::new(rt.alloc(), 1).expect(&rt, "memory");
-    let mut coin = Process::Coin(WalkCoin::start(1, SenderNo(0), Reg(0)));
-    assert!(rt; run(&rt, &mut cells, &mut coin, [1, 0]) == 128);
-    assert!(rt; output(&coin) == Some(false));
-
-    assert!(rt; WalkCoin::width(2) == 1);
-    let mut cells = Cells::new(rt.alloc(), 1).expect(&rt, "memory");
-    let mut coin = Process::Coin(WalkCoin::start(2, SenderNo(0), Reg(0)));
-    assert!(rt; run(&rt, &mut cells, &mut coin, [1, 1]) == 8);
-    assert!(rt; output(&coin) == Some(true));
-    let mut coin = Process::Coin(WalkCoin::start(2, SenderNo(0), Reg(0)));
-    assert!(rt; run(&rt, &mut cells, &mut coin, [0, 0]) == 16);
-    assert!(rt; output(&coin) == Some(false));
-
-    assert!(rt; Conciliator::width(2) == 3);
-    let mut cells = Cells::new(rt.alloc(), 3).expect(&rt, "memory");
+#[test]
+fn conciliator_steps(rt: HostRuntime) {
+    assert_eq!(rt; Conciliator::width(2), 3);
+    let mut cells = words(&rt, 3);
     for me in 0..2 {
-        let mut process = Process::Conciliator(Conciliator::start(2, SenderNo(me), true, Reg(0)));
-        assert!(rt; run(&rt, &mut cells, &mut process, [0, 0]) == 2);
-        assert!(rt; output(&process) == Some(true));
+        ends(
+            &rt,
+            &mut cells,
+            conciliator(&rt, 2, me, true, 0),
+            [0, 0],
+            2,
+            true,
+        );
     }
-
-    let mut cells = Cells::new(rt.alloc(), 3).expect(&rt, "memory");
-    let mut process = Process::Conciliator(Conciliator::start(2, SenderNo(0), false, Reg(0)));
-    assert!(rt; run(&rt, &mut cells, &mut process, [1, 1]) == 2);
-    assert!(rt; output(&process) == Some(false));
-    let mut process = Process::Conciliator(Conciliator::start(2, SenderNo(1), true, Reg(0)));
-    assert!(rt; run(&rt, &mut cells, &mut process, [0, 0]) == 10);
-    assert!(rt; output(&process) == Some(false));
+    let mut cells = words(&rt, 3);
+    ends(
+        &rt,
+        &mut cells,
+        conciliator(&rt, 2, 0, false, 0),
+        [1, 1],
+        2,
+        false,
+    );
+    ends(
+        &rt,
+        &mut cells,
+        conciliator(&rt, 2, 1, true, 0),
+        [0, 0],
+        10,
+        false,
+    );
 }
 
 /// What a process of the plain model does next.
-#[derive(Clone, Copy, Debug, PartialEq, Eq)]
+#[derive(Clone, Copy, PartialEq, Eq)]
 enum Act {
     SetMark,
     ReadOtherMark,
@@ -257,24 +261,53 @@ fn plain_step(n: u64, mut plain: Plain, board: Board) -> Plain {
     plain
 }
 
-/// The next number of a fixed sequence (Knuth's MMIX generator).
-fn next_random(state: u64) -> u64 {
-    state
-        .wrapping_mul(6364136223846793005)
-        .wrapping_add(1442695040888963407)
+/// The counter of the processes that play beside the plain model.
+const COUNTER: u64 = 5;
+
+/// A process, and beside it that of the plain model.
+#[derive(Drop)]
+struct Seat {
+    process: Process,
+    plain: Plain,
 }
 
-/// Steps by random turns and random words, with the plain model beside. Gives how many processes
-/// have an output in the end, and how many of these used up their votes.
-fn play_beside_model(
-    rt: &impl Abort,
-    cells: &mut Cells,
-    processes: &mut [Process],
-    plains: &mut [Plain],
-    counter: u64,
-    seed: u64,
-) -> (u64, u64) {
-    let n = processes.len() as u64;
+impl Seat {
+    /// A process of a coin or of a conciliator of so many, before its first step.
+    fn new(rt: &impl Abort, n: u64, me: u8, input: bool, is_coin: bool) -> Seat {
+        let (process, act) = if is_coin {
+            (coin(rt, n, COUNTER), Act::Vote)
+        } else {
+            (conciliator(rt, n, me, input, COUNTER - 2), Act::SetMark)
+        };
+        let plain = Plain {
+            input,
+            act,
+            votes: 0,
+            output: None,
+        };
+        Seat { process, plain }
+    }
+
+    /// What the process tells of itself is what the model has.
+    fn compare(&self, rt: &impl Abort) {
+        assert!(rt; wants_word(&self.process) == (self.plain.act == Act::Vote));
+        assert!(rt; kind(&self.process) == plain_kind(self.plain));
+        assert!(rt; output(&self.process) == self.plain.output);
+    }
+
+    /// Takes a step of the process on the words, and of the model on the board.
+    fn step(&mut self, rt: &impl Abort, n: u64, cells: &mut Cells, board: &mut Board, word: u32) {
+        let op = take(rt, cells, &mut self.process, word);
+        assert!(rt; op == plain_op(COUNTER, self.plain, word));
+        let before = self.plain;
+        self.plain = plain_step(n, before, *board);
+        *board = plain_board(before, *board, word);
+    }
+}
+
+/// Steps by random turns and random words, with the plain model beside.
+fn play(rt: &impl Abort, cells: &mut Cells, seats: &mut [Seat], seed: u64) {
+    let n = seats.len() as u64;
     let mut board = Board {
         marks: [false, false],
         heads: 0,
@@ -286,76 +319,44 @@ fn play_beside_model(
         let eighth = ((state >> 33) % 8) as usize;
         let turn = if seed % 2 == 0 { eighth } else { eighth / 3 };
         let word = ((state >> 20) % 0x1_0000_0000) as u32;
-        if turn < processes.len() && turn < plains.len() {
-            let plain = plains[turn];
-            assert!(rt; wants_word(&processes[turn]) == (plain.act == Act::Vote));
-            assert!(rt; kind(&processes[turn]) == plain_kind(plain));
-            let op = step(rt, cells, &mut processes[turn], word);
-            assert!(rt; op == plain_op(counter, plain, word));
-            plains[turn] = plain_step(n, plain, board);
-            board = plain_board(plain, board, word);
-            assert!(rt; output(&processes[turn]) == plains[turn].output);
+        if turn < seats.len() {
+            seats[turn].compare(rt);
+            seats[turn].step(rt, n, cells, &mut board, word);
+            seats[turn].compare(rt);
         }
     }
-    let mut ended: u64 = 0;
-    let mut used_up: u64 = 0;
-    for plain in plains {
-        if plain.output.is_some() {
-            ended = ended.wrapping_add(1);
-            if plain.votes == 64 {
-                used_up = used_up.wrapping_add(1);
-            }
+}
+
+/// Processes of one coin or conciliator, with inputs by these bits.
+fn seats<R: Abort + AllocGlobal>(rt: &R, n: u64, bits: u64, is_coin: bool) -> Vec<Seat> {
+    let mut seats = Vec::new(rt.alloc());
+    for me in 0..8u8 {
+        if u64::from(me) < n {
+            let input = (bits >> (50 + me)) & 1 == 1;
+            let seat = Seat::new(rt, n, me, input, is_coin);
+            seats.push(seat).expect(rt, "memory");
         }
     }
-    (ended, used_up)
+    seats
 }
 
 #[test]
 fn random_schedules(rt: HostRuntime) {
     let mut state: u64 = 1;
-    let mut ended: u64 = 0;
-    let mut used_up: u64 = 0;
+    let mut ended: usize = 0;
+    let mut used_up: usize = 0;
     for round in 0..200u64 {
         state = next_random(state);
-        let n = 1 + (state >> 40) % 8;
-        let mut cells = Cells::new(rt.alloc(), 16).expect(&rt, "memory");
-        let mut processes: Vec<Process> = Vec::new(rt.alloc());
-        let mut plains: Vec<Plain> = Vec::new(rt.alloc());
-        for me in 0..8u8 {
-            if u64::from(me) < n {
-                let input = (state >> (50 + me)) & 1 == 1;
-                let (process, act) = if round % 2 == 0 {
-                    (
-                        Process::Coin(WalkCoin::start(n, SenderNo(0), Reg(5))),
-                        Act::Vote,
-                    )
-                } else {
-                    (
-                        Process::Conciliator(Conciliator::start(n, SenderNo(me), input, Reg(3))),
-                        Act::SetMark,
-                    )
-                };
-                processes.push(process).expect(&rt, "memory");
-                plains
-                    .push(Plain {
-                        input,
-                        act,
-                        votes: 0,
-                        output: None,
-                    })
-                    .expect(&rt, "memory");
+        let mut seats = seats(&rt, 1 + (state >> 40) % 8, state, round % 2 == 0);
+        play(&rt, &mut words(&rt, 16), &mut seats, state);
+        for seat in &seats {
+            if seat.plain.output.is_some() {
+                ended = ended.wrapping_add(1);
+                if seat.plain.votes == 64 {
+                    used_up = used_up.wrapping_add(1);
+                }
             }
         }
-        let (outputs, by_votes) = play_beside_model(
-            &rt,
-            &mut cells,
-            &mut processes,
-            &mut plains,
-            5,
-            state,
-        );
-        ended = ended.wrapping_add(outputs);
-        used_up = used_up.wrapping_add(by_votes);
     }
     assert!(rt; ended > 400, "the schedules are long enough: {ended}");
     assert!(rt; used_up > 0, "some answers come after all votes: {used_up}");

@@ -1,5 +1,6 @@
 //! Turns of one sender over words of its own.
 
+use crate::steps::{apply, words};
 use bus_adoptcommit::ThreeWord;
 use bus_batch::{CloseFault, PutFault};
 use bus_core::SenderCore;
@@ -8,13 +9,29 @@ use bus_register::limits::MOST_SENDERS;
 use bus_register::{Cells, Kind, Op, Reg, SenderNo};
 use bus_tenure::{OwnedPage, Page, Turn};
 use std::process::Abort;
-use std::test::Fail;
 
-/// The word of the log's length.
-const LENGTH: Reg = Reg(0);
+/// A sender of a bus of one round, whose log has 16 words.
+type Core = SenderCore<ThreeWord>;
 
-/// The word of the stage.
-const STAGE: Reg = Reg(1);
+/// The first of two senders, where there is one row.
+fn first_of_two() -> Core {
+    SenderCore::new(2, SenderNo(0), 1, 1, 16, 0)
+}
+
+/// The second of two senders, where there are four rows.
+fn second_of_two() -> Core {
+    SenderCore::new(2, SenderNo(1), 1, 4, 16, 0)
+}
+
+/// The only sender, where there is one row.
+fn only_one() -> Core {
+    SenderCore::new(1, SenderNo(0), 1, 1, 16, 0)
+}
+
+/// The second of two senders, where two rows are used again.
+fn cyclic() -> Core {
+    SenderCore::cyclic(2, SenderNo(1), 1, 2, 16, 0)
+}
 
 /// The page of a bus that has had no tenure.
 fn first_page() -> Page {
@@ -27,285 +44,288 @@ fn first_page() -> Page {
     }
 }
 
+/// The step that is due found this.
+fn feeds(rt: &impl Abort, core: &mut Core, found: u64) -> Turn {
+    assert!(rt; core.next(0).is_some());
+    core.feed(found, 0)
+}
+
+/// The step that is due.
+fn due(core: &Core) -> Option<Op> {
+    core.next(0)
+}
+
+/// The answer where no step is due.
+fn rests(core: &Core) -> Turn {
+    core.rest()
+}
+
 /// Takes the next step on the words, where one is due.
-fn step(rt: &impl Abort, core: &mut SenderCore<ThreeWord>, cells: &mut Cells) -> Turn {
-    let Some(op) = core.next(0) else {
-        return core.rest();
+fn step(rt: &impl Abort, core: &mut Core, cells: &mut Cells) -> Turn {
+    let Some(op) = due(core) else {
+        return rests(core);
     };
-    let place = match op {
-        Op::Load(at) | Op::Store(at, _) | Op::Add(at, _) | Op::Cas(at, _, _) => at.0,
-    };
-    assert!(rt; place < cells.len());
-    if let Op::Add(at, value) = op {
-        assert!(rt; value <= u64::MAX - cells.get(at));
-    }
-    let got = cells.apply(op);
-    core.feed(got, 0)
+    let found = apply(rt, cells, op);
+    feeds(rt, core, found)
 }
 
-/// What a word is.
-fn word(rt: &impl Abort, cells: &Cells, at: Reg) -> u64 {
-    assert!(rt; at.0 < cells.len());
-    cells.get(at)
-}
-
-/// Takes turns until one answers anything but Going.
-fn turns(rt: &impl Abort, core: &mut SenderCore<ThreeWord>, cells: &mut Cells) -> Turn {
+/// Takes turns until one answers anything but Going, and wants this answer.
+fn comes_to(rt: &impl Abort, core: &mut Core, cells: &mut Cells, want: Turn) {
+    let mut turn = Turn::Going;
     for _ in 0..100 {
-        let turn = step(rt, core, cells);
-        if turn != Turn::Going {
-            return turn;
+        if turn == Turn::Going {
+            turn = step(rt, core, cells);
         }
     }
-    Turn::Going
+    assert_eq!(rt; turn, want);
 }
 
-/// Wants that the next step is of this kind, and answers this.
-fn takes(
-    rt: &impl Abort,
-    core: &mut SenderCore<ThreeWord>,
-    cells: &mut Cells,
-    kind: Kind,
-    want: Turn,
-) {
+/// Takes steps of these kinds, of which each but the last answers Going, and the last this.
+fn takes(rt: &impl Abort, core: &mut Core, cells: &mut Cells, kinds: &[Kind], want: Turn) {
+    let mut turn = Turn::Going;
+    for kind in kinds {
+        assert_eq!(rt; turn, Turn::Going);
+        is_due(rt, core, *kind);
+        turn = step(rt, core, cells);
+    }
+    assert_eq!(rt; turn, want);
+}
+
+/// The next step is of this kind.
+fn is_due(rt: &impl Abort, core: &Core, kind: Kind) {
     assert_eq!(rt; core.kind(), Some(kind));
-    assert_eq!(rt; step(rt, core, cells), want);
 }
 
-/// Wants that a message is taken with this number.
-fn puts(rt: &impl Abort, core: &mut SenderCore<ThreeWord>, bytes: &[u8], number: u64) {
-    assert!(rt; core.next_number() < 16);
-    assert_eq!(rt; core.put(bytes), Ok(number));
-    assert_eq!(rt; core.next_number(), number.saturating_add(1));
+/// Puts a message.
+fn put(rt: &impl Abort, core: &mut Core, bytes: &[u8]) -> Result<u64, PutFault> {
+    assert!(rt; core.next_number() < 100);
+    core.put(bytes)
 }
 
-/// Wants this tenure, so many turns that are left of its election, and no random word.
-fn stands_in(rt: &impl Abort, core: &SenderCore<ThreeWord>, tenure: Option<u64>, turns: u64) {
+/// A message is taken with this number, or refused so.
+fn puts(rt: &impl Abort, core: &mut Core, bytes: &[u8], want: Result<u64, PutFault>) {
+    assert_eq!(rt; put(rt, core, bytes), want);
+}
+
+/// Lets an end mark wait.
+fn close(core: &mut Core) -> Result<(), CloseFault> {
+    core.close()
+}
+
+/// Lets its leave mark wait.
+fn leave(core: &mut Core) -> Result<(), CloseFault> {
+    core.leave()
+}
+
+/// What it says of itself: that an end mark waits, that its leave mark waits, that it has closed.
+fn stands(rt: &impl Abort, core: &Core, closing: bool, leaving: bool, closed: bool) {
+    assert!(rt; core.is_closing() == closing);
+    assert!(rt; core.is_leaving() == leaving);
+    assert!(rt; core.is_closed() == closed);
+}
+
+/// An end mark waits.
+fn closes(rt: &impl Abort, core: &mut Core) {
+    assert_eq!(rt; close(core), Ok(()));
+    stands(rt, core, true, false, false);
+}
+
+/// A leave mark waits.
+fn leaves(rt: &impl Abort, core: &mut Core) {
+    assert_eq!(rt; leave(core), Ok(()));
+    stands(rt, core, false, true, false);
+}
+
+/// It has closed or left, and takes no mark.
+fn is_closed(rt: &impl Abort, core: &mut Core) {
+    stands(rt, core, false, false, true);
+    assert_eq!(rt; leave(core), Err(CloseFault::Closed));
+}
+
+/// So many messages wait.
+fn keeps(rt: &impl Abort, core: &Core, messages: u64) {
+    assert_eq!(rt; core.pending(), messages);
+    assert_eq!(rt; core.waiting().len() as u64, messages);
+}
+
+/// It is in this tenure, with so many turns that are left of its election, and wants no random
+/// word.
+fn stands_in(rt: &impl Abort, core: &Core, tenure: Option<u64>, turns: u64) {
     assert_eq!(rt; core.tenure(), tenure);
     assert_eq!(rt; core.turns_left(), turns);
     assert!(rt; !core.wants_word());
 }
 
-/// It takes the page of a bus that has had no tenure.
-fn lays<R: Abort + AllocGlobal>(rt: &R, core: &mut SenderCore<ThreeWord>) {
+/// Its pin is this.
+fn pins(rt: &impl Abort, core: &Core, pin: Pin) {
+    assert_eq!(rt; core.pin(), Some(pin));
+}
+
+/// It takes this page.
+fn lays<R: Abort + AllocGlobal>(rt: &R, core: &mut Core, page: Page) {
+    let page = OwnedPage::new(rt.alloc(), page).expect(rt, "memory");
     assert!(rt; core.awaits_page());
-    let page = OwnedPage::new(rt.alloc(), first_page());
-    core.lay(page.expect(rt, "memory"));
+    core.lay(page);
 }
 
-/// The page that goes home has one message of sender 0, in three words of one tenure.
-fn gives_page(rt: &impl Abort, core: &mut SenderCore<ThreeWord>) {
-    let taken = core.take_out().expect(rt, "the page");
-    let page = taken.get();
-    assert_eq!(rt; (page.next[0], page.next[1]), (1, 0));
-    assert_eq!(rt; (page.tenures, page.words), (1, 3));
+/// It comes to own tenure 0, and takes this page.
+fn owns<R: Abort + AllocGlobal>(rt: &R, core: &mut Core, cells: &mut Cells, page: Page) {
+    comes_to(rt, core, cells, Turn::Own { tenure: 0 });
+    lays(rt, core, page);
 }
 
-/// Nothing waits, and what is put then finds no tenure.
-fn is_done(rt: &impl Abort, core: &mut SenderCore<ThreeWord>) {
-    assert_eq!(rt; core.number().0, 0);
-    assert_eq!(rt; core.pending(), 0);
-    assert_eq!(rt; core.rest(), Turn::Idle);
-    puts(rt, core, b"b", 1);
-    assert_eq!(rt; core.rest(), Turn::Spent);
+/// The page that goes home.
+fn page_home(rt: &impl Abort, core: &mut Core) -> Page {
+    let page = core.take_out().expect(rt, "the page");
+    *page.get()
+}
+
+/// The page after the first tenure: what it says of senders 0 and 1, and how many words there are.
+fn says(rt: &impl Abort, page: Page, next: [u64; 2], left: [bool; 2], words: u64) {
+    assert_eq!(rt; [page.next[0], page.next[1]], next);
+    assert_eq!(rt; [page.left[0], page.left[1]], left);
+    assert_eq!(rt; (page.tenures, page.words, page.ended), (1, words, false));
+}
+
+/// What a word is.
+fn word(rt: &impl Abort, cells: &Cells, at: u64) -> u64 {
+    assert!(rt; at < cells.len());
+    cells.get(Reg(at))
+}
+
+/// The words of the log's length and of the stage are these.
+fn lengths(rt: &impl Abort, cells: &Cells, length: u64, stage: u64) {
+    assert_eq!(rt; word(rt, cells, 0), length);
+    assert_eq!(rt; word(rt, cells, 1), stage);
 }
 
 #[test]
-fn alone_in_the_first_tenure(rt: HostRuntime) -> Result<(), Fail> {
-    let mut cells = Cells::new(rt.alloc(), 40)?;
-    let mut core = SenderCore::<ThreeWord>::new(2, SenderNo(0), 1, 1, 16, 0);
-    puts(&rt, &mut core, b"a", 0);
+fn alone_in_the_first_tenure(rt: HostRuntime) {
+    let mut cells = words(&rt, 80);
+    let mut core = first_of_two();
+    puts(&rt, &mut core, b"a", Ok(0));
     stands_in(&rt, &core, None, 0);
-    takes(&rt, &mut core, &mut cells, Kind::LoadStage, Turn::Going);
+    takes(&rt, &mut core, &mut cells, &[Kind::LoadStage], Turn::Going);
     stands_in(&rt, &core, Some(0), 9);
-    assert_eq!(rt; turns(&rt, &mut core, &mut cells), Turn::Own { tenure: 0 });
-    assert_eq!(rt; word(&rt, &cells, STAGE), 1);
-    lays(&rt, &mut core);
-    for _ in 0..3 {
-        takes(&rt, &mut core, &mut cells, Kind::StoreLogWord, Turn::Going);
-    }
-    takes(&rt, &mut core, &mut cells, Kind::StoreLength, Turn::Going);
-    assert_eq!(rt; word(&rt, &cells, LENGTH), 3);
-    gives_page(&rt, &mut core);
+    owns(&rt, &mut core, &mut cells, first_page());
+    lengths(&rt, &cells, 0, 1);
+    let stores = [
+        Kind::StoreLogWord,
+        Kind::StoreLogWord,
+        Kind::StoreLogWord,
+        Kind::StoreLength,
+    ];
+    takes(&rt, &mut core, &mut cells, &stores, Turn::Going);
+    lengths(&rt, &cells, 3, 1);
+    let page = page_home(&rt, &mut core);
+    says(&rt, page, [1, 0], [false, false], 3);
     let delivered = Turn::Delivered {
         tenure: 0,
         first: 0,
         last: 0,
     };
-    assert_eq!(rt; step(&rt, &mut core, &mut cells), delivered);
-    assert_eq!(rt; word(&rt, &cells, STAGE), 2);
-    is_done(&rt, &mut core);
-    Ok(())
+    comes_to(&rt, &mut core, &mut cells, delivered);
+    lengths(&rt, &cells, 3, 2);
+    keeps(&rt, &core, 0);
+    assert_eq!(rt; rests(&core), Turn::Idle);
+    puts(&rt, &mut core, b"b", Ok(1));
+    assert_eq!(rt; rests(&core), Turn::Spent);
 }
 
 #[test]
-fn a_held_stage_makes_it_wait(rt: HostRuntime) -> Result<(), Fail> {
-    let mut core = SenderCore::<ThreeWord>::new(2, SenderNo(1), 1, 4, 16, 0);
-    assert_eq!(rt; core.rest(), Turn::Idle);
-    assert!(rt; core.put(b"").is_ok());
-    assert!(rt; core.next(0).is_some());
-    assert_eq!(rt; core.feed(3, 0), Turn::Waiting);
-    assert!(rt; core.next(0).is_some());
-    assert_eq!(rt; core.feed(8, 0), Turn::Spent);
-    assert_eq!(rt; core.rest(), Turn::Spent);
-    Ok(())
+fn a_held_stage_makes_it_wait(rt: HostRuntime) {
+    let mut core = second_of_two();
+    assert_eq!(rt; core.number(), SenderNo(1));
+    puts(&rt, &mut core, b"", Ok(0));
+    assert_eq!(rt; feeds(&rt, &mut core, 3), Turn::Waiting);
+    assert_eq!(rt; feeds(&rt, &mut core, 8), Turn::Spent);
 }
 
 #[test]
-fn its_end_mark_closes_it(rt: HostRuntime) -> Result<(), Fail> {
-    let mut cells = Cells::new(rt.alloc(), 40)?;
-    let mut core = SenderCore::<ThreeWord>::new(1, SenderNo(0), 1, 2, 16, 0);
-    assert!(rt; core.close().is_ok());
-    assert!(rt; core.is_closing());
-    assert_eq!(rt; turns(&rt, &mut core, &mut cells), Turn::Own { tenure: 0 });
-    assert!(rt; core.awaits_page());
-    core.lay(OwnedPage::new(rt.alloc(), first_page())?);
-    assert_eq!(rt; turns(&rt, &mut core, &mut cells), Turn::Closed);
-    assert_eq!(rt; core.rest(), Turn::Closed);
-    assert!(rt; core.is_closed());
-    Ok(())
-}
-
-/// It takes neither a message nor a mark.
-fn takes_nothing(rt: &impl Abort, core: &mut SenderCore<ThreeWord>) {
-    assert!(rt; core.next_number() < 16);
-    assert_eq!(rt; core.put(b"b"), Err(PutFault::Closed));
-    assert_eq!(rt; core.close(), Err(CloseFault::Closed));
-    assert_eq!(rt; core.leave(), Err(CloseFault::Closed));
-}
-
-/// The only one of two senders has sent its leave mark, of two words, in tenure 0.
-fn page_it_left(rt: &impl Abort, page: &Page) {
-    assert_eq!(rt; (page.left[0], page.left[1]), (true, false));
-    assert_eq!(rt; (page.next[0], page.ended), (0, false));
-    assert_eq!(rt; (page.tenures, page.words), (1, 2));
+fn its_end_mark_closes_it(rt: HostRuntime) {
+    let mut cells = words(&rt, 80);
+    let mut core = only_one();
+    closes(&rt, &mut core);
+    owns(&rt, &mut core, &mut cells, first_page());
+    comes_to(&rt, &mut core, &mut cells, Turn::Closed);
+    is_closed(&rt, &mut core);
 }
 
 #[test]
-fn its_leave_mark_closes_it(rt: HostRuntime) -> Result<(), Fail> {
-    let mut cells = Cells::new(rt.alloc(), 40)?;
-    let mut core = SenderCore::<ThreeWord>::new(2, SenderNo(0), 1, 2, 16, 0);
-    assert_eq!(rt; core.leave(), Ok(()));
-    assert!(rt; core.is_leaving() && !core.is_closing() && !core.is_closed());
-    takes_nothing(&rt, &mut core);
-    assert_eq!(rt; turns(&rt, &mut core, &mut cells), Turn::Own { tenure: 0 });
-    assert!(rt; core.awaits_page());
-    core.lay(OwnedPage::new(rt.alloc(), first_page())?);
-    for _ in 0..3 {
-        assert_eq!(rt; step(&rt, &mut core, &mut cells), Turn::Going);
+fn its_leave_mark_closes_it(rt: HostRuntime) {
+    let mut cells = words(&rt, 80);
+    let mut core = first_of_two();
+    leaves(&rt, &mut core);
+    puts(&rt, &mut core, b"b", Err(PutFault::Closed));
+    owns(&rt, &mut core, &mut cells, first_page());
+    let stores = [Kind::StoreLogWord, Kind::StoreLogWord, Kind::StoreLength];
+    takes(&rt, &mut core, &mut cells, &stores, Turn::Going);
+    let page = page_home(&rt, &mut core);
+    says(&rt, page, [0, 0], [true, false], 2);
+    comes_to(&rt, &mut core, &mut cells, Turn::Left { tenure: 0 });
+    lengths(&rt, &cells, 2, 2);
+    is_closed(&rt, &mut core);
+}
+
+/// A sender that is to leave comes to this answer where it finds this page.
+fn leaves_by<R: Abort + AllocGlobal>(rt: &R, page: Page, want: Turn) {
+    let mut cells = words(rt, 80);
+    let mut core = only_one();
+    leaves(rt, &mut core);
+    owns(rt, &mut core, &mut cells, page);
+    comes_to(rt, &mut core, &mut cells, want);
+}
+
+#[test]
+fn a_leave_mark_by_the_page_that_it_finds(rt: HostRuntime) {
+    let mut page = first_page();
+    page.words = 14;
+    leaves_by(&rt, page, Turn::Left { tenure: 0 });
+    page.words = 15;
+    leaves_by(&rt, page, Turn::Full);
+    page.ended = true;
+    leaves_by(&rt, page, Turn::Closed);
+}
+
+#[test]
+fn a_late_sender_loses(rt: HostRuntime) {
+    let mut cells = words(&rt, 80);
+    let mut first = first_of_two();
+    let mut late = second_of_two();
+    puts(&rt, &mut first, b"a", Ok(0));
+    puts(&rt, &mut late, b"b", Ok(0));
+    takes(&rt, &mut late, &mut cells, &[Kind::LoadStage], Turn::Going);
+    comes_to(&rt, &mut first, &mut cells, Turn::Own { tenure: 0 });
+    let lost = Turn::Lost {
+        tenure: 0,
+        owner: SenderNo(0),
+    };
+    comes_to(&rt, &mut late, &mut cells, lost);
+    keeps(&rt, &late, 1);
+}
+
+#[test]
+fn a_full_log_keeps_the_batch(rt: HostRuntime) {
+    let mut cells = words(&rt, 80);
+    let mut core = first_of_two();
+    for number in 0..16 {
+        puts(&rt, &mut core, b"", Ok(number));
     }
-    let taken = core.take_out().expect(&rt, "the page");
-    page_it_left(&rt, taken.get());
-    assert_eq!(rt; step(&rt, &mut core, &mut cells), Turn::Left { tenure: 0 });
-    assert_eq!(rt; word(&rt, &cells, STAGE), 2);
-    assert_eq!(rt; core.rest(), Turn::Closed);
-    assert!(rt; core.is_closed() && !core.is_leaving());
-    takes_nothing(&rt, &mut core);
-    Ok(())
-}
-
-/// What a sender that is to leave answers in the end where it finds this page.
-fn leaves_by<R: Abort + AllocGlobal>(rt: &R, page: Page) -> Result<(Turn, bool), Fail> {
-    let mut cells = Cells::new(rt.alloc(), 40)?;
-    let mut core = SenderCore::<ThreeWord>::new(1, SenderNo(0), 1, 2, 16, 0);
-    assert!(rt; core.leave().is_ok());
-    assert_eq!(rt; turns(rt, &mut core, &mut cells), Turn::Own { tenure: 0 });
-    assert!(rt; core.awaits_page());
-    core.lay(OwnedPage::new(rt.alloc(), page)?);
-    let turn = turns(rt, &mut core, &mut cells);
-    assert_eq!(rt; core.is_closed(), !core.is_leaving());
-    Ok((turn, core.is_leaving()))
+    owns(&rt, &mut core, &mut cells, first_page());
+    comes_to(&rt, &mut core, &mut cells, Turn::Full);
+    keeps(&rt, &core, 16);
 }
 
 #[test]
-fn a_leave_mark_that_is_not_sent(rt: HostRuntime) -> Result<(), Fail> {
-    let ended = Page {
-        ended: true,
-        ..first_page()
-    };
-    assert_eq!(rt; leaves_by(&rt, ended)?, (Turn::Closed, false));
-    let full = Page {
-        words: 15,
-        ..first_page()
-    };
-    assert_eq!(rt; leaves_by(&rt, full)?, (Turn::Full, true));
-    let room = Page {
-        words: 14,
-        ..first_page()
-    };
-    assert_eq!(rt; leaves_by(&rt, room)?, (Turn::Left { tenure: 0 }, false));
-    Ok(())
-}
-
-#[test]
-fn a_late_sender_loses(rt: HostRuntime) -> Result<(), Fail> {
-    let mut cells = Cells::new(rt.alloc(), 40)?;
-    let mut first = SenderCore::<ThreeWord>::new(2, SenderNo(0), 1, 1, 16, 0);
-    let mut late = SenderCore::<ThreeWord>::new(2, SenderNo(1), 1, 1, 16, 0);
-    assert!(rt; first.put(b"a").is_ok());
-    assert!(rt; late.put(b"b").is_ok());
-    assert_eq!(rt; step(&rt, &mut late, &mut cells), Turn::Going);
-    assert_eq!(rt; turns(&rt, &mut first, &mut cells), Turn::Own { tenure: 0 });
-    let turn = turns(&rt, &mut late, &mut cells);
-    assert_eq!(rt;
-        turn,
-        Turn::Lost {
-            tenure: 0,
-            owner: SenderNo(0)
-        }
-    );
-    assert_eq!(rt; late.rest(), Turn::Spent);
-    assert_eq!(rt; late.pending(), 1);
-    Ok(())
-}
-
-#[test]
-fn a_full_log_keeps_the_batch(rt: HostRuntime) -> Result<(), Fail> {
-    let mut cells = Cells::new(rt.alloc(), 80)?;
-    let mut core = SenderCore::<ThreeWord>::new(2, SenderNo(0), 1, 4, 16, 0);
-    for _ in 0..16 {
-        assert!(rt; core.next_number() < 16);
-        assert!(rt; core.put(b"").is_ok());
-    }
-    assert_eq!(rt; turns(&rt, &mut core, &mut cells), Turn::Own { tenure: 0 });
-    assert!(rt; core.awaits_page());
-    core.lay(OwnedPage::new(rt.alloc(), first_page())?);
-    assert_eq!(rt; turns(&rt, &mut core, &mut cells), Turn::Full);
-    assert_eq!(rt; core.pending(), 16);
-    Ok(())
-}
-
-#[test]
-fn an_ended_page_closes_it(rt: HostRuntime) -> Result<(), Fail> {
-    let mut cells = Cells::new(rt.alloc(), 40)?;
-    let mut core = SenderCore::<ThreeWord>::new(1, SenderNo(0), 1, 2, 16, 0);
-    assert!(rt; core.put(b"a").is_ok());
-    assert_eq!(rt; turns(&rt, &mut core, &mut cells), Turn::Own { tenure: 0 });
-    assert!(rt; core.awaits_page());
-    let ended = Page {
-        ended: true,
-        ..first_page()
-    };
-    core.lay(OwnedPage::new(rt.alloc(), ended)?);
-    assert_eq!(rt; turns(&rt, &mut core, &mut cells), Turn::Closed);
-    assert!(rt; core.is_closed());
-    assert_eq!(rt; core.pending(), 1);
-    Ok(())
-}
-
-#[test]
-fn where_rows_are_used_again_it_pins_its_tenure(rt: HostRuntime) -> Result<(), Fail> {
-    let mut cells = Cells::new(rt.alloc(), 40)?;
-    let mut core = SenderCore::<ThreeWord>::cyclic(2, SenderNo(1), 1, 2, 16, 0);
+fn where_rows_are_used_again_it_pins_its_tenure(rt: HostRuntime) {
+    let mut cells = words(&rt, 80);
+    let mut core = cyclic();
     assert_eq!(rt; core.may_begin(0), Some(0));
-    assert!(rt; core.put(b"a").is_ok());
-    assert_eq!(rt; core.pin(), Some(Pin::Away));
-    assert_eq!(rt; turns(&rt, &mut core, &mut cells), Turn::Own { tenure: 0 });
-    assert_eq!(rt; core.pin(), Some(Pin::Unpinning { tenure: 0 }));
-    assert!(rt; core.awaits_page());
-    core.lay(OwnedPage::new(rt.alloc(), first_page())?);
-    assert_eq!(rt; core.kind(), Some(Kind::Withdraw));
-    assert_eq!(rt; step(&rt, &mut core, &mut cells), Turn::Going);
-    assert_eq!(rt; core.pin(), Some(Pin::Away));
-    Ok(())
+    puts(&rt, &mut core, b"a", Ok(0));
+    pins(&rt, &core, Pin::Away);
+    comes_to(&rt, &mut core, &mut cells, Turn::Own { tenure: 0 });
+    pins(&rt, &core, Pin::Unpinning { tenure: 0 });
+    lays(&rt, &mut core, first_page());
+    takes(&rt, &mut core, &mut cells, &[Kind::Withdraw], Turn::Going);
+    pins(&rt, &core, Pin::Away);
 }

@@ -25,3 +25,5 @@ mod presences;
 mod ratifiers;
 #[cfg(test)]
 mod scripts;
+#[cfg(test)]
+mod steps;

@@ -5,26 +5,31 @@ use bus_logtext::{print_words, read_log_text, words_of};
 use bus_script::Outcome;
 use std::process::Abort;
 
-/// Wants that lines are refused with this text, as a log of two senders.
+/// Lines are refused with this text, as a log of two senders.
 fn refuses<R: Abort + AllocGlobal>(rt: &R, input: &[u8], text: &str) {
     let answer = read_log_text(rt.alloc(), input, 2).expect(rt, "memory");
     assert_eq!(rt; answer.outcome, Outcome::Refused);
     assert_eq!(rt; answer.text.as_str(), text);
 }
 
+/// How many words lines are.
+fn count<R: Abort + AllocGlobal>(rt: &R, input: &[u8]) -> usize {
+    words_of(rt.alloc(), input).expect(rt, "words").len()
+}
+
+/// Appends a line.
+fn append(rt: &impl Abort, input: &mut Vec<u8>, line: &[u8]) {
+    input.extend_from_slice(line).expect(rt, "memory");
+}
+
 #[test]
 fn as_many_words_as_a_log_may_have(rt: HostRuntime) {
     let mut input = Vec::new(rt.alloc());
     for _ in 0..65_536u64 {
-        input
-            .extend_from_slice(b"0000000000000000\n")
-            .expect(&rt, "memory");
+        append(&rt, &mut input, b"0000000000000000\n");
     }
-    let words = words_of(rt.alloc(), &input).expect(&rt, "words");
-    assert_eq!(rt; words.len(), 65_536);
-    input
-        .extend_from_slice(b"0000000000000000")
-        .expect(&rt, "memory");
+    assert_eq!(rt; count(&rt, &input), 65_536);
+    append(&rt, &mut input, b"0000000000000000");
     refuses(&rt, &input, "line 65537: TooManyWords\n");
 }
 

@@ -21,85 +21,127 @@ fn item(rt: &impl Abort, sender: u8, number: u64, bytes: &[u8]) -> Item {
 #[test]
 fn an_order_is_put_together(rt: HostRuntime) {
     let mut order = Order::new(rt.alloc());
-    assert!(rt; order.leave(SenderNo(2)).is_ok());
     assert!(rt; order.push(item(&rt, 0, 0, b"a")).is_ok());
-    assert!(rt; order.push(item(&rt, 1, 0, b"b")).is_ok());
     assert!(rt; order.leave(SenderNo(1)).is_ok());
-    let left = [(SenderNo(2), 0), (SenderNo(1), 2)];
+    let left = [(SenderNo(1), 1)];
     assert_eq!(rt; order.left.as_slice(), left.as_slice());
-    assert_eq!(rt; (order.items.len(), order.ended), (2, false));
+    assert_eq!(rt; (order.items.len(), order.ended), (1, false));
 }
 
-/// How a plain reading of the words of two senders ends, by bits and counts alone: with the fault,
-/// or none where the words are a log.
-fn plain_fault(words: &[u64]) -> Option<LogFault> {
-    let (mut left, mut room, mut bytes, mut least) = (0u64, 0u64, 0u64, 0u64);
-    let mut ended = false;
-    let mut gone = [false; 2];
-    let mut owner = 0u64;
-    for (place, word) in words.iter().enumerate() {
-        let bad = Some(LogFault::BadWord {
-            place: place as u64,
-        });
-        let tag = word >> 62;
-        let high = (word >> 54) & 255;
-        if ended {
-            return bad;
+/// A plain reading of the words of two senders, by bits and counts alone.
+#[derive(Drop)]
+struct Plain {
+    /// Words of the frame that are to come.
+    left: u64,
+    /// Messages that the frame may have yet.
+    room: u64,
+    /// Bytes of the message that are to come.
+    bytes: u64,
+    /// The least tenure of the next frame.
+    least: u64,
+    /// Whose frame it is.
+    owner: u64,
+    /// Who has left.
+    gone: [bool; 2],
+    ended: bool,
+}
+
+impl Plain {
+    /// Takes a word, and says whether a log may go on with it.
+    fn takes(&mut self, word: u64) -> bool {
+        if self.ended {
+            return false;
         }
-        if left == 0 {
-            let count = (word >> 40) & 0x3FFF;
-            let tenure = word & 0xFF_FFFF_FFFF;
-            if tag != 1 || high > 1 || count == 0 || count > 128 || tenure < least {
-                return bad;
-            }
-            if gone[(high % 2) as usize] {
-                return bad;
-            }
-            owner = high;
-            left = count;
-            room = 16;
-            least = tenure.saturating_add(1);
-            continue;
+        if self.left == 0 {
+            return self.takes_head(word);
         }
-        left = left.saturating_sub(1);
-        if bytes >= 8 {
-            bytes = bytes.saturating_sub(8);
-        } else if bytes > 0 {
-            if word << (8 * bytes) != 0 {
-                return bad;
-            }
-            bytes = 0;
-        } else if tag == 3 {
-            if *word > 0xC000_0000_0000_0001 || left != 0 || room != 16 {
-                return bad;
-            }
-            ended = *word == 0xC000_0000_0000_0000;
-            gone[(owner % 2) as usize] = !ended;
+        self.left = self.left.saturating_sub(1);
+        if self.bytes > 0 {
+            self.takes_data(word)
+        } else if word >> 62 == 3 {
+            self.takes_mark(word)
         } else {
-            room = room.saturating_sub(1);
-            let data = high.saturating_add(7) / 8;
-            let others = left.saturating_sub(data);
-            if tag != 2
-                || high > 56
-                || (word >> 48) & 63 != 0
-                || data > left
-                || others > room.saturating_mul(8)
-            {
-                return bad;
-            }
-            bytes = high;
+            self.takes_message(word)
         }
     }
-    if left > 0 { Some(LogFault::Torn) } else { None }
+
+    fn takes_head(&mut self, word: u64) -> bool {
+        let owner = (word >> 54) & 255;
+        let count = (word >> 40) & 0x3FFF;
+        let tenure = word & 0xFF_FFFF_FFFF;
+        self.owner = owner;
+        self.left = count;
+        self.room = 16;
+        let least = self.least;
+        self.least = tenure.saturating_add(1);
+        word >> 62 == 1
+            && owner <= 1
+            && count != 0
+            && count <= 128
+            && tenure >= least
+            && !self.gone[(owner % 2) as usize]
+    }
+
+    fn takes_data(&mut self, word: u64) -> bool {
+        let bytes = self.bytes;
+        self.bytes = bytes.saturating_sub(8);
+        bytes >= 8 || word << (8 * bytes) == 0
+    }
+
+    fn takes_mark(&mut self, word: u64) -> bool {
+        self.ended = word == 0xC000_0000_0000_0000;
+        self.gone[(self.owner % 2) as usize] = !self.ended;
+        word <= 0xC000_0000_0000_0001 && self.left == 0 && self.room == 16
+    }
+
+    fn takes_message(&mut self, word: u64) -> bool {
+        self.room = self.room.saturating_sub(1);
+        let bytes = (word >> 54) & 255;
+        let data = bytes.saturating_add(7) / 8;
+        let others = self.left.saturating_sub(data);
+        self.bytes = bytes;
+        word >> 62 == 2
+            && bytes <= 56
+            && (word >> 48) & 63 == 0
+            && data <= self.left
+            && others <= self.room.saturating_mul(8)
+    }
+}
+
+/// How a plain reading of the words of two senders ends: with the fault, or none where the words
+/// are a log.
+fn plain_fault(words: &[u64]) -> Option<LogFault> {
+    let mut plain = Plain {
+        left: 0,
+        room: 0,
+        bytes: 0,
+        least: 0,
+        owner: 0,
+        gone: [false; 2],
+        ended: false,
+    };
+    for (place, word) in words.iter().enumerate() {
+        if !plain.takes(*word) {
+            return Some(LogFault::BadWord {
+                place: place as u64,
+            });
+        }
+    }
+    if plain.left > 0 {
+        Some(LogFault::Torn)
+    } else {
+        None
+    }
+}
+
+/// How the words of two senders are read.
+fn fault(alloc: Global, words: &[u64]) -> Option<LogFault> {
+    read_log(alloc, words, 2).err()
 }
 
 /// Sees that the words are read as a plain reading reads them.
 fn agrees(rt: &impl Abort, alloc: Global, words: &[u64]) {
-    assert_eq!(rt;
-        read_log(alloc, words, 2).err(),
-        plain_fault(words),
-        "{words:?}"
-    );
+    assert_eq!(rt; fault(alloc, words), plain_fault(words), "{words:?}");
 }
 
 /// Words that each stand at an edge of the format.
@@ -138,112 +180,120 @@ fn short_lists_as_plainly_read(rt: HostRuntime) {
     }
 }
 
-/// Stores the next word of a writer; says whether there was one.
-fn stores(rt: &impl Abort, writer: &mut Writer, memory: &mut [u64; 8]) -> bool {
-    let Some(op) = writer.next(0) else {
-        return false;
-    };
-    match op {
-        Op::Store(place, word) => {
-            assert!(rt; place.0 < 8);
-            memory[place.0 as usize] = word;
-        }
-        _ => panic!(rt; "a writer only stores"),
-    }
-    writer.feed(0, 0);
-    true
-}
-
-/// Loads the word that a receiver asks for, and gives its answer.
-fn receives(rt: &impl Abort, reader: &mut Reader, memory: &[u64; 8]) -> RecvTurn {
-    assert!(rt; !reader.has_ended());
-    match reader.next() {
-        Some(Op::Load(place)) => {
-            assert!(rt; place.0 < 8);
-            reader.feed(memory[place.0 as usize])
-        }
-        _ => panic!(rt; "a receiver only loads"),
-    }
-}
-
-#[test]
-fn writes_and_receives(rt: HostRuntime) {
-    let mut memory = [0u64; 8];
+/// A writer of the frame of a message of sender 1, of one byte, in tenure 9.
+fn writer(rt: &impl Abort) -> Writer {
     let mut batch = Batch::new(SenderNo(1), 4);
     assert!(rt; batch.put(b"a").is_ok());
     assert!(rt; !batch.is_empty());
-    let mut writer = Writer::start(&batch, 9, 0, Reg(1), Reg(0));
-    let mut reader = Reader::new(2, Reg(1), Reg(0), 7);
-    assert_eq!(rt; writer.kind(), Some(Kind::StoreLogWord));
+    Writer::start(&batch, 9, 0, Reg(1), Reg(0))
+}
+
+/// The step of a writer is taken.
+fn goes_on(rt: &impl Abort, writer: &mut Writer) {
+    assert!(rt; writer.next(0).is_some());
+    writer.feed(0, 0);
+}
+
+/// The next step of a writer is of this kind and is this, and is taken.
+fn stores(rt: &impl Abort, writer: &mut Writer, kind: Kind, place: u64, word: u64) {
+    assert_eq!(rt; writer.kind(), Some(kind));
+    assert_eq!(rt; writer.next(0), Some(Op::Store(Reg(place), word)));
+    goes_on(rt, writer);
+}
+
+#[test]
+fn writes(rt: HostRuntime) {
+    let mut writer = writer(&rt);
     assert_eq!(rt; writer.new_length(), 3);
-    for _ in 0..3 {
-        assert!(rt; stores(&rt, &mut writer, &mut memory));
-        assert_eq!(rt; receives(&rt, &mut reader, &memory), RecvTurn::Empty);
+    let frame = [
+        (1, 0x4040_0200_0000_0009),
+        (2, 0x8040_0000_0000_0004),
+        (3, 0x6100_0000_0000_0000),
+    ];
+    for (place, word) in frame {
+        stores(&rt, &mut writer, Kind::StoreLogWord, place, word);
     }
-    assert_eq!(rt; writer.kind(), Some(Kind::StoreLength));
-    assert!(rt; stores(&rt, &mut writer, &mut memory));
+    stores(&rt, &mut writer, Kind::StoreLength, 0, 3);
     assert_eq!(rt; writer.kind(), None);
-    assert_eq!(rt; memory[0], 3);
-    assert_eq!(rt; reader.kind(), Some(Kind::LoadLength));
-    assert_eq!(rt; receives(&rt, &mut reader, &memory), RecvTurn::Going);
-    assert_eq!(rt; reader.known(), 3);
-    assert_eq!(rt; reader.kind(), Some(Kind::LoadLogWord));
-    assert_eq!(rt;
-        receives(&rt, &mut reader, &memory),
-        RecvTurn::Head {
-            tenure: 9,
-            owner: SenderNo(1)
-        }
-    );
-    assert_eq!(rt; receives(&rt, &mut reader, &memory), RecvTurn::Going);
-    assert_eq!(rt;
-        receives(&rt, &mut reader, &memory),
-        RecvTurn::Item(item(&rt, 1, 4, b"a"))
-    );
-    assert_eq!(rt; reader.place(), 3);
-    memory[0] = 5;
-    memory[4] = 0x4040_0100_0000_000A;
-    memory[5] = 0xC000_0000_0000_0000;
-    assert_eq!(rt; receives(&rt, &mut reader, &memory), RecvTurn::Going);
-    assert_eq!(rt;
-        receives(&rt, &mut reader, &memory),
-        RecvTurn::Head {
-            tenure: 10,
-            owner: SenderNo(1)
-        }
-    );
-    memory[5] = 7;
-    assert_eq!(rt; receives(&rt, &mut reader, &memory), RecvTurn::Going);
-    assert_eq!(rt; reader.place(), 4);
-    memory[5] = 0xC000_0000_0000_0000;
-    assert_eq!(rt; receives(&rt, &mut reader, &memory), RecvTurn::End);
+}
+
+/// A receiver finds this word, and answers so.
+fn answers(rt: &impl Abort, reader: &mut Reader, word: u64, answer: &RecvTurn) {
+    assert!(rt; !reader.has_ended());
+    assert_eq!(rt; reader.feed(word), *answer);
+}
+
+/// A receiver loads this word next, and finds so much there, and answers so.
+fn receives(rt: &impl Abort, reader: &mut Reader, place: u64, word: u64, answer: &RecvTurn) {
+    assert_eq!(rt; reader.next(), Some(Op::Load(Reg(place))));
+    answers(rt, reader, word, answer);
+}
+
+/// A receiver loads these words, finds these numbers, and answers so.
+fn receives_all(rt: &impl Abort, reader: &mut Reader, rows: &[(u64, u64, RecvTurn)]) {
+    for (place, word, answer) in rows {
+        receives(rt, reader, *place, *word, answer);
+    }
+}
+
+/// A head of this owner and tenure.
+fn head(owner: u8, tenure: u64) -> RecvTurn {
+    RecvTurn::Head {
+        tenure,
+        owner: SenderNo(owner),
+    }
+}
+
+/// A receiver stands here, and its next step is of this kind.
+fn stands(rt: &impl Abort, reader: &Reader, place: u64, known: u64, kind: Kind) {
+    assert_eq!(rt; reader.place(), place);
+    assert_eq!(rt; reader.known(), known);
+    assert_eq!(rt; reader.kind(), Some(kind));
+}
+
+/// A receiver takes no further step.
+fn has_ended(rt: &impl Abort, reader: &Reader) {
     assert!(rt; reader.has_ended());
     assert!(rt; reader.kind().is_none() && reader.next().is_none());
 }
 
+/// A bad word is passed over, and loaded once more.
+#[test]
+fn receives_a_message(rt: HostRuntime) {
+    let mut reader = Reader::new(2, Reg(1), Reg(0), 7);
+    stands(&rt, &reader, 0, 0, Kind::LoadLength);
+    let rows = [
+        (0, 0, RecvTurn::Empty),
+        (0, 3, RecvTurn::Going),
+        (1, 0x4040_0200_0000_0009, head(1, 9)),
+        (2, 0x8040_0000_0000_0004, RecvTurn::Going),
+    ];
+    receives_all(&rt, &mut reader, &rows);
+    stands(&rt, &reader, 2, 3, Kind::LoadLogWord);
+    let rows = [
+        (
+            3,
+            0x6100_0000_0000_0000,
+            RecvTurn::Item(item(&rt, 1, 4, b"a")),
+        ),
+        (0, 5, RecvTurn::Going),
+        (4, 0x4040_0100_0000_000A, head(1, 10)),
+        (5, 7, RecvTurn::Going),
+        (5, 0xC000_0000_0000_0000, RecvTurn::End),
+    ];
+    receives_all(&rt, &mut reader, &rows);
+    has_ended(&rt, &reader);
+}
+
 #[test]
 fn receives_who_left(rt: HostRuntime) {
-    let mut memory = [0u64; 8];
-    memory[0] = 4;
-    memory[1] = 0x4040_0100_0000_0000;
-    memory[2] = 0xC000_0000_0000_0001;
-    memory[3] = 0x4000_0100_0000_0001;
-    memory[4] = 0xC000_0000_0000_0000;
     let mut reader = Reader::new(2, Reg(1), Reg(0), 7);
-    let answers = [
-        RecvTurn::Going,
-        RecvTurn::Head {
-            tenure: 0,
-            owner: SenderNo(1),
-        },
-        RecvTurn::Leave(SenderNo(1)),
-        RecvTurn::Head {
-            tenure: 1,
-            owner: SenderNo(0),
-        },
+    let rows = [
+        (0, 4, RecvTurn::Going),
+        (1, 0x4040_0100_0000_0000, head(1, 0)),
+        (2, 0xC000_0000_0000_0001, RecvTurn::Leave(SenderNo(1))),
+        (3, 0x4000_0100_0000_0001, head(0, 1)),
+        (4, 0xC000_0000_0000_0000, RecvTurn::End),
     ];
-    for answer in answers.iter() {
-        assert_eq!(rt; receives(&rt, &mut reader, &memory), *answer);
-    }
-    assert_eq!(rt; receives(&rt, &mut reader, &memory), RecvTurn::End);
+    receives_all(&rt, &mut reader, &rows);
 }

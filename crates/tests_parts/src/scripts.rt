@@ -1,7 +1,13 @@
 //! Each public call once.
 
-use bus_script::{LineNumber, Lines, number_of, refusal_line, words_behind};
+use bus_script::{LineNumber, Lines, Words, number_of, refusal_line, words_behind};
 use std::process::Abort;
+
+/// The next word is this number.
+fn is_next(rt: &impl Abort, words: &mut Words<'_>, number: u64) {
+    let word = words.next_word().expect(rt, "a word");
+    assert_eq!(rt; number_of(word), Some(number));
+}
 
 #[test]
 fn script_is_read(rt: HostRuntime) {
@@ -9,8 +15,8 @@ fn script_is_read(rt: HostRuntime) {
     let line = lines.next_line().expect(&rt, "a line");
     assert_eq!(rt; line.number, 3);
     let mut words = words_behind(line.bytes, b"steps").expect(&rt, "the keyword");
-    assert_eq!(rt; words.next_word().and_then(number_of), Some(0));
-    assert_eq!(rt; words.next_word().and_then(number_of), Some(17));
+    is_next(&rt, &mut words, 0);
+    is_next(&rt, &mut words, 17);
     assert!(rt; words.next_word().is_none());
     assert!(rt; lines.next_line().is_none());
 }

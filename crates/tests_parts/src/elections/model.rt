@@ -135,7 +135,7 @@ pub fn empty_board() -> Board {
 }
 
 /// What a sender does next.
-#[derive(Clone, Copy, Debug, PartialEq, Eq)]
+#[derive(Clone, Copy, PartialEq, Eq)]
 pub enum Act {
     Announce,
     WriteFirst,
