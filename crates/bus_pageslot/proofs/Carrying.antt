@@ -127,7 +127,8 @@ module _ {E : Type 0} (P : Process (Sender E)) (K : ProcessLaws P) where
       let fits : MayFit P from old = record { some = omega arith; room = room } in (
         first.1,
         by_cause why fits (omega arith)
-            (subst (λ (s : SenderSeat (Sender E)). IsPutFault (P.queue s.core) (length next) why) first.1
+            (subst (λ (s : SenderSeat (Sender E)). IsPutFault (P.queue s.core) (length next) why)
+            first.1
             cause),
       )
     where
