@@ -364,8 +364,9 @@ fn what_was_not_sent_goes_on() {
     let (one, two) = after.split_at_mut(1);
     one[0].put(b"y").unwrap();
     assert_eq!(one[0].carry_to(&mut two[0]), Err(PutError::BatchFull));
-    assert!(matches!(two[0].turn(0), Turn::Going));
     assert_eq!(two[0].carry_to(&mut one[0]), Err(PutError::BatchFull));
+    assert!(matches!(two[0].turn(0), Turn::Going));
+    assert_eq!(two[0].carry_to(&mut one[0]), Err(PutError::Busy));
 }
 
 #[test]
