@@ -863,7 +863,7 @@ ltl not_by_losing { !(([]<> lost) && ([]<> !lost) && ([] !flips[1])) }     /* re
 #define AGREED_ON(s)   (WITHOUT_CASE != 1 && !(stage & 1) && elected[stage/2] == 1+s)
 #define HAS_PAGE(s)    (WITHOUT_CASE != 2 && holder == 1+s)
 #ifdef AGAIN
-#define BARS_ROW(s)    (WITHOUT_CASE != 3 && (stage & 1) && presence[s] == 1 + OLD(stage/2))
+#define BARS_ROW(s)    (WITHOUT_CASE != 3 && (stage & 1) && REUSES(stage/2) && presence[s] == 1 + OLD(stage/2))
 #else
 #define BARS_ROW(s)    0
 #endif
