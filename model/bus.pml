@@ -22,7 +22,8 @@
  *   ENDLESS        with COME_ROUND: senders without end, and no log
  *   CLAIMS         with the formulas at the end; WITHOUT_CASE: three_cases without the first, second or third of its cases
  *   LOSSES         with ENDLESS: losses of sender 1 are noted
- *   HARM           without the claims on who stands in which row, so that a wrong protocol shows what follows from that
+ *   HARM           without the claims on who stands in which row, and on the row that opens, so that a wrong protocol shows what
+ *                  follows from that
  *   SHORTEST       for a search by breadth, which finds a shortest trail
  *   TELL, WIDE     for ./run and ./compare: a line for each step; counters with room for 64 votes
  *   NAP_AT         for ./compare: a sender may sleep before such a step
