@@ -713,7 +713,7 @@ active [SENDERS] proctype Sender() {
         od;
 #endif
 #if defined(AGAIN) && defined(WRONG_CLEARS_LATE)
-        if :: REUSES(t) -> i = 0; k = ClearRow :: else -> leave_tenure() fi
+        if :: REUSES(t) -> i = 0; k = FIRST_OF_RECLAIM :: else -> leave_tenure() fi
 #else
         leave_tenure()
 #endif
