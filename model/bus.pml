@@ -850,7 +850,7 @@ active proctype Opener() {
 ltl one_place   { [] (home + holders == 1) }                  /* the page is in one place */
 ltl stage_tells { [] ((stage & 1) == holders) }               /* it is out just where the stage is odd */
 ltl close_ends  { [] !after_end }                             /* nothing after the end */
-ltl close_stays { [] (ended -> [] ended) }
+ltl close_stays { [] ((ended && home) -> page_ended) }        /* the page says so */
 #ifdef ENDLESS
 ltl goes_on       { ([]<> flip) && ([]<> !flip) }             /* somebody delivers again and again */
 ltl each_goes_on  { ([]<> flips[1]) && ([]<> !flips[1]) }     /* sender 1 does: refuted, it may starve */
