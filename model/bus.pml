@@ -609,13 +609,16 @@ active [SENDERS] proctype Sender() {
 #endif
 #ifdef WRONG_TESTS_HOME
     /* No election: it looks whether the page is home, and takes it with its next step. */
-    :: d_step { k == TestHome -> if :: home -> elected[t] = 1+me; k = TakePage :: else fi }
+    :: d_step { k == TestHome -> if :: home -> k = TakePage :: else fi }
 #endif
 #endif
 
     /* -- with the page */
     :: d_step { k == TakePage ->
         TURN;
+#ifdef WRONG_TESTS_HOME
+        elected[t] = 1+me;                                  /* it takes itself for the owner */
+#endif
         assert(elected[t] == 1+me && ((announced[t] >> me) & 1));   /* claim: one owner */
         assert(home && holders == 0 && !taken);             /* claim: one taker */
         assert(stage == 2*t);                               /* claim: one taker */
