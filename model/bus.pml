@@ -731,11 +731,7 @@ active [SENDERS] proctype Sender() {
     /* It is there again in the next sitting. What was put and not sent is put first, with the number that it had. */
     :: d_step { k == Done && sitting != mine ->
         mine = sitting;
-#ifdef WRONG_NUMBERS_ANEW
-        next = 0;
-#else
         assert(next == base[me]);                           /* claim: numbers go on */
-#endif
         put_next() }
     :: k == Done && last_sitting && sitting == mine -> break
 #else
