@@ -22,7 +22,8 @@
  *   ENDLESS        with COME_ROUND: senders without end, and no log
  *   CLAIMS         with the formulas at the end; WITHOUT_CASE: three_cases without the first, second or third of its cases
  *   LOSSES         with ENDLESS: losses of sender 1 are noted
- *   HARM           without the claims on who stands in which row, so that a wrong protocol shows what follows from that
+ *   HARM           without the claims on who stands in which row, and on the row that opens, so that a wrong protocol shows what
+ *                  follows from that
  *   SHORTEST       for a search by breadth, which finds a shortest trail
  *   TELL, WIDE     for ./run and ./compare: a line for each step; counters with room for 64 votes
  *   NAP_AT         for ./compare: a sender may sleep before such a step
@@ -608,13 +609,16 @@ active [SENDERS] proctype Sender() {
 #endif
 #ifdef WRONG_TESTS_HOME
     /* No election: it looks whether the page is home, and takes it with its next step. */
-    :: d_step { k == TestHome -> if :: home -> elected[t] = 1+me; k = TakePage :: else fi }
+    :: d_step { k == TestHome -> if :: home -> k = TakePage :: else fi }
 #endif
 #endif
 
     /* -- with the page */
     :: d_step { k == TakePage ->
         TURN;
+#ifdef WRONG_TESTS_HOME
+        elected[t] = 1+me;                                  /* it takes itself for the owner */
+#endif
         assert(elected[t] == 1+me && ((announced[t] >> me) & 1));   /* claim: one owner */
         assert(home && holders == 0 && !taken);             /* claim: one taker */
         assert(stage == 2*t);                               /* claim: one taker */
@@ -712,7 +716,7 @@ active [SENDERS] proctype Sender() {
         od;
 #endif
 #if defined(AGAIN) && defined(WRONG_CLEARS_LATE)
-        if :: REUSES(t) -> i = 0; k = ClearRow :: else -> leave_tenure() fi
+        if :: REUSES(t) -> i = 0; k = FIRST_OF_RECLAIM :: else -> leave_tenure() fi
 #else
         leave_tenure()
 #endif
@@ -727,11 +731,7 @@ active [SENDERS] proctype Sender() {
     /* It is there again in the next sitting. What was put and not sent is put first, with the number that it had. */
     :: d_step { k == Done && sitting != mine ->
         mine = sitting;
-#ifdef WRONG_NUMBERS_ANEW
-        next = 0;
-#else
         assert(next == base[me]);                           /* claim: numbers go on */
-#endif
         put_next() }
     :: k == Done && last_sitting && sitting == mine -> break
 #else
@@ -849,7 +849,7 @@ active proctype Opener() {
 ltl one_place   { [] (home + holders == 1) }                  /* the page is in one place */
 ltl stage_tells { [] ((stage & 1) == holders) }               /* it is out just where the stage is odd */
 ltl close_ends  { [] !after_end }                             /* nothing after the end */
-ltl close_stays { [] (ended -> [] ended) }
+ltl close_stays { [] ((ended && home) -> page_ended) }        /* the page says so */
 #ifdef ENDLESS
 ltl goes_on       { ([]<> flip) && ([]<> !flip) }             /* somebody delivers again and again */
 ltl each_goes_on  { ([]<> flips[1]) && ([]<> !flips[1]) }     /* sender 1 does: refuted, it may starve */
@@ -863,7 +863,7 @@ ltl not_by_losing { !(([]<> lost) && ([]<> !lost) && ([] !flips[1])) }     /* re
 #define AGREED_ON(s)   (WITHOUT_CASE != 1 && !(stage & 1) && elected[stage/2] == 1+s)
 #define HAS_PAGE(s)    (WITHOUT_CASE != 2 && holder == 1+s)
 #ifdef AGAIN
-#define BARS_ROW(s)    (WITHOUT_CASE != 3 && (stage & 1) && presence[s] == 1 + OLD(stage/2))
+#define BARS_ROW(s)    (WITHOUT_CASE != 3 && (stage & 1) && REUSES(stage/2) && presence[s] == 1 + OLD(stage/2))
 #else
 #define BARS_ROW(s)    0
 #endif
