@@ -226,6 +226,7 @@ class Play:
             tab.do(f"new Promise((done) => {{ addEventListener('popstate', () => setTimeout(done, 50), {{once: true}}); history.{way}(); }}).then(() => 0)")
             if tab.do("page.lines") != wanted:
                 self.fail(f"{way} in the browser finds {tab.do('page.lines')}, and not {wanted}")
+        self.opening_of_an_address(tab)
         for odd in ("#3,%ff", "#99,shape.1.1.1.1.16", "#nothing", "#0,", "#2,turn.0.0.1"):
             self.open(tab, fragment=odd)
             self.same(odd, tab.do("page.lines.join('\\n') + '\\n'"), tab.do("traceText(page)"))
@@ -275,6 +276,27 @@ class Play:
                 self.fail(f"{width} by {height}: the first turn is at {box}")
         tab.call("Emulation.setDeviceMetricsOverride", width=1600, height=900, deviceScaleFactor=1, mobile=False)
         print("on a phone and on a screen: nothing is too wide, and the turns are in sight")
+
+    # A link, and the browser's back, show the opening that their script went on from, and none of a script of one's own.
+    def opening_of_an_address(self, tab):
+        def shows(where, opening):
+            shown = tab.do("[at('opening').value, at('question').hidden, at('question').textContent]")
+            question = tab.do(f"OPENINGS[{opening}].question") if opening else ""
+            if shown != [opening, not opening, question]:
+                self.fail(f"{where} shows the opening {shown}, and not {opening or 'none'}")
+
+        self.open(tab)
+        tab.do("choose('opening', '3'); at('opening').dispatchEvent(new Event('change')); clickTurn(turnsShown()[0]); press('link'); 0")
+        lines, link = tab.do("page.lines"), tab.do("at('text').value")
+        self.open(tab, link.replace("file://", ""))
+        if tab.do("page.lines") != lines:
+            self.fail(f"the link {link} opens {tab.do('page.lines')}, and not {lines}")
+        shows("a link", "3")
+        tab.do("choose('opening', '5'); at('opening').dispatchEvent(new Event('change')); clickTurn(turnsShown()[0]); 0")
+        tab.do("new Promise((done) => { addEventListener('popstate', () => setTimeout(done, 50), {once: true}); history.back(); }).then(() => 0)")
+        shows("back in the browser", "3")
+        self.open(tab, fragment="#2,shape.1.1.1.1.16~put.0.61~turn.0.0.1")
+        shows("a script of one's own", "")
 
     # ---- What the openings say can be done.
     def openings(self, tab):

@@ -21,7 +21,7 @@ pub const PLAY_STYLES: &str = r#"#playing { margin-top: .35em; }
     display: block; font-size: .82em; color: var(--faint); overflow: hidden;
     text-overflow: ellipsis;
 }
-#times, .small { width: 4.4em; }
+#times, .small { width: 5.2em; }
 #says { min-height: 1.35em; margin-top: .2em; }
 #game > * + * { margin-top: .35em; }
 #game input[type=text] { flex: 1 1 5em; min-width: 4em; width: 5em; }
@@ -45,6 +45,7 @@ pub const PLAY_STYLES: &str = r#"#playing { margin-top: .35em; }
     }
     #turns { flex-basis: 100%; }
     #turns .both { width: calc(50% - .2em); }
+    #turns [data-vote] .badge { display: none; }
     body { padding-bottom: 17em; }
     #thread { display: none; }
 }

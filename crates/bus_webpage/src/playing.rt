@@ -265,6 +265,7 @@ function followAddress() {
     if (asked === playing.way || lines.join('\n') === page.lines.join('\n')) return;
     playing.ways.set(playing.way, page.lines);
     if (playing.ways.has(asked)) playing.way = asked; else newWay();
+    findOpening(lines);
     load(lines);
 }
 
@@ -302,6 +303,14 @@ function listOpenings(lines) {
     });
     if (place < 0) at('opening').prepend(new Option('the script of this page', -1));
     at('opening').value = place;
+    showOpening();
+}
+
+// The opening that a script went on from: none where it is of one's own.
+function findOpening(lines) {
+    const begins = (script) => script.every((line, number) => lines[number] === line);
+    const place = OPENINGS.findIndex((one) => begins(linesOf(one.script)));
+    at('opening').value = place < 0 && !begins(printed.lines) ? '' : place;
     showOpening();
 }
 
@@ -405,7 +414,9 @@ function openPlay() {
     listenToPlay();
     compareRows();
     newWay();
-    load(addressed());
+    const lines = addressed();
+    if (lines !== printed.lines) findOpening(lines);
+    load(lines);
 }
 
 Object.assign(extra, {

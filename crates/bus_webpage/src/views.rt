@@ -258,7 +258,8 @@ function showStep() {
         ' of the script' : 'Before the first of ' + total + ' steps');
     write(at('told'), row ? told(page, row) : 'Nothing has happened yet: all words are 0.');
     write(at('means'), row ? follows(page, row) || spelled(row) : '');
-    write(at('why'), !row ? 'The right arrow takes the first step.' :
+    const first = total ? 'The right arrow takes the first step.' : '';
+    write(at('why'), !row ? first :
         saidKind(row) + ': ' + (KINDS[row.kind] || UNKNOWN).why);
     write(at('answer'), row ? 'Answer: ' + row.answer + ' \u2013 ' + saidAnswer(row.answer) : '');
     write(at('refused'), page.refusal && view.step === total ?
