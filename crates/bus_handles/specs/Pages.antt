@@ -1,5 +1,5 @@
 -- The page of a sitting whose order has ended, by its senders.
-use Rattle.std.specs.Prelude.{◌≡◌, ℕ, ◌<◌, ◌⊎◌, true, Some, None, List, slice_get, slice_index}
+use Rattle.std.specs.Prelude.{◌≡◌, ℕ, ◌<◌, ◌⊎◌, true, Some, List, length, slice_get, slice_index}
 use Rattle.bus_register.specs.declared.limits.TheConstants.{MOST_SENDERS}
 use Rattle.bus_tenure.specs.Core.{is_closed}
 use Rattle.bus_tenure.specs.declared.pages.Page.{Page}
@@ -29,12 +29,17 @@ pub record IsPageOf {C : Type 0} (P : Process C) (senders : List (SenderSeat C))
   pub noted : AreNoted P senders MOST_SENDERS page.next
   pub ended : page.ended ≡ true
 
--- none was made: all of them send nothing more; or this one is not there, or is not at its place,
--- or may send still
-abbrev pub NoPageOf : {C : Type 0} → Process C → List (SenderSeat C) → NoPage → Type 0
-NoPageOf {C} P senders why.NotEnded =
-    (place : ℕ) (s : SenderSeat C) → place < MOST_SENDERS → slice_get senders place ≡ Some s
+-- each of so many first senders is at its place, and sends nothing more
+abbrev pub HavePartedBelow : {C : Type 0} → Process C → List (SenderSeat C) → (many : ℕ) → Type 0
+HavePartedBelow {C} P senders many =
+    (place : ℕ) (s : SenderSeat C) → place < many → slice_get senders place ≡ Some s
     → HasParted P place s
+
+-- none was made: all of them send nothing more; or this one is the first that is not there, since
+-- the list ends before it, or that is not at its place, or that may send still
+abbrev pub NoPageOf : {C : Type 0} → Process C → List (SenderSeat C) → NoPage → Type 0
+NoPageOf P senders why.NotEnded = HavePartedBelow P senders MOST_SENDERS
 NoPageOf {C} P senders (why.Unanswered number) =
-    (slice_get senders number.0 ≡ None)
-    ⊎ ((s : SenderSeat C) × (slice_get senders number.0 ≡ Some s) × (HasParted P number.0 s → ⊥))
+    HavePartedBelow P senders number.0
+    × ((number.0 ≡ length senders)
+    ⊎ ((s : SenderSeat C) × (slice_get senders number.0 ≡ Some s) × (HasParted P number.0 s → ⊥)))

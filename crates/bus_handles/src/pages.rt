@@ -42,8 +42,8 @@ impl fmt::Display for NoPage {
 /// which that goes on, and that the order has ended; of tenures, words and who has left it says
 /// nothing.
 ///
-/// Unanswered names the first sender that may send still, or that is not at its place. NotEnded
-/// says that none of them has closed the order.
+/// Unanswered names the first sender that may send still, or that is not at its place: all before
+/// it are, and were answered so. NotEnded says that none of them has closed the order.
 pub fn senders_page<Q: Ratifier + Drop, R: Rng + Drop>(
     senders: &[SenderHandle<Q, R>],
 ) -> Result<Page, NoPage>
@@ -54,9 +54,6 @@ pub fn senders_page<Q: Ratifier + Drop, R: Rng + Drop>(
         return Err(NoPage::NotEnded);
     };
     let many = senders.len().min(MOST_SENDERS);
-    if senders.len() < MOST_SENDERS && (many as u64) < first.senders() {
-        return Err(NoPage::Unanswered(SenderNo(many as u8)));
-    }
     let mut next = first.bases();
     for place in 0..many {
         let sender = &senders[place];
@@ -65,6 +62,9 @@ pub fn senders_page<Q: Ratifier + Drop, R: Rng + Drop>(
             return Err(NoPage::Unanswered(number));
         }
         next[place] = sender.goes_on_from();
+    }
+    if senders.len() < MOST_SENDERS && (many as u64) < first.senders() {
+        return Err(NoPage::Unanswered(SenderNo(many as u8)));
     }
     if !one_has_closed(senders) {
         return Err(NoPage::NotEnded);

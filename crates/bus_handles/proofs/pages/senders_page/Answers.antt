@@ -2,17 +2,12 @@ use Rattle.std.proofs.Common.{◌≡◌, ◌<◌, true, false, inl, inr, length,
 use Rattle.std.proofs.Common.{rules}
 use Rattle.bus_register.specs.declared.limits.TheConstants.{MOST_SENDERS}
 use Rattle.std.proofs.lemmas.List.{length-set}
-use Rattle.std.proofs.lemmas.Option.{slice_get_read, slice_get_past}
+use Rattle.std.proofs.lemmas.Option.{slice_get_read}
 use Rattle.bus_automaton.specs.Buses.{process_with}
 use Rattle.bus_handles.proofs.PageLaws.{differ, equal, none_noted, one_noted, all_noted}
 use Rattle.bus_handles.proofs.pages.senders_page.Goals.{then-ne-via-then-ne}
 use Rattle.bus_handles.proofs.pages.senders_page.Goals.{then-ne-via-else-ne+then-not-is_closed}
 use Rattle.bus_handles.proofs.pages.senders_page.Goals as goal
-
-pub returns-then-many-senders-clause-fault : goal.returns-then-many-senders-clause-fault
-returns-then-many-senders-clause-fault g c =
-    inl (slice_get_past c.args.senders.now c.min-many.result
-    (let few = c.if-senders-lt-MOST_SENDERS.true in let many = c.min-many.ensures in omega arith))
 
 pub loop-place-init : goal.loop-place-init
 loop-place-init g c =
@@ -27,20 +22,22 @@ returns-then-ne-clause-fault g c =
     (let test = c.loop-place-test.true in let many = c.min-many.ensures in omega arith) in
     let there =
     slice_get_read c.args.senders.now (length c.args.senders.now) c.loop-place.place s refl inside
-    c.index-senders-place.is in
-    inr (
-      s,
-      there,
-      elim c.then-ne.branch [
-        | then-ne-via-then-ne w ↦
-            λ parted.
-            differ c.number.result.0 c.loop-place.place c.ne.result c.ne.ensures w.if-ne.true
-            (c.number.ensures ∙ parted.number_is)
-        | then-ne-via-else-ne+then-not-is_closed w ↦
-            λ parted. let shown : w.is_closed.result ≡ false = w.if-not-is_closed.true in
-            let shut : w.is_closed.result ≡ true = w.is_closed.ensures ∙ parted.closed in
-            let bad : false ≡ true = sym shown ∙ shut in cc
-      ],
+    c.index-senders-place.is in (
+      c.loop-place.invariant.1.parted,
+      inr (
+        s,
+        there,
+        elim c.then-ne.branch [
+          | then-ne-via-then-ne w ↦
+              λ parted.
+              differ c.number.result.0 c.loop-place.place c.ne.result c.ne.ensures w.if-ne.true
+              (c.number.ensures ∙ parted.number_is)
+          | then-ne-via-else-ne+then-not-is_closed w ↦
+              λ parted. let shown : w.is_closed.result ≡ false = w.if-not-is_closed.true in
+              let shut : w.is_closed.result ≡ true = w.is_closed.ensures ∙ parted.closed in
+              let bad : false ≡ true = sym shown ∙ shut in cc
+        ],
+      ),
     )
 
 pub loop-place-preserved : goal.loop-place-preserved
@@ -62,6 +59,14 @@ loop-place-preserved g c =
                 ∙ equal c.number.result.0 c.loop-place.place c.ne.result c.ne.ensures c.if-ne.false;
             closed = sym c.is_closed.ensures ∙ c.if-not-is_closed.false;
           }) c.goes_on_from.ensures,
+    )
+
+pub returns-then-many-senders-clause-fault : goal.returns-then-many-senders-clause-fault
+returns-then-many-senders-clause-fault g c =
+    let over = c.loop-place-test.false in let many = c.min-many.ensures in
+    let few = c.if-senders-lt-MOST_SENDERS.true in (
+      (λ place s below at. c.loop-place.invariant.1.parted place s (omega (arith, over, many, below)) at),
+      inl (omega (arith, many, few)),
     )
 
 pub returns-then-not-one_has_closed-clause-fault :
