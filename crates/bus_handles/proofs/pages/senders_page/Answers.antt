@@ -65,7 +65,10 @@ pub returns-then-many-senders-clause-fault : goal.returns-then-many-senders-clau
 returns-then-many-senders-clause-fault g c =
     let over = c.loop-place-test.false in let many = c.min-many.ensures in
     let few = c.if-senders-lt-MOST_SENDERS.true in (
-      (λ place s below at. c.loop-place.invariant.1.parted place s (omega (arith, over, many, below)) at),
+      (
+          λ place s below at.
+          c.loop-place.invariant.1.parted place s (omega (arith, over, many, below)) at
+          ),
       inl (omega (arith, many, few)),
     )
 
