@@ -67,7 +67,7 @@ module _ {S : Type 0} (X : Election (Elector S)) (Q : Protocol S Bool Verdict)
   played = subst (λ y.
       (events : List Event) (new : Machine (Elector S)) → AllAnswered X Q y events new
       → Played X Q y events new) is
-      (λ events new run. playing.played X Q P events m new (sits X P m s h) run)
+      (λ events new run. playing.played X Q P events m new h.trails h.reached (sits X P m s h) run)
 
   pub happened : (T : Trails) × Reached X now T
   happened = subst (λ y. (T : Trails) × Reached X y T) is (h.trails, h.reached)

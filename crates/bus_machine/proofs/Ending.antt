@@ -115,7 +115,7 @@ module _ (base : ℕ → ℕ) {E : Type 0} (V : ℕ → ℕ) (frames : List Fram
 pub ended_of :
     {E : Type 0} (P : Protocol E (Unit {0}) ℕ) (m : Machine E) (T : Trails) (f : IsFramed P m T)
     → has_end f.frames ≡ true
-    → HasEnded m
+    → HasEnded m (log_of m)
 ended_of P m T f e = record {
   order = order_of f.frames;
   owners = map tenure_and_owner f.frames;
@@ -132,7 +132,7 @@ ended_of P m T f e = record {
 -- whoever has left by the frames of a log has left in it
 pub left_of : {E : Type 0} (P : Protocol E (Unit {0}) ℕ) (m : Machine E) (T : Trails)
     (f : IsFramed P m T) (s : ℕ)
-    → has_gone s (order_of f.frames) ≡ true → HasLeftIt m s
+    → has_gone s (order_of f.frames) ≡ true → HasLeftIt m (log_of m) s
 left_of P m T f s e = record {
   order = order_of f.frames;
   owners = map tenure_and_owner f.frames;
@@ -162,7 +162,7 @@ spelled_now P m m' T' layout f = record {
 -- an order that has ended stays so, where the log is extended
 pub still_ended : {E : Type 0} (P : Protocol E (Unit {0}) ℕ) (m m' : Machine E) (T' : Trails)
     → m'.layout ≡ m.layout → IsFramed P m' T'
-    → IsPrefix (log_of m) (log_of m') → HasEnded m → HasEnded m'
+    → IsPrefix (log_of m) (log_of m') → HasEnded m (log_of m) → HasEnded m' (log_of m')
 still_ended P m m' T' layout f grows h =
     let w = spells_more m.layout.senders (log_of m) (log_of m') h.order (order_of f.frames) h.owners
     (map tenure_and_owner f.frames)
@@ -179,7 +179,8 @@ gone_more s order order' p e =
 -- so it has left where the log is extended
 pub still_left : {E : Type 0} (P : Protocol E (Unit {0}) ℕ) (m m' : Machine E) (T' : Trails) (s : ℕ)
     → m'.layout ≡ m.layout
-    → IsFramed P m' T' → IsPrefix (log_of m) (log_of m') → HasLeftIt m s → HasLeftIt m' s
+    → IsFramed P m' T' → IsPrefix (log_of m) (log_of m') → HasLeftIt m (log_of m) s
+    → HasLeftIt m' (log_of m') s
 still_left P m m' T' s layout f grows h =
     let w = spells_more m.layout.senders (log_of m) (log_of m') h.order (order_of f.frames) h.owners
     (map tenure_and_owner f.frames)

@@ -1,5 +1,5 @@
 -- Whatever happens, the new machine follows the old one, and what is answered is so.
-use Rattle.std.proofs.Common.{◌≡◌, ℕ, Option, Some, None, refl, sym, ap, subst}
+use Rattle.std.proofs.Common.{◌≡◌, ℕ, Option, Some, None, refl, sym, ◌∙◌, ap, subst}
 use Rattle.bus_register.specs.Protocol.{Protocol}
 use Rattle.bus_tenure.specs.Core.{Election}
 use Rattle.bus_world.specs.World.{Event}
@@ -7,8 +7,8 @@ use Rattle.bus_world.specs.declared.events.Answer.{Answer}
 use Rattle.bus_machine.proofs.AtNone.{event_reuse}
 use Rattle.bus_machine.proofs.Framed.{framed, reuses}
 use Rattle.bus_machine.proofs.Gone.{event_stays}
-use Rattle.bus_machine.proofs.Growing.{joins, grows, rises}
-use Rattle.bus_machine.proofs.History.{trails_join}
+use Rattle.bus_machine.proofs.Growing.{rises}
+use Rattle.bus_machine.proofs.History.{history, trails_join}
 use Rattle.bus_machine.proofs.Leading.{Sits, sits_after}
 use Rattle.bus_machine.proofs.Promised.{promised}
 use Rattle.bus_machine.proofs.Staying.{promise_stays, grown_longer}
@@ -38,8 +38,10 @@ module _ {E : Type 0} (X : Election E) (P : Protocol E (Unit {0}) ℕ) (m : Mach
   -- the new machine follows the old one
   pub follows : (m' : Machine E) (e : Event) (a : Answer) → Happens X m e a m' → Follows X m e a m'
   follows m' e a h = record {
-    joins = joins X P m m' T₀ e a s r₀ h;
-    grows = grows X P m m' T₀ e a s r₀ h;
+    led = (T₀, r₀);
+    stands = λ T r. history X P m' (trails_grown X m e a T) (sits_after X P m m' e a h s)
+        (Then m m' T e a r h)
+        ∙ trails_join X m m' e a T h;
     rises = rises X P m m' T₀ e a s r₀ h;
     reached = λ T r. Then m m' T e a r h;
     promised = λ T r. promise_stays X m m' T (trails_grown X m e a T)

@@ -79,10 +79,12 @@ module _ {E : Type 0} (X : Election E) (m m' : Machine E) (T T' : Trails) (e : E
           stage = ap (λ l. slice_index l 1) words ∙ get_or-set_same m.words 1 (2 * t + 1) 0 low;
           elected = λ U r.
               (subst (λ o.
-              SenderTells m s o ((trails_grown X m e a U).actions s) (answer.Turn (turn.Own t)))
+              SenderTells m U.log s o ((trails_grown X m e a U).actions s)
+              (answer.Turn (turn.Own t)))
               h.goes
-              (subst (λ w. SenderTells m s (going m s) ((trails_grown X m e a U).actions s) w) own
-              (subst (λ f. EventTells m f a (trails_grown X m e a U)) is (told U r)))).0;
+              (subst (λ w. SenderTells m U.log s (going m s) ((trails_grown X m e a U).actions s) w)
+              own
+              (subst (λ f. EventTells m U.log f a (trails_grown X m e a U)) is (told U r)))).0;
         }
 
     quiet : (z : Situation E) → situation X v ≡ z → home_moved (line X v z).move m.home ≡ m.home

@@ -1,8 +1,8 @@
 -- No promise holds of a log that lacks what was put, or has a word that was never stored.
 use Rattle.std.proofs.Common.{◌≡◌, ℕ, ◌+◌, ◌*◌, ◌^◌, List, [], ◌∷◌, ◌++◌, length, map, arith, ◌∙◌}
-use Rattle.std.proofs.Common.{ap, sym, subst}
+use Rattle.std.proofs.Common.{ap, sym}
 use Rattle.bus_batch.proofs.FrameLaws.{spells_one}
-use Rattle.bus_batch.specs.Frames.{Frame, Order, Spells, body_words, log_words}
+use Rattle.bus_batch.specs.Frames.{Frame, Order, body_words, log_words}
 use Rattle.bus_batch.specs.declared.messages.Item.{Item}
 use Rattle.bus_deliverylog.specs.Orders.{of_sender}
 use Rattle.bus_tenure.specs.Core.{Election}
@@ -26,8 +26,7 @@ logs_refused {E} X m T = record {
   other_words = λ other kept. other kept.by.stands;
   dropped = λ s v order owners at spelled other kept.
       let one = spells_one m.layout.senders T.log kept.order order kept.owners owners
-      kept.by.spelled
-      (subst (λ l. Spells m.layout.senders l order owners) kept.by.stands spelled) in
+      kept.by.spelled spelled in
       let stand = λ (o : Order).
       map (λ (i : Item). i.message) (of_sender s o) ++ waiting_at v.core v.core.phase in
       other (kept.by.sent s v at ∙ ap stand one.0);

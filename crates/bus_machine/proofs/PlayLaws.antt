@@ -6,17 +6,16 @@ use Rattle.bus_register.specs.Protocol.{Protocol}
 use Rattle.bus_adoptcommit.specs.declared.verdicts.Verdict.{Verdict}
 use Rattle.bus_tenure.specs.Core.{Election, Layout}
 use Rattle.bus_tenure.specs.Elections.{Elector}
-use Rattle.bus_world.proofs.Growing.{same_prefix, prefix_after}
-use Rattle.bus_world.specs.Headline.{IsPrefix}
+use Rattle.bus_world.proofs.Growing.{prefix_after}
 use Rattle.bus_world.specs.World.{Event}
 use Rattle.bus_world.specs.declared.events.Answer.{Answer}
 use Rattle.bus_machine.proofs.AtNone.{event_reuse}
 use Rattle.bus_machine.proofs.Leading.{Sits, sits_after}
 use Rattle.bus_machine.proofs.Promised.{promised}
 use Rattle.bus_machine.proofs.Staying.{Longer, stays_long, grown_longer, promise_stays}
-use Rattle.bus_machine.specs.Machine.{Machine, Trails, Reached, trails_grown, log_of, stage_of}
+use Rattle.bus_machine.specs.Machine.{Machine, Trails, Reached, trails_grown, stage_of}
 use Rattle.bus_machine.specs.Playing.{Answers, AllAnswered, trails_after, words_after, Played}
-use Rattle.bus_machine.proofs.History.{history}
+use Rattle.bus_machine.proofs.History.{history, trails_join}
 use Rattle.bus_machine.specs.Promise.{HasGoneOn, actions_in, words_joined}
 
 -- one event more
@@ -49,21 +48,16 @@ module _ {S : Type 0} (X : Election (Elector S)) (Q : Protocol S Bool Verdict) w
       let one = event_reuse X old run.0 e run.1 run.2.happens in
       let rest = run_same events run.0 new run.3 in (rest.0 ∙ one.0, rest.1 ∙ one.1)
 
-  run_grows : (events : List Event) (old new : Machine (Elector S)) → AllAnswered X Q old events new
-      → IsPrefix (log_of old) (log_of new)
-  run_grows [] old new run = same_prefix (log_of old) (log_of new) (ap log_of run)
-  run_grows (e ∷ events) old new run = prefix_after (log_of old) (log_of run.0) (log_of new)
-      run.2.follows.grows (run_grows events run.0 new run.3)
-
-  -- the words that have joined
+  -- the words that were published by them
   run_joins : (events : List Event) (old new : Machine (Elector S))
-      (run : AllAnswered X Q old events new)
-      → log_of new ≡ log_of old ++ words_after X Q old events new run
-  run_joins [] old new run = ap log_of run ∙ sym (append-nil (log_of old))
-  run_joins (e ∷ events) old new run =
-      run_joins events run.0 new run.3
-      ∙ ap (λ w. w ++ words_after X Q run.0 events new run.3) run.2.follows.joins
-      ∙ append_assoc (log_of old) (words_joined X old e) (words_after X Q run.0 events new run.3)
+      (run : AllAnswered X Q old events new) (T : Trails)
+      → (trails_after X Q old events new run T).log ≡ T.log ++ words_after X Q old events new run
+  run_joins [] old new run T = sym (append-nil T.log)
+  run_joins (e ∷ events) old new run T =
+      run_joins events run.0 new run.3 (trails_grown X old e run.1 T)
+      ∙ ap (λ w. w ++ words_after X Q run.0 events new run.3)
+      (trails_join X old run.0 e run.1 T run.2.happens)
+      ∙ append_assoc T.log (words_joined X old e) (words_after X Q run.0 events new run.3)
 
   run_rises : (events : List Event) (old new : Machine (Elector S)) → AllAnswered X Q old events new
       → stage_of old ≤ stage_of new
@@ -115,23 +109,24 @@ module _ {S : Type 0} (X : Election (Elector S)) (Q : Protocol S Bool Verdict) w
 
   pub played :
       (P : Protocol (Elector S) (Unit {0}) ℕ) (events : List Event) (old new : Machine (Elector S))
+      (T₀ : Trails) → Reached X old T₀
       → Sits X P old → AllAnswered X Q old events new → Played X Q old events new
-  played P events old new s run = record {
+  played P events old new T₀ r₀ s run = record {
     answered = run;
     extends = record {
-      joins = run_joins events old new run;
-      grows = run_grows events old new run;
+      led = (T₀, r₀);
+      stands = λ T r. history X P new (trails_after X Q old events new run T)
+          (sits_on P events old new run s) (run_reached events old new run T r)
+          ∙ run_joins events old new run T;
       rises = run_rises events old new run;
       reached = λ T r. run_reached events old new run T r;
       promised = λ T r. promise_stays X old new T (trails_after X Q old events new run T)
           (ap (λ (x : Layout). x.senders) (run_same events old new run).0) (promised X P old T s r)
           (promised X P new (trails_after X Q old events new run T) (sits_on P events old new run s)
-          (run_reached events old new run T r)) (subst (λ (u : List ℕ × List ℕ). IsPrefix u.0 u.1)
-          (λ i. (
-            history X P old T s r i,
-            history X P new (trails_after X Q old events new run T) (sits_on P events old new run s)
-                (run_reached events old new run T r) i,
-          )) (run_grows events old new run)) (run_longer events old new run T);
+          (run_reached events old new run T r)) (record {
+            rest = words_after X Q old events new run;
+            together = sym (run_joins events old new run T);
+          }) (run_longer events old new run T);
       stays = λ T r t q gone. run_stays events old new run T r t q gone;
     };
   }

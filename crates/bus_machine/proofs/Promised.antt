@@ -13,6 +13,7 @@ use Rattle.bus_machine.proofs.Remembering.{remembered}
 use Rattle.bus_machine.proofs.Taking.{takers_told}
 use Rattle.bus_machine.specs.Machine.{Machine, Trails, Reached, log_of}
 use Rattle.bus_machine.specs.Promise.{IsPromised, TakersTold}
+use Rattle.bus_machine.specs.Remembering.{Remembers}
 
 module _ {E : Type 0} (X : Election E) (P : Protocol E (Unit {0}) ℕ) (m : Machine E) (T : Trails)
     (s : Sits X P m) (r : Reached X m T) where
@@ -54,7 +55,8 @@ module _ {E : Type 0} (X : Election E) (P : Protocol E (Unit {0}) ℕ) (m : Mach
       out = out X P m T f (history X P m T s r) told;
       past = λ p v t page stored word o at. past X P m T f p v at t page stored word o;
       sent = f.puts;
-      remembers = remembered X P m T s r;
+      remembers = λ p v at. subst (λ l. Remembers m l p v (T.actions p)) (history X P m T s r)
+          (remembered X P m T s r p v at);
       reuse = reuses X P m T s r;
     };
   }

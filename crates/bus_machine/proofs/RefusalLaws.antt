@@ -37,7 +37,7 @@ use Rattle.bus_machine.proofs.SameActions.{says_no_more}
 use Rattle.bus_register.specs.Proved.TableLaws.{get_set_same}
 use Rattle.bus_machine.specs.Bounding.{steps_towards, steps_of_pin, IsNamedFirst}
 use Rattle.bus_machine.specs.Machine.{base_of, Machine, Trails, TakesMark, has_stopped, mark_in}
-use Rattle.bus_machine.specs.Machine.{log_of, stage_of}
+use Rattle.bus_machine.specs.Machine.{stage_of}
 use Rattle.bus_machine.specs.Promise.{IsPagedBy, ReusesSafely}
 use Rattle.bus_machine.specs.Machine.{words_of_frame}
 use Rattle.bus_machine.specs.Refusals.{LossesRefuse, AnswersRefuse, SaysMore, NumbersRefuse}
@@ -76,40 +76,43 @@ unpinning_is : (t u : ℕ) → Unpinning t ≡ Unpinning u → t ≡ u
 unpinning_is t u e = cc
 
 -- a log whose order goes on has not ended
-goes_on : {E : Type 0} (m : Machine E) (order : Order) (owners : List (ℕ × SenderNo))
-    → Spells m.layout.senders (log_of m) order owners
-    → order.ended ≡ false → HasEnded m → ⊥
-goes_on m order owners spelled goes w =
+goes_on : {E : Type 0} (m : Machine E) (log : List ℕ) (order : Order) (owners : List (ℕ × SenderNo))
+    → Spells m.layout.senders log order owners
+    → order.ended ≡ false → HasEnded m log → ⊥
+goes_on m log order owners spelled goes w =
     let one =
-    spells_one m.layout.senders (log_of m) w.order order w.owners owners w.spelled spelled in
+    spells_one m.layout.senders log w.order order w.owners owners w.spelled spelled in
     true≢false (sym w.ended ∙ ap (λ (o : Order). o.ended) one.0 ∙ goes)
 
 -- nor has a sender left in one that has not its leave mark
-stays_in : {E : Type 0} (m : Machine E) (s : ℕ) (order : Order) (owners : List (ℕ × SenderNo))
-    → Spells m.layout.senders (log_of m) order owners → has_gone s order ≡ false → HasLeftIt m s → ⊥
-stays_in m s order owners spelled stays w =
+stays_in : {E : Type 0} (m : Machine E) (log : List ℕ) (s : ℕ) (order : Order)
+    (owners : List (ℕ × SenderNo))
+    → Spells m.layout.senders log order owners → has_gone s order ≡ false → HasLeftIt m log s → ⊥
+stays_in m log s order owners spelled stays w =
     let one =
-    spells_one m.layout.senders (log_of m) w.order order w.owners owners w.spelled spelled in
+    spells_one m.layout.senders log w.order order w.owners owners w.spelled spelled in
     true≢false (sym w.left ∙ ap (has_gone s) one.0 ∙ stays)
 
 -- so its batch is not closed
-not_closed : {E : Type 0} (m : Machine E) (s : ℕ) (order : Order) (owners : List (ℕ × SenderNo))
-    → Spells m.layout.senders (log_of m) order owners → order.ended ≡ false
-    → has_gone s order ≡ false → HasEnded m ⊎ HasLeftIt m s → ⊥
-not_closed m s order owners spelled goes stays (inl ended) =
-    goes_on m order owners spelled goes ended
-not_closed m s order owners spelled goes stays (inr left) =
-    stays_in m s order owners spelled stays left
+not_closed : {E : Type 0} (m : Machine E) (log : List ℕ) (s : ℕ) (order : Order)
+    (owners : List (ℕ × SenderNo))
+    → Spells m.layout.senders log order owners → order.ended ≡ false
+    → has_gone s order ≡ false → HasEnded m log ⊎ HasLeftIt m log s → ⊥
+not_closed m log s order owners spelled goes stays (inl ended) =
+    goes_on m log order owners spelled goes ended
+not_closed m log s order owners spelled goes stays (inr left) =
+    stays_in m log s order owners spelled stays left
 
-closed_last : {E : Type 0} (m : Machine E) (s : ℕ) (v : Sender E) → ClosedTells m s v
-    → HasEnded m ⊎ HasLeftIt m s
-closed_last m s v (inl ended) = inl ended
-closed_last m s v (inr left) = inr left.1
+closed_last : {E : Type 0} (m : Machine E) (log : List ℕ) (s : ℕ) (v : Sender E)
+    → ClosedTells m log s v
+    → HasEnded m log ⊎ HasLeftIt m log s
+closed_last m log s v (inl ended) = inl ended
+closed_last m log s v (inr left) = inr left.1
 
 -- who is told to have left has its mark in the order
-left_told : {E : Type 0} (m : Machine E) (s t : ℕ) → HasLeft m.layout.senders (log_of m) s t
-    → HasLeftIt m s
-left_told m s t w = record {
+left_told : {E : Type 0} (m : Machine E) (log : List ℕ) (s t : ℕ) → HasLeft m.layout.senders log s t
+    → HasLeftIt m log s
+left_told m log s t w = record {
   order = order_of (w.earlier ++ w.frame ∷ []);
   owners = map tenure_and_owner (w.earlier ++ w.frame ∷ []);
   spelled = record {
@@ -124,42 +127,44 @@ left_told m s t w = record {
 }
 
 -- and its mark is the last frame of the log
-left_last : {E : Type 0} (m : Machine E) (s t : ℕ) (front : List Frame) (f : Frame)
+left_last : {E : Type 0} (m : Machine E) (log : List ℕ) (s t : ℕ) (front : List Frame) (f : Frame)
     → AreFrames m.layout.senders (front ++ f ∷ [])
-    → log_words (front ++ f ∷ []) ≡ log_of m → (w : HasLeft m.layout.senders (log_of m) s t)
+    → log_words (front ++ f ∷ []) ≡ log → (w : HasLeft m.layout.senders log s t)
     → w.frame ≡ f
-left_last m s t front f lawful are w =
+left_last m log s t front f lawful are w =
     last_one w.earlier front w.frame f
     (same_log m.layout.senders 0 0 (w.earlier ++ w.frame ∷ []) (front ++ f ∷ []) w.lawful lawful
     (w.words_are ∙ sym are))
 
 -- what is told delivered is the last frame of the log
-delivered_last : {E : Type 0} (m : Machine E) (s t first last : ℕ) (front : List Frame) (f : Frame)
-    → AreFrames m.layout.senders (front ++ f ∷ []) → log_words (front ++ f ∷ []) ≡ log_of m
-    → (w : HasDelivered m.layout.senders (log_of m) s t first last) → w.frame ≡ f
-delivered_last m s t first last front f lawful are w =
+delivered_last : {E : Type 0} (m : Machine E) (log : List ℕ) (s t first last : ℕ)
+    (front : List Frame) (f : Frame)
+    → AreFrames m.layout.senders (front ++ f ∷ []) → log_words (front ++ f ∷ []) ≡ log
+    → (w : HasDelivered m.layout.senders log s t first last) → w.frame ≡ f
+delivered_last m log s t first last front f lawful are w =
     last_one w.earlier front w.frame f (same_log m.layout.senders 0 0 (w.earlier ++ w.frame ∷ [])
     (front ++ f ∷ []) w.lawful lawful (w.words_are ∙ sym are))
 
 -- an empty log has not ended
-none_ended : {E : Type 0} (m : Machine E) → log_of m ≡ [] → HasEnded m → ⊥
-none_ended m empty w =
+none_ended : {E : Type 0} (m : Machine E) (log : List ℕ) → log ≡ [] → HasEnded m log → ⊥
+none_ended m log empty w =
     let none = none_spelled w.spelled.frames (w.spelled.words_are ∙ empty) in
     let ended : (order_of w.spelled.frames).ended ≡ true =
     ap (λ (o : Order). o.ended) w.spelled.order_is ∙ w.ended in
     true≢false (sym ended ∙ ap has_end none)
 
 -- and nobody has left in it
-none_left : {E : Type 0} (m : Machine E) (s : ℕ) → log_of m ≡ [] → HasLeftIt m s → ⊥
-none_left m s empty w =
+none_left : {E : Type 0} (m : Machine E) (log : List ℕ) (s : ℕ) → log ≡ [] → HasLeftIt m log s → ⊥
+none_left m log s empty w =
     let none = none_spelled w.spelled.frames (w.spelled.words_are ∙ empty) in
     let gone : has_gone s (order_of w.spelled.frames) ≡ true =
     ap (has_gone s) w.spelled.order_is ∙ w.left in
     true≢false (sym gone ∙ ap (λ fs. has_gone s (order_of fs)) none)
 
-none_closed : {E : Type 0} (m : Machine E) (s : ℕ) → log_of m ≡ [] → HasEnded m ⊎ HasLeftIt m s → ⊥
-none_closed m s empty (inl ended) = none_ended m empty ended
-none_closed m s empty (inr left) = none_left m s empty left
+none_closed : {E : Type 0} (m : Machine E) (log : List ℕ) (s : ℕ) → log ≡ []
+    → HasEnded m log ⊎ HasLeftIt m log s → ⊥
+none_closed m log s empty (inl ended) = none_ended m log empty ended
+none_closed m log s empty (inr left) = none_left m log s empty left
 
 module _ {E : Type 0} (m : Machine E) where
   pub losses_refused : LossesRefuse m
@@ -174,8 +179,9 @@ module _ {E : Type 0} (m : Machine E) where
         (unpinning_is w.tenure t (sym w.parts ∙ parts)) w.elected));
   }
 
-  pub answers_refused : (p : ℕ) (v : Sender E) (actions : List Action) → AnswersRefuse m p v actions
-  answers_refused p v actions = record {
+  pub answers_refused : (log : List ℕ) (p : ℕ) (v : Sender E) (actions : List Action)
+      → AnswersRefuse m log p v actions
+  answers_refused log p v actions = record {
     lost_unseen = λ t o unseen told. unseen told.0;
     lost_to_itself = λ t o same told. told.1 same;
     own_untaken = λ t untaken told. untaken told.1.0 told.1.1;
@@ -184,28 +190,28 @@ module _ {E : Type 0} (m : Machine E) where
         (none_spelled (told.earlier ++ told.frame ∷ []) (told.words_are ∙ empty));
     delivered_elsewhere = λ t first last front f lawful are other told.
         other (ap (λ (g : Frame). g.tenure)
-        (sym (delivered_last m p t first last front f lawful are told)) ∙ told.tenure);
+        (sym (delivered_last m log p t first last front f lawful are told)) ∙ told.tenure);
     delivered_by_another = λ t first last front f lawful are other told.
         other (ap (λ (g : Frame). g.owner.0)
-        (sym (delivered_last m p t first last front f lawful are told)) ∙ told.owner);
+        (sym (delivered_last m log p t first last front f lawful are told)) ∙ told.owner);
     delivered_from_elsewhere = λ t first last front f i rest lawful are items other told.
-        let same = delivered_last m p t first last front f lawful are told in
+        let same = delivered_last m log p t first last front f lawful are told in
         other
         (counts_from first i (items_of told.frame) rest told.numbers (ap items_of same ∙ items));
     full_with_room = λ room told. omega arith;
     left_without_mark = λ t order owners spelled stays told.
-        stays_in m p order owners spelled stays (left_told m p t told);
+        stays_in m log p order owners spelled stays (left_told m log p t told);
     left_elsewhere = λ t front f lawful are other told.
-        other (ap (λ (g : Frame). g.tenure) (sym (left_last m p t front f lawful are told))
+        other (ap (λ (g : Frame). g.tenure) (sym (left_last m log p t front f lawful are told))
         ∙ told.tenure);
     left_by_another = λ t front f lawful are other told.
-        other (ap (λ (g : Frame). g.owner.0) (sym (left_last m p t front f lawful are told))
+        other (ap (λ (g : Frame). g.owner.0) (sym (left_last m log p t front f lawful are told))
         ∙ told.owner);
-    closed_with_nothing = λ empty told. none_closed m p empty (closed_last m p v told);
+    closed_with_nothing = λ empty told. none_closed m log p empty (closed_last m log p v told);
     closed_too_soon = λ order owners spelled goes stays told.
-        not_closed m p order owners spelled goes stays (closed_last m p v told);
+        not_closed m log p order owners spelled goes stays (closed_last m log p v told);
     closed_by_leaving = λ order owners spelled goes apart told. elim told [
-      | inl ended ↦ goes_on m order owners spelled goes ended
+      | inl ended ↦ goes_on m log order owners spelled goes ended
       | inr left ↦ apart left.0
     ];
     spent_before_the_last = λ stage two told. elim told [
@@ -304,6 +310,17 @@ front_off : (xs ys zs : List ℕ) → xs ++ ys ≡ xs ++ zs → ys ≡ zs
 front_off [] ys zs e = e
 front_off (x ∷ xs) ys zs e = front_off xs ys zs (ap (drop 1) e)
 
+-- so is what stands before one end
+back_off : (xs ys zs : List ℕ) → xs ++ zs ≡ ys ++ zs → xs ≡ ys
+back_off [] [] zs e = refl
+back_off [] (y ∷ ys) zs e =
+    let many = ap length e in let more = length-append ys zs in absurd (omega arith)
+back_off (x ∷ xs) [] zs e =
+    let many = ap length e in let more = length-append xs zs in absurd (omega arith)
+back_off (x ∷ xs) (y ∷ ys) zs e =
+    let first : x ≡ y = ap (λ l. slice_index l 0) e in
+    ap (λ h. h ∷ xs) first ∙ ap (λ l. y ∷ l) (back_off xs ys zs (ap (drop 1) e))
+
 pub follows_refused :
     {E : Type 0} (X : Election E) (old : Machine E) (e : Event) (a : Answer) (new : Machine E)
     → FollowsRefuse X old e a new
@@ -312,15 +329,19 @@ follows_refused X old e a new = record {
       let more = f.rises in
       let before : stage_of old ≡ 2 = ap (λ l. slice_index l 1) was in
       let after : stage_of new ≡ 1 = ap (λ l. slice_index l 1) now in omega arith;
-  grows_unpublished = λ none other f.
-      other (f.joins ∙ ap (λ o. log_of old ++ words_of_frame o) none ∙ append-nil (log_of old));
-  publishes_nothing = λ g some same f. nothing_joins (log_of old) g
-      (sym same ∙ f.joins ∙ ap (λ o. log_of old ++ words_of_frame o) some);
-  other_frame = λ senders g k some lawful lawful' apart has f.
-      let both = front_off (log_of old) (frame_words k) (frame_words g)
-      (sym has ∙ f.joins ∙ ap (λ o. log_of old ++ words_of_frame o) some)
+  led_by_nothing = λ nothing f. nothing f.led.0 f.led.1;
+  grows_unpublished = λ T led none other f.
+      other (f.stands T led ∙ ap (λ o. T.log ++ words_of_frame o) none ∙ append-nil T.log);
+  publishes_nothing = λ T g led some same f. nothing_joins T.log g
+      (sym same ∙ f.stands T led ∙ ap (λ o. T.log ++ words_of_frame o) some);
+  other_frame = λ T senders g k led some lawful lawful' apart has f.
+      let both = front_off T.log (frame_words k) (frame_words g)
+      (sym has ∙ f.stands T led ∙ ap (λ o. T.log ++ words_of_frame o) some)
       in
       apart (same_frame senders k g [] [] lawful' lawful (ap (λ w. w ++ []) both)).0;
+  rewritten = λ T g log led some other has f.
+      other (back_off log T.log (frame_words g)
+      (sym has ∙ f.stands T led ∙ ap (λ o. T.log ++ words_of_frame o) some));
 }
 
 -- who holds a page holds one
@@ -339,15 +360,13 @@ pages_refused {E} X m T = record {
       let k = subst (IsPagedBy (stage_of m) _ _) home p.by.paged in let a = k.1 in omega arith;
   other_tenure = λ page home apart p. apart (subst (IsPagedBy (stage_of m) _ _) home p.by.paged).0;
   other_items = λ page order owners s home spelled few apart p.
-      let stood = subst (λ l. Spells m.layout.senders l order owners) p.by.stands spelled in
       let one =
-      spells_one m.layout.senders T.log order p.order owners p.owners stood p.by.spelled in
+      spells_one m.layout.senders T.log order p.order owners p.owners spelled p.by.spelled in
       apart ((p.by.knows page home).next s few
       ∙ ap (λ (o : Order). base_of m s + length (of_sender s o)) (sym one.0));
   other_leavers = λ page order owners s home spelled few apart p.
-      let stood = subst (λ l. Spells m.layout.senders l order owners) p.by.stands spelled in
       let one =
-      spells_one m.layout.senders T.log order p.order owners p.owners stood p.by.spelled in
+      spells_one m.layout.senders T.log order p.order owners p.owners spelled p.by.spelled in
       apart
       ((p.by.knows page home).left s few ∙ ap (λ (o : Order). Some (has_gone s o)) (sym one.0));
   out_other_leavers = λ s v t page stored q order owners away at holds spelled few apart p.
@@ -367,9 +386,8 @@ pages_refused {E} X m T = record {
       ∙ sym w.behind in
       let known = subst (λ f. Spells m.layout.senders f w.knows.order w.knows.owners) front_is
       w.knows.spelled in
-      let stood = subst (λ l. Spells m.layout.senders l order owners) p.by.stands spelled in
       let one =
-      spells_one m.layout.senders T.log w.knows.order order w.knows.owners owners known stood in
+      spells_one m.layout.senders T.log w.knows.order order w.knows.owners owners known spelled in
       apart (ap (λ (g : Page). slice_get g.left q) has.0 ∙ w.knows.knows.left q few
       ∙ ap (λ (o : Order). Some (has_gone q o)) one.0);
   counts_untaken = λ page home one idle p.
@@ -391,9 +409,10 @@ pages_refused {E} X m T = record {
 }
 
 -- who has left by the order that the log spells has left in it
-left_by_it : {E : Type 0} (m : Machine E) (s : ℕ) (order : Order) (owners : List (ℕ × SenderNo))
-    → Spells m.layout.senders (log_of m) order owners → has_gone s order ≡ true → HasLeftIt m s
-left_by_it m s order owners spelled gone = record {
+left_by_it : {E : Type 0} (m : Machine E) (log : List ℕ) (s : ℕ) (order : Order)
+    (owners : List (ℕ × SenderNo))
+    → Spells m.layout.senders log order owners → has_gone s order ≡ true → HasLeftIt m log s
+left_by_it m log s order owners spelled gone = record {
   order = order;
   owners = owners;
   spelled = spelled;
@@ -412,18 +431,18 @@ pub memories_refused : {E : Type 0} (X : Election E) (m : Machine E) (T : Trails
     → MemoriesRefuse X m T
 memories_refused X m T = record {
   closed_with_nothing =
-      λ s v at closed empty p. none_closed m s empty ((p.by.remembers s v at).closed closed);
+      λ s v at closed empty p. none_closed m T.log s empty ((p.by.remembers s v at).closed closed);
   closed_too_soon = λ s v order owners at closed spelled goes stays p.
-      not_closed m s order owners spelled goes stays ((p.by.remembers s v at).closed closed);
+      not_closed m T.log s order owners spelled goes stays ((p.by.remembers s v at).closed closed);
   open_after_leaving = λ s v order owners at open_is spelled gone p.
-      elim ((p.by.remembers s v at).gone (left_by_it m s order owners spelled gone)) [
+      elim ((p.by.remembers s v at).gone (left_by_it m T.log s order owners spelled gone)) [
         | inl closed ↦ (let bad : batch.Open ≡ batch.Closed = sym open_is ∙ closed in cc)
         | inr now ↦
             (let bad : is_leaving batch.Open ≡ true = ap is_leaving (sym open_is) ∙ now.leaves in
             true≢false (sym bad))
       ];
   leaving_after_leaving = λ s v order owners at leaving ph spelled gone p.
-      elim ((p.by.remembers s v at).gone (left_by_it m s order owners spelled gone)) [
+      elim ((p.by.remembers s v at).gone (left_by_it m T.log s order owners spelled gone)) [
         | inl closed ↦
             (let bad : batch.Marking mark.Leave ≡ batch.Closed = sym leaving ∙ closed in cc)
         | inr now ↦ never_at_rest now.tenure v.core.phase now.published ph

@@ -74,7 +74,7 @@ use Rattle.bus_machine.proofs.Staying.{grown_longer}
 use Rattle.bus_machine.specs.Machine.{base_of, Machine, Trails, Reached, New as Start}
 use Rattle.bus_machine.specs.Machine.{Then as Next, Happens, TakesTurn, IsNew, IsOnWord}
 use Rattle.bus_machine.specs.Machine.{trails_grown, turn_grown, turn_answer, found, has_stopped}
-use Rattle.bus_machine.specs.Machine.{moved, put_in, mark_in, no_machine_trails, stage_of}
+use Rattle.bus_machine.specs.Machine.{moved, put_in, mark_in, no_machine_trails, log_of, stage_of}
 use Rattle.bus_machine.specs.Promise.{pin_of}
 use Rattle.bus_machine.specs.Remembering.{HasEnded, HasLeftIt, LeavesNow, HasLost, IsPastFor}
 use Rattle.bus_machine.specs.Remembering.{IsItself, Remembers}
@@ -187,7 +187,7 @@ module _ {E : Type 0} (P : Protocol E (Unit {0}) ℕ) (m : Machine E) (T : Trail
   itself = record { me = part.me; layout = part.layout; marks = part.sender }
 
   -- whoever has left is closed, or is leaving with its page
-  pub left_so : HasLeftIt m p → (v.core.queue.phase ≡ batch.Closed) ⊎ LeavesNow v
+  pub left_so : HasLeftIt m (log_of m) p → (v.core.queue.phase ≡ batch.Closed) ⊎ LeavesNow v
   left_so left =
       let gone : has_gone v.core.me (order_of f.frames) ≡ true =
       ap (λ n. has_gone n (order_of f.frames)) part.me
@@ -280,7 +280,7 @@ module _ {E : Type 0} (stage s : ℕ) (actions : List Action) (c : Core E)
 -- ---- by what happened
 pub record Recalls {E : Type 0} (m : Machine E) (s : ℕ) (c : Core E) (actions : List Action) :
     Type 0 where
-  closed : c.queue.phase ≡ batch.Closed → HasEnded m ⊎ HasLeftIt m s
+  closed : c.queue.phase ≡ batch.Closed → HasEnded m (log_of m) ⊎ HasLeftIt m (log_of m) s
   asked : (asked : Mark) → Asked asked actions → IsShut c.queue
   past : (t : ℕ) → t < c.least → IsPastFor (stage_of m) s actions t
 
@@ -345,7 +345,8 @@ module _ {E : Type 0} (X : Election E) (P : Protocol E (Unit {0}) ℕ) (m m' : M
   f' : IsFramed P m' T'
   f' = framed X P m' T' (sits_after X P m m' e a h sits) (Next m m' T e a r h)
 
-  closed_on : (s : ℕ) → HasEnded m ⊎ HasLeftIt m s → HasEnded m' ⊎ HasLeftIt m' s
+  closed_on : (s : ℕ) → HasEnded m (log_of m) ⊎ HasLeftIt m (log_of m) s
+      → HasEnded m' (log_of m') ⊎ HasLeftIt m' (log_of m') s
   closed_on s (inl ended) = inl
       (still_ended P m m' T' (event_reuse X m m' e a h).0 f' (grows X P m m' T e a sits r h) ended)
   closed_on s (inr left) = inr
@@ -590,7 +591,7 @@ module _ {E : Type 0} (X : Election E) (P : Protocol E (Unit {0}) ℕ) (m m' : M
   shut_sent : (q : BatchPhase) → v.core.queue.phase ≡ q
       → (q ≡ batch.Marking mark.End → has_end f.frames ≡ true)
       → (q ≡ batch.Marking mark.Leave → has_gone s (order_of f.frames) ≡ true)
-      → phase_sent q ≡ batch.Closed → HasEnded m ⊎ HasLeftIt m s
+      → phase_sent q ≡ batch.Closed → HasEnded m (log_of m) ⊎ HasLeftIt m (log_of m) s
   shut_sent batch.Open is ends leaves j = absurd cc
   shut_sent (batch.Marking mark.End) is ends leaves j = inl (ended_of P m T f (ends refl))
   shut_sent (batch.Marking mark.Leave) is ends leaves j = inr (left_of P m T f s (leaves refl))
@@ -598,7 +599,7 @@ module _ {E : Type 0} (X : Election E) (P : Protocol E (Unit {0}) ℕ) (m m' : M
 
   shut : (t : ℕ) (reason : Reason) → Shows v.core t v.core.phase reason
       → (core_at_rest v.core reason t).queue.phase ≡ batch.Closed
-      → HasEnded m ⊎ HasLeftIt m s
+      → HasEnded m (log_of m) ⊎ HasLeftIt m (log_of m) s
   shut t Sent y j = shut_sent v.core.queue.phase refl
       (λ closing. published_ends (base_of m) f.V f.frames v.core t v.core.phase y closing its.fits)
       (λ leaving. subst (λ q. has_gone q (order_of f.frames) ≡ true) its.sender
@@ -717,7 +718,7 @@ module _ {E : Type 0} (X : Election E) (P : Protocol E (Unit {0}) ℕ) where
 
   pub remembered : (m : Machine E) (T : Trails) → Sits X P m → Reached X m T
       → (s : ℕ) (v : Sender E) → slice_get m.senders s ≡ Some v
-      → Remembers m s v (T.actions s)
+      → Remembers m (log_of m) s v (T.actions s)
   remembered m T sits r s v at =
       let f = framed X P m T sits r in
       let k = all_recall m T sits r s v at in

@@ -52,6 +52,7 @@ use Rattle.bus_world.specs.declared.events.Answer.TheVariants as answer
 use Rattle.bus_machine.proofs.EachSender.{actions_of_it}
 use Rattle.bus_machine.proofs.Ending.{elected_more, ended_of, published_ends, found_ends, none_left}
 use Rattle.bus_machine.proofs.Framed.{IsFramed, framed, log_framed}
+use Rattle.bus_machine.proofs.History.{history}
 use Rattle.bus_machine.proofs.Joining.{reused}
 use Rattle.bus_machine.proofs.Leading.{Sits, sits_after}
 use Rattle.bus_machine.proofs.Losing.{losses}
@@ -90,7 +91,7 @@ module _ {E : Type 0} (X : Election E) (P : Protocol E (Unit {0}) ℕ) (m m' : M
   U = trails_grown X m (Turn s word) a T
 
   abbrev Told : Answered → Type 0
-  Told t = TurnTells m s v (U.actions s) t
+  Told t = TurnTells m (log_of m) s v (U.actions s) t
 
   -- the sender is there
   at : slice_get m.senders s ≡ Some v
@@ -105,7 +106,7 @@ module _ {E : Type 0} (X : Election E) (P : Protocol E (Unit {0}) ℕ) (m m' : M
   part = f.sending.parts s c (f.core_of s v at)
 
   -- what it goes by
-  k : Remembers m s v (T.actions s)
+  k : Remembers m (log_of m) s v (T.actions s)
   k = remembered X P m T sits r s v at
 
   -- it has done more
@@ -230,7 +231,7 @@ module _ {E : Type 0} (X : Election E) (P : Protocol E (Unit {0}) ℕ) (m m' : M
   returned t NoRoom w = full t c.phase w part.fits
 
   -- whose batch is closed
-  closed_told : c.queue.phase ≡ batch.Closed → ClosedTells m s v
+  closed_told : c.queue.phase ≡ batch.Closed → ClosedTells m (log_of m) s v
   closed_told shut = elim (k.closed shut) [ inl ended ↦ inl ended | inr left ↦ inr (shut, left) ]
 
   -- who withdraws has seen to whom it lost
@@ -281,17 +282,17 @@ module _ {E : Type 0} (X : Election E) (P : Protocol E (Unit {0}) ℕ) (m m' : M
       behind (Clears q) i (λ y e. cc) (behind_of q (found m (line X v (Clears q)) word))
 
   -- so its answer tells what is so
-  turn_told : EventTells m (Turn s word) a U
+  turn_told : EventTells m (log_of m) (Turn s word) a U
   turn_told =
-      subst (λ o. SenderTells m s o (U.actions s) a) (sym h.goes)
-      (subst (SenderTells m s (Some v) (U.actions s)) (sym h.answered)
+      subst (λ o. SenderTells m (log_of m) s o (U.actions s) a) (sym h.goes)
+      (subst (SenderTells m (log_of m) s (Some v) (U.actions s)) (sym h.answered)
       (by_turn (situation X v) refl))
 
 -- ---- a put
 put_told : {E : Type 0} (X : Election E) (P : Protocol E (Unit {0}) ℕ) (m m' : Machine E)
     (T : Trails) (s : ℕ) (bytes : List ℕ) (a : Answer)
     → Sits X P m → Reached X m T → TakesPut m s bytes a m'
-    → EventTells m (Put s bytes) a (trails_grown X m (Put s bytes) a T)
+    → EventTells m T.log (Put s bytes) a (trails_grown X m (Put s bytes) a T)
 put_told X P m m' T s bytes a sits r h =
     let v = h.sender in
     let n = next_of v.core.queue in
@@ -309,9 +310,11 @@ put_told X P m m' T s bytes a sits r h =
 -- ---- whatever happens
 pub told : {E : Type 0} (X : Election E) (P : Protocol E (Unit {0}) ℕ) (m m' : Machine E)
     (T : Trails) (e : Event) (a : Answer) → Sits X P m
-    → Reached X m T → Happens X m e a m' → EventTells m e a (trails_grown X m e a T)
+    → Reached X m T → Happens X m e a m' → EventTells m T.log e a (trails_grown X m e a T)
 told X P m m' T (Put s bytes) a sits r h = put_told X P m m' T s bytes a sits r h
 told X P m m' T (Ask s asked) a sits r h = tt
-told X P m m' T (Turn s word) a sits r h = turn_told X P m m' T s word a sits r h
+told X P m m' T (Turn s word) a sits r h =
+    subst (λ l. EventTells m l (Turn s word) a (trails_grown X m (Turn s word) a T))
+    (history X P m T sits r) (turn_told X P m m' T s word a sits r h)
 told X P m m' T (Recv q) a sits r h = tt
 told X P m m' T (Stop s) a sits r h = tt

@@ -64,6 +64,10 @@ abbrev pub log_of : {E : Type 0} → Machine E → List ℕ
 log_of b =
     words_read_from (slice_index b.words) (log_place b.layout b.reuse) (slice_index b.words 0)
 
+-- the cells show this as all that was ever published: it stands in the words below the length
+abbrev pub ShowsLog : {E : Type 0} → Machine E → List ℕ → Type 0
+ShowsLog b log = log_of b ≡ log
+
 -- twice the tenure that is open, and one more while its page is out
 abbrev pub stage_of : {E : Type 0} → Machine E → ℕ
 stage_of b = slice_index b.words stage_at

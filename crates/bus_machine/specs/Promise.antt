@@ -32,7 +32,7 @@ use Rattle.bus_world.specs.Waiting.{waiting_at}
 use Rattle.bus_world.specs.World.{Event, Put, Ask, Turn, Recv, Stop}
 use Rattle.bus_world.specs.declared.events.Answer.{Answer}
 use Rattle.bus_machine.specs.Machine.{Machine, Trails, base_of, Reached, trails_grown, owners_told}
-use Rattle.bus_machine.specs.Machine.{log_place, log_of, stage_of, going, words_of_frame}
+use Rattle.bus_machine.specs.Machine.{log_place, ShowsLog, stage_of, going, words_of_frame}
 use Rattle.bus_machine.specs.Remembering.{Remembers}
 
 -- a row for each tenure, or two rows or more
@@ -153,11 +153,11 @@ pub record FindsPage {E : Type 0} (m : Machine E) (t : ℕ) : Type 0 where
   pub stage : stage_of m ≡ 2 * t
 
 -- ---- the promise
--- of these trails, with the order and the owners of frames that the words of the log spell, which
--- are those that were published
+-- of these trails, with the order and the owners of frames that all that was published spells; and
+-- the cells of the log show that
 pub record IsPromisedBy {E : Type 0} (X : Election E) (m : Machine E) (T : Trails) (order : Order)
     (owners : List (ℕ × SenderNo)) : Type 0 where
-  pub stands : log_of m ≡ T.log
+  pub stands : ShowsLog m T.log
   pub spelled : Spells m.layout.senders T.log order owners
   pub takers : TakersTold m.reuse m.owners T.actions
   pub promises : Promises (base_of m) T.actions T.heard order owners
@@ -188,7 +188,7 @@ pub record IsPromisedBy {E : Type 0} (X : Election E) (m : Machine E) (T : Trail
       ≡ map (λ i. i.message) (of_sender s order) ++ waiting_at v.core v.core.phase
   -- what each sender goes by is so
   pub remembers : (s : ℕ) (v : Sender E) → slice_get m.senders s ≡ Some v
-      → Remembers m s v (T.actions s)
+      → Remembers m T.log s v (T.actions s)
   pub reuse : ReusesSafely X m T m.reuse
 
 pub record IsPromised {E : Type 0} (X : Election E) (m : Machine E) (T : Trails) : Type 0 where
@@ -244,15 +244,16 @@ abbrev pub words_joined : {E : Type 0} → Election E → Machine E → Event �
 words_joined X m e = words_of_frame (frame_published X m e)
 
 -- ---- one machine follows another
--- The log below the length is extended by these words, and by no others, and never otherwise
--- changed. The stage never falls. Whatever trails led to the old machine, with these ones they lead
--- to the new one, and the promise stays; and of a tenure whose row had gone on before, no sender
+-- Some trails led to the old machine. Whatever trails did, the cells of the new one show all that
+-- was published by them, with these words behind it, and no other: so what was published is
+-- extended and never otherwise changed. The stage never falls. With these ones those trails lead to
+-- the new machine, and the promise stays; and of a tenure whose row had gone on before, no sender
 -- has an action more: no step of its election, and none of who holds its page. So what was elected
 -- there stays as it is.
 pub record Extends {E : Type 0} (X : Election E) (old new : Machine E) (joined : List ℕ)
     (grown : Trails → Trails) : Type 0 where
-  pub joins : log_of new ≡ log_of old ++ joined
-  pub grows : IsPrefix (log_of old) (log_of new)
+  pub led : (T : Trails) × Reached X old T
+  pub stands : (T : Trails) → Reached X old T → ShowsLog new (T.log ++ joined)
   pub rises : stage_of old ≤ stage_of new
   pub reached : (T : Trails) → Reached X old T → Reached X new (grown T)
   pub promised : (T : Trails) → Reached X old T → StaysPromised X old T new (grown T)

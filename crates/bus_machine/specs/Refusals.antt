@@ -40,8 +40,8 @@ use Rattle.bus_world.specs.World.{Event, Ask}
 use Rattle.bus_world.specs.declared.events.Answer.{Answer}
 use Rattle.bus_world.specs.declared.events.Answer.TheVariants as answer
 use Rattle.bus_machine.specs.Bounding.{named_by, AreBounded, PinsAreBounded}
-use Rattle.bus_machine.specs.Machine.{Machine, Trails, Happens, base_of, log_place, log_of}
-use Rattle.bus_machine.specs.Machine.{stage_of}
+use Rattle.bus_machine.specs.Machine.{Machine, Trails, Reached, Happens, base_of, log_place}
+use Rattle.bus_machine.specs.Machine.{ShowsLog, stage_of}
 use Rattle.bus_machine.specs.Promise.{IsPromised, Follows, actions_in, pin_of, frame_published}
 use Rattle.bus_machine.specs.Telling.{TurnTells, PutTells, LossesAreSeen}
 
@@ -57,70 +57,72 @@ pub record LossesRefuse {E : Type 0} (m : Machine E) : Type 0 where
       → slice_get m.senders s ≡ Some v → lost_of v.reuse ≡ Some o → pin_of v.reuse ≡ Unpinning t
       → ((w : ℕ) → Elected (D s) t w → w ≡ u) → o.0 ≢ u → ¬ LossesAreSeen m D
 
--- an answer that names another owner, or a sender that took no page, or more than the log spells
-pub record AnswersRefuse {E : Type 0} (m : Machine E) (s : ℕ) (v : Sender E)
+-- an answer that names another owner, or a sender that took no page, or more than all that was
+-- published spells
+pub record AnswersRefuse {E : Type 0} (m : Machine E) (log : List ℕ) (s : ℕ) (v : Sender E)
     (actions : List Action) : Type 0 where
   -- Lost to an owner with which it saw no election of this tenure end
   pub lost_unseen : (t : ℕ) (o : SenderNo) → ¬ Elected actions t o.0
-      → ¬ TurnTells m s v actions (turn.Lost t o)
+      → ¬ TurnTells m log s v actions (turn.Lost t o)
   -- Lost to itself
-  pub lost_to_itself : (t : ℕ) (o : SenderNo) → o.0 ≡ s → ¬ TurnTells m s v actions (turn.Lost t o)
+  pub lost_to_itself : (t : ℕ) (o : SenderNo) → o.0 ≡ s
+      → ¬ TurnTells m log s v actions (turn.Lost t o)
   -- Own of a tenure whose page it did not take
   pub own_untaken : (t : ℕ) → ((place : ℕ) → ¬ Took actions t place)
-      → ¬ TurnTells m s v actions (turn.Own t)
+      → ¬ TurnTells m log s v actions (turn.Own t)
   -- Delivered with an empty log
-  pub delivered_nothing : (t first last : ℕ) → log_of m ≡ []
-      → ¬ TurnTells m s v actions (turn.Delivered t first last)
+  pub delivered_nothing : (t first last : ℕ) → log ≡ []
+      → ¬ TurnTells m log s v actions (turn.Delivered t first last)
   -- Delivered of another tenure or sender than those of the last frame of the log, or from another
   -- number than its first
   pub delivered_elsewhere : (t first last : ℕ) (front : List Frame) (f : Frame)
       → AreFrames m.layout.senders (front ++ f ∷ [])
-      → log_words (front ++ f ∷ []) ≡ log_of m → f.tenure ≢ t
-      → ¬ TurnTells m s v actions (turn.Delivered t first last)
+      → log_words (front ++ f ∷ []) ≡ log → f.tenure ≢ t
+      → ¬ TurnTells m log s v actions (turn.Delivered t first last)
   pub delivered_by_another : (t first last : ℕ) (front : List Frame) (f : Frame)
       → AreFrames m.layout.senders (front ++ f ∷ [])
-      → log_words (front ++ f ∷ []) ≡ log_of m → f.owner.0 ≢ s
-      → ¬ TurnTells m s v actions (turn.Delivered t first last)
+      → log_words (front ++ f ∷ []) ≡ log → f.owner.0 ≢ s
+      → ¬ TurnTells m log s v actions (turn.Delivered t first last)
   pub delivered_from_elsewhere : (t first last : ℕ) (front : List Frame) (f : Frame) (i : Item)
       (rest : List Item)
-      → AreFrames m.layout.senders (front ++ f ∷ []) → log_words (front ++ f ∷ []) ≡ log_of m
+      → AreFrames m.layout.senders (front ++ f ∷ []) → log_words (front ++ f ∷ []) ≡ log
       → items_of f ≡ i ∷ rest → i.number ≢ first
-      → ¬ TurnTells m s v actions (turn.Delivered t first last)
+      → ¬ TurnTells m log s v actions (turn.Delivered t first last)
   -- Left without its leave mark in the order that the log spells
   pub left_without_mark : (t : ℕ) (order : Order) (owners : List (ℕ × SenderNo))
-      → Spells m.layout.senders (log_of m) order owners
-      → has_gone s order ≡ false → ¬ TurnTells m s v actions (turn.Left t)
+      → Spells m.layout.senders log order owners
+      → has_gone s order ≡ false → ¬ TurnTells m log s v actions (turn.Left t)
   -- or of another tenure or sender than those of the last frame of the log
   pub left_elsewhere : (t : ℕ) (front : List Frame) (f : Frame)
       → AreFrames m.layout.senders (front ++ f ∷ [])
-      → log_words (front ++ f ∷ []) ≡ log_of m → f.tenure ≢ t
-      → ¬ TurnTells m s v actions (turn.Left t)
+      → log_words (front ++ f ∷ []) ≡ log → f.tenure ≢ t
+      → ¬ TurnTells m log s v actions (turn.Left t)
   pub left_by_another : (t : ℕ) (front : List Frame) (f : Frame)
       → AreFrames m.layout.senders (front ++ f ∷ [])
-      → log_words (front ++ f ∷ []) ≡ log_of m → f.owner.0 ≢ s
-      → ¬ TurnTells m s v actions (turn.Left t)
+      → log_words (front ++ f ∷ []) ≡ log → f.owner.0 ≢ s
+      → ¬ TurnTells m log s v actions (turn.Left t)
   -- Full where there is room
-  pub full_with_room : length (log_of m) + frame_len v.core ≤ m.layout.capacity
-      → ¬ TurnTells m s v actions turn.Full
+  pub full_with_room : length log + frame_len v.core ≤ m.layout.capacity
+      → ¬ TurnTells m log s v actions turn.Full
   -- Closed with an empty log; or while the order goes on, of one that has not left in it, or whose
   -- batch was not closed
-  pub closed_with_nothing : log_of m ≡ [] → ¬ TurnTells m s v actions turn.Closed
+  pub closed_with_nothing : log ≡ [] → ¬ TurnTells m log s v actions turn.Closed
   pub closed_too_soon : (order : Order) (owners : List (ℕ × SenderNo))
-      → Spells m.layout.senders (log_of m) order owners → order.ended ≡ false
-      → has_gone s order ≡ false → ¬ TurnTells m s v actions turn.Closed
+      → Spells m.layout.senders log order owners → order.ended ≡ false
+      → has_gone s order ≡ false → ¬ TurnTells m log s v actions turn.Closed
   pub closed_by_leaving : (order : Order) (owners : List (ℕ × SenderNo))
-      → Spells m.layout.senders (log_of m) order owners
+      → Spells m.layout.senders log order owners
       → order.ended ≡ false → v.core.queue.phase ≢ batch.Closed
-      → ¬ TurnTells m s v actions turn.Closed
+      → ¬ TurnTells m log s v actions turn.Closed
   -- Spent in the first of two tenures, or in the only one, of a sender that has seen no election
   -- end
   pub spent_before_the_last : stage_of m ≡ 1 → m.layout.rows ≡ 2
-      → ¬ TurnTells m s v actions turn.Spent
+      → ¬ TurnTells m log s v actions turn.Spent
   pub spent_unseen : stage_of m ≡ 0 → m.layout.rows ≡ 1 → actions ≡ []
-      → ¬ TurnTells m s v actions turn.Spent
+      → ¬ TurnTells m log s v actions turn.Spent
   -- Behind where each tenure has a row
   pub behind_apart : (t : ℕ) (p : SenderNo) → m.reuse ≡ None
-      → ¬ TurnTells m s v actions (turn.Behind t p)
+      → ¬ TurnTells m log s v actions (turn.Behind t p)
 
 -- a first message that is accepted as number 1, a second one as number 0, and one that was not put
 pub record NumbersRefuse : Type 0 where
@@ -186,16 +188,23 @@ pub record FollowsRefuse {E : Type 0} (X : Election E) (old : Machine E) (e : Ev
   -- the stage falls from that of tenure 1, which is open, to that of tenure 0, which is held
   pub falls : (length length' : ℕ) (rest rest' : List ℕ) → old.words ≡ length ∷ 2 ∷ rest
       → new.words ≡ length' ∷ 1 ∷ rest' → ¬ Follows X old e a new
-  -- the log has other words, and no length was stored: so it has more or fewer
-  pub grows_unpublished : frame_published X old e ≡ None → log_of new ≢ log_of old
+  -- nothing led to the old machine
+  pub led_by_nothing : ((T : Trails) → ¬ Reached X old T) → ¬ Follows X old e a new
+  -- the cells show other words than were published, and no length was stored: so more or fewer
+  pub grows_unpublished : (T : Trails) → Reached X old T → frame_published X old e ≡ None
+      → ¬ ShowsLog new T.log → ¬ Follows X old e a new
+  -- a length was stored, and they show what they showed
+  pub publishes_nothing : (T : Trails) (f : Frame) → Reached X old T
+      → frame_published X old e ≡ Some f → ShowsLog new T.log → ¬ Follows X old e a new
+  -- another frame was published than that of who stored the length
+  pub other_frame : (T : Trails) (senders : ℕ) (f g : Frame) → Reached X old T
+      → frame_published X old e ≡ Some f → IsFrame senders f → IsFrame senders g → g ≢ f
+      → ShowsLog new (T.log ++ frame_words g) → ¬ Follows X old e a new
+  -- a frame was published, and beside it a cell was rewritten: before the frame they show other
+  -- words than were published
+  pub rewritten : (T : Trails) (f : Frame) (log : List ℕ) → Reached X old T
+      → frame_published X old e ≡ Some f → log ≢ T.log → ShowsLog new (log ++ frame_words f)
       → ¬ Follows X old e a new
-  -- a length was stored, and the log has the words that it had
-  pub publishes_nothing : (f : Frame) → frame_published X old e ≡ Some f → log_of new ≡ log_of old
-      → ¬ Follows X old e a new
-  -- another frame joined it than that of who stored the length
-  pub other_frame : (senders : ℕ) (f g : Frame) → frame_published X old e ≡ Some f
-      → IsFrame senders f → IsFrame senders g → g ≢ f
-      → log_of new ≡ log_of old ++ frame_words g → ¬ Follows X old e a new
 
 -- a page at home with an odd stage, or out with an even one; or one that knows another number of
 -- tenures
@@ -208,20 +217,20 @@ pub record PagesRefuse {E : Type 0} (X : Election E) (m : Machine E) (T : Trails
   -- or another next number of a sender than that behind the log
   pub other_items : (page : Page) (order : Order) (owners : List (ℕ × SenderNo)) (s : ℕ)
       → m.home ≡ Some page
-      → Spells m.layout.senders (log_of m) order owners → s < MOST_SENDERS
+      → Spells m.layout.senders T.log order owners → s < MOST_SENDERS
       → slice_index page.next s ≢ base_of m s + length (of_sender s order)
       → ¬ IsPromised X m T
   -- or another of whom it is to know whether it has left
   pub other_leavers : (page : Page) (order : Order) (owners : List (ℕ × SenderNo)) (s : ℕ)
       → m.home ≡ Some page
-      → Spells m.layout.senders (log_of m) order owners → s < MOST_SENDERS
+      → Spells m.layout.senders T.log order owners → s < MOST_SENDERS
       → slice_get page.left s ≢ Some (has_gone s order)
       → ¬ IsPromised X m T
   -- or such a page that is out, whose holder has published nothing
   pub out_other_leavers : (s : ℕ) (v : Sender E) (t : ℕ) (page : Page) (stored q : ℕ)
       (order : Order) (owners : List (ℕ × SenderNo))
       → m.home ≡ None → slice_get m.senders s ≡ Some v → v.core.phase ≡ Holding t page stored false
-      → Spells m.layout.senders (log_of m) order owners → q < MOST_SENDERS
+      → Spells m.layout.senders T.log order owners → q < MOST_SENDERS
       → slice_get page.left q ≢ Some (has_gone q order)
       → ¬ IsPromised X m T
   -- a page at home that counts a tenure, while nobody has done anything
@@ -261,27 +270,27 @@ pub record MemoriesRefuse {E : Type 0} (X : Election E) (m : Machine E) (T : Tra
   -- its batch is closed while the order goes on, in which it has not left
   pub closed_too_soon : (s : ℕ) (v : Sender E) (order : Order) (owners : List (ℕ × SenderNo))
       → slice_get m.senders s ≡ Some v
-      → v.core.queue.phase ≡ batch.Closed → Spells m.layout.senders (log_of m) order owners
+      → v.core.queue.phase ≡ batch.Closed → Spells m.layout.senders T.log order owners
       → order.ended ≡ false → has_gone s order ≡ false
       → ¬ IsPromised X m T
   -- it has left in the order, and its batch is open; or its leave mark waits still while it holds
   -- no page
   pub open_after_leaving : (s : ℕ) (v : Sender E) (order : Order) (owners : List (ℕ × SenderNo))
       → slice_get m.senders s ≡ Some v
-      → v.core.queue.phase ≡ batch.Open → Spells m.layout.senders (log_of m) order owners
+      → v.core.queue.phase ≡ batch.Open → Spells m.layout.senders T.log order owners
       → has_gone s order ≡ true → ¬ IsPromised X m T
   pub leaving_after_leaving : (s : ℕ) (v : Sender E) (order : Order) (owners : List (ℕ × SenderNo))
       → slice_get m.senders s ≡ Some v
       → v.core.queue.phase ≡ batch.Marking mark.Leave → v.core.phase ≡ Resting
-      → Spells m.layout.senders (log_of m) order owners
+      → Spells m.layout.senders T.log order owners
       → has_gone s order ≡ true → ¬ IsPromised X m T
   -- it has asked to close or to leave, and its batch is open
   pub open_after_asking : (s : ℕ) (v : Sender E) (asked : Mark) → slice_get m.senders s ≡ Some v
       → v.core.queue.phase ≡ batch.Open
       → Asked asked (T.actions s) → ¬ IsPromised X m T
-  -- its batch is closed, and the log is empty
+  -- its batch is closed, and nothing was published
   pub closed_with_nothing : (s : ℕ) (v : Sender E) → slice_get m.senders s ≡ Some v
-      → v.core.queue.phase ≡ batch.Closed → log_of m ≡ [] → ¬ IsPromised X m T
+      → v.core.queue.phase ≡ batch.Closed → T.log ≡ [] → ¬ IsPromised X m T
   -- it enters tenure 0 no more, which is open, and has done nothing
   pub past_at_first : (s : ℕ) (v : Sender E) → slice_get m.senders s ≡ Some v → v.core.least ≡ 1
       → stage_of m ≡ 0 → T.actions s ≡ [] → ¬ IsPromised X m T

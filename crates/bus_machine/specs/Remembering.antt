@@ -16,20 +16,20 @@ use Rattle.bus_tenure.specs.Core.{is_leaving}
 use Rattle.bus_tenure.specs.Seen.{tenure_of}
 use Rattle.bus_tenure.specs.declared.phases.Phase.TheVariants.{Resting}
 use Rattle.bus_world.specs.Headline.{Action, Asked, Elected, puts}
-use Rattle.bus_machine.specs.Machine.{Machine, base_of, log_of, stage_of}
+use Rattle.bus_machine.specs.Machine.{Machine, base_of, stage_of}
 
--- the order that the log spells has ended
-pub record HasEnded {E : Type 0} (m : Machine E) : Type 0 where
+-- the order that this log spells, which is all that was published, has ended
+pub record HasEnded {E : Type 0} (m : Machine E) (log : List ℕ) : Type 0 where
   pub order : Order
   pub owners : List (ℕ × SenderNo)
-  pub spelled : Spells m.layout.senders (log_of m) order owners
+  pub spelled : Spells m.layout.senders log order owners
   pub ended : order.ended ≡ true
 
--- sender s has left in the order that the log spells
-pub record HasLeftIt {E : Type 0} (m : Machine E) (s : ℕ) : Type 0 where
+-- sender s has left in the order that it spells
+pub record HasLeftIt {E : Type 0} (m : Machine E) (log : List ℕ) (s : ℕ) : Type 0 where
   pub order : Order
   pub owners : List (ℕ × SenderNo)
-  pub spelled : Spells m.layout.senders (log_of m) order owners
+  pub spelled : Spells m.layout.senders log order owners
   pub left : has_gone s order ≡ true
 
 -- its leave mark is published, and the page not given back
@@ -67,19 +67,19 @@ pub record IsItself {E : Type 0} (m : Machine E) (s : ℕ) (v : Sender E) : Type
   pub layout : v.core.layout ≡ m.layout
   pub marks : v.core.queue.sender.0 ≡ s
 
--- sender s, which is this one and has done this
-pub record Remembers {E : Type 0} (m : Machine E) (s : ℕ) (v : Sender E) (actions : List Action) :
-    Type 0 where
+-- sender s, which is this one and has done this, where this was published
+pub record Remembers {E : Type 0} (m : Machine E) (log : List ℕ) (s : ℕ) (v : Sender E)
+    (actions : List Action) : Type 0 where
   -- it is who it is, and uses as many rows again as the machine
   pub is : IsItself m s v
   pub rows : rows_in v.reuse ≡ m.reuse
   -- its next message has the number of its base and how many it has put
   pub numbers : next_of v.core.queue ≡ base_of m s + length (puts actions)
   -- its batch is closed only once the order has ended, or the sender has left in it
-  pub closed : v.core.queue.phase ≡ Closed → HasEnded m ⊎ HasLeftIt m s
+  pub closed : v.core.queue.phase ≡ Closed → HasEnded m log ⊎ HasLeftIt m log s
   -- where the sender has left, its batch is closed, or the sender has yet to give the page back
   -- with its mark published
-  pub gone : HasLeftIt m s → (v.core.queue.phase ≡ Closed) ⊎ LeavesNow v
+  pub gone : HasLeftIt m log s → (v.core.queue.phase ≡ Closed) ⊎ LeavesNow v
   -- once it has asked to close or to leave, nothing more is put into it
   pub asked : (mark : Mark) → Asked mark actions → IsShut v.core.queue
   -- each tenure below the first that it may enter has ended, or it has lost it

@@ -24,7 +24,7 @@ use Rattle.bus_world.specs.World.{Event, Put, Ask, Turn, Recv, Stop}
 use Rattle.bus_world.specs.declared.events.Answer.{Answer}
 use Rattle.bus_world.specs.declared.events.Answer.TheVariants as answer
 use Rattle.bus_machine.specs.Machine.{Machine, Trails, Reached, base_of, trails_grown, going}
-use Rattle.bus_machine.specs.Machine.{log_of, stage_of}
+use Rattle.bus_machine.specs.Machine.{stage_of}
 use Rattle.bus_machine.specs.Promise.{pin_of}
 use Rattle.bus_machine.specs.Remembering.{HasEnded, HasLeftIt, NoneIsLeft}
 
@@ -75,10 +75,10 @@ Causes X P m (Stop s) = Unit {0}
 
 -- ---- by whatever trails led to the machine
 -- ---- an answer of sender s
--- The order has ended. Or it goes on, and the sender, whose batch was closed before, has left in
--- it.
-abbrev pub ClosedTells : {E : Type 0} → Machine E → ℕ → Sender E → Type 0
-ClosedTells m s v = HasEnded m ⊎ ((v.core.queue.phase ≡ batch.Closed) × HasLeftIt m s)
+-- The order of what was published has ended. Or it goes on, and the sender, whose batch was closed
+-- before, has left in it.
+abbrev pub ClosedTells : {E : Type 0} → Machine E → List ℕ → ℕ → Sender E → Type 0
+ClosedTells m log s v = HasEnded m log ⊎ ((v.core.queue.phase ≡ batch.Closed) × HasLeftIt m log s)
 
 -- A tenure is lost to the owner with which a step of this sender saw its election end, and which is
 -- another sender. A tenure is the sender's own where it is elected in it and took its page.
@@ -87,30 +87,33 @@ ClosedTells m s v = HasEnded m ⊎ ((v.core.queue.phase ≡ batch.Closed) × Has
 -- full where the sender's frame does not fit behind it. With a step and without one, a sender is
 -- closed where the order has ended, and tenures are spent where none is left to it; without one it
 -- is closed also where it has left. A presence stands in the way only where rows are used again.
-abbrev pub TurnTells : {E : Type 0} → Machine E → ℕ → Sender E → List Action → Answered → Type 0
-TurnTells m s v actions turn.Idle = Unit {0}
-TurnTells m s v actions turn.Waiting = Unit {0}
-TurnTells m s v actions turn.Going = Unit {0}
-TurnTells m s v actions (turn.Lost t o) = Elected actions t o.0 × (o.0 ≢ s)
-TurnTells m s v actions (turn.Own t) = Elected actions t s × ((place : ℕ) × Took actions t place)
-TurnTells m s v actions (turn.Delivered t first last) =
-    HasDelivered m.layout.senders (log_of m) s t first last
-TurnTells m s v actions (turn.Left t) = HasLeft m.layout.senders (log_of m) s t
-TurnTells m s v actions turn.Full = m.layout.capacity < length (log_of m) + frame_len v.core
-TurnTells m s v actions turn.Closed = ClosedTells m s v
-TurnTells m s v actions turn.Spent = NoneIsLeft m s actions
-TurnTells m s v actions (turn.Behind t p) = IsSome m.reuse
+-- The log is all that was published before the turn, which publishes nothing with such an answer.
+abbrev pub TurnTells : {E : Type 0} → Machine E → List ℕ → ℕ → Sender E → List Action → Answered
+    → Type 0
+TurnTells m log s v actions turn.Idle = Unit {0}
+TurnTells m log s v actions turn.Waiting = Unit {0}
+TurnTells m log s v actions turn.Going = Unit {0}
+TurnTells m log s v actions (turn.Lost t o) = Elected actions t o.0 × (o.0 ≢ s)
+TurnTells m log s v actions (turn.Own t) =
+    Elected actions t s × ((place : ℕ) × Took actions t place)
+TurnTells m log s v actions (turn.Delivered t first last) =
+    HasDelivered m.layout.senders log s t first last
+TurnTells m log s v actions (turn.Left t) = HasLeft m.layout.senders log s t
+TurnTells m log s v actions turn.Full = m.layout.capacity < length log + frame_len v.core
+TurnTells m log s v actions turn.Closed = ClosedTells m log s v
+TurnTells m log s v actions turn.Spent = NoneIsLeft m s actions
+TurnTells m log s v actions (turn.Behind t p) = IsSome m.reuse
 
 -- of the sender that goes on
-abbrev pub SenderTells : {E : Type 0} → Machine E → ℕ → Option (Sender E) → List Action → Answer
-    → Type 0
-SenderTells m s None actions a = Unit {0}
-SenderTells m s (Some v) actions (answer.Number n) = Unit {0}
-SenderTells m s (Some v) actions answer.Closing = Unit {0}
-SenderTells m s (Some v) actions answer.Leaving = Unit {0}
-SenderTells m s (Some v) actions (answer.Turn t) = TurnTells m s v actions t
-SenderTells m s (Some v) actions (answer.Recv r) = Unit {0}
-SenderTells m s (Some v) actions answer.Stopped = Unit {0}
+abbrev pub SenderTells : {E : Type 0} → Machine E → List ℕ → ℕ → Option (Sender E) → List Action
+    → Answer → Type 0
+SenderTells m log s None actions a = Unit {0}
+SenderTells m log s (Some v) actions (answer.Number n) = Unit {0}
+SenderTells m log s (Some v) actions answer.Closing = Unit {0}
+SenderTells m log s (Some v) actions answer.Leaving = Unit {0}
+SenderTells m log s (Some v) actions (answer.Turn t) = TurnTells m log s v actions t
+SenderTells m log s (Some v) actions (answer.Recv r) = Unit {0}
+SenderTells m log s (Some v) actions answer.Stopped = Unit {0}
 
 -- a message that was accepted has the number of its sender's base and of those that it had put
 -- before it, by the actions with this put
@@ -122,19 +125,20 @@ PutTells first actions (answer.Turn t) = Unit {0}
 PutTells first actions (answer.Recv r) = Unit {0}
 PutTells first actions answer.Stopped = Unit {0}
 
--- an event of the machine as it was, with its answer, by the trails that lead to the machine as it
--- is then
-abbrev pub EventTells : {E : Type 0} → Machine E → Event → Answer → Trails → Type 0
-EventTells m (Put s bytes) a T = PutTells (base_of m s) (T.actions s) a
-EventTells m (Ask s mark) a T = Unit {0}
-EventTells m (Turn s word) a T = SenderTells m s (going m s) (T.actions s) a
-EventTells m (Recv r) a T = Unit {0}
-EventTells m (Stop s) a T = Unit {0}
+-- an event of the machine as it was, where this was published, with its answer, by the trails that
+-- lead to the machine as it is then
+abbrev pub EventTells : {E : Type 0} → Machine E → List ℕ → Event → Answer → Trails → Type 0
+EventTells m log (Put s bytes) a T = PutTells (base_of m s) (T.actions s) a
+EventTells m log (Ask s mark) a T = Unit {0}
+EventTells m log (Turn s word) a T = SenderTells m log s (going m s) (T.actions s) a
+EventTells m log (Recv r) a T = Unit {0}
+EventTells m log (Stop s) a T = Unit {0}
 
 -- whatever trails led to the old machine: with what this event and its answer add to them, what the
 -- answer tells is so
 abbrev pub Tells : {E : Type 0} → Election E → Machine E → Event → Answer → Type 0
-Tells X old e a = (T : Trails) → Reached X old T → EventTells old e a (trails_grown X old e a T)
+Tells X old e a =
+    (T : Trails) → Reached X old T → EventTells old T.log e a (trails_grown X old e a T)
 
 -- ---- what a sender remembers that has lost a tenure
 -- sender s, whose pin has come so far, parts from a tenure, whose election it saw end with this

@@ -9,7 +9,7 @@ ghost use Rattle.bus_world.specs.Headline.{Action};
 ghost use Rattle.bus_world.specs.World.{Event};
 ghost use Rattle.bus_world.specs.declared.events.Answer.{Answer};
 ghost use Rattle.bus_machine.specs.LogRefusals.{LogsRefuse};
-ghost use Rattle.bus_machine.specs.Machine.{Machine, Trails, Reached, Happens, log_of};
+ghost use Rattle.bus_machine.specs.Machine.{Machine, Trails, Reached, Happens, ShowsLog};
 ghost use Rattle.bus_machine.specs.Bounding.{AreBounded, PinsAreBounded};
 ghost use Rattle.bus_machine.specs.Promise.{IsPromised, HasRows, Follows};
 ghost use Rattle.bus_machine.specs.Promise.{actions_in};
@@ -56,8 +56,9 @@ pub fn events_keep_promise<Q: Ratifier>()
     election_is_lawful::<Q>();
 }
 
-/// The words of the log below the length are all that was ever published, by all that led to the
-/// machine.
+/// The cells of the log show all that was ever published, by all that led to the machine: it stands
+/// in the words below the length. What is said of answers, of what senders remember and of what
+/// joins goes by what was published, and this alone says where that stands.
 pub fn history_stands<Q: Ratifier>()
     ensures { let X = election_of Q.Ratifier in
         (senders rounds rows capacity : ℕ)
@@ -65,7 +66,7 @@ pub fn history_stands<Q: Ratifier>()
         → (machine : Machine (Elector Q)) (trails : Trails)
         → machine.layout ≡ layout_with Q.protocol senders rounds rows capacity
         → HasRows machine.reuse → Reached X machine trails
-        → log_of machine ≡ trails.log }
+        → ShowsLog machine trails.log }
 {
     election_is_lawful::<Q>();
 }
@@ -118,15 +119,16 @@ pub fn losses_refuse<Q: Ratifier>()
 
 /// No answer is true that accepts a message with another number than its sender's first one and how
 /// many that had put before it; or that is Lost to an owner whose election the sender did not see,
-/// or to itself; Own of a tenure whose page it did not take; Delivered or Closed where the log is
-/// empty; Delivered of another tenure, sender or first number than those of the last frame; Left
-/// of one whose leave mark does not stand in the log, or is not its last frame; Closed while the
+/// or to itself; Own of a tenure whose page it did not take; Delivered or Closed where nothing was
+/// published; Delivered of another tenure, sender or first number than those of the last frame that
+/// was; Left of one whose leave mark was not published, or is not the last frame; Closed while the
 /// order goes on, of one that has not left in it or whose batch was not closed; Full where the
 /// frame fits; Spent in the first of two tenures, or in the only one before its election has ended;
 /// Behind where each tenure has a row.
 pub fn answers_refuse<Q: Ratifier>()
-    ensures turns { (machine : Machine (Elector Q)) (number : ℕ) (sender : Sender (Elector Q))
-        (actions : List Action) → AnswersRefuse machine number sender actions }
+    ensures turns { (machine : Machine (Elector Q)) (log : List ℕ) (number : ℕ)
+        (sender : Sender (Elector Q)) (actions : List Action)
+        → AnswersRefuse machine log number sender actions }
     ensures numbers { NumbersRefuse }
 {}
 
@@ -141,17 +143,18 @@ pub fn same_actions_say_no_more()
 {}
 
 /// No close is answered Leaving and no leave Closing, and neither lets the mark of the other wait.
-/// No machine follows another by an event with which the stage falls; or with which the log gets
-/// other words though no length was stored, or the same words though one was, or another frame than
-/// that of who stored it. None is promised whose page is at home while the stage is odd, or out
-/// while it is even, or knows another number of tenures or of items, or others that have left, or
-/// is out while nobody holds it, or counts a tenure that nobody took, or that two senders hold, or
-/// one that did not take it; nor one of which a sender goes by another number, layout or count of
-/// rows, is to put its second message first, is closed while the order goes on in which it has not
-/// left, has left in it and is open or at rest with its mark, has asked for a mark and is open,
-/// passes over a tenure that is open, has begun one that is not opened yet, or has its batch on
-/// its way at rest, or not in a tenure; nor one of which a sender stores a word of the log below
-/// the length next, or clears a word of a row in which somebody stands. None is bounded of which a
+/// No machine follows another to which nothing led; or by an event with which the stage falls; or
+/// with which the cells of the log show other words than were published though no length was
+/// stored, or what they showed though one was, or another frame than that of who stored it, or
+/// other words before that frame. None is promised whose page is at home while the stage is odd, or
+/// out while it is even, or knows another number of tenures or of items, or others that have left,
+/// or is out while nobody holds it, or counts a tenure that nobody took, or that two senders hold,
+/// or one that did not take it; nor one of which a sender goes by another number, layout or count
+/// of rows, is to put its second message first, is closed while the order goes on in which it has
+/// not left, has left in it and is open or at rest with its mark, has asked for a mark and is open,
+/// passes over a tenure that is open, has begun one that is not opened yet, or has its batch on its
+/// way at rest, or not in a tenure; nor one of which a sender stores a word of the log below the
+/// length next, or clears a word of a row in which somebody stands. None is bounded of which a
 /// sender took more steps towards a page, or has no turn left while its election runs.
 pub fn machines_refuse<Q: Ratifier>()
     ensures follows { let X = election_of Q.Ratifier in
@@ -170,9 +173,9 @@ pub fn machines_refuse<Q: Ratifier>()
         → BoundsRefuse X bound machine trails }
 {}
 
-/// Of no machine the promise holds in which a word below the length is another than the one that
-/// was published there, or the first of them is zero. Nor of one in which what a sender has put is
-/// not what stands of it in the log and then what waits.
+/// Of no machine the promise holds whose cells show another log than was published, or one whose
+/// first word is zero. Nor of one in which what a sender has put is not what was published of it
+/// and then what waits.
 pub fn logs_refuse<Q: Ratifier>()
     ensures { let X = election_of Q.Ratifier in
         (machine : Machine (Elector Q)) (trails : Trails) → LogsRefuse X machine trails }

@@ -64,9 +64,7 @@ module _ {C : Type 0} (P : Process C) (A : Automaton C) (L : AutomatonLaws P A) 
       let z = h.shown.state in
       let q = L.promised z h.shown.reached in
       let stands = (L.log z h.shown.reached).stands in
-      let log_is : log_in A z ≡ log =
-      sym stands ∙ ap (λ (ws : List ℕ). log_below A.table_layout ws) (sym h.shown.words)
-      ∙ h.log_is in
+      let log_is = h.published in
       let same : slot_of (A.home z) ∷ [] ≡ slot_of (Some page) ∷ [] =
       sym h.shown.slot ∙ h.home_is in
       let home : A.home z ≡ Some page = slot_is (A.home z) page
@@ -127,6 +125,7 @@ module _ {C : Type 0} (P : Process C) (A : Automaton C) (L : AutomatonLaws P A) 
           shown = shown;
           here = (id, f.1.1);
           log_is = ap (λ (ws : List ℕ). log_below A.table_layout ws) f.2 ∙ sym log_is;
+          published = same;
           home_is = shown.slot ∙ ap (λ (u : Option Page). slot_of u ∷ []) at;
           promised = seats_promised P A L f.0 shown;
           front = subst (λ (u : View C). IsPrefix (known_in u) log) (sym is)

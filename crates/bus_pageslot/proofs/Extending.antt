@@ -14,8 +14,9 @@ use Rattle.bus_world.specs.Turning.{words_after}
 use Rattle.bus_world.proofs.LogLaws.{length-read}
 use Rattle.bus_pageslot.specs.declared.rule.View.{View}
 use Rattle.bus_pageslot.specs.declared.rule.View.TheVariants.{Sender}
-use Rattle.bus_automaton.specs.Processes.{TableLayout, Process, Automaton, log_below, log_in}
+use Rattle.bus_automaton.specs.Processes.{TableLayout, Process, Automaton, log_in}
 use Rattle.bus_automaton.specs.Lawful.{AutomatonLaws}
+use Rattle.bus_pageslot.specs.Histories.{LeavesLog}
 use Rattle.bus_pageslot.specs.Rule.{Sat, sender_trail_in, stored_in, IsSeated, TableInvariant}
 use Rattle.bus_pageslot.specs.Steps.{IsDue}
 use Rattle.bus_pageslot.proofs.Reaching.{accepted}
@@ -30,8 +31,7 @@ module _ {C : Type 0} (P : Process C) (A : Automaton C) (L : AutomatonLaws P A)
     (s : State (Option Page) (View C)) (r : TableInvariant P A s) (id : ℕ) (m : Sat C)
     (at : get_elem? s.views id ≡ some m.0) (d : C) (word many : ℕ) where
   pub extends : (o : Op) → IsDue P d word m many o
-      → IsPrefix (log_below A.table_layout s.words)
-      (log_below A.table_layout (words_after s.words (Some o)))
+      → LeavesLog A (words_after s.words (Some o)) (IsPrefix (log_in A r.state))
   extends o due =
       let c = due.shown in
       let seated : IsSeated P A r.state r.seat id c (sender_trail_in m.0) (stored_in m.0) =
@@ -44,24 +44,30 @@ module _ {C : Type 0} (P : Process C) (A : Automaton C) (L : AutomatonLaws P A)
       let done =
       L.step z (P.me c) d word o grown.changes.reached grown.changes.here due.due within in
       let before : s.words ≡ A.words z = r.words ∙ sym grown.words in
-      let now : words_after s.words (Some o) ≡ A.words done.state =
-      ap (λ w. words_after w (Some o)) before ∙ sym done.words in
-      let first : log_in A z ≡ log_below A.table_layout s.words =
-      sym (L.log z grown.changes.reached).stands ∙ ap (log_below A.table_layout) (sym before) in
-      let last : log_in A done.state ≡ log_below A.table_layout (words_after s.words (Some o)) =
-      sym (L.log done.state done.changes.reached).stands
-      ∙ ap (log_below A.table_layout) (sym now) in
-      subst (λ (w : List ℕ × List ℕ). IsPrefix w.0 w.1) (λ i. (first i, last i))
-      (front A z done.state done.grows)
+      record {
+        state = done.state;
+        reached = done.changes.reached;
+        words_are = done.words ∙ ap (λ w. words_after w (Some o)) (sym before);
+        log = subst (λ l. IsPrefix l (log_in A done.state)) grown.log
+            (front A z done.state done.grows);
+      }
+
+  -- the length says how many words were published
+  published_many : (z : A.State) → A.IsReached z → length (log_in A z) ≡ slice_index (A.words z) 0
+  published_many z reached =
+      ap length (sym (L.log z reached).stands)
+      ∙ length-read (slice_index (A.words z)) A.table_layout.log (slice_index (A.words z) 0)
 
   -- so no length goes back
   pub never_shorter : (v : ℕ) → v < slice_index s.words 0
       → ¬ IsDue P d word m many (Store record { 0 = 0 } v)
   never_shorter v less due =
       let W = slice_set s.words 0 v in
-      let front = no_shorter (log_below A.table_layout s.words) (log_below A.table_layout W)
-      (extends (Store record { 0 = 0 } v) due) in
-      let before = length-read (slice_index s.words) A.table_layout.log (slice_index s.words 0) in
-      let after = length-read (slice_index W) A.table_layout.log (slice_index W 0) in
+      let w = extends (Store record { 0 = 0 } v) due in
+      let front = no_shorter (log_in A r.state) (log_in A w.state) w.log in
+      let before = published_many r.state r.reached in
+      let after = published_many w.state w.reached in
+      let was = ap (λ l. slice_index l 0) r.words in
+      let is = ap (λ l. slice_index l 0) w.words_are in
       let stored : slice_index W 0 ≡ v = get_or-set_same s.words 0 v 0 (has_word s.words v less) in
       omega arith

@@ -62,7 +62,7 @@ sized Q G h shape (Some rows) = h shape.senders shape.rounds TENURES shape.log_w
 module _ {E : Type 0} (X : Election E) (x : Layout) (reuse : Option ℕ) (bases : List ℕ)
     (s : State (Option Page) (View (Sender E)))
     (r : TableInvariant (process_of X) (bus_of X x reuse bases) s) where
-  seated : (j : ℕ) (v : Sender E) (sender_trail : SenderTrail) → Shown s j v sender_trail
+  pub seated : (j : ℕ) (v : Sender E) (sender_trail : SenderTrail) → Shown s j v sender_trail
       → (stored : ℕ)
       × IsSeated (process_of X) (bus_of X x reuse bases) r.state r.seat j v sender_trail stored
   seated j v sender_trail (inl h) = (h.0, r.views j (view.Sender v sender_trail h.0) h.1)

@@ -1,5 +1,5 @@
--- What the seats show and the words below the length fix the page of promises; and without a seat
--- of each sender there is none.
+-- What the seats show and all that was published fix the page of promises; and without a seat of
+-- each sender there is none.
 use Rattle.std.proofs.Common.{◌≡◌, ℕ, zero, suc, ◌<◌, Option, List, [], ◌∷◌, inl, inr, arith, sym}
 use Rattle.std.proofs.Common.{◌∙◌, ap, subst}
 use mathlib.Core.Option.{some, some-injective, some-ne-none}
@@ -14,7 +14,7 @@ use Rattle.bus_pageslot.specs.declared.rule.View.{View}
 use Rattle.bus_pageslot.specs.declared.rule.View.TheVariants.{Maker, Sender, Tap, Meeting, Telling}
 use Rattle.bus_pageslot.specs.declared.rule.View.TheVariants.{Spent}
 use Rattle.bus_pageslot.specs.Rule.{Seats, TableInvariant}
-use Rattle.bus_automaton.specs.Processes.{TableLayout, Process, Automaton, log_below}
+use Rattle.bus_automaton.specs.Processes.{TableLayout, Process, Automaton}
 use Rattle.bus_pageslot.specs.Promised.{Fits, ShowsActions, IsPromised}
 
 -- what a view shows of a sender is what it is true of
@@ -31,20 +31,20 @@ the_one : {A : Type 0} (a b : A) (j : ℕ) → get_elem? (a ∷ []) j ≡ some b
 the_one a b zero e = some-injective a b e
 the_one a b (suc j) e = absurd (some-ne-none b (sym e))
 
-module _ {C : Type 0} (P : Process C) (x : TableLayout) (base : ℕ → ℕ)
+module _ {C : Type 0} (P : Process C) (x : TableLayout) (base : ℕ → ℕ) (log : List ℕ)
     (s : State (Option Page) (View C)) where
-  same_actions : (h k : IsPromised P x base s) (p : ℕ) → h.actions p ≡ k.actions p
+  same_actions : (h k : IsPromised P x base log s) (p : ℕ) → h.actions p ≡ k.actions p
   same_actions h k p = elim (cases_lt p x.senders) [
     | inl below ↦
         let w = h.shown p below in
-        same_at P h.actions k.actions (log_below x s.words) p w.1 w.3 (k.views w.0 w.1 w.2)
+        same_at P h.actions k.actions log p w.1 w.3 (k.views w.0 w.1 w.2)
     | inr past ↦ h.nobody p past ∙ sym (k.nobody p past)
   ]
 
-  pub one_page : (h k : IsPromised P x base s)
+  pub one_page : (h k : IsPromised P x base log s)
       → ((p : ℕ) → h.actions p ≡ k.actions p) × (h.order ≡ k.order) × (h.owners ≡ k.owners)
   one_page h k =
-      let o = spells_one x.senders (log_below x s.words) h.order k.order h.owners k.owners h.spelled
+      let o = spells_one x.senders log h.order k.order h.owners k.owners h.spelled
       k.spelled in
       (same_actions h k, o.0, o.1)
 
@@ -55,7 +55,7 @@ module _ {C : Type 0} (P : Process C) (x : TableLayout) (base : ℕ → ℕ)
     only j v at = the_one (Sender c sender_trail stored) v j
         (subst (λ (vs : List (View C)). get_elem? vs j ≡ some v) is at)
 
-    pub no_page : ¬ IsPromised P x base s
+    pub no_page : ¬ IsPromised P x base log s
     no_page r =
         let h = r.shown 1 many in
         let one : (P.me c ≡ 1) × (r.actions 1 ≡ sender_trail.actions) =

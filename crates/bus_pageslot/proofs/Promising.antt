@@ -18,7 +18,7 @@ use Rattle.bus_pageslot.specs.ReceiverViews.{ReceiverView, IsSilent}
 use Rattle.bus_pageslot.specs.declared.rule.View.{View}
 use Rattle.bus_pageslot.specs.declared.rule.View.TheVariants.{Maker, Sender, Tap, Meeting, Telling}
 use Rattle.bus_pageslot.specs.declared.rule.View.TheVariants.{Spent}
-use Rattle.bus_automaton.specs.Processes.{TableLayout, Process, Automaton, base_in, log_below}
+use Rattle.bus_automaton.specs.Processes.{TableLayout, Process, Automaton, base_in}
 use Rattle.bus_automaton.specs.Processes.{log_in, actions_at}
 use Rattle.bus_automaton.specs.Lawful.{AutomatonLaws}
 use Rattle.bus_pageslot.specs.Rule.{KnowsLog, IsTrueOf, Seats, TableInvariant}
@@ -116,12 +116,10 @@ module _ {C : Type 0} (P : Process C) (A : Automaton C) (z : A.State) (order : O
   }
 
 pub seats_promised : {C : Type 0} (P : Process C) (A : Automaton C) → AutomatonLaws P A
-    → (s : State (Option Page) (View C)) → TableInvariant P A s
-    → IsPromised P A.table_layout (base_in A) s
+    → (s : State (Option Page) (View C)) (r : TableInvariant P A s)
+    → IsPromised P A.table_layout (base_in A) (log_in A r.state) s
 seats_promised {C} P A L s r =
     let p = L.promised r.state r.reached in
-    let same : log_in A r.state ≡ log_below A.table_layout s.words =
-    sym (L.log r.state r.reached).stands ∙ ap (log_below A.table_layout) (sym r.words) in
     let good : (trail : List RecvTurn) → IsShownTrail s trail → IsGood p.order p.owners trail =
     λ trail is. ⊎_elim
     (λ (e : trail ≡ []).
@@ -140,7 +138,7 @@ seats_promised {C} P A L s r =
       nobody = nobody;
       order = p.order;
       owners = p.owners;
-      spelled = subst (λ l. Spells A.table_layout.senders l p.order p.owners) same p.spelled;
+      spelled = p.spelled;
       promises = λ heard shown. record {
         one_owner = q.one_owner;
         announced = q.announced;
@@ -159,6 +157,5 @@ seats_promised {C} P A L s r =
         whole = q.whole;
         framed = q.framed;
       };
-      views = λ j v e. subst (λ l. Fits P (actions_at A r.state) l v) same
-          (view_fits P A r.state r.seat j nobody v (r.views j v e));
+      views = λ j v e. view_fits P A r.state r.seat j nobody v (r.views j v e);
     }

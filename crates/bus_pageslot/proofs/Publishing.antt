@@ -1,6 +1,6 @@
--- The log of a table grows by the frame of who stores its length.
+-- What was published grows by the frame of who stores the length.
 use Rattle.std.proofs.Common.{◌≡◌, ℕ, Option, Some, List, ◌++◌, slice_get, slice_index, sym, ◌∙◌}
-use Rattle.std.proofs.Common.{ap}
+use Rattle.std.proofs.Common.{ap, subst, ◌<◌}
 use Rattle.std.proofs.lemmas.Option.{same_Some}
 use mathlib.Core.Option.{some}
 use lib.ListN.{get_elem?}
@@ -10,6 +10,7 @@ use Rattle.bus_core.specs.Table.{line_now}
 use Rattle.bus_machine.specs.Machine.{Machine, going, log_of, log_place}
 use Rattle.bus_machine.specs.Promise.{Follows, frame_next}
 use Rattle.bus_machine.specs.Machine.{words_of_frame}
+use Rattle.bus_register.specs.Words.{register}
 use Rattle.bus_register.specs.declared.registers.Op.{Op}
 use Rattle.bus_tenure.specs.Core.{Election, Layout}
 use Rattle.bus_tenure.specs.declared.pages.Page.{Page}
@@ -22,6 +23,7 @@ use Rattle.bus_automaton.specs.OneAutomaton.{bus_of}
 use Rattle.bus_automaton.specs.OneProcess.{process_of, table_layout_by}
 use Rattle.bus_automaton.specs.Processes.{log_below}
 use Rattle.bus_automaton.proofs.Leading.{takes_turn}
+use Rattle.bus_pageslot.specs.Histories.{LeavesLog}
 use Rattle.bus_pageslot.specs.Rule.{Sat, TableInvariant}
 use Rattle.bus_pageslot.specs.Steps.{IsDue}
 use Rattle.bus_pageslot.specs.declared.rule.View.{View}
@@ -43,8 +45,8 @@ pub joins_frame : {E : Type 0} (X : Election E) (x : Layout) (reuse : Option ℕ
     (at : get_elem? s.views id ≡ some m.0) (d : Sender E) (word many : ℕ) (o : Op)
     (is_due : IsDue (process_of X) d word m many o)
     → stepping.OfEvents X (Follows X) x
-    → log_below (table_layout_by x reuse) (words_after s.words (Some o))
-    ≡ log_below (table_layout_by x reuse) s.words ++ words_of_frame (line_now X d).publishes
+    → LeavesLog (bus_of X x reuse bases) (words_after s.words (Some o))
+    (λ log. log ≡ r.state.trails.log ++ words_of_frame (line_now X d).publishes)
 joins_frame {E} X x reuse bases L s r id m at d word many o is_due law =
     let z = stepping.z X x reuse bases L s r id m at d word many o is_due in
     let b = z.machine in
@@ -63,12 +65,19 @@ joins_frame {E} X x reuse bases L s r id m at d word many o is_due law =
     ∙ here)) in
     let follows =
     stepping.turn_is X x reuse bases L s r id m at d word many o is_due (Follows X) law in
-    let before : log_of b ≡ log_below (table_layout_by x reuse) s.words =
-    log_is b x reuse h.layout h.rows_are ∙ ap (log_below (table_layout_by x reuse)) (sym same) in
-    let after : log_of new ≡ log_below (table_layout_by x reuse) (words_after s.words (Some o)) =
-    log_is new x reuse h.layout h.rows_are
-    ∙ ap (log_below (table_layout_by x reuse))
-    (stepping.words_now X x reuse bases L s r id m at d word many o is_due
-    ∙ ap (λ w. words_after w (Some o)) (sym same)) in
-    sym after ∙ follows.joins ∙ ap (λ g. log_of b ++ words_of_frame (frame_next X g)) goes
-    ∙ ap (λ l. l ++ words_of_frame (line_now X d).publishes) before
+    let before = stepping.grown X x reuse bases L s r id m at d word many o is_due in
+    let done = L.step z p d word o h here is_due.due
+    (subst (λ n. register o < n) (L.wide z h) low) in
+    let now : done.state.machine.words ≡ new.words = done.words
+    ∙ sym (stepping.words_now X x reuse bases L s r id m at d word many o is_due) in
+    record {
+      state = done.state;
+      reached = done.changes.reached;
+      words_are = done.words ∙ ap (λ w. words_after w (Some o)) (sym same);
+      log = sym (L.log done.state done.changes.reached).stands
+          ∙ ap (log_below (table_layout_by x reuse)) now
+          ∙ sym (log_is new x reuse h.layout h.rows_are)
+          ∙ follows.stands z.trails h.reached
+          ∙ ap (λ g. z.trails.log ++ words_of_frame (frame_next X g)) goes
+          ∙ ap (λ l. l ++ words_of_frame (line_now X d).publishes) before.log;
+    }

@@ -7,8 +7,8 @@ use Rattle.atomic_table.specs.Table.{State}
 use Rattle.bus_core.specs.Senders.{Sender, Situation, Does, Announces, Validates, Unpins}
 use Rattle.bus_core.specs.Senders.{Withdraws, Scans, Clears, situation}
 use Rattle.bus_core.specs.Table.{Line, line, line_now, rests, rest_at}
-use Rattle.bus_machine.specs.Machine.{Machine, Trails, Happens, IsOnWord, going, found, log_of}
-use Rattle.bus_machine.specs.Machine.{log_place, stage_of, machine_after, turn_answer, turn_grown}
+use Rattle.bus_machine.specs.Machine.{Machine, Trails, Happens, IsOnWord, going, found}
+use Rattle.bus_machine.specs.Machine.{stage_of, machine_after, turn_answer, turn_grown}
 use Rattle.bus_machine.specs.Machine.{turn_trails}
 use Rattle.bus_machine.specs.Promise.{HasRows}
 use Rattle.bus_machine.specs.Remembering.{NoneIsLeft}
@@ -31,10 +31,13 @@ use Rattle.bus_automaton.specs.OneAutomaton.{MachineHistory, IsMachineHistory, b
 use Rattle.bus_automaton.specs.OneProcess.{process_of}
 use Rattle.bus_automaton.specs.SenderTrails.{SenderTrail, with_actions}
 use Rattle.bus_automaton.proofs.Leading.{all_go}
-use Rattle.bus_pageslot.specs.Histories.{Shown, HasHistory}
+use Rattle.bus_automaton.specs.Processes.{Process, Automaton, log_in}
+use Rattle.bus_pageslot.specs.Histories.{Shown}
+use Rattle.bus_pageslot.specs.Rule.{TableInvariant}
 use Rattle.bus_pageslot.specs.Steps.{Accepts}
 use Rattle.bus_pageslot.specs.Truths.{IsTrueAnswer}
 use Rattle.bus_pageslot.specs.declared.rule.View.{View}
+use Rattle.bus_pageslot.proofs.Histories.{seated}
 use Rattle.bus_pageslot.proofs.Reaching.{accepted}
 use Rattle.bus_pageslot.proofs.Stepping.{OfEvents}
 
@@ -61,7 +64,7 @@ module _ {E : Type 0} (X : Election E) (x : Layout) (reuse : Option ℕ) (bases 
   At = Situation E × Line E
 
   abbrev TurnIsSo : At → Type 0
-  TurnIsSo a = TurnTells b p d
+  TurnIsSo a = TurnTells b T.log p d
       ((turn_trails a.0 a.1 p (found b a.1 0) 0 (turn_answer b a.1 0) T).actions p)
       (turn_answer b a.1 0)
 
@@ -83,7 +86,8 @@ module _ {E : Type 0} (X : Election E) (x : Layout) (reuse : Option ℕ) (bases 
     }
 
     now_so : TurnIsSo (situation X d, line_now X d)
-    now_so = subst (λ g. SenderTells b p g ((turn_grown X b p g 0 (answer.Turn told) T).actions p)
+    now_so =
+        subst (λ g. SenderTells b T.log p g ((turn_grown X b p g 0 (answer.Turn told) T).actions p)
         (answer.Turn told)) goes
         (law h.served b T h.layout (subst HasRows (sym h.rows_are) h.has_rows) h.reached
         (Turn p 0) (answer.Turn told) (machine_after b p (line_now X d) 0) takes_turn T h.reached)
@@ -91,11 +95,11 @@ module _ {E : Type 0} (X : Election E) (x : Layout) (reuse : Option ℕ) (bases 
     still_so : TurnIsSo (Does own, rests d given)
     still_so = subst TurnIsSo (λ i. (is i, l_is i)) now_so
 
-    told_so : TurnTells b p d (T.actions p) given
-    told_so = subst (λ a. TurnTells b p d a given) (none_more p T.actions) still_so
+    told_so : TurnTells b T.log p d (T.actions p) given
+    told_so = subst (λ a. TurnTells b T.log p d a given) (none_more p T.actions) still_so
 
   rest_at_so : (s : Situation E) → situation X d ≡ s
-      → TurnTells b p d (T.actions p) (rest_at (line X d s))
+      → TurnTells b T.log p d (T.actions p) (rest_at (line X d s))
   rest_at_so (Does IsClosed) i = told_so IsClosed turn.Closed i refl
   rest_at_so (Does IsIdle) i = tt
   rest_at_so (Does IsSpent) i = told_so IsSpent turn.Spent i refl
@@ -114,59 +118,63 @@ module _ {E : Type 0} (X : Election E) (x : Layout) (reuse : Option ℕ) (bases 
   rest_at_so (Scans r) i = tt
   rest_at_so (Clears r) i = tt
 
-  pub rest_so : TurnTells b p d (T.actions p) (rest_at (line_now X d))
+  pub rest_so : TurnTells b T.log p d (T.actions p) (rest_at (line_now X d))
   rest_so = rest_at_so (situation X d) refl
 
 -- ---- of a sender that a seat shows, with what it has accepted since
 pub rests_truly : {E : Type 0} (X : Election E) (x : Layout) (reuse : Option ℕ) (bases : List ℕ)
-    (most : ℕ → ℕ → ℕ)
     (L : AutomatonLaws (process_of X) (bus_of X x reuse bases))
     (s : State (Option Page) (View (Sender E)))
-    (h : HasHistory X x reuse bases most s) (seat : ℕ) (v d : Sender E) (sender_trail : SenderTrail)
-    (actions : List Action)
+    (r : TableInvariant (process_of X) (bus_of X x reuse bases) s) (seat : ℕ) (v d : Sender E)
+    (sender_trail : SenderTrail) (actions : List Action)
     → Shown s seat v sender_trail → Accepts (process_of X) v d actions
     → OfEvents X (λ old e a new. Tells X old e a) x
-    → IsTrueAnswer x reuse s d (sender_trail.actions ++ actions) ((process_of X).rest d)
-rests_truly {E} X x reuse bases most L s h seat v d sender_trail actions shown more law =
+    → IsTrueAnswer x reuse r d (sender_trail.actions ++ actions) ((process_of X).rest d)
+rests_truly {E} X x reuse bases L s r seat v d sender_trail actions shown more law =
     let P = process_of X in
     let A = bus_of X x reuse bases in
     let p = v.core.me in
-    let grown : AcceptsIn A h.history p d actions =
-    accepted P A L h.history h.reached v (h.senders seat v sender_trail shown) d actions more in
+    let its_seat = (seated X x reuse bases s r seat v sender_trail shown).1 in
+    let grown : AcceptsIn A r.state p d actions =
+    accepted P A L r.state r.reached v its_seat.core d actions more in
     let z = grown.state in
     let its : IsSender P A p d = L.senders z p d grown.changes.reached grown.changes.here in
     let did : z.trails.actions p ≡ sender_trail.actions ++ actions =
     ap (λ (t : SenderTrail). t.actions)
     (grown.changes.sender_trail
-    ∙ ap (λ (t : SenderTrail). with_actions t actions) (h.trails seat v sender_trail shown)) in
+    ∙ ap (λ (t : SenderTrail). with_actions t actions) its_seat.sender_trail_is) in
     record {
       machine = z.machine;
       layout = grown.changes.reached.layout;
       rows_are = grown.changes.reached.rows_are;
-      words = h.words ∙ sym grown.words;
-      tells = subst (λ q. TurnTells z.machine q d (sender_trail.actions ++ actions) (P.rest d))
-          (sym its.me)
-          (subst (λ a. TurnTells z.machine p d a (P.rest d)) did
-          (rest_so X x reuse bases z grown.changes.reached p d grown.changes.here law));
+      words = r.words ∙ sym grown.words;
+      tells = subst (λ q. TurnTells z.machine r.state.trails.log q d
+          (sender_trail.actions ++ actions) (P.rest d)) (sym its.me)
+          (subst (λ a. TurnTells z.machine r.state.trails.log p d a (P.rest d)) did
+          (subst (λ l. TurnTells z.machine l p d (z.trails.actions p) (P.rest d)) grown.log
+          (rest_so X x reuse bases z grown.changes.reached p d grown.changes.here law)));
     }
 
 -- ---- what is refused
--- Closed while the length is 0: the log is empty then
-pub closed_refused : {E : Type 0} (x : Layout) (reuse : Option ℕ)
-    (s : State (Option Page) (View (Sender E))) (d : Sender E) (actions : List Action)
-    → slice_index s.words 0 ≡ 0 → IsTrueAnswer x reuse s d actions turn.Closed → ⊥
-closed_refused x reuse s d actions none h =
-    let m = h.machine in
-    let empty : log_of m ≡ [] = ap
-    (words_read_from (slice_index m.words) (log_place m.layout m.reuse))
-    (ap (λ ws. slice_index ws 0) (sym h.words) ∙ none) in
-    (answers_refused m d.core.me d actions).closed_with_nothing empty h.tells
+-- Closed while the length is 0: nothing was published then
+pub closed_refused : {E : Type 0} {P : Process (Sender E)} {A : Automaton (Sender E)}
+    → AutomatonLaws P A
+    → (x : Layout) (reuse : Option ℕ) (s : State (Option Page) (View (Sender E)))
+    (r : TableInvariant P A s) (d : Sender E) (actions : List Action)
+    → slice_index s.words 0 ≡ 0 → IsTrueAnswer x reuse r d actions turn.Closed → ⊥
+closed_refused {E} {P} {A} L x reuse s r d actions none h =
+    let empty : log_in A r.state ≡ [] = sym (L.log r.state r.reached).stands
+    ∙ ap (words_read_from (slice_index (A.words r.state)) A.table_layout.log)
+    (ap (λ ws. slice_index ws 0) (sym r.words) ∙ none) in
+    (answers_refused h.machine (log_in A r.state) d.core.me d actions).closed_with_nothing empty
+    h.tells
 
 -- Spent while the last tenure is not opened
-pub spent_refused : {E : Type 0} (x : Layout) (reuse : Option ℕ)
-    (s : State (Option Page) (View (Sender E))) (d : Sender E) (actions : List Action)
-    → slice_index s.words 1 + 2 < 2 * x.rows → IsTrueAnswer x reuse s d actions turn.Spent → ⊥
-spent_refused x reuse s d actions low h =
+pub spent_refused : {E : Type 0} {P : Process (Sender E)} {A : Automaton (Sender E)} (x : Layout)
+    (reuse : Option ℕ) (s : State (Option Page) (View (Sender E)))
+    (r : TableInvariant P A s) (d : Sender E) (actions : List Action)
+    → slice_index s.words 1 + 2 < 2 * x.rows → IsTrueAnswer x reuse r d actions turn.Spent → ⊥
+spent_refused x reuse s r d actions low h =
     let m = h.machine in
     let early : stage_of m + 2 < 2 * m.layout.rows =
     subst (λ (y : Layout). stage_of m + 2 < 2 * y.rows) (sym h.layout)

@@ -37,7 +37,7 @@ pub told_truly : {E : Type 0} (X : Election E) (x : Layout) (reuse : Option ℕ)
     (at : get_elem? s.views id ≡ some m.0)
     (d : Sender E) (word many : ℕ) (o : Op) (is_due : IsDue (process_of X) d word m many o)
     → stepping.OfEvents X (λ old e a new. Tells X old e a) x
-    → IsTrueAnswer x reuse s d (with_sender_trail (all_in (process_of X) m.0 d)
+    → IsTrueAnswer x reuse r d (with_sender_trail (all_in (process_of X) m.0 d)
     ((process_of X).adds d (slice_index s.words (register o)) word)).actions
     ((process_of X).answer d (slice_index s.words (register o)) word)
 told_truly {E} X x reuse bases K L s r id m at d word many o is_due law =
@@ -62,10 +62,11 @@ told_truly {E} X x reuse bases K L s r id m at d word many o is_due law =
     (sym
     (shown_there (is_set (slice_get b.stopped p)) (slice_get b.senders p) turn.sender turn.goes)
     ∙ here)) in
-    let tells : TurnTells b p d (after.actions p) given =
-    subst (λ g. SenderTells b p g (after.actions p) (answer.Turn given)) goes
+    let tells : TurnTells b r.state.trails.log p d (after.actions p) given =
+    subst (λ g. SenderTells b r.state.trails.log p g (after.actions p) (answer.Turn given)) goes
+    (subst (λ w. SenderTells b w p (going b p) (after.actions p) (answer.Turn given)) grown.log
     (stepping.turn_is X x reuse bases L s r id m at d word many o is_due
-    (λ old e a new. Tells X old e a) law z.trails h.reached) in
+    (λ old e a new. Tells X old e a) law z.trails h.reached)) in
     let before : trail_of bases z.trails p ≡ with_actions (sender_trail_in m.0) is_due.actions =
     grown.changes.sender_trail ∙ ap (λ t. with_actions t is_due.actions) seated.sender_trail_is in
     let since : since_in P m.0 d ≡ is_due.actions =
@@ -85,11 +86,13 @@ told_truly {E} X x reuse bases K L s r id m at d word many o is_due law =
       layout = h.layout;
       rows_are = h.rows_are;
       words = same;
-      tells = subst (λ w. TurnTells b d.core.me d
+      tells = subst (λ w. TurnTells b r.state.trails.log d.core.me d
           (with_sender_trail (all_in P m.0 d) (P.adds d (slice_index w (register o)) word)).actions
           (P.answer d (slice_index w (register o)) word)) (sym same)
-          (subst (λ q. TurnTells b q d (adds (all_in P m.0 d))
+          (subst (λ q. TurnTells b r.state.trails.log q d (adds (all_in P m.0 d))
           (P.answer d (slice_index b.words (register o)) word)) (sym mine)
-          (subst (λ a. TurnTells b p d a (P.answer d (slice_index b.words (register o)) word)) did
-          (subst (λ a. TurnTells b p d (after.actions p) a) told tells)));
+          (subst (λ a.
+          TurnTells b r.state.trails.log p d a (P.answer d (slice_index b.words (register o)) word))
+          did
+          (subst (λ a. TurnTells b r.state.trails.log p d (after.actions p) a) told tells)));
     }

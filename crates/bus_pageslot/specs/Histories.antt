@@ -11,7 +11,7 @@ use Rattle.bus_tenure.specs.Core.{Election, Layout}
 use Rattle.bus_tenure.specs.declared.pages.Page.{Page}
 use Rattle.bus_automaton.specs.OneAutomaton.{MachineHistory, IsMachineHistory, trail_of}
 use Rattle.bus_automaton.specs.OneProcess.{table_layout_by}
-use Rattle.bus_automaton.specs.Processes.{TableLayout, log_below}
+use Rattle.bus_automaton.specs.Processes.{TableLayout, Automaton, log_below, log_in}
 use Rattle.bus_automaton.specs.SenderTrails.{SenderTrail, new_sender_trail}
 use Rattle.bus_pageslot.specs.ReceiverViews.{ReceiverView}
 use Rattle.bus_pageslot.specs.Rule.{slot_of}
@@ -57,3 +57,12 @@ pub record HasHistory {E : Type 0} (X : Election E) (x : Layout) (reuse : Option
   -- with so many senders and rounds an election has so many turns
   pub bounded : AreBounded X (most x.senders x.rounds) history.machine history.trails
       × PinsAreBounded history.trails
+
+-- Executions lead to a state of this automaton with these words, and of all that was published by
+-- them this is so.
+pub record LeavesLog {C : Type 0} (A : Automaton C) (words : List ℕ) (IsSo : List ℕ → Type 0) :
+    Type 0 where
+  pub state : A.State
+  pub reached : A.IsReached state
+  pub words_are : A.words state ≡ words
+  pub log : IsSo (log_in A state)

@@ -8,7 +8,7 @@ use Rattle.bus_batch.specs.Frames.{Order, Spells}
 use Rattle.bus_deliverylog.specs.declared.receiving.RecvTurn.{RecvTurn}
 use Rattle.bus_tenure.specs.declared.pages.Page.{Page}
 use Rattle.bus_world.specs.Headline.{Action, IsPrefix, Promises}
-use Rattle.bus_automaton.specs.Processes.{TableLayout, Process, log_below}
+use Rattle.bus_automaton.specs.Processes.{TableLayout, Process}
 use Rattle.bus_pageslot.specs.declared.rule.View.{View}
 use Rattle.bus_pageslot.specs.declared.rule.View.TheVariants.{Maker, Sender, Tap, Meeting, Telling}
 use Rattle.bus_pageslot.specs.declared.rule.View.TheVariants.{Spent}
@@ -51,10 +51,10 @@ IsShownTrail {C} s trail =
 
 -- Of a sitting whose numbers begin with these, the page of promises holds of the actions that the
 -- seats show, and of what they show that receivers were answered, however these are numbered, with
--- the order and the owners that the words below the length spell; and what a receiver knows is a
--- beginning of these words. There are no other actions than those that are shown: each sender shows
--- all of its own up to its last step, and nobody else has any.
-pub record IsPromised {C : Type 0} (P : Process C) (x : TableLayout) (base : ℕ → ℕ)
+-- the order and the owners that all that was published spells; and what a receiver knows is a
+-- beginning of that. There are no other actions than those that are shown: each sender shows all of
+-- its own up to its last step, and nobody else has any.
+pub record IsPromised {C : Type 0} (P : Process C) (x : TableLayout) (base : ℕ → ℕ) (log : List ℕ)
     (s : State (Option Page) (View C)) : Type 0 where
   pub actions : ℕ → List Action
   pub shown : (p : ℕ) → p < x.senders
@@ -62,8 +62,8 @@ pub record IsPromised {C : Type 0} (P : Process C) (x : TableLayout) (base : ℕ
   pub nobody : (p : ℕ) → x.senders ≤ p → actions p ≡ []
   pub order : Order
   pub owners : List (ℕ × SenderNo)
-  pub spelled : Spells x.senders (log_below x s.words) order owners
+  pub spelled : Spells x.senders log order owners
   pub promises : (heard : ℕ → List RecvTurn) → ((r : ℕ) → IsShownTrail s (heard r))
       → Promises base actions heard order owners
   pub views : (j : ℕ) (v : View C) → get_elem? s.views j ≡ some v
-      → Fits P actions (log_below x s.words) v
+      → Fits P actions log v

@@ -27,7 +27,7 @@ ghost use Rattle.bus_tenure.specs.declared.turns.Turn.TheVariants.{Behind, Close
 ghost use Rattle.bus_world.specs.Headline.{Action, IsPrefix};
 ghost use Rattle.bus_world.specs.Turning.{words_after};
 ghost use Rattle.bus_automaton.specs.Buses.{process_by, automaton_by, plan_after};
-ghost use Rattle.bus_automaton.specs.Processes.{TableLayout, base_in, log_below};
+ghost use Rattle.bus_automaton.specs.Processes.{TableLayout, base_in, log_in};
 ghost use Rattle.bus_automaton.specs.SenderTrails.{SenderTrail, with_sender_trail};
 ghost use Rattle.bus_automaton.specs.declared.plans.Plan.{Plan};
 ghost use Rattle.bus_pageslot.specs.ReceiverViews.{ReceiverView, receiver_view_after_load};
@@ -35,7 +35,7 @@ ghost use Rattle.bus_pageslot.specs.declared.rule.View.{View};
 ghost use Rattle.bus_pageslot.specs.declared.rule.View.TheVariants as view;
 ghost use Rattle.bus_pageslot.specs.Buses.{IsNewSeat};
 ghost use Rattle.bus_pageslot.specs.Carried.{WereAnswered};
-ghost use Rattle.bus_pageslot.specs.Histories.{HasHistory, Shown};
+ghost use Rattle.bus_pageslot.specs.Histories.{HasHistory, LeavesLog, Shown};
 ghost use Rattle.bus_pageslot.specs.Listening.{Hears, due_load};
 ghost use Rattle.bus_pageslot.specs.Promised.{IsPromised};
 ghost use Rattle.bus_pageslot.specs.Rule.{Sat, TableInvariant, slot_of, receiver_view_in};
@@ -57,22 +57,23 @@ use bus_ownerbits::laws::election_is_lawful;
 
 /// Whenever the rule of the table holds, which is between any two steps of any threads, the page
 /// of promises holds of what the seats show: of the actions of senders and of what receivers were
-/// answered, however these are numbered, with the order and the owners that the words below the
-/// length spell. What a receiver knows is a beginning of these words.
+/// answered, however these are numbered, with the order and the owners that all that was published
+/// spells. What a receiver knows is a beginning of that.
 pub fn seats_keep_promises<Q: Ratifier>()
     ensures { let P = process_by Q.Ratifier in let A = automaton_by Q.Ratifier in
         (plan : Plan) (s : State (Option Page) (View (Sender (Elector Q))))
-        → TableInvariant P (A plan) s
-        → IsPromised P (A plan).table_layout (base_in (A plan)) s }
+        (r : TableInvariant P (A plan) s)
+        → IsPromised P (A plan).table_layout (base_in (A plan)) (log_in (A plan) r.state) s }
 {
     threads_may_go_by::<Q>();
 }
 
 /// What the seats show is one page: of each sender its actions, which its seat shows, and one order
-/// and one list of owners, which the words below the length spell.
+/// and one list of owners, which all that was published spells.
 pub fn seats_show_one_page<Q: Ratifier>()
-    ensures { (x : TableLayout) (base : ℕ → ℕ) (s : State (Option Page) (View (Sender (Elector Q))))
-        → (h k : IsPromised (process_by Q.Ratifier) x base s)
+    ensures { (x : TableLayout) (base : ℕ → ℕ) (log : List ℕ)
+        (s : State (Option Page) (View (Sender (Elector Q))))
+        → (h k : IsPromised (process_by Q.Ratifier) x base log s)
         → ((p : ℕ) → h.actions p ≡ k.actions p) × (h.order ≡ k.order) × (h.owners ≡ k.owners) }
 {}
 
@@ -86,24 +87,24 @@ pub fn no_page_without_each_sender<Q: Ratifier>()
         → P.me v ≡ 0 → s.views ≡ view.Sender v sender_trail stored ∷ []
         → ¬ TableInvariant P (A plan) s }
     ensures promised { let P = process_by Q.Ratifier in
-        (x : TableLayout) (base : ℕ → ℕ) (s : State (Option Page) (View (Sender (Elector Q))))
+        (x : TableLayout) (base : ℕ → ℕ) (log : List ℕ)
+        (s : State (Option Page) (View (Sender (Elector Q))))
         (v : Sender (Elector Q)) (sender_trail : SenderTrail) (stored : ℕ) → 1 < x.senders
         → P.me v ≡ 0 → s.views ≡ view.Sender v sender_trail stored ∷ []
-        → ¬ IsPromised P x base s }
+        → ¬ IsPromised P x base log s }
 {}
 
-/// A sender's step leaves a log that begins with the one before it, whatever the step is for: so no
-/// step stores a smaller length. No other step changes a word: receivers load, and seats that are
-/// made, joined or cut apart leave all words as they are. So between any two steps each log below
-/// the length begins each later one.
+/// With a sender's step all that was published begins with all that was before it, whatever the
+/// step is for; and no step stores a smaller length. No other step changes a word: receivers load,
+/// and seats that are made, joined or cut apart leave all words as they are. So between any two
+/// steps what was published until then begins what is published later.
 pub fn steps_only_extend_the_log<Q: Ratifier>()
     ensures extends { let P = process_by Q.Ratifier in let A = automaton_by Q.Ratifier in
         (plan : Plan) (s : State (Option Page) (View (Sender (Elector Q)))) (seat : ℕ)
         (m : Sat (Sender (Elector Q))) (d : Sender (Elector Q)) (word many : ℕ) (o : Op)
-        → TableInvariant P (A plan) s → get_elem? s.views seat ≡ some m.0
+        (r : TableInvariant P (A plan) s) → get_elem? s.views seat ≡ some m.0
         → IsDue P d word m many o
-        → IsPrefix (log_below (A plan).table_layout s.words)
-        (log_below (A plan).table_layout (words_after s.words (Some o))) }
+        → LeavesLog (A plan) (words_after s.words (Some o)) (IsPrefix (log_in (A plan) r.state)) }
     ensures refused { let P = process_by Q.Ratifier in let A = automaton_by Q.Ratifier in
         (plan : Plan) (s : State (Option Page) (View (Sender (Elector Q)))) (seat : ℕ)
         (m : Sat (Sender (Elector Q))) (d : Sender (Elector Q)) (word many n : ℕ)
@@ -116,7 +117,7 @@ pub fn steps_only_extend_the_log<Q: Ratifier>()
 
 /// Behind each table, of either kind of rows, stands a machine with its words and its page, and the
 /// seats show what led to it. So the machine's promise holds of that: each tenure has at most one
-/// owner, who announced for it; the words below the length are a log of what was put; and a row
+/// owner, who announced for it; what was published is a log of what was put; and a row
 /// that is used again is cleared while nobody stands in a tenure of it. Whoever remembers to whom
 /// it lost its tenure has seen the election of that tenure end with this sender, and is not this
 /// sender. No sender takes more steps towards the page of a tenure than an election has turns, or,
@@ -133,17 +134,17 @@ pub fn tables_are_machines<Q: Ratifier>()
     history_stands::<Q>();
 }
 
-/// The log below the length grows with no step of a sender but the one that stores the length, and
-/// with that by the frame of this sender and no other word.
+/// What was published grows with no step of a sender but the one that stores the length, and with
+/// that by the frame of this sender and no other word.
 pub fn the_log_grows_by_frames<Q: Ratifier>()
     ensures { let X = election_of Q.Ratifier in let P = process_by Q.Ratifier in
         let A = automaton_by Q.Ratifier in
         (plan : Plan) (s : State (Option Page) (View (Sender (Elector Q)))) (seat : ℕ)
         (m : Sat (Sender (Elector Q))) (d : Sender (Elector Q)) (word many : ℕ) (o : Op)
-        → TableInvariant P (A plan) s → get_elem? s.views seat ≡ some m.0
+        (r : TableInvariant P (A plan) s) → get_elem? s.views seat ≡ some m.0
         → IsDue P d word m many o
-        → log_below (A plan).table_layout (words_after s.words (Some o))
-        ≡ log_below (A plan).table_layout s.words ++ words_of_frame (line_now X d).publishes }
+        → LeavesLog (A plan) (words_after s.words (Some o))
+        (λ log. log ≡ log_in (A plan) r.state ++ words_of_frame (line_now X d).publishes) }
 {
     threads_may_go_by::<Q>();
     events_keep_promise::<Q>();
@@ -174,9 +175,10 @@ pub fn answers_are_true<Q: Ratifier>()
     ensures { let P = process_by Q.Ratifier in
         (plan : Plan) (s : State (Option Page) (View (Sender (Elector Q)))) (seat : ℕ)
         (m : Sat (Sender (Elector Q))) (d : Sender (Elector Q)) (word many : ℕ) (o : Op)
-        → TableInvariant P (automaton_by Q.Ratifier plan) s → get_elem? s.views seat ≡ some m.0
+        (r : TableInvariant P (automaton_by Q.Ratifier plan) s)
+        → get_elem? s.views seat ≡ some m.0
         → IsDue P d word m many o → let got = slice_index s.words (register o) in
-        IsTrueAnswer (layout_of Q.protocol plan.shape plan.reuse) plan.reuse s d
+        IsTrueAnswer (layout_of Q.protocol plan.shape plan.reuse) plan.reuse r d
         (with_sender_trail (all_in P m.0 d) (P.adds d got word)).actions (P.answer d got word) }
 {
     threads_may_go_by::<Q>();
@@ -291,18 +293,18 @@ pub fn rests_are_true<Q: Ratifier>()
     ensures rests { let P = process_by Q.Ratifier in
         (plan : Plan) (s : State (Option Page) (View (Sender (Elector Q)))) (seat : ℕ)
         (v d : Sender (Elector Q)) (sender_trail : SenderTrail) (actions : List Action)
-        → TableInvariant P (automaton_by Q.Ratifier plan) s → Shown s seat v sender_trail
+        (r : TableInvariant P (automaton_by Q.Ratifier plan) s) → Shown s seat v sender_trail
         → Accepts P v d actions
-        → IsTrueAnswer (layout_of Q.protocol plan.shape plan.reuse) plan.reuse s d
+        → IsTrueAnswer (layout_of Q.protocol plan.shape plan.reuse) plan.reuse r d
         (sender_trail.actions ++ actions) (P.rest d) }
-    ensures refused { (sizes : Layout) (reuse : Option ℕ)
+    ensures refused { let P = process_by Q.Ratifier in
+        (sizes : Layout) (reuse : Option ℕ) (plan : Plan)
         (s : State (Option Page) (View (Sender (Elector Q)))) (d : Sender (Elector Q))
-        (actions : List Action)
-        → (slice_index s.words 0 ≡ 0 → ¬ IsTrueAnswer sizes reuse s d actions Closed)
+        (actions : List Action) (r : TableInvariant P (automaton_by Q.Ratifier plan) s)
+        → (slice_index s.words 0 ≡ 0 → ¬ IsTrueAnswer sizes reuse r d actions Closed)
         × (slice_index s.words 1 + 2 < 2 * sizes.rows
-        → ¬ IsTrueAnswer sizes reuse s d actions Spent) }
+        → ¬ IsTrueAnswer sizes reuse r d actions Spent) }
 {
     threads_may_go_by::<Q>();
-    tables_are_machines::<Q>();
     events_keep_promise::<Q>();
 }

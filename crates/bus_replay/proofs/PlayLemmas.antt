@@ -8,7 +8,7 @@ use Rattle.bus_adoptcommit.specs.declared.verdicts.Verdict.{Verdict}
 use Rattle.bus_batch.specs.Frames.{Order, Spells}
 use Rattle.bus_tenure.specs.Core.{Election}
 use Rattle.bus_tenure.specs.Elections.{Elector}
-use Rattle.bus_machine.specs.Machine.{Machine, Trails, Reached, log_of}
+use Rattle.bus_machine.specs.Machine.{Machine, Trails, Reached, ShowsLog, log_of}
 use Rattle.bus_world.specs.World.{no_bases}
 use Rattle.bus_machine.specs.Playing.{IsMade}
 use Rattle.bus_machine.specs.Promise.{TakersTold}
@@ -94,19 +94,22 @@ module _ {S : Type 0} (X : Election (Elector S)) (P : Protocol S Bool Verdict) w
   pub closes : (b : Machine (Elector S)) (old mid whole takers : List ℕ) (order : Order)
       (owners : List (ℕ × SenderNo))
       → Spells b.layout.senders (log_of b) order owners
-      → takers ≡ b.owners → ((T : Trails) → Reached X b T → TakersTold b.reuse takers T.actions)
+      → ((T : Trails) → Reached X b T → ShowsLog b T.log) → takers ≡ b.owners
+      → ((T : Trails) → Reached X b T → TakersTold b.reuse takers T.actions)
       → (T : Trails) × Reached X b T → mid ≡ (old ++ owners_line takers) ++ order_text order
       → ((T : Trails) → Reached X b T
       → whole ≡ mid ++ given_text (given_by T (length b.receivers)))
       → (closing : List ℕ) × Closes X P b closing × (whole ≡ old ++ closing)
-  closes b old mid whole takers order owners spelled told took some mid_is whole_is =
+  closes b old mid whole takers order owners spelled stands told took some mid_is whole_is =
       let given = given_text (given_by some.0 (length b.receivers)) in (
         owners_line takers ++ order_text order ++ given,
         record {
           order = order;
           owners = owners;
-          spelled = spelled;
           happened = some;
+          stands = stands;
+          spelled = λ T r.
+              subst (λ l. Spells b.layout.senders l order owners) (stands T r) spelled;
           took = λ T r. subst (λ o. TakersTold b.reuse o T.actions) told (took T r);
           text_is = λ T r.
               let same = append_cancel_left mid given (given_text (given_by T (length b.receivers)))

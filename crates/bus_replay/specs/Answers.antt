@@ -15,7 +15,7 @@ use Rattle.bus_world.specs.declared.events.Answer.{Answer}
 use Rattle.bus_world.specs.declared.events.StepFault.{StepFault}
 use Rattle.bus_world.specs.declared.shapes.MakeFault.{MakeFault}
 use Rattle.bus_world.specs.declared.shapes.MakeFault.TheVariants as make
-use Rattle.bus_machine.specs.Machine.{Machine, Trails, Reached as ReachedBy, log_of}
+use Rattle.bus_machine.specs.Machine.{Machine, Trails, Reached as ReachedBy, ShowsLog}
 use Rattle.bus_world.specs.World.{no_bases}
 use Rattle.bus_machine.specs.Playing.{IsMade, MakeRefused, Answers, Refused as RefusedBy}
 use Rattle.bus_machine.specs.Promise.{TakersTold}
@@ -70,12 +70,14 @@ module _ {S : Type 0} (X : Election (Elector S)) (P : Protocol S Bool Verdict) w
       Asked m line.0 (command_of line.1) (λ mid rest stop. Prints mid lines rest stop) text end
 
   -- The closing lines, whatever trails led to the bus, as some have: who took the pages; the one
-  -- order that the words below the length spell; and of each receiver what it was given.
+  -- order that all that was published spells, which the cells of the log show; and of each receiver
+  -- what it was given.
   pub record Closes (m : Machine (Elector S)) (text : List ℕ) : Type 0 where
     pub order : Order
     pub owners : List (ℕ × SenderNo)
-    pub spelled : Spells m.layout.senders (log_of m) order owners
     pub happened : (T : Trails) × ReachedBy X m T
+    pub stands : (T : Trails) → ReachedBy X m T → ShowsLog m T.log
+    pub spelled : (T : Trails) → ReachedBy X m T → Spells m.layout.senders T.log order owners
     pub took : (T : Trails) → ReachedBy X m T → TakersTold m.reuse m.owners T.actions
     pub text_is : (T : Trails) → ReachedBy X m T
         → text

@@ -140,7 +140,7 @@ spelled_behind plan left h of =
       promised.owners,
       subst (λ n. Spells n left.log promised.order promised.owners) (sym of)
           (subst (λ (z : ℕ × List ℕ). Spells z.0 z.1 promised.order promised.owners)
-          (λ k. (senders_planned plan.shape plan.reuse plan.bases k, h.left.log_is k))
+          (λ k. (senders_planned plan.shape plan.reuse plan.bases k, h.left.published k))
           promised.spelled),
     )
 
@@ -154,7 +154,7 @@ told_of_bus sender a b same seen log home messages xs left told k d l =
     let s = sender (get_or xs k d) in
     let promised = left.promised in
     let spelled = subst (λ (z : ℕ × List ℕ). Spells z.0 z.1 promised.order promised.owners)
-    (λ j. (senders_planned a.shape a.reuse a.bases j, left.log_is j)) promised.spelled in
+    (λ j. (senders_planned a.shape a.reuse a.bases j, left.published j)) promised.spelled in
     subst (λ (x : Plan). HasTold x.shape.senders (number_of s) messages (known_in seen)) same
     (told_of (senders_of s) a.shape.senders (number_of s) messages (known_in seen) log
     promised.order promised.owners (told k d l) left.front spelled)

@@ -10,6 +10,6 @@ returns-clause-shown g c plan s v sender_trail stored many me is =
     no_bus P A s many v sender_trail stored me is
 
 pub returns-clause-promised : goal.returns-clause-promised
-returns-clause-promised g c x base s v sender_trail stored many me is =
+returns-clause-promised g c x base log s v sender_trail stored many me is =
     no_page (process_with g.Q.Machine.kind_of g.Q.Machine.op g.Q.Machine.fed g.Q.Ratifier.protocol)
-    x base s many v sender_trail stored me is
+    x base log s many v sender_trail stored me is

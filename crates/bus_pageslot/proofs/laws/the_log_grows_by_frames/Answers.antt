@@ -1,6 +1,6 @@
 use Rattle.bus_machine.specs.Promise.{Follows}
 use Rattle.bus_automaton.specs.Buses.{process_with, automaton_with}
-use Rattle.bus_pageslot.proofs.Histories.{elector, sizes, rule_is, laws_are, sized}
+use Rattle.bus_pageslot.proofs.Histories.{elector, sizes, laws_are, sized}
 use Rattle.bus_pageslot.proofs.Publishing.{joins_frame}
 use Rattle.bus_pageslot.proofs.Stepping.{OfEvents}
 use Rattle.bus_pageslot.proofs.laws.the_log_grows_by_frames.Goals as goal
@@ -14,8 +14,7 @@ returns g c plan s id m d word many o r at due =
     plan.bases
     (laws_are g.Q.Machine.kind_of g.Q.Machine.op g.Q.Machine.fed Q plan
     (c.threads_may_go_by.ensures.automaton plan)) s
-    (rule_is g.Q.Machine.kind_of g.Q.Machine.op g.Q.Machine.fed Q plan s r) id m at d word many o
-    due
+    r id m at d word many o due
     (sized Q (OfEvents X (Follows X)) (λ a b d e ok old T same rows reached event given new happens.
     (c.events_keep_promise.ensures a b d e ok old T same rows reached event given new happens).0)
     plan.shape plan.reuse)
