@@ -232,7 +232,7 @@ uint32_t bus_c_sender_bus(kioskbasil_sender *sender, const uint8_t **place);
 uint32_t bus_c_begin_page(kioskbasil_sender *sender, uint64_t senders, kioskbasil_left *left);
 uint32_t bus_c_note_sender(kioskbasil_sender *sender, uint64_t number, kioskbasil_left *left);
 uint32_t bus_c_finish(kioskbasil_sender *sender, kioskbasil_turn_answer *answer);
-uint32_t bus_c_free_sender(kioskbasil_sender *sender);
+void bus_c_free_sender(kioskbasil_sender *sender);
 uint32_t bus_c_hear_once(kioskbasil_receiver *receiver, kioskbasil_heard *answer);
 uint32_t bus_c_hear(kioskbasil_receiver *receiver, kioskbasil_item *items, size_t room,
                     uint64_t turns, size_t *many);
@@ -441,7 +441,10 @@ static inline uint32_t kioskbasil_finish(kioskbasil_sender *sender,
  * PAGE_OUT. So where rows are used again, ask kioskbasil_finish as long as it answers that, while
  * the other sender goes on. */
 static inline uint32_t kioskbasil_free_sender(kioskbasil_sender *sender) {
-  return sender ? bus_c_free_sender(sender) : (uint32_t)KIOSKBASIL_OK;
+  uint32_t code = kioskbasil_finish(sender, NULL);
+  if (kioskbasil_refused(code)) return KIOSKBASIL_OK;
+  bus_c_free_sender(sender);
+  return code;
 }
 
 /* One turn: one load. The answer, EMPTY, HEAD, ITEM, LEAVE, END or GOING, and what it says in
@@ -522,7 +525,7 @@ static inline uint32_t kioskbasil_end(kioskbasil_sender *senders, size_t sender_
   if ((!senders && sender_count) || !receivers || !receiver_count) return KIOSKBASIL_NULL;
   if ((!log && room) || !left) return KIOSKBASIL_NULL;
   for (size_t i = 0; i < sender_count; i++) kioskbasil_finish(&senders[i], NULL);
-  for (size_t i = 0; i < sender_count; i++) bus_c_free_sender(&senders[i]);
+  for (size_t i = 0; i < sender_count; i++) kioskbasil_free_sender(&senders[i]);
   for (size_t i = 1; i < receiver_count; i++) bus_c_free_receiver(&receivers[i]);
   return bus_c_end(&receivers[0], log ? log : &none, log ? room : 0, left);
 }

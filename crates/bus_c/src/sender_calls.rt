@@ -7,7 +7,7 @@ ghost use Rattle.bus_embed.specs.declared.codes.TheConstants.{EMPTY_HANDLE as no
 ghost use Rattle.bus_embed.specs.Calls.{PutAnswered, CloseAnswered, TurnAnswered, ShowsSender};
 ghost use Rattle.bus_embed.specs.Calls.{CarryAnswered, TurnsAnswered};
 ghost use Rattle.bus_embed.specs.Ends.{BeginsPage, NotesSender};
-ghost use Rattle.bus_embed.specs.Finishing.{FinishAnswered, IsLetGo};
+ghost use Rattle.bus_embed.specs.Finishing.{FinishAnswered};
 
 use crate::sender::CSender;
 use bus_embed::codes::{EMPTY_HANDLE, OK};
@@ -252,20 +252,11 @@ pub extern "C" fn bus_c_note_sender(
     }
 }
 
-/// Gives the handle up, after the turns that are left of the tenure that the sender has begun: it
-/// is empty then. The code of the last one's answer, after Behind with the page out, or OK where
-/// none was begun, or the handle was empty.
+/// Gives the handle up, and takes no turn: it is empty then. `bus_c_finish` is called before it, or
+/// others may wait for good for the tenure that the sender has begun.
 #[unsafe(no_mangle)]
-pub extern "C" fn bus_c_free_sender(alloc: Global, sender: &mut CSender) -> u32
-    ensures empty { sender.new.held ≡ None }
-    ensures none { IfNone sender.old.held (result ≡ done) }
-    ensures finish { IfSome sender.old.held (λ old. IsLetGo old.handle result) }
+pub extern "C" fn bus_c_free_sender(alloc: Global, sender: &mut CSender)
+    ensures { sender.new.held ≡ None }
 {
-    match sender.take(alloc) {
-        Some(mut seat) => {
-            let mut answer = TurnAnswer::none();
-            finish_sender(&mut seat.handle, &mut answer)
-        }
-        None => OK,
-    }
+    drop(sender.take(alloc));
 }

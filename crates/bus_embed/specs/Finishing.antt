@@ -43,10 +43,3 @@ pub record FinishAnswered (old : SenderSeat Held) (answer : ℕ) (before after :
   pub lets_go : LetsGo old given new
   pub code : answer ≡ finish_code given
   pub says : after ≡ finish_told before given
-
--- what a sender did that is given up then
-pub record IsLetGo (old : SenderSeat Held) (answer : ℕ) : Type 0 where
-  pub given : Option Turn
-  pub last : SenderSeat Held
-  pub lets_go : LetsGo old given last
-  pub code : answer ≡ finish_code given

@@ -4,6 +4,7 @@ use Rattle.std.proofs.Common.{◌≡◌, ℕ, ◌+◌, ◌-◌, ◌<◌, ◌≤�
 use Rattle.std.proofs.Common.{cond, Option, Some, None, IsSome, IsSomeAnd, IfSome, nat_lt, ◌==◌}
 use Rattle.std.proofs.Common.{arith, refl, sym, ◌∙◌, ap, subst, is_some, ◌&&◌}
 use Rattle.std.proofs.lemmas.Bool.{true≢false, ltb-true, lt-ltb, le-ltb}
+use Rattle.std.proofs.lemmas.Option.{same_Some}
 use Rattle.bus_register.specs.declared.kinds.Kind.TheVariants as kind
 use Rattle.bus_register.specs.declared.registers.SenderNo.{SenderNo}
 use Rattle.bus_batch.specs.Batches.{Pending}
@@ -43,7 +44,7 @@ use Rattle.bus_core.specs.Table.{line, line_now, reuse_elected, answer_elected, 
 use Rattle.bus_core.specs.Table.{reuse_given, reuse_pinning, reuse_reclaiming, lost_of}
 use Rattle.bus_core.specs.Telling.{FeedTells, RestTells, HasBegunNone, LooksFirst}
 use Rattle.bus_core.specs.declared.reuses.Reuse.{Reuse}
-use Rattle.bus_core.proofs.Situated.{situation_tells, own_is, Reclaims}
+use Rattle.bus_core.proofs.Situated.{situation_tells, own_is, Reclaims, IsCalm}
 use Rattle.bus_machine.specs.Machine.{moved}
 use Rattle.bus_world.specs.Turning.{core_with_page, after_step}
 use Rattle.bus_register.specs.Protocol.{Protocol}
@@ -52,7 +53,10 @@ use Rattle.bus_register.specs.declared.registers.Op.{Op}
 use Rattle.bus_adoptcommit.specs.declared.verdicts.Verdict.{Verdict}
 use Rattle.bus_tenure.specs.Bounds.{IsBounded}
 use Rattle.bus_tenure.specs.Elections.{Elector, election_with}
-use Rattle.bus_core.specs.Causes.{HasCause, HasRowReady}
+use Rattle.bus_core.specs.Causes.{HasCause, HasRowReady, LooksAgain, LeavesTenure, AsLoser}
+use Rattle.bus_core.specs.Causes.{AsHolder, AsLate}
+use Rattle.bus_core.specs.Places.{LiesAt, StandsIn}
+use Rattle.bus_register.specs.Words.{register}
 use Rattle.bus_core.specs.Senders.{participant_of}
 use Rattle.bus_automaton.specs.Buses.{process_with}
 use Rattle.bus_automaton.specs.Processes.{Process}
@@ -63,8 +67,8 @@ use Rattle.bus_pageslot.proofs.Keeping.{leaves_batch, going_keeps, refused_keeps
 use Rattle.bus_pageslot.specs.Finishing.{turns_to_return, turns_to_clear, turns_in}
 use Rattle.bus_pageslot.specs.Finishing.{turns_to_enter, turns_of_pin}
 use Rattle.bus_pageslot.specs.Finishing.{turns_to_finish, is_behind, ends_tenure, StaysOrEnds}
-use Rattle.bus_pageslot.specs.Finishing.{is_sent, GoesThrough, Begun, Through}
-use Rattle.bus_pageslot.specs.Finishing.{HasFinished, FinishesAs}
+use Rattle.bus_pageslot.specs.Finishing.{is_sent, GoesThrough, Begun, Strayed, Through, IsAstray}
+use Rattle.bus_pageslot.specs.Finishing.{HasFinished, FinishesAs, FinishingRefuses}
 
 -- who has begun none has begun no tenure
 pub none_begun : {E : Type 0} (v : Sender E) → HasBegunNone v → tenure_begun v ≡ None
@@ -92,15 +96,30 @@ module _ {E : Type 0} (X : Election E) where
   pub record IsTurn (v : Sender E) (a : Turn) (w : Sender E) : Type 0 where
     pub falls : is_behind a ≡ false → turns_to_finish X w < turns_to_finish X v
     pub some : 0 < turns_to_finish X v
-    pub outcome : StaysOrEnds a w
+    pub outcome : StaysOrEnds v a w
+    pub straight : IsAstray w → ⊥
 
   falls_some : (v w : Sender E) (a : Turn) → turns_to_finish X w < turns_to_finish X v
-      → StaysOrEnds a w → IsTurn v a w
-  falls_some v w a less outcome = record {
+      → StaysOrEnds v a w → (IsAstray w → ⊥) → IsTurn v a w
+  falls_some v w a less outcome straight = record {
     falls = λ other. less;
     some = omega arith;
     outcome = outcome;
+    straight = straight;
   }
+
+  -- who withdraws from no tenure is not astray, and nor is who stands in none
+  unpinned_straight : (c : Core E) (r : Option Reuse) → IsAway r → IsAstray (sender c r) → ⊥
+  unpinned_straight c None away h = absurd h.late
+  unpinned_straight c (Some r) away h = let bad = sym away ∙ h.late.is in absurd cc
+
+  calm_straight : (c : Core E) (r : Reuse) → IsCalm r.pin → IsAstray (sender c (Some r)) → ⊥
+  calm_straight c r (inl away) h = let bad = sym away ∙ h.late.is in absurd cc
+  calm_straight c r (inr pinned) h = let bad = sym pinned.1 ∙ h.late.is in absurd cc
+
+  -- it goes on in the same tenure
+  abbrev IsSame : (v : Sender E) (a : Turn) (w : Sender E) → Type 0
+  IsSame v a w = (tenure_begun w ≡ tenure_begun v) ⊎ ((a ≡ turn.Waiting) × IsAstray v)
 
   -- ---- steps of its pin
   announces : (c : Core E) (r : Option Reuse) (t : ℕ) → IsSomeAnd r (λ y. y.pin ≡ Announcing t)
@@ -109,50 +128,74 @@ module _ {E : Type 0} (X : Election E) where
   announces c (Some r) t p =
       let e : turns_of_pin X c r.pin ≡ 2 + turns_to_enter X c t = ap (turns_of_pin X c) p in
       falls_some (sender c (Some r)) (sender c (reuse_pinning (Some r) (Validating t))) turn.Going
-      (omega arith) (inl record { begun = refl; goes = refl; holds = λ b. absurd cc })
+      (omega arith)
+      (inl record {
+        same = inl (sym (ap (tenure_begun_by c) p));
+        begun = refl;
+        goes = refl;
+        holds = λ b. absurd cc;
+      }) (λ h. absurd (let bad = h.late.is in cc))
 
   validates : (here : Bool) (c : Core E) (r : Option Reuse) (t : ℕ)
-      → IsSomeAnd r (λ y. y.pin ≡ Validating t)
+      → IsSomeAnd r (λ y. y.pin ≡ Validating t) → c.phase ≡ Resting
       → IsTurn (sender c r) turn.Going
       (sender (cond here (core_begun X c t) c)
       (reuse_pinning r (cond here (Pinned t) (Invalidated t))))
-  validates here c None t p = absurd p
-  validates true c (Some r) t p =
+  validates here c None t p rests = absurd p
+  validates true c (Some r) t p rests =
       let e : turns_of_pin X c r.pin ≡ 1 + turns_to_enter X c t = ap (turns_of_pin X c) p in
       falls_some (sender c (Some r))
       (sender (core_begun X c t) (reuse_pinning (Some r) (Pinned t))) turn.Going
-      (omega arith) (inl record { begun = refl; goes = refl; holds = λ b. absurd cc })
-  validates false c (Some r) t p =
+      (omega arith)
+      (inl record {
+        same = inl (sym (ap (tenure_begun_by c) p));
+        begun = refl;
+        goes = refl;
+        holds = λ b. absurd cc;
+      }) (λ h. absurd (let bad = h.late.is in cc))
+  validates false c (Some r) t p rests =
       let e : turns_of_pin X c r.pin ≡ 1 + turns_to_enter X c t = ap (turns_of_pin X c) p in
       falls_some (sender c (Some r)) (sender c (reuse_pinning (Some r) (Invalidated t))) turn.Going
-      (omega arith) (inl record { begun = refl; goes = refl; holds = λ b. absurd cc })
+      (omega arith)
+      (inl record {
+        same = inl (sym (ap (tenure_begun_by c) p));
+        begun = refl;
+        goes = refl;
+        holds = λ b. absurd cc;
+      }) (λ h. true≢false (sym h.stands ∙ ap (λ y. is_some (tenure_of y)) rests))
 
   -- once its presence is cleared it holds a page, or its tenure has ended
   parts : (c : Core E) (r : Reuse) (a : Turn) (ph : Phase E) → c.phase ≡ ph
       → is_last a ≡ false → is_behind a ≡ false → (ph ≡ Resting → ends_tenure a ≡ true)
-      → StaysOrEnds a (sender c (Some record r { pin = Away; lost = None }))
-  parts c r a Resting e last other ends =
+      → ((u : ℕ) → tenure_of ph ≡ Some u → IsSame (sender c (Some r)) a
+      (sender c (Some record r { pin = Away; lost = None })))
+      → StaysOrEnds (sender c (Some r)) a (sender c (Some record r { pin = Away; lost = None }))
+  parts c r a Resting e last other ends same =
       inr record { none = ap tenure_of e; ends = ends refl }
-  parts c r a (Electing t f) e last other ends =
+  parts c r a (Electing t f) e last other ends same =
       inl record {
+        same = same t refl;
         begun = ap (λ p. is_some (tenure_of p)) e;
         goes = last;
         holds = λ b. absurd (true≢false (sym b ∙ other));
       }
-  parts c r a (Taken t) e last other ends =
+  parts c r a (Taken t) e last other ends same =
       inl record {
+        same = same t refl;
         begun = ap (λ p. is_some (tenure_of p)) e;
         goes = last;
         holds = λ b. absurd (true≢false (sym b ∙ other));
       }
-  parts c r a (Holding t page stored published) e last other ends =
+  parts c r a (Holding t page stored published) e last other ends same =
       inl record {
+        same = same t refl;
         begun = ap (λ p. is_some (tenure_of p)) e;
         goes = last;
         holds = λ b. absurd (true≢false (sym b ∙ other));
       }
-  parts c r a (Giving t reason) e last other ends =
+  parts c r a (Giving t reason) e last other ends same =
       inl record {
+        same = same t refl;
         begun = ap (λ p. is_some (tenure_of p)) e;
         goes = last;
         holds = λ b. absurd (true≢false (sym b ∙ other));
@@ -172,17 +215,39 @@ module _ {E : Type 0} (X : Election E) where
   lost_ends t None going = absurd (going refl)
   lost_ends t (Some o) going = refl
 
+  -- who has taken a page stands in its tenure
+  held_stands : (t : ℕ) (ph : Phase E) → held_of ph ≡ Some t → tenure_of ph ≡ Some t
+  held_stands t Resting e = absurd cc
+  held_stands t (Electing u f) e = absurd cc
+  held_stands t (Taken u) e = e
+  held_stands t (Holding u page stored published) e = e
+  held_stands t (Giving u reason) e = e
+
+  -- who parts from a tenure and does not rest has taken the page of that one
+  parts_same : (c : Core E) (r : Reuse) (t u : ℕ) → r.pin ≡ Unpinning t
+      → LeavesTenure (participant_of c r) → tenure_of c.phase ≡ Some u
+      → tenure_of c.phase ≡ tenure_begun_by c r.pin
+  parts_same c r t u p (AsLoser s o pin lost rests) e =
+      let bad : None ≡ Some u = sym (ap tenure_of rests) ∙ e in absurd cc
+  parts_same c r t u p (AsHolder s pin held) e =
+      held_stands s c.phase held ∙ sym (ap (tenure_begun_by c) pin)
+  parts_same c r t u p (AsLate s pin) e =
+      let bad : Unpinning t ≡ Invalidated s = sym p ∙ pin in absurd cc
+
   unpins : (c : Core E) (r : Option Reuse) (t : ℕ) → IsSomeAnd r (λ y. y.pin ≡ Unpinning t)
       → (answer_of_loss t (lost_of r) ≡ turn.Going → held_of c.phase ≡ Some t)
+      → IsSomeAnd r (λ y. LeavesTenure (participant_of c y))
       → IsTurn (sender c r) (answer_of_loss t (lost_of r)) (sender c (reuse_pinning r Away))
-  unpins c None t p held = absurd p
-  unpins c (Some r) t p held =
+  unpins c None t p held leaves = absurd p
+  unpins c (Some r) t p held leaves =
       let e : turns_of_pin X c r.pin ≡ 1 = ap (turns_of_pin X c) p in
       falls_some (sender c (Some r)) (sender c (reuse_pinning (Some r) Away))
       (answer_of_loss t r.lost) (omega arith)
       (parts c r (answer_of_loss t r.lost) c.phase refl (lost_last t r.lost) (lost_other t r.lost)
       (λ rests. lost_ends t r.lost (λ going.
-      let bad : None ≡ Some t = sym (ap held_of rests) ∙ held going in cc)))
+      let bad : None ≡ Some t = sym (ap held_of rests) ∙ held going in cc))
+      (λ u stands. inl (parts_same c r t u p leaves stands)))
+      (unpinned_straight c (reuse_pinning (Some r) Away) refl)
 
   withdraws : (c : Core E) (r : Option Reuse) (t : ℕ) → IsSomeAnd r (λ y. y.pin ≡ Invalidated t)
       → IsTurn (sender c r) turn.Waiting (sender c (reuse_pinning r Away))
@@ -190,7 +255,11 @@ module _ {E : Type 0} (X : Election E) where
   withdraws c (Some r) t p =
       let e : turns_of_pin X c r.pin ≡ 1 = ap (turns_of_pin X c) p in
       falls_some (sender c (Some r)) (sender c (reuse_pinning (Some r) Away)) turn.Waiting
-      (omega arith) (parts c r turn.Waiting c.phase refl refl refl (λ rests. refl))
+      (omega arith)
+      (parts c r turn.Waiting c.phase refl refl refl (λ rests. refl) (λ u stands. inr (
+        refl,
+        record { late = record { tenure = t; is = p }; stands = ap is_some stands },
+      ))) (unpinned_straight c (reuse_pinning (Some r) Away) refl)
 
   -- ---- its election
   module _ (c : Core E) (t : ℕ) (e f : E) (at : c.phase ≡ Electing t e)
@@ -199,29 +268,46 @@ module _ {E : Type 0} (X : Election E) where
         → turns_in X c r c.phase ≡ turns_in X c r (Electing t e)
     in_election r = ap (turns_in X c r) at
 
+    -- the tenure that it has begun
+    in_tenure : (r : Option Reuse) → StandsIn r t → Some t ≡ begun_by c r
+    in_tenure None inside = sym (ap tenure_of at)
+    in_tenure (Some r) inside = sym (ap (tenure_begun_by c) inside)
+
     -- it goes on, or has chosen this sender
-    elects_on : (r : Option Reuse) (lost : Option SenderNo) (w : Sender E)
+    elects_on : (r : Option Reuse) (lost : Option SenderNo) (w : Sender E) → StandsIn r t
         → w ≡ sender (record c { phase = Electing t f })
         (elim r as (λ y. Option Reuse) [
           | None ↦ None
           | Some y ↦ Some record y { pin = Pinned t; lost = lost }
         ])
         → IsTurn (sender c r) turn.Going w
-    elects_on None lost w is =
+    elects_on None lost w inside is =
         let e = in_election None in
         subst (IsTurn (sender c None) turn.Going) (sym is)
         (falls_some (sender c None) (sender (record c { phase = Electing t f }) None) turn.Going
-        (omega arith) (inl record { begun = refl; goes = refl; holds = λ b. absurd cc }))
-    elects_on (Some r) lost w is =
+        (omega arith)
+        (inl record {
+          same = inl (in_tenure None inside);
+          begun = refl;
+          goes = refl;
+          holds = λ b. absurd cc;
+        }) (unpinned_straight (record c { phase = Electing t f }) None tt))
+    elects_on (Some r) lost w inside is =
         let e = in_election (Some r) in
         subst (IsTurn (sender c (Some r)) turn.Going) (sym is)
         (falls_some (sender c (Some r))
         (sender (record c { phase = Electing t f })
         (Some record r { pin = Pinned t; lost = lost })) turn.Going
-        (omega arith) (inl record { begun = refl; goes = refl; holds = λ b. absurd cc }))
+        (omega arith)
+        (inl record {
+          same = inl (in_tenure (Some r) inside);
+          begun = refl;
+          goes = refl;
+          holds = λ b. absurd cc;
+        }) (λ h. absurd (let bad = h.late.is in cc)))
 
     -- or another
-    loses : (r : Option Reuse) (o : ℕ) (itself : Bool)
+    loses : (r : Option Reuse) (o : ℕ) (itself : Bool) → StandsIn r t
         → IsTurn (sender c r)
         (elim r as (λ y. Turn) [
           | None ↦ cond itself turn.Going (turn.Lost t record { 0 = o })
@@ -240,9 +326,9 @@ module _ {E : Type 0} (X : Election E) where
             lost = cond itself y.lost (Some record { 0 = o });
           }
         ]))
-    loses None o true = elects_on None None _ refl
-    loses (Some r) o true = elects_on (Some r) r.lost _ refl
-    loses None o false =
+    loses None o true inside = elects_on None None _ inside refl
+    loses (Some r) o true inside = elects_on (Some r) r.lost _ inside refl
+    loses None o false inside =
         let e = in_election None in
         let new = record c {
           queue = record c.queue { busy = false };
@@ -251,7 +337,8 @@ module _ {E : Type 0} (X : Election E) where
         } in
         falls_some (sender c None) (sender new None) (turn.Lost t record { 0 = o })
         (omega arith) (inr record { none = refl; ends = refl })
-    loses (Some r) o false =
+        (unpinned_straight new None tt)
+    loses (Some r) o false inside =
         let e = in_election (Some r) in
         let new = record c {
           queue = record c.queue { busy = false };
@@ -260,15 +347,21 @@ module _ {E : Type 0} (X : Election E) where
         } in
         falls_some (sender c (Some r))
         (sender new (Some record r { pin = Unpinning t; lost = Some record { 0 = o } })) turn.Going
-        (omega arith) (inl record { begun = refl; goes = refl; holds = λ b. absurd cc })
+        (omega arith)
+        (inl record {
+          same = inl (in_tenure (Some r) inside);
+          begun = refl;
+          goes = refl;
+          holds = λ b. absurd cc;
+        }) (λ h. absurd (let bad = h.late.is in cc))
 
-    elects : (r : Option Reuse) (own : Option ℕ)
+    elects : (r : Option Reuse) (own : Option ℕ) → StandsIn r t
         → IsTurn (sender c r) (answer_elected c r t own)
         (sender (core_elected c t f own) (reuse_elected c r t own))
-    elects None None = elects_on None None _ refl
-    elects (Some r) None = elects_on (Some r) r.lost _ refl
-    elects None (Some o) = loses None o (o == c.me)
-    elects (Some r) (Some o) = loses (Some r) o (o == c.me)
+    elects None None inside = elects_on None None _ inside refl
+    elects (Some r) None inside = elects_on (Some r) r.lost _ inside refl
+    elects None (Some o) inside = loses None o (o == c.me) inside
+    elects (Some r) (Some o) inside = loses (Some r) o (o == c.me) inside
 
     -- ---- the page
     -- what is left of a row that is to be made ready, if it is
@@ -285,15 +378,20 @@ module _ {E : Type 0} (X : Election E) where
     row_left true past presences row = omega arith
     row_left false past presences row = omega arith
 
-    takes : (r : Option Reuse) (page : Page)
+    takes : (r : Option Reuse) (page : Page) → StandsIn r t
         → IsTurn (sender c r) (turn.Own t)
         (sender (record c { phase = Holding t page 0 false }) (reuse_taken c.layout r t))
-    takes None page =
+    takes None page inside =
         let e = in_election None in
         falls_some (sender c None) (sender (record c { phase = Holding t page 0 false }) None)
         (turn.Own t) (omega arith)
-        (inl record { begun = refl; goes = refl; holds = λ b. absurd cc })
-    takes (Some r) page =
+        (inl record {
+          same = inl (in_tenure None inside);
+          begun = refl;
+          goes = refl;
+          holds = λ b. absurd cc;
+        }) (unpinned_straight (record c { phase = Holding t page 0 false }) None tt)
+    takes (Some r) page inside =
         let e = in_election (Some r) in
         let x = sizes_with c.layout r.rows in
         let few : turns_to_clear (reclaimer_after x t) ≤ c.layout.senders + c.layout.width =
@@ -301,27 +399,44 @@ module _ {E : Type 0} (X : Election E) where
         falls_some (sender c (Some r))
         (sender (record c { phase = Holding t page 0 false }) (reuse_taken c.layout (Some r) t))
         (turn.Own t) (omega arith)
-        (inl record { begun = refl; goes = refl; holds = λ b. absurd cc })
+        (inl record {
+          same = inl (in_tenure (Some r) inside);
+          begun = refl;
+          goes = refl;
+          holds = λ b. absurd cc;
+        }) (λ h. absurd (let bad = h.late.is in cc))
 
   -- ---- a holder
   module _ (c : Core E) (t : ℕ) (page : Page) (stored : ℕ)
       (at : c.phase ≡ Holding t page stored false)
     where
       -- a word or the length: less is left to store
-      stores : (r : Option Reuse) (more : ℕ) (published : Bool)
+      stores : (r : Option Reuse) (more : ℕ) (published : Bool) → IsAway r
           → turns_to_return c more published < turns_to_return c stored false
           → IsTurn (sender c r) turn.Going
           (sender (record c { phase = Holding t page more published }) r)
-      stores None more published less =
+      stores None more published away less =
           let e = ap (turns_in X c None) at in
           falls_some (sender c None)
           (sender (record c { phase = Holding t page more published }) None)
-          turn.Going (omega arith) (inl record { begun = refl; goes = refl; holds = λ b. refl })
-      stores (Some r) more published less =
+          turn.Going (omega arith)
+          (inl record {
+            same = inl (sym (ap tenure_of at));
+            begun = refl;
+            goes = refl;
+            holds = λ b. refl;
+          }) (unpinned_straight (record c { phase = Holding t page more published }) None away)
+      stores (Some r) more published away less =
           let e = ap (turns_in X c (Some r)) at in
           let d = record c { phase = Holding t page more published } in
           falls_some (sender c (Some r)) (sender d (Some r)) turn.Going (omega arith)
-          (inl record { begun = stands d (Some r) refl; goes = refl; holds = λ b. refl })
+          (inl record {
+            same = inl (ap (tenure_begun_by d) away
+                ∙ sym (ap (tenure_begun_by c) away ∙ ap tenure_of at));
+            begun = stands d (Some r) refl;
+            goes = refl;
+            holds = λ b. refl;
+          }) (unpinned_straight d (Some r) away)
 
   -- what is due of a holder that stores, and how much less is left then
   abbrev LessLeft : Core E → Own E → Type 0
@@ -387,6 +502,7 @@ module _ {E : Type 0} (X : Election E) where
       falls_some (sender c None) (sender (core_at_rest c reason t) None)
       (answer_of_return c.queue t reason) (omega arith)
       (inr record { none = refl; ends = answer_ends c.queue t reason })
+      (unpinned_straight (core_at_rest c reason t) None away)
   returns c t reason (Some r) away held =
       let d = core_at_rest c reason t in
       let e : turns_of_pin X d r.pin ≡ 0 = ap (turns_of_pin X d) away in
@@ -395,17 +511,17 @@ module _ {E : Type 0} (X : Election E) where
       (inr record {
         none = ap (tenure_begun_by d) away;
         ends = answer_ends c.queue t reason;
-      })
+      }) (unpinned_straight d (Some record r { reclaimer = None }) away)
 
   -- ---- the next row
   -- one presence less, but where another sender is in the way
   scanned : (c : Core E) (r : Reuse) (s : Reclaiming) (got : ℕ) (left behind : Bool)
       → r.reclaimer ≡ Some s → nat_lt s.scanned s.senders ≡ true
       → (got == 1 + s.past) ≡ behind → IsSome (tenure_of c.phase) → is_holding c.phase ≡ true
-      → 1 ≤ turns_in X c (Some r) c.phase
+      → 1 ≤ turns_in X c (Some r) c.phase → IsCalm r.pin
       → IsTurn (sender c (Some r)) (answer_of_reclaim (behind_of s got))
       (sender c (Some record r { reclaimer = Some (reclaim_fed s got) }))
-  scanned c r s got left true is l b some holds held =
+  scanned c r s got left true is l b some holds held calm =
       let a : answer_of_reclaim (behind_of s got)
       ≡ turn.Behind s.past record { 0 = s.scanned } =
       ap (λ x. answer_of_reclaim (cond (x && (got == 1 + s.past))
@@ -418,12 +534,14 @@ module _ {E : Type 0} (X : Election E) where
         falls = λ other. absurd (true≢false other);
         some = omega arith;
         outcome = inl record {
+          same = inl refl;
           begun = stands c (Some record r { reclaimer = Some (reclaim_fed s got) }) some;
           goes = refl;
           holds = λ y. holds;
         };
+        straight = calm_straight c (record r { reclaimer = Some (reclaim_fed s got) }) calm;
       })
-  scanned c r s got left false is l b some holds held =
+  scanned c r s got left false is l b some holds held calm =
       let a : answer_of_reclaim (behind_of s got) ≡ turn.Going =
       ap (λ x. answer_of_reclaim (cond (x && (got == 1 + s.past))
       (Some record { tenure = s.past; sender = s.scanned }) None)) l
@@ -439,13 +557,19 @@ module _ {E : Type 0} (X : Election E) where
       subst (λ (y : Turn × Reclaiming). IsTurn (sender c (Some r)) y.0
       (sender c (Some record r { reclaimer = Some y.1 }))) (λ i. (sym a i, sym f i))
       (falls_some (sender c (Some r)) (sender c new) turn.Going (omega arith)
-      (inl record { begun = stands c new some; goes = refl; holds = λ y. holds }))
+      (inl record {
+        same = inl refl;
+        begun = stands c new some;
+        goes = refl;
+        holds = λ y. holds;
+      })
+      (calm_straight c (record r { reclaimer = Some record s { scanned = s.scanned + 1 } }) calm))
 
   clears : (c : Core E) (r : Reuse) (s : Reclaiming) (got : ℕ) → r.reclaimer ≡ Some s → IsClearing s
-      → IsSome (tenure_of c.phase) → is_holding c.phase ≡ true
+      → IsSome (tenure_of c.phase) → is_holding c.phase ≡ true → IsCalm r.pin
       → IsTurn (sender c (Some r)) (answer_of_reclaim (behind_of s got))
       (sender c (Some record r { reclaimer = Some (reclaim_fed s got) }))
-  clears c r s got is h some holds =
+  clears c r s got is h some holds calm =
       let l : nat_lt s.scanned s.senders ≡ false = le-ltb _ _ h.passed in
       let m : nat_lt s.cleared s.width ≡ true = lt-ltb _ _ h.left in
       let a : answer_of_reclaim (behind_of s got) ≡ turn.Going =
@@ -461,7 +585,13 @@ module _ {E : Type 0} (X : Election E) where
       subst (λ (y : Turn × Reclaiming). IsTurn (sender c (Some r)) y.0
       (sender c (Some record r { reclaimer = Some y.1 }))) (λ i. (sym a i, sym f i))
       (falls_some (sender c (Some r)) (sender c new) turn.Going (omega arith)
-      (inl record { begun = stands c new some; goes = refl; holds = λ y. holds }))
+      (inl record {
+        same = inl refl;
+        begun = stands c new some;
+        goes = refl;
+        holds = λ y. holds;
+      })
+      (calm_straight c (record r { reclaimer = Some record s { cleared = s.cleared + 1 } }) calm))
 
   -- what a holder has left
   held_left : (c : Core E) (r : Option Reuse) (t : ℕ) (page : Page) (stored : ℕ) (published : Bool)
@@ -482,8 +612,8 @@ module _ {E : Type 0} (X : Election E) where
       held_left c (Some r) h.tenure h.page held.0 held.1 held.2 in
       elim due [
         | inl more ↦ scanned c r s got true (got == 1 + s.past) h.is (lt-ltb _ _ more) refl some
-            holds left
-        | inr clearing ↦ clears c r s got h.is clearing some holds
+            holds left h.calm
+        | inr clearing ↦ clears c r s got h.is clearing some holds h.calm
       ]
 
   reclaims_by : (c : Core E) (r : Option Reuse) (s : Reclaiming) (got : ℕ)
@@ -511,6 +641,13 @@ module _ {E : Type 0} (X : Election E) where
       (running : HasElection v.core.phase → 1 ≤ turns_of X v.core.phase)
       (looks : (line_now X v).kind ≡ Some kind.LoadStage → HasBegunNone v)
       (gives : (line_now X v).kind ≡ Some kind.GivePageBack → IsAway v.reuse)
+      (again : (line_now X v).kind ≡ Some kind.LoadStageAgain → v.core.phase ≡ Resting)
+      (leaves : (line_now X v).kind ≡ Some kind.Withdraw
+      → IsSomeAnd v.reuse (λ r. LeavesTenure (participant_of v.core r)))
+      (stores_away : (line_now X v).kind ≡ Some kind.StoreLogWord → IsAway v.reuse)
+      (ends_away : (line_now X v).kind ≡ Some kind.StoreLength → IsAway v.reuse)
+      (inside : (o : Op) → (line_now X v).op word ≡ Some o
+      → LiesAt v (situation X v) (register o))
       (fall : (e : E) → X.turns_left (X.fed e got word) ≡ X.turns_left e - 1) where
     abbrev After : Situation E → Sender E
     After z = moved (after_step (line X v z).move) home ((line X v z).fed got word)
@@ -533,6 +670,17 @@ module _ {E : Type 0} (X : Election E) where
         → IsAway v.reuse
     away z i k = gives (ap (λ y. (line X v y).kind) i ∙ k)
 
+    lies : (z : Situation E) → situation X v ≡ z → (o : Op) → (line X v z).op word ≡ Some o
+        → LiesAt v z (register o)
+    lies z i o e = subst (λ y. LiesAt v y (register o)) i
+        (inside o (ap (λ y. (line X v y).op word) i ∙ e))
+
+    -- who is in an election stands in its tenure
+    elects_inside : (t : ℕ) (e : E) → situation X v ≡ Does (Elects t e) → (o : Option Op)
+        → (line X v (Does (Elects t e))).op word ≡ o → IsSome o → StandsIn v.reuse t
+    elects_inside t e i None same due = absurd (true≢false (sym due))
+    elects_inside t e i (Some o) same due = (lies (Does (Elects t e)) i o same).1
+
     at : (z : Situation E) → situation X v ≡ z → Claim z
     at (Does IsClosed) i due taken told = absurd (true≢false (sym due))
     at (Does IsIdle) i due taken told = absurd (true≢false (sym due))
@@ -544,7 +692,7 @@ module _ {E : Type 0} (X : Election E) where
     at (Does (Elects t e)) i due taken told =
         let own = tells X v.core (Elects t e) (own_is X v (Elects t e) i) in
         elects v.core t e (X.fed e got word) own.0 (runs t e own.0) (fall e) v.reuse
-        (X.owner (X.fed e got word))
+        (X.owner (X.fed e got word)) (elects_inside t e i _ refl due)
     at (Does (TakesPage t)) i due taken told =
         let own = tells X v.core (TakesPage t) (own_is X v (TakesPage t) i) in
         let page = taken t refl in
@@ -552,15 +700,17 @@ module _ {E : Type 0} (X : Election E) where
         (sender (core_with_page (record v.core { phase = Taken t }) t h)
         (reuse_taken v.core.layout v.reuse t))) (sym page.1)
         (takes v.core t own.0 (X.fed own.0 got word) own.1 (runs t own.0 own.1) (fall own.0)
-        v.reuse page.0)
+        v.reuse page.0 (lies (Does (TakesPage t)) i _ refl).1)
     at (Does (StoresWord t page stored)) i due taken told =
         let less = less_left v.core (StoresWord t page stored)
         (own_is X v (StoresWord t page stored) i) in
-        stores v.core t page stored less.0 v.reuse (stored + 1) false less.1
+        stores v.core t page stored less.0 v.reuse (stored + 1) false
+        (stores_away (ap (λ y. (line X v y).kind) i)) less.1
     at (Does (StoresLength t page stored)) i due taken told =
         let less = less_left v.core (StoresLength t page stored)
         (own_is X v (StoresLength t page stored) i) in
-        stores v.core t page stored less.0 v.reuse stored true less.1
+        stores v.core t page stored less.0 v.reuse stored true
+        (ends_away (ap (λ y. (line X v y).kind) i)) less.1
     at (Does (GivesBack t page reason)) i due taken told =
         let own = tells X v.core (GivesBack t page reason)
         (own_is X v (GivesBack t page reason) i) in
@@ -574,10 +724,11 @@ module _ {E : Type 0} (X : Election E) where
         announces v.core v.reuse t (situation_tells X v (Announces t) i)
     at (Validates t) i due taken told =
         validates (got / 2 == t) v.core v.reuse t (situation_tells X v (Validates t) i)
+        (again (ap (λ y. (line X v y).kind) i))
     at (Unpins t) i due taken told =
         unpins v.core v.reuse t (situation_tells X v (Unpins t) i)
         (λ going. (subst (FeedTells X v got word) going told).holds t
-        (situation_tells X v (Unpins t) i))
+        (situation_tells X v (Unpins t) i)) (leaves (ap (λ y. (line X v y).kind) i))
     at (Withdraws t) i due taken told =
         withdraws v.core v.reuse t (situation_tells X v (Withdraws t) i)
     at (Scans s) i due taken told =
@@ -594,6 +745,12 @@ module _ {E : Type 0} (X : Election E) where
 -- who looks at the stage for the first time has begun no tenure
 looks_rested : {E : Type 0} (v : Sender E) → LooksFirst v → HasBegunNone v
 looks_rested v h = record { rests = h.looks.rests; away = h.away }
+
+-- who looks at the stage again is in no tenure yet
+again_rested : {E : Type 0} (c : Core E) (r : Option Reuse)
+    → IsSomeAnd r (λ y. LooksAgain (participant_of c y)) → c.phase ≡ Resting
+again_rested c None h = absurd h
+again_rested c (Some r) h = h.may.looks.rests
 
 -- who gives a page back pins none
 gives_away : {E : Type 0} (c : Core E) (r : Option Reuse)
@@ -618,16 +775,44 @@ rest_none v (turn.Behind t p) h = absurd h
 -- ---- turns, one after another
 module _ {E : Type 0} (P : Process (Sender E)) (T : Tellings (Sender E)) where
   -- they are turns of which none is a last one
-  pub through_on : (first : SenderSeat (Sender E)) (count : ℕ) (new : SenderSeat (Sender E))
-      → GoesThrough P T first count new → TurnsOn P T first new
-  through_on first _ _ (Begun some) = Here
-  through_on first _ _ (Through count old word answer new before turned last other some) =
-      More old word answer new (through_on first count old before) turned last
+  pub through_on : (t : ℕ) (first : SenderSeat (Sender E)) (count : ℕ)
+      (new : SenderSeat (Sender E)) → GoesThrough P T t first count new → TurnsOn P T first new
+  through_on t first _ _ (Begun some) = Here
+  through_on t first _ _ (Strayed word new astray turned some) =
+      More first word turn.Waiting new Here turned refl
+  through_on t first _ _ (Through count old word answer new before turned last other some) =
+      More old word answer new (through_on t first count old before) turned last
 
-  pub through_begun : (first : SenderSeat (Sender E)) (count : ℕ) (new : SenderSeat (Sender E))
-      → GoesThrough P T first count new → IsSome (tenure_begun new.core)
-  through_begun first _ _ (Begun some) = some
-  through_begun first _ _ (Through count old word answer new before turned last other some) = some
+  -- that is the tenure which it has begun, and had at first
+  pub through_begun : (t : ℕ) (first : SenderSeat (Sender E)) (count : ℕ)
+      (new : SenderSeat (Sender E)) → GoesThrough P T t first count new
+      → tenure_begun new.core ≡ Some t
+  through_begun t first _ _ (Begun some) = some
+  through_begun t first _ _ (Strayed word new astray turned some) = some
+  through_begun t first _ _ (Through count old word answer new before turned last other some) =
+      some
+
+  through_first : (t : ℕ) (first : SenderSeat (Sender E)) (count : ℕ)
+      (new : SenderSeat (Sender E)) → GoesThrough P T t first count new
+      → ¬ IsAstray first.core → tenure_begun first.core ≡ Some t
+  through_first t first _ _ (Begun some) straight = some
+  through_first t first _ _ (Strayed word new astray turned some) straight =
+      absurd (straight astray)
+  through_first t first _ _ (Through count old word answer new before turned last other some)
+      straight = through_first t first count old before straight
+
+  -- turns of two tenures are refused, and turns of none
+  pub finishing_refuses : (first new : SenderSeat (Sender E)) → ¬ IsAstray first.core
+      → FinishingRefuses P T first new
+  finishing_refuses first new straight = record {
+    another = λ t u tenure count begun goes other through. other (same_Some _ _ (sym begun
+        ∙ through_first tenure first count new through straight
+        ∙ sym (through_begun tenure first count new through) ∙ goes));
+    none = λ tenure count none through.
+        let bad : None ≡ Some tenure =
+        sym none ∙ through_first tenure first count new through straight
+        in absurd cc;
+  }
 
 pub not_some : {A : Type 0} (o : Option A) → is_some o ≡ false → o ≡ None
 not_some None e = refl
@@ -701,9 +886,11 @@ module _ {S : Type 0} (kind_of : S → Option Kind) (op : S → ℕ → Option O
       → IsSome (tenure_begun old.core)
       → (HasElection old.core.core.phase → 1 ≤ P.turns_left old.core)
       → IfSome (P.kind old.core) (HasCause Q old.core)
+      → IfSome ((line_now X old.core).op word)
+      (λ o. LiesAt old.core (situation X old.core) (register o))
       → IsTurn X old.core a new.core
   unfolding process_with tells_with
-  turned_begun bound bounded old word a new turned begun running caused =
+  turned_begun bound bounded old word a new turned begun running caused lies =
       by (P.op old.core word) refl
     where
       by : (o : Option Op) → P.op old.core word ≡ o → IsTurn X old.core a new.core
@@ -721,6 +908,13 @@ module _ {S : Type 0} (kind_of : S → Option Kind) (op : S → ℕ → Option O
           (λ k. looks_rested old.core (subst (λ y. IfSome y (HasCause Q old.core)) k caused))
           (λ k. gives_away old.core.core old.core.reuse
           (subst (λ y. IfSome y (HasCause Q old.core)) k caused).1)
+          (λ k. again_rested old.core.core old.core.reuse
+          (subst (λ y. IfSome y (HasCause Q old.core)) k caused))
+          (λ k. subst (λ y. IfSome y (HasCause Q old.core)) k caused)
+          (λ k. (subst (λ y. IfSome y (HasCause Q old.core)) k caused).0)
+          (λ k. (subst (λ y. IfSome y (HasCause Q old.core)) k caused).0)
+          (λ o same. subst (λ y. IfSome y
+          (λ o. LiesAt old.core (situation X old.core) (register o))) same lies)
           (λ f. bounded.falls f took.got word) (ap is_some e) took.taken tells)
 
   pub has_finished : (s : SenderSeat (Sender (Elector S))) → tenure_begun s.core ≡ None
@@ -732,30 +926,90 @@ module _ {S : Type 0} (kind_of : S → Option Kind) (op : S → ℕ → Option O
       record { none = none; no_election = r.0; no_page = r.1 }
 
   -- after a turn with which it ends
-  pub finishes_as : (a : Turn) (new : SenderSeat (Sender (Elector S))) → StaysOrEnds a new.core
-      → (is_behind a ≡ true) ⊎ (is_some (tenure_begun new.core) ≡ false) → FinishesAs P a new
+  pub finishes_as : (t : ℕ) (old : SenderSeat (Sender (Elector S))) (a : Turn)
+      (new : SenderSeat (Sender (Elector S))) → tenure_begun old.core ≡ Some t
+      → StaysOrEnds old.core a new.core
+      → (is_behind a ≡ true) ⊎ (is_some (tenure_begun new.core) ≡ false) → FinishesAs P t a new
   unfolding process_with
-  finishes_as a new (inl stays) (inl behind) = inl (behind, stays.holds behind)
-  finishes_as a new (inl stays) (inr none) = absurd (true≢false (sym stays.begun ∙ none))
-  finishes_as a new (inr ends) over = inr (ends.ends, has_finished new ends.none)
+  finishes_as t old a new begun (inl stays) (inl behind) =
+      inl (
+        behind,
+        stays.holds behind,
+        elim stays.same [
+          | inl same ↦ same ∙ begun
+          | inr astray ↦ absurd (true≢false (sym behind ∙ ap is_behind astray.0))
+        ],
+      )
+  finishes_as t old a new begun (inl stays) (inr none) =
+      absurd (true≢false (sym stays.begun ∙ none))
+  finishes_as t old a new begun (inr ends) over = inr (ends.ends, has_finished new ends.none)
+
+  -- so many turns of this tenure led to a sender, which is astray only where it is the first
+  pub record GoesStraight (t : ℕ) (first : SenderSeat (Sender (Elector S))) (count : ℕ)
+      (new : SenderSeat (Sender (Elector S))) : Type 0 where
+    pub through : GoesThrough P T t first count new
+    pub straight : ((new ≡ first) × (count ≡ 0)) ⊎ (IsAstray new.core → ⊥)
+
+  -- of none
+  pub goes_at_first : (first : SenderSeat (Sender (Elector S)))
+      → is_some (tenure_begun first.core) ≡ true → (t : ℕ) × GoesStraight t first 0 first
+  goes_at_first first some = by (tenure_begun first.core) refl where
+    by : (o : Option ℕ) → tenure_begun first.core ≡ o → (t : ℕ) × GoesStraight t first 0 first
+    by None e = absurd (true≢false (sym some ∙ ap is_some e))
+    by (Some t) e = (t, record { through = Begun e; straight = inl (refl, refl) })
 
   -- and after one with which it does not
-  pub goes_through : (first : SenderSeat (Sender (Elector S))) (count : ℕ)
+  pub goes_through : (t : ℕ) (first : SenderSeat (Sender (Elector S))) (count : ℕ)
       (old : SenderSeat (Sender (Elector S))) (word : ℕ) (a : Turn)
-      (new : SenderSeat (Sender (Elector S))) → GoesThrough P T first count old
-      → Turned P T old word a new → StaysOrEnds a new.core → is_behind a ≡ false
-      → is_some (tenure_begun new.core) ≡ true → GoesThrough P T first (count + 1) new
-  goes_through first count old word a new before turned (inl stays) other some =
-      Through count old word a new before turned stays.goes other some
-  goes_through first count old word a new before turned (inr ends) other some =
+      (new : SenderSeat (Sender (Elector S))) → GoesStraight t first count old
+      → Turned P T old word a new → StaysOrEnds old.core a new.core
+      → (IsAstray new.core → ⊥) → is_behind a ≡ false → is_some (tenure_begun new.core) ≡ true
+      → (u : ℕ) × GoesStraight u first (count + 1) new
+  goes_through t first count old word a new before turned (inl stays) straight other some =
+      by stays.same before.straight
+    where
+      on : tenure_begun new.core ≡ tenure_begun old.core
+          → (u : ℕ) × GoesStraight u first (count + 1) new
+      on same = (
+        t,
+        record {
+          through = Through count old word a new before.through turned stays.goes other
+              (same ∙ through_begun P T t first count old before.through);
+          straight = inr straight;
+        },
+      )
+
+      strayed : a ≡ turn.Waiting → IsAstray old.core → old ≡ first → count ≡ 0 → (u : ℕ)
+          → tenure_begun new.core ≡ Some u → GoesStraight u first (count + 1) new
+      strayed waits astray is none u begun =
+          subst (λ n. GoesStraight u first (n + 1) new) (sym none) (record {
+            through = Strayed word new (subst (λ (y : SenderSeat (Sender (Elector S))).
+                IsAstray y.core) is astray)
+                (subst (λ (y : SenderSeat (Sender (Elector S)) × Turn). Turned P T y.0 word y.1 new)
+                (λ i. (is i, waits i)) turned) begun;
+            straight = inr straight;
+          })
+
+      by : (tenure_begun new.core ≡ tenure_begun old.core) ⊎ ((a ≡ turn.Waiting)
+          × IsAstray old.core)
+          → ((old ≡ first) × (count ≡ 0)) ⊎ (IsAstray old.core → ⊥)
+          → (u : ℕ) × GoesStraight u first (count + 1) new
+      by (inl same) s = on same
+      by (inr astray) (inr unlost) = absurd (unlost astray.1)
+      by (inr astray) (inl is) = named (tenure_begun new.core) refl where
+        named : (o : Option ℕ) → tenure_begun new.core ≡ o
+            → (u : ℕ) × GoesStraight u first (count + 1) new
+        named None e = absurd (true≢false (sym some ∙ ap is_some e))
+        named (Some u) e = (u, strayed astray.0 astray.1 is.0 is.1 u e)
+  goes_through t first count old word a new before turned (inr ends) straight other some =
       absurd (true≢false (sym some ∙ ap is_some ends.none))
 
   -- its batch is kept, if that is not in the order
-  pub finished_keeps : (first old : SenderSeat (Sender (Elector S))) (count word : ℕ) (a : Turn)
-      (new : SenderSeat (Sender (Elector S))) → GoesThrough P T first count old
-      → Turned P T old word a new → StaysOrEnds a new.core → is_sent a ≡ false
+  pub finished_keeps : (t : ℕ) (first old : SenderSeat (Sender (Elector S))) (count word : ℕ)
+      (a : Turn) (new : SenderSeat (Sender (Elector S))) → GoesThrough P T t first count old
+      → Turned P T old word a new → StaysOrEnds old.core a new.core → is_sent a ≡ false
       → KeptAfter P first a new
-  finished_keeps first old count word a new before turned goes unsent =
+  finished_keeps t first old count word a new before turned goes unsent =
       elim goes [
         | inl stays ↦ going stays.goes
         | inr ends ↦ elim (kept_end a ends.ends unsent) [
@@ -763,7 +1017,7 @@ module _ {S : Type 0} (kind_of : S → Option Kind) (op : S → ℕ → Option O
           | inr refused ↦ refused_keeps P T (leaves_batch kind_of op fed Q) first a new (record {
             old = old;
             word = word;
-            before = through_on P T first count old before;
+            before = through_on P T t first count old before;
             turned = turned;
             last = refused.0;
           }) refused.1
@@ -773,4 +1027,4 @@ module _ {S : Type 0} (kind_of : S → Option Kind) (op : S → ℕ → Option O
       going : is_last a ≡ false → KeptAfter P first a new
       going other =
           inl (going_keeps P T (leaves_batch kind_of op fed Q) first old word a new
-          (through_on P T first count old before) turned other)
+          (through_on P T t first count old before) turned other)

@@ -1,6 +1,6 @@
 -- A sender that goes through what is left of a tenure that it has begun, and begins no other.
-use Rattle.std.specs.Prelude.{◌≡◌, ◌⊎◌, ℕ, ◌+◌, ◌-◌, ◌<◌, Bool, true, false, Option, Some, None}
-use Rattle.std.specs.Prelude.{IsSome, if◌then◌else◌}
+use Rattle.std.specs.Prelude.{◌≡◌, ◌≢◌, ◌⊎◌, ℕ, ◌+◌, ◌-◌, ◌<◌, Bool, true, false, Option}
+use Rattle.std.specs.Prelude.{Some, None, IsSome, IsSomeAnd, if◌then◌else◌}
 use Rattle.bus_presence.specs.Reclaimers.{Reclaiming}
 use Rattle.bus_presence.specs.declared.pins.Pin.{Pin}
 use Rattle.bus_presence.specs.declared.pins.Pin.TheVariants.{Away, Announcing, Validating, Pinned}
@@ -12,9 +12,10 @@ use Rattle.bus_tenure.specs.declared.phases.Phase.TheVariants.{Giving}
 use Rattle.bus_tenure.specs.declared.turns.Turn.{Turn}
 use Rattle.bus_tenure.specs.declared.turns.Turn.TheVariants as turn
 use Rattle.bus_tenure.specs.Classes.{is_last}
-use Rattle.bus_tenure.specs.Seen.{is_holding}
+use Rattle.bus_tenure.specs.Seen.{is_holding, tenure_of}
 use Rattle.bus_core.specs.Seen.{tenure_begun}
 use Rattle.bus_core.specs.Senders.{Sender}
+use Rattle.bus_core.specs.Telling.{IsInvalidated}
 use Rattle.bus_core.specs.declared.reuses.Reuse.{Reuse}
 use Rattle.bus_automaton.specs.Processes.{Process}
 use Rattle.bus_pageslot.specs.Seats.{SenderSeat}
@@ -115,9 +116,17 @@ ends_tenure turn.Spent = false
 ends_tenure (turn.Behind tenure sender) = false
 
 -- ---- one turn
+-- Where rows are used again: it withdraws from a tenure that it came too late for, while it stands
+-- in one. No turn of a tenure leads to such a sender, as turn_begun says. That no sender is one at
+-- first is not said.
+pub record IsAstray {E : Type 0} (v : Sender E) : Type 0 where
+  pub late : IsSomeAnd v.reuse (λ r. IsInvalidated r)
+  pub stands : IsSome (tenure_of v.core.phase)
+
 -- it goes on in the tenure that it has begun, and holds the page where another sender's pin is in
--- the way; or the tenure has ended for it
-pub record StaysIn {E : Type 0} (answer : Turn) (new : Sender E) : Type 0 where
+-- the way; or the tenure has ended for it. One that is astray goes on in that where it stands.
+pub record StaysIn {E : Type 0} (old : Sender E) (answer : Turn) (new : Sender E) : Type 0 where
+  pub same : (tenure_begun new ≡ tenure_begun old) ⊎ ((answer ≡ turn.Waiting) × IsAstray old)
   pub begun : IsSome (tenure_begun new)
   pub goes : is_last answer ≡ false
   pub holds : is_behind answer ≡ true → is_holding new.core.phase ≡ true
@@ -126,19 +135,24 @@ pub record Ends {E : Type 0} (answer : Turn) (new : Sender E) : Type 0 where
   pub none : tenure_begun new ≡ None
   pub ends : ends_tenure answer ≡ true
 
-abbrev pub StaysOrEnds : {E : Type 0} → Turn → Sender E → Type 0
-StaysOrEnds answer new = StaysIn answer new ⊎ Ends answer new
+abbrev pub StaysOrEnds : {E : Type 0} → Sender E → Turn → Sender E → Type 0
+StaysOrEnds old answer new = StaysIn old answer new ⊎ Ends answer new
 
 -- ---- what was done
--- So many turns led from one sender to another. Before each it had begun a tenure, and after it
--- too, so none of them looked for a tenure. None was a last one, and none answered Behind.
-pub data GoesThrough {E : Type 0} (P : Process (Sender E)) (T : Tellings (Sender E))
+-- So many turns led from one sender to another, all of one tenure: before each that was the tenure
+-- which it had begun, and after each too. So none of them looked for a tenure. None was a last one,
+-- and none answered Behind. A first sender that was astray withdrew first, and then this tenure was
+-- that where it stood.
+pub data GoesThrough {E : Type 0} (P : Process (Sender E)) (T : Tellings (Sender E)) (tenure : ℕ)
     (first : SenderSeat (Sender E)) : ℕ → SenderSeat (Sender E) → Type 0 where
-  Begun : IsSome (tenure_begun first.core) → GoesThrough P T first 0 first
+  Begun : tenure_begun first.core ≡ Some tenure → GoesThrough P T tenure first 0 first
+  Strayed : (word : ℕ) (new : SenderSeat (Sender E)) → IsAstray first.core
+      → Turned P T first word turn.Waiting new → tenure_begun new.core ≡ Some tenure
+      → GoesThrough P T tenure first 1 new
   Through : (count : ℕ) (old : SenderSeat (Sender E)) (word : ℕ) (answer : Turn)
-      (new : SenderSeat (Sender E)) → GoesThrough P T first count old
+      (new : SenderSeat (Sender E)) → GoesThrough P T tenure first count old
       → Turned P T old word answer new → is_last answer ≡ false → is_behind answer ≡ false
-      → IsSome (tenure_begun new.core) → GoesThrough P T first (count + 1) new
+      → tenure_begun new.core ≡ Some tenure → GoesThrough P T tenure first (count + 1) new
 
 -- it has begun no tenure: no election of it runs, it holds no page, and where rows are used again
 -- it pins none
@@ -148,20 +162,32 @@ pub record HasFinished {E : Type 0} (P : Process (Sender E)) (s : SenderSeat (Se
   pub no_election : P.turns_left s.core ≡ 0
   pub no_page : P.holds s.core ≡ false
 
--- another sender's pin is in the way, and it holds the page; or its tenure has ended
-abbrev pub FinishesAs : {E : Type 0} → Process (Sender E) → Turn → SenderSeat (Sender E) → Type 0
-FinishesAs P answer new =
-    ((is_behind answer ≡ true) × (P.holds new.core ≡ true))
+-- another sender's pin is in the way, and it holds the page of the same tenure; or that has ended
+abbrev pub FinishesAs : {E : Type 0} → Process (Sender E) → (tenure : ℕ) → Turn
+    → SenderSeat (Sender E) → Type 0
+FinishesAs P tenure answer new =
+    ((is_behind answer ≡ true) × (P.holds new.core ≡ true)
+    × (tenure_begun new.core ≡ Some tenure))
     ⊎ ((ends_tenure answer ≡ true) × HasFinished P new)
 
--- such turns and one more, which answered so: no more of them than were left
+-- such turns of one tenure and one more of it, which answered so: no more of them than were left
 pub record Finishes {E : Type 0} (X : Election E) (P : Process (Sender E))
     (T : Tellings (Sender E)) (first : SenderSeat (Sender E)) (answer : Turn)
     (new : SenderSeat (Sender E)) : Type 0 where
+  pub tenure : ℕ
   pub count : ℕ
   pub old : SenderSeat (Sender E)
   pub word : ℕ
-  pub before : GoesThrough P T first count old
+  pub before : GoesThrough P T tenure first count old
   pub turned : Turned P T old word answer new
-  pub finished : FinishesAs P answer new
+  pub finished : FinishesAs P tenure answer new
   pub few : count < turns_to_finish X first.core
+
+-- ---- what these refuse, of a first sender that is not astray: turns of two tenures, and turns of
+-- one that has begun none
+pub record FinishingRefuses {E : Type 0} (P : Process (Sender E)) (T : Tellings (Sender E))
+    (first new : SenderSeat (Sender E)) : Type 0 where
+  pub another : (t u tenure count : ℕ) → tenure_begun first.core ≡ Some t
+      → tenure_begun new.core ≡ Some u → t ≢ u → ¬ GoesThrough P T tenure first count new
+  pub none : (tenure count : ℕ) → tenure_begun first.core ≡ None
+      → ¬ GoesThrough P T tenure first count new

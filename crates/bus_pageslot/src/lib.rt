@@ -28,6 +28,7 @@ mod buses;
 pub mod laws;
 mod listening;
 mod outcomes;
+pub mod refusals;
 mod rule;
 mod seating;
 mod seats;

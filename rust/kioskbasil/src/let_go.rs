@@ -60,7 +60,8 @@ fn finished(mut sender: RawSender) -> Option<RawSender> {
 
 impl Drop for LetGo {
     fn drop(&mut self) {
-        if let Some(mut sender) = self.kept().take() {
+        // One that is behind now is given up with the page: no handle is left that waits for it.
+        if let Some(mut sender) = self.kept().take().and_then(finished) {
             // SAFETY: the handle is this value's own.
             unsafe { raw::bus_c_free_sender(&mut sender) };
         }

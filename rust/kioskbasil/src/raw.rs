@@ -161,7 +161,7 @@ extern "C" {
     pub fn bus_c_begin_page(sender: *mut RawSender, senders: u64, left: *mut Left) -> u32;
     pub fn bus_c_note_sender(sender: *mut RawSender, number: u64, left: *mut Left) -> u32;
     pub fn bus_c_finish(sender: *mut RawSender, answer: *mut TurnAnswer) -> u32;
-    pub fn bus_c_free_sender(sender: *mut RawSender) -> u32;
+    pub fn bus_c_free_sender(sender: *mut RawSender);
     pub fn bus_c_hear_once(receiver: *mut RawReceiver, answer: *mut HeardAnswer) -> u32;
     pub fn bus_c_hear(
         receiver: *mut RawReceiver,

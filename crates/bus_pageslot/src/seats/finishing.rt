@@ -1,13 +1,18 @@
 //! A sender that goes through what is left of the tenure that it has begun, and begins no other.
 
-ghost use Rattle.std.specs.Prelude.{◌≡◌, ◌⊎◌, ◌<◌, true, false, IfSome, IfNone, IsSome, is_some};
+ghost use Rattle.std.specs.Prelude.{◌≡◌, ◌⊎◌, ◌<◌, true, false, IfSome, IfNone, IsSome};
+ghost use Rattle.std.specs.Prelude.{is_some};
 ghost use Rattle.bus_automaton.specs.Buses.{process_by};
+ghost use Rattle.bus_core.specs.Places.{LiesAt};
 ghost use Rattle.bus_core.specs.Seen.{tenure_begun};
+ghost use Rattle.bus_core.specs.Senders.{situation};
+ghost use Rattle.bus_core.specs.Table.{line_now};
 ghost use Rattle.bus_pageslot.specs.Finishing.{turns_to_finish, StaysOrEnds, Finishes, HasFinished};
-ghost use Rattle.bus_pageslot.specs.Finishing.{is_behind, is_sent};
+ghost use Rattle.bus_pageslot.specs.Finishing.{is_behind, is_sent, IsAstray};
 ghost use Rattle.bus_pageslot.specs.Seats.{table_of, actions_of};
 ghost use Rattle.bus_pageslot.specs.Sendings.{KeptAfter};
 ghost use Rattle.bus_pageslot.specs.Turns.{tells_by, Turned, DrawsOn};
+ghost use Rattle.bus_register.specs.Words.{register};
 ghost use Rattle.bus_tenure.specs.Elections.{election_of};
 ghost use Rattle.bus_world.specs.Headline.{puts};
 
@@ -15,6 +20,7 @@ use crate::buses::Bus;
 use crate::seats::Sender;
 use bus_adoptcommit::Ratifier;
 use bus_automaton::laws::threads_may_go_by;
+use bus_register::Op;
 use bus_tenure::Turn;
 use bus_tenure::laws::elections_are_bounded;
 use rand_core::Rng;
@@ -85,12 +91,24 @@ impl<Q: Ratifier + Drop> Sender<Q> {
         ensures some { 0 < turns_to_finish (election_of Q.Ratifier) self.old.core }
         ensures falls { let X = election_of Q.Ratifier in is_behind result ≡ false
             → turns_to_finish X self.new.core < turns_to_finish X self.old.core }
-        ensures goes { StaysOrEnds result self.new.core }
+        ensures goes { StaysOrEnds self.old.core result self.new.core }
+        ensures straight { ¬ IsAstray self.new.core }
     {
         elections_are_bounded::<Q>();
         let _left = self.turns_left();
         let _due = self.kind();
+        let _step = self.due(word);
         self.turn(bus, word)
+    }
+
+    /// Its next step, which lies where its situation has it; none where none is due.
+    fn due(&self, word: u32) -> Option<Op>
+        ensures step { let X = election_of Q.Ratifier in
+            result ≡ (line_now X self.now.core).op word }
+        ensures lies { let X = election_of Q.Ratifier in IfSome result
+            (λ o. LiesAt self.now.core (situation X self.now.core) (register o)) }
+    {
+        self.core.next(word)
     }
 }
 
