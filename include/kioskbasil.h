@@ -148,7 +148,7 @@ typedef struct kioskbasil_receiver {
 
 /* The sizes of a bus, but for the numbers of its senders and receivers. */
 typedef struct kioskbasil_sizes {
-  uint64_t rounds;    /* rounds of one binary decision: 1 to 8; any is right, 4 is usual */
+  uint64_t rounds;    /* rounds of one binary decision: 1 to 8; any is safe, 2 are usual */
   uint64_t rows;      /* tenures of the sitting, 1 to 256; where rows are used again 2 to 8; a batch
                          takes one, a close and a leave too */
   uint64_t log_words; /* words of the whole order, 16 to 65,536: a batch takes 1, a message 1 and

@@ -201,6 +201,7 @@ fn main() {
     let run = match name.as_str() {
         "nothing" => run_bytes::<Nothing>,
         "mutex" => run_bytes::<MutexLog>,
+        "lock" => run_bytes::<LockLog>,
         "ticket" => run_bytes::<TicketLog>,
         "channels" => run_bytes::<Channels>,
         #[cfg(feature = "tokio")]
@@ -312,6 +313,83 @@ impl<const W: usize> Rx<W> for LogRx<W> {
             .extend_from_slice(&self.log.msgs.lock().unwrap()[self.seen..]);
         self.seen += self.taken.len();
         self.taken.iter().for_each(take);
+    }
+}
+
+/// The best lock log that a user could write: a spin lock for those who send, and receivers that read what is published without
+/// it. Its memory is there from the start.
+struct LockLog;
+
+struct Published<const W: usize> {
+    is_held: Apart<AtomicBool>,
+    /// How many messages are written; of the holder alone.
+    used: Apart<UnsafeCell<usize>>,
+    /// The same, for the receivers.
+    len: Apart<AtomicUsize>,
+    msgs: Vec<UnsafeCell<Msg<W>>>,
+}
+
+// Safety: `used` is of whoever holds the lock. A message is written by the holder, before the release store of a length that
+// covers it and only once, and read only after an acquire load of such a length.
+unsafe impl<const W: usize> Sync for Published<W> {}
+
+impl<const W: usize> Published<W> {
+    fn with_lock(&self, act: impl FnOnce()) {
+        while self.is_held.0.swap(true, Acquire) {
+            wait_until(|| !self.is_held.0.load(Relaxed));
+        }
+        act();
+        self.is_held.0.store(false, Release);
+    }
+}
+
+struct FreeRx<const W: usize> {
+    log: Arc<Published<W>>,
+    seen: usize,
+}
+
+impl<const W: usize> Peer<W> for LockLog {
+    type Tx = Arc<Published<W>>;
+    type Rx = FreeRx<W>;
+    fn open(senders: usize, receivers: usize, total: usize) -> (Vec<Self::Tx>, Vec<Self::Rx>) {
+        let log = Arc::new(Published {
+            is_held: Default::default(),
+            used: Apart(UnsafeCell::new(0)),
+            len: Default::default(),
+            msgs: times(total, |_| UnsafeCell::new([1; W])),
+        });
+        let rx = |_| FreeRx {
+            log: log.clone(),
+            seen: 0,
+        };
+        (times(senders, |_| log.clone()), times(receivers, rx))
+    }
+}
+
+impl<const W: usize> Tx<W> for Arc<Published<W>> {
+    fn send(&mut self, batch: &[Msg<W>]) {
+        self.with_lock(|| {
+            let used = unsafe { &mut *self.used.0.get() };
+            for (slot, msg) in self.msgs[*used..][..batch.len()].iter().zip(batch) {
+                unsafe { *slot.get() = *msg };
+            }
+            *used += batch.len();
+            self.len.0.store(*used, Release);
+        });
+    }
+}
+
+impl<const W: usize> Rx<W> for FreeRx<W> {
+    fn recv(&mut self, mut take: impl FnMut(&Msg<W>)) {
+        let mut len = 0;
+        wait_until(|| {
+            len = self.log.len.0.load(Acquire);
+            len > self.seen
+        });
+        for msg in &self.log.msgs[self.seen..len] {
+            take(unsafe { &*msg.get() });
+        }
+        self.seen = len;
     }
 }
 

@@ -59,7 +59,7 @@ static void *work(void *given) {
 }
 
 int main(void) {
-    kioskbasil_sizes sizes = {.rounds = 4, .rows = 8, .log_words = 4096, .again = true};
+    kioskbasil_sizes sizes = {.rounds = 2, .rows = 8, .log_words = 4096, .again = true};
     kioskbasil_sender senders[THREADS] = {KIOSKBASIL_NONE};
     kioskbasil_receiver receivers[THREADS] = {KIOSKBASIL_NONE};
     uint32_t code = kioskbasil_open(&sizes, senders, THREADS, receivers, THREADS);

@@ -78,7 +78,7 @@ static uint32_t loop(kioskbasil_sender *sender, kioskbasil_receiver *receiver, i
 }
 
 int main(void) {
-    kioskbasil_sizes sizes = {.rounds = 1, .rows = 8, .log_words = 4096, .again = true};
+    kioskbasil_sizes sizes = {.rounds = 2, .rows = 8, .log_words = 4096, .again = true};
     kioskbasil_sender senders[2] = {KIOSKBASIL_NONE};
     kioskbasil_receiver receivers[1] = {KIOSKBASIL_NONE};
     kioskbasil_left left;

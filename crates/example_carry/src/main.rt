@@ -8,7 +8,7 @@ use bus_handles::{Shape, ThreeWord, Turn, open_after, open_cyclic, senders_page}
 const SHAPE: Shape = Shape {
     senders: 2,
     receivers: 1,
-    rounds: 1,
+    rounds: 2,
     rows: 4,
     log_words: 64,
 };

@@ -8,7 +8,7 @@ fn main(rt: HostRuntime) -> anyhow::Result<()> {
     let shape = Shape {
         senders: 2,
         receivers: 1,
-        rounds: 4,
+        rounds: 2,
         rows: 2,
         log_words: 16,
     };

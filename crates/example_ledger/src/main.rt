@@ -210,7 +210,7 @@ fn begin(alloc: Global, ledgers: Vec<Ledger>, page: Option<&Page>) -> anyhow::Re
     let shape = Shape {
         senders: 3,
         receivers: 3,
-        rounds: 4,
+        rounds: 2,
         rows: 9,
         log_words: 128,
     };

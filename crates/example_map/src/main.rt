@@ -63,7 +63,7 @@ fn main(rt: HostRuntime) -> anyhow::Result<()> {
     let shape = Shape {
         senders: 4,
         receivers: 4,
-        rounds: 4,
+        rounds: 2,
         rows: 4,
         log_words: words_needed(4, 160, 40),
     };

@@ -74,7 +74,7 @@ pub struct Shape {
     pub senders: usize,
     /// 1 to 8 (`MOST_RECEIVERS`).
     pub receivers: usize,
-    /// Rounds of one binary decision: 1 to 8. Any number is right.
+    /// Rounds of one binary decision: 1 to 8. Any number is safe, and 2 are usual.
     pub rounds: u64,
     /// Tenures of the sitting: 1 to 256; where rows are used again 2 to 8. A batch takes one, a
     /// close and a leave too.
@@ -87,12 +87,12 @@ pub struct Shape {
 }
 
 impl Shape {
-    /// 4 rounds, 8 rows that are used again, and the longest log.
+    /// 2 rounds, 8 rows that are used again, and the longest log.
     pub fn of(senders: usize, receivers: usize) -> Shape {
         Shape {
             senders,
             receivers,
-            rounds: 4,
+            rounds: 2,
             rows: 8,
             log_words: 65_536,
             again: true,
