@@ -1,180 +1,119 @@
 //! Worked calls of a bus whose rows are used again.
 
+use crate::games::{Game, delivered, same, shape};
 use bus_adoptcommit::ThreeWord;
 use bus_batch::PutFault;
 use bus_deliverylog::RecvTurn;
 use bus_machine::World;
 use bus_register::{Reg, SenderNo};
 use bus_tenure::Turn;
-use bus_world::{Answer, Event, MakeFault, PlayFault, Shape, StepFault};
+use bus_world::{Event, MakeFault, PlayFault, Shape, StepFault};
 use std::process::Abort;
-use std::test::Fail;
-
-/// A bus of one round for each bit.
-fn shape(senders: u64, rows: u64, log_words: u64) -> Shape {
-    Shape {
-        senders,
-        receivers: 1,
-        rounds: 1,
-        rows,
-        log_words,
-    }
-}
-
-/// Wants that this bus is made.
-fn made<R: Abort + AllocGlobal>(rt: &R, shape: Shape) -> World<ThreeWord> {
-    match World::cyclic(rt.alloc(), shape, None) {
-        Ok(world) => world,
-        Err(_) => panic!(rt; "a bus of this shape"),
-    }
-}
-
-/// The last of so many turns of a sender at most, of which all but the last are going.
-fn turns(rt: &impl Abort, world: &mut World<ThreeWord>, sender: u64, most: u64) -> Turn {
-    for _ in 0..most {
-        match world.step(&Event::Turn { sender, word: 0 }) {
-            Ok(Answer::Turn(Turn::Going)) => {}
-            Ok(Answer::Turn(turn)) => return turn,
-            _ => panic!(rt; "a turn answers a turn"),
-        }
-    }
-    Turn::Going
-}
 
 /// The last answer of receiver 0, which goes on until it finds nothing or the end.
-fn hear(rt: &impl Abort, world: &mut World<ThreeWord>) -> RecvTurn {
+fn hear(rt: &impl Abort, game: &mut Game) -> RecvTurn {
     for _ in 0..99 {
-        match world.step(&Event::Recv(0)) {
-            Ok(Answer::Recv(RecvTurn::Empty)) => return RecvTurn::Empty,
-            Ok(Answer::Recv(RecvTurn::End)) => return RecvTurn::End,
-            Ok(Answer::Recv(_)) => {}
-            _ => panic!(rt; "a receiver answers"),
+        let turn = game.recv(rt);
+        if matches!(turn, RecvTurn::Empty | RecvTurn::End) {
+            return turn;
         }
     }
     RecvTurn::Going
 }
 
-/// Wants that a put is answered so.
-fn puts(
-    rt: &impl Abort,
-    world: &mut World<ThreeWord>,
-    sender: u8,
-    bytes: &[u8],
-    want: Result<u64, StepFault>,
-) {
-    assert_eq!(rt; world.put(SenderNo(sender), bytes), want);
-}
-
-/// Wants that the last of at most 99 turns of a sender is answered so.
-fn comes_to(rt: &impl Abort, world: &mut World<ThreeWord>, sender: u64, want: Turn) {
-    assert_eq!(rt; turns(rt, world, sender, 99), want);
-}
-
-/// The message with this number was sent in this tenure.
-fn delivered(tenure: u64, number: u64) -> Turn {
-    Turn::Delivered {
-        tenure,
-        first: number,
-        last: number,
-    }
-}
-
-/// Wants that a sender owns this tenure, and sends the message with this number in it.
-fn sends(rt: &impl Abort, world: &mut World<ThreeWord>, sender: u64, tenure: u64, number: u64) {
-    comes_to(rt, world, sender, Turn::Own { tenure });
-    comes_to(rt, world, sender, delivered(tenure, number));
-}
-
 /// Wants that receiver 0 was given so many items, and that the items of the order are these, each
 /// by its sender and its number.
-fn holds<R: Abort + AllocGlobal>(
-    rt: &R,
-    world: &World<ThreeWord>,
-    given: usize,
-    items: &[(u8, u64)],
-) -> Result<(), Fail> {
-    assert!(rt; world.receivers() > 0);
-    assert_eq!(rt; world.given(rt.alloc(), 0)?.items.len(), given);
+fn holds<R: Abort + AllocGlobal>(rt: &R, game: &Game, given: usize, items: &[(u8, u64)]) {
+    same(rt, &game.given(rt).items.len(), &given);
     let mut order = Vec::new(rt.alloc());
-    for item in &world.order(rt.alloc())?.items {
-        order.push((item.sender.0, item.number))?;
+    for item in &game.order(rt).items {
+        order
+            .push((item.sender.0, item.number))
+            .expect(rt, "memory");
     }
-    assert_eq!(rt; order.as_slice(), items);
-    Ok(())
+    same(rt, &order.as_slice(), &items);
 }
 
-#[test]
-fn holder_waits_behind(rt: HostRuntime) -> Result<(), Fail> {
-    let mut world = made(&rt, shape(2, 2, 64));
-    puts(&rt, &mut world, 0, b"a", Ok(0));
-    puts(&rt, &mut world, 1, b"b", Ok(0));
-    assert_eq!(rt; turns(&rt, &mut world, 1, 3), Turn::Going);
-    sends(&rt, &mut world, 0, 0, 0);
-    puts(&rt, &mut world, 0, b"c", Ok(1));
-    comes_to(&rt, &mut world, 0, Turn::Own { tenure: 1 });
+/// Sender 0 has taken the page of tenure 1 and waits for sender 1, which pins tenure 0.
+fn is_behind<R: Abort + AllocGlobal>(rt: &R) -> Game {
+    let mut game = Game::again(rt, shape(2, 1, 2, 64));
+    game.puts(rt, 0, b"a", Ok(0));
+    game.puts(rt, 1, b"b", Ok(0));
+    game.goes(rt, 1, 3, Turn::Going);
+    game.sends(rt, 0, 0, 0);
+    game.puts(rt, 0, b"c", Ok(1));
+    game.comes_to(rt, 0, Turn::Own { tenure: 1 });
     let behind = Turn::Behind {
         tenure: 0,
         sender: SenderNo(1),
     };
-    comes_to(&rt, &mut world, 0, behind);
-    assert_eq!(rt; turns(&rt, &mut world, 0, 1), behind);
-    assert!(rt; world.page().is_none());
-    assert_eq!(rt; hear(&rt, &mut world), RecvTurn::Empty);
+    game.comes_to(rt, 0, behind);
+    game.goes(rt, 0, 1, behind);
+    game
+}
+
+#[test]
+fn holder_waits_behind(rt: HostRuntime) {
+    let mut game = is_behind(&rt);
+    assert!(rt; game.is_out());
+    same(&rt, &hear(&rt, &mut game), &RecvTurn::Empty);
     let lost = Turn::Lost {
         tenure: 0,
         owner: SenderNo(0),
     };
-    comes_to(&rt, &mut world, 1, lost);
-    comes_to(&rt, &mut world, 0, delivered(1, 1));
-    assert_eq!(rt; world.owners(), [SenderNo(0), SenderNo(0)].as_slice());
-    holds(&rt, &world, 2, &[(0, 0), (0, 1)])
+    game.comes_to(&rt, 1, lost);
+    game.comes_to(&rt, 0, delivered(1, 1));
+    game.has_owners(&rt, &[SenderNo(0), SenderNo(0)]);
+    holds(&rt, &game, 2, &[(0, 0), (0, 1)]);
 }
 
 #[test]
-fn rows_come_round(rt: HostRuntime) -> Result<(), Fail> {
-    let mut world = made(&rt, shape(2, 2, 64));
-    puts(&rt, &mut world, 0, b"a", Ok(0));
-    puts(&rt, &mut world, 1, b"b", Ok(0));
-    assert_eq!(rt; turns(&rt, &mut world, 1, 1), Turn::Going);
-    let busy = Err(StepFault::Put(PutFault::Busy));
-    puts(&rt, &mut world, 1, b"late", busy);
-    sends(&rt, &mut world, 0, 0, 0);
-    puts(&rt, &mut world, 0, b"c", Ok(1));
-    sends(&rt, &mut world, 0, 1, 1);
-    comes_to(&rt, &mut world, 1, Turn::Waiting);
-    sends(&rt, &mut world, 1, 2, 0);
-    assert_eq!(rt; world.owners(), [SenderNo(0), SenderNo(1)].as_slice());
-    holds(&rt, &world, 0, &[(0, 0), (0, 1), (1, 0)])
+fn rows_come_round(rt: HostRuntime) {
+    let mut game = Game::again(&rt, shape(2, 1, 2, 64));
+    game.puts(&rt, 0, b"a", Ok(0));
+    game.puts(&rt, 1, b"b", Ok(0));
+    game.goes(&rt, 1, 1, Turn::Going);
+    game.puts(&rt, 1, b"late", Err(StepFault::Put(PutFault::Busy)));
+    game.sends(&rt, 0, 0, 0);
+    game.puts(&rt, 0, b"c", Ok(1));
+    game.sends(&rt, 0, 1, 1);
+    game.comes_to(&rt, 1, Turn::Waiting);
+    game.sends(&rt, 1, 2, 0);
+    game.has_owners(&rt, &[SenderNo(0), SenderNo(1)]);
+    holds(&rt, &game, 0, &[(0, 0), (0, 1), (1, 0)]);
+}
+
+/// Wants that no bus of this shape is made, for this reason.
+fn is_refused<R: Abort + AllocGlobal>(rt: &R, shape: Shape, why: MakeFault) {
+    let fault = World::<ThreeWord>::cyclic(rt.alloc(), shape, None).err();
+    same(rt, &fault, &Some(why));
 }
 
 #[test]
 fn cyclic_limits(rt: HostRuntime) {
-    let one = World::<ThreeWord>::cyclic(rt.alloc(), shape(1, 1, 16), None).err();
-    assert_eq!(rt; one, Some(MakeFault::Rows));
-    let nine = World::<ThreeWord>::cyclic(rt.alloc(), shape(1, 9, 16), None).err();
-    assert_eq!(rt; nine, Some(MakeFault::Rows));
-    let crowd = World::<ThreeWord>::cyclic(rt.alloc(), shape(65, 9, 0), None).err();
-    assert_eq!(rt; crowd, Some(MakeFault::Senders));
+    is_refused(&rt, shape(1, 1, 1, 16), MakeFault::Rows);
+    is_refused(&rt, shape(1, 1, 9, 16), MakeFault::Rows);
+    is_refused(&rt, shape(65, 1, 9, 0), MakeFault::Senders);
 }
 
-#[test]
-fn who_stops_is_refused(rt: HostRuntime) {
-    let mut world = made(&rt, shape(2, 2, 64));
-    assert_eq!(rt; world.close(SenderNo(1)), Ok(()));
-    assert_eq!(rt; turns(&rt, &mut world, 1, 99), Turn::Own { tenure: 0 });
-    assert_eq!(rt; turns(&rt, &mut world, 1, 99), Turn::Closed);
-    assert_eq!(rt; hear(&rt, &mut world), RecvTurn::End);
-    assert!(rt; !world.log().is_empty());
-    assert_eq!(rt; world.stop(SenderNo(0)), Ok(()));
-    assert_eq!(rt; world.stop(SenderNo(0)), Err(StepFault::Stopped));
-    assert_eq!(rt; world.stop(SenderNo(2)), Err(StepFault::NoSuchSender));
+/// What the machine tells of its senders.
+fn tells_senders(rt: &impl Abort, world: &World<ThreeWord>) {
+    same(rt, &world.senders(), &2);
     assert!(rt; world.sender(SenderNo(1)).is_some());
     assert!(rt; world.sender(SenderNo(2)).is_none());
-    assert_eq!(rt; world.senders(), 2);
-    assert_eq!(rt; world.word(Reg(1)), Some(2));
+}
+
+/// What the machine tells of its words and its receivers.
+fn tells_words(rt: &impl Abort, world: &World<ThreeWord>) {
+    assert!(rt; !world.log().is_empty());
+    same(rt, &world.word(Reg(1)), &Some(2));
     assert!(rt; world.word(Reg(1000)).is_none());
     assert!(rt; world.reader(0).is_some_and(|reader| reader.has_ended()));
     assert!(rt; world.reader(1).is_none());
+}
+
+/// Up to the event of a sender that has stopped, events are played.
+fn plays_until_who_stopped(rt: &impl Abort, game: &mut Game) {
     let events = [
         Event::Turn { sender: 1, word: 7 },
         Event::Turn { sender: 0, word: 7 },
@@ -184,8 +123,22 @@ fn who_stops_is_refused(rt: HostRuntime) {
         place: 1,
         why: StepFault::Stopped,
     };
-    assert_eq!(rt; world.play(&events), Err(fault));
-    let heard = [Event::Recv(0)];
-    assert_eq!(rt; world.play(&heard), Ok(()));
-    world.promises();
+    game.plays(rt, &events, Err(fault));
+    game.plays(rt, &[Event::Recv(0)], Ok(()));
+}
+
+#[test]
+fn who_stops_is_refused(rt: HostRuntime) {
+    let mut game = Game::again(&rt, shape(2, 1, 2, 64));
+    game.closes(&rt, 1, Ok(()));
+    game.comes_to(&rt, 1, Turn::Own { tenure: 0 });
+    game.comes_to(&rt, 1, Turn::Closed);
+    same(&rt, &hear(&rt, &mut game), &RecvTurn::End);
+    game.stops(&rt, 0, Ok(()));
+    game.stops(&rt, 0, Err(StepFault::Stopped));
+    game.stops(&rt, 2, Err(StepFault::NoSuchSender));
+    tells_senders(&rt, game.world());
+    tells_words(&rt, game.world());
+    plays_until_who_stopped(&rt, &mut game);
+    game.world().promises();
 }

@@ -6,6 +6,10 @@
 #[cfg(test)]
 mod cyclic;
 #[cfg(test)]
+mod dice;
+#[cfg(test)]
+mod games;
+#[cfg(test)]
 mod replays;
 #[cfg(test)]
 mod senders;

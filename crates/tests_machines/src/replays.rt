@@ -4,6 +4,7 @@
 mod bytes;
 mod random;
 
+use crate::games::same;
 use bus_adoptcommit::TwoCollect;
 use bus_replay::answer_to;
 use bus_script::Outcome;
@@ -12,12 +13,11 @@ use std::process::Abort;
 /// Wants that a script moves a bus that goes by two collects to its end, and gives this text.
 fn plays_by_two_collects<R: Abort + AllocGlobal>(rt: &R, script: &[u8], text: &str) {
     let answer = answer_to::<TwoCollect>(rt.alloc(), script).expect(rt, "memory");
-    assert_eq!(rt;
-        answer.outcome,
-        Outcome::Done,
+    assert!(rt;
+        answer.outcome == Outcome::Done,
         "of a script that gives {text}"
     );
-    assert_eq!(rt; answer.text.as_str(), text);
+    same(rt, &answer.text.as_str(), &text);
 }
 
 #[test]

@@ -1,5 +1,6 @@
 //! A script that is cut after each byte, or of which one byte is replaced by another.
 
+use crate::games::same;
 use bus_adoptcommit::ThreeWord;
 use bus_replay::answer_to;
 use bus_script::{Lines, Outcome, Words};
@@ -112,7 +113,7 @@ fn cut_and_replaced_bytes(rt: HostRuntime) {
             replays(&rt, script.as_slice(), &mut answered);
         }
     }
-    assert_eq!(rt; answered.done, 170);
-    assert_eq!(rt; answered.refused, 1769);
-    assert_eq!(rt; answered.sum, 0x357d_0852_3117_2d18);
+    same(&rt, &answered.done, &170);
+    same(&rt, &answered.refused, &1769);
+    same(&rt, &answered.sum, &0x357d_0852_3117_2d18);
 }
