@@ -7,6 +7,7 @@ use lib.ListN.{get_elem?}
 use Rattle.std.proofs.lemmas.Bool.{cases_lt}
 use Rattle.atomic_table.specs.Table.{State}
 use Rattle.bus_batch.proofs.FrameLaws.{spells_one}
+use Rattle.bus_batch.specs.Frames.{Spells}
 use Rattle.bus_tenure.specs.declared.pages.Page.{Page}
 use Rattle.bus_world.specs.Headline.{Action}
 use Rattle.bus_automaton.specs.SenderTrails.{SenderTrail}
@@ -33,20 +34,20 @@ the_one a b (suc j) e = absurd (some-ne-none b (sym e))
 
 module _ {C : Type 0} (P : Process C) (x : TableLayout) (base : ℕ → ℕ) (log : List ℕ)
     (s : State (Option Page) (View C)) where
-  same_actions : (h k : IsPromised P x base log s) (p : ℕ) → h.actions p ≡ k.actions p
-  same_actions h k p = elim (cases_lt p x.senders) [
-    | inl below ↦
-        let w = h.shown p below in
-        same_at P h.actions k.actions log p w.1 w.3 (k.views w.0 w.1 w.2)
-    | inr past ↦ h.nobody p past ∙ sym (k.nobody p past)
-  ]
-
-  pub one_page : (h k : IsPromised P x base log s)
+  -- two pages of one table, which shows one log
+  pub one_page : (log' : List ℕ) (h : IsPromised P x base log s) (k : IsPromised P x base log' s)
       → ((p : ℕ) → h.actions p ≡ k.actions p) × (h.order ≡ k.order) × (h.owners ≡ k.owners)
-  one_page h k =
+  one_page log' h k =
+      let same : (p : ℕ) → h.actions p ≡ k.actions p = λ p. elim (cases_lt p x.senders) [
+        | inl below ↦
+            let w = h.shown p below in
+            same_at P h.actions k.actions log' p w.1 w.3 (k.views w.0 w.1 w.2)
+        | inr past ↦ h.nobody p past ∙ sym (k.nobody p past)
+      ] in
       let o = spells_one x.senders log h.order k.order h.owners k.owners h.spelled
-      k.spelled in
-      (same_actions h k, o.0, o.1)
+      (subst (λ (l : List ℕ). Spells x.senders l k.order k.owners) (sym k.stands ∙ h.stands)
+      k.spelled) in
+      (same, o.0, o.1)
 
   -- the seat of sender 0 alone, of two or more
   module _ (many : 1 < x.senders) (c : C) (sender_trail : SenderTrail) (stored : ℕ)

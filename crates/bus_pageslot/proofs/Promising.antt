@@ -18,7 +18,7 @@ use Rattle.bus_pageslot.specs.ReceiverViews.{ReceiverView, IsSilent}
 use Rattle.bus_pageslot.specs.declared.rule.View.{View}
 use Rattle.bus_pageslot.specs.declared.rule.View.TheVariants.{Maker, Sender, Tap, Meeting, Telling}
 use Rattle.bus_pageslot.specs.declared.rule.View.TheVariants.{Spent}
-use Rattle.bus_automaton.specs.Processes.{TableLayout, Process, Automaton, base_in}
+use Rattle.bus_automaton.specs.Processes.{TableLayout, Process, Automaton, base_in, log_below}
 use Rattle.bus_automaton.specs.Processes.{log_in, actions_at}
 use Rattle.bus_automaton.specs.Lawful.{AutomatonLaws}
 use Rattle.bus_pageslot.specs.Rule.{KnowsLog, IsTrueOf, Seats, TableInvariant}
@@ -136,6 +136,7 @@ seats_promised {C} P A L s r =
           let h = r.all p below in
           (h.0, h.1, h.2, view_shows P A r.state r.seat h.0 h.1 (r.views h.0 h.1 h.2) p below h.3);
       nobody = nobody;
+      stands = ap (log_below A.table_layout) r.words ∙ (L.log r.state r.reached).stands;
       order = p.order;
       owners = p.owners;
       spelled = p.spelled;

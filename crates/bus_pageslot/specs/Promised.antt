@@ -8,7 +8,7 @@ use Rattle.bus_batch.specs.Frames.{Order, Spells}
 use Rattle.bus_deliverylog.specs.declared.receiving.RecvTurn.{RecvTurn}
 use Rattle.bus_tenure.specs.declared.pages.Page.{Page}
 use Rattle.bus_world.specs.Headline.{Action, IsPrefix, Promises}
-use Rattle.bus_automaton.specs.Processes.{TableLayout, Process}
+use Rattle.bus_automaton.specs.Processes.{TableLayout, Process, log_below}
 use Rattle.bus_pageslot.specs.declared.rule.View.{View}
 use Rattle.bus_pageslot.specs.declared.rule.View.TheVariants.{Maker, Sender, Tap, Meeting, Telling}
 use Rattle.bus_pageslot.specs.declared.rule.View.TheVariants.{Spent}
@@ -60,6 +60,8 @@ pub record IsPromised {C : Type 0} (P : Process C) (x : TableLayout) (base : ℕ
   pub shown : (p : ℕ) → p < x.senders
       → (j : ℕ) × (v : View C) × (get_elem? s.views j ≡ some v) × ShowsActions P p (actions p) v
   pub nobody : (p : ℕ) → x.senders ≤ p → actions p ≡ []
+  -- all that was published stands in the words below the length
+  pub stands : log_below x s.words ≡ log
   pub order : Order
   pub owners : List (ℕ × SenderNo)
   pub spelled : Spells x.senders log order owners

@@ -71,9 +71,10 @@ pub fn seats_keep_promises<Q: Ratifier>()
 /// What the seats show is one page: of each sender its actions, which its seat shows, and one order
 /// and one list of owners, which all that was published spells.
 pub fn seats_show_one_page<Q: Ratifier>()
-    ensures { (x : TableLayout) (base : ℕ → ℕ) (log : List ℕ)
+    ensures { let P = process_by Q.Ratifier in
+        (x : TableLayout) (base : ℕ → ℕ) (log other : List ℕ)
         (s : State (Option Page) (View (Sender (Elector Q))))
-        → (h k : IsPromised (process_by Q.Ratifier) x base log s)
+        → (h : IsPromised P x base log s) (k : IsPromised P x base other s)
         → ((p : ℕ) → h.actions p ≡ k.actions p) × (h.order ≡ k.order) × (h.owners ≡ k.owners) }
 {}
 
