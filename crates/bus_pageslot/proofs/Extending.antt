@@ -14,7 +14,7 @@ use Rattle.bus_world.specs.Turning.{words_after}
 use Rattle.bus_world.proofs.LogLaws.{length-read}
 use Rattle.bus_pageslot.specs.declared.rule.View.{View}
 use Rattle.bus_pageslot.specs.declared.rule.View.TheVariants.{Sender}
-use Rattle.bus_automaton.specs.Processes.{TableLayout, Process, Automaton, log_in}
+use Rattle.bus_automaton.specs.Processes.{TableLayout, Process, Automaton, log_below, log_in}
 use Rattle.bus_automaton.specs.Lawful.{AutomatonLaws}
 use Rattle.bus_pageslot.specs.Histories.{LeavesLog}
 use Rattle.bus_pageslot.specs.Rule.{Sat, sender_trail_in, stored_in, IsSeated, TableInvariant}
@@ -26,6 +26,13 @@ use Rattle.bus_pageslot.proofs.Ties.{no_shorter, front}
 has_word : (ws : List ℕ) (v : ℕ) → v < slice_index ws 0 → 0 < length ws
 has_word [] v l = absurd (omega arith)
 has_word (w ∷ ws) v l = omega arith
+
+-- the words say what was published
+pub same_log : {C : Type 0} {P : Process C} (A : Automaton C) → AutomatonLaws P A
+    → (z w : A.State) → A.IsReached z → A.IsReached w → A.words z ≡ A.words w
+    → log_in A z ≡ log_in A w
+same_log A L z w here there same =
+    sym (L.log z here).stands ∙ ap (log_below A.table_layout) same ∙ (L.log w there).stands
 
 module _ {C : Type 0} (P : Process C) (A : Automaton C) (L : AutomatonLaws P A)
     (s : State (Option Page) (View C)) (r : TableInvariant P A s) (id : ℕ) (m : Sat C)
@@ -48,8 +55,11 @@ module _ {C : Type 0} (P : Process C) (A : Automaton C) (L : AutomatonLaws P A)
         state = done.state;
         reached = done.changes.reached;
         words_are = done.words ∙ ap (λ w. words_after w (Some o)) (sym before);
-        log = subst (λ l. IsPrefix l (log_in A done.state)) grown.log
-            (front A z done.state done.grows);
+        log = λ w there are. subst (IsPrefix (log_in A r.state))
+            (same_log A L done.state w done.changes.reached there
+            (done.words ∙ ap (λ w. words_after w (Some o)) (sym before) ∙ sym are))
+            (subst (λ l. IsPrefix l (log_in A done.state)) grown.log
+            (front A z done.state done.grows));
       }
 
   -- the length says how many words were published
@@ -64,7 +74,8 @@ module _ {C : Type 0} (P : Process C) (A : Automaton C) (L : AutomatonLaws P A)
   never_shorter v less due =
       let W = slice_set s.words 0 v in
       let w = extends (Store record { 0 = 0 } v) due in
-      let front = no_shorter (log_in A r.state) (log_in A w.state) w.log in
+      let front = no_shorter (log_in A r.state) (log_in A w.state)
+      (w.log w.state w.reached w.words_are) in
       let before = published_many r.state r.reached in
       let after = published_many w.state w.reached in
       let was = ap (λ l. slice_index l 0) r.words in

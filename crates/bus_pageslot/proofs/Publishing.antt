@@ -74,8 +74,9 @@ joins_frame {E} X x reuse bases L s r id m at d word many o is_due law =
       state = done.state;
       reached = done.changes.reached;
       words_are = done.words ∙ ap (λ w. words_after w (Some o)) (sym same);
-      log = sym (L.log done.state done.changes.reached).stands
-          ∙ ap (log_below (table_layout_by x reuse)) now
+      log = λ w there are. sym (L.log w there).stands
+          ∙ ap (log_below (table_layout_by x reuse)) (are
+          ∙ sym (done.words ∙ ap (λ w. words_after w (Some o)) (sym same)) ∙ now)
           ∙ sym (log_is new x reuse h.layout h.rows_are)
           ∙ follows.stands z.trails h.reached
           ∙ ap (λ g. z.trails.log ++ words_of_frame (frame_next X g)) goes

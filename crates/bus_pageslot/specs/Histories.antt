@@ -58,11 +58,11 @@ pub record HasHistory {E : Type 0} (X : Election E) (x : Layout) (reuse : Option
   pub bounded : AreBounded X (most x.senders x.rounds) history.machine history.trails
       × PinsAreBounded history.trails
 
--- Executions lead to a state of this automaton with these words, and of all that was published by
--- them this is so.
+-- Executions lead to a state of this automaton with these words; and whichever do, this is so of
+-- all that was published by them.
 pub record LeavesLog {C : Type 0} (A : Automaton C) (words : List ℕ) (IsSo : List ℕ → Type 0) :
     Type 0 where
   pub state : A.State
   pub reached : A.IsReached state
   pub words_are : A.words state ≡ words
-  pub log : IsSo (log_in A state)
+  pub log : (z : A.State) → A.IsReached z → A.words z ≡ words → IsSo (log_in A z)
