@@ -87,7 +87,7 @@ ClosedTells m log s v = HasEnded m log ⊎ ((v.core.queue.phase ≡ batch.Closed
 -- full where the sender's frame does not fit behind it. With a step and without one, a sender is
 -- closed where the order has ended, and tenures are spent where none is left to it; without one it
 -- is closed also where it has left. A presence stands in the way only where rows are used again.
--- The log is all that was published before the turn, which publishes nothing with such an answer.
+-- The log is all that was published before the turn.
 abbrev pub TurnTells : {E : Type 0} → Machine E → List ℕ → ℕ → Sender E → List Action → Answered
     → Type 0
 TurnTells m log s v actions turn.Idle = Unit {0}

@@ -58,7 +58,7 @@ pub fn events_keep_promise<Q: Ratifier>()
 
 /// The cells of the log show all that was ever published, by all that led to the machine: it stands
 /// in the words below the length. What is said of answers, of what senders remember and of what
-/// joins goes by what was published, and this alone says where that stands.
+/// joins goes by what was published, and this says where that stands.
 pub fn history_stands<Q: Ratifier>()
     ensures { let X = election_of Q.Ratifier in
         (senders rounds rows capacity : ℕ)
