@@ -3,6 +3,7 @@
 ghost use Rattle.std.specs.Prelude.{IsTrue};
 ghost use Rattle.bus_batch.specs.Batches.{HasSomething};
 
+use crate::steps::same;
 use bus_batch::batches::Phase;
 use bus_batch::{BadWord, Batch, CloseFault, FrameReader, Item, Mark, Message, Piece, PutFault};
 use bus_register::SenderNo;
@@ -16,7 +17,7 @@ fn put(rt: &impl Abort, batch: &mut Batch, bytes: &[u8]) -> Result<u64, PutFault
 
 /// Puts a message, and sees that the answer is the wanted one.
 fn puts(rt: &impl Abort, batch: &mut Batch, bytes: &[u8], want: Result<u64, PutFault>) {
-    assert_eq!(rt; put(rt, batch, bytes), want);
+    same(rt, &put(rt, batch, bytes), &want);
 }
 
 /// Lets an end mark wait.
@@ -70,16 +71,24 @@ fn finds_the_end(rt: &impl Abort, batch: &mut Batch) {
 
 /// The batch is of this phase, and is on its way or not.
 fn stands(rt: &impl Abort, batch: &Batch, phase: Phase, busy: bool) {
-    assert_eq!(rt; batch.is_closing(), phase == Phase::Marking(Mark::End));
-    assert_eq!(rt; batch.is_leaving(), phase == Phase::Marking(Mark::Leave));
-    assert_eq!(rt; batch.is_closed(), phase == Phase::Closed);
-    assert_eq!(rt; batch.is_busy(), busy);
+    same(
+        rt,
+        &batch.is_closing(),
+        &(phase == Phase::Marking(Mark::End)),
+    );
+    same(
+        rt,
+        &batch.is_leaving(),
+        &(phase == Phase::Marking(Mark::Leave)),
+    );
+    same(rt, &batch.is_closed(), &(phase == Phase::Closed));
+    same(rt, &batch.is_busy(), &busy);
 }
 
 /// The words of the frame in tenure 0 begin with these.
 fn spells(rt: &impl Abort, batch: &Batch, words: &[u64]) {
     for (place, word) in words.iter().enumerate() {
-        assert_eq!(rt; word_at(rt, batch, place as u64), *word);
+        same(rt, &word_at(rt, batch, place as u64), word);
     }
 }
 
@@ -89,7 +98,7 @@ fn are_spelled(rt: &impl Abort, messages: &[&[u8]], words: &[u64]) {
     for (number, bytes) in messages.iter().enumerate() {
         puts(rt, &mut batch, bytes, Ok(number as u64));
     }
-    assert_eq!(rt; batch.len(), messages.len() as u64);
+    same(rt, &batch.len(), &(messages.len() as u64));
     spells(rt, &batch, words);
 }
 
@@ -123,7 +132,7 @@ fn words_of_frames(rt: HostRuntime) {
 #[test]
 fn finds_the_order_ended(rt: HostRuntime) {
     let mut batch = Batch::new(SenderNo(3), 5);
-    assert_eq!(rt; close(&mut batch), Ok(()));
+    same(&rt, &close(&mut batch), &Ok(()));
     stands(&rt, &batch, Phase::Marking(Mark::End), false);
     spells(&rt, &batch, &[0x40C0_0100_0000_0000, 0xC000_0000_0000_0000]);
     begins(&rt, &mut batch);
@@ -134,14 +143,14 @@ fn finds_the_order_ended(rt: HostRuntime) {
 /// One message waits, which is this.
 fn waits(rt: &impl Abort, batch: &Batch, bytes: &[u8]) {
     let waiting = batch.waiting();
-    assert_eq!(rt; waiting.len(), 1);
-    assert_eq!(rt; waiting[0].as_slice(), bytes);
+    assert!(rt; waiting.len() == 1);
+    same(rt, &waiting[0].as_slice(), &bytes);
 }
 
 #[test]
 fn sends_and_leaves(rt: HostRuntime) {
     let mut batch = Batch::new(SenderNo(3), 5);
-    assert_eq!(rt; batch.sender(), SenderNo(3));
+    same(&rt, &batch.sender(), &SenderNo(3));
     puts(&rt, &mut batch, b"a", Ok(5));
     waits(&rt, &batch, b"a");
     begins(&rt, &mut batch);
@@ -150,15 +159,15 @@ fn sends_and_leaves(rt: HostRuntime) {
     stands(&rt, &batch, Phase::Open, false);
     begins(&rt, &mut batch);
     is_sent(&rt, &mut batch);
-    assert_eq!(rt; leave(&mut batch), Ok(()));
+    same(&rt, &leave(&mut batch), &Ok(()));
     stands(&rt, &batch, Phase::Marking(Mark::Leave), false);
     spells(&rt, &batch, &[0x40C0_0100_0000_0000, 0xC000_0000_0000_0001]);
     begins(&rt, &mut batch);
     is_sent(&rt, &mut batch);
     stands(&rt, &batch, Phase::Closed, false);
     puts(&rt, &mut batch, b"c", Err(PutFault::Closed));
-    assert_eq!(rt; close(&mut batch), Err(CloseFault::Closed));
-    assert_eq!(rt; batch.next_number(), 6);
+    same(&rt, &close(&mut batch), &Err(CloseFault::Closed));
+    same(&rt, &batch.next_number(), &6);
 }
 
 /// What a reader answers to a word.
@@ -212,7 +221,7 @@ fn reads_marks(rt: HostRuntime) {
 /// A message of one byte.
 fn short_message(rt: &impl Abort) -> Message {
     let message = Message::of_bytes(b"a").expect(rt, "short");
-    assert_eq!(rt; message.len(), 1);
+    assert!(rt; message.len() == 1);
     assert!(rt; !message.is_empty() && message != Message::new());
     message
 }
@@ -240,6 +249,6 @@ fn reads_a_message(rt: HostRuntime) {
 fn stands_inside_a_frame(rt: HostRuntime) {
     let mut reader = FrameReader::new(2);
     assert!(rt; !reader.inside());
-    assert_eq!(rt; feed(&mut reader, 0x4040_0200_0000_0009), head(1, 9));
+    same(&rt, &feed(&mut reader, 0x4040_0200_0000_0009), &head(1, 9));
     assert!(rt; reader.inside());
 }

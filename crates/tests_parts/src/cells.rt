@@ -1,6 +1,6 @@
 //! Each step once, on words of known values.
 
-use crate::steps::{apply, expect, words};
+use crate::steps::{apply, expect, same, words};
 use bus_register::{Op, Reg};
 use std::process::Abort;
 
@@ -15,7 +15,7 @@ fn one_step_of_each_kind(rt: HostRuntime) {
         (Op::Cas(Reg(1), 12, 1), 12),
     ];
     for (op, found) in steps {
-        assert_eq!(rt; apply(&rt, &mut cells, op), found);
+        same(&rt, &apply(&rt, &mut cells, op), &found);
     }
     expect(&rt, &cells, &[0, 1, 0]);
 }

@@ -2,7 +2,7 @@
 
 ghost use Rattle.std.specs.Prelude.{◌<◌};
 
-use crate::steps::{next_random, step, words};
+use crate::steps::{next_random, same, step, words};
 use bus_coinconc::Conciliator;
 use bus_register::{Cells, Kind, Machine, Op, Reg, SenderNo};
 use bus_walkcoin::{Tally, WalkCoin, total};
@@ -84,8 +84,8 @@ fn ends(
     steps: u64,
     wanted: bool,
 ) {
-    assert_eq!(rt; run(rt, cells, &mut process, random), steps);
-    assert_eq!(rt; output(&process), Some(wanted));
+    same(rt, &run(rt, cells, &mut process, random), &steps);
+    same(rt, &output(&process), &Some(wanted));
 }
 
 #[test]
@@ -105,7 +105,7 @@ fn tallies_are_added(rt: HostRuntime) {
 
 #[test]
 fn coin_steps(rt: HostRuntime) {
-    assert_eq!(rt; WalkCoin::width(2), 1);
+    same(&rt, &WalkCoin::width(2), &1);
     ends(&rt, &mut words(&rt, 1), coin(&rt, 1, 0), [1, 1], 4, true);
     ends(&rt, &mut words(&rt, 1), coin(&rt, 1, 0), [1, 0], 128, false);
     let mut cells = words(&rt, 1);
@@ -115,7 +115,7 @@ fn coin_steps(rt: HostRuntime) {
 
 #[test]
 fn conciliator_steps(rt: HostRuntime) {
-    assert_eq!(rt; Conciliator::width(2), 3);
+    same(&rt, &Conciliator::width(2), &3);
     let mut cells = words(&rt, 3);
     for me in 0..2 {
         ends(

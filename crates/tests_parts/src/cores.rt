@@ -1,6 +1,6 @@
 //! Turns of one sender over words of its own.
 
-use crate::steps::{apply, words};
+use crate::steps::{apply, same, words};
 use bus_adoptcommit::ThreeWord;
 use bus_batch::{CloseFault, PutFault};
 use bus_core::SenderCore;
@@ -77,23 +77,23 @@ fn comes_to(rt: &impl Abort, core: &mut Core, cells: &mut Cells, want: Turn) {
             turn = step(rt, core, cells);
         }
     }
-    assert_eq!(rt; turn, want);
+    same(rt, &turn, &want);
 }
 
 /// Takes steps of these kinds, of which each but the last answers Going, and the last this.
 fn takes(rt: &impl Abort, core: &mut Core, cells: &mut Cells, kinds: &[Kind], want: Turn) {
     let mut turn = Turn::Going;
     for kind in kinds {
-        assert_eq!(rt; turn, Turn::Going);
+        same(rt, &turn, &Turn::Going);
         is_due(rt, core, *kind);
         turn = step(rt, core, cells);
     }
-    assert_eq!(rt; turn, want);
+    same(rt, &turn, &want);
 }
 
 /// The next step is of this kind.
 fn is_due(rt: &impl Abort, core: &Core, kind: Kind) {
-    assert_eq!(rt; core.kind(), Some(kind));
+    same(rt, &core.kind(), &Some(kind));
 }
 
 /// Puts a message.
@@ -104,7 +104,7 @@ fn put(rt: &impl Abort, core: &mut Core, bytes: &[u8]) -> Result<u64, PutFault> 
 
 /// A message is taken with this number, or refused so.
 fn puts(rt: &impl Abort, core: &mut Core, bytes: &[u8], want: Result<u64, PutFault>) {
-    assert_eq!(rt; put(rt, core, bytes), want);
+    same(rt, &put(rt, core, bytes), &want);
 }
 
 /// Lets an end mark wait.
@@ -126,39 +126,39 @@ fn stands(rt: &impl Abort, core: &Core, closing: bool, leaving: bool, closed: bo
 
 /// An end mark waits.
 fn closes(rt: &impl Abort, core: &mut Core) {
-    assert_eq!(rt; close(core), Ok(()));
+    same(rt, &close(core), &Ok(()));
     stands(rt, core, true, false, false);
 }
 
 /// A leave mark waits.
 fn leaves(rt: &impl Abort, core: &mut Core) {
-    assert_eq!(rt; leave(core), Ok(()));
+    same(rt, &leave(core), &Ok(()));
     stands(rt, core, false, true, false);
 }
 
 /// It has closed or left, and takes no mark.
 fn is_closed(rt: &impl Abort, core: &mut Core) {
     stands(rt, core, false, false, true);
-    assert_eq!(rt; leave(core), Err(CloseFault::Closed));
+    same(rt, &leave(core), &Err(CloseFault::Closed));
 }
 
 /// So many messages wait.
 fn keeps(rt: &impl Abort, core: &Core, messages: u64) {
-    assert_eq!(rt; core.pending(), messages);
-    assert_eq!(rt; core.waiting().len() as u64, messages);
+    same(rt, &core.pending(), &messages);
+    same(rt, &(core.waiting().len() as u64), &messages);
 }
 
 /// It is in this tenure, with so many turns that are left of its election, and wants no random
 /// word.
 fn stands_in(rt: &impl Abort, core: &Core, tenure: Option<u64>, turns: u64) {
-    assert_eq!(rt; core.tenure(), tenure);
-    assert_eq!(rt; core.turns_left(), turns);
+    same(rt, &core.tenure(), &tenure);
+    same(rt, &core.turns_left(), &turns);
     assert!(rt; !core.wants_word());
 }
 
 /// Its pin is this.
 fn pins(rt: &impl Abort, core: &Core, pin: Pin) {
-    assert_eq!(rt; core.pin(), Some(pin));
+    same(rt, &core.pin(), &Some(pin));
 }
 
 /// It takes this page.
@@ -182,9 +182,13 @@ fn page_home(rt: &impl Abort, core: &mut Core) -> Page {
 
 /// The page after the first tenure: what it says of senders 0 and 1, and how many words there are.
 fn says(rt: &impl Abort, page: Page, next: [u64; 2], left: [bool; 2], words: u64) {
-    assert_eq!(rt; [page.next[0], page.next[1]], next);
-    assert_eq!(rt; [page.left[0], page.left[1]], left);
-    assert_eq!(rt; (page.tenures, page.words, page.ended), (1, words, false));
+    same(rt, &[page.next[0], page.next[1]], &next);
+    same(rt, &[page.left[0], page.left[1]], &left);
+    same(
+        rt,
+        &(page.tenures, page.words, page.ended),
+        &(1, words, false),
+    );
 }
 
 /// What a word is.
@@ -195,8 +199,8 @@ fn word(rt: &impl Abort, cells: &Cells, at: u64) -> u64 {
 
 /// The words of the log's length and of the stage are these.
 fn lengths(rt: &impl Abort, cells: &Cells, length: u64, stage: u64) {
-    assert_eq!(rt; word(rt, cells, 0), length);
-    assert_eq!(rt; word(rt, cells, 1), stage);
+    same(rt, &word(rt, cells, 0), &length);
+    same(rt, &word(rt, cells, 1), &stage);
 }
 
 #[test]
@@ -227,18 +231,18 @@ fn alone_in_the_first_tenure(rt: HostRuntime) {
     comes_to(&rt, &mut core, &mut cells, delivered);
     lengths(&rt, &cells, 3, 2);
     keeps(&rt, &core, 0);
-    assert_eq!(rt; rests(&core), Turn::Idle);
+    same(&rt, &rests(&core), &Turn::Idle);
     puts(&rt, &mut core, b"b", Ok(1));
-    assert_eq!(rt; rests(&core), Turn::Spent);
+    same(&rt, &rests(&core), &Turn::Spent);
 }
 
 #[test]
 fn a_held_stage_makes_it_wait(rt: HostRuntime) {
     let mut core = second_of_two();
-    assert_eq!(rt; core.number(), SenderNo(1));
+    same(&rt, &core.number(), &SenderNo(1));
     puts(&rt, &mut core, b"", Ok(0));
-    assert_eq!(rt; feeds(&rt, &mut core, 3), Turn::Waiting);
-    assert_eq!(rt; feeds(&rt, &mut core, 8), Turn::Spent);
+    same(&rt, &feeds(&rt, &mut core, 3), &Turn::Waiting);
+    same(&rt, &feeds(&rt, &mut core, 8), &Turn::Spent);
 }
 
 #[test]
@@ -320,7 +324,7 @@ fn a_full_log_keeps_the_batch(rt: HostRuntime) {
 fn where_rows_are_used_again_it_pins_its_tenure(rt: HostRuntime) {
     let mut cells = words(&rt, 80);
     let mut core = cyclic();
-    assert_eq!(rt; core.may_begin(0), Some(0));
+    same(&rt, &core.may_begin(0), &Some(0));
     puts(&rt, &mut core, b"a", Ok(0));
     pins(&rt, &core, Pin::Away);
     comes_to(&rt, &mut core, &mut cells, Turn::Own { tenure: 0 });

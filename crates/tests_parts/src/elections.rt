@@ -4,7 +4,7 @@ mod model;
 
 ghost use Rattle.std.specs.Prelude.{◌≤◌, ◌<◌};
 
-use crate::steps::{next_random, step, words};
+use crate::steps::{next_random, same, step, words};
 use bus_adoptcommit::{Ratifier, ThreeWord, TwoCollect};
 use bus_binconsensus::Decide;
 use bus_ownerbits::{Election, bits, bound};
@@ -26,13 +26,13 @@ fn run<M: Machine>(rt: &impl Abort, cells: &mut Cells, machine: &mut M) -> u64 {
 /// So many senders have so many bits.
 fn has_bits(rt: &impl Abort, n: u64, wanted: u64) {
     assert!(rt; 1 <= n && n <= 64);
-    assert_eq!(rt; bits(n), wanted);
+    same(rt, &bits(n), &wanted);
 }
 
 /// An election of so many senders and rounds takes at most so many turns.
 fn is_bounded<Q: Ratifier>(rt: &impl Abort, n: u64, rounds: u64, wanted: u64) {
     assert!(rt; 1 <= n && n <= 64 && 1 <= rounds && rounds <= 8);
-    assert_eq!(rt; bound::<Q>(n, rounds), wanted);
+    same(rt, &bound::<Q>(n, rounds), &wanted);
 }
 
 #[test]
@@ -86,10 +86,10 @@ fn decision_takes<Q: Ratifier + Drop>(
     alone: u64,
     late: u64,
 ) {
-    assert_eq!(rt; Decide::<Q>::width(2, 1), width);
+    same(rt, &Decide::<Q>::width(2, 1), &width);
     let mut cells = words(rt, width);
-    assert_eq!(rt; decides::<Q>(rt, &mut cells, 0, false), alone);
-    assert_eq!(rt; decides::<Q>(rt, &mut cells, 1, true), late);
+    same(rt, &decides::<Q>(rt, &mut cells, 0, false), &alone);
+    same(rt, &decides::<Q>(rt, &mut cells, 1, true), &late);
 }
 
 /// A process of a decision of two, before its first step.
@@ -127,10 +127,10 @@ fn election_takes<Q: Ratifier + Drop>(
     steps: u64,
     turns: u64,
 ) {
-    assert_eq!(rt; width_of::<Q>(rt, n), width);
+    same(rt, &width_of::<Q>(rt, n), &width);
     let (taken, left) = elects::<Q>(rt, &mut words(rt, width), n);
-    assert_eq!(rt; taken, steps);
-    assert_eq!(rt; taken.wrapping_add(left), turns);
+    same(rt, &taken, &steps);
+    same(rt, &taken.wrapping_add(left), &turns);
 }
 
 #[test]

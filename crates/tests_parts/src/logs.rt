@@ -3,6 +3,7 @@
 
 ghost use Rattle.std.specs.Prelude.{◌≡◌, ◌+◌, ◌<◌, ◌^◌, false};
 
+use crate::steps::same;
 use bus_batch::{Batch, Item, Message};
 use bus_deliverylog::{LogFault, Order, Reader, RecvTurn, Writer, read_log};
 use bus_register::{Kind, Machine, Op, Reg, SenderNo};
@@ -24,8 +25,8 @@ fn an_order_is_put_together(rt: HostRuntime) {
     assert!(rt; order.push(item(&rt, 0, 0, b"a")).is_ok());
     assert!(rt; order.leave(SenderNo(1)).is_ok());
     let left = [(SenderNo(1), 1)];
-    assert_eq!(rt; order.left.as_slice(), left.as_slice());
-    assert_eq!(rt; (order.items.len(), order.ended), (1, false));
+    same(&rt, &order.left.as_slice(), &left.as_slice());
+    same(&rt, &(order.items.len(), order.ended), &(1, false));
 }
 
 /// A plain reading of the words of two senders, by bits and counts alone.
@@ -196,15 +197,15 @@ fn goes_on(rt: &impl Abort, writer: &mut Writer) {
 
 /// The next step of a writer is of this kind and is this, and is taken.
 fn stores(rt: &impl Abort, writer: &mut Writer, kind: Kind, place: u64, word: u64) {
-    assert_eq!(rt; writer.kind(), Some(kind));
-    assert_eq!(rt; writer.next(0), Some(Op::Store(Reg(place), word)));
+    same(rt, &writer.kind(), &Some(kind));
+    same(rt, &writer.next(0), &Some(Op::Store(Reg(place), word)));
     goes_on(rt, writer);
 }
 
 #[test]
 fn writes(rt: HostRuntime) {
     let mut writer = writer(&rt);
-    assert_eq!(rt; writer.new_length(), 3);
+    same(&rt, &writer.new_length(), &3);
     let frame = [
         (1, 0x4040_0200_0000_0009),
         (2, 0x8040_0000_0000_0004),
@@ -214,18 +215,18 @@ fn writes(rt: HostRuntime) {
         stores(&rt, &mut writer, Kind::StoreLogWord, place, word);
     }
     stores(&rt, &mut writer, Kind::StoreLength, 0, 3);
-    assert_eq!(rt; writer.kind(), None);
+    same(&rt, &writer.kind(), &None);
 }
 
 /// A receiver finds this word, and answers so.
 fn answers(rt: &impl Abort, reader: &mut Reader, word: u64, answer: &RecvTurn) {
     assert!(rt; !reader.has_ended());
-    assert_eq!(rt; reader.feed(word), *answer);
+    same(rt, &reader.feed(word), answer);
 }
 
 /// A receiver loads this word next, and finds so much there, and answers so.
 fn receives(rt: &impl Abort, reader: &mut Reader, place: u64, word: u64, answer: &RecvTurn) {
-    assert_eq!(rt; reader.next(), Some(Op::Load(Reg(place))));
+    same(rt, &reader.next(), &Some(Op::Load(Reg(place))));
     answers(rt, reader, word, answer);
 }
 
@@ -246,9 +247,9 @@ fn head(owner: u8, tenure: u64) -> RecvTurn {
 
 /// A receiver stands here, and its next step is of this kind.
 fn stands(rt: &impl Abort, reader: &Reader, place: u64, known: u64, kind: Kind) {
-    assert_eq!(rt; reader.place(), place);
-    assert_eq!(rt; reader.known(), known);
-    assert_eq!(rt; reader.kind(), Some(kind));
+    same(rt, &reader.place(), &place);
+    same(rt, &reader.known(), &known);
+    same(rt, &reader.kind(), &Some(kind));
 }
 
 /// A receiver takes no further step.

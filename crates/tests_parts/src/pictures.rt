@@ -1,5 +1,6 @@
 //! What no clause says: the whole picture of a small trace, and pieces of others.
 
+use crate::steps::same;
 use bus_picture::picture_of;
 use std::process::Abort;
 
@@ -40,7 +41,7 @@ fn a_store_and_a_load_of_it(rt: HostRuntime) {
         .split_once("no answer: going</text>\n")
         .expect(&rt, "the key");
     assert!(rt; key.starts_with(HEAD), "{key}");
-    assert_eq!(rt; steps, STEPS);
+    same(&rt, &steps, &STEPS);
 }
 
 /// Whether the picture of a trace has these words.

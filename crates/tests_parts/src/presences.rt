@@ -1,6 +1,6 @@
 //! Pins and reclamations over words of their own.
 
-use crate::steps::{apply, expect, words};
+use crate::steps::{apply, expect, same, words};
 use bus_presence::{Behind, Pin, Presence, Reclaimer};
 use bus_register::{Cells, Op, Reg};
 use std::process::Abort;
@@ -24,10 +24,10 @@ fn parts(rt: &impl Abort, presence: &mut Presence) {
 
 /// The next step of the pin is this, and afterwards the pin has come so far.
 fn takes(rt: &impl Abort, cells: &mut Cells, presence: &mut Presence, op: Op, pin: Pin) {
-    assert_eq!(rt; presence.next(), Some(op));
+    same(rt, &presence.next(), &Some(op));
     let found = apply(rt, cells, op);
     presence.feed(found);
-    assert_eq!(rt; presence.pin(), pin);
+    same(rt, &presence.pin(), &pin);
 }
 
 /// Takes all steps of the reclamation that are due, until it waits for somebody.
@@ -65,12 +65,12 @@ fn holder_waits_for_who_is_inside(rt: HostRuntime) {
         tenure: 0,
         sender: 1,
     });
-    assert_eq!(rt; reclaims(&rt, &mut cells, &mut holder), behind);
-    assert_eq!(rt; reclaims(&rt, &mut cells, &mut holder), behind);
+    same(&rt, &reclaims(&rt, &mut cells, &mut holder), &behind);
+    same(&rt, &reclaims(&rt, &mut cells, &mut holder), &behind);
     expect(&rt, &cells, &[3, 0, 1, 7, 7]);
     parts(&rt, &mut late);
     takes(&rt, &mut cells, &mut late, Op::Store(Reg(2), 0), Pin::Away);
-    assert_eq!(rt; reclaims(&rt, &mut cells, &mut holder), None);
+    same(&rt, &reclaims(&rt, &mut cells, &mut holder), &None);
     assert!(rt; holder.is_done());
     expect(&rt, &cells, &[3, 0, 0, 0, 0]);
 }

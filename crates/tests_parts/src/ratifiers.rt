@@ -4,7 +4,7 @@ mod three_word;
 
 ghost use Rattle.std.specs.Prelude.{◌<◌, ◌↔◌, length, IsTrue, All};
 
-use crate::steps::next_random;
+use crate::steps::{next_random, same};
 use bus_adoptcommit::checkers::{is_legal, is_weakly_legal};
 use bus_adoptcommit::objects::verdicts;
 use bus_adoptcommit::{Ratifier, TwoCollect, Verdict};
@@ -85,9 +85,9 @@ fn known_verdicts(rt: HostRuntime) {
 
 /// The next step of a process is of this kind, is this, and finds this.
 fn takes<Q: Ratifier>(rt: &impl Abort, process: &mut Q, kind: Kind, op: Op, got: u64) {
-    assert_eq!(rt; process.output(), None);
-    assert_eq!(rt; process.kind(), Some(kind));
-    assert_eq!(rt; process.next(0), Some(op));
+    same(rt, &process.output(), &None);
+    same(rt, &process.kind(), &Some(kind));
+    same(rt, &process.next(0), &Some(op));
     if process.next(0).is_some() {
         process.feed(got, 0);
     }
@@ -95,16 +95,16 @@ fn takes<Q: Ratifier>(rt: &impl Abort, process: &mut Q, kind: Kind, op: Op, got:
 
 /// A process takes no further step, and has this output.
 fn has_ended<Q: Ratifier>(rt: &impl Abort, process: &Q, output: Option<Verdict>) {
-    assert_eq!(rt; process.kind(), None);
-    assert_eq!(rt; process.next(0), None);
-    assert_eq!(rt; process.output(), output);
+    same(rt, &process.kind(), &None);
+    same(rt, &process.next(0), &None);
+    same(rt, &process.output(), &output);
 }
 
 /// The second of three processes, over words from 10 on: each step, and what it finds.
 #[test]
 fn steps_of_one_process(rt: HostRuntime) {
-    assert_eq!(rt; TwoCollect::width(3), 6);
-    assert_eq!(rt; TwoCollect::steps(3), 8);
+    same(&rt, &TwoCollect::width(3), &6);
+    same(&rt, &TwoCollect::steps(3), &8);
     let mut process = TwoCollect::start(3, SenderNo(1), true, Reg(10));
     let steps = [
         (Kind::WriteFirst, Op::Store(Reg(11), 2), 0),
@@ -168,7 +168,7 @@ fn orders_of_two<Q: Ratifier + Drop>(rt: &(impl Abort + AllocGlobal), each: u32)
 /// All 924 orders of six steps each, with each pair of inputs, cut at each place.
 #[test]
 fn all_orders_of_two_processes(rt: HostRuntime) {
-    assert_eq!(rt; orders_of_two::<TwoCollect>(&rt, 6), 924);
+    same(&rt, &orders_of_two::<TwoCollect>(&rt, 6), &924);
 }
 
 /// So many inputs at random.

@@ -1,19 +1,20 @@
 //! Each public call once.
 
+use crate::steps::same;
 use bus_script::{LineNumber, Lines, Words, number_of, refusal_line, words_behind};
 use std::process::Abort;
 
 /// The next word is this number.
 fn is_next(rt: &impl Abort, words: &mut Words<'_>, number: u64) {
     let word = words.next_word().expect(rt, "a word");
-    assert_eq!(rt; number_of(word), Some(number));
+    same(rt, &number_of(word), &Some(number));
 }
 
 #[test]
 fn script_is_read(rt: HostRuntime) {
     let mut lines = Lines::new(b"# a comment\n\nsteps 0 17");
     let line = lines.next_line().expect(&rt, "a line");
-    assert_eq!(rt; line.number, 3);
+    same(&rt, &line.number, &3);
     let mut words = words_behind(line.bytes, b"steps").expect(&rt, "the keyword");
     is_next(&rt, &mut words, 0);
     is_next(&rt, &mut words, 17);
@@ -28,6 +29,6 @@ fn refusals_are_named(rt: HostRuntime) {
         (LineNumber::AtEnd, "end: BadLine\n"),
     ] {
         let line = refusal_line(rt.alloc(), line_number, "BadLine").expect(&rt, "memory");
-        assert_eq!(rt; line.as_str(), text);
+        same(&rt, &line.as_str(), &text);
     }
 }

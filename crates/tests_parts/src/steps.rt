@@ -1,10 +1,17 @@
-//! Steps on words, and numbers for schedules, for the tests of machines.
+//! Steps on words, numbers for schedules and comparing, for the tests of machines.
 
 ghost use Rattle.std.specs.Prelude.{◌≡◌, ◌<◌};
 ghost use Rattle.bus_register.specs.Words.{register};
 
 use bus_register::{Cells, Machine, Op};
+use std::fmt::Debug;
 use std::process::Abort;
+
+/// Wants that both are the same. Here `assert_eq!` is proved once, and not wherever two values are
+/// compared: a test calls this.
+pub fn same<T: PartialEq + Debug>(rt: &impl Abort, got: &T, want: &T) {
+    assert_eq!(rt; *got, *want);
+}
 
 /// So many words of zero.
 pub fn words<R: Abort + AllocGlobal>(rt: &R, count: u64) -> Cells {
@@ -38,7 +45,7 @@ pub fn apply(rt: &impl Abort, cells: &mut Cells, op: Op) -> u64 {
 /// The words are these.
 pub fn expect(rt: &impl Abort, cells: &Cells, words: &[u64]) {
     assert!(rt; !cells.is_empty());
-    assert_eq!(rt; cells.as_slice(), words);
+    same(rt, &cells.as_slice(), &words);
 }
 
 /// The machine's step for a random word was taken and found this.

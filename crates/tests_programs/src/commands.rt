@@ -7,6 +7,7 @@ mod streams;
 mod webpages;
 
 use self::streams::{FailingReader, FullWriter, StuckWriter};
+use crate::same::same;
 use bus_commands::command_line::{Task, parse};
 use bus_commands::printing::Request;
 use bus_commands::ratify::ratify;
@@ -15,7 +16,17 @@ use bus_script::Outcome;
 use bus_webpage::Purpose;
 use clap::error::ErrorKind;
 use std::io;
+use std::io::{Read, Write};
 use std::process::Abort;
+
+/// What `ratify` answers.
+fn ratifies<R: Abort + AllocGlobal, I: Read, W: Write>(
+    rt: &R,
+    reader: &mut I,
+    writer: &mut W,
+) -> Result<Outcome, RunFault> {
+    ratify(rt.alloc(), reader, writer)
+}
 
 /// A script whose first line is this, and whose second line is a comment of this many bytes.
 fn with_comment<R: Abort + AllocGlobal>(rt: &R, first: &[u8], length: usize) -> Vec<u8> {
@@ -28,18 +39,18 @@ fn with_comment<R: Abort + AllocGlobal>(rt: &R, first: &[u8], length: usize) -> 
 #[test]
 fn oversized_scripts(rt: HostRuntime) {
     let longest = with_comment(&rt, b"inputs 1\n", 1_048_567);
-    assert_eq!(rt; longest.len(), 1_048_576);
+    same(&rt, &longest.len(), &1_048_576);
     let mut reader = longest.as_slice();
     let mut written = Vec::new(rt.alloc());
-    let result = ratify(rt.alloc(), &mut reader, &mut written);
-    assert_eq!(rt; result, Ok(Outcome::Done));
-    assert_eq!(rt; written.as_slice(), b"0 open\n".as_slice());
+    let result = ratifies(&rt, &mut reader, &mut written);
+    same(&rt, &result, &Ok(Outcome::Done));
+    same(&rt, &written.as_slice(), &b"0 open\n".as_slice());
 
     let longer = with_comment(&rt, b"inputs 1\n", 1_048_568);
     let mut reader = longer.as_slice();
     let mut written = Vec::new(rt.alloc());
-    let result = ratify(rt.alloc(), &mut reader, &mut written);
-    assert_eq!(rt; result, Err(RunFault::TooMuch));
+    let result = ratifies(&rt, &mut reader, &mut written);
+    same(&rt, &result, &Err(RunFault::TooMuch));
     assert!(rt; written.is_empty());
 }
 
@@ -51,16 +62,16 @@ fn failing_reader(rt: HostRuntime) {
         for kind in [io::ErrorKind::Other, io::ErrorKind::Interrupted] {
             let mut reader = FailingReader::new(SCRIPT, fails_at, kind);
             let mut written = Vec::new(rt.alloc());
-            let result = ratify(rt.alloc(), &mut reader, &mut written);
-            assert_eq!(rt; result, Err(RunFault::Read), "at call {fails_at}");
+            let result = ratifies(&rt, &mut reader, &mut written);
+            assert!(rt; result == Err(RunFault::Read), "at call {fails_at}");
             assert!(rt; written.is_empty(), "at call {fails_at}");
         }
     }
     let mut reader = FailingReader::new(SCRIPT, SCRIPT.len() + 1, io::ErrorKind::Other);
     let mut written = Vec::new(rt.alloc());
-    let result = ratify(rt.alloc(), &mut reader, &mut written);
-    assert_eq!(rt; result, Ok(Outcome::Done));
-    assert_eq!(rt; written.as_slice(), b"0 commit 1\n".as_slice());
+    let result = ratifies(&rt, &mut reader, &mut written);
+    same(&rt, &result, &Ok(Outcome::Done));
+    same(&rt, &written.as_slice(), &b"0 commit 1\n".as_slice());
 }
 
 #[test]
@@ -70,19 +81,18 @@ fn failing_writer(rt: HostRuntime) {
         for room in 0..text.len() {
             let mut reader = SCRIPT;
             let mut writer = FullWriter::new(rt.alloc(), room, fails);
-            let result = ratify(rt.alloc(), &mut reader, &mut writer);
-            assert_eq!(rt; result, Err(RunFault::Write), "with room for {room}");
-            assert_eq!(rt;
-                writer.written.as_slice(),
-                &text[..room],
+            let result = ratifies(&rt, &mut reader, &mut writer);
+            assert!(rt; result == Err(RunFault::Write), "with room for {room}");
+            assert!(rt;
+                writer.written.as_slice() == &text[..room],
                 "with room for {room}"
             );
         }
         let mut reader = SCRIPT;
         let mut writer = FullWriter::new(rt.alloc(), text.len(), fails);
-        let result = ratify(rt.alloc(), &mut reader, &mut writer);
-        assert_eq!(rt; result, Ok(Outcome::Done));
-        assert_eq!(rt; writer.written.as_slice(), text.as_slice());
+        let result = ratifies(&rt, &mut reader, &mut writer);
+        same(&rt, &result, &Ok(Outcome::Done));
+        same(&rt, &writer.written.as_slice(), &text.as_slice());
     }
 }
 
@@ -90,9 +100,9 @@ fn failing_writer(rt: HostRuntime) {
 fn stuck_writer(rt: HostRuntime) {
     let mut reader = SCRIPT;
     let mut writer = StuckWriter::new(rt.alloc());
-    let result = ratify(rt.alloc(), &mut reader, &mut writer);
-    assert_eq!(rt; result, Err(RunFault::Write));
-    assert_eq!(rt; writer.written.as_slice(), b"0 commit 1\n".as_slice());
+    let result = ratifies(&rt, &mut reader, &mut writer);
+    same(&rt, &result, &Err(RunFault::Write));
+    same(&rt, &writer.written.as_slice(), &b"0 commit 1\n".as_slice());
 }
 
 /// The words of a command line, behind the program's name.
@@ -113,7 +123,7 @@ fn words_of<R: Abort + AllocGlobal>(rt: &R, rest: &[&str]) -> Vec<String> {
 fn names_task<R: Abort + AllocGlobal>(rt: &R, rest: &[&str], task: Task) {
     let words = words_of(rt, rest);
     match parse(rt.alloc(), words.as_slice()) {
-        Ok(named) => assert_eq!(rt; named, task, "of {rest:?}"),
+        Ok(named) => assert!(rt; named == task, "of {rest:?}"),
         Err(_) => panic!(rt; "of {rest:?}"),
     }
 }
@@ -171,7 +181,7 @@ fn refuses_words<R: Abort + AllocGlobal>(rt: &R, rest: &[&str], kind: ErrorKind)
     let words = words_of(rt, rest);
     match parse(rt.alloc(), words.as_slice()) {
         Ok(_) => panic!(rt; "of {rest:?}"),
-        Err(error) => assert_eq!(rt; error.kind(), kind, "of {rest:?}"),
+        Err(error) => assert!(rt; error.kind() == kind, "of {rest:?}"),
     }
 }
 

@@ -6,3 +6,5 @@
 mod commands;
 #[cfg(test)]
 mod rounds;
+#[cfg(test)]
+mod same;

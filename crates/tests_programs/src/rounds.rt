@@ -1,5 +1,6 @@
 //! Worked measurements, what is refused, and one small round.
 
+use crate::same::same;
 use bench_rounds::faults::Fault;
 use bench_rounds::gates::Gate;
 use bench_rounds::needs::{Load, Shortage};
@@ -15,10 +16,15 @@ fn request<R: Abort>(rt: &R, senders: u64, messages: u64, bytes: u64) -> Request
     Request::new(senders, 1, messages, bytes, 0, 4).expect(rt, "in range")
 }
 
+/// Why a request of these numbers is refused its bus, where it is.
+fn shortage<R: Abort>(rt: &R, senders: u64, messages: u64, bytes: u64) -> Option<Shortage> {
+    request(rt, senders, messages, bytes).load().err()
+}
+
 #[test]
 fn enough(rt: HostRuntime) {
     for (senders, messages, bytes) in [(3, 100, 8), (8, 400, 56), (1, 1, 8), (1, 4_080, 56)] {
-        assert!(rt; request(&rt, senders, messages, bytes).load().is_ok());
+        assert!(rt; shortage(&rt, senders, messages, bytes).is_none());
     }
 }
 
@@ -36,9 +42,9 @@ fn too_few(rt: HostRuntime) {
             148_726_874_094_283_259_898,
         ),
     ] {
-        let given = request(&rt, senders, messages, bytes).load();
+        let given = shortage(&rt, senders, messages, bytes);
         let want = Shortage { tenures, words };
-        assert_eq!(rt; given.err(), Some(want), "{senders} {messages}");
+        assert!(rt; given == Some(want), "{senders} {messages}");
     }
 }
 
@@ -54,7 +60,7 @@ fn shortage_texts(rt: HostRuntime) -> Result<(), Fail> {
         ),
     ] {
         let text = Shortage { tenures, words }.to_string(rt.alloc())?;
-        assert_eq!(rt; text.as_str(), want);
+        same(&rt, &text.as_str(), &want);
     }
     Ok(())
 }
@@ -73,11 +79,11 @@ fn parsed<R: Abort + AllocGlobal>(rt: &R, given: &[&str]) -> Result<Request, Ref
 fn command_lines(rt: HostRuntime) {
     let line = ["bus_bench", "3", "2", "100", "56", "10000"];
     let given = parsed(&rt, &line).expect(&rt, "in range");
-    assert_eq!(rt; (given.senders, given.receivers), (3, 2));
-    assert_eq!(rt; (given.messages, given.repetitions), (100, 10_000));
-    assert_eq!(rt; (given.size, given.rounds), (Size::FiftySix, 4));
-    assert_eq!(rt; parsed(&rt, &[]), Err(Refusal::Count(0)));
-    assert_eq!(rt; parsed(&rt, &line[..5]), Err(Refusal::Count(4)));
+    same(&rt, &(given.senders, given.receivers), &(3, 2));
+    same(&rt, &(given.messages, given.repetitions), &(100, 10_000));
+    same(&rt, &(given.size, given.rounds), &(Size::FiftySix, 4));
+    same(&rt, &parsed(&rt, &[]), &Err(Refusal::Count(0)));
+    same(&rt, &parsed(&rt, &line[..5]), &Err(Refusal::Count(4)));
 }
 
 /// A command line that is not refused, but for this word of it.
@@ -107,7 +113,7 @@ fn words_refused(rt: HostRuntime) {
         (Field::Rounds, "9"),
     ] {
         let given = parsed(&rt, &line_with(field, word));
-        assert_eq!(rt; given, Err(Refusal::OutOfRange(field)), "{word}");
+        assert!(rt; given == Err(Refusal::OutOfRange(field)), "{word}");
     }
     for (field, word) in [
         (Field::Senders, ""),
@@ -118,17 +124,22 @@ fn words_refused(rt: HostRuntime) {
         (Field::Rounds, "four"),
     ] {
         let given = parsed(&rt, &line_with(field, word));
-        assert_eq!(rt; given, Err(Refusal::NotNumber(field)), "{word}");
+        assert!(rt; given == Err(Refusal::NotNumber(field)), "{word}");
     }
+}
+
+/// What a line of these words is answered.
+fn line_of(line: &str) -> Result<Request, Refusal> {
+    parse_line(line)
 }
 
 #[test]
 fn lines(rt: HostRuntime) {
     for (line, rounds) in [("3 2 100 56", 4), (" 3  2\t100 56 1 ", 1)] {
-        let given = parse_line(line).expect(&rt, "in range");
-        assert_eq!(rt; (given.senders, given.receivers), (3, 2));
-        assert_eq!(rt; (given.messages, given.rounds), (100, rounds));
-        assert_eq!(rt; (given.size, given.repetitions), (Size::FiftySix, 0));
+        let given = line_of(line).expect(&rt, "in range");
+        same(&rt, &(given.senders, given.receivers), &(3, 2));
+        same(&rt, &(given.messages, given.rounds), &(100, rounds));
+        same(&rt, &(given.size, given.repetitions), &(Size::FiftySix, 0));
     }
     for (line, refusal) in [
         ("", Refusal::Count(0)),
@@ -136,19 +147,23 @@ fn lines(rt: HostRuntime) {
         ("3 2 100 56 4 4", Refusal::Count(6)),
         ("3 2 100 56 9", Refusal::OutOfRange(Field::Rounds)),
     ] {
-        assert_eq!(rt; parse_line(line), Err(refusal), "{line}");
+        assert!(rt; line_of(line) == Err(refusal), "{line}");
     }
 }
 
 #[test]
 fn least_and_middle(rt: HostRuntime) {
-    assert_eq!(rt; least_of(&[]), None);
-    assert_eq!(rt; least_of(&[9, 4, 100, 4]), Some(4));
-    assert_eq!(rt; middle(&[]), None);
-    assert_eq!(rt; middle(&[7]), Some(7));
-    assert_eq!(rt; middle(&[1, 4]), Some(2));
-    assert_eq!(rt; middle(&[1, 4, 100]), Some(4));
-    assert_eq!(rt; middle(&[1, u64::MAX, u64::MAX, u64::MAX]), Some(u64::MAX));
+    same(&rt, &least_of(&[]), &None);
+    same(&rt, &least_of(&[9, 4, 100, 4]), &Some(4));
+    same(&rt, &middle(&[]), &None);
+    same(&rt, &middle(&[7]), &Some(7));
+    same(&rt, &middle(&[1, 4]), &Some(2));
+    same(&rt, &middle(&[1, 4, 100]), &Some(4));
+    same(
+        &rt,
+        &middle(&[1, u64::MAX, u64::MAX, u64::MAX]),
+        &Some(u64::MAX),
+    );
 }
 
 #[test]

@@ -3,6 +3,7 @@
 use super::{
     ADOPT_0, ADOPT_1, COMMIT_0, COMMIT_1, ends, has_ended, orders_of_two, random_orders, takes,
 };
+use crate::steps::same;
 use bus_adoptcommit::{Ratifier, ThreeWord};
 use bus_register::{Kind, Op, Reg, SenderNo};
 use std::process::Abort;
@@ -24,8 +25,8 @@ fn known_verdicts(rt: HostRuntime) {
 /// How many words and steps there are.
 fn measures(rt: &impl Abort, n: u64) {
     assert!(rt; n <= 64);
-    assert_eq!(rt; ThreeWord::width(n), 3);
-    assert_eq!(rt; ThreeWord::steps(n), 4);
+    same(rt, &ThreeWord::width(n), &3);
+    same(rt, &ThreeWord::steps(n), &4);
 }
 
 /// The first and the second of three processes, over words from 10 on: each step, and what it
@@ -60,7 +61,7 @@ fn steps_of_two_processes(rt: HostRuntime) {
 /// All 70 orders of four entries each, with each pair of inputs, cut at each place.
 #[test]
 fn all_orders_of_two_processes(rt: HostRuntime) {
-    assert_eq!(rt; orders_of_two::<ThreeWord>(&rt, 4), 70);
+    same(&rt, &orders_of_two::<ThreeWord>(&rt, 4), &70);
 }
 
 #[test]

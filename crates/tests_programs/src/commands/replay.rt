@@ -2,27 +2,39 @@
 
 use super::streams::{FailingReader, FullWriter, StuckWriter};
 use super::with_comment;
+use crate::same::same;
 use bus_adoptcommit::ThreeWord;
 use bus_commands::replay::replay;
 use bus_run::RunFault;
 use bus_script::Outcome;
 use std::io;
+use std::io::{Read, Write};
+use std::process::Abort;
+
+/// What `replay` answers.
+fn replays<R: Abort + AllocGlobal, I: Read, W: Write>(
+    rt: &R,
+    reader: &mut I,
+    writer: &mut W,
+) -> Result<Outcome, RunFault> {
+    replay::<ThreeWord, _, _>(rt.alloc(), reader, writer)
+}
 
 #[test]
 fn oversized_replay(rt: HostRuntime) {
     let longest = with_comment(&rt, b"shape 1 1 1 1 16\n", 1_048_559);
-    assert_eq!(rt; longest.len(), 1_048_576);
+    same(&rt, &longest.len(), &1_048_576);
     let mut reader = longest.as_slice();
     let mut written = Vec::new(rt.alloc());
-    let result = replay::<ThreeWord, _, _>(rt.alloc(), &mut reader, &mut written);
-    assert_eq!(rt; result, Ok(Outcome::Done));
-    assert_eq!(rt; written.as_slice(), b"owners\ngiven 0 0\n".as_slice());
+    let result = replays(&rt, &mut reader, &mut written);
+    same(&rt, &result, &Ok(Outcome::Done));
+    same(&rt, &written.as_slice(), &b"owners\ngiven 0 0\n".as_slice());
 
     let longer = with_comment(&rt, b"shape 1 1 1 1 16\n", 1_048_560);
     let mut reader = longer.as_slice();
     let mut written = Vec::new(rt.alloc());
-    let result = replay::<ThreeWord, _, _>(rt.alloc(), &mut reader, &mut written);
-    assert_eq!(rt; result, Err(RunFault::TooMuch));
+    let result = replays(&rt, &mut reader, &mut written);
+    same(&rt, &result, &Err(RunFault::TooMuch));
     assert!(rt; written.is_empty());
 }
 
@@ -36,16 +48,16 @@ fn failing_reader(rt: HostRuntime) {
         for kind in [io::ErrorKind::Other, io::ErrorKind::Interrupted] {
             let mut reader = FailingReader::new(SCRIPT, fails_at, kind);
             let mut written = Vec::new(rt.alloc());
-            let result = replay::<ThreeWord, _, _>(rt.alloc(), &mut reader, &mut written);
-            assert_eq!(rt; result, Err(RunFault::Read), "at call {fails_at}");
+            let result = replays(&rt, &mut reader, &mut written);
+            assert!(rt; result == Err(RunFault::Read), "at call {fails_at}");
             assert!(rt; written.is_empty(), "at call {fails_at}");
         }
     }
     let mut reader = FailingReader::new(SCRIPT, SCRIPT.len() + 1, io::ErrorKind::Other);
     let mut written = Vec::new(rt.alloc());
-    let result = replay::<ThreeWord, _, _>(rt.alloc(), &mut reader, &mut written);
-    assert_eq!(rt; result, Ok(Outcome::Done));
-    assert_eq!(rt; written.as_slice(), TEXT.as_bytes());
+    let result = replays(&rt, &mut reader, &mut written);
+    same(&rt, &result, &Ok(Outcome::Done));
+    same(&rt, &written.as_slice(), &TEXT.as_bytes());
 }
 
 #[test]
@@ -54,19 +66,18 @@ fn failing_writer(rt: HostRuntime) {
         for room in 0..TEXT.len() {
             let mut reader = SCRIPT;
             let mut writer = FullWriter::new(rt.alloc(), room, fails);
-            let result = replay::<ThreeWord, _, _>(rt.alloc(), &mut reader, &mut writer);
-            assert_eq!(rt; result, Err(RunFault::Write), "with room for {room}");
-            assert_eq!(rt;
-                writer.written.as_slice(),
-                &TEXT.as_bytes()[..room],
+            let result = replays(&rt, &mut reader, &mut writer);
+            assert!(rt; result == Err(RunFault::Write), "with room for {room}");
+            assert!(rt;
+                writer.written.as_slice() == &TEXT.as_bytes()[..room],
                 "with room for {room}"
             );
         }
         let mut reader = SCRIPT;
         let mut writer = FullWriter::new(rt.alloc(), TEXT.len(), fails);
-        let result = replay::<ThreeWord, _, _>(rt.alloc(), &mut reader, &mut writer);
-        assert_eq!(rt; result, Ok(Outcome::Done));
-        assert_eq!(rt; writer.written.as_slice(), TEXT.as_bytes());
+        let result = replays(&rt, &mut reader, &mut writer);
+        same(&rt, &result, &Ok(Outcome::Done));
+        same(&rt, &writer.written.as_slice(), &TEXT.as_bytes());
     }
 }
 
@@ -74,7 +85,7 @@ fn failing_writer(rt: HostRuntime) {
 fn stuck_writer(rt: HostRuntime) {
     let mut reader = SCRIPT;
     let mut writer = StuckWriter::new(rt.alloc());
-    let result = replay::<ThreeWord, _, _>(rt.alloc(), &mut reader, &mut writer);
-    assert_eq!(rt; result, Err(RunFault::Write));
-    assert_eq!(rt; writer.written.as_slice(), TEXT.as_bytes());
+    let result = replays(&rt, &mut reader, &mut writer);
+    same(&rt, &result, &Err(RunFault::Write));
+    same(&rt, &writer.written.as_slice(), &TEXT.as_bytes());
 }

@@ -1,9 +1,22 @@
 //! What a run prints.
 
 use super::streams::{FullWriter, StuckWriter};
+use crate::same::same;
 use bus_commands::printing::{Request, print_run};
 use bus_run::RunFault;
 use bus_script::Outcome;
+use std::io::Write;
+use std::sync::Wait;
+use std::thread::Threads;
+
+/// What `print_run` answers.
+fn prints<R: Threads + Wait + Sync + AllocGlobal, W: Write>(
+    rt: &R,
+    request: Request,
+    writer: &mut W,
+) -> Result<Outcome, RunFault> {
+    print_run(rt, rt.alloc(), request, writer)
+}
 
 #[test]
 fn run_default(rt: HostRuntime) {
@@ -14,11 +27,11 @@ fn run_default(rt: HostRuntime) {
         seed: 7,
     };
     let mut written = Vec::new(rt.alloc());
-    let result = print_run(&rt, rt.alloc(), request, &mut written);
-    assert_eq!(rt; result, Ok(Outcome::Done));
+    let result = prints(&rt, request, &mut written);
+    same(&rt, &result, &Ok(Outcome::Done));
     let text = "sender 0: 100\nsender 1: 100\nsender 2: 100\nreceiver 0: 300 end\n\
         receiver 1: 300 end\ntenures 22\nwords 623\naudit ok\n";
-    assert_eq!(rt; written.as_slice(), text.as_bytes());
+    same(&rt, &written.as_slice(), &text.as_bytes());
 }
 
 /// The smallest run.
@@ -37,25 +50,24 @@ fn failing_writer(rt: HostRuntime) {
     for fails in [false, true] {
         for room in 0..TEXT.len() {
             let mut writer = FullWriter::new(rt.alloc(), room, fails);
-            let result = print_run(&rt, rt.alloc(), SMALLEST, &mut writer);
-            assert_eq!(rt; result, Err(RunFault::Write), "with room for {room}");
-            assert_eq!(rt;
-                writer.written.as_slice(),
-                &TEXT.as_bytes()[..room],
+            let result = prints(&rt, SMALLEST, &mut writer);
+            assert!(rt; result == Err(RunFault::Write), "with room for {room}");
+            assert!(rt;
+                writer.written.as_slice() == &TEXT.as_bytes()[..room],
                 "with room for {room}"
             );
         }
         let mut writer = FullWriter::new(rt.alloc(), TEXT.len(), fails);
-        let result = print_run(&rt, rt.alloc(), SMALLEST, &mut writer);
-        assert_eq!(rt; result, Ok(Outcome::Done));
-        assert_eq!(rt; writer.written.as_slice(), TEXT.as_bytes());
+        let result = prints(&rt, SMALLEST, &mut writer);
+        same(&rt, &result, &Ok(Outcome::Done));
+        same(&rt, &writer.written.as_slice(), &TEXT.as_bytes());
     }
 }
 
 #[test]
 fn stuck_writer(rt: HostRuntime) {
     let mut writer = StuckWriter::new(rt.alloc());
-    let result = print_run(&rt, rt.alloc(), SMALLEST, &mut writer);
-    assert_eq!(rt; result, Err(RunFault::Write));
-    assert_eq!(rt; writer.written.as_slice(), TEXT.as_bytes());
+    let result = prints(&rt, SMALLEST, &mut writer);
+    same(&rt, &result, &Err(RunFault::Write));
+    same(&rt, &writer.written.as_slice(), &TEXT.as_bytes());
 }

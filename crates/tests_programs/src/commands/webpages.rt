@@ -1,5 +1,6 @@
 //! The web pages of scripts, part by part: the lines between the fixed parts are written out here.
 
+use crate::same::same;
 use bus_adoptcommit::ThreeWord;
 use bus_commands::webpage::webpage;
 use bus_script::Outcome;
@@ -65,6 +66,14 @@ fn played_by_parts<R: Abort + AllocGlobal>(rt: &R, digits: &str, lines: &str) ->
     page
 }
 
+/// How the web page of a script ends, and what is written of it.
+fn page_of<R: Abort + AllocGlobal>(rt: &R, purpose: Purpose, script: &[u8]) -> (Outcome, Vec<u8>) {
+    let mut reader = script;
+    let mut written = Vec::new(rt.alloc());
+    let result = webpage::<ThreeWord, _, _>(rt.alloc(), purpose, &mut reader, &mut written);
+    (result.expect(rt, "a web page").outcome, written)
+}
+
 /// Wants that the web page of a script, which ends so, has these digits and these lines.
 fn shows<R: Abort + AllocGlobal>(
     rt: &R,
@@ -73,12 +82,13 @@ fn shows<R: Abort + AllocGlobal>(
     digits: &str,
     lines: &str,
 ) {
-    let mut reader = script;
-    let mut written = Vec::new(rt.alloc());
-    let result = webpage::<ThreeWord, _, _>(rt.alloc(), Purpose::Step, &mut reader, &mut written);
-    let answer = result.expect(rt, "a web page");
-    assert_eq!(rt; answer.outcome, outcome);
-    assert_eq!(rt; written.as_slice(), by_parts(rt, digits, lines).as_slice());
+    let (ends, written) = page_of(rt, Purpose::Step, script);
+    same(rt, &ends, &outcome);
+    same(
+        rt,
+        &written.as_slice(),
+        &by_parts(rt, digits, lines).as_slice(),
+    );
 }
 
 #[test]
@@ -127,14 +137,14 @@ fn a_page_of_any_bytes(rt: HostRuntime) {
 /// A page on which one plays has the interpreter and the openings, and the lines of its script.
 #[test]
 fn a_page_to_play_on(rt: HostRuntime) {
-    let mut reader = b"shape 1 1 1 1 16\nput 0 -\n".as_slice();
-    let mut written = Vec::new(rt.alloc());
-    let result = webpage::<ThreeWord, _, _>(rt.alloc(), Purpose::Play, &mut reader, &mut written);
-    assert_eq!(&rt; result.expect(&rt, "a web page").outcome, Outcome::Done);
+    let script = b"shape 1 1 1 1 16\nput 0 -\n";
+    let (ends, written) = page_of(&rt, Purpose::Play, script);
+    same(&rt, &ends, &Outcome::Done);
     let digits = "736861706520312031203120312031360a7075742030202d0a";
     let lines = "1\t2\tsender 0\t-\tput\t-\t-\t-\tnumber 0\n";
-    assert_eq!(&rt;
-        written.as_slice(),
-        played_by_parts(&rt, digits, lines).as_slice()
+    same(
+        &rt,
+        &written.as_slice(),
+        &played_by_parts(&rt, digits, lines).as_slice(),
     );
 }
