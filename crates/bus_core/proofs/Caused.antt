@@ -104,7 +104,7 @@ module _ {E : Type 0} (X : Election E) (width : ℕ) (Belongs : ℕ → E → Ty
       → IsSomeAnd reuse (λ r. LeavesTenure (participant_of c r))
   leaves_late t w = some_kept width Belongs c (λ r. r.pin ≡ Invalidated t)
       (λ r. LeavesTenure (participant_of c r)) reuse k
-      (λ r h e. AsLate t e) w
+      (λ r h e. AsLate t e (subst (PinKeeps Belongs c) e h.pin)) w
 
   -- a holder makes the next row ready before it gives the page back
   makes_ready : (r : Reuse) → ParticipantKeeps width Belongs (participant_of c r) → (s : Reclaiming)

@@ -216,13 +216,13 @@ module _ {E : Type 0} (v : Participant E) where
   leaves_pinned : LeavesTenure v → (t : ℕ) → v.pin ≡ Pinned t → ⊥
   leaves_pinned (AsLoser u o q l r) t e = let bad = sym e ∙ q in cc
   leaves_pinned (AsHolder u q h) t e = let bad = sym e ∙ q in cc
-  leaves_pinned (AsLate u q) t e = let bad = sym e ∙ q in cc
+  leaves_pinned (AsLate u q rests) t e = let bad = sym e ∙ q in cc
 
   -- and has one
   leaves_away : LeavesTenure v → v.pin ≡ Away → ⊥
   leaves_away (AsLoser u o q l r) e = let bad = sym e ∙ q in cc
   leaves_away (AsHolder u q h) e = let bad = sym e ∙ q in cc
-  leaves_away (AsLate u q) e = let bad = sym e ∙ q in cc
+  leaves_away (AsLate u q rests) e = let bad = sym e ∙ q in cc
 
   -- and has lost it, or taken its page
   leaves_undone : LeavesTenure v → (t : ℕ) → v.pin ≡ Unpinning t → v.lost ≡ None
@@ -230,7 +230,7 @@ module _ {E : Type 0} (v : Participant E) where
   leaves_undone (AsLoser u o q l r) t e none other = let bad = sym none ∙ l in cc
   leaves_undone (AsHolder u q h) t e none other =
       other (h ∙ ap Some (same_unpinning u t (sym q ∙ e)))
-  leaves_undone (AsLate u q) t e none other = let bad = sym e ∙ q in cc
+  leaves_undone (AsLate u q rests) t e none other = let bad = sym e ∙ q in cc
 
 module _ {S : Type 0} (P : Protocol S Bool Verdict) where
   -- what no sender has a cause for in its tenures

@@ -194,7 +194,7 @@ module _ {E : Type 0} (X : Election E) (W : Layout → ℕ) (B : Layout → ℕ 
         (unreclaimed sizes c.phase (Electing t started) r.reclaimer k.reclaimer
         (ap held_of h.looks.rests) refl) (λ u e. absurd cc)
     validated t h false =
-        repinned (Invalidated t) (subst IsOutside (sym h.looks.rests) tt) (λ u e. cc)
+        repinned (Invalidated t) h.looks.rests (λ u e. cc)
 
     -- ---- in its tenure
     -- whose pin asks for no step has lost to nobody
@@ -364,7 +364,8 @@ module _ {E : Type 0} (X : Election E) (W : Layout → ℕ) (B : Layout → ℕ 
       by_situation (Announces t) w h = repinned (Validating t) (pin_at (Announcing t) w) (λ u e. cc)
       by_situation (Validates t) w h = validated t (pin_at (Validating t) w) (got / 2 == t)
       by_situation (Unpins t) w h = repinned Away (pin_at (Unpinning t) w) (λ u e. cc)
-      by_situation (Withdraws t) w h = repinned Away (pin_at (Invalidated t) w) (λ u e. cc)
+      by_situation (Withdraws t) w h =
+          repinned Away (subst IsOutside (sym (pin_at (Invalidated t) w)) tt) (λ u e. cc)
       by_situation (Scans s) w h = reclaims s got w.0
       by_situation (Clears s) w h = reclaims s got w.0
 

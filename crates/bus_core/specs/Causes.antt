@@ -45,7 +45,7 @@ pub data LeavesTenure {E : Type 0} (v : Participant E) : Type 0 where
       → v.core.phase ≡ Resting → LeavesTenure v
   AsHolder : (tenure : ℕ) → v.pin ≡ Unpinning tenure → held_of v.core.phase ≡ Some tenure
       → LeavesTenure v
-  AsLate : (tenure : ℕ) → v.pin ≡ Invalidated tenure → LeavesTenure v
+  AsLate : (tenure : ℕ) → v.pin ≡ Invalidated tenure → v.core.phase ≡ Resting → LeavesTenure v
 
 -- it stands in the very tenure whose election it goes through
 pub record StandsInRow {E : Type 0} (v : Participant E) : Type 0 where

@@ -44,7 +44,7 @@ use Rattle.bus_core.specs.Table.{line, line_now, reuse_elected, answer_elected, 
 use Rattle.bus_core.specs.Table.{reuse_given, reuse_pinning, reuse_reclaiming, lost_of}
 use Rattle.bus_core.specs.Telling.{FeedTells, RestTells, HasBegunNone, LooksFirst}
 use Rattle.bus_core.specs.declared.reuses.Reuse.{Reuse}
-use Rattle.bus_core.proofs.Situated.{situation_tells, own_is, Reclaims, IsCalm}
+use Rattle.bus_core.proofs.Situated.{situation_tells, own_is, Reclaims}
 use Rattle.bus_machine.specs.Machine.{moved}
 use Rattle.bus_world.specs.Turning.{core_with_page, after_step}
 use Rattle.bus_register.specs.Protocol.{Protocol}
@@ -67,7 +67,7 @@ use Rattle.bus_pageslot.proofs.Keeping.{leaves_batch, going_keeps, refused_keeps
 use Rattle.bus_pageslot.specs.Finishing.{turns_to_return, turns_to_clear, turns_in}
 use Rattle.bus_pageslot.specs.Finishing.{turns_to_enter, turns_of_pin}
 use Rattle.bus_pageslot.specs.Finishing.{turns_to_finish, is_behind, ends_tenure, StaysOrEnds}
-use Rattle.bus_pageslot.specs.Finishing.{is_sent, GoesThrough, Begun, Strayed, Through, IsAstray}
+use Rattle.bus_pageslot.specs.Finishing.{is_sent, GoesThrough, Begun, Through}
 use Rattle.bus_pageslot.specs.Finishing.{HasFinished, FinishesAs, FinishingRefuses}
 
 -- who has begun none has begun no tenure
@@ -97,29 +97,18 @@ module _ {E : Type 0} (X : Election E) where
     pub falls : is_behind a ≡ false → turns_to_finish X w < turns_to_finish X v
     pub some : 0 < turns_to_finish X v
     pub outcome : StaysOrEnds v a w
-    pub straight : IsAstray w → ⊥
 
   falls_some : (v w : Sender E) (a : Turn) → turns_to_finish X w < turns_to_finish X v
-      → StaysOrEnds v a w → (IsAstray w → ⊥) → IsTurn v a w
-  falls_some v w a less outcome straight = record {
+      → StaysOrEnds v a w → IsTurn v a w
+  falls_some v w a less outcome = record {
     falls = λ other. less;
     some = omega arith;
     outcome = outcome;
-    straight = straight;
   }
 
-  -- who withdraws from no tenure is not astray, and nor is who stands in none
-  unpinned_straight : (c : Core E) (r : Option Reuse) → IsAway r → IsAstray (sender c r) → ⊥
-  unpinned_straight c None away h = absurd h.late
-  unpinned_straight c (Some r) away h = let bad = sym away ∙ h.late.is in absurd cc
-
-  calm_straight : (c : Core E) (r : Reuse) → IsCalm r.pin → IsAstray (sender c (Some r)) → ⊥
-  calm_straight c r (inl away) h = let bad = sym away ∙ h.late.is in absurd cc
-  calm_straight c r (inr pinned) h = let bad = sym pinned.1 ∙ h.late.is in absurd cc
-
   -- it goes on in the same tenure
-  abbrev IsSame : (v : Sender E) (a : Turn) (w : Sender E) → Type 0
-  IsSame v a w = (tenure_begun w ≡ tenure_begun v) ⊎ ((a ≡ turn.Waiting) × IsAstray v)
+  abbrev IsSame : (v w : Sender E) → Type 0
+  IsSame v w = tenure_begun w ≡ tenure_begun v
 
   -- ---- steps of its pin
   announces : (c : Core E) (r : Option Reuse) (t : ℕ) → IsSomeAnd r (λ y. y.pin ≡ Announcing t)
@@ -130,11 +119,11 @@ module _ {E : Type 0} (X : Election E) where
       falls_some (sender c (Some r)) (sender c (reuse_pinning (Some r) (Validating t))) turn.Going
       (omega arith)
       (inl record {
-        same = inl (sym (ap (tenure_begun_by c) p));
+        same = (sym (ap (tenure_begun_by c) p));
         begun = refl;
         goes = refl;
         holds = λ b. absurd cc;
-      }) (λ h. absurd (let bad = h.late.is in cc))
+      })
 
   validates : (here : Bool) (c : Core E) (r : Option Reuse) (t : ℕ)
       → IsSomeAnd r (λ y. y.pin ≡ Validating t) → c.phase ≡ Resting
@@ -148,26 +137,26 @@ module _ {E : Type 0} (X : Election E) where
       (sender (core_begun X c t) (reuse_pinning (Some r) (Pinned t))) turn.Going
       (omega arith)
       (inl record {
-        same = inl (sym (ap (tenure_begun_by c) p));
+        same = (sym (ap (tenure_begun_by c) p));
         begun = refl;
         goes = refl;
         holds = λ b. absurd cc;
-      }) (λ h. absurd (let bad = h.late.is in cc))
+      })
   validates false c (Some r) t p rests =
       let e : turns_of_pin X c r.pin ≡ 1 + turns_to_enter X c t = ap (turns_of_pin X c) p in
       falls_some (sender c (Some r)) (sender c (reuse_pinning (Some r) (Invalidated t))) turn.Going
       (omega arith)
       (inl record {
-        same = inl (sym (ap (tenure_begun_by c) p));
+        same = (sym (ap (tenure_begun_by c) p));
         begun = refl;
         goes = refl;
         holds = λ b. absurd cc;
-      }) (λ h. true≢false (sym h.stands ∙ ap (λ y. is_some (tenure_of y)) rests))
+      })
 
   -- once its presence is cleared it holds a page, or its tenure has ended
   parts : (c : Core E) (r : Reuse) (a : Turn) (ph : Phase E) → c.phase ≡ ph
       → is_last a ≡ false → is_behind a ≡ false → (ph ≡ Resting → ends_tenure a ≡ true)
-      → ((u : ℕ) → tenure_of ph ≡ Some u → IsSame (sender c (Some r)) a
+      → ((u : ℕ) → tenure_of ph ≡ Some u → IsSame (sender c (Some r))
       (sender c (Some record r { pin = Away; lost = None })))
       → StaysOrEnds (sender c (Some r)) a (sender c (Some record r { pin = Away; lost = None }))
   parts c r a Resting e last other ends same =
@@ -231,7 +220,7 @@ module _ {E : Type 0} (X : Election E) where
       let bad : None ≡ Some u = sym (ap tenure_of rests) ∙ e in absurd cc
   parts_same c r t u p (AsHolder s pin held) e =
       held_stands s c.phase held ∙ sym (ap (tenure_begun_by c) pin)
-  parts_same c r t u p (AsLate s pin) e =
+  parts_same c r t u p (AsLate s pin rests) e =
       let bad : Unpinning t ≡ Invalidated s = sym p ∙ pin in absurd cc
 
   unpins : (c : Core E) (r : Option Reuse) (t : ℕ) → IsSomeAnd r (λ y. y.pin ≡ Unpinning t)
@@ -246,20 +235,26 @@ module _ {E : Type 0} (X : Election E) where
       (parts c r (answer_of_loss t r.lost) c.phase refl (lost_last t r.lost) (lost_other t r.lost)
       (λ rests. lost_ends t r.lost (λ going.
       let bad : None ≡ Some t = sym (ap held_of rests) ∙ held going in cc))
-      (λ u stands. inl (parts_same c r t u p leaves stands)))
-      (unpinned_straight c (reuse_pinning (Some r) Away) refl)
+      (λ u stands. parts_same c r t u p leaves stands))
+
+  -- who came too late for a tenure rests
+  late_rests : (c : Core E) (r : Reuse) (t : ℕ) → r.pin ≡ Invalidated t
+      → LeavesTenure (participant_of c r) → c.phase ≡ Resting
+  late_rests c r t p (AsLoser s o pin lost rests) = rests
+  late_rests c r t p (AsHolder s pin held) =
+      let bad : Invalidated t ≡ Unpinning s = sym p ∙ pin in absurd cc
+  late_rests c r t p (AsLate s pin rests) = rests
 
   withdraws : (c : Core E) (r : Option Reuse) (t : ℕ) → IsSomeAnd r (λ y. y.pin ≡ Invalidated t)
+      → IsSomeAnd r (λ y. LeavesTenure (participant_of c y))
       → IsTurn (sender c r) turn.Waiting (sender c (reuse_pinning r Away))
-  withdraws c None t p = absurd p
-  withdraws c (Some r) t p =
+  withdraws c None t p leaves = absurd p
+  withdraws c (Some r) t p leaves =
       let e : turns_of_pin X c r.pin ≡ 1 = ap (turns_of_pin X c) p in
+      let rests : c.phase ≡ Resting = late_rests c r t p leaves in
       falls_some (sender c (Some r)) (sender c (reuse_pinning (Some r) Away)) turn.Waiting
       (omega arith)
-      (parts c r turn.Waiting c.phase refl refl refl (λ rests. refl) (λ u stands. inr (
-        refl,
-        record { late = record { tenure = t; is = p }; stands = ap is_some stands },
-      ))) (unpinned_straight c (reuse_pinning (Some r) Away) refl)
+      (inr record { none = ap tenure_of rests; ends = refl })
 
   -- ---- its election
   module _ (c : Core E) (t : ℕ) (e f : E) (at : c.phase ≡ Electing t e)
@@ -287,11 +282,11 @@ module _ {E : Type 0} (X : Election E) where
         (falls_some (sender c None) (sender (record c { phase = Electing t f }) None) turn.Going
         (omega arith)
         (inl record {
-          same = inl (in_tenure None inside);
+          same = (in_tenure None inside);
           begun = refl;
           goes = refl;
           holds = λ b. absurd cc;
-        }) (unpinned_straight (record c { phase = Electing t f }) None tt))
+        }))
     elects_on (Some r) lost w inside is =
         let e = in_election (Some r) in
         subst (IsTurn (sender c (Some r)) turn.Going) (sym is)
@@ -300,11 +295,11 @@ module _ {E : Type 0} (X : Election E) where
         (Some record r { pin = Pinned t; lost = lost })) turn.Going
         (omega arith)
         (inl record {
-          same = inl (in_tenure (Some r) inside);
+          same = (in_tenure (Some r) inside);
           begun = refl;
           goes = refl;
           holds = λ b. absurd cc;
-        }) (λ h. absurd (let bad = h.late.is in cc)))
+        }))
 
     -- or another
     loses : (r : Option Reuse) (o : ℕ) (itself : Bool) → StandsIn r t
@@ -337,7 +332,6 @@ module _ {E : Type 0} (X : Election E) where
         } in
         falls_some (sender c None) (sender new None) (turn.Lost t record { 0 = o })
         (omega arith) (inr record { none = refl; ends = refl })
-        (unpinned_straight new None tt)
     loses (Some r) o false inside =
         let e = in_election (Some r) in
         let new = record c {
@@ -349,11 +343,11 @@ module _ {E : Type 0} (X : Election E) where
         (sender new (Some record r { pin = Unpinning t; lost = Some record { 0 = o } })) turn.Going
         (omega arith)
         (inl record {
-          same = inl (in_tenure (Some r) inside);
+          same = (in_tenure (Some r) inside);
           begun = refl;
           goes = refl;
           holds = λ b. absurd cc;
-        }) (λ h. absurd (let bad = h.late.is in cc))
+        })
 
     elects : (r : Option Reuse) (own : Option ℕ) → StandsIn r t
         → IsTurn (sender c r) (answer_elected c r t own)
@@ -386,11 +380,11 @@ module _ {E : Type 0} (X : Election E) where
         falls_some (sender c None) (sender (record c { phase = Holding t page 0 false }) None)
         (turn.Own t) (omega arith)
         (inl record {
-          same = inl (in_tenure None inside);
+          same = (in_tenure None inside);
           begun = refl;
           goes = refl;
           holds = λ b. absurd cc;
-        }) (unpinned_straight (record c { phase = Holding t page 0 false }) None tt)
+        })
     takes (Some r) page inside =
         let e = in_election (Some r) in
         let x = sizes_with c.layout r.rows in
@@ -400,11 +394,11 @@ module _ {E : Type 0} (X : Election E) where
         (sender (record c { phase = Holding t page 0 false }) (reuse_taken c.layout (Some r) t))
         (turn.Own t) (omega arith)
         (inl record {
-          same = inl (in_tenure (Some r) inside);
+          same = (in_tenure (Some r) inside);
           begun = refl;
           goes = refl;
           holds = λ b. absurd cc;
-        }) (λ h. absurd (let bad = h.late.is in cc))
+        })
 
   -- ---- a holder
   module _ (c : Core E) (t : ℕ) (page : Page) (stored : ℕ)
@@ -421,22 +415,22 @@ module _ {E : Type 0} (X : Election E) where
           (sender (record c { phase = Holding t page more published }) None)
           turn.Going (omega arith)
           (inl record {
-            same = inl (sym (ap tenure_of at));
+            same = (sym (ap tenure_of at));
             begun = refl;
             goes = refl;
             holds = λ b. refl;
-          }) (unpinned_straight (record c { phase = Holding t page more published }) None away)
+          })
       stores (Some r) more published away less =
           let e = ap (turns_in X c (Some r)) at in
           let d = record c { phase = Holding t page more published } in
           falls_some (sender c (Some r)) (sender d (Some r)) turn.Going (omega arith)
           (inl record {
-            same = inl (ap (tenure_begun_by d) away
+            same = (ap (tenure_begun_by d) away
                 ∙ sym (ap (tenure_begun_by c) away ∙ ap tenure_of at));
             begun = stands d (Some r) refl;
             goes = refl;
             holds = λ b. refl;
-          }) (unpinned_straight d (Some r) away)
+          })
 
   -- what is due of a holder that stores, and how much less is left then
   abbrev LessLeft : Core E → Own E → Type 0
@@ -502,7 +496,6 @@ module _ {E : Type 0} (X : Election E) where
       falls_some (sender c None) (sender (core_at_rest c reason t) None)
       (answer_of_return c.queue t reason) (omega arith)
       (inr record { none = refl; ends = answer_ends c.queue t reason })
-      (unpinned_straight (core_at_rest c reason t) None away)
   returns c t reason (Some r) away held =
       let d = core_at_rest c reason t in
       let e : turns_of_pin X d r.pin ≡ 0 = ap (turns_of_pin X d) away in
@@ -511,17 +504,17 @@ module _ {E : Type 0} (X : Election E) where
       (inr record {
         none = ap (tenure_begun_by d) away;
         ends = answer_ends c.queue t reason;
-      }) (unpinned_straight d (Some record r { reclaimer = None }) away)
+      })
 
   -- ---- the next row
   -- one presence less, but where another sender is in the way
   scanned : (c : Core E) (r : Reuse) (s : Reclaiming) (got : ℕ) (left behind : Bool)
       → r.reclaimer ≡ Some s → nat_lt s.scanned s.senders ≡ true
       → (got == 1 + s.past) ≡ behind → IsSome (tenure_of c.phase) → is_holding c.phase ≡ true
-      → 1 ≤ turns_in X c (Some r) c.phase → IsCalm r.pin
+      → 1 ≤ turns_in X c (Some r) c.phase
       → IsTurn (sender c (Some r)) (answer_of_reclaim (behind_of s got))
       (sender c (Some record r { reclaimer = Some (reclaim_fed s got) }))
-  scanned c r s got left true is l b some holds held calm =
+  scanned c r s got left true is l b some holds held =
       let a : answer_of_reclaim (behind_of s got)
       ≡ turn.Behind s.past record { 0 = s.scanned } =
       ap (λ x. answer_of_reclaim (cond (x && (got == 1 + s.past))
@@ -534,14 +527,13 @@ module _ {E : Type 0} (X : Election E) where
         falls = λ other. absurd (true≢false other);
         some = omega arith;
         outcome = inl record {
-          same = inl refl;
+          same = refl;
           begun = stands c (Some record r { reclaimer = Some (reclaim_fed s got) }) some;
           goes = refl;
           holds = λ y. holds;
         };
-        straight = calm_straight c (record r { reclaimer = Some (reclaim_fed s got) }) calm;
       })
-  scanned c r s got left false is l b some holds held calm =
+  scanned c r s got left false is l b some holds held =
       let a : answer_of_reclaim (behind_of s got) ≡ turn.Going =
       ap (λ x. answer_of_reclaim (cond (x && (got == 1 + s.past))
       (Some record { tenure = s.past; sender = s.scanned }) None)) l
@@ -558,18 +550,17 @@ module _ {E : Type 0} (X : Election E) where
       (sender c (Some record r { reclaimer = Some y.1 }))) (λ i. (sym a i, sym f i))
       (falls_some (sender c (Some r)) (sender c new) turn.Going (omega arith)
       (inl record {
-        same = inl refl;
+        same = refl;
         begun = stands c new some;
         goes = refl;
         holds = λ y. holds;
-      })
-      (calm_straight c (record r { reclaimer = Some record s { scanned = s.scanned + 1 } }) calm))
+      }))
 
   clears : (c : Core E) (r : Reuse) (s : Reclaiming) (got : ℕ) → r.reclaimer ≡ Some s → IsClearing s
-      → IsSome (tenure_of c.phase) → is_holding c.phase ≡ true → IsCalm r.pin
+      → IsSome (tenure_of c.phase) → is_holding c.phase ≡ true
       → IsTurn (sender c (Some r)) (answer_of_reclaim (behind_of s got))
       (sender c (Some record r { reclaimer = Some (reclaim_fed s got) }))
-  clears c r s got is h some holds calm =
+  clears c r s got is h some holds =
       let l : nat_lt s.scanned s.senders ≡ false = le-ltb _ _ h.passed in
       let m : nat_lt s.cleared s.width ≡ true = lt-ltb _ _ h.left in
       let a : answer_of_reclaim (behind_of s got) ≡ turn.Going =
@@ -586,12 +577,11 @@ module _ {E : Type 0} (X : Election E) where
       (sender c (Some record r { reclaimer = Some y.1 }))) (λ i. (sym a i, sym f i))
       (falls_some (sender c (Some r)) (sender c new) turn.Going (omega arith)
       (inl record {
-        same = inl refl;
+        same = refl;
         begun = stands c new some;
         goes = refl;
         holds = λ y. holds;
-      })
-      (calm_straight c (record r { reclaimer = Some record s { cleared = s.cleared + 1 } }) calm))
+      }))
 
   -- what a holder has left
   held_left : (c : Core E) (r : Option Reuse) (t : ℕ) (page : Page) (stored : ℕ) (published : Bool)
@@ -612,8 +602,8 @@ module _ {E : Type 0} (X : Election E) where
       held_left c (Some r) h.tenure h.page held.0 held.1 held.2 in
       elim due [
         | inl more ↦ scanned c r s got true (got == 1 + s.past) h.is (lt-ltb _ _ more) refl some
-            holds left h.calm
-        | inr clearing ↦ clears c r s got h.is clearing some holds h.calm
+            holds left
+        | inr clearing ↦ clears c r s got h.is clearing some holds
       ]
 
   reclaims_by : (c : Core E) (r : Option Reuse) (s : Reclaiming) (got : ℕ)
@@ -731,6 +721,7 @@ module _ {E : Type 0} (X : Election E) where
         (situation_tells X v (Unpins t) i)) (leaves (ap (λ y. (line X v y).kind) i))
     at (Withdraws t) i due taken told =
         withdraws v.core v.reuse t (situation_tells X v (Withdraws t) i)
+        (leaves (ap (λ y. (line X v y).kind) i))
     at (Scans s) i due taken told =
         reclaims_by v.core v.reuse s got
         (asks_by (situation_of X v.core) v.reuse s (situation_tells X v (Scans s) i))
@@ -778,8 +769,6 @@ module _ {E : Type 0} (P : Process (Sender E)) (T : Tellings (Sender E)) where
   pub through_on : (t : ℕ) (first : SenderSeat (Sender E)) (count : ℕ)
       (new : SenderSeat (Sender E)) → GoesThrough P T t first count new → TurnsOn P T first new
   through_on t first _ _ (Begun some) = Here
-  through_on t first _ _ (Strayed word new astray turned some) =
-      More first word turn.Waiting new Here turned refl
   through_on t first _ _ (Through count old word answer new before turned last other some) =
       More old word answer new (through_on t first count old before) turned last
 
@@ -788,30 +777,40 @@ module _ {E : Type 0} (P : Process (Sender E)) (T : Tellings (Sender E)) where
       (new : SenderSeat (Sender E)) → GoesThrough P T t first count new
       → tenure_begun new.core ≡ Some t
   through_begun t first _ _ (Begun some) = some
-  through_begun t first _ _ (Strayed word new astray turned some) = some
   through_begun t first _ _ (Through count old word answer new before turned last other some) =
       some
 
   through_first : (t : ℕ) (first : SenderSeat (Sender E)) (count : ℕ)
       (new : SenderSeat (Sender E)) → GoesThrough P T t first count new
-      → ¬ IsAstray first.core → tenure_begun first.core ≡ Some t
-  through_first t first _ _ (Begun some) straight = some
-  through_first t first _ _ (Strayed word new astray turned some) straight =
-      absurd (straight astray)
-  through_first t first _ _ (Through count old word answer new before turned last other some)
-      straight = through_first t first count old before straight
+      → tenure_begun first.core ≡ Some t
+  through_first t first _ _ (Begun some) = some
+  through_first t first _ _ (Through count old word answer new before turned last other some) =
+      through_first t first count old before
 
-  -- turns of two tenures are refused, and turns of none
-  pub finishing_refuses : (first new : SenderSeat (Sender E)) → ¬ IsAstray first.core
-      → FinishingRefuses P T first new
-  finishing_refuses first new straight = record {
+  -- turns of two tenures are refused, and turns of none; and a tenure that has not ended
+  pub finishing_refuses : (X : Election E) (first new : SenderSeat (Sender E))
+      → FinishingRefuses X P T first new
+  finishing_refuses X first new = record {
     another = λ t u tenure count begun goes other through. other (same_Some _ _ (sym begun
-        ∙ through_first tenure first count new through straight
+        ∙ through_first tenure first count new through
         ∙ sym (through_begun tenure first count new through) ∙ goes));
     none = λ tenure count none through.
         let bad : None ≡ Some tenure =
-        sym none ∙ through_first tenure first count new through straight
+        sym none ∙ through_first tenure first count new through
         in absurd cc;
+    unended = λ answer other goes f. elim f.finished [
+      | inl behind ↦ true≢false (sym behind.0 ∙ other)
+      | inr ends ↦ true≢false (sym ends.0 ∙ goes)
+    ];
+    kept = λ answer other holds f. elim f.finished [
+      | inl behind ↦ true≢false (sym behind.0 ∙ other)
+      | inr ends ↦ true≢false (sym holds ∙ ends.1.no_page)
+    ];
+    elsewhere = λ answer t u begun goes other f. elim f.finished [
+      | inl behind ↦ other (same_Some _ _ (sym begun
+          ∙ through_first f.tenure first f.count f.old f.before ∙ sym behind.2 ∙ goes))
+      | inr ends ↦ let bad : None ≡ Some u = sym ends.1.none ∙ goes in absurd cc
+    ];
   }
 
 pub not_some : {A : Type 0} (o : Option A) → is_some o ≡ false → o ≡ None
@@ -932,76 +931,30 @@ module _ {S : Type 0} (kind_of : S → Option Kind) (op : S → ℕ → Option O
       → (is_behind a ≡ true) ⊎ (is_some (tenure_begun new.core) ≡ false) → FinishesAs P t a new
   unfolding process_with
   finishes_as t old a new begun (inl stays) (inl behind) =
-      inl (
-        behind,
-        stays.holds behind,
-        elim stays.same [
-          | inl same ↦ same ∙ begun
-          | inr astray ↦ absurd (true≢false (sym behind ∙ ap is_behind astray.0))
-        ],
-      )
+      inl (behind, stays.holds behind, stays.same ∙ begun)
   finishes_as t old a new begun (inl stays) (inr none) =
       absurd (true≢false (sym stays.begun ∙ none))
   finishes_as t old a new begun (inr ends) over = inr (ends.ends, has_finished new ends.none)
 
-  -- so many turns of this tenure led to a sender, which is astray only where it is the first
-  pub record GoesStraight (t : ℕ) (first : SenderSeat (Sender (Elector S))) (count : ℕ)
-      (new : SenderSeat (Sender (Elector S))) : Type 0 where
-    pub through : GoesThrough P T t first count new
-    pub straight : ((new ≡ first) × (count ≡ 0)) ⊎ (IsAstray new.core → ⊥)
-
   -- of none
   pub goes_at_first : (first : SenderSeat (Sender (Elector S)))
-      → is_some (tenure_begun first.core) ≡ true → (t : ℕ) × GoesStraight t first 0 first
+      → is_some (tenure_begun first.core) ≡ true → (t : ℕ) × GoesThrough P T t first 0 first
   goes_at_first first some = by (tenure_begun first.core) refl where
-    by : (o : Option ℕ) → tenure_begun first.core ≡ o → (t : ℕ) × GoesStraight t first 0 first
+    by : (o : Option ℕ) → tenure_begun first.core ≡ o → (t : ℕ) × GoesThrough P T t first 0 first
     by None e = absurd (true≢false (sym some ∙ ap is_some e))
-    by (Some t) e = (t, record { through = Begun e; straight = inl (refl, refl) })
+    by (Some t) e = (t, Begun e)
 
   -- and after one with which it does not
   pub goes_through : (t : ℕ) (first : SenderSeat (Sender (Elector S))) (count : ℕ)
       (old : SenderSeat (Sender (Elector S))) (word : ℕ) (a : Turn)
-      (new : SenderSeat (Sender (Elector S))) → GoesStraight t first count old
+      (new : SenderSeat (Sender (Elector S))) → GoesThrough P T t first count old
       → Turned P T old word a new → StaysOrEnds old.core a new.core
-      → (IsAstray new.core → ⊥) → is_behind a ≡ false → is_some (tenure_begun new.core) ≡ true
-      → (u : ℕ) × GoesStraight u first (count + 1) new
-  goes_through t first count old word a new before turned (inl stays) straight other some =
-      by stays.same before.straight
-    where
-      on : tenure_begun new.core ≡ tenure_begun old.core
-          → (u : ℕ) × GoesStraight u first (count + 1) new
-      on same = (
-        t,
-        record {
-          through = Through count old word a new before.through turned stays.goes other
-              (same ∙ through_begun P T t first count old before.through);
-          straight = inr straight;
-        },
-      )
-
-      strayed : a ≡ turn.Waiting → IsAstray old.core → old ≡ first → count ≡ 0 → (u : ℕ)
-          → tenure_begun new.core ≡ Some u → GoesStraight u first (count + 1) new
-      strayed waits astray is none u begun =
-          subst (λ n. GoesStraight u first (n + 1) new) (sym none) (record {
-            through = Strayed word new (subst (λ (y : SenderSeat (Sender (Elector S))).
-                IsAstray y.core) is astray)
-                (subst (λ (y : SenderSeat (Sender (Elector S)) × Turn). Turned P T y.0 word y.1 new)
-                (λ i. (is i, waits i)) turned) begun;
-            straight = inr straight;
-          })
-
-      by : (tenure_begun new.core ≡ tenure_begun old.core) ⊎ ((a ≡ turn.Waiting)
-          × IsAstray old.core)
-          → ((old ≡ first) × (count ≡ 0)) ⊎ (IsAstray old.core → ⊥)
-          → (u : ℕ) × GoesStraight u first (count + 1) new
-      by (inl same) s = on same
-      by (inr astray) (inr unlost) = absurd (unlost astray.1)
-      by (inr astray) (inl is) = named (tenure_begun new.core) refl where
-        named : (o : Option ℕ) → tenure_begun new.core ≡ o
-            → (u : ℕ) × GoesStraight u first (count + 1) new
-        named None e = absurd (true≢false (sym some ∙ ap is_some e))
-        named (Some u) e = (u, strayed astray.0 astray.1 is.0 is.1 u e)
-  goes_through t first count old word a new before turned (inr ends) straight other some =
+      → is_behind a ≡ false → is_some (tenure_begun new.core) ≡ true
+      → GoesThrough P T t first (count + 1) new
+  goes_through t first count old word a new before turned (inl stays) other some =
+      Through count old word a new before turned stays.goes other
+      (stays.same ∙ through_begun P T t first count old before)
+  goes_through t first count old word a new before turned (inr ends) other some =
       absurd (true≢false (sym some ∙ ap is_some ends.none))
 
   -- its batch is kept, if that is not in the order

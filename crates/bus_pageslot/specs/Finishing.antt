@@ -1,6 +1,6 @@
 -- A sender that goes through what is left of a tenure that it has begun, and begins no other.
 use Rattle.std.specs.Prelude.{◌≡◌, ◌≢◌, ◌⊎◌, ℕ, ◌+◌, ◌-◌, ◌<◌, Bool, true, false, Option}
-use Rattle.std.specs.Prelude.{Some, None, IsSome, IsSomeAnd, if◌then◌else◌}
+use Rattle.std.specs.Prelude.{Some, None, IsSome, if◌then◌else◌}
 use Rattle.bus_presence.specs.Reclaimers.{Reclaiming}
 use Rattle.bus_presence.specs.declared.pins.Pin.{Pin}
 use Rattle.bus_presence.specs.declared.pins.Pin.TheVariants.{Away, Announcing, Validating, Pinned}
@@ -12,10 +12,9 @@ use Rattle.bus_tenure.specs.declared.phases.Phase.TheVariants.{Giving}
 use Rattle.bus_tenure.specs.declared.turns.Turn.{Turn}
 use Rattle.bus_tenure.specs.declared.turns.Turn.TheVariants as turn
 use Rattle.bus_tenure.specs.Classes.{is_last}
-use Rattle.bus_tenure.specs.Seen.{is_holding, tenure_of}
+use Rattle.bus_tenure.specs.Seen.{is_holding}
 use Rattle.bus_core.specs.Seen.{tenure_begun}
 use Rattle.bus_core.specs.Senders.{Sender}
-use Rattle.bus_core.specs.Telling.{IsInvalidated}
 use Rattle.bus_core.specs.declared.reuses.Reuse.{Reuse}
 use Rattle.bus_automaton.specs.Processes.{Process}
 use Rattle.bus_pageslot.specs.Seats.{SenderSeat}
@@ -116,17 +115,10 @@ ends_tenure turn.Spent = false
 ends_tenure (turn.Behind tenure sender) = false
 
 -- ---- one turn
--- Where rows are used again: it withdraws from a tenure that it came too late for, while it stands
--- in one. No turn of a tenure leads to such a sender, as turn_begun says. That no sender is one at
--- first is not said.
-pub record IsAstray {E : Type 0} (v : Sender E) : Type 0 where
-  pub late : IsSomeAnd v.reuse (λ r. IsInvalidated r)
-  pub stands : IsSome (tenure_of v.core.phase)
-
 -- it goes on in the tenure that it has begun, and holds the page where another sender's pin is in
--- the way; or the tenure has ended for it. One that is astray goes on in that where it stands.
+-- the way; or the tenure has ended for it
 pub record StaysIn {E : Type 0} (old : Sender E) (answer : Turn) (new : Sender E) : Type 0 where
-  pub same : (tenure_begun new ≡ tenure_begun old) ⊎ ((answer ≡ turn.Waiting) × IsAstray old)
+  pub same : tenure_begun new ≡ tenure_begun old
   pub begun : IsSome (tenure_begun new)
   pub goes : is_last answer ≡ false
   pub holds : is_behind answer ≡ true → is_holding new.core.phase ≡ true
@@ -141,14 +133,10 @@ StaysOrEnds old answer new = StaysIn old answer new ⊎ Ends answer new
 -- ---- what was done
 -- So many turns led from one sender to another, all of one tenure: before each that was the tenure
 -- which it had begun, and after each too. So none of them looked for a tenure. None was a last one,
--- and none answered Behind. A first sender that was astray withdrew first, and then this tenure was
--- that where it stood.
+-- and none answered Behind.
 pub data GoesThrough {E : Type 0} (P : Process (Sender E)) (T : Tellings (Sender E)) (tenure : ℕ)
     (first : SenderSeat (Sender E)) : ℕ → SenderSeat (Sender E) → Type 0 where
   Begun : tenure_begun first.core ≡ Some tenure → GoesThrough P T tenure first 0 first
-  Strayed : (word : ℕ) (new : SenderSeat (Sender E)) → IsAstray first.core
-      → Turned P T first word turn.Waiting new → tenure_begun new.core ≡ Some tenure
-      → GoesThrough P T tenure first 1 new
   Through : (count : ℕ) (old : SenderSeat (Sender E)) (word : ℕ) (answer : Turn)
       (new : SenderSeat (Sender E)) → GoesThrough P T tenure first count old
       → Turned P T old word answer new → is_last answer ≡ false → is_behind answer ≡ false
@@ -183,11 +171,20 @@ pub record Finishes {E : Type 0} (X : Election E) (P : Process (Sender E))
   pub finished : FinishesAs P tenure answer new
   pub few : count < turns_to_finish X first.core
 
--- ---- what these refuse, of a first sender that is not astray: turns of two tenures, and turns of
--- one that has begun none
-pub record FinishingRefuses {E : Type 0} (P : Process (Sender E)) (T : Tellings (Sender E))
-    (first new : SenderSeat (Sender E)) : Type 0 where
+-- ---- what these refuse
+pub record FinishingRefuses {E : Type 0} (X : Election E) (P : Process (Sender E))
+    (T : Tellings (Sender E)) (first new : SenderSeat (Sender E)) : Type 0 where
+  -- turns of two tenures, and turns of one that has begun none
   pub another : (t u tenure count : ℕ) → tenure_begun first.core ≡ Some t
       → tenure_begun new.core ≡ Some u → t ≢ u → ¬ GoesThrough P T tenure first count new
   pub none : (tenure count : ℕ) → tenure_begun first.core ≡ None
       → ¬ GoesThrough P T tenure first count new
+  -- an answer with which the tenure goes on, though no other sender is in the way; or the page is
+  -- kept then
+  pub unended : (answer : Turn) → is_behind answer ≡ false → ends_tenure answer ≡ false
+      → ¬ Finishes X P T first answer new
+  pub kept : (answer : Turn) → is_behind answer ≡ false → P.holds new.core ≡ true
+      → ¬ Finishes X P T first answer new
+  -- it is in another tenure at the end
+  pub elsewhere : (answer : Turn) (t u : ℕ) → tenure_begun first.core ≡ Some t
+      → tenure_begun new.core ≡ Some u → t ≢ u → ¬ Finishes X P T first answer new

@@ -129,7 +129,7 @@ module _ {S : Type 0} (X : Election (Elector S)) (P : Protocol S Bool Verdict) w
     leaves_not : LeavesTenure (participant_of c r) → ⊥
     leaves_not (AsLoser u owner pin lost resting) = not_unpinning u pin
     leaves_not (AsHolder u pin held) = not_unpinning u pin
-    leaves_not (AsLate u pin) = not_invalidated u pin
+    leaves_not (AsLate u pin rests) = not_invalidated u pin
 
     stands : StandsInRow (participant_of c r) → tenure_of c.phase ≡ Some t
     stands h = ap tenure_of h.elects ∙ ap (tenure_begun_by c) (sym h.pin ∙ pinned)

@@ -28,8 +28,7 @@ module _ {E : Type 0} (Belongs : ℕ → E → Type 0) where
       )
   runs_pinned c (Unpinning u) t e k i =
       absurd (let o : IsOutside (Electing t e) = subst IsOutside i k in cc)
-  runs_pinned c (Invalidated u) t e k i =
-      absurd (let o : IsOutside (Electing t e) = subst IsOutside i k in cc)
+  runs_pinned c (Invalidated u) t e k i = absurd (let bad = sym k ∙ i in cc)
 
 module _ {E : Type 0} (X : Election E) (W : Layout → ℕ) (B : Layout → ℕ → ℕ → E → Type 0) where
   -- what the elections keep

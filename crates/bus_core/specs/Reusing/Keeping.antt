@@ -45,7 +45,7 @@ PinKeeps Belongs c (Announcing t) = IsBound c t
 PinKeeps Belongs c (Validating t) = IsBound c t
 PinKeeps Belongs c (Pinned t) = IsPinned Belongs c t
 PinKeeps Belongs c (Unpinning t) = IsOutside c.phase
-PinKeeps Belongs c (Invalidated t) = IsOutside c.phase
+PinKeeps Belongs c (Invalidated t) = c.phase ≡ Resting
 
 -- the tenure whose page it has taken
 abbrev pub held_of : {E : Type 0} → Phase E → Option ℕ

@@ -8,7 +8,7 @@ ghost use Rattle.bus_core.specs.Seen.{tenure_begun};
 ghost use Rattle.bus_core.specs.Senders.{situation};
 ghost use Rattle.bus_core.specs.Table.{line_now};
 ghost use Rattle.bus_pageslot.specs.Finishing.{turns_to_finish, StaysOrEnds, Finishes, HasFinished};
-ghost use Rattle.bus_pageslot.specs.Finishing.{is_behind, is_sent, IsAstray};
+ghost use Rattle.bus_pageslot.specs.Finishing.{is_behind, is_sent};
 ghost use Rattle.bus_pageslot.specs.Seats.{table_of, actions_of};
 ghost use Rattle.bus_pageslot.specs.Sendings.{KeptAfter};
 ghost use Rattle.bus_pageslot.specs.Turns.{tells_by, Turned, DrawsOn};
@@ -92,7 +92,6 @@ impl<Q: Ratifier + Drop> Sender<Q> {
         ensures falls { let X = election_of Q.Ratifier in is_behind result ≡ false
             → turns_to_finish X self.new.core < turns_to_finish X self.old.core }
         ensures goes { StaysOrEnds self.old.core result self.new.core }
-        ensures straight { ¬ IsAstray self.new.core }
     {
         elections_are_bounded::<Q>();
         let _left = self.turns_left();

@@ -30,7 +30,7 @@ turn_begun-turn-requires-clause-begun g c =
     let P = process_with g.Q.Machine.kind_of g.Q.Machine.op g.Q.Machine.fed g.Q.Ratifier.protocol in
     let T = tells_with g.Q.Machine.kind_of g.Q.Machine.op g.Q.Machine.fed g.Q.Ratifier.protocol in
     let went = c.turns.invariant.0 in
-    ap is_some (through_begun P T went.0 c.args.self.now went.1 c.turns.self went.2.through)
+    ap is_some (through_begun P T went.0 c.args.self.now went.1 c.turns.self went.2)
 
 -- it goes on
 pub turns-preserved : goal.turns-preserved
@@ -44,9 +44,8 @@ turns-preserved g c =
     let on = goes_through g.Q.Machine.kind_of g.Q.Machine.op g.Q.Machine.fed g.Q.Ratifier.protocol
     went.0 c.args.self.now went.1 c.turns.self c.next_word-word.result
     c.turn_begun-turn.result c.turn_begun-turn.new.self went.2
-    c.turn_begun-turn.ensures.turned c.turn_begun-turn.ensures.goes
-    c.turn_begun-turn.ensures.straight goes.0 goes.1 in (
-      (on.0, went.1 + 1, on.1, omega arith),
+    c.turn_begun-turn.ensures.turned c.turn_begun-turn.ensures.goes goes.0 goes.1 in (
+      (went.0, went.1 + 1, on, omega arith),
       c.turn_begun-turn.ensures.table ∙ c.turns.invariant.1,
       turned_puts P T c.threads_may_go_by.ensures.process c.turns.self c.next_word-word.result
           c.turn_begun-turn.result c.turn_begun-turn.new.self c.turn_begun-turn.ensures.turned
@@ -74,12 +73,12 @@ returns-then-stops-clause-finishes g c =
       count = went.1;
       old = c.turns.self;
       word = c.next_word-word.result;
-      before = went.2.through;
+      before = went.2;
       turned = c.turn_begun-turn.ensures.turned;
       finished = finishes_as g.Q.Machine.kind_of g.Q.Machine.op g.Q.Machine.fed
           g.Q.Ratifier.protocol went.0 c.turns.self c.turn_begun-turn.result
           c.turn_begun-turn.new.self
-          (through_begun P T went.0 c.args.self.now went.1 c.turns.self went.2.through)
+          (through_begun P T went.0 c.args.self.now went.1 c.turns.self went.2)
           c.turn_begun-turn.ensures.goes (c.stops.ensures.over c.if-stops.true);
       few = omega arith;
     }
@@ -89,7 +88,7 @@ returns-then-stops-clause-keeps g c unsent =
     let went = c.turns.invariant.0 in
     finished_keeps g.Q.Machine.kind_of g.Q.Machine.op g.Q.Machine.fed g.Q.Ratifier.protocol
     went.0 c.args.self.now c.turns.self went.1 c.next_word-word.result c.turn_begun-turn.result
-    c.turn_begun-turn.new.self went.2.through c.turn_begun-turn.ensures.turned
+    c.turn_begun-turn.new.self went.2 c.turn_begun-turn.ensures.turned
     c.turn_begun-turn.ensures.goes unsent
 
 pub returns-then-stops-clause-puts : goal.returns-then-stops-clause-puts

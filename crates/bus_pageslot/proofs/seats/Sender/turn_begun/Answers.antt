@@ -63,20 +63,3 @@ returns-clause-goes g c =
     c.kind-due.ensures.cause)
     (subst (λ y. IfSome y (λ o. LiesAt v (situation X v) (register o))) c.due-step.ensures.step
     c.due-step.ensures.lies)).outcome
-
-pub returns-clause-straight : goal.returns-clause-straight
-unfolding tells_with
-returns-clause-straight g c =
-    let X =
-    election_with g.Q.Machine.kind_of g.Q.Machine.op g.Q.Machine.fed g.Q.Ratifier.protocol in
-    let v = c.args.self.now.core in
-    (turned_begun g.Q.Machine.kind_of g.Q.Machine.op g.Q.Machine.fed g.Q.Ratifier.protocol
-    (election_bound g.Q.Ratifier.protocol.steps) c.elections_are_bounded.ensures c.args.self.now
-    c.args.word c.turn.result c.turn.new.self
-    (record { rests = c.turn.ensures.rests; steps = c.turn.ensures.steps }) c.requires.begun
-    (λ e. subst (λ n. 1 ≤ n) c.turns_left-left.ensures.turns
-    (c.turns_left-left.ensures.running e))
-    (subst (λ k. IfSome k (HasCause g.Q.Ratifier.protocol v)) c.kind-due.ensures.kind
-    c.kind-due.ensures.cause)
-    (subst (λ y. IfSome y (λ o. LiesAt v (situation X v) (register o))) c.due-step.ensures.step
-    c.due-step.ensures.lies)).straight
