@@ -39,7 +39,8 @@ use Rattle.bus_world.proofs.CyclicProtocolHears.{placed}
 use Rattle.bus_world.proofs.LogLaws.{length-read}
 use Rattle.bus_world.proofs.Serving.{Serves}
 use Rattle.bus_world.proofs.RingWords.{found_straight}
-use Rattle.bus_world.proofs.CyclicProtocolLaws.{HasKept, protocol_promised}
+use Rattle.bus_world.proofs.CyclicProtocolKept.{HasKept}
+use Rattle.bus_world.proofs.CyclicProtocolLaws.{protocol_promised}
 use Rattle.bus_world.specs.World.{IsLayout}
 use Rattle.bus_world.specs.Proved.Sending.{Sending}
 use Rattle.bus_world.specs.Log.{words_read_from}
