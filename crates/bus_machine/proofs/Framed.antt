@@ -21,7 +21,7 @@ use Rattle.bus_world.specs.Headline.{puts, order_given, Promises}
 use Rattle.bus_world.specs.Waiting.{waiting_at}
 use Rattle.bus_presence.specs.Reclaimers.{Reclaiming}
 use Rattle.bus_presence.specs.Reclamation.{ReclamationSizes, row_of}
-use Rattle.bus_presence.proofs.ReclamationLaws.{keeps as reclamation_keeps}
+use Rattle.bus_presence.proofs.ReclaimerLaws.{keeps as reclamation_keeps}
 use Rattle.bus_presence.proofs.RowLaws.{alive_pinned}
 use Rattle.bus_presence.specs.Standing.{Stands}
 use Rattle.bus_register.specs.Protocol.{Protocol}

@@ -21,7 +21,7 @@ use Rattle.bus_presence.specs.Pins.{step_at}
 use Rattle.bus_presence.specs.Reclamation.{ReclamationSizes, Reclamation, Trails, presence_at}
 use Rattle.bus_presence.specs.Reclamation.{row_of, reclaimer_after, Parts, Takes, Reached, Then}
 use Rattle.bus_presence.specs.Reclamation.{Works}
-use Rattle.bus_presence.proofs.ReclamationLaws.{lt_tells}
+use Rattle.bus_presence.proofs.ReclamationKept.{lt_tells}
 use Rattle.bus_presence.proofs.RowLaws.{IsLive, alive_pinned}
 use Rattle.bus_tenure.specs.Core.{Core, Election, Layout, row_at}
 use Rattle.bus_tenure.specs.Situations.{Elects, TakesPage, situation_of, core_elected}

@@ -23,7 +23,8 @@ use Rattle.bus_presence.specs.Reclamation.{ReclamationSizes, Reclamation, Trails
 use Rattle.bus_presence.specs.Reclamation.{number_of_step, words_after, IsReady}
 use Rattle.bus_presence.specs.Reclamation.{Reclaims as Reclaimed, GivesBack as GaveBack, Stores}
 use Rattle.bus_presence.specs.Reclamation.{Reached, Then}
-use Rattle.bus_presence.proofs.ReclamationLaws.{safe, lt_tells}
+use Rattle.bus_presence.proofs.ReclamationKept.{lt_tells}
+use Rattle.bus_presence.proofs.ReclamationLaws.{safe}
 use Rattle.bus_tenure.specs.Core.{Core, Election, Layout, log_at, frame_len, has_room}
 use Rattle.bus_tenure.specs.Situations.{Situation, StoresWord, StoresLength, GivesBack}
 use Rattle.bus_tenure.specs.Situations.{situation_of, situation_at, op_at, core_at_rest}

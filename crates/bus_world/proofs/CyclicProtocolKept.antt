@@ -20,7 +20,8 @@ use Rattle.bus_presence.specs.declared.pins.Pin.TheVariants.{Announcing, Validat
 use Rattle.bus_presence.specs.Pins.{step_at}
 use Rattle.bus_presence.specs.Reclamation.{ReclamationSizes, Reclamation, Trails, presence_at}
 use Rattle.bus_presence.specs.Reclamation.{Reached}
-use Rattle.bus_presence.proofs.ReclamationLaws.{Keeps, keeps}
+use Rattle.bus_presence.proofs.ReclamationKept.{Keeps}
+use Rattle.bus_presence.proofs.ReclaimerLaws.{keeps}
 use Rattle.bus_tenure.specs.Core.{Core, Election, Layout}
 use Rattle.bus_tenure.specs.Situations.{Situation, LooksAtStage, situation_of, resting, op_at}
 use Rattle.bus_tenure.specs.Situations.{kind_at}

@@ -25,7 +25,8 @@ use Rattle.bus_presence.specs.Pins.{step_at}
 use Rattle.bus_presence.specs.Reclaimers.{Reclaiming, reclaim_op}
 use Rattle.bus_presence.specs.Reclamation.{ReclamationSizes, Reclamation, Trails, no_trails}
 use Rattle.bus_presence.specs.Reclamation.{presence_at, row_of, Reached, New}
-use Rattle.bus_presence.proofs.ReclamationLaws.{keeps, safe}
+use Rattle.bus_presence.proofs.ReclaimerLaws.{keeps}
+use Rattle.bus_presence.proofs.ReclamationLaws.{safe}
 use Rattle.bus_tenure.specs.Core.{Core, Election, Layout, row_at, log_at, frame_len, has_room}
 use Rattle.bus_tenure.specs.Situations.{Situation, IsClosed, IsIdle, IsSpent, LooksAtStage, Elects}
 use Rattle.bus_tenure.specs.Situations.{TakesPage, AwaitsPage, StoresWord, StoresLength, GivesBack}

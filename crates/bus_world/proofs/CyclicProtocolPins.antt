@@ -22,7 +22,7 @@ use Rattle.bus_presence.specs.Pins.{step_at, pin_fed}
 use Rattle.bus_presence.specs.Reclamation.{ReclamationSizes, Reclamation, Trails, presence_at}
 use Rattle.bus_presence.specs.Reclamation.{number_of_step, words_after, trails_with_entry, Begins}
 use Rattle.bus_presence.specs.Reclamation.{Pins as PinStep, Reached, Then}
-use Rattle.bus_presence.proofs.ReclamationLaws.{put_same}
+use Rattle.bus_presence.proofs.ReclamationKept.{put_same}
 use Rattle.bus_tenure.specs.Core.{Core, Election, Layout, row_at}
 use Rattle.bus_tenure.specs.Situations.{LooksAtStage, resting, waits, core_begun}
 use Rattle.bus_tenure.specs.declared.phases.Phase.TheVariants as phase
