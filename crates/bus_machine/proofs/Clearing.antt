@@ -2,7 +2,7 @@
 use Rattle.std.proofs.Common.{◌≡◌, ◌≢◌, ℕ, ◌+◌, ◌<◌, Bool, true, false, cond, Option, Some, None}
 use Rattle.std.proofs.Common.{nat_lt, refl, sym, ◌∙◌, ap, subst}
 use Rattle.bus_register.specs.declared.registers.Op.TheVariants.{Load, Store}
-use Rattle.bus_presence.proofs.ReclamationLaws.{rows_apart}
+use Rattle.bus_presence.proofs.ReclamationKept.{rows_apart}
 use Rattle.bus_presence.specs.Reclamation.{ReclamationSizes, Reclamation, Trails, row_of, tenure_of}
 use Rattle.bus_presence.specs.Reclaimers.{Reclaiming, reclaim_op}
 use Rattle.bus_presence.specs.Standing.{IsSafe, Stands}

@@ -54,7 +54,8 @@ use Rattle.bus_world.specs.Proved.CyclicProtocols.{words_stepped, word_found}
 use Rattle.bus_world.specs.Trails.{actions_with}
 use Rattle.bus_world.proofs.Serving.{Serves}
 use Rattle.bus_world.proofs.PlacedSteps.{same_register, placed_found, due_goes}
-use Rattle.bus_world.proofs.CyclicProtocolLaws.{HasKept, led_kept}
+use Rattle.bus_world.proofs.CyclicProtocolKept.{HasKept}
+use Rattle.bus_world.proofs.CyclicProtocolLaws.{led_kept}
 use Rattle.bus_world.proofs.CyclicProtocolWords.{put_is}
 use Rattle.bus_machine.proofs.AtHome.{held_stands, finds_page, holds_page}
 use Rattle.bus_machine.specs.Proved.Bridge.{core_in, protocol_of, IsLed}

@@ -21,7 +21,7 @@ use Rattle.bus_world.specs.Headline.{puts, order_given, Promises}
 use Rattle.bus_world.specs.Waiting.{waiting_at}
 use Rattle.bus_presence.specs.Reclaimers.{Reclaiming}
 use Rattle.bus_presence.specs.Reclamation.{ReclamationSizes, row_of}
-use Rattle.bus_presence.proofs.ReclamationLaws.{keeps as reclamation_keeps}
+use Rattle.bus_presence.proofs.ReclaimerLaws.{keeps as reclamation_keeps}
 use Rattle.bus_presence.proofs.RowLaws.{alive_pinned}
 use Rattle.bus_presence.specs.Standing.{Stands}
 use Rattle.bus_register.specs.Protocol.{Protocol}
@@ -39,7 +39,8 @@ use Rattle.bus_world.proofs.CyclicProtocolHears.{placed}
 use Rattle.bus_world.proofs.LogLaws.{length-read}
 use Rattle.bus_world.proofs.Serving.{Serves}
 use Rattle.bus_world.proofs.RingWords.{found_straight}
-use Rattle.bus_world.proofs.CyclicProtocolLaws.{HasKept, protocol_promised}
+use Rattle.bus_world.proofs.CyclicProtocolKept.{HasKept}
+use Rattle.bus_world.proofs.CyclicProtocolLaws.{protocol_promised}
 use Rattle.bus_world.specs.World.{IsLayout}
 use Rattle.bus_world.specs.Proved.Sending.{Sending}
 use Rattle.bus_world.specs.Log.{words_read_from}

@@ -17,7 +17,7 @@ use Rattle.bus_core.specs.Senders.{Withdraws, Scans, Clears, log_start, situatio
 use Rattle.bus_core.specs.Table.{Line, line, in_row, presence_of}
 use Rattle.bus_core.specs.declared.reuses.Reuse.{Reuse}
 use Rattle.bus_ownerbits.proofs.ElectionSteps.{row_within}
-use Rattle.bus_presence.proofs.ReclamationLaws.{no_row}
+use Rattle.bus_presence.proofs.ReclaimerLaws.{no_row}
 use Rattle.bus_presence.specs.Reclamation.{row_of, tenure_of}
 use Rattle.bus_presence.specs.Reclaimers.{Reclaiming}
 use Rattle.bus_register.specs.Protocol.{Protocol}

@@ -22,10 +22,12 @@ use Rattle.bus_presence.specs.Reclamation.{Moves, Begins, Pins, Parts, Takes, Re
 use Rattle.bus_presence.specs.Reclamation.{Stores, Reached}
 use Rattle.bus_presence.specs.Rows.{Locals, no_locals, with_local, Played, New, Moved, Starts}
 use Rattle.bus_presence.specs.Rows.{Steps, AreApart}
-use Rattle.bus_presence.proofs.ReclamationLaws.{HasStood, IsReclaimer, Keeps, keeps_new}
-use Rattle.bus_presence.proofs.ReclamationLaws.{moves_keep, keeps_worked, stander, one_of_row}
-use Rattle.bus_presence.proofs.ReclamationLaws.{rows_apart, visitor, no_stage, no_row, put_same}
-use Rattle.bus_presence.proofs.ReclamationLaws.{none_is_not, reclaim_does, Scans, keeps, safe}
+use Rattle.bus_presence.proofs.PinTrails.{HasStood, none_is_not}
+use Rattle.bus_presence.proofs.ReclamationKept.{IsReclaimer, Keeps, keeps_new, keeps_worked}
+use Rattle.bus_presence.proofs.ReclamationKept.{stander, one_of_row, rows_apart, visitor, put_same}
+use Rattle.bus_presence.proofs.ReclaimerLaws.{moves_keep, no_stage, no_row, reclaim_does, Scans}
+use Rattle.bus_presence.proofs.ReclaimerLaws.{keeps}
+use Rattle.bus_presence.proofs.ReclamationLaws.{safe}
 
 -- a step of a pin is on the sender's presence, or it loads
 pub pin_place : (x : ReclamationSizes) (v : Pin) (p : ℕ) (o : Op)

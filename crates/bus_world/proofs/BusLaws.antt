@@ -1,41 +1,31 @@
 -- Each turn of a sender keeps what senders, words, page and owners keep.
-use Rattle.std.proofs.Common.{◌≡◌, ◌≢◌, ℕ, suc, ◌+◌, ◌*◌, ◌<◌, ◌≤◌, Bool, true, false, Option}
-use Rattle.std.proofs.Common.{Some, None, ◌⊎◌, inl, inr, List, [], ◌∷◌, ◌++◌, length, take, cond}
-use Rattle.std.proofs.Common.{◌||◌, is_some, slice_get, slice_index, slice_set, arith, refl, sym}
-use Rattle.std.proofs.Common.{◌∙◌, ap, subst}
+use Rattle.std.proofs.Common.{◌≡◌, ◌≢◌, ℕ, suc, ◌+◌, ◌*◌, ◌<◌, ◌≤◌, Bool, true, false, Option, Some}
+use Rattle.std.proofs.Common.{None, ◌⊎◌, inl, inr, List, [], ◌∷◌, ◌++◌, length, take, ◌||◌, is_some}
+use Rattle.std.proofs.Common.{slice_get, slice_index, slice_set, arith, refl, sym, ◌∙◌, ap, subst}
 use Rattle.std.proofs.lemmas.Bool.{cases_eq, true≢false}
 use Rattle.std.proofs.lemmas.List.{take_more, get_or-set_same, get_or-set_other}
 use Rattle.std.proofs.Math.ListN.{length-set}
 use Rattle.std.proofs.Math.Seq.{take-length}
-use Rattle.std.specs.Prelude.{All}
-use Rattle.std.proofs.lemmas.List.Elements.{All-from_recursion}
-use Rattle.bus_batch.specs.Messages.{IsMessage}
-use Rattle.std.proofs.lemmas.Option.{same_Some, slice_get_within}
+use Rattle.std.proofs.lemmas.Option.{same_Some}
 use Rattle.bus_register.specs.declared.limits.TheConstants.{MOST_SENDERS}
 use Rattle.bus_register.specs.declared.registers.Op.{Op}
 use Rattle.bus_register.specs.declared.registers.SenderNo.{SenderNo}
 use Rattle.bus_register.specs.Words.{register, after}
-use Rattle.bus_register.specs.Tables.{of_some, Beside, Agree, Stepped}
+use Rattle.bus_register.specs.Tables.{of_some, Beside, Agree, Stepped, put}
 use Rattle.bus_register.specs.Protocol.{Protocol, Laws}
-use Rattle.bus_batch.specs.Batches.{Pending, IsKept, next_of, frame_of, phase_sent}
-use Rattle.bus_batch.specs.declared.batches.Phase.{Phase as BatchPhase}
-use Rattle.bus_batch.specs.declared.batches.Phase.TheVariants.{Open, Marking, Closed}
-use Rattle.bus_batch.specs.Frames.{Frame, frame_words, IsFrame, items_of, has_end, leaves}
-use Rattle.bus_batch.specs.Frames.{order_of, has_gone}
+use Rattle.bus_batch.specs.Batches.{IsKept, next_of, frame_of}
+use Rattle.bus_batch.specs.Frames.{Frame, frame_words, IsFrame, items_of, has_end, leaves, order_of}
+use Rattle.bus_batch.specs.Frames.{has_gone}
 use Rattle.bus_tenure.specs.Core.{Core, Election, Layout, is_leaving, log_at, frame_len, page_after}
 use Rattle.bus_tenure.specs.Situations.{core_at_rest, queue_after}
 use Rattle.bus_tenure.specs.declared.phases.Reason.{Reason}
-use Rattle.bus_tenure.specs.declared.phases.Reason.TheVariants.{Sent, FoundEnd, NoRoom}
+use Rattle.bus_tenure.specs.declared.phases.Reason.TheVariants.{Sent}
 use Rattle.bus_tenure.specs.declared.pages.Page.{Page}
-use Rattle.bus_tenure.specs.declared.phases.Phase.{Phase}
 use Rattle.bus_tenure.specs.declared.phases.Phase.TheVariants as phase
 use Rattle.bus_world.specs.Log.{words_read_from, next_number, AreCounted, Knows}
 use Rattle.bus_world.specs.Proved.Sending.{AreEarlier, Logged, stands_at, standing_of, least_of}
-use Rattle.bus_world.specs.Proved.Sending.{GoesOn, IsWriting, HasBegun, Fits, Part, AreOwned}
-use Rattle.bus_world.specs.Proved.Sending.{Sending}
-use Rattle.bus_register.specs.Tables.{put}
-use Rattle.bus_register.specs.Proved.TableLaws.{put_here, put_beside, some_or_none, push_beside}
-use Rattle.bus_register.specs.Proved.TableLaws.{get_set_same, get_set_other}
+use Rattle.bus_world.specs.Proved.Sending.{GoesOn, IsWriting, HasBegun, Fits, Part, Sending}
+use Rattle.bus_register.specs.Proved.TableLaws.{put_here, put_beside, some_or_none}
 use Rattle.bus_world.proofs.LogLaws.{read-agree, Logged-agree, Logged-publish, next-append_other}
 use Rattle.bus_world.proofs.LogLaws.{next-append_owner, gone-append_owner, gone-append_other}
 use Rattle.bus_world.proofs.LogLaws.{SaySame, say_same, has_end-append, AreEarlier-append}
@@ -49,145 +39,15 @@ use Rattle.bus_world.specs.Proved.Tenures.Standing.{Runs, Holds}
 use Rattle.bus_world.proofs.TenuresLaws as tenures
 use Rattle.bus_world.specs.World.{IsLayout}
 use mathlib.Core.Path.{fun_ext}
+use Rattle.bus_world.proofs.SenderParts.{still_here, Knows-len, Part-agree, Part-rests, part_of}
+use Rattle.bus_world.proofs.SenderParts.{IsUnsent, left_shut, noted_own, noted_other, not_busy}
+use Rattle.bus_world.proofs.SenderParts.{sender_after, none_short, unsent_goes_on, unsent_queue}
+use Rattle.bus_world.proofs.SenderParts.{unsent_knows, AreOwned-push, AreOwned-append}
 
 -- one step on the words: the step's own word has changed and no other
 pub record Changes (o : Op) (words words' : ℕ → ℕ) : Type 0 where
   pub here : words' (register o) ≡ after o (words (register o))
   pub elsewhere : (r : ℕ) → r ≢ register o → words' r ≡ words r
-
--- ---- who has left
--- a sender that is not closed has not left
-pub still_here : (base : ℕ → ℕ) {E : Type 0} (frames : List Frame) (c : Core E)
-    → GoesOn base frames c → (c.queue.phase ≡ Closed → ⊥) → has_gone c.me (order_of frames) ≡ false
-still_here base frames c g is_open = by_gone (has_gone c.me (order_of frames)) refl
-  where
-    by_gone : (b : Bool) → has_gone c.me (order_of frames) ≡ b → b ≡ false
-    by_gone true e = absurd (is_open (g.1 e).0)
-    by_gone false e = refl
-
--- whose leave mark is sent is closed
-left_shut : (ph : BatchPhase) → is_leaving ph ≡ true → phase_sent ph ≡ Closed
-left_shut Open e = absurd (true≢false (sym e))
-left_shut (Marking m) e = refl
-left_shut Closed e = refl
-
--- a page that notes that a sender has left, if it has
-noted_own : (left : List Bool) (me : ℕ) (b : Bool) → slice_get left me ≡ Some false
-    → slice_get (cond b (slice_set left me true) left) me ≡ Some b
-noted_own left me true e = get_set_same left me true (slice_get_within left me false e)
-noted_own left me false e = e
-
-noted_other : (left : List Bool) (me : ℕ) (b : Bool) (s : ℕ) → s ≢ me
-    → slice_get (cond b (slice_set left me true) left) s ≡ slice_get left s
-noted_other left me true s ne = get_set_other left me true s ne
-noted_other left me false s ne = refl
-
--- the other words are the same
-pub Knows-len : {base : ℕ → ℕ} (page : Page) (frames : List Frame) (past len len' : ℕ) → len' ≡ len
-    → Knows base page frames past len → Knows base page frames past len'
-Knows-len {base} page frames past len len' e k =
-    subst (λ z. Knows base page frames past z) (sym e) k
-
-module _ (base : ℕ → ℕ) {E : Type 0} (x : Layout) (words words' : ℕ → ℕ) (frames : List Frame)
-    (c : Core E) (layout : c.layout ≡ x)
-    (agree : Agree (log_at x) x.capacity words words') (len : words' 0 ≡ words 0) where
-  writing_stays : (t : ℕ) (page : Page) (stored : ℕ) → IsWriting base words frames c t page stored
-      → IsWriting base words' frames c t page stored
-  writing_stays t page stored w = record {
-    goes_on = w.goes_on;
-    page_knows = Knows-len page frames t (words 0) (words' 0) len w.page_knows;
-    earlier = w.earlier;
-    stored_below = w.stored_below;
-    allowed = w.allowed;
-    words_are =
-        ap (λ z. words_read_from words' (log_at c.layout + z) stored) len
-        ∙ read-agree words words' (log_at c.layout + words 0) stored
-        (λ r a b. agree r (let z = ap log_at layout in omega arith) (bound r a b)) ∙ w.words_are;
-  } where
-    bound : (r : ℕ) → log_at c.layout + words 0 ≤ r → r < log_at c.layout + words 0 + stored
-        → r < log_at x + x.capacity
-    bound r a b =
-        let l = ap log_at layout in let cap = ap (λ (z : Layout). z.capacity) layout in
-        let positive : 0 < stored = omega arith in
-        let room = (w.allowed positive).1 in
-        let knows = w.page_knows.words in let below = w.stored_below in
-        omega arith
-
-  Fits-agree : (ph : Phase E) → Fits base words frames c ph → Fits base words' frames c ph
-  Fits-agree phase.Resting f = f
-  Fits-agree (phase.Electing t e) f = f
-  Fits-agree (phase.Taken t) f = f
-  Fits-agree (phase.Holding t page stored false) f = (f.0, writing_stays t page stored f.1)
-  Fits-agree (phase.Holding t page stored true) f = (
-    f.0,
-    let h = f.1 in
-        record {
-          front = h.front;
-          frames_are = h.frames_are;
-          goes_on = h.goes_on;
-          page_knows = h.page_knows;
-          earlier = h.earlier;
-          is_open = h.is_open;
-          len_is = len ∙ h.len_is;
-        },
-  )
-  Fits-agree (phase.Giving t reason) f = f
-
-pub Part-agree : {base : ℕ → ℕ} {E : Type 0} (x : Layout) (words words' : ℕ → ℕ)
-    (frames : List Frame) (p : ℕ) (c : Core E) → Agree (log_at x) x.capacity words words'
-    → words' 0 ≡ words 0 → Part base x words frames p c → Part base x words' frames p c
-Part-agree {base} x words words' frames p c agree len h = record {
-  layout = h.layout;
-  me = h.me;
-  below = h.below;
-  sender = h.sender;
-  queue = h.queue;
-  fits = Fits-agree base x words words' frames c h.layout agree len c.phase h.fits;
-}
-
--- a sender that holds no page only counts its own items, and knows whether it has left
-goes_on_same : (base : ℕ → ℕ) {E : Type 0} (frames frames' : List Frame) (c : Core E)
-    → SaySame base c.me frames frames' → GoesOn base frames c → GoesOn base frames' c
-goes_on_same base frames frames' c e g = (g.0 ∙ sym e.0, λ gone. g.1 (sym e.1 ∙ gone))
-
-Fits-rests : (base : ℕ → ℕ) {E : Type 0} (words words' : ℕ → ℕ) (frames frames' : List Frame)
-    (c : Core E) (ph : Phase E) → ((t : ℕ) → stands_at ph ≡ Holds t → ⊥)
-    → SaySame base c.me frames frames' → Fits base words frames c ph → Fits base words' frames' c ph
-Fits-rests base words words' frames frames' c phase.Resting free e f =
-    (f.0, goes_on_same base frames frames' c e f.1)
-Fits-rests base words words' frames frames' c (phase.Electing t u) free e f =
-    (f.0, goes_on_same base frames frames' c e f.1)
-Fits-rests base words words' frames frames' c (phase.Taken t) free e f = absurd (free t refl)
-Fits-rests base words words' frames frames' c (phase.Holding t page stored published) free e f =
-    absurd (free t refl)
-Fits-rests base words words' frames frames' c (phase.Giving t reason) free e f =
-    absurd (free t refl)
-
-pub Part-rests : {base : ℕ → ℕ} {E : Type 0} (x : Layout) (words words' : ℕ → ℕ)
-    (frames frames' : List Frame) (p : ℕ) (c : Core E) → ((t : ℕ) → stands_at c.phase ≡ Holds t → ⊥)
-    → SaySame base p frames frames' → Part base x words frames p c → Part base x words' frames' p c
-Part-rests {base} x words words' frames frames' p c free e h = record {
-  layout = h.layout;
-  me = h.me;
-  below = h.below;
-  sender = h.sender;
-  queue = h.queue;
-  fits = Fits-rests base words words' frames frames' c c.phase free
-      (subst (λ z. SaySame base z frames frames') (sym h.me) e) h.fits;
-}
-
-pub part_of : {base : ℕ → ℕ} {E : Type 0} (x : Layout) (words words' : ℕ → ℕ)
-    (frames frames' : List Frame) (p : ℕ) (c : Core E) (ph : Phase E) → Part base x words frames p c
-    → Fits base words' frames' (record c { phase = ph }) ph
-    → Part base x words' frames' p (record c { phase = ph })
-part_of x words words' frames frames' p c ph h f = record {
-  layout = h.layout;
-  me = h.me;
-  below = h.below;
-  sender = h.sender;
-  queue = h.queue;
-  fits = f;
-}
 
 -- a sender that is as before, beside others that are
 pub same_senders : {E : Type 0} (p : ℕ) (c : Core E) (senders senders' : ℕ → Option (Core E))
@@ -207,85 +67,6 @@ holding_apart u page k published t e h = cc
 pub same_electing : {E : Type 0} (t u : ℕ) (e f : E) → phase.Electing t e ≡ phase.Electing u f
     → (t ≡ u) × (e ≡ f)
 same_electing t u e f h = (cc, cc)
-
-not_busy : (reason : Reason) (q : Pending) → (queue_after reason q).busy ≡ false
-not_busy Sent q = refl
-not_busy FoundEnd q = refl
-not_busy NoRoom q = refl
-
-sender_after : (reason : Reason) (q : Pending) → (queue_after reason q).sender ≡ q.sender
-sender_after Sent q = refl
-sender_after FoundEnd q = refl
-sender_after NoRoom q = refl
-
-none_short : All IsMessage []
-none_short = All-from_recursion IsMessage [] tt
-
--- the frame was not published
-abbrev pub IsUnsent : Reason → Type 0
-IsUnsent Sent = ⊥
-IsUnsent FoundEnd = Unit {0}
-IsUnsent NoRoom = Unit {0}
-
-unsent_goes_on : (base : ℕ → ℕ) {E : Type 0} (frames : List Frame) (reason : Reason)
-    → IsUnsent reason → (c : Core E) (t : ℕ) → GoesOn base frames c
-    → GoesOn base frames (core_at_rest c reason t)
-unsent_goes_on base frames Sent u c t g = absurd u
-unsent_goes_on base frames FoundEnd u c t g = (g.0, λ gone. (refl, (g.1 gone).1))
-unsent_goes_on base frames NoRoom u c t g = g
-
-unsent_queue : (reason : Reason) → IsUnsent reason → (q : Pending) → IsKept q
-    → IsKept (queue_after reason q)
-unsent_queue Sent u q is = absurd u
-unsent_queue FoundEnd u q is = record {
-  few = is.few;
-  each = is.each;
-  numbers = is.numbers;
-  alone = λ m e. absurd cc;
-  owner_bits = is.owner_bits;
-}
-unsent_queue NoRoom u q is = record {
-  few = is.few;
-  each = is.each;
-  numbers = is.numbers;
-  alone = is.alone;
-  owner_bits = is.owner_bits;
-}
-
-unsent_knows : {base : ℕ → ℕ} {E : Type 0} (reason : Reason) → IsUnsent reason
-    → (c : Core E) (t : ℕ) (page : Page) (frames : List Frame) (len : ℕ)
-    → Knows base page frames t len → Knows base (page_after c t page reason) frames (t + 1) len
-unsent_knows Sent u c t page frames len k = absurd u
-unsent_knows FoundEnd u c t page frames len k = record {
-  entries = k.entries;
-  next = k.next;
-  left = k.left;
-  ended = k.ended;
-  tenures = refl;
-  words = k.words;
-}
-unsent_knows NoRoom u c t page frames len k = record {
-  entries = k.entries;
-  next = k.next;
-  left = k.left;
-  ended = k.ended;
-  tenures = refl;
-  words = k.words;
-}
-
-AreOwned-push : (owners : List ℕ) (o : ℕ) (frames : List Frame) → AreOwned owners frames
-    → AreOwned (owners ++ o ∷ []) frames
-AreOwned-push owners o [] a = tt
-AreOwned-push owners o (f ∷ frames) a = (
-  push_beside owners o f.tenure
-      (let l = slice_get_within owners f.tenure f.owner.0 a.0 in omega arith) ∙ a.0,
-  AreOwned-push owners o frames a.1,
-)
-
-AreOwned-append : (owners : List ℕ) (frames : List Frame) (f : Frame) → AreOwned owners frames
-    → slice_get owners f.tenure ≡ Some f.owner.0 → AreOwned owners (frames ++ f ∷ [])
-AreOwned-append owners [] f a e = (e, tt)
-AreOwned-append owners (g ∷ frames) f a e = (a.0, AreOwned-append owners frames f a.1 e)
 
 module _ {E : Type 0} (X : Election E) (P : Protocol E (Unit {0}) ℕ)
     (laws : Laws X.op X.fed P OneOwner) (x : Layout) (ok : IsLayout x)

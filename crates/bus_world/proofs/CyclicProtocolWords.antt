@@ -16,8 +16,8 @@ use Rattle.bus_presence.specs.Reclaimers.{Reclaiming, reclaim_op, reclaim_fed}
 use Rattle.bus_presence.specs.Reclamation.{ReclamationSizes, Reclamation, Trails, presence_at}
 use Rattle.bus_presence.specs.Reclamation.{row_of, tenure_of, number_of_step, words_after}
 use Rattle.bus_presence.specs.Reclamation.{reclaimer_after}
-use Rattle.bus_presence.proofs.ReclamationLaws.{IsReclaimer, Keeps, one_of_row, rows_apart}
-use Rattle.bus_presence.proofs.ReclamationLaws.{reclaim_does, Scans}
+use Rattle.bus_presence.proofs.ReclamationKept.{IsReclaimer, Keeps, one_of_row, rows_apart}
+use Rattle.bus_presence.proofs.ReclaimerLaws.{reclaim_does, Scans}
 use Rattle.bus_presence.proofs.RowLaws.{IsLive, live_apart, alive_same, pin_place, load_same}
 use Rattle.bus_tenure.specs.Core.{Layout, row_at, log_at}
 use Rattle.bus_core.specs.Reusing.Participants.{sizes_with, log_from}

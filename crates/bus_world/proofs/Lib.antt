@@ -4,6 +4,7 @@ pub mod TenuresLaws
 pub mod LogLaws
 pub mod Bounds
 pub mod FrameOfBatch
+pub mod SenderParts
 pub mod BusLaws
 pub mod TurningLaws
 pub mod ReceivingLaws
@@ -31,5 +32,9 @@ pub mod RingWords
 pub mod Standing
 pub mod CyclicProtocolNotes
 pub mod CyclicProtocolHears
+pub mod CyclicProtocolKept
+pub mod CyclicProtocolPins
+pub mod CyclicProtocolElections
+pub mod CyclicProtocolHolders
 pub mod CyclicProtocolLaws
 pub mod PlacedSteps

@@ -40,6 +40,7 @@ use Rattle.bus_world.specs.World.{IsLayout}
 use Rattle.bus_world.specs.Proved.Sending.{least_of, standing_of, Part, Fits, GoesOn, HasBegun}
 use Rattle.bus_world.specs.Proved.Sending.{Sending, stands_at}
 use Rattle.bus_world.proofs.BusLaws as bus
+use Rattle.bus_world.proofs.SenderParts.{IsUnsent}
 use Rattle.bus_world.specs.Proved.Machines.{Side, home_after, core_after, owners_after, side_after}
 use Rattle.bus_world.specs.Proved.Machines.{Bus}
 use Rattle.bus_world.specs.Turning.{words_after, number_found, core_with_page}
@@ -435,7 +436,7 @@ module _ {base : ℕ → ℕ} {E : Type 0} (X : Election E) (P : Protocol E (Uni
           → Kept (GivesBack t page reason)
       gives reason kept = (only (Store record { 0 = 1 } (2 * t + 2)) (omega arith), kept)
 
-      unsent_kept : (reason : Reason) → bus.IsUnsent reason → published ≡ false
+      unsent_kept : (reason : Reason) → IsUnsent reason → published ≡ false
           → Kept (GivesBack t page reason)
       unsent_kept reason unsent none_yet = gives reason (λ step new.
           bus.gives_unsent X P laws x ok width words home senders owners frames h p c
