@@ -5,6 +5,7 @@ pub mod Bytes
 pub mod Taking
 pub mod Feeding
 pub mod Batching
+pub mod Spelling
 pub mod FrameLaws
 pub mod RefusalLaws
 pub mod BatchLaws

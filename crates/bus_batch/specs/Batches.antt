@@ -1,6 +1,7 @@
 -- What a sender's batch holds, and the frame that it makes.
-use Rattle.std.specs.Prelude.{◌≡◌, ℕ, ◌+◌, ◌<◌, ◌≤◌, ◌^◌, ◌⊎◌, List, [], length, All, Bool, true}
-use Rattle.std.specs.Prelude.{false}
+use Rattle.std.specs.Prelude.{◌≡◌, ℕ, zero, suc, ◌+◌, ◌-◌, ◌/◌, ◌<◌, ◌≤◌, ◌^◌, ◌⊎◌, List, []}
+use Rattle.std.specs.Prelude.{◌∷◌, length, take, drop, flat_map, All, Bool, true, false}
+use Rattle.std.specs.Int.{w64, to_be_bytes}
 use Rattle.bus_register.specs.declared.limits.TheConstants.{MOST_BYTES, MOST_MESSAGES, NUMBERS}
 use Rattle.bus_register.specs.declared.registers.SenderNo.{SenderNo}
 use Rattle.bus_batch.specs.declared.batches.Phase.{Phase}
@@ -11,7 +12,7 @@ use Rattle.bus_batch.specs.declared.batches.PutFault.TheVariants as put
 use Rattle.bus_batch.specs.declared.batches.CloseFault.{CloseFault}
 use Rattle.bus_batch.specs.declared.batches.CloseFault.TheVariants as close
 use Rattle.bus_batch.specs.Messages.{IsMessage, numbered_messages}
-use Rattle.bus_batch.specs.Frames.{Frame, Body, Messages, Marked}
+use Rattle.bus_batch.specs.Frames.{Frame, Body, Messages, Marked, data_len}
 
 -- a sender's batch: its messages, numbered from first on, whether it accepts more, and whether they
 -- are on their way
@@ -21,6 +22,18 @@ pub record Pending : Type 0 where
   pub messages : List (List ℕ)
   pub phase : Phase
   pub busy : Bool
+
+-- the length that a message word tells
+abbrev pub len_told : ℕ → ℕ
+len_told word = (word - 2 ^ 63) / 2 ^ 54
+
+-- the first so many messages that words spell, each by a message word and its bytes behind it
+abbrev pub spelled : ℕ → List ℕ → List (List ℕ)
+spelled zero words = []
+spelled (suc n) [] = []
+spelled (suc n) (word ∷ words) =
+    take (len_told word) (flat_map (to_be_bytes w64) words)
+    ∷ spelled n (drop (data_len (len_told word)) words)
 
 -- the number that the next message gets
 abbrev pub next_of : Pending → ℕ

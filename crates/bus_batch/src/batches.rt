@@ -5,16 +5,19 @@ ghost use Rattle.std.specs.Prelude.{◌≤◌, ◌^◌, List, [], ◌∷◌, ◌
 ghost use Rattle.std.specs.Prelude.{drop, IfOk, IfErr, OnOk, OnErr, IsTrue, ◌↔◌, false, true};
 ghost use Rattle.std.specs.Prelude.{Some, slice_get};
 ghost use Rattle.bus_batch.specs.Messages.{Numbered, IsMessage};
-ghost use Rattle.bus_batch.specs.Frames.{data_word, message_words, data_len, frame_words, IsFrame};
+ghost use Rattle.bus_batch.specs.Frames.{data_word, message_words, frame_words, IsFrame};
 ghost use Rattle.bus_batch.specs.Frames.{body_words};
-ghost use Rattle.std.specs.Prelude.{flat_map};
+ghost use Rattle.std.specs.Prelude.{flat_map, take};
+ghost use Rattle.std.specs.Int.{w64, to_be_bytes};
 ghost use Rattle.bus_batch.specs.Messages.{numbered_messages};
 
 use crate::messages::{Mark, Message};
 use crate::words::{COUNT, END, HIGH, LEAVE, TAG};
 use arrayvec::ArrayVec;
 use bus_register::SenderNo;
-use bus_register::limits::{MOST_BODY_WORDS, MOST_MESSAGE_WORDS, MOST_MESSAGES, NUMBERS, TENURES};
+use bus_register::limits::{
+    MOST_BODY_WORDS, MOST_BYTES, MOST_MESSAGE_WORDS, MOST_MESSAGES, NUMBERS, TENURES,
+};
 use std::marker::Model;
 
 /// The most words of a frame after its head.
@@ -59,11 +62,12 @@ pub enum Phase {
 pub struct Batch {
     sender: SenderNo,
     first: u64,
-    messages: ArrayVec<Message, MOST_MESSAGES>,
+    /// How many messages wait.
+    count: u64,
     phase: Phase,
     busy: bool,
     /// The words of the messages, spelled once when each is put: a turn of their sender only
-    /// copies one.
+    /// copies one. The messages are kept in no other form.
     body: ArrayVec<u64, BODY_WORDS>,
 }
 
@@ -72,14 +76,14 @@ impl Model for Batch {
     ghost use Rattle.bus_batch.specs.Messages.{numbered_messages};
     ghost use Rattle.bus_batch.specs.Frames.{message_words};
     ghost use Rattle.bus_register.specs.declared.limits.TheConstants.{MOST_MESSAGE_WORDS};
-    ghost use Rattle.bus_batch.specs.Batches.{Pending, IsKept};
+    ghost use Rattle.bus_batch.specs.Batches.{Pending, IsKept, spelled};
 
     ghost Value = { Pending };
 
     ghost view = { λ b. record {
       sender = b.sender;
       first = b.first;
-      messages = b.messages.items;
+      messages = spelled b.count b.body.items;
       phase = b.phase;
       busy = b.busy;
     } };
@@ -87,12 +91,14 @@ impl Model for Batch {
     ghost invariant = { λ b. IsKept (record {
       sender = b.sender;
       first = b.first;
-      messages = b.messages.items;
+      messages = spelled b.count b.body.items;
       phase = b.phase;
       busy = b.busy;
     })
-        × (b.body.items ≡ flat_map message_words (numbered_messages b.first b.messages.items))
-        × (length b.body.items ≤ MOST_MESSAGE_WORDS * length b.messages.items) };
+        × (b.body.items
+        ≡ flat_map message_words (numbered_messages b.first (spelled b.count b.body.items)))
+        × (length (spelled b.count b.body.items) ≡ b.count)
+        × (length b.body.items ≤ MOST_MESSAGE_WORDS * b.count) };
 }
 
 impl Batch {
@@ -116,7 +122,7 @@ impl Batch {
         Batch {
             sender,
             first: next,
-            messages: ArrayVec::new(),
+            count: 0,
             phase: Phase::Open,
             busy: false,
             body: ArrayVec::new(),
@@ -128,21 +134,28 @@ impl Batch {
         ensures len { result ≡ length self.now.messages }
         ensures few { result ≤ MOST_MESSAGES }
     {
-        self.messages.len() as u64
+        self.count
     }
 
     /// No message waits.
     pub fn is_empty(&self) -> bool
         ensures { IsTrue result ↔ (self.now.messages ≡ []) }
     {
-        self.messages.is_empty()
+        self.count == 0
     }
 
-    /// The messages that wait.
-    pub fn waiting(&self) -> &[Message]
-        ensures { result.now ≡ self.now.messages }
+    /// The messages that wait, in their order, spelled back from their words.
+    pub fn waiting(&self) -> ArrayVec<Message, MOST_MESSAGES>
+        ensures { result.items ≡ self.now.messages }
     {
-        self.messages.as_slice()
+        let mut messages = ArrayVec::new();
+        let mut words = self.body.as_slice();
+        for i in 0..self.count {
+            let len = ((words[0] - 2 * TAG) / HIGH) as usize;
+            messages.push(message_of(&words[1..], len));
+            words = &words[1 + (len + 7) / 8..];
+        }
+        messages
     }
 
     /// An end mark waits.
@@ -184,7 +197,7 @@ impl Batch {
     pub fn next_number(&self) -> u64
         ensures { result ≡ next_of self.now }
     {
-        self.first + self.messages.len() as u64
+        self.first + self.count
     }
 
     /// Appends a message and gives its number.
@@ -203,15 +216,15 @@ impl Batch {
         if self.busy {
             return Err(PutFault::Busy);
         }
-        let Some(message) = Message::of_bytes(bytes) else {
+        if bytes.len() > MOST_BYTES {
             return Err(PutFault::TooLong);
-        };
-        if self.messages.is_full() {
+        }
+        if self.count == MOST_MESSAGES as u64 {
             return Err(PutFault::BatchFull);
         }
-        let number = self.first + self.messages.len() as u64;
-        spell(&mut self.body, &message, number);
-        self.messages.push(message);
+        let number = self.first + self.count;
+        spell(&mut self.body, bytes, number);
+        self.count += 1;
         Ok(number)
     }
 
@@ -251,7 +264,7 @@ impl Batch {
         if self.busy {
             return Err(CloseFault::Busy);
         }
-        if !self.messages.is_empty() {
+        if self.count > 0 {
             return Err(CloseFault::Pending);
         }
         self.phase = Phase::Marking(mark);
@@ -287,8 +300,8 @@ impl Batch {
           busy = false;
         } }
     {
-        self.first += self.messages.len() as u64;
-        self.messages.clear();
+        self.first += self.count;
+        self.count = 0;
         self.body.clear();
         if let Phase::Marking(_) = self.phase {
             self.phase = Phase::Closed;
@@ -362,34 +375,47 @@ impl Batch {
 }
 
 /// Appends the words of a message with this number: its own, and those of its bytes.
-fn spell(body: &mut ArrayVec<u64, BODY_WORDS>, message: &Message, number: u64)
+#[inline(always)]
+fn spell(body: &mut ArrayVec<u64, BODY_WORDS>, bytes: &[u8], number: u64)
     requires number { number < NUMBERS }
+    requires short { length bytes.now ≤ MOST_BYTES }
     requires room { length body.old.items + MOST_MESSAGE_WORDS ≤ MOST_BODY_WORDS }
     ensures { body.new.items ≡ body.old.items ++ message_words (record {
       number = number;
-      message = message.now;
+      message = bytes.now;
     }) }
 {
-    body.push(2 * TAG + message.len() as u64 * HIGH + number);
-    for i in 0..(message.len() + 7) / 8 {
-        body.push(data_word_of(message.as_slice(), 8 * i));
+    body.push(2 * TAG + bytes.len() as u64 * HIGH + number);
+    let whole = bytes.len() / 8;
+    for i in 0..whole {
+        body.push(data_word_of(&bytes[8 * i..8 * i + 8]));
+    }
+    if 8 * whole < bytes.len() {
+        body.push(data_word_of(&bytes[8 * whole..]));
     }
 }
 
-/// The word of the bytes from `start` on.
-fn data_word_of(bytes: &[u8], start: usize) -> u64
-    requires { start ≤ length bytes.now }
-    ensures { result ≡ data_word (drop start bytes.now) }
+/// The word of at most eight bytes, with zero bytes where there are fewer.
+#[inline(always)]
+fn data_word_of(bytes: &[u8]) -> u64
+    requires { length bytes.now ≤ 8 }
+    ensures { result ≡ data_word bytes.now }
 {
     let mut word = [0u8; 8];
-    if bytes.len() - start >= 8 {
-        word.copy_from_slice(&bytes[start..start + 8]);
-        return u64::from_be_bytes(word);
-    }
-    for i in 0..8 {
-        if i < bytes.len() - start {
-            word[i] = bytes[start + i];
-        }
-    }
+    word[..bytes.len()].copy_from_slice(bytes);
     u64::from_be_bytes(word)
+}
+
+/// The message of so many bytes that these words begin with.
+fn message_of(words: &[u64], len: usize) -> Message
+    requires short { len ≤ MOST_BYTES }
+    requires within { len ≤ 8 * length words.now }
+    ensures { result ≡ take len (flat_map (to_be_bytes w64) words.now) }
+{
+    let mut message = Message::new();
+    for i in 0..(len + 7) / 8 {
+        let bytes = words[i].to_be_bytes();
+        message.append(&bytes[..(len - 8 * i).min(8)]);
+    }
+    message
 }

@@ -35,11 +35,12 @@ use super::feeding::feed_parts;
 use super::reuses::Reuse;
 use super::steps::{Ending, Step, ending_of};
 use crate::limits::{LEAST_ROWS_AGAIN, MOST_ROWS_AGAIN};
+use arrayvec::ArrayVec;
 use bus_adoptcommit::Ratifier;
 use bus_batch::{CloseFault, Message, PutFault};
 use bus_ownerbits::Election;
 use bus_presence::Pin;
-use bus_register::limits::{MOST_ROUNDS, MOST_SENDERS, NUMBERS, TENURES};
+use bus_register::limits::{MOST_MESSAGES, MOST_ROUNDS, MOST_SENDERS, NUMBERS, TENURES};
 use bus_register::{Kind, Op, Reg, SenderNo};
 use bus_tenure::{Doing, OwnedPage, Turn, Turns};
 use std::marker::Model;
@@ -154,9 +155,9 @@ impl<Q: Ratifier + Drop> SenderCore<Q> {
         self.turns.pending()
     }
 
-    /// The messages that wait.
-    pub fn waiting(&self) -> &[Message]
-        ensures { result.now ≡ self.now.core.queue.messages }
+    /// The messages that wait, in their order, spelled back from their words.
+    pub fn waiting(&self) -> ArrayVec<Message, MOST_MESSAGES>
+        ensures { result.items ≡ self.now.core.queue.messages }
     {
         self.turns.waiting()
     }

@@ -29,10 +29,11 @@ ghost use Rattle.bus_handles.specs.Closings.{NotEndedFor};
 mod finishing;
 
 use crate::answers::{Delivered, NotDelivered, OrderNotEnded, answered, order_ended};
+use arrayvec::ArrayVec;
 use bus_adoptcommit::{Ratifier, ThreeWord};
 use bus_batch::{CloseFault, Message, PutFault};
 use bus_pageslot::{Bus, Sender, Unsent};
-use bus_register::limits::MOST_SENDERS;
+use bus_register::limits::{MOST_MESSAGES, MOST_SENDERS};
 use bus_register::{Kind, SenderNo};
 use bus_tenure::Turn;
 use bus_waiting::{SharedBell, Waiting};
@@ -147,9 +148,9 @@ impl<Q: Ratifier + Drop, R: Rng + Drop> SenderHandle<Q, R> {
         self.sender.pending()
     }
 
-    /// The messages that wait in its batch, in their order.
-    pub fn waiting(&self) -> &[Message]
-        ensures { result.now ≡ waiting_of (process_by Q.Ratifier) self.now }
+    /// The messages that wait in its batch, in their order, spelled back from their words.
+    pub fn waiting(&self) -> ArrayVec<Message, MOST_MESSAGES>
+        ensures { result.items ≡ waiting_of (process_by Q.Ratifier) self.now }
     {
         self.sender.waiting()
     }

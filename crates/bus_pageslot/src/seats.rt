@@ -37,6 +37,7 @@ mod finishing;
 use crate::buses::Bus;
 use crate::rule::BusSeat;
 use crate::steps::{length_after, store_plain, walk};
+use arrayvec::ArrayVec;
 use bus_adoptcommit::{Ratifier, ThreeWord};
 use bus_automaton::laws::threads_may_go_by;
 use bus_batch::{CloseFault, Message, PutFault};
@@ -151,9 +152,9 @@ impl<Q: Ratifier + Drop> Sender<Q> {
         self.core.pending()
     }
 
-    /// The messages that wait in its batch, in their order.
-    pub fn waiting(&self) -> &[Message]
-        ensures { result.now ≡ waiting_of (process_by Q.Ratifier) self.now }
+    /// The messages that wait in its batch, in their order, spelled back from their words.
+    pub fn waiting(&self) -> ArrayVec<Message, MOST_MESSAGES>
+        ensures { result.items ≡ waiting_of (process_by Q.Ratifier) self.now }
     {
         self.core.waiting()
     }
@@ -312,7 +313,8 @@ impl<Q: Ratifier + Drop> Sender<Q> {
         if self.pending() > room {
             return Err(PutFault::BatchFull);
         }
-        let waiting = self.waiting();
+        let messages = self.waiting();
+        let waiting = messages.as_slice();
         for message in waiting {
             if let Err(fault) = next.put(message.as_slice()) {
                 return Err(fault);

@@ -29,10 +29,13 @@ use super::doings::Doing;
 use super::pages::{OwnedPage, Page};
 use super::phases::{Phase, Reason};
 use super::turns::Turn;
+use arrayvec::ArrayVec;
 use bus_adoptcommit::Ratifier;
 use bus_batch::{Batch, CloseFault, Message, PutFault};
 use bus_ownerbits::Election;
-use bus_register::limits::{MOST_BODY_WORDS, MOST_ROUNDS, MOST_SENDERS, NUMBERS, TENURES};
+use bus_register::limits::{
+    MOST_BODY_WORDS, MOST_MESSAGES, MOST_ROUNDS, MOST_SENDERS, NUMBERS, TENURES,
+};
 use bus_register::{Kind, Machine, Op, Reg, SenderNo};
 use std::marker::Model;
 use std::mem;
@@ -208,9 +211,9 @@ impl<Q: Ratifier + Drop> Turns<Q> {
         self.batch.len()
     }
 
-    /// The messages that wait.
-    pub fn waiting(&self) -> &[Message]
-        ensures { result.now ≡ self.now.queue.messages }
+    /// The messages that wait, in their order, spelled back from their words.
+    pub fn waiting(&self) -> ArrayVec<Message, MOST_MESSAGES>
+        ensures { result.items ≡ self.now.queue.messages }
     {
         self.batch.waiting()
     }

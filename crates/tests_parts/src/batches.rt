@@ -144,7 +144,7 @@ fn finds_the_order_ended(rt: HostRuntime) {
 fn waits(rt: &impl Abort, batch: &Batch, bytes: &[u8]) {
     let waiting = batch.waiting();
     assert!(rt; waiting.len() == 1);
-    same(rt, &waiting[0].as_slice(), &bytes);
+    same(rt, &waiting.as_slice()[0].as_slice(), &bytes);
 }
 
 #[test]

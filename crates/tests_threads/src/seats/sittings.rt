@@ -58,7 +58,7 @@ impl Game for NextSitting {
 fn waits(rt: &impl Abort, sender: &Sender<ThreeWord>, byte: u8) {
     let waiting = sender.waiting();
     assert!(rt; waiting.len() == 1);
-    assert!(rt; waiting[0].as_slice() == [byte].as_slice());
+    assert!(rt; waiting.as_slice()[0].as_slice() == [byte].as_slice());
 }
 
 /// The first item is the b of sender 0, with the number 1.

@@ -15,12 +15,14 @@ loop-message-init g c = TakesNone
 pub returns-in-Err-clause-fault : goal.returns-in-Err-clause-fault
 returns-in-Err-clause-fault g c =
     let P = process_with g.Q.Machine.kind_of g.Q.Machine.op g.Q.Machine.fed g.Q.Ratifier.protocol in
-    let all = c.waiting-waiting.result.now in
+    let all = c.as_slice-waiting.result.now in
     let i = c.loop-message.message-index in
     let y = c.message-item.result in
     let parts =
-    split_at all i y c.loop-message-test.true c.message-item.is ∙ c.waiting-waiting.ensures in
-    let size = ap length c.waiting-waiting.ensures in let some = c.loop-message-test.true in
+    split_at all i y c.loop-message-test.true c.message-item.is ∙ c.as_slice-waiting.ensures.value
+    ∙ c.waiting-messages.ensures in
+    let size = ap length (c.as_slice-waiting.ensures.value ∙ c.waiting-messages.ensures) in
+    let some = c.loop-message-test.true in
     let there = c.pending.ensures in let here = c.pending-2.ensures in
     let room = c.saturating_sub-room.ensures in let fits = c.if-pending-room.false in
     (refused P c.threads_may_go_by.ensures.process c.args.self.now c.args.next.now (take i all)
@@ -34,12 +36,14 @@ returns-in-Err-clause-fault g c =
 pub returns-in-Err-clause-refused : goal.returns-in-Err-clause-refused
 returns-in-Err-clause-refused g c =
     let P = process_with g.Q.Machine.kind_of g.Q.Machine.op g.Q.Machine.fed g.Q.Ratifier.protocol in
-    let all = c.waiting-waiting.result.now in
+    let all = c.as_slice-waiting.result.now in
     let i = c.loop-message.message-index in
     let y = c.message-item.result in
     let parts =
-    split_at all i y c.loop-message-test.true c.message-item.is ∙ c.waiting-waiting.ensures in
-    let size = ap length c.waiting-waiting.ensures in let some = c.loop-message-test.true in
+    split_at all i y c.loop-message-test.true c.message-item.is ∙ c.as_slice-waiting.ensures.value
+    ∙ c.waiting-messages.ensures in
+    let size = ap length (c.as_slice-waiting.ensures.value ∙ c.waiting-messages.ensures) in
+    let some = c.loop-message-test.true in
     let there = c.pending.ensures in let here = c.pending-2.ensures in
     let room = c.saturating_sub-room.ensures in let fits = c.if-pending-room.false in
     c.in-Err.ensures.refused
@@ -57,13 +61,13 @@ returns-in-Err-clause-seat g c =
     let P = process_with g.Q.Machine.kind_of g.Q.Machine.op g.Q.Machine.fed g.Q.Ratifier.protocol in
     c.put.ensures.seat
     ∙ takes_seat P c.threads_may_go_by.ensures.process c.args.next.now
-    (take c.loop-message.message-index c.waiting-waiting.result.now)
+    (take c.loop-message.message-index c.as_slice-waiting.result.now)
     c.loop-message.next c.loop-message.invariant
 
 pub loop-message-preserved : goal.loop-message-preserved
 loop-message-preserved g c =
     let P = process_with g.Q.Machine.kind_of g.Q.Machine.op g.Q.Machine.fed g.Q.Ratifier.protocol in
-    let all = c.waiting-waiting.result.now in
+    let all = c.as_slice-waiting.result.now in
     let i = c.loop-message.message-index in
     let y = c.message-item.result in
     let s = c.loop-message.next in
@@ -86,16 +90,16 @@ loop-message-preserved g c =
 pub returns-clause-carried : goal.returns-clause-carried
 returns-clause-carried g c =
     let P = process_with g.Q.Machine.kind_of g.Q.Machine.op g.Q.Machine.fed g.Q.Ratifier.protocol in
-    let all = c.waiting-waiting.result.now in
+    let all = c.as_slice-waiting.result.now in
     carries P c.threads_may_go_by.ensures.process c.args.self.now c.args.next.now
     c.loop-message.next
     (subst (λ ms. TakesAll P c.args.next.now ms c.loop-message.next)
     (take_all c.loop-message.message-index all c.loop-message-test.false
-    ∙ c.waiting-waiting.ensures) c.loop-message.invariant)
+    ∙ c.as_slice-waiting.ensures.value ∙ c.waiting-messages.ensures) c.loop-message.invariant)
 
 pub returns-clause-seat : goal.returns-clause-seat
 returns-clause-seat g c =
     let P = process_with g.Q.Machine.kind_of g.Q.Machine.op g.Q.Machine.fed g.Q.Ratifier.protocol in
     takes_seat P c.threads_may_go_by.ensures.process c.args.next.now
-    (take c.loop-message.message-index c.waiting-waiting.result.now) c.loop-message.next
+    (take c.loop-message.message-index c.as_slice-waiting.result.now) c.loop-message.next
     c.loop-message.invariant
