@@ -1,12 +1,9 @@
 //! The calls of a receiver.
 
-ghost use Rattle.std.specs.Prelude.{◌≡◌, ◌+◌, ◌<◌, ◌≤◌, true, [], length, slice_set};
-ghost use Rattle.bus_batch.specs.declared.messages.Item.{Item};
+ghost use Rattle.std.specs.Prelude.{◌≡◌, true};
 ghost use Rattle.bus_pageslot.specs.Seats.{table_of};
-ghost use Rattle.bus_embed.specs.Answers.{item_told, order_number};
+ghost use Rattle.bus_embed.specs.Answers.{order_number};
 ghost use Rattle.bus_embed.specs.Calls.{HeardOnce, HearsInto, ShowsReceiver};
-ghost use Rattle.bus_deliverylog.specs.Receiving.{recv_goes_on};
-ghost use Rattle.bus_receiver.specs.HearingRuns.{item_in};
 ghost use Rattle.bus_embed.specs.Calls.{TellAnswered, MeetAnswered};
 
 use crate::answers::{HeardAnswer, HeardItem, heard_told};
