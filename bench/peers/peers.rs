@@ -584,11 +584,9 @@ impl<const W: usize> Rx<W> for kioskbasil::Receiver {
     fn recv(&mut self, mut take: impl FnMut(&Msg<W>)) {
         let word =
             |item: &[u8], j: usize| u64::from_le_bytes(item[8 * j..][..8].try_into().unwrap());
-        let mut next = self.next_item();
-        while let Some(item) = next {
+        for item in self.next_items() {
             assert_eq!(item.len(), 8 * W, "another length");
-            take(&from_fn(|j| word(&item, j)));
-            next = self.try_item();
+            take(&from_fn(|j| word(item, j)));
         }
     }
 }

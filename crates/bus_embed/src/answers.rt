@@ -148,20 +148,26 @@ impl HeardItem {
         }
     }
 
-    /// This message.
+    /// This message, written in place.
     #[inline(always)]
-    pub(crate) fn of(item: &Item) -> HeardItem
-        ensures { result ≡ item_told item.now }
+    pub(crate) fn tell(&mut self, item: &Item)
+        ensures { self.new ≡ item_told item.now }
     {
         let message = item.message.as_slice();
-        let mut bytes = [0; MOST_BYTES];
-        write_over(message, &mut bytes);
-        HeardItem {
-            number: item.number,
-            sender: item.sender.0,
-            length: message.len() as u8,
-            bytes,
-        }
+        self.number = item.number;
+        self.sender = item.sender.0;
+        self.length = message.len() as u8;
+        self.bytes = [0; MOST_BYTES];
+        write_over(message, &mut self.bytes);
+    }
+
+    /// This message.
+    fn of(item: &Item) -> HeardItem
+        ensures { result ≡ item_told item.now }
+    {
+        let mut told = HeardItem::none();
+        told.tell(item);
+        told
     }
 }
 

@@ -1,12 +1,9 @@
 //! The calls of a receiver.
 
-ghost use Rattle.std.specs.Prelude.{◌≡◌, ◌+◌, ◌<◌, ◌≤◌, true, [], length, slice_set};
-ghost use Rattle.bus_batch.specs.declared.messages.Item.{Item};
+ghost use Rattle.std.specs.Prelude.{◌≡◌, true};
 ghost use Rattle.bus_pageslot.specs.Seats.{table_of};
-ghost use Rattle.bus_embed.specs.Answers.{item_told, order_number};
+ghost use Rattle.bus_embed.specs.Answers.{order_number};
 ghost use Rattle.bus_embed.specs.Calls.{HeardOnce, HearsInto, ShowsReceiver};
-ghost use Rattle.bus_deliverylog.specs.Receiving.{recv_goes_on};
-ghost use Rattle.bus_receiver.specs.HearingRuns.{item_in};
 ghost use Rattle.bus_embed.specs.Calls.{TellAnswered, MeetAnswered};
 
 use crate::answers::{HeardAnswer, HeardItem, heard_told};
@@ -56,44 +53,17 @@ pub fn hear_items(
         if many == items.len() {
             return (many, codes::GOING);
         }
-        let turn = receiver.turn();
-        if !may_go_on(&turn) {
-            return (many, heard_told(turn).0);
+        match receiver.turn() {
+            RecvTurn::Going | RecvTurn::Head { .. } | RecvTurn::Leave(_) => {}
+            RecvTurn::Empty => return (many, codes::EMPTY),
+            RecvTurn::End => return (many, codes::END),
+            RecvTurn::Item(item) => {
+                items[many].tell(&item);
+                many += 1;
+            }
         }
-        many = write_item(turn, items, many);
     }
     (many, codes::GOING)
-}
-
-/// More may be there at once.
-#[inline(always)]
-fn may_go_on(turn: &RecvTurn) -> bool
-    ensures { result ≡ recv_goes_on turn.now }
-{
-    match turn {
-        RecvTurn::Going | RecvTurn::Head { .. } => true,
-        RecvTurn::Item(_) | RecvTurn::Leave(_) => true,
-        RecvTurn::Empty | RecvTurn::End => false,
-    }
-}
-
-/// Writes the item of an answer, where it has one, to this place: the place of the next item.
-#[inline(always)]
-fn write_item(turn: RecvTurn, items: &mut [HeardItem], place: usize) -> usize
-    requires { place < length items.old }
-    ensures item { (item : Item) → turn ≡ RecvTurn.Item item → (result ≡ place + 1)
-        × (items.new ≡ slice_set items.old place (item_told item)) }
-    ensures none { item_in turn ≡ [] → (result ≡ place) × (items.new ≡ items.old) }
-    ensures len { (length items.new ≡ length items.old) × (result ≤ length items.old) }
-{
-    match turn {
-        RecvTurn::Item(item) => {
-            items[place] = HeardItem::of(&item);
-            place + 1
-        }
-        RecvTurn::Going | RecvTurn::Head { .. } | RecvTurn::Leave(_) => place,
-        RecvTurn::Empty | RecvTurn::End => place,
-    }
 }
 
 /// What a receiver shows. Takes no step.

@@ -1,7 +1,7 @@
 //! The archive's functions, as include/kioskbasil.h declares them, and the memory that they ask
 //! for.
 
-use crate::{MOST_BYTES, MOST_SENDERS};
+use crate::{Item, MOST_SENDERS};
 use std::ffi::c_void;
 use std::ptr;
 
@@ -56,28 +56,10 @@ pub struct TurnAnswer {
 
 #[repr(C)]
 #[derive(Clone, Copy)]
-pub struct RawItem {
-    pub number: u64,
-    pub sender: u8,
-    pub length: u8,
-    pub bytes: [u8; MOST_BYTES],
-}
-
-impl RawItem {
-    pub const NONE: RawItem = RawItem {
-        number: 0,
-        sender: 0,
-        length: 0,
-        bytes: [0; MOST_BYTES],
-    };
-}
-
-#[repr(C)]
-#[derive(Clone, Copy)]
 pub struct HeardAnswer {
     pub tenure: u64,
     pub owner: u8,
-    pub item: RawItem,
+    pub item: Item,
 }
 
 #[repr(C)]
@@ -165,7 +147,7 @@ extern "C" {
     pub fn bus_c_hear_once(receiver: *mut RawReceiver, answer: *mut HeardAnswer) -> u32;
     pub fn bus_c_hear(
         receiver: *mut RawReceiver,
-        items: *mut RawItem,
+        items: *mut Item,
         room: usize,
         turns: u64,
         many: *mut usize,

@@ -2,46 +2,48 @@
 
 use crate::errors::{EndError, OtherBus};
 use crate::let_go::LetGo;
-use crate::raw::{self, RawItem};
+use crate::raw;
 use crate::waiting::{BackOff, Polled};
 use crate::{Bell, Ended, Sender, Waiting, MOST_BYTES, MOST_SENDERS};
 use std::cmp::Ordering;
 use std::ops::Deref;
 use std::sync::Arc;
 use std::task::{Context, Poll};
-use std::{fmt, ptr};
+use std::{fmt, mem, ptr};
 
 /// A message of the order. It is its bytes.
+// The archive writes it: its fields are those of `kioskbasil_item`, in their order.
+#[repr(C)]
 #[derive(Clone, Copy)]
 pub struct Item {
-    /// Its sender.
-    pub sender: u8,
     /// Its number among the messages of its sender, from the base of that on.
     pub number: u64,
+    /// Its sender.
+    pub sender: u8,
     length: u8,
     bytes: [u8; MOST_BYTES],
 }
 
 impl Item {
-    fn of(raw: &RawItem) -> Item {
-        Item {
-            sender: raw.sender,
-            number: raw.number,
-            length: raw.length,
-            bytes: raw.bytes,
-        }
-    }
+    const NONE: Item = Item {
+        number: 0,
+        sender: 0,
+        length: 0,
+        bytes: [0; MOST_BYTES],
+    };
 }
 
 impl Deref for Item {
     type Target = [u8];
 
+    #[inline]
     fn deref(&self) -> &[u8] {
         &self.bytes[..usize::from(self.length)]
     }
 }
 
 impl AsRef<[u8]> for Item {
+    #[inline]
     fn as_ref(&self) -> &[u8] {
         self
     }
@@ -103,12 +105,13 @@ const BATCH: usize = 32;
 
 /// A receiver of a bus. It may go to another thread, and one thread at a time has it.
 ///
-/// `next_item` and `try_item` take up to 32 items out of the bus at once, and give them one by one.
-/// They pass over that a sender has left: whoever uses `turn` alone is told each at its place, and
+/// `next_item` and `try_item` take up to 32 items out of the bus at once, and give them one by one;
+/// `next_items` and `try_items` lend them where they lie, which copies none. All pass over that a
+/// sender has left: whoever uses `turn` alone is told each at its place, and
 /// `Ended` has all.
 pub struct Receiver {
     raw: raw::RawReceiver,
-    ready: [RawItem; BATCH],
+    ready: [Item; BATCH],
     given: usize,
     many: usize,
     ended: bool,
@@ -144,7 +147,7 @@ impl Receiver {
     ) -> Receiver {
         Receiver {
             raw,
-            ready: [RawItem::NONE; BATCH],
+            ready: [Item::NONE; BATCH],
             given: 0,
             many: 0,
             ended: false,
@@ -174,10 +177,18 @@ impl Receiver {
     }
 
     /// One item that it has at hand.
+    #[inline]
     fn at_hand(&mut self) -> Option<Item> {
-        let item = self.ready[..self.many].get(self.given)?;
+        let item = *self.ready[..self.many].get(self.given)?;
         self.given += 1;
-        Some(Item::of(item))
+        Some(item)
+    }
+
+    /// All items that it has at hand.
+    #[inline]
+    fn all_at_hand(&mut self) -> &[Item] {
+        let given = mem::replace(&mut self.given, self.many);
+        &self.ready[given..self.many]
     }
 
     /// Takes what there is out of the bus, at most 32 items.
@@ -205,7 +216,7 @@ impl Receiver {
         let mut told = raw::HeardAnswer {
             tenure: 0,
             owner: 0,
-            item: RawItem::NONE,
+            item: Item::NONE,
         };
         // SAFETY: as in `shown`.
         match unsafe { raw::bus_c_hear_once(&mut self.raw, &mut told) } {
@@ -215,7 +226,7 @@ impl Receiver {
                 tenure: told.tenure,
                 owner: told.owner,
             },
-            13 => Heard::Item(Item::of(&told.item)),
+            13 => Heard::Item(told.item),
             16 => Heard::Leave(told.owner),
             14 => {
                 self.ended = true;
@@ -227,14 +238,41 @@ impl Receiver {
 
     /// The next item that is there; None where there is nothing more by now, or for good. Waits for
     /// nothing.
+    #[inline]
     pub fn try_item(&mut self) -> Option<Item> {
-        if self.given == self.many && !self.ended {
-            self.fill();
-        }
+        self.look();
         self.at_hand()
     }
 
+    /// The next items that are there, at most 32, where they lie; none of them where there is
+    /// nothing more by now, or for good. Waits for nothing.
+    ///
+    /// ```
+    /// # use kioskbasil::{Bus, Shape};
+    /// let (mut senders, mut receivers) = Bus::open(Shape::of(1, 1))?;
+    /// assert!(receivers[0].try_items().is_empty());
+    /// senders[0].send_all(["one", "two"])?;
+    /// let items = receivers[0].try_items();
+    /// assert_eq!((items.len(), &items[1][..]), (2, &b"two"[..]));
+    /// assert!(receivers[0].try_items().is_empty());
+    /// # Ok::<(), Box<dyn std::error::Error>>(())
+    /// ```
+    #[inline]
+    pub fn try_items(&mut self) -> &[Item] {
+        self.look();
+        self.all_at_hand()
+    }
+
+    /// Takes items out of the bus where it has none at hand.
+    #[inline]
+    fn look(&mut self) {
+        if self.given == self.many && !self.ended {
+            self.fill();
+        }
+    }
+
     /// The order has ended, and all of it was given.
+    #[inline]
     pub fn has_ended(&self) -> bool {
         self.ended && self.given == self.many
     }
@@ -252,10 +290,13 @@ impl Receiver {
     /// ```
     pub fn hear(&mut self, items: &mut Vec<Item>) -> usize {
         let before = items.len();
-        while let Some(item) = self.try_item() {
-            items.push(item);
+        loop {
+            let more = self.try_items();
+            if more.is_empty() {
+                return items.len() - before;
+            }
+            items.extend_from_slice(more);
         }
-        items.len() - before
     }
 
     /// The bell of its bus.
@@ -269,11 +310,36 @@ impl Receiver {
     }
 
     /// The next item, and None at the end and ever after. It waits while there is none.
+    #[inline]
     pub fn next_item(&mut self) -> Option<Item> {
-        match self.next_item_while(|| true) {
-            Next::Item(item) => Some(item),
-            Next::End | Next::Stopped => None,
-        }
+        self.wait_while(|| true);
+        self.at_hand()
+    }
+
+    /// The next items, one at least and at most 32, where they lie; none of them at the end and
+    /// ever after. It waits while there is none.
+    ///
+    /// ```
+    /// use kioskbasil::{Bus, Shape};
+    ///
+    /// let (mut senders, mut receivers) = Bus::open(Shape::of(1, 1))?;
+    /// senders[0].send_all(["one", "two"])?;
+    /// senders[0].end_order()?;
+    /// let mut heard = Vec::new();
+    /// loop {
+    ///     let items = receivers[0].next_items();
+    ///     if items.is_empty() {
+    ///         break;
+    ///     }
+    ///     heard.extend(items.iter().map(|item| item.number));
+    /// }
+    /// assert_eq!(heard, [0, 1]);
+    /// # Ok::<(), Box<dyn std::error::Error>>(())
+    /// ```
+    #[inline]
+    pub fn next_items(&mut self) -> &[Item] {
+        self.wait_while(|| true);
+        self.all_at_hand()
     }
 
     /// As `next_item`, but that it can be told to stop: each time nothing is there it asks
@@ -296,19 +362,38 @@ impl Receiver {
     /// });
     /// # Ok::<(), kioskbasil::OpenError>(())
     /// ```
-    pub fn next_item_while(&mut self, mut go_on: impl FnMut() -> bool) -> Next {
+    #[inline]
+    pub fn next_item_while(&mut self, go_on: impl FnMut() -> bool) -> Next {
+        if !self.wait_while(go_on) {
+            return Next::Stopped;
+        }
+        match self.at_hand() {
+            Some(item) => Next::Item(item),
+            None => Next::End,
+        }
+    }
+
+    /// Waits until it has items at hand, or the order has ended and all of it was given. False
+    /// where it is told to stop.
+    #[inline]
+    fn wait_while(&mut self, mut go_on: impl FnMut() -> bool) -> bool {
+        self.look();
+        if self.given < self.many {
+            return true;
+        }
         let mut back_off = BackOff::new(self.waiting);
         loop {
-            if let Some(item) = self.try_item() {
-                return Next::Item(item);
-            }
-            if self.has_ended() {
-                return Next::End;
+            if self.ended {
+                return true;
             }
             if !go_on() {
-                return Next::Stopped;
+                return false;
             }
             back_off.wait(&self.bell, self.place);
+            self.look();
+            if self.given < self.many {
+                return true;
+            }
         }
     }
 
@@ -436,6 +521,7 @@ impl Iterator for Receiver {
     type Item = Item;
 
     /// As `next_item`.
+    #[inline]
     fn next(&mut self) -> Option<Item> {
         self.next_item()
     }

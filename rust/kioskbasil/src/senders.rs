@@ -283,6 +283,7 @@ impl Sender {
     /// assert_eq!(senders[0].put(&[0; 57]), Err(PutError::TooLong));
     /// # Ok::<(), kioskbasil::OpenError>(())
     /// ```
+    #[inline]
     pub fn put(&mut self, message: &[u8]) -> Result<u64, PutError> {
         let mut number = 0;
         // SAFETY: as in `shown`; a slice's pointer is never null.
@@ -585,7 +586,7 @@ impl Sender {
         let mut put = 0;
         self.send_off().map_err(|why| Unsent { put, why })?;
         for message in messages {
-            if self.pending() == MOST_MESSAGES as u64 {
+            if is_full(put) {
                 self.send_off().map_err(|why| Unsent { put, why })?;
             }
             let taken = self.put(message.as_ref()).map_err(SendError::Put);
@@ -606,7 +607,7 @@ impl Sender {
             .await
             .map_err(|why| Unsent { put, why })?;
         for message in messages {
-            if self.pending() == MOST_MESSAGES as u64 {
+            if is_full(put) {
                 self.send_off_async()
                     .await
                     .map_err(|why| Unsent { put, why })?;
@@ -656,6 +657,11 @@ impl Sender {
             false => self.close().map_err(SendError::Close),
         }
     }
+}
+
+/// After so many messages, put one by one and sent off where the batch was full, it is full again.
+fn is_full(put: usize) -> bool {
+    put > 0 && put % MOST_MESSAGES == 0
 }
 
 fn ended_by(last: Turn) -> Result<(), SendError> {
