@@ -9,9 +9,8 @@ use crate::faults::Fault;
 use crate::gates::Gate;
 use crate::needs::Load;
 use bus_batch::Item;
-use bus_deliverylog::RecvTurn;
 use bus_pageslot::OfBus;
-use bus_receiver::{Heard, Next};
+use bus_receiver::{Found, Heard};
 use bus_register::SenderNo;
 use bus_register::limits::{MOST_BYTES, MOST_MESSAGES};
 use bus_run::buses::{Receiver, Sender, Tap, TheBus};
@@ -258,12 +257,14 @@ impl<B: OfBus, R: Wait> HearRound<'_, B, R> {
     fn take_all(&self, receive_worker: &mut RoundReceiver<B>) -> Result<bool, Fault> {
         let gate = self.gate;
         let waiter = Waiter::yielding(self.rt);
+        let mut item = Item::blank();
         for _ in 0..self.load.items() {
             let receiver = &mut receive_worker.receiver;
-            match receiver.next_item_while(&waiter, &self.the.bus, || !gate.is_given_up()) {
-                Next::Item(item) => note(receive_worker, item)?,
-                Next::End => return Err(heard_amiss(receive_worker)),
-                Next::Stopped => return Ok(false),
+            let go_on = || !gate.is_given_up();
+            match receiver.next_item_in_place_while(&waiter, &self.the.bus, go_on, &mut item) {
+                Found::Item => note(receive_worker, &item)?,
+                Found::End => return Err(heard_amiss(receive_worker)),
+                Found::Stopped => return Ok(false),
             }
         }
         Ok(true)
@@ -271,10 +272,10 @@ impl<B: OfBus, R: Wait> HearRound<'_, B, R> {
 }
 
 /// Notes an item, which has to be the next of its sender, and reads all its bytes.
-fn note<B: OfBus>(receive_worker: &mut RoundReceiver<B>, item: Item) -> Result<(), Fault> {
+fn note<B: OfBus>(receive_worker: &mut RoundReceiver<B>, item: &Item) -> Result<(), Fault> {
     let (sender, number) = (item.sender, item.number);
     let words = words_sum(item.message.as_slice());
-    if !receive_worker.heard.note(&RecvTurn::Item(item)) {
+    if !receive_worker.heard.note_item(item) {
         return Err(heard_amiss(receive_worker));
     }
     receive_worker.sum = receive_worker.sum.wrapping_add(words);

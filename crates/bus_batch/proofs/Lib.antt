@@ -1,6 +1,7 @@
 pub mod Fillings
 pub mod Heads
 pub mod Bodies
+pub mod Padding
 pub mod Bytes
 pub mod Taking
 pub mod Feeding

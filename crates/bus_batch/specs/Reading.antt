@@ -1,5 +1,5 @@
 -- Where a reader of frames stands.
-use Rattle.std.specs.Prelude.{◌≡◌, ◌≢◌, ℕ, suc, ◌+◌, ◌-◌, ◌*◌, ◌<◌, ◌≤◌, List, [], ◌∷◌, ◌++◌}
+use Rattle.std.specs.Prelude.{◌≡◌, ◌≢◌, ℕ, suc, ◌+◌, ◌-◌, ◌*◌, ◌%◌, ◌<◌, ◌≤◌, List, [], ◌∷◌, ◌++◌}
 use Rattle.std.specs.Prelude.{length, flat_map, All, ◌⊎◌, Option, Some, Bool, false, slice_get}
 use Rattle.bus_register.specs.declared.limits.TheConstants.{MOST_MESSAGES, MOST_BYTES}
 use Rattle.bus_register.specs.declared.limits.TheConstants.{MOST_MESSAGE_WORDS}
@@ -122,5 +122,6 @@ IsSound (Body owner left room) bytes =
 IsSound (Data owner left room number len) bytes =
     (length bytes < len) × (len ≤ MOST_BYTES) × (data_len (len - length bytes) ≤ left)
     × (left ≤ data_len (len - length bytes) + MOST_MESSAGE_WORDS * room) × (room < MOST_MESSAGES)
+    × (length bytes % 8 ≡ 0)
 IsSound Ended bytes = Unit {0}
 IsSound Bad bytes = Unit {0}

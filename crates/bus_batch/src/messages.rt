@@ -1,10 +1,10 @@
 //! Messages, items of the order, and what words of the log say.
 
 ghost use Rattle.std.specs.Prelude.{◌≡◌, ℕ, ◌+◌, ◌<◌, ◌≤◌, List, []};
-ghost use Rattle.std.specs.Prelude.{◌++◌, length, All, IsSome, IfSome, ◌↔◌, take, IsTrue};
-ghost use Rattle.std.specs.Prelude.{Bool, min};
+ghost use Rattle.std.specs.Prelude.{◌-◌, ◌++◌, length, All, IsSome, IfSome, ◌↔◌, take, drop};
+ghost use Rattle.std.specs.Prelude.{IsTrue, Bool, min};
+ghost use Rattle.std.specs.Int.{w64, to_be_bytes};
 
-use arrayvec::ArrayVec;
 use bus_register::SenderNo;
 use bus_register::limits::MOST_BYTES;
 use std::alloc::AllocError;
@@ -13,15 +13,31 @@ use std::marker::Model;
 /// At most 56 bytes.
 #[derive(Debug, Drop, PartialEq, Eq)]
 pub struct Message {
-    bytes: ArrayVec<u8, MOST_BYTES>,
+    len: usize,
+    /// Those behind its length are zero.
+    bytes: [u8; MOST_BYTES],
 }
 
 impl Model for Message {
+    ghost use Rattle.std.specs.Prelude.{◌≡◌, ℕ, ◌-◌, ◌≤◌, List, ◌++◌, length, take, drop, replicate};
+    ghost use Rattle.bus_batch.specs.Proved.Padded.{padded_again};
+
     ghost Value = { List ℕ };
 
-    ghost view = { λ m. m.bytes.items };
+    ghost view = { λ m. take m.len m.bytes };
 
-    ghost inverse = { λ bytes. record { bytes = record { items = bytes } } };
+    ghost invariant = { λ m. (m.len ≤ 56) × (length m.bytes ≡ 56)
+        × (drop m.len m.bytes ≡ replicate (56 - m.len) 0) };
+
+    ghost inverse = { λ bytes. record {
+      len = length bytes;
+      bytes = bytes ++ replicate (56 - length bytes) 0;
+    } };
+
+    ghost inverse_ok = { λ m h i. record {
+      len = (padded_again m.len m.bytes h).0 i;
+      bytes = (padded_again m.len m.bytes h).1 i;
+    } };
 }
 
 impl Message {
@@ -30,7 +46,8 @@ impl Message {
         ensures { result ≡ [] }
     {
         Message {
-            bytes: ArrayVec::new(),
+            len: 0,
+            bytes: [0; MOST_BYTES],
         }
     }
 
@@ -39,9 +56,15 @@ impl Message {
         ensures fits { IsSome result ↔ (length bytes.now ≤ MOST_BYTES) }
         ensures same { IfSome result (λ m. m ≡ bytes.now) }
     {
-        let mut message = ArrayVec::new();
-        message.try_extend_from_slice(bytes).ok()?;
-        Some(Message { bytes: message })
+        if bytes.len() > MOST_BYTES {
+            return None;
+        }
+        let mut padded = [0; MOST_BYTES];
+        padded[..bytes.len()].copy_from_slice(bytes);
+        Some(Message {
+            len: bytes.len(),
+            bytes: padded,
+        })
     }
 
     /// The bytes.
@@ -49,7 +72,7 @@ impl Message {
         ensures same { result.now ≡ self.now }
         ensures short { length result.now ≤ MOST_BYTES }
     {
-        self.bytes.as_slice()
+        &self.bytes[..self.len]
     }
 
     /// How many bytes.
@@ -57,33 +80,57 @@ impl Message {
         ensures len { result ≡ length self.now }
         ensures short { result ≤ MOST_BYTES }
     {
-        self.bytes.len()
+        self.len
     }
 
     /// There is no byte.
     pub fn is_empty(&self) -> bool
         ensures { IsTrue result ↔ (self.now ≡ []) }
     {
-        self.bytes.is_empty()
+        self.len == 0
     }
 
-    /// The bytes with more at the end.
-    pub(crate) fn append(&mut self, more: &[u8])
-        requires { length self.old + length more.now ≤ MOST_BYTES }
-        ensures { self.new ≡ self.old ++ more.now }
+    /// The bytes with the eight of a word at the end.
+    #[inline(always)]
+    pub(crate) fn append_word(&mut self, word: u64)
+        requires { length self.old + 8 ≤ MOST_BYTES }
+        ensures { self.new ≡ self.old ++ to_be_bytes w64 word }
     {
-        let _fits = self.bytes.try_extend_from_slice(more);
+        let len = self.len;
+        self.bytes[len..len + 8].copy_from_slice(&word.to_be_bytes());
+        self.len = len + 8;
+    }
+
+    /// The bytes that were begun, and the first ones of a word, of which the others are zero: so
+    /// many in all. Nothing is begun any more.
+    #[inline(always)]
+    pub(crate) fn finish(&mut self, begun: &mut Message, word: u64, len: usize)
+        requires whole { (length begun.old < len) × (len ≤ length begun.old + 8) }
+        requires begun { (length begun.old + 8 ≤ MOST_BYTES) }
+        requires padding { All (λ b. b ≡ 0)
+            (drop (len - length begun.old) (to_be_bytes w64 word)) }
+        ensures same { self.new
+            ≡ begun.old ++ take (len - length begun.old) (to_be_bytes w64 word) }
+        ensures begun { begun.new ≡ [] }
+    {
+        let place = begun.len;
+        self.bytes = begun.bytes;
+        if place > 0 {
+            begun.bytes = [0; MOST_BYTES];
+            begun.len = 0;
+        }
+        self.bytes[place..place + 8].copy_from_slice(&word.to_be_bytes());
+        self.len = len;
     }
 
     /// The same bytes once more. Takes no memory, so that it has no want of it to report.
     pub fn copied(&self) -> Message
         ensures { result ≡ self.now }
     {
-        let mut bytes = ArrayVec::new();
-        for byte in self.bytes.as_slice() {
-            bytes.push(*byte);
+        Message {
+            len: self.len,
+            bytes: self.bytes,
         }
-        Message { bytes }
     }
 }
 
@@ -105,6 +152,17 @@ pub struct Item {
 }
 
 impl Item {
+    /// An item of no byte, with the number 0 of sender 0, to be written over.
+    pub fn blank() -> Item
+        ensures { result ≡ record { sender = record { 0 = 0 }; number = 0; message = [] } }
+    {
+        Item {
+            sender: SenderNo(0),
+            number: 0,
+            message: Message::new(),
+        }
+    }
+
     /// The same item once more. Takes no memory.
     pub fn copied(&self) -> Item
         ensures { result ≡ self.now }

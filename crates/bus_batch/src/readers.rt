@@ -1,9 +1,10 @@
 //! A reader of the log's words, one at a time.
 
 ghost use Rattle.std.specs.Prelude.{◌≡◌, ℕ, ◌+◌, ◌*◌, ◌-◌, ◌<◌, ◌≤◌};
-ghost use Rattle.std.specs.Prelude.{◌^◌, List, [], ◌∷◌, ◌++◌, length, All, IfSome};
+ghost use Rattle.std.specs.Prelude.{◌^◌, List, [], ◌∷◌, ◌++◌, length, IfSome};
 ghost use Rattle.std.specs.Prelude.{IfNone, IsNone, IfOk, OnErr, IsErr, IsTrue, ◌↔◌, false, ◌⊎◌};
-ghost use Rattle.std.specs.Prelude.{replicate};
+ghost use Rattle.std.specs.Prelude.{All, drop, replicate};
+ghost use Rattle.std.specs.Int.{w64, to_be_bytes};
 ghost use Rattle.bus_batch.specs.Frames.{data_len};
 
 use crate::messages::{Item, Message, Piece};
@@ -13,7 +14,6 @@ use bus_register::limits::{
     MOST_BODY_WORDS, MOST_BYTES, MOST_MESSAGE_WORDS, MOST_MESSAGES, NUMBERS,
 };
 use std::marker::Model;
-use std::mem;
 
 /// No log goes on with this word.
 #[derive(Clone, Copy, Debug, PartialEq, Eq)]
@@ -366,9 +366,11 @@ impl FrameReader {
             self.take_part(word, owner, left, room, length);
             return Ok(None);
         }
-        match self.take_last(word, owner, left, room, length) {
-            Some(item) => Ok(Some(Piece::Item(item))),
-            None => Err(BadWord),
+        let mut item = Item::blank();
+        if self.take_last(word, owner, left, room, length, &mut item) {
+            Ok(Some(Piece::Item(item)))
+        } else {
+            Err(BadWord)
         }
     }
 
@@ -388,11 +390,11 @@ impl FrameReader {
             number: told.number,
             len: told.len,
         };
-        self.bytes.append(&word.to_be_bytes());
+        self.bytes.append_word(word);
     }
 
-    /// Takes the last bytes of a message, and gives its item; none where the word is bad, which
-    /// changes nothing.
+    /// Takes the last bytes of a message, writes its item in place, and says whether it did; a bad
+    /// word changes nothing.
     #[inline(always)]
     fn take_last(
         &mut self,
@@ -401,27 +403,26 @@ impl FrameReader {
         left: u64,
         room: u64,
         told: Length,
-    ) -> Option<Item>
+        item: &mut Item,
+    ) -> bool
         requires place { self.old.place ≡ place.Data owner left room told.number told.len }
         requires last { told.len ≤ length self.old.bytes + 8 }
         ensures senders { self.new.senders ≡ self.old.senders }
-        ensures good { IfSome result
-            (λ item. Steps self.old word (Ok (Some (piece.Item item))) self.new) }
-        ensures bad { IfNone result (Refuses self.old word × (self.new ≡ self.old)) }
+        ensures good { IsTrue result
+            → Steps self.old word (Ok (Some (piece.Item item.new))) self.new }
+        ensures bad { result ≡ false
+            → Refuses self.old word × (self.new ≡ self.old) × (item.new ≡ item.old) }
     {
-        let missing = told.len as usize - self.bytes.len();
-        let bytes = word.to_be_bytes();
-        if !are_zero(&bytes[missing..]) {
-            return None;
+        let missing = told.len - self.bytes.len() as u64;
+        if !is_padded(word, missing) {
+            return false;
         }
-        self.bytes.append(&bytes[..missing]);
-        let message = mem::take(&mut self.bytes);
+        item.sender = owner;
+        item.number = told.number;
+        item.message
+            .finish(&mut self.bytes, word, told.len as usize);
         self.place = place_after(owner, left - 1, room);
-        Some(Item {
-            sender: owner,
-            number: told.number,
-            message,
-        })
+        true
     }
 
     /// Takes the next word where it says nothing by itself, and says whether it did; else nothing
@@ -461,20 +462,20 @@ impl FrameReader {
         }
     }
 
-    /// Takes the next word where it is the last of a message with bytes, and gives the item; else
-    /// nothing changes.
+    /// Takes the next word where it is the last of a message with bytes, writes the item in place,
+    /// and says whether it did; else nothing changes.
     #[inline(always)]
-    pub fn take_item(&mut self, word: u64) -> Option<Item>
+    pub fn take_item(&mut self, word: u64, item: &mut Item) -> bool
         ensures senders { self.new.senders ≡ self.old.senders }
         ensures gives { (words : _) (pieces : _) → HasRead self.old.senders words pieces self.old
-            → IfSome result
-            (λ item. GivesPiece self.old.senders words word (Some (piece.Item item))) }
+            → IsTrue result
+            → GivesPiece self.old.senders words word (Some (piece.Item item.new)) }
         ensures read { (words : _) (pieces : _) → HasRead self.old.senders words pieces self.old
-            → IfSome result
-            (λ item. HasRead self.old.senders
-            (words ++ word ∷ []) (pieces ++ Some (piece.Item item) ∷ []) self.new) }
-        ensures stays { IfNone result (self.new ≡ self.old) }
-        ensures for_good { HasMetBadWord self.old → IsNone result }
+            → IsTrue result
+            → HasRead self.old.senders (words ++ word ∷ [])
+            (pieces ++ Some (piece.Item item.new) ∷ []) self.new }
+        ensures stays { result ≡ false → (self.new ≡ self.old) × (item.new ≡ item.old) }
+        ensures for_good { HasMetBadWord self.old → result ≡ false }
     {
         match self.place {
             Place::Data {
@@ -485,11 +486,11 @@ impl FrameReader {
                 len,
             } => {
                 if len as usize - self.bytes.len() > 8 {
-                    return None;
+                    return false;
                 }
-                self.take_last(word, owner, left, room, Length { len, number })
+                self.take_last(word, owner, left, room, Length { len, number }, item)
             }
-            _ => None,
+            Place::Between | Place::Body { .. } | Place::Ended | Place::Bad => false,
         }
     }
 
@@ -584,9 +585,12 @@ fn place_after(owner: SenderNo, left: u64, room: u64) -> Place
     }
 }
 
-/// Each byte is zero.
-fn are_zero(bytes: &[u8]) -> bool
-    ensures { IsTrue result ↔ All (λ b. b ≡ 0) bytes.now }
+/// Behind so many bytes of a word all bytes are zero.
+#[inline(always)]
+fn is_padded(word: u64, bytes: u64) -> bool
+    requires { (1 ≤ bytes) × (bytes ≤ 8) }
+    ensures { IsTrue result
+        ↔ All (λ b. b ≡ 0) (drop bytes (to_be_bytes w64 word)) }
 {
-    bytes.iter().all(|b| *b == 0)
+    word % (1u64 << (64 - 8 * bytes)) == 0
 }

@@ -124,23 +124,24 @@ impl LogReader {
     }
 
     /// Takes the word that was found at its place where that is the last of a message with bytes,
-    /// and gives the item: then it answers that. Else nothing changes, and `take_word` takes it.
+    /// writes the item in place, and says whether it did: then it answers that. Else nothing
+    /// changes, and `take_word` takes it.
     #[inline(always)]
-    pub fn take_item(&mut self, got: u64) -> Option<Item>
+    pub fn take_item(&mut self, got: u64, item: &mut Item) -> bool
         requires unread { self.old.place ≢ self.old.known }
         requires going { self.old.ended ≡ false }
-        ensures word { IfSome result
-            (λ item. TakesNext self.old got (RecvTurn.Item item) self.new) }
-        ensures read { IfSome result (λ _. self.new.place ≡ self.old.place + 1) }
-        ensures stays { IfNone result (self.new ≡ self.old) }
+        ensures word { IsTrue result
+            → TakesNext self.old got (RecvTurn.Item item.new) self.new }
+        ensures read { IsTrue result → self.new.place ≡ self.old.place + 1 }
+        ensures known { self.new.known ≡ self.old.known }
+        ensures stays { result ≡ false → (self.new ≡ self.old) × (item.new ≡ item.old) }
         ensures senders { self.new.frames.senders ≡ self.old.frames.senders }
     {
-        match self.frames.take_item(got) {
-            Some(item) => {
-                self.place += 1;
-                Some(item)
-            }
-            None => None,
+        if self.frames.take_item(got, item) {
+            self.place += 1;
+            true
+        } else {
+            false
         }
     }
 

@@ -9,7 +9,8 @@ ghost use Rattle.bus_pageslot.specs.Rule.{receiver_view_in, known_in};
 ghost use Rattle.bus_pageslot.specs.Listening.{Hears};
 ghost use Rattle.bus_pageslot.specs.Seats.{table_of, actions_of, stored_of};
 ghost use Rattle.bus_receiver.specs.Listening.{bus_of, Takes, HaveMet, IsTold};
-ghost use Rattle.bus_receiver.specs.Listening.{PassesTo, PassesWhile, item_or_end};
+ghost use Rattle.bus_receiver.specs.Listening.{PassesTo, PassesWhile, item_or_end, written_or_end};
+ghost use Rattle.bus_receiver.specs.Listening.{next_of};
 
 use crate::answers::BusNotEnded;
 use crate::senders::SenderHandle;
@@ -17,7 +18,7 @@ use bus_adoptcommit::{Ratifier, ThreeWord};
 use bus_batch::Item;
 use bus_deliverylog::RecvTurn;
 use bus_pageslot::{Bus, Ended};
-use bus_receiver::{Next, Receiver};
+use bus_receiver::{Found, Next, Receiver};
 use bus_waiting::{SharedBell, Waiting};
 use std::cmp::Ordering;
 use std::marker::Model;
@@ -140,9 +141,23 @@ impl<Q: Ratifier + Drop> ReceiverHandle<Q> {
     {
         let bus: &Bus<Q> = &self.bus;
         let waiter = self.bell.waiter(wait);
-        let mut item = None;
-        self.receiver.next_item_in_place(&waiter, bus, &mut item);
-        item
+        let mut item = Item::blank();
+        if self.receiver.next_item_in_place(&waiter, bus, &mut item) {
+            Some(item)
+        } else {
+            None
+        }
+    }
+
+    /// As `next_item`, with the item written in place, so that it is moved nowhere: it says whether
+    /// it has written one, and at the end and ever after it has not.
+    pub fn next_item_in_place<W: Wait>(&mut self, wait: &W, item: &mut Item) -> bool
+        ensures bus { self.new.bus ≡ self.old.bus }
+        ensures passes { PassesTo self.old.me (written_or_end result item.new) self.new.me }
+    {
+        let bus: &Bus<Q> = &self.bus;
+        let waiter = self.bell.waiter(wait);
+        self.receiver.next_item_in_place(&waiter, bus, item)
     }
 
     /// As `next_item`, but that it can be told to stop: each time a turn finds nothing more it asks
@@ -156,6 +171,24 @@ impl<Q: Ratifier + Drop> ReceiverHandle<Q> {
         let bus: &Bus<Q> = &self.bus;
         let waiter = self.bell.asked(wait);
         self.receiver.next_item_while(&waiter, bus, go_on)
+    }
+
+    /// As `next_item_while`, with the item written in place, so that it is moved nowhere.
+    pub fn next_item_in_place_while<W: Wait, F: FnMut() -> bool>(
+        &mut self,
+        wait: &W,
+        go_on: F,
+        item: &mut Item,
+    ) -> Found
+        requires { F.IsAlwaysCallable go_on }
+        ensures bus { self.new.bus ≡ self.old.bus }
+        ensures passes { PassesWhile F.step self.old.me go_on (next_of result item.new)
+            self.new.me }
+    {
+        let bus: &Bus<Q> = &self.bus;
+        let waiter = self.bell.asked(wait);
+        self.receiver
+            .next_item_in_place_while(&waiter, bus, go_on, item)
     }
 
     /// A sender of the same bus tells it of the log: it knows from then on all that the sender has

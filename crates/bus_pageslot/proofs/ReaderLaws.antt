@@ -302,25 +302,39 @@ unread {C} h other =
     subst (λ (y : Sat C). (receiver_view_in y.0).place < length (known_in y.0)) (sym h.me)
     (let a = h.fit.place in let b = h.fit.known in let d = h.fit.within in omega (arith, other))
 
+-- what stood is what another has left, and that takes the word
+pub still_to_take : {r r₀ r' : LogReading} {i i₀ i' : Item} {told : ItemTurn}
+    {sign sign' : RecvTurn} {word : ℕ} → (r ≡ r₀) × (i ≡ i₀)
+    → (answer : RecvTurn) × Writes answer i told i' × (sign' ≡ sign_after answer sign)
+    × TakesNext r word answer r'
+    → (answer : RecvTurn) × Writes answer i₀ told i' × (sign' ≡ sign_after answer sign)
+    × TakesNext r₀ word answer r'
+still_to_take {r' = r'} {i' = i'} {told = told} {word = word} same h = (
+  h.0,
+  subst (λ i. Writes h.0 i told i') same.1 h.1,
+  h.2,
+  subst (λ r. TakesNext r word h.0 r') same.0 h.3,
+)
+
 -- the answer of which this was told, with its item and its sign
-abbrev pub back : ItemTurn → Option Item → RecvTurn → RecvTurn
+abbrev pub back : ItemTurn → Item → RecvTurn → RecvTurn
 back item_turn.Going item sign = sign
 back item_turn.Empty item sign = turn.Empty
-back item_turn.Item None sign = sign
-back item_turn.Item (Some item) sign = turn.Item item
+back item_turn.Item item sign = turn.Item item
 back item_turn.End item sign = turn.End
 
 -- is the one that was written
-back_is : (answer : RecvTurn)
-    → back (item_turn_of answer) (item_after answer None) (sign_after answer turn.Going) ≡ answer
-back_is turn.Going = refl
-back_is turn.Empty = refl
-back_is (turn.Head tenure owner) = refl
-back_is (turn.Item item) = refl
-back_is (turn.Leave sender) = refl
-back_is turn.End = refl
+back_is : (answer : RecvTurn) (before : Item)
+    → back (item_turn_of answer) (item_after answer before) (sign_after answer turn.Going) ≡ answer
+back_is turn.Going before = refl
+back_is turn.Empty before = refl
+back_is (turn.Head tenure owner) before = refl
+back_is (turn.Item item) before = refl
+back_is (turn.Leave sender) before = refl
+back_is turn.End before = refl
 
-pub told_back : {answer : RecvTurn} {told : ItemTurn} {item : Option Item} {sign : RecvTurn}
-    → Writes answer None told item → sign ≡ sign_after answer turn.Going
+pub told_back : {answer : RecvTurn} {before item : Item} {told : ItemTurn} {sign : RecvTurn}
+    → Writes answer before told item → sign ≡ sign_after answer turn.Going
     → back told item sign ≡ answer
-told_back {answer} w is = (λ i. back (w.told_is i) (w.after_is i) (is i)) ∙ back_is answer
+told_back {answer} {before} w is =
+    (λ i. back (w.told_is i) (w.after_is i) (is i)) ∙ back_is answer before

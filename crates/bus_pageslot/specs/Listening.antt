@@ -84,11 +84,11 @@ item_turn_of (turn.Leave sender) = item_turn.Going
 item_turn_of turn.End = item_turn.End
 
 -- what stands in that place then; any other answer leaves what stood there before
-abbrev pub item_after : RecvTurn → Option Item → Option Item
+abbrev pub item_after : RecvTurn → Item → Item
 item_after turn.Going before = before
 item_after turn.Empty before = before
 item_after (turn.Head tenure owner) before = before
-item_after (turn.Item item) before = Some item
+item_after (turn.Item item) before = item
 item_after (turn.Leave sender) before = before
 item_after turn.End before = before
 
@@ -102,13 +102,13 @@ sign_after (turn.Item item) before = before
 sign_after (turn.Leave sender) before = turn.Leave sender
 sign_after turn.End before = before
 
-pub record Writes (answer : RecvTurn) (before : Option Item) (told : ItemTurn)
-    (after : Option Item) : Type 0 where
+pub record Writes (answer : RecvTurn) (before : Item) (told : ItemTurn) (after : Item) :
+    Type 0 where
   pub told_is : told ≡ item_turn_of answer
   pub after_is : after ≡ item_after answer before
 
 -- the same, where none is told of a word that says nothing by itself
-abbrev pub WritesOrPlain : RecvTurn → Option Item → Option ItemTurn → Option Item → Type 0
+abbrev pub WritesOrPlain : RecvTurn → Item → Option ItemTurn → Item → Type 0
 WritesOrPlain answer before None after = (answer ≡ turn.Going) × (after ≡ before)
 WritesOrPlain answer before (Some told) after = Writes answer before told after
 
@@ -120,8 +120,8 @@ pub data GoesOnTo {C : Type 0} (first : Sat C) : Sat C → Type 0 where
       → GoesOnTo first new
 
 -- Such turns, and a last one, of which an item is written in its place.
-pub record HearsAfter {C : Type 0} (first : Sat C) (before : Option Item) (told : ItemTurn)
-    (after : Option Item) (new : Sat C) : Type 0 where
+pub record HearsAfter {C : Type 0} (first : Sat C) (before : Item) (told : ItemTurn) (after : Item)
+    (new : Sat C) : Type 0 where
   pub old : Sat C
   pub going : GoesOnTo first old
   pub answer : RecvTurn

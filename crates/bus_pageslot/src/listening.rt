@@ -3,6 +3,7 @@
 ghost use Rattle.std.specs.Prelude.{◌≡◌, ◌≢◌, ◌+◌, ◌-◌, ◌<◌};
 ghost use Rattle.std.specs.Prelude.{None, false};
 ghost use Rattle.bus_pageslot.specs.Seats.{IsReceiverView};
+ghost use Rattle.bus_batch.specs.declared.messages.Item.{Item};
 ghost use Rattle.bus_deliverylog.specs.declared.receiving.RecvTurn.{RecvTurn};
 ghost use Rattle.bus_deliverylog.specs.Receiving.{TakesNext};
 ghost use Rattle.bus_pageslot.specs.Listening.{Hears, HearsLength, HearsWord, item_turn_of};
@@ -31,13 +32,13 @@ pub enum ItemTurn {
 /// The answer with its item written in place, and with a head or a leave mark written as the sign;
 /// any other answer leaves both as they were.
 #[inline(always)]
-fn tell(answer: RecvTurn, item: &mut Option<Item>, sign: &mut RecvTurn) -> ItemTurn
+fn tell(answer: RecvTurn, item: &mut Item, sign: &mut RecvTurn) -> ItemTurn
     ensures item { Writes answer item.old result item.new }
     ensures sign { sign.new ≡ sign_after answer sign.old }
 {
     match answer {
         RecvTurn::Item(given) => {
-            *item = Some(given);
+            *item = given;
             ItemTurn::Item
         }
         RecvTurn::End => ItemTurn::End,
@@ -53,17 +54,15 @@ fn tell(answer: RecvTurn, item: &mut Option<Item>, sign: &mut RecvTurn) -> ItemT
 /// The answer of one turn, of which this was told, with this item and this sign. Where none was
 /// told, the turn took a word that says nothing by itself.
 #[inline(always)]
-pub(crate) fn answered(told: Option<ItemTurn>, item: Option<Item>, sign: RecvTurn) -> RecvTurn
-    requires { (answer : RecvTurn) × WritesOrPlain answer None told item
-        × (sign ≡ sign_after answer RecvTurn.Going) }
-    ensures { (answer : RecvTurn) → WritesOrPlain answer None told item
+pub(crate) fn answered(told: Option<ItemTurn>, item: Item, sign: RecvTurn) -> RecvTurn
+    ensures { (answer : RecvTurn) (before : Item) → WritesOrPlain answer before told item
         → sign ≡ sign_after answer RecvTurn.Going → result ≡ answer }
 {
     match told {
         None => RecvTurn::Going,
         Some(ItemTurn::Going) => sign,
         Some(ItemTurn::Empty) => RecvTurn::Empty,
-        Some(ItemTurn::Item) => RecvTurn::Item(item.unwrap()),
+        Some(ItemTurn::Item) => RecvTurn::Item(item),
         Some(ItemTurn::End) => RecvTurn::End,
     }
 }
@@ -97,12 +96,7 @@ fn hear_length<Q: Ratifier + Drop>(
 
 /// Any word is taken, and an item is written in place.
 #[inline(never)]
-fn feed_word(
-    reader: &mut LogReader,
-    word: u64,
-    item: &mut Option<Item>,
-    sign: &mut RecvTurn,
-) -> ItemTurn
+fn feed_word(reader: &mut LogReader, word: u64, item: &mut Item, sign: &mut RecvTurn) -> ItemTurn
     requires going { reader.old.ended ≡ false }
     requires below { reader.old.place ≢ reader.old.known }
     ensures word { (answer : RecvTurn) × Writes answer item.old result item.new
@@ -115,12 +109,7 @@ fn feed_word(
 
 /// A word that may say something, or be bad, is taken, and an item is written in place.
 #[inline(always)]
-fn take_word(
-    reader: &mut LogReader,
-    word: u64,
-    item: &mut Option<Item>,
-    sign: &mut RecvTurn,
-) -> ItemTurn
+fn take_word(reader: &mut LogReader, word: u64, item: &mut Item, sign: &mut RecvTurn) -> ItemTurn
     requires going { reader.old.ended ≡ false }
     requires below { reader.old.place ≢ reader.old.known }
     ensures word { (answer : RecvTurn) × Writes answer item.old result item.new
@@ -128,13 +117,10 @@ fn take_word(
         × TakesNext reader.old word answer reader.new }
     ensures senders { reader.new.frames.senders ≡ reader.old.frames.senders }
 {
-    match reader.take_item(word) {
-        Some(found) => {
-            *item = Some(found);
-            ItemTurn::Item
-        }
-        None => feed_word(reader, word, item, sign),
+    if reader.take_item(word, item) {
+        return ItemTurn::Item;
     }
+    feed_word(reader, word, item, sign)
 }
 
 /// The word at the reader's place is loaded, and an item is written in place, and so is a sign.
@@ -145,7 +131,7 @@ fn hear_word<Q: Ratifier + Drop>(
     seat: &mut BusSeat<Q>,
     log: u64,
     reader: &mut LogReader,
-    item: &mut Option<Item>,
+    item: &mut Item,
     sign: &mut RecvTurn,
 ) -> Option<ItemTurn>
     requires table { seat.old.table_id ≡ words.now.table }
@@ -176,7 +162,7 @@ pub(crate) fn hear<Q: Ratifier + Drop>(
     seat: &mut BusSeat<Q>,
     log: u64,
     reader: &mut LogReader,
-    item: &mut Option<Item>,
+    item: &mut Item,
     sign: &mut RecvTurn,
 ) -> Option<ItemTurn>
     requires table { seat.old.table_id ≡ words.now.table }
@@ -204,7 +190,7 @@ pub(crate) fn hear_on<Q: Ratifier + Drop>(
     seat: &mut BusSeat<Q>,
     log: u64,
     reader: &mut LogReader,
-    item: &mut Option<Item>,
+    item: &mut Item,
 ) -> ItemTurn
     requires table { seat.old.table_id ≡ words.now.table }
     requires receiver_view { IsReceiverView seat.old.me seat.old.table_id.words log reader.old }

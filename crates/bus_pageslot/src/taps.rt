@@ -97,7 +97,7 @@ impl<Q: Ratifier + Drop> Tap<Q> {
         if self.reader.has_ended() {
             return RecvTurn::End;
         }
-        let mut item = None;
+        let mut item = Item::blank();
         let mut sign = RecvTurn::Going;
         let mut seat = self.seat.take().unwrap();
         let told = hear(
@@ -116,7 +116,7 @@ impl<Q: Ratifier + Drop> Tap<Q> {
     /// Going. Of the last one it tells the answer, with an item written in its place; any other
     /// answer leaves that as it was.
     #[inline(always)]
-    pub fn item_turns(&mut self, bus: &Bus<Q>, item: &mut Option<Item>) -> ItemTurn
+    pub fn item_turns(&mut self, bus: &Bus<Q>, item: &mut Item) -> ItemTurn
         requires { self.old.table_id ≡ bus.now.table }
         ensures table { self.new.table_id ≡ self.old.table_id }
         ensures hears { HearsAfter self.old.me item.old result item.new self.new.me }

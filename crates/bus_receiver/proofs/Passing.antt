@@ -1,6 +1,5 @@
 -- Turns between which a function is asked are turns.
-use Rattle.std.proofs.Common.{◌≡◌, ◌⊎◌, Bool, refl, true, false, inl, inr, sym, ◌∙◌, ap, subst}
-use Rattle.std.specs.Prelude.{Option, None, Some}
+use Rattle.std.proofs.Common.{◌≡◌, Bool, refl, true, false, sym, ◌∙◌, ap, subst}
 use Rattle.bus_batch.specs.declared.messages.Item.{Item}
 use Rattle.bus_deliverylog.specs.declared.receiving.RecvTurn.{RecvTurn}
 use Rattle.bus_deliverylog.specs.declared.receiving.RecvTurn.TheVariants as turn
@@ -12,7 +11,9 @@ use Rattle.bus_receiver.specs.declared.receivers.Next.{Next}
 use Rattle.bus_receiver.specs.declared.receivers.Next.TheVariants as next
 use Rattle.bus_receiver.specs.Listening.{is_given, PassesOn, Stays, Passes, PassesTo, AsksOn}
 use Rattle.bus_receiver.specs.Listening.{Begins, Goes, Asks, PassesWhile, last_of, next_of}
-use Rattle.bus_receiver.specs.Listening.{item_or_end}
+use Rattle.bus_receiver.specs.Listening.{written_or_end}
+use Rattle.bus_receiver.specs.declared.receivers.Found.{Found}
+use Rattle.bus_receiver.specs.declared.receivers.Found.TheVariants as found
 
 goes_on :
     {C F : Type 0} (Tells : F → Bool → F → Type 0) (first : Sat C) (given : F) (new : Sat C) (f : F)
@@ -42,12 +43,12 @@ asks_on_to Tells first given old f _ before (Onward middle new going below hears
     Goes middle f turn.Going new (asks_on_to Tells first given old f middle before going) hears refl
     (λ empty. absurd (let no : turn.Going ≡ turn.Empty = empty in cc))
 
-pub only_empty : (answer : RecvTurn) (before after : Option Item) (told : ItemTurn)
+pub only_empty : (answer : RecvTurn) (before after : Item) (told : ItemTurn)
     → Writes answer before told after → told ≡ item_turn.Empty
-    → (answer ≡ turn.Empty) × (after ≡ before)
+    → answer ≡ turn.Empty
 only_empty turn.Going before after told w is =
     absurd (let no : item_turn.Going ≡ item_turn.Empty = sym w.told_is ∙ is in cc)
-only_empty turn.Empty before after told w is = (refl, w.after_is)
+only_empty turn.Empty before after told w is = refl
 only_empty (turn.Head t o) before after told w is =
     absurd (let no : item_turn.Going ≡ item_turn.Empty = sym w.told_is ∙ is in cc)
 only_empty (turn.Item i) before after told w is =
@@ -57,68 +58,87 @@ only_empty (turn.Leave s) before after told w is =
 only_empty turn.End before after told w is =
     absurd (let no : item_turn.End ≡ item_turn.Empty = sym w.told_is ∙ is in cc)
 
-pub only_going : (answer : RecvTurn) (before after : Option Item) (told : ItemTurn)
+pub only_going : (answer : RecvTurn) (before after : Item) (told : ItemTurn)
     → Writes answer before told after → told ≡ item_turn.Going
-    → (is_given answer ≡ false) × (answer ≡ turn.Empty → ⊥) × (after ≡ before)
+    → (is_given answer ≡ false) × (answer ≡ turn.Empty → ⊥)
 only_going turn.Going before after told w is = (
   refl,
   λ empty. absurd (let no : turn.Going ≡ turn.Empty = empty in cc),
-  w.after_is,
 )
 only_going turn.Empty before after told w is =
     absurd (let no : item_turn.Empty ≡ item_turn.Going = sym w.told_is ∙ is in cc)
 only_going (turn.Head t o) before after told w is = (
   refl,
   λ empty. absurd (let no : turn.Head t o ≡ turn.Empty = empty in cc),
-  w.after_is,
 )
 only_going (turn.Item i) before after told w is =
     absurd (let no : item_turn.Item ≡ item_turn.Going = sym w.told_is ∙ is in cc)
 only_going (turn.Leave s) before after told w is = (
   refl,
   λ empty. absurd (let no : turn.Leave s ≡ turn.Empty = empty in cc),
-  w.after_is,
 )
 only_going turn.End before after told w is =
     absurd (let no : item_turn.End ≡ item_turn.Going = sym w.told_is ∙ is in cc)
 
-pub last_written : (answer : RecvTurn) (before after : Option Item) (told : ItemTurn)
-    → Writes answer before told after → before ≡ None
-    → (told ≡ item_turn.Item) ⊎ (told ≡ item_turn.End) → last_of (next_of false after) ≡ answer
-last_written turn.Going before after told w none is = elim is [
-  | inl item ↦ absurd (let no : item_turn.Going ≡ item_turn.Item = sym w.told_is ∙ item in cc)
-  | inr end ↦ absurd (let no : item_turn.Going ≡ item_turn.End = sym w.told_is ∙ end in cc)
-]
-last_written turn.Empty before after told w none is = elim is [
-  | inl item ↦ absurd (let no : item_turn.Empty ≡ item_turn.Item = sym w.told_is ∙ item in cc)
-  | inr end ↦ absurd (let no : item_turn.Empty ≡ item_turn.End = sym w.told_is ∙ end in cc)
-]
-last_written (turn.Head t o) before after told w none is = elim is [
-  | inl item ↦ absurd (let no : item_turn.Going ≡ item_turn.Item = sym w.told_is ∙ item in cc)
-  | inr end ↦ absurd (let no : item_turn.Going ≡ item_turn.End = sym w.told_is ∙ end in cc)
-]
-last_written (turn.Item i) before after told w none is =
-    ap (λ a. last_of (next_of false a)) w.after_is
-last_written (turn.Leave s) before after told w none is = elim is [
-  | inl item ↦ absurd (let no : item_turn.Going ≡ item_turn.Item = sym w.told_is ∙ item in cc)
-  | inr end ↦ absurd (let no : item_turn.Going ≡ item_turn.End = sym w.told_is ∙ end in cc)
-]
-last_written turn.End before after told w none is =
-    ap (λ a. last_of (next_of false a)) (w.after_is ∙ none)
+pub only_item : (answer : RecvTurn) (before after : Item) (told : ItemTurn)
+    → Writes answer before told after → told ≡ item_turn.Item → answer ≡ turn.Item after
+only_item turn.Going before after told w is =
+    absurd (let no : item_turn.Going ≡ item_turn.Item = sym w.told_is ∙ is in cc)
+only_item turn.Empty before after told w is =
+    absurd (let no : item_turn.Empty ≡ item_turn.Item = sym w.told_is ∙ is in cc)
+only_item (turn.Head t o) before after told w is =
+    absurd (let no : item_turn.Going ≡ item_turn.Item = sym w.told_is ∙ is in cc)
+only_item (turn.Item i) before after told w is = ap turn.Item (sym w.after_is)
+only_item (turn.Leave s) before after told w is =
+    absurd (let no : item_turn.Going ≡ item_turn.Item = sym w.told_is ∙ is in cc)
+only_item turn.End before after told w is =
+    absurd (let no : item_turn.End ≡ item_turn.Item = sym w.told_is ∙ is in cc)
 
-pub not_stopped : (after : Option Item) → next_of false after ≡ next.Stopped → ⊥
-not_stopped None e = absurd (let no : next.End ≡ next.Stopped = e in cc)
-not_stopped (Some i) e = absurd (let no : next.Item i ≡ next.Stopped = e in cc)
+pub only_end : (answer : RecvTurn) (before after : Item) (told : ItemTurn)
+    → Writes answer before told after → told ≡ item_turn.End → answer ≡ turn.End
+only_end turn.Going before after told w is =
+    absurd (let no : item_turn.Going ≡ item_turn.End = sym w.told_is ∙ is in cc)
+only_end turn.Empty before after told w is =
+    absurd (let no : item_turn.Empty ≡ item_turn.End = sym w.told_is ∙ is in cc)
+only_end (turn.Head t o) before after told w is =
+    absurd (let no : item_turn.Going ≡ item_turn.End = sym w.told_is ∙ is in cc)
+only_end (turn.Item i) before after told w is =
+    absurd (let no : item_turn.Item ≡ item_turn.End = sym w.told_is ∙ is in cc)
+only_end (turn.Leave s) before after told w is =
+    absurd (let no : item_turn.Going ≡ item_turn.End = sym w.told_is ∙ is in cc)
+only_end turn.End before after told w is = refl
 
-given_of : {C F : Type 0} (Tells : F → Bool → F → Type 0) (first : Sat C) (given : F) (new : Sat C)
-    (after : Option Item) → PassesWhile Tells first given (next_of false after) new
-    → PassesTo first (item_or_end after) new
-given_of Tells first given new None h = passes_to Tells first given next.End new h refl
-given_of Tells first given new (Some i) h = passes_to Tells first given (next.Item i) new h refl
+pub written_in_place : {C F : Type 0} (Tells : F → Bool → F → Type 0) (first : Sat C) (given : F)
+    (new : Sat C) (told : Found) → told ≡ found.Item → (after : Item)
+    → PassesWhile Tells first given (next_of told after) new
+    → PassesTo first (turn.Item after) new
+written_in_place Tells first given new told is after h = passes_to Tells first given
+    (next.Item after) new
+    (subst (λ t. PassesWhile Tells first given (next_of t after) new) is h) refl
 
-pub given_in_place : {C F : Type 0} (Tells : F → Bool → F → Type 0) (first : Sat C) (given : F)
-    (new : Sat C) (stopped : Bool) → stopped ≡ false → (after : Option Item)
-    → PassesWhile Tells first given (next_of stopped after) new
-    → PassesTo first (item_or_end after) new
-given_in_place Tells first given new stopped goes after h = given_of Tells first given new after
-    (subst (λ b. PassesWhile Tells first given (next_of b after) new) goes h)
+pub ended_in_place : {C F : Type 0} (Tells : F → Bool → F → Type 0) (first : Sat C) (given : F)
+    (new : Sat C) (told : Found) → told ≡ found.End → (after : Item)
+    → PassesWhile Tells first given (next_of told after) new → PassesTo first turn.End new
+ended_in_place Tells first given new told is after h = passes_to Tells first given next.End new
+    (subst (λ t. PassesWhile Tells first given (next_of t after) new) is h) refl
+
+pub told_to_stop : {C F : Type 0} (Tells : F → Bool → F → Type 0) (first : Sat C) (given : F)
+    (new : Sat C) (told : Found) → told ≡ found.Stopped → (after : Item)
+    → PassesWhile Tells first given (next_of told after) new
+    → (asked : F) × (left : F) × Tells asked false left
+told_to_stop Tells first given new told is after h =
+    let stopped = h.told (ap (λ t. next_of t after) is) in
+    (h.asked, stopped.0, stopped.1)
+
+pub as_told : {C F : Type 0} (Tells : F → Bool → F → Type 0) (first : Sat C) (given : F)
+    (new : Sat C) (told told' : Found) → told ≡ told' → (after : Item)
+    → PassesWhile Tells first given (next_of told after) new
+    → PassesWhile Tells first given (next_of told' after) new
+as_told Tells first given new told told' is after h =
+    subst (λ t. PassesWhile Tells first given (next_of t after) new) is h
+
+pub as_written : {C : Type 0} (first new : Sat C) (written written' : Bool) → written ≡ written'
+    → (after : Item) → PassesTo first (written_or_end written after) new
+    → PassesTo first (written_or_end written' after) new
+as_written first new written written' is after h =
+    subst (λ b. PassesTo first (written_or_end b after) new) is h

@@ -11,6 +11,8 @@ use Rattle.bus_automaton.specs.Processes.{Process}
 use Rattle.bus_pageslot.specs.Rule.{Sat, receiver_view_in, known_in}
 use Rattle.bus_pageslot.specs.Seats.{ReceiverSeat}
 use Rattle.bus_pageslot.specs.Steps.{Learns, KnowsSent}
+use Rattle.bus_receiver.specs.declared.receivers.Found.{Found}
+use Rattle.bus_receiver.specs.declared.receivers.Found.TheVariants as found
 use Rattle.bus_receiver.specs.declared.receivers.Next.{Next}
 use Rattle.bus_receiver.specs.declared.receivers.Next.TheVariants as next
 
@@ -83,12 +85,11 @@ last_of (next.Item item) = turn.Item item
 last_of next.End = turn.End
 last_of next.Stopped = turn.Empty
 
--- what a call found that says whether it was told to stop, and else leaves an item, or none at the
--- end
-abbrev pub next_of : Bool → Option Item → Next
-next_of true left = next.Stopped
-next_of false (Some item) = next.Item item
-next_of false None = next.End
+-- the same of a call that writes the item in its place
+abbrev pub next_of : Found → Item → Next
+next_of found.Item written = next.Item written
+next_of found.End written = next.End
+next_of found.Stopped written = next.Stopped
 
 -- such turns, and a last one, which answered so; after an Empty the function was asked and told to
 -- stop
@@ -103,6 +104,11 @@ pub record PassesWhile {C F : Type 0} (Tells : F → Bool → F → Type 0) (fir
 abbrev pub item_or_end : Option Item → RecvTurn
 item_or_end (Some item) = turn.Item item
 item_or_end None = turn.End
+
+-- the answer of a call that says whether it has written an item in its place
+abbrev pub written_or_end : Bool → Item → RecvTurn
+written_or_end true written = turn.Item written
+written_or_end false written = turn.End
 
 -- ---- what it learns of others
 -- it was told by this sender, which has done these actions, and knows the log at least up to each

@@ -3,6 +3,7 @@
 ghost use Rattle.std.specs.Prelude.{◌≡◌, ◌+◌, ◌<◌, ◌&&◌, ◌==◌, Some};
 ghost use Rattle.std.specs.Prelude.{slice_get, slice_index, slice_set, true, false};
 
+use bus_batch::Item;
 use bus_deliverylog::RecvTurn;
 use bus_register::SenderNo;
 use bus_register::limits::MOST_SENDERS;
@@ -83,14 +84,24 @@ impl Heard {
                 self.ended = true;
                 true
             }
-            RecvTurn::Item(item) => self.note_item(item.sender, item.number),
+            RecvTurn::Item(item) => self.note_item(item),
             RecvTurn::Leave(sender) => self.note_leave(*sender),
             RecvTurn::Going | RecvTurn::Empty | RecvTurn::Head { .. } => !self.ended,
         }
     }
 
+    /// Takes this item as the next answer of a receiver, as `note` does.
+    pub fn note_item(&mut self, item: &Item) -> bool
+        ensures takes { result ≡ takes self.old (RecvTurn.Item item.now) }
+        ensures taken { result ≡ true
+            → self.new ≡ hearing_after self.old (RecvTurn.Item item.now) }
+        ensures refused { result ≡ false → self.new ≡ self.old }
+    {
+        self.note_number(item.sender, item.number)
+    }
+
     /// Takes the item of this number, or refuses it.
-    fn note_item(&mut self, sender: SenderNo, number: u64) -> bool
+    fn note_number(&mut self, sender: SenderNo, number: u64) -> bool
         ensures takes { result
             ≡ (goes_on self.old && has_room self.old &&
             (is_there self.old sender.0 && (number == expected self.old sender.0))) }

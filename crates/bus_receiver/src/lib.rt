@@ -29,5 +29,5 @@ pub use bus_tenure::{Page, Turn};
 pub use bus_waiting::Waiter;
 pub use bus_world::{MakeFault, Shape};
 pub use hearing::Heard;
-pub use receivers::{Next, Receiver};
+pub use receivers::{Found, Next, Receiver};
 pub use sizes::{room_to_close, tenures_needed, words_needed};

@@ -9,7 +9,8 @@ ghost use Rattle.bus_pageslot.specs.Rule.{receiver_view_in, known_in};
 ghost use Rattle.bus_pageslot.specs.Listening.{Hears, HearsAfter};
 ghost use Rattle.bus_pageslot.specs.Seats.{table_of, actions_of, stored_of};
 ghost use Rattle.bus_receiver.specs.Listening.{bus_of, is_found, Takes, HaveMet, IsTold};
-ghost use Rattle.bus_receiver.specs.Listening.{PassesTo, PassesWhile, item_or_end, next_of};
+ghost use Rattle.bus_receiver.specs.Listening.{PassesTo, PassesWhile, item_or_end, written_or_end};
+ghost use Rattle.bus_receiver.specs.Listening.{next_of};
 
 use bus_adoptcommit::{Ratifier, ThreeWord};
 use bus_batch::Item;
@@ -25,6 +26,17 @@ use std::sync::Wait;
 pub enum Next {
     /// The next message of the order.
     Item(Item),
+    /// The order has ended, and all of it was given.
+    End,
+    /// It found nothing more, and was told to stop.
+    Stopped,
+}
+
+/// What such a wait came to where the message is written in place.
+#[derive(Clone, Copy, Debug, PartialEq, Eq)]
+pub enum Found {
+    /// The next message of the order was written.
+    Item,
     /// The order has ended, and all of it was given.
     End,
     /// It found nothing more, and was told to stop.
@@ -85,7 +97,7 @@ impl<Q: Ratifier + Drop> Receiver<Q> {
 
     /// Turns, as the tap's.
     #[inline(always)]
-    fn item_turns(&mut self, bus: &Bus<Q>, item: &mut Option<Item>) -> ItemTurn
+    fn item_turns(&mut self, bus: &Bus<Q>, item: &mut Item) -> ItemTurn
         requires { bus_of self.old ≡ bus.now.table }
         ensures table { bus_of self.new ≡ bus_of self.old }
         ensures hears { HearsAfter self.old.me item.old result item.new self.new.me }
@@ -121,24 +133,30 @@ impl<Q: Ratifier + Drop> Receiver<Q> {
         ensures table { bus_of self.new ≡ bus_of self.old }
         ensures passes { PassesTo self.old.me (item_or_end result) self.new.me }
     {
-        let mut item = None;
-        self.next_item_in_place(waiter, bus, &mut item);
-        item
+        let mut item = Item::blank();
+        if self.next_item_in_place(waiter, bus, &mut item) {
+            Some(item)
+        } else {
+            None
+        }
     }
 
-    /// As `next_item`, with its answer written in place: a large one is moved once less.
+    /// As `next_item`, with the item written in place, so that it is moved nowhere: it says whether
+    /// it has written one, and at the end and ever after it has not.
     pub fn next_item_in_place<W: Wait>(
         &mut self,
         waiter: &Waiter<'_, W>,
         bus: &Bus<Q>,
-        item: &mut Option<Item>,
-    )
+        item: &mut Item,
+    ) -> bool
         requires { bus_of self.old ≡ bus.now.table }
         ensures table { bus_of self.new ≡ bus_of self.old }
-        ensures passes { PassesTo self.old.me (item_or_end item.new) self.new.me }
+        ensures passes { PassesTo self.old.me (written_or_end result item.new) self.new.me }
     {
-        if self.pass_while(waiter, bus, || true, item) {
-            unreachable!()
+        match self.pass_while(waiter, bus, || true, item) {
+            Found::Item => true,
+            Found::End => false,
+            Found::Stopped => unreachable!(),
         }
     }
 
@@ -156,39 +174,52 @@ impl<Q: Ratifier + Drop> Receiver<Q> {
         ensures table { bus_of self.new ≡ bus_of self.old }
         ensures passes { PassesWhile F.step self.old.me go_on result self.new.me }
     {
-        let mut item = None;
-        if self.pass_while(waiter, bus, go_on, &mut item) {
-            return Next::Stopped;
-        }
-        match item {
-            Some(item) => Next::Item(item),
-            None => Next::End,
+        let mut item = Item::blank();
+        match self.pass_while(waiter, bus, go_on, &mut item) {
+            Found::Item => Next::Item(item),
+            Found::End => Next::End,
+            Found::Stopped => Next::Stopped,
         }
     }
 
-    /// As `next_item_while`, with an item written in place, and none where there is none. It says
-    /// whether it was told to stop.
-    #[inline(always)]
-    fn pass_while<W: Wait, F: FnMut() -> bool>(
+    /// As `next_item_while`, with the item written in place, so that it is moved nowhere.
+    pub fn next_item_in_place_while<W: Wait, F: FnMut() -> bool>(
         &mut self,
         waiter: &Waiter<'_, W>,
         bus: &Bus<Q>,
-        mut go_on: F,
-        item: &mut Option<Item>,
-    ) -> bool
+        go_on: F,
+        item: &mut Item,
+    ) -> Found
         requires table { bus_of self.old ≡ bus.now.table }
         requires callable { F.IsAlwaysCallable go_on }
         ensures table { bus_of self.new ≡ bus_of self.old }
         ensures passes { PassesWhile F.step self.old.me go_on (next_of result item.new)
             self.new.me }
     {
-        *item = None;
+        self.pass_while(waiter, bus, go_on, item)
+    }
+
+    #[inline(always)]
+    fn pass_while<W: Wait, F: FnMut() -> bool>(
+        &mut self,
+        waiter: &Waiter<'_, W>,
+        bus: &Bus<Q>,
+        mut go_on: F,
+        item: &mut Item,
+    ) -> Found
+        requires table { bus_of self.old ≡ bus.now.table }
+        requires callable { F.IsAlwaysCallable go_on }
+        ensures table { bus_of self.new ≡ bus_of self.old }
+        ensures passes { PassesWhile F.step self.old.me go_on (next_of result item.new)
+            self.new.me }
+    {
         for _ in waiter.forever() {
             match self.item_turns(bus, item) {
-                ItemTurn::Item | ItemTurn::End => return false,
+                ItemTurn::Item => return Found::Item,
+                ItemTurn::End => return Found::End,
                 ItemTurn::Empty => {
                     if !go_on() {
-                        return true;
+                        return Found::Stopped;
                     }
                     waiter.rest();
                 }

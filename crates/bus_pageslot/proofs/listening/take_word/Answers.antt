@@ -1,11 +1,16 @@
 use Rattle.std.proofs.Common.{refl}
 use Rattle.bus_deliverylog.specs.declared.receiving.RecvTurn.TheVariants as turn
+use Rattle.bus_pageslot.proofs.ReaderLaws.{still_to_take}
 use Rattle.bus_pageslot.proofs.listening.take_word.Goals as goal
 
-pub returns-in-Some-clause-word : goal.returns-in-Some-clause-word
-returns-in-Some-clause-word c = (
-  turn.Item c.in-Some.found,
+pub returns-then-take_item-clause-word : goal.returns-then-take_item-clause-word
+returns-then-take_item-clause-word c = (
+  turn.Item c.take_item.new.item,
   record { told_is = refl; after_is = refl },
   refl,
-  c.in-Some.ensures.word,
+  c.take_item.ensures.word c.if-take_item.true,
 )
+
+pub returns-clause-word : goal.returns-clause-word
+returns-clause-word c = still_to_take (c.take_item.ensures.stays c.if-take_item.false)
+    c.feed_word.ensures.word

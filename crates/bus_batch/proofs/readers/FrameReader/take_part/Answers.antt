@@ -21,7 +21,7 @@ returns-clause-steps c =
     c.self.inside.left
     (place.Data c.args.owner (c.args.left - 1) c.args.room c.args.told.number c.args.told.len)
     bytes))
-    (sym (c.append.ensures ∙ ap (λ z. c.self.inside.bytes ++ z) c.to_be_bytes.ensures))
+    (sym c.append_word.ensures)
     (takes_eight c.self.inside.senders c.self.inside.least c.args.word c.self.inside.left
     c.args.owner c.args.left c.args.room c.args.told.number c.args.told.len c.self.inside.bytes
     c.ranges.word.fits sound.2 sound.3 sound.4

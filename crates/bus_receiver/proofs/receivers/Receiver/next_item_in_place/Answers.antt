@@ -1,6 +1,10 @@
-use Rattle.bus_receiver.proofs.Passing.{given_in_place}
+use Rattle.bus_receiver.proofs.Passing.{written_in_place, ended_in_place}
 use Rattle.bus_receiver.proofs.receivers.Receiver.next_item_in_place.Goals as goal
 
-pub returns-clause-passes : goal.returns-clause-passes
-returns-clause-passes g c =
-    given_in_place _ _ _ _ _ c.if-pass_while.false c.pass_while.new.item c.pass_while.ensures.passes
+pub returns-in-Item-clause-passes : goal.returns-in-Item-clause-passes
+returns-in-Item-clause-passes g c =
+    written_in_place _ _ _ _ _ c.in-Item.is c.pass_while.new.item c.pass_while.ensures.passes
+
+pub returns-in-End-clause-passes : goal.returns-in-End-clause-passes
+returns-in-End-clause-passes g c =
+    ended_in_place _ _ _ _ _ c.in-End.is c.pass_while.new.item c.pass_while.ensures.passes
