@@ -1,9 +1,9 @@
 -- A word in a message's place, and what comes after a message.
 use Rattle.std.proofs.Common.{◌≡◌, ℕ, zero, suc, ◌+◌, ◌-◌, ◌*◌, ◌<◌, ◌≤◌, List, [], ◌∷◌, ◌++◌}
 use Rattle.std.proofs.Common.{length, get_or, replicate, arith, refl, sym, ap, ◌∙◌, subst, inl, inr}
-use Rattle.std.specs.Prelude.{◌≢◌, All, Bool, true, false, Option, Some, None, slice_get, slice_set}
+use Rattle.std.specs.Prelude.{◌≢◌, Bool, true, false, Option, Some, None, slice_get, slice_set}
 use Rattle.std.specs.List.{flat_map}
-use Rattle.std.proofs.lemmas.Bool.{cases_lt, cases_eq}
+use Rattle.std.proofs.lemmas.Bool.{cases_lt}
 use Rattle.std.proofs.lemmas.List.{nil_from_length}
 use Rattle.std.proofs.lemmas.List.Elements.{All-nil, All-replicate}
 use Rattle.std.proofs.Math.ListN.{length-replicate}
@@ -16,7 +16,7 @@ use Rattle.bus_batch.specs.declared.readers.Length.{Length}
 use Rattle.bus_batch.specs.declared.readers.Place.{Place}
 use Rattle.bus_batch.specs.declared.readers.Place.TheVariants as place
 use Rattle.bus_batch.specs.Messages.{Numbered, IsNumbered}
-use Rattle.bus_batch.specs.Frames.{Frame, end_word, mark_word, data_len, item_of, item_pieces}
+use Rattle.bus_batch.specs.Frames.{end_word, mark_word, data_len, item_of, item_pieces}
 use Rattle.bus_batch.specs.Frames.{words_of_bytes, message_word, message_words, message_pieces}
 use Rattle.bus_batch.specs.Frames.{log_words, log_pieces}
 use Rattle.bus_batch.specs.Reading.{Awaits, Fills, Completes}

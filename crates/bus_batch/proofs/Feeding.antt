@@ -3,7 +3,7 @@ use Rattle.std.proofs.Common.{◌≡◌, ℕ, suc, ◌+◌, ◌≤◌, true, fal
 use Rattle.std.proofs.Common.{arith, refl, sym, ap, ◌∙◌, subst, inl, inr, append_assoc, Ok, Err}
 use Rattle.std.proofs.Common.{Some, None}
 use Rattle.std.proofs.lemmas.List.Elements.{All-nil, All-cons}
-use Rattle.std.specs.Prelude.{◌<◌, ◌^◌, zero, replicate, All, Bool, Option, Result, IfOk, IfSome}
+use Rattle.std.specs.Prelude.{◌<◌, zero, replicate, All, Bool, Option, Result, IfOk, IfSome}
 use Rattle.std.specs.Prelude.{IsErr, ◌↔◌, slice_get}
 use Rattle.std.proofs.lemmas.List.{length-append}
 use Rattle.std.proofs.Common.{append-nil}

@@ -11,8 +11,8 @@ use Rattle.bus_batch.specs.declared.messages.Piece.TheVariants as piece
 use Rattle.bus_batch.specs.declared.readers.Head.{Head}
 use Rattle.bus_batch.specs.declared.readers.Place.TheVariants as place
 use Rattle.bus_batch.specs.Messages.{Numbered}
-use Rattle.bus_batch.specs.Frames.{end_word, mark_word, Frame, Body, Messages, Marked, IsFrame}
-use Rattle.bus_batch.specs.Frames.{IsBody, AreFramesFrom, head_word, message_words, body_words}
+use Rattle.bus_batch.specs.Frames.{end_word, Frame, Body, Messages, Marked, IsFrame}
+use Rattle.bus_batch.specs.Frames.{IsBody, head_word, message_words, body_words}
 use Rattle.bus_batch.specs.Frames.{body_pieces, log_words, log_pieces}
 use Rattle.bus_batch.specs.Reading.{Awaits, MayFollow}
 use Rattle.bus_batch.specs.Steps.{IsHead, Takes, Refuses}

@@ -3,7 +3,7 @@ use Rattle.std.proofs.Common.{◌≡◌, ℕ, zero, suc, ◌+◌, ◌-◌, ◌*�
 use Rattle.std.proofs.Common.{◌++◌, length, take, drop, replicate, arith, refl, sym, ap, ◌∙◌, subst}
 use Rattle.std.specs.Prelude.{All, ◌↔◌}
 use Rattle.std.specs.Int.{w64, to_be_bytes, bytes_high_first, byte_at}
-use Rattle.std.proofs.Math.Seq.{take-append-add, drop-append-add}
+use Rattle.std.proofs.Math.Seq.{take-append-add, drop-append-add, drop-length}
 use Rattle.std.proofs.Math.Arith.{mod-mul}
 use Rattle.std.proofs.lemmas.List.{length-take, length-drop, length-append, take-append-le}
 use Rattle.std.proofs.lemmas.List.{drop-append-le}
@@ -136,4 +136,45 @@ module _ (a k len : ℕ) (xs ys : List ℕ) (k_is : k ≡ 8) (size : length xs �
       cut
       ∙ all_zeros (drop (len - a) ys ++ drop k (drop a xs))
       (All-append (λ b. b ≡ 0) (drop (len - a) ys) (drop k (drop a xs)) none others)
+      ∙ ap (λ n. replicate n 0) size_is
+
+-- ---- more bytes behind those that there are, in the place of zeros
+module _ (a k : ℕ) (xs ys : List ℕ) (k_is : k ≡ length ys) (size : length xs ≡ 56)
+    (room : a + length ys ≤ 56) where
+  kept : length (take a xs) ≡ a
+  kept = length-take a xs ∙ (omega arith)
+
+  pub more_long : length (take a xs ++ (ys ++ drop k (drop a xs))) ≡ 56
+  more_long =
+      let f = kept in
+      let e = length-append (take a xs) (ys ++ drop k (drop a xs)) in
+      let e' = length-append ys (drop k (drop a xs)) in
+      let d = length-drop k (drop a xs) in
+      let d' = length-drop a xs in
+      omega arith
+
+  pub more_spared : drop a xs ≡ replicate (56 - a) 0
+      → drop (a + length ys) (take a xs ++ (ys ++ drop k (drop a xs)))
+      ≡ replicate (56 - (a + length ys)) 0
+  more_spared spare =
+      let cut : drop (a + length ys) (take a xs ++ (ys ++ drop k (drop a xs)))
+      ≡ drop (length ys) ys ++ drop k (drop a xs) =
+      ap (λ n. drop n (take a xs ++ (ys ++ drop k (drop a xs))))
+      (let f = kept in let e : a + length ys ≡ length (take a xs) + length ys = omega arith in e)
+      ∙ drop-append-add (take a xs) (ys ++ drop k (drop a xs)) (length ys)
+      ∙ drop-append-le (length ys) ys (drop k (drop a xs)) (omega arith) in
+      let none : All (λ b. b ≡ 0) (drop (length ys) ys) =
+      subst (λ z. All (λ b. b ≡ 0) z) (sym (drop-length ys)) (All-nil (λ b. b ≡ 0)) in
+      let others : All (λ b. b ≡ 0) (drop k (drop a xs)) =
+      All-drop (λ b. b ≡ 0) k (drop a xs)
+      (subst (λ z. All (λ b. b ≡ 0) z) (sym spare) (All-replicate (λ b. b ≡ 0) (56 - a) 0 refl)) in
+      let size_is : length (drop (length ys) ys ++ drop k (drop a xs)) ≡ 56 - (a + length ys) =
+      let e = length-append (drop (length ys) ys) (drop k (drop a xs)) in
+      let d = length-drop (length ys) ys in
+      let d' = length-drop k (drop a xs) in
+      let d'' = length-drop a xs in
+      omega arith in
+      cut
+      ∙ all_zeros (drop (length ys) ys ++ drop k (drop a xs))
+      (All-append (λ b. b ≡ 0) (drop (length ys) ys) (drop k (drop a xs)) none others)
       ∙ ap (λ n. replicate n 0) size_is

@@ -101,6 +101,16 @@ impl Message {
         self.len = len + 8;
     }
 
+    /// The bytes with more at the end.
+    pub(crate) fn append(&mut self, more: &[u8])
+        requires { length self.old + length more.now ≤ MOST_BYTES }
+        ensures { self.new ≡ self.old ++ more.now }
+    {
+        let all = self.len + more.len();
+        self.bytes[self.len..all].copy_from_slice(more);
+        self.len = all;
+    }
+
     /// The bytes that were begun, and the first ones of a word, of which the others are zero: so
     /// many in all. Nothing is begun any more.
     #[inline(always)]

@@ -1,4 +1,4 @@
-use Rattle.std.proofs.Common.{rules, ◌≡◌, ◌%◌, ◌*◌, ◌-◌, ◌^◌, arith}
+use Rattle.std.proofs.Common.{rules}
 use Rattle.bus_batch.proofs.Padding.{padded}
 use Rattle.bus_batch.proofs.readers.is_padded.Goals as goal
 

@@ -1,4 +1,4 @@
-use Rattle.std.proofs.Common.{◌≡◌, ℕ, ◌≤◌, List, length, arith, refl, ap}
+use Rattle.std.proofs.Common.{ℕ, ◌≤◌, List, length, arith, refl, ap}
 use Rattle.bus_batch.proofs.Padding.{spared}
 use Rattle.bus_batch.proofs.messages.Message.of_bytes.Goals as goal
 

@@ -1,5 +1,5 @@
 use Rattle.bus_batch.specs.declared.readers.Place.TheVariants as place
-use Rattle.std.proofs.Common.{◌+◌, ◌-◌, ◌<◌, ◌++◌, length, sym, ap, ◌∙◌, subst, Ok, None}
+use Rattle.std.proofs.Common.{◌+◌, ◌-◌, ◌<◌, length, sym, subst, Ok, None}
 use Rattle.bus_batch.specs.Reading.{Reading}
 use Rattle.bus_batch.specs.Steps.{Steps}
 use Rattle.bus_batch.proofs.Taking.{reading, at_place, sound_at, takes_eight}
