@@ -11,6 +11,6 @@ padded_again len bytes h =
     let size : length (take len bytes) ≡ len =
     length-take len bytes ∙ (let a = h.0 in let b = h.1 in omega arith) in (
       size,
-      ap (λ n. take len bytes ++ replicate (56 - n) 0) size ∙ ap (λ z. take len bytes ++ z) (sym h.2)
-          ∙ take-append-drop len bytes,
+      ap (λ n. take len bytes ++ replicate (56 - n) 0) size
+          ∙ ap (λ z. take len bytes ++ z) (sym h.2) ∙ take-append-drop len bytes,
     )
