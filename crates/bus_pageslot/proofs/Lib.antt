@@ -14,6 +14,8 @@ pub mod Extending
 pub mod Walks
 pub mod Counted
 pub mod Plain
+pub mod TurnsLeft
+pub mod HoldingTurns
 pub mod Finishing
 pub mod Openings
 pub mod Puts

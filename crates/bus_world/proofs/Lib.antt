@@ -6,6 +6,7 @@ pub mod Bounds
 pub mod FrameOfBatch
 pub mod SenderParts
 pub mod BusLaws
+pub mod HolderLaws
 pub mod TurningLaws
 pub mod ReceivingLaws
 pub mod PutLaws

@@ -40,6 +40,7 @@ use Rattle.bus_world.specs.World.{IsLayout}
 use Rattle.bus_world.specs.Proved.Sending.{least_of, standing_of, Part, Fits, GoesOn, HasBegun}
 use Rattle.bus_world.specs.Proved.Sending.{Sending, stands_at}
 use Rattle.bus_world.proofs.BusLaws as bus
+use Rattle.bus_world.proofs.HolderLaws as holders
 use Rattle.bus_world.proofs.SenderParts.{IsUnsent}
 use Rattle.bus_world.specs.Proved.Machines.{Side, home_after, core_after, owners_after, side_after}
 use Rattle.bus_world.specs.Proved.Machines.{Bus}
@@ -439,13 +440,13 @@ module _ {base : ℕ → ℕ} {E : Type 0} (X : Election E) (P : Protocol E (Uni
       unsent_kept : (reason : Reason) → IsUnsent reason → published ≡ false
           → Kept (GivesBack t page reason)
       unsent_kept reason unsent none_yet = gives reason (λ step new.
-          bus.gives_unsent X P laws x ok width words home senders owners frames h p c
+          holders.gives_unsent X P laws x ok width words home senders owners frames h p c
           (core_at_rest c reason t) senders' old new beside t page stored published holds words'
           step.here (λ r ne. step.elsewhere r ne) reason unsent none_yet refl)
 
       sent_kept : published ≡ true → Kept (GivesBack t page Sent)
       sent_kept out = gives Sent (λ step new.
-          bus.gives_sent X P laws x ok width words home senders owners frames h p c
+          holders.gives_sent X P laws x ok width words home senders owners frames h p c
           (core_at_rest c Sent t) senders' old new beside t page stored published holds words'
           step.here (λ r ne. step.elsewhere r ne) out refl)
 
@@ -457,7 +458,7 @@ module _ {base : ℕ → ℕ} {E : Type 0} (X : Election E) (P : Protocol E (Uni
               (slice_index (frame_words (frame_of c.queue t)) stored))
               (let b = capacity_is in let d = log_is in omega arith),
           λ step new.
-              bus.writes X P laws x ok width words home senders owners frames h p c
+              holders.writes X P laws x ok width words home senders owners frames h p c
               (record c { phase = phase.Holding t page (stored + 1) false }) senders' old new beside
               t page stored published holds words' none_yet is_open room more step.here
               (λ r ne. step.elsewhere r ne) refl,
@@ -467,7 +468,7 @@ module _ {base : ℕ → ℕ} {E : Type 0} (X : Election E) (P : Protocol E (Uni
         publish_kept all = (
           only (Store record { 0 = 0 } (page.words + frame_len c)) (omega arith),
           λ step new.
-              bus.publishes X P laws x ok width words home senders owners frames h p c
+              holders.publishes X P laws x ok width words home senders owners frames h p c
               (record c { phase = phase.Holding t page stored true }) senders' old new beside t page
               stored published holds words' none_yet is_open room all step.here
               (λ r ne. step.elsewhere r ne) refl,

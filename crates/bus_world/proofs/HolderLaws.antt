@@ -1,0 +1,396 @@
+-- Each turn of a sender that holds the page keeps what senders, words, page and owners keep: it
+-- stores a word of its frame or the length, or gives the page back.
+use Rattle.std.proofs.Common.{◌≡◌, ◌≢◌, ℕ, suc, ◌+◌, ◌*◌, ◌<◌, ◌≤◌, Bool, true, false, Option, Some}
+use Rattle.std.proofs.Common.{inl, inr, List, [], ◌∷◌, ◌++◌, length, take, ◌||◌, is_some, slice_get}
+use Rattle.std.proofs.Common.{slice_index, slice_set, arith, refl, sym, ◌∙◌, ap, subst}
+use Rattle.std.proofs.lemmas.Bool.{cases_eq}
+use Rattle.std.proofs.lemmas.List.{take_more, get_or-set_same, get_or-set_other}
+use Rattle.std.proofs.Math.ListN.{length-set}
+use Rattle.std.proofs.Math.Seq.{take-length}
+use Rattle.std.proofs.lemmas.Option.{same_Some}
+use Rattle.bus_register.specs.declared.limits.TheConstants.{MOST_SENDERS}
+use Rattle.bus_register.specs.declared.registers.SenderNo.{SenderNo}
+use Rattle.bus_register.specs.Tables.{of_some, Beside}
+use Rattle.bus_register.specs.Protocol.{Protocol, Laws}
+use Rattle.bus_batch.specs.Batches.{IsKept, next_of, frame_of}
+use Rattle.bus_batch.specs.Frames.{Frame, frame_words, IsFrame, items_of, has_end, leaves, order_of}
+use Rattle.bus_batch.specs.Frames.{has_gone}
+use Rattle.bus_tenure.specs.Core.{Core, Election, Layout, is_leaving, log_at, frame_len, page_after}
+use Rattle.bus_tenure.specs.Situations.{core_at_rest, queue_after}
+use Rattle.bus_tenure.specs.declared.phases.Reason.{Reason}
+use Rattle.bus_tenure.specs.declared.phases.Reason.TheVariants.{Sent}
+use Rattle.bus_tenure.specs.declared.pages.Page.{Page}
+use Rattle.bus_tenure.specs.declared.phases.Phase.TheVariants as phase
+use Rattle.bus_world.specs.Log.{words_read_from, next_number, AreCounted, Knows}
+use Rattle.bus_world.specs.Proved.Sending.{AreEarlier, Logged, stands_at, standing_of, least_of}
+use Rattle.bus_world.specs.Proved.Sending.{GoesOn, IsWriting, HasBegun, Fits, Part, Sending}
+use Rattle.bus_world.proofs.LogLaws.{read-agree, Logged-agree, Logged-publish, next-append_other}
+use Rattle.bus_world.proofs.LogLaws.{next-append_owner, gone-append_owner, gone-append_other}
+use Rattle.bus_world.proofs.LogLaws.{say_same, has_end-append, AreEarlier-append, AreEarlier-later}
+use Rattle.bus_batch.proofs.BatchLaws.{is_frame}
+use Rattle.bus_world.proofs.FrameOfBatch.{counted_frame, length-items, ends-body, leaves-body}
+use Rattle.bus_ownerbits.specs.OneOwner.{OneOwner}
+use Rattle.bus_world.specs.Proved.Tenures.{Standing}
+use Rattle.bus_world.specs.Proved.Tenures.Standing.{Holds}
+use Rattle.bus_world.proofs.TenuresLaws as tenures
+use Rattle.bus_world.specs.World.{IsLayout}
+use Rattle.bus_world.proofs.SenderParts.{still_here, Knows-len, part_of, IsUnsent, left_shut}
+use Rattle.bus_world.proofs.SenderParts.{noted_own, noted_other, not_busy, sender_after, none_short}
+use Rattle.bus_world.proofs.SenderParts.{unsent_goes_on, unsent_queue, unsent_knows}
+use Rattle.bus_world.proofs.SenderParts.{AreOwned-append}
+use Rattle.bus_world.proofs.BusLaws as bus
+
+module _ {E : Type 0} (X : Election E) (P : Protocol E (Unit {0}) ℕ)
+    (laws : Laws X.op X.fed P OneOwner) (x : Layout) (ok : IsLayout x)
+    (width : x.width ≡ P.width x.senders) where
+  module _ {base : ℕ → ℕ} (words : ℕ → ℕ) (home : Option Page) (senders : ℕ → Option (Core E))
+      (owners : List ℕ) (frames : List Frame)
+      (h : Sending base P x words home senders owners frames) where
+    abbrev S : ℕ → Option (Standing E)
+    S q = of_some standing_of (senders q)
+
+    abbrev L : ℕ → ℕ
+    L q = least_of (senders q)
+
+    module _ (p : ℕ) (c c' : Core E) (senders' : ℕ → Option (Core E)) (old : senders p ≡ Some c)
+        (new : senders' p ≡ Some c') (beside : Beside p senders senders') where
+      abbrev S' : ℕ → Option (Standing E)
+      S' q = of_some standing_of (senders' q)
+
+      abbrev L' : ℕ → ℕ
+      L' q = least_of (senders' q)
+
+      open bus.turn_facts X P laws x ok width words home senders owners frames h p c c' senders' old
+          new beside use {
+            stand,
+            S-beside,
+            L-beside,
+            now,
+            L-same,
+            S-same,
+            parts_from,
+            chosen_resting,
+            chosen_holding,
+            others_rest,
+            others_agree,
+          }
+
+      module _ (t : ℕ) (page : Page) (stored : ℕ) (published : Bool)
+          (holds : c.phase ≡ phase.Holding t page stored published) where
+        own_part : Part base x words frames p c
+        own_part = h.parts p c old
+
+        is_holder : S p ≡ Some (Holds t)
+        is_holder = stand p c old ∙ ap (λ z. Some (stands_at z)) holds
+
+        held : (t ≡ h.tenures.ended) × (words 1 ≡ 2 * t + 1) × (slice_get owners t ≡ Some p)
+            × (L p ≤ t)
+        held = h.tenures.holding p t is_holder
+
+        -- ── it stores the next word of its frame ──
+        module _ (words' : ℕ → ℕ) (none_yet : published ≡ false) (is_open : page.ended ≡ false)
+            (room : page.words + frame_len c ≤ c.layout.capacity) (more : stored < frame_len c)
+            (word : words' (log_at c.layout + page.words + stored)
+            ≡ slice_index (frame_words (frame_of c.queue t)) stored)
+            (elsewhere : (r : ℕ) → r ≢ log_at c.layout + page.words + stored → words' r ≡ words r)
+            (goes : c' ≡ record c { phase = phase.Holding t page (stored + 1) false }) where
+          writing : HasBegun c.queue × IsWriting base words frames c t page stored
+          writing = subst (λ z. Fits base words frames c (phase.Holding t page stored z)) none_yet
+              (subst (Fits base words frames c) holds own_part.fits)
+
+          place : log_at c.layout + page.words + stored ≡ log_at x + words 0 + stored
+          place =
+              ap (λ z. log_at z + page.words + stored) own_part.layout
+              ∙ ap (λ z. log_at x + z + stored) writing.1.page_knows.words
+
+          past : (r : ℕ) → r < log_at x + words 0 + stored → words' r ≡ words r
+          past r l = elsewhere r (let e = place in omega arith)
+
+          len_same : words' 0 ≡ words 0
+          len_same = past 0 (omega arith)
+
+          stage_same : words' 1 ≡ words 1
+          stage_same = past 1 (omega arith)
+
+          one_more : IsWriting base words' frames
+              (record c { phase = phase.Holding t page (stored + 1) false }) t page (stored + 1)
+          one_more = let w = writing.1 in record {
+            goes_on = w.goes_on;
+            page_knows = Knows-len page frames t (words 0) (words' 0) len_same w.page_knows;
+            earlier = w.earlier;
+            stored_below = omega arith;
+            allowed = λ z. (is_open, room);
+            words_are =
+                let at = log_at c.layout + words' 0 in
+                let same_at : log_at c.layout + words' 0 ≡ log_at x + words 0 =
+                ap (λ z. log_at c.layout + z) len_same
+                ∙ ap (λ z. log_at z + words 0) own_part.layout in
+                let before : words_read_from words' (log_at c.layout + words' 0) stored
+                ≡ take stored (frame_words (frame_of c.queue t)) =
+                read-agree words words' (log_at c.layout + words' 0) stored
+                (λ r a b. past r (omega arith))
+                ∙ ap (λ z. words_read_from words (log_at c.layout + z) stored) len_same
+                ∙ w.words_are in
+                let last : words' (log_at c.layout + words' 0 + stored)
+                ≡ slice_index (frame_words (frame_of c.queue t)) stored =
+                ap words' (let e = place in omega arith) ∙ word in
+                ap (words_read_from words' (log_at c.layout + words' 0))
+                (let e : stored + 1 ≡ suc stored = omega arith in e)
+                ∙ ap (λ z. z ++ words' (log_at c.layout + words' 0 + stored) ∷ []) before
+                ∙ ap (λ z. take stored (frame_words (frame_of c.queue t)) ++ z ∷ []) last
+                ∙ sym (take_more (frame_words (frame_of c.queue t)) stored 0 more);
+          }
+
+          pub writes : Sending base P x words' home senders' owners frames
+          writes = record {
+            tenures = tenures.same X.op X.fed P laws x.senders x.rows 2 words (words 1)
+                (is_some home) S L owners h.tenures words' (words' 1) (is_some home) S' L' owners
+                (λ r a b. past r (let w = ap (λ z. x.rows * z) width in omega arith)) stage_same
+                refl (S-same (ap (λ z. stands_at z.phase) goes ∙ sym (ap stands_at holds)))
+                (L-same (ap (λ z. z.least) goes)) refl;
+            log = subst (λ z. Logged base x.senders x.capacity (log_at x) words' z frames)
+                (sym len_same) (Logged-agree x.senders x.capacity (log_at x) words (words 0) frames
+                h.log words' (λ r a b. past r (omega arith)));
+            owned = h.owned;
+            page_knows = λ g u a b.
+                let k = h.page_knows g u a (sym stage_same ∙ b) in
+                (Knows-len g frames u (words 0) (words' 0) len_same k.0, k.1);
+            parts = parts_from words' frames
+                (others_rest t words' frames is_holder (λ q ne. (refl, refl)))
+                (subst (Part base x words' frames p) (sym goes)
+                (part_of x words words' frames frames p c (phase.Holding t page (stored + 1) false)
+                own_part (writing.0, one_more)));
+            chosen = chosen_holding t page (stored + 1) false (ap (λ z. z.phase) goes);
+          }
+
+        -- ── it stores the length ──
+        module _ (words' : ℕ → ℕ) (none_yet : published ≡ false) (is_open : page.ended ≡ false)
+            (room : page.words + frame_len c ≤ c.layout.capacity) (all : frame_len c ≤ stored)
+            (word : words' 0 ≡ page.words + frame_len c)
+            (elsewhere : (r : ℕ) → r ≢ 0 → words' r ≡ words r)
+            (goes : c' ≡ record c { phase = phase.Holding t page stored true }) where
+          abbrev f : Frame
+          f = frame_of c.queue t
+
+          written : HasBegun c.queue × IsWriting base words frames c t page stored
+          written = subst (λ z. Fits base words frames c (phase.Holding t page stored z)) none_yet
+              (subst (Fits base words frames c) holds own_part.fits)
+
+          in_rows : t < x.rows
+          in_rows = (h.tenures.owned t p held.2).0
+
+          sender_is : c.queue.sender.0 ≡ p
+          sender_is = own_part.sender
+
+          still_open : has_end frames ≡ false
+          still_open = sym written.1.page_knows.ended ∙ is_open
+
+          frame_lawful : IsFrame x.senders f
+          frame_lawful = is_frame c.queue x.senders t written.0.something own_part.queue
+              (let a = sender_is in let b = own_part.below in omega arith)
+              (let a = in_rows in let b = ok.rows in omega arith)
+
+          all_stored : stored ≡ frame_len c
+          all_stored = let a = written.1.stored_below in omega arith
+
+          whole : words_read_from words (log_at x + words 0) (length (frame_words f))
+              ≡ frame_words f
+          whole =
+              ap (λ z. words_read_from words (log_at z + words 0) (length (frame_words f)))
+              (sym own_part.layout)
+              ∙ ap (words_read_from words (log_at c.layout + words 0)) (sym all_stored)
+              ∙ written.1.words_are
+              ∙ ap (λ z. take z (frame_words f)) all_stored ∙ take-length (frame_words f)
+
+          len_now : words' 0 ≡ words 0 + length (frame_words f)
+          len_now = word ∙ ap (λ z. z + frame_len c) written.1.page_knows.words
+
+          counts : AreCounted (next_number base f.owner.0 frames) (items_of f)
+          counts = subst (λ z. AreCounted z (items_of f))
+              (written.1.goes_on.0
+              ∙ ap (λ z. next_number base z frames) (own_part.me ∙ sym sender_is))
+              (counted_frame c.queue t)
+
+          has_stayed : has_gone f.owner.0 (order_of frames) ≡ false
+          has_stayed = subst (λ z. has_gone z (order_of frames) ≡ false)
+              (own_part.me ∙ sym sender_is)
+              (still_here base frames c written.1.goes_on written.0.is_open)
+
+          pub publishes : Sending base P x words' home senders' owners (frames ++ f ∷ [])
+          publishes = record {
+            tenures = tenures.same X.op X.fed P laws x.senders x.rows 2 words (words 1)
+                (is_some home) S L owners h.tenures words' (words' 1) (is_some home) S' L' owners
+                (λ r a b. elsewhere r (omega arith)) (elsewhere 1 (omega arith)) refl
+                (S-same (ap (λ z. stands_at z.phase) goes ∙ sym (ap stands_at holds)))
+                (L-same (ap (λ z. z.least) goes)) refl;
+            log = subst
+                (λ z. Logged base x.senders x.capacity (log_at x) words' z (frames ++ f ∷ []))
+                (sym len_now)
+                (Logged-agree x.senders x.capacity (log_at x) words
+                (words 0 + length (frame_words f)) (frames ++ f ∷ [])
+                (Logged-publish x.senders x.capacity (log_at x) words (words 0) frames h.log f
+                frame_lawful still_open has_stayed written.1.earlier counts whole
+                (let a = written.1.page_knows.words in
+                let b = ap (λ (z : Layout). z.capacity) own_part.layout in omega arith))
+                words' (λ r a b. elsewhere r (omega arith)));
+            owned = AreOwned-append owners frames f h.owned (held.2 ∙ ap Some (sym sender_is));
+            page_knows = λ g u a b.
+                absurd (let y = elsewhere 1 (omega arith) in let z = held.1 in omega arith);
+            parts = parts_from words' (frames ++ f ∷ [])
+                (others_rest t words' (frames ++ f ∷ []) is_holder
+                (λ q ne. say_same base q frames f (λ e. ne (e ∙ sender_is))))
+                (subst (Part base x words' (frames ++ f ∷ []) p) (sym goes)
+                (part_of x words words' frames (frames ++ f ∷ []) p c
+                (phase.Holding t page stored true) own_part (
+                  written.0,
+                  record {
+                    front = frames;
+                    frames_are = refl;
+                    goes_on = written.1.goes_on;
+                    page_knows = Knows-len page frames t (words 0) page.words
+                        written.1.page_knows.words written.1.page_knows;
+                    earlier = written.1.earlier;
+                    is_open = is_open;
+                    len_is = word;
+                  },
+                )));
+            chosen = chosen_holding t page stored true (ap (λ z. z.phase) goes);
+          }
+
+        -- ── it gives the page back ──
+        module _ (reason : Reason) (words' : ℕ → ℕ) (stage : words' 1 ≡ 2 * t + 2)
+            (elsewhere : (r : ℕ) → r ≢ 1 → words' r ≡ words r) (goes : c' ≡ core_at_rest c reason t)
+            (goes_on_now : GoesOn base frames (core_at_rest c reason t))
+            (queue_now : IsKept (queue_after reason c.queue))
+            (knows_now : Knows base (page_after c t page reason) frames (t + 1) (words 0))
+            (earlier_now : AreEarlier (t + 1) frames) where
+          rests_now : Fits base words' frames (core_at_rest c reason t) phase.Resting
+          rests_now = (not_busy reason c.queue, goes_on_now)
+
+          pub gives_back : Sending base P x words' (Some (page_after c t page reason)) senders'
+              owners frames
+          gives_back = record {
+            tenures = tenures.same X.op X.fed P laws x.senders x.rows 2 words (2 * t + 2) true S' L'
+                owners
+                (tenures.gives X.op X.fed P laws x.senders x.rows 2 words (words 1) (is_some home) S
+                L owners h.tenures p t is_holder S' (now ∙ ap (λ z. Some (stands_at z.phase)) goes)
+                S-beside L' (ap least_of new ∙ ap (λ z. z.least) goes) L-beside)
+                words' (words' 1) true S' L' owners (λ r a b. elsewhere r (omega arith)) stage refl
+                (λ q. refl) (λ q. refl) refl;
+            log = subst (λ z. Logged base x.senders x.capacity (log_at x) words' z frames)
+                (sym (elsewhere 0 (omega arith))) (Logged-agree x.senders x.capacity (log_at x)
+                words (words 0) frames h.log words' (λ r a b. elsewhere r (omega arith)));
+            owned = h.owned;
+            page_knows = λ g u a b.
+                let g_is : page_after c t page reason ≡ g = same_Some _ _ a in
+                let u_is : t + 1 ≡ u = omega arith in (
+                  subst (λ z. Knows base z frames u (words' 0)) g_is
+                      (subst (λ z. Knows base (page_after c t page reason) frames z (words' 0)) u_is
+                      (Knows-len (page_after c t page reason) frames (t + 1) (words 0) (words' 0)
+                      (elsewhere 0 (omega arith)) knows_now)),
+                  subst (λ z. AreEarlier z frames) u_is earlier_now,
+                );
+            parts = parts_from words' frames (others_agree words'
+                (λ r a b. elsewhere r (omega arith)) (elsewhere 0 (omega arith)))
+                (subst (Part base x words' frames p) (sym goes) record {
+                  layout = own_part.layout;
+                  me = own_part.me;
+                  below = own_part.below;
+                  sender =
+                      ap (λ (z : SenderNo). z.0) (sender_after reason c.queue) ∙ own_part.sender;
+                  queue = queue_now;
+                  fits = rests_now;
+                });
+            chosen = chosen_resting (ap (λ z. z.phase) goes);
+          }
+
+        -- what was not published changes nothing
+        module _ (words' : ℕ → ℕ) (stage : words' 1 ≡ 2 * t + 2)
+            (elsewhere : (r : ℕ) → r ≢ 1 → words' r ≡ words r) where
+          pub gives_unsent : (reason : Reason) → IsUnsent reason → published ≡ false
+              → c' ≡ core_at_rest c reason t
+              → Sending base P x words' (Some (page_after c t page reason)) senders' owners frames
+          gives_unsent reason unsent none_yet goes =
+              let w = subst (λ z. Fits base words frames c (phase.Holding t page stored z)) none_yet
+              (subst (Fits base words frames c) holds own_part.fits) in
+              gives_back reason words' stage elsewhere goes
+              (unsent_goes_on base frames reason unsent c t w.1.goes_on)
+              (unsent_queue reason unsent c.queue own_part.queue)
+              (unsent_knows reason unsent c t page frames (words 0) w.1.page_knows)
+              (AreEarlier-later t (t + 1) frames (omega arith) w.1.earlier)
+
+          pub gives_sent : published ≡ true → c' ≡ core_at_rest c Sent t
+              → Sending base P x words' (Some (page_after c t page Sent)) senders' owners frames
+          gives_sent sent_yet goes =
+              let w = subst (λ z. Fits base words frames c (phase.Holding t page stored z)) sent_yet
+              (subst (Fits base words frames c) holds own_part.fits) in
+              let f = frame_of c.queue t in
+              let me_is : c.queue.sender.0 ≡ c.me = own_part.sender ∙ sym own_part.me in
+              let base_now : next_of c.queue ≡ next_number base c.me frames =
+              ap (λ z. z + length c.queue.messages) w.1.goes_on.0
+              ∙ ap (λ z. next_number base c.me w.1.front + z)
+              (sym (length-items c.queue t own_part.queue))
+              ∙ ap (λ z. next_number base z w.1.front + length (items_of f)) (sym me_is)
+              ∙ sym (next-append_owner base w.1.front f)
+              ∙ ap (λ z. next_number base z (w.1.front ++ f ∷ [])) me_is
+              ∙ ap (next_number base c.me) (sym w.1.frames_are) in
+              let k = w.1.page_knows in
+              let small : c.me < MOST_SENDERS =
+              let a = own_part.me in let b = own_part.below in let d = ok.senders in omega arith in
+              let stayed : has_gone c.me (order_of w.1.front) ≡ false =
+              still_here base w.1.front c w.1.goes_on w.0.is_open in
+              let gone_now : has_gone c.me (order_of frames) ≡ is_leaving c.queue.phase =
+              ap (λ z. has_gone c.me (order_of z)) w.1.frames_are
+              ∙ ap (λ z. has_gone z (order_of (w.1.front ++ f ∷ []))) (sym me_is)
+              ∙ gone-append_owner w.1.front f
+              ∙ ap (λ z. has_gone z (order_of w.1.front) || leaves f.body) me_is
+              ∙ ap (λ b. b || leaves f.body) stayed ∙ leaves-body c.queue in
+              let others_gone : (s : ℕ) → s ≢ c.me
+              → has_gone s (order_of w.1.front) ≡ has_gone s (order_of frames) =
+              λ s ne.
+              sym (gone-append_other s w.1.front f (λ e. ne (e ∙ me_is)))
+              ∙ ap (λ z. has_gone s (order_of z)) (sym w.1.frames_are) in
+              gives_back Sent words' stage elsewhere goes (
+                base_now,
+                λ gone. (left_shut c.queue.phase (sym gone_now ∙ gone), refl),
+              )
+              record {
+                few = omega arith;
+                each = none_short;
+                numbers = (let a = own_part.queue.numbers in omega arith);
+                alone = λ m z. refl;
+                owner_bits = own_part.queue.owner_bits;
+              }
+              record {
+                entries = length-set page.next c.me (next_of c.queue) ∙ k.entries;
+                next = λ s l. elim (cases_eq s c.me) [
+                  | inl i ↦
+                      ap (slice_index (slice_set page.next c.me (next_of c.queue))) i
+                      ∙ get_or-set_same page.next c.me (next_of c.queue) 0
+                      (let a = k.entries in omega arith) ∙ base_now
+                      ∙ ap (λ z. next_number base z frames) (sym i)
+                  | inr ne ↦
+                      get_or-set_other page.next c.me s (next_of c.queue) 0 ne ∙ k.next s l
+                      ∙ sym (next-append_other base s w.1.front f (λ e. ne (e ∙ me_is)))
+                      ∙ ap (next_number base s) (sym w.1.frames_are)
+                ];
+                left = λ s l. elim (cases_eq s c.me) [
+                  | inl i ↦
+                      ap (slice_get (page_after c t page Sent).left) i
+                      ∙ noted_own page.left c.me (is_leaving c.queue.phase)
+                      (k.left c.me small ∙ ap Some stayed) ∙ ap Some (sym gone_now)
+                      ∙ ap (λ z. Some (has_gone z (order_of frames))) (sym i)
+                  | inr ne ↦
+                      noted_other page.left c.me (is_leaving c.queue.phase) s ne ∙ k.left s l
+                      ∙ ap Some (others_gone s ne)
+                ];
+                ended =
+                    sym (ends-body c.queue)
+                    ∙ sym (has_end-append w.1.front f (sym k.ended ∙ w.1.is_open))
+                    ∙ ap has_end (sym w.1.frames_are);
+                tenures = refl;
+                words = sym w.1.len_is;
+              }
+              (subst (AreEarlier (t + 1)) (sym w.1.frames_are)
+              (AreEarlier-append (t + 1) w.1.front f
+              (AreEarlier-later t (t + 1) w.1.front (omega arith) w.1.earlier) (omega arith)))
