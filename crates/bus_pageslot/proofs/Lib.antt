@@ -14,6 +14,7 @@ pub mod Extending
 pub mod Walks
 pub mod Counted
 pub mod Plain
+pub mod Rows
 pub mod Finishing
 pub mod Openings
 pub mod Puts
