@@ -258,6 +258,7 @@ impl<Q: Ratifier + Drop> SenderCore<Q> {
     }
 
     /// Where its presence stands.
+    #[inline(always)]
     fn presence(&self) -> Reg
         ensures { result.0 ≡ 2 + self.now.core.me }
     {
@@ -284,6 +285,7 @@ impl<Q: Ratifier + Drop> SenderCore<Q> {
     }
 
     /// A step of its election, on the row that its tenure uses.
+    #[inline(always)]
     fn election_step(&self, tenure: u64, word: u32) -> Option<Op>
         requires { let X = election_of Q.Ratifier in
             doing_of (situation_of X self.now.core) ≡ doing.Elects tenure }
@@ -302,6 +304,7 @@ impl<Q: Ratifier + Drop> SenderCore<Q> {
     }
 
     /// The step of a sender in its tenure, or before it.
+    #[inline(always)]
     fn own_step(&self, doing: Doing, word: u32) -> Option<Op>
         requires { let X = election_of Q.Ratifier in
             doing_of (situation_of X self.now.core) ≡ doing }
@@ -444,6 +447,7 @@ impl<Q: Ratifier + Drop> SenderCore<Q> {
     }
 
     /// The same of the step that `step` told.
+    #[inline(always)]
     pub fn rest_of(&self, step: Step) -> Turn
         requires { let X = election_of Q.Ratifier in step_of (situation X self.now) ≡ step }
         ensures answer { let X = election_of Q.Ratifier in result ≡ rest_at (line_now X self.now) }
@@ -454,6 +458,7 @@ impl<Q: Ratifier + Drop> SenderCore<Q> {
     }
 
     /// The answer where `step` told that no step is due.
+    #[inline(always)]
     fn rest_in(&self, step: Step) -> Turn
         requires { let X = election_of Q.Ratifier in step_of (situation X self.now) ≡ step }
         ensures { let X = election_of Q.Ratifier in result ≡ rest_at (line_now X self.now) }
@@ -619,6 +624,7 @@ impl<Q: Ratifier + Drop> SenderCore<Q> {
     }
 
     /// The page is taken and is to be laid.
+    #[inline(always)]
     pub fn awaits_page(&self) -> bool
         ensures { IsTrue result ↔ AwaitsItsPage self.now.core.phase }
     {
@@ -762,6 +768,7 @@ impl<Q: Ratifier + Drop> SenderCore<Q> {
     }
 
     /// The step that `step` told.
+    #[inline(always)]
     fn step_in(&self, step: Step, word: u32) -> Option<Op>
         requires { let X = election_of Q.Ratifier in step_of (situation X self.now) ≡ step }
         ensures step { let X = election_of Q.Ratifier in
@@ -810,6 +817,7 @@ impl<Q: Ratifier + Drop> SenderCore<Q> {
 }
 
 /// The next step of a reclamation.
+#[inline(always)]
 fn reclaimer_step(reuse: &Option<Reuse>) -> Option<Op>
     ensures { result ≡ reclaimer_op_of reuse.now }
 {
@@ -855,6 +863,7 @@ fn clear(reuse: &mut Option<Reuse>)
 }
 
 /// A step on a word of a row, on the row that this tenure uses.
+#[inline(always)]
 fn on_row(op: Op, tenure: u64, senders: u64, rows: u64, width: u64) -> Op
     requires tenure { tenure < TENURES }
     requires senders { senders ≤ MOST_SENDERS }

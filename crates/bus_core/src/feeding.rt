@@ -28,6 +28,7 @@ use bus_register::{Reg, SenderNo};
 use bus_tenure::{Doing, Turn, Turns};
 
 /// Goes on after the step that `step` told.
+#[inline(always)]
 pub fn feed_parts<Q: Ratifier + Drop>(
     turns: &mut Turns<Q>,
     reuse: &mut Option<Reuse>,
@@ -78,6 +79,7 @@ pub fn feed_parts<Q: Ratifier + Drop>(
 }
 
 /// The pin has come so far.
+#[inline(always)]
 fn show(reuse: &mut Option<Reuse>, pin: Pin)
     ensures { reuse.new ≡ reuse_pinning reuse.old pin }
 {
@@ -88,6 +90,7 @@ fn show(reuse: &mut Option<Reuse>, pin: Pin)
 }
 
 /// The answer of a sender that parts from a tenure.
+#[inline(always)]
 fn loss(reuse: &Option<Reuse>, tenure: u64) -> Turn
     ensures { result ≡ answer_of_loss tenure (lost_of reuse.now) }
 {
@@ -101,6 +104,7 @@ fn loss(reuse: &Option<Reuse>, tenure: u64) -> Turn
 }
 
 /// Takes the next step of a reclamation.
+#[inline(always)]
 fn reclaim_on(reuse: &mut Option<Reuse>, got: u64) -> Turn
     requires few { (s : Reclaiming) → reclaimer_in reuse.old ≡ Some s → s.senders ≤ MOST_SENDERS }
     ensures state { (s : Reclaiming) → reclaimer_in reuse.old ≡ Some s
@@ -115,6 +119,7 @@ fn reclaim_on(reuse: &mut Option<Reuse>, got: u64) -> Turn
 }
 
 /// The same of the reclamation.
+#[inline(always)]
 fn feed_reclaimer(reclaimer: &mut Option<Reclaimer>, got: u64) -> Turn
     requires few { (s : Reclaiming) → reclaimer.old ≡ Some s → s.senders ≤ MOST_SENDERS }
     ensures state { (s : Reclaiming) → reclaimer.old ≡ Some s
@@ -135,6 +140,7 @@ fn feed_reclaimer(reclaimer: &mut Option<Reclaimer>, got: u64) -> Turn
 }
 
 /// Goes on as a sender in its tenure, or before it.
+#[inline(always)]
 fn own_feed<Q: Ratifier + Drop>(
     turns: &mut Turns<Q>,
     reuse: &mut Option<Reuse>,
@@ -190,6 +196,7 @@ fn own_feed<Q: Ratifier + Drop>(
 }
 
 /// Takes in what the stage is, and begins or enters the tenure that it may begin.
+#[inline(always)]
 fn see_stage<Q: Ratifier + Drop>(turns: &mut Turns<Q>, reuse: &mut Option<Reuse>, got: u64) -> Turn
     requires rests { turns.old.phase ≡ phase.Resting }
     requires looks { resting turns.old ≡ LooksAtStage }
@@ -213,6 +220,7 @@ fn see_stage<Q: Ratifier + Drop>(turns: &mut Turns<Q>, reuse: &mut Option<Reuse>
 }
 
 /// The election of this tenure has gone on, or is over, and its sender answers this.
+#[inline(always)]
 fn elected(reuse: &mut Option<Reuse>, tenure: u64, turn: Turn) -> Turn
     ensures state { reuse.new ≡ reuse_answered turn tenure reuse.old }
     ensures answer { result ≡ turn_answered turn reuse.old }
@@ -230,6 +238,7 @@ fn elected(reuse: &mut Option<Reuse>, tenure: u64, turn: Turn) -> Turn
 }
 
 /// Takes the page.
+#[inline(always)]
 fn take<Q: Ratifier + Drop>(turns: &mut Turns<Q>, reuse: &mut Option<Reuse>, tenure: u64)
     requires doing { let X = election_of Q.Ratifier in
         doing_of (situation_of X turns.old) ≡ doing.Takes tenure }
@@ -251,6 +260,7 @@ fn take<Q: Ratifier + Drop>(turns: &mut Turns<Q>, reuse: &mut Option<Reuse>, ten
 }
 
 /// The reclamation is over with the page that is given back.
+#[inline(always)]
 fn done(reuse: &mut Option<Reuse>)
     ensures { reuse.new ≡ reuse_given reuse.old }
 {
@@ -260,6 +270,7 @@ fn done(reuse: &mut Option<Reuse>)
 }
 
 /// The reclaimer of a holder of this tenure: none where the row of the next one was never used.
+#[inline(always)]
 fn reclaimer_after(tenure: u64, senders: u64, rows: u64, width: u64) -> Option<Reclaimer>
     requires tenure { tenure < TENURES }
     requires senders { senders ≤ MOST_SENDERS }

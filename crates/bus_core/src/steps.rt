@@ -34,6 +34,7 @@ pub struct Ending {
 }
 
 /// How a step that gives the page back ends its tenure.
+#[inline(always)]
 pub fn ending_of(step: Step) -> Option<Ending>
     ensures { result ≡ spec_ending_of step }
 {

@@ -16,6 +16,7 @@ pub mod Counted
 pub mod Plain
 pub mod TurnsLeft
 pub mod HoldingTurns
+pub mod Rows
 pub mod Finishing
 pub mod Openings
 pub mod Puts

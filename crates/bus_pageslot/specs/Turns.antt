@@ -4,7 +4,11 @@ use Rattle.bus_register.specs.declared.kinds.Kind.{Kind}
 use Rattle.bus_register.specs.declared.registers.Op.{Op}
 use Rattle.bus_register.specs.Protocol.{Protocol}
 use Rattle.bus_adoptcommit.specs.declared.verdicts.Verdict.{Verdict}
-use Rattle.bus_core.specs.Senders.{Sender}
+use Rattle.bus_core.specs.Doings.{step_of}
+use Rattle.bus_core.specs.Senders.{Sender, situation}
+use Rattle.bus_core.specs.declared.steps.Step.TheVariants as step
+use Rattle.bus_tenure.specs.Core.{Election}
+use Rattle.bus_tenure.specs.declared.doings.Doing.TheVariants as doing
 use Rattle.bus_core.specs.Telling.{FeedTells, RestTells}
 use Rattle.bus_tenure.specs.Elections.{Elector, Ratifying, election_with}
 use Rattle.bus_tenure.specs.declared.turns.Turn.{Turn}
@@ -126,3 +130,36 @@ pub data DrawsOn {C : Type 0} (P : Process C) (T : Tellings C) (first : SenderSe
       → DrawsOn P T first given old words
       → Turned P T old (word_drawn (P.wants_word old.core) words).0 answer new
       → DrawsOn P T first given new (word_drawn (P.wants_word old.core) words).1
+
+-- ---- turns in a row that a generator has the words of
+-- a turn, whose word was what a generator was to answer, and what that is left with
+pub record TurnsDrawing {C : Type 0} (P : Process C) (T : Tellings C) (old : SenderSeat C)
+    (words : Stream) (answer : Turn) (new : SenderSeat C) (left : Stream) : Type 0 where
+  pub word : ℕ
+  pub drawn : (word, left) ≡ word_drawn (P.wants_word old.core) words
+  pub turned : Turned P T old word answer new
+
+-- Such turns, one or more, led from one sender to another: before each of them the sender was so,
+-- and each but the last answered Going. The answer is the last one's.
+pub data TakesWhile {C : Type 0} (P : Process C) (T : Tellings C) (So : C → Type 0)
+    (first : SenderSeat C) (given : Stream) : Turn → SenderSeat C → Stream → Type 0 where
+  TakesOne : (answer : Turn) (new : SenderSeat C) (left : Stream) → So first.core
+      → TurnsDrawing P T first given answer new left → TakesWhile P T So first given answer new left
+  TakesMore : (old : SenderSeat C) (words : Stream) (answer : Turn) (new : SenderSeat C)
+      (left : Stream) → TakesWhile P T So first given turn.Going old words → So old.core
+      → TurnsDrawing P T old words answer new left → TakesWhile P T So first given answer new left
+
+-- whatever was so before each of them
+abbrev pub TakesSome : {C : Type 0} → Process C → Tellings C → SenderSeat C → Stream → Turn
+    → SenderSeat C → Stream → Type 0
+TakesSome P T first given answer new left =
+    TakesWhile P T (λ c. Unit {0}) first given answer new left
+
+-- its next step is one of the election of this tenure, which has no owner yet
+abbrev pub ElectsIn : {E : Type 0} → Election E → Sender E → ℕ → Type 0
+ElectsIn X v t = step_of (situation X v) ≡ step.Does (doing.Elects t)
+
+-- the same of whatever tenure
+pub record IsElecting {E : Type 0} (X : Election E) (v : Sender E) : Type 0 where
+  pub tenure : ℕ
+  pub elects : ElectsIn X v tenure

@@ -5,8 +5,10 @@ ghost use Rattle.std.specs.Prelude.{Some, IfSome, IfNone, IfOk, IfErr, IsSome, i
 ghost use Rattle.std.specs.Prelude.{OnOk, OnErr, length, ◌-◌, ◌≤◌, IsTrue, true, false, ◌↔◌};
 ghost use Rattle.bus_batch.specs.Batches.{next_of, CanPut, IsPutFault, CanClose, IsCloseFault};
 ghost use Rattle.bus_core.specs.Causes.{HasCause};
+ghost use Rattle.bus_core.specs.Doings.{step_of};
 ghost use Rattle.bus_core.specs.Plain.{IsPlain, StoresPlain};
 ghost use Rattle.bus_core.specs.Seen.{tenure_begun};
+ghost use Rattle.bus_core.specs.Senders.{situation};
 ghost use Rattle.bus_core.specs.Telling.{FeedTells, RestTells};
 ghost use Rattle.bus_batch.specs.declared.messages.Mark.TheVariants as mark;
 ghost use Rattle.bus_tenure.specs.Core.{is_closed, is_leaving};
@@ -14,7 +16,7 @@ ghost use Rattle.bus_tenure.specs.declared.turns.Turn.TheVariants as turn;
 ghost use Rattle.bus_tenure.specs.Elections.{election_of};
 ghost use Rattle.bus_tenure.specs.Seen.{HasElection};
 ghost use Rattle.bus_register.specs.declared.kinds.Kind.TheVariants as kind;
-ghost use Rattle.bus_register.specs.declared.registers.Op.{Op as Step};
+ghost use Rattle.bus_register.specs.declared.registers.Op.{Op};
 ghost use Rattle.bus_world.specs.Headline.{HasPut, HasMarked, puts};
 ghost use Rattle.bus_pageslot.specs.declared.rule.View.TheVariants.{Tap};
 ghost use Rattle.bus_pageslot.specs.ReceiverViews.{ReceiverView};
@@ -22,7 +24,8 @@ ghost use Rattle.bus_pageslot.specs.Rule.{known_in, stored_in};
 ghost use Rattle.bus_pageslot.specs.Steps.{Learns, KnowsSent};
 ghost use Rattle.bus_pageslot.specs.Seats.{Shows, TookAndTold, table_of};
 ghost use Rattle.bus_pageslot.specs.Seats.{first_number_of, actions_of, stored_of};
-ghost use Rattle.bus_pageslot.specs.Turns.{tells_by, Sends, GoesPlainly};
+ghost use Rattle.bus_pageslot.specs.Turns.{tells_by, Sends, GoesPlainly, TurnsDrawing};
+ghost use Rattle.bus_pageslot.specs.Turns.{TakesWhile, TakesSome, ElectsIn, IsElecting};
 ghost use Rattle.bus_pageslot.specs.Turns.{SendsAsking, StopsWaiting, DrawsOn, word_drawn};
 ghost use Rattle.bus_automaton.specs.Buses.{process_by};
 ghost use Rattle.bus_tenure.specs.Classes.{is_last, is_refusal, is_waiting};
@@ -41,10 +44,10 @@ use arrayvec::ArrayVec;
 use bus_adoptcommit::{Ratifier, ThreeWord};
 use bus_automaton::laws::threads_may_go_by;
 use bus_batch::{CloseFault, Message, PutFault};
-use bus_core::SenderCore;
+use bus_core::{SenderCore, Step};
 use bus_register::limits::MOST_MESSAGES;
 use bus_register::{Kind, SenderNo};
-use bus_tenure::Turn;
+use bus_tenure::{Doing, Turn};
 use bus_waiting::Waiter;
 use rand_core::Rng;
 use std::error::Error;
@@ -97,6 +100,9 @@ impl fmt::Display for Unsent {
 
 /// How many plain stores `plain_turns` takes at most: a frame has 129 words, and most rows fewer.
 const MOST_PLAIN_TURNS: u32 = 256;
+
+/// How many turns of an election `election_turns` takes at most.
+const MOST_ELECTION_TURNS: u32 = 256;
 
 /// A sender of a bus: what it holds, and the seat that it steps with. One thread at a time has it.
 ///
@@ -334,7 +340,7 @@ impl<Q: Ratifier + Drop> Sender<Q> {
             P.op self.old.core word ≡ None → (self.new ≡ self.old) × (result ≡ P.rest
             self.old.core) × RestTells self.old.core result }
         ensures steps { let P = process_by Q.Ratifier in
-            (op : Step) → P.op self.old.core word ≡ Some op → TookAndTold P (FeedTells (election_of
+            (op : Op) → P.op self.old.core word ≡ Some op → TookAndTold P (FeedTells (election_of
             Q.Ratifier)) self.old word result self.new }
     {
         if self.plain_turn(bus, word) {
@@ -406,6 +412,14 @@ impl<Q: Ratifier + Drop> Sender<Q> {
         true
     }
 
+    /// What it does next, as `SenderCore::step` tells it.
+    #[inline(always)]
+    fn next_step(&self) -> Step
+        ensures { let X = election_of Q.Ratifier in result ≡ step_of (situation X self.now.core) }
+    {
+        self.core.step()
+    }
+
     /// A turn by the table of situations.
     #[inline(never)]
     fn full_turn(&mut self, bus: &Bus<Q>, word: u32) -> Turn
@@ -415,11 +429,28 @@ impl<Q: Ratifier + Drop> Sender<Q> {
             P.op self.old.core word ≡ None → (self.new ≡ self.old) × (result ≡ P.rest
             self.old.core) × RestTells self.old.core result }
         ensures steps { let P = process_by Q.Ratifier in
-            (op : Step) → P.op self.old.core word ≡ Some op → TookAndTold P (FeedTells (election_of
+            (op : Op) → P.op self.old.core word ≡ Some op → TookAndTold P (FeedTells (election_of
+            Q.Ratifier)) self.old word result self.new }
+    {
+        let next = self.next_step();
+        self.turn_by(bus, next, word)
+    }
+
+    /// The turn of which `next_step` told `next`.
+    #[inline(always)]
+    fn turn_by(&mut self, bus: &Bus<Q>, next: Step, word: u32) -> Turn
+        requires table { table_of self.old ≡ bus.now.table }
+        requires next { let X = election_of Q.Ratifier in
+            step_of (situation X self.old.core) ≡ next }
+        ensures table { table_of self.new ≡ table_of self.old }
+        ensures rests { let P = process_by Q.Ratifier in
+            P.op self.old.core word ≡ None → (self.new ≡ self.old) × (result ≡ P.rest
+            self.old.core) × RestTells self.old.core result }
+        ensures steps { let P = process_by Q.Ratifier in
+            (op : Op) → P.op self.old.core word ≡ Some op → TookAndTold P (FeedTells (election_of
             Q.Ratifier)) self.old word result self.new }
     {
         threads_may_go_by::<Q>();
-        let next = self.core.step();
         let Some(op) = self.core.next_of(next, word) else {
             return self.core.rest_of(next);
         };
@@ -427,12 +458,113 @@ impl<Q: Ratifier + Drop> Sender<Q> {
         walk::<Q, Brand>(&bus.words, &mut self.seat, &mut self.core, next, op, word)
     }
 
+    /// The same with the word that it asks for.
+    #[inline(always)]
+    fn turn_drawing<R: Rng>(&mut self, bus: &Bus<Q>, next: Step, rng: &mut R) -> Turn
+        requires table { table_of self.old ≡ bus.now.table }
+        requires next { let X = election_of Q.Ratifier in
+            step_of (situation X self.old.core) ≡ next }
+        ensures table { table_of self.new ≡ table_of self.old }
+        ensures draws { TurnsDrawing (process_by Q.Ratifier) (tells_by Q.Ratifier) self.old
+            (R.stream rng.old) result self.new (R.stream rng.new) }
+        ensures some { TakesSome (process_by Q.Ratifier) (tells_by Q.Ratifier) self.old
+            (R.stream rng.old) result self.new (R.stream rng.new) }
+    {
+        let word = self.word_for(next, rng);
+        self.turn_by(bus, next, word)
+    }
+
+    /// A turn by the table of situations, with the word that it asks for.
+    #[inline(never)]
+    fn full_turn_drawing<R: Rng>(&mut self, bus: &Bus<Q>, rng: &mut R) -> Turn
+        requires { table_of self.old ≡ bus.now.table }
+        ensures table { table_of self.new ≡ table_of self.old }
+        ensures some { TakesSome (process_by Q.Ratifier) (tells_by Q.Ratifier) self.old
+            (R.stream rng.old) result self.new (R.stream rng.new) }
+    {
+        let word = self.next_word(rng);
+        self.full_turn(bus, word)
+    }
+
+    /// The next turn, and where that is one of an election, those of it that follow. The answer is
+    /// the last one's. A situation that is often has a copy of the turn, which asks for no other.
+    #[inline(always)]
+    fn next_turns<R: Rng>(&mut self, bus: &Bus<Q>, rng: &mut R) -> Turn
+        requires { table_of self.old ≡ bus.now.table }
+        ensures table { table_of self.new ≡ table_of self.old }
+        ensures some { TakesSome (process_by Q.Ratifier) (tells_by Q.Ratifier) self.old
+            (R.stream rng.old) result self.new (R.stream rng.new) }
+    {
+        let next = self.next_step();
+        match next {
+            Step::Does(Doing::Looks) => self.turn_drawing(bus, next, rng),
+            Step::Announces { .. } => self.turn_drawing(bus, next, rng),
+            Step::Validates { .. } => self.turn_drawing(bus, next, rng),
+            Step::Does(Doing::Elects { tenure }) => self.election_turns(bus, tenure, rng),
+            Step::Does(Doing::Takes { .. }) => self.turn_drawing(bus, next, rng),
+            Step::Unpins { .. } => self.turn_drawing(bus, next, rng),
+            Step::Withdraws { .. } => self.turn_drawing(bus, next, rng),
+            Step::Does(Doing::Length { .. }) => self.turn_drawing(bus, next, rng),
+            Step::Scans => self.turn_drawing(bus, next, rng),
+            Step::Does(Doing::Back { .. }) => self.turn_drawing(bus, next, rng),
+            _ => self.full_turn_drawing(bus, rng),
+        }
+    }
+
+    /// Turns in a row of an election that runs, one at least, and none once it has an owner. The
+    /// answer is the last one's.
+    #[inline(never)]
+    fn election_turns<R: Rng>(&mut self, bus: &Bus<Q>, begun: u64, rng: &mut R) -> Turn
+        requires table { table_of self.old ≡ bus.now.table }
+        requires elects { ElectsIn (election_of Q.Ratifier) self.old.core begun }
+        ensures table { table_of self.new ≡ table_of self.old }
+        ensures takes { TakesWhile (process_by Q.Ratifier) (tells_by Q.Ratifier)
+            (IsElecting (election_of Q.Ratifier)) self.old (R.stream rng.old) result self.new
+            (R.stream rng.new) }
+    {
+        let mut tenure = begun;
+        for _taken in 0..MOST_ELECTION_TURNS {
+            let turn = self.turn_drawing(bus, Step::Does(Doing::Elects { tenure }), rng);
+            let Turn::Going = turn else {
+                return turn;
+            };
+            let Step::Does(Doing::Elects { tenure: same }) = self.next_step() else {
+                return Turn::Going;
+            };
+            tenure = same;
+        }
+        Turn::Going
+    }
+
     /// The word of its next turn: of a vote the next one of `rng`, and else none is drawn.
     fn next_word<R: Rng>(&self, rng: &mut R) -> u32
         ensures { (result, R.stream rng.new) ≡ word_drawn ((process_by Q.Ratifier).wants_word
             self.now.core) (R.stream rng.old) }
     {
-        if self.wants_word() { rng.next_u32() } else { 0 }
+        self.word_for(self.next_step(), rng)
+    }
+
+    /// The word of the turn of which `next_step` told `next`.
+    #[inline(always)]
+    fn word_for<R: Rng>(&self, next: Step, rng: &mut R) -> u32
+        requires { let X = election_of Q.Ratifier in step_of (situation X self.now.core) ≡ next }
+        ensures { (result, R.stream rng.new) ≡ word_drawn ((process_by Q.Ratifier).wants_word
+            self.now.core) (R.stream rng.old) }
+    {
+        if self.wants_word_for(next) {
+            rng.next_u32()
+        } else {
+            0
+        }
+    }
+
+    /// Whether the turn asks for a random word of which `next_step` told `next`.
+    #[inline(always)]
+    fn wants_word_for(&self, next: Step) -> bool
+        requires { let X = election_of Q.Ratifier in step_of (situation X self.now.core) ≡ next }
+        ensures { result ≡ (process_by Q.Ratifier).wants_word self.now.core }
+    {
+        self.core.wants_word_of(next)
     }
 
     /// Turns, until there is nothing more to do, or nothing more that can be done: Idle, Delivered,
@@ -494,8 +626,7 @@ impl<Q: Ratifier + Drop> Sender<Q> {
                 waiter.reset();
                 continue;
             }
-            let word = self.next_word(rng);
-            let turn = self.full_turn(bus, word);
+            let turn = self.next_turns(bus, rng);
             if ends_sending(turn) {
                 waiter.ring();
                 return Some(turn);

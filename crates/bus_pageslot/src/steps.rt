@@ -23,6 +23,7 @@ use bus_tenure::Turn;
 
 /// A sender that is to give the page back puts it into its slot. What it does next becomes what it
 /// does with the page out of its hands.
+#[inline(always)]
 fn put_out<Q: Ratifier + Drop>(
     words: &Words<Q>,
     seat: &mut BusSeat<Q>,
@@ -45,6 +46,7 @@ fn put_out<Q: Ratifier + Drop>(
 }
 
 /// A sender that has taken the page takes it out of its slot.
+#[inline(always)]
 fn take_in<Q: Ratifier + Drop>(words: &Words<Q>, seat: &mut BusSeat<Q>, core: &mut SenderCore<Q>)
     requires table { seat.old.table_id ≡ words.now.table }
     requires page { (process_by Q.Ratifier).awaits core.old ≡ true → (page : _)
@@ -62,6 +64,7 @@ fn take_in<Q: Ratifier + Drop>(words: &Words<Q>, seat: &mut BusSeat<Q>, core: &m
 }
 
 /// The turn of a sender of which a step is due.
+#[inline(always)]
 pub(crate) fn walk<Q: Ratifier + Drop, K: Told<SenderCore<Q>>>(
     words: &Words<Q>,
     seat: &mut BusSeat<Q>,
@@ -125,6 +128,7 @@ pub(crate) fn store_plain<Q: Ratifier + Drop, K: Told<SenderCore<Q>>>(
 
 /// The last length that a sender has stored, once it takes this step. `before` is the one that it
 /// had stored until then.
+#[inline(always)]
 pub(crate) fn length_after(op: Op, before: u64) -> u64
     ensures { result ≡ stored_by (Some op) before }
 {

@@ -2,9 +2,10 @@ use Rattle.std.proofs.Common.{of_calls, refl, sym, ◌∙◌, ap}
 use Rattle.bus_world.specs.Headline.{puts}
 use Rattle.bus_automaton.specs.Buses.{process_with}
 use Rattle.bus_pageslot.specs.Seats.{actions_of}
-use Rattle.bus_pageslot.specs.Turns.{tells_with, Turned, Begins, Goes, Asks, Undrawn}
+use Rattle.bus_pageslot.specs.Turns.{tells_with, Begins, Goes, Asks, Undrawn}
 use Rattle.bus_pageslot.proofs.Plain.{goes_asking, goes_drawing, goes_putting}
 use Rattle.bus_pageslot.proofs.Keeping.{leaves_batch, going_keeps, refused_keeps}
+use Rattle.bus_pageslot.proofs.Rows.{last_of}
 use Rattle.bus_pageslot.proofs.Sending.{turned_puts, drawn_on, asks_same, draws_same, goes_on}
 use Rattle.bus_pageslot.proofs.Sending.{waiting_goes}
 use Rattle.bus_pageslot.proofs.seats.Sender.send_while.Goals as goal
@@ -13,15 +14,16 @@ pub returns-then-ends_sending-clause-sends : goal.returns-then-ends_sending-clau
 unfolding tells_with
 returns-then-ends_sending-clause-sends g c =
     let same = c.plain_turns.ensures.stays c.if-plain_turns.false in
+    let row = last_of c.threads_may_go_by.ensures.process c.next_turns-turn.result
+    c.next_turns-turn.new.self (g.R.Rng.stream c.next_turns-turn.new.rng)
+    (asks_same same c.loop.invariant.1) (draws_same same c.loop.invariant.4)
+    c.next_turns-turn.ensures.some in
     record {
-      old = c.plain_turns.new.self;
+      old = row.old;
       asked = c.loop.go_on;
-      word = c.next_word-word.result;
-      before = asks_same same c.loop.invariant.1;
-      turned = record {
-        rests = c.full_turn-turn.ensures.rests;
-        steps = c.full_turn-turn.ensures.steps;
-      };
+      word = row.last.word;
+      before = row.asks;
+      turned = row.last.turned;
       last = sym c.ends_sending.ensures ∙ c.if-ends_sending.true;
     }
 
@@ -31,14 +33,13 @@ returns-then-ends_sending-clause-puts g c =
     let P = process_with g.Q.Machine.kind_of g.Q.Machine.op g.Q.Machine.fed g.Q.Ratifier.protocol in
     let T = tells_with g.Q.Machine.kind_of g.Q.Machine.op g.Q.Machine.fed g.Q.Ratifier.protocol in
     let same = c.plain_turns.ensures.stays c.if-plain_turns.false in
-    let turned : Turned P T c.plain_turns.new.self c.next_word-word.result c.full_turn-turn.result
-    c.full_turn-turn.new.self = record {
-      rests = c.full_turn-turn.ensures.rests;
-      steps = c.full_turn-turn.ensures.steps;
-    } in
-    turned_puts P T c.threads_may_go_by.ensures.process c.plain_turns.new.self
-    c.next_word-word.result c.full_turn-turn.result c.full_turn-turn.new.self turned
-    ∙ ap (λ y. puts (actions_of P y)) same ∙ c.loop.invariant.3
+    let row = last_of c.threads_may_go_by.ensures.process c.next_turns-turn.result
+    c.next_turns-turn.new.self (g.R.Rng.stream c.next_turns-turn.new.rng)
+    (asks_same same c.loop.invariant.1) (draws_same same c.loop.invariant.4)
+    c.next_turns-turn.ensures.some in
+    turned_puts P T c.threads_may_go_by.ensures.process row.old row.last.word
+    c.next_turns-turn.result c.next_turns-turn.new.self row.last.turned
+    ∙ row.same ∙ ap (λ y. puts (actions_of P y)) same ∙ c.loop.invariant.3
 
 pub returns-then-ends_sending-clause-keeps : goal.returns-then-ends_sending-clause-keeps
 unfolding tells_with
@@ -46,17 +47,18 @@ returns-then-ends_sending-clause-keeps g c =
     let P = process_with g.Q.Machine.kind_of g.Q.Machine.op g.Q.Machine.fed g.Q.Ratifier.protocol in
     let T = tells_with g.Q.Machine.kind_of g.Q.Machine.op g.Q.Machine.fed g.Q.Ratifier.protocol in
     let same = c.plain_turns.ensures.stays c.if-plain_turns.false in
+    let row = last_of c.threads_may_go_by.ensures.process c.next_turns-turn.result
+    c.next_turns-turn.new.self (g.R.Rng.stream c.next_turns-turn.new.rng)
+    (asks_same same c.loop.invariant.1) (draws_same same c.loop.invariant.4)
+    c.next_turns-turn.ensures.some in
     refused_keeps P T
     (leaves_batch g.Q.Machine.kind_of g.Q.Machine.op g.Q.Machine.fed g.Q.Ratifier.protocol)
-    c.args.self.now c.full_turn-turn.result c.full_turn-turn.new.self (record {
-      old = c.plain_turns.new.self;
-      word = c.next_word-word.result;
-      before = goes_on P T (goal.F-step g) c.args.self.now c.args.go_on c.plain_turns.new.self
-          c.loop.go_on (asks_same same c.loop.invariant.1);
-      turned = record {
-        rests = c.full_turn-turn.ensures.rests;
-        steps = c.full_turn-turn.ensures.steps;
-      };
+    c.args.self.now c.next_turns-turn.result c.next_turns-turn.new.self (record {
+      old = row.old;
+      word = row.last.word;
+      before = goes_on P T (goal.F-step g) c.args.self.now c.args.go_on row.old c.loop.go_on
+          row.asks;
+      turned = row.last.turned;
       last = sym c.ends_sending.ensures ∙ c.if-ends_sending.true;
     })
 
@@ -66,14 +68,16 @@ returns-then-not-go_on-clause-waits g c =
     let P = process_with g.Q.Machine.kind_of g.Q.Machine.op g.Q.Machine.fed g.Q.Ratifier.protocol in
     let T = tells_with g.Q.Machine.kind_of g.Q.Machine.op g.Q.Machine.fed g.Q.Ratifier.protocol in
     let same = c.plain_turns.ensures.stays c.if-plain_turns.false in
+    let row = last_of c.threads_may_go_by.ensures.process c.next_turns-turn.result
+    c.next_turns-turn.new.self (g.R.Rng.stream c.next_turns-turn.new.rng)
+    (asks_same same c.loop.invariant.1) (draws_same same c.loop.invariant.4)
+    c.next_turns-turn.ensures.some in
     going_keeps P T
     (leaves_batch g.Q.Machine.kind_of g.Q.Machine.op g.Q.Machine.fed g.Q.Ratifier.protocol)
-    c.args.self.now c.plain_turns.new.self c.next_word-word.result c.full_turn-turn.result
-    c.full_turn-turn.new.self
-    (goes_on P T (goal.F-step g) c.args.self.now c.args.go_on c.plain_turns.new.self c.loop.go_on
-    (asks_same same c.loop.invariant.1))
-    (record { rests = c.full_turn-turn.ensures.rests; steps = c.full_turn-turn.ensures.steps })
-    (waiting_goes c.full_turn-turn.result (sym c.is_waiting.ensures ∙ c.if-not-is_waiting.false))
+    c.args.self.now row.old row.last.word c.next_turns-turn.result c.next_turns-turn.new.self
+    (goes_on P T (goal.F-step g) c.args.self.now c.args.go_on row.old c.loop.go_on row.asks)
+    row.last.turned
+    (waiting_goes c.next_turns-turn.result (sym c.is_waiting.ensures ∙ c.if-not-is_waiting.false))
 
 pub loop-init : goal.loop-init
 loop-init g c = (c.requires.callable, Begins, refl, refl, Undrawn)
@@ -98,21 +102,18 @@ loop-preserved-then-plain_turns g c =
 pub returns-then-not-go_on-clause-stops : goal.returns-then-not-go_on-clause-stops
 unfolding tells_with
 returns-then-not-go_on-clause-stops g c =
-    let P = process_with g.Q.Machine.kind_of g.Q.Machine.op g.Q.Machine.fed g.Q.Ratifier.protocol in
-    let T = tells_with g.Q.Machine.kind_of g.Q.Machine.op g.Q.Machine.fed g.Q.Ratifier.protocol in
     let same = c.plain_turns.ensures.stays c.if-plain_turns.false in
-    let turned : Turned P T c.plain_turns.new.self c.next_word-word.result c.full_turn-turn.result
-    c.full_turn-turn.new.self = record {
-      rests = c.full_turn-turn.ensures.rests;
-      steps = c.full_turn-turn.ensures.steps;
-    } in
+    let row = last_of c.threads_may_go_by.ensures.process c.next_turns-turn.result
+    c.next_turns-turn.new.self (g.R.Rng.stream c.next_turns-turn.new.rng)
+    (asks_same same c.loop.invariant.1) (draws_same same c.loop.invariant.4)
+    c.next_turns-turn.ensures.some in
     record {
-      old = c.plain_turns.new.self;
+      old = row.old;
       asked = c.loop.go_on;
-      word = c.next_word-word.result;
-      before = asks_same same c.loop.invariant.1;
-      turned = turned;
-      answer = c.full_turn-turn.result;
+      word = row.last.word;
+      before = row.asks;
+      turned = row.last.turned;
+      answer = c.next_turns-turn.result;
       waits = sym c.is_waiting.ensures ∙ c.if-not-is_waiting.false;
       left = c.go_on.new.self;
       told = c.if-not-go_on.ensures;
@@ -124,14 +125,13 @@ returns-then-not-go_on-clause-puts g c =
     let P = process_with g.Q.Machine.kind_of g.Q.Machine.op g.Q.Machine.fed g.Q.Ratifier.protocol in
     let T = tells_with g.Q.Machine.kind_of g.Q.Machine.op g.Q.Machine.fed g.Q.Ratifier.protocol in
     let same = c.plain_turns.ensures.stays c.if-plain_turns.false in
-    let turned : Turned P T c.plain_turns.new.self c.next_word-word.result c.full_turn-turn.result
-    c.full_turn-turn.new.self = record {
-      rests = c.full_turn-turn.ensures.rests;
-      steps = c.full_turn-turn.ensures.steps;
-    } in
-    turned_puts P T c.threads_may_go_by.ensures.process c.plain_turns.new.self
-    c.next_word-word.result c.full_turn-turn.result c.full_turn-turn.new.self turned
-    ∙ ap (λ y. puts (actions_of P y)) same ∙ c.loop.invariant.3
+    let row = last_of c.threads_may_go_by.ensures.process c.next_turns-turn.result
+    c.next_turns-turn.new.self (g.R.Rng.stream c.next_turns-turn.new.rng)
+    (asks_same same c.loop.invariant.1) (draws_same same c.loop.invariant.4)
+    c.next_turns-turn.ensures.some in
+    turned_puts P T c.threads_may_go_by.ensures.process row.old row.last.word
+    c.next_turns-turn.result c.next_turns-turn.new.self row.last.turned
+    ∙ row.same ∙ ap (λ y. puts (actions_of P y)) same ∙ c.loop.invariant.3
 
 -- another sender has to go on first, and the function said yes
 pub loop-preserved : goal.loop-preserved
@@ -140,23 +140,21 @@ loop-preserved g c =
     let P = process_with g.Q.Machine.kind_of g.Q.Machine.op g.Q.Machine.fed g.Q.Ratifier.protocol in
     let T = tells_with g.Q.Machine.kind_of g.Q.Machine.op g.Q.Machine.fed g.Q.Ratifier.protocol in
     let same = c.plain_turns.ensures.stays c.if-plain_turns.false in
-    let turned : Turned P T c.plain_turns.new.self c.next_word-word.result c.full_turn-turn.result
-    c.full_turn-turn.new.self = record {
-      rests = c.full_turn-turn.ensures.rests;
-      steps = c.full_turn-turn.ensures.steps;
-    } in (
+    let row = last_of c.threads_may_go_by.ensures.process c.next_turns-turn.result
+    c.next_turns-turn.new.self (g.R.Rng.stream c.next_turns-turn.new.rng)
+    (asks_same same c.loop.invariant.1) (draws_same same c.loop.invariant.4)
+    c.next_turns-turn.ensures.some in (
       search of_calls,
-      Asks c.plain_turns.new.self c.loop.go_on c.next_word-word.result c.full_turn-turn.result
-          c.full_turn-turn.new.self c.go_on.new.self (asks_same same c.loop.invariant.1) turned
+      Asks row.old c.loop.go_on row.last.word c.next_turns-turn.result c.next_turns-turn.new.self
+          c.go_on.new.self row.asks row.last.turned
           (sym c.is_waiting.ensures ∙ c.if-not-is_waiting.false) c.if-not-go_on.ensures,
-      c.full_turn-turn.ensures.table ∙ c.plain_turns.ensures.table ∙ c.loop.invariant.2,
-      turned_puts P T c.threads_may_go_by.ensures.process c.plain_turns.new.self
-          c.next_word-word.result c.full_turn-turn.result c.full_turn-turn.new.self turned
-          ∙ ap (λ y. puts (actions_of P y)) same ∙ c.loop.invariant.3,
-      drawn_on P T c.args.self.now (g.R.Rng.stream c.args.rng.now) c.plain_turns.new.self
-          (g.R.Rng.stream c.loop.rng) c.next_word-word.result c.full_turn-turn.result
-          c.full_turn-turn.new.self (g.R.Rng.stream c.next_word-word.new.rng)
-          c.next_word-word.ensures (draws_same same c.loop.invariant.4) turned,
+      c.next_turns-turn.ensures.table ∙ c.plain_turns.ensures.table ∙ c.loop.invariant.2,
+      turned_puts P T c.threads_may_go_by.ensures.process row.old row.last.word
+          c.next_turns-turn.result c.next_turns-turn.new.self row.last.turned
+          ∙ row.same ∙ ap (λ y. puts (actions_of P y)) same ∙ c.loop.invariant.3,
+      drawn_on P T c.args.self.now (g.R.Rng.stream c.args.rng.now) row.old row.before row.last.word
+          c.next_turns-turn.result c.next_turns-turn.new.self
+          (g.R.Rng.stream c.next_turns-turn.new.rng) row.last.drawn row.draws row.last.turned,
     )
 
 pub loop-preserved-then-not-is_waiting : goal.loop-preserved-then-not-is_waiting
@@ -165,24 +163,21 @@ loop-preserved-then-not-is_waiting g c =
     let P = process_with g.Q.Machine.kind_of g.Q.Machine.op g.Q.Machine.fed g.Q.Ratifier.protocol in
     let T = tells_with g.Q.Machine.kind_of g.Q.Machine.op g.Q.Machine.fed g.Q.Ratifier.protocol in
     let same = c.plain_turns.ensures.stays c.if-plain_turns.false in
-    let turned : Turned P T c.plain_turns.new.self c.next_word-word.result c.full_turn-turn.result
-    c.full_turn-turn.new.self = record {
-      rests = c.full_turn-turn.ensures.rests;
-      steps = c.full_turn-turn.ensures.steps;
-    } in (
+    let row = last_of c.threads_may_go_by.ensures.process c.next_turns-turn.result
+    c.next_turns-turn.new.self (g.R.Rng.stream c.next_turns-turn.new.rng)
+    (asks_same same c.loop.invariant.1) (draws_same same c.loop.invariant.4)
+    c.next_turns-turn.ensures.some in (
       c.loop.invariant.0,
-      Goes c.plain_turns.new.self c.loop.go_on c.next_word-word.result c.full_turn-turn.result
-          c.full_turn-turn.new.self (asks_same same c.loop.invariant.1) turned
-          (sym c.ends_sending.ensures ∙ c.if-ends_sending.false)
+      Goes row.old c.loop.go_on row.last.word c.next_turns-turn.result c.next_turns-turn.new.self
+          row.asks row.last.turned (sym c.ends_sending.ensures ∙ c.if-ends_sending.false)
           (sym c.is_waiting.ensures ∙ c.if-not-is_waiting.true),
-      c.full_turn-turn.ensures.table ∙ c.plain_turns.ensures.table ∙ c.loop.invariant.2,
-      turned_puts P T c.threads_may_go_by.ensures.process c.plain_turns.new.self
-          c.next_word-word.result c.full_turn-turn.result c.full_turn-turn.new.self turned
-          ∙ ap (λ y. puts (actions_of P y)) same ∙ c.loop.invariant.3,
-      drawn_on P T c.args.self.now (g.R.Rng.stream c.args.rng.now) c.plain_turns.new.self
-          (g.R.Rng.stream c.loop.rng) c.next_word-word.result c.full_turn-turn.result
-          c.full_turn-turn.new.self (g.R.Rng.stream c.next_word-word.new.rng)
-          c.next_word-word.ensures (draws_same same c.loop.invariant.4) turned,
+      c.next_turns-turn.ensures.table ∙ c.plain_turns.ensures.table ∙ c.loop.invariant.2,
+      turned_puts P T c.threads_may_go_by.ensures.process row.old row.last.word
+          c.next_turns-turn.result c.next_turns-turn.new.self row.last.turned
+          ∙ row.same ∙ ap (λ y. puts (actions_of P y)) same ∙ c.loop.invariant.3,
+      drawn_on P T c.args.self.now (g.R.Rng.stream c.args.rng.now) row.old row.before row.last.word
+          c.next_turns-turn.result c.next_turns-turn.new.self
+          (g.R.Rng.stream c.next_turns-turn.new.rng) row.last.drawn row.draws row.last.turned,
     )
 
 pub returns-then-ends_sending-clause-draws : goal.returns-then-ends_sending-clause-draws
@@ -191,15 +186,13 @@ returns-then-ends_sending-clause-draws g c =
     let P = process_with g.Q.Machine.kind_of g.Q.Machine.op g.Q.Machine.fed g.Q.Ratifier.protocol in
     let T = tells_with g.Q.Machine.kind_of g.Q.Machine.op g.Q.Machine.fed g.Q.Ratifier.protocol in
     let same = c.plain_turns.ensures.stays c.if-plain_turns.false in
-    let turned : Turned P T c.plain_turns.new.self c.next_word-word.result c.full_turn-turn.result
-    c.full_turn-turn.new.self = record {
-      rests = c.full_turn-turn.ensures.rests;
-      steps = c.full_turn-turn.ensures.steps;
-    } in
-    drawn_on P T c.args.self.now (g.R.Rng.stream c.args.rng.now) c.plain_turns.new.self
-    (g.R.Rng.stream c.loop.rng) c.next_word-word.result c.full_turn-turn.result
-    c.full_turn-turn.new.self (g.R.Rng.stream c.next_word-word.new.rng) c.next_word-word.ensures
-    (draws_same same c.loop.invariant.4) turned
+    let row = last_of c.threads_may_go_by.ensures.process c.next_turns-turn.result
+    c.next_turns-turn.new.self (g.R.Rng.stream c.next_turns-turn.new.rng)
+    (asks_same same c.loop.invariant.1) (draws_same same c.loop.invariant.4)
+    c.next_turns-turn.ensures.some in
+    drawn_on P T c.args.self.now (g.R.Rng.stream c.args.rng.now) row.old row.before row.last.word
+    c.next_turns-turn.result c.next_turns-turn.new.self (g.R.Rng.stream c.next_turns-turn.new.rng)
+    row.last.drawn row.draws row.last.turned
 
 pub returns-then-not-go_on-clause-draws : goal.returns-then-not-go_on-clause-draws
 unfolding tells_with
@@ -207,12 +200,10 @@ returns-then-not-go_on-clause-draws g c =
     let P = process_with g.Q.Machine.kind_of g.Q.Machine.op g.Q.Machine.fed g.Q.Ratifier.protocol in
     let T = tells_with g.Q.Machine.kind_of g.Q.Machine.op g.Q.Machine.fed g.Q.Ratifier.protocol in
     let same = c.plain_turns.ensures.stays c.if-plain_turns.false in
-    let turned : Turned P T c.plain_turns.new.self c.next_word-word.result c.full_turn-turn.result
-    c.full_turn-turn.new.self = record {
-      rests = c.full_turn-turn.ensures.rests;
-      steps = c.full_turn-turn.ensures.steps;
-    } in
-    drawn_on P T c.args.self.now (g.R.Rng.stream c.args.rng.now) c.plain_turns.new.self
-    (g.R.Rng.stream c.loop.rng) c.next_word-word.result c.full_turn-turn.result
-    c.full_turn-turn.new.self (g.R.Rng.stream c.next_word-word.new.rng) c.next_word-word.ensures
-    (draws_same same c.loop.invariant.4) turned
+    let row = last_of c.threads_may_go_by.ensures.process c.next_turns-turn.result
+    c.next_turns-turn.new.self (g.R.Rng.stream c.next_turns-turn.new.rng)
+    (asks_same same c.loop.invariant.1) (draws_same same c.loop.invariant.4)
+    c.next_turns-turn.ensures.some in
+    drawn_on P T c.args.self.now (g.R.Rng.stream c.args.rng.now) row.old row.before row.last.word
+    c.next_turns-turn.result c.next_turns-turn.new.self (g.R.Rng.stream c.next_turns-turn.new.rng)
+    row.last.drawn row.draws row.last.turned

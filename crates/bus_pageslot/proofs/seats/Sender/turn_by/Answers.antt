@@ -1,6 +1,7 @@
 use Rattle.std.proofs.Common.{◌≡◌, ◌<◌, inl, inr, Some, None, IfSome, refl, sym, ◌∙◌, ap, subst}
 use Rattle.bus_automaton.specs.Buses.{process_with}
-use Rattle.bus_core.specs.Senders.{words_all}
+use Rattle.bus_core.specs.Doings.{step_of}
+use Rattle.bus_core.specs.Senders.{situation, words_all}
 use Rattle.bus_core.specs.Telling.{FeedTells, RestTells}
 use Rattle.bus_register.specs.Words.{register}
 use Rattle.bus_tenure.specs.Elections.{election_with}
@@ -8,7 +9,7 @@ use Rattle.bus_pageslot.specs.Rule.{stored_in}
 use Rattle.bus_pageslot.specs.Seats.{TookAndTold}
 use Rattle.bus_pageslot.specs.Steps.{stored_by}
 use Rattle.bus_pageslot.proofs.Processes.{words_are, rest_is_told}
-use Rattle.bus_pageslot.proofs.seats.Sender.full_turn.Goals as goal
+use Rattle.bus_pageslot.proofs.seats.Sender.turn_by.Goals as goal
 
 pub returns-in_default-clause-rests : goal.returns-in_default-clause-rests
 unfolding process_with
@@ -77,3 +78,21 @@ returns-clause-steps g c op due =
     subst (λ z. TookAndTold P (FeedTells X) z c.args.word c.walk.result
     (record { core = c.walk.new.core; seat = c.walk.new.seat }))
     c.self.view_is c.walk.ensures.took
+
+pub next_of-requires : goal.next_of-requires
+next_of-requires g c =
+    let X =
+    election_with g.Q.Machine.kind_of g.Q.Machine.op g.Q.Machine.fed g.Q.Ratifier.protocol in
+    subst (λ s. step_of (situation X s.core) ≡ c.args.next) (sym c.self.view_is) c.requires.next
+
+pub rest_of-requires : goal.rest_of-requires
+rest_of-requires g c =
+    let X =
+    election_with g.Q.Machine.kind_of g.Q.Machine.op g.Q.Machine.fed g.Q.Ratifier.protocol in
+    subst (λ s. step_of (situation X s.core) ≡ c.args.next) (sym c.self.view_is) c.requires.next
+
+pub walk-requires-clause-next : goal.walk-requires-clause-next
+walk-requires-clause-next g c =
+    let X =
+    election_with g.Q.Machine.kind_of g.Q.Machine.op g.Q.Machine.fed g.Q.Ratifier.protocol in
+    subst (λ s. step_of (situation X s.core) ≡ c.args.next) (sym c.self.view_is) c.requires.next
