@@ -12,7 +12,7 @@ use Rattle.bus_presence.specs.declared.pins.Pin.TheVariants.{Unpinning, Invalida
 use Rattle.bus_tenure.specs.Core.{Core, Election}
 use Rattle.bus_tenure.specs.Classes.{is_last}
 use Rattle.bus_tenure.specs.Seen.{tenure_of}
-use Rattle.bus_tenure.specs.Situations.{Situation as Own, core_begun, core_elected}
+use Rattle.bus_tenure.specs.Situations.{core_begun, core_elected}
 use Rattle.bus_tenure.specs.declared.pages.Page.{Page}
 use Rattle.bus_tenure.specs.declared.phases.Phase.{Phase}
 use Rattle.bus_tenure.specs.declared.phases.Phase.TheVariants.{Resting, Electing, Taken, Holding}

@@ -6,6 +6,7 @@ ghost use Rattle.std.specs.Prelude.{OnOk, OnErr, length, ◌-◌, ◌≤◌, IsT
 ghost use Rattle.bus_batch.specs.Batches.{next_of, CanPut, IsPutFault, CanClose, IsCloseFault};
 ghost use Rattle.bus_core.specs.Causes.{HasCause};
 ghost use Rattle.bus_core.specs.Doings.{step_of};
+ghost use Rattle.bus_core.specs.declared.steps.Step.TheVariants as step;
 ghost use Rattle.bus_core.specs.Plain.{IsPlain, StoresPlain};
 ghost use Rattle.bus_core.specs.Seen.{tenure_begun};
 ghost use Rattle.bus_core.specs.Senders.{situation};
@@ -497,16 +498,32 @@ impl<Q: Ratifier + Drop> Sender<Q> {
     {
         let next = self.next_step();
         match next {
-            Step::Does(Doing::Looks) => self.turn_drawing(bus, next, rng),
+            Step::Does(doing) => self.own_turns(bus, doing, rng),
             Step::Announces { .. } => self.turn_drawing(bus, next, rng),
             Step::Validates { .. } => self.turn_drawing(bus, next, rng),
-            Step::Does(Doing::Elects { tenure }) => self.election_turns(bus, tenure, rng),
-            Step::Does(Doing::Takes { .. }) => self.turn_drawing(bus, next, rng),
             Step::Unpins { .. } => self.turn_drawing(bus, next, rng),
             Step::Withdraws { .. } => self.turn_drawing(bus, next, rng),
-            Step::Does(Doing::Length { .. }) => self.turn_drawing(bus, next, rng),
             Step::Scans => self.turn_drawing(bus, next, rng),
-            Step::Does(Doing::Back { .. }) => self.turn_drawing(bus, next, rng),
+            Step::Clears => self.full_turn_drawing(bus, rng),
+        }
+    }
+
+    /// The same of a sender in its tenure, or before it.
+    #[inline(always)]
+    fn own_turns<R: Rng>(&mut self, bus: &Bus<Q>, doing: Doing, rng: &mut R) -> Turn
+        requires table { table_of self.old ≡ bus.now.table }
+        requires next { let X = election_of Q.Ratifier in
+            step_of (situation X self.old.core) ≡ step.Does doing }
+        ensures table { table_of self.new ≡ table_of self.old }
+        ensures some { TakesSome (process_by Q.Ratifier) (tells_by Q.Ratifier) self.old
+            (R.stream rng.old) result self.new (R.stream rng.new) }
+    {
+        match doing {
+            Doing::Looks => self.turn_drawing(bus, Step::Does(doing), rng),
+            Doing::Elects { tenure } => self.election_turns(bus, tenure, rng),
+            Doing::Takes { .. } => self.turn_drawing(bus, Step::Does(doing), rng),
+            Doing::Length { .. } => self.turn_drawing(bus, Step::Does(doing), rng),
+            Doing::Back { .. } => self.turn_drawing(bus, Step::Does(doing), rng),
             _ => self.full_turn_drawing(bus, rng),
         }
     }
