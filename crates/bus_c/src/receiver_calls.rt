@@ -41,24 +41,25 @@ pub extern "C" fn bus_c_hear_once(
     }
 }
 
-/// Turns, at most so many, which write items into `items`: how many they were into `many`.
+/// Looks, at most so many, which write items into `items`: how many they were into `many`. A look
+/// is some turns, or none, that take words which say nothing by themselves, and one turn more.
 #[unsafe(no_mangle)]
 pub extern "C" fn bus_c_hear(
     alloc: Global,
     receiver: &mut CReceiver,
     items: &mut [HeardItem],
-    turns: u64,
+    looks: u64,
     many: &mut usize,
 ) -> u32
     ensures none { IfNone receiver.old.held ((result ≡ no_handle) × (receiver.new.held ≡ None)
         × (items.new ≡ items.old) × (many.new ≡ many.old)) }
     ensures hears { IfSome receiver.old.held (λ old. IsSomeAnd receiver.new.held (λ new.
         (new.handle.bus ≡ old.handle.bus)
-        × HearsInto old.handle.me items.old turns many.new result items.new new.handle.me)) }
+        × HearsInto old.handle.me items.old looks many.new result items.new new.handle.me)) }
 {
     match receiver.take(alloc) {
         Some(mut seat) => {
-            let (heard, code) = hear_items(&mut seat.handle, items, turns);
+            let (heard, code) = hear_items(&mut seat.handle, items, looks);
             receiver.hold(seat);
             *many = heard;
             code

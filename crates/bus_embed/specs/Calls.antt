@@ -18,7 +18,7 @@ use Rattle.bus_tenure.specs.declared.turns.Turn.{Turn}
 use Rattle.bus_core.specs.Seen.{tenure_begun}
 use Rattle.bus_core.specs.Telling.{FeedTells, RestTells}
 use Rattle.bus_world.specs.Headline.{HasPut, HasMarked, puts}
-use Rattle.bus_pageslot.specs.Listening.{Hears}
+use Rattle.bus_pageslot.specs.Listening.{Hears, GoesOnTo}
 use Rattle.bus_pageslot.specs.Rule.{Sat, receiver_view_in, known_in}
 use Rattle.bus_pageslot.specs.Seats.{SenderSeat, TookAndTold, table_of, first_number_of}
 use Rattle.bus_pageslot.specs.Seats.{actions_of, stored_of}
@@ -146,29 +146,33 @@ pub record HeardOnce (old : Sat Held) (answer : ℕ) (told : HeardAnswer) (new :
   pub code : answer ≡ heard_code turn
   pub says : told ≡ heard_answer turn
 
--- So many turns gave these items and led from one seat to another. Each was taken while there was
--- room for an item behind those before, and answered so that more may be there.
+-- So many looks gave these items and led from one seat to another. A look is some turns, or none,
+-- that took words which say nothing by themselves, and one turn more. Each was begun while there
+-- was room for an item behind those before, and its last turn was answered so that more may be
+-- there.
 pub data HearsOn (first : Sat Held) (room : ℕ) : ℕ → List Item → Sat Held → Type 0 where
   Here : HearsOn first room 0 [] first
-  More : (n : ℕ) (items : List Item) (old : Sat Held) (answer : RecvTurn) (new : Sat Held)
-      → HearsOn first room n items old → length items < room → Hears old answer new
-      → recv_goes_on answer ≡ true → HearsOn first room (n + 1) (items ++ item_in answer) new
+  More : (n : ℕ) (items : List Item) (old at : Sat Held) (answer : RecvTurn) (new : Sat Held)
+      → HearsOn first room n items old → length items < room → GoesOnTo old at
+      → Hears at answer new → recv_goes_on answer ≡ true
+      → HearsOn first room (n + 1) (items ++ item_in answer) new
 
--- At most so many such turns, and what ended them: there was no more room, or all turns were taken,
--- which is answered Going; or one more turn, which is one of so many too, and for which there was
--- room, was answered Empty or End.
-pub data Hearing (first : Sat Held) (room turns : ℕ) : List Item → ℕ → Sat Held → Type 0 where
-  Fills : (n : ℕ) (items : List Item) (new : Sat Held) → HearsOn first room n items new → n ≤ turns
-      → (length items ≡ room) ⊎ (n ≡ turns) → Hearing first room turns items code.GOING new
-  Stops : (n : ℕ) (items : List Item) (old : Sat Held) (answer : RecvTurn) (new : Sat Held)
-      → HearsOn first room n items old → length items < room → n < turns → Hears old answer new
-      → recv_goes_on answer ≡ false → Hearing first room turns items (heard_code answer) new
+-- At most so many such looks, and what ended them: there was no more room, or all looks were taken,
+-- which is answered Going; or one more look, which is one of so many too, and for which there was
+-- room, and its last turn was answered Empty or End.
+pub data Hearing (first : Sat Held) (room looks : ℕ) : List Item → ℕ → Sat Held → Type 0 where
+  Fills : (n : ℕ) (items : List Item) (new : Sat Held) → HearsOn first room n items new → n ≤ looks
+      → (length items ≡ room) ⊎ (n ≡ looks) → Hearing first room looks items code.GOING new
+  Stops : (n : ℕ) (items : List Item) (old at : Sat Held) (answer : RecvTurn) (new : Sat Held)
+      → HearsOn first room n items old → length items < room → n < looks → GoesOnTo old at
+      → Hears at answer new → recv_goes_on answer ≡ false
+      → Hearing first room looks items (heard_code answer) new
 
 -- the same with the items written over the first places of a list
-pub record HearsInto (old : Sat Held) (before : List HeardItem) (turns many answer : ℕ)
+pub record HearsInto (old : Sat Held) (before : List HeardItem) (looks many answer : ℕ)
     (after : List HeardItem) (new : Sat Held) : Type 0 where
   pub items : List Item
-  pub hears : Hearing old (length before) turns items answer new
+  pub hears : Hearing old (length before) looks items answer new
   pub many_are : many ≡ length items
   pub written : after ≡ map item_told items ++ drop many before
 

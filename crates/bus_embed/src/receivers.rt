@@ -8,7 +8,7 @@ ghost use Rattle.bus_embed.specs.Calls.{TellAnswered, MeetAnswered};
 
 use crate::answers::{HeardAnswer, HeardItem, heard_told};
 use crate::codes;
-use bus_handles::{ReceiverHandle, RecvTurn, SenderHandle, ThreeWord};
+use bus_handles::{Item, ItemTurn, ReceiverHandle, SenderHandle, ThreeWord};
 use std::cmp::Ordering;
 
 /// What a receiver shows, at no step.
@@ -34,31 +34,33 @@ pub fn hear_once(receiver: &mut ReceiverHandle<ThreeWord>, answer: &mut HeardAns
     code
 }
 
-/// Turns, at most so many, which write items into `items` from its first place on, as long as
-/// there is room: how many items they were, and the code of what ended it. That is Empty, or End,
-/// and Going where `items` is full or all turns are taken. No turn is taken where it is full. Leave
-/// marks are passed over, as heads: `hear_once` tells them.
-#[tactic(auto, using(crate::proofs::HearLaws::starts, crate::proofs::HearLaws::next, crate::proofs::HearLaws::stops, crate::proofs::HearLaws::full, crate::proofs::HearLaws::tired))]
+/// Looks, at most so many, which write items into `items` from its first place on, as long as there
+/// is room: how many items they were, and the code of what ended it. A look is some turns, or none,
+/// that take words which say nothing by themselves, and one turn more, which may be any. What ends
+/// it is Empty, or End, and Going where `items` is full or all looks are taken. No turn is taken
+/// where it is full. Leave marks are passed over, as heads: `hear_once` tells them.
+#[tactic(auto, using(crate::proofs::HearLaws::starts, crate::proofs::HearLaws::tired))]
 pub fn hear_items(
     receiver: &mut ReceiverHandle<ThreeWord>,
     items: &mut [HeardItem],
-    turns: u64,
+    looks: u64,
 ) -> (usize, u32)
     ensures bus { receiver.new.bus ≡ receiver.old.bus }
-    ensures hears { HearsInto receiver.old.me items.old turns result.0 result.1 items.new
+    ensures hears { HearsInto receiver.old.me items.old looks result.0 result.1 items.new
         receiver.new.me }
 {
     let mut many = 0;
-    for _ in 0..turns {
+    let mut heard = Item::blank();
+    for _ in 0..looks {
         if many == items.len() {
             return (many, codes::GOING);
         }
-        match receiver.turn() {
-            RecvTurn::Going | RecvTurn::Head { .. } | RecvTurn::Leave(_) => {}
-            RecvTurn::Empty => return (many, codes::EMPTY),
-            RecvTurn::End => return (many, codes::END),
-            RecvTurn::Item(item) => {
-                items[many].tell(&item);
+        match receiver.item_turns(&mut heard) {
+            ItemTurn::Going => {}
+            ItemTurn::Empty => return (many, codes::EMPTY),
+            ItemTurn::End => return (many, codes::END),
+            ItemTurn::Item => {
+                items[many].tell(&heard);
                 many += 1;
             }
         }

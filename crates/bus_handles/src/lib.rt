@@ -22,11 +22,11 @@ mod senders;
 
 pub use answers::{BusNotEnded, Delivered, NotDelivered, OrderNotEnded, answered};
 pub use bus_receiver::{
-    CloseFault, Ended, Found, Heard, Item, Kind, LEAST_LOG_WORDS, LEAST_ROWS_AGAIN, LogFault,
-    LogRead, MOST_BYTES, MOST_LOG_WORDS, MOST_MESSAGES, MOST_RECEIVERS, MOST_ROUNDS, MOST_ROWS,
-    MOST_ROWS_AGAIN, MOST_SENDERS, MakeFault, Message, Next, Order, Page, PutFault, RecvTurn,
-    SendFault, SenderNo, Shape, ThreeWord, Turn, TwoCollect, Unsent, read_log, room_to_close,
-    tenures_needed, words_needed,
+    CloseFault, Ended, Found, Heard, Item, ItemTurn, Kind, LEAST_LOG_WORDS, LEAST_ROWS_AGAIN,
+    LogFault, LogRead, MOST_BYTES, MOST_LOG_WORDS, MOST_MESSAGES, MOST_RECEIVERS, MOST_ROUNDS,
+    MOST_ROWS, MOST_ROWS_AGAIN, MOST_SENDERS, MakeFault, Message, Next, Order, Page, PutFault,
+    RecvTurn, SendFault, SenderNo, Shape, ThreeWord, Turn, TwoCollect, Unsent, read_log,
+    room_to_close, tenures_needed, words_needed,
 };
 pub use bus_waiting::Waiting;
 pub use opening::{open, open_after, open_cyclic};

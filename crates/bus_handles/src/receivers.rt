@@ -6,7 +6,7 @@ ghost use Rattle.std.specs.Arc.{arc_value};
 ghost use Rattle.bus_automaton.specs.Buses.{process_by, automaton_by};
 ghost use Rattle.bus_pageslot.specs.Endings.{IsLeft};
 ghost use Rattle.bus_pageslot.specs.Rule.{receiver_view_in, known_in};
-ghost use Rattle.bus_pageslot.specs.Listening.{Hears};
+ghost use Rattle.bus_pageslot.specs.Listening.{Hears, HearsAfter};
 ghost use Rattle.bus_pageslot.specs.Seats.{table_of, actions_of, stored_of};
 ghost use Rattle.bus_receiver.specs.Listening.{bus_of, Takes, HaveMet, IsTold};
 ghost use Rattle.bus_receiver.specs.Listening.{PassesTo, PassesWhile, item_or_end, written_or_end};
@@ -18,7 +18,7 @@ use bus_adoptcommit::{Ratifier, ThreeWord};
 use bus_batch::Item;
 use bus_deliverylog::RecvTurn;
 use bus_pageslot::{Bus, Ended};
-use bus_receiver::{Found, Next, Receiver};
+use bus_receiver::{Found, ItemTurn, Next, Receiver};
 use bus_waiting::{SharedBell, Waiting};
 use std::cmp::Ordering;
 use std::marker::Model;
@@ -120,6 +120,18 @@ impl<Q: Ratifier + Drop> ReceiverHandle<Q> {
     {
         let bus: &Bus<Q> = &self.bus;
         self.receiver.turn(bus)
+    }
+
+    /// One turn or more. All but the last take words that say nothing by themselves, and answer
+    /// Going. Of the last one it tells the answer, with an item written in its place; any other
+    /// answer leaves that as it was.
+    #[inline(always)]
+    pub fn item_turns(&mut self, item: &mut Item) -> ItemTurn
+        ensures bus { self.new.bus ≡ self.old.bus }
+        ensures hears { HearsAfter self.old.me item.old result item.new self.new.me }
+    {
+        let bus: &Bus<Q> = &self.bus;
+        self.receiver.item_turns(bus, item)
     }
 
     /// Turns, until one finds a head, an item, a leave mark or the end. That it ends is not

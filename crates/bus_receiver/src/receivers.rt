@@ -95,9 +95,11 @@ impl<Q: Ratifier + Drop> Receiver<Q> {
         self.tap.turn(bus)
     }
 
-    /// Turns, as the tap's.
+    /// One turn or more, as the tap's. All but the last take words that say nothing by themselves,
+    /// and answer Going. Of the last one it tells the answer, with an item written in its place;
+    /// any other answer leaves that as it was.
     #[inline(always)]
-    fn item_turns(&mut self, bus: &Bus<Q>, item: &mut Item) -> ItemTurn
+    pub fn item_turns(&mut self, bus: &Bus<Q>, item: &mut Item) -> ItemTurn
         requires { bus_of self.old ≡ bus.now.table }
         ensures table { bus_of self.new ≡ bus_of self.old }
         ensures hears { HearsAfter self.old.me item.old result item.new self.new.me }
