@@ -235,7 +235,7 @@ uint32_t bus_c_finish(kioskbasil_sender *sender, kioskbasil_turn_answer *answer)
 void bus_c_free_sender(kioskbasil_sender *sender);
 uint32_t bus_c_hear_once(kioskbasil_receiver *receiver, kioskbasil_heard *answer);
 uint32_t bus_c_hear(kioskbasil_receiver *receiver, kioskbasil_item *items, size_t room,
-                    uint64_t turns, size_t *many);
+                    uint64_t looks, size_t *many);
 uint32_t bus_c_receiver(kioskbasil_receiver *receiver, kioskbasil_receiver_shown *shown);
 uint32_t bus_c_receiver_bus(kioskbasil_receiver *receiver, const uint8_t **place);
 uint32_t bus_c_tell(kioskbasil_receiver *receiver, kioskbasil_sender *sender, bool of_one_bus);

@@ -149,7 +149,7 @@ extern "C" {
         receiver: *mut RawReceiver,
         items: *mut Item,
         room: usize,
-        turns: u64,
+        looks: u64,
         many: *mut usize,
     ) -> u32;
     pub fn bus_c_receiver(receiver: *mut RawReceiver, shown: *mut ReceiverShown) -> u32;
