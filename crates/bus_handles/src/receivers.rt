@@ -1,6 +1,6 @@
 //! A receiver with its bus.
 
-ghost use Rattle.std.specs.Prelude.{◌≡◌, ℕ, ◌≤◌, List, length, Some, None, IfOk};
+ghost use Rattle.std.specs.Prelude.{◌≡◌, ℕ, ◌≤◌, List, length, Some, None, IfOk, false};
 ghost use Rattle.std.specs.Ordering.{nat_cmp};
 ghost use Rattle.std.specs.Arc.{arc_value};
 ghost use Rattle.bus_automaton.specs.Buses.{process_by, automaton_by};
@@ -10,7 +10,7 @@ ghost use Rattle.bus_pageslot.specs.Listening.{Hears, HearsAfter};
 ghost use Rattle.bus_pageslot.specs.Seats.{table_of, actions_of, stored_of};
 ghost use Rattle.bus_receiver.specs.Listening.{bus_of, Takes, HaveMet, IsTold};
 ghost use Rattle.bus_receiver.specs.Listening.{PassesTo, PassesWhile, item_or_end, written_or_end};
-ghost use Rattle.bus_receiver.specs.Listening.{next_of};
+ghost use Rattle.bus_receiver.specs.Listening.{next_of, LeavesPlace};
 
 use crate::answers::BusNotEnded;
 use crate::senders::SenderHandle;
@@ -124,7 +124,7 @@ impl<Q: Ratifier + Drop> ReceiverHandle<Q> {
 
     /// One turn or more. All but the last take words that say nothing by themselves, and answer
     /// Going. Of the last one it tells the answer, with an item written in its place; any other
-    /// answer leaves that as it was.
+    /// answer leaves that as it was. A head or a leave mark is told as Going: `turn` tells which.
     #[inline(always)]
     pub fn item_turns(&mut self, item: &mut Item) -> ItemTurn
         ensures bus { self.new.bus ≡ self.old.bus }
@@ -161,11 +161,13 @@ impl<Q: Ratifier + Drop> ReceiverHandle<Q> {
         }
     }
 
-    /// As `next_item`, with the item written in place, so that it is moved nowhere: it says whether
-    /// it has written one, and at the end and ever after it has not.
+    /// As `next_item`, with the item written in place, so that it is moved less: it says whether it
+    /// has written one. At the end and ever after it has not, and the place is as it was.
+    #[must_use]
     pub fn next_item_in_place<W: Wait>(&mut self, wait: &W, item: &mut Item) -> bool
         ensures bus { self.new.bus ≡ self.old.bus }
         ensures passes { PassesTo self.old.me (written_or_end result item.new) self.new.me }
+        ensures kept { result ≡ false → item.new ≡ item.old }
     {
         let bus: &Bus<Q> = &self.bus;
         let waiter = self.bell.waiter(wait);
@@ -185,7 +187,9 @@ impl<Q: Ratifier + Drop> ReceiverHandle<Q> {
         self.receiver.next_item_while(&waiter, bus, go_on)
     }
 
-    /// As `next_item_while`, with the item written in place, so that it is moved nowhere.
+    /// As `next_item_while`, with the item written in place, so that it is moved less. Where it
+    /// finds none the place is as it was.
+    #[must_use]
     pub fn next_item_in_place_while<W: Wait, F: FnMut() -> bool>(
         &mut self,
         wait: &W,
@@ -196,6 +200,7 @@ impl<Q: Ratifier + Drop> ReceiverHandle<Q> {
         ensures bus { self.new.bus ≡ self.old.bus }
         ensures passes { PassesWhile F.step self.old.me go_on (next_of result item.new)
             self.new.me }
+        ensures kept { LeavesPlace result item.old item.new }
     {
         let bus: &Bus<Q> = &self.bus;
         let waiter = self.bell.asked(wait);

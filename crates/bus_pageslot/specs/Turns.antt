@@ -155,7 +155,7 @@ abbrev pub TakesSome : {C : Type 0} → Process C → Tellings C → SenderSeat 
 TakesSome P T first given answer new left =
     TakesWhile P T (λ c. Unit {0}) first given answer new left
 
--- its next step is one of the election of this tenure, which has no owner yet
+-- its next step is one of the election of this tenure, of which it knows no owner yet
 abbrev pub ElectsIn : {E : Type 0} → Election E → Sender E → ℕ → Type 0
 ElectsIn X v t = step_of (situation X v) ≡ step.Does (doing.Elects t)
 

@@ -528,7 +528,7 @@ impl<Q: Ratifier + Drop> Sender<Q> {
         }
     }
 
-    /// Turns in a row of an election that runs, one at least, and none once it has an owner. The
+    /// Turns in a row of an election that runs, one at least, and none once it knows an owner. The
     /// answer is the last one's.
     #[inline(never)]
     fn election_turns<R: Rng>(&mut self, bus: &Bus<Q>, begun: u64, rng: &mut R) -> Turn

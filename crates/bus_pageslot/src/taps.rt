@@ -114,7 +114,7 @@ impl<Q: Ratifier + Drop> Tap<Q> {
 
     /// One turn or more. All but the last take words that say nothing by themselves, and answer
     /// Going. Of the last one it tells the answer, with an item written in its place; any other
-    /// answer leaves that as it was.
+    /// answer leaves that as it was. A head or a leave mark is told as Going: `turn` tells which.
     #[inline(always)]
     pub fn item_turns(&mut self, bus: &Bus<Q>, item: &mut Item) -> ItemTurn
         requires { self.old.table_id ≡ bus.now.table }

@@ -108,6 +108,37 @@ only_end (turn.Leave s) before after told w is =
     absurd (let no : item_turn.Going ≡ item_turn.End = sym w.told_is ∙ is in cc)
 only_end turn.End before after told w is = refl
 
+-- ---- where no item is written the place is as it was
+pub left_at_end : (answer : RecvTurn) (before after : Item) (told : ItemTurn)
+    → Writes answer before told after → told ≡ item_turn.End → after ≡ before
+left_at_end (turn.Item i) before after told w is =
+    absurd (let no : item_turn.Item ≡ item_turn.End = sym w.told_is ∙ is in cc)
+left_at_end turn.Going before after told w is = w.after_is
+left_at_end turn.Empty before after told w is = w.after_is
+left_at_end (turn.Head t o) before after told w is = w.after_is
+left_at_end (turn.Leave s) before after told w is = w.after_is
+left_at_end turn.End before after told w is = w.after_is
+
+pub left_at_empty : (answer : RecvTurn) (before after : Item) (told : ItemTurn)
+    → Writes answer before told after → told ≡ item_turn.Empty → after ≡ before
+left_at_empty (turn.Item i) before after told w is =
+    absurd (let no : item_turn.Item ≡ item_turn.Empty = sym w.told_is ∙ is in cc)
+left_at_empty turn.Going before after told w is = w.after_is
+left_at_empty turn.Empty before after told w is = w.after_is
+left_at_empty (turn.Head t o) before after told w is = w.after_is
+left_at_empty (turn.Leave s) before after told w is = w.after_is
+left_at_empty turn.End before after told w is = w.after_is
+
+pub left_at_going : (answer : RecvTurn) (before after : Item) (told : ItemTurn)
+    → Writes answer before told after → told ≡ item_turn.Going → after ≡ before
+left_at_going (turn.Item i) before after told w is =
+    absurd (let no : item_turn.Item ≡ item_turn.Going = sym w.told_is ∙ is in cc)
+left_at_going turn.Going before after told w is = w.after_is
+left_at_going turn.Empty before after told w is = w.after_is
+left_at_going (turn.Head t o) before after told w is = w.after_is
+left_at_going (turn.Leave s) before after told w is = w.after_is
+left_at_going turn.End before after told w is = w.after_is
+
 pub written_in_place : {C F : Type 0} (Tells : F → Bool → F → Type 0) (first : Sat C) (given : F)
     (new : Sat C) (told : Found) → told ≡ found.Item → (after : Item)
     → PassesWhile Tells first given (next_of told after) new

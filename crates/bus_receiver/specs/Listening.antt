@@ -91,6 +91,12 @@ next_of found.Item written = next.Item written
 next_of found.End written = next.End
 next_of found.Stopped written = next.Stopped
 
+-- what stands in the place then: where no item was written, what stood there before
+abbrev pub LeavesPlace : Found → Item → Item → Type 0
+LeavesPlace found.Item before after = Unit {0}
+LeavesPlace found.End before after = after ≡ before
+LeavesPlace found.Stopped before after = after ≡ before
+
 -- such turns, and a last one, which answered so; after an Empty the function was asked and told to
 -- stop
 pub record PassesWhile {C F : Type 0} (Tells : F → Bool → F → Type 0) (first : Sat C) (given : F)

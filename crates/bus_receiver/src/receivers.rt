@@ -10,7 +10,7 @@ ghost use Rattle.bus_pageslot.specs.Listening.{Hears, HearsAfter};
 ghost use Rattle.bus_pageslot.specs.Seats.{table_of, actions_of, stored_of};
 ghost use Rattle.bus_receiver.specs.Listening.{bus_of, is_found, Takes, HaveMet, IsTold};
 ghost use Rattle.bus_receiver.specs.Listening.{PassesTo, PassesWhile, item_or_end, written_or_end};
-ghost use Rattle.bus_receiver.specs.Listening.{next_of};
+ghost use Rattle.bus_receiver.specs.Listening.{next_of, LeavesPlace};
 
 use bus_adoptcommit::{Ratifier, ThreeWord};
 use bus_batch::Item;
@@ -97,7 +97,8 @@ impl<Q: Ratifier + Drop> Receiver<Q> {
 
     /// One turn or more, as the tap's. All but the last take words that say nothing by themselves,
     /// and answer Going. Of the last one it tells the answer, with an item written in its place;
-    /// any other answer leaves that as it was.
+    /// any other answer leaves that as it was. A head or a leave mark is told as Going: `turn`
+    /// tells which.
     #[inline(always)]
     pub fn item_turns(&mut self, bus: &Bus<Q>, item: &mut Item) -> ItemTurn
         requires { bus_of self.old ≡ bus.now.table }
@@ -143,8 +144,9 @@ impl<Q: Ratifier + Drop> Receiver<Q> {
         }
     }
 
-    /// As `next_item`, with the item written in place, so that it is moved nowhere: it says whether
-    /// it has written one, and at the end and ever after it has not.
+    /// As `next_item`, with the item written in place, so that it is moved less: it says whether it
+    /// has written one. At the end and ever after it has not, and the place is as it was.
+    #[must_use]
     pub fn next_item_in_place<W: Wait>(
         &mut self,
         waiter: &Waiter<'_, W>,
@@ -154,6 +156,7 @@ impl<Q: Ratifier + Drop> Receiver<Q> {
         requires { bus_of self.old ≡ bus.now.table }
         ensures table { bus_of self.new ≡ bus_of self.old }
         ensures passes { PassesTo self.old.me (written_or_end result item.new) self.new.me }
+        ensures kept { result ≡ false → item.new ≡ item.old }
     {
         match self.pass_while(waiter, bus, || true, item) {
             Found::Item => true,
@@ -184,7 +187,9 @@ impl<Q: Ratifier + Drop> Receiver<Q> {
         }
     }
 
-    /// As `next_item_while`, with the item written in place, so that it is moved nowhere.
+    /// As `next_item_while`, with the item written in place, so that it is moved less. Where it
+    /// finds none the place is as it was.
+    #[must_use]
     pub fn next_item_in_place_while<W: Wait, F: FnMut() -> bool>(
         &mut self,
         waiter: &Waiter<'_, W>,
@@ -197,10 +202,12 @@ impl<Q: Ratifier + Drop> Receiver<Q> {
         ensures table { bus_of self.new ≡ bus_of self.old }
         ensures passes { PassesWhile F.step self.old.me go_on (next_of result item.new)
             self.new.me }
+        ensures kept { LeavesPlace result item.old item.new }
     {
         self.pass_while(waiter, bus, go_on, item)
     }
 
+    /// The same, for the calls above.
     #[inline(always)]
     fn pass_while<W: Wait, F: FnMut() -> bool>(
         &mut self,
@@ -214,6 +221,7 @@ impl<Q: Ratifier + Drop> Receiver<Q> {
         ensures table { bus_of self.new ≡ bus_of self.old }
         ensures passes { PassesWhile F.step self.old.me go_on (next_of result item.new)
             self.new.me }
+        ensures kept { LeavesPlace result item.old item.new }
     {
         for _ in waiter.forever() {
             match self.item_turns(bus, item) {

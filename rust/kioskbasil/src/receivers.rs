@@ -24,6 +24,9 @@ pub struct Item {
     bytes: [u8; MOST_BYTES],
 }
 
+// As the archive writes it.
+const _: () = assert!(mem::size_of::<Item>() == 72);
+
 impl Item {
     const NONE: Item = Item {
         number: 0,
@@ -106,8 +109,8 @@ const BATCH: usize = 32;
 /// A receiver of a bus. It may go to another thread, and one thread at a time has it.
 ///
 /// `next_item` and `try_item` take up to 32 items out of the bus at once, and give them one by one;
-/// `next_items` and `try_items` lend them where they lie, which copies none. All pass over that a
-/// sender has left: whoever uses `turn` alone is told each at its place, and
+/// `next_items` and `try_items` lend them where they lie, which copies none of them once more. All
+/// pass over that a sender has left: whoever uses `turn` alone is told each at its place, and
 /// `Ended` has all.
 pub struct Receiver {
     raw: raw::RawReceiver,
@@ -245,7 +248,7 @@ impl Receiver {
     }
 
     /// The next items that are there, at most 32, where they lie; none of them where there is
-    /// nothing more by now, or for good. Waits for nothing.
+    /// nothing more by now, or for good. All that are lent count as given. Waits for nothing.
     ///
     /// ```
     /// # use kioskbasil::{Bus, Shape};
@@ -304,7 +307,7 @@ impl Receiver {
         &self.bell
     }
 
-    /// Sets how `next_item` and `next_item_while` wait; at first by `Waiting::Sleep`.
+    /// Sets how `next_item`, `next_items` and `next_item_while` wait; at first by `Waiting::Sleep`.
     pub fn set_waiting(&mut self, waiting: Waiting) {
         self.waiting = waiting;
     }
@@ -317,7 +320,7 @@ impl Receiver {
     }
 
     /// The next items, one at least and at most 32, where they lie; none of them at the end and
-    /// ever after. It waits while there is none.
+    /// ever after. All that are lent count as given. It waits while there is none.
     ///
     /// ```
     /// use kioskbasil::{Bus, Shape};

@@ -3,10 +3,11 @@ use Rattle.bus_pageslot.specs.Listening.{Hears}
 use Rattle.bus_receiver.specs.Listening.{Begins, Goes, Asks}
 use Rattle.bus_receiver.specs.declared.receivers.Next.TheVariants as next
 use Rattle.bus_receiver.proofs.Passing.{asks_on_to, only_empty, only_going, only_item, only_end}
+use Rattle.bus_receiver.proofs.Passing.{left_at_end, left_at_empty, left_at_going}
 use Rattle.bus_receiver.proofs.receivers.Receiver.pass_while.Goals as goal
 
 pub loop-init : goal.loop-init
-loop-init g c = (c.requires.callable, Begins, refl)
+loop-init g c = (c.requires.callable, Begins, refl, refl)
 
 pub returns-in-Item-clause-passes : goal.returns-in-Item-clause-passes
 returns-in-Item-clause-passes g c =
@@ -60,6 +61,8 @@ loop-preserved-in-Empty g c =
           (asks_on_to _ _ _ _ _ _ c.loop.invariant.1 h.going)
           (subst (λ a. Hears h.old a new.self.me) empty h.hears) c.if-not-go_on.ensures,
       c.item_turns.ensures.table ∙ c.loop.invariant.2,
+      left_at_empty h.answer c.loop.item new.item c.item_turns.result h.writes c.in-Empty.is
+          ∙ c.loop.invariant.3,
     )
 
 pub loop-preserved : goal.loop-preserved
@@ -72,4 +75,18 @@ loop-preserved g c =
       Goes h.old c.loop.go_on h.answer new.self.me
           (asks_on_to _ _ _ _ _ _ c.loop.invariant.1 h.going) h.hears goes.0 goes.1,
       c.item_turns.ensures.table ∙ c.loop.invariant.2,
+      left_at_going h.answer c.loop.item new.item c.item_turns.result h.writes c.in-Going.is
+          ∙ c.loop.invariant.3,
     )
+
+pub returns-in-End-clause-kept : goal.returns-in-End-clause-kept
+returns-in-End-clause-kept g c =
+    let h = c.item_turns.ensures.hears in
+    left_at_end h.answer c.loop.item c.item_turns.new.item c.item_turns.result h.writes c.in-End.is
+    ∙ c.loop.invariant.3
+
+pub returns-then-not-go_on-clause-kept : goal.returns-then-not-go_on-clause-kept
+returns-then-not-go_on-clause-kept g c =
+    let h = c.item_turns.ensures.hears in
+    left_at_empty h.answer c.loop.item c.item_turns.new.item c.item_turns.result h.writes
+    c.in-Empty.is ∙ c.loop.invariant.3
