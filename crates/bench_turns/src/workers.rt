@@ -112,6 +112,7 @@ fn is_of_pin(kind: Kind) -> bool {
         | Kind::StoreLength
         | Kind::ReadPresence
         | Kind::ClearRow
+        | Kind::ReadPassed
         | Kind::GivePageBack
         | Kind::LoadLength
         | Kind::LoadLogWord => false,

@@ -51,15 +51,17 @@ none_here v e = absurd (let wrong : ⊥ = cc in wrong)
 
 -- the numbers of messages begin far below their range
 counted : {E : Type 0} (X : Election E) (x : Layout) (reuse : Option ℕ) (bases : List ℕ)
-    → AreBases bases → (p : ℕ)
+    → x.passers ≡ 0 → AreBases bases → (p : ℕ)
     → IsCounted (process_of X) (new_sender x p reuse (slice_index bases p))
-counted X x None bases are p = record {
+counted X x None bases none are p = record {
   first = (let low = are.low p in omega arith);
   few = omega arith;
+  passers = none;
 }
-counted X x (Some rows) bases are p = record {
+counted X x (Some rows) bases none are p = record {
   first = (let low = are.low p in omega arith);
   few = omega arith;
+  passers = none;
 }
 
 -- it begins with all at their starts
@@ -102,5 +104,5 @@ opens {E} X x reuse bases ok has are =
       home = refl;
       senders = λ p below. crowd_has {E = E} x reuse bases x.senders p below;
       sender_trail = λ p. refl;
-      counted = counted X x reuse bases are;
+      counted = counted X x reuse bases ok.passers are;
     }

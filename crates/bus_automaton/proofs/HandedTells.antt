@@ -33,7 +33,8 @@ module _ {E : Type 0} (X : Election E) (v : Sender E) (got word : ℕ) (a : Answ
       let o : Op = Store record { 0 = stage_at } (2 * t + 2) in
       let now : (line_now X g).op word ≡ Some o =
       ap (λ z. (line X g z).op word)
-      (handed_by v.reuse (situation_of X v.core) (GivesBack t page reason) t reason i) in
+      (handed_by v.core.layout.passers v.reuse (situation_of X v.core) (GivesBack t page reason) t
+      reason i) in
       subst (λ p. StepTells X cells v p word a) (ap (λ z. (line X v z).op word) i)
       (tells_before X v word cells a (Does (GivesBack t page reason)) i
       (subst (λ p. StepTells X cells g p word a) (sym now) w))

@@ -11,7 +11,8 @@ use Rattle.bus_batch.specs.Batches.{Pending, next_of, CanPut, CanClose}
 use Rattle.bus_batch.specs.declared.messages.Mark.{Mark}
 use Rattle.bus_batch.specs.declared.messages.Mark.TheVariants.{End, Leave}
 use Rattle.bus_core.specs.Keeping.{queue_of}
-use Rattle.bus_core.specs.Senders.{Sender, Situation, Does, Scans, Clears, situation}
+use Rattle.bus_core.specs.Senders.{Sender, Situation, Does, Scans, Clears, ReadsPassed}
+use Rattle.bus_core.specs.Senders.{situation}
 use Rattle.bus_core.specs.Table.{Line, line_now}
 use Rattle.bus_core.specs.declared.reuses.Reuse.{Reuse}
 use Rattle.bus_machine.proofs.EachSender.{actions_of_it, actions_of_other, entered_beside}
@@ -98,6 +99,10 @@ module _ {E : Type 0} (bases : List ℕ) (l : Line E) (p got word : ℕ) (T : Tr
   own_turned (Clears r) = own_trail bases T (turned (Clears r)) p [] [] (entries (l.op word) got)
       (actions_of_it p [] T.actions p refl)
       (sym (append-nil (T.pins p))) (own_entered T.reclaims p (l.op word) got)
+  own_turned (ReadsPassed t q) =
+      own_trail bases T (turned (ReadsPassed t q)) p stepped [] []
+      (actions_of_it p stepped T.actions p refl)
+      (sym (append-nil (T.pins p))) (sym (append-nil (T.reclaims p)))
   own_turned s = own_trail bases T (turned s) p [] (entries (l.op word) got) []
       (actions_of_it p [] T.actions p refl)
       (own_entered T.pins p (l.op word) got) (sym (append-nil (T.reclaims p)))
@@ -113,6 +118,9 @@ module _ {E : Type 0} (bases : List ℕ) (l : Line E) (p got word : ℕ) (T : Tr
   other_turned (Clears r) q ne =
       other_trail bases T (turned (Clears r)) q (actions_of_other p [] T.actions q ne) refl
       (entered_beside T.reclaims p q (l.op word) got ne)
+  other_turned (ReadsPassed t r) q ne =
+      other_trail bases T (turned (ReadsPassed t r)) q
+      (actions_of_other p stepped T.actions q ne) refl refl
   other_turned s q ne = other_trail bases T (turned s) q (actions_of_other p [] T.actions q ne)
       (entered_beside T.pins p q (l.op word) got ne) refl
 

@@ -67,11 +67,13 @@ is_layout P shape None h = record {
   senders = h.senders.1;
   rows = (let z = h.rows.1 in omega arith);
   capacity = (let z = h.log_words.1 in omega arith);
+  passers = refl;
 }
 is_layout P shape (Some rows) h = record {
   senders = h.senders.1;
   rows = omega arith;
   capacity = (let z = h.log_words.1 in omega arith);
+  passers = refl;
 }
 
 pub has_rows : (shape : Shape) (reuse : Option ℕ) → IsServed shape reuse → ShapeOf shape reuse

@@ -252,7 +252,11 @@ module _ {E : Type 0} (X : Election E) (P : Protocol E (Unit {0}) ℕ) (x : Layo
         let now = ap (λ (q : Pending). q.first) (queue_is v.core.queue v.reuse) in
         let few = part.queue.few in
         let same = ap length (messages_are v.core.queue v.reuse) in
-        record { first = omega arith; few = omega arith }
+        record {
+          first = omega arith;
+          few = omega arith;
+          passers = ap (λ (l : Layout). l.passers) part.layout ∙ sits.ok.passers;
+        }
 
     -- it is who it is
     is_sender : IsSender (process_of X) (bus_of X x reuse bases) p v

@@ -10,7 +10,9 @@ use Rattle.bus_core.proofs.Situated.{own_is}
 use Rattle.bus_core.specs.Keeping.{queue_of, sender, page_out}
 use Rattle.bus_core.specs.Reusing.Turns.{answer_of_loss, answer_of_reclaim}
 use Rattle.bus_core.specs.Senders.{Sender, Situation, Does, Validates, Unpins, Scans, Clears}
-use Rattle.bus_core.specs.Senders.{situation}
+use Rattle.bus_core.specs.Senders.{ReadsPassed, situation}
+use Rattle.bus_core.specs.Reusing.Passing.{passing_fed}
+use Rattle.bus_tenure.specs.Situations.{core_floored, phase_floored}
 use Rattle.bus_core.specs.Table.{line, line_now, rest_at, in_row, seen, answer_elected}
 use Rattle.bus_core.specs.Table.{reuse_elected, reuse_reclaiming, lost_of}
 use Rattle.bus_core.specs.declared.reuses.Reuse.{Reuse}
@@ -244,6 +246,9 @@ module _ {E : Type 0} (X : Election E) (v : Sender E) where
   kept (Does z) home got word = (refl, inl refl)
   kept (Validates t) home got word =
       of_either Kept (got / 2 == t) (core_begun X v.core t) v.core (refl, inl refl) (refl, inl refl)
+  kept (ReadsPassed t p) home got word =
+      of_either Kept ((passing_fed p got).loaded == v.core.layout.passers)
+      (core_floored v.core (passing_fed p got).least) v.core (refl, inl refl) (refl, inl refl)
   kept z home got word = (refl, inl refl)
 
   -- the same of the batch as it is found
@@ -292,6 +297,7 @@ module _ {E : Type 0} (X : Election E) (v : Sender E) where
         λ home. ap (λ w. record v { reuse = reuse_reclaiming v.reuse w }) same.0,
         ap answer_of_reclaim same.1,
       )
+  blind P laws (ReadsPassed t p) i word r n due got got' = absurd cc
   blind P laws z i word r n due got got' = (λ home. refl, refl)
 
   -- ---- last answers
@@ -363,6 +369,9 @@ module _ {E : Type 0} (X : Election E) (v : Sender E) where
   one_action (Does z) got word = step_is_one (line X v (Does z)).kind (line X v (Does z)).tenure got
       ((line X v (Does z)).chosen got word)
       ((line X v (Does z)).answer got word)
+  one_action (ReadsPassed t p) got word =
+      let l = line X v (ReadsPassed t p) in
+      step_is_one l.kind l.tenure got (l.chosen got word) (l.answer got word)
   one_action z got word = inl refl
 
   -- ---- the page
@@ -371,7 +380,8 @@ module _ {E : Type 0} (X : Election E) (v : Sender E) where
       → line_now X (handed z) ≡ record (line X v z) { move = after_step (line X v z).move }
   line_handed (Does (GivesBack t page reason)) i =
       ap (line X (handed (Does (GivesBack t page reason))))
-      (handed_by v.reuse (situation_of X v.core) (GivesBack t page reason) t reason i)
+      (handed_by v.core.layout.passers v.reuse (situation_of X v.core) (GivesBack t page reason) t
+      reason i)
   line_handed (Does z) i = ap (line X v) i
   line_handed z i = ap (line X v) i
 
@@ -399,6 +409,16 @@ module _ {E : Type 0} (X : Election E) (v : Sender E) where
     -- no page has moved
     abbrev Plain : Core E → Type 0
     Plain d = (is_taken d.phase ≡ false) × (is_holding d.phase ≡ is_holding v.core.phase)
+
+    -- nor has it with another floor
+    floor_alike : (least : ℕ) (ph : Phase E)
+        → (is_taken (phase_floored least ph) ≡ is_taken ph)
+        × (is_holding (phase_floored least ph) ≡ is_holding ph)
+    floor_alike least phase.Resting = (refl, refl)
+    floor_alike least (phase.Electing t e) = (refl, refl)
+    floor_alike least (phase.Taken t) = (refl, refl)
+    floor_alike least (phase.Holding t page stored published) = (refl, refl)
+    floor_alike least (phase.Giving t reason) = (refl, refl)
 
     -- a sender that rests begins a tenure
     plain_begun : (t : ℕ) → v.core.phase ≡ phase.Resting → Plain (core_begun X v.core t)
@@ -451,6 +471,12 @@ module _ {E : Type 0} (X : Election E) (v : Sender E) where
     ends (Validates t) i word o due home got =
         let h = of_either Plain (got / 2 == t) (core_begun X v.core t) v.core
         (plain_begun t (rests t i)) (laid, refl) in
+        (refl, h.0, h.1)
+    ends (ReadsPassed t p) i word o due home got =
+        let n = (passing_fed p got).least in
+        let same = floor_alike n v.core.phase in
+        let h = of_either Plain ((passing_fed p got).loaded == v.core.layout.passers)
+        (core_floored v.core n) v.core (same.0 ∙ laid, same.1) (laid, refl) in
         (refl, h.0, h.1)
     ends z i word o due home got = (refl, laid, refl)
 

@@ -8,7 +8,7 @@ use Rattle.bus_tenure.specs.declared.phases.Phase.{Phase}
 use Rattle.bus_tenure.specs.declared.phases.Phase.TheVariants as phase
 use Rattle.bus_core.specs.Keeping.{queue_of}
 use Rattle.bus_core.specs.Senders.{Sender, Situation, Does, Announces, Validates, Unpins}
-use Rattle.bus_core.specs.Senders.{Withdraws, Scans, Clears, situation}
+use Rattle.bus_core.specs.Senders.{Withdraws, Scans, Clears, ReadsPassed, situation}
 use Rattle.bus_core.specs.Table.{Line, line_now, rest_at}
 use Rattle.bus_core.specs.declared.reuses.Reuse.{Reuse}
 use Rattle.bus_world.specs.Trails.{step_action}
@@ -27,6 +27,7 @@ table_layout_by x reuse = record {
   words = log_place x reuse + x.capacity;
   log = log_place x reuse;
   capacity = x.capacity;
+  passers = x.passers;
 }
 
 -- ---- where it stands
@@ -59,6 +60,8 @@ adds_by (Unpins t) l got word = adds_pin (l.op word) got
 adds_by (Withdraws t) l got word = adds_pin (l.op word) got
 adds_by (Scans s) l got word = adds_reclaim (l.op word) got
 adds_by (Clears s) l got word = adds_reclaim (l.op word) got
+adds_by (ReadsPassed t p) l got word = sender_trail_of_actions 0
+    (step_action l.kind l.tenure got (l.chosen got word) (l.answer got word))
 
 abbrev pub process_of : {E : Type 0} → Election E → Process (Sender E)
 process_of X = record {

@@ -22,9 +22,11 @@ pub record TableLayout : Type 0 where
   pub words : ℕ
   pub log : ℕ
   pub capacity : ℕ
+  -- how many passed places there are
+  pub passers : ℕ
 
 abbrev pub no_table_layout : TableLayout
-no_table_layout = record { senders = 0; words = 0; log = 0; capacity = 0 }
+no_table_layout = record { senders = 0; words = 0; log = 0; capacity = 0; passers = 0 }
 
 -- ---- a sender that holds C
 pub record Process (C : Type 0) : Type 0 where
@@ -66,10 +68,11 @@ pub record Process (C : Type 0) : Type 0 where
   pub laid : C → Page → C
 
 -- the numbers of a sender's messages stay within their range, also that of a message more where its
--- batch is full
+-- batch is full; and no bus has passed places yet
 pub record IsCounted {C : Type 0} (P : Process C) (c : C) : Type 0 where
   pub first : (P.queue c).first + MOST_MESSAGES < NUMBERS
   pub few : length (P.queue c).messages ≤ MOST_MESSAGES
+  pub passers : (P.table_layout c).passers ≡ 0
 
 -- ---- a turn, part by part
 -- The parts of a turn are the whole turn: c has taken its step, is s once it was told what that

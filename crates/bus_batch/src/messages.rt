@@ -8,10 +8,11 @@ ghost use Rattle.std.specs.Int.{w64, to_be_bytes};
 use bus_register::SenderNo;
 use bus_register::limits::MOST_BYTES;
 use std::alloc::AllocError;
+use std::fmt;
 use std::marker::Model;
 
 /// At most 56 bytes.
-#[derive(Debug, Drop, PartialEq, Eq)]
+#[derive(Drop, PartialEq, Eq)]
 pub struct Message {
     len: usize,
     /// Those behind its length are zero.
@@ -142,6 +143,13 @@ impl Message {
             len: self.len,
             bytes: self.bytes,
         }
+    }
+}
+
+/// The list of its bytes.
+impl fmt::Debug for Message {
+    fn fmt<W: fmt::Write>(&self, f: &mut fmt::Formatter<W>) -> fmt::Result {
+        f.debug_list().entries(self.as_slice()).finish()
     }
 }
 

@@ -1,12 +1,12 @@
 -- Both tables are the one.
 use Rattle.std.proofs.Common.{◌≡◌, ℕ, ◌+◌, ◌-◌, Bool, true, false, cond, Option, Some, None}
-use Rattle.std.proofs.Common.{nat_lt, slice_index, refl, sym, ap, arith}
+use Rattle.std.proofs.Common.{nat_lt, slice_index, refl, sym, ap, subst, arith}
 use Rattle.bus_register.specs.declared.registers.Op.TheVariants.{Load, Store}
 use Rattle.bus_presence.specs.Reclaimers.{Reclaiming}
 use Rattle.bus_presence.specs.declared.pins.Pin.{Pin}
 use Rattle.bus_presence.specs.declared.pins.Pin.TheVariants.{Away, Announcing, Validating, Pinned}
 use Rattle.bus_presence.specs.declared.pins.Pin.TheVariants.{Unpinning, Invalidated}
-use Rattle.bus_tenure.specs.Core.{Core, Election, log_at, stage_at}
+use Rattle.bus_tenure.specs.Core.{Core, Election, log_at, stage_at, cell_of}
 use Rattle.bus_tenure.specs.declared.pages.Page.{Page}
 use Rattle.bus_tenure.specs.declared.phases.Reason.{Reason}
 use Rattle.bus_register.specs.declared.kinds.Kind.TheVariants as kind
@@ -22,9 +22,11 @@ use Rattle.bus_core.specs.Senders.{Does, Scans, Clears, reclaiming, at_home, pin
 use Rattle.bus_core.specs.Reusing.Participants.{log_from}
 use Rattle.bus_core.specs.Proved.ParticipantTable.{due_reclaimed, due_home, due_beside, reclaim_due}
 use Rattle.bus_core.specs.Reusing.Turns.{Participant, sizes_of}
+use Rattle.bus_core.specs.Proved.ParticipantTurns.{due}
 use Rattle.bus_core.specs.Table.{line}
 use Rattle.bus_core.specs.Proved.Bridge.{line_with_a_row_each, AtNone, AtSome, IsLineOf}
 use Rattle.bus_core.specs.Proved.Bridge.{with_a_row_each, with_rows_again}
+use Rattle.bus_core.proofs.Situated.{none_left, unpassed}
 
 -- with a row for each tenure each line is that of the table of a sender in its tenures
 line_at_none : {E : Type 0} (X : Election E) (c : Core E) (z : Own E)
@@ -46,8 +48,8 @@ pub at_none : {E : Type 0} (X : Election E) → AtNone X
 at_none X c = line_at_none X c (own_situation X c)
 
 -- a word of the log, from where the log begins
-moved : (from at words stored : ℕ) → from + words + stored ≡ from + (at + words + stored - at)
-moved from at words stored = omega arith
+moved : (from at cell : ℕ) → from + cell ≡ from + (at + cell - at)
+moved from at cell = omega arith
 
 module _ {E : Type 0} (X : Election E) where
   -- with another reclamation
@@ -114,7 +116,7 @@ module _ {E : Type 0} (X : Election E) where
   -- who takes no step of a pin has the line of what goes on
   at_home_is : (v : Participant E) (z : Own E)
       → IsLineOf X v (due_home (reclaim_due z v.reclaimer) z)
-      (line X (with_rows_again v) (at_home v.reclaimer z))
+      (line X (with_rows_again v) (at_home None v.reclaimer z))
   at_home_is v IsClosed = record {
     kind = refl;
     op = λ word. refl;
@@ -189,7 +191,8 @@ module _ {E : Type 0} (X : Election E) where
     kind = refl;
     op = λ word. ap (λ at.
         Some (Store record { 0 = at } (slice_index (frame_words (frame_of v.core.queue t)) stored)))
-        (moved (log_from v.core.layout v.rows) (log_at v.core.layout) page.words stored);
+        (moved (log_from v.core.layout v.rows) (log_at v.core.layout)
+        (cell_of v.core.layout (page.words + stored)));
     wants = refl;
     fed = λ got word. refl;
     answer = λ got word. refl;
@@ -207,7 +210,11 @@ module _ {E : Type 0} (X : Election E) where
     move = refl;
     publishes = refl;
   }
-  at_home_is v (GivesBack t page reason) = gives_back v v.reclaimer t page reason
+  at_home_is v (GivesBack t page reason) =
+      subst (λ z. IsLineOf X v (due_home v.reclaimer (GivesBack t page reason))
+      (line X (with_rows_again v) z))
+      (sym (unpassed t reason (reclaiming v.reclaimer (GivesBack t page reason))))
+      (gives_back v v.reclaimer t page reason)
   at_home_is v (HasHanded t reason) = record {
     kind = refl;
     op = λ word. refl;
@@ -223,7 +230,7 @@ module _ {E : Type 0} (X : Election E) where
   pins : (v : Participant E) (u : Pin) (z : Own E)
       → IsLineOf X (record v { pin = u })
       (due_beside (step_at u (presence_at (sizes_of v) v.core.me) stage_at) v.reclaimer z)
-      (line X (with_rows_again (record v { pin = u })) (pinning u v.reclaimer z))
+      (line X (with_rows_again (record v { pin = u })) (pinning u None v.reclaimer z))
   pins v Away z = at_home_is (record v { pin = Away }) z
   pins v (Announcing t) z = record {
     kind = refl;
@@ -269,4 +276,8 @@ module _ {E : Type 0} (X : Election E) where
 
   -- with rows that are used again the line is that of what is due
   pub at_some : AtSome X
-  at_some v = pins v v.pin (own_situation X v.core)
+  at_some v none =
+      subst (λ l. IsLineOf X v (due X v)
+      (line X (with_rows_again v) (pinning v.pin l v.reclaimer (own_situation X v.core))))
+      (sym (none_left v.core.layout.passers v.passed none))
+      (pins v v.pin (own_situation X v.core))

@@ -1,5 +1,5 @@
 -- Each kind of step has its cause.
-use Rattle.std.proofs.Common.{◌≡◌, inl, inr, ℕ, Bool, true, false, Option, Some, None, IfSome}
+use Rattle.std.proofs.Common.{◌≡◌, inl, inr, ℕ, ◌<◌, Bool, true, false, Option, Some, None, IfSome}
 use Rattle.std.proofs.Common.{IsSomeAnd, is_some, refl, sym, ◌∙◌, ap, subst}
 use Rattle.bus_register.specs.declared.kinds.Kind.{Kind}
 use Rattle.bus_register.specs.declared.registers.Op.{Op}
@@ -21,12 +21,14 @@ use Rattle.bus_tenure.specs.Situations.{Situation as Own, IsClosed, IsIdle, IsSp
 use Rattle.bus_tenure.specs.Situations.{Elects, TakesPage, AwaitsPage, StoresWord, StoresLength}
 use Rattle.bus_tenure.specs.Situations.{GivesBack, HasHanded, situation_at, situation_of}
 use Rattle.bus_tenure.specs.declared.phases.Phase.TheVariants.{Electing}
-use Rattle.bus_tenure.proofs.Caused.{word_cause, length_cause, back_cause, timely}
+use Rattle.bus_tenure.specs.declared.phases.Reason.TheVariants.{NoRoom}
+use Rattle.bus_tenure.proofs.Caused.{word_cause, length_cause, back_cause, unfitting_cause}
+use Rattle.bus_tenure.proofs.Caused.{timely}
 use Rattle.bus_tenure.proofs.Looking.{looks_at_rest}
 use Rattle.bus_tenure.proofs.Situated.{tells}
 use Rattle.bus_core.specs.Causes.{HasCause, IsCaused, StandsInside, StandsInRow, EntersTenure}
 use Rattle.bus_core.specs.Causes.{LooksAgain, LeavesTenure, AsLoser, AsHolder, AsLate}
-use Rattle.bus_core.specs.Causes.{MakesRowReady, AsksSender, ClearsWord, HasRowReady}
+use Rattle.bus_core.specs.Causes.{MakesRowReady, AsksSender, ClearsWord, AsksPassed, HasRowReady}
 use Rattle.bus_core.specs.Keeping.{ReuseKeeps, IsAway}
 use Rattle.bus_core.specs.Places.{StandsIn}
 use Rattle.bus_core.specs.Reusing.Keeping.{IsBound, IsOutside, IsRowReady, PinKeeps, LostKeeps}
@@ -34,8 +36,10 @@ use Rattle.bus_core.specs.Reusing.Keeping.{ParticipantKeeps, held_of}
 use Rattle.bus_core.specs.Reusing.Participants.{sizes_with}
 use Rattle.bus_core.specs.Reusing.Telling.{Returns, Gives, Says}
 use Rattle.bus_core.specs.Senders.{Sender, Situation, Does, Announces, Validates, Unpins}
-use Rattle.bus_core.specs.Senders.{Withdraws, Scans, Clears, participant_of, situation}
+use Rattle.bus_core.specs.Senders.{Withdraws, Scans, Clears, ReadsPassed, participant_of}
+use Rattle.bus_core.specs.Senders.{situation}
 use Rattle.bus_core.specs.Table.{line}
+use Rattle.bus_core.specs.declared.reuses.Passing.{Passing}
 use Rattle.bus_core.specs.declared.reuses.Reuse.{Reuse}
 use Rattle.bus_core.proofs.ElectionCauses.{election_cause}
 use Rattle.bus_core.proofs.Reusing.Tells.{ChoosesItself}
@@ -273,6 +277,17 @@ module _ {S : Type 0} (kind_of : S → Option Kind) (op : S → ℕ → Option O
           clearing = w.1;
         })
         (situation_tells X v (Clears s) i)
+    by_situation (ReadsPassed t p) i =
+        some_kept width Belongs v.core _ (λ r. AsksPassed (participant_of v.core r)) v.reuse g
+        (λ r h w.
+        let at = tells X v.core (GivesBack t w.page NoRoom) w.gives in
+        record {
+          away = calm_away width Belongs v.core r h (subst IsOutside (sym at.2) tt) w.calm;
+          lacks = unfitting_cause v.core t w.page at.0 at.1 at.2
+              (sym (ap (situation_at X v.core) at.2) ∙ w.gives);
+          left = subst (λ (q : Passing). q.loaded < v.core.layout.passers) (sym w.is) w.left;
+        })
+        (situation_tells X v (ReadsPassed t p) i)
 
     -- whatever the next step is for
     pub line_is_caused : IsCaused X P v

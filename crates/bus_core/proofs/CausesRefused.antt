@@ -61,7 +61,7 @@ same_stored t u p q a b c d e = cc
 -- who would go on with its frame does not leave the page
 unsent_stays : {E : Type 0} (c : Core E) (t : ℕ) (page : Page) (stored : ℕ)
     → c.phase ≡ Holding t page stored false → page.ended ≡ false
-    → page.words + frame_len c ≤ c.layout.capacity → LeavesPage c → ⊥
+    → page.words + frame_len c ≤ c.layout.capacity + page.floor → LeavesPage c → ⊥
 unsent_stays c t page stored at goes fits l =
     let same =
     same_page t l.tenure page l.page stored l.stored false l.published (sym at ∙ l.holds) in
@@ -71,7 +71,8 @@ unsent_stays c t page stored at goes fits l =
         | inl ended ↦ true≢false (sym ended ∙ sym (ap (λ (p : Page). p.ended) same.1.0) ∙ goes)
         | inr full ↦
             (let more =
-            subst (λ (p : Page). c.layout.capacity < p.words + frame_len c) (sym same.1.0) full in
+            subst (λ (p : Page). c.layout.capacity + p.floor < p.words + frame_len c) (sym same.1.0)
+            full in
             omega arith)
       ]
     ]
@@ -79,10 +80,11 @@ unsent_stays c t page stored at goes fits l =
 -- whose frame does not fit has none to store
 without_room : {E : Type 0} (c : Core E) (t : ℕ) (page : Page) (stored : ℕ)
     → c.phase ≡ Holding t page stored false
-    → c.layout.capacity < page.words + frame_len c → (n : ℕ) → HoldsFitting c n → ⊥
+    → c.layout.capacity + page.floor < page.words + frame_len c → (n : ℕ) → HoldsFitting c n → ⊥
 without_room c t page stored at full n w =
     let same = (same_page t w.tenure page w.page stored n false false (sym at ∙ w.holds)).1.0 in
-    let fits = subst (λ (p : Page). p.words + frame_len c ≤ c.layout.capacity) (sym same) w.room in
+    let fits =
+    subst (λ (p : Page). p.words + frame_len c ≤ c.layout.capacity + p.floor) (sym same) w.room in
     omega arith
 
 -- ---- an election
@@ -341,6 +343,7 @@ module _ {S : Type 0} (P : Protocol S Bool Verdict) where
     withdraws = λ none w. none_not v.reuse _ none w;
     asks = λ none w. none_not v.reuse _ none w;
     clears = λ none w. none_not v.reuse _ none w;
+    reads_passed = λ none w. none_not v.reuse _ none w;
   }
 
   -- a step of an election is one of who stands in its tenure
@@ -418,6 +421,23 @@ module _ {S : Type 0} (P : Protocol S Bool Verdict) where
             unsent_stays c tenure page stored at goes fits w.makes.leaves;
         clears_unsent = λ tenure page stored at goes fits w.
             unsent_stays c tenure page stored at goes fits w.makes.leaves;
+        reads_passed_at_rest = λ rests w. let bad = sym rests ∙ w.lacks.holds in cc;
+        reads_passed_while_unpinning = λ t e w. let bad = sym e ∙ w.away in cc;
+        reads_passed_past_the_end = λ tenure page stored published at ended w.
+            let same = same_page tenure w.lacks.tenure page w.lacks.page stored w.lacks.stored
+            published false (sym at ∙ w.lacks.holds) in
+            true≢false (sym ended ∙ ap (λ (p : Page). p.ended) same.1.0 ∙ w.lacks.goes_on);
+        reads_passed_once_sent = λ tenure page stored at w.
+            true≢false (same_page tenure w.lacks.tenure page w.lacks.page stored w.lacks.stored
+            true false (sym at ∙ w.lacks.holds)).1.1;
+        reads_passed_with_room = λ tenure page stored published at fits w.
+            let same = same_page tenure w.lacks.tenure page w.lacks.page stored w.lacks.stored
+            published false (sym at ∙ w.lacks.holds) in
+            let full =
+            subst (λ (p : Page). c.layout.capacity + p.floor < p.words + frame_len c)
+            (sym same.1.0) w.lacks.full in
+            omega arith;
+        reads_passed_past_all = λ past w. let left = w.left in omega arith;
         looks_while_unpinning = λ t e w. let bad = sym e ∙ w.away in cc;
         looks_invalidated = λ t e w. let bad = sym e ∙ w.away in cc;
         publishes_while_unpinning = λ t e w. let bad = sym e ∙ w.0 in cc;

@@ -16,25 +16,29 @@ use Rattle.bus_tenure.specs.Core.{Core, Election, Layout, row_at}
 use Rattle.bus_tenure.specs.Situations.{IsClosed, IsIdle, IsSpent, LooksAtStage, Elects, TakesPage}
 use Rattle.bus_tenure.specs.Situations.{AwaitsPage, StoresWord, StoresLength, GivesBack, HasHanded}
 use Rattle.bus_tenure.specs.Situations.{situation_of, situation_at, resting, waits, core_begun}
-use Rattle.bus_tenure.specs.Situations.{core_elected}
+use Rattle.bus_tenure.specs.Situations.{core_elected, core_floored, phase_floored}
 use Rattle.bus_tenure.specs.declared.pages.Page.{Page}
 use Rattle.bus_tenure.specs.declared.phases.Phase.{Phase}
 use Rattle.bus_tenure.specs.declared.phases.Phase.TheVariants.{Resting, Electing, Taken, Holding}
 use Rattle.bus_tenure.specs.declared.phases.Phase.TheVariants.{Giving}
 use Rattle.bus_tenure.specs.declared.phases.Reason.{Reason}
+use Rattle.bus_tenure.specs.declared.phases.Reason.TheVariants.{NoRoom}
 use Rattle.bus_tenure.proofs.Looking.{looks_at_rest}
 use Rattle.bus_tenure.proofs.Situated.{tells}
 use Rattle.bus_core.specs.Keeping.{ReuseKeeps, sender}
 use Rattle.bus_core.specs.Reusing.Keeping.{IsBound, IsOutside, PinKeeps, ReclaimerKeeps, LostKeeps}
 use Rattle.bus_core.specs.Reusing.Keeping.{held_of}
 use Rattle.bus_core.specs.Reusing.Participants.{sizes_with}
+use Rattle.bus_core.specs.Reusing.Passing.{passing_begun, passing_fed}
 use Rattle.bus_core.specs.Senders.{Sender, Situation, Does, Announces, Validates, Unpins}
-use Rattle.bus_core.specs.Senders.{Withdraws, Scans, Clears, situation}
+use Rattle.bus_core.specs.Senders.{Withdraws, Scans, Clears, ReadsPassed, situation}
 use Rattle.bus_core.specs.Table.{line, line_now, in_row, seen, reuse_elected}
+use Rattle.bus_core.specs.declared.reuses.Passing.{Passing}
 use Rattle.bus_core.specs.declared.reuses.Reuse.{Reuse}
 use Rattle.bus_core.proofs.Bridged.{at_none}
 use Rattle.bus_core.proofs.Reusing.Keeps.{ElectionsKeep, runs_pinned}
-use Rattle.bus_core.proofs.Situated.{IsCalm, GoesCalmly, Reclaims, SituationTells, situation_tells}
+use Rattle.bus_core.proofs.Situated.{IsCalm, GoesCalmly, Reclaims, Passes, SituationTells}
+use Rattle.bus_core.proofs.Situated.{situation_tells}
 use Rattle.bus_core.proofs.Situated.{calm_away, held_reclaimer}
 
 -- ---- its reclamation
@@ -140,6 +144,20 @@ module _ {E : Type 0} (X : Election E) (W : Layout → ℕ) (B : Layout → ℕ 
   Keeps v = ReuseKeeps (W v.core.layout) (B v.core.layout v.core.me) v.core v.reuse
 
   -- ---- where rows are used again
+  -- whatever of the passed places it has loaded
+  repassed : (c : Core E) (r : Reuse) → Keeps (sender c (Some r)) → (p : Passing)
+      → Keeps (sender c (Some (record r { passed = p })))
+  repassed c r k p = record {
+    sizes = k.sizes;
+    tenures = k.tenures;
+    rows_some = k.rows_some;
+    rows_few = k.rows_few;
+    me_below = k.me_below;
+    pin = k.pin;
+    reclaimer = k.reclaimer;
+    lost = k.lost;
+  }
+
   module _ (c : Core E) (r : Reuse) (k : Keeps (sender c (Some r))) where
     -- its sizes
     abbrev sizes : ReclamationSizes
@@ -150,7 +168,7 @@ module _ {E : Type 0} (X : Election E) (W : Layout → ℕ) (B : Layout → ℕ 
     abbrev with : Pending → ℕ → Phase E → Pin → Option Reclaiming → Option SenderNo → Sender E
     with q least p u s l =
         sender (record c { queue = q; least = least; phase = p })
-        (Some record { pin = u; reclaimer = s; lost = l; rows = r.rows })
+        (Some record { pin = u; reclaimer = s; passed = r.passed; lost = l; rows = r.rows })
 
     -- all of which it may be with, if its pin, its reclamation and whom it lost to are kept
     kept : (q : Pending) (least : ℕ) (p : Phase E) (u : Pin) (s : Option Reclaiming)
@@ -304,11 +322,25 @@ module _ {E : Type 0} (X : Election E) (W : Layout → ℕ) (B : Layout → ℕ 
       by (Some o) = ends o (o == c.me) refl
 
     -- the page is taken
-    takes : (t : ℕ) → IsCalm r.pin
+    taken_keeps : (t : ℕ) → IsCalm r.pin
         → Keeps (with c.queue c.least (Taken t) (Unpinning t) (reclaimer_after sizes t) r.lost)
-    takes t calm = kept c.queue c.least (Taken t) (Unpinning t) (reclaimer_after sizes t) r.lost tt
+    taken_keeps t calm =
+        kept c.queue c.least (Taken t) (Unpinning t) (reclaimer_after sizes t) r.lost tt
         (begins sizes (Taken t) t (nat_lt (t + 1) r.rows) refl refl)
         (lost_on calm (Taken t) (Unpinning t) (λ u e. let same : t ≡ u = cc in ap Some same))
+
+    -- a passed place is loaded, and with the last one the page gets its floor
+    passes : (t : ℕ) (p q : Passing) → Passes c.layout.passers r (situation_of X c) t p → (b : Bool)
+        → Keeps (sender (cond b (core_floored c q.least) c) (Some (record r { passed = q })))
+    passes t p q w true =
+        let at = (tells X c (GivesBack t w.page NoRoom) w.gives).2 in
+        repassed (core_floored c q.least) r
+        (holds w.calm (subst IsOutside (sym at) tt) (phase_floored q.least c.phase)
+        (subst (λ ph. IsOutside (phase_floored q.least ph)) (sym at) tt)
+        (ap (λ ph. held_of (phase_floored q.least ph)) at ∙ sym (ap held_of at))
+        (λ u reason e. let bad = sym (ap (phase_floored q.least) at) ∙ e in absurd cc))
+        q
+    passes t p q w false = repassed c r k q
 
     -- a reclamation goes on
     reclaims : (s : Reclaiming) (got : ℕ) → Reclaims r (situation_of X c) s
@@ -323,7 +355,8 @@ module _ {E : Type 0} (X : Election E) (W : Layout → ℕ) (B : Layout → ℕ 
 
     module _ (got word : ℕ) where
       -- ---- each situation
-      by_situation : (z : Situation E) → SituationTells z (Some r) (situation_of X c)
+      by_situation : (z : Situation E)
+          → SituationTells c.layout.passers z (Some r) (situation_of X c)
           → IsSome ((line X (sender c (Some r)) z).op word)
           → Keeps ((line X (sender c (Some r)) z).fed got word)
       by_situation (Does IsClosed) w h = k
@@ -344,7 +377,12 @@ module _ {E : Type 0} (X : Election E) (W : Layout → ℕ) (B : Layout → ℕ 
               → (o : Op) × (x ≡ Some o)
           some_op None g = absurd (let q : false ≡ true = g in cc)
           some_op (Some o) g = (o, refl)
-      by_situation (Does (TakesPage t)) w h = takes t w.1.calm
+      by_situation (Does (TakesPage t)) w h =
+          let taken = record r {
+            pin = Unpinning t;
+            reclaimer = reclaimer_after sizes t;
+          } in
+          repassed (record c { phase = Taken t }) taken (taken_keeps t w.1.calm) passing_begun
       by_situation (Does (AwaitsPage t)) w h = k
       by_situation (Does (StoresWord t page stored)) w h =
           let at = (tells X c (StoresWord t page stored) w.0).1 in
@@ -368,6 +406,9 @@ module _ {E : Type 0} (X : Election E) (W : Layout → ℕ) (B : Layout → ℕ 
           repinned Away (subst IsOutside (sym (pin_at (Invalidated t) w)) tt) (λ u e. cc)
       by_situation (Scans s) w h = reclaims s got w.0
       by_situation (Clears s) w h = reclaims s got w.0
+      by_situation (ReadsPassed t p) w h =
+          passes t p (passing_fed p got) w
+          ((passing_fed p got).loaded == c.layout.passers)
 
   -- ---- with both kinds of rows
   -- the sender after its line

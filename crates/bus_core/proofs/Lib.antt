@@ -1,4 +1,5 @@
 pub mod Reusing
+mod LeastPassed
 pub mod Bridged
 pub mod Situated
 mod Stepped

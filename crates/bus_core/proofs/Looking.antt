@@ -129,7 +129,8 @@ module _ {E : Type 0} (X : Election E) (v : Sender E) where
       ∙ looks_where v.core.queue.phase v.core.queue.messages
       (nat_le v.core.layout.rows v.core.least) l.not_closed l.something
       (lt-leb _ _ left) in
-      ap (situation_by v.reuse) own ∙ away_does v.reuse LooksAtStage w.away (λ s. refl)
+      ap (situation_by v.core.layout.passers v.reuse) own
+      ∙ away_does v.core.layout.passers v.reuse LooksAtStage w.away (λ l s. refl)
 
   module _ (width : ℕ) (Belongs : ℕ → E → Type 0)
       (k : ReuseKeeps width Belongs v.core v.reuse) where

@@ -1,6 +1,6 @@
 -- The next step lies where its line says.
-use Rattle.std.proofs.Common.{◌≡◌, ℕ, ◌+◌, ◌-◌, ◌<◌, ◌≤◌, Option, Some, None, IfSome, refl, sym}
-use Rattle.std.proofs.Common.{ap, subst, arith}
+use Rattle.std.proofs.Common.{◌≡◌, ℕ, ◌+◌, ◌-◌, ◌*◌, ◌<◌, ◌≤◌, Option, Some, None, IfSome, refl}
+use Rattle.std.proofs.Common.{sym, ap, subst, arith}
 use Rattle.std.proofs.lemmas.Option.{IfSome_then}
 use Rattle.bus_register.specs.Words.{register}
 use Rattle.bus_register.specs.declared.registers.Op.{Op}
@@ -16,10 +16,12 @@ use Rattle.bus_tenure.specs.declared.phases.Phase.TheVariants.{Electing}
 use Rattle.bus_tenure.proofs.Situated.{tells}
 use Rattle.bus_core.specs.Reusing.Participants.{sizes_with}
 use Rattle.bus_core.specs.Keeping.{ReuseKeeps}
-use Rattle.bus_core.specs.Places.{IsInRow, IsAsked, IsInNextRow, LiesAt}
+use Rattle.bus_core.specs.Places.{IsInRow, IsAsked, IsInNextRow, IsPassed, LiesAt}
 use Rattle.bus_core.specs.Senders.{Sender, Situation, Does, Announces, Validates, Unpins}
-use Rattle.bus_core.specs.Senders.{Withdraws, Scans, Clears, situation}
+use Rattle.bus_core.specs.Senders.{Withdraws, Scans, Clears, ReadsPassed, passed_start, situation}
 use Rattle.bus_core.specs.Table.{line, line_now, in_row}
+use Rattle.bus_core.specs.declared.limits.TheConstants.{PASSED_APART}
+use Rattle.bus_core.specs.declared.reuses.Passing.{Passing}
 use Rattle.bus_core.specs.declared.reuses.Reuse.{Reuse}
 use Rattle.bus_core.proofs.Situated.{SituationTells, situation_tells, own_is, stands_in}
 use Rattle.bus_core.proofs.Situated.{held_reclaimer}
@@ -60,7 +62,7 @@ module _ {E : Type 0} (X : Election E) (width : ℕ) (Belongs : ℕ → E → Ty
       → IsAsked v.core.layout s (s.presences + s.scanned)
   scans_lies s i = by v.reuse k (situation_tells X v (Scans s) i) where
     by : (r : Option Reuse) → ReuseKeeps width Belongs v.core r
-        → SituationTells (Scans s) r (own_situation X v.core)
+        → SituationTells v.core.layout.passers (Scans s) r (own_situation X v.core)
         → IsAsked v.core.layout s (s.presences + s.scanned)
     by None h w = absurd w
     by (Some r) h w =
@@ -74,7 +76,7 @@ module _ {E : Type 0} (X : Election E) (width : ℕ) (Belongs : ℕ → E → Ty
   clears_lies : (s : Reclaiming) → situation X v ≡ Clears s → IsInNextRow v (s.row + s.cleared)
   clears_lies s i = by v.reuse refl k (situation_tells X v (Clears s) i) where
     by : (r : Option Reuse) → v.reuse ≡ r → ReuseKeeps width Belongs v.core r
-        → SituationTells (Clears s) r (own_situation X v.core)
+        → SituationTells v.core.layout.passers (Clears s) r (own_situation X v.core)
         → IsInNextRow v (s.row + s.cleared)
     by None e h w = absurd w
     by (Some r) e h w =
@@ -92,6 +94,17 @@ module _ {E : Type 0} (X : Election E) (width : ℕ) (Belongs : ℕ → E → Ty
           held = g.held;
           row = subst (λ y. IsInRow v.core.layout y (g.tenure + 1) (s.row + s.cleared)) (sym e) row;
         }
+
+  -- who loads a passed place loads one of the bus
+  passed_lies : (t : ℕ) (p : Passing) → situation X v ≡ ReadsPassed t p
+      → IsPassed v.core.layout v.reuse p
+      (passed_start v.core.layout v.reuse + PASSED_APART * p.loaded)
+  passed_lies t p i = by v.reuse (situation_tells X v (ReadsPassed t p) i) where
+    by : (r : Option Reuse)
+        → SituationTells v.core.layout.passers (ReadsPassed t p) r (own_situation X v.core)
+        → IsPassed v.core.layout r p (passed_start v.core.layout r + PASSED_APART * p.loaded)
+    by None w = absurd w
+    by (Some r) w = record { below = w.left; again = refl; is = refl }
 
   module _ (within : (t : ℕ) (e : E) → v.core.phase ≡ Electing t e → t < v.core.layout.rows)
       (near : (t : ℕ) (e : E) → v.core.phase ≡ Electing t e → (word : ℕ)
@@ -125,6 +138,7 @@ module _ {E : Type 0} (X : Election E) (width : ℕ) (Belongs : ℕ → E → Ty
     by_line word (Withdraws t) i = refl
     by_line word (Scans s) i = scans_lies s i
     by_line word (Clears s) i = clears_lies s i
+    by_line word (ReadsPassed t p) i = passed_lies t p i
 
     -- and so does the one that is due
     pub line_lies : (word : ℕ)

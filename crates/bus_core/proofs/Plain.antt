@@ -4,14 +4,16 @@ use Rattle.std.proofs.Common.{Some, None, IsSome, nat_lt, refl, sym, ◌∙◌, 
 use Rattle.std.proofs.lemmas.Option.{same_Some}
 use Rattle.std.specs.Prelude.{◌&&◌, if◌then◌else◌}
 use Rattle.std.proofs.lemmas.Bool.{lt-ltb, le-ltb}
+use Rattle.std.proofs.lemmas.Nat.{mod_below}
 use Rattle.bus_presence.specs.Reclaimers.{Reclaiming, IsClearing, reclaim_op, reclaim_fed}
 use Rattle.bus_presence.specs.declared.pins.Pin.TheVariants.{Away}
 use Rattle.bus_register.specs.Words.{register}
 use Rattle.bus_register.specs.declared.registers.Op.TheVariants.{Load, Store}
 use Rattle.bus_batch.specs.Batches.{frame_of}
 use Rattle.bus_batch.specs.Frames.{frame_words}
-use Rattle.bus_tenure.specs.Core.{Core, Election, Layout, frame_len}
-use Rattle.bus_tenure.specs.Doings.{doing_of, IsWord, StoresNext}
+use Rattle.bus_tenure.specs.Core.{Core, Election, Layout, cell_of, frame_len}
+use Rattle.bus_tenure.specs.Doings.{doing_of, IsWord, FitsBehind, StoresNext}
+use Rattle.bus_tenure.proofs.Fitting.{some_fits}
 use Rattle.bus_tenure.proofs.Inverted.{word_is}
 use Rattle.bus_tenure.proofs.Situated.{tells}
 use Rattle.bus_tenure.specs.Seen.{HoldsPublished}
@@ -26,6 +28,7 @@ use Rattle.bus_core.specs.Reusing.Turns.{answer_of_reclaim}
 use Rattle.bus_core.specs.Keeping.{ReuseKeeps, IsAway, reclaimer_in, reclaimer_left, sender}
 use Rattle.bus_core.specs.Plain.{IsPlain, Word, Clear, StoresPlain}
 use Rattle.bus_core.specs.Reusing.Keeping.{IsOutside}
+use Rattle.bus_core.specs.Reusing.Passing.{passing_left}
 use Rattle.bus_core.specs.Senders.{Sender, Does, Scans, Clears, log_start, pinning, situation_by}
 use Rattle.bus_core.specs.Senders.{situation, words_all}
 use Rattle.bus_core.specs.Table.{line, line_now, reuse_reclaiming}
@@ -36,9 +39,10 @@ use Rattle.bus_core.proofs.Stepped.{fed_word, reclaimed_below}
 
 -- ---- when one is due
 -- who has no pin stores a word as its turns do
-pub away_word : {E : Type 0} (r : Option Reuse) → IsAway r → (t : ℕ) (page : Page) (stored : ℕ)
-    → situation_by {E = E} r (StoresWord t page stored) ≡ Does (StoresWord t page stored)
-away_word r away t page stored = away_does r (StoresWord t page stored) away (λ s. refl)
+pub away_word : {E : Type 0} (n : ℕ) (r : Option Reuse) → IsAway r
+    → (t : ℕ) (page : Page) (stored : ℕ)
+    → situation_by {E = E} n r (StoresWord t page stored) ≡ Does (StoresWord t page stored)
+away_word n r away t page stored = away_does n r (StoresWord t page stored) away (λ l s. refl)
 
 -- a reclamation that is to clear does so
 clears_when : {E : Type 0} (s : Reclaiming) (z : Own E) → IsClearing s
@@ -50,11 +54,13 @@ clears_when s z h =
     ∙ ap (λ b. cond b (Clears s) (Does z)) (lt-ltb s.cleared s.width h.left)
 
 -- the same of whose page has its frame in the log
-clears_again : {E : Type 0} (r : Reuse) → r.pin ≡ Away → (s : Reclaiming) → r.reclaimer ≡ Some s
+clears_again : {E : Type 0} (n : ℕ) (r : Reuse) → r.pin ≡ Away → (s : Reclaiming)
+    → r.reclaimer ≡ Some s
     → IsClearing s → (t : ℕ) (page : Page)
-    → situation_by {E = E} (Some r) (GivesBack t page Sent) ≡ Clears s
-clears_again r away s is h t page =
-    (λ i. pinning (away i) (is i) (GivesBack t page Sent)) ∙ clears_when s (GivesBack t page Sent) h
+    → situation_by {E = E} n (Some r) (GivesBack t page Sent) ≡ Clears s
+clears_again n r away s is h t page =
+    (λ i. pinning (away i) (passing_left n r.passed) (is i) (GivesBack t page Sent))
+    ∙ clears_when s (GivesBack t page Sent) h
 
 module _ {E : Type 0} (X : Election E) where
   -- who holds a page with its frame in the log clears, where a word is left to clear
@@ -66,9 +72,11 @@ module _ {E : Type 0} (X : Election E) where
     own = ap (situation_at X v.core) h.is
 
     by : (r : Option Reuse) → IsAway r → reclaimer_in r ≡ Some s
-        → situation_by r (own_situation X v.core) ≡ Clears s
+        → situation_by v.core.layout.passers r (own_situation X v.core) ≡ Clears s
     by None a i = absurd cc
-    by (Some r) a i = ap (situation_by (Some r)) own ∙ clears_again r a s i c h.tenure h.page
+    by (Some r) a i =
+        ap (situation_by v.core.layout.passers (Some r)) own
+        ∙ clears_again v.core.layout.passers r a s i c h.tenure h.page
 
 -- the word that is cleared is one of the bus
 clear_below : {E : Type 0} (width : ℕ) (Belongs : ℕ → E → Type 0) (v : Sender E)
@@ -103,12 +111,16 @@ module _ {E : Type 0} (X : Election E) (v : Sender E) where
 
   -- whose reclamation clears has that one
   reclaims : (u : Option Reuse) (s : Reclaiming)
-      → situation_by u (own_situation X v.core) ≡ Clears s → reclaimer_in u ≡ Some s
-  reclaims u s j = by u (tells_by u (own_situation X v.core) (Clears s) j) where
-    by : (u : Option Reuse) → SituationTells (Clears s) u (own_situation X v.core)
-        → reclaimer_in u ≡ Some s
-    by None w = absurd w
-    by (Some r) w = w.0.is
+      → situation_by v.core.layout.passers u (own_situation X v.core) ≡ Clears s
+      → reclaimer_in u ≡ Some s
+  reclaims u s j =
+      by u (tells_by v.core.layout.passers u (own_situation X v.core) (Clears s) j)
+    where
+      by : (u : Option Reuse)
+          → SituationTells v.core.layout.passers (Clears s) u (own_situation X v.core)
+          → reclaimer_in u ≡ Some s
+      by None w = absurd w
+      by (Some r) w = w.0.is
 
   -- the reclamation of whose next step is plain clears, once the frame stands in the log
   pub plain_clearing : IsPlain X v → HoldsPublished v.core.phase → (s : Reclaiming)
@@ -173,7 +185,7 @@ module _ {E : Type 0} (X : Election E) (v : Sender E) where
       (situation_tells X v (Does (StoresWord t page stored)) i).1
   plain_away width Belongs k (Clear s i c h) = by v.reuse k (situation_tells X v (Clears s) i) where
     by : (r : Option Reuse) → ReuseKeeps width Belongs v.core r
-        → SituationTells (Clears s) r (own_situation X v.core) → IsAway r
+        → SituationTells v.core.layout.passers (Clears s) r (own_situation X v.core) → IsAway r
     by None m w = absurd w
     by (Some r) m w = calm_away width Belongs v.core r m (subst IsOutside (sym h.is) tt) w.0.calm
 
@@ -203,24 +215,22 @@ module _ {E : Type 0} (X : Election E) (v : Sender E) where
 
 -- ---- which one is due behind it
 -- whose reclamation clears lets any clear
-clear_by : {E : Type 0} (reuse : Option Reuse) (z : Own E) (p q : Reclaiming)
-    → SituationTells (Clears p) reuse z → IsClearing q
+clear_by : {E : Type 0} (n : ℕ) (reuse : Option Reuse) (z : Own E) (p q : Reclaiming)
+    → SituationTells n (Clears p) reuse z → IsClearing q
     → (t : ℕ) (page : Page)
-    → situation_by {E = E} (reuse_reclaiming reuse q) (GivesBack t page Sent) ≡ Clears q
-clear_by None z p q w h t page = absurd w
-clear_by (Some r) z p q w h t page =
-    calm_home (record r { reclaimer = Some q }) (GivesBack t page Sent) w.0.calm
+    → situation_by {E = E} n (reuse_reclaiming reuse q) (GivesBack t page Sent) ≡ Clears q
+clear_by n None z p q w h t page = absurd w
+clear_by n (Some r) z p q w h t page =
+    calm_home (record r { reclaimer = Some q }) (passing_left n r.passed) (GivesBack t page Sent)
+    w.0.calm
     ∙ clears_when q (GivesBack t page Sent) h
 
--- a word of a frame that fits the log lies within it
-within : (start words stored most len at : ℕ) → at ≡ start + words + stored → words + len ≤ most
-    → stored < len → at < start + most
-within start words stored most len at e room below = omega arith
-
--- and the one behind it lies one further
-next_place : (start words stored at : ℕ) → at ≡ start + words + stored
-    → at + 1 ≡ start + words + (stored + 1)
-next_place start words stored at e = omega arith
+-- a word of the log lies within it
+within : (x : Layout) (start place at : ℕ) → 0 < x.capacity → at ≡ start + cell_of x place
+    → at < start + x.capacity
+within x start place at some e =
+    let below = mod_below place x.capacity some in
+    omega arith
 
 -- the log begins behind the length and the stage
 log_above : (x : Layout) (r : Option Reuse) → 2 ≤ log_start x r
@@ -241,26 +251,31 @@ module _ {E : Type 0} (X : Election E) (v : Sender E) where
   pub word_stores : (t words stored : ℕ)
       → doing_of (own_situation X v.core) ≡ doing.Word t words stored
       → ((page : Page)
-      → situation_by {E = E} v.reuse (StoresWord t page stored) ≡ Does (StoresWord t page stored))
+      → situation_by {E = E} v.core.layout.passers v.reuse (StoresWord t page stored)
+      ≡ Does (StoresWord t page stored))
       → (at : ℕ)
-      → at ≡ log_start v.core.layout v.reuse + words + stored → (value : ℕ)
+      → at ≡ log_start v.core.layout v.reuse + cell_of v.core.layout (words + stored)
+      → (value : ℕ)
       → value ≡ slice_index (frame_words (frame_of v.core.queue t)) stored
-      → words + frame_len v.core ≤ v.core.layout.capacity → stored < frame_len v.core
+      → FitsBehind v.core words → stored < frame_len v.core
       → StoresPlain X v at value
   word_stores t words stored due may at place value word room below =
       let w = word_is (own_situation X v.core) t words stored due in
       let now : situation X v ≡ Does (StoresWord t w.0 stored) =
-      ap (situation_by v.reuse) w.2 ∙ may w.0 in
+      ap (situation_by v.core.layout.passers v.reuse) w.2 ∙ may w.0 in
       let low = log_above v.core.layout v.reuse in
       record {
         plain = Word t w.0 stored now;
         step = λ n. ap (λ z. (line X v z).op n) now
             ∙ (λ j. Some (Store record {
-              0 = (ap (λ m. log_start v.core.layout v.reuse + m + stored) w.1 ∙ sym place) j;
+              0 =
+                  (ap (λ m. log_start v.core.layout v.reuse + cell_of v.core.layout (m + stored))
+                  w.1
+                  ∙ sym place) j;
             } (sym word j)));
         behind = omega arith;
-        below = within (log_start v.core.layout v.reuse) words stored v.core.layout.capacity
-            (frame_len v.core) at place room below;
+        below = within v.core.layout (log_start v.core.layout v.reuse) (words + stored) at
+            (some_fits v.core words stored room below) place;
       }
 
   -- so is a word of the next row that a reclamation clears
@@ -282,35 +297,75 @@ module _ {E : Type 0} (X : Election E) (v : Sender E) where
   word_place : (t : ℕ) (page : Page) (stored at value : ℕ)
       → situation X v ≡ Does (StoresWord t page stored)
       → ((word : ℕ) → (line_now X v).op word ≡ Some (Store record { 0 = at } value))
-      → at ≡ log_start v.core.layout v.reuse + page.words + stored
+      → at ≡ log_start v.core.layout v.reuse + cell_of v.core.layout (page.words + stored)
   word_place t page stored at value i step =
-      let e : Store record { 0 = log_start v.core.layout v.reuse + page.words + stored }
+      let e : Store record {
+        0 = log_start v.core.layout v.reuse + cell_of v.core.layout (page.words + stored);
+      }
       (slice_index (frame_words (frame_of v.core.queue t)) stored)
       ≡ Store record { 0 = at } value =
       same_Some _ _ (ap (λ z. (line X v z).op 0) (sym i) ∙ step 0) in
       sym (ap register e)
 
-  -- once a word is stored, and another one is to be
-  pub word_behind : IsPlain X v → (HoldsPublished v.core.phase → ⊥) → (at value : ℕ)
+  -- the log stays where it is
+  layout_stays : (c : Core E)
+      → ((got word : ℕ) → c ≡ fed_at X v.core (own_situation X v.core) got word)
+      → (t : ℕ) (page : Page) (stored : ℕ) → situation X v ≡ Does (StoresWord t page stored)
+      → c.layout ≡ v.core.layout
+  layout_stays c fed t page stored i =
+      ap (λ (y : Core E). y.layout)
+      (fed 0 0 ∙ ap (λ z. fed_at X v.core z 0 0) (own_is X v (StoresWord t page stored) i))
+
+  -- before a word that is stored next comes the one that is stored
+  pub word_before : IsPlain X v → (HoldsPublished v.core.phase → ⊥) → (at value : ℕ)
       → ((word : ℕ) → (line_now X v).op word ≡ Some (Store record { 0 = at } value)) → (c : Core E)
-      → ((got word : ℕ) → c ≡ fed_at X v.core (own_situation X v.core) got word) → (next : ℕ)
+      → ((got word : ℕ) → c ≡ fed_at X v.core (own_situation X v.core) got word) → (place : ℕ)
+      → ((t words stored : ℕ) → doing_of (own_situation X v.core) ≡ doing.Word t words stored
+      → place ≡ words + (stored + 1))
+      → (before : ℕ) × (place ≡ before + 1)
+      × (at ≡ log_start c.layout v.reuse + cell_of c.layout before)
+  word_before (Clear s i k p) none at value step c fed place goes = absurd (none p)
+  word_before (Word t page stored i) none at value step c fed place goes =
+      let own = own_is X v (StoresWord t page stored) i in
+      let here = goes t page.words stored (ap doing_of own) in (
+        page.words + stored,
+        omega arith,
+        word_place t page stored at value i step
+            ∙ ap (λ (x : Layout). log_start x v.reuse + cell_of x (page.words + stored))
+            (sym (layout_stays c fed t page stored i)),
+      )
+
+  -- a log has words where one of a frame is stored next
+  pub word_some : IsPlain X v → (HoldsPublished v.core.phase → ⊥) → (c : Core E) → (next : ℕ)
       → ((t words stored : ℕ) → doing_of (own_situation X v.core) ≡ doing.Word t words stored
       → StoresNext X c t words (stored + 1) next)
-      → StoresPlain X (sender c v.reuse) (at + 1) next
-  word_behind (Clear s i k p) none at value step c fed next stores = absurd (none p)
-  word_behind (Word t page stored i) none at value step c fed next stores =
+      → 0 < c.layout.capacity
+  word_some (Clear s i k p) none c next stores = absurd (none p)
+  word_some (Word t page stored i) none c next stores =
+      let after = stores t page.words stored (ap doing_of (own_is X v (StoresWord t page stored) i))
+      in some_fits c page.words (stored + 1) after.room after.below
+
+  -- once a word is stored, and another one is to be
+  pub word_behind : IsPlain X v → (HoldsPublished v.core.phase → ⊥) → (c : Core E)
+      → (next place : ℕ)
+      → ((t words stored : ℕ) → doing_of (own_situation X v.core) ≡ doing.Word t words stored
+      → StoresNext X c t words (stored + 1) next)
+      → ((t words stored : ℕ) → doing_of (own_situation X v.core) ≡ doing.Word t words stored
+      → place ≡ words + (stored + 1))
+      → (at : ℕ) → at ≡ log_start c.layout v.reuse + cell_of c.layout place
+      → StoresPlain X (sender c v.reuse) at next
+  word_behind (Clear s i k p) none c next place stores goes at e = absurd (none p)
+  word_behind (Word t page stored i) none c next place stores goes at e =
       let own = own_is X v (StoresWord t page stored) i in
       let after = stores t page.words stored (ap doing_of own) in
-      let layout : c.layout ≡ v.core.layout =
-      ap (λ (y : Core E). y.layout) (fed 0 0 ∙ ap (λ z. fed_at X v.core z 0 0) own) in
-      let place : at ≡ log_start c.layout v.reuse + page.words + stored =
-      word_place t page stored at value i step
-      ∙ ap (λ (x : Layout). log_start x v.reuse + page.words + stored) (sym layout) in
       word_stores X (sender c v.reuse) t page.words (stored + 1) after.due
-      (λ other. goes_does v.reuse (own_situation X v.core) (StoresWord t other (stored + 1))
-      (situation_tells X v (Does (StoresWord t page stored)) i).1 (λ s. refl))
-      (at + 1) (next_place (log_start c.layout v.reuse) page.words stored at place) next after.word
-      after.room after.below
+      (λ other. goes_does c.layout.passers v.reuse (own_situation X v.core)
+      (StoresWord t other (stored + 1))
+      (situation_tells X v (Does (StoresWord t page stored)) i).1 (λ l s. refl))
+      at
+      (e ∙ ap (λ n. log_start c.layout v.reuse + cell_of c.layout n)
+      (goes t page.words stored (ap doing_of own)))
+      next after.word after.room after.below
 
   -- once a word is cleared, and another one is to be
   pub clear_behind : (width : ℕ) (Belongs : ℕ → E → Type 0) → IsPlain X v
@@ -331,8 +386,9 @@ module _ {E : Type 0} (X : Election E) (v : Sender E) where
       ∙ ap (reuse_reclaiming v.reuse) (held v.reuse s (reclaim_fed s 0) (reclaims X v v.reuse s i)
       (sym (ap reclaimer_in grown) ∙ is)) in
       clear_stores X (sender v.core r) width Belongs k q
-      ((λ j. situation_by (same j) (own j))
-      ∙ clear_by v.reuse (own_situation X v.core) s q (situation_tells X v (Clears s) i) c h.tenure
+      ((λ j. situation_by v.core.layout.passers (same j) (own j))
+      ∙ clear_by v.core.layout.passers v.reuse (own_situation X v.core) s q
+      (situation_tells X v (Clears s) i) c h.tenure
       h.page)
       is c h at e where
         held : (u : Option Reuse) (s n : Reclaiming) → reclaimer_in u ≡ Some s

@@ -64,10 +64,10 @@ room_is :
     {E : Type 0} (c : Core E) (ph : Phase E) (t u : ℕ) (page : Page) (stored : ℕ) (published : Bool)
     → LacksRoom c u ph
     → ph ≡ Holding t page stored published
-    → (published ≡ false) × (c.layout.capacity < page.words + frame_len c)
+    → (published ≡ false) × (c.layout.capacity + page.floor < page.words + frame_len c)
 room_is c ph t u page stored published (FindsNoRoom p n more) e =
     let s = same_page u t p page n stored false published e in
-    (sym s.1.1, subst (λ q. c.layout.capacity < q.words + frame_len c) s.1.0 more)
+    (sym s.1.1, subst (λ q. c.layout.capacity + q.floor < q.words + frame_len c) s.1.0 more)
 room_is c ph t u page stored published HandsOnFull e = absurd cc
 
 -- who finds the end has a page that says so

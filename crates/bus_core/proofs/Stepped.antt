@@ -23,10 +23,10 @@ use Rattle.bus_core.proofs.Situated.{situation_tells, does_by, goes_does, held_r
 use Rattle.bus_core.specs.Reusing.Keeping.{IsHeldReclaimer}
 use Rattle.bus_core.specs.Reusing.Participants.{sizes_with}
 use Rattle.bus_core.specs.Senders.{Sender, Situation, Does, Announces, Validates, Unpins}
-use Rattle.bus_core.specs.Senders.{Withdraws, Scans, Clears, situation, words_all}
-use Rattle.bus_core.specs.Table.{reuse_elected, line}
+use Rattle.bus_core.specs.Senders.{Withdraws, Scans, Clears, ReadsPassed, situation, words_all}
+use Rattle.bus_core.specs.Table.{reuse_elected, line, rest_at}
 use Rattle.bus_tenure.specs.Doings.{doing_of}
-use Rattle.bus_core.specs.Doings.{step_of, ending_of}
+use Rattle.bus_core.specs.Doings.{step_of, ending_of, rest_of}
 use Rattle.bus_core.specs.declared.steps.Ending.{Ending}
 use Rattle.std.proofs.lemmas.Option.{same_Some}
 use Rattle.bus_core.specs.Keeping.{ReuseKeeps, reclaimer_left, reclaimer_op_of, sender, page_out}
@@ -143,6 +143,20 @@ module _ {E : Type 0} (X : Election E) (v : Sender E) where
   wants_own (GivesBack t page reason) = refl
   wants_own (HasHanded t reason) = refl
 
+  -- and it answers without a step as they do
+  pub rests_own : (z : Own E) → rest_at (line X v (Does z)) ≡ rest_of (doing_of z)
+  rests_own IsClosed = refl
+  rests_own IsIdle = refl
+  rests_own IsSpent = refl
+  rests_own LooksAtStage = refl
+  rests_own (Elects t e) = refl
+  rests_own (TakesPage t) = refl
+  rests_own (AwaitsPage t) = refl
+  rests_own (StoresWord t page stored) = refl
+  rests_own (StoresLength t page stored) = refl
+  rests_own (GivesBack t page reason) = refl
+  rests_own (HasHanded t reason) = refl
+
   -- no page goes out of its hands
   pub none_out : (z : Situation E) → ending_of (step_of z) ≡ None
       → (page_out (line X v z).move ≡ None)
@@ -164,6 +178,7 @@ module _ {E : Type 0} (X : Election E) (v : Sender E) where
   none_out (Withdraws t) i = (refl, refl)
   none_out (Scans s) i = (refl, refl)
   none_out (Clears s) i = (refl, refl)
+  none_out (ReadsPassed t p) i = (refl, refl)
 
   -- or this one
   ends_with : (z : Situation E) (b : Ending) → ending_of (step_of z) ≡ Some b → (page : Page)
@@ -188,6 +203,7 @@ module _ {E : Type 0} (X : Election E) (v : Sender E) where
   ends_with (Withdraws t) b i = absurd cc
   ends_with (Scans s) b i = absurd cc
   ends_with (Clears s) b i = absurd cc
+  ends_with (ReadsPassed t p) b i = absurd cc
 
   -- the page goes out of the hands of who gives it back
   pub some_out : (b : Ending) → ending_of (step_of (situation X v)) ≡ Some b → (page : Page)
@@ -195,7 +211,7 @@ module _ {E : Type 0} (X : Election E) (v : Sender E) where
       × (own_situation X v.core ≡ GivesBack b.tenure page b.reason)
   some_out b i =
       let e = ends_with (situation X v) b i in
-      let d = does_by v.reuse (own_situation X v.core) _ (ap step_of e.1) in
+      let d = does_by v.core.layout.passers v.reuse (own_situation X v.core) _ (ap step_of e.1) in
       let same : Does (own_situation X v.core) ≡ Does (GivesBack b.tenure e.0 b.reason) =
       sym d ∙ e.1 in
       (e.0, e.1, cc)
@@ -211,5 +227,5 @@ pub handed_step : {E : Type 0} (X : Election E) (v : Sender E) (t : ℕ) (page :
     ≡ step.Does (doing.Handed t reason)
 handed_step {E} X v t page reason i own =
     ap (step_of {E = E})
-    (goes_does v.reuse (own_situation X v.core) (HasHanded t reason)
-    (situation_tells X v (Does (GivesBack t page reason)) i).1 (λ s. refl))
+    (goes_does v.core.layout.passers v.reuse (own_situation X v.core) (HasHanded t reason)
+    (situation_tells X v (Does (GivesBack t page reason)) i).1 (λ l s. refl))

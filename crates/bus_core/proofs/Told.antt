@@ -1,8 +1,8 @@
 -- What the answer of a step tells.
 use Rattle.std.specs.Prelude.{◌⊎◌}
-use Rattle.std.proofs.Common.{◌≡◌, ◌≢◌, inl, inr, ℕ, ◌+◌, ◌/◌, ◌<◌, ◌≤◌, Bool, true, false, cond}
-use Rattle.std.proofs.Common.{Option, Some, None, IsSome, IfSome, IsSomeAnd, nat_le, ◌==◌, ◌&&◌}
-use Rattle.std.proofs.Common.{refl, sym, ◌∙◌, ap, subst, arith}
+use Rattle.std.proofs.Common.{◌≡◌, ◌≢◌, inl, inr, ℕ, ◌+◌, ◌*◌, ◌/◌, ◌<◌, ◌≤◌, Bool, true, false}
+use Rattle.std.proofs.Common.{cond, Option, Some, None, IsSome, IfSome, IsSomeAnd, nat_le, ◌==◌}
+use Rattle.std.proofs.Common.{◌&&◌, refl, sym, ◌∙◌, ap, subst, arith}
 use Rattle.std.proofs.lemmas.Bool.{leb-false, leb-true, lt-ltb, le-ltb, eqb-true, eqb-false}
 use Rattle.std.proofs.lemmas.Bool.{eq-eqb, true≢false}
 use Rattle.std.proofs.lemmas.Option.{same_Some}
@@ -32,21 +32,25 @@ use Rattle.bus_tenure.proofs.Situated.{tells}
 use Rattle.bus_core.specs.Keeping.{ReuseKeeps}
 use Rattle.bus_core.specs.Reusing.Keeping.{IsBound, PinKeeps, LostKeeps, held_of}
 use Rattle.bus_core.specs.Reusing.Participants.{sizes_with}
+use Rattle.bus_core.specs.Reusing.Passing.{passing_left}
 use Rattle.bus_core.specs.Reusing.Telling.{Returns, Gives, Says, HasPublished}
 use Rattle.bus_core.specs.Reusing.Turns.{answer_of_loss, answer_of_reclaim}
 use Rattle.bus_core.specs.Senders.{Sender, Situation, Does, Announces, Validates, Unpins}
-use Rattle.bus_core.specs.Senders.{Withdraws, Scans, Clears, pinning, situation_by, situation}
+use Rattle.bus_core.specs.Senders.{Withdraws, Scans, Clears, ReadsPassed, passed_start, pinning}
+use Rattle.bus_core.specs.Senders.{situation_by, situation}
 use Rattle.bus_core.specs.Table.{line, line_now, rest_at, seen, lost_of, answer_elected}
 use Rattle.bus_core.specs.Telling.{FeedTells, RestTells, RestIsTold, IsInvalidated, Loses, LosesBy}
 use Rattle.bus_core.specs.Telling.{IsChosen, GivesReady, IsBehind, Begins, RunsElection}
 use Rattle.bus_core.specs.Telling.{TellsNoMore}
+use Rattle.bus_core.specs.declared.limits.TheConstants.{PASSED_APART}
+use Rattle.bus_core.specs.declared.reuses.Passing.{Passing}
 use Rattle.bus_core.specs.declared.reuses.Reuse.{Reuse}
 use Rattle.bus_core.proofs.Looking.{vain_of, waits_of, opened_of, first_looks, looks_first}
 use Rattle.bus_core.proofs.Looking.{rests_idle, rests_closed, rests_spent}
 use Rattle.bus_core.proofs.Reusing.Tells.{ChoosesItself, Shows, takes_page, gives_shows}
 use Rattle.bus_core.proofs.Reusing.Tells.{shown_handed}
 use Rattle.bus_core.proofs.Situated.{SituationTells, situation_tells, own_is, some_kept, stands_in}
-use Rattle.bus_core.proofs.Situated.{held_reclaimer, row_ready}
+use Rattle.bus_core.proofs.Situated.{held_reclaimer, row_ready, passed_behind}
 
 -- ---- situations
 -- its step may be answered by Going
@@ -90,32 +94,40 @@ module _ {E : Type 0} (X : Election E) (v : Sender E) (got word : ℕ) where
   -- ---- what is told of it tells its situation
   -- it is to clear its presence
   unpins_by : (t : ℕ) (reuse : Option Reuse) → IsSomeAnd reuse (λ r. r.pin ≡ Unpinning t)
-      → situation_by reuse own ≡ Unpins t
+      → situation_by v.core.layout.passers reuse own ≡ Unpins t
   unpins_by t None p = absurd p
-  unpins_by t (Some r) p = ap (λ u. pinning u r.reclaimer own) p
+  unpins_by t (Some r) p =
+      ap (λ u. pinning u (passing_left v.core.layout.passers r.passed) r.reclaimer own) p
 
   -- its presence stands, and it is to look at the stage again
   validates_by : (t : ℕ) (reuse : Option Reuse) → IsSomeAnd reuse (λ r. r.pin ≡ Validating t)
-      → situation_by reuse own ≡ Validates t
+      → situation_by v.core.layout.passers reuse own ≡ Validates t
   validates_by t None p = absurd p
-  validates_by t (Some r) p = ap (λ u. pinning u r.reclaimer own) p
+  validates_by t (Some r) p =
+      ap (λ u. pinning u (passing_left v.core.layout.passers r.passed) r.reclaimer own) p
 
   -- or came too late
   withdraws_by : (reuse : Option Reuse) → IsSomeAnd reuse (λ r. IsInvalidated r)
-      → (t : ℕ) × (situation_by reuse own ≡ Withdraws t)
+      → (t : ℕ) × (situation_by v.core.layout.passers reuse own ≡ Withdraws t)
   withdraws_by None w = absurd w
-  withdraws_by (Some r) w = (w.tenure, ap (λ u. pinning u r.reclaimer own) w.is)
+  withdraws_by (Some r) w = (
+    w.tenure,
+    ap (λ u. pinning u (passing_left v.core.layout.passers r.passed) r.reclaimer own) w.is,
+  )
 
   -- its election chose it
   takes_by : (t : ℕ) → IsChosen X v t → situation X v ≡ Does (TakesPage t)
   takes_by t w =
-      ap (situation_by v.reuse) (takes_page X v.core t w.election v.core.me w.elects w.chosen)
+      ap (situation_by v.core.layout.passers v.reuse)
+      (takes_page X v.core t w.election v.core.me w.elects w.chosen)
       ∙ by v.reuse w.pinned
     where
       by : (reuse : Option Reuse) → IfSome reuse (λ r. r.pin ≡ Pinned t)
-          → situation_by {E = E} reuse (TakesPage t) ≡ Does (TakesPage t)
+          → situation_by {E = E} v.core.layout.passers reuse (TakesPage t) ≡ Does (TakesPage t)
       by None p = refl
-      by (Some r) p = ap (λ u. pinning u r.reclaimer (TakesPage t)) p
+      by (Some r) p =
+          ap
+          (λ u. pinning u (passing_left v.core.layout.passers r.passed) r.reclaimer (TakesPage t)) p
 
   -- after a second look the election of its presence's tenure runs if that was of this tenure, and
   -- else none does
@@ -145,7 +157,8 @@ module _ {E : Type 0} (X : Election E) (v : Sender E) (got word : ℕ) where
       by : (reuse : Option Reuse) → v.reuse ≡ reuse → ¬ LosesBy X v got word t o reuse
       by None e w = subst LosesNone (sym i ∙ w.elects) none
       by (Some r) e w = subst LosesNone
-          (sym i ∙ ap (λ y. situation_by y own) e ∙ unpins_by t (Some r) w.parts) none
+          (sym i ∙ ap (λ y. situation_by v.core.layout.passers y own) e
+          ∙ unpins_by t (Some r) w.parts) none
 
     -- nothing else is told
     quiet : IsGoing z → ((t : ℕ) (o : SenderNo) → ¬ Loses X v got word t o)
@@ -268,7 +281,10 @@ module _ {E : Type 0} (X : Election E) (v : Sender E) (got word : ℕ) where
             w.other (itself q o.0 (ap (λ y. X.owner (X.fed y got word))
             (same_step t u e w.election (sym i ∙ w.elects)) ∙ w.chosen))
         loses u o (Some r) q w =
-            let bad = sym i ∙ ap (λ y. situation_by y own) q ∙ unpins_by u (Some r) w.parts in cc
+            let bad =
+            sym i ∙ ap (λ y. situation_by v.core.layout.passers y own) q
+            ∙ unpins_by u (Some r) w.parts in
+            cc
 
         behind : (u p : ℕ) (reuse : Option Reuse)
             → ¬ IsSomeAnd reuse (λ r. IsBehind X v got word u p r)
@@ -385,7 +401,8 @@ module _ {E : Type 0} (X : Election E) (v : Sender E) (got word : ℕ) where
       -- one is left to ask
       left : s.scanned < s.senders
       left = by v.reuse (situation_tells X v (Scans s) i) where
-        by : (reuse : Option Reuse) → SituationTells (Scans s) reuse own → s.scanned < s.senders
+        by : (reuse : Option Reuse) → SituationTells v.core.layout.passers (Scans s) reuse own
+            → s.scanned < s.senders
         by None w = absurd w
         by (Some r) w = w.1
 
@@ -415,7 +432,7 @@ module _ {E : Type 0} (X : Election E) (v : Sender E) (got word : ℕ) where
       passes : got ≢ 1 + s.past → (t p : ℕ) → ¬ IsSomeAnd v.reuse (λ r. IsBehind X v got word t p r)
       passes other t p w = by v.reuse k (situation_tells X v (Scans s) i) w where
         by : (reuse : Option Reuse) → ReuseKeeps width Belongs v.core reuse
-            → SituationTells (Scans s) reuse own
+            → SituationTells v.core.layout.passers (Scans s) reuse own
             → ¬ IsSomeAnd reuse (λ r. IsBehind X v got word t p r)
         by None h q w = w
         by (Some r) h q w =
@@ -449,9 +466,27 @@ module _ {E : Type 0} (X : Election E) (v : Sender E) (got word : ℕ) where
         (λ t q. absurd cc)
         (unasked (Clears s) i (λ rows p q. cc)))
       where
-        by : (reuse : Option Reuse) → SituationTells (Clears s) reuse own → s.senders ≤ s.scanned
+        by : (reuse : Option Reuse) → SituationTells v.core.layout.passers (Clears s) reuse own
+            → s.senders ≤ s.scanned
         by None w = absurd w
         by (Some r) w = w.1.passed
+
+    -- ---- a passed place is loaded
+    -- which lies behind all presences
+    unpassed : (t : ℕ) (p : Passing) → situation X v ≡ ReadsPassed t p → (u q : ℕ)
+        → ¬ IsSomeAnd v.reuse (λ r. IsBehind X v got word u q r)
+    unpassed t p i u q = by v.reuse where
+      by : (reuse : Option Reuse) → ¬ IsSomeAnd reuse (λ r. IsBehind X v got word u q r)
+      by None w = w
+      by (Some r) w =
+          let loads : Load record {
+            0 = passed_start v.core.layout v.reuse + PASSED_APART * p.loaded;
+          } ≡ Load record { 0 = presence_at (sizes_with v.core.layout r.rows) q } =
+          same_Some _ _ (sym (ap (λ y. (line X v y).op word) i) ∙ w.loads) in
+          let behind = passed_behind X v t p i in
+          let same = ap register loads in
+          let below = w.below in
+          omega arith
 
     -- ---- each situation
     by_situation : ChoosesItself X v.core → (z : Situation E) → situation X v ≡ z
@@ -503,6 +538,10 @@ module _ {E : Type 0} (X : Election E) (v : Sender E) (got word : ℕ) where
     by_situation itself (Withdraws t) i h = inr (late t i)
     by_situation itself (Scans s) i h = scans s i
     by_situation itself (Clears s) i h = clears s i
+    by_situation itself (ReadsPassed t p) i h =
+        let z = ReadsPassed t p in
+        quiet z i tt (lost_not z i tt) (λ u q. absurd cc) (λ q. absurd cc) (λ u q. absurd cc)
+        (λ u q. unpassed t p i u q)
 
 -- the one that it is in
 pub line_told : {E : Type 0} (X : Election E) (width : ℕ) (Belongs : ℕ → E → Type 0) (v : Sender E)
@@ -546,3 +585,4 @@ rest_told {E} X width Belongs v k = by (situation X v) refl where
   by (Withdraws t) i = inl (refl, inl refl)
   by (Scans s) i = inl (refl, inl refl)
   by (Clears s) i = inl (refl, inl refl)
+  by (ReadsPassed t p) i = inl (refl, inl refl)

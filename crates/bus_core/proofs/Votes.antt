@@ -30,7 +30,7 @@ use Rattle.bus_tenure.specs.Elections.{Elector, election_with}
 use Rattle.bus_tenure.specs.Situations.{IsClosed, IsIdle, IsSpent, LooksAtStage, Elects, TakesPage}
 use Rattle.bus_tenure.specs.Situations.{AwaitsPage, StoresWord, StoresLength, GivesBack, HasHanded}
 use Rattle.bus_core.specs.Senders.{Sender, Situation, Does, Announces, Validates, Unpins}
-use Rattle.bus_core.specs.Senders.{Withdraws, Scans, Clears, situation}
+use Rattle.bus_core.specs.Senders.{Withdraws, Scans, Clears, ReadsPassed, situation}
 use Rattle.bus_core.specs.Table.{line, line_now}
 
 -- a word is asked for exactly where the step is a vote
@@ -105,6 +105,7 @@ module _ {S : Type 0} (kind_of : S → Option Kind) (op : S → ℕ → Option O
   situation_votes v (Withdraws t) = for_another _ (λ e. absurd cc)
   situation_votes v (Scans s) = for_another _ (λ e. absurd cc)
   situation_votes v (Clears s) = for_another _ (λ e. absurd cc)
+  situation_votes v (ReadsPassed t p) = for_another _ (λ e. absurd cc)
 
   -- the line of the situation that it is in asks so
   pub line_votes : (v : Sender (Elector S))

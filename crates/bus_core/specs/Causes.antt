@@ -1,6 +1,6 @@
 -- Why a sender takes a step of each kind: what holds of it before the step, read off what it holds.
 -- In a tenure the causes are the same with both kinds of rows. Where rows are used again it stands
--- in that tenure besides, and five kinds come only there.
+-- in that tenure besides, and six kinds come only there.
 use Rattle.std.specs.Prelude.{◌≡◌, ◌⊎◌, ℕ, ◌<◌, Bool, true, false, Some, IfSome, IsSomeAnd}
 use Rattle.bus_register.specs.declared.kinds.Kind.{Kind}
 use Rattle.bus_register.specs.declared.kinds.Kind.TheVariants as kind
@@ -12,7 +12,8 @@ use Rattle.bus_presence.specs.declared.pins.Pin.TheVariants.{Away, Announcing, V
 use Rattle.bus_presence.specs.declared.pins.Pin.TheVariants.{Unpinning, Invalidated}
 use Rattle.bus_tenure.specs.Causes.{BeginsElection, IsInRatifier, IsInConciliator, AsksCoin}
 use Rattle.bus_tenure.specs.Causes.{CountsVotes, IsAtFallback, SearchesCandidate, IsElected}
-use Rattle.bus_tenure.specs.Causes.{HasWordLeft, HasStoredAll, LeavesPage, HasHandedOn}
+use Rattle.bus_tenure.specs.Causes.{HasWordLeft, HasStoredAll, LeavesPage, HoldsUnfitting}
+use Rattle.bus_tenure.specs.Causes.{HasHandedOn}
 use Rattle.bus_tenure.specs.Core.{Election}
 use Rattle.bus_tenure.specs.Elections.{Elector}
 use Rattle.bus_tenure.specs.declared.phases.Phase.TheVariants.{Resting, Electing}
@@ -76,6 +77,15 @@ pub record ClearsWord {E : Type 0} (v : Participant E) : Type 0 where
   pub makes : MakesRowReady v reclaimer
   pub clearing : IsClearing reclaimer
 
+-- ---- its floor
+-- it pins no tenure, its frame does not fit the log by the page's floor, and it has not loaded all
+-- passed places
+pub record AsksPassed {E : Type 0} (v : Participant E) : Type 0 where
+  pub away : v.pin ≡ Away
+  pub lacks : HoldsUnfitting v.core
+  pub left : v.passed.loaded < v.core.layout.passers
+
+-- ---- the page goes back
 -- it pins no tenure, and the row of the tenure after the one whose page it has is ready
 pub record HasRowReady {E : Type 0} (v : Participant E) : Type 0 where
   pub away : v.pin ≡ Away
@@ -117,6 +127,7 @@ HasCause P v kind.StoreLogWord = IsAway v.reuse × HasWordLeft v.core
 HasCause P v kind.StoreLength = IsAway v.reuse × HasStoredAll v.core
 HasCause P v kind.ReadPresence = IsSomeAnd v.reuse (λ r. AsksSender (participant_of v.core r))
 HasCause P v kind.ClearRow = IsSomeAnd v.reuse (λ r. ClearsWord (participant_of v.core r))
+HasCause P v kind.ReadPassed = IsSomeAnd v.reuse (λ r. AsksPassed (participant_of v.core r))
 HasCause P v kind.GivePageBack = GivesPage v
 HasCause P v kind.LoadLength = ⊥
 HasCause P v kind.LoadLogWord = ⊥

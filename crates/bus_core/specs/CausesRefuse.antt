@@ -52,6 +52,7 @@ IsOfElection kind.LoadStageAgain = ⊥
 IsOfElection kind.Withdraw = ⊥
 IsOfElection kind.ReadPresence = ⊥
 IsOfElection kind.ClearRow = ⊥
+IsOfElection kind.ReadPassed = ⊥
 IsOfElection kind.StoreLogWord = ⊥
 IsOfElection kind.StoreLength = ⊥
 IsOfElection kind.GivePageBack = ⊥
@@ -86,10 +87,12 @@ pub record RefusesOwn {S : Type 0} (P : Protocol S Bool Verdict) (v : Sender (El
       → ¬ HasCause P v kind.StoreLength
   pub stores_without_room : (tenure : ℕ) (page : Page) (stored : ℕ)
       → v.core.phase ≡ Holding tenure page stored false
-      → v.core.layout.capacity < page.words + frame_len v.core → ¬ HasCause P v kind.StoreLogWord
+      → v.core.layout.capacity + page.floor < page.words + frame_len v.core
+      → ¬ HasCause P v kind.StoreLogWord
   pub publishes_without_room : (tenure : ℕ) (page : Page) (stored : ℕ)
       → v.core.phase ≡ Holding tenure page stored false
-      → v.core.layout.capacity < page.words + frame_len v.core → ¬ HasCause P v kind.StoreLength
+      → v.core.layout.capacity + page.floor < page.words + frame_len v.core
+      → ¬ HasCause P v kind.StoreLength
   -- it holds a page, and stores a length before all words of its frame are stored
   pub unstored_publishes : (tenure : ℕ) (page : Page) (stored : ℕ)
       → v.core.phase ≡ Holding tenure page stored false → stored < frame_len v.core
@@ -104,7 +107,8 @@ pub record RefusesOwn {S : Type 0} (P : Protocol S Bool Verdict) (v : Sender (El
   -- before the length is stored
   pub unsent_gives_back : (tenure : ℕ) (page : Page) (stored : ℕ)
       → v.core.phase ≡ Holding tenure page stored false → page.ended ≡ false
-      → page.words + frame_len v.core ≤ v.core.layout.capacity → ¬ HasCause P v kind.GivePageBack
+      → page.words + frame_len v.core ≤ v.core.layout.capacity + page.floor
+      → ¬ HasCause P v kind.GivePageBack
   -- it announces itself, and its election has begun
   pub announces_again : (t : ℕ) (e : Elector S) → v.core.phase ≡ Electing t e
       → (elections P v.core.layout.rounds).has_begun e ≡ true
@@ -173,7 +177,7 @@ pub record RefusesOwn {S : Type 0} (P : Protocol S Bool Verdict) (v : Sender (El
       → o ≢ v.core.me → ¬ HasCause P v kind.TakePage
 
 -- with a row for each tenure: a presence that is stored, cleared or asked, another look at the
--- stage, and a row that is cleared
+-- stage, a row that is cleared, and a passed place that is loaded
 pub record RefusesApart {S : Type 0} (P : Protocol S Bool Verdict) (v : Sender (Elector S)) :
     Type 0 where
   pub enters : v.reuse ≡ None → ¬ HasCause P v kind.Enter
@@ -181,6 +185,7 @@ pub record RefusesApart {S : Type 0} (P : Protocol S Bool Verdict) (v : Sender (
   pub withdraws : v.reuse ≡ None → ¬ HasCause P v kind.Withdraw
   pub asks : v.reuse ≡ None → ¬ HasCause P v kind.ReadPresence
   pub clears : v.reuse ≡ None → ¬ HasCause P v kind.ClearRow
+  pub reads_passed : v.reuse ≡ None → ¬ HasCause P v kind.ReadPassed
 
 -- with rows that are used again
 pub record RefusesAgain {S : Type 0} (P : Protocol S Bool Verdict) (v : Sender (Elector S))
@@ -232,10 +237,28 @@ pub record RefusesAgain {S : Type 0} (P : Protocol S Bool Verdict) (v : Sender (
   -- order goes on and its frame fits the log
   pub asks_unsent : (tenure : ℕ) (page : Page) (stored : ℕ)
       → v.core.phase ≡ Holding tenure page stored false → page.ended ≡ false
-      → page.words + frame_len v.core ≤ v.core.layout.capacity → ¬ HasCause P v kind.ReadPresence
+      → page.words + frame_len v.core ≤ v.core.layout.capacity + page.floor
+      → ¬ HasCause P v kind.ReadPresence
   pub clears_unsent : (tenure : ℕ) (page : Page) (stored : ℕ)
       → v.core.phase ≡ Holding tenure page stored false → page.ended ≡ false
-      → page.words + frame_len v.core ≤ v.core.layout.capacity → ¬ HasCause P v kind.ClearRow
+      → page.words + frame_len v.core ≤ v.core.layout.capacity + page.floor
+      → ¬ HasCause P v kind.ClearRow
+  -- a passed place that is loaded by who holds no page, or while its presence is to be cleared
+  pub reads_passed_at_rest : v.core.phase ≡ Resting → ¬ HasCause P v kind.ReadPassed
+  pub reads_passed_while_unpinning : (t : ℕ) → r.pin ≡ Unpinning t → ¬ HasCause P v kind.ReadPassed
+  -- a passed place that is loaded once the order has ended, once the length is stored, where the
+  -- frame fits the log by the page's floor, or once all are loaded
+  pub reads_passed_past_the_end : (tenure : ℕ) (page : Page) (stored : ℕ) (published : Bool)
+      → v.core.phase ≡ Holding tenure page stored published → page.ended ≡ true
+      → ¬ HasCause P v kind.ReadPassed
+  pub reads_passed_once_sent : (tenure : ℕ) (page : Page) (stored : ℕ)
+      → v.core.phase ≡ Holding tenure page stored true → ¬ HasCause P v kind.ReadPassed
+  pub reads_passed_with_room : (tenure : ℕ) (page : Page) (stored : ℕ) (published : Bool)
+      → v.core.phase ≡ Holding tenure page stored published
+      → page.words + frame_len v.core ≤ v.core.layout.capacity + page.floor
+      → ¬ HasCause P v kind.ReadPassed
+  pub reads_passed_past_all : v.core.layout.passers ≤ r.passed.loaded
+      → ¬ HasCause P v kind.ReadPassed
   -- another step while its presence is to be cleared
   pub looks_while_unpinning : (t : ℕ) → r.pin ≡ Unpinning t → ¬ HasCause P v kind.LoadStage
   pub looks_invalidated : (t : ℕ) → r.pin ≡ Invalidated t → ¬ HasCause P v kind.LoadStage

@@ -12,6 +12,7 @@ use Rattle.bus_batch.specs.declared.batches.Phase.TheVariants.{Open}
 use Rattle.bus_tenure.specs.Situations.{PageMove, Stays, Comes, Returns}
 use Rattle.bus_tenure.specs.declared.pages.Page.{Page}
 use Rattle.bus_tenure.specs.declared.phases.Phase.TheVariants as phase
+use Rattle.bus_core.specs.Reusing.Passing.{passing_begun}
 use Rattle.bus_core.specs.Reusing.Turns.{queue_seen}
 use Rattle.bus_core.specs.Senders.{Sender, participant_of}
 use Rattle.bus_core.specs.declared.reuses.Reuse.{Reuse}
@@ -83,7 +84,13 @@ core_without (Returns t reason page) c = record c { phase = phase.Giving t reaso
 -- ---- a new sender, whose first message gets this number
 abbrev pub new_reuse : Option ℕ → Option Reuse
 new_reuse None = None
-new_reuse (Some rows) = Some record { pin = Away; reclaimer = None; lost = None; rows = rows }
+new_reuse (Some rows) = Some record {
+  pin = Away;
+  reclaimer = None;
+  passed = passing_begun;
+  lost = None;
+  rows = rows;
+}
 
 abbrev pub new_sender : {E : Type 0} → Layout → ℕ → Option ℕ → ℕ → Sender E
 new_sender x me rows first = record {

@@ -1,5 +1,5 @@
 -- On which word a sender takes its next step.
-use Rattle.std.specs.Prelude.{◌≡◌, ℕ, ◌+◌, ◌<◌, ◌≤◌, Option, Some, None, IfSome}
+use Rattle.std.specs.Prelude.{◌≡◌, ℕ, ◌+◌, ◌*◌, ◌<◌, ◌≤◌, Option, Some, None, IfSome, IsSome}
 use Rattle.bus_presence.specs.Reclamation.{presence_at, row_of}
 use Rattle.bus_presence.specs.Reclaimers.{Reclaiming}
 use Rattle.bus_presence.specs.declared.pins.Pin.TheVariants.{Pinned}
@@ -10,7 +10,9 @@ use Rattle.bus_core.specs.Reusing.Participants.{sizes_with}
 use Rattle.bus_core.specs.Reusing.Keeping.{held_of}
 use Rattle.bus_core.specs.declared.reuses.Reuse.{Reuse}
 use Rattle.bus_core.specs.Senders.{Sender, Situation, Does, Announces, Validates, Unpins}
-use Rattle.bus_core.specs.Senders.{Withdraws, Scans, Clears, log_start}
+use Rattle.bus_core.specs.Senders.{Withdraws, Scans, Clears, ReadsPassed, passed_start, log_start}
+use Rattle.bus_core.specs.declared.limits.TheConstants.{PASSED_APART}
+use Rattle.bus_core.specs.declared.reuses.Passing.{Passing}
 use Rattle.bus_core.specs.Table.{presence_of}
 
 -- where the row begins that this tenure uses
@@ -39,9 +41,16 @@ pub record IsInNextRow {E : Type 0} (v : Sender E) (r : ℕ) : Type 0 where
   pub held : held_of v.core.phase ≡ Some tenure
   pub row : IsInRow v.core.layout v.reuse (tenure + 1) r
 
+-- on the passed place that it loads next, which is one of those of the bus
+pub record IsPassed (x : Layout) (reuse : Option Reuse) (p : Passing) (r : ℕ) : Type 0 where
+  pub below : p.loaded < x.passers
+  pub again : IsSome reuse
+  pub is : r ≡ passed_start x reuse + PASSED_APART * p.loaded
+
 -- A step on a word of a row is the election's, on the row of the tenure that the sender stands in,
 -- or the reclamation's, in the row that it clears. An election's tenure is one of those of the bus.
--- A step on a presence is on the sender's own, or on the one that the reclamation asks.
+-- A step on a presence is on the sender's own, or on the one that the reclamation asks. One on a
+-- passed place lies before the log.
 abbrev pub LiesAt : {E : Type 0} → Sender E → Situation E → ℕ → Type 0
 LiesAt v (Does IsClosed) r = ⊥
 LiesAt v (Does IsIdle) r = ⊥
@@ -61,3 +70,4 @@ LiesAt v (Unpins t) r = r ≡ presence_of v.core
 LiesAt v (Withdraws t) r = r ≡ presence_of v.core
 LiesAt v (Scans s) r = IsAsked v.core.layout s r
 LiesAt v (Clears s) r = IsInNextRow v r
+LiesAt v (ReadsPassed t p) r = IsPassed v.core.layout v.reuse p r

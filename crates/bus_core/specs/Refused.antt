@@ -60,7 +60,8 @@ pub record AnswersRefuse {E : Type 0} (X : Election E) (v : Sender E) (got word 
   -- Full where its frame fits, or once it is published
   pub full_with_room : (t : ℕ) (page : Page) (stored : ℕ) (published : Bool)
       → v.core.phase ≡ Holding t page stored published
-      → page.words + frame_len v.core ≤ v.core.layout.capacity → ¬ FeedTells X v got word turn.Full
+      → page.words + frame_len v.core ≤ v.core.layout.capacity + page.floor
+      → ¬ FeedTells X v got word turn.Full
   pub full_published : (t : ℕ) (page : Page) (stored : ℕ)
       → v.core.phase ≡ Holding t page stored true → ¬ FeedTells X v got word turn.Full
   -- Closed while the order goes on, by a sender that was not to close, or before the length takes

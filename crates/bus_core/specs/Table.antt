@@ -14,7 +14,7 @@ use Rattle.bus_presence.specs.declared.pins.Pin.{Pin}
 use Rattle.bus_presence.specs.declared.pins.Pin.TheVariants.{Away, Validating, Pinned, Unpinning}
 use Rattle.bus_presence.specs.declared.pins.Pin.TheVariants.{Invalidated}
 use Rattle.bus_tenure.specs.Core.{Core, Election, Layout, length_at, stage_at, row_at, frame_len}
-use Rattle.bus_tenure.specs.Core.{page_after}
+use Rattle.bus_tenure.specs.Core.{cell_of, page_after}
 use Rattle.bus_tenure.specs.Seen.{tenure_of}
 use Rattle.bus_tenure.specs.Situations.{IsClosed, IsIdle, IsSpent, LooksAtStage, Elects, TakesPage}
 use Rattle.bus_tenure.specs.Situations.{AwaitsPage, StoresWord, StoresLength, GivesBack, HasHanded}
@@ -26,9 +26,13 @@ use Rattle.bus_tenure.specs.declared.turns.Turn.{Turn}
 use Rattle.bus_tenure.specs.declared.turns.Turn.TheVariants as turn
 use Rattle.bus_core.specs.Reusing.Participants.{sizes_with, core_seen, pin_seen, pin_elected}
 use Rattle.bus_core.specs.Reusing.Participants.{lost_elected}
+use Rattle.bus_core.specs.Reusing.Passing.{passing_begun, passing_fed, core_passed}
 use Rattle.bus_core.specs.Reusing.Turns.{op_placed, answer_of_loss, answer_of_reclaim}
 use Rattle.bus_core.specs.Senders.{Sender, Situation, Does, Announces, Validates, Unpins}
-use Rattle.bus_core.specs.Senders.{Withdraws, Scans, Clears, log_start, situation}
+use Rattle.bus_core.specs.Senders.{Withdraws, Scans, Clears, ReadsPassed, passed_start, log_start}
+use Rattle.bus_core.specs.Senders.{situation}
+use Rattle.bus_core.specs.declared.limits.TheConstants.{PASSED_APART}
+use Rattle.bus_core.specs.declared.reuses.Passing.{Passing}
 use Rattle.bus_core.specs.declared.reuses.Reuse.{Reuse}
 
 pub record Line (E : Type 0) : Type 0 where
@@ -81,12 +85,13 @@ abbrev pub answer_elected : {E : Type 0} → Core E → Option Reuse → ℕ →
 answer_elected c None t own = answer_of_election c t own
 answer_elected c (Some r) t own = turn.Going
 
--- the reclamation begins with the page that is taken
+-- the reclamation begins with the page that is taken, of which no passed place is loaded
 abbrev pub reuse_taken : Layout → Option Reuse → ℕ → Option Reuse
 reuse_taken x None t = None
 reuse_taken x (Some r) t = Some record r {
   pin = Unpinning t;
   reclaimer = reclaimer_after (sizes_with x r.rows) t;
+  passed = passing_begun;
 }
 
 -- and is over with the page that is given back
@@ -102,6 +107,10 @@ reuse_pinning (Some r) pin = Some record r { pin = pin; lost = None }
 abbrev pub reuse_reclaiming : Option Reuse → Reclaiming → Option Reuse
 reuse_reclaiming None s = None
 reuse_reclaiming (Some r) s = Some record r { reclaimer = Some s }
+
+abbrev pub reuse_passed : Option Reuse → Passing → Option Reuse
+reuse_passed None p = None
+reuse_passed (Some r) p = Some record r { passed = p }
 
 abbrev pub lost_of : Option Reuse → Option SenderNo
 lost_of None = None
@@ -188,8 +197,9 @@ line X v (Does (TakesPage t)) =
 line X v (Does (AwaitsPage t)) = record (blank v turn.Going) { tenure = Some t; move = Comes t }
 line X v (Does (StoresWord t page stored)) =
     steps t kind.StoreLogWord
-    (Store record { 0 = log_start v.core.layout v.reuse + page.words + stored }
-    (slice_index (frame_words (frame_of v.core.queue t)) stored))
+    (Store record {
+      0 = log_start v.core.layout v.reuse + cell_of v.core.layout (page.words + stored);
+    } (slice_index (frame_words (frame_of v.core.queue t)) stored))
     (record v { core = record v.core { phase = Holding t page (stored + 1) false } }) turn.Going
 line X v (Does (StoresLength t page stored)) =
     record (steps t kind.StoreLength
@@ -210,6 +220,16 @@ line X v (Clears s) = record (blank v turn.Going) {
   op = λ word. Some (Store record { 0 = s.row + s.cleared } 0);
   fed = λ got word. record v { reuse = reuse_reclaiming v.reuse (reclaim_fed s got) };
   answer = λ got word. answer_of_reclaim (behind_of s got);
+}
+line X v (ReadsPassed t p) = record (blank v turn.Going) {
+  tenure = Some t;
+  kind = Some kind.ReadPassed;
+  op = λ word.
+      Some (Load record { 0 = passed_start v.core.layout v.reuse + PASSED_APART * p.loaded });
+  fed = λ got word. record {
+    core = core_passed v.core (passing_fed p got);
+    reuse = reuse_passed v.reuse (passing_fed p got);
+  };
 }
 line X v (Does (GivesBack t page reason)) =
     record (steps t kind.GivePageBack (Store record { 0 = stage_at } (2 * t + 2))

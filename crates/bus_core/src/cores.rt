@@ -1,48 +1,44 @@
 //! A sender and its turns.
 
-ghost use Rattle.std.specs.Prelude.{◌≡◌, ℕ, ◌+◌, ◌*◌, ◌-◌, ◌<◌, ◌≤◌, ◌^◌, [], ◌∷◌, ◌++◌, length};
-ghost use Rattle.std.specs.Prelude.{Option, Some, None, IfOk, IfErr, OnOk, OnErr, IfSome, IsSome};
-ghost use Rattle.std.specs.Prelude.{IsTrue, ◌↔◌, ◌⊎◌, false, true, ◌%◌};
+ghost use Rattle.std.specs.Prelude.{◌≡◌, ℕ, ◌+◌, ◌*◌, ◌-◌, ◌<◌, ◌≤◌, ◌^◌, ◌%◌, ◌↔◌};
+ghost use Rattle.std.specs.Prelude.{Option, Some, None, IfSome, IsSome, IsTrue, false};
 ghost use Rattle.bus_register.specs.Words.{register};
 ghost use Rattle.bus_register.specs.declared.kinds.Kind.TheVariants as kind;
-ghost use Rattle.bus_batch.specs.Batches.{next_of, CanPut, IsPutFault, CanClose, IsCloseFault};
-ghost use Rattle.bus_batch.specs.Batches.{IsShut};
-ghost use Rattle.bus_batch.specs.declared.batches.Phase.TheVariants as queue_phase;
-ghost use Rattle.bus_batch.specs.declared.messages.Mark.TheVariants as mark;
-ghost use Rattle.bus_tenure.specs.Core.{words_of, is_closing, is_leaving, is_closed};
+ghost use Rattle.bus_tenure.specs.Core.{words_of, cell_of};
 ghost use Rattle.bus_tenure.specs.Elections.{election_of, elections, layout_with};
 ghost use Rattle.bus_tenure.specs.Seen.{AwaitsItsPage, turns_of, HasElection, is_holding};
-ghost use Rattle.bus_tenure.specs.Situations.{situation_of, Stays, tenure_begun as tenure_by_stage};
+ghost use Rattle.bus_tenure.specs.Situations.{situation_of, tenure_begun as tenure_by_stage};
 ghost use Rattle.bus_tenure.specs.declared.phases.Phase.TheVariants as phase;
 ghost use Rattle.bus_core.specs.Reusing.Turns.{on_place};
-ghost use Rattle.bus_tenure.specs.Doings.{doing_of, IsWord};
+ghost use Rattle.bus_tenure.specs.Doings.{doing_of};
 ghost use Rattle.bus_tenure.specs.declared.doings.Doing.TheVariants as doing;
-ghost use Rattle.bus_tenure.specs.declared.turns.Turn.TheVariants as turn;
 ghost use Rattle.bus_core.specs.Causes.{HasCause, IsCaused};
-ghost use Rattle.bus_core.specs.Doings.{step_of};
-ghost use Rattle.bus_core.specs.Keeping.{ReuseKeeps, reclaimer_op_of, sender, IsAway, queue_of};
-ghost use Rattle.bus_core.specs.Keeping.{reclaimer_in};
-ghost use Rattle.bus_presence.specs.Reclaimers.{Reclaiming, IsClearing, reclaim_fed};
+ghost use Rattle.bus_core.specs.Doings.{step_of, asks_first};
+ghost use Rattle.bus_core.specs.Keeping.{ReuseKeeps, reclaimer_op_of, sender, IsAway};
 ghost use Rattle.bus_core.specs.Keeping.{page_out, core_without, new_sender};
 ghost use Rattle.bus_core.specs.Places.{LiesAt};
-ghost use Rattle.bus_core.specs.Plain.{IsPlain, StoresPlain};
 ghost use Rattle.bus_core.specs.Seen.{pin_of, tenure_begun};
-ghost use Rattle.bus_core.specs.Senders.{Does, situation, log_start, words_all};
-ghost use Rattle.bus_core.specs.Table.{line, line_now, rest_at, reuse_reclaiming};
+ghost use Rattle.bus_core.specs.Senders.{Does, ReadsPassed, situation, log_start, passed_start};
+ghost use Rattle.bus_core.specs.Senders.{at_home, words_all};
+ghost use Rattle.bus_core.specs.declared.limits.TheConstants.{PASSED_APART};
+ghost use Rattle.bus_core.specs.declared.reuses.Passing.{Passing};
+ghost use Rattle.bus_core.specs.declared.steps.Step.TheVariants as step;
+ghost use Rattle.bus_core.specs.Table.{line, line_now, rest_at};
 ghost use Rattle.bus_core.specs.Telling.{FeedTells, RestIsTold};
 
+mod filling;
+mod storing;
+
 use super::feeding::feed_parts;
-use super::reuses::Reuse;
-use super::steps::{Ending, Step, ending_of};
-use crate::limits::{LEAST_ROWS_AGAIN, MOST_ROWS_AGAIN};
-use arrayvec::ArrayVec;
+use super::reuses::{Passing, Reuse};
+use super::steps::{Ending, Step, ending_of, rest_of};
+use crate::limits::{LEAST_ROWS_AGAIN, MOST_ROWS_AGAIN, PASSED_APART};
 use bus_adoptcommit::Ratifier;
-use bus_batch::{CloseFault, Message, PutFault};
 use bus_ownerbits::Election;
 use bus_presence::Pin;
-use bus_register::limits::{MOST_MESSAGES, MOST_ROUNDS, MOST_SENDERS, NUMBERS, TENURES};
+use bus_register::limits::{MOST_ROUNDS, MOST_SENDERS, NUMBERS, TENURES};
 use bus_register::{Kind, Op, Reg, SenderNo};
-use bus_tenure::{Doing, OwnedPage, Turn, Turns};
+use bus_tenure::{Doing, OwnedPage, Reason, Turn, Turns};
 use std::marker::Model;
 
 /// The word of the length.
@@ -135,6 +131,10 @@ impl<Q: Ratifier + Drop> SenderCore<Q> {
             reuse: Some(Reuse {
                 pin: Pin::Away,
                 reclaimer: None,
+                passed: Passing {
+                    loaded: 0,
+                    least: u64::MAX,
+                },
                 lost: None,
                 rows,
             }),
@@ -146,48 +146,6 @@ impl<Q: Ratifier + Drop> SenderCore<Q> {
         ensures { result.0 ≡ self.now.core.me }
     {
         self.turns.number()
-    }
-
-    /// How many messages wait.
-    pub fn pending(&self) -> u64
-        ensures { result ≡ length self.now.core.queue.messages }
-    {
-        self.turns.pending()
-    }
-
-    /// The messages that wait, in their order, spelled back from their words.
-    pub fn waiting(&self) -> ArrayVec<Message, MOST_MESSAGES>
-        ensures { result.items ≡ self.now.core.queue.messages }
-    {
-        self.turns.waiting()
-    }
-
-    /// The number that the next message gets.
-    pub fn next_number(&self) -> u64
-        ensures { result ≡ next_of self.now.core.queue }
-    {
-        self.turns.next_number()
-    }
-
-    /// An end mark waits.
-    pub fn is_closing(&self) -> bool
-        ensures { result ≡ is_closing self.now.core.queue.phase }
-    {
-        self.turns.is_closing()
-    }
-
-    /// Its leave mark waits.
-    pub fn is_leaving(&self) -> bool
-        ensures { result ≡ is_leaving self.now.core.queue.phase }
-    {
-        self.turns.is_leaving()
-    }
-
-    /// Nothing more is sent: it has closed or left, or has found the order ended.
-    pub fn is_closed(&self) -> bool
-        ensures { result ≡ is_closed self.now.core.queue.phase }
-    {
-        self.turns.is_closed()
     }
 
     /// How far its pin of a tenure has come; none where each tenure has a row of its own.
@@ -245,15 +203,42 @@ impl<Q: Ratifier + Drop> SenderCore<Q> {
             Pin::Invalidated { tenure } => Step::Withdraws { tenure },
             Pin::Away | Pin::Pinned { .. } => {
                 let doing = self.turns.doing();
-                match (doing, &reuse.reclaimer) {
-                    (Doing::Back { .. }, Some(reclaimer)) => match reclaimer.next() {
-                        Some(Op::Load(_)) => Step::Scans,
-                        Some(_) => Step::Clears,
-                        None => Step::Does(doing),
-                    },
-                    _ => Step::Does(doing),
+                if self.asks_passed(reuse, doing) {
+                    return Step::ReadsPassed;
                 }
+                self.home_step(reuse, doing)
             }
+        }
+    }
+
+    /// What it does next where no step of its pin is due, and no passed place is loaded.
+    #[inline(always)]
+    fn home_step(&self, reuse: &Reuse, doing: Doing) -> Step
+        requires { let X = election_of Q.Ratifier in
+            doing_of (situation_of X self.now.core) ≡ doing }
+        ensures { let X = election_of Q.Ratifier in
+            result ≡ step_of (at_home None reuse.now.reclaimer (situation_of X self.now.core)) }
+    {
+        match (doing, &reuse.reclaimer) {
+            (Doing::Back { .. }, Some(reclaimer)) => match reclaimer.next() {
+                Some(Op::Load(_)) => Step::Scans,
+                Some(_) => Step::Clears,
+                None => Step::Does(doing),
+            },
+            _ => Step::Does(doing),
+        }
+    }
+
+    /// What is done next with the page waits for a passed place that is left to load.
+    #[inline(always)]
+    fn asks_passed(&self, reuse: &Reuse, doing: Doing) -> bool
+        ensures { result ≡ asks_first self.now.core.layout.passers reuse.now.passed doing }
+    {
+        match doing {
+            Doing::Back { reason, .. } => {
+                reason == Reason::NoRoom && reuse.passed.loaded < self.turns.passers()
+            }
+            _ => false,
         }
     }
 
@@ -265,6 +250,18 @@ impl<Q: Ratifier + Drop> SenderCore<Q> {
         Reg(2 + u64::from(self.turns.number().0))
     }
 
+    /// Where the passed places begin.
+    #[inline(always)]
+    fn passed_start(&self) -> u64
+        ensures at { result ≡ passed_start self.now.core.layout self.now.reuse }
+        ensures few { IsSome self.now.reuse → result ≤ 2 ^ 27 }
+    {
+        match &self.reuse {
+            None => self.turns.log_apart(),
+            Some(reuse) => 2 + self.turns.senders() + reuse.rows * self.turns.width(),
+        }
+    }
+
     /// Where the log begins.
     #[inline(always)]
     fn log_start(&self) -> u64
@@ -273,8 +270,34 @@ impl<Q: Ratifier + Drop> SenderCore<Q> {
     {
         match &self.reuse {
             None => self.turns.log_apart(),
-            Some(reuse) => 2 + self.turns.senders() + reuse.rows * self.turns.width(),
+            Some(_) => self.passed_start() + PASSED_APART * self.turns.passers(),
         }
+    }
+
+    /// Where the passed place stands that it loads next.
+    fn passed_place(&self) -> u64
+        requires { let X = election_of Q.Ratifier in
+            step_of (situation X self.now) ≡ step.ReadsPassed }
+        ensures at { let X = election_of Q.Ratifier in
+            (t : ℕ) (p : Passing) → situation X self.now ≡ ReadsPassed t p
+            → result ≡ passed_start self.now.core.layout self.now.reuse + PASSED_APART * p.loaded }
+        ensures below { result < words_all self.now }
+    {
+        match &self.reuse {
+            None => 0,
+            Some(reuse) => self.passed_start() + PASSED_APART * reuse.passed.loaded,
+        }
+    }
+
+    /// The word of the log in which this place lives.
+    #[inline(always)]
+    fn log_word(&self, place: u64) -> u64
+        requires { 0 < self.now.core.layout.capacity }
+        ensures at { result ≡ log_start self.now.core.layout self.now.reuse
+            + cell_of self.now.core.layout place }
+        ensures below { result < words_all self.now }
+    {
+        self.log_start() + cell(place, self.turns.capacity())
     }
 
     /// The bus has few words.
@@ -323,7 +346,7 @@ impl<Q: Ratifier + Drop> SenderCore<Q> {
                 stored,
             } => {
                 let number = self.turns.frame_word(tenure, words, stored);
-                Some(Op::Store(Reg(self.log_start() + words + stored), number))
+                Some(Op::Store(Reg(self.log_word(words + stored)), number))
             }
             Doing::Length { tenure, words } => {
                 Some(Op::Store(LENGTH, self.turns.length_after(tenure, words)))
@@ -380,22 +403,6 @@ impl<Q: Ratifier + Drop> SenderCore<Q> {
         let _ = (got, word);
     }
 
-    /// The answer to a plain store tells that no other is due.
-    fn tells_going(&self)
-        requires { let X = election_of Q.Ratifier in IsPlain X self.now }
-        ensures { let X = election_of Q.Ratifier in
-            (got : ℕ) (word : ℕ) → FeedTells X self.now got word turn.Going }
-    {
-        self.turns.is_kept();
-    }
-
-    /// Whose next step is a plain store pins no tenure.
-    fn plain_is_away(&self)
-        ensures { IsPlain (election_of Q.Ratifier) self.now → IsAway self.now.reuse }
-    {
-        self.turns.is_kept();
-    }
-
     /// What the answer tells where no step is due.
     fn rest_tells(&self)
         ensures { let X = election_of Q.Ratifier in
@@ -434,6 +441,7 @@ impl<Q: Ratifier + Drop> SenderCore<Q> {
             Step::Unpins { .. } | Step::Withdraws { .. } => Some(Kind::Withdraw),
             Step::Scans => Some(Kind::ReadPresence),
             Step::Clears => Some(Kind::ClearRow),
+            Step::ReadsPassed => Some(Kind::ReadPassed),
         }
     }
 
@@ -464,8 +472,11 @@ impl<Q: Ratifier + Drop> SenderCore<Q> {
         ensures { let X = election_of Q.Ratifier in result ≡ rest_at (line_now X self.now) }
     {
         match step {
-            Step::Does(Doing::Rests(turn)) => turn,
-            _ => Turn::Going,
+            Step::Does(doing) => rest_of(doing),
+            Step::Announces { .. } | Step::Validates { .. } => Turn::Going,
+            Step::Unpins { .. } | Step::Withdraws { .. } => Turn::Going,
+            Step::Scans | Step::Clears => Turn::Going,
+            Step::ReadsPassed => Turn::Going,
         }
     }
 
@@ -511,6 +522,7 @@ impl<Q: Ratifier + Drop> SenderCore<Q> {
             Step::Announces { .. } | Step::Validates { .. } => false,
             Step::Unpins { .. } | Step::Withdraws { .. } => false,
             Step::Scans | Step::Clears => false,
+            Step::ReadsPassed => false,
         }
     }
 
@@ -522,98 +534,6 @@ impl<Q: Ratifier + Drop> SenderCore<Q> {
             None => true,
             Some(reuse) => reuse.pin == Pin::Away,
         }
-    }
-
-    /// It has closed or left, or is about to.
-    fn is_shut(&self) -> bool
-        ensures { IsTrue result ↔ IsShut self.now.core.queue }
-    {
-        self.turns.is_closing() || self.turns.is_leaving() || self.turns.is_closed()
-    }
-
-    /// Appends a message to the batch and gives its number. While it pins a tenure the batch is
-    /// on its way.
-    pub fn put(&mut self, bytes: &[u8]) -> Result<u64, PutFault>
-        requires { next_of self.old.core.queue < NUMBERS }
-        ensures number { IfOk result (λ number. number ≡ next_of self.old.core.queue) }
-        ensures taken { OnOk result
-            (self.new ≡ record self.old {
-              core = record self.old.core {
-                queue = record self.old.core.queue {
-                  messages = self.old.core.queue.messages ++ bytes.now ∷ [];
-                };
-              };
-            }) }
-        ensures could { OnOk result
-            (CanPut (queue_of self.old.core.queue self.old.reuse) (length bytes.now)) }
-        ensures fault { IfErr result
-            (IsPutFault (queue_of self.old.core.queue self.old.reuse) (length bytes.now)) }
-        ensures refused { OnErr result (self.new ≡ self.old) }
-    {
-        if self.is_away() {
-            return self.turns.put(bytes);
-        }
-        if self.is_shut() {
-            return Err(PutFault::Closed);
-        }
-        Err(PutFault::Busy)
-    }
-
-    /// Lets an end mark wait in place of messages. While it pins a tenure the batch is on its
-    /// way.
-    pub fn close(&mut self) -> Result<(), CloseFault>
-        ensures taken { OnOk result
-            (self.new ≡ record self.old {
-              core = record self.old.core {
-                queue = record self.old.core.queue { phase = queue_phase.Marking mark.End };
-              };
-            }) }
-        ensures could { OnOk result
-            (CanClose (queue_of self.old.core.queue self.old.reuse)) }
-        ensures fault { IfErr result
-            (IsCloseFault (queue_of self.old.core.queue self.old.reuse)) }
-        ensures refused { OnErr result (self.new ≡ self.old) }
-    {
-        if self.is_away() {
-            return self.turns.close();
-        }
-        Err(self.mark_fault())
-    }
-
-    /// Lets its leave mark wait in place of messages. While it pins a tenure the batch is on its
-    /// way.
-    ///
-    /// Once the mark stands in the log the answer is Left, and nothing more is sent. A holder that
-    /// finds the order ended answers Closed, and nothing more is sent either; where the mark does
-    /// not fit the log it answers Full, and the mark waits on.
-    pub fn leave(&mut self) -> Result<(), CloseFault>
-        ensures taken { OnOk result
-            (self.new ≡ record self.old {
-              core = record self.old.core {
-                queue = record self.old.core.queue { phase = queue_phase.Marking mark.Leave };
-              };
-            }) }
-        ensures could { OnOk result
-            (CanClose (queue_of self.old.core.queue self.old.reuse)) }
-        ensures fault { IfErr result
-            (IsCloseFault (queue_of self.old.core.queue self.old.reuse)) }
-        ensures refused { OnErr result (self.new ≡ self.old) }
-    {
-        if self.is_away() {
-            return self.turns.leave();
-        }
-        Err(self.mark_fault())
-    }
-
-    /// Why no mark is taken while it pins a tenure.
-    fn mark_fault(&self) -> CloseFault
-        requires { ¬ IsAway self.now.reuse }
-        ensures { IsCloseFault (queue_of self.now.core.queue self.now.reuse) result }
-    {
-        if self.is_shut() {
-            return CloseFault::Closed;
-        }
-        CloseFault::Busy
     }
 
     /// The page lies before it.
@@ -676,72 +596,6 @@ impl<Q: Ratifier + Drop> SenderCore<Q> {
         }
     }
 
-    /// Whether the next step is a plain store; then it stores `value` in the word at `at`.
-    #[inline(always)]
-    pub fn plain(&self, at: &mut u64, value: &mut u64) -> bool
-        ensures stores { IsTrue result
-            → StoresPlain (election_of Q.Ratifier) self.now at.new value.new }
-        ensures exact { IsPlain (election_of Q.Ratifier) self.now → IsTrue result }
-    {
-        self.plain_is_away();
-        if !self.is_away() {
-            return false;
-        }
-        if self.turns.has_published() {
-            return clears(&self.reuse, at, value);
-        }
-        self.stores_word(at, value)
-    }
-
-    /// Whether it stores a word of its frame next, where it has no pin; then `value` in the word
-    /// at `at`.
-    #[inline(always)]
-    fn stores_word(&self, at: &mut u64, value: &mut u64) -> bool
-        requires { IsAway self.now.reuse }
-        ensures stores { IsTrue result
-            → StoresPlain (election_of Q.Ratifier) self.now at.new value.new }
-        ensures exact { let X = election_of Q.Ratifier in
-            IsWord (doing_of (situation_of X self.now.core)) → IsTrue result }
-    {
-        let (mut tenure, mut words, mut stored) = (0, 0, 0);
-        if !self.turns.stores_word(&mut tenure, &mut words, &mut stored) {
-            return false;
-        }
-        *value = self.turns.frame_word(tenure, words, stored);
-        *at = self.log_start() + words + stored;
-        true
-    }
-
-    /// The plain store was taken that `plain` told. Its answer is Going, whatever it found. Says
-    /// whether the next step is a plain store too; then it stores `value` in the word at `at`.
-    #[inline(always)]
-    pub fn plain_done(&mut self, at: &mut u64, value: &mut u64) -> bool
-        requires { StoresPlain (election_of Q.Ratifier) self.old at.old value.old }
-        ensures state { let X = election_of Q.Ratifier in
-            (got : ℕ) (word : ℕ) → self.new ≡ (line_now X self.old).fed got word }
-        ensures tells { let X = election_of Q.Ratifier in
-            (got : ℕ) (word : ℕ) → FeedTells X self.old got word turn.Going }
-        ensures answer { let X = election_of Q.Ratifier in
-            (got : ℕ) (word : ℕ) → (line_now X self.old).answer got word ≡ turn.Going }
-        ensures page { let X = election_of Q.Ratifier in
-            (line_now X self.old).move ≡ Stays }
-        ensures stores { IsTrue result
-            → StoresPlain (election_of Q.Ratifier) self.new at.new value.new }
-        ensures exact { IsPlain (election_of Q.Ratifier) self.new → IsTrue result }
-    {
-        self.tells_going();
-        if self.turns.has_published() {
-            clear(&mut self.reuse);
-            return clears(&self.reuse, at, value);
-        }
-        if !self.turns.next_word(value) {
-            return false;
-        }
-        self.is_small();
-        *at += 1;
-        true
-    }
-
     /// The next step; none where none is due. Takes nothing and changes nothing.
     pub fn next(&self, word: u32) -> Option<Op>
         ensures step { let X = election_of Q.Ratifier in
@@ -781,6 +635,7 @@ impl<Q: Ratifier + Drop> SenderCore<Q> {
             Step::Validates { .. } => Some(Op::Load(STAGE)),
             Step::Unpins { .. } | Step::Withdraws { .. } => Some(Op::Store(self.presence(), 0)),
             Step::Scans | Step::Clears => reclaimer_step(&self.reuse),
+            Step::ReadsPassed => Some(Op::Load(Reg(self.passed_place()))),
         }
     }
 
@@ -816,6 +671,18 @@ impl<Q: Ratifier + Drop> SenderCore<Q> {
     }
 }
 
+/// A place of the log, less the whole logs below it. Most logs have none below.
+#[inline(always)]
+fn cell(place: u64, capacity: u64) -> u64
+    requires { 0 < capacity }
+    ensures { result ≡ place % capacity }
+{
+    if place < capacity {
+        return place;
+    }
+    place % capacity
+}
+
 /// The next step of a reclamation.
 #[inline(always)]
 fn reclaimer_step(reuse: &Option<Reuse>) -> Option<Op>
@@ -827,38 +694,6 @@ fn reclaimer_step(reuse: &Option<Reuse>) -> Option<Op>
             None => None,
             Some(reclaimer) => reclaimer.next(),
         },
-    }
-}
-
-/// Whether a reclamation clears a word next; then that is the word at `at`, and `value` is 0.
-#[inline(always)]
-fn clears(reuse: &Option<Reuse>, at: &mut u64, value: &mut u64) -> bool
-    ensures clears { IsTrue result → (s : Reclaiming) × (reclaimer_in reuse.now ≡ Some s)
-        × IsClearing s × (at.new ≡ s.row + s.cleared) × (value.new ≡ 0) }
-    ensures exact { (s : Reclaiming) → reclaimer_in reuse.now ≡ Some s → IsClearing s
-        → IsTrue result }
-{
-    *value = 0;
-    match reuse {
-        None => false,
-        Some(reuse) => match &reuse.reclaimer {
-            None => false,
-            Some(reclaimer) => reclaimer.clears(at),
-        },
-    }
-}
-
-/// That word is cleared.
-#[inline(always)]
-fn clear(reuse: &mut Option<Reuse>)
-    requires { (s : Reclaiming) → reclaimer_in reuse.old ≡ Some s → IsClearing s }
-    ensures { (s : Reclaiming) (got : ℕ) → reclaimer_in reuse.old ≡ Some s
-        → reuse.new ≡ reuse_reclaiming reuse.old (reclaim_fed s got) }
-{
-    if let Some(reuse) = reuse {
-        if let Some(reclaimer) = &mut reuse.reclaimer {
-            reclaimer.clear();
-        }
     }
 }
 

@@ -9,6 +9,7 @@ ghost use Rattle.bus_tenure.specs.Situations.{situation_of, resting, LooksAtStag
 ghost use Rattle.bus_tenure.specs.Situations.{answer_of_stage};
 ghost use Rattle.bus_tenure.specs.declared.phases.Phase.TheVariants as phase;
 ghost use Rattle.bus_core.specs.Reusing.Turns.{answer_of_reclaim, answer_of_loss};
+ghost use Rattle.bus_tenure.specs.Causes.{HoldsUnfitting};
 ghost use Rattle.bus_tenure.specs.Doings.{doing_of};
 ghost use Rattle.bus_tenure.specs.declared.doings.Doing.TheVariants as doing;
 ghost use Rattle.bus_core.specs.Doings.{step_of};
@@ -16,9 +17,10 @@ ghost use Rattle.bus_core.specs.Keeping.{ReuseKeeps, sender, reclaimer_in, reuse
 ghost use Rattle.bus_core.specs.Keeping.{turn_answered};
 ghost use Rattle.bus_core.specs.Senders.{Does, situation};
 ghost use Rattle.bus_core.specs.Table.{line, line_now, seen, reuse_pinning, lost_of};
-ghost use Rattle.bus_core.specs.Table.{reuse_reclaiming, reuse_taken, reuse_given};
+ghost use Rattle.bus_core.specs.Reusing.Passing.{core_passed, passing_fed};
+ghost use Rattle.bus_core.specs.Table.{reuse_reclaiming, reuse_passed, reuse_taken, reuse_given};
 
-use super::reuses::Reuse;
+use super::reuses::{Passing, Reuse};
 use super::steps::Step;
 use crate::limits::{LEAST_ROWS_AGAIN, MOST_ROWS_AGAIN};
 use bus_adoptcommit::Ratifier;
@@ -75,6 +77,10 @@ pub fn feed_parts<Q: Ratifier + Drop>(
             Turn::Waiting
         }
         Step::Scans | Step::Clears => reclaim_on(reuse, got),
+        Step::ReadsPassed => {
+            pass(turns, reuse, got);
+            Turn::Going
+        }
     }
 }
 
@@ -100,6 +106,29 @@ fn loss(reuse: &Option<Reuse>, tenure: u64) -> Turn
             None => Turn::Going,
             Some(owner) => Turn::Lost { tenure, owner },
         },
+    }
+}
+
+/// Takes in a passed place. With the last one the page gets its floor.
+fn pass<Q: Ratifier + Drop>(turns: &mut Turns<Q>, reuse: &mut Option<Reuse>, got: u64)
+    requires lacks { HoldsUnfitting turns.old }
+    requires left { (r : Reuse) → reuse.old ≡ Some r
+        → r.passed.loaded < turns.old.layout.passers }
+    ensures core { (r : Reuse) → reuse.old ≡ Some r
+        → turns.new ≡ core_passed turns.old (passing_fed r.passed got) }
+    ensures reuse { (r : Reuse) → reuse.old ≡ Some r
+        → reuse.new ≡ reuse_passed reuse.old (passing_fed r.passed got) }
+{
+    let passers = turns.passers();
+    let Some(reuse) = reuse else {
+        return;
+    };
+    reuse.passed.loaded += 1;
+    if got < reuse.passed.least {
+        reuse.passed.least = got;
+    }
+    if reuse.passed.loaded == passers {
+        turns.set_floor(reuse.passed.least);
     }
 }
 
@@ -255,6 +284,10 @@ fn take<Q: Ratifier + Drop>(turns: &mut Turns<Q>, reuse: &mut Option<Reuse>, ten
         let senders = turns.senders();
         reuse.pin = Pin::Unpinning { tenure };
         reuse.reclaimer = reclaimer_after(tenure, senders, reuse.rows, turns.width());
+        reuse.passed = Passing {
+            loaded: 0,
+            least: u64::MAX,
+        };
     }
     turns.take_page(tenure);
 }

@@ -20,11 +20,12 @@
 
 pub mod cores;
 mod feeding;
+pub mod laws;
 pub mod limits;
 pub mod refusals;
 pub mod reuses;
 pub mod steps;
 
 pub use cores::SenderCore;
-pub use reuses::Reuse;
+pub use reuses::{Passing, Reuse};
 pub use steps::Step;

@@ -53,7 +53,8 @@ pub fn answers_refuse<Q: Ratifier>()
 /// one, while the bits so far fit its own, or past the last sender. Once its election has an
 /// owner, none takes another step of it than the one that takes the page.
 ///
-/// With a row for each tenure none shows a presence, asks for one, or clears a row. With rows that
+/// With a row for each tenure none shows a presence, asks for one, clears a row, or loads a passed
+/// place. With rows that
 /// are used again none takes a step of an election while it pins no tenure, has not stored its
 /// presence, has not looked at the stage again, stands in another tenure or is to clear its
 /// presence. None looks at the stage, or stores a length, while its presence is to be cleared.
@@ -63,7 +64,9 @@ pub fn answers_refuse<Q: Ratifier>()
 /// of one that it neither lost nor has the page of. None that rests asks for a presence, and none
 /// asks once all have passed. None clears a word of a row before they have, of another row than
 /// that of the tenure after its own, or once all are cleared. None asks or clears while it is to
-/// store the length still. None gives a page back before that row is ready.
+/// store the length still. None gives a page back before that row is ready. None loads a passed
+/// place at rest, while its presence is to be cleared, once the order has ended, once the length is
+/// stored, where its frame fits the log by the page's floor, or once all are loaded.
 pub fn causes_refuse<Q: Ratifier>()
     ensures { (sender : Sender (Elector Q)) → RefusesCauses Q.protocol sender }
 {}

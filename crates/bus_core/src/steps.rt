@@ -1,9 +1,9 @@
 //! What a sender does next, in its tenure or beside it.
 
 ghost use Rattle.std.specs.Prelude.{◌≡◌};
-ghost use Rattle.bus_core.specs.Doings.{ending_of as spec_ending_of};
+ghost use Rattle.bus_core.specs.Doings.{ending_of as spec_ending_of, rest_of as spec_rest_of};
 
-use bus_tenure::{Doing, Reason};
+use bus_tenure::{Doing, Reason, Turn};
 
 /// What a sender does next.
 #[derive(Clone, Copy, Debug, PartialEq, Eq)]
@@ -22,6 +22,8 @@ pub enum Step {
     Scans,
     /// As a holder it clears a word of the next row.
     Clears,
+    /// As a holder without room it loads a passed place.
+    ReadsPassed,
 }
 
 /// The tenure whose page is given back next, and why.
@@ -44,5 +46,16 @@ pub fn ending_of(step: Step) -> Option<Ending>
             _ => None,
         },
         _ => None,
+    }
+}
+
+/// The answer without a step of who does this; Going where one is due.
+#[inline(always)]
+pub(crate) fn rest_of(doing: Doing) -> Turn
+    ensures { result ≡ spec_rest_of doing }
+{
+    match doing {
+        Doing::Rests(turn) => turn,
+        _ => Turn::Going,
     }
 }

@@ -1,4 +1,3 @@
 mod FillLaws
 mod HearLaws
 mod OverLaws
-mod TurnLaws

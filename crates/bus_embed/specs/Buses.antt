@@ -29,6 +29,7 @@ page_of left = record {
   ended = left.ended;
   tenures = left.tenures;
   words = left.words;
+  floor = 0;
 }
 
 abbrev pub pages : Option Left → Option Page

@@ -4,6 +4,8 @@ use Rattle.std.specs.Prelude.{◌++◌, None, Some, length, drop, map, Result, E
 use Rattle.std.specs.Prelude.{OnErr, IsSome}
 use Rattle.std.specs.Ordering.{nat_cmp}
 use Rattle.bus_register.specs.declared.registers.Op.{Op}
+use Rattle.bus_adoptcommit.specs.ThreeWord.{kind_at, op_of, fed_of}
+use Rattle.bus_adoptcommit.specs.ThreeWordKeeps.{three_word}
 use Rattle.bus_batch.specs.Batches.{next_of, CanPut, IsPutFault, CanClose, IsCloseFault}
 use Rattle.bus_batch.specs.declared.messages.Item.{Item}
 use Rattle.bus_batch.specs.declared.messages.Mark.{Mark}
@@ -12,7 +14,6 @@ use Rattle.bus_batch.specs.declared.batches.PutFault.TheVariants as put
 use Rattle.bus_batch.specs.declared.batches.CloseFault.{CloseFault}
 use Rattle.bus_deliverylog.specs.declared.receiving.RecvTurn.{RecvTurn}
 use Rattle.bus_deliverylog.specs.Receiving.{recv_goes_on}
-use Rattle.bus_tenure.specs.Classes.{still_goes}
 use Rattle.bus_tenure.specs.Core.{is_closed}
 use Rattle.bus_tenure.specs.declared.turns.Turn.{Turn}
 use Rattle.bus_core.specs.Seen.{tenure_begun}
@@ -23,6 +24,7 @@ use Rattle.bus_pageslot.specs.Rule.{Sat, receiver_view_in, known_in}
 use Rattle.bus_pageslot.specs.Seats.{SenderSeat, TookAndTold, table_of, first_number_of}
 use Rattle.bus_pageslot.specs.Seats.{actions_of, stored_of}
 use Rattle.bus_pageslot.specs.Sendings.{waiting_of, Carries, CarryRefused}
+use Rattle.bus_pageslot.specs.Turns.{Tellings, tells_with, TakesUpTo}
 use Rattle.bus_receiver.specs.HearingRuns.{item_in}
 use Rattle.bus_receiver.specs.Listening.{IsTold, HaveMet}
 use Rattle.bus_embed.specs.declared.codes.TheConstants as code
@@ -70,6 +72,11 @@ pub record CarriesOn (from old : SenderSeat Held) (given : Result (Unit {0}) Put
   pub refused : OnErr given (new.core ≡ old.core)
   pub seat : new.seat ≡ old.seat
 
+-- what the answers of its turns tell
+abbrev pub tells : Tellings Held
+tells = tells_with (λ s. kind_at s.progress) (λ s word. op_of s) (λ s got word. fed_of s got)
+    three_word
+
 -- a turn with this random word was answered so
 pub record Turns (old : SenderSeat Held) (word : ℕ) (turn : Turn) (new : SenderSeat Held) :
     Type 0 where
@@ -78,16 +85,6 @@ pub record Turns (old : SenderSeat Held) (word : ℕ) (turn : Turn) (new : Sende
       → (new ≡ old) × (turn ≡ process.rest old.core) × RestTells old.core turn
   pub steps : (op : Op) → process.op old.core word ≡ Some op
       → TookAndTold process (FeedTells election) old word turn new
-
--- A turn with this random word, and so many more, each behind one that was answered Going, and with
--- a step that asks for no word; the last one was answered so.
-pub data TurnsOn (first : SenderSeat Held) (word : ℕ) : ℕ → Turn → SenderSeat Held → Type 0 where
-  Once : (answer : Turn) (new : SenderSeat Held) → Turns first word answer new
-      → TurnsOn first word 0 answer new
-  Again : (n : ℕ) (before : Turn) (old : SenderSeat Held) (any : ℕ) (answer : Turn)
-      (new : SenderSeat Held) → TurnsOn first word n before old
-      → still_goes before ≡ true → process.wants_word old.core ≡ false → Turns old any answer new
-      → TurnsOn first word (n + 1) answer new
 
 -- ---- the same with the answer as a code; before is what a place had that the answer is written to
 pub record PutAnswered (old : SenderSeat Held) (bytes : List ℕ) (answer before after : ℕ)
@@ -116,15 +113,12 @@ pub record TurnAnswered (old : SenderSeat Held) (word answer : ℕ) (told : Turn
   pub code : answer ≡ turn_code turn
   pub says : told ≡ turn_answer turn
 
--- of several turns: it ended where one was answered otherwise than Going, where the next step asks
--- for a random word, or where so many more were taken
+-- of several turns, up to so many more
 pub record TurnsAnswered (old : SenderSeat Held) (word more answer : ℕ) (told : TurnAnswer)
     (new : SenderSeat Held) : Type 0 where
-  pub n : ℕ
   pub turn : Turn
-  pub turns : TurnsOn old word n turn new
-  pub few : n ≤ more
-  pub stops : still_goes turn ≡ true → (process.wants_word new.core ≡ true) ⊎ (n ≡ more)
+  pub table : table_of new ≡ table_of old
+  pub takes : TakesUpTo process tells old word more turn new
   pub code : answer ≡ turn_code turn
   pub says : told ≡ turn_answer turn
 

@@ -1,22 +1,15 @@
 -- What a sender is answered that goes through what is left of its tenure, as numbers.
 use Rattle.std.specs.Prelude.{◌≡◌, ℕ, false, Option, Some, None, IfSome, IfNone}
-use Rattle.bus_adoptcommit.specs.ThreeWord.{kind_at, op_of, fed_of}
-use Rattle.bus_adoptcommit.specs.ThreeWordKeeps.{three_word}
 use Rattle.bus_tenure.specs.declared.turns.Turn.{Turn}
 use Rattle.bus_world.specs.Headline.{puts}
 use Rattle.bus_automaton.specs.ThreeWordBuses.{Held, process, election}
 use Rattle.bus_pageslot.specs.Finishing.{Finishes, HasFinished, is_sent}
 use Rattle.bus_pageslot.specs.Seats.{SenderSeat, table_of, actions_of}
 use Rattle.bus_pageslot.specs.Sendings.{KeptAfter}
-use Rattle.bus_pageslot.specs.Turns.{Tellings, tells_with}
 use Rattle.bus_embed.specs.declared.codes.TheConstants as code
 use Rattle.bus_embed.specs.declared.answers.TurnAnswer.{TurnAnswer}
 use Rattle.bus_embed.specs.Answers.{turn_code, turn_answer}
-
--- what its answers tell
-abbrev pub tells : Tellings Held
-tells = tells_with (λ s. kind_at s.progress) (λ s word. op_of s) (λ s got word. fed_of s got)
-    three_word
+use Rattle.bus_embed.specs.Calls.{tells}
 
 -- what the call of its handle promises, in one: it had begun no tenure, or took turns of the one
 -- that it had begun, of which the last was answered so

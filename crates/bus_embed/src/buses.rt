@@ -178,6 +178,7 @@ impl Left {
             ended: self.ended,
             tenures: self.tenures,
             words: self.words,
+            floor: 0,
         }
     }
 }

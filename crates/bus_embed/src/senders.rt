@@ -5,7 +5,6 @@ ghost use Rattle.bus_batch.specs.declared.messages.Mark.TheVariants as mark;
 ghost use Rattle.bus_embed.specs.Answers.{close_code, put_fault_code, turn_code, turn_answer};
 ghost use Rattle.bus_embed.specs.Calls.{PutAnswered, CloseAnswered, TurnAnswered, ShowsSender};
 ghost use Rattle.bus_embed.specs.Calls.{CarryAnswered, TurnsAnswered};
-ghost use Rattle.bus_tenure.specs.Classes.{still_goes};
 
 use crate::answers::{TurnAnswer, turn_told};
 use crate::codes;
@@ -114,8 +113,8 @@ fn told_in(turn: Turn, answer: &mut TurnAnswer) -> u32
 }
 
 /// One turn with this random word, and as long as the last one is answered Going up to so many
-/// more that ask for no word: the code of the last answer, and what that says in `answer`.
-#[tactic(auto, using(crate::proofs::TurnLaws::once, crate::proofs::TurnLaws::again, crate::proofs::TurnLaws::stops, crate::proofs::TurnLaws::tired))]
+/// more that ask for no word, as `SenderHandle::turns`: the code of the last answer, and what that
+/// says in `answer`.
 pub fn take_turns(
     sender: &mut SenderHandle<ThreeWord>,
     word: u32,
@@ -124,22 +123,8 @@ pub fn take_turns(
 ) -> u32
     ensures { TurnsAnswered sender.old word more result answer.new sender.new }
 {
-    let mut turn = sender.turn(word);
-    for _ in 0..more {
-        if !is_going(turn) || sender.wants_word() {
-            return told_in(turn, answer);
-        }
-        turn = sender.turn(0);
-    }
+    let turn = sender.turns(word, more);
     told_in(turn, answer)
-}
-
-/// A step was taken, and nothing more is said.
-#[inline(always)]
-fn is_going(turn: Turn) -> bool
-    ensures { result ≡ still_goes turn }
-{
-    matches!(turn, Turn::Going)
 }
 
 /// What a sender shows. Takes no step.

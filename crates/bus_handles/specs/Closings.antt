@@ -1,7 +1,6 @@
 -- Why an order has not ended by a close that was sent off at once.
 use Rattle.std.specs.Prelude.{◌≡◌}
 use Rattle.bus_batch.specs.Batches.{IsCloseFault}
-use Rattle.bus_tenure.specs.declared.turns.Turn.{Turn}
 use Rattle.bus_tenure.specs.declared.turns.Turn.TheVariants as turn
 use Rattle.bus_automaton.specs.Processes.{Process}
 use Rattle.bus_pageslot.specs.Seats.{SenderSeat}

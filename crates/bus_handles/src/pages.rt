@@ -39,8 +39,8 @@ impl fmt::Display for NoPage {
 /// The page of a sitting whose order has ended, by all senders of its bus and of no other, in their
 /// order, once each was answered Closed or Left. So the next sitting can be opened while they are
 /// kept, and `carry_to` puts there what waits with them. It has of each sender the number with
-/// which that goes on, and that the order has ended; of tenures, words and who has left it says
-/// nothing.
+/// which that goes on, and that the order has ended; of tenures, words, the floor and who has left
+/// it says nothing.
 ///
 /// Unanswered names the first sender that may send still, or that is not at its place: all before
 /// it are, and were answered so. NotEnded says that none of them has closed the order.
@@ -75,6 +75,7 @@ pub fn senders_page<Q: Ratifier + Drop, R: Rng + Drop>(
         ended: true,
         tenures: 0,
         words: 0,
+        floor: 0,
     })
 }
 

@@ -19,7 +19,7 @@ ghost use Rattle.bus_automaton.specs.Buses.{process_by};
 ghost use Rattle.bus_tenure.specs.Classes.{is_refusal};
 ghost use Rattle.bus_pageslot.specs.Seats.{TookAndTold, table_of};
 ghost use Rattle.bus_pageslot.specs.Seats.{first_number_of, actions_of, stored_of};
-ghost use Rattle.bus_pageslot.specs.Turns.{tells_by, Sends, SendsAsking, StopsWaiting};
+ghost use Rattle.bus_pageslot.specs.Turns.{tells_by, TakesUpTo, Sends, SendsAsking, StopsWaiting};
 ghost use Rattle.bus_pageslot.specs.Sendings.{waiting_of, HasSent, HasSentPart, KeptAfter};
 ghost use Rattle.bus_pageslot.specs.Sendings.{Carries, CarryRefused};
 ghost use Rattle.bus_handles.specs.Answers.{delivered_turn, not_delivered_turn};
@@ -328,9 +328,23 @@ impl<Q: Ratifier + Drop, R: Rng + Drop> SenderHandle<Q, R> {
         self.sender.turn(bus, word)
     }
 
+    /// A turn with this random word, and as long as the last one was answered Going up to so many
+    /// more that ask for no word. The answer is the last one's.
+    ///
+    /// So Going says that the next turn is a vote, for which it is to be called again with another
+    /// word, or that all of them were taken. It waits for nothing.
+    pub fn turns(&mut self, word: u32, more: u64) -> Turn
+        ensures table { table_of self.new ≡ table_of self.old }
+        ensures turns { TakesUpTo (process_by Q.Ratifier) (tells_by Q.Ratifier) self.old word more
+            result self.new }
+    {
+        let bus: &Bus<Q> = &self.bus;
+        self.sender.turns(bus, word, more)
+    }
+
     /// Wakes those that sleep at handles of this bus. The calls that wait ring by themselves. After
-    /// `turn` or `finish` was answered Delivered, Left, Closed, Full or Behind it wakes others at
-    /// once, which else look again within 0.1 s.
+    /// `turn`, `turns` or `finish` was answered Delivered, Left, Closed, Full or Behind it wakes
+    /// others at once, which else look again within 0.1 s.
     pub fn ring(&self) {
         self.bell.ring();
     }

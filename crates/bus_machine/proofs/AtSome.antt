@@ -15,6 +15,8 @@ use Rattle.bus_batch.specs.Batches.{next_of, CanPut, CanClose}
 use Rattle.bus_batch.specs.declared.batches.Phase.TheVariants.{Marking}
 use Rattle.bus_batch.specs.declared.messages.Mark.{Mark}
 use Rattle.bus_core.proofs.Bridged.{at_some}
+use Rattle.bus_core.proofs.Situated.{none_left, unpassed}
+use Rattle.bus_core.specs.Reusing.Passing.{passing_begun}
 use Rattle.bus_core.specs.Keeping.{new_sender, queue_of}
 use Rattle.bus_core.specs.Proved.Bridge.{move_of, with_rows_again}
 use Rattle.bus_core.specs.Senders.{Sender, Situation, Does, Scans, Clears, situation, at_home}
@@ -32,7 +34,7 @@ use Rattle.bus_presence.specs.Pins.{step_at}
 use Rattle.bus_presence.specs.declared.pins.Pin.{Pin}
 use Rattle.bus_presence.specs.declared.pins.Pin.TheVariants.{Away, Announcing, Validating, Pinned}
 use Rattle.bus_presence.specs.declared.pins.Pin.TheVariants.{Unpinning, Invalidated}
-use Rattle.bus_tenure.specs.Core.{Core, Election, stage_at}
+use Rattle.bus_tenure.specs.Core.{Core, Election, Layout, stage_at}
 use Rattle.bus_tenure.specs.Situations.{Situation as Own, IsClosed, IsIdle, IsSpent, LooksAtStage}
 use Rattle.bus_tenure.specs.Situations.{Elects, TakesPage, AwaitsPage, StoresWord, StoresLength}
 use Rattle.bus_tenure.specs.Situations.{GivesBack, HasHanded, PageMove, situation_of, op_at}
@@ -145,9 +147,11 @@ module _ {E : Type 0} (X : Election E) where
         grown_reclaimed v r z (nat_lt r.scanned r.senders) (nat_lt r.cleared r.width) i j
 
     grown_home : (v : Participant E) (r : Option Reclaiming) (z : Own E) → v.core.layout ≡ m.layout
-        → v.rows ≡ rows → IsGrown v (at_home r z) (due_home (reclaim_due z r) z)
+        → v.rows ≡ rows → IsGrown v (at_home None r z) (due_home (reclaim_due z r) z)
     grown_home v r (GivesBack t page reason) i j =
-        grown_reclaiming v r (GivesBack t page reason) i j
+        subst (λ z. IsGrown v z (due_home r (GivesBack t page reason)))
+        (sym (unpassed t reason (reclaiming r (GivesBack t page reason))))
+        (grown_reclaiming v r (GivesBack t page reason) i j)
     grown_home v r IsClosed i j = grown_own v IsClosed i j
     grown_home v r IsIdle i j = grown_own v IsIdle i j
     grown_home v r IsSpent i j = grown_own v IsSpent i j
@@ -161,7 +165,7 @@ module _ {E : Type 0} (X : Election E) where
 
     grown_pinning : (v : Participant E) (u : Pin) (z : Own E) → v.core.layout ≡ m.layout
         → v.rows ≡ rows
-        → IsGrown v (pinning u v.reclaimer z)
+        → IsGrown v (pinning u None v.reclaimer z)
         (due_beside (step_at u (presence_at (sizes_of v) v.core.me) stage_at) v.reclaimer z)
     grown_pinning v Away z i j = grown_home v v.reclaimer z i j
     grown_pinning v (Announcing t) z i j = record { pins = refl; actions = refl; heard = refl }
@@ -170,12 +174,15 @@ module _ {E : Type 0} (X : Election E) where
     grown_pinning v (Unpinning t) z i j = record { pins = refl; actions = refl; heard = refl }
     grown_pinning v (Invalidated t) z i j = record { pins = refl; actions = refl; heard = refl }
 
-    pub grown_is : (v : Participant E) → v.core.layout ≡ m.layout → v.rows ≡ rows
+    pub grown_is : (v : Participant E) → v.core.layout.passers ≡ 0 → v.core.layout ≡ m.layout
+        → v.rows ≡ rows
         → GrowsBy v (situation X (with_rows_again v))
         (found m (line_now X (with_rows_again v)) word) (due X v)
-    grown_is v i j = subst (λ n. GrowsBy v (situation X (with_rows_again v)) n (due X v))
-        (sym (ap (number_found (slice_index m.words)) ((at_some X v).op word)))
-        (grown_pinning v v.pin (situation_of X v.core) i j)
+    grown_is v none i j = subst (λ n. GrowsBy v (situation X (with_rows_again v)) n (due X v))
+        (sym (ap (number_found (slice_index m.words)) ((at_some X v none).op word)))
+        (subst (λ l. IsGrown v (pinning v.pin l v.reclaimer (situation_of X v.core)) (due X v))
+        (sym (none_left v.core.layout.passers v.passed none))
+        (grown_pinning v v.pin (situation_of X v.core) i j))
 
 -- ---- one event
 module _ {E : Type 0} (X : Election E) (P : Protocol E (Unit {0}) ℕ) (rows : ℕ) (m : Machine E)
@@ -201,11 +208,11 @@ module _ {E : Type 0} (X : Election E) (P : Protocol E (Unit {0}) ℕ) (rows : �
     owners = told_after v s word;
   }
 
-  turn_is : (v : Participant E) (s word : ℕ)
+  turn_is : (v : Participant E) → v.core.layout.passers ≡ 0 → (s word : ℕ)
       → machine_after m s (line_now X (with_rows_again v)) word ≡ turned_by v s word
-  turn_is v s word =
+  turn_is v none s word =
       let l = line_now X (with_rows_again v) in
-      let i = at_some X v in
+      let i = at_some X v none in
       let d = due X v in
       let got = got_by v word in
       ap (λ o. after o l.move (l.fed (number_found (slice_index m.words) o) word)) (i.op word)
@@ -219,12 +226,12 @@ module _ {E : Type 0} (X : Election E) (P : Protocol E (Unit {0}) ℕ) (rows : �
         senders = slice_set m.senders s (moved (after_step w) m.home f);
       }
 
-  answer_is : (v : Participant E) (word : ℕ)
+  answer_is : (v : Participant E) → v.core.layout.passers ≡ 0 → (word : ℕ)
       → turn_answer m (line_now X (with_rows_again v)) word
       ≡ answer_due X v (due X v) (got_by v word) word
-  answer_is v word =
+  answer_is v none word =
       let l = line_now X (with_rows_again v) in
-      let i = at_some X v in
+      let i = at_some X v none in
       ap (λ o. l.answer (number_found (slice_index m.words) o) word) (i.op word)
       ∙ i.answer (got_by v word) word
 
@@ -246,14 +253,16 @@ module _ {E : Type 0} (X : Election E) (P : Protocol E (Unit {0}) ℕ) (rows : �
   turns s word a m' h =
       let o = opened s h.sender h.goes in
       let v = o.v in
-      let i = at_some X v in
+      let part =
+      (protocol_kept X P rows m T q ok two l).kept.sending.parts s v.core (ap core_in o.at) in
+      let none : v.core.layout.passers ≡ 0 =
+      ap (λ (x : Layout). x.passers) part.layout ∙ ok.passers in
+      let i = at_some X v none in
       let t = answer_due X v (due X v) (got_by v word) word in
       let told : a ≡ answer.Turn t =
       h.answered ∙ ap (λ w. answer.Turn (turn_answer m (line_now X w) word)) o.is
-      ∙ ap answer.Turn (answer_is v word) in
-      let part =
-      (protocol_kept X P rows m T q ok two l).kept.sending.parts s v.core (ap core_in o.at) in
-      let g = grown_is X m rows l.reclaimer l.owners s word T t v part.layout o.same_rows in
+      ∙ ap answer.Turn (answer_is v none word) in
+      let g = grown_is X m rows l.reclaimer l.owners s word T t v none part.layout o.same_rows in
       let low = subst (IsOnWord m) (i.op word)
       (subst (λ w. IsOnWord m ((line_now X w).op word)) o.is h.within) in
       let U = turn_trails (situation X (with_rows_again v)) (line_now X (with_rows_again v)) s
@@ -261,7 +270,8 @@ module _ {E : Type 0} (X : Election E) (P : Protocol E (Unit {0}) ℕ) (rows : �
       let led : IsLed X rows (turned_by v s word) U = turn_led X P rows m T q ok two l s v o.at
       o.same_rows word t (told_after v s word) U low refl g.pins g.actions g.heard in
       let is : m' ≡ turned_by v s word =
-      h.after ∙ ap (λ w. machine_after m s (line_now X w) word) o.is ∙ turn_is v s word in
+      h.after ∙ ap (λ w. machine_after m s (line_now X w) word) o.is
+      ∙ turn_is v none s word in
       let grown : trails_grown X m (Turn s word) a T ≡ U =
       ap (λ w. trails_grown X m (Turn s word) w T) told
       ∙ ap (λ w. turn_grown X m s w word (answer.Turn t) T) (h.goes ∙ ap Some o.is) in
@@ -370,6 +380,7 @@ module _ {E : Type 0} (X : Election E) (rows : ℕ) (m : Machine E) (new : IsNew
     core = new_core m.layout (base_of m p) p;
     pin = Away;
     reclaimer = None;
+    passed = passing_begun;
     lost = None;
     rows = rows;
   }

@@ -8,7 +8,7 @@ use Rattle.std.proofs.lemmas.Bool.{true≢false}
 use Rattle.std.proofs.lemmas.Bool.Decides.{nat_tests}
 use Rattle.std.proofs.lemmas.List.{length-append}
 use Rattle.std.proofs.lemmas.List.Elements.{filter-append}
-use Rattle.bus_core.specs.Senders.{Sender, Situation, Does, Validates, situation}
+use Rattle.bus_core.specs.Senders.{Sender, Situation, Does, Validates, situation, ReadsPassed}
 use Rattle.bus_core.specs.Table.{line, line_now, seen}
 use Rattle.bus_core.specs.declared.reuses.Reuse.{Reuse}
 use Rattle.bus_presence.specs.Reclamation.{Entry}
@@ -33,6 +33,7 @@ use Rattle.bus_world.specs.Trails.{step_action, put_actions, mark_actions}
 use Rattle.bus_world.specs.Turning.{after_step, core_moved, core_with_page}
 use Rattle.bus_world.specs.declared.events.Answer.{Answer}
 use Rattle.bus_world.specs.declared.events.Answer.TheVariants as answer
+use Rattle.bus_machine.proofs.Knowing.{none_passed}
 use Rattle.bus_machine.proofs.AtNone.{event_reuse}
 use Rattle.bus_machine.proofs.EachSender.{added, OfEach, each}
 use Rattle.bus_machine.proofs.Entering.{entry, entry_from, entry_in, may_enter, phase_tells, enters}
@@ -288,6 +289,7 @@ module _ {E : Type 0} (X : Election E) (P : Protocol E (Unit {0}) ℕ) (m : Mach
         over P.left bound t v.core _ _ _ own refl refl (λ s. refl) (λ s. refl)
     by_turn (Validates t) i =
         validated t (got / 2 == t) (enters X P m T sits reached p v at t i)
+    by_turn (ReadsPassed t q) i = absurd (none_passed X P m T f p v at sits.ok t q i)
     by_turn z i = same P.left bound v.core
 
 -- ---- of all senders

@@ -11,7 +11,10 @@ use Rattle.bus_presence.specs.declared.pins.Pin.TheVariants.{Away, Pinned}
 use Rattle.bus_core.specs.Keeping.{reclaimer_in}
 use Rattle.bus_core.specs.Senders.{Sender, Does, Scans, Clears, reclaiming, at_home, pinning}
 use Rattle.bus_core.specs.Senders.{situation_by, situation}
+use Rattle.bus_core.specs.Reusing.Passing.{passing_left}
+use Rattle.bus_core.specs.declared.reuses.Passing.{Passing}
 use Rattle.bus_core.specs.declared.reuses.Reuse.{Reuse}
+use Rattle.bus_core.proofs.Situated.{passing_is}
 use Rattle.bus_core.specs.Reusing.Keeping.{held_of}
 use Rattle.bus_tenure.proofs.Situated.{tells}
 use Rattle.bus_tenure.specs.Core.{Election}
@@ -53,28 +56,29 @@ reclaiming_clears (Some s) q z i =
     (ap Some w.0, subst ClearsNext w.0 w.1)
 
 -- the same of who takes no step of a pin
-home_clears : {E : Type 0} (o : Option Reclaiming) (q : Reclaiming) (z : Own E)
-    → at_home o z ≡ Clears q → (o ≡ Some q) × ClearsNext q
+home_clears : {E : Type 0} (l : Option Passing) (o : Option Reclaiming) (q : Reclaiming) (z : Own E)
+    → at_home l o z ≡ Clears q → (o ≡ Some q) × ClearsNext q
     × IsBack z
-home_clears o q (GivesBack t page reason) i =
-    let w = reclaiming_clears o q (GivesBack t page reason) i in
+home_clears l o q (GivesBack t page reason) i =
+    let w = reclaiming_clears o q (GivesBack t page reason)
+    (passing_is l t reason (reclaiming o (GivesBack t page reason)) (Clears q) (λ u p e. cc) i) in
     (w.0, w.1, record { tenure = t; page = page; reason = reason; is = refl })
-home_clears o q z i = absurd cc
+home_clears l o q z i = absurd cc
 
 -- the same with a pin
-pin_clears : {E : Type 0} (u : Pin) (o : Option Reclaiming) (q : Reclaiming) (z : Own E)
-    → pinning u o z ≡ Clears q → (o ≡ Some q)
+pin_clears : {E : Type 0} (u : Pin) (l : Option Passing) (o : Option Reclaiming) (q : Reclaiming)
+    (z : Own E) → pinning u l o z ≡ Clears q → (o ≡ Some q)
     × ClearsNext q × IsBack z
-pin_clears Away o q z i = home_clears o q z i
-pin_clears (Pinned t) o q z i = home_clears o q z i
-pin_clears u o q z i = absurd cc
+pin_clears Away l o q z i = home_clears l o q z i
+pin_clears (Pinned t) l o q z i = home_clears l o q z i
+pin_clears u l o q z i = absurd cc
 
 -- the same with both kinds of rows
-reuse_clears : {E : Type 0} (r : Option Reuse) (q : Reclaiming) (z : Own E)
-    → situation_by r z ≡ Clears q → (reclaimer_in r ≡ Some q)
+reuse_clears : {E : Type 0} (n : ℕ) (r : Option Reuse) (q : Reclaiming) (z : Own E)
+    → situation_by n r z ≡ Clears q → (reclaimer_in r ≡ Some q)
     × ClearsNext q × IsBack z
-reuse_clears None q z i = absurd cc
-reuse_clears (Some r) q z i = pin_clears r.pin r.reclaimer q z i
+reuse_clears n None q z i = absurd cc
+reuse_clears n (Some r) q z i = pin_clears r.pin (passing_left n r.passed) r.reclaimer q z i
 
 -- the sender clears a word next, and holds a page
 pub record IsClearing {E : Type 0} (v : Sender E) (s : Reclaiming) : Type 0 where
@@ -87,7 +91,7 @@ pub record IsClearing {E : Type 0} (v : Sender E) (s : Reclaiming) : Type 0 wher
 pub clearing : {E : Type 0} (X : Election E) (v : Sender E) (s : Reclaiming)
     → situation X v ≡ Clears s → IsClearing v s
 clearing X v s i =
-    let w = reuse_clears v.reuse s (own_situation X v.core) i in
+    let w = reuse_clears v.core.layout.passers v.reuse s (own_situation X v.core) i in
     let back = w.2 in
     record {
       reclaims = w.0;

@@ -7,7 +7,8 @@ use Rattle.std.proofs.lemmas.Bool.Decides.{eqb_tells}
 use Rattle.std.proofs.lemmas.List.{append-nil}
 use Rattle.std.proofs.lemmas.Option.{slice_get_within}
 use Rattle.bus_batch.specs.declared.messages.Mark.{Mark}
-use Rattle.bus_core.specs.Senders.{Sender, Situation, Does, Scans, Clears, situation}
+use Rattle.bus_core.specs.Senders.{Sender, Situation, Does, Scans, Clears, ReadsPassed}
+use Rattle.bus_core.specs.Senders.{situation}
 use Rattle.bus_core.specs.Table.{Line, line_now}
 use Rattle.bus_presence.specs.Reclamation.{Entry, Trails as Entries}
 use Rattle.bus_register.specs.Protocol.{Protocol}
@@ -74,12 +75,15 @@ entered_with T s q (Some o) got = by (q == s) where
 -- to the actions
 abbrev pub added : {E : Type 0} → Situation E → Line E → ℕ → ℕ → Answered → List Action
 added (Does z) l got word told = step_action l.kind l.tenure got (l.chosen got word) told
+added (ReadsPassed t p) l got word told =
+    step_action l.kind l.tenure got (l.chosen got word) told
 added z l got word told = []
 
 pub added_is : {E : Type 0} (z : Situation E) (l : Line E) (s got word : ℕ) (told : Answered)
     (T : Trails) → (turn_trails z l s got word told T).actions
     ≡ actions_with s (added z l got word told) T.actions
 added_is (Does z) l s got word told T = refl
+added_is (ReadsPassed t p) l s got word told T = refl
 added_is z l s got word told T = refl
 
 -- to the steps of the pin
@@ -87,6 +91,7 @@ abbrev pub pins_added : {E : Type 0} → Situation E → Option Op → ℕ → L
 pins_added (Does z) o got = []
 pins_added (Scans r) o got = []
 pins_added (Clears r) o got = []
+pins_added (ReadsPassed t p) o got = []
 pins_added z o got = entries_of o got
 
 pins_are : {E : Type 0} (z : Situation E) (l : Line E) (s got word : ℕ) (told : Answered)
@@ -95,6 +100,7 @@ pins_are : {E : Type 0} (z : Situation E) (l : Line E) (s got word : ℕ) (told 
 pins_are (Does z) l s got word told T q = nothing_joins (q == s) (T.pins q)
 pins_are (Scans r) l s got word told T q = nothing_joins (q == s) (T.pins q)
 pins_are (Clears r) l s got word told T q = nothing_joins (q == s) (T.pins q)
+pins_are (ReadsPassed t p) l s got word told T q = nothing_joins (q == s) (T.pins q)
 pins_are z l s got word told T q = entered_with T.pins s q (l.op word) got
 
 -- ---- one event

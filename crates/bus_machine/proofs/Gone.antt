@@ -8,7 +8,7 @@ use Rattle.std.proofs.lemmas.List.Elements.{filter-append}
 use Rattle.bus_core.proofs.Situated.{own_is}
 use Rattle.bus_core.specs.Reusing.Keeping.{held_of}
 use Rattle.bus_core.specs.Senders.{Sender, Situation, Does, Announces, Validates, Unpins}
-use Rattle.bus_core.specs.Senders.{Withdraws, Scans, Clears, situation}
+use Rattle.bus_core.specs.Senders.{Withdraws, Scans, Clears, ReadsPassed, situation}
 use Rattle.bus_core.specs.Table.{line, line_now}
 use Rattle.bus_register.specs.Protocol.{Protocol}
 use Rattle.bus_register.specs.declared.kinds.Kind.{Kind}
@@ -26,6 +26,7 @@ use Rattle.bus_world.specs.declared.events.Answer.{Answer}
 use Rattle.bus_world.specs.declared.events.Answer.TheVariants as answer
 use Rattle.bus_machine.proofs.EachSender.{added, added_is}
 use Rattle.bus_machine.proofs.Framed.{IsFramed}
+use Rattle.bus_machine.proofs.Knowing.{none_passed}
 use Rattle.bus_machine.proofs.Leading.{Sits}
 use Rattle.bus_machine.proofs.Paging.{takes_it, holds_it}
 use Rattle.bus_machine.specs.Machine.{base_of, Machine, Trails, Happens, found, has_stopped}
@@ -134,6 +135,7 @@ module _ {E : Type 0} (X : Election E) (P : Protocol E (Unit {0}) ℕ) (m : Mach
     added_stays (Withdraws n) i = refl
     added_stays (Scans r) i = refl
     added_stays (Clears r) i = refl
+    added_stays (ReadsPassed n p) i = absurd (none_passed X P m T f s v at sits.ok n p i)
 
   -- ---- whatever happens
   pub event_stays : (e : Event) (a : Answer) (m' : Machine E) → Happens X m e a m' → (q : ℕ)

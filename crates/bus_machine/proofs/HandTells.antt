@@ -5,7 +5,9 @@ use Rattle.std.proofs.Common.{refl, sym, ◌∙◌, ap, subst}
 use Rattle.std.specs.Prelude.{IsSomeAnd}
 use Rattle.bus_core.specs.Keeping.{core_without}
 use Rattle.bus_core.specs.Senders.{Sender, Situation, Does, Announces, Validates, Unpins}
-use Rattle.bus_core.specs.Senders.{Withdraws, Scans, Clears, situation, situation_by, pinning}
+use Rattle.bus_core.specs.Senders.{Withdraws, Scans, Clears, ReadsPassed, situation}
+use Rattle.bus_core.specs.Senders.{situation_by, pinning}
+use Rattle.bus_core.specs.Reusing.Passing.{passing_left}
 use Rattle.bus_core.specs.Table.{line, line_now}
 use Rattle.bus_core.specs.Telling.{FeedTells, LosesBy, GivesReady, IsBehind}
 use Rattle.bus_core.specs.declared.reuses.Reuse.{Reuse}
@@ -71,10 +73,11 @@ module _ {E : Type 0} (X : Election E) (v : Sender E) (word n t : ℕ) (page : P
   g = record v { core = record v.core { phase = phase.Giving t reason } }
 
   own : situation_of X v.core ≡ GivesBack t page reason
-  own = own_of v.reuse (situation_of X v.core) (GivesBack t page reason) here
+  own = own_of v.core.layout.passers v.reuse (situation_of X v.core) (GivesBack t page reason) here
 
   now : situation X g ≡ Does (HasHanded t reason)
-  now = handed_by v.reuse (situation_of X v.core) (GivesBack t page reason) t reason here
+  now = handed_by v.core.layout.passers v.reuse (situation_of X v.core) (GivesBack t page reason) t
+      reason here
 
   abbrev storing : Op
   storing = Store record { 0 = stage_at } (2 * t + 2)
@@ -128,11 +131,12 @@ module _ {E : Type 0} (X : Election E) (v : Sender E) (word n t : ℕ) (page : P
   not_behind u p (Some r) w = let bad = sym stores_now ∙ w.loads in cc
 
   looks_twice : (u : ℕ) (r : Option Reuse) (z : Own E) → IsSomeAnd r (λ q. q.pin ≡ Validating u)
-      → situation_by r z ≡ Does (GivesBack t page reason) → ⊥
+      → situation_by v.core.layout.passers r z ≡ Does (GivesBack t page reason) → ⊥
   looks_twice u None z w e = w
   looks_twice u (Some r) z w e =
       let bad : Validates u ≡ Does (GivesBack t page reason) =
-      sym (ap (λ p. pinning p r.reclaimer z) w) ∙ e in
+      sym (ap (λ p. pinning p (passing_left v.core.layout.passers r.passed) r.reclaimer z) w)
+      ∙ e in
       cc
 
   gives_too : (a : Answered) → FeedTells X g n word a → FeedTells X v n word a
@@ -218,6 +222,7 @@ module _ {E : Type 0} (X : Election E) (v : Sender E) (word : ℕ) (cells : List
   tells_before (Withdraws t) i w = w
   tells_before (Scans s) i w = w
   tells_before (Clears s) i w = w
+  tells_before (ReadsPassed t p) i w = w
 
   pub tells_so : (handed : Sender E) → handed ≡ given (line_now X v).move
       → StepTells X cells handed ((line_now X handed).op word) word a

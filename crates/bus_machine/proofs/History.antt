@@ -7,7 +7,7 @@ use Rattle.bus_register.specs.Protocol.{Protocol}
 use Rattle.bus_tenure.specs.Core.{Election}
 use Rattle.bus_tenure.specs.declared.turns.Turn.{Turn as Answered}
 use Rattle.bus_core.specs.Senders.{Sender, Situation, Does, Announces, Validates, Unpins}
-use Rattle.bus_core.specs.Senders.{Withdraws, Scans, Clears, situation}
+use Rattle.bus_core.specs.Senders.{Withdraws, Scans, Clears, ReadsPassed, situation}
 use Rattle.bus_core.specs.Table.{Line, line_now}
 use Rattle.bus_world.specs.Log.{words_read_from}
 use Rattle.bus_world.specs.World.{Event, Put, Ask, Turn, Recv, Stop}
@@ -33,6 +33,7 @@ turn_log (Unpins t) l s got word told T = refl
 turn_log (Withdraws t) l s got word told T = refl
 turn_log (Scans r) l s got word told T = refl
 turn_log (Clears r) l s got word told T = refl
+turn_log (ReadsPassed t p) l s got word told T = refl
 
 -- with each event the log of the trails grows by the words that join
 pub trails_join :

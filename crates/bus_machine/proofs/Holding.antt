@@ -78,6 +78,7 @@ module _ {E : Type 0} (X : Election E) where
         rows =
             subst (λ x. AreRows x m'.reuse) (sym i.0) (subst (AreRows m.layout) (sym i.1) h.rows);
         capacity_few = subst (λ x. x.capacity ≤ 65536) (sym i.0) h.capacity_few;
+        passers_none = ap (λ x. x.passers) i.0 ∙ h.passers_none;
         senders = many_after m m' e a d ∙ h.senders ∙ sym (ap (λ x. x.senders) i.0);
         trails = trails_grown X m e a h.trails;
         reached = Then m m' h.trails e a h.reached d;
@@ -159,16 +160,18 @@ module _ {E : Type 0} (X : Election E) (P : Protocol E (Unit {0}) ℕ) (m : Mach
 module _ {E : Type 0} (X : Election E) (P : Protocol E (Unit {0}) ℕ) where
   -- ---- its sizes are served
   layout_ok : (x : Layout) (o : Option ℕ) → x.senders ≤ MOST_SENDERS → x.capacity ≤ 65536
-      → AreRows x o → IsLayout x
-  layout_ok x None few small r = record {
+      → x.passers ≡ 0 → AreRows x o → IsLayout x
+  layout_ok x None few small none r = record {
     senders = few;
     rows = omega arith;
     capacity = omega arith;
+    passers = none;
   }
-  layout_ok x (Some rows) few small r = record {
+  layout_ok x (Some rows) few small none r = record {
     senders = few;
     rows = (let e = r.1 in omega arith);
     capacity = omega arith;
+    passers = none;
   }
 
   has_rows : (x : Layout) (o : Option ℕ) → AreRows x o → HasRows o
@@ -178,7 +181,7 @@ module _ {E : Type 0} (X : Election E) (P : Protocol E (Unit {0}) ℕ) where
   pub sits : (m : Machine E) → Serves X P m.layout → IsHeld X m → Sits X P m
   sits m s h = record {
     serves = s;
-    ok = layout_ok m.layout m.reuse h.senders_few h.capacity_few h.rows;
+    ok = layout_ok m.layout m.reuse h.senders_few h.capacity_few h.passers_none h.rows;
     rows = has_rows m.layout m.reuse h.rows;
   }
 

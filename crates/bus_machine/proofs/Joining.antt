@@ -13,7 +13,9 @@ use Rattle.bus_core.proofs.Situated.{own_is}
 use Rattle.bus_core.specs.Reusing.Keeping.{held_of}
 use Rattle.bus_core.specs.Reusing.Participants.{log_from, sizes_with}
 use Rattle.bus_core.specs.Senders.{Sender, Situation, Does, Announces, Validates, Unpins}
-use Rattle.bus_core.specs.Senders.{Withdraws, Scans, Clears, log_start, situation_by, situation}
+use Rattle.bus_core.specs.Senders.{Withdraws, Scans, Clears, ReadsPassed, log_start}
+use Rattle.bus_core.specs.Senders.{passed_start, situation_by, situation}
+use Rattle.bus_core.specs.declared.limits.TheConstants.{PASSED_APART}
 use Rattle.bus_core.specs.Table.{Line, line, in_row, presence_of}
 use Rattle.bus_core.specs.declared.reuses.Reuse.{Reuse}
 use Rattle.bus_ownerbits.proofs.ElectionSteps.{row_within}
@@ -26,7 +28,7 @@ use Rattle.bus_register.specs.Words.{register}
 use Rattle.bus_register.specs.declared.registers.Op.{Op}
 use Rattle.bus_register.specs.declared.registers.Op.TheVariants.{Load, Store}
 use Rattle.bus_tenure.proofs.Situated.{tells}
-use Rattle.bus_tenure.specs.Core.{Election, Layout, stage_at, log_at, frame_len, has_room}
+use Rattle.bus_tenure.specs.Core.{Election, Layout, stage_at, log_at, cell_of, frame_len, has_room}
 use Rattle.bus_tenure.specs.Situations.{Situation as Own, IsClosed, IsIdle, IsSpent, LooksAtStage}
 use Rattle.bus_tenure.specs.Situations.{Elects, TakesPage, AwaitsPage, StoresWord, StoresLength}
 use Rattle.bus_tenure.specs.Situations.{GivesBack, HasHanded, situation_at, situation_of}
@@ -69,11 +71,12 @@ log_behind x None = omega arith
 log_behind x (Some rows) = omega arith
 
 -- in another situation than those of its tenure a sender uses rows again
-pub reused : {E : Type 0} (o : Option Reuse) (y : Own E) (w : Situation E) → situation_by o y ≡ w
+pub reused : {E : Type 0} (n : ℕ) (o : Option Reuse) (y : Own E) (w : Situation E)
+    → situation_by n o y ≡ w
     → ((z : Own E) → Does z ≡ w → ⊥)
     → (r : Reuse) × (o ≡ Some r)
-reused None y w i other = absurd (other y i)
-reused (Some r) y w i other = (r, refl)
+reused n None y w i other = absurd (other y i)
+reused n (Some r) y w i other = (r, refl)
 
 -- a frame has a word
 some_words : (x : ℕ) (xs : List ℕ) → 0 < length (x ∷ xs)
@@ -369,7 +372,7 @@ module _ {E : Type 0} (X : Election E) (P : Protocol E (Unit {0}) ℕ) (m m' : M
       → (line X v z).publishes ≡ None
       → (line X v z).op word ≡ Some (Store record { 0 = presence_of v.core } n) → Turned z
   presences z n i other none due =
-      let r = reused v.reuse (situation_of X v.core) z i other in
+      let r = reused v.core.layout.passers v.reuse (situation_of X v.core) z i other in
       beside z (Store record { 0 = presence_of v.core } n) none due (omega arith)
       (inl (presence_before r.0 r.1))
 
@@ -386,8 +389,9 @@ module _ {E : Type 0} (X : Election E) (P : Protocol E (Unit {0}) ℕ) (m m' : M
   by_turn (Does (AwaitsPage t)) i = idles (Does (AwaitsPage t)) refl refl
   by_turn (Does (StoresWord t page stored)) i =
       let behind = log_behind m.layout m.reuse in
-      let o : Op = Store record { 0 = log_start v.core.layout v.reuse + page.words + stored }
-      (slice_index (frame_words (frame_of v.core.queue t)) stored) in
+      let o : Op = Store record {
+        0 = log_start v.core.layout v.reuse + cell_of v.core.layout (page.words + stored);
+      } (slice_index (frame_words (frame_of v.core.queue t)) stored) in
       let place = past X P m T f s v at t page stored word o i (ap (λ z. (line X v z).op word) i) in
       beside (Does (StoresWord t page stored)) o refl refl (omega arith) (inr (omega arith))
   by_turn (Does (StoresLength t page stored)) i = publishes t page stored i
@@ -405,8 +409,12 @@ module _ {E : Type 0} (X : Election E) (P : Protocol E (Unit {0}) ℕ) (m m' : M
   by_turn (Unpins t) i = presences (Unpins t) 0 i (λ y e. cc) refl refl
   by_turn (Withdraws t) i = presences (Withdraws t) 0 i (λ y e. cc) refl refl
   by_turn (Scans q) i = loads (Scans q) (q.presences + q.scanned) i refl refl
+  by_turn (ReadsPassed t p) i = loads (ReadsPassed t p)
+      (passed_start v.core.layout v.reuse + PASSED_APART * p.loaded) i refl refl
   by_turn (Clears q) i =
-      let r = reused v.reuse (situation_of X v.core) (Clears q) i (λ y e. cc) in clears r.0 r.1 q i
+      let r =
+      reused v.core.layout.passers v.reuse (situation_of X v.core) (Clears q) i (λ y e. cc) in
+      clears r.0 r.1 q i
 
   -- so of the turn that it takes
   turned : (log_of m' ≡ log_of m ++ words_joined X m (Turn s word)) × (stage_of m ≤ stage_of m')

@@ -10,9 +10,10 @@ use Rattle.bus_batch.proofs.FrameLaws.{spells_one}
 use Rattle.bus_batch.specs.Batches.{frame_of}
 use Rattle.bus_batch.specs.Frames.{Order, Spells, AreFrames, order_of, log_words, tenure_and_owner}
 use Rattle.bus_batch.specs.Frames.{frame_words, has_gone}
-use Rattle.bus_core.proofs.Situated.{own_is}
+use Rattle.bus_core.proofs.Situated.{own_is, never_passes}
 use Rattle.bus_core.specs.Reusing.Keeping.{held_of}
-use Rattle.bus_core.specs.Senders.{Sender, Does, log_start, situation}
+use Rattle.bus_core.specs.Senders.{Sender, Does, ReadsPassed, log_start, situation}
+use Rattle.bus_core.specs.declared.reuses.Passing.{Passing}
 use Rattle.bus_core.specs.Table.{line, line_now}
 use Rattle.bus_machine.proofs.Taking.{takers_one}
 use Rattle.bus_deliverylog.specs.Orders.{of_sender}
@@ -22,8 +23,9 @@ use Rattle.bus_register.specs.Words.{register}
 use Rattle.bus_register.specs.declared.registers.Op.{Op}
 use Rattle.bus_register.specs.declared.registers.Op.TheVariants.{Store}
 use Rattle.bus_register.specs.declared.registers.SenderNo.{SenderNo}
+use Rattle.bus_tenure.proofs.Fitting.{word_straight}
 use Rattle.bus_tenure.proofs.Situated.{tells}
-use Rattle.bus_tenure.specs.Core.{Core, Election, log_at, frame_len}
+use Rattle.bus_tenure.specs.Core.{Core, Election, Layout, log_at, cell_of, frame_len}
 use Rattle.bus_tenure.specs.Situations.{StoresWord, situation_at, situation_of}
 use Rattle.bus_tenure.specs.declared.pages.Page.{Page}
 use Rattle.bus_tenure.specs.declared.phases.Phase.{Phase}
@@ -35,6 +37,7 @@ use Rattle.bus_world.specs.Proved.Sending.{Part, Fits, IsWriting, standing_of, s
 use Rattle.bus_world.specs.Proved.Tenures.Stage.{Open, Held}
 use Rattle.bus_world.specs.Proved.Tenures.{Standing}
 use Rattle.bus_world.specs.Proved.Tenures.Standing.{Holds}
+use Rattle.bus_world.specs.World.{IsLayout}
 use Rattle.bus_machine.proofs.Framed.{IsFramed, log_framed}
 use Rattle.bus_machine.proofs.AtHome.{held_stands}
 use Rattle.bus_machine.specs.Machine.{base_of, Machine, Trails, log_place, log_of}
@@ -260,6 +263,12 @@ module _ {E : Type 0} (X : Election E) (P : Protocol E (Unit {0}) ℕ) (m : Mach
     pub its_part : Part (base_of m) m.layout f.V f.frames p v.core
     its_part = f.sending.parts p v.core (f.core_of p v at)
 
+    -- it loads no passed place
+    pub none_passed : IsLayout m.layout → (t : ℕ) (q : Passing) → situation X v ≡ ReadsPassed t q
+        → ⊥
+    none_passed ok =
+        never_passes X v (ap (λ (x : Layout). x.passers) its_part.layout ∙ ok.passers)
+
     -- its log begins where that of the machine does
     pub its_start : log_start v.core.layout v.reuse ≡ log_place m.layout m.reuse
     its_start = ap (λ x. log_start x v.reuse) its_part.layout ∙ f.starts p v at
@@ -291,8 +300,13 @@ module _ {E : Type 0} (X : Election E) (P : Protocol E (Unit {0}) ℕ) (m : Mach
         let w = writes t page stored (ph.1 ∙ ap (phase.Holding t page stored) fresh) in
         let knows : page.words ≡ slice_index m.words 0 = w.page_knows.words ∙ sym f.length in
         let due : (line_now X v).op word
-        ≡ Some (Store record { 0 = log_start v.core.layout v.reuse + page.words + stored }
-        (slice_index (frame_words (frame_of v.core.queue t)) stored)) =
+        ≡ Some (Store record {
+          0 = log_start v.core.layout v.reuse + cell_of v.core.layout (page.words + stored);
+        } (slice_index (frame_words (frame_of v.core.queue t)) stored)) =
         ap (λ z. (line X v z).op word) i in
-        ap register (same_Some _ _ (sym next ∙ due)) ∙ ap (λ n. n + page.words + stored) its_start
-        ∙ ap (λ n. log_place m.layout m.reuse + n + stored) knows
+        let straight = word_straight X v.core t page stored own w.page_knows.floor in
+        let place : register o
+        ≡ log_place m.layout m.reuse + cell_of v.core.layout (page.words + stored) =
+        ap register (same_Some _ _ (sym next ∙ due))
+        ∙ ap (λ n. n + cell_of v.core.layout (page.words + stored)) its_start in
+        omega arith

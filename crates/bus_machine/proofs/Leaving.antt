@@ -3,7 +3,7 @@ use Rattle.std.proofs.Common.{◌≡◌, ◌≢◌, ℕ, ◌+◌, ◌*◌, ◌<�
 use Rattle.std.proofs.Common.{slice_index, slice_set, arith, refl, ◌∙◌, ap, subst}
 use Rattle.std.proofs.lemmas.List.{get_or-set_same}
 use Rattle.bus_core.specs.Senders.{Sender, Situation, Does, Announces, Validates, Unpins}
-use Rattle.bus_core.specs.Senders.{Withdraws, Scans, Clears, situation}
+use Rattle.bus_core.specs.Senders.{Withdraws, Scans, Clears, ReadsPassed, situation}
 use Rattle.bus_core.specs.Table.{line, line_now}
 use Rattle.bus_core.specs.Reusing.Keeping.{held_of}
 use Rattle.bus_machine.proofs.Own.{own_of}
@@ -98,10 +98,11 @@ module _ {E : Type 0} (X : Election E) (m m' : Machine E) (T T' : Trails) (e : E
         (same_half (stage_of m) u t (p.by.finds s v u at i).stage opened))
     by_turn (Does (AwaitsPage u)) i = held u (ap held_of
         (phase_tells X v.core (AwaitsPage u)
-        (own_of v.reuse (situation_of X v.core) (AwaitsPage u) i)))
+        (own_of v.core.layout.passers v.reuse (situation_of X v.core) (AwaitsPage u) i)))
     by_turn (Does (GivesBack u page reason)) i = held u
         (ap held_of (phase_tells X v.core (GivesBack u page reason)
-        (own_of v.reuse (situation_of X v.core) (GivesBack u page reason) i)).2)
+        (own_of v.core.layout.passers v.reuse (situation_of X v.core) (GivesBack u page reason)
+        i)).2)
     by_turn (Does IsClosed) i = quiet (Does IsClosed) i refl
     by_turn (Does IsIdle) i = quiet (Does IsIdle) i refl
     by_turn (Does IsSpent) i = quiet (Does IsSpent) i refl
@@ -116,6 +117,7 @@ module _ {E : Type 0} (X : Election E) (m m' : Machine E) (T T' : Trails) (e : E
     by_turn (Withdraws u) i = quiet (Withdraws u) i refl
     by_turn (Scans r) i = quiet (Scans r) i refl
     by_turn (Clears r) i = quiet (Clears r) i refl
+    by_turn (ReadsPassed u p) i = quiet (ReadsPassed u p) i refl
 
 pub opens_only :
     {E : Type 0} (X : Election E) (m m' : Machine E) (T T' : Trails) (e : Event) (a : Answer)

@@ -7,9 +7,12 @@ use Rattle.std.proofs.lemmas.Bool.Decides.{eqb_tells}
 use Rattle.std.proofs.lemmas.Option.{same_Some, slice_get_within}
 use Rattle.bus_core.specs.Keeping.{new_reuse}
 use Rattle.bus_core.specs.Senders.{Sender, Situation, Does, Announces, Validates, Unpins}
-use Rattle.bus_core.specs.Senders.{Withdraws, Scans, Clears, pinning, situation_by, situation}
+use Rattle.bus_core.specs.Senders.{Withdraws, Scans, Clears, ReadsPassed, pinning}
+use Rattle.bus_core.specs.Senders.{situation_by, situation}
+use Rattle.bus_core.specs.Reusing.Passing.{passing_left, passing_fed}
+use Rattle.bus_core.specs.declared.reuses.Passing.{Passing}
 use Rattle.bus_core.specs.Table.{line, line_now, lost_of, seen, reuse_elected, reuse_taken}
-use Rattle.bus_core.specs.Table.{reuse_given, reuse_pinning, reuse_reclaiming}
+use Rattle.bus_core.specs.Table.{reuse_given, reuse_pinning, reuse_reclaiming, reuse_passed}
 use Rattle.bus_core.specs.declared.reuses.Reuse.{Reuse}
 use Rattle.bus_presence.specs.Reclaimers.{Reclaiming, reclaim_fed}
 use Rattle.bus_presence.specs.declared.pins.Pin.{Pin}
@@ -62,6 +65,12 @@ reclaiming_lost : (q : Option Reuse) (r : Reclaiming) (o : SenderNo)
 reclaiming_lost None r o lost = lost
 reclaiming_lost (Some q) r o lost = lost
 
+-- with a passed place
+passed_lost : (q : Option Reuse) (p : Passing) (o : SenderNo)
+    → lost_of (reuse_passed q p) ≡ Some o → lost_of q ≡ Some o
+passed_lost None p o lost = lost
+passed_lost (Some q) p o lost = lost
+
 -- after a step of its pin it remembers none
 pinning_lost : (q : Option Reuse) (pin : Pin) (o : SenderNo)
     → lost_of (reuse_pinning q pin) ≡ Some o → ⊥
@@ -74,10 +83,10 @@ new_lost None o lost = let bad : ◌≡◌ {A = Option SenderNo} None (Some o) =
 new_lost (Some rows) o lost = let bad : ◌≡◌ {A = Option SenderNo} None (Some o) = lost in cc
 
 -- who parts from a tenure withdraws next
-unpins : {E : Type 0} (q : Option Reuse) (z : Own E) (t : ℕ) → pin_of q ≡ Unpinning t
-    → situation_by q z ≡ Unpins t
-unpins None z t e = absurd cc
-unpins (Some q) z t e = ap (λ u. pinning u q.reclaimer z) e
+unpins : {E : Type 0} (n : ℕ) (q : Option Reuse) (z : Own E) (t : ℕ) → pin_of q ≡ Unpinning t
+    → situation_by n q z ≡ Unpins t
+unpins n None z t e = absurd cc
+unpins n (Some q) z t e = ap (λ u. pinning u (passing_left n q.passed) q.reclaimer z) e
 
 -- ---- one event
 module _ {E : Type 0} (X : Election E) (m m' : Machine E) (T : Trails) (e : Event) (a : Answer)
@@ -144,7 +153,11 @@ module _ {E : Type 0} (X : Election E) (P : Protocol E (Unit {0}) ℕ) (m m' : M
   -- who remembers an owner withdraws next
   withdraws : (o : SenderNo) → lost_of v.reuse ≡ Some o → (t : ℕ) × (situation X v ≡ Unpins t)
   withdraws o lost =
-      let w = l s v o at lost in (w.tenure, unpins v.reuse (situation_of X v.core) w.tenure w.parts)
+      let w = l s v o at lost in (
+        w.tenure,
+        unpins v.core.layout.passers v.reuse (situation_of X v.core) w.tenure
+            w.parts,
+      )
 
   -- whose turn is another remembers none
   kept : (z : Situation E) → situation X v ≡ z → ((t : ℕ) → Unpins t ≡ z → ⊥) → (q : Option Reuse)
@@ -209,6 +222,9 @@ module _ {E : Type 0} (X : Election E) (P : Protocol E (Unit {0}) ℕ) (m m' : M
   by_turn (Clears q) i = kept (Clears q) i (λ u e. cc)
       (reuse_reclaiming v.reuse (reclaim_fed q (got (Clears q))))
       (reclaiming_lost v.reuse (reclaim_fed q (got (Clears q))))
+  by_turn (ReadsPassed t p) i = kept (ReadsPassed t p) i (λ u e. cc)
+      (reuse_passed v.reuse (passing_fed p (got (ReadsPassed t p))))
+      (passed_lost v.reuse (passing_fed p (got (ReadsPassed t p))))
 
   -- after it
   turn_losses : LossesAreSeen m' U.actions

@@ -50,6 +50,7 @@ with_width shape width = record {
   rows = shape.rows;
   width = width;
   capacity = shape.log_words;
+  passers = 0;
 }
 
 -- where the log begins
@@ -58,12 +59,17 @@ pub log_at_place :
     → w ≡ (layout_of P shape None).width
     → log_place (with_width shape w) reuse ≡ log_place (layout_of P shape reuse) reuse
 log_at_place P shape None w e = ap (λ n. 2 + shape.rows * n) e
-log_at_place P shape (Some rows) w e = ap (λ n. 2 + shape.senders + rows * n) e
+log_at_place P shape (Some rows) w e = ap (λ n. 2 + shape.senders + rows * n + 0) e
 
 pub capacity_of : {S : Type 0} (P : Protocol S Bool Verdict) (shape : Shape) (reuse : Option ℕ)
     → (layout_of P shape reuse).capacity ≡ shape.log_words
 capacity_of P shape None = refl
 capacity_of P shape (Some rows) = refl
+
+pub passers_are : {S : Type 0} (P : Protocol S Bool Verdict) (shape : Shape) (reuse : Option ℕ)
+    → (layout_of P shape reuse).passers ≡ 0
+passers_are P shape None = refl
+passers_are P shape (Some rows) = refl
 
 pub senders_are : {S : Type 0} (P : Protocol S Bool Verdict) (shape : Shape) (reuse : Option ℕ)
     → (layout_of P shape reuse).senders ≡ shape.senders
@@ -135,6 +141,7 @@ made_held X P shape reuse served same m new layout_is reuse_is many = record {
   capacity_few =
       (let a = ap (λ (x : Layout). x.capacity) layout_is ∙ capacity_of P shape reuse in
       let b = served.log_words.1 in omega arith);
+  passers_none = ap (λ (x : Layout). x.passers) layout_is ∙ passers_are P shape reuse;
   senders = many ∙ sym (ap (λ (x : Layout). x.senders) layout_is ∙ senders_are P shape reuse);
   trails = no_machine_trails;
   reached = New m new;

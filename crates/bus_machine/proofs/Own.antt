@@ -1,6 +1,10 @@
 -- Where a sender goes on in its tenure or before it, its situation is the one that it has there.
-use Rattle.std.proofs.Common.{◌≡◌, Bool, true, false, cond, Option, Some, None, nat_lt}
-use Rattle.bus_core.specs.Senders.{Does, Scans, Clears, reclaiming, at_home, pinning, situation_by}
+use Rattle.std.proofs.Common.{◌≡◌, ℕ, Bool, true, false, cond, Option, Some, None, nat_lt}
+use Rattle.bus_core.specs.Senders.{Does, Scans, Clears, reclaiming, at_home, pinning}
+use Rattle.bus_core.specs.Senders.{situation_by}
+use Rattle.bus_core.proofs.Situated.{passing_is}
+use Rattle.bus_core.specs.Reusing.Passing.{passing_left}
+use Rattle.bus_core.specs.declared.reuses.Passing.{Passing}
 use Rattle.bus_core.specs.declared.reuses.Reuse.{Reuse}
 use Rattle.bus_presence.specs.Reclaimers.{Reclaiming}
 use Rattle.bus_presence.specs.declared.pins.Pin.{Pin}
@@ -22,27 +26,31 @@ module _ {E : Type 0} where
   by_reclaimer (Some s) w z i =
       by_reclaimed s w z (nat_lt s.scanned s.senders) (nat_lt s.cleared s.width) i
 
-  by_home : (s : Option Reclaiming) (w z : Own E) → at_home s w ≡ Does z → w ≡ z
-  by_home s (GivesBack t page reason) z i = by_reclaimer s (GivesBack t page reason) z i
-  by_home s IsClosed z i = cc
-  by_home s IsIdle z i = cc
-  by_home s IsSpent z i = cc
-  by_home s LooksAtStage z i = cc
-  by_home s (Elects t e) z i = cc
-  by_home s (TakesPage t) z i = cc
-  by_home s (AwaitsPage t) z i = cc
-  by_home s (StoresWord t page stored) z i = cc
-  by_home s (StoresLength t page stored) z i = cc
-  by_home s (HasHanded t reason) z i = cc
+  by_home : (l : Option Passing) (s : Option Reclaiming) (w z : Own E) → at_home l s w ≡ Does z
+      → w ≡ z
+  by_home l s (GivesBack t page reason) z i =
+      by_reclaimer s (GivesBack t page reason) z
+      (passing_is l t reason (reclaiming s (GivesBack t page reason)) (Does z) (λ u p e. cc) i)
+  by_home l s IsClosed z i = cc
+  by_home l s IsIdle z i = cc
+  by_home l s IsSpent z i = cc
+  by_home l s LooksAtStage z i = cc
+  by_home l s (Elects t e) z i = cc
+  by_home l s (TakesPage t) z i = cc
+  by_home l s (AwaitsPage t) z i = cc
+  by_home l s (StoresWord t page stored) z i = cc
+  by_home l s (StoresLength t page stored) z i = cc
+  by_home l s (HasHanded t reason) z i = cc
 
-  by_pin : (u : Pin) (s : Option Reclaiming) (w z : Own E) → pinning u s w ≡ Does z → w ≡ z
-  by_pin Away s w z i = by_home s w z i
-  by_pin (Announcing t) s w z i = absurd cc
-  by_pin (Validating t) s w z i = absurd cc
-  by_pin (Pinned t) s w z i = by_home s w z i
-  by_pin (Unpinning t) s w z i = absurd cc
-  by_pin (Invalidated t) s w z i = absurd cc
+  by_pin : (u : Pin) (l : Option Passing) (s : Option Reclaiming) (w z : Own E)
+      → pinning u l s w ≡ Does z → w ≡ z
+  by_pin Away l s w z i = by_home l s w z i
+  by_pin (Announcing t) l s w z i = absurd cc
+  by_pin (Validating t) l s w z i = absurd cc
+  by_pin (Pinned t) l s w z i = by_home l s w z i
+  by_pin (Unpinning t) l s w z i = absurd cc
+  by_pin (Invalidated t) l s w z i = absurd cc
 
-  pub own_of : (r : Option Reuse) (w z : Own E) → situation_by r w ≡ Does z → w ≡ z
-  own_of None w z i = cc
-  own_of (Some r) w z i = by_pin r.pin r.reclaimer w z i
+  pub own_of : (n : ℕ) (r : Option Reuse) (w z : Own E) → situation_by n r w ≡ Does z → w ≡ z
+  own_of n None w z i = cc
+  own_of n (Some r) w z i = by_pin r.pin (passing_left n r.passed) r.reclaimer w z i

@@ -9,7 +9,7 @@ use Rattle.std.proofs.lemmas.List.{append-nil}
 use Rattle.bus_core.proofs.Situated.{IsCalm, GoesCalmly, situation_tells}
 use Rattle.bus_core.specs.Keeping.{new_reuse}
 use Rattle.bus_core.specs.Senders.{Sender, Situation, Does, Announces, Validates, Unpins, Withdraws}
-use Rattle.bus_core.specs.Senders.{Scans, Clears, situation}
+use Rattle.bus_core.specs.Senders.{Scans, Clears, ReadsPassed, situation}
 use Rattle.bus_core.specs.Table.{line, line_now, seen, presence_of, reuse_elected, reuse_taken}
 use Rattle.bus_core.specs.Table.{reuse_given, reuse_pinning, reuse_reclaiming}
 use Rattle.bus_core.specs.declared.reuses.Reuse.{Reuse}
@@ -31,10 +31,12 @@ use Rattle.bus_tenure.specs.declared.phases.Phase.TheVariants as phase
 use Rattle.bus_world.specs.Headline.{Action}
 use Rattle.bus_world.specs.Turning.{after_step, core_moved, core_with_page}
 use Rattle.bus_world.specs.World.{Turn}
+use Rattle.bus_machine.proofs.Framed.{framed}
 use Rattle.bus_machine.proofs.EachSender.{OfEach, pins_added, each}
 use Rattle.bus_machine.proofs.Entering.{entry, entry_from, entry_in, may_enter, pin_is}
 use Rattle.bus_machine.proofs.Entering.{phase_tells, stands_in, enters}
 use Rattle.bus_machine.proofs.Growing.{rises}
+use Rattle.bus_machine.proofs.Knowing.{none_passed}
 use Rattle.bus_machine.proofs.Leading.{Sits}
 use Rattle.bus_machine.specs.Bounding.{named_by, is_tenure, pins_from, steps_of_pin, IsNamedFirst}
 use Rattle.bus_machine.specs.Bounding.{PinsAreBounded}
@@ -424,6 +426,8 @@ module _ {E : Type 0} (X : Election E) (P : Protocol E (Unit {0}) ℕ) (m : Mach
   by_turn (Clears q) i =
       subst (λ u. Pins (entry v.core) u stage now) (sym (reclaiming_same v.reuse _))
       still
+  by_turn (ReadsPassed t q) i =
+      absurd (none_passed X P m T (framed X P m T sits reached) p v at sits.ok t q i)
   by_turn z i = still
 
 -- ---- of all senders

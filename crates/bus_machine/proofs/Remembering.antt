@@ -21,7 +21,7 @@ use Rattle.bus_core.specs.Keeping.{queue_of}
 use Rattle.bus_core.specs.Reusing.Turns.{queue_seen, tenure_begun_by}
 use Rattle.bus_core.specs.Seen.{begun_by}
 use Rattle.bus_core.specs.Senders.{Sender, Situation, Does, Announces, Validates, Unpins}
-use Rattle.bus_core.specs.Senders.{Withdraws, Scans, Clears, situation}
+use Rattle.bus_core.specs.Senders.{Withdraws, Scans, Clears, ReadsPassed, situation}
 use Rattle.bus_core.specs.Table.{Line, line, line_now, seen}
 use Rattle.bus_core.specs.declared.reuses.Reuse.{Reuse}
 use Rattle.bus_deliverylog.specs.Orders.{of_sender}
@@ -67,7 +67,7 @@ use Rattle.bus_machine.proofs.Ending.{ended_of, left_of, still_ended, still_left
 use Rattle.bus_machine.proofs.Entering.{entry, entry_from}
 use Rattle.bus_machine.proofs.Framed.{IsFramed, framed}
 use Rattle.bus_machine.proofs.Growing.{grows, rises}
-use Rattle.bus_machine.proofs.Knowing.{order_same}
+use Rattle.bus_machine.proofs.Knowing.{order_same, none_passed}
 use Rattle.bus_machine.proofs.Leading.{Sits, sits_before, sits_after}
 use Rattle.bus_machine.proofs.PinBounds.{PinFits, kept_of}
 use Rattle.bus_machine.proofs.Staying.{grown_longer}
@@ -326,6 +326,8 @@ turn_asks (Unpins t) l got word told = nothing_asks
 turn_asks (Withdraws t) l got word told = nothing_asks
 turn_asks (Scans r) l got word told = nothing_asks
 turn_asks (Clears r) l got word told = nothing_asks
+turn_asks (ReadsPassed t p) l got word told =
+    step_asks l.kind l.tenure got (l.chosen got word) told
 
 -- what was asked for with more actions that ask for none was asked for before
 asked_before : (xs ds : List Action) → AsksNone ds → (asked : Mark) → Asked asked (xs ++ ds)
@@ -658,6 +660,7 @@ module _ {E : Type 0} (X : Election E) (P : Protocol E (Unit {0}) ℕ) (m m' : M
   by_turn (Withdraws t) i = good v.core (λ j. j) refl refl
   by_turn (Scans q) i = good v.core (λ j. j) refl refl
   by_turn (Clears q) i = good v.core (λ j. j) refl refl
+  by_turn (ReadsPassed t p) i = absurd (none_passed X P m T f s v at sits.ok t p i)
 
   turn_recalls : AllRecall m' U
   turn_recalls =

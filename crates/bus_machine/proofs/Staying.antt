@@ -11,7 +11,7 @@ use Rattle.bus_batch.proofs.FrameLaws.{same_frame}
 use Rattle.bus_batch.specs.Frames.{Frame, Order, AreFrames, AreFramesFrom, frame_words, log_words}
 use Rattle.bus_batch.specs.Frames.{order_of, tenure_and_owner, Spells}
 use Rattle.bus_core.specs.Senders.{Sender, Situation, Does, Announces, Validates, Unpins}
-use Rattle.bus_core.specs.Senders.{Withdraws, Scans, Clears, situation}
+use Rattle.bus_core.specs.Senders.{Withdraws, Scans, Clears, ReadsPassed, situation}
 use Rattle.bus_core.specs.Table.{Line, line_now}
 use Rattle.bus_deliverylog.specs.Orders.{IsPrefixOfOrder}
 use Rattle.bus_deliverylog.specs.declared.receiving.RecvTurn.{RecvTurn}
@@ -160,6 +160,10 @@ module _ {E : Type 0} (X : Election E) (m : Machine E) (T : Trails) where
   }
   turn_longer (Clears r) l s got word t = record {
     actions = longer_by s [] T.actions;
+    heard = λ q. nothing_more (T.heard q);
+  }
+  turn_longer (ReadsPassed u p) l s got word t = record {
+    actions = longer_by s _ T.actions;
     heard = λ q. nothing_more (T.heard q);
   }
 

@@ -12,7 +12,7 @@ use Rattle.bus_register.specs.declared.limits.TheConstants.{MOST_SENDERS}
 use Rattle.bus_register.specs.Proved.TableLaws.{some_or_none, here_not, get_set_same, get_set_other}
 use Rattle.bus_register.specs.declared.registers.Op.{Op}
 use Rattle.bus_core.specs.Senders.{Sender, Situation, Does, Announces, Validates, Unpins}
-use Rattle.bus_core.specs.Senders.{Withdraws, Scans, Clears, situation}
+use Rattle.bus_core.specs.Senders.{Withdraws, Scans, Clears, ReadsPassed, situation}
 use Rattle.bus_core.specs.Table.{Line, line_now}
 use Rattle.bus_deliverylog.specs.Receiving.{Receiving}
 use Rattle.bus_adoptcommit.specs.declared.verdicts.Verdict.{Verdict}
@@ -242,6 +242,11 @@ module _ {E : Type 0} (X : Election E) (m : Machine E) (q s : ℕ) (ne : s ≢ q
     actions = actions_of_other q [] T.actions s ne;
     pins = refl;
     reclaims = entered_beside T.reclaims q s (l.op word) got ne;
+  }
+  line_adds (ReadsPassed u p) l got word t T = record {
+    actions = actions_of_other q _ T.actions s ne;
+    pins = refl;
+    reclaims = refl;
   }
 
   turn_adds : (o : Option (Sender E)) (word : ℕ) (a : Answer) (T : Trails)

@@ -3,7 +3,7 @@ use Rattle.std.proofs.Common.{◌≡◌, ℕ, List, [], ◌∷◌, ◌++◌, Opt
 use Rattle.std.proofs.Common.{cond, refl, sym, ◌∙◌, ap}
 use Rattle.std.proofs.lemmas.Bool.{true≢false}
 use Rattle.bus_core.specs.Senders.{Sender, Situation, Does, Announces, Validates, Unpins}
-use Rattle.bus_core.specs.Senders.{Withdraws, Scans, Clears}
+use Rattle.bus_core.specs.Senders.{Withdraws, Scans, Clears, ReadsPassed}
 use Rattle.bus_core.specs.Table.{line, answer_elected, lost_of}
 use Rattle.bus_core.specs.declared.reuses.Reuse.{Reuse}
 use Rattle.bus_core.specs.Reusing.Turns.{answer_of_loss, answer_of_reclaim}
@@ -49,6 +49,7 @@ module _ {E : Type 0} (X : Election E) (v : Sender E) where
   takes_told (Withdraws t) s owners got word = refl
   takes_told (Scans r) s owners got word = reclaimer_told s owners (behind_of r got)
   takes_told (Clears r) s owners got word = reclaimer_told s owners (behind_of r got)
+  takes_told (ReadsPassed t p) s owners got word = refl
 
 -- ---- who answers Own takes the page of that tenure
 module _ {E : Type 0} (X : Election E) (v : Sender E) (t : ℕ) where
@@ -62,6 +63,7 @@ module _ {E : Type 0} (X : Election E) (v : Sender E) (t : ℕ) where
   by_takes (Withdraws u) e = absurd (true≢false (sym e))
   by_takes (Scans s) e = absurd (true≢false (sym e))
   by_takes (Clears s) e = absurd (true≢false (sym e))
+  by_takes (ReadsPassed u p) e = absurd (true≢false (sym e))
 
   is_taken : (b : Bool) (p : ℕ) → cond b (p ∷ []) [] ≡ p ∷ [] → b ≡ true
   is_taken true p e = refl

@@ -15,7 +15,7 @@ use Rattle.bus_world.specs.Trails.{Takers, mark_actions, actions_with, step_acti
 use Rattle.bus_world.proofs.Places.{got_before, got_split}
 use Rattle.bus_world.proofs.Stopping.{shown_there}
 use Rattle.bus_core.specs.Senders.{Sender, Situation, Does, Announces, Validates, Unpins}
-use Rattle.bus_core.specs.Senders.{Withdraws, Scans, Clears, situation}
+use Rattle.bus_core.specs.Senders.{Withdraws, Scans, Clears, ReadsPassed, situation}
 use Rattle.bus_core.specs.Table.{line, line_now}
 use Rattle.bus_register.specs.Protocol.{Protocol}
 use Rattle.bus_register.specs.Proved.TableLaws.{push_here}
@@ -298,6 +298,10 @@ module _ {E : Type 0} (X : Election E) (P : Protocol E (Unit {0}) ℕ) (m : Mach
   taken (Withdraws t) i = takers_beside all T.actions s [] nothing_takes h
   taken (Scans r) i = takers_beside all T.actions s [] nothing_takes h
   taken (Clears r) i = takers_beside all T.actions s [] nothing_takes h
+  taken (ReadsPassed t p) i =
+      takers_beside all T.actions s
+      (added (ReadsPassed t p) (line X v (ReadsPassed t p)) got word told)
+      (step_takes (Some kind.ReadPassed) (Some t) got None told (λ e. cc)) h
 
 -- ---- whatever leads to a machine
 module _ {E : Type 0} (X : Election E) (P : Protocol E (Unit {0}) ℕ) where

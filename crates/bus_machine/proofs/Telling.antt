@@ -19,7 +19,9 @@ use Rattle.bus_core.specs.Reusing.Telling.{HasPublished, Published, HandsOnSent,
 use Rattle.bus_core.specs.Reusing.Telling.{FindsNoRoom, HandsOnFull}
 use Rattle.bus_core.specs.Reusing.Turns.{answer_of_loss, answer_of_reclaim}
 use Rattle.bus_core.specs.Senders.{Sender, Situation, Does, Announces, Validates, Unpins}
-use Rattle.bus_core.specs.Senders.{Withdraws, Scans, Clears, pinning, situation_by, situation}
+use Rattle.bus_core.specs.Senders.{Withdraws, Scans, Clears, ReadsPassed, pinning}
+use Rattle.bus_core.specs.Senders.{situation_by, situation}
+use Rattle.bus_core.specs.Reusing.Passing.{passing_left}
 use Rattle.bus_core.specs.Table.{lost_of, line, answer_elected}
 use Rattle.bus_core.specs.declared.reuses.Reuse.{Reuse}
 use Rattle.bus_presence.specs.Reclaimers.{behind_of}
@@ -72,10 +74,12 @@ some_messages ph n (inl some) e = some
 some_messages ph n (inr marking) e = absurd (true≢false (sym (ap is_marking marking.1) ∙ e))
 
 -- the presence of who parts from a tenure is that tenure's
-unpins_it : {E : Type 0} (q : Option Reuse) (z : Own E) (t u : ℕ) → situation_by q z ≡ Unpins t
+unpins_it : {E : Type 0} (n : ℕ) (q : Option Reuse) (z : Own E) (t u : ℕ)
+    → situation_by n q z ≡ Unpins t
     → pin_of q ≡ Unpinning u → u ≡ t
-unpins_it None z t u i e = absurd (let bad = i in cc)
-unpins_it (Some q) z t u i e = let same = sym (ap (λ p. pinning p q.reclaimer z) e) ∙ i in cc
+unpins_it n None z t u i e = absurd (let bad = i in cc)
+unpins_it n (Some q) z t u i e =
+    let same = sym (ap (λ p. pinning p (passing_left n q.passed) q.reclaimer z) e) ∙ i in cc
 
 -- ---- a turn of sender s
 module _ {E : Type 0} (X : Election E) (P : Protocol E (Unit {0}) ℕ) (m m' : Machine E) (T : Trails)
@@ -213,6 +217,7 @@ module _ {E : Type 0} (X : Election E) (P : Protocol E (Unit {0}) ℕ) (m m' : M
       → Told turn.Full
   full t ph (FindsNoRoom page stored past) fits =
       let words_are = fits.1.page_knows.words in
+      let floor = fits.1.page_knows.floor in
       let capacity_is = ap (λ (x : Layout). x.capacity) part.layout in
       let size =
       length-read (slice_index m.words) (log_place m.layout m.reuse) (slice_index m.words 0) in
@@ -240,7 +245,7 @@ module _ {E : Type 0} (X : Election E) (P : Protocol E (Unit {0}) ℕ) (m m' : M
   lost t i None is = tt
   lost t i (Some o) is =
       let w = losses X P m T sits r s v o at is in
-      let same = unpins_it v.reuse _ t w.tenure i w.parts in (
+      let same = unpins_it v.core.layout.passers v.reuse _ t w.tenure i w.parts in (
         elected_more (T.actions s) (U.actions s) t o.0 more
             (subst (λ u. Elected (T.actions s) u o.0) same w.elected),
         w.other,
@@ -251,7 +256,7 @@ module _ {E : Type 0} (X : Election E) (P : Protocol E (Unit {0}) ℕ) (m m' : M
       → (b : Option Behind) → Told (answer_of_reclaim b)
   behind z i other None = tt
   behind z i other (Some b) =
-      let again = reused v.reuse (situation_of X c) z i other in
+      let again = reused c.layout.passers v.reuse (situation_of X c) z i other in
       subst IsSome (sym (ap rows_in again.1) ∙ f.rows s v at) refl
 
   -- whatever the turn is
@@ -280,6 +285,7 @@ module _ {E : Type 0} (X : Election E) (P : Protocol E (Unit {0}) ℕ) (m m' : M
       behind (Scans q) i (λ y e. cc) (behind_of q (found m (line X v (Scans q)) word))
   by_turn (Clears q) i =
       behind (Clears q) i (λ y e. cc) (behind_of q (found m (line X v (Clears q)) word))
+  by_turn (ReadsPassed t p) i = tt
 
   -- so its answer tells what is so
   turn_told : EventTells m (log_of m) (Turn s word) a U

@@ -6,7 +6,10 @@ use Rattle.std.specs.Prelude.{◌⊎◌, IsSome, IfSome}
 use Rattle.std.proofs.lemmas.Bool.{true≢false}
 use Rattle.bus_core.specs.Keeping.{core_without}
 use Rattle.bus_core.specs.Senders.{Sender, Situation, Does, Announces, Validates, Unpins}
-use Rattle.bus_core.specs.Senders.{Withdraws, Scans, Clears, situation, situation_by, pinning}
+use Rattle.bus_core.specs.Senders.{Withdraws, Scans, Clears, ReadsPassed, situation}
+use Rattle.bus_core.specs.Senders.{situation_by, pinning}
+use Rattle.bus_core.specs.Reusing.Passing.{passing_left, passing_fed}
+use Rattle.bus_core.specs.declared.reuses.Passing.{Passing}
 use Rattle.bus_core.specs.Table.{Line, line, line_now, rest_at, in_row, seen}
 use Rattle.bus_core.specs.Telling.{FeedTells, RestTells}
 use Rattle.bus_core.specs.declared.reuses.Reuse.{Reuse}
@@ -23,6 +26,7 @@ use Rattle.bus_tenure.specs.Situations.{Situation as Own, IsClosed, IsIdle, IsSp
 use Rattle.bus_tenure.specs.Situations.{Elects, TakesPage, AwaitsPage, StoresWord, StoresLength}
 use Rattle.bus_tenure.specs.Situations.{GivesBack, HasHanded, situation_of, PageMove, Stays, Comes}
 use Rattle.bus_tenure.specs.Situations.{Returns, waits, core_begun, core_elected}
+use Rattle.bus_tenure.specs.Situations.{core_floored, phase_floored}
 use Rattle.bus_tenure.specs.declared.pages.Page.{Page}
 use Rattle.bus_tenure.specs.declared.phases.Phase.{Phase}
 use Rattle.bus_tenure.specs.declared.phases.Phase.TheVariants as phase
@@ -39,21 +43,22 @@ use Rattle.bus_machine.specs.Turning.{HasStepped, HasTurned}
 
 module _ {E : Type 0} where
   -- ---- a sender that has handed the page on
-  handed_at : (u : Pin) (s : Option Reclaiming) (w z : Own E) (t : ℕ) (reason : Reason)
-      → pinning u s w ≡ Does z
-      → pinning {E = E} u s (HasHanded t reason) ≡ Does (HasHanded t reason)
-  handed_at Away s w z t reason i = refl
-  handed_at (Announcing k) s w z t reason i = absurd cc
-  handed_at (Validating k) s w z t reason i = absurd cc
-  handed_at (Pinned k) s w z t reason i = refl
-  handed_at (Unpinning k) s w z t reason i = absurd cc
-  handed_at (Invalidated k) s w z t reason i = absurd cc
+  handed_at : (u : Pin) (l : Option Passing) (s : Option Reclaiming) (w z : Own E) (t : ℕ)
+      (reason : Reason) → pinning u l s w ≡ Does z
+      → pinning {E = E} u l s (HasHanded t reason) ≡ Does (HasHanded t reason)
+  handed_at Away l s w z t reason i = refl
+  handed_at (Announcing k) l s w z t reason i = absurd cc
+  handed_at (Validating k) l s w z t reason i = absurd cc
+  handed_at (Pinned k) l s w z t reason i = refl
+  handed_at (Unpinning k) l s w z t reason i = absurd cc
+  handed_at (Invalidated k) l s w z t reason i = absurd cc
 
-  pub handed_by : (r : Option Reuse) (w z : Own E) (t : ℕ) (reason : Reason)
-      → situation_by r w ≡ Does z
-      → situation_by {E = E} r (HasHanded t reason) ≡ Does (HasHanded t reason)
-  handed_by None w z t reason i = refl
-  handed_by (Some r) w z t reason i = handed_at r.pin r.reclaimer w z t reason i
+  pub handed_by : (n : ℕ) (r : Option Reuse) (w z : Own E) (t : ℕ) (reason : Reason)
+      → situation_by n r w ≡ Does z
+      → situation_by {E = E} n r (HasHanded t reason) ≡ Does (HasHanded t reason)
+  handed_by n None w z t reason i = refl
+  handed_by n (Some r) w z t reason i =
+      handed_at r.pin (passing_left n r.passed) r.reclaimer w z t reason i
 
   -- ---- phases in which no page is laid
   no_lay : (ph : Phase E) → (AwaitsItsPage ph → ⊥) → laying ph ≡ Stays
@@ -62,6 +67,15 @@ module _ {E : Type 0} where
   no_lay (phase.Taken t) none = absurd (none record { tenure = t; is = refl })
   no_lay (phase.Holding t page stored published) none = refl
   no_lay (phase.Giving t reason) none = refl
+
+  -- nor does a floor lay one
+  floor_lays : (least : ℕ) (ph : Phase E) → laying ph ≡ Stays
+      → laying (phase_floored least ph) ≡ Stays
+  floor_lays least phase.Resting stays = stays
+  floor_lays least (phase.Electing t e) stays = stays
+  floor_lays least (phase.Taken t) stays = stays
+  floor_lays least (phase.Holding t page stored published) stays = refl
+  floor_lays least (phase.Giving t reason) stays = stays
 
 module _ {E : Type 0} (X : Election E) (v : Sender E) where
   abbrev c : Core E
@@ -75,7 +89,7 @@ module _ {E : Type 0} (X : Election E) (v : Sender E) where
       → line_now X (given (line X v z).move)
       ≡ record (line X v z) { move = after_step (line X v z).move }
   after_hand (Does (GivesBack t page reason)) i = ap (line X (given (Returns t reason page)))
-      (handed_by v.reuse (situation_of X c) (GivesBack t page reason) t reason i)
+      (handed_by c.layout.passers v.reuse (situation_of X c) (GivesBack t page reason) t reason i)
   after_hand (Does IsClosed) i = ap (line X v) i
   after_hand (Does IsIdle) i = ap (line X v) i
   after_hand (Does IsSpent) i = ap (line X v) i
@@ -92,6 +106,7 @@ module _ {E : Type 0} (X : Election E) (v : Sender E) where
   after_hand (Withdraws t) i = ap (line X v) i
   after_hand (Scans s) i = ap (line X v) i
   after_hand (Clears s) i = ap (line X v) i
+  after_hand (ReadsPassed t p) i = ap (line X v) i
 
   -- ---- a turn without a step leaves the sender as it is, and answers that it rests
   module _ (word : ℕ)
@@ -111,7 +126,7 @@ module _ {E : Type 0} (X : Election E) (v : Sender E) where
     idle (Does IsSpent) i e = (λ got. refl, λ got. refl)
     idle (Does (AwaitsPage t)) i e = (λ got. refl, λ got. refl)
     idle (Does (Elects t k)) i e = absurd (placed c.layout v.reuse t (X.op k word)
-        (goes t k (own_of v.reuse (situation_of X c) (Elects t k) i)) e)
+        (goes t k (own_of c.layout.passers v.reuse (situation_of X c) (Elects t k) i)) e)
     idle (Does LooksAtStage) i e = absurd cc
     idle (Does (TakesPage t)) i e = absurd cc
     idle (Does (StoresWord t page stored)) i e = absurd cc
@@ -124,6 +139,7 @@ module _ {E : Type 0} (X : Election E) (v : Sender E) where
     idle (Withdraws t) i e = absurd cc
     idle (Scans s) i e = absurd cc
     idle (Clears s) i e = absurd cc
+    idle (ReadsPassed t p) i e = absurd cc
 
     pub idle_step : (cells : List ℕ) (told : Answered) → (line_now X v).op word ≡ None
         → told ≡ rest_at (line_now X v) → HasStepped (line_now X v) cells word told cells v
@@ -146,11 +162,12 @@ module _ {E : Type 0} (X : Election E) (v : Sender E) where
     rest_tells laid (Does IsSpent) i e w = elim w [ inl bad ↦ absurd cc | inr told ↦ told ]
     rest_tells laid (Does (AwaitsPage t)) i e w = absurd (laid record {
       tenure = t;
-      is = tells X c (AwaitsPage t) (own_of v.reuse (situation_of X c) (AwaitsPage t) i);
+      is = tells X c (AwaitsPage t)
+          (own_of c.layout.passers v.reuse (situation_of X c) (AwaitsPage t) i);
     })
     rest_tells laid (Does (Elects t k)) i e w = absurd
         (placed c.layout v.reuse t (X.op k word)
-        (goes t k (own_of v.reuse (situation_of X c) (Elects t k) i)) e)
+        (goes t k (own_of c.layout.passers v.reuse (situation_of X c) (Elects t k) i)) e)
     rest_tells laid (Does LooksAtStage) i e w = absurd cc
     rest_tells laid (Does (TakesPage t)) i e w = absurd cc
     rest_tells laid (Does (StoresWord t page stored)) i e w = absurd cc
@@ -163,6 +180,7 @@ module _ {E : Type 0} (X : Election E) (v : Sender E) where
     rest_tells laid (Withdraws t) i e w = absurd cc
     rest_tells laid (Scans s) i e w = absurd cc
     rest_tells laid (Clears s) i e w = absurd cc
+    rest_tells laid (ReadsPassed t p) i e w = absurd cc
 
     pub idle_tells : (AwaitsItsPage c.phase → ⊥) → (cells : List ℕ) (told : Answered)
         → (line_now X v).op word ≡ None → told ≡ rest_at (line_now X v)
@@ -217,6 +235,11 @@ module _ {E : Type 0} (X : Election E) (v : Sender E) where
       by_test true = refl
       by_test false = refl
 
+    passed_lays : (least : ℕ) (a : Bool)
+        → laying (cond a (core_floored c least) c).phase ≡ Stays
+    passed_lays least true = floor_lays least c.phase same_lays
+    passed_lays least false = same_lays
+
     lays : (z : Situation E) → situation X v ≡ z → (got word : ℕ)
         → laying ((line X v z).fed got word).core.phase ≡ after_step (line X v z).move
     lays (Does IsClosed) i got word = same_lays
@@ -228,7 +251,8 @@ module _ {E : Type 0} (X : Election E) (v : Sender E) where
     lays (Does (TakesPage t)) i got word = refl
     lays (Does (AwaitsPage t)) i got word = absurd (laid record {
       tenure = t;
-      is = tells X c (AwaitsPage t) (own_of v.reuse (situation_of X c) (AwaitsPage t) i);
+      is = tells X c (AwaitsPage t)
+          (own_of c.layout.passers v.reuse (situation_of X c) (AwaitsPage t) i);
     })
     lays (Does (StoresWord t page stored)) i got word = refl
     lays (Does (StoresLength t page stored)) i got word = refl
@@ -240,6 +264,8 @@ module _ {E : Type 0} (X : Election E) (v : Sender E) where
     lays (Withdraws t) i got word = same_lays
     lays (Scans s) i got word = same_lays
     lays (Clears s) i got word = same_lays
+    lays (ReadsPassed t p) i got word =
+        passed_lays (passing_fed p got).least ((passing_fed p got).loaded == c.layout.passers)
 
     -- ---- the three parts together
     home_parts : (m : PageMove) (home : Option Page)

@@ -17,6 +17,7 @@ abbrev pub is_of_holder : Kind → Bool
 is_of_holder kind.StoreLogWord = true
 is_of_holder kind.StoreLength = true
 is_of_holder kind.GivePageBack = true
+is_of_holder kind.ReadPassed = true
 is_of_holder k = false
 
 -- the action is a step in this tenure towards its page: one of its election, or the one that takes

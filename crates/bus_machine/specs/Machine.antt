@@ -18,7 +18,7 @@ use Rattle.bus_tenure.specs.declared.pages.Page.{Page}
 use Rattle.bus_tenure.specs.declared.turns.Turn.{Turn as Answered}
 use Rattle.bus_core.specs.Keeping.{queue_of, new_sender}
 use Rattle.bus_core.specs.Senders.{Sender, Situation, Does, Announces, Validates, Unpins}
-use Rattle.bus_core.specs.Senders.{Withdraws, Scans, Clears, situation}
+use Rattle.bus_core.specs.Senders.{Withdraws, Scans, Clears, ReadsPassed, situation}
 use Rattle.bus_core.specs.Table.{Line, line_now}
 use Rattle.bus_core.specs.Reusing.Participants.{log_from}
 use Rattle.bus_world.specs.Headline.{Action}
@@ -254,6 +254,10 @@ turn_trails (Scans r) l s got word told T = record T {
 turn_trails (Clears r) l s got word told T = record T {
   reclaims = entered T.reclaims s (l.op word) got;
   actions = actions_with s [] T.actions;
+  log = log_grown l T.log;
+}
+turn_trails (ReadsPassed t p) l s got word told T = record T {
+  actions = actions_with s (step_action l.kind l.tenure got (l.chosen got word) told) T.actions;
   log = log_grown l T.log;
 }
 

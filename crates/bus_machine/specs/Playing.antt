@@ -263,6 +263,7 @@ pub record IsHeld {E : Type 0} (X : Election E) (m : Machine E) : Type 0 where
   pub senders_few : m.layout.senders ≤ MOST_SENDERS
   pub rows : AreRows m.layout m.reuse
   pub capacity_few : m.layout.capacity ≤ MOST_LOG_WORDS
+  pub passers_none : m.layout.passers ≡ 0
   pub senders : length m.senders ≡ m.layout.senders
   pub trails : Trails
   pub reached : Reached X m trails

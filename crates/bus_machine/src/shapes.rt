@@ -107,6 +107,7 @@ pub fn log_word(shape: Shape, reuse: Option<u64>, width: u64) -> u64
       rows = shape.rows;
       width = width;
       capacity = shape.log_words;
+      passers = 0;
     } reuse }
     ensures room { result ≤ 2 ^ 30 }
 {

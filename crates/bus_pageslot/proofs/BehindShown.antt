@@ -1,10 +1,11 @@
 -- A sender that answers Behind shows the load of the presence that it found.
 use Rattle.std.proofs.Common.{◌≡◌, ℕ, ◌+◌, Option, Some, None, [], ◌∷◌, ◌++◌, refl, sym, ◌∙◌, ap}
-use Rattle.std.proofs.Common.{arith}
+use Rattle.std.proofs.Common.{arith, ◌<◌}
 use Rattle.std.specs.Prelude.{IsSomeAnd}
 use Rattle.std.proofs.lemmas.Option.{same_Some}
 use Rattle.bus_core.specs.Senders.{Sender, Situation, Does, Announces, Validates, Unpins}
-use Rattle.bus_core.specs.Senders.{Withdraws, Scans, Clears, situation}
+use Rattle.bus_core.specs.Senders.{Withdraws, Scans, Clears, ReadsPassed, situation}
+use Rattle.bus_core.proofs.Situated.{passed_behind}
 use Rattle.bus_core.specs.Table.{line}
 use Rattle.bus_core.specs.Telling.{FeedTells, IsBehind}
 use Rattle.bus_core.specs.declared.reuses.Reuse.{Reuse}
@@ -46,28 +47,35 @@ module _ {E : Type 0} (X : Election E) (v : Sender E) (word : ℕ) (r : Reuse) (
       (got : ℕ) → got ≡ 1 + t
       → (adds_by z (line X v z) got word).reclaims ≡ record { op = loading; got = 1 + t } ∷ []
 
-  shown : (held : ℕ) → held_of v.core.phase ≡ Some held → (z : Situation E) → situation X v ≡ z
+  shown : p < v.core.layout.senders → (held : ℕ) → held_of v.core.phase ≡ Some held
+      → (z : Situation E) → situation X v ≡ z
       → (line X v z).op word ≡ Some loading → Shows z
-  shown held h (Does IsClosed) i e = absurd (no_step e)
-  shown held h (Does IsIdle) i e = absurd (no_step e)
-  shown held h (Does IsSpent) i e = absurd (no_step e)
-  shown held h (Does (AwaitsPage u)) i e = absurd (no_step e)
-  shown held h (Does LooksAtStage) i e = absurd (stage_not (same_Some _ _ e))
-  shown held h (Does (Elects u k)) i e =
+  shown low held h (Does IsClosed) i e = absurd (no_step e)
+  shown low held h (Does IsIdle) i e = absurd (no_step e)
+  shown low held h (Does IsSpent) i e = absurd (no_step e)
+  shown low held h (Does (AwaitsPage u)) i e = absurd (no_step e)
+  shown low held h (Does LooksAtStage) i e = absurd (stage_not (same_Some _ _ e))
+  shown low held h (Does (Elects u k)) i e =
       let elects =
-      tells X v.core (Elects u k) (own_of v.reuse (situation_of X v.core) (Elects u k) i) in
+      tells X v.core (Elects u k)
+      (own_of v.core.layout.passers v.reuse (situation_of X v.core) (Elects u k) i) in
       absurd (let bad : None ≡ Some held = ap held_of (sym elects.0) ∙ h in cc)
-  shown held h (Does (TakesPage u)) i e = absurd (store_not _ _ (same_Some _ _ e))
-  shown held h (Does (StoresWord u page stored)) i e = absurd (store_not _ _ (same_Some _ _ e))
-  shown held h (Does (StoresLength u page stored)) i e = absurd (store_not _ _ (same_Some _ _ e))
-  shown held h (Does (GivesBack u page reason)) i e = absurd (store_not _ _ (same_Some _ _ e))
-  shown held h (Does (HasHanded u reason)) i e = absurd (store_not _ _ (same_Some _ _ e))
-  shown held h (Announces u) i e = absurd (store_not _ _ (same_Some _ _ e))
-  shown held h (Validates u) i e = absurd (stage_not (same_Some _ _ e))
-  shown held h (Unpins u) i e = absurd (store_not _ _ (same_Some _ _ e))
-  shown held h (Withdraws u) i e = absurd (store_not _ _ (same_Some _ _ e))
-  shown held h (Clears s) i e = absurd (store_not _ _ (same_Some _ _ e))
-  shown held h (Scans s) i e = λ got is n. record { op = same_Some _ _ e n; got = is n } ∷ []
+  shown low held h (Does (TakesPage u)) i e = absurd (store_not _ _ (same_Some _ _ e))
+  shown low held h (Does (StoresWord u page stored)) i e = absurd (store_not _ _ (same_Some _ _ e))
+  shown low held h (Does (StoresLength u page stored)) i e =
+      absurd (store_not _ _ (same_Some _ _ e))
+  shown low held h (Does (GivesBack u page reason)) i e = absurd (store_not _ _ (same_Some _ _ e))
+  shown low held h (Does (HasHanded u reason)) i e = absurd (store_not _ _ (same_Some _ _ e))
+  shown low held h (Announces u) i e = absurd (store_not _ _ (same_Some _ _ e))
+  shown low held h (Validates u) i e = absurd (stage_not (same_Some _ _ e))
+  shown low held h (Unpins u) i e = absurd (store_not _ _ (same_Some _ _ e))
+  shown low held h (Withdraws u) i e = absurd (store_not _ _ (same_Some _ _ e))
+  shown low held h (Clears s) i e = absurd (store_not _ _ (same_Some _ _ e))
+  shown low held h (ReadsPassed u q) i e =
+      let behind = passed_behind X v u q i in
+      let same = ap register (same_Some _ _ e) in
+      absurd (omega arith)
+  shown low held h (Scans s) i e = λ got is n. record { op = same_Some _ _ e n; got = is n } ∷ []
 
 module _ {E : Type 0} (X : Election E) (old new : SenderSeat (Sender E)) (word t : ℕ) (p : SenderNo)
     (h : TookAndTold (process_of X) (FeedTells X) old word (turn.Behind t p) new) where
@@ -85,7 +93,8 @@ module _ {E : Type 0} (X : Election E) (old new : SenderSeat (Sender E)) (word t
       let told : h.took.got ≡ h.took.found = h.took.told _ behind.loads in
       ap (λ (k : SenderTrail). k.reclaims) h.took.sender_trail
       ∙ ap (λ l. (sender_trail_of (process_of X) old).reclaims ++ l)
-      (shown X old.core word r p.0 t behind.tenure behind.held (situation X old.core) refl
+      (shown X old.core word r p.0 t behind.below behind.tenure behind.held (situation X old.core)
+      refl
       behind.loads h.took.found (sym told ∙ behind.found))
 
   by_reuse : (r : Option Reuse) → IsSomeAnd r (λ q. IsBehind X old.core h.took.got word t p.0 q)

@@ -10,7 +10,7 @@ use Rattle.bus_batch.specs.Batches.{Pending, next_of}
 use Rattle.bus_batch.specs.declared.batches.Phase.{Phase}
 use Rattle.bus_batch.specs.declared.batches.Phase.TheVariants.{Open, Marking, Closed}
 use Rattle.bus_core.specs.Senders.{Situation, Does, Announces, Validates, Unpins, Withdraws, Scans}
-use Rattle.bus_core.specs.Senders.{Clears, situation}
+use Rattle.bus_core.specs.Senders.{Clears, ReadsPassed, situation}
 use Rattle.bus_core.specs.Table.{Line, line_now}
 use Rattle.bus_register.specs.Protocol.{Protocol}
 use Rattle.bus_register.specs.declared.kinds.Kind.{Kind}
@@ -119,6 +119,10 @@ line_counted (Scans s) l got word o due named =
     let h = one_entry (l.op word) o got due in omega arith
 line_counted (Clears s) l got word o due named =
     let h = one_entry (l.op word) o got due in omega arith
+line_counted (ReadsPassed t p) l got word o due named =
+    let h = some_kind l.kind o l.tenure got (l.chosen got word) (l.answer got word)
+    (named ∙ ap is_some due) in
+    omega arith
 
 -- what each step adds to the trail is one step
 abbrev pub CountsOne : {C : Type 0} → Process C → Type 0

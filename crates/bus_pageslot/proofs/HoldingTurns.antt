@@ -29,11 +29,11 @@ use Rattle.bus_core.specs.Keeping.{IsAway, sender}
 use Rattle.bus_core.specs.Reusing.Turns.{answer_of_reclaim, tenure_begun_by}
 use Rattle.bus_core.specs.Seen.{tenure_begun}
 use Rattle.bus_core.specs.Senders.{Sender, Situation, Does, Announces, Validates, Unpins, Withdraws}
-use Rattle.bus_core.specs.Senders.{Scans, Clears, situation, participant_of}
+use Rattle.bus_core.specs.Senders.{Scans, Clears, ReadsPassed, situation, participant_of}
 use Rattle.bus_core.specs.Table.{line, line_now, reuse_taken, reuse_given, reuse_reclaiming}
 use Rattle.bus_core.specs.Telling.{FeedTells, HasBegunNone}
 use Rattle.bus_core.specs.declared.reuses.Reuse.{Reuse}
-use Rattle.bus_core.proofs.Situated.{situation_tells, own_is, Reclaims}
+use Rattle.bus_core.proofs.Situated.{situation_tells, own_is, never_passes, Reclaims}
 use Rattle.bus_machine.specs.Machine.{moved}
 use Rattle.bus_world.specs.Turning.{core_with_page, after_step}
 use Rattle.bus_register.specs.declared.registers.Op.{Op}
@@ -282,6 +282,7 @@ module _ {E : Type 0} (X : Election E) where
 
   -- ---- by the table
   module _ (v : Sender E) (home : Option Page) (got word : ℕ) (begun : IsSome (tenure_begun v))
+      (none : v.core.layout.passers ≡ 0)
       (running : HasElection v.core.phase → 1 ≤ turns_of X v.core.phase)
       (looks : (line_now X v).kind ≡ Some kind.LoadStage → HasBegunNone v)
       (gives : (line_now X v).kind ≡ Some kind.GivePageBack → IsAway v.reuse)
@@ -382,6 +383,7 @@ module _ {E : Type 0} (X : Election E) where
     at (Clears s) i due taken told =
         reclaims_by v.core v.reuse s got
         (clears_by (situation_of X v.core) v.reuse s (situation_tells X v (Clears s) i))
+    at (ReadsPassed t p) i due taken told = absurd (never_passes X v none t p i)
 
     pub turn_begun : Claim (situation X v)
     turn_begun = at (situation X v) refl

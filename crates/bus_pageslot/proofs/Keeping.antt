@@ -13,7 +13,9 @@ use Rattle.bus_batch.specs.declared.batches.Phase.TheVariants.{Open, Marking, Cl
 use Rattle.bus_batch.specs.declared.messages.Mark.TheVariants as mark
 use Rattle.bus_core.specs.Keeping.{queue_of}
 use Rattle.bus_core.specs.Senders.{Sender, Situation, Does, Announces, Validates, Unpins}
-use Rattle.bus_core.specs.Senders.{Withdraws, Scans, Clears, situation}
+use Rattle.bus_core.specs.Senders.{Withdraws, Scans, Clears, ReadsPassed, situation}
+use Rattle.bus_core.specs.Reusing.Passing.{passing_fed}
+use Rattle.bus_tenure.specs.Situations.{core_floored}
 use Rattle.bus_core.specs.Table.{line, seen}
 use Rattle.bus_core.specs.declared.reuses.Reuse.{Reuse}
 use Rattle.bus_machine.specs.Machine.{moved}
@@ -154,6 +156,10 @@ module _ {E : Type 0} (X : Election E) (v : Sender E) where
   left_by (Withdraws t) home got word = stays (Withdraws t) home got word (refl, refl)
   left_by (Scans s) home got word = stays (Scans s) home got word (refl, refl)
   left_by (Clears s) home got word = stays (Clears s) home got word (refl, refl)
+  left_by (ReadsPassed t p) home got word =
+      stays (ReadsPassed t p) home got word
+      (same_if ((passing_fed p got).loaded == v.core.layout.passers)
+      (core_floored v.core (passing_fed p got).least) v.core (refl, refl) (refl, refl))
 
 -- ---- a process whose steps leave this of its batch
 abbrev pub LeavesBatch : {C : Type 0} → Process C → Type 0

@@ -1,5 +1,5 @@
 -- The turn of a sender with which no page moves: its step alone.
-use Rattle.std.proofs.Common.{◌≡◌, ◌⊎◌, inl, inr, ℕ, ◌<◌, ◌≤◌, ne_eqb, arith, Bool, false, cond}
+use Rattle.std.proofs.Common.{◌≡◌, ℕ, ◌+◌, ◌<◌, ◌≤◌, ne_eqb, arith, Bool, true, false, cond}
 use Rattle.std.proofs.Common.{Option, Some, None, IsSome, [], refl, sym, ◌∙◌, ap, subst}
 use Rattle.std.proofs.lemmas.Bool.{true≢false}
 use Rattle.atomic_table.specs.declared.shared.Seat.{Seat}
@@ -9,7 +9,9 @@ use Rattle.bus_register.specs.Words.{register}
 use Rattle.bus_tenure.specs.Situations.{Stays}
 use Rattle.bus_tenure.specs.declared.pages.Page.{Page}
 use Rattle.bus_tenure.specs.declared.turns.Turn.{Turn}
+use Rattle.bus_tenure.specs.declared.turns.Turn.TheVariants as turn
 use Rattle.bus_tenure.specs.declared.turns.Turn.TheVariants.{Going}
+use Rattle.bus_tenure.specs.Classes.{still_goes}
 use Rattle.bus_world.specs.Headline.{puts}
 use Rattle.rand_core.specs.Stream.{Stream}
 use Rattle.bus_automaton.specs.Lawful.{ProcessLaws}
@@ -22,8 +24,8 @@ use Rattle.bus_pageslot.specs.Steps.{stored_by, Gone, IsDue, carried_of, out_wit
 use Rattle.bus_pageslot.specs.Steps.{slot_in, slots_emptied}
 use Rattle.bus_pageslot.specs.Steps.Accepts.{Nothing}
 use Rattle.bus_pageslot.specs.declared.rule.View.{View}
-use Rattle.bus_pageslot.specs.Turns.{Tellings, TurnsPlainly, GoesPlainly, First, Next, AsksOn}
-use Rattle.bus_pageslot.specs.Turns.{Goes, DrawsOn, word_drawn}
+use Rattle.bus_pageslot.specs.Turns.{Tellings, TurnsPlainly, GoesPlainly, NoneYet, Next, AsksOn}
+use Rattle.bus_pageslot.specs.Turns.{Goes, DrawsOn, word_drawn, TakesOn, Again}
 use Rattle.bus_pageslot.proofs.Sending.{turned_puts, drawn_on}
 use Rattle.bus_pageslot.proofs.Walks.{core_is, stored_now, laid_now, numbered_now, me_now, all_now}
 use Rattle.bus_pageslot.proofs.Walks.{counted_now, wide_now}
@@ -136,14 +138,13 @@ plain_asking P T Tells first given f old new before one =
 
 -- nor behind more
 pub goes_asking : {C F : Type 0} {L : C → Type 0} (P : Process C) (T : Tellings C)
-    (Tells : F → Bool → F → Type 0) (first : SenderSeat C) (given f : F) (old new : SenderSeat C)
-    → AsksOn P T Tells first given old f → GoesPlainly P T L old new
-    → AsksOn P T Tells first given new f
-goes_asking P T Tells first given f old _ before (First new one) =
-    plain_asking P T Tells first given f old new before one
-goes_asking P T Tells first given f old _ before (Next mid new goes one) =
+    (Tells : F → Bool → F → Type 0) (first : SenderSeat C) (given f : F) (old : SenderSeat C)
+    (count : ℕ) (new : SenderSeat C) → AsksOn P T Tells first given old f
+    → GoesPlainly P T L old count new → AsksOn P T Tells first given new f
+goes_asking P T Tells first given f old _ _ before NoneYet = before
+goes_asking P T Tells first given f old _ _ before (Next n mid new goes one) =
     plain_asking P T Tells first given f mid new
-    (goes_asking P T Tells first given f old mid before goes) one
+    (goes_asking P T Tells first given f old n mid before goes) one
 
 -- one draws no word
 plain_drawing : {C : Type 0} {L : C → Type 0} (P : Process C) (T : Tellings C)
@@ -156,39 +157,57 @@ plain_drawing P T first given words old new before one =
 
 -- nor do more
 pub goes_drawing : {C : Type 0} {L : C → Type 0} (P : Process C) (T : Tellings C)
-    (first : SenderSeat C) (given words : Stream) (old new : SenderSeat C)
-    → DrawsOn P T first given old words → GoesPlainly P T L old new
+    (first : SenderSeat C) (given words : Stream) (old : SenderSeat C) (count : ℕ)
+    (new : SenderSeat C) → DrawsOn P T first given old words → GoesPlainly P T L old count new
     → DrawsOn P T first given new words
-goes_drawing P T first given words old _ before (First new one) =
-    plain_drawing P T first given words old new before one
-goes_drawing P T first given words old _ before (Next mid new goes one) =
+goes_drawing P T first given words old _ _ before NoneYet = before
+goes_drawing P T first given words old _ _ before (Next n mid new goes one) =
     plain_drawing P T first given words mid new
-    (goes_drawing P T first given words old mid before goes) one
+    (goes_drawing P T first given words old n mid before goes) one
 
 -- none puts a message
 pub goes_putting : {C : Type 0} {L : C → Type 0} (P : Process C) (T : Tellings C) → ProcessLaws P
-    → (old new : SenderSeat C) → GoesPlainly P T L old new
+    → (old : SenderSeat C) (count : ℕ) (new : SenderSeat C) → GoesPlainly P T L old count new
     → puts (actions_of P new) ≡ puts (actions_of P old)
-goes_putting P T K old _ (First new one) = turned_puts P T K old 0 Going new one.turned
-goes_putting P T K old _ (Next mid new goes one) =
-    turned_puts P T K mid 0 Going new one.turned ∙ goes_putting P T K old mid goes
+goes_putting P T K old _ _ NoneYet = refl
+goes_putting P T K old _ _ (Next n mid new goes one) =
+    turned_puts P T K mid 0 Going new one.turned ∙ goes_putting P T K old n mid goes
 
--- none so far, or one or more
-abbrev pub Taken : {C : Type 0} → Process C → Tellings C → (C → Type 0) → SenderSeat C
-    → SenderSeat C → ℕ → Type 0
-Taken P T L first new count = ((count ≡ 0) × (new ≡ first)) ⊎ GoesPlainly P T L first new
+-- where none was taken nothing changed
+pub goes_nowhere : {C : Type 0} {L : C → Type 0} (P : Process C) (T : Tellings C)
+    (old : SenderSeat C) (count : ℕ) (new : SenderSeat C) → GoesPlainly P T L old count new
+    → count ≡ 0 → new ≡ old
+goes_nowhere P T old _ _ NoneYet none = refl
+goes_nowhere P T old _ _ (Next n mid new goes one) none = absurd (omega (arith, none))
 
--- and then one more
-pub taken_next : {C : Type 0} (P : Process C) (T : Tellings C) (L : C → Type 0)
-    (first old new : SenderSeat C) (count : ℕ) → Taken P T L first old count
-    → TurnsPlainly P T L old new → GoesPlainly P T L first new
-taken_next P T L first old new count (inl none) one =
-    First new (subst (λ y. TurnsPlainly P T L y new) none.1 one)
-taken_next P T L first old new count (inr goes) one = Next old new goes one
+-- ---- turns of a caller that gives the first of them a word
+-- an answer after which they go on
+going_is : (a : Turn) → still_goes a ≡ true → a ≡ Going
+going_is turn.Idle e = absurd (true≢false (sym e))
+going_is turn.Waiting e = absurd (true≢false (sym e))
+going_is turn.Going e = refl
+going_is (turn.Lost tenure owner) e = absurd (true≢false (sym e))
+going_is (turn.Own tenure) e = absurd (true≢false (sym e))
+going_is (turn.Delivered tenure first last) e = absurd (true≢false (sym e))
+going_is (turn.Left tenure) e = absurd (true≢false (sym e))
+going_is turn.Full e = absurd (true≢false (sym e))
+going_is turn.Closed e = absurd (true≢false (sym e))
+going_is turn.Spent e = absurd (true≢false (sym e))
+going_is (turn.Behind tenure sender) e = absurd (true≢false (sym e))
 
--- where some were to be taken, some were
-pub taken_some : {C : Type 0} (P : Process C) (T : Tellings C) (L : C → Type 0)
-    (first new : SenderSeat C) (count : ℕ) → Taken P T L first new count
-    → 0 < count → GoesPlainly P T L first new
-taken_some P T L first new count (inl none) some = let zero = none.0 in absurd (omega arith)
-taken_some P T L first new count (inr goes) some = goes
+-- so many more behind such an answer, all plain
+pub takes_plainly : {C : Type 0} {P : Process C} {T : Tellings C} {L : C → Type 0}
+    {first old : SenderSeat C} {word n : ℕ} (answer : Turn) (count : ℕ) (new : SenderSeat C)
+    → TakesOn P T first word n answer old → still_goes answer ≡ true
+    → GoesPlainly P T L old count new → TakesOn P T first word (n + count) answer new
+takes_plainly {P = P} {T = T} {first = first} {old = old} {word = word} {n = n} answer _ _ on goes
+    NoneYet =
+    let same : n ≡ n + 0 = omega arith in
+    subst (λ m. TakesOn P T first word m answer old) same on
+takes_plainly {P = P} {T = T} {first = first} {word = word} {n = n} answer _ _ on goes
+    (Next k mid new row one) =
+    let same : n + k + 1 ≡ n + (k + 1) = omega arith in
+    subst (λ m. TakesOn P T first word m answer new) same
+    (subst (λ a. TakesOn P T first word (n + k + 1) a new) (sym (going_is answer goes))
+    (Again (n + k) answer mid 0 Going new (takes_plainly answer k mid on goes row) goes one.wordless
+    one.turned))

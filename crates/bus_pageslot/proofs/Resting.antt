@@ -5,7 +5,7 @@ use Rattle.std.proofs.Common.{[], ◌++◌, slice_get, slice_index, arith, refl,
 use Rattle.std.proofs.lemmas.List.{append-nil}
 use Rattle.atomic_table.specs.Table.{State}
 use Rattle.bus_core.specs.Senders.{Sender, Situation, Does, Announces, Validates, Unpins}
-use Rattle.bus_core.specs.Senders.{Withdraws, Scans, Clears, situation}
+use Rattle.bus_core.specs.Senders.{Withdraws, Scans, Clears, ReadsPassed, situation}
 use Rattle.bus_core.specs.Table.{Line, line, line_now, rests, rest_at}
 use Rattle.bus_machine.specs.Machine.{Machine, Trails, Happens, IsOnWord, going, found}
 use Rattle.bus_machine.specs.Machine.{stage_of, machine_after, turn_answer, turn_grown}
@@ -117,6 +117,7 @@ module _ {E : Type 0} (X : Election E) (x : Layout) (reuse : Option ℕ) (bases 
   rest_at_so (Withdraws t) i = tt
   rest_at_so (Scans r) i = tt
   rest_at_so (Clears r) i = tt
+  rest_at_so (ReadsPassed t q) i = tt
 
   pub rest_so : TurnTells b T.log p d (T.actions p) (rest_at (line_now X d))
   rest_so = rest_at_so (situation X d) refl

@@ -58,7 +58,7 @@ owners_leave {E} X P x y reuse bases L s r id m at d word many o is_due law t is
     owns_page X d t (situation X d) (found z.machine (line_now X d) word) word
     (same_turn _ _ opens.own) in
     let own = owner_at X P x y reuse bases z h p d here t
-    (own_of d.reuse (situation_of X d.core) (TakesPage t) takes) in
+    (own_of d.core.layout.passers d.reuse (situation_of X d.core) (TakesPage t) takes) in
     record {
       election = own.election;
       elects = own.elects;

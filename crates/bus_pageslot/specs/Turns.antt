@@ -1,5 +1,5 @@
 -- Turns of a sender, one after another.
-use Rattle.std.specs.Prelude.{◌≡◌, ℕ, Bool, true, false, Option, Some, None}
+use Rattle.std.specs.Prelude.{◌≡◌, ℕ, ◌+◌, ◌≤◌, ◌⊎◌, Bool, true, false, Option, Some, None}
 use Rattle.bus_register.specs.declared.kinds.Kind.{Kind}
 use Rattle.bus_register.specs.declared.registers.Op.{Op}
 use Rattle.bus_register.specs.Protocol.{Protocol}
@@ -16,7 +16,7 @@ use Rattle.bus_tenure.specs.declared.turns.Turn.TheVariants as turn
 use Rattle.rand_core.specs.Stream.{Stream, next_u32}
 use Rattle.bus_automaton.specs.Processes.{Process}
 use Rattle.bus_pageslot.specs.Seats.{SenderSeat, TookAndTold}
-use Rattle.bus_tenure.specs.Classes.{is_last, is_waiting}
+use Rattle.bus_tenure.specs.Classes.{is_last, is_waiting, still_goes}
 
 -- what an answer tells of the sender as it was: where no step was due, and of a step that found
 -- this number, with this random word
@@ -58,12 +58,13 @@ pub record TurnsPlainly {C : Type 0} (P : Process C) (T : Tellings C) (Plain : C
   pub wordless : P.wants_word old.core ≡ false
   pub turned : Turned P T old 0 turn.Going new
 
--- such turns, one or more, led from one sender to another
+-- so many such turns led from one sender to another
 pub data GoesPlainly {C : Type 0} (P : Process C) (T : Tellings C) (Plain : C → Type 0)
-    (first : SenderSeat C) : SenderSeat C → Type 0 where
-  First : (new : SenderSeat C) → TurnsPlainly P T Plain first new → GoesPlainly P T Plain first new
-  Next : (old new : SenderSeat C) → GoesPlainly P T Plain first old → TurnsPlainly P T Plain old new
-      → GoesPlainly P T Plain first new
+    (first : SenderSeat C) : ℕ → SenderSeat C → Type 0 where
+  NoneYet : GoesPlainly P T Plain first 0 first
+  Next : (n : ℕ) (old new : SenderSeat C) → GoesPlainly P T Plain first n old
+      → TurnsPlainly P T Plain old new
+      → GoesPlainly P T Plain first (n + 1) new
 
 -- turns up to a last one, which answered so
 pub record Sends {C : Type 0} (P : Process C) (T : Tellings C) (first : SenderSeat C)
@@ -73,6 +74,27 @@ pub record Sends {C : Type 0} (P : Process C) (T : Tellings C) (first : SenderSe
   pub before : TurnsOn P T first old
   pub turned : Turned P T old word answer new
   pub last : is_last answer ≡ true
+
+-- ---- several turns, of which the caller gives the first a random word
+-- A turn with this word, and so many more, each behind one that was answered Going, and with a step
+-- that asks for no word; the last one was answered so.
+pub data TakesOn {C : Type 0} (P : Process C) (T : Tellings C) (first : SenderSeat C) (word : ℕ)
+    : ℕ → Turn → SenderSeat C → Type 0 where
+  Once : (answer : Turn) (new : SenderSeat C) → Turned P T first word answer new
+      → TakesOn P T first word 0 answer new
+  Again : (n : ℕ) (before : Turn) (old : SenderSeat C) (any : ℕ) (answer : Turn)
+      (new : SenderSeat C) → TakesOn P T first word n before old → still_goes before ≡ true
+      → P.wants_word old.core ≡ false → Turned P T old any answer new
+      → TakesOn P T first word (n + 1) answer new
+
+-- the same of at most so many more: it ended where one was answered otherwise than Going, where the
+-- next step asks for a random word, or where so many more were taken
+pub record TakesUpTo {C : Type 0} (P : Process C) (T : Tellings C) (first : SenderSeat C)
+    (word more : ℕ) (answer : Turn) (new : SenderSeat C) : Type 0 where
+  pub n : ℕ
+  pub takes : TakesOn P T first word n answer new
+  pub few : n ≤ more
+  pub stops : still_goes answer ≡ true → (P.wants_word new.core ≡ true) ⊎ (n ≡ more)
 
 -- ---- turns between which a function is asked whether to go on; Tells f told f' where a call of f
 -- may tell that, and leaves f' Turns, none of them a last one, led from one sender to another. For

@@ -6,7 +6,6 @@ ghost use Rattle.std.specs.Prelude.{OnOk, OnErr, length, ◌-◌, ◌≤◌, IsT
 ghost use Rattle.bus_batch.specs.Batches.{next_of, CanPut, IsPutFault, CanClose, IsCloseFault};
 ghost use Rattle.bus_core.specs.Causes.{HasCause};
 ghost use Rattle.bus_core.specs.Doings.{step_of};
-ghost use Rattle.bus_core.specs.declared.steps.Step.TheVariants as step;
 ghost use Rattle.bus_core.specs.Plain.{IsPlain, StoresPlain};
 ghost use Rattle.bus_core.specs.Seen.{tenure_begun};
 ghost use Rattle.bus_core.specs.Senders.{situation};
@@ -25,9 +24,8 @@ ghost use Rattle.bus_pageslot.specs.Rule.{known_in, stored_in};
 ghost use Rattle.bus_pageslot.specs.Steps.{Learns, KnowsSent};
 ghost use Rattle.bus_pageslot.specs.Seats.{Shows, TookAndTold, table_of};
 ghost use Rattle.bus_pageslot.specs.Seats.{first_number_of, actions_of, stored_of};
-ghost use Rattle.bus_pageslot.specs.Turns.{tells_by, Sends, GoesPlainly, TurnsDrawing};
-ghost use Rattle.bus_pageslot.specs.Turns.{TakesWhile, TakesSome, ElectsIn, IsElecting};
-ghost use Rattle.bus_pageslot.specs.Turns.{SendsAsking, StopsWaiting, DrawsOn, word_drawn};
+ghost use Rattle.bus_pageslot.specs.Turns.{tells_by, Sends, SendsAsking, StopsWaiting};
+ghost use Rattle.bus_pageslot.specs.Turns.{DrawsOn, word_drawn};
 ghost use Rattle.bus_automaton.specs.Buses.{process_by};
 ghost use Rattle.bus_tenure.specs.Classes.{is_last, is_refusal, is_waiting};
 ghost use Rattle.bus_pageslot.specs.Sendings.{waiting_of, SendsOff, KeepsFor, FillsBatches};
@@ -37,6 +35,7 @@ ghost use Rattle.bus_pageslot.specs.Sendings.{Carries, CarryRefused};
 ghost use Rattle.bus_pageslot.specs.SendFaults.{send_fault_text};
 
 mod finishing;
+mod rows;
 
 use crate::buses::Bus;
 use crate::rule::BusSeat;
@@ -48,7 +47,7 @@ use bus_batch::{CloseFault, Message, PutFault};
 use bus_core::{SenderCore, Step};
 use bus_register::limits::MOST_MESSAGES;
 use bus_register::{Kind, SenderNo};
-use bus_tenure::{Doing, Turn};
+use bus_tenure::Turn;
 use bus_waiting::Waiter;
 use rand_core::Rng;
 use std::error::Error;
@@ -99,11 +98,9 @@ impl fmt::Display for Unsent {
     }
 }
 
-/// How many plain stores `plain_turns` takes at most: a frame has 129 words, and most rows fewer.
-const MOST_PLAIN_TURNS: u32 = 256;
-
-/// How many turns of an election `election_turns` takes at most.
-const MOST_ELECTION_TURNS: u32 = 256;
+/// How many plain stores `send_while` takes in a row at most: a frame has 129 words, and most rows
+/// have fewer.
+const MOST_PLAIN_TURNS: u64 = 256;
 
 /// A sender of a bus: what it holds, and the seat that it steps with. One thread at a time has it.
 ///
@@ -389,30 +386,6 @@ impl<Q: Ratifier + Drop> Sender<Q> {
         store_plain::<Q, Brand>(&bus.words, &mut self.seat, &mut self.core, at, value, word)
     }
 
-    /// Turns in a row whose steps are plain stores, one at least where that is due: says whether it
-    /// took one.
-    #[inline(always)]
-    fn plain_turns(&mut self, bus: &Bus<Q>) -> bool
-        requires { table_of self.old ≡ bus.now.table }
-        ensures table { table_of self.new ≡ table_of self.old }
-        ensures stays { result ≡ false → self.new ≡ self.old }
-        ensures exact { IsPlain (election_of Q.Ratifier) self.old.core → IsTrue result }
-        ensures goes { IsTrue result
-            → GoesPlainly (process_by Q.Ratifier) (tells_by Q.Ratifier)
-            (IsPlain (election_of Q.Ratifier)) self.old self.new }
-    {
-        let (mut at, mut value) = (0, 0);
-        if !self.core.plain(&mut at, &mut value) {
-            return false;
-        }
-        for _taken in 0..MOST_PLAIN_TURNS {
-            if !self.store_on(bus, &mut at, &mut value, 0) {
-                return true;
-            }
-        }
-        true
-    }
-
     /// What it does next, as `SenderCore::step` tells it.
     #[inline(always)]
     fn next_step(&self) -> Step
@@ -457,100 +430,6 @@ impl<Q: Ratifier + Drop> Sender<Q> {
         };
         self.stored = length_after(op, self.stored);
         walk::<Q, Brand>(&bus.words, &mut self.seat, &mut self.core, next, op, word)
-    }
-
-    /// The same with the word that it asks for.
-    #[inline(always)]
-    fn turn_drawing<R: Rng>(&mut self, bus: &Bus<Q>, next: Step, rng: &mut R) -> Turn
-        requires table { table_of self.old ≡ bus.now.table }
-        requires next { let X = election_of Q.Ratifier in
-            step_of (situation X self.old.core) ≡ next }
-        ensures table { table_of self.new ≡ table_of self.old }
-        ensures draws { TurnsDrawing (process_by Q.Ratifier) (tells_by Q.Ratifier) self.old
-            (R.stream rng.old) result self.new (R.stream rng.new) }
-        ensures some { TakesSome (process_by Q.Ratifier) (tells_by Q.Ratifier) self.old
-            (R.stream rng.old) result self.new (R.stream rng.new) }
-    {
-        let word = self.word_for(next, rng);
-        self.turn_by(bus, next, word)
-    }
-
-    /// A turn by the table of situations, with the word that it asks for.
-    #[inline(never)]
-    fn full_turn_drawing<R: Rng>(&mut self, bus: &Bus<Q>, rng: &mut R) -> Turn
-        requires { table_of self.old ≡ bus.now.table }
-        ensures table { table_of self.new ≡ table_of self.old }
-        ensures some { TakesSome (process_by Q.Ratifier) (tells_by Q.Ratifier) self.old
-            (R.stream rng.old) result self.new (R.stream rng.new) }
-    {
-        let word = self.next_word(rng);
-        self.full_turn(bus, word)
-    }
-
-    /// The next turn, and where that is one of an election, those of it that follow. The answer is
-    /// the last one's. A situation that is often has a copy of the turn, which asks for no other.
-    #[inline(always)]
-    fn next_turns<R: Rng>(&mut self, bus: &Bus<Q>, rng: &mut R) -> Turn
-        requires { table_of self.old ≡ bus.now.table }
-        ensures table { table_of self.new ≡ table_of self.old }
-        ensures some { TakesSome (process_by Q.Ratifier) (tells_by Q.Ratifier) self.old
-            (R.stream rng.old) result self.new (R.stream rng.new) }
-    {
-        let next = self.next_step();
-        match next {
-            Step::Does(doing) => self.own_turns(bus, doing, rng),
-            Step::Announces { .. } => self.turn_drawing(bus, next, rng),
-            Step::Validates { .. } => self.turn_drawing(bus, next, rng),
-            Step::Unpins { .. } => self.turn_drawing(bus, next, rng),
-            Step::Withdraws { .. } => self.turn_drawing(bus, next, rng),
-            Step::Scans => self.turn_drawing(bus, next, rng),
-            Step::Clears => self.full_turn_drawing(bus, rng),
-        }
-    }
-
-    /// The same of a sender in its tenure, or before it.
-    #[inline(always)]
-    fn own_turns<R: Rng>(&mut self, bus: &Bus<Q>, doing: Doing, rng: &mut R) -> Turn
-        requires table { table_of self.old ≡ bus.now.table }
-        requires next { let X = election_of Q.Ratifier in
-            step_of (situation X self.old.core) ≡ step.Does doing }
-        ensures table { table_of self.new ≡ table_of self.old }
-        ensures some { TakesSome (process_by Q.Ratifier) (tells_by Q.Ratifier) self.old
-            (R.stream rng.old) result self.new (R.stream rng.new) }
-    {
-        match doing {
-            Doing::Looks => self.turn_drawing(bus, Step::Does(doing), rng),
-            Doing::Elects { tenure } => self.election_turns(bus, tenure, rng),
-            Doing::Takes { .. } => self.turn_drawing(bus, Step::Does(doing), rng),
-            Doing::Length { .. } => self.turn_drawing(bus, Step::Does(doing), rng),
-            Doing::Back { .. } => self.turn_drawing(bus, Step::Does(doing), rng),
-            _ => self.full_turn_drawing(bus, rng),
-        }
-    }
-
-    /// Turns in a row of an election that runs, one at least, and none once it knows an owner. The
-    /// answer is the last one's.
-    #[inline(never)]
-    fn election_turns<R: Rng>(&mut self, bus: &Bus<Q>, begun: u64, rng: &mut R) -> Turn
-        requires table { table_of self.old ≡ bus.now.table }
-        requires elects { ElectsIn (election_of Q.Ratifier) self.old.core begun }
-        ensures table { table_of self.new ≡ table_of self.old }
-        ensures takes { TakesWhile (process_by Q.Ratifier) (tells_by Q.Ratifier)
-            (IsElecting (election_of Q.Ratifier)) self.old (R.stream rng.old) result self.new
-            (R.stream rng.new) }
-    {
-        let mut tenure = begun;
-        for _taken in 0..MOST_ELECTION_TURNS {
-            let turn = self.turn_drawing(bus, Step::Does(Doing::Elects { tenure }), rng);
-            let Turn::Going = turn else {
-                return turn;
-            };
-            let Step::Does(Doing::Elects { tenure: same }) = self.next_step() else {
-                return Turn::Going;
-            };
-            tenure = same;
-        }
-        Turn::Going
     }
 
     /// The word of its next turn: of a vote the next one of `rng`, and else none is drawn.
@@ -639,7 +518,7 @@ impl<Q: Ratifier + Drop> Sender<Q> {
     {
         threads_may_go_by::<Q>();
         for _ in waiter.forever() {
-            if self.plain_turns(bus) {
+            if self.plain_turns(bus, MOST_PLAIN_TURNS) > 0 {
                 waiter.reset();
                 continue;
             }

@@ -15,7 +15,7 @@ abbrev pub looks : List (List ℕ)
 looks =
     codes "LoadStage" ∷ codes "ReadFirst" ∷ codes "ReadSecond" ∷ codes "ReadOtherMark"
     ∷ codes "ReadVotes" ∷ codes "ReadAnnouncement" ∷ codes "LoadLength" ∷ codes "LoadLogWord"
-    ∷ codes "LoadStageAgain" ∷ codes "ReadPresence" ∷ []
+    ∷ codes "LoadStageAgain" ∷ codes "ReadPresence" ∷ codes "ReadPassed" ∷ []
 
 abbrev pub stores : List (List ℕ)
 stores =
@@ -70,3 +70,4 @@ family_at kind.LoadStageAgain = family.Look
 family_at kind.Withdraw = family.Store
 family_at kind.ReadPresence = family.Look
 family_at kind.ClearRow = family.Store
+family_at kind.ReadPassed = family.Look

@@ -36,7 +36,8 @@ pub fn family_of(kind: &str) -> Option<Family>
         | "LoadLength"
         | "LoadLogWord"
         | "LoadStageAgain"
-        | "ReadPresence" => { Some(Family::Look) }
+        | "ReadPresence"
+        | "ReadPassed" => { Some(Family::Look) }
         "Announce"
         | "WriteFirst"
         | "WriteSecond"

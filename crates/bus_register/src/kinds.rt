@@ -63,6 +63,9 @@ pub enum Kind {
     /// After all `ReadPresence`: the holder stores 0 in the words of the row of the next tenure, in
     /// rising order.
     ClearRow,
+    /// The holder of the page, whose frame does not fit the log by the page's floor, loads the
+    /// passed places of all receivers in rising order.
+    ReadPassed,
 }
 
 impl Kind {
@@ -94,6 +97,7 @@ impl Kind {
             Kind::Withdraw => "Withdraw",
             Kind::ReadPresence => "ReadPresence",
             Kind::ClearRow => "ClearRow",
+            Kind::ReadPassed => "ReadPassed",
         }
     }
 }

@@ -1,6 +1,6 @@
 -- Each step of a holder has its cause, and each kind of a ratifier its time.
-use Rattle.std.proofs.Common.{◌≡◌, ℕ, ◌≤◌, ◌⊎◌, inl, inr, Bool, true, false, cond, Option, Some}
-use Rattle.std.proofs.Common.{None, is_some, nat_lt, arith, refl, sym, ◌∙◌, ap, subst}
+use Rattle.std.proofs.Common.{◌≡◌, ℕ, ◌+◌, ◌<◌, ◌≤◌, ◌⊎◌, inl, inr, Bool, true, false, cond}
+use Rattle.std.proofs.Common.{Option, Some, None, is_some, arith, refl, sym, ◌∙◌, ap, subst}
 use Rattle.std.proofs.lemmas.Bool.{leb-true, leb-false, ltb-true, ltb-false, true≢false}
 use Rattle.bus_register.specs.declared.kinds.Kind.{Kind}
 use Rattle.bus_register.specs.declared.kinds.Kind.TheVariants.{WriteFirst, ReadFirst, WriteSecond}
@@ -13,9 +13,9 @@ use Rattle.bus_tenure.specs.declared.pages.Page.{Page}
 use Rattle.bus_tenure.specs.declared.phases.Reason.{Reason}
 use Rattle.bus_tenure.specs.declared.phases.Reason.TheVariants.{Sent, FoundEnd, NoRoom}
 use Rattle.bus_tenure.specs.declared.phases.Phase.TheVariants.{Holding}
-use Rattle.bus_tenure.specs.Core.{Core, frame_len, has_room}
+use Rattle.bus_tenure.specs.Core.{Core, frame_len}
 use Rattle.bus_tenure.specs.Situations.{Situation, GivesBack, StoresWord, StoresLength, holding}
-use Rattle.bus_tenure.specs.Causes.{HasWordLeft, HasStoredAll, LeavesPage}
+use Rattle.bus_tenure.specs.Causes.{HasWordLeft, HasStoredAll, LeavesPage, HoldsUnfitting}
 use Rattle.bus_tenure.specs.Keeping.{SenderInvariant, PhaseKeeps, IsHolding}
 
 -- ---- a holder of the page
@@ -41,6 +41,14 @@ module _ {E : Type 0} (t : ℕ) (page : Page) (stored : ℕ) where
   told_length false false true true h = absurd cc
   told_length false false true false h = (refl, refl, refl, refl)
 
+  told_unfitting : (p e r l : Bool) → told p e r l ≡ GivesBack t page NoRoom
+      → (p ≡ false) × (e ≡ false) × (r ≡ false)
+  told_unfitting true e r l h = absurd cc
+  told_unfitting false true r l h = absurd cc
+  told_unfitting false false false l h = (refl, refl, refl)
+  told_unfitting false false true true h = absurd cc
+  told_unfitting false false true false h = absurd cc
+
   told_back : (p e r l : Bool) (reason : Reason) → told p e r l ≡ GivesBack t page reason
       → (p ≡ true) ⊎ ((e ≡ true) ⊎ (r ≡ false))
   told_back true e r l reason h = inl refl
@@ -51,6 +59,18 @@ module _ {E : Type 0} (t : ℕ) (page : Page) (stored : ℕ) where
 
 module _ {E : Type 0} (c : Core E) (t : ℕ) (page : Page) (stored : ℕ) (published : Bool)
     (at : c.phase ≡ Holding t page stored published) where
+  -- who stores a word of its frame has room for it, and that word left
+  pub word_room : holding c t page stored published ≡ StoresWord t page stored
+      → (page.words + frame_len c ≤ c.layout.capacity + page.floor) × (stored < frame_len c)
+  word_room h =
+      let q = told_word {E = E} t page stored published _ _ _ h in
+      (leb-true _ _ q.2, ltb-true _ _ q.3)
+
+  -- and so has who stores the length
+  pub length_room : holding c t page stored published ≡ StoresLength t page stored
+      → page.words + frame_len c ≤ c.layout.capacity + page.floor
+  length_room h = leb-true _ _ (told_length {E = E} t page stored published _ _ _ h).2
+
   pub word_cause : holding c t page stored published ≡ StoresWord t page stored → HasWordLeft c
   word_cause h =
       let q = told_word {E = E} t page stored published _ _ _ h in
@@ -70,7 +90,7 @@ module _ {E : Type 0} (c : Core E) (t : ℕ) (page : Page) (stored : ℕ) (publi
       → holding c t page stored published ≡ StoresLength t page stored → HasStoredAll c
   length_cause Belongs width k h =
       let q = told_length {E = E} t page stored published _ _ _ h in
-      let i : IsHolding c t page.words stored published = subst (PhaseKeeps Belongs c) at k.phase in
+      let i : IsHolding c t page stored published = subst (PhaseKeeps Belongs c) at k.phase in
       let over : frame_len c ≤ stored = ltb-false _ _ q.3 in
       let within = i.within in
       let all : stored ≡ frame_len c = omega arith in
@@ -97,6 +117,19 @@ module _ {E : Type 0} (c : Core E) (t : ℕ) (page : Page) (stored : ℕ) (publi
       | inr y ↦ elim y [ inl x ↦ inr (inl x) | inr x ↦ inr (inr (leb-false _ _ x)) ]
     ];
   }
+
+  pub unfitting_cause : holding c t page stored published ≡ GivesBack t page NoRoom
+      → HoldsUnfitting c
+  unfitting_cause h =
+      let q = told_unfitting {E = E} t page stored published _ _ _ h in
+      record {
+        tenure = t;
+        page = page;
+        stored = stored;
+        holds = at ∙ ap (Holding t page stored) q.0;
+        goes_on = q.1;
+        full = leb-false _ _ q.2;
+      }
 
 -- ---- a ratifier
 -- a kind of a ratifier that stands to what its local state has begun: only the first step stores a

@@ -2,8 +2,9 @@
 use Rattle.std.proofs.Common.{◌≡◌, inl, inr, ℕ, Bool, true, false, cond, is_some, refl, ◌∙◌, ap}
 use Rattle.std.proofs.Common.{subst}
 use Rattle.bus_tenure.specs.Core.{Core, Election}
-use Rattle.bus_tenure.specs.Situations.{Situation as Own, Elects, TakesPage, StoresWord, GivesBack}
-use Rattle.bus_tenure.specs.Situations.{HasHanded, situation_of, situation_at}
+use Rattle.bus_tenure.specs.Situations.{Situation as Own, Elects, TakesPage, StoresWord}
+use Rattle.bus_tenure.specs.Situations.{StoresLength, GivesBack, HasHanded, situation_of}
+use Rattle.bus_tenure.specs.Situations.{situation_at}
 use Rattle.bus_tenure.specs.declared.pages.Page.{Page}
 use Rattle.bus_tenure.specs.declared.phases.Reason.{Reason}
 use Rattle.bus_tenure.specs.declared.phases.Phase.TheVariants.{Electing, Holding, Giving}
@@ -23,6 +24,15 @@ module _ {E : Type 0} where
       let a : at ≡ stored = cc in
       (page, w, ap (λ y. StoresWord y page at) s ∙ ap (StoresWord t page) a)
   word_is z t words stored i = absurd cc
+
+  -- who is seen to store the length does so, on a page with so many words
+  pub length_is : (z : Own E) (t words : ℕ) → doing_of z ≡ doing.Length t words
+      → (page : Page) × (stored : ℕ) × (page.words ≡ words)
+      × (z ≡ StoresLength t page stored)
+  length_is (StoresLength u page at) t words i =
+      let s : u ≡ t = cc in
+      let w : page.words ≡ words = cc in (page, at, w, ap (λ y. StoresLength y page at) s)
+  length_is z t words i = absurd cc
 
   -- who is seen to give a page back has one
   pub back_is : (z : Own E) (t : ℕ) (reason : Reason) → doing_of z ≡ doing.Back t reason

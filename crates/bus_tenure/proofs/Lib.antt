@@ -7,3 +7,4 @@ mod Publishing
 mod Electing
 pub mod Inverted
 pub mod Rows
+pub mod Fitting

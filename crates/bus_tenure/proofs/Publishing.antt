@@ -1,13 +1,11 @@
 -- What a sender publishes goes on with the log that its page knows.
-use Rattle.std.proofs.Common.{◌≡◌, ℕ, Bool, true, false, cond, Some, nat_lt, refl, sym, ap, ◌∙◌}
-use Rattle.std.proofs.Common.{subst}
+use Rattle.std.proofs.Common.{◌≡◌, ℕ, Bool, true, false, cond, Some, refl, sym, ap, ◌∙◌}
 use Rattle.bus_batch.specs.Frames.{Frame}
 use Rattle.bus_batch.proofs.FrameLaws.{spells_more}
 use Rattle.bus_tenure.specs.declared.pages.Page.{Page}
 use Rattle.bus_tenure.specs.declared.phases.Reason.TheVariants.{Sent, FoundEnd, NoRoom}
-use Rattle.bus_tenure.specs.declared.phases.Phase.TheVariants.{Holding}
 use Rattle.bus_tenure.specs.Core.{Core, Election}
-use Rattle.bus_tenure.specs.Situations.{Situation, GivesBack, StoresWord, StoresLength, line_of}
+use Rattle.bus_tenure.specs.Situations.{GivesBack, StoresWord, StoresLength, line_of}
 use Rattle.bus_tenure.specs.Situations.{situation_at}
 use Rattle.bus_tenure.specs.Publishing.{PublishesOnward}
 

@@ -114,7 +114,7 @@ pub record HoldsFitting {E : Type 0} (c : Core E) (stored : ℕ) : Type 0 where
   pub page : Page
   pub holds : c.phase ≡ Holding tenure page stored false
   pub not_ended : page.ended ≡ false
-  pub room : page.words + frame_len c ≤ c.layout.capacity
+  pub room : page.words + frame_len c ≤ c.layout.capacity + page.floor
 
 -- a word of its frame is not stored yet
 pub record HasWordLeft {E : Type 0} (c : Core E) : Type 0 where
@@ -135,7 +135,17 @@ pub record LeavesPage {E : Type 0} (c : Core E) : Type 0 where
   pub published : Bool
   pub holds : c.phase ≡ Holding tenure page stored published
   pub why : (published ≡ true)
-      ⊎ ((page.ended ≡ true) ⊎ (c.layout.capacity < page.words + frame_len c))
+      ⊎ ((page.ended ≡ true) ⊎ (c.layout.capacity + page.floor < page.words + frame_len c))
+
+-- the page lies before it, the order has not ended, and its frame does not fit the log by the
+-- page's floor
+pub record HoldsUnfitting {E : Type 0} (c : Core E) : Type 0 where
+  pub tenure : ℕ
+  pub page : Page
+  pub stored : ℕ
+  pub holds : c.phase ≡ Holding tenure page stored false
+  pub goes_on : page.ended ≡ false
+  pub full : c.layout.capacity + page.floor < page.words + frame_len c
 
 -- it has handed the page on
 pub record HasHandedOn {E : Type 0} (c : Core E) : Type 0 where

@@ -1,6 +1,6 @@
 -- One sender: the words of the bus that it is on, its batch, and the tenure that it has begun.
-use Rattle.std.specs.Prelude.{ℕ, ◌+◌, ◌*◌, Bool, true, false, Option, List, [], ◌∷◌, length}
-use Rattle.std.specs.Prelude.{nat_le, slice_set, if◌then◌else◌}
+use Rattle.std.specs.Prelude.{◌≡◌, ℕ, ◌+◌, ◌*◌, ◌%◌, Bool, true, false, Option, List, [], ◌∷◌}
+use Rattle.std.specs.Prelude.{length, nat_le, slice_set, if◌then◌else◌}
 use Rattle.bus_register.specs.declared.kinds.Kind.{Kind}
 use Rattle.bus_register.specs.declared.registers.Op.{Op}
 use Rattle.bus_batch.specs.Batches.{Pending, next_of, frame_of}
@@ -22,6 +22,8 @@ pub record Layout : Type 0 where
   pub width : ℕ
   -- how many words the log has
   pub capacity : ℕ
+  -- how many passed places there are: one for each receiver where the log is used again, else none
+  pub passers : ℕ
 
 abbrev pub length_at : ℕ
 length_at = 0
@@ -34,6 +36,10 @@ row_at x t = 2 + t * x.width
 
 abbrev pub log_at : Layout → ℕ
 log_at x = 2 + x.rows * x.width
+
+-- the word of the log, counted from its first, in which this place lives
+abbrev pub cell_of : Layout → ℕ → ℕ
+cell_of x place = place % x.capacity
 
 abbrev pub words_of : Layout → ℕ
 words_of x = 2 + x.rows * x.width + x.capacity
@@ -92,12 +98,19 @@ is_empty (x ∷ xs) = false
 abbrev pub frame_len : {E : Type 0} → Core E → ℕ
 frame_len c = length (frame_words (frame_of c.queue 0))
 
--- its frame fits the log
+-- its frame fits the log: no word of it goes where one stands that is not below the floor
 abbrev pub has_room : {E : Type 0} → Core E → Page → Bool
-has_room c page = nat_le (page.words + frame_len c) c.layout.capacity
+has_room c page = nat_le (page.words + frame_len c) (c.layout.capacity + page.floor)
+
+-- a frame as long as the log fits behind words that end at the floor, and behind one word more none
+abbrev pub GoesByFloor : {E : Type 0} → Core E → Page → Type 0
+GoesByFloor c page =
+    frame_len c ≡ c.layout.capacity
+    → (page.words ≡ page.floor → has_room c page ≡ true)
+    × (page.words ≡ page.floor + 1 → has_room c page ≡ false)
 
 -- the page as a holder hands it on: the numbers, who left, the end mark, the tenures and the words
--- brought up to date
+-- brought up to date, and the floor that it has
 abbrev pub page_after : {E : Type 0} → Core E → ℕ → Page → Reason → Page
 page_after c t page Sent = record {
   next = slice_set page.next c.me (next_of c.queue);
@@ -105,6 +118,7 @@ page_after c t page Sent = record {
   ended = is_closing c.queue.phase;
   tenures = t + 1;
   words = page.words + frame_len c;
+  floor = page.floor;
 }
 page_after c t page FoundEnd = record page { tenures = t + 1 }
 page_after c t page NoRoom = record page { tenures = t + 1 }

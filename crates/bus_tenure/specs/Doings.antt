@@ -1,5 +1,6 @@
 -- What code sees of a situation.
 use Rattle.std.specs.Prelude.{◌≡◌, ◌⊎◌, ℕ, ◌+◌, ◌<◌, ◌≤◌, slice_index}
+use Rattle.bus_register.specs.declared.limits.TheConstants.{NUMBERS}
 use Rattle.bus_batch.specs.Batches.{frame_of}
 use Rattle.bus_batch.specs.Frames.{frame_words}
 use Rattle.bus_tenure.specs.Core.{Core, Election, frame_len}
@@ -36,11 +37,18 @@ pub record IsWord (d : Doing) : Type 0 where
   pub stored : ℕ
   pub is : d ≡ doing.Word tenure words stored
 
+-- its frame fits the log behind so many words, by a floor that is not past these
+pub record FitsBehind {E : Type 0} (c : Core E) (words : ℕ) : Type 0 where
+  pub floor : ℕ
+  pub behind : floor ≤ words
+  pub few : floor ≤ NUMBERS
+  pub room : words + frame_len c ≤ c.layout.capacity + floor
+
 -- with its next step it stores this word of its frame, behind so many words of the log and of the
 -- frame
 pub record StoresNext {E : Type 0} (X : Election E) (c : Core E) (tenure words stored value : ℕ) :
     Type 0 where
   pub due : doing_of (situation_of X c) ≡ doing.Word tenure words stored
   pub word : value ≡ slice_index (frame_words (frame_of c.queue tenure)) stored
-  pub room : words + frame_len c ≤ c.layout.capacity
+  pub room : FitsBehind c words
   pub below : stored < frame_len c

@@ -1,12 +1,15 @@
 -- What every sender keeps.
 use Rattle.std.specs.Prelude.{◌≡◌, ◌≢◌, ℕ, ◌+◌, ◌<◌, ◌≤◌, ◌^◌, Bool, true, false}
 use Rattle.bus_register.specs.declared.limits.TheConstants.{MOST_SENDERS, MOST_ROUNDS, TENURES}
+use Rattle.bus_register.specs.declared.limits.TheConstants.{MOST_RECEIVERS}
 use Rattle.bus_batch.specs.Batches.{Pending, HasSomething}
 use Rattle.bus_batch.specs.declared.batches.Phase.TheVariants.{Closed}
+use Rattle.bus_tenure.specs.declared.pages.Page.{Page}
 use Rattle.bus_tenure.specs.declared.phases.Phase.{Phase}
 use Rattle.bus_tenure.specs.declared.phases.Phase.TheVariants.{Resting, Electing, Taken, Holding}
 use Rattle.bus_tenure.specs.declared.phases.Phase.TheVariants.{Giving}
 use Rattle.bus_tenure.specs.Core.{Layout, Core, row_at, words_of, frame_len}
+use Rattle.bus_tenure.specs.Paging.{PageKeeps}
 
 -- the sizes of a bus, with so many words in each row
 pub record AreSizes (x : Layout) (width : ℕ) : Type 0 where
@@ -16,6 +19,7 @@ pub record AreSizes (x : Layout) (width : ℕ) : Type 0 where
   pub rounds_few : x.rounds ≤ MOST_ROUNDS
   pub rows_few : x.rows ≤ TENURES
   pub capacity_few : x.capacity ≤ 2 ^ 20
+  pub passers_few : x.passers ≤ MOST_RECEIVERS
   pub width_is : x.width ≡ width
   pub room : words_of x ≤ 2 ^ 63
 
@@ -32,11 +36,12 @@ pub record IsInTenure {E : Type 0} (c : Core E) (tenure : ℕ) : Type 0 where
 
 -- with the page before it: so many words of the frame are stored; where the length is, the frame
 -- has its room
-pub record IsHolding {E : Type 0} (c : Core E) (tenure words stored : ℕ) (published : Bool) :
-    Type 0 where
+pub record IsHolding {E : Type 0} (c : Core E) (tenure : ℕ) (page : Page) (stored : ℕ)
+    (published : Bool) : Type 0 where
   pub in_tenure : IsInTenure c tenure
+  pub kept : PageKeeps page
   pub within : stored ≤ frame_len c
-  pub room : published ≡ true → words + frame_len c ≤ c.layout.capacity
+  pub room : published ≡ true → page.words + frame_len c ≤ c.layout.capacity + page.floor
 
 -- in an election, whose local state belongs to the row of the tenure
 pub record IsElecting {E : Type 0} (Belongs : ℕ → E → Type 0) (c : Core E) (tenure : ℕ)
@@ -48,7 +53,7 @@ abbrev pub PhaseKeeps : {E : Type 0} → (ℕ → E → Type 0) → Core E → P
 PhaseKeeps Belongs c Resting = c.queue.busy ≡ false
 PhaseKeeps Belongs c (Electing t e) = IsElecting Belongs c t e
 PhaseKeeps Belongs c (Taken t) = IsInTenure c t
-PhaseKeeps Belongs c (Holding t page stored published) = IsHolding c t page.words stored published
+PhaseKeeps Belongs c (Holding t page stored published) = IsHolding c t page stored published
 PhaseKeeps Belongs c (Giving t reason) = IsInTenure c t
 
 -- the batch is the sender's own, and as the phase has it

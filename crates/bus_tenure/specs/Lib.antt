@@ -1,3 +1,4 @@
+pub mod Paging
 pub mod Core
 pub mod Situations
 pub mod Elections

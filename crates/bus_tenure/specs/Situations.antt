@@ -3,6 +3,7 @@
 -- answers after it, and what becomes of the page and of the frame.
 use Rattle.std.specs.Prelude.{ℕ, ◌+◌, ◌-◌, ◌*◌, ◌/◌, ◌%◌, Bool, true, false, Option, Some, None}
 use Rattle.std.specs.Prelude.{[], nat_lt, nat_le, ◌==◌, ◌&&◌, if◌then◌else◌, is_some, slice_index}
+use Rattle.bus_register.specs.declared.limits.TheConstants.{NUMBERS}
 use Rattle.bus_register.specs.declared.kinds.Kind.{Kind}
 use Rattle.bus_register.specs.declared.kinds.Kind.TheVariants as kind
 use Rattle.bus_register.specs.declared.registers.Op.{Op}
@@ -13,7 +14,7 @@ use Rattle.bus_batch.specs.declared.batches.Phase.TheVariants.{Open, Marking, Cl
 use Rattle.bus_batch.specs.declared.messages.Mark.TheVariants as mark
 use Rattle.bus_batch.specs.Frames.{Frame, frame_words}
 use Rattle.bus_tenure.specs.Core.{Core, Election, length_at, stage_at, row_at, log_at, is_marking}
-use Rattle.bus_tenure.specs.Core.{is_closed, is_empty, frame_len, has_room, page_after}
+use Rattle.bus_tenure.specs.Core.{is_closed, is_empty, cell_of, frame_len, has_room, page_after}
 use Rattle.bus_tenure.specs.declared.pages.Page.{Page}
 use Rattle.bus_tenure.specs.declared.phases.Reason.{Reason}
 use Rattle.bus_tenure.specs.declared.phases.Reason.TheVariants.{Sent, FoundEnd, NoRoom}
@@ -198,6 +199,24 @@ core_at_rest c reason t = record c {
   phase = Resting;
 }
 
+-- ---- what the last of all passed places leaves
+abbrev pub lesser : ℕ → ℕ → ℕ
+lesser a b = if nat_lt a b then a else b
+
+-- the page that lies before a sender gets this floor, but none past its words, and a number of
+-- those that there are
+abbrev pub phase_floored : {E : Type 0} → ℕ → Phase E → Phase E
+phase_floored least Resting = Resting
+phase_floored least (Electing t e) = Electing t e
+phase_floored least (Taken t) = Taken t
+phase_floored least (Holding t page stored published) = Holding t (record page {
+  floor = lesser (lesser least page.words) NUMBERS;
+}) stored published
+phase_floored least (Giving t reason) = Giving t reason
+
+abbrev pub core_floored : {E : Type 0} → Core E → ℕ → Core E
+core_floored c least = record c { phase = phase_floored least c.phase }
+
 -- the answer once its frame stands in the log: the end mark, its leave mark, or its messages
 abbrev pub answer_sent : Pending → ℕ → BatchPhase → Turn
 answer_sent q t Open = turn.Delivered t q.first (next_of q - 1)
@@ -235,7 +254,8 @@ line_of X c (TakesPage t) =
     (record c { phase = Taken t }) (turn.Own t)) { move = Comes t; takes = true }
 line_of X c (AwaitsPage t) = record (blank c turn.Going) { tenure = Some t; move = Comes t }
 line_of X c (StoresWord t page stored) =
-    steps t kind.StoreLogWord (Store record { 0 = log_at c.layout + page.words + stored }
+    steps t kind.StoreLogWord
+    (Store record { 0 = log_at c.layout + cell_of c.layout (page.words + stored) }
     (slice_index (frame_words (frame_of c.queue t)) stored))
     (record c { phase = Holding t page (stored + 1) false }) turn.Going
 line_of X c (StoresLength t page stored) =

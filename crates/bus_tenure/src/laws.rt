@@ -3,9 +3,10 @@
 
 ghost use Rattle.bus_ownerbits.specs.Sizes.{election_bound};
 ghost use Rattle.bus_tenure.specs.Bounds.{IsBounded};
-ghost use Rattle.bus_tenure.specs.Core.{Core};
+ghost use Rattle.bus_tenure.specs.Core.{Core, GoesByFloor};
 ghost use Rattle.bus_tenure.specs.Elections.{Elector, election_of};
 ghost use Rattle.bus_tenure.specs.Publishing.{PublishesOnward};
+ghost use Rattle.bus_tenure.specs.declared.pages.Page.{Page};
 
 use bus_adoptcommit::Ratifier;
 
@@ -20,4 +21,10 @@ pub fn elections_are_bounded<Q: Ratifier>()
 /// stands behind no end mark.
 pub fn published_frames_go_on<Q: Ratifier>()
     ensures { (c : Core (Elector Q)) → PublishesOnward (election_of Q.Ratifier) c }
+{}
+
+/// Room goes by the floor: where the words of the page end there, a frame as long as the log fits,
+/// and one word further none does that is so long.
+pub fn room_goes_by_the_floor<Q: Ratifier>()
+    ensures { (c : Core (Elector Q)) (page : Page) → GoesByFloor c page }
 {}

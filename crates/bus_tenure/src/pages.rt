@@ -1,8 +1,9 @@
 //! What the holder of the lock guards.
 
-ghost use Rattle.std.specs.Prelude.{◌≡◌, ◌<◌, IfOk, slice_set, true, if◌then◌else◌};
+ghost use Rattle.std.specs.Prelude.{◌≡◌, ◌<◌, ◌≤◌, IfOk, slice_set, true, if◌then◌else◌};
+ghost use Rattle.bus_tenure.specs.Paging.{PageKeeps};
 
-use bus_register::limits::MOST_SENDERS;
+use bus_register::limits::{MOST_SENDERS, NUMBERS};
 use bus_register::{NoMemory, SenderNo};
 use std::alloc::Global;
 use std::marker::Model;
@@ -20,29 +21,44 @@ pub struct Page {
     pub tenures: u64,
     /// How many words of the log stand below the length.
     pub words: u64,
+    /// The least place that an owner last found all receivers past; 0 where no word of the log is
+    /// used again.
+    pub floor: u64,
 }
 
-/// The page as it is passed on: on the heap, so that passing it moves one pointer.
+/// The page as it is passed on: on the heap, so that passing it moves one pointer. Its floor is no
+/// further than its words.
 #[derive(Drop)]
 pub struct OwnedPage {
     page: Box<Page>,
 }
 
 impl Model for OwnedPage {
+    ghost use Rattle.bus_tenure.specs.Paging.{PageKeeps};
     ghost use Rattle.bus_tenure.specs.declared.pages.Page.{Page};
 
     ghost Value = { Page };
 
     ghost view = { λ p. p.page.value };
+
+    ghost invariant = { λ p. PageKeeps p.page.value };
 }
 
 impl OwnedPage {
-    /// Puts this page on the heap. Memory is its only refusal.
+    /// Puts this page on the heap, with the floor 0: nobody was found past a word yet. Memory is
+    /// its only refusal.
     pub fn new(alloc: Global, page: Page) -> Result<OwnedPage, NoMemory>
-        ensures { IfOk result (λ p. p ≡ page) }
+        ensures { IfOk result (λ p. p ≡ record page { floor = 0 }) }
     {
-        let page = Box::new(alloc, page)?;
+        let page = Box::new(alloc, Page { floor: 0, ..page })?;
         Ok(OwnedPage { page })
+    }
+
+    /// Its floor is no further than its words.
+    pub fn is_kept(&self)
+        ensures { PageKeeps self.now }
+    {
+        let _ = &self.page;
     }
 
     /// The page itself.
@@ -59,6 +75,15 @@ impl OwnedPage {
         self.page.tenures = tenures;
     }
 
+    /// So far are all receivers past.
+    pub(crate) fn set_floor(&mut self, floor: u64)
+        requires behind { floor ≤ self.old.words }
+        requires few { floor ≤ NUMBERS }
+        ensures { self.new ≡ record self.old { floor = floor } }
+    {
+        self.page.floor = floor;
+    }
+
     /// A frame of this sender stands in the log, and `number` is that of its next message. With
     /// that frame it has left, or it has not.
     pub(crate) fn take_frame(
@@ -69,7 +94,8 @@ impl OwnedPage {
         ended: bool,
         words: u64,
     )
-        requires { sender.0 < MOST_SENDERS }
+        requires below { sender.0 < MOST_SENDERS }
+        requires more { self.old.words ≤ words }
         ensures { self.new ≡ record self.old {
           next = slice_set self.old.next sender.0 number;
           left = if left then slice_set self.old.left sender.0 true else self.old.left;

@@ -1,16 +1,13 @@
 //! What a sender does in its tenures, whatever rows there are.
 
-ghost use Rattle.std.specs.Prelude.{◌≡◌, ℕ, ◌+◌, ◌*◌, ◌-◌, ◌<◌, ◌≤◌, ◌^◌, [], ◌∷◌, ◌++◌, length};
-ghost use Rattle.std.specs.Prelude.{slice_index, IfOk, IfErr, OnOk, OnErr, IfSome, IsSome, IsTrue};
-ghost use Rattle.std.specs.Prelude.{◌↔◌, false, true, Some};
+ghost use Rattle.std.specs.Prelude.{◌≡◌, ℕ, ◌+◌, ◌*◌, ◌-◌, ◌<◌, ◌≤◌, ◌^◌, []};
+ghost use Rattle.std.specs.Prelude.{slice_index, IfSome, IsSome, IsTrue, ◌↔◌, false, true, Some};
 ghost use Rattle.bus_register.specs.Words.{register};
-ghost use Rattle.bus_batch.specs.Batches.{next_of, frame_of, HasSomething, CanPut, IsPutFault};
-ghost use Rattle.bus_batch.specs.Batches.{CanClose, IsCloseFault};
+ghost use Rattle.bus_batch.specs.Batches.{frame_of, HasSomething};
 ghost use Rattle.bus_batch.specs.Frames.{frame_words};
 ghost use Rattle.bus_batch.specs.declared.batches.Phase.TheVariants as queue_phase;
-ghost use Rattle.bus_batch.specs.declared.messages.Mark.TheVariants as mark;
-ghost use Rattle.bus_tenure.specs.Core.{log_at, Core, row_at, words_of, is_marking, is_closing};
-ghost use Rattle.bus_tenure.specs.Core.{is_leaving, is_closed, frame_len, has_room, page_after};
+ghost use Rattle.bus_tenure.specs.Core.{log_at, Core, row_at, words_of, is_marking, frame_len};
+ghost use Rattle.bus_tenure.specs.Core.{has_room, page_after};
 ghost use Rattle.bus_tenure.specs.Elections.{election_of, elections, layout_with, ElectorKeeps};
 ghost use Rattle.bus_tenure.specs.Keeping.{SenderInvariant, IsInTenure};
 ghost use Rattle.bus_tenure.specs.Seen.{turns_of, tenure_of, HasElection, AwaitsItsPage};
@@ -19,22 +16,25 @@ ghost use Rattle.bus_tenure.specs.Situations.{core_begun, LooksAtStage, GivesBac
 ghost use Rattle.bus_tenure.specs.Situations.{holding, situation_of, kind_at, op_at, core_at_rest};
 ghost use Rattle.bus_tenure.specs.Situations.{core_after_stage, tenure_begun, fed_at};
 ghost use Rattle.bus_tenure.specs.Situations.{answer_of_stage, answer_of_return, answer_at};
-ghost use Rattle.bus_tenure.specs.Situations.{wants_at, answer_sent};
+ghost use Rattle.bus_tenure.specs.Situations.{wants_at, answer_sent, core_floored};
+ghost use Rattle.bus_tenure.specs.Situations.{lesser as spec_lesser};
+ghost use Rattle.bus_tenure.specs.Causes.{HoldsUnfitting};
 ghost use Rattle.bus_tenure.specs.declared.pages.Page.{Page};
 ghost use Rattle.bus_tenure.specs.declared.phases.Phase.TheVariants as phase;
-ghost use Rattle.bus_tenure.specs.Doings.{doing_of, Ends, IsWord, StoresNext};
+ghost use Rattle.bus_tenure.specs.Doings.{doing_of, Ends, IsWord, FitsBehind, StoresNext};
 ghost use Rattle.bus_tenure.specs.declared.doings.Doing.TheVariants as doing;
 
+mod filling;
+
 use super::doings::Doing;
-use super::pages::{OwnedPage, Page};
+use super::pages::OwnedPage;
 use super::phases::{Phase, Reason};
 use super::turns::Turn;
-use arrayvec::ArrayVec;
 use bus_adoptcommit::Ratifier;
-use bus_batch::{Batch, CloseFault, Message, PutFault};
+use bus_batch::Batch;
 use bus_ownerbits::Election;
 use bus_register::limits::{
-    MOST_BODY_WORDS, MOST_MESSAGES, MOST_ROUNDS, MOST_SENDERS, NUMBERS, TENURES,
+    MOST_BODY_WORDS, MOST_RECEIVERS, MOST_ROUNDS, MOST_SENDERS, NUMBERS, TENURES,
 };
 use bus_register::{Kind, Machine, Op, Reg, SenderNo};
 use std::marker::Model;
@@ -48,6 +48,16 @@ struct Sizes {
     rows: u64,
     width: u64,
     capacity: u64,
+    passers: u64,
+}
+
+/// The lesser one of two numbers.
+fn lesser(one: u64, other: u64) -> u64
+    ensures is { result ≡ spec_lesser one other }
+    ensures first { result ≤ one }
+    ensures second { result ≤ other }
+{
+    if one < other { one } else { other }
 }
 
 /// What a sender holds in its tenures: the batch that it fills, the tenure that it has begun, and
@@ -77,6 +87,7 @@ impl<Q: Ratifier> Model for Turns<Q> {
         rows = c.sizes.rows;
         width = c.sizes.width;
         capacity = c.sizes.capacity;
+        passers = c.sizes.passers;
       };
       me = c.me.0;
       queue = c.batch;
@@ -94,6 +105,7 @@ impl<Q: Ratifier> Model for Turns<Q> {
             rows = c.sizes.rows;
             width = c.sizes.width;
             capacity = c.sizes.capacity;
+            passers = c.sizes.passers;
           };
           me = c.me.0;
           queue = c.batch;
@@ -142,6 +154,7 @@ impl<Q: Ratifier + Drop> Turns<Q> {
                 rows,
                 width: Election::<Q>::width(senders, rounds),
                 capacity: log_words,
+                passers: 0,
             },
             me,
             batch: Batch::new(me, first),
@@ -150,100 +163,11 @@ impl<Q: Ratifier + Drop> Turns<Q> {
         }
     }
 
-    /// Appends a message to the batch and gives its number.
-    pub fn put(&mut self, bytes: &[u8]) -> Result<u64, PutFault>
-        requires { next_of self.old.queue < NUMBERS }
-        ensures number { IfOk result (λ number. number ≡ next_of self.old.queue) }
-        ensures taken { OnOk result
-            (self.new ≡ record self.old {
-              queue = record self.old.queue {
-                messages = self.old.queue.messages
-                    ++ bytes.now ∷ [];
-              };
-            }) }
-        ensures could { OnOk result (CanPut self.old.queue (length bytes.now)) }
-        ensures fault { IfErr result (IsPutFault self.old.queue (length bytes.now)) }
-        ensures refused { OnErr result (self.new ≡ self.old) }
-    {
-        self.batch.put(bytes)
-    }
-
-    /// Lets an end mark wait in place of messages.
-    pub fn close(&mut self) -> Result<(), CloseFault>
-        ensures taken { OnOk result
-            (self.new ≡ record self.old {
-              queue = record self.old.queue { phase = queue_phase.Marking mark.End };
-            }) }
-        ensures could { OnOk result (CanClose self.old.queue) }
-        ensures fault { IfErr result (IsCloseFault self.old.queue) }
-        ensures refused { OnErr result (self.new ≡ self.old) }
-    {
-        self.batch.close()
-    }
-
-    /// Lets its leave mark wait in place of messages. Once that stands in the log the answer is
-    /// Left, and nothing more is sent. A holder that finds the order ended answers Closed, and
-    /// nothing more is sent either; where the mark does not fit the log it answers Full, and the
-    /// mark waits on.
-    pub fn leave(&mut self) -> Result<(), CloseFault>
-        ensures taken { OnOk result
-            (self.new ≡ record self.old {
-              queue = record self.old.queue { phase = queue_phase.Marking mark.Leave };
-            }) }
-        ensures could { OnOk result (CanClose self.old.queue) }
-        ensures fault { IfErr result (IsCloseFault self.old.queue) }
-        ensures refused { OnErr result (self.new ≡ self.old) }
-    {
-        self.batch.leave()
-    }
-
     /// The sender's number.
     pub fn number(&self) -> SenderNo
         ensures { result.0 ≡ self.now.me }
     {
         self.me
-    }
-
-    /// How many messages wait.
-    pub fn pending(&self) -> u64
-        ensures { result ≡ length self.now.queue.messages }
-    {
-        self.batch.len()
-    }
-
-    /// The messages that wait, in their order, spelled back from their words.
-    pub fn waiting(&self) -> ArrayVec<Message, MOST_MESSAGES>
-        ensures { result.items ≡ self.now.queue.messages }
-    {
-        self.batch.waiting()
-    }
-
-    /// The number that the next message gets.
-    pub fn next_number(&self) -> u64
-        ensures { result ≡ next_of self.now.queue }
-    {
-        self.batch.next_number()
-    }
-
-    /// An end mark waits.
-    pub fn is_closing(&self) -> bool
-        ensures { result ≡ is_closing self.now.queue.phase }
-    {
-        self.batch.is_closing()
-    }
-
-    /// Its leave mark waits.
-    pub fn is_leaving(&self) -> bool
-        ensures { result ≡ is_leaving self.now.queue.phase }
-    {
-        self.batch.is_leaving()
-    }
-
-    /// Nothing more is sent: it has closed or left, or has found the order ended.
-    pub fn is_closed(&self) -> bool
-        ensures { result ≡ is_closed self.now.queue.phase }
-    {
-        self.batch.is_closed()
     }
 
     /// The tenure that it has begun.
@@ -313,20 +237,24 @@ impl<Q: Ratifier + Drop> Turns<Q> {
     }
 
     /// The frame fits the log, on the page.
-    fn has_room(&self, page: &Page) -> bool
+    fn has_room(&self, page: &OwnedPage) -> bool
         requires { HasSomething self.now.queue }
         ensures { result ≡ has_room self.now page.now }
     {
+        page.is_kept();
+        let page = page.get();
+        let most = self.sizes.capacity + page.floor;
         let len = self.frame_len();
-        len <= self.sizes.capacity && page.words <= self.sizes.capacity - len
+        len <= most && page.words <= most - len
     }
 
     /// What it does next with a page before it.
     #[inline(always)]
-    fn hold(&self, tenure: u64, page: &Page, stored: u64, published: bool) -> Doing
+    fn hold(&self, tenure: u64, held: &OwnedPage, stored: u64, published: bool) -> Doing
         requires { HasSomething self.now.queue }
-        ensures { result ≡ doing_of (holding self.now tenure page.now stored published) }
+        ensures { result ≡ doing_of (holding self.now tenure held.now stored published) }
     {
+        let page = held.get();
         if published {
             Doing::Back {
                 tenure,
@@ -337,7 +265,7 @@ impl<Q: Ratifier + Drop> Turns<Q> {
                 tenure,
                 reason: Reason::FoundEnd,
             }
-        } else if !self.has_room(page) {
+        } else if !self.has_room(held) {
             Doing::Back {
                 tenure,
                 reason: Reason::NoRoom,
@@ -373,7 +301,7 @@ impl<Q: Ratifier + Drop> Turns<Q> {
                 page,
                 stored,
                 published,
-            } => self.hold(*tenure, page.get(), *stored, *published),
+            } => self.hold(*tenure, page, *stored, *published),
             Phase::Giving { tenure, reason } => Doing::Handed {
                 tenure: *tenure,
                 reason: *reason,
@@ -399,7 +327,7 @@ impl<Q: Ratifier + Drop> Turns<Q> {
         else {
             return false;
         };
-        match self.hold(*tenure, page.get(), *stored, *published) {
+        match self.hold(*tenure, page, *stored, *published) {
             Doing::Word {
                 tenure,
                 words,
@@ -456,6 +384,22 @@ impl<Q: Ratifier + Drop> Turns<Q> {
         ensures room { 2 + self.now.layout.rows * result ≤ 2 ^ 63 }
     {
         self.sizes.width
+    }
+
+    /// How many passed places there are.
+    pub fn passers(&self) -> u64
+        ensures is { result ≡ self.now.layout.passers }
+        ensures few { result ≤ MOST_RECEIVERS }
+    {
+        self.sizes.passers
+    }
+
+    /// How many words the log has.
+    pub fn capacity(&self) -> u64
+        ensures is { result ≡ self.now.layout.capacity }
+        ensures few { result ≤ 2 ^ 20 }
+    {
+        self.sizes.capacity
     }
 
     /// The next step of its election.
@@ -530,7 +474,9 @@ impl<Q: Ratifier + Drop> Turns<Q> {
             doing_of (situation_of X self.now) ≡ doing.Word tenure words stored }
         ensures word { result
             ≡ slice_index (frame_words (frame_of self.now.queue tenure)) stored }
-        ensures room { words + frame_len self.now ≤ self.now.layout.capacity }
+        ensures room { FitsBehind self.now words }
+        ensures log { 0 < self.now.layout.capacity }
+        ensures number { words + frame_len self.now < 2 ^ 64 }
         ensures below { stored < frame_len self.now }
     {
         self.batch.word(stored, tenure)
@@ -636,9 +582,9 @@ impl<Q: Ratifier + Drop> Turns<Q> {
     }
 
     /// The word of its frame is stored that `stores_word` told. Says whether it stores the word
-    /// behind that one next; then that is `value`.
+    /// behind that one next; then that is `value`, and goes to this place.
     #[inline(always)]
-    pub fn next_word(&mut self, value: &mut u64) -> bool
+    pub fn next_word(&mut self, place: &mut u64, value: &mut u64) -> bool
         requires { let X = election_of Q.Ratifier in IsWord (doing_of (situation_of X self.old)) }
         ensures state { let X = election_of Q.Ratifier in
             (got : ℕ) (word : ℕ)
@@ -647,6 +593,10 @@ impl<Q: Ratifier + Drop> Turns<Q> {
             → (tenure words stored : ℕ)
             → doing_of (situation_of X self.old) ≡ doing.Word tenure words stored
             → StoresNext X self.new tenure words (stored + 1) value.new }
+        ensures place { let X = election_of Q.Ratifier in IsTrue result
+            → (tenure words stored : ℕ)
+            → doing_of (situation_of X self.old) ≡ doing.Word tenure words stored
+            → place.new ≡ words + (stored + 1) }
         ensures exact { let X = election_of Q.Ratifier in
             IsWord (doing_of (situation_of X self.new)) → IsTrue result }
     {
@@ -665,7 +615,20 @@ impl<Q: Ratifier + Drop> Turns<Q> {
             return false;
         }
         *value = self.frame_word(tenure, words, stored);
+        *place = words + stored;
         true
+    }
+
+    /// All passed places are loaded, and this is the least of them: the page's floor becomes it,
+    /// or the words below the length where those are fewer.
+    pub fn set_floor(&mut self, least: u64)
+        requires { HoldsUnfitting self.old }
+        ensures { self.new ≡ core_floored self.old least }
+    {
+        if let Phase::Holding { page, .. } = &mut self.phase {
+            let words = page.get().words;
+            page.set_floor(lesser(lesser(least, words), NUMBERS));
+        }
     }
 
     /// The length is stored.
@@ -741,6 +704,7 @@ impl<Q: Ratifier + Drop> Turns<Q> {
         ensures { (t : ℕ) → self.old.phase ≡ phase.Taken t
             → self.new ≡ record self.old { phase = phase.Holding t page 0 false } }
     {
+        page.is_kept();
         if let Phase::Taken { tenure } = self.phase {
             self.phase = Phase::Holding {
                 tenure,

@@ -75,6 +75,7 @@ plain_kind kind.LoadStageAgain = plain_by (codes "LoadStageAgain") refl
 plain_kind kind.Withdraw = plain_by (codes "Withdraw") refl
 plain_kind kind.ReadPresence = plain_by (codes "ReadPresence") refl
 plain_kind kind.ClearRow = plain_by (codes "ClearRow") refl
+plain_kind kind.ReadPassed = plain_by (codes "ReadPassed") refl
 
 -- a word and a number behind it, and more behind a space
 numbered_word : (name : List ℕ) (n : ℕ) → IsPlain name → IsPlain (name ++ behind n)

@@ -10,7 +10,7 @@ use Rattle.bus_batch.specs.declared.messages.Mark.TheVariants as mark
 use Rattle.bus_register.specs.declared.registers.Op.{Op}
 use Rattle.bus_register.specs.Words.{register}
 use Rattle.bus_core.specs.Senders.{Sender, Situation, Does, Announces, Validates, Unpins}
-use Rattle.bus_core.specs.Senders.{Withdraws, Scans, Clears, situation}
+use Rattle.bus_core.specs.Senders.{Withdraws, Scans, Clears, ReadsPassed, situation}
 use Rattle.bus_core.specs.Table.{Line, line_now}
 use Rattle.bus_machine.specs.Machine.{Machine, Trails, no_machine_trails, entered, turn_trails}
 use Rattle.bus_machine.specs.Machine.{turn_grown, turn_answer, going}
@@ -132,6 +132,7 @@ module _ {E : Type 0} (p : TraceSizes) (words : ℕ → ℕ) (l : Line E) (s wor
   pin_shown (Withdraws u) entry e = entry_shown p words s l.tenure l.kind (l.op word) entry e
   pin_shown (Scans r) entry e = absurd cc
   pin_shown (Clears r) entry e = absurd cc
+  pin_shown (ReadsPassed u q) entry e = absurd cc
 
   reclaim_shown : (i : Situation E) (entry : Entry) → (after i).reclaims s ≡ entry ∷ []
       → line_text p words l word ≡ entry_text p l.tenure
@@ -143,6 +144,7 @@ module _ {E : Type 0} (p : TraceSizes) (words : ℕ → ℕ) (l : Line E) (s wor
   reclaim_shown (Withdraws u) entry e = absurd cc
   reclaim_shown (Scans r) entry e = entry_shown p words s l.tenure l.kind (l.op word) entry e
   reclaim_shown (Clears r) entry e = entry_shown p words s l.tenure l.kind (l.op word) entry e
+  reclaim_shown (ReadsPassed u q) entry e = absurd cc
 
   -- the answer of the one action that is added
   answer_shown : (i : Situation E) (action : Action) → (after i).actions s ≡ action ∷ []
@@ -156,6 +158,10 @@ module _ {E : Type 0} (p : TraceSizes) (words : ℕ → ℕ) (l : Line E) (s wor
   answer_shown (Withdraws u) action e = absurd (nothing_added s action e)
   answer_shown (Scans r) action e = absurd (nothing_added s action e)
   answer_shown (Clears r) action e = absurd (nothing_added s action e)
+  answer_shown (ReadsPassed u q) action e =
+      step_answered l.kind l.tenure (number_found words (l.op word))
+      (l.chosen (number_found words (l.op word)) word) t action
+      (sym (own s _ []) ∙ e)
 
   -- it is its own
   adds_own : (i : Situation E) (q : ℕ) → (after i).actions q ≢ [] → q ≡ s
@@ -166,6 +172,7 @@ module _ {E : Type 0} (p : TraceSizes) (words : ℕ → ℕ) (l : Line E) (s wor
   adds_own (Withdraws u) q some = whose q s [] some
   adds_own (Scans r) q some = whose q s [] some
   adds_own (Clears r) q some = whose q s [] some
+  adds_own (ReadsPassed u d) q some = whose q s _ some
 
   hears_none : (i : Situation E) (r : ℕ) → (after i).heard r ≡ []
   hears_none (Does z) r = refl
@@ -175,6 +182,7 @@ module _ {E : Type 0} (p : TraceSizes) (words : ℕ → ℕ) (l : Line E) (s wor
   hears_none (Withdraws u) r = refl
   hears_none (Scans u) r = refl
   hears_none (Clears u) r = refl
+  hears_none (ReadsPassed u q) r = refl
 
 -- ---- an event
 module _ {S : Type 0} (p : TraceSizes) (X : Election (Elector S)) (P : Protocol S Bool Verdict)

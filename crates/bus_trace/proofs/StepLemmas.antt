@@ -14,7 +14,10 @@ use Rattle.bus_adoptcommit.specs.declared.verdicts.Verdict.{Verdict}
 use Rattle.bus_core.specs.Causes.{HasCause}
 use Rattle.bus_core.specs.Seen.{begun_by}
 use Rattle.bus_core.specs.Keeping.{sender}
-use Rattle.bus_core.specs.Senders.{Sender, Does, Scans, Clears, at_home, pinning, participant_of}
+use Rattle.bus_core.specs.Senders.{Sender, Does, Scans, Clears, reclaiming, at_home, pinning}
+use Rattle.bus_core.specs.Senders.{participant_of}
+use Rattle.bus_core.specs.Reusing.Passing.{passing_left}
+use Rattle.bus_core.specs.declared.reuses.Passing.{Passing}
 use Rattle.bus_core.specs.Table.{line, line_now}
 use Rattle.bus_core.specs.declared.reuses.Reuse.{Reuse}
 use Rattle.bus_deliverylog.specs.Receiving.{Receiving}
@@ -45,19 +48,19 @@ use Rattle.bus_trace.proofs.RowLemmas.{there}
 
 -- ---- the tenure
 module _ {E : Type 0} (X : Election E) (v : Sender E) where
-  rests : (s : Option Reclaiming) (a b d : Bool)
+  rests : (l : Option Passing) (s : Option Reclaiming) (a b d : Bool)
       → None
       ≡ (line X v
-      (at_home s (cond a IsClosed (cond b IsIdle (cond d IsSpent LooksAtStage))))).tenure
-  rests s true b d = refl
-  rests s false true d = refl
-  rests s false false true = refl
-  rests s false false false = refl
+      (at_home l s (cond a IsClosed (cond b IsIdle (cond d IsSpent LooksAtStage))))).tenure
+  rests l s true b d = refl
+  rests l s false true d = refl
+  rests l s false false true = refl
+  rests l s false false false = refl
 
-  elects : (s : Option Reclaiming) (t : ℕ) (e : E) (a : Bool)
-      → Some t ≡ (line X v (at_home s (cond a (TakesPage t) (Elects t e)))).tenure
-  elects s t e true = refl
-  elects s t e false = refl
+  elects : (l : Option Passing) (s : Option Reclaiming) (t : ℕ) (e : E) (a : Bool)
+      → Some t ≡ (line X v (at_home l s (cond a (TakesPage t) (Elects t e)))).tenure
+  elects l s t e true = refl
+  elects l s t e false = refl
 
   module _ (t : ℕ) (held : tenure_of v.core.phase ≡ Some t) (page : Page) where
     reclaims : (s : Reclaiming) (reason : Reason) (a b : Bool)
@@ -67,35 +70,42 @@ module _ {E : Type 0} (X : Election E) (v : Sender E) where
     reclaims s reason false true = sym held
     reclaims s reason false false = refl
 
-    gives : (s : Option Reclaiming) (reason : Reason)
-        → Some t ≡ (line X v (at_home s (GivesBack t page reason))).tenure
-    gives None reason = refl
-    gives (Some s) reason =
+    unasked : (s : Option Reclaiming) (reason : Reason)
+        → Some t ≡ (line X v (reclaiming s (GivesBack t page reason))).tenure
+    unasked None reason = refl
+    unasked (Some s) reason =
         reclaims s reason (nat_lt s.scanned s.senders) (nat_lt s.cleared s.width)
 
-    holds : (s : Option Reclaiming) (stored : ℕ) (a b d e : Bool)
+    gives : (l : Option Passing) (s : Option Reclaiming) (reason : Reason)
+        → Some t ≡ (line X v (at_home l s (GivesBack t page reason))).tenure
+    gives l s Sent = unasked s Sent
+    gives l s FoundEnd = unasked s FoundEnd
+    gives None s NoRoom = unasked s NoRoom
+    gives (Some p) s NoRoom = refl
+
+    holds : (l : Option Passing) (s : Option Reclaiming) (stored : ℕ) (a b d e : Bool)
         → Some t
-        ≡ (line X v (at_home s (cond a (GivesBack t page Sent) (cond b (GivesBack t page FoundEnd)
+        ≡ (line X v (at_home l s (cond a (GivesBack t page Sent) (cond b (GivesBack t page FoundEnd)
         (cond d (cond e (StoresWord t page stored) (StoresLength t page stored))
         (GivesBack t page NoRoom)))))).tenure
-    holds s stored true b d e = gives s Sent
-    holds s stored false true d e = gives s FoundEnd
-    holds s stored false false true true = refl
-    holds s stored false false true false = refl
-    holds s stored false false false e = gives s NoRoom
+    holds l s stored true b d e = gives l s Sent
+    holds l s stored false true d e = gives l s FoundEnd
+    holds l s stored false false true true = refl
+    holds l s stored false false true false = refl
+    holds l s stored false false false e = gives l s NoRoom
 
   -- in its tenure, or before it
-  own_tenure : (s : Option Reclaiming) (ph : Phase E) → v.core.phase ≡ ph
-      → tenure_of ph ≡ (line X v (at_home s (situation_at X v.core ph))).tenure
-  own_tenure s phase.Resting is = rests s (is_closed v.core.queue.phase) _ _
-  own_tenure s (phase.Electing t e) is = elects s t e (is_some (X.owner e))
-  own_tenure s (phase.Taken t) is = refl
-  own_tenure s (phase.Holding t page stored published) is =
-      holds t (ap tenure_of is) page s stored published page.ended
+  own_tenure : (l : Option Passing) (s : Option Reclaiming) (ph : Phase E) → v.core.phase ≡ ph
+      → tenure_of ph ≡ (line X v (at_home l s (situation_at X v.core ph))).tenure
+  own_tenure l s phase.Resting is = rests l s (is_closed v.core.queue.phase) _ _
+  own_tenure l s (phase.Electing t e) is = elects l s t e (is_some (X.owner e))
+  own_tenure l s (phase.Taken t) is = refl
+  own_tenure l s (phase.Holding t page stored published) is =
+      holds t (ap tenure_of is) page l s stored published page.ended
       (has_room v.core page) (nat_lt stored (frame_len v.core))
-  own_tenure s (phase.Giving t reason) is = refl
+  own_tenure l s (phase.Giving t reason) is = refl
 
-at_none : {E : Type 0} (z : Own E) → at_home None z ≡ Does z
+at_none : {E : Type 0} (z : Own E) → at_home None None z ≡ Does z
 at_none IsClosed = refl
 at_none IsIdle = refl
 at_none IsSpent = refl
@@ -105,7 +115,9 @@ at_none (TakesPage t) = refl
 at_none (AwaitsPage t) = refl
 at_none (StoresWord t page stored) = refl
 at_none (StoresLength t page stored) = refl
-at_none (GivesBack t page reason) = refl
+at_none (GivesBack t page Sent) = refl
+at_none (GivesBack t page FoundEnd) = refl
+at_none (GivesBack t page NoRoom) = refl
 at_none (HasHanded t reason) = refl
 
 module _ {S : Type 0} (X : Election (Elector S)) (P : Protocol S Bool Verdict) where
@@ -155,6 +167,7 @@ module _ {S : Type 0} (X : Election (Elector S)) (P : Protocol S Bool Verdict) w
     pinned_in kind.StoreLength h = absurd (away h.0)
     pinned_in kind.ReadPresence h = absurd (away h.makes.away)
     pinned_in kind.ClearRow h = absurd (away h.makes.away)
+    pinned_in kind.ReadPassed h = absurd (away h.away)
     pinned_in kind.GivePageBack h = absurd (away h.1.away)
     pinned_in kind.LoadLength h = absurd h
     pinned_in kind.LoadLogWord h = absurd h
@@ -162,12 +175,18 @@ module _ {S : Type 0} (X : Election (Elector S)) (P : Protocol S Bool Verdict) w
   tenure_by : (c : Core (Elector S)) (r : Reuse) (u : Pin) → r.pin ≡ u → (k : Kind)
       → HasCause P (sender c (Some r)) k
       → tenure_begun_by c u
-      ≡ (line X (sender c (Some r)) (pinning u r.reclaimer (situation_of X c))).tenure
-  tenure_by c r Away is k h = own_tenure X (sender c (Some r)) r.reclaimer c.phase refl
+      ≡ (line X (sender c (Some r))
+      (pinning u (passing_left c.layout.passers r.passed) r.reclaimer (situation_of X c))).tenure
+  tenure_by c r Away is k h =
+      own_tenure X (sender c (Some r)) (passing_left c.layout.passers r.passed) r.reclaimer c.phase
+      refl
   tenure_by c r (Announcing t) is k h = refl
   tenure_by c r (Validating t) is k h = refl
   tenure_by c r (Pinned t) is k h =
-      sym (pinned_in c r t is k h) ∙ own_tenure X (sender c (Some r)) r.reclaimer c.phase refl
+      sym (pinned_in c r t is k h)
+      ∙ own_tenure X (sender c (Some r)) (passing_left c.layout.passers r.passed) r.reclaimer
+      c.phase
+      refl
   tenure_by c r (Unpinning t) is k h = refl
   tenure_by c r (Invalidated t) is k h = refl
 
@@ -175,7 +194,8 @@ module _ {S : Type 0} (X : Election (Elector S)) (P : Protocol S Bool Verdict) w
   pub tenure_is : (c : Core (Elector S)) (o : Option Reuse) (k : Kind) → HasCause P (sender c o) k
       → begun_by c o ≡ (line_now X (sender c o)).tenure
   tenure_is c None k h =
-      own_tenure X (sender c None) None c.phase refl ∙ ap (λ z. (line X (sender c None) z).tenure)
+      own_tenure X (sender c None) None None c.phase refl
+      ∙ ap (λ z. (line X (sender c None) z).tenure)
       (at_none (situation_of X c))
   tenure_is c (Some r) k h = tenure_by c r r.pin refl k h
 

@@ -131,6 +131,11 @@ const KINDS = {
         does: 'store',
         why: 'Clears a word for the next tenure, which uses these words again.',
     },
+    ReadPassed: {
+        does: 'load',
+        why: 'Its frame does not fit in the log. It looks up to where a receiver has heard, so ' +
+            'as to learn which words may be overwritten.',
+    },
     '-': {
         does: 'call',
         why: 'A turn without a step: no word is touched.',

@@ -86,6 +86,7 @@ module _ {E : Type 0} (X : Election E) (P : Protocol E (Unit {0}) ℕ)
     ended = refl;
     tenures = refl;
     words = refl;
+    floor = refl;
   }
 
   pub new_sending : Sending (slice_index bases) P x words (Some (first_page bases)) senders [] []

@@ -3,13 +3,13 @@
 use Rattle.std.proofs.Common.{◌≡◌, ℕ, ◌+◌, ◌<◌, Bool, true, false, cond, Option, Some, None, inl}
 use Rattle.std.proofs.Common.{inr, List, [], ◌∷◌, ◌++◌, length, take, arith, refl, sym, ◌∙◌, ap}
 use Rattle.std.proofs.Common.{subst}
-use Rattle.std.proofs.lemmas.Bool.{cases_eq, cases_lt, true≢false}
+use Rattle.std.proofs.lemmas.Bool.{true≢false}
 use Rattle.std.proofs.lemmas.Bool.Decides.{eqb_tells}
 use Rattle.std.proofs.lemmas.List.{append-nil, length-append}
 use Rattle.std.proofs.lemmas.Option.{same_Some}
 use Rattle.bus_register.specs.Tables.{put, of_some}
 use Rattle.bus_register.specs.Proved.TableLaws.{put_here, put_beside}
-use Rattle.bus_batch.specs.Frames.{Frame, log_words, log_pieces, frame_words, order_in, owners_in}
+use Rattle.bus_batch.specs.Frames.{Frame, log_words, frame_words, order_in, owners_in}
 use Rattle.bus_batch.specs.Reading.{HasRead}
 use Rattle.bus_deliverylog.specs.Receiving.{Receiving}
 use Rattle.bus_deliverylog.specs.declared.receiving.RecvTurn.{RecvTurn}
@@ -24,7 +24,7 @@ use Rattle.bus_world.proofs.HearTrails.{IsTold, hears_later, hears_more}
 use Rattle.bus_world.proofs.LogLaws.{length-logged, log_words-append}
 use Rattle.bus_world.proofs.ReceivingLaws.{Receives-append}
 use Rattle.bus_world.proofs.Tying.{Hears}
-use Rattle.bus_world.proofs.WorldLaws.{received, receiver_more}
+use Rattle.bus_world.proofs.WorldLaws.{receiver_more}
 
 -- the receiver of a log that lies behind a row for each tenure
 abbrev pub placed : Layout → Receiving → Receiving

@@ -25,7 +25,8 @@ use Rattle.bus_presence.specs.Reclamation.{Reclaims as Reclaimed, GivesBack as G
 use Rattle.bus_presence.specs.Reclamation.{Reached, Then}
 use Rattle.bus_presence.proofs.ReclamationKept.{lt_tells}
 use Rattle.bus_presence.proofs.ReclamationLaws.{safe}
-use Rattle.bus_tenure.specs.Core.{Core, Election, Layout, log_at, frame_len, has_room}
+use Rattle.bus_tenure.specs.Core.{Core, Election, Layout, log_at, cell_of, frame_len, has_room}
+use Rattle.bus_tenure.proofs.Fitting.{word_straight}
 use Rattle.bus_tenure.specs.Situations.{Situation, StoresWord, StoresLength, GivesBack}
 use Rattle.bus_tenure.specs.Situations.{situation_of, situation_at, op_at, core_at_rest}
 use Rattle.bus_tenure.specs.declared.pages.Page.{Page}
@@ -284,7 +285,7 @@ module _ {E : Type 0} (X : Election E) (P : Protocol E (Unit {0}) ℕ)
         module _ (unpublished : published ≡ false)
             (at : situation_of X c ≡ StoresWord t page stored) where
           abbrev r : ℕ
-          r = log_at c.layout + page.words + stored
+          r = log_at c.layout + cell_of c.layout (page.words + stored)
 
           abbrev spot : ℕ
           spot = r - log_at x
@@ -312,7 +313,10 @@ module _ {E : Type 0} (X : Election E) (P : Protocol E (Unit {0}) ℕ)
           spot_now : k.W ≡ spot
           spot_now =
               let a = stored_now unpublished in
-              let b = (writing_now unpublished).page_knows.words in let l = log_is in omega arith
+              let knows = (writing_now unpublished).page_knows in
+              let b = knows.words in
+              let d = word_straight X c t page stored at knows.floor in
+              let l = log_is in omega arith
 
           cell_is : k.W % x.capacity ≡ spot
           cell_is =
@@ -578,7 +582,8 @@ module _ {E : Type 0} (X : Election E) (P : Protocol E (Unit {0}) ℕ)
               | inl some ↦
                   let allowed = (writing_now is).allowed some in
                   let room : has_room c page ≡ true =
-                  le-leb (page.words + frame_len c) c.layout.capacity allowed.1 in
+                  le-leb (page.words + frame_len c) (c.layout.capacity + page.floor)
+                  (let a = allowed.1 in omega arith) in
                   absurd (gives_none t page stored reason page.ended (has_room c page)
                   (nat_lt stored (frame_len c)) allowed.0 room
                   (sym

@@ -390,6 +390,7 @@ module _ {E : Type 0} (X : Election E) (P : Protocol E (Unit {0}) ℕ)
                     ∙ ap has_end (sym w.1.frames_are);
                 tenures = refl;
                 words = sym w.1.len_is;
+                floor = k.floor;
               }
               (subst (AreEarlier (t + 1)) (sym w.1.frames_are)
               (AreEarlier-append (t + 1) w.1.front f

@@ -1,24 +1,18 @@
 -- The words of a bus whose rows and whose log are used again, beside those of one that has a row
 -- for each tenure and a log without an end.
-use Rattle.std.proofs.Common.{◌≡◌, ◌≢◌, inl, inr, ℕ, ◌+◌, ◌*◌, ◌/◌, ◌%◌, ◌<◌, ◌≤◌, Some, None}
-use Rattle.std.proofs.Common.{arith, refl, sym, ◌∙◌, ap, subst}
+use Rattle.std.proofs.Common.{◌≡◌, inl, inr, ℕ, ◌+◌, ◌*◌, ◌/◌, ◌%◌, ◌<◌, ◌≤◌, None}
+use Rattle.std.proofs.Common.{arith, refl, sym, ◌∙◌, ap}
 use Rattle.std.proofs.Math.Nat.{mod-eq_of_lt}
-use Rattle.std.proofs.lemmas.Bool.{cases_eq, cases_lt}
+use Rattle.std.proofs.lemmas.Bool.{cases_eq}
 use Rattle.std.proofs.lemmas.Nat.{mod_below, row_fits}
-use Rattle.std.proofs.lemmas.Option.{same_Some}
-use Rattle.bus_register.specs.declared.registers.Op.{Op}
-use Rattle.bus_register.specs.Words.{after}
 use Rattle.bus_register.specs.Tables.{Beside, put}
 use Rattle.bus_register.specs.Proved.TableLaws.{put_here, put_beside}
 use Rattle.bus_presence.specs.declared.pins.Pin.{Pin}
-use Rattle.bus_presence.specs.Pins.{step_at}
-use Rattle.bus_presence.specs.Reclaimers.{Reclaiming, reclaim_op, reclaim_fed}
-use Rattle.bus_presence.specs.Reclamation.{ReclamationSizes, Reclamation, Trails, presence_at}
-use Rattle.bus_presence.specs.Reclamation.{row_of, tenure_of, number_of_step, words_after}
+use Rattle.bus_presence.specs.Reclamation.{ReclamationSizes, Reclamation, Trails}
+use Rattle.bus_presence.specs.Reclamation.{row_of, tenure_of}
 use Rattle.bus_presence.specs.Reclamation.{reclaimer_after}
-use Rattle.bus_presence.proofs.ReclamationKept.{IsReclaimer, Keeps, one_of_row, rows_apart}
-use Rattle.bus_presence.proofs.ReclaimerLaws.{reclaim_does, Scans}
-use Rattle.bus_presence.proofs.RowLaws.{IsLive, live_apart, alive_same, pin_place, load_same}
+use Rattle.bus_presence.proofs.ReclamationKept.{Keeps, one_of_row}
+use Rattle.bus_presence.proofs.RowLaws.{IsLive, live_apart, alive_same}
 use Rattle.bus_tenure.specs.Core.{Layout, row_at, log_at}
 use Rattle.bus_world.proofs.CyclicProtocolWords.{IsQuiet, far_rows}
 use Rattle.bus_core.specs.Reusing.Participants.{sizes_with, log_from}

@@ -214,6 +214,7 @@ unsent_knows FoundEnd u c t page frames len k = record {
   ended = k.ended;
   tenures = refl;
   words = k.words;
+  floor = k.floor;
 }
 unsent_knows NoRoom u c t page frames len k = record {
   entries = k.entries;
@@ -222,6 +223,7 @@ unsent_knows NoRoom u c t page frames len k = record {
   ended = k.ended;
   tenures = refl;
   words = k.words;
+  floor = k.floor;
 }
 
 pub AreOwned-push : (owners : List ℕ) (o : ℕ) (frames : List Frame) → AreOwned owners frames

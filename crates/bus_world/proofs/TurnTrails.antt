@@ -17,7 +17,7 @@ use Rattle.bus_register.specs.Proved.TableLaws.{put_here, put_beside, some_or_no
 use Rattle.bus_register.specs.Proved.TableLaws.{get_set_other}
 use Rattle.bus_register.specs.Protocol.{Protocol, Laws, Starts, counted_input}
 use Rattle.bus_tenure.specs.Core.{Core, Election, Layout, log_at, row_at, frame_len, has_room}
-use Rattle.bus_tenure.specs.Core.{is_empty, is_marking, is_closed}
+use Rattle.bus_tenure.specs.Core.{cell_of, is_empty, is_marking, is_closed}
 use Rattle.bus_tenure.specs.Situations.{Situation, IsClosed, IsIdle, IsSpent, LooksAtStage, Elects}
 use Rattle.bus_tenure.specs.Situations.{TakesPage, StoresWord, StoresLength, GivesBack}
 use Rattle.bus_tenure.specs.Situations.{situation_at, situation_of, resting, electing, holding}
@@ -493,7 +493,7 @@ module _ {base : ℕ → ℕ} {E : Type 0} (X : Election E) (P : Protocol E (Uni
 
       stores : KeptTies (StoresWord t page stored)
       stores step new = calm (record c { phase = phase.Holding t page (stored + 1) false }) new _
-          (outside (Store record { 0 = log_at c.layout + page.words + stored }
+          (outside (Store record { 0 = log_at c.layout + cell_of c.layout (page.words + stored) }
           (slice_index (frame_words (frame_of c.queue t)) stored)) step
           (inr
           (let l = ap log_at part.layout in let w = ap (λ z. x.rows * z) width in omega arith)))

@@ -22,7 +22,8 @@ use Rattle.bus_batch.specs.declared.batches.Phase.{Phase as BatchPhase}
 use Rattle.bus_batch.specs.declared.batches.Phase.TheVariants.{Open, Marking, Closed}
 use Rattle.bus_batch.specs.declared.messages.Mark.{Mark}
 use Rattle.bus_tenure.specs.Core.{Core, Election, Layout, log_at, row_at, words_of, frame_len}
-use Rattle.bus_tenure.specs.Core.{has_room, is_empty, is_marking, is_closed, page_after}
+use Rattle.bus_tenure.specs.Core.{cell_of, has_room, is_empty, is_marking, is_closed, page_after}
+use Rattle.bus_tenure.proofs.Fitting.{cell_straight}
 use Rattle.bus_tenure.specs.Situations.{Situation, IsClosed, IsIdle, IsSpent, LooksAtStage, Elects}
 use Rattle.bus_tenure.specs.Situations.{TakesPage, StoresWord, StoresLength, GivesBack}
 use Rattle.bus_tenure.specs.Situations.{situation_at, situation_of, resting, electing, holding}
@@ -453,16 +454,20 @@ module _ {base : ℕ → ℕ} {E : Type 0} (X : Election E) (P : Protocol E (Uni
       module _ (none_yet : published ≡ false) (is_open : page.ended ≡ false)
           (room : page.words + frame_len c ≤ c.layout.capacity) where
         store_kept : stored < frame_len c → Kept (StoresWord t page stored)
-        store_kept more = (
-          only (Store record { 0 = log_at c.layout + page.words + stored }
-              (slice_index (frame_words (frame_of c.queue t)) stored))
-              (let b = capacity_is in let d = log_is in omega arith),
-          λ step new.
-              holders.writes X P laws x ok width words home senders owners frames h p c
-              (record c { phase = phase.Holding t page (stored + 1) false }) senders' old new beside
-              t page stored published holds words' none_yet is_open room more step.here
-              (λ r ne. step.elsewhere r ne) refl,
-        )
+        store_kept more =
+            let cell = cell_straight c.layout (page.words + stored) (omega arith) in
+            let place : log_at c.layout + cell_of c.layout (page.words + stored)
+            ≡ log_at c.layout + page.words + stored = omega arith in (
+              only (Store record { 0 = log_at c.layout + cell_of c.layout (page.words + stored) }
+                  (slice_index (frame_words (frame_of c.queue t)) stored))
+                  (let b = capacity_is in let d = log_is in omega arith),
+              λ step new.
+                  holders.writes X P laws x ok width words home senders owners frames h p c
+                  (record c { phase = phase.Holding t page (stored + 1) false }) senders' old new
+                  beside t page stored published holds words' none_yet is_open room more
+                  (ap words' (sym place) ∙ step.here)
+                  (λ r ne. step.elsewhere r (λ i. ne (i ∙ place))) refl,
+            )
 
         publish_kept : frame_len c ≤ stored → Kept (StoresLength t page stored)
         publish_kept all = (
@@ -485,9 +490,12 @@ module _ {base : ℕ → ℕ} {E : Type 0} (X : Election E) (P : Protocol E (Uni
           by_room : (b : Bool) → published ≡ false → page.ended ≡ false → has_room c page ≡ b
               → Kept (cond b (cond (nat_lt stored (frame_len c)) (StoresWord t page stored)
               (StoresLength t page stored)) (GivesBack t page NoRoom))
-          by_room true a d e = stores_by a d
-              (leb-true (page.words + frame_len c) c.layout.capacity e)
-              (nat_lt stored (frame_len c)) refl
+          by_room true a d e =
+              let writes = subst (λ z. Fits base words frames c (phase.Holding t page stored z)) a
+              (subst (Fits base words frames c) holds part.fits) in
+              let room = leb-true (page.words + frame_len c) (c.layout.capacity + page.floor) e in
+              let floor = writes.1.page_knows.floor in
+              stores_by a d (omega arith) (nat_lt stored (frame_len c)) refl
           by_room false a d e = unsent_kept NoRoom tt a
 
           by_ended : (b : Bool) → published ≡ false → page.ended ≡ b

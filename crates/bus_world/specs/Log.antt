@@ -25,8 +25,12 @@ AreCounted first (i ∷ items) = (i.number ≡ first) × AreCounted (first + 1) 
 abbrev pub next_number : (ℕ → ℕ) → ℕ → List Frame → ℕ
 next_number base s frames = base s + sent_count s frames
 
+-- no word of the log is used again, so the floor stays at its first place
+abbrev pub KeepsFloor : Page → Type 0
+KeepsFloor page = page.floor ≡ 0
+
 -- the page knows the next number of each sender behind these frames, who has left in them, whether
--- they have ended, the tenures, the length
+-- they have ended, the tenures, the length; and its floor is kept
 pub record Knows (base : ℕ → ℕ) (page : Page) (frames : List Frame) (past len : ℕ) : Type 0 where
   pub entries : length page.next ≡ MOST_SENDERS
   pub next : (s : ℕ) → s < MOST_SENDERS → slice_index page.next s ≡ next_number base s frames
@@ -35,3 +39,4 @@ pub record Knows (base : ℕ → ℕ) (page : Page) (frames : List Frame) (past 
   pub ended : page.ended ≡ has_end frames
   pub tenures : page.tenures ≡ past
   pub words : page.words ≡ len
+  pub floor : KeepsFloor page

@@ -16,6 +16,8 @@ pub record IsLayout (x : Layout) : Type 0 where
   pub senders : x.senders ≤ MOST_SENDERS
   pub rows : x.rows ≤ TENURES
   pub capacity : x.capacity ≤ MOST_LOG_WORDS
+  -- no bus has passed places yet
+  pub passers : x.passers ≡ 0
 
 abbrev pub is_set : Option Bool → Bool
 is_set None = false
@@ -67,6 +69,7 @@ first_page bases = record {
   ended = false;
   tenures = 0;
   words = 0;
+  floor = 0;
 }
 
 -- nobody has stopped

@@ -22,6 +22,7 @@ pub fn first_page(alloc: Global, bases: [u64; MOST_SENDERS]) -> Result<OwnedPage
         ended: false,
         tenures: 0,
         words: 0,
+        floor: 0,
     };
     OwnedPage::new(alloc, page)
 }

@@ -31,6 +31,7 @@ fn first_page() -> Page {
         ended: false,
         tenures: 0,
         words: 0,
+        floor: 0,
     }
 }
 

@@ -227,6 +227,13 @@ fn short_message(rt: &impl Abort) -> Message {
 }
 
 #[test]
+fn shows_a_message_as_its_bytes(rt: HostRuntime) {
+    let shown = format!(in rt.alloc(); "{:?} {:?}", short_message(&rt), Message::new());
+    let shown = shown.expect(&rt, "memory");
+    assert!(rt; shown.as_str() == "[97] []");
+}
+
+#[test]
 fn reads_a_message(rt: HostRuntime) {
     let item = Item {
         sender: SenderNo(1),

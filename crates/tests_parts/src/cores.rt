@@ -41,6 +41,7 @@ fn first_page() -> Page {
         ended: false,
         tenures: 0,
         words: 0,
+        floor: 0,
     }
 }
 

@@ -19,7 +19,13 @@ with_a_row_each c = record { core = c; reuse = None }
 
 -- .. and a participant, as a sender of either kind
 abbrev pub reuse_of : {E : Type 0} → Participant E → Reuse
-reuse_of v = record { pin = v.pin; reclaimer = v.reclaimer; lost = v.lost; rows = v.rows }
+reuse_of v = record {
+  pin = v.pin;
+  reclaimer = v.reclaimer;
+  passed = v.passed;
+  lost = v.lost;
+  rows = v.rows;
+}
 
 abbrev pub with_rows_again : {E : Type 0} → Participant E → Sender E
 with_rows_again v = record { core = v.core; reuse = Some (reuse_of v) }
@@ -68,5 +74,8 @@ pub record IsLineOf {E : Type 0} (X : Election E) (v : Participant E) (d : Due E
   pub move : l.move ≡ move_of X v.core d
   pub publishes : l.publishes ≡ publishes_of X v.core d
 
+-- on a bus without passed places
 abbrev pub AtSome : {E : Type 0} → Election E → Type 0
-AtSome {E} X = (v : Participant E) → IsLineOf X v (due X v) (line_now X (with_rows_again v))
+AtSome {E} X =
+    (v : Participant E) → v.core.layout.passers ≡ 0
+    → IsLineOf X v (due X v) (line_now X (with_rows_again v))

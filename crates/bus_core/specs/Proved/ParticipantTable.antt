@@ -2,7 +2,7 @@
 -- turns of a sender that has a row for each tenure. It stores its presence before it enters a
 -- tenure and clears it afterwards; as a holder it makes the row of the next tenure ready. Where no
 -- step of its pin is due, one line says for each situation of such a sender what a participant does
--- otherwise.
+-- otherwise. Its bus has no passed places.
 use Rattle.std.specs.Prelude.{ℕ, ◌+◌, ◌-◌, ◌/◌, Option, Some, None, ◌==◌, if◌then◌else◌}
 use Rattle.bus_register.specs.declared.registers.Op.{Op}
 use Rattle.bus_register.specs.declared.registers.SenderNo.{SenderNo}
@@ -21,6 +21,8 @@ use Rattle.bus_tenure.specs.declared.turns.Turn.{Turn}
 use Rattle.bus_tenure.specs.declared.turns.Turn.TheVariants as turn
 use Rattle.bus_core.specs.Reusing.Participants.{sizes_with, log_from, core_seen, pin_seen}
 use Rattle.bus_core.specs.Reusing.Participants.{pin_elected, lost_elected}
+use Rattle.bus_core.specs.Reusing.Passing.{passing_begun}
+use Rattle.bus_core.specs.declared.reuses.Passing.{Passing}
 
 -- ---- a line of the table
 -- what a participant's turn is in a situation of the sender that it is
@@ -36,6 +38,8 @@ pub record ParticipantLine (E : Type 0) : Type 0 where
   pub lost : Election E → Core E → Option SenderNo → (got word : ℕ) → Option SenderNo
   -- of the reclaimer that it has: what is left of it after the step, or begins with that
   pub reclaimer_after : Layout → (rows : ℕ) → Option Reclaiming → Option Reclaiming
+  -- of the passed places that it has loaded: what it remembers after the step
+  pub passed : Passing → Passing
   -- its answer to the step
   pub answer : Election E → Core E → (got word : ℕ) → Turn
 
@@ -48,6 +52,7 @@ rests_as answer = record {
   pin = λ X c v got word. v;
   lost = λ X c l got word. l;
   reclaimer_after = λ x rows s. s;
+  passed = λ p. p;
   answer = λ X c got word. answer;
 }
 
@@ -79,6 +84,7 @@ participant_line (Elects t e) = record (steps_as (Elects t e) turn.Going) {
 participant_line (TakesPage t) = record (steps_as (TakesPage t) (turn.Own t)) {
   pin = λ X c v got word. Unpinning t;
   reclaimer_after = λ x rows s. reclamation.reclaimer_after (sizes_with x rows) t;
+  passed = λ p. passing_begun;
 }
 participant_line (AwaitsPage t) = steps_as (AwaitsPage t) turn.Going
 participant_line (StoresWord t page stored) =
@@ -109,6 +115,9 @@ pin_going X c v z got word = (participant_line z).pin X c v got word
 abbrev pub reclaimer_going : {E : Type 0} → Layout → ℕ → Option Reclaiming → Situation E
     → Option Reclaiming
 reclaimer_going x rows s z = (participant_line z).reclaimer_after x rows s
+
+abbrev pub passed_going : {E : Type 0} → Passing → Situation E → Passing
+passed_going p z = (participant_line z).passed p
 
 abbrev pub answer_going : {E : Type 0} → Election E → Core E → Situation E → ℕ → ℕ → Turn
 answer_going X c z got word = (participant_line z).answer X c got word

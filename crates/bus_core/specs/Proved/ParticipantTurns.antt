@@ -18,7 +18,8 @@ use Rattle.bus_tenure.specs.declared.turns.Turn.TheVariants as turn
 use Rattle.bus_core.specs.Reusing.Participants.{log_from}
 use Rattle.bus_core.specs.Proved.ParticipantTable.{place_for, participant_line, Due, Pins}
 use Rattle.bus_core.specs.Proved.ParticipantTable.{Reclaims, Goes, due_of, core_looked, core_going}
-use Rattle.bus_core.specs.Proved.ParticipantTable.{pin_going, reclaimer_going, answer_going}
+use Rattle.bus_core.specs.Proved.ParticipantTable.{pin_going, reclaimer_going, passed_going}
+use Rattle.bus_core.specs.Proved.ParticipantTable.{answer_going}
 use Rattle.bus_core.specs.Reusing.Turns.{Participant, op_placed, answer_of_loss, answer_of_reclaim}
 
 -- all words of the bus
@@ -79,6 +80,7 @@ participant_due X v (Pins o) got word = record {
   core = core_looked X v.core v.pin got;
   pin = pin_fed v.pin got;
   reclaimer = v.reclaimer;
+  passed = v.passed;
   lost = None;
   rows = v.rows;
 }
@@ -87,6 +89,7 @@ participant_due X v (Goes z) got word = record {
   core = core_going X v.core z got word;
   pin = pin_going X v.core v.pin z got word;
   reclaimer = reclaimer_going v.core.layout v.rows v.reclaimer z;
+  passed = passed_going v.passed z;
   lost = lost_going X v.core v.lost z got word;
   rows = v.rows;
 }

@@ -6,17 +6,22 @@ use Rattle.bus_register.specs.declared.registers.SenderNo.{SenderNo}
 use Rattle.bus_presence.specs.Reclamation.{ReclamationSizes}
 use Rattle.bus_presence.specs.declared.pins.Pin.{Pin}
 use Rattle.bus_presence.specs.declared.pins.Pin.TheVariants.{Away, Announcing, Pinned, Unpinning}
+use Rattle.bus_core.specs.declared.limits.TheConstants.{PASSED_APART}
 use Rattle.bus_tenure.specs.Core.{Core, Layout, stage_at}
 use Rattle.bus_tenure.specs.Situations.{waits}
 
 -- ---- the words
 -- Those of a layout, which has a row for each tenure, with so many rows in place of them: the
--- length, the stage, a presence for each sender, the rows and the log.
+-- length, the stage, a presence for each sender, the rows, the passed places and the log.
 abbrev pub sizes_with : Layout → ℕ → ReclamationSizes
 sizes_with x rows = record { at = stage_at; senders = x.senders; rows = rows; width = x.width }
 
+-- where the passed places begin, each of which has a line of memory
+abbrev pub passed_from : Layout → ℕ → ℕ
+passed_from x rows = 2 + x.senders + rows * x.width
+
 abbrev pub log_from : Layout → ℕ → ℕ
-log_from x rows = 2 + x.senders + rows * x.width
+log_from x rows = 2 + x.senders + rows * x.width + PASSED_APART * x.passers
 
 -- ---- what its own step leaves that depends on what it found
 -- a sender that has looked at the stage for the first time finds no tenure left, or enters the one

@@ -22,7 +22,8 @@ pub data HasPublished {E : Type 0} (t : ℕ) : Phase E → Type 0 where
 
 -- its frame does not fit behind the words that the page counts, and no length took it in
 pub data LacksRoom {E : Type 0} (c : Core E) (t : ℕ) : Phase E → Type 0 where
-  FindsNoRoom : (page : Page) (stored : ℕ) → c.layout.capacity < page.words + frame_len c
+  FindsNoRoom : (page : Page) (stored : ℕ)
+      → c.layout.capacity + page.floor < page.words + frame_len c
       → LacksRoom c t (Holding t page stored false)
   HandsOnFull : LacksRoom c t (Giving t NoRoom)
 

@@ -16,6 +16,7 @@ use Rattle.bus_tenure.specs.Seen.{tenure_of}
 use Rattle.bus_tenure.specs.declared.turns.Turn.{Turn}
 use Rattle.bus_tenure.specs.declared.turns.Turn.TheVariants as turn
 use Rattle.bus_core.specs.Reusing.Participants.{sizes_with}
+use Rattle.bus_core.specs.declared.reuses.Passing.{Passing}
 
 -- what a participant holds
 pub record Participant (E : Type 0) : Type 0 where
@@ -24,6 +25,8 @@ pub record Participant (E : Type 0) : Type 0 where
   pub pin : Pin
   -- as the holder of a page it makes the row of the next tenure ready
   pub reclaimer : Option Reclaiming
+  -- as the holder of a page it has loaded so many passed places
+  pub passed : Passing
   -- who owns the tenure that it has lost and parts from
   pub lost : Option SenderNo
   -- how many rows there are

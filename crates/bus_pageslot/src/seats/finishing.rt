@@ -94,6 +94,7 @@ impl<Q: Ratifier + Drop> Sender<Q> {
         ensures goes { StaysOrEnds self.old.core result self.new.core }
     {
         elections_are_bounded::<Q>();
+        let _ = &self.core;
         let _left = self.turns_left();
         let _due = self.kind();
         let _step = self.due(word);

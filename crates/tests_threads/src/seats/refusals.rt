@@ -57,6 +57,7 @@ fn page_with(next: u64, ended: bool) -> Page {
         ended,
         tenures: 1,
         words: 2,
+        floor: 0,
     }
 }
 

@@ -1,14 +1,15 @@
-use Rattle.std.proofs.Common.{◌+◌, ◌<◌, ◌≤◌, ◌^◌, arith, sym, ◌∙◌, ap, subst}
+use Rattle.std.proofs.Common.{sym, ◌∙◌, ap, subst}
 use Rattle.std.proofs.lemmas.Bool.{true≢false}
 use Rattle.bus_tenure.specs.Elections.{Elector, election_with, elections}
 use Rattle.bus_tenure.specs.Seen.{HoldsPublished}
 use Rattle.bus_core.specs.Plain.{IsPlain, StoresPlain}
 use Rattle.bus_core.specs.Keeping.{sender}
-use Rattle.bus_core.specs.Senders.{Sender, words_all}
+use Rattle.bus_core.specs.Senders.{Sender}
 use Rattle.bus_core.specs.Table.{line_now}
 use Rattle.bus_core.proofs.Kept.{keeps_line, Keeps}
 use Rattle.bus_core.proofs.Plain.{plain_clearing, plain_cleared, plain_is_word, plain_worded}
-use Rattle.bus_core.proofs.Plain.{plain_unpublished, plain_due, clear_behind, word_behind}
+use Rattle.bus_core.proofs.Plain.{plain_unpublished, plain_due, clear_behind, word_before}
+use Rattle.bus_core.proofs.Plain.{word_some, word_behind}
 use Rattle.bus_core.proofs.Reusing.Laws.{elections_keep}
 use Rattle.bus_core.proofs.cores.SenderCore.plain_done.Goals as goal
 
@@ -88,9 +89,37 @@ returns-clause-stores g c is =
     λ h. true≢false (sym (c.has_published.ensures.1 h) ∙ c.if-has_published.false) in
     let stores =
     subst (λ y. StoresPlain X y c.args.at.now c.args.value.now) (sym c.self.view_is) c.requires in
-    word_behind X v stores.plain none c.args.at.now c.args.value.now stores.step
-    c.next_word.new.self c.next_word.ensures.state c.next_word.new.value
+    word_behind X v stores.plain none c.next_word.new.self c.next_word.new.value
+    c.next_word.new.place (c.next_word.ensures.next c.if-not-next_word.false)
+    (c.next_word.ensures.place c.if-not-next_word.false) c.log_word_behind.result
+    c.log_word_behind.ensures
+
+pub log_word_behind-requires-clause-some : goal.log_word_behind-requires-clause-some
+log_word_behind-requires-clause-some g c =
+    let X =
+    election_with g.Q.Machine.kind_of g.Q.Machine.op g.Q.Machine.fed g.Q.Ratifier.protocol in
+    let i = c.self.inside in
+    let v : Sender (Elector g.row.Q.Denot) = record { core = i.turns; reuse = i.reuse } in
+    let none : HoldsPublished i.turns.phase → ⊥ =
+    λ h. true≢false (sym (c.has_published.ensures.1 h) ∙ c.if-has_published.false) in
+    let stores =
+    subst (λ y. StoresPlain X y c.args.at.now c.args.value.now) (sym c.self.view_is) c.requires in
+    word_some X v stores.plain none c.next_word.new.self c.next_word.new.value
     (c.next_word.ensures.next c.if-not-next_word.false)
+
+pub log_word_behind-requires-clause-behind : goal.log_word_behind-requires-clause-behind
+log_word_behind-requires-clause-behind g c =
+    let X =
+    election_with g.Q.Machine.kind_of g.Q.Machine.op g.Q.Machine.fed g.Q.Ratifier.protocol in
+    let i = c.self.inside in
+    let v : Sender (Elector g.row.Q.Denot) = record { core = i.turns; reuse = i.reuse } in
+    let none : HoldsPublished i.turns.phase → ⊥ =
+    λ h. true≢false (sym (c.has_published.ensures.1 h) ∙ c.if-has_published.false) in
+    let stores =
+    subst (λ y. StoresPlain X y c.args.at.now c.args.value.now) (sym c.self.view_is) c.requires in
+    word_before X v stores.plain none c.args.at.now c.args.value.now stores.step
+    c.next_word.new.self c.next_word.ensures.state c.next_word.new.place
+    (c.next_word.ensures.place c.if-not-next_word.false)
 
 pub returns-then-not-next_word-clause-state : goal.returns-then-not-next_word-clause-state
 returns-then-not-next_word-clause-state g c got word =
@@ -167,20 +196,3 @@ invariant_of-self-2 g c =
     (keeps_line X (λ x. (elections P x.rounds).width x.senders)
     (λ x me. (elections P x.rounds).Belongs x.senders me) law v 0 0 c.self.invariant
     (plain_due X v plain 0))
-
-pub overflow_add-at : goal.overflow_add-at
-overflow_add-at g c =
-    let X =
-    election_with g.Q.Machine.kind_of g.Q.Machine.op g.Q.Machine.fed g.Q.Ratifier.protocol in
-    let i = c.self.inside in
-    let v : Sender (Elector g.row.Q.Denot) = record { core = i.turns; reuse = i.reuse } in
-    let none : HoldsPublished i.turns.phase → ⊥ =
-    λ h. true≢false (sym (c.has_published.ensures.1 h) ∙ c.if-has_published.false) in
-    let stores =
-    subst (λ y. StoresPlain X y c.args.at.now c.args.value.now) (sym c.self.view_is) c.requires in
-    let below : c.args.at.now + 1 < words_all (sender c.next_word.new.self i.reuse) =
-    (word_behind X v stores.plain none c.args.at.now c.args.value.now stores.step
-    c.next_word.new.self c.next_word.ensures.state c.next_word.new.value
-    (c.next_word.ensures.next c.if-not-next_word.false)).below in
-    let small : words_all (sender c.next_word.new.self i.reuse) ≤ 2 ^ 63 = c.is_small.ensures in
-    omega arith

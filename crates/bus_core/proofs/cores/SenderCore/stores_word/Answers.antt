@@ -1,4 +1,5 @@
 use Rattle.std.proofs.Common.{◌≡◌, ◌+◌, sym, ◌∙◌, ap, subst}
+use Rattle.bus_tenure.specs.Core.{cell_of}
 use Rattle.bus_tenure.specs.Elections.{Elector, election_with}
 use Rattle.bus_core.specs.Keeping.{IsAway}
 use Rattle.bus_core.specs.Plain.{StoresPlain}
@@ -14,18 +15,15 @@ returns-clause-stores g c is =
     let v : Sender (Elector g.row.Q.Denot) = record { core = i.turns; reuse = i.reuse } in
     let away = subst (λ (y : Sender (Elector g.row.Q.Denot)). IsAway y.reuse) (sym c.self.view_is)
     c.requires in
-    let at =
-    log_start i.turns.layout i.reuse + c.stores_word.new.below + c.stores_word.new.behind in
-    let place : c.log_start.result + c.stores_word.new.below + c.stores_word.new.behind ≡ at =
-    ap (λ n. n + c.stores_word.new.below + c.stores_word.new.behind)
-    (c.log_start.ensures.at
-    ∙ ap (λ (y : Sender (Elector g.row.Q.Denot)). log_start y.core.layout y.reuse)
-    (sym c.self.view_is)) in
-    subst (λ y. StoresPlain X y
-    (c.log_start.result + c.stores_word.new.below + c.stores_word.new.behind) c.frame_word.result)
-    c.self.view_is
+    let place = c.stores_word.new.below + c.stores_word.new.behind in
+    let here : c.log_word.result
+    ≡ log_start i.turns.layout i.reuse + cell_of i.turns.layout place =
+    c.log_word.ensures.at
+    ∙ ap (λ (y : Sender (Elector g.row.Q.Denot)).
+    log_start y.core.layout y.reuse + cell_of y.core.layout place)
+    (sym c.self.view_is) in
+    subst (λ y. StoresPlain X y c.log_word.result c.frame_word.result) c.self.view_is
     (word_stores X v _ _ _ (c.stores_word.ensures.word c.if-not-stores_word.false)
-    (λ page. away_word i.reuse away _ page _)
-    (c.log_start.result + c.stores_word.new.below + c.stores_word.new.behind) place
-    c.frame_word.result c.frame_word.ensures.word
+    (λ page. away_word i.turns.layout.passers i.reuse away _ page _)
+    c.log_word.result here c.frame_word.result c.frame_word.ensures.word
     c.frame_word.ensures.room c.frame_word.ensures.below)

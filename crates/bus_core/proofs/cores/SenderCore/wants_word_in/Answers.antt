@@ -17,4 +17,5 @@ returns-in-Does g c =
     ∙ sym (wants_own X (record { core = v.turns; reuse = v.reuse }) (situation_of X v.turns))
     ∙ ap (λ y. (line X y (Does (situation_of X y.core))).wants_word) c.self.view_is
     ∙ ap (λ z. (line X w z).wants_word)
-    (sym (does_by w.reuse (situation_of X w.core) c.in-Does.field-0 (c.requires ∙ c.in-Does.is)))
+    (sym (does_by w.core.layout.passers w.reuse (situation_of X w.core) c.in-Does.field-0
+    (c.requires ∙ c.in-Does.is)))

@@ -1,10 +1,10 @@
-use Rattle.std.proofs.Common.{inl, inr, arith, refl, sym, ◌∙◌, subst}
+use Rattle.std.proofs.Common.{arith, refl, sym, ◌∙◌, subst}
 use Rattle.std.proofs.lemmas.Bool.{true≢false}
 use Rattle.bus_automaton.specs.Buses.{process_with}
 use Rattle.bus_core.specs.Plain.{IsPlain, StoresPlain}
 use Rattle.bus_tenure.specs.Elections.{election_with}
-use Rattle.bus_pageslot.specs.Turns.{tells_with, TurnsPlainly}
-use Rattle.bus_pageslot.proofs.Plain.{due_some, taken_next, taken_some}
+use Rattle.bus_pageslot.specs.Turns.{tells_with, TurnsPlainly, NoneYet, Next}
+use Rattle.bus_pageslot.proofs.Plain.{due_some, goes_nowhere}
 use Rattle.bus_pageslot.proofs.Processes.{plain_op, plain_draws_none}
 use Rattle.bus_pageslot.proofs.seats.Sender.plain_turns.Goals as goal
 
@@ -17,11 +17,14 @@ returns-then-not-plain-clause-exact g c plain =
     (sym (c.plain.ensures.exact (subst (λ s. IsPlain X s.core) (sym c.self.view_is) plain))
     ∙ c.if-not-plain.true))
 
+pub returns-then-not-plain-clause-goes : goal.returns-then-not-plain-clause-goes
+returns-then-not-plain-clause-goes g c = NoneYet
+
 pub loop-taken-init : goal.loop-taken-init
 loop-taken-init g c =
     let X =
     election_with g.Q.Machine.kind_of g.Q.Machine.op g.Q.Machine.fed g.Q.Ratifier.protocol in (
-      inl (refl, refl),
+      NoneYet,
       refl,
       subst (λ s. StoresPlain X s.core c.plain.new.at c.plain.new.value) c.self.view_is
           (c.plain.ensures.stores c.if-not-plain.false),
@@ -29,7 +32,7 @@ loop-taken-init g c =
 
 pub returns-then-not-store_on-clause-goes : goal.returns-then-not-store_on-clause-goes
 unfolding tells_with
-returns-then-not-store_on-clause-goes g c is =
+returns-then-not-store_on-clause-goes g c =
     let P = process_with g.Q.Machine.kind_of g.Q.Machine.op g.Q.Machine.fed g.Q.Ratifier.protocol in
     let T = tells_with g.Q.Machine.kind_of g.Q.Machine.op g.Q.Machine.fed g.Q.Ratifier.protocol in
     let X =
@@ -46,8 +49,7 @@ returns-then-not-store_on-clause-goes g c is =
         steps = λ op e. c.store_on.ensures.took;
       };
     } in
-    taken_next P T (IsPlain X) c.args.self.now c.loop-taken.self c.store_on.new.self
-    c.loop-taken._taken c.loop-taken.invariant.0 one
+    Next c.loop-taken.taken c.loop-taken.self c.store_on.new.self c.loop-taken.invariant.0 one
 
 pub loop-taken-preserved : goal.loop-taken-preserved
 unfolding tells_with
@@ -68,17 +70,14 @@ loop-taken-preserved g c =
         steps = λ op e. c.store_on.ensures.took;
       };
     } in (
-      inr (taken_next P T (IsPlain X) c.args.self.now c.loop-taken.self c.store_on.new.self
-          c.loop-taken._taken c.loop-taken.invariant.0 one),
+      Next c.loop-taken.taken c.loop-taken.self c.store_on.new.self c.loop-taken.invariant.0 one,
       c.store_on.ensures.table ∙ c.loop-taken.invariant.1,
       c.store_on.ensures.stores c.if-not-store_on.false,
     )
 
-pub returns-clause-goes : goal.returns-clause-goes
-returns-clause-goes g c is =
+pub returns-clause-stays : goal.returns-clause-stays
+returns-clause-stays g c none =
     let P = process_with g.Q.Machine.kind_of g.Q.Machine.op g.Q.Machine.fed g.Q.Ratifier.protocol in
     let T = tells_with g.Q.Machine.kind_of g.Q.Machine.op g.Q.Machine.fed g.Q.Ratifier.protocol in
-    let X =
-    election_with g.Q.Machine.kind_of g.Q.Machine.op g.Q.Machine.fed g.Q.Ratifier.protocol in
-    taken_some P T (IsPlain X) c.args.self.now c.loop-taken.self c.loop-taken._taken
-    c.loop-taken.invariant.0 (let most = c.loop-taken-test.false in omega arith)
+    goes_nowhere P T c.args.self.now c.loop-taken.taken c.loop-taken.self c.loop-taken.invariant.0
+    (omega (arith, none))

@@ -1,4 +1,4 @@
-use Rattle.std.proofs.Common.{of_calls, refl, sym, ◌∙◌, ap}
+use Rattle.std.proofs.Common.{of_calls, arith, refl, sym, ◌∙◌, ap}
 use Rattle.bus_world.specs.Headline.{puts}
 use Rattle.bus_automaton.specs.Buses.{process_with}
 use Rattle.bus_pageslot.specs.Seats.{actions_of}
@@ -13,7 +13,7 @@ use Rattle.bus_pageslot.proofs.seats.Sender.send_while.Goals as goal
 pub returns-then-ends_sending-clause-sends : goal.returns-then-ends_sending-clause-sends
 unfolding tells_with
 returns-then-ends_sending-clause-sends g c =
-    let same = c.plain_turns.ensures.stays c.if-plain_turns.false in
+    let same = c.plain_turns.ensures.stays (let none = c.if-plain_turns-gt0.false in omega arith) in
     let row = last_of c.threads_may_go_by.ensures.process c.next_turns-turn.result
     c.next_turns-turn.new.self (g.R.Rng.stream c.next_turns-turn.new.rng)
     (asks_same same c.loop.invariant.1) (draws_same same c.loop.invariant.4)
@@ -32,7 +32,7 @@ unfolding tells_with
 returns-then-ends_sending-clause-puts g c =
     let P = process_with g.Q.Machine.kind_of g.Q.Machine.op g.Q.Machine.fed g.Q.Ratifier.protocol in
     let T = tells_with g.Q.Machine.kind_of g.Q.Machine.op g.Q.Machine.fed g.Q.Ratifier.protocol in
-    let same = c.plain_turns.ensures.stays c.if-plain_turns.false in
+    let same = c.plain_turns.ensures.stays (let none = c.if-plain_turns-gt0.false in omega arith) in
     let row = last_of c.threads_may_go_by.ensures.process c.next_turns-turn.result
     c.next_turns-turn.new.self (g.R.Rng.stream c.next_turns-turn.new.rng)
     (asks_same same c.loop.invariant.1) (draws_same same c.loop.invariant.4)
@@ -46,7 +46,7 @@ unfolding tells_with
 returns-then-ends_sending-clause-keeps g c =
     let P = process_with g.Q.Machine.kind_of g.Q.Machine.op g.Q.Machine.fed g.Q.Ratifier.protocol in
     let T = tells_with g.Q.Machine.kind_of g.Q.Machine.op g.Q.Machine.fed g.Q.Ratifier.protocol in
-    let same = c.plain_turns.ensures.stays c.if-plain_turns.false in
+    let same = c.plain_turns.ensures.stays (let none = c.if-plain_turns-gt0.false in omega arith) in
     let row = last_of c.threads_may_go_by.ensures.process c.next_turns-turn.result
     c.next_turns-turn.new.self (g.R.Rng.stream c.next_turns-turn.new.rng)
     (asks_same same c.loop.invariant.1) (draws_same same c.loop.invariant.4)
@@ -67,7 +67,7 @@ unfolding tells_with
 returns-then-not-go_on-clause-waits g c =
     let P = process_with g.Q.Machine.kind_of g.Q.Machine.op g.Q.Machine.fed g.Q.Ratifier.protocol in
     let T = tells_with g.Q.Machine.kind_of g.Q.Machine.op g.Q.Machine.fed g.Q.Ratifier.protocol in
-    let same = c.plain_turns.ensures.stays c.if-plain_turns.false in
+    let same = c.plain_turns.ensures.stays (let none = c.if-plain_turns-gt0.false in omega arith) in
     let row = last_of c.threads_may_go_by.ensures.process c.next_turns-turn.result
     c.next_turns-turn.new.self (g.R.Rng.stream c.next_turns-turn.new.rng)
     (asks_same same c.loop.invariant.1) (draws_same same c.loop.invariant.4)
@@ -83,26 +83,26 @@ pub loop-init : goal.loop-init
 loop-init g c = (c.requires.callable, Begins, refl, refl, Undrawn)
 
 -- plain steps were taken
-pub loop-preserved-then-plain_turns : goal.loop-preserved-then-plain_turns
+pub loop-preserved-then-plain_turns-gt0 : goal.loop-preserved-then-plain_turns-gt0
 unfolding tells_with
-loop-preserved-then-plain_turns g c =
+loop-preserved-then-plain_turns-gt0 g c =
     let P = process_with g.Q.Machine.kind_of g.Q.Machine.op g.Q.Machine.fed g.Q.Ratifier.protocol in
     let T = tells_with g.Q.Machine.kind_of g.Q.Machine.op g.Q.Machine.fed g.Q.Ratifier.protocol in
-    let goes = c.plain_turns.ensures.goes c.if-plain_turns.true in (
+    let goes = c.plain_turns.ensures.goes in (
       c.loop.invariant.0,
       goes_asking P T (goal.F-step g) c.args.self.now c.args.go_on c.loop.go_on c.loop.self
-          c.plain_turns.new.self c.loop.invariant.1 goes,
+          c.plain_turns.result c.plain_turns.new.self c.loop.invariant.1 goes,
       c.plain_turns.ensures.table ∙ c.loop.invariant.2,
-      goes_putting P T c.threads_may_go_by.ensures.process c.loop.self c.plain_turns.new.self goes
-          ∙ c.loop.invariant.3,
+      goes_putting P T c.threads_may_go_by.ensures.process c.loop.self c.plain_turns.result
+          c.plain_turns.new.self goes ∙ c.loop.invariant.3,
       goes_drawing P T c.args.self.now (g.R.Rng.stream c.args.rng.now) (g.R.Rng.stream c.loop.rng)
-          c.loop.self c.plain_turns.new.self c.loop.invariant.4 goes,
+          c.loop.self c.plain_turns.result c.plain_turns.new.self c.loop.invariant.4 goes,
     )
 
 pub returns-then-not-go_on-clause-stops : goal.returns-then-not-go_on-clause-stops
 unfolding tells_with
 returns-then-not-go_on-clause-stops g c =
-    let same = c.plain_turns.ensures.stays c.if-plain_turns.false in
+    let same = c.plain_turns.ensures.stays (let none = c.if-plain_turns-gt0.false in omega arith) in
     let row = last_of c.threads_may_go_by.ensures.process c.next_turns-turn.result
     c.next_turns-turn.new.self (g.R.Rng.stream c.next_turns-turn.new.rng)
     (asks_same same c.loop.invariant.1) (draws_same same c.loop.invariant.4)
@@ -124,7 +124,7 @@ unfolding tells_with
 returns-then-not-go_on-clause-puts g c =
     let P = process_with g.Q.Machine.kind_of g.Q.Machine.op g.Q.Machine.fed g.Q.Ratifier.protocol in
     let T = tells_with g.Q.Machine.kind_of g.Q.Machine.op g.Q.Machine.fed g.Q.Ratifier.protocol in
-    let same = c.plain_turns.ensures.stays c.if-plain_turns.false in
+    let same = c.plain_turns.ensures.stays (let none = c.if-plain_turns-gt0.false in omega arith) in
     let row = last_of c.threads_may_go_by.ensures.process c.next_turns-turn.result
     c.next_turns-turn.new.self (g.R.Rng.stream c.next_turns-turn.new.rng)
     (asks_same same c.loop.invariant.1) (draws_same same c.loop.invariant.4)
@@ -139,7 +139,7 @@ unfolding tells_with
 loop-preserved g c =
     let P = process_with g.Q.Machine.kind_of g.Q.Machine.op g.Q.Machine.fed g.Q.Ratifier.protocol in
     let T = tells_with g.Q.Machine.kind_of g.Q.Machine.op g.Q.Machine.fed g.Q.Ratifier.protocol in
-    let same = c.plain_turns.ensures.stays c.if-plain_turns.false in
+    let same = c.plain_turns.ensures.stays (let none = c.if-plain_turns-gt0.false in omega arith) in
     let row = last_of c.threads_may_go_by.ensures.process c.next_turns-turn.result
     c.next_turns-turn.new.self (g.R.Rng.stream c.next_turns-turn.new.rng)
     (asks_same same c.loop.invariant.1) (draws_same same c.loop.invariant.4)
@@ -162,7 +162,7 @@ unfolding tells_with
 loop-preserved-then-not-is_waiting g c =
     let P = process_with g.Q.Machine.kind_of g.Q.Machine.op g.Q.Machine.fed g.Q.Ratifier.protocol in
     let T = tells_with g.Q.Machine.kind_of g.Q.Machine.op g.Q.Machine.fed g.Q.Ratifier.protocol in
-    let same = c.plain_turns.ensures.stays c.if-plain_turns.false in
+    let same = c.plain_turns.ensures.stays (let none = c.if-plain_turns-gt0.false in omega arith) in
     let row = last_of c.threads_may_go_by.ensures.process c.next_turns-turn.result
     c.next_turns-turn.new.self (g.R.Rng.stream c.next_turns-turn.new.rng)
     (asks_same same c.loop.invariant.1) (draws_same same c.loop.invariant.4)
@@ -185,7 +185,7 @@ unfolding tells_with
 returns-then-ends_sending-clause-draws g c =
     let P = process_with g.Q.Machine.kind_of g.Q.Machine.op g.Q.Machine.fed g.Q.Ratifier.protocol in
     let T = tells_with g.Q.Machine.kind_of g.Q.Machine.op g.Q.Machine.fed g.Q.Ratifier.protocol in
-    let same = c.plain_turns.ensures.stays c.if-plain_turns.false in
+    let same = c.plain_turns.ensures.stays (let none = c.if-plain_turns-gt0.false in omega arith) in
     let row = last_of c.threads_may_go_by.ensures.process c.next_turns-turn.result
     c.next_turns-turn.new.self (g.R.Rng.stream c.next_turns-turn.new.rng)
     (asks_same same c.loop.invariant.1) (draws_same same c.loop.invariant.4)
@@ -199,7 +199,7 @@ unfolding tells_with
 returns-then-not-go_on-clause-draws g c =
     let P = process_with g.Q.Machine.kind_of g.Q.Machine.op g.Q.Machine.fed g.Q.Ratifier.protocol in
     let T = tells_with g.Q.Machine.kind_of g.Q.Machine.op g.Q.Machine.fed g.Q.Ratifier.protocol in
-    let same = c.plain_turns.ensures.stays c.if-plain_turns.false in
+    let same = c.plain_turns.ensures.stays (let none = c.if-plain_turns-gt0.false in omega arith) in
     let row = last_of c.threads_may_go_by.ensures.process c.next_turns-turn.result
     c.next_turns-turn.new.self (g.R.Rng.stream c.next_turns-turn.new.rng)
     (asks_same same c.loop.invariant.1) (draws_same same c.loop.invariant.4)

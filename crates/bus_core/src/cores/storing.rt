@@ -1,0 +1,151 @@
+//! The plain stores of a sender: words of its frame, and words of the next row that it clears.
+
+ghost use Rattle.std.specs.Prelude.{◌≡◌, ℕ, ◌+◌, ◌<◌, Option, Some, IsTrue};
+ghost use Rattle.bus_tenure.specs.Core.{cell_of};
+ghost use Rattle.bus_tenure.specs.Elections.{election_of};
+ghost use Rattle.bus_tenure.specs.Situations.{situation_of, Stays};
+ghost use Rattle.bus_tenure.specs.Doings.{doing_of, IsWord};
+ghost use Rattle.bus_tenure.specs.declared.turns.Turn.TheVariants as turn;
+ghost use Rattle.bus_presence.specs.Reclaimers.{Reclaiming, IsClearing, reclaim_fed};
+ghost use Rattle.bus_core.specs.Keeping.{IsAway, reclaimer_in};
+ghost use Rattle.bus_core.specs.Plain.{IsPlain, StoresPlain};
+ghost use Rattle.bus_core.specs.Senders.{log_start};
+ghost use Rattle.bus_core.specs.Table.{line_now, reuse_reclaiming};
+ghost use Rattle.bus_core.specs.Telling.{FeedTells};
+
+use crate::cores::SenderCore;
+use crate::reuses::Reuse;
+use bus_adoptcommit::Ratifier;
+
+impl<Q: Ratifier + Drop> SenderCore<Q> {
+    /// The answer to a plain store tells that no other is due.
+    fn tells_going(&self)
+        requires { let X = election_of Q.Ratifier in IsPlain X self.now }
+        ensures { let X = election_of Q.Ratifier in
+            (got : ℕ) (word : ℕ) → FeedTells X self.now got word turn.Going }
+    {
+        self.turns.is_kept();
+    }
+
+    /// Whose next step is a plain store pins no tenure.
+    fn plain_is_away(&self)
+        ensures { IsPlain (election_of Q.Ratifier) self.now → IsAway self.now.reuse }
+    {
+        self.turns.is_kept();
+    }
+
+    /// Whether the next step is a plain store; then it stores `value` in the word at `at`.
+    #[inline(always)]
+    pub fn plain(&self, at: &mut u64, value: &mut u64) -> bool
+        ensures stores { IsTrue result
+            → StoresPlain (election_of Q.Ratifier) self.now at.new value.new }
+        ensures exact { IsPlain (election_of Q.Ratifier) self.now → IsTrue result }
+    {
+        self.plain_is_away();
+        if !self.is_away() {
+            return false;
+        }
+        if self.turns.has_published() {
+            return clears(&self.reuse, at, value);
+        }
+        self.stores_word(at, value)
+    }
+
+    /// Whether it stores a word of its frame next, where it has no pin; then `value` in the word
+    /// at `at`.
+    #[inline(always)]
+    fn stores_word(&self, at: &mut u64, value: &mut u64) -> bool
+        requires { IsAway self.now.reuse }
+        ensures stores { IsTrue result
+            → StoresPlain (election_of Q.Ratifier) self.now at.new value.new }
+        ensures exact { let X = election_of Q.Ratifier in
+            IsWord (doing_of (situation_of X self.now.core)) → IsTrue result }
+    {
+        let (mut tenure, mut words, mut stored) = (0, 0, 0);
+        if !self.turns.stores_word(&mut tenure, &mut words, &mut stored) {
+            return false;
+        }
+        *value = self.turns.frame_word(tenure, words, stored);
+        *at = self.log_word(words + stored);
+        true
+    }
+
+    /// The plain store was taken that `plain` told. Its answer is Going, whatever it found. Says
+    /// whether the next step is a plain store too; then it stores `value` in the word at `at`.
+    #[inline(always)]
+    pub fn plain_done(&mut self, at: &mut u64, value: &mut u64) -> bool
+        requires { StoresPlain (election_of Q.Ratifier) self.old at.old value.old }
+        ensures state { let X = election_of Q.Ratifier in
+            (got : ℕ) (word : ℕ) → self.new ≡ (line_now X self.old).fed got word }
+        ensures tells { let X = election_of Q.Ratifier in
+            (got : ℕ) (word : ℕ) → FeedTells X self.old got word turn.Going }
+        ensures answer { let X = election_of Q.Ratifier in
+            (got : ℕ) (word : ℕ) → (line_now X self.old).answer got word ≡ turn.Going }
+        ensures page { let X = election_of Q.Ratifier in
+            (line_now X self.old).move ≡ Stays }
+        ensures stores { IsTrue result
+            → StoresPlain (election_of Q.Ratifier) self.new at.new value.new }
+        ensures exact { IsPlain (election_of Q.Ratifier) self.new → IsTrue result }
+    {
+        self.tells_going();
+        if self.turns.has_published() {
+            clear(&mut self.reuse);
+            return clears(&self.reuse, at, value);
+        }
+        let mut place = 0;
+        if !self.turns.next_word(&mut place, value) {
+            return false;
+        }
+        *at = self.log_word_behind(*at, place);
+        true
+    }
+
+    /// The word of the log in which this place lives, where the place before it lives at `at`.
+    #[inline(always)]
+    fn log_word_behind(&self, at: u64, place: u64) -> u64
+        requires some { 0 < self.now.core.layout.capacity }
+        requires behind { (before : ℕ) × (place ≡ before + 1)
+            × (at ≡ log_start self.now.core.layout self.now.reuse
+            + cell_of self.now.core.layout before) }
+        ensures { result ≡ log_start self.now.core.layout self.now.reuse
+            + cell_of self.now.core.layout place }
+    {
+        self.is_small();
+        if place < self.turns.capacity() {
+            return at + 1;
+        }
+        self.log_word(place)
+    }
+}
+
+/// Whether a reclamation clears a word next; then that is the word at `at`, and `value` is 0.
+#[inline(always)]
+fn clears(reuse: &Option<Reuse>, at: &mut u64, value: &mut u64) -> bool
+    ensures clears { IsTrue result → (s : Reclaiming) × (reclaimer_in reuse.now ≡ Some s)
+        × IsClearing s × (at.new ≡ s.row + s.cleared) × (value.new ≡ 0) }
+    ensures exact { (s : Reclaiming) → reclaimer_in reuse.now ≡ Some s → IsClearing s
+        → IsTrue result }
+{
+    *value = 0;
+    match reuse {
+        None => false,
+        Some(reuse) => match &reuse.reclaimer {
+            None => false,
+            Some(reclaimer) => reclaimer.clears(at),
+        },
+    }
+}
+
+/// That word is cleared.
+#[inline(always)]
+fn clear(reuse: &mut Option<Reuse>)
+    requires { (s : Reclaiming) → reclaimer_in reuse.old ≡ Some s → IsClearing s }
+    ensures { (s : Reclaiming) (got : ℕ) → reclaimer_in reuse.old ≡ Some s
+        → reuse.new ≡ reuse_reclaiming reuse.old (reclaim_fed s got) }
+{
+    if let Some(reuse) = reuse {
+        if let Some(reclaimer) = &mut reuse.reclaimer {
+            reclaimer.clear();
+        }
+    }
+}

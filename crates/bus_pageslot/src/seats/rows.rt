@@ -1,0 +1,175 @@
+//! A sender that takes turns in a row.
+
+ghost use Rattle.std.specs.Prelude.{◌≡◌, ◌≤◌, ◌<◌, None, Some};
+ghost use Rattle.bus_automaton.specs.Buses.{process_by};
+ghost use Rattle.bus_core.specs.Doings.{step_of};
+ghost use Rattle.bus_core.specs.Plain.{IsPlain};
+ghost use Rattle.bus_core.specs.Senders.{situation};
+ghost use Rattle.bus_core.specs.Telling.{FeedTells, RestTells};
+ghost use Rattle.bus_pageslot.specs.Seats.{table_of, TookAndTold};
+ghost use Rattle.bus_pageslot.specs.Turns.{tells_by, TakesUpTo, GoesPlainly, TurnsDrawing};
+ghost use Rattle.bus_pageslot.specs.Turns.{TakesWhile, TakesSome, ElectsIn, IsElecting};
+ghost use Rattle.bus_register.specs.declared.registers.Op.{Op};
+ghost use Rattle.bus_tenure.specs.Classes.{still_goes};
+ghost use Rattle.bus_tenure.specs.Elections.{election_of};
+
+use crate::buses::Bus;
+use crate::seats::Sender;
+use bus_adoptcommit::Ratifier;
+use bus_core::Step;
+use bus_tenure::{Doing, Turn};
+use rand_core::Rng;
+
+/// How many turns of an election `election_turns` takes at most.
+const MOST_ELECTION_TURNS: u32 = 256;
+
+impl<Q: Ratifier + Drop> Sender<Q> {
+    /// A turn with this random word, and as long as the last one was answered Going up to so many
+    /// more that ask for no word. The answer is the last one's.
+    ///
+    /// So Going says that the next turn is a vote, for which it is to be called again with another
+    /// word, or that all of them were taken. It waits for nothing.
+    pub fn turns(&mut self, bus: &Bus<Q>, word: u32, more: u64) -> Turn
+        requires table { table_of self.old ≡ bus.now.table }
+        ensures table { table_of self.new ≡ table_of self.old }
+        ensures turns { TakesUpTo (process_by Q.Ratifier) (tells_by Q.Ratifier) self.old word more
+            result self.new }
+    {
+        let mut turn = self.turn(bus, word);
+        let mut taken = 0;
+        for _ in 0..more {
+            if !is_going(turn) {
+                return turn;
+            }
+            taken += self.plain_turns(bus, more - taken);
+            if taken == more {
+                return turn;
+            }
+            let next = self.next_step();
+            if self.wants_word_for(next) {
+                return turn;
+            }
+            turn = self.turn_apart(bus, next, 0);
+            taken += 1;
+        }
+        turn
+    }
+
+    /// Turns in a row whose steps are plain stores, at most so many, and one at least where that is
+    /// due: how many it took.
+    #[inline(always)]
+    pub(super) fn plain_turns(&mut self, bus: &Bus<Q>, most: u64) -> u64
+        requires { table_of self.old ≡ bus.now.table }
+        ensures table { table_of self.new ≡ table_of self.old }
+        ensures few { result ≤ most }
+        ensures stays { result ≡ 0 → self.new ≡ self.old }
+        ensures exact { IsPlain (election_of Q.Ratifier) self.old.core → 0 < most → 0 < result }
+        ensures goes { GoesPlainly (process_by Q.Ratifier) (tells_by Q.Ratifier)
+            (IsPlain (election_of Q.Ratifier)) self.old result self.new }
+    {
+        let (mut at, mut value) = (0, 0);
+        if !self.core.plain(&mut at, &mut value) {
+            return 0;
+        }
+        for taken in 0..most {
+            if !self.store_on(bus, &mut at, &mut value, 0) {
+                return taken + 1;
+            }
+        }
+        most
+    }
+
+    /// The next turn, and where that is one of an election, those of it that follow. The answer is
+    /// the last one's.
+    #[inline(always)]
+    pub(super) fn next_turns<R: Rng>(&mut self, bus: &Bus<Q>, rng: &mut R) -> Turn
+        requires { table_of self.old ≡ bus.now.table }
+        ensures table { table_of self.new ≡ table_of self.old }
+        ensures some { TakesSome (process_by Q.Ratifier) (tells_by Q.Ratifier) self.old
+            (R.stream rng.old) result self.new (R.stream rng.new) }
+    {
+        match self.next_step() {
+            Step::Does(Doing::Elects { tenure }) => self.election_turns(bus, tenure, rng),
+            next => self.turn_drawing(bus, next, rng),
+        }
+    }
+
+    /// Turns in a row of an election that runs, one at least, and none once it knows an owner. The
+    /// answer is the last one's.
+    #[inline(never)]
+    fn election_turns<R: Rng>(&mut self, bus: &Bus<Q>, begun: u64, rng: &mut R) -> Turn
+        requires table { table_of self.old ≡ bus.now.table }
+        requires elects { ElectsIn (election_of Q.Ratifier) self.old.core begun }
+        ensures table { table_of self.new ≡ table_of self.old }
+        ensures takes { TakesWhile (process_by Q.Ratifier) (tells_by Q.Ratifier)
+            (IsElecting (election_of Q.Ratifier)) self.old (R.stream rng.old) result self.new
+            (R.stream rng.new) }
+    {
+        let mut tenure = begun;
+        for _taken in 0..MOST_ELECTION_TURNS {
+            let turn = self.turn_drawing(bus, Step::Does(Doing::Elects { tenure }), rng);
+            let Turn::Going = turn else {
+                return turn;
+            };
+            let Step::Does(Doing::Elects { tenure: same }) = self.next_step() else {
+                return Turn::Going;
+            };
+            tenure = same;
+        }
+        Turn::Going
+    }
+
+    /// The turn of which `next_step` told `next`, with the word that it asks for.
+    #[inline(always)]
+    fn turn_drawing<R: Rng>(&mut self, bus: &Bus<Q>, next: Step, rng: &mut R) -> Turn
+        requires table { table_of self.old ≡ bus.now.table }
+        requires next { let X = election_of Q.Ratifier in
+            step_of (situation X self.old.core) ≡ next }
+        ensures table { table_of self.new ≡ table_of self.old }
+        ensures draws { TurnsDrawing (process_by Q.Ratifier) (tells_by Q.Ratifier) self.old
+            (R.stream rng.old) result self.new (R.stream rng.new) }
+        ensures some { TakesSome (process_by Q.Ratifier) (tells_by Q.Ratifier) self.old
+            (R.stream rng.old) result self.new (R.stream rng.new) }
+    {
+        let word = self.word_for(next, rng);
+        self.turn_apart(bus, next, word)
+    }
+
+    /// The turn of which `next_step` told `next`. A situation that is often has a copy of it, which
+    /// asks for no other.
+    #[inline(always)]
+    fn turn_apart(&mut self, bus: &Bus<Q>, next: Step, word: u32) -> Turn
+        requires table { table_of self.old ≡ bus.now.table }
+        requires next { let X = election_of Q.Ratifier in
+            step_of (situation X self.old.core) ≡ next }
+        ensures table { table_of self.new ≡ table_of self.old }
+        ensures rests { let P = process_by Q.Ratifier in
+            P.op self.old.core word ≡ None → (self.new ≡ self.old) × (result ≡ P.rest
+            self.old.core) × RestTells self.old.core result }
+        ensures steps { let P = process_by Q.Ratifier in
+            (op : Op) → P.op self.old.core word ≡ Some op → TookAndTold P (FeedTells (election_of
+            Q.Ratifier)) self.old word result self.new }
+    {
+        match next {
+            Step::Does(Doing::Looks) => self.turn_by(bus, next, word),
+            Step::Does(Doing::Elects { .. }) => self.turn_by(bus, next, word),
+            Step::Does(Doing::Takes { .. }) => self.turn_by(bus, next, word),
+            Step::Does(Doing::Length { .. }) => self.turn_by(bus, next, word),
+            Step::Does(Doing::Back { .. }) => self.turn_by(bus, next, word),
+            Step::Announces { .. } => self.turn_by(bus, next, word),
+            Step::Validates { .. } => self.turn_by(bus, next, word),
+            Step::Unpins { .. } => self.turn_by(bus, next, word),
+            Step::Withdraws { .. } => self.turn_by(bus, next, word),
+            Step::Scans => self.turn_by(bus, next, word),
+            _ => self.full_turn(bus, word),
+        }
+    }
+}
+
+/// A step was taken, and nothing more is said.
+#[inline(always)]
+fn is_going(turn: Turn) -> bool
+    ensures { result ≡ still_goes turn }
+{
+    matches!(turn, Turn::Going)
+}
