@@ -220,7 +220,7 @@ pub record RefusesAgain {S : Type 0} (P : Protocol S Bool Verdict) (v : Sender (
   pub withdraws_pinned : (t : ℕ) → r.pin ≡ Pinned t → ¬ HasCause P v kind.Withdraw
   pub withdraws_undone : (t : ℕ) → r.pin ≡ Unpinning t → r.lost ≡ None
       → held_of v.core.phase ≢ Some t → ¬ HasCause P v kind.Withdraw
-  -- a presence that is scanned by who holds no page, or once all have passed
+  -- a presence that is scanned by who rests, or once all have passed
   pub asks_at_rest : v.core.phase ≡ Resting → ¬ HasCause P v kind.ReadPresence
   pub asks_past_all : (s : Reclaiming) → r.reclaimer ≡ Some s → s.senders ≤ s.scanned
       → ¬ HasCause P v kind.ReadPresence
@@ -243,7 +243,7 @@ pub record RefusesAgain {S : Type 0} (P : Protocol S Bool Verdict) (v : Sender (
       → v.core.phase ≡ Holding tenure page stored false → page.ended ≡ false
       → page.words + frame_len v.core ≤ v.core.layout.capacity + page.floor
       → ¬ HasCause P v kind.ClearRow
-  -- a passed place that is loaded by who holds no page, or while its presence is to be cleared
+  -- a passed place that is loaded by who rests, or while its presence is to be cleared
   pub reads_passed_at_rest : v.core.phase ≡ Resting → ¬ HasCause P v kind.ReadPassed
   pub reads_passed_while_unpinning : (t : ℕ) → r.pin ≡ Unpinning t → ¬ HasCause P v kind.ReadPassed
   -- a passed place that is loaded once the order has ended, once the length is stored, where the

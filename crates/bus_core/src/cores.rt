@@ -54,7 +54,7 @@ const STAGE: Reg = Reg(1);
 /// then to `wants_word_of`, `next_of` and `feed_of`, or to `rest_of`.
 ///
 /// The words are the length, the stage, where rows are used again a presence for each sender, the
-/// rows and the log, in this order.
+/// rows, the passed places that there are, and the log, in this order.
 #[derive(Drop)]
 pub struct SenderCore<Q: Ratifier> {
     turns: Turns<Q>,

@@ -7,5 +7,5 @@ pub const LEAST_ROWS_AGAIN: u64 = 2;
 /// At most eight.
 pub const MOST_ROWS_AGAIN: usize = 8;
 
-/// From one passed place to the next there are so many words: each has a line of memory of its own.
+/// From one passed place to the next there are so many words: no two share a line of 64 bytes.
 pub const PASSED_APART: u64 = 8;

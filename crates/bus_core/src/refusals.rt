@@ -54,10 +54,10 @@ pub fn answers_refuse<Q: Ratifier>()
 /// owner, none takes another step of it than the one that takes the page.
 ///
 /// With a row for each tenure none shows a presence, asks for one, clears a row, or loads a passed
-/// place. With rows that
-/// are used again none takes a step of an election while it pins no tenure, has not stored its
-/// presence, has not looked at the stage again, stands in another tenure or is to clear its
-/// presence. None looks at the stage, or stores a length, while its presence is to be cleared.
+/// place. With rows that are used again none takes a step of an election while it pins no tenure,
+/// has not stored its presence, has not looked at the stage again, stands in another tenure or is
+/// to clear its presence. None looks at the stage, or stores a length, while its presence is to be
+/// cleared.
 ///
 /// With such rows none enters a tenure, or looks at its stage again, that is past for it, or with
 /// nothing to send. None clears its presence while it pins no tenure, while it stands in one, or

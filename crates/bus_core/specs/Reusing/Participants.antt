@@ -16,7 +16,7 @@ use Rattle.bus_tenure.specs.Situations.{waits}
 abbrev pub sizes_with : Layout → ℕ → ReclamationSizes
 sizes_with x rows = record { at = stage_at; senders = x.senders; rows = rows; width = x.width }
 
--- where the passed places begin, each of which has a line of memory
+-- where the passed places begin, no two of which share a line of memory
 abbrev pub passed_from : Layout → ℕ → ℕ
 passed_from x rows = 2 + x.senders + rows * x.width
 
