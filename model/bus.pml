@@ -10,6 +10,8 @@
  * The shape, by -D:
  *   SENDERS 1 to 4, RECEIVERS 0 to 2, ROUNDS of a decision, TENURES, LOG_WORDS
  *   ROWS           so many rows are used again; left out: a row for each tenure
+ *   RING           the words of the log are used again too: the log is a ring of LOG_WORDS cells. With receivers; ROWS is 2 if left out
+ *   GONE           with RING: mask of receivers that may leave for good at any moment; not with NEXT_SITTING
  *   VOTES          own votes in one coin, and BARRIER (the program: 64, and 2 * SENDERS)
  *   MESSAGES       of each sender, each of them a frame of two words, put once the one before is delivered
  *   CLOSER         this sender closes behind its messages; with CLOSE_LAST behind everybody's
@@ -22,8 +24,8 @@
  *   ENDLESS        with COME_ROUND: senders without end, and no log
  *   CLAIMS         with the formulas at the end; WITHOUT_CASE: three_cases without the first, second or third of its cases
  *   LOSSES         with ENDLESS: losses of sender 1 are noted
- *   HARM           without the claims on who stands in which row, and on the row that opens, so that a wrong protocol shows what
- *                  follows from that
+ *   HARM           without the claims on who stands in which row, on the row that opens, and of a ring on room, floors and passed
+ *                  words, so that a wrong protocol shows what follows from that
  *   SHORTEST       for a search by breadth, which finds a shortest trail
  *   TELL, WIDE     for ./run and ./compare: a line for each step; counters with room for 64 votes
  *   NAP_AT         for ./compare: a sender may sleep before such a step
@@ -53,6 +55,9 @@
 #endif
 #ifndef LOG_WORDS
 #define LOG_WORDS 16
+#endif
+#if defined(RING) && !defined(ROWS)
+#define ROWS 2
 #endif
 #ifdef ROWS
 #define AGAIN                /* rows are used again */
@@ -87,6 +92,13 @@ WORD log_words[LOG_WORDS];   /* 0: never stored */
 #ifdef AGAIN
 byte presence[SENDERS];      /* 0, or 1+t */
 #endif
+#ifdef RING
+byte passed[RECEIVERS];      /* the place before which it has heard all words, or PAST_ALL: it has left */
+#define PAST_ALL 255
+#define CELL(p) ((p)%LOG_WORDS)                /* where the log word of place p is */
+#else
+#define CELL(p) (p)
+#endif
 
 /* The row of a tenure: the announcements, and for each bit of an owner's number, the lowest first, one decision:
  * the ratifier of round 1 (input 0, input 1, proposal); for each further round a conciliator (mark 0, mark 1, counter)
@@ -115,12 +127,15 @@ WORD row_words[ROWS*ROW];
 #define TENURE_OF(x)  ((x) % OWNER)
 #define NUMBER_OF(x)  ((x) % TAG)
 
-/* The page in its slot: each sender's next number, whether the order has ended, the words of the log. It is no word: it moves
- * with the steps TakePage and GivePageBack, and while a sender has it the slot is blank. */
+/* The page in its slot: each sender's next number, whether the order has ended, the words of the log, and of a ring its floor. It is
+ * no word: it moves with the steps TakePage and GivePageBack, and while a sender has it the slot is blank. */
 bit  home = 1;
 byte page_next[SENDERS];
 bit  page_ended;
 byte page_words;
+#ifdef RING
+byte page_floor;
+#endif
 
 /* ------------------------------------------------------------------ ghosts */
 
@@ -131,6 +146,8 @@ bit  taken;                  /* the page was taken in the tenure of the stage */
 byte stands[SENDERS];        /* 1+t: it stands in t */
 #ifdef NEXT_SITTING
 #define ENTRIES (2*TENURES)
+#elif defined(RING)
+#define ENTRIES (SENDERS*(MESSAGES+1))         /* tenures may come round */
 #else
 #define ENTRIES TENURES
 #endif
@@ -142,7 +159,10 @@ bit  has_left[SENDERS];      /* its leave mark stands in the order */
 byte has_put[SENDERS];       /* how many messages it has put, those of earlier sittings counted */
 bit  has_stopped[SENDERS];
 byte senders_done;           /* they have ended, left or stopped */
-byte receivers_done;         /* they were given the end */
+byte receivers_done;         /* they were given the end, or have left */
+#ifdef RING
+byte place_in[LOG_WORDS];    /* 1 + the place whose word stands in this cell */
+#endif
 #ifdef ENDLESS
 bit  flip, flips[SENDERS];   /* changes with each delivery; with each of this sender */
 bit  lost;                   /* changes with each Lost of sender 1 */
@@ -179,14 +199,18 @@ hidden int sum;
                             if :: row_words[p] == 0 -> row_words[p] = y :: else fi; x = row_words[p]
 #define LOAD_PRESENCE(s)    x = presence[s]; SAY("STEP sender %d %e presence %d %d %d\n", me, k, s, x, x)
 #define STORE_PRESENCE(y)   SAY("STEP sender %d %e presence %d %d %d\n", me, k, me, presence[me], y); presence[me] = y
-#define STORE_LOG(p,y)      SAY("STEP sender %d %e log %d %d %d\n", me, k, p, log_words[p], y); log_words[p] = y
+#define STORE_LOG(p,y)      SAY("STEP sender %d %e log %d %d %d\n", me, k, CELL(p), log_words[CELL(p)], y); log_words[CELL(p)] = y
 #define STORE_LENGTH(y)     SAY("STEP sender %d %e length 0 %d %d\n", me, k, length, y); length = y
+#define LOAD_PASSED(r)      x = passed[r]; SAY("STEP sender %d %e passed %d %d %d\n", me, k, r, x, x)
 #define HEAR_LENGTH         SAY("STEP receiver %d LoadLength length 0 %d %d\n", listener, length, length)
-#define HEAR_LOG(p)         x = log_words[p]; SAY("STEP receiver %d LoadLogWord log %d %d %d\n", listener, p, x, x)
+#define HEAR_LOG(p)         x = log_words[CELL(p)]; SAY("STEP receiver %d LoadLogWord log %d %d %d\n", listener, CELL(p), x, x)
+#define STORE_PASSED(y)     SAY("STEP receiver %d StorePassed passed %d %d %d\n", listener, listener, passed[listener], y); \
+                            passed[listener] = y
 
 mtype = { LoadStage, Announce, WriteFirst, ReadFirst, WriteSecond, ReadSecond, SetMark, ReadOtherMark, Vote, ReadVotes,
           Fallback, ReadAnnouncement, TakePage, StoreLogWord, StoreLength, GivePageBack,
-          Enter, LoadStageAgain, Withdraw, ReadPresence, ClearRow,       /* LoadLength and LoadLogWord are a receiver's */
+          Enter, LoadStageAgain, Withdraw, ReadPresence, ClearRow,
+          ReadPassed,                                                    /* LoadLength, LoadLogWord, StorePassed are a receiver's */
           Put, Done, TestHome, Nap,                                      /* no steps: nothing put yet; at rest; of wrong protocols */
           Message, EndMark, LeaveMark,                                   /* what waits to be sent */
           Invalidated, Lost, Took, Delivered, Full, Ended }              /* how its tenure goes on or ends */
@@ -271,6 +295,24 @@ mtype = { LoadStage, Announce, WriteFirst, ReadFirst, WriteSecond, ReadSecond, S
 #define IN_ROW TURN; assert(stands[me] == 1+t && ROW_FITS)   /* claim: in its row */
 #endif
 
+/* The claims of a ring. ALL_PASSED: each receiver that has not left has passed all words before place p. MAY_RISE: the page's floor
+ * from f to p. MAY_PASS: this receiver all words before p. */
+#ifdef RING
+#ifdef HARM
+#define ALL_PASSED(p) 1
+#define MAY_RISE(f,p) 1
+#define MAY_PASS(p)   1
+#else
+#if RECEIVERS == 1
+#define ALL_PASSED(p) (passed[0] >= (p))
+#else
+#define ALL_PASSED(p) (passed[0] >= (p) && passed[1] >= (p))
+#endif
+#define MAY_RISE(f,p) ((f) <= (p) && (p) <= length && ALL_PASSED(p))
+#define MAY_PASS(p)   (passed[listener] < (p) && (p) <= place && (p)%FRAME == 0)
+#endif
+#endif
+
 /* Of wrong protocols: where one of these stands in place of the right one. */
 #ifdef WRONG_LENGTH_FIRST
 #define FIRST_OF_FRAME StoreLength
@@ -302,12 +344,65 @@ mtype = { LoadStage, Announce, WriteFirst, ReadFirst, WriteSecond, ReadSecond, S
 #else
 #define ASKED(t) OLD(t)
 #endif
+#ifdef WRONG_ROOM_ONE_MORE
+#define ROOM (LOG_WORDS+1)
+#else
+#define ROOM LOG_WORDS
+#endif
+#ifdef WRONG_OLD_LENGTH
+#define BEGINS old_words
+#else
+#define BEGINS own_words
+#endif
+#ifdef WRONG_STORES_FIRST
+#define BEHIND_ROOM StoreLength
+#else
+#define BEHIND_ROOM FIRST_OF_FRAME
+#endif
+#ifdef WRONG_TAKES_GREATEST
+#define LOWEST_AT_FIRST 0
+#define IS_LOWER(p) ((p) > lowest)
+#else
+#define LOWEST_AT_FIRST own_words
+#define IS_LOWER(p) ((p) < lowest)
+#endif
+#ifdef WRONG_SKIPS_RECEIVER
+#define LAST_LOADED (RECEIVERS-1)
+#else
+#define LAST_LOADED RECEIVERS
+#endif
+#ifdef WRONG_PASSES_KNOWN
+#define HEARD known
+#else
+#define HEARD place
+#endif
+#ifdef WRONG_PASSES_WITHIN
+#define FRAME_IS_HEARD 1
+#else
+#define FRAME_IS_HEARD !inside
+#endif
+#ifdef WRONG_LEAVES_WITHOUT_STORE
+#define PASSED_AT_LAST passed[listener]
+#else
+#define PASSED_AT_LAST PAST_ALL
+#endif
+
+#ifdef RING
+#define HAS_ROOM (BEGINS + FRAME <= ROOM + own_floor)                    /* the frame fits */
+#define PASSES   (FRAME_IS_HEARD && place > passed[listener])            /* StorePassed is due */
+#define LISTENS  (!over && !PASSES)
+#else
+#define LISTENS  !over
+#endif
 
 /* ------------------------------------------------------------------ what a sender does between its steps */
 
 /* What it forgets with a tenure, so that equal states are one. */
 inline forget() {
     t = 0; b = 0; r = 0; candidate = 0; v = 0; i = 0; votes = 0; owner = 0; ending = 0; NO_TURNS
+#ifdef RING
+    ; lowest = 0
+#endif
 }
 
 inline rest() { waits = 0; k = Done; senders_done++ }
@@ -372,6 +467,17 @@ inline lose() {
 #endif
 }
 
+#ifdef RING
+/* Its frame fits by the floor of its page, or all passed words are loaded. */
+inline look_for_room() {
+    i = 0;
+    if
+    :: HAS_ROOM -> k = BEHIND_ROOM
+    :: else -> lowest = LOWEST_AT_FIRST; k = ReadPassed
+    fi
+}
+#endif
+
 /* It has the page: its frame is stored, or none is begun. */
 inline begin_frame() {
     i = 0;
@@ -380,8 +486,14 @@ inline begin_frame() {
     :: true -> ending = Delivered; end_frame()
 #else
     :: KNOWS_END -> ending = Ended; end_frame()
+#ifdef WRONG_STORES_FIRST
+    :: !KNOWS_END -> k = FIRST_OF_FRAME
+#elif defined(RING)
+    :: !KNOWS_END -> look_for_room()
+#else
     :: !KNOWS_END && own_words + FRAME <= LOG_WORDS -> k = FIRST_OF_FRAME
     :: !KNOWS_END && own_words + FRAME > LOG_WORDS -> ending = Full; end_frame()
+#endif
 #endif
     fi
 }
@@ -434,6 +546,12 @@ active [SENDERS] proctype Sender() {
     mtype ending;                               /* how its tenure goes on or ends */
     byte next; mtype waits;                     /* the number of its next message; what waits to be sent */
     byte own_next[SENDERS]; bit own_ended; byte own_words;       /* the page, while it has it */
+#ifdef RING
+    byte own_floor, lowest;                     /* the page's; the lowest of its words and of the passed words that it has loaded */
+#ifdef WRONG_OLD_LENGTH
+    byte old_words;                             /* the length as it was when it last had the page */
+#endif
+#endif
 #ifdef COUNT_TURNS
     byte turns;
 #endif
@@ -630,6 +748,10 @@ active [SENDERS] proctype Sender() {
         home = 0; holders++; holder = 1+me; taken = 1;
         x = 0; do :: x < SENDERS -> own_next[x] = page_next[x]; page_next[x] = 0; x++ :: else -> break od;
         own_ended = page_ended; own_words = page_words; page_ended = 0; page_words = 0;
+#ifdef RING
+        own_floor = page_floor; page_floor = 0;
+        assert(MAY_RISE(0,own_floor));                      /* claim: floor behind all */
+#endif
         v = 0; candidate = 0; owner = 0; b = 0; r = 0; i = 0;
         SAY("ANSWER own %d\n", t);
 #if defined(AGAIN) && !defined(WRONG_HOLDER_STAYS)
@@ -639,15 +761,36 @@ active [SENDERS] proctype Sender() {
 #endif
         }
 
+#ifdef RING
+    /* Its frame does not fit: it loads each passed word once. With the last one the floor of its page rises. */
+    :: d_step { k == ReadPassed ->
+        LOAD_PASSED(i);
+        if :: IS_LOWER(x) -> lowest = x :: else fi;
+        i++;
+        if
+        :: i == LAST_LOADED ->
+            assert(MAY_RISE(own_floor,lowest));             /* claim: floor behind all */
+            own_floor = lowest; lowest = 0; i = 0;
+            if :: HAS_ROOM -> k = BEHIND_ROOM :: else -> ending = Full; end_frame() fi
+        :: else
+        fi }
+#endif
+
 #ifndef ENDLESS
     :: d_step { k == StoreLogWord ->
         assert(holders == 1 && holder == 1+me);             /* claim: one taker */
+#ifdef RING
+        assert(ALL_PASSED(own_words+i+1-LOG_WORDS));        /* claim: room */
+        place_in[CELL(own_words+i)] = 1+own_words+i;
+#endif
         x = (i == 0 -> HEAD(me,t) : (waits == EndMark -> END_MARK : (waits == LeaveMark -> LEAVE_MARK : MESSAGE(next))));
         STORE_LOG(own_words+i, x);
         i++;
         if
 #ifdef WRONG_LENGTH_FIRST
         :: i == FRAME -> own_words = own_words + FRAME; ending = Delivered; end_frame()
+#elif defined(WRONG_STORES_FIRST)
+        :: i == FRAME -> look_for_room()
 #else
         :: i == FRAME -> k = StoreLength
 #endif
@@ -703,7 +846,13 @@ active [SENDERS] proctype Sender() {
         STORE_STAGE(2*NEXT(t));
         home = 1; holders--; holder = 0; taken = 0;
         x = 0; do :: x < SENDERS -> page_next[x] = own_next[x]; own_next[x] = 0; x++ :: else -> break od;
+#ifdef WRONG_OLD_LENGTH
+        old_words = own_words;
+#endif
         page_ended = own_ended; page_words = own_words; own_ended = 0; own_words = 0;
+#ifdef RING
+        page_floor = own_floor; own_floor = 0;
+#endif
 #ifdef COME_ROUND
         elected[OLD(t)] = 0; announced[OLD(t)] = 0;         /* nobody stands in a tenure so old, so nobody asks */
         x = 0; do :: x < SENDERS -> if :: least[x] == 1 + NEXT(t) -> least[x] = 0 :: else fi; x++ :: else -> break od;
@@ -747,6 +896,10 @@ inline be_over() {
 #if defined(CLOSE_LAST) && !defined(STOPPERS)
     x = 0; do :: x < SENDERS -> assert(heard[x] == MINE); x++ :: else -> break od;        /* claim: the end comes behind all */
 #endif
+    hear_no_more()
+}
+
+inline hear_no_more() {
     x = 0; do :: x < SENDERS -> gone[x] = 0; x++ :: else -> break od;
     receivers_done++; known = 0; place = 0; owner = 0; above = 0; inside = 0; over = 1
 }
@@ -757,14 +910,31 @@ active [RECEIVERS] proctype Receiver() {
     byte owner, above;           /* of the frame; 1 + the tenure of the last head */
     byte heard[SENDERS], count;  /* items that it was given of each, and entries of all: those of earlier sittings counted */
     bit  gone[SENDERS];          /* it was told that this sender has left */
-    bit  over;                   /* it was given the end */
+    bit  over;                   /* it was given the end, or has left */
 #ifdef NEXT_SITTING
     bit mine;
 #endif
 
     do
+#ifdef RING
+    /* StorePassed */
+    :: d_step { !over && PASSES ->
+        assert(MAY_PASS(HEARD));                            /* claim: passes what it heard */
+        STORE_PASSED(HEARD) }
+#ifdef GONE
+    /* It leaves for good: its last step, also within a frame. */
+    :: d_step { !over && passed[listener] != PAST_ALL && ((GONE >> listener) & 1) ->
+        SAY("GONE %d %d %d\n", listener, passed[listener], PASSED_AT_LAST);
+        passed[listener] = PASSED_AT_LAST;
+#ifndef WRONG_HEARS_ON
+        x = 0; do :: x < SENDERS -> heard[x] = 0; x++ :: else -> break od;
+        count = 0; hear_no_more()
+#endif
+        }
+#endif
+#endif
     /* LoadLength */
-    :: d_step { !over && place == known ->
+    :: d_step { LISTENS && place == known ->
         HEAR_LENGTH;
         assert(length >= known);                            /* claim: one order */
 #ifdef WRONG_READS_PAST
@@ -773,7 +943,10 @@ active [RECEIVERS] proctype Receiver() {
         if :: length == known -> SAY("ANSWER empty\n") :: else -> known = length fi }
 #endif
     /* LoadLogWord */
-    :: d_step { !over && place < known ->
+    :: d_step { LISTENS && place < known ->
+#ifdef RING
+        assert(place_in[CELL(place)] == 1+place);           /* claim: the word of its place */
+#endif
         HEAR_LOG(place);
         place++;
         if
@@ -837,6 +1010,11 @@ active proctype Opener() {
         sum = 0; do :: sum < ROWS*ROW -> row_words[sum] = 0; sum++ :: else -> break od;
         x = 0; do :: x < TENURES -> elected[x] = 0; announced[x] = 0; x++ :: else -> break od;
         elected[TENURES] = 0; stage = 0; length = 0; page_words = 0; page_ended = 0; ended = 0;
+#ifdef RING
+        x = 0; do :: x < RECEIVERS -> passed[x] = 0; x++ :: else -> break od;
+        x = 0; do :: x < LOG_WORDS -> place_in[x] = 0; x++ :: else -> break od;
+        page_floor = 0;
+#endif
         senders_done = 0; receivers_done = 0; sitting = 1; SAY("SITTING\n") }
     :: d_step { senders_done == SENDERS && (sitting == 1 || !home || !page_ended) -> last_sitting = 1 }; break
     od

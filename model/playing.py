@@ -1,7 +1,8 @@
 """What a run of bus.pml says of its steps, as scripts of `bus trace`, and what their traces have to say. For run and compare."""
 import collections, re, subprocess
 
-SAID = re.compile(r"STEP|ANSWER|PUT|CLOSE|LEAVE|STOP|REST|BASE|SITTING|<<<<<START OF CYCLE")
+SAID = re.compile(r"STEP|ANSWER|PUT|CLOSE|LEAVE|GONE|STOP|REST|BASE|SITTING|<<<<<START OF CYCLE")
+PAST_ALL = 255  # in the model; in the program 2^64 - 1
 
 
 def shape_of(words):
@@ -39,6 +40,8 @@ class Plan:
         rows, receivers = shape.get("ROWS"), max(1, int(shape.get("RECEIVERS", 1)))
         last = f"{rows or shape.get('TENURES', 4)} {max(16, int(shape.get('LOG_WORDS', 16)))}"
         self.first = f"{'cycle' if rows else 'shape'} {self.senders} {receivers} {self.rounds} {last}"
+        if "RING" in shape:  # the program cannot open one yet
+            self.first = f"ring {self.senders} {receivers} {self.rounds} {rows or 2} {shape.get('LOG_WORDS', 16)}"
         self.heads, self.tag, self.owner = (65536, 1048576, 1024) if "WIDE" in shape else (16, 64, 16)
         self.sittings, self.bases = [], collections.Counter()
         self.begin()
@@ -74,6 +77,9 @@ class Plan:
             word, found, after = f"log {place}", self.log_word(found, place), self.log_word(after, place)
         elif place_of == "presence":
             word = f"presence {place}"
+        elif place_of == "passed":
+            word = f"passed {place}"
+            found, after = ((1 << 64) - 1 if value == PAST_ALL else value for value in (found, after))
         line = f"recv {number} 1" if who == "receiver" else f"turn {number} {random} 1"
         self.add(line, f"{who} {number}", kind, word, found, after, "going")
 
@@ -100,6 +106,9 @@ class Plan:
             kind = words[0].lower()
             said = {"close": "closing", "leave": "leaving", "stop": "stopped"}[kind]
             self.add(f"{kind} {words[1]}", f"sender {words[1]}", kind, "-", "-", "-", said)
+        elif words[0] == "GONE":
+            self.step("receiver", int(words[1]), "StorePassed", "passed", *map(int, words[1:]))
+            self.lines[-1], self.wanted[-1][5] = f"gone {words[1]}", "gone"
         elif words[0] == "REST":
             self.add(f"turn {words[1]} 0 1", f"sender {words[1]}", "-", "-", "-", "-", "going")
         elif words[0] == "BASE":
