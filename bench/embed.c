@@ -1065,8 +1065,8 @@ static void timing(void) {
 
 /* ---- runs as those of `bus_bench lines`: one for each line of the input, SENDERS RECEIVERS
    MESSAGES BYTES and ROUNDS (4 if left out). Prints the nanoseconds from the opening of a gate, at
-   which all threads wait, to the last item of the last receiver. Waits as the library does, by
-   spinning and then yielding. */
+   which all threads wait, to the last item of the last receiver. Waits as the proved library does,
+   by 1, 2, 4, .. 64 pauses of the processor and then by yielding. */
 struct race {
     atomic_int waiting;
     atomic_bool open;
@@ -1097,9 +1097,17 @@ static void die(const char *why) {
     exit(2);
 }
 
+static void pause_once(void) {
+#if defined __x86_64__ || defined __i386__
+    __builtin_ia32_pause();
+#else
+    atomic_signal_fence(memory_order_seq_cst);
+#endif
+}
+
 static void wait_a_little(unsigned *step) {
     if (*step > 6) sched_yield();
-    else for (volatile unsigned spin = 0, most = 1u << (*step)++; spin < most; spin++) {}
+    else for (unsigned spin = 0, most = 1u << (*step)++; spin < most; spin++) pause_once();
 }
 
 static void pass_gate(struct race *race) {
