@@ -1,5 +1,6 @@
 -- What handles hold once a bus is opened.
-use Rattle.std.specs.Prelude.{◌≡◌, ℕ, List, map, length, Option, Some, Result, Ok, Err, Box}
+use Rattle.std.specs.Prelude.{◌≡◌, ℕ, List, map, length, replicate, Option, Some}
+use Rattle.std.specs.Prelude.{Result, Ok, Err, Box}
 use Rattle.std.specs.Global.{Global}
 use Rattle.bus_machine.specs.Playing.{IsServed, MayFollow, MakeRefusedAfter}
 use Rattle.bus_world.specs.declared.shapes.MakeFault.{MakeFault}
@@ -24,7 +25,7 @@ abbrev pub boxed : Box Sending Global → Option Sending
 boxed b = Some b.value
 
 abbrev pub holds : SenderSeat Held → Option Sending
-holds s = Some (record { handle = s })
+holds s = Some (record { handle = s; room = replicate 8 0 })
 
 -- the same of receivers
 abbrev pub heard_by : CReceiver → Option Receiving
@@ -34,7 +35,7 @@ abbrev pub boxed_receiver : Box Receiving Global → Option Receiving
 boxed_receiver b = Some b.value
 
 abbrev pub hears : SeatOfBus Held → Option Receiving
-hears r = Some (record { handle = r })
+hears r = Some (record { handle = r; room = replicate 8 0 })
 
 -- ---- an opening
 -- The handles hold the senders and the receivers of a new bus of these sizes, in order, which have

@@ -5,7 +5,7 @@ ghost use Rattle.bus_c.specs.Opened.{OpenAnswered, held_by, boxed, holds};
 ghost use Rattle.bus_c.specs.Opened.{heard_by, boxed_receiver, hears};
 
 use crate::receiver::CReceiver;
-use crate::seats::{ReceiverSeat, SenderSeat};
+use crate::seats::{ReceiverSeat, SenderSeat, seat_receiver, seat_sender};
 use crate::sender::CSender;
 use bus_embed::codes::{NO_MEMORY, OK};
 use bus_embed::{
@@ -94,7 +94,7 @@ fn box_senders(
 {
     let mut boxes = Vec::new(alloc);
     for handle in senders {
-        boxes.push(Box::new(alloc, SenderSeat { handle })?)?;
+        boxes.push(Box::new(alloc, seat_sender(handle))?)?;
     }
     Ok(boxes)
 }
@@ -108,7 +108,7 @@ fn box_receivers(
 {
     let mut boxes = Vec::new(alloc);
     for handle in receivers {
-        boxes.push(Box::new(alloc, ReceiverSeat { handle })?)?;
+        boxes.push(Box::new(alloc, seat_receiver(handle))?)?;
     }
     Ok(boxes)
 }

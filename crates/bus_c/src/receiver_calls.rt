@@ -206,7 +206,7 @@ pub extern "C" fn bus_c_end(
 {
     match receiver.take(alloc) {
         Some(seat) => {
-            let ReceiverSeat { handle } = Box::into_inner(seat);
+            let ReceiverSeat { handle, .. } = Box::into_inner(seat);
             end_bus(handle, log, left)
         }
         None => EMPTY_HANDLE,
