@@ -110,6 +110,7 @@ module _ {E : Type 0} (X : Election E) (P : Protocol E (Unit {0}) ℕ) (m : Mach
           left = λ q low.
               k.left q low
               ∙ ap (λ (o : Order). Some (has_gone q o)) (order_same P m T f order owners s);
+          floor = k.floor;
         }
     | Held holder stage away many holds ↦ absurd (true≢false (sym (ap is_some at) ∙ away))
   ]
@@ -161,7 +162,12 @@ module _ {E : Type 0} (X : Election E) (P : Protocol E (Unit {0}) ℕ) (m : Mach
               owners_are = refl;
             };
             words = knows.words ∙ sym many_words;
-            knows = record { entries = knows.entries; next = knows.next; left = knows.left };
+            knows = record {
+              entries = knows.entries;
+              next = knows.next;
+              left = knows.left;
+              floor = knows.floor;
+            };
             ended = knows.ended;
             tenures = knows.tenures;
           };
@@ -191,7 +197,12 @@ module _ {E : Type 0} (X : Election E) (P : Protocol E (Unit {0}) ℕ) (m : Mach
               owners_are = refl;
             };
             words = omega arith;
-            knows = record { entries = knows.entries; next = knows.next; left = knows.left };
+            knows = record {
+              entries = knows.entries;
+              next = knows.next;
+              left = knows.left;
+              floor = knows.floor;
+            };
             ended = knows.ended;
             tenures = knows.tenures;
           };

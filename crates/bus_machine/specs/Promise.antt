@@ -27,6 +27,7 @@ use Rattle.bus_tenure.specs.declared.pages.Page.{Page}
 use Rattle.bus_tenure.specs.declared.phases.Phase.TheVariants.{Electing, Holding}
 use Rattle.bus_world.specs.Headline.{Action, HasPut, HasMarked, Stepped, Took, puts, order_given}
 use Rattle.bus_world.specs.Headline.{IsPrefix, Promises}
+use Rattle.bus_world.specs.Log.{KeepsFloor}
 use Rattle.bus_world.specs.Trails.{Takers}
 use Rattle.bus_world.specs.Waiting.{waiting_at}
 use Rattle.bus_world.specs.World.{Event, Put, Ask, Turn, Recv, Stop}
@@ -107,12 +108,14 @@ IsPagedBy stage len ended None = (t : ℕ) × (stage ≡ 2 * t + 1)
 IsPagedBy stage len ended (Some page) =
     (stage ≡ 2 * page.tenures) × (page.words ≡ len) × (page.ended ≡ ended)
 
--- it knows the next number of each sender behind this order, and who has left by it
+-- it knows the next number of each sender behind this order, and who has left by it; and its floor
+-- is kept
 pub record KnowsOrder (base : ℕ → ℕ) (page : Page) (order : Order) : Type 0 where
   pub entries : length page.next ≡ MOST_SENDERS
   pub next : (s : ℕ) → s < MOST_SENDERS
       → slice_index page.next s ≡ base s + length (of_sender s order)
   pub left : (s : ℕ) → s < MOST_SENDERS → slice_get page.left s ≡ Some (has_gone s order)
+  pub floor : KeepsFloor page
 
 -- A page that is out knows what the log was when it left home: how many words it had, the order
 -- that these spell, and the tenures.

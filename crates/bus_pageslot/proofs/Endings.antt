@@ -87,6 +87,7 @@ module _ {C : Type 0} (P : Process C) (A : Automaton C) (L : AutomatonLaws P A) 
             ∙ sym
             (length-read (slice_index (A.words z)) A.table_layout.log (slice_index (A.words z) 0))
             ∙ ap length stands ∙ ap length log_is;
+        floor = knows.floor;
         tenures = above q.order q.owners spells;
       }
 

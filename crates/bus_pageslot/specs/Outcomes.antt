@@ -6,6 +6,7 @@ use Rattle.bus_batch.specs.declared.messages.Item.{Item}
 use Rattle.bus_batch.specs.Frames.{Order, Spells, has_gone}
 use Rattle.bus_deliverylog.specs.Orders.{of_sender}
 use Rattle.bus_tenure.specs.declared.pages.Page.{Page}
+use Rattle.bus_world.specs.Log.{KeepsFloor}
 
 -- how many senders it had, the numbers that it began with, the words of its log below the length,
 -- and its page
@@ -17,8 +18,8 @@ pub record Outcome : Type 0 where
 
 -- The words spell an order, in which each sender's items have its numbers from its first one on.
 -- The page knows of it: the next number of each sender behind it, which senders have left in it,
--- whether it has ended, and how many words there are; and each frame is of one of the tenures that
--- it counts. The words spell one order alone.
+-- whether it has ended, how many words there are, and from which place on they stand; and each frame
+-- is of one of the tenures that it counts. The words spell one order alone.
 pub record IsOutcome (z : Outcome) : Type 0 where
   pub order : Order
   pub owners : List (ℕ × SenderNo)
@@ -30,5 +31,6 @@ pub record IsOutcome (z : Outcome) : Type 0 where
   pub left : (s : ℕ) → s < MOST_SENDERS → slice_get z.page.left s ≡ Some (has_gone s order)
   pub ended : z.page.ended ≡ order.ended
   pub words : z.page.words ≡ length z.log
+  pub floor : KeepsFloor z.page
   pub tenures : (place t : ℕ) (o : SenderNo) → slice_get owners place ≡ Some (t, o)
       → t < z.page.tenures

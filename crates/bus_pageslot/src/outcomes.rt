@@ -9,7 +9,7 @@ ghost use Rattle.bus_register.specs.declared.registers.SenderNo.{SenderNo as Num
 ghost use Rattle.bus_batch.specs.declared.messages.Item.{Item};
 ghost use Rattle.bus_batch.specs.Frames.{Order, Spells, has_gone};
 ghost use Rattle.bus_deliverylog.specs.Orders.{of_sender};
-ghost use Rattle.bus_world.specs.Log.{words_read_from};
+ghost use Rattle.bus_world.specs.Log.{words_read_from, KeepsFloor};
 ghost use Rattle.bus_automaton.specs.Buses.{process_by, automaton_by};
 ghost use Rattle.bus_pageslot.specs.declared.rule.View.TheVariants.{Tap};
 ghost use Rattle.bus_pageslot.specs.ReceiverViews.{ReceiverView};
@@ -87,10 +87,11 @@ impl Ended {
     /// The page, as its last owner gave it back. It has the number of the log's words, whether the
     /// order that they spell has ended, and for each sender whether it has left in it, and the
     /// number that its next message would have behind it. Its tenures are above that of each
-    /// frame.
+    /// frame, and its floor is 0: all words that it counts stand.
     pub fn page(&self) -> &Page
         ensures page { result.now ≡ self.now.page }
         ensures words { result.now.words ≡ length self.now.log }
+        ensures floor { KeepsFloor result.now }
         ensures ended { (order : Order) (owners : List (ℕ × Number))
             → Spells self.now.senders self.now.log order owners
             → result.now.ended ≡ order.ended }

@@ -12,9 +12,9 @@ use Rattle.bus_tenure.proofs.Caused.{word_room, length_room}
 use Rattle.bus_tenure.proofs.Inverted.{word_is, length_is}
 use Rattle.bus_tenure.proofs.Situated.{tells}
 
--- a frame as long as the log fits behind the floor, and not one word further
+-- a frame fits that ends where the log does, counted from the floor, and not one word further
 pub goes_by_floor : {E : Type 0} (c : Core E) (page : Page) → GoesByFloor c page
-goes_by_floor c page full = (
+goes_by_floor c page = (
   λ e. le-leb _ _ (omega arith),
   λ e. lt-leb _ _ (omega arith),
 )
@@ -38,8 +38,9 @@ word_straight X c t page stored at floor =
 pub some_fits : {E : Type 0} (c : Core E) (words stored : ℕ) → FitsBehind c words
     → stored < frame_len c → 0 < c.layout.capacity
 some_fits c words stored fits below =
-    let a = fits.behind in
-    let b = fits.room in
+    let behind = fits.kept.behind in
+    let words_are = fits.words_are in
+    let room = fits.room in
     omega arith
 
 module _ {E : Type 0} (X : Election E) (width : ℕ) (Belongs : ℕ → E → Type 0) (c s : Core E)
@@ -69,9 +70,13 @@ module _ {E : Type 0} (X : Election E) (width : ℕ) (Belongs : ℕ → E → Ty
         let words_are = z.1 in
         let room = fits.0 in (
           record {
-            floor = z.0.floor;
-            behind = omega arith;
-            few = few;
+            tenure = t;
+            page = z.0;
+            stored = stored;
+            published = ph.0;
+            holds = ph.1;
+            kept = h.kept;
+            words_are = z.1;
             room = subst (λ n. n + frame_len c ≤ c.layout.capacity + z.0.floor) z.1 room;
           },
           fits.1,

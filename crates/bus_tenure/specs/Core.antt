@@ -102,12 +102,11 @@ frame_len c = length (frame_words (frame_of c.queue 0))
 abbrev pub has_room : {E : Type 0} → Core E → Page → Bool
 has_room c page = nat_le (page.words + frame_len c) (c.layout.capacity + page.floor)
 
--- a frame as long as the log fits behind words that end at the floor, and behind one word more none
+-- a frame fits that ends as far behind the floor as the log is long, and not one word further
 abbrev pub GoesByFloor : {E : Type 0} → Core E → Page → Type 0
 GoesByFloor c page =
-    frame_len c ≡ c.layout.capacity
-    → (page.words ≡ page.floor → has_room c page ≡ true)
-    × (page.words ≡ page.floor + 1 → has_room c page ≡ false)
+    (page.words + frame_len c ≡ c.layout.capacity + page.floor → has_room c page ≡ true)
+    × (page.words + frame_len c ≡ c.layout.capacity + page.floor + 1 → has_room c page ≡ false)
 
 -- the page as a holder hands it on: the numbers, who left, the end mark, the tenures and the words
 -- brought up to date, and the floor that it has

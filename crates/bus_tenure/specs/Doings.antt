@@ -1,12 +1,14 @@
 -- What code sees of a situation.
-use Rattle.std.specs.Prelude.{◌≡◌, ◌⊎◌, ℕ, ◌+◌, ◌<◌, ◌≤◌, slice_index}
-use Rattle.bus_register.specs.declared.limits.TheConstants.{NUMBERS}
+use Rattle.std.specs.Prelude.{◌≡◌, ◌⊎◌, ℕ, ◌+◌, ◌<◌, ◌≤◌, Bool, slice_index}
 use Rattle.bus_batch.specs.Batches.{frame_of}
 use Rattle.bus_batch.specs.Frames.{frame_words}
 use Rattle.bus_tenure.specs.Core.{Core, Election, frame_len}
+use Rattle.bus_tenure.specs.Paging.{PageKeeps}
 use Rattle.bus_tenure.specs.Situations.{Situation as Own, IsClosed, IsIdle, IsSpent, LooksAtStage}
 use Rattle.bus_tenure.specs.Situations.{Elects, TakesPage, AwaitsPage, StoresWord, StoresLength}
 use Rattle.bus_tenure.specs.Situations.{GivesBack, HasHanded, situation_of}
+use Rattle.bus_tenure.specs.declared.pages.Page.{Page}
+use Rattle.bus_tenure.specs.declared.phases.Phase.TheVariants.{Holding}
 use Rattle.bus_tenure.specs.declared.phases.Reason.{Reason}
 use Rattle.bus_tenure.specs.declared.turns.Turn.TheVariants as turn
 use Rattle.bus_tenure.specs.declared.doings.Doing.{Doing}
@@ -37,12 +39,16 @@ pub record IsWord (d : Doing) : Type 0 where
   pub stored : ℕ
   pub is : d ≡ doing.Word tenure words stored
 
--- its frame fits the log behind so many words, by a floor that is not past these
+-- its frame fits the log behind so many words, by the floor of the page that it holds
 pub record FitsBehind {E : Type 0} (c : Core E) (words : ℕ) : Type 0 where
-  pub floor : ℕ
-  pub behind : floor ≤ words
-  pub few : floor ≤ NUMBERS
-  pub room : words + frame_len c ≤ c.layout.capacity + floor
+  pub tenure : ℕ
+  pub page : Page
+  pub stored : ℕ
+  pub published : Bool
+  pub holds : c.phase ≡ Holding tenure page stored published
+  pub kept : PageKeeps page
+  pub words_are : page.words ≡ words
+  pub room : words + frame_len c ≤ c.layout.capacity + page.floor
 
 -- with its next step it stores this word of its frame, behind so many words of the log and of the
 -- frame

@@ -622,7 +622,8 @@ impl<Q: Ratifier + Drop> Turns<Q> {
     /// All passed places are loaded, and this is the least of them: the page's floor becomes it,
     /// or the words below the length where those are fewer.
     pub fn set_floor(&mut self, least: u64)
-        requires { HoldsUnfitting self.old }
+        requires lacks { HoldsUnfitting self.old }
+        requires some { 0 < self.old.layout.passers }
         ensures { self.new ≡ core_floored self.old least }
     {
         if let Phase::Holding { page, .. } = &mut self.phase {

@@ -40,3 +40,6 @@ returns-clause-tenures c order owners place tenure owner spells at =
     c.self.invariant.spells own).1 in
     subst (λ p. tenure < p.tenures) (sym c.get.ensures)
     (c.self.invariant.tenures place tenure owner (ap (λ l. slice_get l place) same ∙ at))
+
+pub returns-clause-floor : goal.returns-clause-floor
+returns-clause-floor c = ap (λ p. p.floor) c.get.ensures ∙ c.self.invariant.floor
