@@ -1,6 +1,6 @@
 -- Where a reader of frames stands.
 use Rattle.std.specs.Prelude.{◌≡◌, ◌≢◌, ℕ, suc, ◌+◌, ◌-◌, ◌*◌, ◌%◌, ◌<◌, ◌≤◌, List, [], ◌∷◌, ◌++◌}
-use Rattle.std.specs.Prelude.{length, flat_map, All, ◌⊎◌, Option, Some, Bool, false, slice_get}
+use Rattle.std.specs.Prelude.{length, flat_map, All, ◌⊎◌, Option, Some, Bool, true, false, slice_get}
 use Rattle.bus_register.specs.declared.limits.TheConstants.{MOST_MESSAGES, MOST_BYTES}
 use Rattle.bus_register.specs.declared.limits.TheConstants.{MOST_MESSAGE_WORDS}
 use Rattle.bus_register.specs.declared.registers.SenderNo.{SenderNo}
@@ -109,6 +109,14 @@ pub record HasRead (senders : ℕ) (words : List ℕ) (pieces : List (Option Pie
       → (further : List (Option Piece)) × Awaits reader rest further
       × (log_pieces frames ≡ pieces ++ further)
   pub begins : (rest : List ℕ) × (further : List (Option Piece)) × Awaits reader rest further
+
+-- no frame is under way where a reader stands: the next word is a head
+abbrev pub is_between : Place → Bool
+is_between Between = true
+is_between (Body owner left room) = false
+is_between (Data owner left room number len) = false
+is_between Ended = false
+is_between Bad = false
 
 -- the reader has met a bad word, and stays so
 abbrev pub HasMetBadWord : Reading → Type 0

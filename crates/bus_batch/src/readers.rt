@@ -137,7 +137,7 @@ impl FrameReader {
     ghost use Rattle.bus_batch.specs.Frames.{IsBadWord, GivesPiece, IsLog, Spells, order_in};
     ghost use Rattle.bus_batch.specs.Frames.{owners_in, end_word, mark_word};
     ghost use Rattle.bus_batch.specs.declared.messages.Mark.TheVariants as mark;
-    ghost use Rattle.bus_batch.specs.Reading.{HasRead, HasMetBadWord};
+    ghost use Rattle.bus_batch.specs.Reading.{HasRead, HasMetBadWord, is_between};
     ghost use Rattle.bus_batch.specs.declared.messages.Piece.TheVariants as piece;
     ghost use Rattle.bus_batch.specs.Steps.{Steps, Refuses};
 
@@ -167,6 +167,13 @@ impl FrameReader {
         ensures met { HasMetBadWord self.now → result ≡ false }
     {
         matches!(self.place, Place::Body { .. } | Place::Data { .. })
+    }
+
+    /// No frame is under way, and the order has not ended: the next word is a head.
+    pub fn is_between(&self) -> bool
+        ensures { result ≡ is_between self.now.place }
+    {
+        matches!(self.place, Place::Between)
     }
 
     /// Takes a word in a head's place.

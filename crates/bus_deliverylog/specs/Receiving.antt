@@ -1,15 +1,17 @@
 -- A receiver's end of the log: what it knows, and what one load does to it.
-use Rattle.std.specs.Prelude.{◌≡◌, ℕ, ◌+◌, ◌<◌, ◌≤◌, List, [], ◌∷◌, ◌++◌, length, ◌⊎◌, Bool, true}
-use Rattle.std.specs.Prelude.{false, Option, Some, None, if◌then◌else◌, ◌==◌}
+use Rattle.std.specs.Prelude.{◌≡◌, ℕ, ◌+◌, ◌%◌, ◌<◌, ◌≤◌, List, [], ◌∷◌, ◌++◌, length, ◌⊎◌}
+use Rattle.std.specs.Prelude.{Bool, true, false, Option, Some, None, if◌then◌else◌, ◌==◌, ◌&&◌}
+use Rattle.std.specs.Prelude.{nat_lt}
 use Rattle.std.specs.List.{list_any}
 use Rattle.bus_register.specs.declared.kinds.Kind.{Kind}
 use Rattle.bus_register.specs.declared.kinds.Kind.TheVariants.{LoadLength, LoadLogWord}
+use Rattle.bus_register.specs.declared.kinds.Kind.TheVariants.{StorePassed}
 use Rattle.bus_register.specs.declared.registers.Op.{Op}
-use Rattle.bus_register.specs.declared.registers.Op.TheVariants.{Load}
+use Rattle.bus_register.specs.declared.registers.Op.TheVariants.{Load, Store}
 use Rattle.bus_batch.specs.declared.messages.Piece.{Piece}
 use Rattle.bus_batch.specs.declared.messages.Piece.TheVariants as piece
 use Rattle.bus_batch.specs.Frames.{IsBadWord, GivesPiece, is_end}
-use Rattle.bus_batch.specs.Reading.{Reading, HasRead}
+use Rattle.bus_batch.specs.Reading.{Reading, HasRead, is_between}
 use Rattle.bus_deliverylog.specs.declared.receiving.RecvTurn.{RecvTurn}
 use Rattle.bus_deliverylog.specs.declared.receiving.RecvTurn.TheVariants as turn
 
@@ -21,12 +23,16 @@ pub record LogReading : Type 0 where
   pub frames : Reading
   pub ended : Bool
 
--- a receiver of a machine: the places of the log and of its length, how many words the log can
--- have, and what it has read
+-- a receiver of a machine: the places of the log and of its length, how many words the log has,
+-- where it says how far it has come, how far it said last, and what it has read
 pub record Receiving : Type 0 where
   pub log_at : ℕ
   pub length_at : ℕ
   pub log_words : ℕ
+  -- the place of its passed place; none where no word of the log is used again
+  pub passed_at : Option ℕ
+  -- what it stored there last, and 0 before
+  pub passed : ℕ
   pub known : ℕ
   pub place : ℕ
   pub frames : Reading
@@ -38,16 +44,36 @@ reading_of r = record { known = r.known; place = r.place; frames = r.frames; end
 abbrev pub with_reading : Receiving → LogReading → Receiving
 with_reading r l = record r { known = l.known; place = l.place; frames = l.frames; ended = l.ended }
 
--- at the length that it knows it loads the length, else the word at its place; after the end
--- nothing
+-- where it is to store its place: it has heard a whole frame since it did last
+abbrev pub passing_due : Receiving → Option ℕ
+passing_due r =
+    if is_between r.frames.place && nat_lt r.passed r.place then r.passed_at else None
+
+-- at the length that it knows it loads the length, else the word at its place, which lies in a cell
+-- of the log
+abbrev pub load_kind : Receiving → Kind
+load_kind r = if r.place == r.known then LoadLength else LoadLogWord
+
+abbrev pub load_op : Receiving → Op
+load_op r =
+    if r.place == r.known then Load (record { 0 = r.length_at })
+    else Load (record { 0 = r.log_at + r.place % r.log_words })
+
+-- a store of its place comes before a load
+abbrev pub kind_by : Option ℕ → Receiving → Kind
+kind_by None r = load_kind r
+kind_by (Some at) r = StorePassed
+
+abbrev pub op_by : Option ℕ → Receiving → Op
+op_by None r = load_op r
+op_by (Some at) r = Store (record { 0 = at }) r.place
+
+-- after the end it takes no step
 abbrev pub receiving_kind : Receiving → Option Kind
-receiving_kind r =
-    if r.ended then None else if r.place == r.known then Some LoadLength else Some LoadLogWord
+receiving_kind r = if r.ended then None else Some (kind_by (passing_due r) r)
 
 abbrev pub receiving_op : Receiving → Option Op
-receiving_op r =
-    if r.ended then None else if r.place == r.known then Some (Load (record { 0 = r.length_at }))
-    else Some (Load (record { 0 = r.log_at + r.place }))
+receiving_op r = if r.ended then None else Some (op_by (passing_due r) r)
 
 -- what a receiver answers of a word
 abbrev pub turn_of : Option Piece → RecvTurn
@@ -81,14 +107,19 @@ pub record HasSeen (r : LogReading) : Type 0 where
   pub ended : r.ended ≡ list_any is_end pieces
 
 -- a load of the length: the known one gives Empty, a larger one is known from then on, and any
--- other changes nothing
+-- other changes nothing. One past the log's words behind its passed place is not believed
 pub record TakesLength (old : Receiving) (got : ℕ) (answer : RecvTurn) (new : Receiving) :
     Type 0 where
   pub same : got ≡ old.known → (answer ≡ turn.Empty) × (new ≡ old)
-  pub more : old.known < got → got ≤ old.log_words
+  pub more : old.known < got → got ≤ old.log_words + old.passed
       → (answer ≡ turn.Going) × (new ≡ record old { known = got })
   pub less : got < old.known → (answer ≡ turn.Going) × (new ≡ old)
-  pub beyond : old.known < got → old.log_words < got → (answer ≡ turn.Going) × (new ≡ old)
+  pub beyond : old.known < got → old.log_words + old.passed < got
+      → (answer ≡ turn.Going) × (new ≡ old)
+
+-- a store of its place, which is its passed place from then on
+abbrev pub TakesPassed : Receiving → RecvTurn → Receiving → Type 0
+TakesPassed old answer new = (answer ≡ turn.Going) × (new ≡ record old { passed = old.place })
 
 -- a good word: what it gives is answered, and the place moves on
 pub record TakesGood (words : List ℕ) (pieces : List (Option Piece)) (old : LogReading) (got : ℕ)

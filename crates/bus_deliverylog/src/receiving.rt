@@ -1,11 +1,11 @@
 //! A receiver's end of the log.
 
 ghost use Rattle.std.specs.Prelude.{◌≡◌, ◌≢◌, ℕ, ◌+◌, ◌<◌, ◌≤◌};
-ghost use Rattle.std.specs.Prelude.{◌^◌, [], false, IsTrue, IfSome, IfNone};
-ghost use Rattle.bus_batch.specs.Reading.{HasRead};
+ghost use Rattle.std.specs.Prelude.{◌^◌, [], false, IsTrue, IfSome, IfNone, Some, None};
+ghost use Rattle.bus_batch.specs.Reading.{HasRead, is_between};
 
 use bus_batch::{FrameReader, Item, Piece};
-use bus_register::{Kind, Op, Reg, SenderNo};
+use bus_register::{Kind, Op, Reg, SenderNo, cell};
 use std::marker::Model;
 
 /// What a receiver answers after one step.
@@ -95,6 +95,13 @@ impl LogReader {
         self.ended
     }
 
+    /// No frame is under way where it stands, and the order has not ended.
+    pub fn is_between(&self) -> bool
+        ensures { result ≡ is_between self.now.frames.place }
+    {
+        self.frames.is_between()
+    }
+
     /// So many words are known from now on.
     pub fn learn(&mut self, length: u64)
         requires { self.old.known ≤ length }
@@ -152,6 +159,7 @@ impl LogReader {
         ensures word { TakesNext self.old got result self.new }
         ensures known { self.new.known ≡ self.old.known }
         ensures place { self.new.place ≤ self.old.place + 1 }
+        ensures rises { self.old.place ≤ self.new.place }
         ensures senders { self.new.frames.senders ≡ self.old.frames.senders }
     {
         let Ok(found) = self.frames.try_feed(got) else {
@@ -174,12 +182,18 @@ impl LogReader {
 /// A receiver of the log: it loads the length and the words below it, one at a time.
 ///
 /// It takes steps as a machine does: `kind` and `next` tell the step, and `feed` is told what was
-/// found. A length past the log's words is not believed.
+/// found. Where the words of the log are used again it has a passed place: there it stores its place
+/// behind each whole frame, and the words below that may be overwritten. A length past the log's
+/// words behind what it stored is not believed.
 #[derive(Debug, Drop)]
 pub struct Reader {
     log: Reg,
     length: Reg,
     words: u64,
+    /// The place of its passed place.
+    passed_at: Option<u64>,
+    /// What it stored there last, and 0 before.
+    passed: u64,
     reader: LogReader,
 }
 
@@ -193,27 +207,33 @@ impl Model for Reader {
       log_at = r.log.0;
       length_at = r.length.0;
       log_words = r.words;
+      passed_at = r.passed_at;
+      passed = r.passed;
       known = r.reader.known;
       place = r.reader.place;
       frames = r.reader.frames;
       ended = r.reader.ended;
     } };
 
-    ghost invariant = { λ r. (r.log.0 + r.words < 2 ^ 64) × (r.reader.known ≤ r.words) };
+    ghost invariant = { λ r. (r.log.0 + r.words < 2 ^ 64) × (0 < r.words)
+        × (r.passed ≤ r.reader.place) × (r.reader.known ≤ r.words + r.passed) };
 }
 
 impl Reader {
     ghost use Rattle.bus_deliverylog.specs.Receiving.{receiving_kind, receiving_op, reading_of};
-    ghost use Rattle.bus_deliverylog.specs.Receiving.{with_reading, HasReceived};
-    ghost use Rattle.bus_deliverylog.specs.Receiving.{TakesLength, TakesNext};
+    ghost use Rattle.bus_deliverylog.specs.Receiving.{with_reading, HasReceived, passing_due};
+    ghost use Rattle.bus_deliverylog.specs.Receiving.{TakesLength, TakesNext, TakesPassed};
 
-    /// A receiver at the first word of a log of so many senders, which can have `words` words from
-    /// `log` on, and its length at `length`. It knows no word.
-    pub fn new(senders: u64, log: Reg, length: Reg, words: u64) -> Reader
-        requires { log.0 + words < 2 ^ 64 }
+    /// A receiver at the first word of a log of so many senders, which has `words` words from `log`
+    /// on, and its length at `length`. It knows no word. Its passed place is the word `passed_at`;
+    /// it has none where no word of the log is used again.
+    pub fn new(senders: u64, log: Reg, length: Reg, words: u64, passed_at: Option<u64>) -> Reader
+        requires fits { log.0 + words < 2 ^ 64 }
+        requires some { 0 < words }
         ensures at { (result.log_at ≡ log.0) × (result.length_at ≡ length.0)
-            × (result.log_words ≡ words) }
-        ensures start { (result.known ≡ 0) × (result.place ≡ 0) × (result.ended ≡ false) }
+            × (result.log_words ≡ words) × (result.passed_at ≡ passed_at) }
+        ensures start { (result.known ≡ 0) × (result.place ≡ 0) × (result.passed ≡ 0)
+            × (result.ended ≡ false) }
         ensures senders { result.frames.senders ≡ senders }
         ensures received { HasReceived [] [] (reading_of result) }
     {
@@ -221,6 +241,8 @@ impl Reader {
             log,
             length,
             words,
+            passed_at,
+            passed: 0,
             reader: LogReader::new(senders),
         }
     }
@@ -236,9 +258,17 @@ impl Reader {
     /// The length that it knows.
     pub fn known(&self) -> u64
         ensures known { result ≡ self.now.known }
-        ensures within { result ≤ self.now.log_words }
+        ensures within { result ≤ self.now.log_words + self.now.passed }
     {
         self.reader.known()
+    }
+
+    /// What it stored in its passed place last, and 0 before.
+    pub fn passed(&self) -> u64
+        ensures passed { result ≡ self.now.passed }
+        ensures within { result ≤ self.now.place }
+    {
+        self.passed
     }
 
     /// The end was among what it read.
@@ -248,12 +278,25 @@ impl Reader {
         self.reader.has_ended()
     }
 
+    /// Where it is to store its place: it has heard a whole frame since it did last.
+    fn passing(&self) -> Option<u64>
+        ensures { result ≡ passing_due self.now }
+    {
+        if self.reader.is_between() && self.passed < self.reader.place() {
+            self.passed_at
+        } else {
+            None
+        }
+    }
+
     /// What the next step is for; none after the end.
     pub fn kind(&self) -> Option<Kind>
         ensures { result ≡ receiving_kind self.now }
     {
         if self.reader.has_ended() {
             None
+        } else if let Some(_) = self.passing() {
+            Some(Kind::StorePassed)
         } else if self.reader.place() == self.reader.known() {
             Some(Kind::LoadLength)
         } else {
@@ -267,24 +310,38 @@ impl Reader {
     {
         if self.reader.has_ended() {
             None
+        } else if let Some(at) = self.passing() {
+            Some(Op::Store(Reg(at), self.reader.place()))
         } else if self.reader.place() == self.reader.known() {
             Some(Op::Load(self.length))
         } else {
-            Some(Op::Load(Reg(self.log.0 + self.reader.place())))
+            let place = cell(self.reader.place(), self.words);
+            Some(Op::Load(Reg(self.log.0 + place)))
         }
     }
 
     /// The step that `next` told was taken, and found `got`.
     pub fn feed(&mut self, got: u64) -> RecvTurn
         requires { self.old.ended ≡ false }
-        ensures length { self.old.place ≡ self.old.known
+        ensures passed { (at : _) → passing_due self.old ≡ Some at
+            → TakesPassed self.old result self.new }
+        ensures length { passing_due self.old ≡ None → self.old.place ≡ self.old.known
             → TakesLength self.old got result self.new }
-        ensures word { self.old.place ≢ self.old.known
+        ensures word { passing_due self.old ≡ None → self.old.place ≢ self.old.known
             → TakesNext (reading_of self.old) got result (reading_of self.new) }
-        ensures registers { self.new ≡ with_reading self.old (reading_of self.new) }
+        ensures registers { passing_due self.old ≡ None
+            → self.new ≡ with_reading self.old (reading_of self.new) }
+        ensures keeps { (self.new.log_at ≡ self.old.log_at)
+            × (self.new.length_at ≡ self.old.length_at)
+            × (self.new.log_words ≡ self.old.log_words)
+            × (self.new.passed_at ≡ self.old.passed_at) }
         ensures place { self.new.place ≤ self.old.place + 1 }
         ensures senders { self.new.frames.senders ≡ self.old.frames.senders }
     {
+        if let Some(_) = self.passing() {
+            self.passed = self.reader.place();
+            return RecvTurn::Going;
+        }
         if self.reader.place() == self.reader.known() {
             return self.feed_length(got);
         }
@@ -293,6 +350,7 @@ impl Reader {
 
     /// A length was found.
     fn feed_length(&mut self, got: u64) -> RecvTurn
+        requires { self.old.place ≡ self.old.known }
         ensures length { TakesLength self.old got result self.new }
         ensures registers { self.new ≡ with_reading self.old (reading_of self.new) }
         ensures place { self.new.place ≡ self.old.place }
@@ -301,7 +359,7 @@ impl Reader {
         if got == self.reader.known() {
             return RecvTurn::Empty;
         }
-        if self.reader.known() < got && got <= self.words {
+        if self.reader.known() < got && got - self.passed <= self.words {
             self.reader.learn(got);
         }
         RecvTurn::Going

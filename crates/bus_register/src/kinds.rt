@@ -66,6 +66,9 @@ pub enum Kind {
     /// The holder of the page, whose frame does not fit the log by the page's floor, loads the
     /// passed places of all receivers in rising order.
     ReadPassed,
+    /// A receiver that has heard a whole frame stores its place in its passed place; one that
+    /// leaves for good stores 2^64 - 1.
+    StorePassed,
 }
 
 impl Kind {
@@ -98,6 +101,7 @@ impl Kind {
             Kind::ReadPresence => "ReadPresence",
             Kind::ClearRow => "ClearRow",
             Kind::ReadPassed => "ReadPassed",
+            Kind::StorePassed => "StorePassed",
         }
     }
 }

@@ -23,4 +23,4 @@ pub mod registers;
 pub use kinds::Kind;
 pub use machines::Machine;
 pub use memory::{Cells, NoMemory};
-pub use registers::{Op, Reg, SenderNo};
+pub use registers::{Op, Reg, SenderNo, cell};

@@ -42,3 +42,6 @@ pub const NUMBERS: u64 = 0x0001_0000_0000_0000;
 
 /// The number of a tenure stays below 2^40.
 pub const TENURES: u64 = 0x0000_0100_0000_0000;
+
+/// What a receiver that has left for good stores in its passed place: 2^64 - 1, the largest word.
+pub const PASSED_ALL: u64 = 0xffff_ffff_ffff_ffff;

@@ -1,5 +1,7 @@
 //! Names of words and of senders, and one step on one word.
 
+ghost use Rattle.std.specs.Prelude.{◌≡◌, ◌<◌, ◌%◌};
+
 /// The place of a word, counted from 0.
 #[derive(Clone, Copy, Debug, PartialEq, Eq)]
 pub struct Reg(pub u64);
@@ -19,4 +21,17 @@ pub enum Op {
     Add(Reg, u64),
     /// Writes the second number where the word equals the first: compare_exchange.
     Cas(Reg, u64, u64),
+}
+
+/// The cell of a place in a log of so many words: the place, less the whole logs below it. Most
+/// places have none below.
+#[inline(always)]
+pub fn cell(place: u64, capacity: u64) -> u64
+    requires { 0 < capacity }
+    ensures { result ≡ place % capacity }
+{
+    if place < capacity {
+        return place;
+    }
+    place % capacity
 }
