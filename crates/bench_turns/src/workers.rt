@@ -115,7 +115,8 @@ fn is_of_pin(kind: Kind) -> bool {
         | Kind::ReadPassed
         | Kind::GivePageBack
         | Kind::LoadLength
-        | Kind::LoadLogWord => false,
+        | Kind::LoadLogWord
+        | Kind::StorePassed => false,
     }
 }
 

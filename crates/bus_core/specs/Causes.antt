@@ -131,6 +131,7 @@ HasCause P v kind.ReadPassed = IsSomeAnd v.reuse (λ r. AsksPassed (participant_
 HasCause P v kind.GivePageBack = GivesPage v
 HasCause P v kind.LoadLength = ⊥
 HasCause P v kind.LoadLogWord = ⊥
+HasCause P v kind.StorePassed = ⊥
 
 -- whatever its next step is for, it has a cause
 abbrev pub IsCaused : {S : Type 0} → Election (Elector S) → Protocol S Bool Verdict

@@ -58,6 +58,7 @@ IsOfElection kind.StoreLength = ⊥
 IsOfElection kind.GivePageBack = ⊥
 IsOfElection kind.LoadLength = ⊥
 IsOfElection kind.LoadLogWord = ⊥
+IsOfElection kind.StorePassed = ⊥
 
 -- in its tenures, with both kinds of rows
 pub record RefusesOwn {S : Type 0} (P : Protocol S Bool Verdict) (v : Sender (Elector S)) :

@@ -37,7 +37,7 @@ use bus_adoptcommit::Ratifier;
 use bus_ownerbits::Election;
 use bus_presence::Pin;
 use bus_register::limits::{MOST_ROUNDS, MOST_SENDERS, NUMBERS, TENURES};
-use bus_register::{Kind, Op, Reg, SenderNo};
+use bus_register::{Kind, Op, Reg, SenderNo, cell};
 use bus_tenure::{Doing, OwnedPage, Reason, Turn, Turns};
 use std::marker::Model;
 
@@ -669,18 +669,6 @@ impl<Q: Ratifier + Drop> SenderCore<Q> {
         self.tells(got, word);
         feed_parts(&mut self.turns, &mut self.reuse, step, got, word)
     }
-}
-
-/// A place of the log, less the whole logs below it. Most logs have none below.
-#[inline(always)]
-fn cell(place: u64, capacity: u64) -> u64
-    requires { 0 < capacity }
-    ensures { result ≡ place % capacity }
-{
-    if place < capacity {
-        return place;
-    }
-    place % capacity
 }
 
 /// The next step of a reclamation.

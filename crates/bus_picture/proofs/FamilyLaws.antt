@@ -30,3 +30,4 @@ has_family kind.Withdraw = refl
 has_family kind.ReadPresence = refl
 has_family kind.ClearRow = refl
 has_family kind.ReadPassed = refl
+has_family kind.StorePassed = refl

@@ -21,7 +21,7 @@ abbrev pub stores : List (List ℕ)
 stores =
     codes "Announce" ∷ codes "WriteFirst" ∷ codes "WriteSecond" ∷ codes "SetMark"
     ∷ codes "StoreLogWord" ∷ codes "StoreLength" ∷ codes "Enter" ∷ codes "Withdraw"
-    ∷ codes "ClearRow" ∷ []
+    ∷ codes "ClearRow" ∷ codes "StorePassed" ∷ []
 
 -- the family of what stands in the column of kinds, where that is a kind's name, a call's or a dash
 abbrev pub family_of : List ℕ → Option Family
@@ -71,3 +71,4 @@ family_at kind.Withdraw = family.Store
 family_at kind.ReadPresence = family.Look
 family_at kind.ClearRow = family.Store
 family_at kind.ReadPassed = family.Look
+family_at kind.StorePassed = family.Store

@@ -46,7 +46,8 @@ pub fn family_of(kind: &str) -> Option<Family>
         | "StoreLength"
         | "Enter"
         | "Withdraw"
-        | "ClearRow" => Some(Family::Store),
+        | "ClearRow"
+        | "StorePassed" => Some(Family::Store),
         "Vote" => Some(Family::Add),
         "Fallback" => Some(Family::Exchange),
         "TakePage" | "GivePageBack" => Some(Family::Page),

@@ -76,6 +76,7 @@ plain_kind kind.Withdraw = plain_by (codes "Withdraw") refl
 plain_kind kind.ReadPresence = plain_by (codes "ReadPresence") refl
 plain_kind kind.ClearRow = plain_by (codes "ClearRow") refl
 plain_kind kind.ReadPassed = plain_by (codes "ReadPassed") refl
+plain_kind kind.StorePassed = plain_by (codes "StorePassed") refl
 
 -- a word and a number behind it, and more behind a space
 numbered_word : (name : List ℕ) (n : ℕ) → IsPlain name → IsPlain (name ++ behind n)

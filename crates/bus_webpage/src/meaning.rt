@@ -136,6 +136,11 @@ const KINDS = {
         why: 'Its frame does not fit in the log. It looks up to where a receiver has heard, so ' +
             'as to learn which words may be overwritten.',
     },
+    StorePassed: {
+        does: 'store',
+        why: 'It has heard a whole frame, and says so: the words of that frame may be ' +
+            'overwritten.',
+    },
     '-': {
         does: 'call',
         why: 'A turn without a step: no word is touched.',
