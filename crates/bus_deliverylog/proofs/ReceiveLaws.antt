@@ -1,16 +1,17 @@
--- What one good word does to a reading of a log.
-use Rattle.std.proofs.Common.{◌≡◌, ◌≢◌, ℕ, ◌+◌, ◌≤◌, List, [], ◌∷◌, ◌++◌, Bool, false, sym, ap}
-use Rattle.std.proofs.Common.{◌∙◌, subst, inr, arith}
-use Rattle.std.specs.Prelude.{Option, ◌||◌}
+-- What one good word does to a reading of a log, and when no store is due.
+use Rattle.std.proofs.Common.{◌≡◌, ◌≢◌, ℕ, ◌+◌, ◌≤◌, List, [], ◌∷◌, ◌++◌, Bool, true, false, cond}
+use Rattle.std.proofs.Common.{nat_lt, ◌&&◌, refl, sym, ap, ◌∙◌, subst, inr, arith}
+use Rattle.std.specs.Prelude.{Option, None, ◌||◌}
 use Rattle.std.specs.List.{list_any}
 use Rattle.std.proofs.Math.Bool.{or-false}
 use Rattle.std.proofs.lemmas.List.Folds.{list_any-append}
 use Rattle.std.proofs.lemmas.List.{length-append}
 use Rattle.bus_batch.specs.declared.messages.Piece.{Piece}
 use Rattle.bus_batch.specs.Frames.{GivesPiece, is_end}
-use Rattle.bus_batch.specs.Reading.{Reading, HasRead}
+use Rattle.bus_batch.specs.Reading.{Reading, HasRead, is_between}
 use Rattle.bus_deliverylog.specs.declared.receiving.RecvTurn.{RecvTurn}
 use Rattle.bus_deliverylog.specs.Receiving.{LogReading, HasReceived, HasSeen, TakesWord, turn_of}
+use Rattle.bus_deliverylog.specs.Receiving.{Receiving, passing_due}
 
 -- the reading after a good word
 abbrev pub moved : LogReading → Reading → Bool → LogReading
@@ -77,3 +78,12 @@ module _ (old parts : LogReading) (same : parts ≡ old) (frames' : Reading) (go
               ∙ ap (λ z. z || (is_end found || false)) none ∙ or-false (is_end found));
         },
       )
+
+-- ---- without a passed place no store is due
+pub no_due : (v : Receiving) → v.passed_at ≡ None → passing_due v ≡ None
+no_due v never =
+    by_test (is_between v.frames.place && nat_lt v.passed v.place) v.passed_at never
+  where
+    by_test : (b : Bool) (o : Option ℕ) → o ≡ None → cond b o None ≡ None
+    by_test true o e = e
+    by_test false o e = refl

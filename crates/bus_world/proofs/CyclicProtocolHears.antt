@@ -1,8 +1,8 @@
 -- Receivers of a bus whose rows are used again are as those of one that has a row for each tenure,
 -- whose log lies elsewhere.
-use Rattle.std.proofs.Common.{◌≡◌, ℕ, ◌+◌, ◌<◌, Bool, true, false, cond, Option, Some, None, inl}
-use Rattle.std.proofs.Common.{inr, List, [], ◌∷◌, ◌++◌, length, take, arith, refl, sym, ◌∙◌, ap}
-use Rattle.std.proofs.Common.{subst}
+use Rattle.std.proofs.Common.{◌≡◌, ℕ, ◌+◌, ◌%◌, ◌<◌, true, false, cond, Option, Some, None, inl}
+use Rattle.std.proofs.Common.{inr, List, [], ◌∷◌, ◌++◌, length, take, slice_index, arith, refl, sym}
+use Rattle.std.proofs.Common.{◌∙◌, ap, subst}
 use Rattle.std.proofs.lemmas.Bool.{true≢false}
 use Rattle.std.proofs.lemmas.Bool.Decides.{eqb_tells}
 use Rattle.std.proofs.lemmas.List.{append-nil, length-append}
@@ -16,15 +16,15 @@ use Rattle.bus_deliverylog.specs.declared.receiving.RecvTurn.{RecvTurn}
 use Rattle.bus_tenure.specs.Core.{Layout, log_at}
 use Rattle.bus_core.specs.Reusing.Participants.{log_from}
 use Rattle.bus_world.specs.Proved.Sending.{Logged}
-use Rattle.bus_world.specs.Proved.Receiving.{IsReceiver}
+use Rattle.bus_world.specs.Proved.Receiving.{IsReceiver, IsFoundIn, NeverPasses}
 use Rattle.bus_world.specs.Starting.{IsNewReceiver}
-use Rattle.bus_world.specs.World.{RecvStep, RecvDoes, recv_found}
+use Rattle.bus_world.specs.World.{RecvDoes, recv_found}
 use Rattle.bus_world.specs.Trails.{answers_with, no_answers}
 use Rattle.bus_world.proofs.HearTrails.{IsTold, hears_later, hears_more}
-use Rattle.bus_world.proofs.LogLaws.{length-logged, log_words-append}
+use Rattle.bus_world.proofs.LogLaws.{length-logged, log_words-append, index-read}
 use Rattle.bus_world.proofs.ReceivingLaws.{Receives-append}
 use Rattle.bus_world.proofs.Tying.{Hears}
-use Rattle.bus_world.proofs.WorldLaws.{receiver_more}
+use Rattle.bus_world.proofs.WorldLaws.{reads_more, words_stay, never_more}
 
 -- the receiver of a log that lies behind a row for each tenure
 abbrev pub placed : Layout → Receiving → Receiving
@@ -36,6 +36,7 @@ pub record HearsCyclic (x : Layout) (rows : ℕ) (frames : List Frame) (v : Rece
   pub log : v.log_at ≡ log_from x rows
   pub own : IsReceiver x frames (length (log_words frames)) (placed x v)
   pub hears : Hears frames (placed x v) trail
+  pub never : NeverPasses v
 
 -- as does each receiver; who is none was answered nothing
 pub record AllHear (x : Layout) (rows : ℕ) (receivers : ℕ → Option Receiving) (frames : List Frame)
@@ -67,6 +68,7 @@ new_hears x rows v new = record {
     going = λ e. refl;
     silent = λ j k a at l here. absurd cc;
   };
+  never = record { never = new.never; unpassed = new.unpassed };
 }
 
 pub all_new : (x : Layout) (rows : ℕ) (receivers : ℕ → Option Receiving)
@@ -99,6 +101,7 @@ hears_after x rows frames f v trail h =
       };
       hears = hears_later frames (f ∷ []) (placed x v) trail
           (let a = o.receives.place_below in let b = o.receives.known_below in omega arith) h.hears;
+      never = h.never;
     }
 
 pub all_after : (x : Layout) (rows : ℕ) (receivers : ℕ → Option Receiving) (frames : List Frame)
@@ -110,67 +113,68 @@ all_after x rows receivers frames f H h = record {
 }
 
 -- ---- a turn
--- words whose log lies elsewhere
+-- where its log lies changes nothing of what it hears
+hears_at : (frames : List Frame) (v : Receiving) (trail : List RecvTurn) (at : ℕ)
+    → Hears frames v trail → Hears frames (record v { log_at = at }) trail
+hears_at frames v trail at h = record {
+  given_is = h.given_is;
+  heads_are = h.heads_are;
+  ended = h.ended;
+  going = h.going;
+  silent = h.silent;
+}
+
+-- words in whose log, which lies elsewhere, a place below the length has its word
 module _ {base : ℕ → ℕ} (x : Layout) (rows : ℕ) (frames : List Frame) (W V : ℕ → ℕ)
     (log : Logged base x.senders x.capacity (log_at x) V (V 0) frames) (first : W 0 ≡ V 0)
-    (same : (k : ℕ) → k < V 0 → W (log_from x rows + k) ≡ V (log_at x + k))
-    (v : Receiving) (trail : List RecvTurn) (h : HearsCyclic x rows frames v trail)
-    (answer : RecvTurn) (next : Receiving) where
+    (v : Receiving)
+    (there : v.place < V 0
+    → W (log_from x rows + v.place % x.capacity) ≡ V (log_at x + v.place))
+    (trail : List RecvTurn) (h : HearsCyclic x rows frames v trail) (answer : RecvTurn)
+    (next : Receiving) where
   own : IsReceiver x frames (V 0) (placed x v)
   own = subst (λ k. IsReceiver x frames k (placed x v)) (length-logged log) h.own
 
-  found_same : recv_found W v ≡ recv_found V (placed x v)
-  found_same = elim (eqb_tells v.place v.known) [
-    | inl y ↦
-        ap (λ q. cond q (W v.length_at) (W (v.log_at + v.place))) y.0 ∙ ap W h.own.len_at ∙ first
-        ∙ sym (ap V h.own.len_at)
-        ∙ sym (ap (λ q. cond q (V v.length_at) (V (log_at x + v.place))) y.0)
-    | inr y ↦
-        let low : v.place < V 0 =
-        let a = own.receives.place_below in
-        let b = own.receives.known_below in let d = y.1 in omega arith in
-        ap (λ q. cond q (W v.length_at) (W (v.log_at + v.place))) y.0
-        ∙ ap (λ q. W (q + v.place)) h.log ∙ same v.place low
-        ∙ sym (ap (λ q. cond q (V v.length_at) (V (log_at x + v.place))) y.0)
-  ]
-
-  step_placed : (got : ℕ) → RecvStep v got answer next
-      → RecvStep (placed x v) got answer (placed x next)
-  step_placed got s = record {
-    senders = s.senders;
-    at_length = λ e. let t = s.at_length e in record {
-      same = λ i. ((t.same i).0, ap (placed x) (t.same i).1);
-      more = λ i j. ((t.more i j).0, ap (placed x) (t.more i j).1);
-      less = λ i. ((t.less i).0, ap (placed x) (t.less i).1);
-      beyond = λ i j. ((t.beyond i j).0, ap (placed x) (t.beyond i j).1);
-    };
-    at_word = s.at_word;
-    registers = ap (placed x) s.registers;
-  }
-
-  does_placed : RecvDoes W v answer next → RecvDoes V (placed x v) answer (placed x next)
-  does_placed d = record {
-    ended = λ e. ((d.ended e).0, ap (placed x) (d.ended e).1);
-    going = λ e. subst (λ g. RecvStep (placed x v) g answer (placed x next)) found_same
-        (step_placed (recv_found W v) (d.going e));
-  }
-
-  -- its log lies where it lay
-  log_stays : RecvDoes W v answer next → next.log_at ≡ v.log_at
-  log_stays d = by_end v.ended refl
-    where
-      by_end : (q : Bool) → v.ended ≡ q → next.log_at ≡ v.log_at
-      by_end true e = ap (λ (q : Receiving). q.log_at) (d.ended e).1
-      by_end false e = ap (λ (q : Receiving). q.log_at) (d.going e).registers
+  found_cyclic : IsFoundIn frames (V 0) v (recv_found W v)
+  found_cyclic = (
+    λ e. elim (eqb_tells v.place v.known) [
+      | inl y ↦
+          ap (λ q. cond q (W v.length_at) (W (v.log_at + v.place % v.log_words))) y.0
+          ∙ ap W h.own.len_at ∙ first
+      | inr y ↦ absurd (y.1 e)
+    ],
+    λ ne. elim (eqb_tells v.place v.known) [
+      | inl y ↦ absurd (ne y.1)
+      | inr y ↦
+          let low : v.place < V 0 =
+          let a = own.receives.place_below in let b = own.receives.known_below in omega arith in
+          ap (λ q. cond q (W v.length_at) (W (v.log_at + v.place % v.log_words))) y.0
+          ∙ ap (λ q. W (q + v.place % v.log_words)) h.log
+          ∙ ap (λ q. W (log_from x rows + v.place % q)) h.own.log_words ∙ there low
+          ∙ sym (index-read V (log_at x) (V 0) v.place low)
+          ∙ ap (λ q. slice_index q v.place) log.words_are
+    ],
+  )
 
   pub turn_hears : RecvDoes W v answer next → HearsCyclic x rows frames next (trail ++ answer ∷ [])
   turn_hears d =
-      let e = does_placed d in
+      let reads = reads_more x.senders frames (V 0) log.lawful (length-logged log) v own.senders
+      own.receives W found_cyclic answer next d in
+      let same = words_stay W v next answer d in
       record {
-        log = log_stays d ∙ h.log;
-        own = subst (λ k. IsReceiver x frames k (placed x next)) (sym (length-logged log))
-            (receiver_more x frames V log (placed x v) own answer (placed x next) e);
-        hears = hears_more x frames V log (placed x v) own trail h.hears answer (placed x next) e;
+        log = same.0 ∙ h.log;
+        own = subst (λ k. IsReceiver x frames k (placed x next)) (sym (length-logged log)) record {
+          senders = reads.0;
+          log = refl;
+          len_at = same.1 ∙ h.own.len_at;
+          log_words = same.2 ∙ h.own.log_words;
+          receives = reads.1;
+        };
+        hears = hears_at frames next (trail ++ answer ∷ []) (log_at x)
+            (hears_more x.senders frames (V 0) log.lawful (length-logged log) v own.senders
+            own.receives trail (hears_at frames (placed x v) trail v.log_at h.hears) answer next W
+            found_cyclic d);
+        never = never_more W v next answer d h.never;
       }
 
 -- a turn of receiver r

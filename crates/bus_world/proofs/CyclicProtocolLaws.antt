@@ -69,7 +69,7 @@ use Rattle.bus_world.proofs.HearTrails.{delivered_to, heads_to, silent_to}
 use Rattle.bus_world.proofs.CyclicProtocolHears.{all_new, turn_hears, one_hears, told_in}
 use Rattle.bus_world.proofs.CyclicProtocolNotes.{sent_by, IsNoted, noted_put, noted_mark}
 use Rattle.bus_world.proofs.CyclicProtocolNotes.{nothing_put}
-use Rattle.bus_world.proofs.RingWords.{Laid, found_straight}
+use Rattle.bus_world.proofs.RingWords.{Laid, found_there, found_straight}
 use Rattle.bus_world.proofs.Places.{none_in}
 use Rattle.bus_world.proofs.CyclicProtocolKept as kept
 use Rattle.bus_world.proofs.CyclicProtocolKept.{resting_no_holding}
@@ -414,8 +414,9 @@ module _ {E : Type 0} (X : Election E) (P : Protocol E (Unit {0}) ℕ)
         kept = record {
           hears = one_hears x rows has.frames y.receivers H k.hears r v next answer at
               (λ h. turn_hears x rows has.frames y.reclamation.words has.V k.sending.log
-              k.laid.length (λ j low. found_straight x rows y.reclamation has.V k.W j k.laid
-              k.stored.few (let a = k.stored.low in omega arith)) v (H r) h answer next does);
+              k.laid.length v (λ low. found_there x rows y.reclamation has.V k.W 0 v.place k.laid
+              (let a = k.stored.few in omega arith) (omega arith)
+              (let a = k.stored.low in omega arith)) (H r) h answer next does);
           reached = k.reached;
           sending = k.sending;
           W = k.W;

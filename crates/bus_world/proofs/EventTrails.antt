@@ -54,6 +54,7 @@ use Rattle.bus_world.specs.Proved.Machines.{put_in, mark_in, IsNew, is_open}
 use Rattle.bus_world.specs.Turning.{number_found}
 use Rattle.bus_world.proofs.TurningLaws.{side_of}
 use Rattle.bus_world.proofs.WorldLaws.{counted_at, event_left, event_puts, new_is_lawful}
+use Rattle.bus_world.proofs.WorldLaws.{found_flat}
 use Rattle.bus_world.specs.Proved.Answers.{Answers, PutGives, CloseGives, TurnAnswers, RecvAnswers}
 use Rattle.bus_world.specs.Playing.{asked_answer}
 use Rattle.bus_world.specs.declared.events.Answer.{Answer}
@@ -385,8 +386,12 @@ module _ (bases : List ℕ) {E : Type 0} (X : Election E) (P : Protocol E (Unit 
                 (hears_later frames more w.0 (A q ++ w.1 ∷ [])
                 (next_below (subst (λ z. slice_get b'.receivers q ≡ Some z) refl
                 (ap (λ z. slice_get z q) w.3 ∙ get_set_same b.receivers q w.0 there)))
-                (hears_more x frames (slice_index b.side.words) h.keeps.sending.log v
-                (h.keeps.receiving q v i) (A q) (H.each q v i) w.1 w.0 w.2))))
+                (hears_more x.senders frames (slice_index b.side.words 0)
+                h.keeps.sending.log.lawful (length-logged h.keeps.sending.log) v
+                (h.keeps.receiving q v i).senders (h.keeps.receiving q v i).receives (A q)
+                (H.each q v i) w.1 w.0 (slice_index b.side.words)
+                (found_flat x frames (slice_index b.side.words) h.keeps.sending.log v
+                (h.keeps.receiving q v i)) w.2))))
             | inr y ↦
                 let was =
                 sym (get_set_other b.receivers q w.0 r y.1) ∙ ap (λ z. slice_get z r) (sym w.3)

@@ -1,5 +1,5 @@
 -- A turn of a receiver keeps what ties its trail to its place.
-use Rattle.std.proofs.Common.{◌≡◌, ℕ, zero, suc, ◌+◌, ◌<◌, ◌≤◌, Bool, true, false, cond, ◌||◌}
+use Rattle.std.proofs.Common.{◌≡◌, ◌≢◌, ℕ, zero, suc, ◌+◌, ◌<◌, ◌≤◌, Bool, true, false, cond, ◌||◌}
 use Rattle.std.proofs.Common.{Option, Some, None, ◌⊎◌, inl, inr, List, [], ◌∷◌, ◌++◌, length, map}
 use Rattle.std.proofs.Common.{flat_map, take, drop, slice_get, slice_index, arith, refl, sym, ◌∙◌}
 use Rattle.std.proofs.Common.{ap, subst}
@@ -18,19 +18,16 @@ use Rattle.bus_batch.specs.Frames.{frame_pieces, order_of, order_in, owners_in, 
 use Rattle.bus_batch.specs.Frames.{piece_owners, is_end, tenure_and_owner}
 use Rattle.bus_batch.proofs.PieceLaws.{owners_in-log}
 use Rattle.bus_deliverylog.specs.Orders.{IsPrefixOfOrder}
-use Rattle.bus_deliverylog.specs.Receiving.{Receiving, LogReading, turn_of}
+use Rattle.bus_deliverylog.specs.Receiving.{Receiving, LogReading, turn_of, passing_due}
 use Rattle.bus_deliverylog.specs.declared.receiving.RecvTurn.{RecvTurn}
 use Rattle.bus_deliverylog.specs.declared.receiving.RecvTurn.TheVariants as heard
-use Rattle.bus_tenure.specs.Core.{Layout, log_at}
-use Rattle.bus_world.specs.Proved.Sending.{Logged}
-use Rattle.bus_world.proofs.LogLaws.{length-logged, index-read}
 use Rattle.bus_world.proofs.ReceivingLaws.{given_is_prefix, length-log_pieces, next_word}
 use Rattle.bus_world.specs.Headline.{entry_heard, end_heard, head_heard, order_given, heads}
 use Rattle.bus_world.specs.Headline.{IsPrefix}
 use Rattle.bus_world.proofs.Places.{got_split, only_one}
 use Rattle.bus_world.proofs.Tying.{Hears, IsSilent}
 use Rattle.bus_world.specs.World.{RecvDoes, RecvStep, recv_found}
-use Rattle.bus_world.specs.Proved.Receiving.{IsReceiver}
+use Rattle.bus_world.specs.Proved.Receiving.{Receives, IsFoundIn}
 use Rattle.bus_world.specs.Proved.Invariants.{given_at}
 use Rattle.bus_world.proofs.WorldLaws.{received}
 
@@ -227,34 +224,40 @@ module _ (frames : List Frame) (v : Receiving) (trail : List RecvTurn) (h : Hear
         silent = silent_more trail answer h.silent (inl told);
       }
 
-module _ {base : ℕ → ℕ} (x : Layout) (frames : List Frame) (words : ℕ → ℕ)
-    (log : Logged base x.senders x.capacity (log_at x) words (words 0) frames) (v : Receiving)
-    (own : IsReceiver x frames (words 0) v) (trail : List RecvTurn) (h : Hears frames v trail)
-    (answer : RecvTurn) (next : Receiving) where
-  hears_step : v.ended ≡ false → RecvStep v (recv_found words v) answer next
+-- of frames whose words are so many, by the number that it finds
+module _ (n : ℕ) (frames : List Frame) (len : ℕ) (lawful : AreFrames n frames)
+    (size : length (log_words frames) ≡ len) (v : Receiving) (senders : v.frames.senders ≡ n)
+    (own : Receives n frames len v.place v.known v.frames) (trail : List RecvTurn)
+    (h : Hears frames v trail) (answer : RecvTurn) (next : Receiving) where
+  -- it is told to go on, and stays where it is
+  goes : v.ended ≡ false → answer ≡ heard.Going → next.place ≡ v.place → next.ended ≡ v.ended
       → Hears frames next (trail ++ answer ∷ [])
-  hears_step on step = elim (cases_eq v.place v.known) [
-    | inl e ↦
-        let t = step.at_length e in
-        let got = recv_found words v in
-        let goes : answer ≡ heard.Going → next.place ≡ v.place → next.ended ≡ v.ended
-        → Hears frames next (trail ++ answer ∷ []) = λ a b d. quiet frames v trail h answer next on
-        record {
-          entries = ap entry_heard a;
-          ends = ap end_heard a;
-          head = ap head_heard a;
-          place = b;
-          ended = d;
-        } in
+  goes on a b d = quiet frames v trail h answer next on record {
+    entries = ap entry_heard a;
+    ends = ap end_heard a;
+    head = ap head_heard a;
+    place = b;
+    ended = d;
+  }
+
+  -- the same, where nothing else changes
+  rests : v.ended ≡ false → (answer ≡ heard.Going) × (next ≡ v)
+      → Hears frames next (trail ++ answer ∷ [])
+  rests on a =
+      goes on a.0 (ap (λ (z : Receiving). z.place) a.1) (ap (λ (z : Receiving). z.ended) a.1)
+
+  module _ (got : ℕ) (found : IsFoundIn frames len v got) (on : v.ended ≡ false)
+      (step : RecvStep v got answer next) where
+    hears_length : passing_due v ≡ None → v.place ≡ v.known
+        → Hears frames next (trail ++ answer ∷ [])
+    hears_length none e =
+        let t = step.at_length none e in
         elim (cases_lt v.known got) [
-          | inl l ↦ elim (cases_lt v.log_words got) [
-            | inl beyond ↦
-                (let a = t.beyond l beyond in
-                goes a.0 (ap (λ (z : Receiving). z.place) a.1)
-                (ap (λ (z : Receiving). z.ended) a.1))
+          | inl l ↦ elim (cases_lt (v.log_words + v.passed) got) [
+            | inl beyond ↦ rests on (t.beyond l beyond)
             | inr within ↦
                 (let a = t.more l within in
-                goes a.0 (ap (λ (z : Receiving). z.place) a.1)
+                goes on a.0 (ap (λ (z : Receiving). z.place) a.1)
                 (ap (λ (z : Receiving). z.ended) a.1))
           ]
           | inr g ↦ elim (cases_eq got v.known) [
@@ -267,54 +270,48 @@ module _ {base : ℕ → ℕ} (x : Layout) (frames : List Frame) (words : ℕ �
                   place = ap (λ (z : Receiving). z.place) a.1;
                   ended = ap (λ (z : Receiving). z.ended) a.1;
                 })
-            | inr ne ↦
-                (let a = t.less (omega arith) in
-                goes a.0 (ap (λ (z : Receiving). z.place) a.1)
-                (ap (λ (z : Receiving). z.ended) a.1))
+            | inr ne ↦ rests on (t.less (omega arith))
           ]
         ]
-    | inr ne ↦
-        let had = received x frames words log v own in
-        elim (step.at_word ne (take v.place (log_words frames)) (take v.place (log_pieces frames))
-        had) [
-          | inl bad ↦ quiet frames v trail h answer next on record {
-            entries = ap entry_heard bad.1;
-            ends = ap end_heard bad.1;
-            head = ap head_heard bad.1;
-            place = ap (λ (z : LogReading). z.place) bad.2;
-            ended = ap (λ (z : LogReading). z.ended) bad.2;
-          }
+
+    hears_word : passing_due v ≡ None → v.place ≢ v.known
+        → Hears frames next (trail ++ answer ∷ [])
+    hears_word none ne =
+        let had = received n frames len lawful size v senders own in
+        elim (step.at_word none ne (take v.place (log_words frames))
+        (take v.place (log_pieces frames)) had) [
+          | inl bad ↦ goes on bad.1 (ap (λ (z : LogReading). z.place) bad.2)
+              (ap (λ (z : LogReading). z.ended) bad.2)
           | inr ok ↦
-              let more : v.place < words 0 =
-              let a = own.receives.place_below in let b = own.receives.known_below in omega arith in
-              let got_is : recv_found words v ≡ words (log_at x + v.place) =
-              elim (eqb_tells v.place v.known) [
-                | inl y ↦ absurd (ne y.1)
-                | inr y ↦
-                    ap (λ q. cond q (words v.length_at) (words (v.log_at + v.place))) y.0
-                    ∙ ap (λ q. words (q + v.place)) own.log
-              ] in
-              let word_is : slice_index (log_words frames) v.place ≡ recv_found words v =
-              ap (λ z. slice_index z v.place) (sym log.words_are)
-              ∙ index-read words (log_at x) (words 0) v.place more ∙ sym got_is in
-              let size = length-logged log in
-              let split = sym
-              (next_word (log_words frames) v.place (recv_found words v) (omega arith) word_is) in
+              let more : v.place < length (log_words frames) =
+              let a = own.place_below in let b = own.known_below in omega arith in
+              let word_is : slice_index (log_words frames) v.place ≡ got = sym (found.1 ne) in
               let at = ok.gives frames (drop (suc v.place) (log_words frames))
-              (subst (λ z. AreFrames z frames) (sym own.senders) log.lawful) split in
+              (subst (λ z. AreFrames z frames) (sym senders) lawful)
+              (sym (next_word (log_words frames) v.place got more word_is)) in
               good frames v trail h answer next on ok.found
               (ap (slice_get (log_pieces frames)) had.place ∙ at) ok.answer_is
               (ap (λ (z : LogReading). z.place) ok.new_is)
               (ap (λ (z : LogReading). z.ended) ok.new_is)
         ]
-  ]
 
-  pub hears_more : RecvDoes words v answer next → Hears frames next (trail ++ answer ∷ [])
-  hears_more does = by_end v.ended refl
+    hears_step : (o : Option ℕ) → passing_due v ≡ o → Hears frames next (trail ++ answer ∷ [])
+    hears_step None none = elim (cases_eq v.place v.known) [
+      | inl e ↦ hears_length none e
+      | inr ne ↦ hears_word none ne
+    ]
+    hears_step (Some at) due =
+        let a = step.at_passed at due in
+        goes on a.0 (ap (λ (z : Receiving). z.place) a.1) (ap (λ (z : Receiving). z.ended) a.1)
+
+  pub hears_more : (words : ℕ → ℕ) → IsFoundIn frames len v (recv_found words v)
+      → RecvDoes words v answer next → Hears frames next (trail ++ answer ∷ [])
+  hears_more words found does = by_end v.ended refl
     where
       by_end : (q : Bool) → v.ended ≡ q → Hears frames next (trail ++ answer ∷ [])
       by_end true e = let d = does.ended e in again frames v trail h answer next e d.0 d.1
-      by_end false e = hears_step e (does.going e)
+      by_end false e =
+          hears_step (recv_found words v) found e (does.going e) (passing_due v) refl
 
 -- ---- what is promised of answers
 -- a receiver has been told what stands below its place; who is none was told nothing

@@ -1,5 +1,5 @@
 -- Every event keeps the bus lawful, and a lawful bus keeps its promises.
-use Rattle.std.proofs.Common.{◌≡◌, ◌≢◌, ℕ, zero, suc, ◌+◌, ◌<◌, Bool, true, false, cond, ◌&&◌}
+use Rattle.std.proofs.Common.{◌≡◌, ◌≢◌, ℕ, zero, suc, ◌+◌, ◌%◌, ◌<◌, Bool, true, false, cond, ◌&&◌}
 use Rattle.std.proofs.Common.{◌==◌, nat_lt, nat_le, Option, Some, None, ◌⊎◌, inl, inr, List, []}
 use Rattle.std.proofs.Common.{◌∷◌, ◌++◌, length, map, take, slice_get, slice_index, slice_set}
 use Rattle.std.proofs.Common.{arith, refl, sym, ◌∙◌, ap, subst, append_assoc}
@@ -7,13 +7,15 @@ use Rattle.std.specs.Prelude.{All}
 use Rattle.std.proofs.lemmas.Bool.{and_parts, cases_eq, cases_lt}
 use Rattle.std.proofs.lemmas.Bool.Decides.{eqb_tells}
 use Rattle.std.proofs.lemmas.List.{append-nil, length-append, length-replicate, length-take}
+use Rattle.std.proofs.Math.Nat.{mod-eq_of_lt}
 use Rattle.std.proofs.Math.Seq.{take-nil}
 use Rattle.std.proofs.lemmas.Option.{same_Some, slice_get_within}
 use Rattle.bus_register.specs.Protocol.{Protocol, Laws}
 use Rattle.bus_batch.specs.declared.batches.Phase.TheVariants.{Marking}
 use Rattle.bus_batch.specs.declared.messages.Mark.{Mark}
 use Rattle.bus_batch.specs.declared.messages.Item.{Item}
-use Rattle.bus_batch.specs.Frames.{IsBadWord, Frame, order_of, log_words, frame_words, log_pieces}
+use Rattle.bus_batch.specs.Frames.{AreFrames, IsBadWord, Frame, order_of, log_words, frame_words}
+use Rattle.bus_batch.specs.Frames.{log_pieces}
 use Rattle.bus_tenure.specs.Core.{Core, Election, Layout, log_at, words_of, is_empty}
 use Rattle.bus_tenure.specs.Situations.{situation_of, line_of}
 use Rattle.bus_tenure.specs.declared.phases.Phase.{Phase as SenderPhase}
@@ -24,10 +26,12 @@ use Rattle.bus_world.specs.Proved.Sending.{Logged, Part, Fits, Sending}
 use Rattle.bus_world.proofs.Stopping.{is_there}
 use Rattle.bus_world.proofs.LogLaws.{length-logged, log_words-append, index-read}
 use Rattle.bus_world.proofs.ReceivingLaws.{goes_on, Receives-known, Receives-word, Receives-append}
-use Rattle.bus_world.specs.Proved.Receiving.{Receives, IsReceiver}
+use Rattle.bus_world.specs.Proved.Receiving.{Receives, IsReceiver, IsFoundIn, NeverPasses}
 use Rattle.bus_batch.specs.Reading.{HasRead}
 use Rattle.bus_deliverylog.specs.declared.receiving.RecvTurn.{RecvTurn}
 use Rattle.bus_deliverylog.specs.Receiving.{Receiving, LogReading, HasReceived, reading_of}
+use Rattle.bus_deliverylog.specs.Receiving.{passing_due}
+use Rattle.bus_deliverylog.proofs.ReceiveLaws.{no_due}
 use Rattle.bus_ownerbits.specs.OneOwner.{OneOwner}
 use Rattle.bus_world.proofs.Beginning as beginning
 use Rattle.bus_world.specs.World.{IsLayout, Event, Put, Ask, Turn, Recv, Stop, recv_found}
@@ -83,95 +87,167 @@ module _ {E : Type 0} (X : Election E) (P : Protocol E (Unit {0}) ℕ)
     }
 
 -- ---- receivers
-module _ {base : ℕ → ℕ} (x : Layout) (frames : List Frame) (words : ℕ → ℕ)
-    (log : Logged base x.senders x.capacity (log_at x) words (words 0) frames) (v : Receiving)
-    (h : IsReceiver x frames (words 0) v) where
+-- of frames whose words are so many, by the number that it finds
+module _ (n : ℕ) (frames : List Frame) (len : ℕ) (lawful : AreFrames n frames)
+    (size : length (log_words frames) ≡ len) (v : Receiving) (senders : v.frames.senders ≡ n)
+    (h : Receives n frames len v.place v.known v.frames) where
   pub received : HasReceived (take v.place (log_words frames)) (take v.place (log_pieces frames))
       (reading_of v)
   received = record {
     read = subst (λ z.
         HasRead z (take v.place (log_words frames)) (take v.place (log_pieces frames)) v.frames)
-        (sym h.senders) h.receives.has_read;
+        (sym senders) h.has_read;
     place = sym (length-take v.place (log_words frames)
-        ∙ (let a = h.receives.place_below in
-        let b = h.receives.known_below in let d = length-logged log in omega arith));
+        ∙ (let a = h.place_below in let b = h.known_below in omega arith));
   }
 
-  module _ (answer : RecvTurn) (next : Receiving) where
-    at_length : v.place ≡ v.known → RecvStep v (words 0) answer next
-        → IsReceiver x frames (words 0) next
-    at_length e s = elim (cases_lt v.known (words 0)) [
-      | inl l ↦
-          let t =
-          ((s.at_length e).more l (let a = log.fits in let b = h.log_words in omega arith)).1 in
-          subst (IsReceiver x frames (words 0)) (sym t) record {
-            senders = h.senders;
-            log = h.log;
-            len_at = h.len_at;
-            log_words = h.log_words;
-            receives = Receives-known x.senders frames (words 0) v.place v.known v.frames h.receives
-                (omega arith);
-          }
-      | inr l ↦
-          let t = ((s.at_length e).same (let a = h.receives.known_below in omega arith)).1 in
-          subst (IsReceiver x frames (words 0)) (sym t) h
-    ]
+  module _ (got : ℕ) (found : IsFoundIn frames len v got) (answer : RecvTurn) (next : Receiving)
+      (step : RecvStep v got answer next) where
+    as_before : next.place ≡ v.place → next.known ≡ v.known → next.frames ≡ v.frames
+        → Receives n frames len next.place next.known next.frames
+    as_before p k f = subst (λ z. Receives n frames len z next.known next.frames) (sym p)
+        (subst (λ z. Receives n frames len v.place z next.frames) (sym k)
+        (subst (λ z. Receives n frames len v.place v.known z) (sym f) h))
 
-    at_word : v.place ≢ v.known → RecvStep v (words (log_at x + v.place)) answer next
-        → IsReceiver x frames (words 0) next
-    at_word ne s =
-        let more : v.place < v.known = let a = h.receives.place_below in omega arith in
-        let word_is : slice_index (log_words frames) v.place ≡ words (log_at x + v.place) =
-        ap (λ z. slice_index z v.place) (sym log.words_are)
-        ∙ index-read words (log_at x) (words 0) v.place
-        (let a = h.receives.known_below in omega arith) in
-        elim (s.at_word ne (take v.place (log_words frames)) (take v.place (log_pieces frames))
-        received) [
+    unmoved : next ≡ v → Receives n frames len next.place next.known next.frames
+    unmoved e = as_before (ap (λ (z : Receiving). z.place) e) (ap (λ (z : Receiving). z.known) e)
+        (ap (λ (z : Receiving). z.frames) e)
+
+    at_length : passing_due v ≡ None → v.place ≡ v.known
+        → Receives n frames len next.place next.known next.frames
+    at_length none e =
+        let t = step.at_length none e in
+        let got_is = found.0 e in
+        elim (cases_lt v.known got) [
+          | inl more ↦ elim (cases_lt (v.log_words + v.passed) got) [
+            | inl beyond ↦ unmoved (t.beyond more beyond).1
+            | inr within ↦ subst (λ (z : Receiving). Receives n frames len z.place z.known z.frames)
+                (sym (t.more more within).1)
+                (subst (λ k. Receives n frames len v.place k v.frames) (sym got_is)
+                (Receives-known n frames len v.place v.known v.frames h (omega arith)))
+          ]
+          | inr past ↦ unmoved (t.same (let a = h.known_below in omega arith)).1
+        ]
+
+    at_word : passing_due v ≡ None → v.place ≢ v.known
+        → Receives n frames len next.place next.known next.frames
+    at_word none ne =
+        let more : v.place < v.known = let a = h.place_below in omega arith in
+        let word_is : slice_index (log_words frames) v.place ≡ got = sym (found.1 ne) in
+        elim (step.at_word none ne (take v.place (log_words frames))
+        (take v.place (log_pieces frames)) received) [
           | inl bad ↦ absurd
-              (subst
-              (λ z. IsBadWord z (take v.place (log_words frames)) (words (log_at x + v.place)))
-              h.senders bad.0
-              (goes_on x.senders frames (words 0) v.place v.known v.frames h.receives log.lawful
-              (length-logged log) more (words (log_at x + v.place)) word_is))
+              (subst (λ z. IsBadWord z (take v.place (log_words frames)) got) senders bad.0
+              (goes_on n frames len v.place v.known v.frames h lawful size more got word_is))
           | inr good ↦
-              let senders_now : next.frames.senders ≡ x.senders = s.senders ∙ h.senders in
-              let n = good.new_is in
-              record {
-                senders = senders_now;
-                log = ap (λ (z : Receiving). z.log_at) s.registers ∙ h.log;
-                len_at = ap (λ (z : Receiving). z.length_at) s.registers ∙ h.len_at;
-                log_words = ap (λ (z : Receiving). z.log_words) s.registers ∙ h.log_words;
-                receives = subst (λ z. Receives x.senders frames (words 0) z next.known next.frames)
-                    (sym (ap (λ (z : LogReading). z.place) n))
-                    (subst (λ z. Receives x.senders frames (words 0) (v.place + 1) z next.frames)
-                    (sym (ap (λ (z : LogReading). z.known) n))
-                    (Receives-word x.senders frames (words 0) v.place v.known v.frames h.receives
-                    log.lawful (length-logged log) more (words (log_at x + v.place)) word_is
-                    good.found next.frames
-                    (subst (λ z. HasRead z
-                    (take v.place (log_words frames) ++ words (log_at x + v.place) ∷ [])
-                    (take v.place (log_pieces frames) ++ good.found ∷ []) next.frames) senders_now
-                    good.received.read)));
-              }
+              let senders_now : next.frames.senders ≡ n = step.senders ∙ senders in
+              subst (λ z. Receives n frames len z next.known next.frames)
+              (sym (ap (λ (z : LogReading). z.place) good.new_is))
+              (subst (λ z. Receives n frames len (v.place + 1) z next.frames)
+              (sym (ap (λ (z : LogReading). z.known) good.new_is))
+              (Receives-word n frames len v.place v.known v.frames h lawful size more got word_is
+              good.found next.frames
+              (subst (λ z. HasRead z (take v.place (log_words frames) ++ got ∷ [])
+              (take v.place (log_pieces frames) ++ good.found ∷ []) next.frames) senders_now
+              good.received.read)))
         ]
 
-    -- a turn of a receiver
-    pub receiver_more : RecvDoes words v answer next → IsReceiver x frames (words 0) next
-    receiver_more does = by_end v.ended refl
-      where
-        goes : RecvStep v (recv_found words v) answer next → IsReceiver x frames (words 0) next
-        goes step = elim (eqb_tells v.place v.known) [
-          | inl y ↦ at_length y.1 (subst (λ z. RecvStep v z answer next)
-              (ap (λ q. cond q (words v.length_at) (words (v.log_at + v.place))) y.0
-              ∙ ap words h.len_at) step)
-          | inr y ↦ at_word y.1 (subst (λ z. RecvStep v z answer next)
-              (ap (λ q. cond q (words v.length_at) (words (v.log_at + v.place))) y.0
-              ∙ ap (λ q. words (q + v.place)) h.log) step)
-        ]
+    reads_step : (o : Option ℕ) → passing_due v ≡ o
+        → Receives n frames len next.place next.known next.frames
+    reads_step None none = elim (cases_eq v.place v.known) [
+      | inl e ↦ at_length none e
+      | inr ne ↦ at_word none ne
+    ]
+    reads_step (Some at) due =
+        let t = (step.at_passed at due).1 in
+        as_before (ap (λ (z : Receiving). z.place) t) (ap (λ (z : Receiving). z.known) t)
+        (ap (λ (z : Receiving). z.frames) t)
 
-        by_end : (q : Bool) → v.ended ≡ q → IsReceiver x frames (words 0) next
-        by_end true e = subst (IsReceiver x frames (words 0)) (sym (does.ended e).1) h
-        by_end false e = goes (does.going e)
+  -- a turn of a receiver
+  pub reads_more : (words : ℕ → ℕ) → IsFoundIn frames len v (recv_found words v)
+      → (answer : RecvTurn) (next : Receiving) → RecvDoes words v answer next
+      → (next.frames.senders ≡ n) × Receives n frames len next.place next.known next.frames
+  reads_more words found answer next does = by_end v.ended refl
+    where
+      by_end : (q : Bool) → v.ended ≡ q
+          → (next.frames.senders ≡ n) × Receives n frames len next.place next.known next.frames
+      by_end true e = subst (λ (z : Receiving).
+          (z.frames.senders ≡ n) × Receives n frames len z.place z.known z.frames)
+          (sym (does.ended e).1) (senders, h)
+      by_end false e = let step = does.going e in (
+        step.senders ∙ senders,
+        reads_step (recv_found words v) found answer next step (passing_due v) refl,
+      )
+
+-- the words of a receiver stay where they are
+pub words_stay : (words : ℕ → ℕ) (v next : Receiving) (answer : RecvTurn)
+    → RecvDoes words v answer next
+    → (next.log_at ≡ v.log_at) × (next.length_at ≡ v.length_at) × (next.log_words ≡ v.log_words)
+    × (next.passed_at ≡ v.passed_at)
+words_stay words v next answer does = by_end v.ended refl
+  where
+    by_end : (q : Bool) → v.ended ≡ q
+        → (next.log_at ≡ v.log_at) × (next.length_at ≡ v.length_at)
+        × (next.log_words ≡ v.log_words) × (next.passed_at ≡ v.passed_at)
+    by_end true e = let same = (does.ended e).1 in (
+      ap (λ (z : Receiving). z.log_at) same,
+      ap (λ (z : Receiving). z.length_at) same,
+      ap (λ (z : Receiving). z.log_words) same,
+      ap (λ (z : Receiving). z.passed_at) same,
+    )
+    by_end false e = (does.going e).keeps
+
+pub never_more : (words : ℕ → ℕ) (v next : Receiving) (answer : RecvTurn)
+    → RecvDoes words v answer next → NeverPasses v → NeverPasses next
+never_more words v next answer does h = record {
+  never = (words_stay words v next answer does).3 ∙ h.never;
+  unpassed = by_end v.ended refl ∙ h.unpassed;
+} where
+  by_end : (q : Bool) → v.ended ≡ q → next.passed ≡ v.passed
+  by_end true e = ap (λ (z : Receiving). z.passed) (does.ended e).1
+  by_end false e =
+      ap (λ (z : Receiving). z.passed) ((does.going e).registers (no_due v h.never))
+
+-- of a log that is not used again: what a load finds stands at its place
+module _ {base : ℕ → ℕ} (x : Layout) (frames : List Frame) (words : ℕ → ℕ)
+    (log : Logged base x.senders x.capacity (log_at x) words (words 0) frames) (v : Receiving)
+    (h : IsReceiver x frames (words 0) v) where
+  pub found_flat : IsFoundIn frames (words 0) v (recv_found words v)
+  found_flat = (
+    λ e. elim (eqb_tells v.place v.known) [
+      | inl y ↦
+          ap (λ q. cond q (words v.length_at) (words (v.log_at + v.place % v.log_words))) y.0
+          ∙ ap words h.len_at
+      | inr y ↦ absurd (y.1 e)
+    ],
+    λ ne. elim (eqb_tells v.place v.known) [
+      | inl y ↦ absurd (ne y.1)
+      | inr y ↦
+          let low : v.place < words 0 =
+          let a = h.receives.place_below in let b = h.receives.known_below in omega arith in
+          let few : v.place < x.capacity = let a = log.fits in omega arith in
+          ap (λ q. cond q (words v.length_at) (words (v.log_at + v.place % v.log_words))) y.0
+          ∙ ap (λ q. words (q + v.place % v.log_words)) h.log
+          ∙ ap (λ q. words (log_at x + v.place % q)) h.log_words
+          ∙ ap (λ q. words (log_at x + q)) (mod-eq_of_lt few)
+          ∙ sym (index-read words (log_at x) (words 0) v.place low)
+          ∙ ap (λ q. slice_index q v.place) log.words_are
+    ],
+  )
+
+  pub receiver_more : (answer : RecvTurn) (next : Receiving) → RecvDoes words v answer next
+      → IsReceiver x frames (words 0) next
+  receiver_more answer next does =
+      let reads = reads_more x.senders frames (words 0) log.lawful (length-logged log) v h.senders
+      h.receives words found_flat answer next does in
+      let same = words_stay words v next answer does in
+      record {
+        senders = reads.0;
+        log = same.0 ∙ h.log;
+        len_at = same.1 ∙ h.len_at;
+        log_words = same.2 ∙ h.log_words;
+        receives = reads.1;
+      }
 
 -- receivers, where the log has grown
 module _ {base : ℕ → ℕ} (x : Layout) (frames : List Frame) (words words' : ℕ → ℕ)
@@ -213,10 +289,12 @@ one_or_none (Some f) frames = inr (f, refl)
 lawful_of : {base : ℕ → ℕ} {E : Type 0} {P : Protocol E (Unit {0}) ℕ} {x : Layout} {b : Bus E}
     {frames : List Frame} → IsSide base P x b.side frames
     → ((r : ℕ) (v : Receiving) → slice_get b.receivers r ≡ Some v
-    → IsReceiver x frames (slice_index b.side.words 0) v) → LawfulBus base P x b frames
-lawful_of side receiving = record {
+    → IsReceiver x frames (slice_index b.side.words 0) v)
+    → ((r : ℕ) (v : Receiving) → slice_get b.receivers r ≡ Some v → NeverPasses v)
+    → LawfulBus base P x b frames
+lawful_of side receiving never = record {
   words = side.words;
-  keeps = record { sending = side.sending; receiving = receiving };
+  keeps = record { sending = side.sending; receiving = receiving; never = never };
 }
 
 -- the frames of one bus begin those of the other
@@ -248,7 +326,8 @@ module _ {E : Type 0} (X : Election E) (P : Protocol E (Unit {0}) ℕ)
       frames_now = frames;
       lawful = lawful_of side (λ r v e. receiver_stays x frames (slice_index b.side.words)
           (slice_index b'.side.words) h.keeps.sending.log side.sending.log v
-          (h.keeps.receiving r v (ap (λ z. slice_get z r) (sym same) ∙ e)));
+          (h.keeps.receiving r v (ap (λ z. slice_get z r) (sym same) ∙ e)))
+          (λ r v e. h.keeps.never r v (ap (λ z. slice_get z r) (sym same) ∙ e));
       continues = record { more = []; together = append-nil frames };
     }
 
@@ -258,7 +337,8 @@ module _ {E : Type 0} (X : Election E) (P : Protocol E (Unit {0}) ℕ)
       frames_now = frames ++ f ∷ [];
       lawful = lawful_of side (λ r v e. receiver_follows x frames (slice_index b.side.words)
           (slice_index b'.side.words) h.keeps.sending.log f side.sending.log v
-          (h.keeps.receiving r v (ap (λ z. slice_get z r) (sym same) ∙ e)));
+          (h.keeps.receiving r v (ap (λ z. slice_get z r) (sym same) ∙ e)))
+          (λ r v e. h.keeps.never r v (ap (λ z. slice_get z r) (sym same) ∙ e));
       continues = record { more = f ∷ []; together = refl };
     }
 
@@ -342,7 +422,17 @@ module _ {E : Type 0} (X : Election E) (P : Protocol E (Unit {0}) ℕ)
                   | inr ne ↦ h.keeps.receiving q w
                       (sym (get_set_other b.receivers r rs.0 q ne)
                       ∙ ap (λ z. slice_get z q) (sym rs.3) ∙ e)
-                ]));
+                ]))
+                (λ q w e. elim (cases_eq q r) [
+                  | inl j ↦ subst NeverPasses
+                      (same_Some _ _
+                      (sym (get_set_same b.receivers r rs.0 (slice_get_within b.receivers r v i))
+                      ∙ ap (λ z. slice_get z r) (sym rs.3) ∙ ap (slice_get b'.receivers) (sym j)
+                      ∙ e)) (never_more words v rs.0 rs.1 rs.2 (h.keeps.never r v i))
+                  | inr ne ↦ h.keeps.never q w
+                      (sym (get_set_other b.receivers r rs.0 q ne)
+                      ∙ ap (λ z. slice_get z q) (sym rs.3) ∙ e)
+                ]);
             continues = record { more = []; together = append-nil frames };
           };
         }
@@ -533,4 +623,7 @@ module _ {E : Type 0} (X : Election E) (P : Protocol E (Unit {0}) ℕ)
                 (λ z. HasRead x.senders (take z (log_words [])) (take z (log_pieces [])) v.frames)
                 (sym n.place) n.read;
           };
+        }) (λ r v e. let n = new.receivers r v e in record {
+          never = n.never;
+          unpassed = n.unpassed;
         })

@@ -1,10 +1,10 @@
 -- Receivers at their starts.
-use Rattle.std.specs.Prelude.{◌≡◌, ℕ, false, Some, List, [], length, slice_get}
+use Rattle.std.specs.Prelude.{◌≡◌, ℕ, false, Some, None, List, [], length, slice_get}
 use Rattle.bus_batch.specs.Reading.{HasRead}
 use Rattle.bus_deliverylog.specs.Receiving.{Receiving}
 
 -- a receiver that has read nothing, of so many senders, with the log that begins at this place and
--- has so many words
+-- has so many words, none of which is used again
 pub record IsNewReceiver (senders log capacity : ℕ) (v : Receiving) : Type 0 where
   pub senders_are : v.frames.senders ≡ senders
   pub log_is : v.log_at ≡ log
@@ -14,6 +14,8 @@ pub record IsNewReceiver (senders log capacity : ℕ) (v : Receiving) : Type 0 w
   pub place : v.place ≡ 0
   pub going : v.ended ≡ false
   pub read : HasRead senders [] [] v.frames
+  pub never : v.passed_at ≡ None
+  pub unpassed : v.passed ≡ 0
 
 -- so many receivers, each at its start
 pub record AreNewReceivers (senders log capacity many : ℕ) (receivers : List Receiving) :

@@ -1,12 +1,12 @@
 -- The sizes of a bus, its events, what a receiver does in a turn, and what a new bus is.
-use Rattle.std.specs.Prelude.{◌≡◌, ◌≢◌, ℕ, ◌+◌, ◌<◌, Bool, true, false, Option, Some, None, List}
-use Rattle.std.specs.Prelude.{length, replicate, slice_index, if◌then◌else◌, ◌==◌, ◌≤◌}
+use Rattle.std.specs.Prelude.{◌≡◌, ◌≢◌, ℕ, ◌+◌, ◌%◌, ◌<◌, Bool, true, false, Option, Some, None}
+use Rattle.std.specs.Prelude.{List, length, replicate, slice_index, if◌then◌else◌, ◌==◌, ◌≤◌}
 use Rattle.bus_register.specs.declared.limits.TheConstants.{MOST_SENDERS, MOST_LOG_WORDS, TENURES}
 use Rattle.bus_batch.specs.declared.messages.Mark.{Mark}
 use Rattle.bus_deliverylog.specs.declared.receiving.RecvTurn.{RecvTurn}
 use Rattle.bus_deliverylog.specs.declared.receiving.RecvTurn.TheVariants.{End as RecvEnd}
 use Rattle.bus_deliverylog.specs.Receiving.{Receiving, TakesLength, TakesNext, reading_of}
-use Rattle.bus_deliverylog.specs.Receiving.{with_reading}
+use Rattle.bus_deliverylog.specs.Receiving.{with_reading, passing_due, TakesPassed}
 use Rattle.bus_tenure.specs.Core.{Layout}
 use Rattle.bus_tenure.specs.declared.pages.Page.{Page}
 use Rattle.bus_world.specs.declared.limits.TheConstants.{FIRST_NUMBERS}
@@ -38,12 +38,19 @@ pub data Event : Type 0 where
 -- what one step of a receiver does, where it found this number
 pub record RecvStep (old : Receiving) (got : ℕ) (answer : RecvTurn) (new : Receiving) : Type 0 where
   pub senders : new.frames.senders ≡ old.frames.senders
-  pub at_length : old.place ≡ old.known → TakesLength old got answer new
-  pub at_word : old.place ≢ old.known → TakesNext (reading_of old) got answer (reading_of new)
-  pub registers : new ≡ with_reading old (reading_of new)
+  pub at_passed : (at : ℕ) → passing_due old ≡ Some at → TakesPassed old answer new
+  pub at_length : passing_due old ≡ None → old.place ≡ old.known → TakesLength old got answer new
+  pub at_word : passing_due old ≡ None → old.place ≢ old.known
+      → TakesNext (reading_of old) got answer (reading_of new)
+  pub registers : passing_due old ≡ None → new ≡ with_reading old (reading_of new)
+  -- its words are where they were
+  pub keeps : (new.log_at ≡ old.log_at) × (new.length_at ≡ old.length_at)
+      × (new.log_words ≡ old.log_words) × (new.passed_at ≡ old.passed_at)
 
+-- what a load finds; what a store finds is not looked at
 abbrev pub recv_found : (ℕ → ℕ) → Receiving → ℕ
-recv_found words v = if v.place == v.known then words v.length_at else words (v.log_at + v.place)
+recv_found words v =
+    if v.place == v.known then words v.length_at else words (v.log_at + v.place % v.log_words)
 
 -- one turn of a receiver: after the end it answers End for good, and takes no step
 pub record RecvDoes (words : ℕ → ℕ) (old : Receiving) (answer : RecvTurn) (new : Receiving) :

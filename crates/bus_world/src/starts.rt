@@ -27,16 +27,17 @@ pub fn first_page(alloc: Global, bases: [u64; MOST_SENDERS]) -> Result<OwnedPage
     OwnedPage::new(alloc, page)
 }
 
-/// A receiver for each number, at the first word of the log.
+/// A receiver for each number, at the first word of the log. None has a passed place.
 pub fn new_receivers(alloc: Global, shape: Shape, log: Reg) -> Result<Vec<Reader>, NoMemory>
-    requires { log.0 + shape.log_words < 2 ^ 64 }
+    requires fits { log.0 + shape.log_words < 2 ^ 64 }
+    requires some { 0 < shape.log_words }
     ensures { IfOk result
         (λ receivers. AreNewReceivers shape.senders log.0 shape.log_words
         shape.receivers receivers.items) }
 {
     let mut receivers = Vec::new(alloc);
     for _ in 0..shape.receivers {
-        receivers.push(Reader::new(shape.senders, log, Reg(0), shape.log_words))?;
+        receivers.push(Reader::new(shape.senders, log, Reg(0), shape.log_words, None))?;
     }
     Ok(receivers)
 }

@@ -1,6 +1,6 @@
 //! One turn of one receiver.
 
-ghost use Rattle.std.specs.Prelude.{◌≡◌, ◌<◌, length, slice_index, IfSome};
+ghost use Rattle.std.specs.Prelude.{◌≡◌, ◌<◌, length, slice_index, IfSome, None};
 ghost use Rattle.bus_register.specs.Words.{register};
 ghost use Rattle.bus_deliverylog.specs.Receiving.{receiving_op};
 ghost use Rattle.bus_world.specs.World.{RecvDoes};
@@ -8,9 +8,10 @@ ghost use Rattle.bus_world.specs.World.{RecvDoes};
 use bus_deliverylog::{Reader, RecvTurn};
 use bus_register::Cells;
 
-/// One turn of a receiver: at most one load.
+/// One turn of a receiver without a passed place: at most one load.
 pub fn turn_receiver(cells: &mut Cells, reader: &mut Reader) -> RecvTurn
-    requires { IfSome (receiving_op reader.old) (λ o. register o < length cells.old) }
+    requires within { IfSome (receiving_op reader.old) (λ o. register o < length cells.old) }
+    requires never { reader.old.passed_at ≡ None }
     ensures words { cells.new ≡ cells.old }
     ensures step { RecvDoes (slice_index cells.old) reader.old result reader.new }
 {

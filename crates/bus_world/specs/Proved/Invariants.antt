@@ -6,7 +6,7 @@ use Rattle.bus_deliverylog.specs.Receiving.{Receiving}
 use Rattle.bus_tenure.specs.Core.{Layout, words_of, Core}
 use Rattle.bus_world.specs.Proved.Machines.{Bus}
 use Rattle.bus_world.specs.Proved.Sending.{Sending}
-use Rattle.bus_world.specs.Proved.Receiving.{IsReceiver}
+use Rattle.bus_world.specs.Proved.Receiving.{IsReceiver, NeverPasses}
 use Rattle.bus_tenure.specs.declared.pages.Page.{Page}
 
 -- words, page, senders and receivers by number, whatever holds them, with who took the pages and
@@ -16,6 +16,7 @@ pub record Lawful {E : Type 0} (base : ℕ → ℕ) (P : Protocol E (Unit {0}) �
     (receivers : ℕ → Option Receiving) (owners : List ℕ) (frames : List Frame) : Type 0 where
   pub sending : Sending base P x words home senders owners frames
   pub receiving : (r : ℕ) (v : Receiving) → receivers r ≡ Some v → IsReceiver x frames (words 0) v
+  pub never : (r : ℕ) (v : Receiving) → receivers r ≡ Some v → NeverPasses v
 
 -- a machine has just the words of its layout
 pub record LawfulBus {E : Type 0} (base : ℕ → ℕ) (P : Protocol E (Unit {0}) ℕ) (x : Layout)

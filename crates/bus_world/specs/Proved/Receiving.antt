@@ -1,5 +1,5 @@
 -- Receivers: each has read the log as far as its place.
-use Rattle.std.specs.Prelude.{ℕ, ◌≤◌, List, take, ◌≡◌}
+use Rattle.std.specs.Prelude.{ℕ, ◌≤◌, List, take, ◌≡◌, ◌≢◌, None, slice_index}
 use Rattle.bus_batch.specs.Frames.{Frame, log_words, log_pieces}
 use Rattle.bus_batch.specs.Reading.{Reading, HasRead}
 use Rattle.bus_deliverylog.specs.Receiving.{Receiving}
@@ -18,3 +18,14 @@ pub record IsReceiver (x : Layout) (frames : List Frame) (len : ℕ) (v : Receiv
   pub len_at : v.length_at ≡ 0
   pub log_words : v.log_words ≡ x.capacity
   pub receives : Receives x.senders frames len v.place v.known v.frames
+
+-- it finds, at the length that it knows, the length, and else the word at its place
+abbrev pub IsFoundIn : List Frame → ℕ → Receiving → ℕ → Type 0
+IsFoundIn frames len v got =
+    (v.place ≡ v.known → got ≡ len)
+    × (v.place ≢ v.known → got ≡ slice_index (log_words frames) v.place)
+
+-- it has no passed place, and has stored none
+pub record NeverPasses (v : Receiving) : Type 0 where
+  pub never : v.passed_at ≡ None
+  pub unpassed : v.passed ≡ 0

@@ -17,8 +17,10 @@ loop-preserved c = (
         words_are = c.new.ensures.at.2;
         known = c.new.ensures.start.0;
         place = c.new.ensures.start.1;
-        going = c.new.ensures.start.2;
+        going = c.new.ensures.start.3;
         read = subst (λ z. HasRead z [] [] c.new.result.frames) c.new.ensures.senders
             c.new.ensures.received.read;
+        never = c.new.ensures.at.3;
+        unpassed = c.new.ensures.start.2;
       }),
 )
