@@ -16,14 +16,13 @@ use Rattle.bus_deliverylog.specs.Orders.{of_sender}
 use Rattle.bus_deliverylog.specs.declared.receiving.RecvTurn.{RecvTurn}
 use Rattle.bus_deliverylog.specs.declared.receiving.RecvTurn.TheVariants as recv
 use Rattle.bus_machine.proofs.Entering.{enters}
-use Rattle.bus_machine.proofs.Framed.{IsFramed, framed, log_framed}
-use Rattle.bus_machine.proofs.History.{history}
-use Rattle.bus_machine.proofs.Growing.{grows}
+use Rattle.bus_machine.proofs.Framed.{IsFramed, framed}
+use Rattle.bus_machine.proofs.Joining.{grows}
 use Rattle.bus_machine.proofs.Knowing.{its_part}
 use Rattle.bus_machine.proofs.Leading.{Sits}
 use Rattle.bus_machine.proofs.Promised.{promised}
 use Rattle.bus_machine.proofs.Holding.{sums_fit}
-use Rattle.bus_machine.proofs.Joining.{log_behind}
+use Rattle.bus_machine.proofs.Rising.{log_behind}
 use Rattle.bus_machine.specs.Machine.{Machine, Trails, base_of, log_place, turn_answer}
 use Rattle.bus_machine.specs.Promise.{HasRows, IsPagedBy, IsPromised}
 use Rattle.bus_machine.specs.Remembering.{rows_in}
@@ -159,11 +158,7 @@ module _ {E : Type 0} (X : Election E) (P : Protocol E (Unit {0}) ℕ) (x : Layo
       (subst (λ (l : Layout). l.senders ≤ q) (sym h.layout) past)
 
   -- ---- the log
-  -- the words of the log are those of its frames ..
-  log_is : log_words framing.frames ≡ T.log
-  log_is = sym (log_framed P m T framing) ∙ history X P m T sits h.reached
-
-  -- .. which are lawful ..
+  -- its frames are lawful ..
   lawful : AreFrames x.senders framing.frames
   lawful =
       subst (λ (l : Layout). AreFrames l.senders framing.frames) h.layout framing.sending.log.lawful
@@ -173,23 +168,23 @@ module _ {E : Type 0} (X : Election E) (P : Protocol E (Unit {0}) ℕ) (x : Layo
   has_log = record {
     frames = framing.frames;
     lawful = lawful;
-    words_are = log_is;
+    words_are = framing.log_is;
     fits = subst (λ (l : Layout). slice_index m.words 0 ≤ l.capacity) h.layout
         (let same = framing.length in let fits = framing.sending.log.fits in omega arith);
-    stands = ap (λ t. log_below t m.words) (sym sizes_are) ∙ history X P m T sits h.reached;
+    stands = ap (λ t. log_below t m.words) (sym sizes_are) ∙ framing.stands;
   }
 
   -- the length says how many words were published
   long : length T.log ≡ slice_index m.words 0
   long =
-      sym (ap length (history X P m T sits h.reached))
+      sym (ap length framing.stands)
       ∙ length-read (slice_index m.words) (log_place m.layout m.reuse) (slice_index m.words 0)
 
   -- any frames of its log are those that it keeps
   same_frames : (frames : List Frame) → AreFrames x.senders frames → log_words frames ≡ T.log
       → framing.frames ≡ frames
   same_frames frames law words =
-      same_log x.senders 0 0 framing.frames frames lawful law (log_is ∙ sym words)
+      same_log x.senders 0 0 framing.frames frames lawful law (framing.log_is ∙ sym words)
 
   -- ---- the page
   -- by the stage it is known whether it is at home
@@ -301,21 +296,19 @@ steps_in X P x y reuse bases z h p v at word o due low =
     let h' = next_reached X x reuse bases z h p v at word o due low in
     let g = framing X P x y reuse bases z h in
     let g' = framing X P x y reuse bases z' h' in
-    let on = grows X P z.machine z'.machine z.trails (Turn p word)
-    (answer.Turn (turn_answer z.machine (line_now X v) word))
-    (sits X P x y reuse bases z h) h.reached
+    let on = grows X z.machine z'.machine (Turn p word)
+    (answer.Turn (turn_answer z.machine (line_now X v) word)) z.trails
     (takes_turn X x reuse bases z h p v at word o due low) in
     let more = frames_begin z.machine.layout.senders 0 0 g.frames g'.frames on.rest
     g.sending.log.lawful g'.sending.log.lawful
-    (ap (λ l. l ++ on.rest) (sym (log_framed P z.machine z.trails g)) ∙ on.together
-    ∙ log_framed P z'.machine z'.trails g') in
+    (ap (λ l. l ++ on.rest) g.log_is ∙ on.together ∙ sym g'.log_is) in
     takes_step X x reuse bases z h p v at word o due low record {
       frames = g.frames;
       more = more.0;
       lawful = lawful X P x y reuse bases z h;
       lawful_now = subst (AreFrames x.senders) more.1 (lawful X P x y reuse bases z' h');
-      words_are = log_is X P x y reuse bases z h;
-      words_now = sym (ap log_words more.1) ∙ log_is X P x y reuse bases z' h';
+      words_are = g.log_is;
+      words_now = sym (ap log_words more.1) ∙ g'.log_is;
       long = long X P x y reuse bases z h;
       long_now = long X P x y reuse bases z' h';
     }

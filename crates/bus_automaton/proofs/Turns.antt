@@ -18,7 +18,7 @@ use Rattle.bus_core.specs.Table.{reuse_elected, reuse_reclaiming, lost_of}
 use Rattle.bus_core.specs.declared.reuses.Reuse.{Reuse}
 use Rattle.bus_machine.proofs.Clearing.{clearing}
 use Rattle.bus_machine.proofs.TurnLaws.{handed_by}
-use Rattle.bus_machine.proofs.Joining.{log_behind}
+use Rattle.bus_machine.proofs.Rising.{log_behind}
 use Rattle.bus_machine.specs.Machine.{moved}
 use Rattle.bus_machine.specs.Remembering.{rows_in}
 use Rattle.bus_ownerbits.specs.OneOwner.{OneOwner}

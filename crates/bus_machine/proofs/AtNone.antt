@@ -17,14 +17,16 @@ use Rattle.bus_core.specs.Proved.Bridge.{with_a_row_each}
 use Rattle.bus_core.specs.Table.{line_now}
 use Rattle.bus_deliverylog.specs.declared.receiving.RecvTurn.{RecvTurn}
 use Rattle.bus_tenure.specs.Core.{Core, Election, Layout, is_empty}
-use Rattle.bus_tenure.specs.Situations.{situation_of, op_at, answer_at}
+use Rattle.bus_tenure.specs.Situations.{situation_of, line_of, op_at, answer_at}
 use Rattle.bus_tenure.specs.declared.turns.Turn.{Turn as Answered}
 use Rattle.bus_world.proofs.EventTrails.{put_taken}
 use Rattle.bus_world.specs.Headline.{Action}
+use Rattle.bus_world.specs.Log.{words_of_frame}
 use Rattle.bus_world.specs.Proved.Answers.{TurnAnswers, PutGives, CloseGives, RecvAnswers}
 use Rattle.bus_world.specs.Proved.Answers.{StopGives}
-use Rattle.bus_world.specs.Proved.Trails.{New, Then, turning_actions, turn_actions, heard_of}
-use Rattle.bus_world.specs.Proved.Trails.{trails_grown as plain_grown, Reached as PlainReached}
+use Rattle.bus_world.specs.Proved.Trails.{New, Then, turning_actions, turn_actions, log_by}
+use Rattle.bus_world.specs.Proved.Trails.{heard_of, trails_grown as plain_grown}
+use Rattle.bus_world.specs.Proved.Trails.{Reached as PlainReached}
 use Rattle.bus_world.specs.Proved.Machines.{side_after, core_after, home_after, Bus, SenderDoes}
 use Rattle.bus_world.specs.Proved.Machines.{ReceiverDoes, StopDoes, can_close, is_open, new_core}
 use Rattle.bus_world.specs.Proved.Machines.{going as plain_going, with_sender as plain_with}
@@ -134,10 +136,12 @@ module _ {E : Type 0} (X : Election E) (bases : List ℕ) (x : Layout) (b : Bus 
         actions = λ q.
             T.actions q ++ cond (q == s) (turning_actions X b.side.words o word (answer.Turn t)) [];
         heard = λ r. T.heard r ++ [];
+        log = log_by X o T.log;
       }) g
       ∙ ap (λ k. record {
         actions = actions_with s (turn_actions X c z got word (answer.Turn t)) T.actions;
         heard = k;
+        log = T.log ++ words_of_frame (line_of X c z).publishes;
       }) (nothing_heard T.heard)
       ∙ ap (λ l. plain_trails (turn_trails (situation X (with_a_row_each c)) l s
       (found (of_bus bases x b) l word) word t T)) (sym (at_none X c))
@@ -202,6 +206,7 @@ module _ {E : Type 0} (X : Election E) (bases : List ℕ) (x : Layout) (b : Bus 
         trails = λ T. ap (λ k. record {
           actions = (trails_grown X (of_bus bases x b) (Put s bytes) a T).actions;
           heard = k;
+          log = T.log;
         }) (nothing_heard T.heard);
       }
 
@@ -231,6 +236,7 @@ module _ {E : Type 0} (X : Election E) (bases : List ℕ) (x : Layout) (b : Bus 
         trails = λ T. ap (λ k. record {
           actions = (trails_grown X (of_bus bases x b) (Ask s asked) a T).actions;
           heard = k;
+          log = T.log;
         }) (nothing_heard T.heard);
       }
 
@@ -246,8 +252,10 @@ module _ {E : Type 0} (X : Election E) (bases : List ℕ) (x : Layout) (b : Bus 
         happens = (refl, refl, subst (λ k. StopDoes b.stopped s k new.stopped) (sym o.1) refl);
         answers = (subst StopGives (sym o.1) tt, h.answered);
         trails = λ T.
-            ap (λ k. record { actions = k; heard = λ r. T.heard r ++ [] }) (nothing_done T.actions)
-            ∙ ap (λ k. record { actions = T.actions; heard = k }) (nothing_heard T.heard);
+            ap (λ k. record { actions = k; heard = λ r. T.heard r ++ []; log = T.log })
+            (nothing_done T.actions)
+            ∙ ap (λ k. record { actions = T.actions; heard = k; log = T.log })
+            (nothing_heard T.heard);
       }
 
   hears : (r : ℕ) (a : Answer) (m : Machine E) → Hears (of_bus bases x b) r a m
@@ -267,11 +275,16 @@ module _ {E : Type 0} (X : Election E) (bases : List ℕ) (x : Layout) (b : Bus 
         answers = subst (λ o. RecvAnswers b.side.words b.receivers r o a new.receivers)
             (sym h.there) (h.next, h.heard, h.does, refl, h.answered);
         trails = λ T.
-            ap (λ k. record { actions = k; heard = λ q. T.heard q ++ heard_of (Recv r) a q })
-            (nothing_done T.actions)
-            ∙ ap
-            (λ w. record { actions = T.actions; heard = λ q. T.heard q ++ heard_of (Recv r) w q })
-            h.answered
+            ap (λ k. record {
+              actions = k;
+              heard = λ q. T.heard q ++ heard_of (Recv r) a q;
+              log = T.log;
+            }) (nothing_done T.actions)
+            ∙ ap (λ w. record {
+              actions = T.actions;
+              heard = λ q. T.heard q ++ heard_of (Recv r) w q;
+              log = T.log;
+            }) h.answered
             ∙ ap (λ w. plain_trails (trails_grown X (of_bus bases x b) (Recv r) w T))
             (sym h.answered);
       }

@@ -49,6 +49,7 @@ use Rattle.bus_world.proofs.Stopping.{shown_there}
 use Rattle.bus_world.specs.Starting.{IsNewReceiver}
 use Rattle.bus_world.specs.World.{IsLayout, Event, Put, Ask, Turn, Recv, Stop}
 use Rattle.bus_world.specs.Headline.{HasPut, HasMarked}
+use Rattle.bus_world.specs.Log.{words_of_frame}
 use Rattle.bus_world.specs.Trails.{step_action, put_actions, mark_actions, actions_with}
 use Rattle.bus_world.specs.Trails.{answers_with}
 use Rattle.bus_world.specs.Turning.{owners_by, words_after, number_found, home_moved, after_step}
@@ -61,6 +62,7 @@ use Rattle.bus_world.specs.declared.events.Answer.TheVariants as answer
 use Rattle.bus_machine.proofs.AtNone.{close_taken}
 use Rattle.bus_machine.proofs.CyclicTurns.{protocol_kept, participant_moved, turn_led, batch_led}
 use Rattle.bus_machine.proofs.CyclicTurns.{list_put, away_puts, away_closes}
+use Rattle.bus_machine.proofs.Joining.{turn_log}
 use Rattle.bus_machine.specs.Proved.Bridge.{core_in, protocol_of, IsLed}
 use Rattle.bus_machine.specs.Machine.{base_of, Machine, Trails, Happens, TakesTurn, TakesPut}
 use Rattle.bus_machine.specs.Machine.{TakesMark, StopsNow, Hears, IsNew, IsOnWord}
@@ -268,7 +270,10 @@ module _ {E : Type 0} (X : Election E) (P : Protocol E (Unit {0}) ℕ) (rows : �
       let U = turn_trails (situation X (with_rows_again v)) (line_now X (with_rows_again v)) s
       (found m (line_now X (with_rows_again v)) word) word t T in
       let led : IsLed X rows (turned_by v s word) U = turn_led X P rows m T q ok two l s v o.at
-      o.same_rows word t (told_after v s word) U low refl g.pins g.actions g.heard in
+      o.same_rows word t (told_after v s word) U low refl g.pins g.actions g.heard
+      (turn_log (situation X (with_rows_again v)) (line_now X (with_rows_again v)) s
+      (found m (line_now X (with_rows_again v)) word) word t T
+      ∙ ap (λ f. T.log ++ words_of_frame f) i.publishes) in
       let is : m' ≡ turned_by v s word =
       h.after ∙ ap (λ w. machine_after m s (line_now X w) word) o.is
       ∙ turn_is v none s word in
@@ -298,8 +303,8 @@ module _ {E : Type 0} (X : Election E) (P : Protocol E (Unit {0}) ℕ) (rows : �
         senders =
             put s (Some (cond t (record v.core { queue = batch }) v.core)) its_protocol.senders;
       }) T.pins (actions_with s (cond t (HasPut (next_of v.core.queue) bytes ∷ []) []) T.actions)
-      T.heard) may.1
-      (PutIn its_protocol T.pins T.actions T.heard s v.core bytes l.led (ap core_in o.at)
+      T.heard T.log) may.1
+      (PutIn its_protocol T.pins T.actions T.heard T.log s v.core bytes l.led (ap core_in o.at)
       (ap pin_in o.at ∙ may.0) h.are_bytes)) in
       let is : m' ≡ new = h.after ∙ ap (λ w. with_sender m s (put_in w bytes)) o.is in
       subst (λ n. IsLed X rows n (trails_grown X m (Put s bytes) a T)) (sym is)
@@ -321,8 +326,8 @@ module _ {E : Type 0} (X : Election E) (P : Protocol E (Unit {0}) ℕ) (rows : �
       (subst (λ t. Led X m.layout rows (record its_protocol {
         senders =
             put s (Some (cond t (record v.core { queue = batch }) v.core)) its_protocol.senders;
-      }) T.pins (actions_with s (cond t (HasMarked asked ∷ []) []) T.actions) T.heard) may.1
-      (MarkedIn its_protocol T.pins T.actions T.heard s v.core asked l.led (ap core_in o.at)
+      }) T.pins (actions_with s (cond t (HasMarked asked ∷ []) []) T.actions) T.heard T.log) may.1
+      (MarkedIn its_protocol T.pins T.actions T.heard T.log s v.core asked l.led (ap core_in o.at)
       (ap pin_in o.at ∙ may.0))) in
       let is : m' ≡ new = h.after ∙ ap (λ w. with_sender m s (mark_in w asked)) o.is in
       subst (λ n. IsLed X rows n (trails_grown X m (Ask s asked) a T)) (sym is)
@@ -357,11 +362,11 @@ module _ {E : Type 0} (X : Election E) (P : Protocol E (Unit {0}) ℕ) (rows : �
         reclaimer = l.reclaimer;
         holder = l.holder;
         led = subst (λ rs. Led X m.layout rows (record its_protocol { receivers = rs }) T.pins
-            T.actions (answers_with r h.heard T.heard))
+            T.actions (answers_with r h.heard T.heard) T.log)
             (sym (list_put (λ o. o) m.receivers r h.next
             (slice_get_within m.receivers r h.receiver h.there)))
-            (Heard its_protocol T.pins T.actions T.heard r h.receiver h.next h.heard l.led h.there
-            h.does);
+            (Heard its_protocol T.pins T.actions T.heard T.log r h.receiver h.next h.heard l.led
+            h.there h.does);
       })
 
   pub event_led : (m' : Machine E) (e : Event) (a : Answer) → Happens X m e a m'

@@ -1,6 +1,6 @@
 -- A turn of a machine whose rows are used again, as a turn of its protocol.
 use Rattle.std.proofs.Common.{◌≡◌, ◌≢◌, inl, inr, ℕ, ◌+◌, ◌<◌, ◌≤◌, Bool, true, false, cond, ◌&&◌}
-use Rattle.std.proofs.Common.{◌==◌, nat_le, ◌/◌, Option, Some, None, List, length, slice_get}
+use Rattle.std.proofs.Common.{◌==◌, nat_le, ◌/◌, Option, Some, None, List, ◌++◌, length, slice_get}
 use Rattle.std.proofs.Common.{slice_index, slice_set, arith, refl, sym, ◌∙◌, ap, subst}
 use mathlib.Core.Path.{fun_ext}
 use Rattle.std.proofs.lemmas.Bool.{cases_eq}
@@ -22,7 +22,7 @@ use Rattle.bus_presence.specs.declared.pins.Pin.{Pin}
 use Rattle.bus_presence.specs.declared.pins.Pin.TheVariants.{Away, Announcing, Validating, Pinned}
 use Rattle.bus_presence.specs.declared.pins.Pin.TheVariants.{Unpinning, Invalidated}
 use Rattle.bus_core.specs.Keeping.{reclaimer_in}
-use Rattle.bus_core.specs.Proved.Bridge.{move_of, with_rows_again}
+use Rattle.bus_core.specs.Proved.Bridge.{move_of, publishes_of, with_rows_again}
 use Rattle.bus_core.specs.Reusing.Participants.{sizes_with, core_seen}
 use Rattle.bus_core.specs.Proved.ParticipantTable.{Due, Pins, Reclaims, Goes, due_of, due_beside}
 use Rattle.bus_core.specs.Proved.ParticipantTable.{due_home, due_reclaimed, reclaim_due, place_for}
@@ -45,6 +45,7 @@ use Rattle.bus_tenure.proofs.Situated.{tells}
 use Rattle.bus_world.specs.World.{IsLayout}
 use Rattle.bus_world.specs.Proved.Sending.{Part, Fits, standing_of}
 use Rattle.bus_world.specs.Headline.{Action}
+use Rattle.bus_world.specs.Log.{words_of_frame}
 use Rattle.bus_world.specs.Proved.Tenures.Standing.{Holds}
 use Rattle.bus_world.specs.Turning.{words_after, number_found, home_moved, core_moved, after_step}
 use Rattle.bus_world.specs.Proved.Machines.{home_after, is_open, can_put, can_close}
@@ -249,9 +250,9 @@ module _ {E : Type 0} (X : Election E) (P : Protocol E (Unit {0}) ℕ) (rows : �
   y = protocol_of m l.reclaimer l.owners
 
   pub protocol_kept : HasKept X P q.laws m.layout ok q.width q.starts q.owner_is q.named q.announces
-      q.apart rows two T.heard y T.pins T.actions
+      q.apart rows two T.heard y T.pins T.actions T.log
   protocol_kept = led_kept X P q.laws m.layout ok q.width q.starts q.owner_is q.named q.announces
-      q.apart rows two T.heard y T.pins T.actions l.led
+      q.apart rows two T.heard y T.pins T.actions T.log l.led
 
   -- ---- who holds the page
   holds : (p : ℕ) (w : Sender E) (t : ℕ) → slice_get m.senders p ≡ Some w
@@ -421,7 +422,7 @@ module _ {E : Type 0} (X : Election E) (P : Protocol E (Unit {0}) ℕ) (rows : �
     pub batch_led : (b : Pending) (ds : List Action)
         → Led X m.layout rows
         (record y { senders = put s (Some (record v.core { queue = b })) y.senders }) T.pins
-        (actions_with s ds T.actions) T.heard
+        (actions_with s ds T.actions) T.heard T.log
         → IsLed X rows
         (with_sender m s (with_rows_again (record v { core = record v.core { queue = b } })))
         (record T { actions = actions_with s ds T.actions })
@@ -435,7 +436,8 @@ module _ {E : Type 0} (X : Election E) (P : Protocol E (Unit {0}) ℕ) (rows : �
           reclaimer = l.reclaimer;
           holder = holder_after v' l.reclaimer (λ t e. l.holder s (with_rows_again v) t at e)
               (λ p w t ne here e. refl);
-          led = subst (λ yy. Led X m.layout rows yy T.pins (actions_with s ds T.actions) T.heard)
+          led = subst
+              (λ yy. Led X m.layout rows yy T.pins (actions_with s ds T.actions) T.heard T.log)
               (protocols_same m.bases _ _ _ _ _ _ l.reclaimer m.home y.receivers l.owners refl
               (sym (put_is s v.pin y.reclamation.pins (ap pin_in at))
               ∙ sym (list_put pin_in m.senders s (with_rows_again v') within))
@@ -458,6 +460,10 @@ module _ {E : Type 0} (X : Election E) (P : Protocol E (Unit {0}) ℕ) (rows : �
             owners = told;
           }
 
+      -- all that was published, with what the turn adds
+      abbrev log_due : Due E → List ℕ
+      log_due d = T.log ++ words_of_frame (publishes_of X v.core d)
+
       -- what leads to it with what the turn adds
       record HasLed (n : Machine E) (d : Due E) : Type 0 where
         owners : List ℕ
@@ -466,18 +472,20 @@ module _ {E : Type 0} (X : Election E) (P : Protocol E (Unit {0}) ℕ) (rows : �
             → held_of w.core.phase ≡ Some t → reclaimer_in w.reuse ≡ reclaimer
         led : Led X n.layout rows (protocol_of n reclaimer owners) (trails_with y s d T.pins)
             (actions_with s (due_actions X m.layout rows y v.core d word answer) T.actions) T.heard
+            (log_due d)
 
       led_as : (d : Due E) → due X v ≡ d → AnswersDue X m.layout rows y v.core d word answer
           → Led X m.layout rows (protocol_after X m.layout rows y s v.core d word)
           (trails_with y s d T.pins)
           (actions_with s (due_actions X m.layout rows y v.core d word answer) T.actions) T.heard
+          (log_due d)
       led_as d e = subst (λ w.
           AnswersDue X m.layout rows y v.core w word answer
           → Led X m.layout rows (protocol_after X m.layout rows y s v.core w word)
           (trails_with y s w T.pins)
-          (actions_with s (due_actions X m.layout rows y v.core w word answer) T.actions) T.heard)
-          (sym due_same ∙ e)
-          (λ due. Turned y T.pins T.actions T.heard s v.core word answer l.led old due)
+          (actions_with s (due_actions X m.layout rows y v.core w word answer) T.actions) T.heard
+          (log_due w)) (sym due_same ∙ e)
+          (λ due. Turned y T.pins T.actions T.heard T.log s v.core word answer l.led old due)
 
       pins_lead : (o : Op) → due X v ≡ Pins o → register o < length m.words
           → HasLed (turned (Pins o)) (Pins o)
@@ -492,7 +500,7 @@ module _ {E : Type 0} (X : Election E) (P : Protocol E (Unit {0}) ℕ) (rows : �
                 (λ p w t ne here f. refl);
             led = subst (λ yy. Led X m.layout rows yy (trails_with y s (Pins o) T.pins)
                 (actions_with s (due_actions X m.layout rows y v.core (Pins o) word answer)
-                T.actions) T.heard)
+                T.actions) T.heard (log_due (Pins o)))
                 (protocols_same m.bases _ _ _ _ _ _ l.reclaimer m.home y.receivers l.owners
                 (sym (index_put m.words (register o) (after o got) low))
                 (ap (λ u. put s (pin_fed u got) y.reclamation.pins) pin_is
@@ -517,7 +525,7 @@ module _ {E : Type 0} (X : Election E) (P : Protocol E (Unit {0}) ℕ) (rows : �
                 (nobody_else by.tenure held (Some (reclaim_fed r got)));
             led = subst (λ yy. Led X m.layout rows yy (trails_with y s (Reclaims r o) T.pins)
                 (actions_with s (due_actions X m.layout rows y v.core (Reclaims r o) word answer)
-                T.actions) T.heard)
+                T.actions) T.heard (log_due (Reclaims r o)))
                 (protocols_same m.bases _ _ _ _ _ _ (Some (reclaim_fed r got)) m.home y.receivers
                 l.owners
                 (sym (index_put m.words (register o) (after o got) low))
@@ -558,7 +566,7 @@ module _ {E : Type 0} (X : Election E) (P : Protocol E (Unit {0}) ℕ) (rows : �
           holder = holder_after v' reclaimer' own others;
           led = subst (λ yy. Led X m.layout rows yy (trails_with y s (Goes z) T.pins)
               (actions_with s (due_actions X m.layout rows y v.core (Goes z) word answer) T.actions)
-              T.heard)
+              T.heard (log_due (Goes z)))
               (protocols_same m.bases _ _ _ _ _ _ reclaimer' (home_after X v.core z m.home)
               y.receivers (protocol_after X m.layout rows y s v.core (Goes z) word).owners
               (sym (ap (λ f. slice_index (words_after m.words (op_placed f step))) (place_same z)
@@ -633,8 +641,9 @@ module _ {E : Type 0} (X : Election E) (P : Protocol E (Unit {0}) ℕ) (rows : �
           → U.actions
           ≡ actions_with s (due_actions X m.layout rows y v.core (due X v) word answer) T.actions
           → U.heard ≡ T.heard
+          → U.log ≡ log_due (due X v)
           → IsLed X rows (turned (due X v)) U
-      turn_led U low given pins actions heard =
+      turn_led U low given pins actions heard log =
           let d = due X v in
           let has = by_due d refl low given in
           let got = number_found (slice_index m.words) (op_due X v d word) in
@@ -649,11 +658,15 @@ module _ {E : Type 0} (X : Election E) (P : Protocol E (Unit {0}) ℕ) (rows : �
             reclaimer = has.reclaimer;
             holder = has.holder;
             led = subst (λ w. Led X m.layout rows (protocol_of (turned d) has.reclaimer has.owners)
-                w U.actions U.heard) (sym pins)
+                w U.actions U.heard U.log) (sym pins)
                 (subst (λ w. Led X m.layout rows (protocol_of (turned d) has.reclaimer has.owners)
-                (trails_with y s d T.pins) w U.heard) (sym actions)
+                (trails_with y s d T.pins) w U.heard U.log) (sym actions)
                 (subst (λ w. Led X m.layout rows (protocol_of (turned d) has.reclaimer has.owners)
                 (trails_with y s d T.pins)
-                (actions_with s (due_actions X m.layout rows y v.core d word answer) T.actions) w)
-                (sym heard) has.led));
+                (actions_with s (due_actions X m.layout rows y v.core d word answer) T.actions) w
+                U.log) (sym heard)
+                (subst (Led X m.layout rows (protocol_of (turned d) has.reclaimer has.owners)
+                (trails_with y s d T.pins)
+                (actions_with s (due_actions X m.layout rows y v.core d word answer) T.actions)
+                T.heard) (sym log) has.led)));
           }

@@ -23,9 +23,9 @@ use Rattle.bus_world.proofs.LogLaws.{gone-append_owner}
 use Rattle.bus_world.proofs.Places.{got_before}
 use Rattle.bus_world.specs.Proved.Sending.{Fits}
 use Rattle.bus_world.specs.Headline.{Action, Stepped, Elected, IsPrefix}
-use Rattle.bus_machine.proofs.Framed.{IsFramed, log_framed}
+use Rattle.bus_machine.proofs.Framed.{IsFramed}
 use Rattle.bus_machine.proofs.Staying.{spells_more}
-use Rattle.bus_machine.specs.Machine.{Machine, Trails, log_of, stage_of}
+use Rattle.bus_machine.specs.Machine.{Machine, Trails, stage_of}
 use Rattle.bus_machine.specs.Remembering.{HasEnded, HasLeftIt, HasLost, IsPastFor, NoneIsLeft}
 
 -- ---- an end mark
@@ -111,60 +111,60 @@ module _ (base : ℕ → ℕ) {E : Type 0} (V : ℕ → ℕ) (frames : List Fram
   found_ends ph (Ended page stored end) fits = sym fits.1.page_knows.ended ∙ end
   found_ends ph HandsOnEnd fits = absurd fits
 
--- the frames of a log that has ended have an end
+-- what was published has ended where its frames have an end
 pub ended_of :
     {E : Type 0} (P : Protocol E (Unit {0}) ℕ) (m : Machine E) (T : Trails) (f : IsFramed P m T)
     → has_end f.frames ≡ true
-    → HasEnded m (log_of m)
+    → HasEnded m T.log
 ended_of P m T f e = record {
   order = order_of f.frames;
   owners = map tenure_and_owner f.frames;
   spelled = record {
     frames = f.frames;
     lawful = f.sending.log.lawful;
-    words_are = sym (log_framed P m T f);
+    words_are = f.log_is;
     order_is = refl;
     owners_are = refl;
   };
   ended = e;
 }
 
--- whoever has left by the frames of a log has left in it
+-- whoever has left by these frames has left in it
 pub left_of : {E : Type 0} (P : Protocol E (Unit {0}) ℕ) (m : Machine E) (T : Trails)
     (f : IsFramed P m T) (s : ℕ)
-    → has_gone s (order_of f.frames) ≡ true → HasLeftIt m (log_of m) s
+    → has_gone s (order_of f.frames) ≡ true → HasLeftIt m T.log s
 left_of P m T f s e = record {
   order = order_of f.frames;
   owners = map tenure_and_owner f.frames;
   spelled = record {
     frames = f.frames;
     lawful = f.sending.log.lawful;
-    words_are = sym (log_framed P m T f);
+    words_are = f.log_is;
     order_is = refl;
     owners_are = refl;
   };
   left = e;
 }
 
--- what an extended log spells, of as many senders as before
+-- what it spells once it is extended, of as many senders as before
 spelled_now : {E : Type 0} (P : Protocol E (Unit {0}) ℕ) (m m' : Machine E) (T' : Trails)
     → m'.layout ≡ m.layout → (f : IsFramed P m' T')
-    → Spells m.layout.senders (log_of m') (order_of f.frames) (map tenure_and_owner f.frames)
+    → Spells m.layout.senders T'.log (order_of f.frames) (map tenure_and_owner f.frames)
 spelled_now P m m' T' layout f = record {
   frames = f.frames;
   lawful = subst (λ (x : Layout). Rattle.bus_batch.specs.Frames.AreFrames x.senders f.frames) layout
       f.sending.log.lawful;
-  words_are = sym (log_framed P m' T' f);
+  words_are = f.log_is;
   order_is = refl;
   owners_are = refl;
 }
 
--- an order that has ended stays so, where the log is extended
-pub still_ended : {E : Type 0} (P : Protocol E (Unit {0}) ℕ) (m m' : Machine E) (T' : Trails)
+-- an order that has ended stays so, where more is published
+pub still_ended : {E : Type 0} (P : Protocol E (Unit {0}) ℕ) (m m' : Machine E) (T T' : Trails)
     → m'.layout ≡ m.layout → IsFramed P m' T'
-    → IsPrefix (log_of m) (log_of m') → HasEnded m (log_of m) → HasEnded m' (log_of m')
-still_ended P m m' T' layout f grows h =
-    let w = spells_more m.layout.senders (log_of m) (log_of m') h.order (order_of f.frames) h.owners
+    → IsPrefix T.log T'.log → HasEnded m T.log → HasEnded m' T'.log
+still_ended P m m' T T' layout f grows h =
+    let w = spells_more m.layout.senders T.log T'.log h.order (order_of f.frames) h.owners
     (map tenure_and_owner f.frames)
     h.spelled (spelled_now P m m' T' layout f) grows in
     ended_of P m' T' f (ap (λ (o : Order). o.ended) (sym (w.order_grows.ended h.ended)) ∙ h.ended)
@@ -176,13 +176,12 @@ gone_more s order order' p e =
     ap (list_any (is_leave_of s)) p.entries ∙ list_any-append (is_leave_of s) order.entries p.later
     ∙ ap (λ b. b || list_any (is_leave_of s) p.later) e
 
--- so it has left where the log is extended
-pub still_left : {E : Type 0} (P : Protocol E (Unit {0}) ℕ) (m m' : Machine E) (T' : Trails) (s : ℕ)
-    → m'.layout ≡ m.layout
-    → IsFramed P m' T' → IsPrefix (log_of m) (log_of m') → HasLeftIt m (log_of m) s
-    → HasLeftIt m' (log_of m') s
-still_left P m m' T' s layout f grows h =
-    let w = spells_more m.layout.senders (log_of m) (log_of m') h.order (order_of f.frames) h.owners
+-- so it has left where more is published
+pub still_left : {E : Type 0} (P : Protocol E (Unit {0}) ℕ) (m m' : Machine E) (T T' : Trails)
+    (s : ℕ) → m'.layout ≡ m.layout → IsFramed P m' T' → IsPrefix T.log T'.log
+    → HasLeftIt m T.log s → HasLeftIt m' T'.log s
+still_left P m m' T T' s layout f grows h =
+    let w = spells_more m.layout.senders T.log T'.log h.order (order_of f.frames) h.owners
     (map tenure_and_owner f.frames)
     h.spelled (spelled_now P m m' T' layout f) grows in
     left_of P m' T' f s (gone_more s h.order (order_of f.frames) w.order_grows h.left)

@@ -1,11 +1,11 @@
 -- What words, page and senders of a machine keep by the frames of its log, of both kinds of rows.
-use Rattle.std.proofs.Common.{false, ◌≡◌, ◌≢◌, ℕ, zero, suc, ◌+◌, ◌<◌, ◌≤◌, Option, Some, None}
-use Rattle.std.proofs.Common.{List, [], ◌∷◌, ◌++◌, length, map, slice_get, slice_index, ◌-◌, arith}
+use Rattle.std.proofs.Common.{◌≡◌, ◌≢◌, ℕ, ◌+◌, ◌<◌, ◌≤◌, Option, Some, None}
+use Rattle.std.proofs.Common.{List, ◌++◌, length, map, slice_get, slice_index, ◌-◌, arith}
 use Rattle.std.proofs.Common.{refl, sym, ◌∙◌, ap, subst}
 use Rattle.std.specs.Prelude.{option_map}
 use Rattle.std.proofs.lemmas.Option.{slice_get-map, same_Some}
 use Rattle.bus_batch.proofs.FrameLaws.{spells_one}
-use Rattle.bus_batch.specs.Frames.{Frame, Spells, log_words, order_of, tenure_and_owner}
+use Rattle.bus_batch.specs.Frames.{Frame, log_words, order_of, tenure_and_owner}
 use Rattle.bus_core.proofs.Situated.{own_is}
 use Rattle.bus_core.specs.Table.{line, line_now, in_row}
 use Rattle.bus_core.specs.Senders.{Sender, Does, Clears, log_start, situation}
@@ -30,21 +30,19 @@ use Rattle.bus_register.specs.declared.registers.Op.{Op}
 use Rattle.bus_register.specs.declared.registers.Op.TheVariants.{Store}
 use Rattle.bus_tenure.proofs.Situated.{tells}
 use Rattle.bus_tenure.specs.Situations.{Elects}
-use Rattle.bus_tenure.specs.declared.pages.Page.{Page}
-use Rattle.bus_tenure.specs.declared.phases.Phase.TheVariants.{Electing, Holding}
+use Rattle.bus_tenure.specs.declared.phases.Phase.TheVariants.{Electing}
 use Rattle.bus_tenure.specs.Core.{Core, Election, Layout, log_at, row_at}
 use Rattle.bus_world.proofs.EventTrails as plain
 use Rattle.bus_world.proofs.PlacedSteps.{same_register}
 use Rattle.bus_world.proofs.CyclicProtocolHears.{placed}
 use Rattle.bus_world.proofs.LogLaws.{length-read}
 use Rattle.bus_world.proofs.Serving.{Serves}
-use Rattle.bus_world.proofs.RingWords.{found_straight}
 use Rattle.bus_world.proofs.CyclicProtocolKept.{HasKept}
 use Rattle.bus_world.proofs.CyclicProtocolLaws.{protocol_promised}
 use Rattle.bus_world.specs.World.{IsLayout}
 use Rattle.bus_world.specs.Proved.Sending.{Sending}
 use Rattle.bus_world.specs.Log.{words_read_from}
-use Rattle.bus_world.specs.Proved.Trails.{Reached as PlainReached}
+use Rattle.bus_world.specs.Proved.Trails.{Reached as PlainReached, IsPromisedBy as PlainPromised}
 use Rattle.bus_world.specs.Trails.{Takers}
 use Rattle.bus_world.specs.Proved.Machines.{Bus}
 use Rattle.bus_world.specs.Proved.Receiving.{IsReceiver}
@@ -55,18 +53,10 @@ use Rattle.bus_machine.proofs.AtNone.{made_there, reached_at_none}
 use Rattle.bus_machine.proofs.CyclicTurns.{protocol_kept}
 use Rattle.bus_machine.proofs.Leading.{Sits, two_rows, led_some}
 use Rattle.bus_machine.specs.Proved.Bridge.{of_bus, plain_trails, core_in, protocol_of, IsLed}
-use Rattle.bus_machine.specs.Machine.{base_of, Machine, Trails, Reached, log_place, log_of}
-use Rattle.bus_machine.specs.Machine.{stage_of}
+use Rattle.bus_machine.specs.Machine.{base_of, Machine, Trails, Reached, log_place}
+use Rattle.bus_machine.specs.Machine.{ShowsLog, stage_of}
 use Rattle.bus_machine.specs.Promise.{ReusesRows, ReusesSafely}
 use Rattle.bus_machine.specs.Remembering.{rows_in}
-
--- words that are alike are read alike
-pub read_alike : (n : ℕ) (w v : ℕ → ℕ) (a b : ℕ) → ((j : ℕ) → j < n → w (a + j) ≡ v (b + j))
-    → words_read_from w a n ≡ words_read_from v b n
-read_alike zero w v a b same = refl
-read_alike (suc n) w v a b same =
-    ap (λ r. r ++ w (a + n) ∷ []) (read_alike n w v a b (λ j l. same j (omega arith)))
-    ∙ ap (λ r. words_read_from v b n ++ r ∷ []) (same n (omega arith))
 
 -- The frames, over words V that stand where a bus with a row for each tenure has them.
 pub record IsFramed {E : Type 0} (P : Protocol E (Unit {0}) ℕ) (m : Machine E) (T : Trails) :
@@ -86,15 +76,11 @@ pub record IsFramed {E : Type 0} (P : Protocol E (Unit {0}) ℕ) (m : Machine E)
   pub puts : (p : ℕ) (v : Sender E) → slice_get m.senders p ≡ Some v
       → puts (T.actions p)
       ≡ map (λ i. i.message) (of_sender p (order_of frames)) ++ waiting_at v.core v.core.phase
+  -- they are all that was published, and the cells of the log show that
+  pub log_is : log_words frames ≡ T.log
+  pub stands : ShowsLog m T.log
   pub length : slice_index m.words 0 ≡ V 0
   pub stage : stage_of m ≡ V 1
-  -- the words below the length, and those that a holder has stored past it
-  pub log : (j : ℕ) → j < V 0
-      → slice_index m.words (log_place m.layout m.reuse + j) ≡ V (log_at m.layout + j)
-  pub ahead : (p t : ℕ) (v : Sender E) (page : Page) (stored : ℕ) → slice_get m.senders p ≡ Some v
-      → v.core.phase ≡ Holding t page stored false
-      → (j : ℕ) → j < V 0 + stored
-      → slice_index m.words (log_place m.layout m.reuse + j) ≡ V (log_at m.layout + j)
   -- a step of an election finds in the row of its tenure what it would find with a row for each
   -- tenure
   pub found : (p t : ℕ) (v : Sender E) (e : E) (o q : Op) → slice_get m.senders p ≡ Some v
@@ -112,17 +98,6 @@ pub record IsFramed {E : Type 0} (P : Protocol E (Unit {0}) ℕ) (m : Machine E)
   pub promises : Promises (base_of m) T.actions T.heard (order_of frames)
       (map tenure_and_owner frames)
 
--- the log has the words of these frames
-pub log_framed : {E : Type 0} (P : Protocol E (Unit {0}) ℕ) (m : Machine E) (T : Trails)
-    (f : IsFramed P m T)
-    → log_of m ≡ log_words f.frames
-log_framed P m T f =
-    let fits = f.sending.log.fits in
-    ap (words_read_from (slice_index m.words) (log_place m.layout m.reuse)) f.length
-    ∙ read_alike (f.V 0) (slice_index m.words) f.V (log_place m.layout m.reuse) (log_at m.layout)
-    (λ j low. f.log j (omega arith))
-    ∙ f.sending.log.words_are
-
 module _ {E : Type 0} (X : Election E) (P : Protocol E (Unit {0}) ℕ) where
   -- ---- with a row for each tenure
   module _ (bases : List ℕ) (x : Layout) (q : Serves X P x) (ok : IsLayout x) (b : Bus E)
@@ -131,6 +106,12 @@ module _ {E : Type 0} (X : Election E) (P : Protocol E (Unit {0}) ℕ) where
         (plain_trails T)
     k = plain.reached_kept bases X P q.laws x ok q.width q.starts q.owner_is q.named q.announces
         q.apart b (plain_trails T) r
+
+    -- and the promise holds of it
+    promise : PlainPromised bases x b (plain_trails T) (order_of k.frames)
+        (map tenure_and_owner k.frames)
+    promise = plain.by_frames bases X P q.laws x ok q.width q.starts q.owner_is q.named q.announces
+        q.apart b (plain_trails T) k
 
     -- a sender of the machine is one of the bus
     core_at : (p : ℕ) (v : Sender E) → slice_get (of_bus bases x b).senders p ≡ Some v
@@ -177,20 +158,16 @@ module _ {E : Type 0} (X : Election E) (P : Protocol E (Unit {0}) ℕ) where
           k.tied.puts p
           ∙ ap (λ o. map (λ i. i.message) (of_sender p (order_of k.frames)) ++ waiting_of o)
           (core_at p v at).0;
+      log_is = k.log_is;
+      stands = promise.shows;
       length = refl;
       stage = refl;
-      log = λ j low. refl;
-      ahead = λ p t v page stored at is j low. refl;
       found = λ p t v e o q at runs low from to is. ap (λ w. slice_index b.side.words (register w))
           (sym (same_Some _ _ (subst (λ r. in_row x r t (Some o) ≡ Some q) (core_at p v at).1 is)));
       reads = reads_at;
       given = λ r v at. (k.tied.heard r v at).given_is;
-      takers =
-          (plain.by_frames bases X P q.laws x ok q.width q.starts q.owner_is q.named q.announces
-          q.apart b (plain_trails T) k).takers;
-      promises =
-          (plain.by_frames bases X P q.laws x ok q.width q.starts q.owner_is q.named q.announces
-          q.apart b (plain_trails T) k).promises;
+      takers = promise.takers;
+      promises = promise.promises;
     }
 
   -- ---- with rows that are used again
@@ -208,13 +185,13 @@ module _ {E : Type 0} (X : Election E) (P : Protocol E (Unit {0}) ℕ) where
     y = protocol_of m l.reclaimer l.owners
 
     kept : HasKept X P q.laws m.layout sits.ok q.width q.starts q.owner_is q.named q.announces
-        q.apart rows two T.heard y T.pins T.actions
+        q.apart rows two T.heard y T.pins T.actions T.log
     kept = protocol_kept X P rows m T q sits.ok two l
 
-    keeps : IsKeptProtocol X m.layout rows y T.pins T.actions T.heard
+    keeps : IsKeptProtocol X m.layout rows y T.pins T.actions T.heard T.log
     keeps = protocol_promised X P q.laws m.layout sits.ok q.width q.starts q.owner_is q.named
         q.announces q.apart rows two y T.pins
-        T.actions T.heard l.led
+        T.actions T.heard T.log l.led
 
     -- where its log begins
     place_is : log_place m.layout m.reuse ≡ log_from m.layout rows
@@ -227,35 +204,15 @@ module _ {E : Type 0} (X : Election E) (P : Protocol E (Unit {0}) ℕ) where
     sender_there p c None i e = absurd cc
     sender_there p c (Some v) i e = (v, i, same_Some _ _ e)
 
-    -- each word below the length stands in its own cell, as nothing was overwritten
-    stands : (j : ℕ) → j < kept.V 0
-        → slice_index m.words (log_from m.layout rows + j) ≡ kept.V (log_at m.layout + j)
-    stands j low = found_straight m.layout rows y.reclamation kept.V kept.kept.W j kept.kept.laid
-        kept.kept.stored.few (let a = kept.kept.stored.low in omega arith)
-
-    -- the words of its log are those of the frames
-    log_read : log_of m ≡ log_words kept.frames
-    log_read =
-        let fits = kept.kept.sending.log.fits in
-        ap (λ n. words_read_from (slice_index m.words) n (slice_index m.words 0)) place_is
-        ∙ ap (words_read_from (slice_index m.words) (log_from m.layout rows)) kept.kept.laid.length
-        ∙ read_alike (kept.V 0) (slice_index m.words) kept.V (log_from m.layout rows)
-        (log_at m.layout)
-        (λ j low. stands j low)
-        ∙ kept.kept.sending.log.words_are
-
-    -- so these spell the order of which the promise holds
+    -- the frames spell the order of which the promise holds
     order_same : (keeps.order ≡ order_of kept.frames)
         × (keeps.owners ≡ map tenure_and_owner kept.frames)
     order_same =
-        spells_one m.layout.senders (log_of m) keeps.order (order_of kept.frames) keeps.owners
-        (map tenure_and_owner kept.frames)
-        (subst (λ n. Spells m.layout.senders
-        (words_read_from (slice_index m.words) n (slice_index m.words 0)) keeps.order keeps.owners)
-        (sym place_is) keeps.by.spelled) record {
+        spells_one m.layout.senders T.log keeps.order (order_of kept.frames) keeps.owners
+        (map tenure_and_owner kept.frames) keeps.by.spelled record {
           frames = kept.frames;
           lawful = kept.kept.sending.log.lawful;
-          words_are = sym log_read;
+          words_are = kept.kept.log_is;
           order_is = refl;
           owners_are = refl;
         }
@@ -318,14 +275,11 @@ module _ {E : Type 0} (X : Election E) (P : Protocol E (Unit {0}) ℕ) where
           kept.kept.notes.put p
           ∙ ap (λ o. map (λ i. i.message) (of_sender p (order_of kept.frames)) ++ waiting_of o)
           (ap core_in at);
+      log_is = kept.kept.log_is;
+      stands = ap (λ n. words_read_from (slice_index m.words) n (slice_index m.words 0)) place_is
+          ∙ keeps.by.shows;
       length = kept.kept.laid.length;
       stage = kept.kept.laid.stage;
-      log = λ j low. ap (λ n. slice_index m.words (n + j)) place_is ∙ stands j low;
-      ahead = λ p t v page stored at is j low. ap (λ n. slice_index m.words (n + j)) place_is
-          ∙ found_straight m.layout rows y.reclamation kept.V kept.kept.W j kept.kept.laid
-          kept.kept.stored.few
-          (let all = kept.kept.stored.writing p t page stored v.core (ap core_in at) is in
-          omega arith);
       found = found_at;
       reads = reads_some;
       given = λ r v at. (kept.kept.hears.each r v at).hears.given_is;
@@ -409,6 +363,10 @@ module _ {E : Type 0} (X : Election E) (P : Protocol E (Unit {0}) ℕ) where
         subst (λ y. IsFramed P y T) (sym i.is)
         (framed_at_none m.bases m.layout s.serves s.ok i.bus T i.reached)
     by (Some rows) e = framed_at_some m T s rows (led_some X P m T s r rows e)
+
+  -- so all that was ever published stands in the words of its log
+  pub history : (m : Machine E) (T : Trails) → Sits X P m → Reached X m T → ShowsLog m T.log
+  history m T s r = (framed m T s r).stands
 
   -- and its rows are used again as is promised
   pub reuses : (m : Machine E) (T : Trails) → Sits X P m → Reached X m T

@@ -45,8 +45,8 @@ use Rattle.bus_world.specs.declared.events.Answer.{Answer}
 use Rattle.bus_world.specs.Proved.Invariants.{given_at}
 use Rattle.bus_machine.proofs.AtNone.{event_reuse}
 use Rattle.bus_machine.proofs.Leading.{Sits}
-use Rattle.bus_machine.proofs.Framed.{IsFramed, framed, log_framed}
-use Rattle.bus_machine.proofs.Joining.{log_behind}
+use Rattle.bus_machine.proofs.Framed.{IsFramed, framed}
+use Rattle.bus_machine.proofs.Rising.{log_behind}
 use Rattle.bus_machine.proofs.Paging.{takes_it}
 use Rattle.bus_machine.proofs.Takes.{owns_page}
 use Rattle.bus_machine.proofs.Taking.{takers_told, counted}
@@ -341,5 +341,5 @@ module _ {E : Type 0} (X : Election E) (P : Protocol E (Unit {0}) ℕ) where
     heard r l order stands T reached =
         let f = framed X P m T (sits m s h) reached in
         let there = one_there m.receivers r l in
-        stands f.frames there.0 f.sending.log.lawful (log_framed P m T f) there.1
+        stands f.frames there.0 f.sending.log.lawful (f.stands ∙ sym f.log_is) there.1
         ∙ sym (f.given r there.0 there.1)

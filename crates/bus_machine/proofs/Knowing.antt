@@ -38,9 +38,9 @@ use Rattle.bus_world.specs.Proved.Tenures.Stage.{Open, Held}
 use Rattle.bus_world.specs.Proved.Tenures.{Standing}
 use Rattle.bus_world.specs.Proved.Tenures.Standing.{Holds}
 use Rattle.bus_world.specs.World.{IsLayout}
-use Rattle.bus_machine.proofs.Framed.{IsFramed, log_framed}
+use Rattle.bus_machine.proofs.Framed.{IsFramed}
 use Rattle.bus_machine.proofs.AtHome.{held_stands}
-use Rattle.bus_machine.specs.Machine.{base_of, Machine, Trails, log_place, log_of}
+use Rattle.bus_machine.specs.Machine.{base_of, Machine, Trails, log_place}
 use Rattle.bus_machine.specs.Promise.{TakersTold, KnowsOrder, KnowsFront, IsWithOwner}
 
 -- ---- a phase
@@ -77,27 +77,27 @@ core_found (Some c) s e = (c, refl)
 
 module _ {E : Type 0} (P : Protocol E (Unit {0}) ℕ) (m : Machine E) (T : Trails)
     (f : IsFramed P m T) where
-  -- the order that the log spells is that of the frames
+  -- the order that all that was published spells is that of the frames
   pub order_same : (order : Order) (owners : List (ℕ × SenderNo))
-      → Spells m.layout.senders (log_of m) order owners
+      → Spells m.layout.senders T.log order owners
       → order_of f.frames ≡ order
   order_same order owners s =
-      let here : Spells m.layout.senders (log_of m) (order_of f.frames)
+      let here : Spells m.layout.senders T.log (order_of f.frames)
       (map tenure_and_owner f.frames) = record {
         frames = f.frames;
         lawful = f.sending.log.lawful;
-        words_are = sym (log_framed P m T f);
+        words_are = f.log_is;
         order_is = refl;
         owners_are = refl;
       } in
-      (spells_one m.layout.senders (log_of m) (order_of f.frames) order
+      (spells_one m.layout.senders T.log (order_of f.frames) order
       (map tenure_and_owner f.frames) owners here s).0
 
 module _ {E : Type 0} (X : Election E) (P : Protocol E (Unit {0}) ℕ) (m : Machine E) (T : Trails)
     (f : IsFramed P m T) where
   -- a page at home knows the order
   pub knows : (order : Order) (owners : List (ℕ × SenderNo))
-      → Spells m.layout.senders (log_of m) order owners → (page : Page)
+      → Spells m.layout.senders T.log order owners → (page : Page)
       → m.home ≡ Some page → KnowsOrder (base_of m) page order
   knows order owners s page at = elim f.sending.tenures.stage_is [
     | Open stage here many ↦
@@ -133,9 +133,9 @@ module _ {E : Type 0} (X : Election E) (P : Protocol E (Unit {0}) ℕ) (m : Mach
     record IsFront (page : Page) (published : Bool) : Type 0 where
       front : List ℕ
       known : KnowsFront (base_of m) m.layout.senders t page front
-      behind : log_of m ≡ front ++ cond published (frame_words (frame_of core.0.queue t)) []
+      behind : T.log ≡ front ++ cond published (frame_words (frame_of core.0.queue t)) []
 
-    -- the log has as many words as its length says
+    -- the frames have as many words as the length says
     many_words : length (log_words f.frames) ≡ f.V 0
     many_words = sym (ap length f.sending.log.words_are) ∙ length-read f.V (log_at m.layout) (f.V 0)
 
@@ -171,7 +171,7 @@ module _ {E : Type 0} (X : Election E) (P : Protocol E (Unit {0}) ℕ) (m : Mach
             ended = knows.ended;
             tenures = knows.tenures;
           };
-          behind = log_framed P m T f ∙ sym (append-nil (log_words f.frames));
+          behind = sym f.log_is ∙ sym (append-nil (log_words f.frames));
         }
     front_of page stored true ph =
         let w = (fits_in stored page true ph).1 in
@@ -206,13 +206,13 @@ module _ {E : Type 0} (X : Election E) (P : Protocol E (Unit {0}) ℕ) (m : Mach
             ended = knows.ended;
             tenures = knows.tenures;
           };
-          behind = log_framed P m T f ∙ all;
+          behind = sym f.log_is ∙ all;
         }
 
     -- the owner has the page
-    with_owner : log_of m ≡ T.log → (all : List ℕ) → f.owners ≡ all → f.V 1 ≡ 2 * t + 1
+    with_owner : (all : List ℕ) → f.owners ≡ all → f.V 1 ≡ 2 * t + 1
         → length f.owners ≡ t + 1 → IsWithOwner m T all
-    with_owner published_is all same stage many =
+    with_owner all same stage many =
         let v = f.sender_of holder core.0 core.1 in
         let owns = (f.sending.tenures.holding holder t holds).2 in
         let w = f.takers.took t holder owns in
@@ -232,20 +232,17 @@ module _ {E : Type 0} (X : Election E) (P : Protocol E (Unit {0}) ℕ) (m : Mach
           has = ap (λ (c : Core E). c.phase) v.2 ∙ has_page.has;
           front = k.front;
           knows = k.known;
-          behind =
-              sym published_is
-              ∙ subst (λ (c : Core E).
-              log_of m ≡ k.front ++ cond has_page.published (frame_words (frame_of c.queue t)) [])
+          behind = subst (λ (c : Core E).
+              T.log ≡ k.front ++ cond has_page.published (frame_words (frame_of c.queue t)) [])
               (sym v.2) k.behind;
         }
 
   -- a page that is out is with the owner of the open tenure
-  pub out : (all : log_of m ≡ T.log) (k : TakersTold m.reuse m.owners T.actions) → m.home ≡ None
-      → IsWithOwner m T k.all
-  out published_is k away = elim f.sending.tenures.stage_is [
+  pub out : (k : TakersTold m.reuse m.owners T.actions) → m.home ≡ None → IsWithOwner m T k.all
+  out k away = elim f.sending.tenures.stage_is [
     | Open stage here many ↦ absurd (true≢false (sym here ∙ ap is_some away))
     | Held holder stage gone many holds ↦
-        with_owner f.sending.tenures.ended holder holds published_is k.all
+        with_owner f.sending.tenures.ended holder holds k.all
         (takers_one f.owners k.all T.actions f.takers k.takers) stage many
   ]
 

@@ -1,5 +1,6 @@
 pub mod Takes
 pub mod Own
+pub mod Joining
 pub mod AtNone
 pub mod AtHome
 pub mod CyclicTurns
@@ -10,11 +11,9 @@ pub mod Framed
 pub mod Clearing
 pub mod Taking
 pub mod Knowing
-pub mod Joining
+pub mod Rising
 pub mod Bounding
 pub mod Staying
-pub mod Growing
-pub mod History
 pub mod Gone
 pub mod EachSender
 pub mod Ending

@@ -35,7 +35,7 @@ use Rattle.bus_machine.proofs.Framed.{framed}
 use Rattle.bus_machine.proofs.EachSender.{OfEach, pins_added, each}
 use Rattle.bus_machine.proofs.Entering.{entry, entry_from, entry_in, may_enter, pin_is}
 use Rattle.bus_machine.proofs.Entering.{phase_tells, stands_in, enters}
-use Rattle.bus_machine.proofs.Growing.{rises}
+use Rattle.bus_machine.proofs.Rising.{rises}
 use Rattle.bus_machine.proofs.Knowing.{none_passed}
 use Rattle.bus_machine.proofs.Leading.{Sits}
 use Rattle.bus_machine.specs.Bounding.{named_by, is_tenure, pins_from, steps_of_pin, IsNamedFirst}

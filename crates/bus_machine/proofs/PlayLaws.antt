@@ -10,12 +10,13 @@ use Rattle.bus_world.proofs.Growing.{prefix_after}
 use Rattle.bus_world.specs.World.{Event}
 use Rattle.bus_world.specs.declared.events.Answer.{Answer}
 use Rattle.bus_machine.proofs.AtNone.{event_reuse}
+use Rattle.bus_machine.proofs.Framed.{history}
+use Rattle.bus_machine.proofs.Joining.{joins}
 use Rattle.bus_machine.proofs.Leading.{Sits, sits_after}
 use Rattle.bus_machine.proofs.Promised.{promised}
 use Rattle.bus_machine.proofs.Staying.{Longer, stays_long, grown_longer, promise_stays}
 use Rattle.bus_machine.specs.Machine.{Machine, Trails, Reached, trails_grown, stage_of}
 use Rattle.bus_machine.specs.Playing.{Answers, AllAnswered, trails_after, words_after, Played}
-use Rattle.bus_machine.proofs.History.{history, trails_join}
 use Rattle.bus_machine.specs.Promise.{HasGoneOn, actions_in, words_joined}
 
 -- one event more
@@ -56,7 +57,7 @@ module _ {S : Type 0} (X : Election (Elector S)) (Q : Protocol S Bool Verdict) w
   run_joins (e ∷ events) old new run T =
       run_joins events run.0 new run.3 (trails_grown X old e run.1 T)
       ∙ ap (λ w. w ++ words_after X Q run.0 events new run.3)
-      (trails_join X old run.0 e run.1 T run.2.happens)
+      (joins X old run.0 e run.1 T run.2.happens)
       ∙ append_assoc T.log (words_joined X old e) (words_after X Q run.0 events new run.3)
 
   run_rises : (events : List Event) (old new : Machine (Elector S)) → AllAnswered X Q old events new

@@ -1,31 +1,29 @@
 -- Whatever leads to a machine, the promise holds of it: of both kinds of rows, by the frames of its
 -- log.
-use Rattle.std.proofs.Common.{ℕ, map, refl, sym, subst}
+use Rattle.std.proofs.Common.{ℕ, map, refl}
 use Rattle.bus_batch.specs.Frames.{Spells, order_of, tenure_and_owner}
 use Rattle.bus_register.specs.Protocol.{Protocol}
 use Rattle.bus_tenure.specs.Core.{Election}
-use Rattle.bus_machine.proofs.Framed.{IsFramed, framed, log_framed, reuses}
+use Rattle.bus_machine.proofs.Framed.{IsFramed, framed, reuses}
 use Rattle.bus_machine.proofs.Knowing.{knows, out, past, owns, counts}
-use Rattle.bus_machine.proofs.History.{history}
 use Rattle.bus_machine.proofs.Leading.{Sits}
 use Rattle.bus_machine.proofs.Paging.{paged_it, takes_it, holds_it}
 use Rattle.bus_machine.proofs.Remembering.{remembered}
 use Rattle.bus_machine.proofs.Taking.{takers_told}
-use Rattle.bus_machine.specs.Machine.{Machine, Trails, Reached, log_of}
+use Rattle.bus_machine.specs.Machine.{Machine, Trails, Reached}
 use Rattle.bus_machine.specs.Promise.{IsPromised, TakersTold}
-use Rattle.bus_machine.specs.Remembering.{Remembers}
 
 module _ {E : Type 0} (X : Election E) (P : Protocol E (Unit {0}) ℕ) (m : Machine E) (T : Trails)
     (s : Sits X P m) (r : Reached X m T) where
   f : IsFramed P m T
   f = framed X P m T s r
 
-  -- its words spell the order of its frames
-  spelled : Spells m.layout.senders (log_of m) (order_of f.frames) (map tenure_and_owner f.frames)
+  -- what was published spells the order of its frames
+  spelled : Spells m.layout.senders T.log (order_of f.frames) (map tenure_and_owner f.frames)
   spelled = record {
     frames = f.frames;
     lawful = f.sending.log.lawful;
-    words_are = sym (log_framed P m T f);
+    words_are = f.log_is;
     order_is = refl;
     owners_are = refl;
   }
@@ -40,10 +38,8 @@ module _ {E : Type 0} (X : Election E) (P : Protocol E (Unit {0}) ℕ) (m : Mach
     order = order_of f.frames;
     owners = map tenure_and_owner f.frames;
     by = record {
-      stands = history X P m T s r;
-      spelled = subst
-          (λ l. Spells m.layout.senders l (order_of f.frames) (map tenure_and_owner f.frames))
-          (history X P m T s r) spelled;
+      stands = f.stands;
+      spelled = spelled;
       takers = told;
       promises = f.promises;
       paged = paged_it X P m T s f;
@@ -52,11 +48,10 @@ module _ {E : Type 0} (X : Election E) (P : Protocol E (Unit {0}) ℕ) (m : Mach
       owns = owns X P m T f told;
       counts = counts X P m T f told;
       knows = knows X P m T f (order_of f.frames) (map tenure_and_owner f.frames) spelled;
-      out = out X P m T f (history X P m T s r) told;
+      out = out X P m T f told;
       past = λ p v t page stored word o at. past X P m T f p v at t page stored word o;
       sent = f.puts;
-      remembers = λ p v at. subst (λ l. Remembers m l p v (T.actions p)) (history X P m T s r)
-          (remembered X P m T s r p v at);
+      remembers = remembered X P m T s r;
       reuse = reuses X P m T s r;
     };
   }

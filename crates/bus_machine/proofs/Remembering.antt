@@ -66,15 +66,16 @@ use Rattle.bus_machine.proofs.Ending.{published_ends, published_leaves, left_by,
 use Rattle.bus_machine.proofs.Ending.{ended_of, left_of, still_ended, still_left, past_more}
 use Rattle.bus_machine.proofs.Entering.{entry, entry_from}
 use Rattle.bus_machine.proofs.Framed.{IsFramed, framed}
-use Rattle.bus_machine.proofs.Growing.{grows, rises}
+use Rattle.bus_machine.proofs.Joining.{grows}
 use Rattle.bus_machine.proofs.Knowing.{order_same, none_passed}
 use Rattle.bus_machine.proofs.Leading.{Sits, sits_before, sits_after}
 use Rattle.bus_machine.proofs.PinBounds.{PinFits, kept_of}
+use Rattle.bus_machine.proofs.Rising.{rises}
 use Rattle.bus_machine.proofs.Staying.{grown_longer}
 use Rattle.bus_machine.specs.Machine.{base_of, Machine, Trails, Reached, New as Start}
 use Rattle.bus_machine.specs.Machine.{Then as Next, Happens, TakesTurn, IsNew, IsOnWord}
 use Rattle.bus_machine.specs.Machine.{trails_grown, turn_grown, turn_answer, found, has_stopped}
-use Rattle.bus_machine.specs.Machine.{moved, put_in, mark_in, no_machine_trails, log_of, stage_of}
+use Rattle.bus_machine.specs.Machine.{moved, put_in, mark_in, no_machine_trails, stage_of}
 use Rattle.bus_machine.specs.Promise.{pin_of}
 use Rattle.bus_machine.specs.Remembering.{HasEnded, HasLeftIt, LeavesNow, HasLost, IsPastFor}
 use Rattle.bus_machine.specs.Remembering.{IsItself, Remembers}
@@ -187,7 +188,7 @@ module _ {E : Type 0} (P : Protocol E (Unit {0}) ℕ) (m : Machine E) (T : Trail
   itself = record { me = part.me; layout = part.layout; marks = part.sender }
 
   -- whoever has left is closed, or is leaving with its page
-  pub left_so : HasLeftIt m (log_of m) p → (v.core.queue.phase ≡ batch.Closed) ⊎ LeavesNow v
+  pub left_so : HasLeftIt m T.log p → (v.core.queue.phase ≡ batch.Closed) ⊎ LeavesNow v
   left_so left =
       let gone : has_gone v.core.me (order_of f.frames) ≡ true =
       ap (λ n. has_gone n (order_of f.frames)) part.me
@@ -278,15 +279,15 @@ module _ {E : Type 0} (stage s : ℕ) (actions : List Action) (c : Core E)
   reused_opened (Some r) named k t e = pinned_opened r.pin named k t e
 
 -- ---- by what happened
-pub record Recalls {E : Type 0} (m : Machine E) (s : ℕ) (c : Core E) (actions : List Action) :
-    Type 0 where
-  closed : c.queue.phase ≡ batch.Closed → HasEnded m (log_of m) ⊎ HasLeftIt m (log_of m) s
+pub record Recalls {E : Type 0} (m : Machine E) (log : List ℕ) (s : ℕ) (c : Core E)
+    (actions : List Action) : Type 0 where
+  closed : c.queue.phase ≡ batch.Closed → HasEnded m log ⊎ HasLeftIt m log s
   asked : (asked : Mark) → Asked asked actions → IsShut c.queue
   past : (t : ℕ) → t < c.least → IsPastFor (stage_of m) s actions t
 
 abbrev pub AllRecall : {E : Type 0} → Machine E → Trails → Type 0
 AllRecall {E} m T =
-    (s : ℕ) (v : Sender E) → slice_get m.senders s ≡ Some v → Recalls m s v.core (T.actions s)
+    (s : ℕ) (v : Sender E) → slice_get m.senders s ≡ Some v → Recalls m T.log s v.core (T.actions s)
 
 -- a batch of this phase is shut
 abbrev IsShutAt : BatchPhase → Type 0
@@ -347,12 +348,12 @@ module _ {E : Type 0} (X : Election E) (P : Protocol E (Unit {0}) ℕ) (m m' : M
   f' : IsFramed P m' T'
   f' = framed X P m' T' (sits_after X P m m' e a h sits) (Next m m' T e a r h)
 
-  closed_on : (s : ℕ) → HasEnded m (log_of m) ⊎ HasLeftIt m (log_of m) s
-      → HasEnded m' (log_of m') ⊎ HasLeftIt m' (log_of m') s
+  closed_on : (s : ℕ) → HasEnded m T.log ⊎ HasLeftIt m T.log s
+      → HasEnded m' T'.log ⊎ HasLeftIt m' T'.log s
   closed_on s (inl ended) = inl
-      (still_ended P m m' T' (event_reuse X m m' e a h).0 f' (grows X P m m' T e a sits r h) ended)
+      (still_ended P m m' T T' (event_reuse X m m' e a h).0 f' (grows X m m' e a T h) ended)
   closed_on s (inr left) = inr
-      (still_left P m m' T' s (event_reuse X m m' e a h).0 f' (grows X P m m' T e a sits r h) left)
+      (still_left P m m' T T' s (event_reuse X m m' e a h).0 f' (grows X m m' e a T h) left)
 
   past_on : (s t : ℕ) → IsPastFor (stage_of m) s (T.actions s) t
       → IsPastFor (stage_of m') s (T'.actions s) t
@@ -361,10 +362,10 @@ module _ {E : Type 0} (X : Election E) (P : Protocol E (Unit {0}) ℕ) (m m' : M
       ((grown_longer X m T e a).actions s) w
 
   -- who is as before, but for its messages, its phase and whether its batch is on its way
-  alike : (s : ℕ) (c c' : Core E) → Recalls m s c (T.actions s)
+  alike : (s : ℕ) (c c' : Core E) → Recalls m T.log s c (T.actions s)
       → (c'.queue.phase ≡ batch.Closed → c.queue.phase ≡ batch.Closed)
       → ((asked : Mark) → Asked asked (T'.actions s) → IsShut c'.queue) → c'.least ≡ c.least
-      → Recalls m' s c' (T'.actions s)
+      → Recalls m' T'.log s c' (T'.actions s)
   alike s c c' w shut asks same = record {
     closed = λ i. closed_on s (w.closed (shut i));
     asked = asks;
@@ -374,7 +375,7 @@ module _ {E : Type 0} (X : Election E) (P : Protocol E (Unit {0}) ℕ) (m m' : M
   -- one sender is another, and has done this
   one_other : (s : ℕ) (v v' : Sender E) (ds : List Action) → slice_get m.senders s ≡ Some v
       → m'.senders ≡ slice_set m.senders s v'
-      → T'.actions ≡ actions_with s ds T.actions → Recalls m' s v'.core (T'.actions s)
+      → T'.actions ≡ actions_with s ds T.actions → Recalls m' T'.log s v'.core (T'.actions s)
       → AllRecall m' T'
   one_other s v v' ds at senders did now q w here = elim (cases_eq q s) [
     | inl same ↦
@@ -382,8 +383,8 @@ module _ {E : Type 0} (X : Election E) (P : Protocol E (Unit {0}) ℕ) (m m' : M
         let is : v' ≡ w =
         same_Some _ _ (sym (get_set_same m.senders s v' (slice_get_within m.senders s v at))
         ∙ ap (slice_get set) (sym same) ∙ ap (λ l. slice_get l q) (sym senders) ∙ here) in
-        subst (λ n. Recalls m' n w.core (T'.actions n)) (sym same)
-        (subst (λ (y : Sender E). Recalls m' s y.core (T'.actions s)) is now)
+        subst (λ n. Recalls m' T'.log n w.core (T'.actions n)) (sym same)
+        (subst (λ (y : Sender E). Recalls m' T'.log s y.core (T'.actions s)) is now)
     | inr other ↦
         let before = k q w (sym (get_set_other m.senders s v' q other)
         ∙ ap (λ l. slice_get l q) (sym senders) ∙ here) in
@@ -420,11 +421,11 @@ module _ {E : Type 0} (X : Election E) (P : Protocol E (Unit {0}) ℕ) (m m' : M
   its : Part (base_of m) m.layout f.V f.frames s v.core
   its = f.sending.parts s v.core (f.core_of s v at)
 
-  w : Recalls m s v.core (T.actions s)
+  w : Recalls m T.log s v.core (T.actions s)
   w = k s v at
 
   abbrev Good : Core E → Type 0
-  Good c = Recalls m' s c (U.actions s)
+  Good c = Recalls m' U.log s c (U.actions s)
 
   low : stage_of m ≤ stage_of m'
   low = rises X P m m' T (Turn s word) a sits r h
@@ -593,7 +594,7 @@ module _ {E : Type 0} (X : Election E) (P : Protocol E (Unit {0}) ℕ) (m m' : M
   shut_sent : (q : BatchPhase) → v.core.queue.phase ≡ q
       → (q ≡ batch.Marking mark.End → has_end f.frames ≡ true)
       → (q ≡ batch.Marking mark.Leave → has_gone s (order_of f.frames) ≡ true)
-      → phase_sent q ≡ batch.Closed → HasEnded m (log_of m) ⊎ HasLeftIt m (log_of m) s
+      → phase_sent q ≡ batch.Closed → HasEnded m T.log ⊎ HasLeftIt m T.log s
   shut_sent batch.Open is ends leaves j = absurd cc
   shut_sent (batch.Marking mark.End) is ends leaves j = inl (ended_of P m T f (ends refl))
   shut_sent (batch.Marking mark.Leave) is ends leaves j = inr (left_of P m T f s (leaves refl))
@@ -601,7 +602,7 @@ module _ {E : Type 0} (X : Election E) (P : Protocol E (Unit {0}) ℕ) (m m' : M
 
   shut : (t : ℕ) (reason : Reason) → Shows v.core t v.core.phase reason
       → (core_at_rest v.core reason t).queue.phase ≡ batch.Closed
-      → HasEnded m (log_of m) ⊎ HasLeftIt m (log_of m) s
+      → HasEnded m T.log ⊎ HasLeftIt m T.log s
   shut t Sent y j = shut_sent v.core.queue.phase refl
       (λ closing. published_ends (base_of m) f.V f.frames v.core t v.core.phase y closing its.fits)
       (λ leaving. subst (λ q. has_gone q (order_of f.frames) ≡ true) its.sender
@@ -707,7 +708,7 @@ module _ {E : Type 0} (X : Election E) (P : Protocol E (Unit {0}) ℕ) where
 
   new_recalls : (m : Machine E) → IsNew m → AllRecall m no_machine_trails
   new_recalls m new s v at =
-      subst (λ (y : Sender E). Recalls m s y.core []) (sym (new.senders s v at).1) record {
+      subst (λ (y : Sender E). Recalls m [] s y.core []) (sym (new.senders s v at).1) record {
         closed = λ j. absurd (let bad : batch.Open ≡ batch.Closed = j in cc);
         asked = λ asked j. absurd (nothing_asks asked j);
         past = λ t small. absurd (omega arith);
@@ -721,7 +722,7 @@ module _ {E : Type 0} (X : Election E) (P : Protocol E (Unit {0}) ℕ) where
 
   pub remembered : (m : Machine E) (T : Trails) → Sits X P m → Reached X m T
       → (s : ℕ) (v : Sender E) → slice_get m.senders s ≡ Some v
-      → Remembers m (log_of m) s v (T.actions s)
+      → Remembers m T.log s v (T.actions s)
   remembered m T sits r s v at =
       let f = framed X P m T sits r in
       let k = all_recall m T sits r s v at in

@@ -1,7 +1,7 @@
 -- What an event is answered is so.
 use Rattle.std.proofs.Common.{◌≡◌, ◌⊎◌, inl, inr, ℕ, ◌-◌, ◌/◌, ◌<◌, ◌≤◌, ◌==◌, nat_le, Bool, true}
 use Rattle.std.proofs.Common.{false, cond, Option, Some, None, IsSome, List, [], ◌∷◌, ◌++◌, length}
-use Rattle.std.proofs.Common.{slice_get, slice_index, arith, refl, sym, ◌∙◌, ap, subst}
+use Rattle.std.proofs.Common.{slice_get, arith, refl, sym, ◌∙◌, ap, subst}
 use Rattle.std.proofs.lemmas.Bool.{leb-true, true≢false}
 use Rattle.std.proofs.lemmas.Bool.Decides.{eqb_tells}
 use Rattle.std.proofs.lemmas.Grind.{flat_map-append}
@@ -43,7 +43,7 @@ use Rattle.bus_tenure.specs.declared.phases.Reason.TheVariants.{Sent, FoundEnd, 
 use Rattle.bus_tenure.specs.declared.turns.Turn.{Turn as Answered}
 use Rattle.bus_tenure.specs.declared.turns.Turn.TheVariants as turn
 use Rattle.bus_world.proofs.FrameOfBatch.{counted_frame, length-items}
-use Rattle.bus_world.proofs.LogLaws.{length-read}
+use Rattle.bus_world.proofs.LogLaws.{length-logged}
 use Rattle.bus_world.proofs.Stopping.{shown_there}
 use Rattle.bus_world.specs.Proved.Sending.{Part, Fits}
 use Rattle.bus_world.specs.Headline.{HasPut, Stepped, Elected, Took, IsPrefix, put_of, puts}
@@ -53,15 +53,14 @@ use Rattle.bus_world.specs.declared.events.Answer.{Answer}
 use Rattle.bus_world.specs.declared.events.Answer.TheVariants as answer
 use Rattle.bus_machine.proofs.EachSender.{actions_of_it}
 use Rattle.bus_machine.proofs.Ending.{elected_more, ended_of, published_ends, found_ends, none_left}
-use Rattle.bus_machine.proofs.Framed.{IsFramed, framed, log_framed}
-use Rattle.bus_machine.proofs.History.{history}
-use Rattle.bus_machine.proofs.Joining.{reused}
+use Rattle.bus_machine.proofs.Framed.{IsFramed, framed}
 use Rattle.bus_machine.proofs.Leading.{Sits, sits_after}
 use Rattle.bus_machine.proofs.Losing.{losses}
 use Rattle.bus_machine.proofs.Remembering.{all_recall, done, remembered, saw}
+use Rattle.bus_machine.proofs.Rising.{reused}
 use Rattle.bus_machine.proofs.Staying.{grown_longer}
 use Rattle.bus_machine.specs.Machine.{base_of, Machine, Trails, Reached, Then, Happens, TakesPut}
-use Rattle.bus_machine.specs.Machine.{TakesTurn, found, has_stopped, log_of, log_place, stage_of}
+use Rattle.bus_machine.specs.Machine.{TakesTurn, found, has_stopped, stage_of}
 use Rattle.bus_machine.specs.Machine.{trails_grown, turn_answer}
 use Rattle.bus_machine.specs.Promise.{pin_of}
 use Rattle.bus_machine.specs.Remembering.{NoneIsLeft, Remembers, rows_in}
@@ -95,7 +94,7 @@ module _ {E : Type 0} (X : Election E) (P : Protocol E (Unit {0}) ℕ) (m m' : M
   U = trails_grown X m (Turn s word) a T
 
   abbrev Told : Answered → Type 0
-  Told t = TurnTells m (log_of m) s v (U.actions s) t
+  Told t = TurnTells m T.log s v (U.actions s) t
 
   -- the sender is there
   at : slice_get m.senders s ≡ Some v
@@ -110,7 +109,7 @@ module _ {E : Type 0} (X : Election E) (P : Protocol E (Unit {0}) ℕ) (m m' : M
   part = f.sending.parts s c (f.core_of s v at)
 
   -- what it goes by
-  k : Remembers m (log_of m) s v (T.actions s)
+  k : Remembers m T.log s v (T.actions s)
   k = remembered X P m T sits r s v at
 
   -- it has done more
@@ -167,12 +166,12 @@ module _ {E : Type 0} (X : Election E) (P : Protocol E (Unit {0}) ℕ) (m m' : M
 
   -- its frame is the last
   module _ (t : ℕ) (front : List Frame) (last : f.frames ≡ front ++ frame_of c.queue t ∷ []) where
-    its_words : log_words (front ++ frame_of c.queue t ∷ []) ≡ log_of m
-    its_words = ap log_words (sym last) ∙ sym (log_framed P m T f)
+    its_words : log_words (front ++ frame_of c.queue t ∷ []) ≡ T.log
+    its_words = ap log_words (sym last) ∙ f.log_is
 
     -- it delivers its messages
     delivers : 0 < length c.queue.messages
-        → HasDelivered m.layout.senders (log_of m) s t c.queue.first (next_of c.queue - 1)
+        → HasDelivered m.layout.senders T.log s t c.queue.first (next_of c.queue - 1)
     delivers some = record {
       earlier = front;
       frame = frame_of c.queue t;
@@ -186,7 +185,7 @@ module _ {E : Type 0} (X : Election E) (P : Protocol E (Unit {0}) ℕ) (m m' : M
     }
 
     -- or its leave mark
-    leaves : c.queue.phase ≡ batch.Marking mark.Leave → HasLeft m.layout.senders (log_of m) s t
+    leaves : c.queue.phase ≡ batch.Marking mark.Leave → HasLeft m.layout.senders T.log s t
     leaves leaving = record {
       earlier = front;
       frame = frame_of c.queue t;
@@ -219,9 +218,7 @@ module _ {E : Type 0} (X : Election E) (P : Protocol E (Unit {0}) ℕ) (m m' : M
       let words_are = fits.1.page_knows.words in
       let floor = fits.1.page_knows.floor in
       let capacity_is = ap (λ (x : Layout). x.capacity) part.layout in
-      let size =
-      length-read (slice_index m.words) (log_place m.layout m.reuse) (slice_index m.words 0) in
-      let same = f.length in
+      let size = sym (ap length f.log_is) ∙ length-logged f.sending.log in
       omega arith
   full t ph HandsOnFull fits = absurd fits
 
@@ -236,7 +233,7 @@ module _ {E : Type 0} (X : Election E) (P : Protocol E (Unit {0}) ℕ) (m m' : M
   returned t NoRoom w = full t c.phase w part.fits
 
   -- whose batch is closed
-  closed_told : c.queue.phase ≡ batch.Closed → ClosedTells m (log_of m) s v
+  closed_told : c.queue.phase ≡ batch.Closed → ClosedTells m T.log s v
   closed_told shut = elim (k.closed shut) [ inl ended ↦ inl ended | inr left ↦ inr (shut, left) ]
 
   -- who withdraws has seen to whom it lost
@@ -288,10 +285,10 @@ module _ {E : Type 0} (X : Election E) (P : Protocol E (Unit {0}) ℕ) (m m' : M
   by_turn (ReadsPassed t p) i = tt
 
   -- so its answer tells what is so
-  turn_told : EventTells m (log_of m) (Turn s word) a U
+  turn_told : EventTells m T.log (Turn s word) a U
   turn_told =
-      subst (λ o. SenderTells m (log_of m) s o (U.actions s) a) (sym h.goes)
-      (subst (SenderTells m (log_of m) s (Some v) (U.actions s)) (sym h.answered)
+      subst (λ o. SenderTells m T.log s o (U.actions s) a) (sym h.goes)
+      (subst (SenderTells m T.log s (Some v) (U.actions s)) (sym h.answered)
       (by_turn (situation X v) refl))
 
 -- ---- a put
@@ -319,8 +316,6 @@ pub told : {E : Type 0} (X : Election E) (P : Protocol E (Unit {0}) ℕ) (m m' :
     → Reached X m T → Happens X m e a m' → EventTells m T.log e a (trails_grown X m e a T)
 told X P m m' T (Put s bytes) a sits r h = put_told X P m m' T s bytes a sits r h
 told X P m m' T (Ask s asked) a sits r h = tt
-told X P m m' T (Turn s word) a sits r h =
-    subst (λ l. EventTells m l (Turn s word) a (trails_grown X m (Turn s word) a T))
-    (history X P m T sits r) (turn_told X P m m' T s word a sits r h)
+told X P m m' T (Turn s word) a sits r h = turn_told X P m m' T s word a sits r h
 told X P m m' T (Recv q) a sits r h = tt
 told X P m m' T (Stop s) a sits r h = tt

@@ -6,7 +6,6 @@ use Rattle.std.specs.Prelude.{replicate, if◌then◌else◌}
 use Rattle.bus_register.specs.declared.registers.Op.{Op}
 use Rattle.bus_register.specs.Words.{register}
 use Rattle.bus_batch.specs.Batches.{next_of, CanPut, CanClose}
-use Rattle.bus_batch.specs.Frames.{Frame, frame_words}
 use Rattle.bus_batch.specs.declared.batches.Phase.TheVariants.{Marking}
 use Rattle.bus_batch.specs.declared.messages.Mark.{Mark}
 use Rattle.bus_deliverylog.specs.Receiving.{Receiving}
@@ -23,6 +22,7 @@ use Rattle.bus_core.specs.Table.{Line, line_now}
 use Rattle.bus_core.specs.Reusing.Participants.{log_from}
 use Rattle.bus_world.specs.Headline.{Action}
 use Rattle.bus_world.specs.Log.{words_read_from}
+pub use Rattle.bus_world.specs.Log.{words_of_frame}
 use Rattle.bus_world.specs.Playing.{asked_answer}
 use Rattle.bus_world.specs.Trails.{step_action, put_actions, mark_actions, no_actions, no_answers}
 use Rattle.bus_world.specs.Trails.{actions_with, answers_with}
@@ -209,11 +209,6 @@ no_machine_trails = record {
 abbrev pub entered : Entries → ℕ → Option Op → ℕ → Entries
 entered T s None got = T
 entered T s (Some o) got = trails_with_entry T s record { op = o; got = got }
-
--- the words of a frame, where there is one
-abbrev pub words_of_frame : Option Frame → List ℕ
-words_of_frame None = []
-words_of_frame (Some f) = frame_words f
 
 -- what is published, with a step by this line
 abbrev pub log_grown : {E : Type 0} → Line E → List ℕ → List ℕ

@@ -102,17 +102,19 @@ module _ {E : Type 0} (X : Election E) (P : Protocol E (Unit {0}) ℕ)
   IsParticipant =
       kept.IsParticipant X P laws x ok width starts owner_is named announces apart rows two
 
-  abbrev Kept : (ℕ → List RecvTurn) → CyclicProtocol E → Trails → (ℕ → List Action) → (ℕ → ℕ)
-      → List Frame → Type 0
+  abbrev Kept : (ℕ → List RecvTurn) → CyclicProtocol E → Trails → (ℕ → List Action) → List ℕ
+      → (ℕ → ℕ) → List Frame → Type 0
   Kept = kept.Kept X P laws x ok width starts owner_is named announces apart rows two
 
-  abbrev HasKept : (ℕ → List RecvTurn) → CyclicProtocol E → Trails → (ℕ → List Action) → Type 0
+  abbrev HasKept : (ℕ → List RecvTurn) → CyclicProtocol E → Trails → (ℕ → List Action)
+      → List ℕ → Type 0
   HasKept = kept.HasKept X P laws x ok width starts owner_is named announces apart rows two
 
   module _ (H : ℕ → List RecvTurn) (y : CyclicProtocol E) (T : Trails) (D : ℕ → List Action)
-      (V : ℕ → ℕ) (frames : List Frame) (k : Kept H y T D V frames) (p : ℕ) (c : Core E)
-      (old : y.senders p ≡ Some c) where
+      (L : List ℕ) (V : ℕ → ℕ) (frames : List Frame) (k : Kept H y T D L V frames) (p : ℕ)
+      (c : Core E) (old : y.senders p ≡ Some c) where
     open kept.turn_facts X P laws x ok width starts owner_is named announces apart rows two H y T D
+        L
         V frames k p c old use {
           participant,
           reclamation_keeps,
@@ -125,7 +127,7 @@ module _ {E : Type 0} (X : Election E) (P : Protocol E (Unit {0}) ℕ)
     module _ (word : ℕ) (answer : Answered)
         (free : step_at (y.reclamation.pins p) (presence_at z p) 1 ≡ None) where
       open kept.step_facts X P laws x ok width starts owner_is named announces apart rows two H y T
-          D V frames k p c old word answer free use {turn_on, ties_on}
+          D L V frames k p c old word answer free use {turn_on, ties_on}
 
       -- ---- an election
       module _ (t : ℕ) (e : E) (at : situation_of X c ≡ Elects t e)
@@ -219,7 +221,7 @@ module _ {E : Type 0} (X : Election E) (P : Protocol E (Unit {0}) ℕ)
               (ap (λ g. core_elected c t (X.fed e g word) (X.owner (X.fed e g word))) met_is))
 
           done_kept : (v : Pin) → Reached z (reclamation_with (put p v y.reclamation.pins)) T
-              → IsParticipant v c' → HasKept H (done v) T done_actions
+              → IsParticipant v c' → HasKept H (done v) T done_actions L
           done_kept v reached is =
               let laid' = laid_worked x rows y.reclamation (put p v y.reclamation.pins) V k.W k.laid
               t far n bounds.0 low live two in
@@ -230,6 +232,7 @@ module _ {E : Type 0} (X : Election E) (P : Protocol E (Unit {0}) ℕ)
                   hears = k.hears;
                   reached = reached;
                   sending = sending';
+                  log_is = k.log_is;
                   W = k.W;
                   stored = stored_put V' (put_beside (row_at x t + far) n V 0 (λ i. omega arith)) c'
                       (λ u page stored b i.
@@ -252,8 +255,8 @@ module _ {E : Type 0} (X : Election E) (P : Protocol E (Unit {0}) ℕ)
           -- it stays in the election
           stays : pin_elected c t (X.owner later) ≡ Pinned t
               → c' ≡ record c { phase = phase.Electing t later }
-              → HasKept H (done (pin_elected c t (X.owner later))) T done_actions
-          stays v_is c_is = subst (λ v. HasKept H (done v) T done_actions) (sym v_is)
+              → HasKept H (done (pin_elected c t (X.owner later))) T done_actions L
+          stays v_is c_is = subst (λ v. HasKept H (done v) T done_actions L) (sym v_is)
               (done_kept (Pinned t) (subst (λ v. Reached z (reclamation_with v) T)
               (sym (put_is p (Pinned t) y.reclamation.pins stands)) worked)
               (subst (IsParticipant (Pinned t)) (sym c_is) record {
@@ -264,8 +267,8 @@ module _ {E : Type 0} (X : Election E) (P : Protocol E (Unit {0}) ℕ)
 
           -- it lost it
           parts : pin_elected c t (X.owner later) ≡ Unpinning t → c'.phase ≡ phase.Resting
-              → HasKept H (done (pin_elected c t (X.owner later))) T done_actions
-          parts v_is rests = subst (λ v. HasKept H (done v) T done_actions) (sym v_is)
+              → HasKept H (done (pin_elected c t (X.owner later))) T done_actions L
+          parts v_is rests = subst (λ v. HasKept H (done v) T done_actions L) (sym v_is)
               (done_kept (Unpinning t) (Then (reclamation_with y.reclamation.pins)
               (reclamation_with (put p (Unpinning t) y.reclamation.pins)) T T worked
               (Parts (reclamation_with y.reclamation.pins) T p t stands)) record {
@@ -275,7 +278,7 @@ module _ {E : Type 0} (X : Election E) (P : Protocol E (Unit {0}) ℕ)
               })
 
           by_owner : (owner : Option ℕ) → X.owner later ≡ owner
-              → HasKept H (done (pin_elected c t (X.owner later))) T done_actions
+              → HasKept H (done (pin_elected c t (X.owner later))) T done_actions L
           by_owner None i = stays (ap (pin_elected c t) i) (ap (core_elected c t later) i)
           by_owner (Some u) i = elim (eqb_tells u c.me) [
             | inl own ↦
@@ -317,9 +320,9 @@ module _ {E : Type 0} (X : Election E) (P : Protocol E (Unit {0}) ℕ)
 
         pub elects_kept : is_some (X.owner e) ≡ false
             → HasKept H (protocol_after_going X x rows y p c (Elects t e) word) T
-            (actions_with p (going_actions X x rows y c (Elects t e) word answer) D)
+            (actions_with p (going_actions X x rows y c (Elects t e) word answer) D) L
         elects_kept unowned = elim (some_or_none (X.op e word)) [
-          | inr o ↦ subst (λ d. HasKept H (elected d) T (elected_actions d)) (sym o.1)
+          | inr o ↦ subst (λ d. HasKept H (elected d) T (elected_actions d) L) (sym o.1)
               (by_owner o.0 o.1
               (X.owner
               (X.fed e (y.reclamation.words (row_of z t + (register o.0 - row_at x t))) word)) refl)
@@ -342,7 +345,7 @@ module _ {E : Type 0} (X : Election E) (P : Protocol E (Unit {0}) ℕ)
 
         pub takes_kept : (u : ℕ) → X.owner e ≡ Some u
             → HasKept H (protocol_after_going X x rows y p c (TakesPage t) word) T
-            (actions_with p (going_actions X x rows y c (TakesPage t) word answer) D)
+            (actions_with p (going_actions X x rows y c (TakesPage t) word answer) D) L
         takes_kept u own =
             let out : P.output e ≡ Some u = sym (owner_is e) ∙ own in
             let mine : P.output e ≡ Some p =
@@ -382,6 +385,7 @@ module _ {E : Type 0} (X : Election E) (P : Protocol E (Unit {0}) ℕ)
                     answer) (laid_waits (record c { phase = phase.Taken t }) t y.home
                     ∙ sym (ap (waiting_at c) elects))
                     (λ m. turn_waiting X c m (TakesPage t) y.home (y.reclamation.words 1) word);
+                log_is = k.log_is;
                 W = k.W;
                 stored = record {
                   few = k.stored.few;

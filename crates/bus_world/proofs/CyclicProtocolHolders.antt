@@ -1,7 +1,7 @@
 -- A holder of the page keeps what is always kept: it stores words of its frame and the length,
 -- makes the next row ready and gives the page back.
 use Rattle.std.proofs.Common.{◌≡◌, ◌⊎◌, inl, inr, ℕ, ◌+◌, ◌-◌, ◌*◌, ◌%◌, ◌<◌, ◌≤◌, Bool, true}
-use Rattle.std.proofs.Common.{false, cond, nat_lt, nat_le, Option, Some, None, List, [], ◌∷◌}
+use Rattle.std.proofs.Common.{false, cond, nat_lt, nat_le, Option, Some, None, List, [], ◌∷◌, ◌++◌}
 use Rattle.std.proofs.Common.{is_some, slice_get, slice_index, arith, refl, sym, ◌∙◌, ap, subst}
 use Rattle.std.proofs.Math.Nat.{mod-eq_of_lt}
 use Rattle.std.proofs.lemmas.Bool.{cases_eq, cases_lt, ltb-false, true≢false, and_from, le-leb}
@@ -42,6 +42,7 @@ use Rattle.bus_world.specs.Proved.CyclicProtocols.{CyclicProtocol, going_actions
 use Rattle.bus_world.specs.Proved.CyclicProtocols.{protocol_reclaimed, protocol_after_going}
 use Rattle.bus_world.specs.Trails.{actions_with}
 use Rattle.bus_world.proofs.BusLaws as bus
+use Rattle.bus_world.proofs.LogLaws.{log_words-append}
 use Rattle.bus_world.proofs.TurningLaws.{turn_within}
 use Rattle.bus_world.proofs.Waiting.{frames_after, waiting_at, waiting_of}
 use Rattle.bus_world.specs.Headline.{Action, Stepped, Asked}
@@ -154,17 +155,19 @@ module _ {E : Type 0} (X : Election E) (P : Protocol E (Unit {0}) ℕ)
   abbrev AreStored : Option Page → (ℕ → Option (Core E)) → (ℕ → ℕ) → ℕ → Type 0
   AreStored = kept.AreStored X P laws x ok width starts owner_is named announces apart rows two
 
-  abbrev Kept : (ℕ → List RecvTurn) → CyclicProtocol E → Trails → (ℕ → List Action) → (ℕ → ℕ)
-      → List Frame → Type 0
+  abbrev Kept : (ℕ → List RecvTurn) → CyclicProtocol E → Trails → (ℕ → List Action) → List ℕ
+      → (ℕ → ℕ) → List Frame → Type 0
   Kept = kept.Kept X P laws x ok width starts owner_is named announces apart rows two
 
-  abbrev HasKept : (ℕ → List RecvTurn) → CyclicProtocol E → Trails → (ℕ → List Action) → Type 0
+  abbrev HasKept : (ℕ → List RecvTurn) → CyclicProtocol E → Trails → (ℕ → List Action)
+      → List ℕ → Type 0
   HasKept = kept.HasKept X P laws x ok width starts owner_is named announces apart rows two
 
   module _ (H : ℕ → List RecvTurn) (y : CyclicProtocol E) (T : Trails) (D : ℕ → List Action)
-      (V : ℕ → ℕ) (frames : List Frame) (k : Kept H y T D V frames) (p : ℕ) (c : Core E)
-      (old : y.senders p ≡ Some c) where
+      (L : List ℕ) (V : ℕ → ℕ) (frames : List Frame) (k : Kept H y T D L V frames) (p : ℕ)
+      (c : Core E) (old : y.senders p ≡ Some c) where
     open kept.turn_facts X P laws x ok width starts owner_is named announces apart rows two H y T D
+        L
         V frames k p c old use {
           part,
           participant,
@@ -182,7 +185,7 @@ module _ {E : Type 0} (X : Election E) (P : Protocol E (Unit {0}) ℕ)
 
     -- ---- a step of a reclamation
     pub reclaimer_kept : (s : Reclaiming) (o : Op) → y.reclamation.reclaimer ≡ Some s
-        → reclaim_op s ≡ Some o → HasKept H (protocol_reclaimed y s o) T same_actions
+        → reclaim_op s ≡ Some o → HasKept H (protocol_reclaimed y s o) T same_actions L
     reclaimer_kept s o is due =
         let reclamation' : Reclamation = record y.reclamation {
           words = words_after y.reclamation o;
@@ -196,6 +199,7 @@ module _ {E : Type 0} (X : Election E) (P : Protocol E (Unit {0}) ℕ)
             reached = Then y.reclamation reclamation' T T k.reached
                 (Reclaimed y.reclamation T s o is due);
             sending = k.sending;
+            log_is = k.log_is;
             W = k.W;
             stored = k.stored;
             laid = laid_quiet x rows y.reclamation reclamation' V k.W
@@ -224,7 +228,7 @@ module _ {E : Type 0} (X : Election E) (P : Protocol E (Unit {0}) ℕ)
     module _ (word : ℕ) (answer : Answered)
         (free : step_at (y.reclamation.pins p) (presence_at z p) 1 ≡ None) where
       open kept.step_facts X P laws x ok width starts owner_is named announces apart rows two H y T
-          D V frames k p c old word answer free use {turn_on}
+          D L V frames k p c old word answer free use {turn_on}
 
       -- ---- a holder of the page
       module _ (t : ℕ) (page : Page) (stored : ℕ) (published : Bool)
@@ -363,6 +367,7 @@ module _ {E : Type 0} (X : Election E) (P : Protocol E (Unit {0}) ℕ)
           pub stores_kept : HasKept H
               (protocol_after_going X x rows y p c (StoresWord t page stored) word) T
               (actions_with p (going_actions X x rows y c (StoresWord t page stored) word answer) D)
+              L
           stores_kept = record {
             V = put (log_at x + spot) number V;
             frames = frames;
@@ -392,6 +397,7 @@ module _ {E : Type 0} (X : Election E) (P : Protocol E (Unit {0}) ℕ)
                   (y.reclamation.words (log_from x rows + spot)) None answer)
                   (sym (ap (waiting_at c) (holds ∙ ap (phase.Holding t page stored) unpublished)))
                   (λ m i. i);
+              log_is = k.log_is;
               W = k.W + 1;
               stored = stored_one;
               laid = subst (λ n. Laid x rows (record {
@@ -418,6 +424,7 @@ module _ {E : Type 0} (X : Election E) (P : Protocol E (Unit {0}) ℕ)
         pub tells_kept : published ≡ false → situation_of X c ≡ StoresLength t page stored
             → HasKept H (protocol_after_going X x rows y p c (StoresLength t page stored) word) T
             (actions_with p (going_actions X x rows y c (StoresLength t page stored) word answer) D)
+            (L ++ frame_words (frame_of c.queue t))
         tells_kept unpublished at =
             let n = page.words + frame_len c in
             let c' : Core E = record c { phase = phase.Holding t page stored true } in
@@ -470,6 +477,8 @@ module _ {E : Type 0} (X : Election E) (P : Protocol E (Unit {0}) ℕ)
                     q)) (sym part.sender) (own_asked y.senders frames D k.notes.askings p c old
                     (Stepped (Some t) kind.StoreLength (y.reclamation.words 0) None answer ∷ []) m
                     i)));
+                log_is = log_words-append frames (frame_of c.queue t)
+                    ∙ ap (λ l. l ++ frame_words (frame_of c.queue t)) k.log_is;
                 W = k.W;
                 stored = record {
                   few = k.stored.few;
@@ -502,7 +511,7 @@ module _ {E : Type 0} (X : Election E) (P : Protocol E (Unit {0}) ℕ)
         pub gives_kept : (reason : Reason) → situation_of X c ≡ GivesBack t page reason
             → ((s : Reclaiming) → y.reclamation.reclaimer ≡ Some s → reclaim_op s ≡ None)
             → HasKept H (protocol_after_going X x rows y p c (GivesBack t page reason) word) T
-            (actions_with p (going_actions X x rows y c (GivesBack t page reason) word answer) D)
+            (actions_with p (going_actions X x rows y c (GivesBack t page reason) word answer) D) L
         gives_kept reason at protocol_reclaimed =
             let c' : Core E = core_at_rest c reason t in
             let same_first : put 1 (2 * t + 2) V 0 ≡ V 0 =
@@ -538,6 +547,7 @@ module _ {E : Type 0} (X : Election E) (P : Protocol E (Unit {0}) ℕ)
                     (sym (ap (situation_at X c) holds) ∙ at))
                     (λ m. turn_waiting X c m (GivesBack t page reason) y.home
                     (y.reclamation.words 1) word);
+                log_is = k.log_is;
                 W = k.W;
                 stored = record {
                   few = k.stored.few;

@@ -12,7 +12,7 @@ use Rattle.bus_register.specs.Proved.TableLaws.{put_here, put_beside}
 use Rattle.bus_register.specs.Protocol.{Protocol, Laws}
 use Rattle.bus_batch.specs.declared.batches.Phase.TheVariants.{Marking}
 use Rattle.bus_batch.specs.declared.messages.Mark.{Mark}
-use Rattle.bus_batch.specs.Frames.{Frame}
+use Rattle.bus_batch.specs.Frames.{Frame, log_words}
 use Rattle.bus_deliverylog.specs.declared.receiving.RecvTurn.{RecvTurn}
 use Rattle.bus_ownerbits.specs.OneOwner.{OneOwner}
 use Rattle.bus_presence.specs.declared.pins.Pin.{Pin}
@@ -99,12 +99,14 @@ module _ {E : Type 0} (X : Election E) (P : Protocol E (Unit {0}) ℕ)
     pub written : (q t : ℕ) (page : Page) (stored : ℕ) (d : Core E) → senders q ≡ Some d
         → d.phase ≡ phase.Holding t page stored true → W ≡ V 0
 
-  -- what is always kept, of words with a row for each tenure
+  -- what is always kept, of words with a row for each tenure; and its frames are all that was
+  -- published
   pub record Kept (H : ℕ → List RecvTurn) (y : CyclicProtocol E) (T : Trails) (D : ℕ → List Action)
-      (V : ℕ → ℕ) (frames : List Frame) : Type 0 where
+      (L : List ℕ) (V : ℕ → ℕ) (frames : List Frame) : Type 0 where
     pub hears : AllHear x rows y.receivers frames H
     pub reached : Reached z y.reclamation T
     pub sending : Sending (slice_index y.bases) P x V y.home y.senders y.owners frames
+    pub log_is : log_words frames ≡ L
     pub W : ℕ
     pub stored : AreStored y.home y.senders V W
     pub laid : Laid x rows y.reclamation V W
@@ -116,15 +118,15 @@ module _ {E : Type 0} (X : Election E) (P : Protocol E (Unit {0}) ℕ)
         → t + 1 < rows
 
   pub record HasKept (H : ℕ → List RecvTurn) (y : CyclicProtocol E) (T : Trails)
-      (D : ℕ → List Action) : Type 0 where
+      (D : ℕ → List Action) (L : List ℕ) : Type 0 where
     pub V : ℕ → ℕ
     pub frames : List Frame
-    pub kept : Kept H y T D V frames
+    pub kept : Kept H y T D L V frames
 
   -- a turn of sender p
   module _ (H : ℕ → List RecvTurn) (y : CyclicProtocol E) (T : Trails) (D : ℕ → List Action)
-      (V : ℕ → ℕ) (frames : List Frame) (k : Kept H y T D V frames) (p : ℕ) (c : Core E)
-      (old : y.senders p ≡ Some c) where
+      (L : List ℕ) (V : ℕ → ℕ) (frames : List Frame) (k : Kept H y T D L V frames) (p : ℕ)
+      (c : Core E) (old : y.senders p ≡ Some c) where
     h : Reclamation
     h = y.reclamation
 

@@ -30,7 +30,7 @@ use Rattle.bus_presence.proofs.ReclamationLaws.{safe}
 use Rattle.bus_tenure.specs.Core.{Core, Election, Layout, row_at, log_at, frame_len, has_room}
 use Rattle.bus_tenure.specs.Situations.{Situation, IsClosed, IsIdle, IsSpent, LooksAtStage, Elects}
 use Rattle.bus_tenure.specs.Situations.{TakesPage, AwaitsPage, StoresWord, StoresLength, GivesBack}
-use Rattle.bus_tenure.specs.Situations.{HasHanded, situation_of, situation_at}
+use Rattle.bus_tenure.specs.Situations.{HasHanded, situation_of, situation_at, line_of}
 use Rattle.bus_tenure.specs.declared.pages.Page.{Page}
 use Rattle.bus_tenure.specs.declared.phases.Reason.{Reason}
 use Rattle.bus_tenure.specs.declared.phases.Phase.TheVariants as phase
@@ -38,6 +38,7 @@ use Rattle.bus_tenure.specs.declared.turns.Turn.{Turn as Answered}
 use Rattle.bus_tenure.proofs.Situated.{tells}
 use Rattle.bus_world.specs.World.{IsLayout, first_page, RecvDoes}
 use Rattle.bus_world.specs.Proved.Sending.{Fits, Sending, standing_of, least_of, stands_at}
+use Rattle.bus_core.specs.Proved.Bridge.{publishes_of}
 use Rattle.bus_core.specs.Reusing.Participants.{sizes_with, log_from}
 use Rattle.bus_core.specs.Proved.ParticipantTable.{Due, reclaim_due, due_reclaimed, due_home}
 use Rattle.bus_core.specs.Proved.ParticipantTable.{due_beside}
@@ -62,7 +63,7 @@ use Rattle.bus_world.proofs.Tying.{Tables, PageTies}
 use Rattle.bus_world.proofs.TableTrails.{IsPlain, plain_none, plain_put, plain_mark}
 use Rattle.bus_world.proofs.TurnTrails.{TiesOf, batch_tied}
 use Rattle.bus_world.specs.Proved.KeptProtocols.{IsKeptProtocol}
-use Rattle.bus_world.proofs.Waiting.{waiting_of}
+use Rattle.bus_world.proofs.Waiting.{log_with, log_more, waiting_of}
 use Rattle.bus_world.proofs.Asking.{open_no_marking}
 use Rattle.bus_world.proofs.PutLaws.{nothing_left}
 use Rattle.bus_world.proofs.HearTrails.{delivered_to, heads_to, silent_to}
@@ -99,17 +100,19 @@ module _ {E : Type 0} (X : Election E) (P : Protocol E (Unit {0}) ℕ)
   IsParticipant =
       kept.IsParticipant X P laws x ok width starts owner_is named announces apart rows two
 
-  abbrev Kept : (ℕ → List RecvTurn) → CyclicProtocol E → Trails → (ℕ → List Action) → (ℕ → ℕ)
-      → List Frame → Type 0
+  abbrev Kept : (ℕ → List RecvTurn) → CyclicProtocol E → Trails → (ℕ → List Action) → List ℕ
+      → (ℕ → ℕ) → List Frame → Type 0
   Kept = kept.Kept X P laws x ok width starts owner_is named announces apart rows two
 
-  abbrev HasKept : (ℕ → List RecvTurn) → CyclicProtocol E → Trails → (ℕ → List Action) → Type 0
+  abbrev HasKept : (ℕ → List RecvTurn) → CyclicProtocol E → Trails → (ℕ → List Action)
+      → List ℕ → Type 0
   HasKept = kept.HasKept X P laws x ok width starts owner_is named announces apart rows two
 
   module _ (H : ℕ → List RecvTurn) (y : CyclicProtocol E) (T : Trails) (D : ℕ → List Action)
-      (V : ℕ → ℕ) (frames : List Frame) (k : Kept H y T D V frames) (p : ℕ) (c : Core E)
-      (old : y.senders p ≡ Some c) where
+      (L : List ℕ) (V : ℕ → ℕ) (frames : List Frame) (k : Kept H y T D L V frames) (p : ℕ)
+      (c : Core E) (old : y.senders p ≡ Some c) where
     open kept.turn_facts X P laws x ok width starts owner_is named announces apart rows two H y T D
+        L
         V frames k p c old use {part, participant, stored_put, noted_as}
 
     module _ (word : ℕ) (answer : Answered)
@@ -120,45 +123,46 @@ module _ {E : Type 0} (X : Election E) (P : Protocol E (Unit {0}) ℕ)
           → (s : Reclaiming) → y.reclamation.reclaimer ≡ Some s → reclaim_op s ≡ None)
           → HasKept H (protocol_after_going X x rows y p c zz word) T
           (actions_with p (going_actions X x rows y c zz word answer) D)
+          (log_with (line_of X c zz).publishes L)
       goes_kept IsClosed at protocol_reclaimed = idle_kept X P laws x ok width starts owner_is named
-          announces apart rows two H y T D V frames k p c old word answer free [] plain_none
+          announces apart rows two H y T D L V frames k p c old word answer free [] plain_none
           nothing_put
       goes_kept IsIdle at protocol_reclaimed = idle_kept X P laws x ok width starts owner_is named
-          announces apart rows two H y T D V frames k p c old word answer free [] plain_none
+          announces apart rows two H y T D L V frames k p c old word answer free [] plain_none
           nothing_put
       goes_kept IsSpent at protocol_reclaimed = idle_kept X P laws x ok width starts owner_is named
-          announces apart rows two H y T D V frames k p c old word answer free [] plain_none
+          announces apart rows two H y T D L V frames k p c old word answer free [] plain_none
           nothing_put
       goes_kept LooksAtStage at protocol_reclaimed =
           let rests = tells X c LooksAtStage at in
-          looks_kept X P laws x ok width starts owner_is named announces apart rows two H y T D V
+          looks_kept X P laws x ok width starts owner_is named announces apart rows two H y T D L V
           frames k p c old word answer free rests (sym (ap (situation_at X c) rests) ∙ at)
       goes_kept (Elects t e) at protocol_reclaimed =
           let f = tells X c (Elects t e) at in
-          elects_kept X P laws x ok width starts owner_is named announces apart rows two H y T D V
+          elects_kept X P laws x ok width starts owner_is named announces apart rows two H y T D L V
           frames k p c old word answer free t e at f.0 f.1
       goes_kept (TakesPage t) at protocol_reclaimed =
           let f = tells X c (TakesPage t) at in
           let o = owner_of (X.owner f.0) f.2 in
-          takes_kept X P laws x ok width starts owner_is named announces apart rows two H y T D V
+          takes_kept X P laws x ok width starts owner_is named announces apart rows two H y T D L V
           frames k p c old word answer free t f.0 at f.1 o.0 o.1
       goes_kept (AwaitsPage t) at protocol_reclaimed = absurd
           (subst (Fits (slice_index y.bases) V frames c) (tells X c (AwaitsPage t) at) part.fits)
       goes_kept (StoresWord t page stored) at protocol_reclaimed =
           let f = tells X c (StoresWord t page stored) at in
-          stores_kept X P laws x ok width starts owner_is named announces apart rows two H y T D V
+          stores_kept X P laws x ok width starts owner_is named announces apart rows two H y T D L V
           frames k p c old word answer free t page stored f.0 f.1
           (stores_unpublished t page stored f.0 page.ended
           (has_room c page) (nat_lt stored (frame_len c)) (sym (ap (situation_at X c) f.1) ∙ at)) at
       goes_kept (StoresLength t page stored) at protocol_reclaimed =
           let f = tells X c (StoresLength t page stored) at in
-          tells_kept X P laws x ok width starts owner_is named announces apart rows two H y T D V
+          tells_kept X P laws x ok width starts owner_is named announces apart rows two H y T D L V
           frames k p c old word answer free t page stored f.0 f.1
           (tells_unpublished t page stored f.0 page.ended
           (has_room c page) (nat_lt stored (frame_len c)) (sym (ap (situation_at X c) f.1) ∙ at)) at
       goes_kept (GivesBack t page reason) at protocol_reclaimed =
           let f = tells X c (GivesBack t page reason) at in
-          gives_kept X P laws x ok width starts owner_is named announces apart rows two H y T D V
+          gives_kept X P laws x ok width starts owner_is named announces apart rows two H y T D L V
           frames k p c old word answer free t page f.0 f.1 f.2 reason at
           (protocol_reclaimed t page reason refl)
       goes_kept (HasHanded t reason) at protocol_reclaimed = absurd
@@ -169,6 +173,7 @@ module _ {E : Type 0} (X : Election E) (P : Protocol E (Unit {0}) ℕ)
     abbrev KeptDue : ℕ → Answered → Due E → Type 0
     KeptDue word answer d = HasKept H (protocol_after X x rows y p c d word) (trails_with y p d T)
         (actions_with p (due_actions X x rows y c d word answer) D)
+        (log_with (publishes_of X c d) L)
 
     turn_kept : (word : ℕ) (answer : Answered) → KeptDue word answer (due_in X x rows y p c)
     turn_kept word answer = by_pin (step_at (y.reclamation.pins p) (presence_at z p) 1) refl
@@ -193,7 +198,7 @@ module _ {E : Type 0} (X : Election E) (P : Protocol E (Unit {0}) ℕ)
             → KeptDue word answer (due_reclaimed s o (situation_of X c))
         by_step s is free (Some o) due =
             reclaimer_kept X P laws x ok width starts owner_is named announces apart rows two H y T
-            D V frames k p c old s o (same_reclaimer (situation_of X c) s is) due
+            D L V frames k p c old s o (same_reclaimer (situation_of X c) s is) due
         by_step s is free None due =
             goes_kept word answer free (situation_of X c) refl (λ t page reason e u same.
             let one = same_Some _ _ (sym (same_reclaimer (situation_of X c) s is) ∙ same) in
@@ -213,7 +218,7 @@ module _ {E : Type 0} (X : Election E) (P : Protocol E (Unit {0}) ℕ)
         by_pin : (o : Option Op) → step_at (y.reclamation.pins p) (presence_at z p) 1 ≡ o
             → KeptDue word answer (due_beside o y.reclamation.reclaimer (situation_of X c))
         by_pin (Some o) due = pin_kept X P laws x ok width starts owner_is named announces apart
-            rows two H y T D V frames k p c old o due (y.reclamation.pins p) refl
+            rows two H y T D L V frames k p c old o due (y.reclamation.pins p) refl
         by_pin None free =
             by_reclaimer (reclaim_due (situation_of X c) y.reclamation.reclaimer) refl free
 
@@ -225,7 +230,7 @@ module _ {E : Type 0} (X : Election E) (P : Protocol E (Unit {0}) ℕ)
 
     accept_kept : (a : Accepted) → AreAccepted (a ∷ []) → y.reclamation.pins p ≡ Away
         → HasKept H (record y { senders = put p (Some (accept c a)) y.senders }) T
-        (actions_with p (accepted_actions a) D)
+        (actions_with p (accepted_actions a) D) L
     accept_kept a good away = record {
       V = V;
       frames = frames;
@@ -235,6 +240,7 @@ module _ {E : Type 0} (X : Election E) (P : Protocol E (Unit {0}) ℕ)
         sending = grows X P laws x ok width V y.home y.owners frames p (a ∷ []) good y.senders
             k.sending c old (put p (Some (accept c a)) y.senders)
             (put_beside p (Some (accept c a)) y.senders) (put_here p (Some (accept c a)) y.senders);
+        log_is = k.log_is;
         W = k.W;
         stored = stored_put V refl (accept c a) (λ t page stored b e. sym (same_phase a) ∙ e);
         laid = k.laid;
@@ -334,7 +340,7 @@ module _ {E : Type 0} (X : Election E) (P : Protocol E (Unit {0}) ℕ)
   }
 
   start_kept : (y : CyclicProtocol E) → IsNewProtocol x rows y
-      → HasKept no_answers y no_trails no_actions
+      → HasKept no_answers y no_trails no_actions []
   start_kept y new = record {
     V = λ r. 0;
     frames = [];
@@ -348,6 +354,7 @@ module _ {E : Type 0} (X : Election E) (P : Protocol E (Unit {0}) ℕ)
           (sym new.owners)
           (new_sending X P laws x ok y.bases new.bases_are (λ r. 0) (λ r. refl) y.senders
           new.senders));
+      log_is = refl;
       W = 0;
       stored = record {
         few = omega arith;
@@ -402,11 +409,11 @@ module _ {E : Type 0} (X : Election E) (P : Protocol E (Unit {0}) ℕ)
 
   -- ---- a turn of a receiver
   heard_kept : (H : ℕ → List RecvTurn) (y : CyclicProtocol E) (T : Trails) (D : ℕ → List Action)
-      → HasKept H y T D → (r : ℕ) (v next : Receiving) (answer : RecvTurn) → y.receivers r ≡ Some v
-      → RecvDoes y.reclamation.words v answer next
+      (L : List ℕ) → HasKept H y T D L → (r : ℕ) (v next : Receiving) (answer : RecvTurn)
+      → y.receivers r ≡ Some v → RecvDoes y.reclamation.words v answer next
       → HasKept (answers_with r answer H) (record y { receivers = put r (Some next) y.receivers }) T
-      D
-  heard_kept H y T D has r v next answer at does =
+      D L
+  heard_kept H y T D L has r v next answer at does =
       let k = has.kept in
       record {
         V = has.V;
@@ -419,6 +426,7 @@ module _ {E : Type 0} (X : Election E) (P : Protocol E (Unit {0}) ℕ)
               (let a = k.stored.low in omega arith)) (H r) h answer next does);
           reached = k.reached;
           sending = k.sending;
+          log_is = k.log_is;
           W = k.W;
           stored = k.stored;
           laid = k.laid;
@@ -431,18 +439,22 @@ module _ {E : Type 0} (X : Election E) (P : Protocol E (Unit {0}) ℕ)
 
   -- ---- whatever happens
   pub led_kept : (H : ℕ → List RecvTurn) (y : CyclicProtocol E) (T : Trails) (D : ℕ → List Action)
-      → Led X x rows y T D H → HasKept H y T D
-  led_kept H y T D (NewProtocol w new) = start_kept w new
-  led_kept H y T D (Turned w U F J p c word answer before old told) =
-      let k = led_kept J w U F before in turn_kept J w U F k.V k.frames k.kept p c old word answer
-  led_kept H y T D (PutIn w U F J p c bytes before old away small) =
-      let k = led_kept J w U F before in
-      accept_kept J w U F k.V k.frames k.kept p c old (Puts bytes) (small, tt) away
-  led_kept H y T D (MarkedIn w U F J p c m before old away) =
-      let k = led_kept J w U F before in
-      accept_kept J w U F k.V k.frames k.kept p c old (Asks m) tt away
-  led_kept H y T D (Heard w U F J r v next answer before at does) =
-      heard_kept J w U F (led_kept J w U F before) r v next answer at does
+      (L : List ℕ) → Led X x rows y T D H L → HasKept H y T D L
+  led_kept H y T D L (NewProtocol w new) = start_kept w new
+  led_kept H y T D L (Turned w U F J M p c word answer before old told) =
+      let k = led_kept J w U F M before in
+      let d = due_in X x rows w p c in
+      subst (HasKept J (protocol_after X x rows w p c d word) (trails_with w p d U)
+      (actions_with p (due_actions X x rows w c d word answer) F)) (log_more (publishes_of X c d) M)
+      (turn_kept J w U F M k.V k.frames k.kept p c old word answer)
+  led_kept H y T D L (PutIn w U F J M p c bytes before old away small) =
+      let k = led_kept J w U F M before in
+      accept_kept J w U F M k.V k.frames k.kept p c old (Puts bytes) (small, tt) away
+  led_kept H y T D L (MarkedIn w U F J M p c m before old away) =
+      let k = led_kept J w U F M before in
+      accept_kept J w U F M k.V k.frames k.kept p c old (Asks m) tt away
+  led_kept H y T D L (Heard w U F J M r v next answer before at does) =
+      heard_kept J w U F M (led_kept J w U F M before) r v next answer at does
 
   -- ---- what is promised
   above_it : (a k w : ℕ) → k < w → (a ≤ a + k) × (a + k < a + w)
@@ -457,9 +469,9 @@ module _ {E : Type 0} (X : Election E) (P : Protocol E (Unit {0}) ℕ)
 
   pub protocol_promised :
       (y : CyclicProtocol E) (T : Trails) (D : ℕ → List Action) (H : ℕ → List RecvTurn)
-      → Led X x rows y T D H → IsKeptProtocol X x rows y T D H
-  protocol_promised y T D H led =
-      let k = led_kept H y T D led in
+      (L : List ℕ) → Led X x rows y T D H L → IsKeptProtocol X x rows y T D H L
+  protocol_promised y T D H L led =
+      let k = led_kept H y T D L led in
       let h = k.kept in
       let lawful = h.sending.log.lawful in
       let tables = h.ties.tables in
@@ -492,14 +504,14 @@ module _ {E : Type 0} (X : Election E) (P : Protocol E (Unit {0}) ℕ)
           spelled = record {
             frames = k.frames;
             lawful = lawful;
-            words_are = sym (ap (words_read_from y.reclamation.words (log_from x rows))
-                h.laid.length
-                ∙ words_read (k.V 0) y.reclamation.words k.V (log_from x rows) (log_at x)
-                (λ j l. found_straight x rows y.reclamation k.V h.W j h.laid h.stored.few
-                (let a = h.stored.low in omega arith)) ∙ h.sending.log.words_are);
+            words_are = h.log_is;
             order_is = refl;
             owners_are = refl;
           };
+          shows = ap (words_read_from y.reclamation.words (log_from x rows)) h.laid.length
+              ∙ words_read (k.V 0) y.reclamation.words k.V (log_from x rows) (log_at x)
+              (λ j l. found_straight x rows y.reclamation k.V h.W j h.laid h.stored.few
+              (let a = h.stored.low in omega arith)) ∙ h.sending.log.words_are ∙ h.log_is;
           promises = record {
             one_owner = λ t s s' o o' e f.
                 let a = tables.only_elected t s o e in

@@ -73,17 +73,19 @@ module _ {E : Type 0} (X : Election E) (P : Protocol E (Unit {0}) ℕ)
   IsParticipant =
       kept.IsParticipant X P laws x ok width starts owner_is named announces apart rows two
 
-  abbrev Kept : (ℕ → List RecvTurn) → CyclicProtocol E → Trails → (ℕ → List Action) → (ℕ → ℕ)
-      → List Frame → Type 0
+  abbrev Kept : (ℕ → List RecvTurn) → CyclicProtocol E → Trails → (ℕ → List Action) → List ℕ
+      → (ℕ → ℕ) → List Frame → Type 0
   Kept = kept.Kept X P laws x ok width starts owner_is named announces apart rows two
 
-  abbrev HasKept : (ℕ → List RecvTurn) → CyclicProtocol E → Trails → (ℕ → List Action) → Type 0
+  abbrev HasKept : (ℕ → List RecvTurn) → CyclicProtocol E → Trails → (ℕ → List Action)
+      → List ℕ → Type 0
   HasKept = kept.HasKept X P laws x ok width starts owner_is named announces apart rows two
 
   module _ (H : ℕ → List RecvTurn) (y : CyclicProtocol E) (T : Trails) (D : ℕ → List Action)
-      (V : ℕ → ℕ) (frames : List Frame) (k : Kept H y T D V frames) (p : ℕ) (c : Core E)
-      (old : y.senders p ≡ Some c) where
+      (L : List ℕ) (V : ℕ → ℕ) (frames : List Frame) (k : Kept H y T D L V frames) (p : ℕ)
+      (c : Core E) (old : y.senders p ≡ Some c) where
     open kept.turn_facts X P laws x ok width starts owner_is named announces apart rows two H y T D
+        L
         V frames k p c old use {
           part,
           participant,
@@ -129,7 +131,7 @@ module _ {E : Type 0} (X : Election E) (P : Protocol E (Unit {0}) ℕ)
       -- the sender's part is as it was
       pin_over : (v : Pin) → y.reclamation.pins p ≡ v → core_looked X c v got ≡ c
           → IsParticipant (pin_fed v got) c
-          → HasKept H (protocol_pin_stepped X y p c o) trail' same_actions
+          → HasKept H (protocol_pin_stepped X y p c o) trail' same_actions L
       pin_over v at same is = record {
         V = V;
         frames = frames;
@@ -139,6 +141,7 @@ module _ {E : Type 0} (X : Election E) (P : Protocol E (Unit {0}) ℕ)
           sending = subst (λ s. Sending (slice_index y.bases) P x V y.home s y.owners frames)
               (sym (put_is p (Some (core_looked X c (y.reclamation.pins p) got)) y.senders
               (old ∙ ap Some (sym (ap (λ w. core_looked X c w got) at ∙ same))))) k.sending;
+          log_is = k.log_is;
           W = k.W;
           stored = stored_put V refl (core_looked X c (y.reclamation.pins p) got)
               (λ t page stored b e.
@@ -163,7 +166,7 @@ module _ {E : Type 0} (X : Election E) (P : Protocol E (Unit {0}) ℕ)
 
       -- it begins the tenure
       pin_begins : (t : ℕ) → y.reclamation.pins p ≡ Validating t → (got / 2 == t) ≡ true
-          → got / 2 ≡ t → HasKept H (protocol_pin_stepped X y p c o) trail' same_actions
+          → got / 2 ≡ t → HasKept H (protocol_pin_stepped X y p c o) trail' same_actions L
       pin_begins t at told same =
           let v_now : pin_fed (y.reclamation.pins p) got ≡ Pinned t =
           ap (λ w. pin_fed w got) at ∙ ap (λ b. cond b (Pinned t) (Invalidated t)) told in
@@ -186,6 +189,7 @@ module _ {E : Type 0} (X : Election E) (P : Protocol E (Unit {0}) ℕ)
                   e.rests t e.looks (omega arith) e.least e.room
                   (put_here p (Some (core_looked X c (y.reclamation.pins p) got)) y.senders
                   ∙ ap Some c_now);
+              log_is = k.log_is;
               W = k.W;
               stored = stored_put V refl (core_looked X c (y.reclamation.pins p) got)
                   (λ u page stored b e. absurd (bus.holding_apart u page stored b t
@@ -229,7 +233,7 @@ module _ {E : Type 0} (X : Election E) (P : Protocol E (Unit {0}) ℕ)
       unelected v at out t e i = out t (sym at ∙ participant.electing t e i)
 
       pub pin_kept : (v : Pin) → y.reclamation.pins p ≡ v
-          → HasKept H (protocol_pin_stepped X y p c o) trail' same_actions
+          → HasKept H (protocol_pin_stepped X y p c o) trail' same_actions L
       pin_kept Away at =
           absurd (let bad = sym (ap (λ w. step_at w (presence_at z p) 1) at) ∙ due in cc)
       pin_kept (Announcing t) at = pin_over (Announcing t) at refl record {
@@ -287,7 +291,7 @@ module _ {E : Type 0} (X : Election E) (P : Protocol E (Unit {0}) ℕ)
 
       pub idle_kept : (ds : List Action) → IsPlain ds → PutsNothing ds
           → HasKept H (beside_protocol y.reclamation.words (y.reclamation.pins p) c) T
-          (actions_with p ds D)
+          (actions_with p ds D) L
       idle_kept ds plain nothing = record {
         V = V;
         frames = frames;
@@ -300,6 +304,7 @@ module _ {E : Type 0} (X : Election E) (P : Protocol E (Unit {0}) ℕ)
           }) T) (sym (put_is p (y.reclamation.pins p) y.reclamation.pins refl)) k.reached;
           sending = subst (λ s. Sending (slice_index y.bases) P x V y.home s y.owners frames)
               (sym (put_is p (Some c) y.senders old)) k.sending;
+          log_is = k.log_is;
           W = k.W;
           stored = stored_put V refl c (λ t page stored b e. e);
           laid = laid_quiet x rows y.reclamation (record {
@@ -352,14 +357,14 @@ module _ {E : Type 0} (X : Election E) (P : Protocol E (Unit {0}) ℕ)
           announcing = enters;
         }
 
-        waiting_kept : HasKept H (beside_protocol y.reclamation.words Away c) T looked_actions
+        waiting_kept : HasKept H (beside_protocol y.reclamation.words Away c) T looked_actions L
         waiting_kept = subst
-            (λ v. HasKept H (beside_protocol y.reclamation.words v c) T looked_actions) away
+            (λ v. HasKept H (beside_protocol y.reclamation.words v c) T looked_actions L) away
             (idle_kept looked looked_plain looked_nothing)
 
         spent_kept : c.least ≤ stage / 2
             → HasKept H (beside_protocol y.reclamation.words Away (record c { least = stage / 2 }))
-            T looked_actions
+            T looked_actions L
         spent_kept more =
             let c' : Core E = record c { least = stage / 2 } in
             let pins_same = put_is p Away y.reclamation.pins away in
@@ -386,6 +391,7 @@ module _ {E : Type 0} (X : Election E) (P : Protocol E (Unit {0}) ℕ)
                       queue = part.queue;
                       fits = subst (Fits (slice_index y.bases) V frames c') (sym rests) fits;
                     };
+                log_is = k.log_is;
                 W = k.W;
                 stored = stored_put V refl c' (λ t page stored b e.
                     absurd (resting_no_holding t page stored b (sym rests ∙ e)));
@@ -412,7 +418,7 @@ module _ {E : Type 0} (X : Election E) (P : Protocol E (Unit {0}) ℕ)
 
         enters_kept : c.least ≤ stage / 2 → stage / 2 < x.rows
             → HasKept H (beside_protocol y.reclamation.words (Announcing (stage / 2)) c) T
-            looked_actions
+            looked_actions L
         enters_kept more room =
             let t : ℕ = stage / 2 in
             let reclamation' : Reclamation = record {
@@ -429,6 +435,7 @@ module _ {E : Type 0} (X : Election E) (P : Protocol E (Unit {0}) ℕ)
                     (Begins y.reclamation T p t part.below away);
                 sending = subst (λ s. Sending (slice_index y.bases) P x V y.home s y.owners frames)
                     (sym (put_is p (Some c) y.senders old)) k.sending;
+                log_is = k.log_is;
                 W = k.W;
                 stored = stored_put V refl c (λ t page stored b e. e);
                 laid = laid_quiet x rows y.reclamation reclamation' V k.W
@@ -452,15 +459,15 @@ module _ {E : Type 0} (X : Election E) (P : Protocol E (Unit {0}) ℕ)
             }
 
         pub looks_kept : HasKept H (protocol_after_going X x rows y p c LooksAtStage word) T
-            looked_actions
+            looked_actions L
         looks_kept = subst (λ w.
-            HasKept H (beside_protocol w (pin_seen c stage) (core_seen c stage)) T looked_actions)
+            HasKept H (beside_protocol w (pin_seen c stage) (core_seen c stage)) T looked_actions L)
             (sym (put_same 1 y.reclamation.words)) (by_waits (waits c stage) refl)
           where
             by_room : (b : Bool) → nat_le c.layout.rows (stage / 2) ≡ b → waits c stage ≡ false
                 → HasKept H (beside_protocol y.reclamation.words
                 (cond b Away (Announcing (stage / 2))) (cond b (record c { least = stage / 2 }) c))
-                T looked_actions
+                T looked_actions L
             by_room true e w = spent_kept (open_stage c stage w).1
             by_room false e w = enters_kept (open_stage c stage w).1
                 (let a = leb-false c.layout.rows (stage / 2) e in
@@ -472,6 +479,6 @@ module _ {E : Type 0} (X : Election E) (P : Protocol E (Unit {0}) ℕ)
                 (cond (nat_le c.layout.rows (stage / 2)) Away (Announcing (stage / 2))))
                 (cond b c
                 (cond (nat_le c.layout.rows (stage / 2)) (record c { least = stage / 2 }) c))) T
-                looked_actions
+                looked_actions L
             by_waits true e = waiting_kept
             by_waits false e = by_room (nat_le c.layout.rows (stage / 2)) refl e

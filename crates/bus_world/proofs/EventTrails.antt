@@ -25,7 +25,7 @@ use Rattle.bus_deliverylog.specs.Orders.{of_sender}
 use Rattle.bus_deliverylog.specs.Receiving.{Receiving}
 use Rattle.bus_deliverylog.specs.declared.receiving.RecvTurn.{RecvTurn}
 use Rattle.bus_tenure.specs.Core.{Core, Election, Layout}
-use Rattle.bus_tenure.specs.Situations.{kind_at, situation_of, op_at, answer_at}
+use Rattle.bus_tenure.specs.Situations.{kind_at, situation_of, line_of, op_at, answer_at}
 use Rattle.bus_tenure.specs.declared.turns.Turn.{Turn as Answered}
 use Rattle.bus_tenure.specs.declared.phases.Phase.TheVariants as phase
 use Rattle.bus_ownerbits.specs.OneOwner.{OneOwner}
@@ -46,8 +46,8 @@ use Rattle.bus_world.proofs.Beginning.{words_zero}
 use Rattle.bus_world.proofs.BusLaws as bus
 use Rattle.bus_world.specs.Headline.{Action, HasPut, HasMarked, Stepped, puts, Took, Asked}
 use Rattle.bus_world.specs.Headline.{IsPrefix, Promises}
-use Rattle.bus_world.specs.Log.{next_number, sent_count}
-use Rattle.bus_world.proofs.LogLaws.{length-logged}
+use Rattle.bus_world.specs.Log.{next_number, sent_count, words_of_frame}
+use Rattle.bus_world.proofs.LogLaws.{length-logged, log_words-append}
 use Rattle.bus_world.specs.Proved.Machines.{Side, side_after, core_after, Bus, going, IsEvent}
 use Rattle.bus_world.specs.Proved.Machines.{Happens, SenderDoes, with_sender, can_put, can_close}
 use Rattle.bus_world.specs.Proved.Machines.{put_in, mark_in, IsNew, is_open}
@@ -61,13 +61,13 @@ use Rattle.bus_world.specs.declared.events.Answer.{Answer}
 use Rattle.bus_world.specs.declared.events.Answer.TheVariants as answer
 use Rattle.bus_world.specs.Proved.Trails.{Trails, no_trails, trails_grown, actions_of}
 use Rattle.bus_world.specs.Proved.Trails.{turning_actions, heard_of, answer_heard, IsPromisedBy}
-use Rattle.bus_world.specs.Proved.Trails.{Reached}
+use Rattle.bus_world.specs.Proved.Trails.{Reached, log_by, event_log}
 use Rattle.bus_world.specs.Trails.{put_actions, mark_actions, step_action}
 use Rattle.bus_world.specs.Proved.Trails.Reached.{New, Then}
 use Rattle.bus_world.specs.Proved.Invariants.{LawfulBus}
 use Rattle.bus_world.proofs.Stopping.{is_there}
-use Rattle.bus_world.proofs.Waiting.{frames_after, put_by, waiting_of, waiting_at, accepted}
-use Rattle.bus_world.proofs.Waiting.{accepted_by, event_frames, frames_by}
+use Rattle.bus_world.proofs.Waiting.{with_frame, frames_after, put_by, waiting_of, waiting_at}
+use Rattle.bus_world.proofs.Waiting.{accepted, accepted_by, event_frames, frames_by}
 use Rattle.bus_world.proofs.Tying.{AreNumbered, Hears, Tied}
 use Rattle.bus_world.proofs.Places.{got_split, none_in, only_one}
 use Rattle.bus_world.proofs.TableTrails.{plain_put, plain_mark}
@@ -128,6 +128,12 @@ put_taken q len can =
     ∙ ap (λ z. cond z false true && (nat_le len 56 && nat_lt (length q.messages) 16)) can.idle
     ∙ ap (λ z. z && nat_lt (length q.messages) 16) (le-leb len 56 can.short)
     ∙ below_most (length q.messages) 16 can.room
+
+-- the words of a frame that joins the others
+words_with : (o : Option Frame) (frames : List Frame)
+    → log_words (with_frame o frames) ≡ log_words frames ++ words_of_frame o
+words_with None frames = sym (append-nil (log_words frames))
+words_with (Some f) frames = log_words-append frames f
 
 module _ {E : Type 0} (X : Election E) where
   put_puts_at : (t : Bool) (o : Option (Core E)) (bytes : List ℕ) (n : ℕ)
@@ -513,16 +519,32 @@ module _ (bases : List ℕ) {E : Type 0} (X : Election E) (P : Protocol E (Unit 
     numbers b' (Recv r) a w q j n bytes e = absurd (none_in j _ e)
     numbers b' (Stop s) a w q j n bytes e = absurd (none_in j _ e)
 
+  -- ---- what is published
+  words_by : (o : Option (Core E)) (frames : List Frame)
+      → log_words (frames_by X o frames) ≡ log_by X o (log_words frames)
+  words_by None frames = refl
+  words_by (Some c) frames = words_with (line_of X c (situation_of X c)).publishes frames
+
+  event_words : (b : Bus E) (e : Event) (frames : List Frame)
+      → log_words (event_frames X b e frames) ≡ event_log X b e (log_words frames)
+  event_words b (Put s bytes) frames = refl
+  event_words b (Ask s m) frames = refl
+  event_words b (Turn s word) frames = words_by (going b s) frames
+  event_words b (Recv r) frames = refl
+  event_words b (Stop s) frames = refl
+
   -- ---- one event, and any list of them
   pub record Kept (b : Bus E) (T : Trails) : Type 0 where
     pub frames : List Frame
     pub lawful : LawfulBus (slice_index bases) P x b frames
+    pub log_is : log_words frames ≡ T.log
     pub tied : Tied bases P x b frames T
 
   -- with these frames and more
   pub record KeptOn (frames : List Frame) (b : Bus E) (T : Trails) : Type 0 where
     pub more : List Frame
     pub lawful : LawfulBus (slice_index bases) P x b (frames ++ more)
+    pub log_is : log_words (frames ++ more) ≡ T.log
     pub tied : Tied bases P x b (frames ++ more) T
 
   event_on : (b b' : Bus E) (e : Event) (a : Answer) (T : Trails) (k : Kept b T) → IsEvent e
@@ -541,6 +563,7 @@ module _ (bases : List ℕ) {E : Type 0} (X : Election E) (P : Protocol E (Unit 
       record {
         more = more;
         lawful = lawful;
+        log_is = ap log_words frames_are ∙ event_words b e k.frames ∙ ap (event_log X b e) k.log_is;
         tied = record {
           tables = t.tables;
           takers = t.takers;
@@ -564,7 +587,12 @@ module _ (bases : List ℕ) {E : Type 0} (X : Election E) (P : Protocol E (Unit 
       }
 
   abbrev kept_of : (frames : List Frame) (b : Bus E) (T : Trails) → KeptOn frames b T → Kept b T
-  kept_of frames b T k = record { frames = frames ++ k.more; lawful = k.lawful; tied = k.tied }
+  kept_of frames b T k = record {
+    frames = frames ++ k.more;
+    lawful = k.lawful;
+    log_is = k.log_is;
+    tied = k.tied;
+  }
 
   event_kept : (b b' : Bus E) (e : Event) (a : Answer) (T : Trails) → Kept b T → IsEvent e
       → Happens X b e b' → Answers X b e a b' → Kept b' (trails_grown X b e a T)
@@ -584,6 +612,7 @@ module _ (bases : List ℕ) {E : Type 0} (X : Election E) (P : Protocol E (Unit 
     start_kept = record {
       frames = [];
       lawful = new_is_lawful X P laws x ok width starts owner_is bases b new;
+      log_is = refl;
       tied = record {
         tables = record {
           elections = λ t p. None;
@@ -702,10 +731,11 @@ module _ (bases : List ℕ) {E : Type 0} (X : Election E) (P : Protocol E (Unit 
       spelled = record {
         frames = frames;
         lawful = k.lawful.keeps.sending.log.lawful;
-        words_are = sym k.lawful.keeps.sending.log.words_are;
+        words_are = k.log_is;
         order_is = refl;
         owners_are = refl;
       };
+      shows = k.lawful.keeps.sending.log.words_are ∙ k.log_is;
       takers = record { took = k.tied.takers.took; only = k.tied.takers.only };
       promises = page;
     }

@@ -1,10 +1,12 @@
 -- What senders have put, and what an event puts and publishes.
-use Rattle.std.proofs.Common.{ℕ, cond, ◌==◌, Option, Some, None, List, [], ◌∷◌, ◌++◌, length, map}
-use Rattle.std.proofs.Common.{slice_get}
-use Rattle.bus_batch.specs.Frames.{Frame, order_of}
+use Rattle.std.proofs.Common.{◌≡◌, ℕ, cond, ◌==◌, Option, Some, None, List, [], ◌∷◌, ◌++◌, length}
+use Rattle.std.proofs.Common.{map, slice_get, refl, sym}
+use Rattle.std.proofs.lemmas.List.{append-nil}
+use Rattle.bus_batch.specs.Frames.{Frame, frame_words, order_of}
 use Rattle.bus_deliverylog.specs.Orders.{of_sender}
 use Rattle.bus_tenure.specs.Core.{Core, Election}
 use Rattle.bus_tenure.specs.Situations.{Situation, situation_of, line_of}
+use Rattle.bus_world.specs.Log.{words_of_frame}
 pub use Rattle.bus_world.specs.Waiting.{waiting_at}
 use Rattle.bus_world.specs.Proved.Machines.{Bus, going, can_put}
 use Rattle.bus_world.specs.World.{Event, Put, Ask, Turn, Recv, Stop}
@@ -13,6 +15,15 @@ use Rattle.bus_world.specs.World.{Event, Put, Ask, Turn, Recv, Stop}
 abbrev pub with_frame : Option Frame → List Frame → List Frame
 with_frame None frames = frames
 with_frame (Some f) frames = frames ++ f ∷ []
+
+-- its words, behind those of the log
+abbrev pub log_with : Option Frame → List ℕ → List ℕ
+log_with None log = log
+log_with (Some f) log = log ++ frame_words f
+
+pub log_more : (o : Option Frame) (log : List ℕ) → log_with o log ≡ log ++ words_of_frame o
+log_more None log = sym (append-nil log)
+log_more (Some f) log = refl
 
 -- after a turn in a situation: one more where the length was stored
 abbrev pub frames_after : {E : Type 0} → Election E → Core E → Situation E → List Frame → List Frame

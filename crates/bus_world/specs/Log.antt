@@ -1,9 +1,9 @@
 -- The words of a log, the numbers of its items, and the page that knows of it.
-use Rattle.std.specs.Prelude.{◌≡◌, ℕ, zero, suc, ◌+◌, ◌<◌, List, [], ◌∷◌, ◌++◌, length, Some}
-use Rattle.std.specs.Prelude.{slice_get, slice_index}
+use Rattle.std.specs.Prelude.{◌≡◌, ℕ, zero, suc, ◌+◌, ◌<◌, Option, Some, None, List, [], ◌∷◌, ◌++◌}
+use Rattle.std.specs.Prelude.{length, slice_get, slice_index}
 use Rattle.bus_register.specs.declared.limits.TheConstants.{MOST_SENDERS}
 use Rattle.bus_batch.specs.declared.messages.Item.{Item}
-use Rattle.bus_batch.specs.Frames.{Frame, order_of, has_end, has_gone}
+use Rattle.bus_batch.specs.Frames.{Frame, frame_words, order_of, has_end, has_gone}
 use Rattle.bus_deliverylog.specs.Orders.{of_sender}
 use Rattle.bus_tenure.specs.declared.pages.Page.{Page}
 
@@ -11,6 +11,11 @@ use Rattle.bus_tenure.specs.declared.pages.Page.{Page}
 abbrev pub words_read_from : (ℕ → ℕ) → ℕ → ℕ → List ℕ
 words_read_from words at zero = []
 words_read_from words at (suc k) = words_read_from words at k ++ words (at + k) ∷ []
+
+-- the words of a frame, where there is one
+abbrev pub words_of_frame : Option Frame → List ℕ
+words_of_frame None = []
+words_of_frame (Some f) = frame_words f
 
 -- how many items of a sender frames have
 abbrev pub sent_count : ℕ → List Frame → ℕ

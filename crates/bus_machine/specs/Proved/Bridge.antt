@@ -34,7 +34,7 @@ of_bus bases x b = record {
 }
 
 abbrev pub plain_trails : Trails → PlainTrails
-plain_trails T = record { actions = T.actions; heard = T.heard }
+plain_trails T = record { actions = T.actions; heard = T.heard; log = T.log }
 
 -- ---- one event
 -- with a row for each tenure it happens to that bus, is answered alike, and adds the same to the
@@ -88,4 +88,4 @@ pub record IsLed {E : Type 0} (X : Election E) (rows : ℕ) (m : Machine E) (T :
   pub reclaimer : Option Reclaiming
   pub holder : (p : ℕ) (v : Sender E) (t : ℕ) → slice_get m.senders p ≡ Some v
       → held_of v.core.phase ≡ Some t → reclaimer_in v.reuse ≡ reclaimer
-  pub led : Led X m.layout rows (protocol_of m reclaimer owners) T.pins T.actions T.heard
+  pub led : Led X m.layout rows (protocol_of m reclaimer owners) T.pins T.actions T.heard T.log

@@ -1,7 +1,7 @@
 -- Senders and receivers of a bus whose rows are used again, in any order: the reclamation, with its
 -- pins and the holder's reclaimer, whose words are those of the bus, with the page, the senders,
 -- the receivers and who took the pages. Tenure t uses row t mod rows.
-use Rattle.std.specs.Prelude.{◌≡◌, ℕ, ◌<◌, Option, Some, None, List, [], ◌∷◌, All, length}
+use Rattle.std.specs.Prelude.{◌≡◌, ℕ, ◌<◌, Option, Some, None, List, [], ◌∷◌, ◌++◌, All, length}
 use Rattle.std.specs.Prelude.{slice_index, if◌then◌else◌}
 use Rattle.bus_register.specs.declared.registers.Op.{Op}
 use Rattle.bus_register.specs.Words.{register, after}
@@ -21,6 +21,7 @@ use Rattle.bus_tenure.specs.Situations.{Situation, line_of, op_at, kind_at}
 use Rattle.bus_tenure.specs.Proved.LineParts.{tenure_at, chosen_at}
 use Rattle.bus_tenure.specs.declared.pages.Page.{Page}
 use Rattle.bus_tenure.specs.declared.turns.Turn.{Turn as Answered}
+use Rattle.bus_core.specs.Proved.Bridge.{publishes_of}
 use Rattle.bus_core.specs.Reusing.Participants.{log_from}
 use Rattle.bus_core.specs.Proved.ParticipantTable.{Due, Pins, Reclaims, Goes, due_of, place_for}
 use Rattle.bus_core.specs.Proved.ParticipantTable.{core_looked, core_going, pin_going}
@@ -29,6 +30,7 @@ use Rattle.bus_world.specs.Turning.{core_moved, after_step}
 use Rattle.bus_world.specs.Proved.Machines.{home_after, owners_after, new_core, can_put, can_close}
 use Rattle.bus_world.specs.Proved.Machines.{put_in, mark_in}
 use Rattle.bus_world.specs.Headline.{Action, HasPut, HasMarked}
+use Rattle.bus_world.specs.Log.{words_of_frame}
 use Rattle.bus_world.specs.Trails.{step_action, no_actions, no_answers, actions_with, answers_with}
 use Rattle.bus_world.specs.Starting.{IsNewReceiver}
 use Rattle.bus_world.specs.World.{AreBases, first_page, RecvDoes}
@@ -148,32 +150,33 @@ pub record IsNewProtocol {E : Type 0} (x : Layout) (rows : ℕ) (y : CyclicProto
 abbrev pub due_in : {E : Type 0} → Election E → Layout → ℕ → CyclicProtocol E → ℕ → Core E → Due E
 due_in X x rows y p c = due_of X x rows p c (y.reclamation.pins p) y.reclamation.reclaimer
 
--- These trails, actions and answers lead to a protocol: from a new one, by one thing after another,
--- of anybody and in any order. A sender takes a turn with any random word; or one that pins no
--- tenure puts a message, closes or leaves; or a receiver takes a turn.
+-- These trails, actions, answers and published words lead to a protocol: from a new one, by one
+-- thing after another, of anybody and in any order. A sender takes a turn with any random word; or
+-- one that pins no tenure puts a message, closes or leaves; or a receiver takes a turn.
 pub data Led {E : Type 0} (X : Election E) (x : Layout) (rows : ℕ) : CyclicProtocol E → Trails
-    → (ℕ → List Action) → (ℕ → List RecvTurn) → Type 0 where
+    → (ℕ → List Action) → (ℕ → List RecvTurn) → List ℕ → Type 0 where
   NewProtocol : (y : CyclicProtocol E) → IsNewProtocol x rows y
-      → Led X x rows y no_trails no_actions no_answers
-  Turned : (y : CyclicProtocol E) (T : Trails) (D : ℕ → List Action) (H : ℕ → List RecvTurn) (p : ℕ)
-      (c : Core E) (word : ℕ) (answer : Answered) → Led X x rows y T D H → y.senders p ≡ Some c
-      → AnswersDue X x rows y c (due_in X x rows y p c) word answer
+      → Led X x rows y no_trails no_actions no_answers []
+  Turned : (y : CyclicProtocol E) (T : Trails) (D : ℕ → List Action) (H : ℕ → List RecvTurn)
+      (L : List ℕ) (p : ℕ) (c : Core E) (word : ℕ) (answer : Answered) → Led X x rows y T D H L
+      → y.senders p ≡ Some c → AnswersDue X x rows y c (due_in X x rows y p c) word answer
       → Led X x rows (protocol_after X x rows y p c (due_in X x rows y p c) word)
       (trails_with y p (due_in X x rows y p c) T)
       (actions_with p (due_actions X x rows y c (due_in X x rows y p c) word answer) D) H
-  PutIn : (y : CyclicProtocol E) (T : Trails) (D : ℕ → List Action) (H : ℕ → List RecvTurn) (p : ℕ)
-      (c : Core E) (bytes : List ℕ) → Led X x rows y T D H → y.senders p ≡ Some c
-      → y.reclamation.pins p ≡ Away → All (λ byte. byte < 256) bytes
+      (L ++ words_of_frame (publishes_of X c (due_in X x rows y p c)))
+  PutIn : (y : CyclicProtocol E) (T : Trails) (D : ℕ → List Action) (H : ℕ → List RecvTurn)
+      (L : List ℕ) (p : ℕ) (c : Core E) (bytes : List ℕ) → Led X x rows y T D H L
+      → y.senders p ≡ Some c → y.reclamation.pins p ≡ Away → All (λ byte. byte < 256) bytes
       → Led X x rows (record y { senders = put p (Some (put_in c bytes)) y.senders }) T
       (actions_with p
-      (if can_put c.queue (length bytes) then HasPut (next_of c.queue) bytes ∷ [] else []) D) H
+      (if can_put c.queue (length bytes) then HasPut (next_of c.queue) bytes ∷ [] else []) D) H L
   MarkedIn : (y : CyclicProtocol E) (T : Trails) (D : ℕ → List Action) (H : ℕ → List RecvTurn)
-      (p : ℕ) (c : Core E) (mark : Mark) → Led X x rows y T D H → y.senders p ≡ Some c
-      → y.reclamation.pins p ≡ Away
+      (L : List ℕ) (p : ℕ) (c : Core E) (mark : Mark) → Led X x rows y T D H L
+      → y.senders p ≡ Some c → y.reclamation.pins p ≡ Away
       → Led X x rows (record y { senders = put p (Some (mark_in c mark)) y.senders }) T
-      (actions_with p (if can_close c.queue then HasMarked mark ∷ [] else []) D) H
-  Heard : (y : CyclicProtocol E) (T : Trails) (D : ℕ → List Action) (H : ℕ → List RecvTurn) (r : ℕ)
-      (v next : Receiving) (answer : RecvTurn) → Led X x rows y T D H → y.receivers r ≡ Some v
-      → RecvDoes y.reclamation.words v answer next
+      (actions_with p (if can_close c.queue then HasMarked mark ∷ [] else []) D) H L
+  Heard : (y : CyclicProtocol E) (T : Trails) (D : ℕ → List Action) (H : ℕ → List RecvTurn)
+      (L : List ℕ) (r : ℕ) (v next : Receiving) (answer : RecvTurn) → Led X x rows y T D H L
+      → y.receivers r ≡ Some v → RecvDoes y.reclamation.words v answer next
       → Led X x rows (record y { receivers = put r (Some next) y.receivers }) T D
-      (answers_with r answer H)
+      (answers_with r answer H) L

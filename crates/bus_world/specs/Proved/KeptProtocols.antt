@@ -18,10 +18,11 @@ use Rattle.bus_world.specs.Trails.{Takers}
 use Rattle.bus_world.specs.Proved.CyclicProtocols.{CyclicProtocol}
 
 -- ---- what is promised of it
--- of its trails, actions and answers, with one order and one list of tenures and owners
+-- of its trails, actions, answers and published words, with one order and one list of tenures and
+-- owners
 pub record KeepsPromises {E : Type 0} (X : Election E) (x : Layout) (rows : ℕ)
     (y : CyclicProtocol E) (T : Trails) (D : ℕ → List Action) (H : ℕ → List RecvTurn)
-    (order : Order) (owners : List (ℕ × SenderNo)) : Type 0 where
+    (L : List ℕ) (order : Order) (owners : List (ℕ × SenderNo)) : Type 0 where
   -- its trails lead to its reclamation by moves of a reclamation: so no row is cleared while
   -- somebody stands in a tenure of it, ..
   pub reached : Reached (sizes_with x rows) y.reclamation T
@@ -40,14 +41,16 @@ pub record KeepsPromises {E : Type 0} (X : Election E) (x : Layout) (rows : ℕ)
       × (place_for x rows (Elects t e) (register o) < row_of (sizes_with x rows) t + x.width)
   -- who took the pages is who did so by its actions
   pub takers : Takers y.owners D
-  -- the words below the length spell the order and the owners
-  pub spelled : Spells x.senders
-      (words_read_from y.reclamation.words (log_from x rows) (y.reclamation.words 0)) order owners
+  -- what was published spells the order and the owners, ..
+  pub spelled : Spells x.senders L order owners
+  -- .. and stands in the words below the length
+  pub shows : words_read_from y.reclamation.words (log_from x rows) (y.reclamation.words 0) ≡ L
   -- the headline's promise, also of tenures whose rows have gone on to others
   pub promises : Promises (slice_index y.bases) D H order owners
 
 pub record IsKeptProtocol {E : Type 0} (X : Election E) (x : Layout) (rows : ℕ)
-    (y : CyclicProtocol E) (T : Trails) (D : ℕ → List Action) (H : ℕ → List RecvTurn) : Type 0 where
+    (y : CyclicProtocol E) (T : Trails) (D : ℕ → List Action) (H : ℕ → List RecvTurn)
+    (L : List ℕ) : Type 0 where
   pub order : Order
   pub owners : List (ℕ × SenderNo)
-  pub by : KeepsPromises X x rows y T D H order owners
+  pub by : KeepsPromises X x rows y T D H L order owners

@@ -3,7 +3,7 @@ use Rattle.bus_tenure.specs.Elections.{elections, election_with}
 use Rattle.bus_world.proofs.Serving.{Serves, serves}
 use Rattle.bus_world.specs.World.{IsLayout}
 use Rattle.bus_machine.proofs.Leading.{Sits}
-use Rattle.bus_machine.proofs.History.{history}
+use Rattle.bus_machine.proofs.Framed.{history}
 use Rattle.bus_machine.proofs.laws.history_stands.Goals as goal
 
 pub returns : goal.returns
