@@ -71,7 +71,7 @@ fn found(op: Op, words: &[u64]) -> u64 {
 
 /// How many messages a receiver is given.
 fn receive(words: &[u64]) -> u64 {
-    let mut reader = Reader::new(1, Reg(1), Reg(0), 1_000_000);
+    let mut reader = Reader::new(1, Reg(1), Reg(0), 1_000_000, None);
     let mut items: u64 = 0;
     for _ in 0..1_000_000 {
         let Some(op) = reader.next() else {

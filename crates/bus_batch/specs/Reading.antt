@@ -1,6 +1,7 @@
 -- Where a reader of frames stands.
 use Rattle.std.specs.Prelude.{◌≡◌, ◌≢◌, ℕ, suc, ◌+◌, ◌-◌, ◌*◌, ◌%◌, ◌<◌, ◌≤◌, List, [], ◌∷◌, ◌++◌}
-use Rattle.std.specs.Prelude.{length, flat_map, All, ◌⊎◌, Option, Some, Bool, true, false, slice_get}
+use Rattle.std.specs.Prelude.{length, flat_map, All, ◌⊎◌, Option, Some, Bool, true, false}
+use Rattle.std.specs.Prelude.{slice_get}
 use Rattle.bus_register.specs.declared.limits.TheConstants.{MOST_MESSAGES, MOST_BYTES}
 use Rattle.bus_register.specs.declared.limits.TheConstants.{MOST_MESSAGE_WORDS}
 use Rattle.bus_register.specs.declared.registers.SenderNo.{SenderNo}

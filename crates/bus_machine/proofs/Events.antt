@@ -309,8 +309,8 @@ module _ {E : Type 0} (X : Election E) (m : Machine E) (h : IsHeld X m) (now : M
 
   -- ---- a turn of a receiver
   module _ (r : ℕ) (v next : Receiving) (t : RecvTurn) (words' : List ℕ)
-      (at : slice_get m.receivers r ≡ Some v) (does : RecvDoes (slice_index m.words) v t next)
-      (same : words' ≡ m.words) where
+      (at : slice_get m.receivers r ≡ Some v) (never : v.passed_at ≡ None)
+      (does : RecvDoes (slice_index m.words) v t next) (same : words' ≡ m.words) where
     abbrev with_reader : Machine E
     with_reader = record m { words = words'; receivers = slice_set m.receivers r next }
 
@@ -320,6 +320,7 @@ module _ {E : Type 0} (X : Election E) (m : Machine E) (h : IsHeld X m) (now : M
       next = next;
       heard = t;
       there = at;
+      never = never;
       does = does;
       answered = refl;
       after = ap (λ w. record m { words = w; receivers = slice_set m.receivers r next }) same;

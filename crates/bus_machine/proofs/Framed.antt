@@ -45,7 +45,7 @@ use Rattle.bus_world.specs.Log.{words_read_from}
 use Rattle.bus_world.specs.Proved.Trails.{Reached as PlainReached, IsPromisedBy as PlainPromised}
 use Rattle.bus_world.specs.Trails.{Takers}
 use Rattle.bus_world.specs.Proved.Machines.{Bus}
-use Rattle.bus_world.specs.Proved.Receiving.{IsReceiver}
+use Rattle.bus_world.specs.Proved.Receiving.{IsReceiver, NeverPasses}
 use Rattle.bus_world.specs.Proved.CyclicProtocols.{CyclicProtocol}
 use Rattle.bus_world.specs.Proved.Invariants.{given_at}
 use Rattle.bus_world.specs.Proved.KeptProtocols.{IsKeptProtocol}
@@ -91,7 +91,7 @@ pub record IsFramed {E : Type 0} (P : Protocol E (Unit {0}) ℕ) (m : Machine E)
   -- a receiver has read the log as far as its place, and was given what stands below it
   pub reads : (r : ℕ) (v : Receiving) → slice_get m.receivers r ≡ Some v
       → (v.log_at ≡ log_place m.layout m.reuse)
-      × IsReceiver m.layout frames (V 0) (placed m.layout v)
+      × IsReceiver m.layout frames (V 0) (placed m.layout v) × NeverPasses v
   pub given : (r : ℕ) (v : Receiving) → slice_get m.receivers r ≡ Some v
       → order_given (T.heard r) ≡ given_at frames v
   pub takers : Takers owners T.actions
@@ -125,6 +125,7 @@ module _ {E : Type 0} (X : Election E) (P : Protocol E (Unit {0}) ℕ) where
     -- and its receivers are those of the bus
     reads_at : (r : ℕ) (v : Receiving) → slice_get b.receivers r ≡ Some v
         → (v.log_at ≡ log_at x) × IsReceiver x k.frames (slice_index b.side.words 0) (placed x v)
+        × NeverPasses v
     reads_at r v at =
         let o = k.lawful.keeps.receiving r v at in (
           o.log,
@@ -135,6 +136,7 @@ module _ {E : Type 0} (X : Election E) (P : Protocol E (Unit {0}) ℕ) where
             log_words = o.log_words;
             receives = o.receives;
           },
+          k.lawful.keeps.never r v at,
         )
 
     -- the bus with a row for each tenure is framed
@@ -243,7 +245,7 @@ module _ {E : Type 0} (X : Election E) (P : Protocol E (Unit {0}) ℕ) where
     -- its receivers read the log of these frames
     reads_some : (r : ℕ) (v : Receiving) → slice_get m.receivers r ≡ Some v
         → (v.log_at ≡ log_place m.layout m.reuse)
-        × IsReceiver m.layout kept.frames (kept.V 0) (placed m.layout v)
+        × IsReceiver m.layout kept.frames (kept.V 0) (placed m.layout v) × NeverPasses v
     reads_some r v at =
         let hears = kept.kept.hears.each r v at in
         let size : length (log_words kept.frames) ≡ kept.V 0 =
@@ -251,6 +253,7 @@ module _ {E : Type 0} (X : Election E) (P : Protocol E (Unit {0}) ℕ) where
         ∙ length-read kept.V (log_at m.layout) (kept.V 0) in (
           hears.log ∙ sym place_is,
           subst (λ n. IsReceiver m.layout kept.frames n (placed m.layout v)) size hears.own,
+          hears.never,
         )
 
     -- the machine is framed

@@ -1,10 +1,11 @@
 -- What a machine that a program holds goes by: room, sums that fit, numbers that fit, no page under
 -- way between turns, and its log.
-use Rattle.std.proofs.Common.{◌≡◌, ◌≢◌, ◌⊎◌, inl, inr, ℕ, ◌+◌, ◌-◌, ◌*◌, ◌<◌, ◌≤◌, ◌^◌, Bool, true}
-use Rattle.std.proofs.Common.{false, cond, ◌==◌, is_some, Option, Some, None, List, length, take}
-use Rattle.std.proofs.Common.{drop, slice_get, slice_index, arith, refl, sym, ◌∙◌, ap, subst}
+use Rattle.std.proofs.Common.{◌≡◌, ◌≢◌, ◌⊎◌, inl, inr, ℕ, ◌+◌, ◌-◌, ◌*◌, ◌%◌, ◌<◌, ◌≤◌, ◌^◌, Bool}
+use Rattle.std.proofs.Common.{true, false, cond, ◌==◌, is_some, Option, Some, None, List, length}
+use Rattle.std.proofs.Common.{take, drop, slice_get, slice_index, arith, refl, sym, ◌∙◌, ap, subst}
 use Rattle.std.specs.Prelude.{IfSome}
 use Rattle.std.proofs.Math.ListN.{length-set}
+use Rattle.std.proofs.Math.Nat.{mod-le}
 use Rattle.std.proofs.lemmas.Bool.{true≢false}
 use Rattle.std.proofs.lemmas.Bool.Decides.{eqb_tells}
 use Rattle.std.proofs.lemmas.List.{length-drop}
@@ -17,7 +18,8 @@ use Rattle.bus_core.proofs.Situated.{own_is}
 use Rattle.bus_core.specs.Senders.{Sender, Situation, Does, log_start, situation, words_all}
 use Rattle.bus_core.specs.Table.{line, line_now, in_row}
 use Rattle.bus_core.specs.declared.reuses.Reuse.{Reuse}
-use Rattle.bus_deliverylog.specs.Receiving.{Receiving, receiving_op}
+use Rattle.bus_deliverylog.proofs.ReceiveLaws.{no_due}
+use Rattle.bus_deliverylog.specs.Receiving.{Receiving, receiving_op, op_by}
 use Rattle.bus_register.specs.Protocol.{Protocol}
 use Rattle.bus_register.specs.Words.{register, SumFits}
 use Rattle.bus_register.specs.declared.registers.Op.{Op}
@@ -40,7 +42,7 @@ use Rattle.bus_world.specs.World.{IsLayout, Event, Put, Ask, Turn, Recv, Stop}
 use Rattle.bus_world.specs.Proved.Sending.{Part, Fits, standing_of, stands_at, least_of}
 use Rattle.bus_world.specs.Headline.{order_given}
 use Rattle.bus_world.specs.Proved.Tenures.Standing.{Runs}
-use Rattle.bus_world.specs.Proved.Receiving.{IsReceiver}
+use Rattle.bus_world.specs.Proved.Receiving.{IsReceiver, NeverPasses}
 use Rattle.bus_world.specs.declared.events.Answer.{Answer}
 use Rattle.bus_world.specs.Proved.Invariants.{given_at}
 use Rattle.bus_machine.proofs.AtNone.{event_reuse}
@@ -299,28 +301,41 @@ module _ {E : Type 0} (X : Election E) (P : Protocol E (Unit {0}) ℕ) where
     module _ (r : ℕ) (v : Receiving) (at : slice_get m.receivers r ≡ Some v) where
       its_reads : (v.log_at ≡ log_place m.layout m.reuse)
           × IsReceiver m.layout its_frames.frames (its_frames.V 0) (placed m.layout v)
+          × NeverPasses v
       its_reads = its_frames.reads r v at
 
+      -- no word of the log is used again
+      pub never_passes : v.passed_at ≡ None
+      never_passes = its_reads.2.never
+
       pub loads_within : IfSome (receiving_op v) (λ o. register o < length m.words)
-      loads_within = by v.ended (v.place == v.known) (eqb_tells v.place v.known) where
-        by : (e q : Bool) → ((q ≡ true) × (v.place ≡ v.known)) ⊎ ((q ≡ false) × (v.place ≢ v.known))
-            → IfSome (cond {A = Option Op} e None (cond q (Some (Load record { 0 = v.length_at }))
-            (Some (Load record { 0 = v.log_at + v.place })))) (λ o. register o < length m.words)
-        by true q how = tt
-        by false true how =
-            let first = its_reads.1.len_at in
-            let some = (word_there m.words refl m.layout.capacity refl).0 in omega arith
-        by false false (inl how) = absurd (true≢false (sym how.0))
-        by false false (inr how) =
-            let own = its_reads.1.receives in
-            let a = own.place_below in
-            let b = own.known_below in
-            let other = how.1 in
-            let below : v.place < v.known = omega arith in
-            let from = its_reads.0 in
-            let size = its_frames.room in
-            let fits = its_frames.sending.log.fits in
-            omega arith
+      loads_within = subst
+          (λ d. IfSome (cond {A = Option Op} v.ended None (Some (op_by d v)))
+          (λ o. register o < length m.words))
+          (sym (no_due v never_passes))
+          (by v.ended (v.place == v.known) (eqb_tells v.place v.known)) where
+            by : (e q : Bool)
+                → ((q ≡ true) × (v.place ≡ v.known)) ⊎ ((q ≡ false) × (v.place ≢ v.known))
+                → IfSome
+                (cond {A = Option Op} e None (Some (cond q (Load record { 0 = v.length_at })
+                (Load record { 0 = v.log_at + v.place % v.log_words }))))
+                (λ o. register o < length m.words)
+            by true q how = tt
+            by false true how =
+                let first = its_reads.1.len_at in
+                let some = (word_there m.words refl m.layout.capacity refl).0 in omega arith
+            by false false (inl how) = absurd (true≢false (sym how.0))
+            by false false (inr how) =
+                let own = its_reads.1.receives in
+                let a = own.place_below in
+                let b = own.known_below in
+                let other = how.1 in
+                let below : v.place < v.known = omega arith in
+                let from = its_reads.0 in
+                let size = its_frames.room in
+                let fits = its_frames.sending.log.fits in
+                let cell = mod-le v.place v.log_words in
+                omega arith
 
       pub place_within : v.place ≤ length (log_of m)
       place_within =

@@ -112,6 +112,8 @@ module _ {S : Type 0} (P : Protocol S Bool Verdict) (shape : Shape) (reuse : Opt
               place = i.place;
               going = i.going;
               read = subst (λ n. HasRead n [] [] v.frames) (sym (senders_are P shape reuse)) i.read;
+              never = i.never;
+              unpassed = i.unpassed;
             };
         stopped = nobody;
         owners = none;

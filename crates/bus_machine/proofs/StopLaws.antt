@@ -158,6 +158,7 @@ module _ {E : Type 0} (X : Election E) (m : Machine E) (s : ℕ) (t : Bool) wher
     next = h.next;
     heard = h.heard;
     there = h.there;
+    never = h.never;
     does = h.does;
     answered = h.answered;
     after = ap (with_stop_of s t) h.after;

@@ -174,6 +174,8 @@ pub record Hears {E : Type 0} (old : Machine E) (r : ℕ) (a : Answer) (new : Ma
   pub next : Receiving
   pub heard : RecvTurn
   pub there : slice_get old.receivers r ≡ Some receiver
+  -- no bus gives a receiver a passed place yet
+  pub never : receiver.passed_at ≡ None
   pub does : RecvDoes (slice_index old.words) receiver heard next
   pub answered : a ≡ answer.Recv heard
   pub after : new ≡ record old { receivers = slice_set old.receivers r next }

@@ -18,8 +18,8 @@ pub record Outcome : Type 0 where
 
 -- The words spell an order, in which each sender's items have its numbers from its first one on.
 -- The page knows of it: the next number of each sender behind it, which senders have left in it,
--- whether it has ended, how many words there are, and from which place on they stand; and each frame
--- is of one of the tenures that it counts. The words spell one order alone.
+-- whether it has ended, how many words there are, and from which place on they stand; and each
+-- frame is of one of the tenures that it counts. The words spell one order alone.
 pub record IsOutcome (z : Outcome) : Type 0 where
   pub order : Order
   pub owners : List (ℕ × SenderNo)

@@ -1,7 +1,7 @@
 -- The step of an event: of which tenure it is, and what stands in its word afterwards.
-use Rattle.std.proofs.Common.{◌≡◌, ℕ, ◌+◌, ◌<◌, ◌==◌, Bool, true, false, cond, Option, Some, None}
-use Rattle.std.proofs.Common.{List, length, slice_get, slice_index, is_some, nat_lt, refl, sym, ap}
-use Rattle.std.proofs.Common.{subst, ◌∙◌}
+use Rattle.std.proofs.Common.{◌≡◌, ℕ, ◌+◌, ◌%◌, ◌<◌, ◌==◌, Bool, true, false, cond, Option, Some}
+use Rattle.std.proofs.Common.{None, List, length, slice_get, slice_index, is_some, nat_lt, refl}
+use Rattle.std.proofs.Common.{sym, ap, subst, ◌∙◌}
 use Rattle.std.proofs.lemmas.List.{get_or-set_same}
 use Rattle.std.proofs.lemmas.Option.{same_Some}
 use Rattle.bus_register.specs.Protocol.{Protocol}
@@ -20,7 +20,8 @@ use Rattle.bus_core.specs.Reusing.Passing.{passing_left}
 use Rattle.bus_core.specs.declared.reuses.Passing.{Passing}
 use Rattle.bus_core.specs.Table.{line, line_now}
 use Rattle.bus_core.specs.declared.reuses.Reuse.{Reuse}
-use Rattle.bus_deliverylog.specs.Receiving.{Receiving}
+use Rattle.bus_deliverylog.specs.Receiving.{Receiving, kind_by, op_by}
+use Rattle.bus_deliverylog.proofs.ReceiveLaws.{no_due}
 use Rattle.bus_machine.specs.Machine.{Machine, Happens, IsOnWord, has_stopped}
 use Rattle.bus_presence.specs.Reclaimers.{Reclaiming}
 use Rattle.bus_presence.specs.declared.pins.Pin.{Pin}
@@ -171,6 +172,7 @@ module _ {S : Type 0} (X : Election (Elector S)) (P : Protocol S Bool Verdict) w
     pinned_in kind.GivePageBack h = absurd (away h.1.away)
     pinned_in kind.LoadLength h = absurd h
     pinned_in kind.LoadLogWord h = absurd h
+    pinned_in kind.StorePassed h = absurd h
 
   tenure_by : (c : Core (Elector S)) (r : Reuse) (u : Pin) → r.pin ≡ u → (k : Kind)
       → HasCause P (sender c (Some r)) k
@@ -225,9 +227,9 @@ stood : (words : List ℕ) (o : Op) → register o < length words
 stood words o l = get_or-set_same words (register o) (after o (slice_index words (register o))) 0 l
 
 load_leaves : (v : Receiving) (step : Step) (n : ℕ) (a b : Bool)
-    → step_of None (cond a None (cond b (Some kind.LoadLength) (Some kind.LoadLogWord)))
-    (cond a None (cond b (Some (Load (record { 0 = v.length_at })))
-    (Some (Load (record { 0 = v.log_at + v.place }))))) ≡ Some step
+    → step_of None (cond a None (Some (cond b kind.LoadLength kind.LoadLogWord)))
+    (cond a None (Some (cond b (Load (record { 0 = v.length_at }))
+    (Load (record { 0 = v.log_at + v.place % v.log_words }))))) ≡ Some step
     → after step.op n ≡ n
 load_leaves v step n true b e = absurd cc
 load_leaves v step n false true e = ap (λ (z : Step). after z.op n) (sym (same_Some _ _ e))
@@ -253,8 +255,9 @@ leaves {E} X m m' (Recv r) a step h is =
     let v = h.receiver in
     ap (λ (y : Machine E). slice_index y.words (register step.op)) h.after
     ∙ sym (load_leaves v step (slice_index m.words (register step.op)) v.ended (v.place == v.known)
-    (ap receiver_due (sym h.there)
-    ∙ sym is))
+    (ap (λ d. step_of None (cond v.ended None (Some (kind_by d v)))
+    (cond v.ended None (Some (op_by d v)))) (sym (no_due v h.never))
+    ∙ ap receiver_due (sym h.there) ∙ sym is))
 leaves X m m' (Stop s) a step h is = absurd cc
 
 -- what was seen of a step

@@ -261,7 +261,7 @@ fn has_ended(rt: &impl Abort, reader: &Reader) {
 /// A bad word is passed over, and loaded once more.
 #[test]
 fn receives_a_message(rt: HostRuntime) {
-    let mut reader = Reader::new(2, Reg(1), Reg(0), 7);
+    let mut reader = Reader::new(2, Reg(1), Reg(0), 7, None);
     stands(&rt, &reader, 0, 0, Kind::LoadLength);
     let rows = [
         (0, 0, RecvTurn::Empty),
@@ -288,7 +288,7 @@ fn receives_a_message(rt: HostRuntime) {
 
 #[test]
 fn receives_who_left(rt: HostRuntime) {
-    let mut reader = Reader::new(2, Reg(1), Reg(0), 7);
+    let mut reader = Reader::new(2, Reg(1), Reg(0), 7, None);
     let rows = [
         (0, 4, RecvTurn::Going),
         (1, 0x4040_0100_0000_0000, head(1, 0)),
@@ -297,4 +297,85 @@ fn receives_who_left(rt: HostRuntime) {
         (4, 0xC000_0000_0000_0000, RecvTurn::End),
     ];
     receives_all(&rt, &mut reader, &rows);
+}
+
+/// Of two senders, with a log of 16 words from word 40 on and its passed place at word 20.
+fn ring_reader() -> Reader {
+    Reader::new(2, Reg(40), Reg(0), 16, Some(20))
+}
+
+/// A receiver stores its place next, and finds what it stored before.
+fn passes(rt: &impl Abort, reader: &mut Reader, place: u64) {
+    same(rt, &reader.kind(), &Some(Kind::StorePassed));
+    same(rt, &reader.next(), &Some(Op::Store(Reg(20), place)));
+    let before = reader.passed();
+    answers(rt, reader, before, &RecvTurn::Going);
+    same(rt, &reader.passed(), &place);
+}
+
+/// A store comes behind each whole frame, also of a leave mark and where more words are known, and
+/// before it looks for the length. It comes neither within a frame nor twice.
+#[test]
+fn passes_each_frame(rt: HostRuntime) {
+    let mut reader = ring_reader();
+    let rows = [
+        (0, 0, RecvTurn::Empty),
+        (0, 5, RecvTurn::Going),
+        (40, 0x4040_0200_0000_0009, head(1, 9)),
+        (41, 0x8040_0000_0000_0004, RecvTurn::Going),
+        (
+            42,
+            0x6100_0000_0000_0000,
+            RecvTurn::Item(item(&rt, 1, 4, b"a")),
+        ),
+    ];
+    receives_all(&rt, &mut reader, &rows);
+    passes(&rt, &mut reader, 3);
+    let rows = [
+        (43, 0x4040_0100_0000_000A, head(1, 10)),
+        (44, 0xC000_0000_0000_0001, RecvTurn::Leave(SenderNo(1))),
+    ];
+    receives_all(&rt, &mut reader, &rows);
+    passes(&rt, &mut reader, 5);
+    stands(&rt, &reader, 5, 5, Kind::LoadLength);
+    receives(&rt, &mut reader, 0, 5, &RecvTurn::Empty);
+}
+
+/// Eight bytes of a message.
+const PLAIN_WORD: u64 = 0x6161_6161_6161_6161;
+
+/// A receiver loads a head and a message of 56 bytes but for their last words, from this word on.
+fn receives_most(rt: &impl Abort, reader: &mut Reader, tenure: u64, at: u64, words: u64) {
+    let first = 0x4000_0800_0000_0000 | tenure;
+    receives(rt, reader, at, first, &head(0, tenure));
+    receives(rt, reader, at.wrapping_add(1), 0x8E00_0000_0000_0000, &RecvTurn::Going);
+    for i in 2..words {
+        receives(rt, reader, at.wrapping_add(i), PLAIN_WORD, &RecvTurn::Going);
+    }
+}
+
+/// Place p lies in cell p mod 16, also within a frame, and a length of more than 16 words behind
+/// the passed place is not believed. Behind the end nothing is stored.
+#[test]
+fn goes_round_the_ring(rt: HostRuntime) {
+    let mut reader = ring_reader();
+    let whole = RecvTurn::Item(item(&rt, 0, 0, &[0x61; 56]));
+    receives(&rt, &mut reader, 0, 17, &RecvTurn::Going);
+    stands(&rt, &reader, 0, 0, Kind::LoadLength);
+    receives(&rt, &mut reader, 0, 9, &RecvTurn::Going);
+    receives_most(&rt, &mut reader, 1, 40, 8);
+    receives(&rt, &mut reader, 48, PLAIN_WORD, &whole);
+    passes(&rt, &mut reader, 9);
+    receives(&rt, &mut reader, 0, 26, &RecvTurn::Going);
+    stands(&rt, &reader, 9, 9, Kind::LoadLength);
+    receives(&rt, &mut reader, 0, 25, &RecvTurn::Going);
+    stands(&rt, &reader, 9, 25, Kind::LoadLogWord);
+    receives_most(&rt, &mut reader, 2, 49, 7);
+    receives(&rt, &mut reader, 40, PLAIN_WORD, &RecvTurn::Going);
+    receives(&rt, &mut reader, 41, PLAIN_WORD, &whole);
+    passes(&rt, &mut reader, 18);
+    receives(&rt, &mut reader, 42, 0x4000_0100_0000_0003, &head(0, 3));
+    receives(&rt, &mut reader, 43, 0xC000_0000_0000_0000, &RecvTurn::End);
+    has_ended(&rt, &reader);
+    same(&rt, &reader.passed(), &18);
 }
