@@ -1130,8 +1130,7 @@ static void *send_all(void *given) {
             uint32_t code = kioskbasil_turns(me->sender, next_word(&me->seed), NULL);
             if (code == KIOSKBASIL_DELIVERED) break;
             if (code == KIOSKBASIL_WAITING || code == KIOSKBASIL_BEHIND) wait_a_little(&step);
-            else if (code >= KIOSKBASIL_GOING && code <= KIOSKBASIL_OWN) step = 0;
-            else die(kioskbasil_text(code));
+            else if (code < KIOSKBASIL_GOING || code > KIOSKBASIL_OWN) die(kioskbasil_text(code));
         }
     }
     return NULL;

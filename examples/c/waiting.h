@@ -156,6 +156,13 @@ static inline void wait_behind(struct waiter *waiter) {
     if (waiter->naps < WAITING_DOUBLED) waiter->naps++;
 }
 
+/* A turn got somewhere, and the call waits on for the same thing: it spins no more than it has spun,
+   and counts its yields anew. */
+static inline void carry_on(struct waiter *waiter) {
+    if (waiter->step > WAITING_SPINS) waiter->step = WAITING_SPINS;
+    waiter->heard = 0;
+}
+
 /* ---- senders */
 
 /* The next word of a generator (xorshift), for votes. Its seed is not 0. */
@@ -197,8 +204,7 @@ static inline uint32_t send_while(kioskbasil_sender *sender, uint64_t *seed,
         case KIOSKBASIL_GOING:
         case KIOSKBASIL_LOST:
         case KIOSKBASIL_OWN:
-            waiter.step = 0;
-            waiter.heard = 0;
+            carry_on(&waiter);
             break;
         default:
             return code;

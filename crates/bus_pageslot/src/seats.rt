@@ -517,9 +517,10 @@ impl<Q: Ratifier + Drop> Sender<Q> {
             (R.stream rng.old) self.new (R.stream rng.new) }
     {
         threads_may_go_by::<Q>();
+        waiter.reset();
         for _ in waiter.forever() {
             if self.plain_turns(bus, MOST_PLAIN_TURNS) > 0 {
-                waiter.reset();
+                waiter.carry_on();
                 continue;
             }
             let turn = self.next_turns(bus, rng);
@@ -528,7 +529,7 @@ impl<Q: Ratifier + Drop> Sender<Q> {
                 return Some(turn);
             }
             if !is_waiting(turn) {
-                waiter.reset();
+                waiter.carry_on();
                 continue;
             }
             if !go_on() {

@@ -35,7 +35,7 @@ pub const LONGEST_PAUSE: u64 = 12;
 const FIRST_PAUSE: u64 = 100;
 
 /// Who waits in one call, and how. It is told by `rest` that a turn found nothing, and by `reset`
-/// that one got somewhere.
+/// or `carry_on` that one got somewhere.
 pub struct Waiter<'a, W> {
     wait: &'a W,
     waiting: Waiting,
@@ -86,17 +86,24 @@ impl<'a, W: Wait> Waiter<'a, W> {
         self.wait.forever()
     }
 
-    /// A turn got somewhere.
+    /// A turn got somewhere: the next rest is as short as the first.
     #[inline(always)]
     pub fn reset(&self) {
+        self.backoff.reset();
+        self.carry_on();
+    }
+
+    /// A turn got somewhere, and the call waits on for the same thing: the next rest is no shorter
+    /// than the last one was, but for a sleep.
+    #[inline(always)]
+    pub fn carry_on(&self) {
         if self.rests.get() != 0 {
-            self.begin_again();
+            self.count_anew();
         }
     }
 
     #[inline(never)]
-    fn begin_again(&self) {
-        self.backoff.reset();
+    fn count_anew(&self) {
         self.rests.set(0);
         self.sign_off();
     }

@@ -508,7 +508,7 @@ impl Sender {
                 Turn::Waiting | Turn::Behind { .. } if !go_on() => return None,
                 Turn::Waiting => back_off.wait(&self.bell, usize::from(self.number)),
                 Turn::Behind { .. } => back_off.wait_behind(self.behind),
-                Turn::Going | Turn::Lost { .. } | Turn::Own { .. } => back_off.reset(),
+                Turn::Going | Turn::Lost { .. } | Turn::Own { .. } => back_off.carry_on(),
                 last => return Some(last),
             }
         }

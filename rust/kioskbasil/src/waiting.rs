@@ -83,6 +83,13 @@ impl BackOff {
         self.step = 0;
         self.listens = false;
     }
+
+    /// A turn got somewhere, and the call waits on for the same thing: it spins no more than it has
+    /// spun, and counts its yields anew.
+    pub(crate) fn carry_on(&mut self) {
+        self.step = self.step.min(SPINS);
+        self.listens = false;
+    }
 }
 
 /// For how long a sender that was behind at so many looks sleeps: for 0.1 ms, 0.2 ms and so on up
