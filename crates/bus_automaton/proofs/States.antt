@@ -23,19 +23,19 @@ use Rattle.bus_machine.proofs.Leading.{Sits}
 use Rattle.bus_machine.proofs.Promised.{promised}
 use Rattle.bus_machine.proofs.Holding.{sums_fit}
 use Rattle.bus_machine.proofs.Rising.{log_behind}
-use Rattle.bus_machine.specs.Machine.{Machine, Trails, base_of, log_place, turn_answer}
+use Rattle.bus_machine.specs.Machine.{Machine, Trails, base_of, turn_answer}
 use Rattle.bus_machine.specs.Promise.{HasRows, IsPagedBy, IsPromised}
 use Rattle.bus_machine.specs.Remembering.{rows_in}
 use Rattle.bus_register.specs.Protocol.{Protocol}
 use Rattle.bus_register.specs.Words.{register}
 use Rattle.bus_register.specs.declared.registers.Op.{Op}
 use Rattle.bus_register.specs.declared.registers.SenderNo.{SenderNo}
-use Rattle.bus_tenure.specs.Core.{Core, Election, Layout, log_at}
+use Rattle.bus_tenure.specs.Core.{Core, Election, Layout}
 use Rattle.bus_tenure.specs.Situations.{Comes}
 use Rattle.bus_tenure.specs.declared.pages.Page.{Page}
 use Rattle.bus_tenure.specs.declared.phases.Phase.{Phase}
 use Rattle.bus_tenure.specs.declared.phases.Phase.TheVariants as phase
-use Rattle.bus_world.proofs.LogLaws.{length-read}
+use Rattle.bus_world.proofs.LogLaws.{length-logged}
 use Rattle.bus_world.proofs.Serving.{Serves}
 use Rattle.bus_world.specs.World.{IsLayout, Turn}
 use Rattle.bus_world.specs.Proved.Sending.{Fits, Part}
@@ -177,8 +177,7 @@ module _ {E : Type 0} (X : Election E) (P : Protocol E (Unit {0}) ℕ) (x : Layo
   -- the length says how many words were published
   long : length T.log ≡ slice_index m.words 0
   long =
-      sym (ap length framing.stands)
-      ∙ length-read (slice_index m.words) (log_place m.layout m.reuse) (slice_index m.words 0)
+      sym (ap length framing.log_is) ∙ length-logged framing.sending.log ∙ sym framing.length
 
   -- any frames of its log are those that it keeps
   same_frames : (frames : List Frame) → AreFrames x.senders frames → log_words frames ≡ T.log
@@ -237,8 +236,7 @@ module _ {E : Type 0} (X : Election E) (P : Protocol E (Unit {0}) ℕ) (x : Layo
     in_range : IsCounted (process_of X) v
     in_range =
         let log = framing.sending.log in
-        let size : length (log_words framing.frames) ≡ framing.V 0 =
-        sym (ap length log.words_are) ∙ length-read framing.V (log_at m.layout) (framing.V 0) in
+        let size : length (log_words framing.frames) ≡ framing.V 0 = length-logged log in
         let first = first_below (base_of m) m.layout.senders framing.V framing.frames log.lawful
         v.core v.core.phase part.fits in
         let low = log.low v.core.me in
