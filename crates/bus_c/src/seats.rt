@@ -1,5 +1,6 @@
 //! What the pointers of handles lead to. Seats may lie one behind another while threads use them at
-//! once. The room of each keeps them apart: no two share a line of memory of 64 bytes.
+//! once. The room of each keeps their handles apart: no two of these share a line of memory of 64
+//! bytes.
 
 ghost use Rattle.std.specs.Prelude.{◌≡◌, Some};
 ghost use Rattle.bus_c.specs.Opened.{holds, hears};

@@ -138,8 +138,7 @@ const KINDS = {
     },
     StorePassed: {
         does: 'store',
-        why: 'It has heard a whole frame, and says so: the words of that frame may be ' +
-            'overwritten.',
+        why: 'It has heard a whole frame, and says so: it needs the words of that frame no more.',
     },
     '-': {
         does: 'call',

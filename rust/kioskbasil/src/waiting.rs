@@ -79,11 +79,6 @@ impl BackOff {
         true
     }
 
-    pub(crate) fn reset(&mut self) {
-        self.step = 0;
-        self.listens = false;
-    }
-
     /// A turn got somewhere, and the call waits on for the same thing: it spins no more than it has
     /// spun, and counts its yields anew.
     pub(crate) fn carry_on(&mut self) {
