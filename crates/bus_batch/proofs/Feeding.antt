@@ -20,7 +20,7 @@ use Rattle.bus_batch.specs.Frames.{Frame, AreFramesFrom, IsLog, BeginsLog, IsBad
 use Rattle.bus_batch.specs.Frames.{end_word, mark_word, log_words, log_pieces, message_words}
 use Rattle.bus_batch.specs.Frames.{words_of_bytes, Spells, order_in, owners_in}
 use Rattle.bus_batch.proofs.PieceLaws.{order_in-log, owners_in-log}
-use Rattle.bus_batch.specs.Reading.{Reading, Awaits, HasRead, IsSound}
+use Rattle.bus_batch.specs.Reading.{Reading, Awaits, HasRead, IsSound, IsTornOrLast, is_between}
 use Rattle.bus_batch.specs.Steps.{Steps, Takes, Refuses}
 use Rattle.bus_batch.proofs.Taking.{reading}
 
@@ -193,6 +193,48 @@ module _ (senders : ℕ) (words : List ℕ) (pieces : List (Option Piece)) (s l 
       → ⊥) → Spells senders words (order_in pieces) (owners_in pieces)
   whole_outside body held = whole_log senders words pieces old had
       (subst (λ r. Awaits r [] []) is (whole_at q refl body held))
+
+  -- where a reader does not stand between frames, the words so far are no log, or none goes on
+  pub outside_between : (q ≡ place.Between → ⊥) → IsSound q bytes → IsTornOrLast senders words
+  outside_between not sound = by q refl
+    where
+      by : (p : Place) → q ≡ p → IsTornOrLast senders words
+      by place.Between e = absurd (not e)
+      by (place.Body owner left room) e = inl (torn_in_body owner left room e sound)
+      by (place.Data owner left room number len) e =
+          inl (torn_in_data owner left room number len e)
+      by place.Ended e = inr (λ rest log.
+          let a = had.covers log.frames rest log.lawful log.words_are in
+          (subst (λ r. Awaits r rest a.0) (sym is ∙ ap (λ z. reading s l gone z bytes) e) a.1).0)
+      by place.Bad e =
+          let a = had.begins in
+          absurd (subst (λ r. Awaits r a.0 a.1) (sym is ∙ ap (λ z. reading s l gone z bytes) e) a.2)
+
+pub not_between : (p : Place) → (p ≡ place.Between → ⊥) → false ≡ is_between p
+not_between place.Between not = absurd (not refl)
+not_between (place.Body owner left room) not = refl
+not_between (place.Data owner left room number len) not = refl
+not_between place.Ended not = refl
+not_between place.Bad not = refl
+
+-- and between frames they are
+pub between_is_log : (senders : ℕ) (words : List ℕ) (pieces : List (Option Piece)) (old : Reading)
+    → HasRead senders words pieces old → is_between old.place ≡ true
+    → Spells senders words (order_in pieces) (owners_in pieces)
+between_is_log senders words pieces old had at =
+    whole_log senders words pieces old had (by old.place at)
+  where
+    by : (p : Place) → is_between p ≡ true → Awaits (record old { place = p }) [] []
+    by place.Between e = (
+      [],
+      (tt, All-nil (λ f. slice_get old.left f.owner.0 ≡ Some false)),
+      refl,
+      refl,
+    )
+    by (place.Body owner left room) e = absurd cc
+    by (place.Data owner left room number len) e = absurd cc
+    by place.Ended e = absurd cc
+    by place.Bad e = absurd cc
 
 -- ---- before the first word
 

@@ -11,7 +11,8 @@ use Rattle.bus_batch.specs.declared.messages.Piece.TheVariants as piece
 use Rattle.bus_batch.specs.declared.readers.Place.{Place}
 use Rattle.bus_batch.specs.declared.readers.Place.TheVariants.{Between, Body, Data, Ended, Bad}
 use Rattle.bus_batch.specs.Messages.{Numbered, IsNumbered}
-use Rattle.bus_batch.specs.Frames.{Frame, AreFrames, AreFramesFrom, data_len, words_of_bytes}
+use Rattle.bus_batch.specs.Frames.{Frame, AreFrames, AreFramesFrom, IsLog, data_len}
+use Rattle.bus_batch.specs.Frames.{words_of_bytes}
 use Rattle.bus_batch.specs.Frames.{message_words, message_pieces, item_pieces, end_word, mark_word}
 use Rattle.bus_batch.specs.Frames.{log_words, log_pieces}
 
@@ -118,6 +119,11 @@ is_between (Body owner left room) = false
 is_between (Data owner left room number len) = false
 is_between Ended = false
 is_between Bad = false
+
+-- words that are no log, or a log with which no longer one begins
+abbrev pub IsTornOrLast : ℕ → List ℕ → Type 0
+IsTornOrLast senders words =
+    (¬ IsLog senders words) ⊎ ((rest : List ℕ) → IsLog senders (words ++ rest) → rest ≡ [])
 
 -- the reader has met a bad word, and stays so
 abbrev pub HasMetBadWord : Reading → Type 0

@@ -138,6 +138,7 @@ impl FrameReader {
     ghost use Rattle.bus_batch.specs.Frames.{owners_in, end_word, mark_word};
     ghost use Rattle.bus_batch.specs.declared.messages.Mark.TheVariants as mark;
     ghost use Rattle.bus_batch.specs.Reading.{HasRead, HasMetBadWord, is_between};
+    ghost use Rattle.bus_batch.specs.Reading.{IsTornOrLast};
     ghost use Rattle.bus_batch.specs.declared.messages.Piece.TheVariants as piece;
     ghost use Rattle.bus_batch.specs.Steps.{Steps, Refuses};
 
@@ -171,7 +172,14 @@ impl FrameReader {
 
     /// No frame is under way, and the order has not ended: the next word is a head.
     pub fn is_between(&self) -> bool
-        ensures { result ≡ is_between self.now.place }
+        ensures between { result ≡ is_between self.now.place }
+        // The words so far are a log, and the pieces say its order and owners.
+        ensures log { (words : _) (pieces : _) → HasRead self.now.senders words pieces self.now
+            → IsTrue result
+            → Spells self.now.senders words (order_in pieces) (owners_in pieces) }
+        // Else they are none, or no word goes on with it.
+        ensures within { (words : _) (pieces : _) → HasRead self.now.senders words pieces self.now
+            → result ≡ false → IsTornOrLast self.now.senders words }
     {
         matches!(self.place, Place::Between)
     }

@@ -1,5 +1,6 @@
 pub mod ReadLaws
 pub mod ReceiveLaws
+pub mod PassLaws
 pub mod WriteLaws
 pub mod WritingSteps
 pub mod FaultLaws

@@ -1,7 +1,7 @@
 -- What one good word does to a reading of a log, and when no store is due.
 use Rattle.std.proofs.Common.{◌≡◌, ◌≢◌, ℕ, ◌+◌, ◌≤◌, List, [], ◌∷◌, ◌++◌, Bool, true, false, cond}
 use Rattle.std.proofs.Common.{nat_lt, ◌&&◌, refl, sym, ap, ◌∙◌, subst, inr, arith}
-use Rattle.std.specs.Prelude.{Option, None, ◌||◌}
+use Rattle.std.specs.Prelude.{Option, Some, None, ◌||◌}
 use Rattle.std.specs.List.{list_any}
 use Rattle.std.proofs.Math.Bool.{or-false}
 use Rattle.std.proofs.lemmas.List.Folds.{list_any-append}
@@ -87,3 +87,12 @@ no_due v never =
     by_test : (b : Bool) (o : Option ℕ) → o ≡ None → cond b o None ≡ None
     by_test true o e = e
     by_test false o e = refl
+
+-- and one that is due is on the passed place
+pub due_at : (v : Receiving) (at : ℕ) → passing_due v ≡ Some at → v.passed_at ≡ Some at
+due_at v at due =
+    by_test (is_between v.frames.place && nat_lt v.passed v.place) v.passed_at due
+  where
+    by_test : (b : Bool) (o : Option ℕ) → cond b o None ≡ Some at → o ≡ Some at
+    by_test true o e = e
+    by_test false o e = absurd cc

@@ -1,20 +1,23 @@
 //! Laws of the log and of its two ends: each function does nothing, and its contract is the law.
 
 ghost use Rattle.std.specs.Prelude.{◌≡◌, ◌≢◌, ℕ, ◌+◌, ◌<◌, List, []};
-ghost use Rattle.std.specs.Prelude.{◌∷◌, ◌++◌, length, All, Some, false, true, slice_get};
+ghost use Rattle.std.specs.Prelude.{◌∷◌, ◌++◌, length, All, Some, None, false, true, slice_get};
 ghost use Rattle.bus_register.specs.Words.{register, after};
 ghost use Rattle.bus_register.specs.Tables.{Beside};
 ghost use Rattle.bus_register.specs.declared.kinds.Kind.TheVariants as kind;
 ghost use Rattle.bus_register.specs.declared.registers.Op.TheVariants as op;
 ghost use Rattle.bus_batch.specs.Frames.{Frame, IsFrame, frame_words, Spells, entries_of, ends};
-ghost use Rattle.bus_batch.specs.Frames.{tenure_and_owner, order_in, owners_in, has_gone};
+ghost use Rattle.bus_batch.specs.Frames.{tenure_and_owner, order_in, owners_in, has_gone, IsLog};
 ghost use Rattle.bus_batch.specs.Frames.{Entry, Says, Leaves, items_in};
 ghost use Rattle.bus_register.specs.declared.registers.SenderNo.{SenderNo};
-ghost use Rattle.bus_batch.specs.Reading.{HasRead};
+ghost use Rattle.bus_batch.specs.Reading.{HasRead, IsSound};
 ghost use Rattle.bus_batch.specs.declared.messages.Item.{Item};
 ghost use Rattle.bus_deliverylog.specs.Orders.{IsPrefixOfOrder, merged, AreMarks};
 ghost use Rattle.bus_deliverylog.specs.Logs.{IsFirstBad, IsTorn};
 ghost use Rattle.bus_deliverylog.specs.Writing.{Writing, writing_kind, writing_op, writing_fed};
+ghost use Rattle.bus_deliverylog.specs.Receiving.{Receiving, HasReceived, TakesPassed, reading_of};
+ghost use Rattle.bus_deliverylog.specs.Receiving.{passing_due};
+ghost use Rattle.bus_deliverylog.specs.declared.receiving.RecvTurn.{RecvTurn};
 ghost use Rattle.bus_deliverylog.specs.Writing.{words_at, HasStored, IsApart};
 
 /// What a writer has stored stands in the log: of none before the first step, of one word more
@@ -112,4 +115,21 @@ pub fn readings_are_exact()
         → ¬ IsFirstBad senders words place }
     ensures first { (senders : ℕ) (words : List ℕ) (place : ℕ) (other : ℕ)
         → IsFirstBad senders words place → IsFirstBad senders words other → place ≡ other }
+{}
+
+/// A receiver stores its place only where what it has read is a whole log, longer than what it
+/// stored last, and only in its passed place. There it does, if another log goes on with these
+/// words, and not a second time.
+pub fn passes_where_a_frame_ends()
+    ensures ends { (v : Receiving) (words : List ℕ) (pieces : _) (at : ℕ)
+        → HasReceived words pieces (reading_of v) → passing_due v ≡ Some at
+        → IsLog v.frames.senders words × (v.place ≡ length words)
+        × (v.passed < v.place) × (v.passed_at ≡ Some at) }
+    ensures due { (v : Receiving) (words : List ℕ) (pieces : _) (rest : List ℕ) (at : ℕ)
+        → HasReceived words pieces (reading_of v) → IsSound v.frames.place v.frames.bytes
+        → IsLog v.frames.senders words → rest ≢ [] → IsLog v.frames.senders (words ++ rest)
+        → v.passed < v.place → v.passed_at ≡ Some at → passing_due v ≡ Some at }
+    ensures once { (v : Receiving) (answer : RecvTurn) (new : Receiving)
+        → TakesPassed v answer new → passing_due new ≡ None }
+    ensures never { (v : Receiving) → v.passed_at ≡ None → passing_due v ≡ None }
 {}

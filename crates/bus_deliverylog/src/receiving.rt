@@ -198,7 +198,7 @@ pub struct Reader {
 }
 
 impl Model for Reader {
-    ghost use Rattle.std.specs.Prelude.{◌+◌, ◌<◌, ◌≤◌, ◌^◌};
+    ghost use Rattle.std.specs.Prelude.{◌≡◌, ◌+◌, ◌<◌, ◌≤◌, ◌^◌, None};
     ghost use Rattle.bus_deliverylog.specs.Receiving.{Receiving};
 
     ghost Value = { Receiving };
@@ -216,7 +216,8 @@ impl Model for Reader {
     } };
 
     ghost invariant = { λ r. (r.log.0 + r.words < 2 ^ 64) × (0 < r.words)
-        × (r.passed ≤ r.reader.place) × (r.reader.known ≤ r.words + r.passed) };
+        × (r.passed ≤ r.reader.place) × (r.reader.known ≤ r.words + r.passed)
+        × (r.passed_at ≡ None → r.passed ≡ 0) };
 }
 
 impl Reader {
@@ -259,6 +260,7 @@ impl Reader {
     pub fn known(&self) -> u64
         ensures known { result ≡ self.now.known }
         ensures within { result ≤ self.now.log_words + self.now.passed }
+        ensures alone { self.now.passed_at ≡ None → result ≤ self.now.log_words }
     {
         self.reader.known()
     }
@@ -267,6 +269,7 @@ impl Reader {
     pub fn passed(&self) -> u64
         ensures passed { result ≡ self.now.passed }
         ensures within { result ≤ self.now.place }
+        ensures never { self.now.passed_at ≡ None → result ≡ 0 }
     {
         self.passed
     }

@@ -1,0 +1,66 @@
+-- When a receiver stores its place: where a frame ends, in its passed place, and once.
+use Rattle.std.proofs.Common.{◌≡◌, ◌≢◌, ℕ, ◌<◌, ◌≤◌, List, [], ◌++◌, length, Bool, true, false}
+use Rattle.std.proofs.Common.{cond, nat_lt, ◌&&◌, Option, Some, None, inl, inr, arith, refl}
+use Rattle.std.proofs.Common.{sym, ap, ◌∙◌}
+use Rattle.std.proofs.lemmas.Bool.{and_parts, ltb-true, lt-ltb, le-ltb}
+use Rattle.bus_batch.specs.declared.messages.Piece.{Piece}
+use Rattle.bus_batch.specs.declared.readers.Place.{Place}
+use Rattle.bus_batch.specs.declared.readers.Place.TheVariants as place
+use Rattle.bus_batch.specs.Frames.{IsLog}
+use Rattle.bus_batch.specs.Reading.{IsSound, is_between}
+use Rattle.bus_batch.proofs.Feeding.{between_is_log, outside_between}
+use Rattle.bus_deliverylog.specs.declared.receiving.RecvTurn.{RecvTurn}
+use Rattle.bus_deliverylog.specs.Receiving.{Receiving, HasReceived, TakesPassed, reading_of}
+use Rattle.bus_deliverylog.specs.Receiving.{passing_due}
+
+by_test : (b : Bool) (o : Option ℕ) (at : ℕ) → cond b o None ≡ Some at
+    → (b ≡ true) × (o ≡ Some at)
+by_test true o at e = (refl, e)
+by_test false o at e = absurd cc
+
+pub ends_there : (v : Receiving) (words : List ℕ) (pieces : List (Option Piece)) (at : ℕ)
+    → HasReceived words pieces (reading_of v) → passing_due v ≡ Some at
+    → IsLog v.frames.senders words × (v.place ≡ length words) × (v.passed < v.place)
+    × (v.passed_at ≡ Some at)
+ends_there v words pieces at had due =
+    let test = by_test (is_between v.frames.place && nat_lt v.passed v.place) v.passed_at at due in
+    let both = and_parts (is_between v.frames.place) (nat_lt v.passed v.place) test.0 in
+    let log = between_is_log v.frames.senders words pieces v.frames had.read both.0 in (
+      record { frames = log.frames; lawful = log.lawful; words_are = log.words_are },
+      had.place,
+      ltb-true v.passed v.place both.1,
+      test.1,
+    )
+
+pub due_there : (v : Receiving) (words : List ℕ) (pieces : List (Option Piece)) (rest : List ℕ)
+    (at : ℕ) → HasReceived words pieces (reading_of v) → IsSound v.frames.place v.frames.bytes
+    → IsLog v.frames.senders words → rest ≢ [] → IsLog v.frames.senders (words ++ rest)
+    → v.passed < v.place → v.passed_at ≡ Some at → passing_due v ≡ Some at
+due_there v words pieces rest at had sound log more longer past is =
+    ap (λ b. cond (b && nat_lt v.passed v.place) v.passed_at None) (between v.frames.place refl)
+    ∙ ap (λ b. cond b v.passed_at None) (lt-ltb v.passed v.place past) ∙ is
+  where
+    outside : (v.frames.place ≡ place.Between → ⊥) → is_between v.frames.place ≡ true
+    outside not = elim (outside_between v.frames.senders words pieces v.frames.senders
+        v.frames.least v.frames.left v.frames.place v.frames.bytes v.frames refl had.read not
+        sound) [
+          | inl torn ↦ absurd (torn log)
+          | inr last ↦ absurd (more (last rest longer))
+        ]
+
+    between : (p : Place) → v.frames.place ≡ p → is_between v.frames.place ≡ true
+    between place.Between e = ap is_between e
+    between (place.Body owner left room) e = outside (λ f. let z = sym f ∙ e in cc)
+    between (place.Data owner left room number len) e = outside (λ f. let z = sym f ∙ e in cc)
+    between place.Ended e = outside (λ f. let z = sym f ∙ e in cc)
+    between place.Bad e = outside (λ f. let z = sym f ∙ e in cc)
+
+-- it is not due again before more is read
+pub once_there : (v : Receiving) (answer : RecvTurn) (new : Receiving) → TakesPassed v answer new
+    → passing_due new ≡ None
+once_there v answer new takes =
+    ap (λ (w : Receiving). passing_due w) takes.1 ∙ by (is_between v.frames.place)
+  where
+    by : (b : Bool) → cond (b && nat_lt v.place v.place) v.passed_at None ≡ None
+    by true = ap (λ t. cond t v.passed_at None) (le-ltb v.place v.place (omega arith))
+    by false = refl
