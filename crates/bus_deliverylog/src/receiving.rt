@@ -182,9 +182,9 @@ impl LogReader {
 /// A receiver of the log: it loads the length and the words below it, one at a time.
 ///
 /// It takes steps as a machine does: `kind` and `next` tell the step, and `feed` is told what was
-/// found. Where the words of the log are used again it has a passed place: there it stores its
-/// place behind each whole frame, and the words below that may be overwritten. A length past the
-/// log's words behind what it stored is not believed.
+/// found. Where the words of the log are used again, it has a passed place. It stores its place
+/// there behind each whole frame but that of an end mark, and needs the words below no more. It
+/// believes no length of more than a whole log past what it stored.
 #[derive(Debug, Drop)]
 pub struct Reader {
     log: Reg,

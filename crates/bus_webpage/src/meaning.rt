@@ -138,7 +138,8 @@ const KINDS = {
     },
     StorePassed: {
         does: 'store',
-        why: 'It has heard a whole frame, and says so: it needs the words of that frame no more.',
+        why: 'It has heard a whole frame, and says so: it needs the words of that frame no ' +
+            'more.',
     },
     '-': {
         does: 'call',
