@@ -11,5 +11,6 @@ pub mod Looking
 mod CausesRefused
 pub mod Lying
 pub mod Plain
+mod Rows
 pub mod Told
 mod Refused

@@ -102,7 +102,7 @@ clear_below width Belongs v k s is c at e =
 -- ---- what it leaves
 module _ {E : Type 0} (X : Election E) (v : Sender E) where
   -- a word of the frame is no step of who holds a page with its frame in the log
-  word_unpublished : (t : ℕ) (page : Page) (stored : ℕ)
+  pub word_unpublished : (t : ℕ) (page : Page) (stored : ℕ)
       → situation X v ≡ Does (StoresWord t page stored) → HoldsPublished v.core.phase → ⊥
   word_unpublished t page stored i h =
       let bad : doing.Word t page.words stored ≡ doing.Back h.tenure Sent = ap doing_of
@@ -110,7 +110,7 @@ module _ {E : Type 0} (X : Election E) (v : Sender E) where
       cc
 
   -- whose reclamation clears has that one
-  reclaims : (u : Option Reuse) (s : Reclaiming)
+  pub reclaims : (u : Option Reuse) (s : Reclaiming)
       → situation_by v.core.layout.passers u (own_situation X v.core) ≡ Clears s
       → reclaimer_in u ≡ Some s
   reclaims u s j =
@@ -212,6 +212,24 @@ module _ {E : Type 0} (X : Election E) (v : Sender E) where
   pub plain_wordless : IsPlain X v → (line_now X v).wants_word ≡ false
   plain_wordless (Word t page stored i) = ap (λ z. (line X v z).wants_word) i
   plain_wordless (Clear s i k p) = ap (λ z. (line X v z).wants_word) i
+
+  -- what it finds makes no difference
+  pub plain_same : IsPlain X v → (got word : ℕ)
+      → (line_now X v).fed 0 0 ≡ (line_now X v).fed got word
+  plain_same (Word t page stored i) got word =
+      ap (λ z. (line X v z).fed 0 0) i ∙ ap (λ z. (line X v z).fed got word) (sym i)
+  plain_same (Clear s i k p) got word =
+      ap (λ z. (line X v z).fed 0 0) i
+      ∙ ap (λ q. record v { reuse = reuse_reclaiming v.reuse q }) (any 0 ∙ sym (any got))
+      ∙ ap (λ z. (line X v z).fed got word) (sym i)
+    where
+      clears : Reclaiming
+      clears = cond (nat_lt s.cleared s.width) (record s { cleared = s.cleared + 1 }) s
+
+      any : (n : ℕ) → reclaim_fed s n ≡ clears
+      any n =
+          ap (λ a. cond a (cond (n == 1 + s.past) s (record s { scanned = s.scanned + 1 })) clears)
+          (le-ltb s.scanned s.senders k.passed)
 
 -- ---- which one is due behind it
 -- whose reclamation clears lets any clear

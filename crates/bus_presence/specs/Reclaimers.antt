@@ -1,7 +1,7 @@
 -- How a holder makes a row ready for the tenure after its own: it loads all presences in rising
 -- order, then clears all words of the row.
-use Rattle.std.specs.Prelude.{ℕ, ◌+◌, ◌≤◌, ◌<◌, ◌^◌, Bool, Option, Some, None, ◌==◌, ◌&&◌, nat_lt}
-use Rattle.std.specs.Prelude.{nat_le, if◌then◌else◌}
+use Rattle.std.specs.Prelude.{ℕ, ◌+◌, ◌-◌, ◌≤◌, ◌<◌, ◌^◌, Bool, Option, Some, None, ◌==◌, ◌&&◌}
+use Rattle.std.specs.Prelude.{nat_lt, nat_le, if◌then◌else◌}
 use Rattle.bus_register.specs.declared.limits.TheConstants.{TENURES, MOST_PROCESSES}
 use Rattle.bus_register.specs.declared.registers.Op.{Op}
 use Rattle.bus_register.specs.declared.registers.Op.TheVariants.{Load, Store}
@@ -54,3 +54,11 @@ behind_of s got =
 pub record IsClearing (s : Reclaiming) : Type 0 where
   pub passed : s.senders ≤ s.scanned
   pub left : s.cleared < s.width
+
+-- how many words it clears in a row, from its next step on
+abbrev pub clears_left : Reclaiming → ℕ
+clears_left s = if nat_lt s.scanned s.senders then 0 else s.width - s.cleared
+
+-- once so many words more are cleared
+abbrev pub with_cleared : Reclaiming → ℕ → Reclaiming
+with_cleared s many = record s { cleared = s.cleared + many }

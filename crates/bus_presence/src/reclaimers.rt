@@ -2,7 +2,7 @@
 
 ghost use Rattle.std.specs.Prelude.{◌≡◌, ℕ, ◌+◌, ◌≤◌, ◌<◌, ◌^◌, ◌↔◌, IsTrue};
 ghost use Rattle.bus_presence.specs.Reclaimers.{reclaim_op, reclaim_fed, behind_of, is_reclaimed};
-ghost use Rattle.bus_presence.specs.Reclaimers.{IsClearing};
+ghost use Rattle.bus_presence.specs.Reclaimers.{IsClearing, clears_left, with_cleared};
 
 use bus_register::limits::{MOST_PROCESSES, TENURES};
 use bus_register::{Op, Reg};
@@ -124,6 +124,26 @@ impl Reclaimer {
         ensures { (got : ℕ) → self.new ≡ reclaim_fed self.old got }
     {
         self.cleared += 1;
+    }
+
+    /// How many words it clears in a row, from its next step on; 0 where it clears none next.
+    #[inline(always)]
+    pub fn clears_left(&self) -> u64
+        ensures { result ≡ clears_left self.now }
+    {
+        if self.scanned < self.senders {
+            return 0;
+        }
+        self.width - self.cleared
+    }
+
+    /// So many of these words are cleared.
+    #[inline(always)]
+    pub fn clear_many(&mut self, many: u64)
+        requires { self.old.cleared + many ≤ self.old.width }
+        ensures { self.new ≡ with_cleared self.old many }
+    {
+        self.cleared += many;
     }
 
     /// The step that `next` told was taken, and found `got`. It answers whom it waits for: then the

@@ -1,15 +1,16 @@
 //! The plain stores of a sender: words of its frame, and words of the next row that it clears.
 
-ghost use Rattle.std.specs.Prelude.{◌≡◌, ℕ, ◌+◌, ◌<◌, Option, Some, IsTrue};
+ghost use Rattle.std.specs.Prelude.{◌≡◌, ℕ, ◌+◌, ◌<◌, ◌≤◌, ◌^◌, Option, Some, IsTrue};
 ghost use Rattle.bus_tenure.specs.Core.{cell_of};
 ghost use Rattle.bus_tenure.specs.Elections.{election_of};
 ghost use Rattle.bus_tenure.specs.Situations.{situation_of, Stays};
 ghost use Rattle.bus_tenure.specs.Doings.{doing_of, IsWord};
 ghost use Rattle.bus_tenure.specs.declared.turns.Turn.TheVariants as turn;
 ghost use Rattle.bus_presence.specs.Reclaimers.{Reclaiming, IsClearing, reclaim_fed};
+ghost use Rattle.bus_presence.specs.Reclaimers.{clears_left, with_cleared};
 ghost use Rattle.bus_core.specs.Keeping.{IsAway, reclaimer_in};
-ghost use Rattle.bus_core.specs.Plain.{IsPlain, StoresPlain};
-ghost use Rattle.bus_core.specs.Senders.{log_start};
+ghost use Rattle.bus_core.specs.Plain.{IsPlain, StoresPlain, StoresRow, stored_on, clears_from};
+ghost use Rattle.bus_core.specs.Senders.{log_start, situation};
 ghost use Rattle.bus_core.specs.Table.{line_now, reuse_reclaiming};
 ghost use Rattle.bus_core.specs.Telling.{FeedTells};
 
@@ -100,6 +101,35 @@ impl<Q: Ratifier + Drop> SenderCore<Q> {
         true
     }
 
+    /// How many words of the next row it clears one behind another, from its next step on; 0 where
+    /// it stores a word of its frame next.
+    #[inline(always)]
+    pub fn clears_left(&self) -> u64
+        requires { IsPlain (election_of Q.Ratifier) self.now }
+        ensures exact { result ≡ clears_from (situation (election_of Q.Ratifier) self.now) }
+        ensures row { let X = election_of Q.Ratifier in (at : ℕ) (value : ℕ)
+            → StoresPlain X self.now at value → StoresRow X self.now at (λ n. 0) result }
+        ensures room { let X = election_of Q.Ratifier in (at : ℕ) (value : ℕ)
+            → StoresPlain X self.now at value → at + result ≤ 2 ^ 63 }
+    {
+        self.is_small();
+        if !self.turns.has_published() {
+            return 0;
+        }
+        clears_of(&self.reuse)
+    }
+
+    /// So many of these words are cleared.
+    #[inline(always)]
+    pub fn clears_done(&mut self, many: u64)
+        requires plain { IsPlain (election_of Q.Ratifier) self.old }
+        requires some { 0 < many }
+        requires left { many ≤ clears_from (situation (election_of Q.Ratifier) self.old) }
+        ensures { self.new ≡ stored_on (election_of Q.Ratifier) self.old many }
+    {
+        clear_many(&mut self.reuse, many);
+    }
+
     /// The word of the log in which this place lives, where the place before it lives at `at`.
     #[inline(always)]
     fn log_word_behind(&self, at: u64, place: u64) -> u64
@@ -146,6 +176,34 @@ fn clear(reuse: &mut Option<Reuse>)
     if let Some(reuse) = reuse {
         if let Some(reclaimer) = &mut reuse.reclaimer {
             reclaimer.clear();
+        }
+    }
+}
+
+/// How many words a reclamation clears one behind another, from its next step on.
+#[inline(always)]
+fn clears_of(reuse: &Option<Reuse>) -> u64
+    ensures { (s : Reclaiming) → reclaimer_in reuse.now ≡ Some s → result ≡ clears_left s }
+{
+    match reuse {
+        None => 0,
+        Some(reuse) => match &reuse.reclaimer {
+            None => 0,
+            Some(reclaimer) => reclaimer.clears_left(),
+        },
+    }
+}
+
+/// So many of these words are cleared.
+#[inline(always)]
+fn clear_many(reuse: &mut Option<Reuse>, many: u64)
+    requires { (s : Reclaiming) → reclaimer_in reuse.old ≡ Some s → s.cleared + many ≤ s.width }
+    ensures { (s : Reclaiming) → reclaimer_in reuse.old ≡ Some s
+        → reuse.new ≡ reuse_reclaiming reuse.old (with_cleared s many) }
+{
+    if let Some(reuse) = reuse {
+        if let Some(reclaimer) = &mut reuse.reclaimer {
+            reclaimer.clear_many(many);
         }
     }
 }

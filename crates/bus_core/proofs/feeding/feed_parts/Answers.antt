@@ -1,5 +1,4 @@
-use Rattle.std.proofs.Common.{◌≡◌, inl, inr, sym, ◌∙◌, ap}
-use Rattle.std.specs.Prelude.{◌⊎◌}
+use Rattle.std.proofs.Common.{inl, inr, sym, ◌∙◌, ap}
 use Rattle.bus_tenure.specs.Elections.{election_with}
 use Rattle.bus_tenure.specs.Situations.{situation_of}
 use Rattle.bus_core.specs.Keeping.{sender}
