@@ -14,6 +14,7 @@ pub mod Extending
 pub mod Walks
 pub mod Counted
 pub mod Plain
+pub mod PlainRows
 pub mod TurnsLeft
 pub mod HoldingTurns
 pub mod Rows

@@ -1,17 +1,19 @@
 //! One step of a sender on one word, with which the page comes to it or goes home.
 
-ghost use Rattle.std.specs.Prelude.{◌≡◌, ◌<◌, ◌∷◌, true, [], Some, IsTrue};
+ghost use Rattle.std.specs.Prelude.{◌≡◌, ℕ, ◌+◌, ◌<◌, ◌≤◌, ◌^◌, ◌∷◌, true, [], Some, IsTrue};
 ghost use Rattle.bus_register.specs.Words.{register};
 ghost use Rattle.bus_tenure.specs.Elections.{election_of};
 ghost use Rattle.bus_core.specs.Doings.{step_of};
-ghost use Rattle.bus_core.specs.Plain.{IsPlain, StoresPlain};
+ghost use Rattle.bus_core.specs.Plain.{IsPlain, StoresPlain, StoresRow, stored_on};
 ghost use Rattle.bus_core.specs.Senders.{situation};
 ghost use Rattle.bus_tenure.specs.declared.turns.Turn.TheVariants as turn;
 ghost use Rattle.bus_core.specs.Telling.{FeedTells};
 ghost use Rattle.bus_automaton.specs.Buses.{process_by};
 ghost use Rattle.bus_pageslot.specs.Steps.{laid_at, carried_of, out_with, stored_by};
 ghost use Rattle.bus_pageslot.specs.Steps.{GoesOn, Due, slot_in, slots_emptied};
+ghost use Rattle.bus_pageslot.specs.Rule.{stored_in};
 ghost use Rattle.bus_pageslot.specs.Seats.{Shows, TookAndTold};
+ghost use Rattle.bus_pageslot.specs.Turns.{tells_by, GoesPlainly};
 
 use crate::rule::{BusSeat, Told};
 use crate::words::Words;
@@ -20,6 +22,7 @@ use bus_automaton::laws::threads_may_go_by;
 use bus_core::{SenderCore, Step};
 use bus_register::{Op, Reg};
 use bus_tenure::Turn;
+use std::marker::Brand;
 
 /// A sender that is to give the page back puts it into its slot. What it does next becomes what it
 /// does with the page out of its hands.
@@ -124,6 +127,72 @@ pub(crate) fn store_plain<Q: Ratifier + Drop, K: Told<SenderCore<Q>>>(
     threads_may_go_by::<Q>();
     words.step::<K>(seat, Op::Store(Reg(*at), *value));
     core.plain_done(at, value)
+}
+
+/// The turn of a sender whose step is a plain store, of `value` in the word at `at`. It has taken
+/// so many since `core` was what it held, which does not take it in.
+#[inline(always)]
+fn store_behind<Q: Ratifier + Drop, K: Told<SenderCore<Q>>>(
+    words: &Words<Q>,
+    seat: &mut BusSeat<Q>,
+    core: &SenderCore<Q>,
+    taken: u64,
+    at: u64,
+    value: u64,
+)
+    requires table { seat.old.table_id ≡ words.now.table }
+    requires told { let X = election_of Q.Ratifier in
+        (K.core ≡ Some (stored_on X core.now taken)) × (K.word ≡ 0) }
+    requires shows { let X = election_of Q.Ratifier in
+        Shows (process_by Q.Ratifier) (stored_on X core.now taken) seat.old }
+    requires stores { let X = election_of Q.Ratifier in
+        StoresPlain X (stored_on X core.now taken) at value }
+    requires tells { let X = election_of Q.Ratifier in
+        (got : ℕ) → FeedTells X (stored_on X core.now taken) got 0 turn.Going }
+    ensures table { (seat.new.table_id ≡ seat.old.table_id) × (seat.new.id ≡ seat.old.id) }
+    ensures shows { let X = election_of Q.Ratifier in
+        Shows (process_by Q.Ratifier) (stored_on X core.now (taken + 1)) seat.new }
+    ensures took { let X = election_of Q.Ratifier in
+        TookAndTold (process_by Q.Ratifier) (FeedTells X) (record {
+          core = stored_on X core.now taken;
+          seat = seat.old;
+        }) 0 turn.Going (record {
+          core = stored_on X core.now (taken + 1);
+          seat = seat.new;
+        }) }
+{
+    threads_may_go_by::<Q>();
+    words.step::<K>(seat, Op::Store(Reg(at), value));
+}
+
+/// The turns in a row of a sender that clears so many words one behind another, the first of them
+/// at `at`. What it holds does not take them in.
+#[inline(always)]
+pub(crate) fn clear_row<Q: Ratifier + Drop>(
+    words: &Words<Q>,
+    seat: &mut BusSeat<Q>,
+    core: &SenderCore<Q>,
+    at: u64,
+    many: u64,
+)
+    requires table { seat.old.table_id ≡ words.now.table }
+    requires shows { Shows (process_by Q.Ratifier) core.now seat.old }
+    requires row { StoresRow (election_of Q.Ratifier) core.now at (λ n. 0) many }
+    requires room { at + many ≤ 2 ^ 63 }
+    ensures table { (seat.new.table_id ≡ seat.old.table_id) × (seat.new.id ≡ seat.old.id) }
+    ensures shows { let X = election_of Q.Ratifier in
+        Shows (process_by Q.Ratifier) (stored_on X core.now many) seat.new }
+    ensures stored { stored_in seat.new.me.0 ≡ stored_in seat.old.me.0 }
+    ensures goes { let X = election_of Q.Ratifier in
+        GoesPlainly (process_by Q.Ratifier) (tells_by Q.Ratifier) (IsPlain X)
+        (record { core = core.now; seat = seat.old }) many (record {
+          core = stored_on X core.now many;
+          seat = seat.new;
+        }) }
+{
+    for taken in 0..many {
+        store_behind::<Q, Brand>(words, seat, core, taken, at + taken, 0);
+    }
 }
 
 /// The last length that a sender has stored, once it takes this step. `before` is the one that it

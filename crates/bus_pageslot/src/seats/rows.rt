@@ -1,9 +1,9 @@
 //! A sender that takes turns in a row.
 
-ghost use Rattle.std.specs.Prelude.{◌≡◌, ◌≤◌, ◌<◌, None, Some};
+ghost use Rattle.std.specs.Prelude.{◌≡◌, ℕ, ◌≤◌, ◌<◌, None, Some};
 ghost use Rattle.bus_automaton.specs.Buses.{process_by};
 ghost use Rattle.bus_core.specs.Doings.{step_of};
-ghost use Rattle.bus_core.specs.Plain.{IsPlain};
+ghost use Rattle.bus_core.specs.Plain.{IsPlain, StoresPlain};
 ghost use Rattle.bus_core.specs.Senders.{situation};
 ghost use Rattle.bus_core.specs.Telling.{FeedTells, RestTells};
 ghost use Rattle.bus_pageslot.specs.Seats.{table_of, TookAndTold};
@@ -12,9 +12,11 @@ ghost use Rattle.bus_pageslot.specs.Turns.{TakesWhile, TakesSome, ElectsIn, IsEl
 ghost use Rattle.bus_register.specs.declared.registers.Op.{Op};
 ghost use Rattle.bus_tenure.specs.Classes.{still_goes};
 ghost use Rattle.bus_tenure.specs.Elections.{election_of};
+ghost use Rattle.bus_tenure.specs.Situations.{lesser as spec_lesser};
 
 use crate::buses::Bus;
 use crate::seats::Sender;
+use crate::steps::clear_row;
 use bus_adoptcommit::Ratifier;
 use bus_core::Step;
 use bus_tenure::{Doing, Turn};
@@ -71,6 +73,47 @@ impl<Q: Ratifier + Drop> Sender<Q> {
         if !self.core.plain(&mut at, &mut value) {
             return 0;
         }
+        let cleared = self.clear_turns(bus, at, most);
+        if cleared > 0 {
+            return cleared;
+        }
+        self.word_turns(bus, at, value, most)
+    }
+
+    /// Turns in a row that clear words of the next row, from the one at `at` on, at most so many:
+    /// how many it took. None where its next step, this plain store, is of a word of its frame.
+    #[inline(always)]
+    fn clear_turns(&mut self, bus: &Bus<Q>, at: u64, most: u64) -> u64
+        requires table { table_of self.old ≡ bus.now.table }
+        requires stores { (value : ℕ) × StoresPlain (election_of Q.Ratifier) self.old.core at value }
+        ensures table { table_of self.new ≡ table_of self.old }
+        ensures few { result ≤ most }
+        ensures stays { result ≡ 0 → self.new ≡ self.old }
+        ensures goes { GoesPlainly (process_by Q.Ratifier) (tells_by Q.Ratifier)
+            (IsPlain (election_of Q.Ratifier)) self.old result self.new }
+    {
+        let many = lesser(self.core.clears_left(), most);
+        if many == 0 {
+            return 0;
+        }
+        clear_row(&bus.words, &mut self.seat, &self.core, at, many);
+        self.core.clears_done(many);
+        many
+    }
+
+    /// Turns in a row whose steps are plain stores, the first of `value` in the word at `at`, at
+    /// most so many, and one at least where one is allowed: how many it took.
+    #[inline(always)]
+    fn word_turns(&mut self, bus: &Bus<Q>, at: u64, value: u64, most: u64) -> u64
+        requires table { table_of self.old ≡ bus.now.table }
+        requires stores { StoresPlain (election_of Q.Ratifier) self.old.core at value }
+        ensures table { table_of self.new ≡ table_of self.old }
+        ensures few { result ≤ most }
+        ensures some { 0 < most → 0 < result }
+        ensures goes { GoesPlainly (process_by Q.Ratifier) (tells_by Q.Ratifier)
+            (IsPlain (election_of Q.Ratifier)) self.old result self.new }
+    {
+        let (mut at, mut value) = (at, value);
         for taken in 0..most {
             if !self.store_on(bus, &mut at, &mut value, 0) {
                 return taken + 1;
@@ -164,6 +207,16 @@ impl<Q: Ratifier + Drop> Sender<Q> {
             _ => self.full_turn(bus, word),
         }
     }
+}
+
+/// The lesser one of two numbers.
+#[inline(always)]
+fn lesser(one: u64, other: u64) -> u64
+    ensures is { result ≡ spec_lesser one other }
+    ensures first { result ≤ one }
+    ensures second { result ≤ other }
+{
+    if one < other { one } else { other }
 }
 
 /// A step was taken, and nothing more is said.

@@ -20,64 +20,20 @@ returns-then-not-plain-clause-exact g c plain =
 pub returns-then-not-plain-clause-goes : goal.returns-then-not-plain-clause-goes
 returns-then-not-plain-clause-goes g c = NoneYet
 
-pub loop-taken-init : goal.loop-taken-init
-loop-taken-init g c =
+pub clear_turns-cleared-requires-clause-stores : goal.clear_turns-cleared-requires-clause-stores
+clear_turns-cleared-requires-clause-stores g c =
     let X =
     election_with g.Q.Machine.kind_of g.Q.Machine.op g.Q.Machine.fed g.Q.Ratifier.protocol in (
-      NoneYet,
-      refl,
+      c.plain.new.value,
       subst (λ s. StoresPlain X s.core c.plain.new.at c.plain.new.value) c.self.view_is
           (c.plain.ensures.stores c.if-not-plain.false),
     )
 
-pub returns-then-not-store_on-clause-goes : goal.returns-then-not-store_on-clause-goes
-unfolding tells_with
-returns-then-not-store_on-clause-goes g c =
-    let P = process_with g.Q.Machine.kind_of g.Q.Machine.op g.Q.Machine.fed g.Q.Ratifier.protocol in
-    let T = tells_with g.Q.Machine.kind_of g.Q.Machine.op g.Q.Machine.fed g.Q.Ratifier.protocol in
+pub word_turns-requires-clause-stores : goal.word_turns-requires-clause-stores
+word_turns-requires-clause-stores g c =
     let X =
     election_with g.Q.Machine.kind_of g.Q.Machine.op g.Q.Machine.fed g.Q.Ratifier.protocol in
-    let plain = c.loop-taken.invariant.2.plain in
-    let one : TurnsPlainly P T (IsPlain X) c.loop-taken.self c.store_on.new.self = record {
-      plain = plain;
-      wordless = plain_draws_none g.Q.Machine.kind_of g.Q.Machine.op g.Q.Machine.fed
-          g.Q.Ratifier.protocol c.loop-taken.self.core plain;
-      turned = record {
-        rests = λ none. absurd (due_some (P.op c.loop-taken.self.core 0)
-            (plain_op g.Q.Machine.kind_of g.Q.Machine.op g.Q.Machine.fed g.Q.Ratifier.protocol
-            c.loop-taken.self.core plain 0) none);
-        steps = λ op e. c.store_on.ensures.took;
-      };
-    } in
-    Next c.loop-taken.taken c.loop-taken.self c.store_on.new.self c.loop-taken.invariant.0 one
-
-pub loop-taken-preserved : goal.loop-taken-preserved
-unfolding tells_with
-loop-taken-preserved g c =
-    let P = process_with g.Q.Machine.kind_of g.Q.Machine.op g.Q.Machine.fed g.Q.Ratifier.protocol in
-    let T = tells_with g.Q.Machine.kind_of g.Q.Machine.op g.Q.Machine.fed g.Q.Ratifier.protocol in
-    let X =
-    election_with g.Q.Machine.kind_of g.Q.Machine.op g.Q.Machine.fed g.Q.Ratifier.protocol in
-    let plain = c.loop-taken.invariant.2.plain in
-    let one : TurnsPlainly P T (IsPlain X) c.loop-taken.self c.store_on.new.self = record {
-      plain = plain;
-      wordless = plain_draws_none g.Q.Machine.kind_of g.Q.Machine.op g.Q.Machine.fed
-          g.Q.Ratifier.protocol c.loop-taken.self.core plain;
-      turned = record {
-        rests = λ none. absurd (due_some (P.op c.loop-taken.self.core 0)
-            (plain_op g.Q.Machine.kind_of g.Q.Machine.op g.Q.Machine.fed g.Q.Ratifier.protocol
-            c.loop-taken.self.core plain 0) none);
-        steps = λ op e. c.store_on.ensures.took;
-      };
-    } in (
-      Next c.loop-taken.taken c.loop-taken.self c.store_on.new.self c.loop-taken.invariant.0 one,
-      c.store_on.ensures.table ∙ c.loop-taken.invariant.1,
-      c.store_on.ensures.stores c.if-not-store_on.false,
-    )
-
-pub returns-clause-stays : goal.returns-clause-stays
-returns-clause-stays g c none =
-    let P = process_with g.Q.Machine.kind_of g.Q.Machine.op g.Q.Machine.fed g.Q.Ratifier.protocol in
-    let T = tells_with g.Q.Machine.kind_of g.Q.Machine.op g.Q.Machine.fed g.Q.Ratifier.protocol in
-    goes_nowhere P T c.args.self.now c.loop-taken.taken c.loop-taken.self c.loop-taken.invariant.0
-    (omega (arith, none))
+    let none = c.if-cleared-gt0.false in
+    let same = c.clear_turns-cleared.ensures.stays (omega (arith, none)) in
+    subst (λ s. StoresPlain X s.core c.plain.new.at c.plain.new.value) (c.self.view_is ∙ sym same)
+    (c.plain.ensures.stores c.if-not-plain.false)

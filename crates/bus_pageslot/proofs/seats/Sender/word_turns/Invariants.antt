@@ -4,7 +4,7 @@ use Rattle.bus_core.specs.Plain.{IsPlain, StoresPlain}
 use Rattle.bus_tenure.specs.Elections.{election_with}
 use Rattle.bus_pageslot.specs.Seats.{table_of}
 use Rattle.bus_pageslot.specs.Turns.{tells_with, GoesPlainly}
-use Rattle.bus_pageslot.proofs.seats.Sender.plain_turns.Given as goal
+use Rattle.bus_pageslot.proofs.seats.Sender.word_turns.Given as goal
 
 abbrev pub invariant-loop-taken : goal.invariant-loop-taken
 invariant-loop-taken g l =
