@@ -348,7 +348,13 @@ const PLAIN_WORD: u64 = 0x6161_6161_6161_6161;
 fn receives_most(rt: &impl Abort, reader: &mut Reader, tenure: u64, at: u64, words: u64) {
     let first = 0x4000_0800_0000_0000 | tenure;
     receives(rt, reader, at, first, &head(0, tenure));
-    receives(rt, reader, at.wrapping_add(1), 0x8E00_0000_0000_0000, &RecvTurn::Going);
+    receives(
+        rt,
+        reader,
+        at.wrapping_add(1),
+        0x8E00_0000_0000_0000,
+        &RecvTurn::Going,
+    );
     for i in 2..words {
         receives(rt, reader, at.wrapping_add(i), PLAIN_WORD, &RecvTurn::Going);
     }
