@@ -46,20 +46,14 @@ fn bus_command<'a>(alloc: Global) -> Result<Command<'a>, Error>
         .about("Moves a bus by a script on standard input")
         .override_usage(help::REPLAY_USAGE)
         .after_help(help::REPLAY);
-    let bus = bus_alone(alloc)?
-        .subcommand(ratify)?
-        .subcommand(replay)?
-        .subcommand(trace_command(alloc)?)?
-        .subcommand(run_command(alloc)?)?
-        .subcommand(log_command(alloc)?)?;
-    Ok(bus)
-}
-
-/// The command line without its commands.
-fn bus_alone<'a>(alloc: Global) -> Result<Command<'a>, Error>
-    ensures { IfOk result (λ c. app_of c ≡ line.bus_alone) }
-{
-    let alone = Command::new(alloc, "bus")
+    let trace = Command::new(alloc, "trace")
+        .about("Shows each step of a bus that a script on standard input moves")
+        .override_usage(help::TRACE_USAGE)
+        .after_help(help::TRACE)
+        .arg(svg_flag(alloc))?
+        .arg(html_flag(alloc)?)?
+        .arg(play_flag(alloc)?)?;
+    let bus = Command::new(alloc, "bus")
         .bin_name("bus")?
         .version(help::VERSION)
         .before_help(help::NAME_AND_VERSION)
@@ -67,8 +61,13 @@ fn bus_alone<'a>(alloc: Global) -> Result<Command<'a>, Error>
         .after_help(help::BUS)
         .subcommand_required(true)
         .arg_required_else_help(true)
-        .disable_help_subcommand(true);
-    Ok(alone)
+        .disable_help_subcommand(true)
+        .subcommand(ratify)?
+        .subcommand(replay)?
+        .subcommand(trace)?
+        .subcommand(run_command(alloc)?)?
+        .subcommand(log_command(alloc)?)?;
+    Ok(bus)
 }
 
 /// The task that the words name, of which the first is the program's name.
@@ -100,21 +99,6 @@ fn task_of(name: &str, given: &ArgMatches<'_>) -> Task
         },
         _ => Task::Ratify,
     }
-}
-
-/// The command `trace`.
-fn trace_command<'a>(alloc: Global) -> Result<Command<'a>, Error>
-    ensures shape { IfOk result (λ c. app_of c ≡ line.trace_command) }
-    ensures local { IfOk result (λ c. (out-Command c).has_globals ≡ false) }
-{
-    let command = Command::new(alloc, "trace")
-        .about("Shows each step of a bus that a script on standard input moves")
-        .override_usage(help::TRACE_USAGE)
-        .after_help(help::TRACE)
-        .arg(svg_flag(alloc))?
-        .arg(html_flag(alloc)?)?
-        .arg(play_flag(alloc)?)?;
-    Ok(command)
 }
 
 /// The command `run`.
