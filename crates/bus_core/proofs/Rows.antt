@@ -179,7 +179,8 @@ left_of s c =
 -- who clears a word next clears all that are left
 module _ {E : Type 0} (X : Election E) (W : Layout → ℕ) (B : Layout → ℕ → ℕ → E → Type 0)
     (law : ElectionsKeep X W B) (v : Sender E) (k : Keeps X W B law v) (s : Reclaiming)
-    (i : situation X v ≡ Clears s) (c : IsClearing s) (h : HoldsPublished v.core.phase) (at value : ℕ)
+    (i : situation X v ≡ Clears s) (c : IsClearing s) (h : HoldsPublished v.core.phase)
+    (at value : ℕ)
     (stores : StoresPlain X v at value) where
   unpinned : IsAway v.reuse
   unpinned = plain_away X v (W v.core.layout) (B v.core.layout v.core.me) k (Clear s i c h)
@@ -194,8 +195,10 @@ module _ {E : Type 0} (X : Election E) (W : Layout → ℕ) (B : Layout → ℕ 
   each_clears n lt =
       let y = stored_on X v n in
       let kept : Keeps X W B law y = keeps_on X W B law v k (clears_left s)
-      (λ m less. clears_plain X v unpinned h s reclaimed_is c.passed m (fits_in m less)) n (omega (arith, lt)) in
-      clears_row X v unpinned h s reclaimed_is c.passed (W y.core.layout) (B y.core.layout y.core.me) n (fits_in n lt)
+      (λ m less. clears_plain X v unpinned h s reclaimed_is c.passed m (fits_in m less)) n
+      (omega (arith, lt)) in
+      clears_row X v unpinned h s reclaimed_is c.passed (W y.core.layout)
+      (B y.core.layout y.core.me) n (fits_in n lt)
       kept at (clear_place X v s at value i stores)
 
   pub clears_all : StoresRow X v at (λ n. 0) (clears_left s)
@@ -253,7 +256,8 @@ module _ {E : Type 0} (X : Election E) (W : Layout → ℕ) (B : Layout → ℕ 
 
   fits : (s : Reclaiming) → situation X v ≡ Clears s → IsClearing s → s.cleared + many ≤ s.width
   fits s i c =
-      let left : clears_from (situation X v) ≡ s.width - s.cleared = ap clears_from i ∙ left_of s c in
+      let left : clears_from (situation X v) ≡ s.width - s.cleared =
+      ap clears_from i ∙ left_of s c in
       let below = c.left in
       omega (arith, few, left, below)
 

@@ -85,7 +85,8 @@ impl<Q: Ratifier + Drop> Sender<Q> {
     #[inline(always)]
     fn clear_turns(&mut self, bus: &Bus<Q>, at: u64, most: u64) -> u64
         requires table { table_of self.old ≡ bus.now.table }
-        requires stores { (value : ℕ) × StoresPlain (election_of Q.Ratifier) self.old.core at value }
+        requires stores { (value : ℕ)
+            × StoresPlain (election_of Q.Ratifier) self.old.core at value }
         ensures table { table_of self.new ≡ table_of self.old }
         ensures few { result ≤ most }
         ensures stays { result ≡ 0 → self.new ≡ self.old }
