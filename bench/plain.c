@@ -11,17 +11,17 @@ enum { REST, ENTER, LOOK, WITHDRAW, ELECT, HOLD };
 enum { ANNOUNCE, BRING, READ_PROPOSAL, PROPOSE, READ_OTHER, MARK, OTHER_MARK, VOTE, READ_VOTES, FALLBACK, SEARCH, WON };
 struct round { u64 brought[2], proposal, mark[2], votes; }; // a conciliator, and the ratifier behind it
 struct row { u64 announced[64], fallback[6]; struct round round[6][8]; };
-struct page { u64 next[64], ended, words; } home;
+struct page { u64 next[64], ended, words, floor; } home;
 struct sender {
     char *messages[16]; u64 len[16], count, first, least, tenure, stored, words;
     int closing, leaving, closed, stopped, busy, phase, at, bit, spelled, candidate, round, value;
     int j;
     int own_votes, published, lost, withdrawn;
-    struct page page; u64 frame[129], presence, asked, cleared;
+    struct page page; u64 frame[129], presence, asked, cleared, loaded, lowest;
 } S[64];
-struct receiver { u64 place, known, left, tenure, owner, number, bytes, got, count, fresh; int ended; unsigned char data[64]; } M[9]; // the ninth hears the whole log in the end
-static u64 n, m, R, T, L, B, stage, length, *word_of_log, owners[256], owner_count;
-static struct row *rows; static int cyclic;
+struct receiver { u64 place, known, left, tenure, owner, number, bytes, got, count, fresh, passed; int ended, gone; unsigned char data[64]; } M[9]; // the ninth hears the whole log in the end
+static u64 n, m, R, T, L, B, stage, length, *word_of_log, *published, owners[256], owner_count;
+static struct row *rows; static int cyclic, ringed;
 static char *out; static size_t used, room;
 static void say(const char *format, u64 a, u64 b, u64 c, u64 d) {
     if (room - used < 256) out = realloc(out, room = 2 * room + 4096);
@@ -105,16 +105,22 @@ static int turn(u64 me, uint32_t random) { // true where it is going; else its a
     }
     if (s->phase == ELECT) {
         stage = 2 * s->tenure + 1; s->page = home; s->phase = HOLD;
-        s->stored = s->asked = s->cleared = 0; s->published = s->withdrawn = 0;
+        s->stored = s->asked = s->cleared = s->loaded = 0; s->lowest = s->page.words; s->published = s->withdrawn = 0;
         s->words = make_frame(s, me); owners[owner_count++ % T] = me;
         say("own %lu\n", s->tenure, 0, 0, 0); return 0;
     }
     if (cyclic && !s->withdrawn) { s->presence = 0; s->withdrawn = 1; return 1; }
-    if (!s->page.ended && s->page.words + s->words <= L && !s->published) {
+    if (!s->page.ended && s->page.words + s->words <= L + s->page.floor && !s->published) {
         if (s->stored < s->words) {
-            word_of_log[s->page.words + s->stored] = s->frame[s->stored]; s->stored++; return 1;
+            word_of_log[(s->page.words + s->stored) % L] = s->frame[s->stored]; s->stored++; return 1;
         }
         length = s->page.words + s->words; s->published = 1;
+        published = realloc(published, 8 * length); memcpy(published + s->page.words, s->frame, 8 * s->words);
+        return 1;
+    }
+    if (ringed && !s->page.ended && !s->published && s->loaded < m) { // no room by the page's floor
+        u64 passed = M[s->loaded].passed; if (passed < s->lowest) s->lowest = passed;
+        if (++s->loaded == m) s->page.floor = s->lowest;
         return 1;
     }
     if (cyclic && next >= T) { // the row of the next tenure was used T tenures before that
@@ -140,8 +146,9 @@ static int turn(u64 me, uint32_t random) { // true where it is going; else its a
 static int recv(u64 me) { // true where it goes on
     struct receiver *r = &M[me]; u64 w;
     if (r->ended) { used = r->fresh; say("end\n", 0, 0, 0, 0); return 0; }
+    if (ringed && me < 8 && !r->left && r->place > r->passed) { r->passed = r->place; used = r->fresh; say("going\n", 0, 0, 0, 0); return 1; }
     if (r->place == r->known) { if (length == r->known) { used = r->fresh; say("empty\n", 0, 0, 0, 0); return 0; } r->known = length; used = r->fresh; say("going\n", 0, 0, 0, 0); return 1; }
-    w = word_of_log[r->place++]; used = r->fresh;
+    w = me == 8 ? published[r->place] : word_of_log[r->place % L]; r->place++; used = r->fresh;
     if (!r->left) { r->left = w >> 40 & 0x3fff; r->owner = w >> 54 & 0xff; say("head %lu %lu\n", w & 0xffffffffff, r->owner, 0, 0); return 1; }
     r->left--;
     if (r->got >= r->bytes) {
@@ -178,9 +185,9 @@ static int is_good(const char *line, const char *end, int shaped) { // the form 
         if (count == 7) return 0;
     }
     while (numbers + 1 < count && is_number(w[numbers + 1], 0, UINT64_MAX)) numbers++;
-    if (!shaped) return (is(w[0], "shape") || is(w[0], "cycle")) && count == 6 && numbers == 5;
+    if (!shaped) return (is(w[0], "shape") || is(w[0], "cycle") || is(w[0], "ring")) && count == 6 && numbers == 5;
     if (is(w[0], "put")) return count == 3 && numbers >= 1 && is_hex(w[2]);
-    if (is(w[0], "close") || is(w[0], "stop") || is(w[0], "leave")) return count == 2 && numbers == 1;
+    if (is(w[0], "close") || is(w[0], "stop") || is(w[0], "leave") || is(w[0], "gone")) return count == 2 && numbers == 1;
     if (is(w[0], "turn")) return count == 4 && numbers == 3 && is_number(w[2], 0, 4294967295) && is_number(w[3], 1, 10000);
     return is(w[0], "recv") && count == 3 && numbers == 2 && is_number(w[2], 1, 10000);
 }
@@ -196,7 +203,7 @@ int main(int argc, char **argv) {
         if (line == end || *line == '#') continue;
         if (!is_good(line, end, shaped)) { if (refused(passes, number, "BadLine")) goto stop; continue; }
         if (!shaped) {
-            cyclic = *line == 'c'; sscanf(line + 6, "%lu %lu %lu %lu %lu", &n, &m, &R, &T, &L);
+            ringed = *line == 'r'; cyclic = ringed || *line == 'c'; sscanf(line + (ringed ? 5 : 6), "%lu %lu %lu %lu %lu", &n, &m, &R, &T, &L);
             B = 0; while (1u << B < n && n <= 64) B++;
             const char *why = n < 1 || n > 64 ? "Senders" : m < 1 || m > 8 ? "Receivers"
                 : R < 1 || R > 8 ? "Rounds" : T < (cyclic ? 2 : 1) || T > (cyclic ? 8 : 256) ? "Rows"
@@ -223,8 +230,9 @@ int main(int argc, char **argv) {
             if (s >= n || S[s].stopped) { if (refused(passes, number, s >= n ? "NoSuchSender" : "Stopped")) goto stop; continue; }
             S[s].stopped = 1; say("stop %lu: stopped\n", s, 0, 0, 0);
         } else {
-            s = strtoul(line + 5, &line, 10); k = strtoul(line, 0, 10);
-            if (s >= m) { if (refused(passes, number, "NoSuchReceiver")) goto stop; continue; }
+            int leaves = *line == 'g'; s = strtoul(line + 5, &line, 10); k = strtoul(line, 0, 10);
+            if (s >= m || M[s].gone) { if (refused(passes, number, s >= m ? "NoSuchReceiver" : "Gone")) goto stop; continue; }
+            if (leaves) { M[s].gone = 1; M[s].passed = UINT64_MAX; say("gone %lu: gone\n", s, 0, 0, 0); continue; }
             say("recv %lu: ", s, 0, 0, 0); M[s].fresh = used; while (k-- && recv(s)) {}
         }
     }

@@ -1,4 +1,4 @@
-"""Random scripts for `bus replay`, of both kinds of bus: bench/replay and bench/pages play them."""
+"""Random scripts for `bus replay`, of all kinds of bus: bench/replay and bench/pages play them."""
 
 def senders_of(dice): # 1 to 8, and at times more
     return dice.randint(1, 8) if dice.random() < 0.85 else dice.choice((9, 16, 17, 33, 64))
@@ -56,6 +56,29 @@ def cyclic_script(dice): # senders go through tenures one after another; some fa
             lines.append(f"close {s}")
         if dice.random() < leaves:
             lines.append(f"leave {dice.choice(awake)}")
+    if dice.random() < 0.4:
+        lines += last_lines(dice, n, m)
+    return "\n".join(lines).encode() + b"\n"
+
+def ring_script(dice): # receivers hear often or seldom, and some leave; now and then of another kind of bus
+    n, m, rows = dice.randint(1, 8), dice.randint(1, 8), dice.randint(2, 8)
+    kind = dice.choice(8 * ["ring"] + ["shape", "cycle"])
+    lines = [f"{kind} {n} {m} {dice.choice((1, 1, 2))} {rows} {dice.choice((16, 17, 24, 64, 140, 300))}"]
+    slow, naps, leaves = dice.choice((0.2, 0.5, 0.9)), dice.choice((0, 0.1, 0.3)), dice.choice((0, 0.01, 0.05))
+    closes, lengths = dice.choice((0, 0, 0.01)), dice.choice(((0, 1, 8), (20, 40, 56), (0, 8, 56)))
+    for _ in range(dice.choice((30, 100, 300))):
+        s, r = dice.randrange(n), dice.randrange(m)
+        if dice.random() < 0.6:
+            lines.append(f"put {s} {bytes(dice.randrange(256) for _ in range(dice.choice(lengths))).hex() or '-'}")
+        lines += [f"turn {s} {dice.getrandbits(32)} {dice.randint(1, 20) if dice.random() < naps else 2000}"] * dice.choice((1, 2, 2))
+        if dice.random() > slow:
+            lines += [f"recv {each} {dice.choice((1, 5, 9999))}" for each in range(m)]
+        if dice.random() < 0.3:
+            lines.append(f"recv {r} {dice.choice((1, 2, 9, 9999))}")
+        if dice.random() < leaves:
+            lines.append(dice.choice((f"gone {r}", f"gone {r}", f"leave {s}", f"stop {s}")))
+        if dice.random() < closes:
+            lines.append(f"close {s}")
     if dice.random() < 0.4:
         lines += last_lines(dice, n, m)
     return "\n".join(lines).encode() + b"\n"

@@ -66,9 +66,9 @@ counted X x (Some rows) bases none are p = record {
 
 -- it begins with all at their starts
 pub opens : {E : Type 0} (X : Election E) (x : Layout) (reuse : Option ℕ) (bases : List ℕ)
-    → IsLayout x → HasRows reuse → AreBases bases
+    → IsLayout x → x.passers ≡ 0 → HasRows reuse → AreBases bases
     → Opens (process_of X) (bus_of X x reuse bases)
-opens {E} X x reuse bases ok has are =
+opens {E} X x reuse bases ok none has are =
     let m : Machine E = record {
       layout = x;
       reuse = reuse;
@@ -94,6 +94,9 @@ opens {E} X x reuse bases ok has are =
           home = refl;
           senders = λ p v e. (crowd_new {E = E} x reuse bases x.senders).each p v e;
           receivers = λ r v e. none_here v e;
+          apart = λ plain. none;
+          many = λ r v e. none_here v e;
+          ring_bases = λ some s. absurd (omega arith);
           stopped = refl;
           owners = refl;
         });
@@ -104,5 +107,5 @@ opens {E} X x reuse bases ok has are =
       home = refl;
       senders = λ p below. crowd_has {E = E} x reuse bases x.senders p below;
       sender_trail = λ p. refl;
-      counted = counted X x reuse bases ok.passers are;
+      counted = counted X x reuse bases none are;
     }

@@ -1,7 +1,6 @@
 pub mod Turns
 pub mod Leading
 pub mod ReachedMachines
-pub mod Counting
 pub mod States
 pub mod Beginning
 pub mod HandedTells

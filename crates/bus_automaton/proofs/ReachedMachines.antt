@@ -13,7 +13,7 @@ use Rattle.bus_machine.specs.Machine.{has_stopped, found, turn_answer, trails_gr
 use Rattle.bus_register.specs.Protocol.{Protocol}
 use Rattle.bus_tenure.specs.Core.{Election, Layout}
 use Rattle.bus_world.specs.Trails.{put_actions, mark_actions}
-use Rattle.bus_world.specs.World.{Event, Put, Ask, Turn, Recv, Stop}
+use Rattle.bus_world.specs.World.{Event, Put, Ask, Turn, Recv, Stop, Gone}
 use Rattle.bus_world.specs.declared.events.Answer.{Answer}
 use Rattle.bus_world.specs.declared.events.Answer.TheVariants as answer
 use Rattle.bus_world.proofs.Stopping.{shown_there}
@@ -47,6 +47,7 @@ module _ {E : Type 0} (X : Election E) (P : Protocol E (Unit {0}) ℕ) (m : Mach
       (λ e. let low = sender_below p v h.goes in omega arith)
   adds_none q past (Recv p) a m' h = refl
   adds_none q past (Stop p) a m' h = refl
+  adds_none q past (Gone p) a m' h = refl
 
 -- who is none of its senders has done nothing
 pub nobody_did :

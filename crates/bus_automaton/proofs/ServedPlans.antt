@@ -67,14 +67,20 @@ is_layout P shape None h = record {
   senders = h.senders.1;
   rows = (let z = h.rows.1 in omega arith);
   capacity = (let z = h.log_words.1 in omega arith);
-  passers = refl;
+  passers = omega arith;
 }
 is_layout P shape (Some rows) h = record {
   senders = h.senders.1;
   rows = omega arith;
   capacity = (let z = h.log_words.1 in omega arith);
-  passers = refl;
+  passers = omega arith;
 }
+
+-- no word of its log is used again
+pub none_passed : {S : Type 0} (P : Protocol S Bool Verdict) (shape : Shape) (reuse : Option ℕ)
+    → (layout_of P shape reuse).passers ≡ 0
+none_passed P shape None = refl
+none_passed P shape (Some rows) = refl
 
 pub has_rows : (shape : Shape) (reuse : Option ℕ) → IsServed shape reuse → ShapeOf shape reuse
     → HasRows reuse

@@ -1,12 +1,12 @@
 -- A bus of either kind of rows is an automaton: its laws, by what every machine keeps that events
 -- lead to.
-use Rattle.std.proofs.Common.{◌≡◌, ◌≢◌, ℕ, ◌+◌, ◌*◌, ◌%◌, ◌<◌, ◌≤◌, Bool, true, false, Option}
-use Rattle.std.proofs.Common.{Some, None, is_some, List, [], ◌∷◌, ◌++◌, length, map, slice_get}
-use Rattle.std.proofs.Common.{slice_index, append_assoc, arith, refl, sym, ◌∙◌, ap, subst}
+use Rattle.std.proofs.Common.{◌≡◌, ◌≢◌, ℕ, ◌*◌, ◌%◌, ◌<◌, ◌≤◌, Bool, true, false, Option}
+use Rattle.std.proofs.Common.{Some, None, is_some, List, [], ◌++◌, drop, length, map, slice_get}
+use Rattle.std.proofs.Common.{slice_index, arith, refl, sym, ◌∙◌, ap, subst}
 use Rattle.std.proofs.lemmas.Bool.{true≢false}
-use Rattle.bus_batch.proofs.FrameLaws.{same_frame, same_log}
+use Rattle.bus_batch.proofs.FrameLaws.{same_log}
 use Rattle.bus_batch.specs.Batches.{Pending}
-use Rattle.bus_batch.specs.Frames.{Frame, AreFrames, AreFramesFrom, Order, Spells, frame_words}
+use Rattle.bus_batch.specs.Frames.{Frame, AreFrames, Order, Spells}
 use Rattle.bus_batch.specs.Frames.{log_words, order_of}
 use Rattle.bus_batch.specs.declared.messages.Item.{Item}
 use Rattle.bus_core.specs.Keeping.{new_reuse}
@@ -16,7 +16,7 @@ use Rattle.bus_deliverylog.specs.Orders.{of_sender}
 use Rattle.bus_deliverylog.specs.declared.receiving.RecvTurn.{RecvTurn}
 use Rattle.bus_deliverylog.specs.declared.receiving.RecvTurn.TheVariants as recv
 use Rattle.bus_machine.proofs.Entering.{enters}
-use Rattle.bus_machine.proofs.Framed.{IsFramed, framed}
+use Rattle.bus_machine.proofs.Framed.{IsFramed, framed, floor_first, log_straight}
 use Rattle.bus_machine.proofs.Joining.{grows}
 use Rattle.bus_machine.proofs.Knowing.{its_part}
 use Rattle.bus_machine.proofs.Leading.{Sits}
@@ -35,17 +35,18 @@ use Rattle.bus_tenure.specs.Situations.{Comes}
 use Rattle.bus_tenure.specs.declared.pages.Page.{Page}
 use Rattle.bus_tenure.specs.declared.phases.Phase.{Phase}
 use Rattle.bus_tenure.specs.declared.phases.Phase.TheVariants as phase
+use Rattle.bus_world.proofs.Accepting.{first_fits}
 use Rattle.bus_world.proofs.LogLaws.{length-logged}
 use Rattle.bus_world.proofs.Serving.{Serves}
+use Rattle.bus_world.proofs.Standing.{frames_begin}
 use Rattle.bus_world.specs.World.{IsLayout, Turn}
 use Rattle.bus_world.specs.Proved.Sending.{Fits, Part}
 use Rattle.bus_world.specs.Headline.{Action, Promises, puts}
-use Rattle.bus_world.specs.Log.{Knows}
+use Rattle.bus_world.specs.Log.{KeepsFloor, Knows}
 use Rattle.bus_world.specs.Trails.{no_answers}
 use Rattle.bus_world.specs.Proved.Tenures.Stage.{Open, Held}
 use Rattle.bus_world.specs.Waiting.{waiting_at}
 use Rattle.bus_world.specs.declared.events.Answer.TheVariants as answer
-use Rattle.bus_automaton.proofs.Counting.{first_below}
 use Rattle.bus_automaton.proofs.Leading.{takes_message, takes_mark, takes_turn, next, next_reached}
 use Rattle.bus_automaton.proofs.Leading.{takes_step}
 use Rattle.bus_automaton.proofs.ReachedMachines.{nobody_did}
@@ -54,21 +55,6 @@ use Rattle.bus_automaton.specs.Lawful.{AutomatonLaws, IsSender, StepsIn, HasLog,
 use Rattle.bus_automaton.specs.OneAutomaton.{MachineHistory, IsMachineHistory, bus_of}
 use Rattle.bus_automaton.specs.OneProcess.{is_taken, table_layout_by, process_of}
 use Rattle.bus_automaton.specs.Processes.{TableLayout, IsCounted, log_below}
-
--- ---- frames
--- frames whose words begin those of others begin them
-frames_begin : (senders least least' : ℕ) (fs gs : List Frame) (rest : List ℕ)
-    → AreFramesFrom senders least fs
-    → AreFramesFrom senders least' gs → log_words fs ++ rest ≡ log_words gs
-    → (more : List Frame) × (gs ≡ fs ++ more)
-frames_begin senders least least' [] gs rest lawful lawful' e = (gs, refl)
-frames_begin senders least least' (f ∷ fs) [] rest lawful lawful' e = absurd cc
-frames_begin senders least least' (f ∷ fs) (g ∷ gs) rest lawful lawful' e =
-    let s = same_frame senders f g (log_words fs ++ rest) (log_words gs) lawful.0 lawful'.0
-    (sym (append_assoc (frame_words f) (log_words fs) rest) ∙ e) in
-    let later =
-    frames_begin senders (f.tenure + 1) (g.tenure + 1) fs gs rest lawful.3 lawful'.3 s.1 in
-    (later.0, λ i. sym s.0 i ∷ later.1 i)
 
 -- between turns no page is under way
 not_taken : {E : Type 0} (base words : ℕ → ℕ) (frames : List Frame) (c : Core E) (ph : Phase E)
@@ -140,6 +126,10 @@ module _ {E : Type 0} (X : Election E) (P : Protocol E (Unit {0}) ℕ) (x : Layo
   pub framing : IsFramed P m T
   framing = framed X P m T sits h.reached
 
+  -- no word of its log is used again where its sizes have no passed places
+  none_passed : x.passers ≡ 0 → m.layout.passers ≡ 0
+  none_passed flat = ap (λ (l : Layout). l.passers) h.layout ∙ flat
+
   -- and the promise holds of it
   promise : IsPromised X m T
   promise = promised X P m T sits h.reached
@@ -164,14 +154,21 @@ module _ {E : Type 0} (X : Election E) (P : Protocol E (Unit {0}) ℕ) (x : Layo
       subst (λ (l : Layout). AreFrames l.senders framing.frames) h.layout framing.sending.log.lawful
 
   -- .. and fit
-  has_log : HasLog (bus_of X x reuse bases) z
-  has_log = record {
+  few : x.passers ≡ 0 → slice_index m.words 0 ≤ m.layout.capacity
+  few flat =
+      let same = framing.length in
+      let fits = framing.sending.log.fits (none_passed flat) in omega arith
+
+  -- so each word stands at its own place
+  has_log : x.passers ≡ 0 → HasLog (bus_of X x reuse bases) z
+  has_log flat = record {
     frames = framing.frames;
     lawful = lawful;
     words_are = framing.log_is;
-    fits = subst (λ (l : Layout). slice_index m.words 0 ≤ l.capacity) h.layout
-        (let same = framing.length in let fits = framing.sending.log.fits in omega arith);
-    stands = ap (λ t. log_below t m.words) (sym sizes_are) ∙ framing.stands;
+    fits = subst (λ (l : Layout). slice_index m.words 0 ≤ l.capacity) h.layout (few flat);
+    stands = ap (λ t. log_below t m.words) (sym sizes_are)
+        ∙ sym (log_straight m (none_passed flat) (few flat)) ∙ framing.stands.1
+        ∙ ap (λ k. drop k T.log) (floor_first m (none_passed flat));
   }
 
   -- the length says how many words were published
@@ -193,11 +190,11 @@ module _ {E : Type 0} (X : Election E) (P : Protocol E (Unit {0}) ℕ) (x : Layo
       promise.by.paged
 
   -- it is at home only while a tenure is open, and then it knows the frames
-  page_knows : (page : Page) (frames : List Frame) → m.home ≡ Some page → AreFrames x.senders frames
-      → log_words frames ≡ T.log
+  page_knows : x.passers ≡ 0 → (page : Page) (frames : List Frame) → m.home ≡ Some page
+      → AreFrames x.senders frames → log_words frames ≡ T.log
       → (past : ℕ) × (slice_index m.words 1 ≡ 2 * past)
-      × Knows (slice_index bases) page frames past (slice_index m.words 0)
-  page_knows page frames home law words = elim framing.sending.tenures.stage_is [
+      × Knows (slice_index bases) page frames past (slice_index m.words 0) × KeepsFloor page
+  page_knows flat page frames home law words = elim framing.sending.tenures.stage_is [
     | Open stage here many ↦ (
       framing.sending.tenures.ended,
       framing.stage ∙ stage,
@@ -205,6 +202,7 @@ module _ {E : Type 0} (X : Election E) (P : Protocol E (Unit {0}) ℕ) (x : Layo
           Knows (slice_index u.0) page u.1 framing.sending.tenures.ended u.2)
           (λ n. (h.bases_are n, same_frames frames law words n, sym framing.length n))
           (framing.sending.page_knows page framing.sending.tenures.ended home stage).0,
+      framing.sending.flat_home (none_passed flat) page home,
     )
     | Held holder stage away many holds ↦ absurd (true≢false (sym (ap is_some home) ∙ away))
   ]
@@ -233,32 +231,28 @@ module _ {E : Type 0} (X : Election E) (P : Protocol E (Unit {0}) ℕ) (x : Layo
     laid = not_taken (base_of m) framing.V framing.frames v.core v.core.phase part.fits
 
     -- the numbers of its messages stay far below their range
-    in_range : IsCounted (process_of X) v
-    in_range =
-        let log = framing.sending.log in
-        let size : length (log_words framing.frames) ≡ framing.V 0 = length-logged log in
-        let first = first_below (base_of m) m.layout.senders framing.V framing.frames log.lawful
-        v.core v.core.phase part.fits in
-        let low = log.low v.core.me in
-        let short = log.fits in
-        let most = sits.ok.capacity in
+    in_range : x.passers ≡ 0 → IsCounted (process_of X) v
+    in_range flat =
+        let first = first_fits X P sits.serves.laws m.layout sits.ok sits.serves.width framing.V
+        m.home framing.owners framing.frames p framing.cores framing.sending v.core
+        (framing.core_of p v at) in
         let now = ap (λ (q : Pending). q.first) (queue_is v.core.queue v.reuse) in
         let few = part.queue.few in
         let same = ap length (messages_are v.core.queue v.reuse) in
         record {
           first = omega arith;
           few = omega arith;
-          passers = ap (λ (l : Layout). l.passers) part.layout ∙ sits.ok.passers;
+          passers = ap (λ (l : Layout). l.passers) part.layout ∙ none_passed flat;
         }
 
     -- it is who it is
-    is_sender : IsSender (process_of X) (bus_of X x reuse bases) p v
-    is_sender = record {
+    is_sender : x.passers ≡ 0 → IsSender (process_of X) (bus_of X x reuse bases) p v
+    is_sender flat = record {
       me = part.me;
       below = subst (λ (l : Layout). p < l.senders) h.layout part.below;
       table_layout =
           λ n. table_layout_by ((part.layout ∙ h.layout) n) ((framing.rows p v at ∙ h.rows_are) n);
-      counted = in_range;
+      counted = in_range flat;
       laid = laid;
     }
 
@@ -311,11 +305,11 @@ steps_in X P x y reuse bases z h p v at word o due low =
       long_now = long X P x y reuse bases z' h';
     }
 
--- what a bus of either kind of rows owes threads
+-- what a bus of either kind of rows owes threads, where no word of its log is used again
 pub automaton_laws : {E : Type 0} (X : Election E) (P : Protocol E (Unit {0}) ℕ) (x : Layout)
-    → Serves X P x → (reuse : Option ℕ)
-    (bases : List ℕ) → AutomatonLaws (process_of X) (bus_of X x reuse bases)
-automaton_laws X P x y reuse bases = record {
+    → Serves X P x → x.passers ≡ 0 → (reuse : Option ℕ) (bases : List ℕ)
+    → AutomatonLaws (process_of X) (bus_of X x reuse bases)
+automaton_laws X P x y flat reuse bases = record {
   room = omega arith;
   behind = log_behind x reuse;
   started_me = λ p. refl;
@@ -323,7 +317,7 @@ automaton_laws X P x y reuse bases = record {
   started_away = λ p. refl;
   started_laid = λ p. refl;
   wide = λ z h. wide X P x y reuse bases z h;
-  senders = λ z p v h at. is_sender X P x y reuse bases z h p v at;
+  senders = λ z p v h at. is_sender X P x y reuse bases z h p v at flat;
   nobody = λ z q h past. nobody X P x y reuse bases z h q past;
   message = λ z p v bytes h at can small. takes_message X x reuse bases z h p v at bytes can small;
   marked = λ z p v mark h at can. takes_mark X x reuse bases z h p v at mark can;
@@ -340,8 +334,8 @@ automaton_laws X P x y reuse bases = record {
   even_at_home = λ z h even. (at_home X P x y reuse bases z h).0 even;
   odd_away = λ z h odd. (at_home X P x y reuse bases z h).1 odd;
   page_knows = λ z page frames h home law words.
-      page_knows X P x y reuse bases z h page frames home law words;
-  log = λ z h. has_log X P x y reuse bases z h;
+      page_knows X P x y reuse bases z h flat page frames home law words;
+  log = λ z h. has_log X P x y reuse bases z h flat;
   sent = λ z p v frames h at law words. sent X P x y reuse bases z h p v at frames law words;
   promised = λ z h. promised_of X P x y reuse bases z h;
   first = λ z p h. refl;

@@ -18,7 +18,7 @@ use Rattle.bus_tenure.specs.declared.pages.Page.{Page}
 use Rattle.bus_tenure.specs.declared.turns.Turn.{Turn}
 use Rattle.bus_core.specs.Keeping.{page_out}
 use Rattle.bus_world.specs.Headline.{Action, HasPut, HasMarked, Stepped, puts, Promises}
-use Rattle.bus_world.specs.Log.{Knows}
+use Rattle.bus_world.specs.Log.{KeepsFloor, Knows}
 use Rattle.bus_world.specs.Trails.{no_answers}
 use Rattle.bus_world.specs.Turning.{words_after, home_moved}
 use Rattle.bus_world.specs.World.{first_page}
@@ -199,7 +199,7 @@ pub record AutomatonLaws {C : Type 0} (P : Process C) (A : Automaton C) : Type 0
       → A.home z ≡ Some page → AreFrames A.table_layout.senders frames
       → log_words frames ≡ log_in A z
       → (past : ℕ) × (slice_index (A.words z) 1 ≡ 2 * past)
-      × Knows (base_in A) page frames past (slice_index (A.words z) 0)
+      × Knows (base_in A) page frames past (slice_index (A.words z) 0) × KeepsFloor page
   pub log : (z : A.State) → A.IsReached z → HasLog A z
   -- of each sender it has what that put, but for what waits
   pub sent : (z : A.State) (p : ℕ) (c : C) (frames : List Frame) → A.IsReached z

@@ -10,7 +10,6 @@ use Rattle.bus_core.specs.Keeping.{queue_of}
 use Rattle.bus_core.specs.Senders.{Sender, Situation, Does, Announces, Validates, Unpins}
 use Rattle.bus_core.specs.Senders.{Withdraws, Scans, Clears, ReadsPassed, situation}
 use Rattle.bus_core.specs.Table.{Line, line_now, rest_at}
-use Rattle.bus_core.specs.declared.reuses.Reuse.{Reuse}
 use Rattle.bus_world.specs.Trails.{step_action}
 use Rattle.bus_world.specs.Turning.{before_step, after_step, laying}
 use Rattle.bus_world.specs.Waiting.{waiting_at}

@@ -1,7 +1,7 @@
 -- What threads go by. A sender is a process, which says by itself what its next turn is; and a bus
 -- is an automaton, of which executions lead to some states. They are one for both kinds of rows, of
 -- which what is said here knows nothing.
-use Rattle.std.specs.Prelude.{◌≡◌, ℕ, ◌+◌, ◌≤◌, ◌<◌, Bool, true, false, Option, Some, None, List}
+use Rattle.std.specs.Prelude.{◌≡◌, ℕ, ◌+◌, ◌≤◌, ◌<◌, Bool, true, false, Option, Some, List}
 use Rattle.std.specs.Prelude.{length, slice_index}
 use Rattle.bus_register.specs.declared.kinds.Kind.{Kind}
 use Rattle.bus_register.specs.declared.limits.TheConstants.{MOST_MESSAGES, NUMBERS}

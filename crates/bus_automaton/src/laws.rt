@@ -31,13 +31,14 @@ pub fn process_is_lawful<Q: Ratifier>()
     election_is_lawful::<Q>();
 }
 
-/// A bus of any sizes, with a row for each tenure or with so many rows that are used again, is an
-/// automaton that threads may go by, whatever numbers its sitting begins with.
+/// A bus of any sizes, with a row for each tenure or with so many rows that are used again, whose
+/// log has no passed places, is an automaton that threads may go by, whatever numbers its sitting
+/// begins with.
 pub fn automaton_is_lawful<Q: Ratifier>()
     ensures { let X = election_of Q.Ratifier in
         (senders rounds rows capacity : ℕ) (reuse : Option ℕ) (bases : List ℕ)
         → AutomatonLaws (process_of X)
-        (bus_of X (layout_with Q.protocol senders rounds rows capacity) reuse bases) }
+        (bus_of X (layout_with Q.protocol senders rounds rows capacity 0) reuse bases) }
 {
     election_is_lawful::<Q>();
 }
@@ -47,9 +48,9 @@ pub fn automaton_is_lawful<Q: Ratifier>()
 pub fn automaton_opens<Q: Ratifier>()
     ensures { let X = election_of Q.Ratifier in
         (senders rounds rows capacity : ℕ) (reuse : Option ℕ) (bases : List ℕ)
-        → IsLayout (layout_with Q.protocol senders rounds rows capacity) → HasRows reuse
+        → IsLayout (layout_with Q.protocol senders rounds rows capacity 0) → HasRows reuse
         → AreBases bases → Opens (process_of X)
-        (bus_of X (layout_with Q.protocol senders rounds rows capacity) reuse bases) }
+        (bus_of X (layout_with Q.protocol senders rounds rows capacity 0) reuse bases) }
 {}
 
 /// Threads may go by a sender of any ratifier, and by a bus of any plan. What an answer tells once

@@ -55,7 +55,7 @@ impl Plan {
         ensures follows { OnOk result (MayFollow (option_copied page.entry)) }
         ensures fault { IfErr result (MayNotFollow (option_copied page.entry)) }
     {
-        let bases = first_numbers(page)?;
+        let bases = first_numbers(page, 0)?;
         Ok(Plan { bases, ..self })
     }
 }

@@ -103,6 +103,7 @@ impl Model for Batch {
 
 impl Batch {
     ghost use Rattle.bus_batch.specs.declared.batches.Phase.TheVariants as phase;
+    ghost use Rattle.bus_batch.specs.declared.messages.Mark.{Mark};
     ghost use Rattle.bus_batch.specs.declared.messages.Mark.TheVariants as mark;
     ghost use Rattle.bus_batch.specs.Batches.{Pending, next_of, HasSomething, frame_of, body_of};
     ghost use Rattle.bus_batch.specs.Batches.{CanPut, IsPutFault, CanClose, IsCloseFault};
@@ -349,6 +350,16 @@ impl Batch {
             Phase::Marking(Mark::Leave) => LEAVE,
             _ => self.body_word(i - 1),
         }
+    }
+
+    /// The words of its messages, one behind another; none where a mark waits.
+    #[inline(always)]
+    pub fn body(&self) -> &[u64]
+        ensures words { result.now ≡ flat_map message_words
+            (numbered_messages self.now.first self.now.messages) }
+        ensures mark { (mark : Mark) → self.now.phase ≡ phase.Marking mark → result.now ≡ [] }
+    {
+        self.body.as_slice()
     }
 
     /// How many words the frame has after its head.

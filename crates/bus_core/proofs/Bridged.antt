@@ -1,6 +1,6 @@
 -- Both tables are the one.
 use Rattle.std.proofs.Common.{◌≡◌, ℕ, ◌+◌, ◌-◌, Bool, true, false, cond, Option, Some, None}
-use Rattle.std.proofs.Common.{nat_lt, slice_index, refl, sym, ap, subst, arith}
+use Rattle.std.proofs.Common.{nat_lt, slice_index, refl, sym, ap, arith}
 use Rattle.bus_register.specs.declared.registers.Op.TheVariants.{Load, Store}
 use Rattle.bus_presence.specs.Reclaimers.{Reclaiming}
 use Rattle.bus_presence.specs.declared.pins.Pin.{Pin}
@@ -9,6 +9,7 @@ use Rattle.bus_presence.specs.declared.pins.Pin.TheVariants.{Unpinning, Invalida
 use Rattle.bus_tenure.specs.Core.{Core, Election, log_at, stage_at, cell_of}
 use Rattle.bus_tenure.specs.declared.pages.Page.{Page}
 use Rattle.bus_tenure.specs.declared.phases.Reason.{Reason}
+use Rattle.bus_tenure.specs.declared.phases.Reason.TheVariants.{Sent, FoundEnd, NoRoom}
 use Rattle.bus_register.specs.declared.kinds.Kind.TheVariants as kind
 use Rattle.bus_batch.specs.Batches.{frame_of}
 use Rattle.bus_batch.specs.Frames.{frame_words}
@@ -18,15 +19,17 @@ use Rattle.bus_tenure.specs.Situations.{Situation as Own, IsClosed, IsIdle, IsSp
 use Rattle.bus_tenure.specs.Situations.{Elects, TakesPage, AwaitsPage, StoresWord, StoresLength}
 use Rattle.bus_tenure.specs.Situations.{GivesBack, HasHanded, line_of}
 use Rattle.bus_tenure.specs.Situations.{situation_of as own_situation}
-use Rattle.bus_core.specs.Senders.{Does, Scans, Clears, reclaiming, at_home, pinning}
+use Rattle.bus_core.specs.Senders.{Does, Scans, Clears, ReadsPassed, reclaiming, passing, at_home}
+use Rattle.bus_core.specs.Senders.{pinning}
 use Rattle.bus_core.specs.Reusing.Participants.{log_from}
 use Rattle.bus_core.specs.Proved.ParticipantTable.{due_reclaimed, due_home, due_beside, reclaim_due}
+use Rattle.bus_core.specs.Proved.ParticipantTable.{due_passed, passed_due, lacking, Reads}
+use Rattle.bus_core.specs.Reusing.Passing.{passing_left}
+use Rattle.bus_core.specs.declared.reuses.Passing.{Passing}
 use Rattle.bus_core.specs.Reusing.Turns.{Participant, sizes_of}
-use Rattle.bus_core.specs.Proved.ParticipantTurns.{due}
 use Rattle.bus_core.specs.Table.{line}
 use Rattle.bus_core.specs.Proved.Bridge.{line_with_a_row_each, AtNone, AtSome, IsLineOf}
 use Rattle.bus_core.specs.Proved.Bridge.{with_a_row_each, with_rows_again}
-use Rattle.bus_core.proofs.Situated.{none_left, unpassed}
 
 -- with a row for each tenure each line is that of the table of a sender in its tenures
 line_at_none : {E : Type 0} (X : Election E) (c : Core E) (z : Own E)
@@ -113,11 +116,36 @@ module _ {E : Type 0} (X : Election E) where
   gives_back v (Some s) t page reason =
       reclaimed v s t page reason (nat_lt s.scanned s.senders) (nat_lt s.cleared s.width) refl
 
+  -- a passed place is loaded
+  reads : (v : Participant E) (t : ℕ) (p : Passing)
+      → IsLineOf X v (Reads t p) (line X (with_rows_again v) (ReadsPassed t p))
+  reads v t p = record {
+    kind = refl;
+    op = λ word. refl;
+    wants = refl;
+    fed = λ got word. refl;
+    answer = λ got word. refl;
+    rest = refl;
+    move = refl;
+    publishes = refl;
+  }
+
+  -- a page that is given back, after what is left of the passed places where the frame does not fit
+  gives_home : (v : Participant E) (l : Option Passing) (t : ℕ) (page : Page) (reason : Reason)
+      → IsLineOf X v
+      (due_passed (lacking reason t l) (due_home v.reclaimer (GivesBack t page reason)))
+      (line X (with_rows_again v)
+      (passing l t reason (reclaiming v.reclaimer (GivesBack t page reason))))
+  gives_home v l t page Sent = gives_back v v.reclaimer t page Sent
+  gives_home v l t page FoundEnd = gives_back v v.reclaimer t page FoundEnd
+  gives_home v None t page NoRoom = gives_back v v.reclaimer t page NoRoom
+  gives_home v (Some p) t page NoRoom = reads v t p
+
   -- who takes no step of a pin has the line of what goes on
-  at_home_is : (v : Participant E) (z : Own E)
-      → IsLineOf X v (due_home (reclaim_due z v.reclaimer) z)
-      (line X (with_rows_again v) (at_home None v.reclaimer z))
-  at_home_is v IsClosed = record {
+  at_home_is : (v : Participant E) (l : Option Passing) (z : Own E)
+      → IsLineOf X v (due_passed (passed_due z l) (due_home (reclaim_due z v.reclaimer) z))
+      (line X (with_rows_again v) (at_home l v.reclaimer z))
+  at_home_is v l IsClosed = record {
     kind = refl;
     op = λ word. refl;
     wants = refl;
@@ -127,7 +155,7 @@ module _ {E : Type 0} (X : Election E) where
     move = refl;
     publishes = refl;
   }
-  at_home_is v IsIdle = record {
+  at_home_is v l IsIdle = record {
     kind = refl;
     op = λ word. refl;
     wants = refl;
@@ -137,7 +165,7 @@ module _ {E : Type 0} (X : Election E) where
     move = refl;
     publishes = refl;
   }
-  at_home_is v IsSpent = record {
+  at_home_is v l IsSpent = record {
     kind = refl;
     op = λ word. refl;
     wants = refl;
@@ -147,7 +175,7 @@ module _ {E : Type 0} (X : Election E) where
     move = refl;
     publishes = refl;
   }
-  at_home_is v LooksAtStage = record {
+  at_home_is v l LooksAtStage = record {
     kind = refl;
     op = λ word. refl;
     wants = refl;
@@ -157,7 +185,7 @@ module _ {E : Type 0} (X : Election E) where
     move = refl;
     publishes = refl;
   }
-  at_home_is v (Elects t e) = record {
+  at_home_is v l (Elects t e) = record {
     kind = refl;
     op = λ word. refl;
     wants = refl;
@@ -167,7 +195,7 @@ module _ {E : Type 0} (X : Election E) where
     move = refl;
     publishes = refl;
   }
-  at_home_is v (TakesPage t) = record {
+  at_home_is v l (TakesPage t) = record {
     kind = refl;
     op = λ word. refl;
     wants = refl;
@@ -177,7 +205,7 @@ module _ {E : Type 0} (X : Election E) where
     move = refl;
     publishes = refl;
   }
-  at_home_is v (AwaitsPage t) = record {
+  at_home_is v l (AwaitsPage t) = record {
     kind = refl;
     op = λ word. refl;
     wants = refl;
@@ -187,7 +215,7 @@ module _ {E : Type 0} (X : Election E) where
     move = refl;
     publishes = refl;
   }
-  at_home_is v (StoresWord t page stored) = record {
+  at_home_is v l (StoresWord t page stored) = record {
     kind = refl;
     op = λ word. ap (λ at.
         Some (Store record { 0 = at } (slice_index (frame_words (frame_of v.core.queue t)) stored)))
@@ -200,7 +228,7 @@ module _ {E : Type 0} (X : Election E) where
     move = refl;
     publishes = refl;
   }
-  at_home_is v (StoresLength t page stored) = record {
+  at_home_is v l (StoresLength t page stored) = record {
     kind = refl;
     op = λ word. refl;
     wants = refl;
@@ -210,12 +238,8 @@ module _ {E : Type 0} (X : Election E) where
     move = refl;
     publishes = refl;
   }
-  at_home_is v (GivesBack t page reason) =
-      subst (λ z. IsLineOf X v (due_home v.reclaimer (GivesBack t page reason))
-      (line X (with_rows_again v) z))
-      (sym (unpassed t reason (reclaiming v.reclaimer (GivesBack t page reason))))
-      (gives_back v v.reclaimer t page reason)
-  at_home_is v (HasHanded t reason) = record {
+  at_home_is v l (GivesBack t page reason) = gives_home v l t page reason
+  at_home_is v l (HasHanded t reason) = record {
     kind = refl;
     op = λ word. refl;
     wants = refl;
@@ -227,12 +251,12 @@ module _ {E : Type 0} (X : Election E) where
   }
 
   -- a step of a pin comes first in both tables
-  pins : (v : Participant E) (u : Pin) (z : Own E)
+  pins : (v : Participant E) (u : Pin) (l : Option Passing) (z : Own E)
       → IsLineOf X (record v { pin = u })
-      (due_beside (step_at u (presence_at (sizes_of v) v.core.me) stage_at) v.reclaimer z)
-      (line X (with_rows_again (record v { pin = u })) (pinning u None v.reclaimer z))
-  pins v Away z = at_home_is (record v { pin = Away }) z
-  pins v (Announcing t) z = record {
+      (due_beside (step_at u (presence_at (sizes_of v) v.core.me) stage_at) l v.reclaimer z)
+      (line X (with_rows_again (record v { pin = u })) (pinning u l v.reclaimer z))
+  pins v Away l z = at_home_is (record v { pin = Away }) l z
+  pins v (Announcing t) l z = record {
     kind = refl;
     op = λ word. refl;
     wants = refl;
@@ -242,7 +266,7 @@ module _ {E : Type 0} (X : Election E) where
     move = refl;
     publishes = refl;
   }
-  pins v (Validating t) z = record {
+  pins v (Validating t) l z = record {
     kind = refl;
     op = λ word. refl;
     wants = refl;
@@ -252,8 +276,8 @@ module _ {E : Type 0} (X : Election E) where
     move = refl;
     publishes = refl;
   }
-  pins v (Pinned t) z = at_home_is (record v { pin = Pinned t }) z
-  pins v (Unpinning t) z = record {
+  pins v (Pinned t) l z = at_home_is (record v { pin = Pinned t }) l z
+  pins v (Unpinning t) l z = record {
     kind = refl;
     op = λ word. refl;
     wants = refl;
@@ -263,7 +287,7 @@ module _ {E : Type 0} (X : Election E) where
     move = refl;
     publishes = refl;
   }
-  pins v (Invalidated t) z = record {
+  pins v (Invalidated t) l z = record {
     kind = refl;
     op = λ word. refl;
     wants = refl;
@@ -276,8 +300,5 @@ module _ {E : Type 0} (X : Election E) where
 
   -- with rows that are used again the line is that of what is due
   pub at_some : AtSome X
-  at_some v none =
-      subst (λ l. IsLineOf X v (due X v)
-      (line X (with_rows_again v) (pinning v.pin l v.reclaimer (own_situation X v.core))))
-      (sym (none_left v.core.layout.passers v.passed none))
-      (pins v v.pin (own_situation X v.core))
+  at_some v =
+      pins v v.pin (passing_left v.core.layout.passers v.passed) (own_situation X v.core)

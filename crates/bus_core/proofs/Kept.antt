@@ -22,20 +22,22 @@ use Rattle.bus_tenure.specs.declared.phases.Phase.{Phase}
 use Rattle.bus_tenure.specs.declared.phases.Phase.TheVariants.{Resting, Electing, Taken, Holding}
 use Rattle.bus_tenure.specs.declared.phases.Phase.TheVariants.{Giving}
 use Rattle.bus_tenure.specs.declared.phases.Reason.{Reason}
-use Rattle.bus_tenure.specs.declared.phases.Reason.TheVariants.{NoRoom}
+use Rattle.bus_tenure.specs.declared.phases.Reason.TheVariants.{Sent, FoundEnd, NoRoom}
 use Rattle.bus_tenure.proofs.Looking.{looks_at_rest}
 use Rattle.bus_tenure.proofs.Situated.{tells}
 use Rattle.bus_core.specs.Keeping.{ReuseKeeps, sender}
 use Rattle.bus_core.specs.Reusing.Keeping.{IsBound, IsOutside, PinKeeps, ReclaimerKeeps, LostKeeps}
-use Rattle.bus_core.specs.Reusing.Keeping.{held_of}
+use Rattle.bus_core.specs.Reusing.Keeping.{held_of, LoadedKeeps}
 use Rattle.bus_core.specs.Reusing.Participants.{sizes_with}
 use Rattle.bus_core.specs.Reusing.Passing.{passing_begun, passing_fed}
 use Rattle.bus_core.specs.Senders.{Sender, Situation, Does, Announces, Validates, Unpins}
 use Rattle.bus_core.specs.Senders.{Withdraws, Scans, Clears, ReadsPassed, situation}
+use Rattle.bus_core.specs.Senders.{situation_by}
 use Rattle.bus_core.specs.Table.{line, line_now, in_row, seen, reuse_elected}
 use Rattle.bus_core.specs.declared.reuses.Passing.{Passing}
 use Rattle.bus_core.specs.declared.reuses.Reuse.{Reuse}
 use Rattle.bus_core.proofs.Bridged.{at_none}
+use Rattle.bus_core.proofs.Loading.{loads_all_first}
 use Rattle.bus_core.proofs.Reusing.Keeps.{ElectionsKeep, runs_pinned}
 use Rattle.bus_core.proofs.Situated.{IsCalm, GoesCalmly, Reclaims, Passes, SituationTells}
 use Rattle.bus_core.proofs.Situated.{situation_tells}
@@ -146,8 +148,9 @@ module _ {E : Type 0} (X : Election E) (W : Layout → ℕ) (B : Layout → ℕ 
   -- ---- where rows are used again
   -- whatever of the passed places it has loaded
   repassed : (c : Core E) (r : Reuse) → Keeps (sender c (Some r)) → (p : Passing)
+      → LoadedKeeps c.layout.passers c.phase p
       → Keeps (sender c (Some (record r { passed = p })))
-  repassed c r k p = record {
+  repassed c r k p loaded = record {
     sizes = k.sizes;
     tenures = k.tenures;
     rows_some = k.rows_some;
@@ -156,6 +159,7 @@ module _ {E : Type 0} (X : Election E) (W : Layout → ℕ) (B : Layout → ℕ 
     pin = k.pin;
     reclaimer = k.reclaimer;
     lost = k.lost;
+    loaded = loaded;
   }
 
   module _ (c : Core E) (r : Reuse) (k : Keeps (sender c (Some r))) where
@@ -175,8 +179,8 @@ module _ {E : Type 0} (X : Election E) (W : Layout → ℕ) (B : Layout → ℕ 
         (l : Option SenderNo)
         → PinKeeps (B c.layout c.me) (record c { queue = q; least = least; phase = p }) u
         → ReclaimerKeeps sizes p s → LostKeeps c.me p u l
-        → Keeps (with q least p u s l)
-    kept q least p u s l pin reclaimer lost = record {
+        → LoadedKeeps c.layout.passers p r.passed → Keeps (with q least p u s l)
+    kept q least p u s l pin reclaimer lost loaded = record {
       sizes = k.sizes;
       tenures = k.tenures;
       rows_some = k.rows_some;
@@ -185,6 +189,7 @@ module _ {E : Type 0} (X : Election E) (W : Layout → ℕ) (B : Layout → ℕ 
       pin = pin;
       reclaimer = reclaimer;
       lost = lost;
+      loaded = loaded;
     }
 
     -- ---- a step of its pin
@@ -193,6 +198,7 @@ module _ {E : Type 0} (X : Election E) (W : Layout → ℕ) (B : Layout → ℕ 
         → Keeps (with c.queue c.least c.phase u r.reclaimer None)
     repinned u pin other =
         kept c.queue c.least c.phase u r.reclaimer None pin k.reclaimer (λ t e. absurd (other t e))
+        k.loaded
 
     -- its pin is this one
     pin_at : (u : Pin) → r.pin ≡ u → PinKeeps (B c.layout c.me) c u
@@ -210,7 +216,7 @@ module _ {E : Type 0} (X : Election E) (W : Layout → ℕ) (B : Layout → ℕ 
         None
         record { election = started; is = refl; belongs = belongs; below = h.below }
         (unreclaimed sizes c.phase (Electing t started) r.reclaimer k.reclaimer
-        (ap held_of h.looks.rests) refl) (λ u e. absurd cc)
+        (ap held_of h.looks.rests) refl) (λ u e. absurd cc) tt
     validated t h false =
         repinned (Invalidated t) h.looks.rests (λ u e. cc)
 
@@ -233,23 +239,25 @@ module _ {E : Type 0} (X : Election E) (W : Layout → ℕ) (B : Layout → ℕ 
     -- who goes on, and whose election does not run, stays as it is
     goes : IsCalm r.pin → IsOutside c.phase
         → (q : Pending) (least : ℕ) (p : Phase E) (s : Option Reclaiming) → IsOutside p
-        → ReclaimerKeeps sizes p s → Keeps (with q least p r.pin s r.lost)
-    goes calm out q least p s after reclaimer =
+        → ReclaimerKeeps sizes p s → LoadedKeeps c.layout.passers p r.passed
+        → Keeps (with q least p r.pin s r.lost)
+    goes calm out q least p s after reclaimer loaded =
         let away = calm_away (W c.layout) (B c.layout c.me) c r k out calm in
         kept q least p r.pin s r.lost
         (subst (PinKeeps (B c.layout c.me) (record c { queue = q; least = least; phase = p }))
         (sym away) after) reclaimer
-        (lost_on calm p r.pin (λ t e. let bad = sym away ∙ e in absurd cc))
+        (lost_on calm p r.pin (λ t e. let bad = sym away ∙ e in absurd cc)) loaded
 
     -- with another phase of the same tenure
     holds : IsCalm r.pin → IsOutside c.phase → (p : Phase E) → IsOutside p
         → held_of p ≡ held_of c.phase
         → ((t : ℕ) (reason : Reason) → p ≡ Giving t reason
         → IfSome r.reclaimer (λ s. is_reclaimed s ≡ true))
+        → LoadedKeeps c.layout.passers p r.passed
         → Keeps (with c.queue c.least p r.pin r.reclaimer r.lost)
-    holds calm out p after same done =
+    holds calm out p after same done loaded =
         goes calm out c.queue c.least p r.reclaimer after
-        (rephased sizes c.phase p r.reclaimer k.reclaimer same done)
+        (rephased sizes c.phase p r.reclaimer k.reclaimer same done) loaded
 
     -- a first look at the stage
     looks : (got : ℕ) → IsCalm r.pin → c.phase ≡ Resting → resting c ≡ LooksAtStage
@@ -260,7 +268,7 @@ module _ {E : Type 0} (X : Election E) (W : Layout → ℕ) (B : Layout → ℕ 
 
       away : (least : ℕ) → Keeps (with c.queue least c.phase Away r.reclaimer r.lost)
       away least = kept c.queue least c.phase Away r.reclaimer r.lost out k.reclaimer
-          (lost_on calm c.phase Away (λ t e. absurd cc))
+          (lost_on calm c.phase Away (λ t e. absurd cc)) k.loaded
 
       bound : (a : Bool) → (got % 2 == 0) ≡ a → cond a (nat_lt (got / 2) c.least) true ≡ false
           → c.least ≤ got / 2
@@ -278,7 +286,7 @@ module _ {E : Type 0} (X : Election E) (W : Layout → ℕ) (B : Layout → ℕ 
             least = bound (got % 2 == 0) refl i;
             below = leb-false _ _ j;
           } k.reclaimer
-          (lost_on calm c.phase (Announcing (got / 2)) (λ t e. absurd cc))
+          (lost_on calm c.phase (Announcing (got / 2)) (λ t e. absurd cc)) k.loaded
 
     -- a step of its election
     elects : (t : ℕ) (e next : E) → IsCalm r.pin → c.phase ≡ Electing t e
@@ -297,7 +305,7 @@ module _ {E : Type 0} (X : Election E) (W : Layout → ℕ) (B : Layout → ℕ 
             below = (runs_pinned (B c.layout c.me) c r.pin t e k.pin at).2;
           }
           (outside (Electing t next) refl)
-          (lost_on calm (Electing t next) (Pinned t) (λ u e. absurd cc))
+          (lost_on calm (Electing t next) (Pinned t) (λ u e. absurd cc)) tt
 
       ends : (o : ℕ) (b : Bool) → (o == c.me) ≡ b
           → Keeps (sender
@@ -315,7 +323,7 @@ module _ {E : Type 0} (X : Election E) (W : Layout → ℕ) (B : Layout → ℕ 
             parts = refl;
             rests = refl;
             other = eqb-false o c.me e;
-          }
+          } tt
 
       by : (o : Option ℕ) → Keeps (sender (core_elected c t next o) (reuse_elected c (Some r) t o))
       by None = runs
@@ -327,7 +335,7 @@ module _ {E : Type 0} (X : Election E) (W : Layout → ℕ) (B : Layout → ℕ 
     taken_keeps t calm =
         kept c.queue c.least (Taken t) (Unpinning t) (reclaimer_after sizes t) r.lost tt
         (begins sizes (Taken t) t (nat_lt (t + 1) r.rows) refl refl)
-        (lost_on calm (Taken t) (Unpinning t) (λ u e. let same : t ≡ u = cc in ap Some same))
+        (lost_on calm (Taken t) (Unpinning t) (λ u e. let same : t ≡ u = cc in ap Some same)) tt
 
     -- a passed place is loaded, and with the last one the page gets its floor
     passes : (t : ℕ) (p q : Passing) → Passes c.layout.passers r (situation_of X c) t p → (b : Bool)
@@ -338,9 +346,14 @@ module _ {E : Type 0} (X : Election E) (W : Layout → ℕ) (B : Layout → ℕ 
         (holds w.calm (subst IsOutside (sym at) tt) (phase_floored q.least c.phase)
         (subst (λ ph. IsOutside (phase_floored q.least ph)) (sym at) tt)
         (ap (λ ph. held_of (phase_floored q.least ph)) at ∙ sym (ap held_of at))
-        (λ u reason e. let bad = sym (ap (phase_floored q.least) at) ∙ e in absurd cc))
+        (λ u reason e. let bad = sym (ap (phase_floored q.least) at) ∙ e in absurd cc)
+        (subst (λ ph. LoadedKeeps c.layout.passers (phase_floored q.least ph) r.passed) (sym at)
+        tt))
         q
-    passes t p q w false = repassed c r k q
+        (subst (λ ph. LoadedKeeps c.layout.passers (phase_floored q.least ph) q) (sym at) tt)
+    passes t p q w false =
+        let at = (tells X c (GivesBack t w.page NoRoom) w.gives).2 in
+        repassed c r k q (subst (λ ph. LoadedKeeps c.layout.passers ph q) (sym at) tt)
 
     -- a reclamation goes on
     reclaims : (s : Reclaiming) (got : ℕ) → Reclaims r (situation_of X c) s
@@ -351,7 +364,7 @@ module _ {E : Type 0} (X : Election E) (W : Layout → ℕ) (B : Layout → ℕ 
         (reclaimed_on sizes c.phase s got
         (held_reclaimer (W c.layout) (B c.layout c.me) c r k s w.is)
         (λ t reason e. not_giving c.phase _ _ _ _ at t reason e))
-        k.lost
+        k.lost k.loaded
 
     module _ (got word : ℕ) where
       -- ---- each situation
@@ -382,23 +395,25 @@ module _ {E : Type 0} (X : Election E) (W : Layout → ℕ) (B : Layout → ℕ 
             pin = Unpinning t;
             reclaimer = reclaimer_after sizes t;
           } in
-          repassed (record c { phase = Taken t }) taken (taken_keeps t w.1.calm) passing_begun
+          repassed (record c { phase = Taken t }) taken (taken_keeps t w.1.calm) passing_begun tt
       by_situation (Does (AwaitsPage t)) w h = k
       by_situation (Does (StoresWord t page stored)) w h =
           let at = (tells X c (StoresWord t page stored) w.0).1 in
           holds w.1.calm (subst IsOutside (sym at) tt) (Holding t page (stored + 1) false) tt
           (sym (ap held_of at))
-          (λ u reason e. absurd cc)
+          (λ u reason e. absurd cc) tt
       by_situation (Does (StoresLength t page stored)) w h =
           let at = (tells X c (StoresLength t page stored) w.0).1 in
           holds w.1.calm (subst IsOutside (sym at) tt) (Holding t page stored true) tt
-          (sym (ap held_of at)) (λ u reason e. absurd cc)
+          (sym (ap held_of at)) (λ u reason e. absurd cc) tt
       by_situation (Does (GivesBack t page reason)) w h =
           let at = (tells X c (GivesBack t page reason) w.0).2 in
           goes w.1.calm (subst IsOutside (sym at) tt) _ (t + 1) Resting None tt (λ u e. absurd cc)
+          tt
       by_situation (Does (HasHanded t reason)) w h =
           let at = tells X c (HasHanded t reason) w.0 in
           goes w.1.calm (subst IsOutside (sym at) tt) _ (t + 1) Resting None tt (λ u e. absurd cc)
+          tt
       by_situation (Announces t) w h = repinned (Validating t) (pin_at (Announcing t) w) (λ u e. cc)
       by_situation (Validates t) w h = validated t (pin_at (Validating t) w) (got / 2 == t)
       by_situation (Unpins t) w h = repinned Away (pin_at (Unpinning t) w) (λ u e. cc)
@@ -429,13 +444,24 @@ module _ {E : Type 0} (X : Election E) (W : Layout → ℕ) (B : Layout → ℕ 
       → situation X v ≡ Does (GivesBack t page reason)
       → Keeps record v { core = record v.core { phase = Giving t reason } }
   keeps_out v k t page reason is d =
-      by v.reuse k (situation_tells X v (Does (GivesBack t page reason)) d).1
+      by v.reuse k d (situation_tells X v (Does (GivesBack t page reason)) d).1
     where
+      -- it has loaded all passed places, where it is for want of room
+      all : (why : Reason) (r : Reuse)
+          → situation_by v.core.layout.passers (Some r) (situation_of X v.core)
+          ≡ Does (GivesBack t page why)
+          → LoadedKeeps {E = E} v.core.layout.passers (Giving t why) r.passed
+      all Sent r i = tt
+      all FoundEnd r i = tt
+      all NoRoom r i = (loads_all_first X (sender v.core (Some r))).given t page i
+
       by : (r : Option Reuse) → Keeps (sender v.core r)
+          → situation_by v.core.layout.passers r (situation_of X v.core)
+          ≡ Does (GivesBack t page reason)
           → IfSome r (λ r. GoesCalmly r (situation_of X v.core))
           → Keeps (sender (record v.core { phase = Giving t reason }) r)
-      by None k g = tt
-      by (Some r) k g =
+      by None k i g = tt
+      by (Some r) k i g =
           let at = (tells X v.core (GivesBack t page reason) is).2 in
           holds v.core r k g.calm (subst IsOutside (sym at) tt) (Giving t reason) tt
-          (sym (ap held_of at)) (λ u w e. g.done t page reason is)
+          (sym (ap held_of at)) (λ u w e. g.done t page reason is) (all reason r i)

@@ -2,6 +2,7 @@ pub mod Reusing
 mod LeastPassed
 pub mod Bridged
 pub mod Situated
+mod Loading
 mod Stepped
 mod Votes
 pub mod Kept
@@ -12,5 +13,7 @@ mod CausesRefused
 pub mod Lying
 pub mod Plain
 mod Rows
+mod FrameRows
+pub mod ElectionRows
 pub mod Told
 mod Refused

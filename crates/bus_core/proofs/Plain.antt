@@ -312,7 +312,7 @@ module _ {E : Type 0} (X : Election E) (v : Sender E) where
 
 module _ {E : Type 0} (X : Election E) (v : Sender E) where
   -- where its word goes
-  word_place : (t : ℕ) (page : Page) (stored at value : ℕ)
+  pub word_place : (t : ℕ) (page : Page) (stored at value : ℕ)
       → situation X v ≡ Does (StoresWord t page stored)
       → ((word : ℕ) → (line_now X v).op word ≡ Some (Store record { 0 = at } value))
       → at ≡ log_start v.core.layout v.reuse + cell_of v.core.layout (page.words + stored)

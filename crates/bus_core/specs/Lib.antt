@@ -8,6 +8,8 @@ pub mod Causes
 pub mod CausesRefuse
 pub mod Places
 pub mod Plain
+pub mod TenureRows
 pub mod Telling
+pub mod Loading
 pub mod Refused
 pub mod Proved

@@ -2,7 +2,7 @@
 use Rattle.std.specs.Prelude.{◌≡◌, ℕ, zero, suc, ◌+◌, ◌<◌, ◌≤◌, Some}
 use Rattle.bus_register.specs.declared.registers.Op.TheVariants.{Store}
 use Rattle.bus_presence.specs.Reclaimers.{Reclaiming, IsClearing, clears_left}
-use Rattle.bus_tenure.specs.Core.{Election}
+use Rattle.bus_tenure.specs.Core.{Election, frame_len}
 use Rattle.bus_tenure.specs.Seen.{HoldsPublished}
 use Rattle.bus_tenure.specs.Situations.{StoresWord}
 use Rattle.bus_tenure.specs.declared.pages.Page.{Page}
@@ -44,3 +44,11 @@ pub record StoresRow {E : Type 0} (X : Election E) (v : Sender E) (at : ℕ) (va
 abbrev pub clears_from : {E : Type 0} → Situation E → ℕ
 clears_from (Clears s) = clears_left s
 clears_from z = 0
+
+-- it stores so many words of its frame from its next step on
+pub record StoresWords {E : Type 0} (X : Election E) (v : Sender E) (many : ℕ) : Type 0 where
+  pub tenure : ℕ
+  pub page : Page
+  pub stored : ℕ
+  pub is : situation X v ≡ Does (StoresWord tenure page stored)
+  pub within : stored + many ≤ frame_len v.core

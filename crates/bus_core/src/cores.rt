@@ -1,6 +1,6 @@
 //! A sender and its turns.
 
-ghost use Rattle.std.specs.Prelude.{◌≡◌, ℕ, ◌+◌, ◌*◌, ◌-◌, ◌<◌, ◌≤◌, ◌^◌, ◌%◌, ◌↔◌};
+ghost use Rattle.std.specs.Prelude.{◌≡◌, ℕ, ◌+◌, ◌*◌, ◌-◌, ◌<◌, ◌≤◌, ◌^◌, ◌↔◌};
 ghost use Rattle.std.specs.Prelude.{Option, Some, None, IfSome, IsSome, IsTrue, false};
 ghost use Rattle.bus_register.specs.Words.{register};
 ghost use Rattle.bus_register.specs.declared.kinds.Kind.TheVariants as kind;
@@ -9,13 +9,13 @@ ghost use Rattle.bus_tenure.specs.Elections.{election_of, elections, layout_with
 ghost use Rattle.bus_tenure.specs.Seen.{AwaitsItsPage, turns_of, HasElection, is_holding};
 ghost use Rattle.bus_tenure.specs.Situations.{situation_of, tenure_begun as tenure_by_stage};
 ghost use Rattle.bus_tenure.specs.declared.phases.Phase.TheVariants as phase;
-ghost use Rattle.bus_core.specs.Reusing.Turns.{on_place};
 ghost use Rattle.bus_tenure.specs.Doings.{doing_of};
 ghost use Rattle.bus_tenure.specs.declared.doings.Doing.TheVariants as doing;
 ghost use Rattle.bus_core.specs.Causes.{HasCause, IsCaused};
 ghost use Rattle.bus_core.specs.Doings.{step_of, asks_first};
 ghost use Rattle.bus_core.specs.Keeping.{ReuseKeeps, reclaimer_op_of, sender, IsAway};
 ghost use Rattle.bus_core.specs.Keeping.{page_out, core_without, new_sender};
+ghost use Rattle.bus_core.specs.Loading.{KeepsFloor, HasLoadedAll};
 ghost use Rattle.bus_core.specs.Places.{LiesAt};
 ghost use Rattle.bus_core.specs.Seen.{pin_of, tenure_begun};
 ghost use Rattle.bus_core.specs.Senders.{Does, ReadsPassed, situation, log_start, passed_start};
@@ -27,6 +27,7 @@ ghost use Rattle.bus_core.specs.Table.{line, line_now, rest_at};
 ghost use Rattle.bus_core.specs.Telling.{FeedTells, RestIsTold};
 
 mod filling;
+mod running;
 mod storing;
 
 use super::feeding::feed_parts;
@@ -36,7 +37,7 @@ use crate::limits::{LEAST_ROWS_AGAIN, MOST_ROWS_AGAIN, PASSED_APART};
 use bus_adoptcommit::Ratifier;
 use bus_ownerbits::Election;
 use bus_presence::Pin;
-use bus_register::limits::{MOST_ROUNDS, MOST_SENDERS, NUMBERS, TENURES};
+use bus_register::limits::{MOST_RECEIVERS, MOST_ROUNDS, MOST_SENDERS, NUMBERS, TENURES};
 use bus_register::{Kind, Op, Reg, SenderNo, cell};
 use bus_tenure::{Doing, OwnedPage, Reason, Turn, Turns};
 use std::marker::Model;
@@ -93,18 +94,20 @@ impl<Q: Ratifier + Drop> SenderCore<Q> {
         requires rounds_few { rounds ≤ MOST_ROUNDS }
         requires rows_few { rows ≤ TENURES }
         requires log_few { log_words ≤ 2 ^ 20 }
-        requires room { words_of (layout_with Q.protocol senders rounds rows log_words) ≤ 2 ^ 63 }
+        requires room { words_of (layout_with Q.protocol senders rounds rows log_words 0)
+            ≤ 2 ^ 63 }
         requires numbers { first ≤ NUMBERS }
         ensures { result ≡ new_sender
-            (layout_with Q.protocol senders rounds rows log_words) me.0 None first }
+            (layout_with Q.protocol senders rounds rows log_words 0) me.0 None first }
     {
         SenderCore {
-            turns: Turns::new(senders, me, rounds, rows, log_words, first),
+            turns: Turns::new(senders, me, rounds, rows, log_words, first, 0),
             reuse: None,
         }
     }
 
-    /// The same where rows are used again, 2 to 8.
+    /// The same where rows are used again, 2 to 8, of a bus of so many passed places: one for each
+    /// receiver where the log is used again too, else none.
     pub fn cyclic(
         senders: u64,
         me: SenderNo,
@@ -112,6 +115,7 @@ impl<Q: Ratifier + Drop> SenderCore<Q> {
         rows: u64,
         log_words: u64,
         first: u64,
+        passers: u64,
     ) -> SenderCore<Q>
         requires me_below { me.0 < senders }
         requires few { senders ≤ MOST_SENDERS }
@@ -121,13 +125,15 @@ impl<Q: Ratifier + Drop> SenderCore<Q> {
         requires rows_few { rows ≤ MOST_ROWS_AGAIN }
         requires log_few { log_words ≤ 2 ^ 20 }
         requires numbers { first ≤ NUMBERS }
+        requires passers_few { passers ≤ MOST_RECEIVERS }
         ensures { result ≡ new_sender
-            (layout_with Q.protocol senders rounds TENURES log_words) me.0 (Some rows) first }
+            (layout_with Q.protocol senders rounds TENURES log_words passers) me.0 (Some rows)
+            first }
     {
         let width = Election::<Q>::width(senders, rounds);
         let _ = width;
         SenderCore {
-            turns: Turns::new(senders, me, rounds, TENURES, log_words, first),
+            turns: Turns::new(senders, me, rounds, TENURES, log_words, first, passers),
             reuse: Some(Reuse {
                 pin: Pin::Away,
                 reclaimer: None,
@@ -316,14 +322,7 @@ impl<Q: Ratifier + Drop> SenderCore<Q> {
             result ≡ (line X self.now (Does (situation_of X self.now.core))).op word }
         ensures below { IfSome result (λ o. register o < words_all self.now) }
     {
-        let op = self.turns.election_next(tenure, word)?;
-        match &self.reuse {
-            None => Some(op),
-            Some(reuse) => {
-                let senders = self.turns.senders();
-                Some(on_row(op, tenure, senders, reuse.rows, self.turns.width()))
-            }
-        }
+        self.election_step_on(tenure, self.election_row(tenure), word)
     }
 
     /// The step of a sender in its tenure, or before it.
@@ -398,6 +397,26 @@ impl<Q: Ratifier + Drop> SenderCore<Q> {
             IsSome ((line_now X self.now).op word) }
         ensures { let X = election_of Q.Ratifier in
             FeedTells X self.now got word ((line_now X self.now).answer got word) }
+    {
+        self.turns.is_kept();
+        let _ = (got, word);
+    }
+
+    /// It answers Full only once it has loaded all passed places.
+    fn loads_first(&self, got: u64, word: u32)
+        requires { let X = election_of Q.Ratifier in
+            IsSome ((line_now X self.now).op word) }
+        ensures { let X = election_of Q.Ratifier in
+            (line_now X self.now).answer got word ≡ Turn.Full → HasLoadedAll self.now }
+    {
+        self.tells(got, word);
+        let _ = &self.turns;
+    }
+
+    /// The floor of its page does not fall where none of the passed places so far lies before it.
+    fn keeps_floor(&self, got: u64, word: u32)
+        ensures { let X = election_of Q.Ratifier in
+            KeepsFloor X self.now got ((line_now X self.now).fed got word) }
     {
         self.turns.is_kept();
         let _ = (got, word);
@@ -648,6 +667,8 @@ impl<Q: Ratifier + Drop> SenderCore<Q> {
         ensures answer { let X = election_of Q.Ratifier in
             result ≡ (line_now X self.old).answer got word }
         ensures tells { let X = election_of Q.Ratifier in FeedTells X self.old got word result }
+        ensures floor { let X = election_of Q.Ratifier in KeepsFloor X self.old got self.new }
+        ensures full { result ≡ Turn.Full → HasLoadedAll self.old }
     {
         let step = self.step();
         self.feed_of(step, got, word)
@@ -665,8 +686,12 @@ impl<Q: Ratifier + Drop> SenderCore<Q> {
         ensures answer { let X = election_of Q.Ratifier in
             result ≡ (line_now X self.old).answer got word }
         ensures tells { let X = election_of Q.Ratifier in FeedTells X self.old got word result }
+        ensures floor { let X = election_of Q.Ratifier in KeepsFloor X self.old got self.new }
+        ensures full { result ≡ Turn.Full → HasLoadedAll self.old }
     {
         self.tells(got, word);
+        self.keeps_floor(got, word);
+        self.loads_first(got, word);
         feed_parts(&mut self.turns, &mut self.reuse, step, got, word)
     }
 }
@@ -682,29 +707,5 @@ fn reclaimer_step(reuse: &Option<Reuse>) -> Option<Op>
             None => None,
             Some(reclaimer) => reclaimer.next(),
         },
-    }
-}
-
-/// A step on a word of a row, on the row that this tenure uses.
-#[inline(always)]
-fn on_row(op: Op, tenure: u64, senders: u64, rows: u64, width: u64) -> Op
-    requires tenure { tenure < TENURES }
-    requires senders { senders ≤ MOST_SENDERS }
-    requires rows_some { LEAST_ROWS_AGAIN ≤ rows }
-    requires rows_few { rows ≤ MOST_ROWS_AGAIN }
-    requires width { width ≤ 2 ^ 23 }
-    requires above { 2 + tenure * width ≤ register op }
-    requires below { register op < 2 + tenure * width + width }
-    ensures op { result ≡ on_place
-        (λ at. 2 + senders + tenure % rows * width + (at - (2 + tenure * width))) op }
-    ensures below { register result < 2 + senders + rows * width }
-{
-    let from = 2 + tenure * width;
-    let to = 2 + senders + tenure % rows * width;
-    match op {
-        Op::Load(at) => Op::Load(Reg(to + (at.0 - from))),
-        Op::Store(at, number) => Op::Store(Reg(to + (at.0 - from)), number),
-        Op::Add(at, number) => Op::Add(Reg(to + (at.0 - from)), number),
-        Op::Cas(at, old, new) => Op::Cas(Reg(to + (at.0 - from)), old, new),
     }
 }

@@ -250,7 +250,7 @@ fn see_stage<Q: Ratifier + Drop>(turns: &mut Turns<Q>, reuse: &mut Option<Reuse>
 
 /// The election of this tenure has gone on, or is over, and its sender answers this.
 #[inline(always)]
-fn elected(reuse: &mut Option<Reuse>, tenure: u64, turn: Turn) -> Turn
+pub(crate) fn elected(reuse: &mut Option<Reuse>, tenure: u64, turn: Turn) -> Turn
     ensures state { reuse.new ≡ reuse_answered turn tenure reuse.old }
     ensures answer { result ≡ turn_answered turn reuse.old }
 {

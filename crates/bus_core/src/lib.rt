@@ -8,7 +8,7 @@
 //! use bus_core::SenderCore;
 //! use bus_register::{Kind, SenderNo};
 //!
-//! let mut sender = SenderCore::<ThreeWord>::cyclic(1, SenderNo(0), 1, 2, 16, 0);
+//! let mut sender = SenderCore::<ThreeWord>::cyclic(1, SenderNo(0), 1, 2, 16, 0, 0);
 //! assert_eq!(rt; sender.put(b"a"), Ok(0));
 //! let kinds = [Kind::LoadStage, Kind::Enter, Kind::LoadStageAgain, Kind::Announce];
 //! for kind in kinds {
@@ -25,7 +25,9 @@ pub mod limits;
 pub mod refusals;
 pub mod reuses;
 pub mod steps;
+pub mod tenure_rows;
 
 pub use cores::SenderCore;
 pub use reuses::{Passing, Reuse};
 pub use steps::Step;
+pub use tenure_rows::Row;

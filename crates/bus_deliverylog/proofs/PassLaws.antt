@@ -1,7 +1,8 @@
 -- When a receiver stores its place: where a frame ends, in its passed place, and once.
-use Rattle.std.proofs.Common.{◌≡◌, ◌≢◌, ℕ, ◌<◌, ◌≤◌, List, [], ◌++◌, length, Bool, true, false}
+use Rattle.std.proofs.Common.{◌≡◌, ◌≢◌, ℕ, ◌<◌, List, [], ◌++◌, length, Bool, true, false}
 use Rattle.std.proofs.Common.{cond, nat_lt, ◌&&◌, Option, Some, None, inl, inr, arith, refl}
-use Rattle.std.proofs.Common.{sym, ap, ◌∙◌}
+use Rattle.std.proofs.Common.{sym, ap, ◌∙◌, subst, ◌+◌, ◌%◌, ◌==◌, IfSome}
+use Rattle.bus_register.specs.declared.registers.Op.TheVariants.{Load}
 use Rattle.std.proofs.lemmas.Bool.{and_parts, ltb-true, lt-ltb, le-ltb}
 use Rattle.bus_batch.specs.declared.messages.Piece.{Piece}
 use Rattle.bus_batch.specs.declared.readers.Place.{Place}
@@ -11,7 +12,9 @@ use Rattle.bus_batch.specs.Reading.{IsSound, is_between}
 use Rattle.bus_batch.proofs.Feeding.{between_is_log, outside_between}
 use Rattle.bus_deliverylog.specs.declared.receiving.RecvTurn.{RecvTurn}
 use Rattle.bus_deliverylog.specs.Receiving.{Receiving, HasReceived, TakesPassed, reading_of}
-use Rattle.bus_deliverylog.specs.Receiving.{passing_due}
+use Rattle.bus_deliverylog.specs.Receiving.{passing_due, receiving_op, leaving_op, op_by}
+use Rattle.bus_deliverylog.specs.Receiving.{leaving_by, LiesApart, WritesApart}
+use Rattle.bus_deliverylog.proofs.ReceiveLaws.{due_at}
 
 by_test : (b : Bool) (o : Option ℕ) (at : ℕ) → cond b o None ≡ Some at
     → (b ≡ true) × (o ≡ Some at)
@@ -64,3 +67,41 @@ once_there v answer new takes =
     by : (b : Bool) → cond (b && nat_lt v.place v.place) v.passed_at None ≡ None
     by true = ap (λ t. cond t v.passed_at None) (le-ltb v.place v.place (omega arith))
     by false = refl
+
+-- ---- what a receiver writes
+abbrev IsApart : Receiving → Type 0
+IsApart v = IfSome v.passed_at (LiesApart v.log_at v.length_at v.log_words)
+
+-- is its passed place, with its next step
+next_writes : (v : Receiving) → IsApart v → IfSome (receiving_op v) (WritesApart v)
+next_writes v apart = by v.ended where
+  loads : (b : Bool) → WritesApart v (cond b (Load (record { 0 = v.length_at }))
+      (Load (record { 0 = v.log_at + v.place % v.log_words })))
+  loads true = tt
+  loads false = tt
+
+  does : (o : Option ℕ) → ((at : ℕ) → o ≡ Some at → v.passed_at ≡ Some at)
+      → WritesApart v (op_by o v)
+  does None is = loads (v.place == v.known)
+  does (Some at) is =
+      subst (λ o. IfSome o (LiesApart v.log_at v.length_at v.log_words)) (is at refl) apart
+
+  by : (b : Bool) → IfSome (cond b None (Some (op_by (passing_due v) v))) (WritesApart v)
+  by true = tt
+  by false = does (passing_due v) (due_at v)
+
+-- and as it leaves
+leaving_writes : (v : Receiving) → IsApart v → IfSome (leaving_op v) (WritesApart v)
+leaving_writes v apart = by v.passed_at apart where
+  by : (o : Option ℕ) → IfSome o (LiesApart v.log_at v.length_at v.log_words)
+      → IfSome (leaving_by o) (WritesApart v)
+  by None a = tt
+  by (Some at) a = a
+
+pub next_apart : (v w : Receiving) → v ≡ w → IsApart v → IfSome (receiving_op w) (WritesApart w)
+next_apart v w same apart =
+    subst (λ z. IfSome (receiving_op z) (WritesApart z)) same (next_writes v apart)
+
+pub leaving_apart : (v w : Receiving) → v ≡ w → IsApart v → IfSome (leaving_op w) (WritesApart w)
+leaving_apart v w same apart =
+    subst (λ z. IfSome (leaving_op z) (WritesApart z)) same (leaving_writes v apart)

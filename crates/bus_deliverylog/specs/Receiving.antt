@@ -1,13 +1,14 @@
 -- A receiver's end of the log: what it knows, and what one load does to it.
-use Rattle.std.specs.Prelude.{◌≡◌, ℕ, ◌+◌, ◌%◌, ◌<◌, ◌≤◌, List, [], ◌∷◌, ◌++◌, length, ◌⊎◌}
+use Rattle.std.specs.Prelude.{◌≡◌, ◌≢◌, ℕ, ◌+◌, ◌%◌, ◌<◌, ◌≤◌, List, [], ◌∷◌, ◌++◌, length, ◌⊎◌}
 use Rattle.std.specs.Prelude.{Bool, true, false, Option, Some, None, if◌then◌else◌, ◌==◌, ◌&&◌}
 use Rattle.std.specs.Prelude.{nat_lt}
 use Rattle.std.specs.List.{list_any}
 use Rattle.bus_register.specs.declared.kinds.Kind.{Kind}
 use Rattle.bus_register.specs.declared.kinds.Kind.TheVariants.{LoadLength, LoadLogWord}
 use Rattle.bus_register.specs.declared.kinds.Kind.TheVariants.{StorePassed}
+use Rattle.bus_register.specs.declared.limits.TheConstants.{PASSED_ALL}
 use Rattle.bus_register.specs.declared.registers.Op.{Op}
-use Rattle.bus_register.specs.declared.registers.Op.TheVariants.{Load, Store}
+use Rattle.bus_register.specs.declared.registers.Op.TheVariants.{Load, Store, Add, Cas}
 use Rattle.bus_batch.specs.declared.messages.Piece.{Piece}
 use Rattle.bus_batch.specs.declared.messages.Piece.TheVariants as piece
 use Rattle.bus_batch.specs.Frames.{IsBadWord, GivesPiece, is_end}
@@ -24,15 +25,17 @@ pub record LogReading : Type 0 where
   pub ended : Bool
 
 -- a receiver of a machine: the places of the log and of its length, how many words the log has,
--- where it says how far it has come, how far it said last, and what it has read
+-- where it says how far it has come, how far it said last, whether it has left for good, and what
+-- it has read
 pub record Receiving : Type 0 where
   pub log_at : ℕ
   pub length_at : ℕ
   pub log_words : ℕ
   -- the place of its passed place; none where no word of the log is used again
   pub passed_at : Option ℕ
-  -- what it stored there last, and 0 before
+  -- the place that it stored there last, and 0 before
   pub passed : ℕ
+  pub gone : Bool
   pub known : ℕ
   pub place : ℕ
   pub frames : Reading
@@ -43,6 +46,10 @@ reading_of r = record { known = r.known; place = r.place; frames = r.frames; end
 
 abbrev pub with_reading : Receiving → LogReading → Receiving
 with_reading r l = record r { known = l.known; place = l.place; frames = l.frames; ended = l.ended }
+
+-- one that has left for good, and is what it was else
+abbrev pub with_leave : Receiving → Receiving
+with_leave r = record r { gone = true }
 
 -- where it is to store its place: it has heard a whole frame since it did last
 abbrev pub passing_due : Receiving → Option ℕ
@@ -74,6 +81,27 @@ receiving_kind r = if r.ended then None else Some (kind_by (passing_due r) r)
 
 abbrev pub receiving_op : Receiving → Option Op
 receiving_op r = if r.ended then None else Some (op_by (passing_due r) r)
+
+-- with its leave it stores 2^64 - 1 in its passed place, past all words; without one it takes no
+-- step
+abbrev pub leaving_by : Option ℕ → Option Op
+leaving_by None = None
+leaving_by (Some at) = Some (Store (record { 0 = at }) PASSED_ALL)
+
+abbrev pub leaving_op : Receiving → Option Op
+leaving_op r = leaving_by r.passed_at
+
+-- a word that is none of a log of so many words, nor the one that has its length
+pub record LiesApart (log_at length_at log_words at : ℕ) : Type 0 where
+  pub log : (place : ℕ) → place < log_words → at ≢ log_at + place
+  pub length : at ≢ length_at
+
+-- what a step writes lies apart from the log and from its length
+abbrev pub WritesApart : Receiving → Op → Type 0
+WritesApart r (Load at) = Unit {0}
+WritesApart r (Store at x) = LiesApart r.log_at r.length_at r.log_words at.0
+WritesApart r (Add at x) = LiesApart r.log_at r.length_at r.log_words at.0
+WritesApart r (Cas at x y) = LiesApart r.log_at r.length_at r.log_words at.0
 
 -- what a receiver answers of a word
 abbrev pub turn_of : Option Piece → RecvTurn

@@ -5,6 +5,7 @@ ghost use Rattle.std.specs.Prelude.{◌^◌, [], false, IsTrue, IfSome, IfNone, 
 ghost use Rattle.bus_batch.specs.Reading.{HasRead, is_between};
 
 use bus_batch::{FrameReader, Item, Piece};
+use bus_register::limits::PASSED_ALL;
 use bus_register::{Kind, Op, Reg, SenderNo, cell};
 use std::marker::Model;
 
@@ -184,7 +185,9 @@ impl LogReader {
 /// It takes steps as a machine does: `kind` and `next` tell the step, and `feed` is told what was
 /// found. Where the words of the log are used again, it has a passed place. It stores its place
 /// there behind each whole frame but that of an end mark, and needs the words below no more. It
-/// believes no length of more than a whole log past what it stored.
+/// believes no length of more than a whole log past what it stored. One that leaves for good takes
+/// the step that `leaving` tells, if any, and `leave` notes it; what holds it asks nothing of it
+/// from then on.
 #[derive(Debug, Drop)]
 pub struct Reader {
     log: Reg,
@@ -192,14 +195,16 @@ pub struct Reader {
     words: u64,
     /// The place of its passed place.
     passed_at: Option<u64>,
-    /// What it stored there last, and 0 before.
+    /// The place that it stored there last, and 0 before.
     passed: u64,
+    /// It has left for good.
+    gone: bool,
     reader: LogReader,
 }
 
 impl Model for Reader {
-    ghost use Rattle.std.specs.Prelude.{◌≡◌, ◌+◌, ◌<◌, ◌≤◌, ◌^◌, None};
-    ghost use Rattle.bus_deliverylog.specs.Receiving.{Receiving};
+    ghost use Rattle.std.specs.Prelude.{◌≡◌, ◌+◌, ◌<◌, ◌≤◌, ◌^◌, None, IfSome};
+    ghost use Rattle.bus_deliverylog.specs.Receiving.{Receiving, LiesApart};
 
     ghost Value = { Receiving };
 
@@ -209,6 +214,7 @@ impl Model for Reader {
       log_words = r.words;
       passed_at = r.passed_at;
       passed = r.passed;
+      gone = r.gone;
       known = r.reader.known;
       place = r.reader.place;
       frames = r.reader.frames;
@@ -217,24 +223,29 @@ impl Model for Reader {
 
     ghost invariant = { λ r. (r.log.0 + r.words < 2 ^ 64) × (0 < r.words)
         × (r.passed ≤ r.reader.place) × (r.reader.known ≤ r.words + r.passed)
-        × (r.passed_at ≡ None → r.passed ≡ 0) };
+        × (r.passed_at ≡ None → r.passed ≡ 0)
+        × IfSome r.passed_at (LiesApart r.log.0 r.length.0 r.words) };
 }
 
 impl Reader {
     ghost use Rattle.bus_deliverylog.specs.Receiving.{receiving_kind, receiving_op, reading_of};
+    ghost use Rattle.bus_deliverylog.specs.Receiving.{leaving_op, with_leave, LiesApart};
+    ghost use Rattle.bus_deliverylog.specs.Receiving.{WritesApart};
     ghost use Rattle.bus_deliverylog.specs.Receiving.{with_reading, HasReceived, passing_due};
     ghost use Rattle.bus_deliverylog.specs.Receiving.{TakesLength, TakesNext, TakesPassed};
 
     /// A receiver at the first word of a log of so many senders, which has `words` words from `log`
     /// on, and its length at `length`. It knows no word. Its passed place is the word `passed_at`;
-    /// it has none where no word of the log is used again.
+    /// it has none where no word of the log is used again. One that lay in the log would be stored
+    /// over what was published there.
     pub fn new(senders: u64, log: Reg, length: Reg, words: u64, passed_at: Option<u64>) -> Reader
         requires fits { log.0 + words < 2 ^ 64 }
         requires some { 0 < words }
+        requires apart { IfSome passed_at (LiesApart log.0 length.0 words) }
         ensures at { (result.log_at ≡ log.0) × (result.length_at ≡ length.0)
             × (result.log_words ≡ words) × (result.passed_at ≡ passed_at) }
         ensures start { (result.known ≡ 0) × (result.place ≡ 0) × (result.passed ≡ 0)
-            × (result.ended ≡ false) }
+            × (result.ended ≡ false) × (result.gone ≡ false) }
         ensures senders { result.frames.senders ≡ senders }
         ensures received { HasReceived [] [] (reading_of result) }
     {
@@ -244,6 +255,7 @@ impl Reader {
             words,
             passed_at,
             passed: 0,
+            gone: false,
             reader: LogReader::new(senders),
         }
     }
@@ -265,7 +277,7 @@ impl Reader {
         self.reader.known()
     }
 
-    /// What it stored in its passed place last, and 0 before.
+    /// The place that it stored in its passed place last, and 0 before. Leaving does not change it.
     pub fn passed(&self) -> u64
         ensures passed { result ≡ self.now.passed }
         ensures within { result ≤ self.now.place }
@@ -279,6 +291,40 @@ impl Reader {
         ensures { result ≡ self.now.ended }
     {
         self.reader.has_ended()
+    }
+
+    /// It has left for good.
+    pub fn has_left(&self) -> bool
+        ensures { result ≡ self.now.gone }
+    {
+        self.gone
+    }
+
+    /// The step with which it leaves for good: it stores 2^64 - 1 in its passed place. None where
+    /// it has no such place.
+    pub fn leaving(&self) -> Option<Op>
+        ensures { result ≡ leaving_op self.now }
+    {
+        match self.passed_at {
+            None => None,
+            Some(at) => Some(Op::Store(Reg(at), PASSED_ALL)),
+        }
+    }
+
+    /// What it writes with its next step, or as it leaves, lies apart from the log and from its
+    /// length.
+    pub fn writes_apart(&self)
+        ensures next { IfSome (receiving_op self.now) (WritesApart self.now) }
+        ensures leaving { IfSome (leaving_op self.now) (WritesApart self.now) }
+    {
+        let _ = &self.reader;
+    }
+
+    /// It leaves for good.
+    pub fn leave(&mut self)
+        ensures { self.new ≡ with_leave self.old }
+    {
+        self.gone = true;
     }
 
     /// Where it is to store its place: it has heard a whole frame since it did last.
@@ -337,7 +383,8 @@ impl Reader {
         ensures keeps { (self.new.log_at ≡ self.old.log_at)
             × (self.new.length_at ≡ self.old.length_at)
             × (self.new.log_words ≡ self.old.log_words)
-            × (self.new.passed_at ≡ self.old.passed_at) }
+            × (self.new.passed_at ≡ self.old.passed_at)
+            × (self.new.gone ≡ self.old.gone) }
         ensures place { self.new.place ≤ self.old.place + 1 }
         ensures senders { self.new.frames.senders ≡ self.old.frames.senders }
     {

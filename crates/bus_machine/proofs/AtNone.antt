@@ -1,12 +1,15 @@
 -- With a row for each tenure what happens to the machine happens to the bus that it is, and what
 -- leads to it leads to that bus.
-use Rattle.std.proofs.Common.{◌≡◌, ℕ, ◌+◌, suc, List, [], ◌∷◌, ◌++◌, Option, Some, None, Bool}
+use Rattle.std.proofs.Common.{◌≡◌, inl, inr, ℕ, ◌+◌, ◌*◌, suc, List, [], ◌∷◌, ◌++◌, Option, Some}
+use Rattle.std.proofs.Common.{None, Bool, ◌≤◌, nat_lt, arith}
 use Rattle.std.proofs.Common.{true, false, cond, map, slice_get, slice_set, slice_index, refl, sym}
 use Rattle.std.proofs.Common.{◌∙◌, ap, subst}
 use Rattle.std.specs.Prelude.{replicate, length, ◌<◌, ◌==◌, option_map, ◌&&◌}
 use Rattle.std.proofs.Math.Path.{fun_ext}
 use Rattle.std.proofs.lemmas.List.{append-nil, map-set}
-use Rattle.std.proofs.lemmas.Option.{slice_get-map, same_Some}
+use Rattle.std.proofs.lemmas.Bool.{cases_eq}
+use Rattle.std.proofs.lemmas.Option.{slice_get-map, same_Some, slice_get_within}
+use Rattle.bus_register.specs.Proved.TableLaws.{get_set_same, get_set_other}
 use Rattle.bus_batch.specs.Batches.{Pending, next_of, CanPut, CanClose}
 use Rattle.bus_batch.specs.declared.batches.Phase.TheVariants.{Marking}
 use Rattle.bus_batch.specs.declared.messages.Mark.{Mark}
@@ -15,35 +18,41 @@ use Rattle.bus_core.specs.Keeping.{new_sender, queue_of}
 use Rattle.bus_core.specs.Senders.{Sender, situation}
 use Rattle.bus_core.specs.Proved.Bridge.{with_a_row_each}
 use Rattle.bus_core.specs.Table.{line_now}
+use Rattle.bus_core.specs.declared.limits.TheConstants.{PASSED_APART}
+use Rattle.bus_deliverylog.specs.Receiving.{Receiving, with_leave}
+use Rattle.bus_presence.proofs.ReclamationKept.{lt_tells}
 use Rattle.bus_deliverylog.specs.declared.receiving.RecvTurn.{RecvTurn}
-use Rattle.bus_tenure.specs.Core.{Core, Election, Layout, is_empty}
+use Rattle.bus_tenure.specs.Core.{Core, Election, Layout, is_empty, log_at}
 use Rattle.bus_tenure.specs.Situations.{situation_of, line_of, op_at, answer_at}
 use Rattle.bus_tenure.specs.declared.turns.Turn.{Turn as Answered}
 use Rattle.bus_world.proofs.EventTrails.{put_taken}
+use Rattle.bus_world.proofs.ReceiverSteps.{leaves_only, reads_only}
 use Rattle.bus_world.specs.Headline.{Action}
 use Rattle.bus_world.specs.Log.{words_of_frame}
 use Rattle.bus_world.specs.Proved.Answers.{TurnAnswers, PutGives, CloseGives, RecvAnswers}
-use Rattle.bus_world.specs.Proved.Answers.{StopGives}
+use Rattle.bus_world.specs.Proved.Answers.{StopGives, LeaveGives}
 use Rattle.bus_world.specs.Proved.Trails.{New, Then, turning_actions, turn_actions, log_by}
 use Rattle.bus_world.specs.Proved.Trails.{heard_of, trails_grown as plain_grown}
 use Rattle.bus_world.specs.Proved.Trails.{Reached as PlainReached}
 use Rattle.bus_world.specs.Proved.Machines.{side_after, core_after, home_after, Bus, SenderDoes}
-use Rattle.bus_world.specs.Proved.Machines.{ReceiverDoes, StopDoes, can_close, is_open, new_core}
+use Rattle.bus_world.specs.Proved.Machines.{ReceiverDoes, LeaverDoes, StopDoes, can_close}
+use Rattle.bus_world.specs.Proved.Machines.{is_open, new_core}
 use Rattle.bus_world.specs.Proved.Machines.{going as plain_going, with_sender as plain_with}
 use Rattle.bus_world.specs.Proved.Machines.{put_in as plain_put, mark_in as plain_mark}
 use Rattle.bus_world.proofs.PlayingLaws.{owners_told as answer_tells}
 use Rattle.bus_world.specs.Turning.{owners_by, words_after, number_found}
 use Rattle.bus_world.specs.Starting.{IsNewReceiver}
-use Rattle.bus_world.specs.World.{Event, Put, Ask, Turn, Recv, Stop, is_set}
+use Rattle.bus_world.specs.World.{Event, Put, Ask, Turn, Recv, Stop, Gone, is_set, RecvDoes}
 use Rattle.bus_world.specs.Trails.{actions_with}
 use Rattle.bus_world.specs.declared.events.Answer.{Answer}
 use Rattle.bus_world.specs.declared.events.Answer.TheVariants as answer
 use Rattle.bus_machine.specs.Proved.Bridge.{of_bus, plain_trails, IsPlainEvent, HappensAtNone}
-use Rattle.bus_machine.specs.Proved.Bridge.{IsPlain}
+use Rattle.bus_machine.specs.Proved.Bridge.{IsPlain, NonePasses}
 use Rattle.bus_machine.specs.Machine.{base_of, Machine, Trails, Reached, New as Start}
 use Rattle.bus_machine.specs.Machine.{Then as Next, TakesTurn, TakesPut, TakesMark, StopsNow}
-use Rattle.bus_machine.specs.Machine.{Hears, Happens, IsNew, no_machine_trails, trails_grown}
-use Rattle.bus_machine.specs.Machine.{turn_grown, turn_trails, log_place, going, with_sender}
+use Rattle.bus_machine.specs.Machine.{Hears, LeavesForGood, Happens, IsNew, no_machine_trails}
+use Rattle.bus_machine.specs.Machine.{trails_grown, turn_grown, turn_trails, log_place, going}
+use Rattle.bus_machine.specs.Machine.{passed_by, passers_place, with_sender}
 use Rattle.bus_machine.specs.Machine.{put_in, mark_in, machine_after, found, turn_answer}
 
 closed_by : {A : Type 0} (o b : Bool) (xs : List A) → o ≡ true → b ≡ false → xs ≡ []
@@ -258,13 +267,40 @@ module _ {E : Type 0} (X : Election E) (bases : List ℕ) (x : Layout) (b : Bus 
             (nothing_heard T.heard);
       }
 
-  hears : (r : ℕ) (a : Answer) (m : Machine E) → Hears (of_bus bases x b) r a m
-      → IsPlainEvent X bases x b (Recv r) a m
-  hears r a m h =
+  leaves : (r : ℕ) (a : Answer) (m : Machine E) → NonePasses b.receivers
+      → LeavesForGood (of_bus bases x b) r a m → IsPlainEvent X bases x b (Gone r) a m
+  leaves r a m none h =
+      let new = record b { receivers = slice_set b.receivers r (with_leave h.receiver) } in
+      record {
+        bus = new;
+        is =
+            h.after
+            ∙ ap (λ w. record (of_bus bases x b) { words = w; receivers = new.receivers })
+            (leaves_only b.side.words h.receiver (none r h.receiver h.there));
+        event = tt;
+        happens = (
+          refl,
+          subst (λ o. LeaverDoes b.receivers r o new.receivers) (sym h.there) refl,
+          refl,
+        );
+        answers = (subst LeaveGives (sym h.there) tt, h.answered);
+        trails = λ T.
+            ap (λ k. record { actions = k; heard = λ r. T.heard r ++ []; log = T.log })
+            (nothing_done T.actions)
+            ∙ ap (λ k. record { actions = T.actions; heard = k; log = T.log })
+            (nothing_heard T.heard);
+      }
+
+  hears : (r : ℕ) (a : Answer) (m : Machine E) → NonePasses b.receivers
+      → Hears (of_bus bases x b) r a m → IsPlainEvent X bases x b (Recv r) a m
+  hears r a m none h =
       let new = record b { receivers = slice_set b.receivers r h.next } in
       record {
         bus = new;
-        is = h.after;
+        is =
+            h.after
+            ∙ ap (λ w. record (of_bus bases x b) { words = w; receivers = new.receivers })
+            (reads_only b.side.words h.receiver (none r h.receiver h.there));
         event = tt;
         happens = (
           refl,
@@ -290,11 +326,36 @@ module _ {E : Type 0} (X : Election E) (bases : List ℕ) (x : Layout) (b : Bus 
       }
 
 pub happens_at_none : {E : Type 0} (X : Election E) → HappensAtNone X
-happens_at_none X bases x b (Put s bytes) a m h = puts X bases x b s bytes a m h
-happens_at_none X bases x b (Ask s asked) a m h = marks X bases x b s asked a m h
-happens_at_none X bases x b (Turn s word) a m h = turns X bases x b s word a m h
-happens_at_none X bases x b (Recv r) a m h = hears X bases x b r a m h
-happens_at_none X bases x b (Stop s) a m h = stops X bases x b s a m h
+happens_at_none X bases x b (Put s bytes) a m none h = puts X bases x b s bytes a m h
+happens_at_none X bases x b (Ask s asked) a m none h = marks X bases x b s asked a m h
+happens_at_none X bases x b (Turn s word) a m none h = turns X bases x b s word a m h
+happens_at_none X bases x b (Recv r) a m none h = hears X bases x b r a m none h
+happens_at_none X bases x b (Stop s) a m none h = stops X bases x b s a m h
+happens_at_none X bases x b (Gone r) a m none h = leaves X bases x b r a m none h
+
+-- where no word of the log is used again there is no passed place
+pub passed_first : (x : Layout) (o : Option ℕ) (r : ℕ) → x.passers ≡ 0 → passed_by x o r ≡ None
+passed_first x o r flat = elim (lt_tells r x.passers) [
+  | inl low ↦ absurd (let a = low.1 in omega arith)
+  | inr past ↦
+      ap (λ b. cond {A = Option ℕ} b (Some (passers_place x o + PASSED_APART * r)) None) past.0
+]
+
+-- and each lies behind length and stage
+passers_behind : (x : Layout) (o : Option ℕ) → 2 ≤ passers_place x o
+passers_behind x None = omega arith
+passers_behind x (Some rows) = omega arith
+
+pub passed_past : (x : Layout) (o : Option ℕ) (r place : ℕ) → passed_by x o r ≡ Some place
+    → 2 ≤ place
+passed_past x o r place e = by (nat_lt r x.passers) e where
+  by : (b : Bool)
+      → cond {A = Option ℕ} b (Some (passers_place x o + PASSED_APART * r)) None ≡ Some place
+      → 2 ≤ place
+  by false i = absurd cc
+  by true i =
+      let same : passers_place x o + PASSED_APART * r ≡ place = same_Some _ _ i in
+      let past = passers_behind x o in omega arith
 
 -- ---- what is reached
 module _ {E : Type 0} (X : Election E) where
@@ -320,8 +381,10 @@ module _ {E : Type 0} (X : Election E) where
       owners = refl;
       stopped = new.stopped;
       receivers = λ r v at. subst
-          (λ u. IsNewReceiver w.layout.senders (log_place w.layout u) w.layout.capacity v) e
-          (new.receivers r v at);
+          (λ p. IsNewReceiver w.layout.senders (log_at w.layout) w.layout.capacity p v)
+          (passed_first w.layout None r (new.apart e)) (subst
+          (λ u. IsNewReceiver w.layout.senders (log_place w.layout u) w.layout.capacity
+          (passed_by w.layout u r) v) e (new.receivers r v at));
     };
   } where
     b : Bus E
@@ -345,10 +408,11 @@ module _ {E : Type 0} (X : Election E) where
         (n.0, v.2 ∙ ap (λ (y : Sender E). y.core) n.1)
 
   pub next_plain : (w m : Machine E) (T : Trails) (e : Event) (a : Answer) → Happens X w e a m
-      → IsPlain X w T → IsPlain X m (trails_grown X w e a T)
-  next_plain w m T e a h i =
-      let k =
-      happens_at_none X w.bases w.layout i.bus e a m (subst (λ y. Happens X y e a m) i.is h) in
+      → NonePasses w.receivers → IsPlain X w T → IsPlain X m (trails_grown X w e a T)
+  next_plain w m T e a h none i =
+      let k = happens_at_none X w.bases w.layout i.bus e a m
+      (subst (λ (y : Machine E). NonePasses y.receivers) i.is none)
+      (subst (λ y. Happens X y e a m) i.is h) in
       record {
         bus = k.bus;
         is =
@@ -388,10 +452,91 @@ module _ {E : Type 0} (X : Election E) where
     ap (λ (y : Machine E). y.layout) h.after,
     ap (λ (y : Machine E). y.reuse) h.after,
   )
+  event_reuse w m (Gone r) a h = (
+    ap (λ (y : Machine E). y.layout) h.after,
+    ap (λ (y : Machine E). y.reuse) h.after,
+  )
+
+  -- ---- passed places
+  -- where each tenure has a row there are none
+  pub flat_at_none : (m : Machine E) (T : Trails) → Reached X m T → m.reuse ≡ None
+      → m.layout.passers ≡ 0
+  flat_at_none m T (Start w new) e = new.apart e
+  flat_at_none m T (Next w v U f a before h) e =
+      let i = event_reuse w v f a h in
+      ap (λ (x : Layout). x.passers) i.0 ∙ flat_at_none w U before (sym i.1 ∙ e)
+
+  -- what a receiver does leaves its passed place where it is
+  read_there : (words : ℕ → ℕ) (v next : Receiving) (told : RecvTurn)
+      → RecvDoes words v told next → next.passed_at ≡ v.passed_at
+  read_there words v next told d = by v.ended refl where
+    by : (b : Bool) → v.ended ≡ b → next.passed_at ≡ v.passed_at
+    by true e = ap (λ (w : Receiving). w.passed_at) (d.ended e).1
+    by false e = (d.going e).keeps.3
+
+  -- those are of the machine's layout
+  abbrev Passes : Machine E → Type 0
+  Passes m = (r : ℕ) (v : Receiving) → slice_get m.receivers r ≡ Some v
+      → v.passed_at ≡ passed_by m.layout m.reuse r
+
+  same_passes : (w m : Machine E) → (m.layout ≡ w.layout) × (m.reuse ≡ w.reuse)
+      → m.receivers ≡ w.receivers → Passes w → Passes m
+  same_passes w m i is k r v at =
+      k r v (sym (ap (λ l. slice_get l r) is) ∙ at) ∙ ap (λ x. passed_by x w.reuse r) (sym i.0)
+      ∙ ap (λ o. passed_by m.layout o r) (sym i.1)
+
+  one_passes : (w m : Machine E) (q : ℕ) (u next : Receiving)
+      → (m.layout ≡ w.layout) × (m.reuse ≡ w.reuse) → slice_get w.receivers q ≡ Some u
+      → next.passed_at ≡ u.passed_at → m.receivers ≡ slice_set w.receivers q next → Passes w
+      → Passes m
+  one_passes w m q u next i there same set k r v at =
+      was ∙ ap (λ x. passed_by x w.reuse r) (sym i.0) ∙ ap (λ o. passed_by m.layout o r) (sym i.1)
+    where
+      here : slice_get (slice_set w.receivers q next) r ≡ Some v
+      here = sym (ap (λ l. slice_get l r) set) ∙ at
+
+      was : v.passed_at ≡ passed_by w.layout w.reuse r
+      was = elim (cases_eq r q) [
+        | inl e ↦
+            let is : next ≡ v = same_Some _ _
+            (sym (get_set_same w.receivers q next (slice_get_within w.receivers q u there))
+            ∙ ap (slice_get (slice_set w.receivers q next)) (sym e) ∙ here) in
+            ap (λ (y : Receiving). y.passed_at) (sym is) ∙ same ∙ k q u there
+            ∙ ap (passed_by w.layout w.reuse) (sym e)
+        | inr ne ↦ k r v (sym (get_set_other w.receivers q next r ne) ∙ here)
+      ]
+
+  event_passes : (w m : Machine E) (e : Event) (a : Answer) → Happens X w e a m → Passes w
+      → Passes m
+  event_passes w m (Put s bytes) a h = same_passes w m (event_reuse w m (Put s bytes) a h)
+      (ap (λ (y : Machine E). y.receivers) h.after)
+  event_passes w m (Ask s asked) a h = same_passes w m (event_reuse w m (Ask s asked) a h)
+      (ap (λ (y : Machine E). y.receivers) h.after)
+  event_passes w m (Turn s word) a h = same_passes w m (event_reuse w m (Turn s word) a h)
+      (ap (λ (y : Machine E). y.receivers) h.after)
+  event_passes w m (Recv r) a h = one_passes w m r h.receiver h.next
+      (event_reuse w m (Recv r) a h) h.there
+      (read_there (slice_index w.words) h.receiver h.next h.heard h.does)
+      (ap (λ (y : Machine E). y.receivers) h.after)
+  event_passes w m (Stop s) a h = same_passes w m (event_reuse w m (Stop s) a h)
+      (ap (λ (y : Machine E). y.receivers) h.after)
+  event_passes w m (Gone r) a h = one_passes w m r h.receiver (with_leave h.receiver)
+      (event_reuse w m (Gone r) a h) h.there refl
+      (ap (λ (y : Machine E). y.receivers) h.after)
+
+  pub passes_by : (m : Machine E) (T : Trails) → Reached X m T → (r : ℕ) (v : Receiving)
+      → slice_get m.receivers r ≡ Some v → v.passed_at ≡ passed_by m.layout m.reuse r
+  passes_by m T (Start w new) r v at = (new.receivers r v at).passed_is
+  passes_by m T (Next w v U f a before h) r u at =
+      event_passes w v f a h (passes_by w U before) r u at
 
   -- whatever leads to it, leads to the bus with a row for each tenure
   pub reached_at_none : (m : Machine E) (T : Trails) → Reached X m T → m.reuse ≡ None
       → IsPlain X m T
   reached_at_none m T (Start w new) e = new_plain w new e
   reached_at_none m T (Next w v U f a before h) e =
-      next_plain w v U f a h (reached_at_none w U before (sym (event_reuse w v f a h).1 ∙ e))
+      let was = sym (event_reuse w v f a h).1 ∙ e in
+      next_plain w v U f a h
+      (λ r u at. passes_by w U before r u at ∙ passed_first w.layout w.reuse r
+      (flat_at_none w U before was))
+      (reached_at_none w U before was)

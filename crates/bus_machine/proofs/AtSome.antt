@@ -9,23 +9,27 @@ use Rattle.std.proofs.lemmas.List.{length-replicate}
 use Rattle.std.proofs.lemmas.Option.{same_Some, slice_get_within}
 use Rattle.bus_register.specs.Protocol.{Protocol}
 use Rattle.bus_register.specs.Tables.{put}
+use Rattle.bus_register.specs.declared.kinds.Kind.TheVariants as kind
+use Rattle.bus_register.specs.Words.{register}
 use Rattle.bus_register.specs.declared.registers.Op.{Op}
 use Rattle.bus_register.specs.declared.registers.Op.TheVariants.{Load, Store}
 use Rattle.bus_batch.specs.Batches.{next_of, CanPut, CanClose}
 use Rattle.bus_batch.specs.declared.batches.Phase.TheVariants.{Marking}
 use Rattle.bus_batch.specs.declared.messages.Mark.{Mark}
+use Rattle.bus_deliverylog.specs.Receiving.{Receiving, with_leave, receiving_op, leaving_op}
 use Rattle.bus_core.proofs.Bridged.{at_some}
-use Rattle.bus_core.proofs.Situated.{none_left, unpassed}
-use Rattle.bus_core.specs.Reusing.Passing.{passing_begun}
+use Rattle.bus_core.specs.Reusing.Passing.{passing_begun, passing_left}
+use Rattle.bus_core.specs.declared.reuses.Passing.{Passing}
 use Rattle.bus_core.specs.Keeping.{new_sender, queue_of}
 use Rattle.bus_core.specs.Proved.Bridge.{move_of, with_rows_again}
-use Rattle.bus_core.specs.Senders.{Sender, Situation, Does, Scans, Clears, situation, at_home}
-use Rattle.bus_core.specs.Senders.{pinning, reclaiming}
+use Rattle.bus_core.specs.Senders.{Sender, Situation, Does, Scans, Clears, ReadsPassed, situation}
+use Rattle.bus_core.specs.Senders.{at_home, pinning, passing as first_passed, reclaiming}
 use Rattle.bus_core.specs.Table.{line, line_now}
 use Rattle.bus_core.specs.Reusing.Keeping.{held_of}
 use Rattle.bus_core.specs.Reusing.Participants.{log_from}
-use Rattle.bus_core.specs.Proved.ParticipantTable.{Due, Goes, place_for, due_beside, due_home}
-use Rattle.bus_core.specs.Proved.ParticipantTable.{due_reclaimed, reclaim_due}
+use Rattle.bus_core.specs.Proved.ParticipantTable.{Due, Goes, Reads, place_for, passed_op}
+use Rattle.bus_core.specs.Proved.ParticipantTable.{due_beside, due_passed, due_home, due_reclaimed}
+use Rattle.bus_core.specs.Proved.ParticipantTable.{passed_due, lacking, reclaim_due}
 use Rattle.bus_core.specs.Reusing.Turns.{Participant, sizes_of, queue_seen}
 use Rattle.bus_core.specs.Proved.ParticipantTurns.{due, op_due, participant_due, answer_due}
 use Rattle.bus_presence.specs.Reclamation.{presence_at}
@@ -34,12 +38,15 @@ use Rattle.bus_presence.specs.Pins.{step_at}
 use Rattle.bus_presence.specs.declared.pins.Pin.{Pin}
 use Rattle.bus_presence.specs.declared.pins.Pin.TheVariants.{Away, Announcing, Validating, Pinned}
 use Rattle.bus_presence.specs.declared.pins.Pin.TheVariants.{Unpinning, Invalidated}
-use Rattle.bus_tenure.specs.Core.{Core, Election, Layout, stage_at}
+use Rattle.bus_tenure.specs.Core.{Core, Election, stage_at}
 use Rattle.bus_tenure.specs.Situations.{Situation as Own, IsClosed, IsIdle, IsSpent, LooksAtStage}
 use Rattle.bus_tenure.specs.Situations.{Elects, TakesPage, AwaitsPage, StoresWord, StoresLength}
 use Rattle.bus_tenure.specs.Situations.{GivesBack, HasHanded, PageMove, situation_of, op_at}
 use Rattle.bus_tenure.specs.Situations.{kind_at}
 use Rattle.bus_tenure.specs.Proved.LineParts.{tenure_at, chosen_at}
+use Rattle.bus_tenure.specs.declared.pages.Page.{Page}
+use Rattle.bus_tenure.specs.declared.phases.Reason.{Reason}
+use Rattle.bus_tenure.specs.declared.phases.Reason.TheVariants.{Sent, FoundEnd, NoRoom}
 use Rattle.bus_tenure.specs.declared.turns.Turn.{Turn as Answered}
 use Rattle.bus_world.proofs.Beginning.{zeros}
 use Rattle.bus_world.proofs.EventTrails.{put_taken, mark_adds}
@@ -47,26 +54,28 @@ use Rattle.bus_world.proofs.PlacedSteps.{placed_found}
 use Rattle.bus_world.proofs.Serving.{Serves}
 use Rattle.bus_world.proofs.Stopping.{shown_there}
 use Rattle.bus_world.specs.Starting.{IsNewReceiver}
-use Rattle.bus_world.specs.World.{IsLayout, Event, Put, Ask, Turn, Recv, Stop}
+use Rattle.bus_world.specs.World.{IsLayout, Event, Put, Ask, Turn, Recv, Stop, Gone}
 use Rattle.bus_world.specs.Headline.{HasPut, HasMarked}
 use Rattle.bus_world.specs.Log.{words_of_frame}
 use Rattle.bus_world.specs.Trails.{step_action, put_actions, mark_actions, actions_with}
-use Rattle.bus_world.specs.Trails.{answers_with}
 use Rattle.bus_world.specs.Turning.{owners_by, words_after, number_found, home_moved, after_step}
 use Rattle.bus_world.specs.Proved.Machines.{new_core}
 use Rattle.bus_world.specs.Proved.CyclicProtocols.{CyclicProtocol, Led, NewProtocol, PutIn}
-use Rattle.bus_world.specs.Proved.CyclicProtocols.{MarkedIn, Heard, word_found, due_actions}
-use Rattle.bus_world.specs.Proved.CyclicProtocols.{trails_with}
+use Rattle.bus_world.specs.Proved.CyclicProtocols.{MarkedIn, Heard, LeftFor, word_found}
+use Rattle.bus_world.specs.Proved.CyclicProtocols.{due_actions, trails_with, protocol_heard}
+use Rattle.bus_world.specs.Proved.CyclicProtocols.{words_stepped}
 use Rattle.bus_world.specs.declared.events.Answer.{Answer}
 use Rattle.bus_world.specs.declared.events.Answer.TheVariants as answer
 use Rattle.bus_machine.proofs.AtNone.{close_taken}
 use Rattle.bus_machine.proofs.CyclicTurns.{protocol_kept, participant_moved, turn_led, batch_led}
-use Rattle.bus_machine.proofs.CyclicTurns.{list_put, away_puts, away_closes}
+use Rattle.bus_machine.proofs.CyclicTurns.{words_many}
+use Rattle.bus_machine.proofs.ProtocolParts.{list_put, away_puts, away_closes, stepped_words}
 use Rattle.bus_machine.proofs.Joining.{turn_log}
-use Rattle.bus_machine.specs.Proved.Bridge.{core_in, protocol_of, IsLed}
+use Rattle.bus_machine.specs.Proved.Bridge.{core_in, passing_in, protocol_of, IsLed}
 use Rattle.bus_machine.specs.Machine.{base_of, Machine, Trails, Happens, TakesTurn, TakesPut}
-use Rattle.bus_machine.specs.Machine.{TakesMark, StopsNow, Hears, IsNew, IsOnWord}
+use Rattle.bus_machine.specs.Machine.{TakesMark, StopsNow, Hears, LeavesForGood, IsNew, IsOnWord}
 use Rattle.bus_machine.specs.Machine.{no_machine_trails, log_place, owners_told, has_stopped}
+use Rattle.bus_machine.specs.Machine.{passed_by}
 use Rattle.bus_machine.specs.Machine.{going, with_sender, put_in, mark_in, moved, machine_after}
 use Rattle.bus_machine.specs.Machine.{found, turn_answer, turn_trails, turn_grown, trails_grown}
 use Rattle.bus_machine.specs.Promise.{pin_in}
@@ -91,10 +100,10 @@ module _ {E : Type 0} (X : Election E) where
   action_own v (HasHanded t reason) got word a = refl
 
   -- ---- the trails of a turn
-  module _ (m : Machine E) (rows : ℕ) (reclaimer : Option Reclaiming) (owners : List ℕ) (s word : ℕ)
-      (T : Trails) (a : Answered) where
+  module _ (m : Machine E) (rows : ℕ) (reclaimer : Option Reclaiming) (passing : Passing)
+      (owners : List ℕ) (s word : ℕ) (T : Trails) (a : Answered) where
     abbrev y : CyclicProtocol E
-    y = protocol_of m reclaimer owners
+    y = protocol_of m reclaimer passing owners
 
     -- by the line of this situation, after a step that found this
     abbrev grown_by : Participant E → Situation E → ℕ → Trails
@@ -148,50 +157,65 @@ module _ {E : Type 0} (X : Election E) where
     grown_reclaiming v (Some r) z i j =
         grown_reclaimed v r z (nat_lt r.scanned r.senders) (nat_lt r.cleared r.width) i j
 
-    grown_home : (v : Participant E) (r : Option Reclaiming) (z : Own E) → v.core.layout ≡ m.layout
-        → v.rows ≡ rows → IsGrown v (at_home None r z) (due_home (reclaim_due z r) z)
-    grown_home v r (GivesBack t page reason) i j =
-        subst (λ z. IsGrown v z (due_home r (GivesBack t page reason)))
-        (sym (unpassed t reason (reclaiming r (GivesBack t page reason))))
-        (grown_reclaiming v r (GivesBack t page reason) i j)
-    grown_home v r IsClosed i j = grown_own v IsClosed i j
-    grown_home v r IsIdle i j = grown_own v IsIdle i j
-    grown_home v r IsSpent i j = grown_own v IsSpent i j
-    grown_home v r LooksAtStage i j = grown_own v LooksAtStage i j
-    grown_home v r (Elects t e) i j = grown_own v (Elects t e) i j
-    grown_home v r (TakesPage t) i j = grown_own v (TakesPage t) i j
-    grown_home v r (AwaitsPage t) i j = grown_own v (AwaitsPage t) i j
-    grown_home v r (StoresWord t page stored) i j = grown_own v (StoresWord t page stored) i j
-    grown_home v r (StoresLength t page stored) i j = grown_own v (StoresLength t page stored) i j
-    grown_home v r (HasHanded t reason) i j = grown_own v (HasHanded t reason) i j
+    grown_reads : (v : Participant E) (t : ℕ) (p : Passing) → v.core.layout ≡ m.layout
+        → v.rows ≡ rows → IsGrown v (ReadsPassed t p) (Reads t p)
+    grown_reads v t p i j = record {
+      pins = refl;
+      actions = ap (λ o. actions_with s (step_action (Some kind.ReadPassed) (Some t)
+          (slice_index m.words (register o)) None a) T.actions)
+          (ap (λ x. passed_op x v.rows p) i ∙ ap (λ r. passed_op m.layout r p) j);
+      heard = refl;
+    }
 
-    grown_pinning : (v : Participant E) (u : Pin) (z : Own E) → v.core.layout ≡ m.layout
-        → v.rows ≡ rows
-        → IsGrown v (pinning u None v.reclaimer z)
-        (due_beside (step_at u (presence_at (sizes_of v) v.core.me) stage_at) v.reclaimer z)
-    grown_pinning v Away z i j = grown_home v v.reclaimer z i j
-    grown_pinning v (Announcing t) z i j = record { pins = refl; actions = refl; heard = refl }
-    grown_pinning v (Validating t) z i j = record { pins = refl; actions = refl; heard = refl }
-    grown_pinning v (Pinned t) z i j = grown_home v v.reclaimer z i j
-    grown_pinning v (Unpinning t) z i j = record { pins = refl; actions = refl; heard = refl }
-    grown_pinning v (Invalidated t) z i j = record { pins = refl; actions = refl; heard = refl }
+    grown_back : (v : Participant E) (l : Option Passing) (r : Option Reclaiming) (t : ℕ)
+        (page : Page) (reason : Reason) → v.core.layout ≡ m.layout → v.rows ≡ rows
+        → IsGrown v (first_passed l t reason (reclaiming r (GivesBack t page reason)))
+        (due_passed (lacking reason t l) (due_home r (GivesBack t page reason)))
+    grown_back v l r t page Sent i j = grown_reclaiming v r (GivesBack t page Sent) i j
+    grown_back v l r t page FoundEnd i j = grown_reclaiming v r (GivesBack t page FoundEnd) i j
+    grown_back v None r t page NoRoom i j = grown_reclaiming v r (GivesBack t page NoRoom) i j
+    grown_back v (Some p) r t page NoRoom i j = grown_reads v t p i j
 
-    pub grown_is : (v : Participant E) → v.core.layout.passers ≡ 0 → v.core.layout ≡ m.layout
-        → v.rows ≡ rows
+    grown_home : (v : Participant E) (l : Option Passing) (r : Option Reclaiming) (z : Own E)
+        → v.core.layout ≡ m.layout → v.rows ≡ rows
+        → IsGrown v (at_home l r z) (due_passed (passed_due z l) (due_home (reclaim_due z r) z))
+    grown_home v l r (GivesBack t page reason) i j = grown_back v l r t page reason i j
+    grown_home v l r IsClosed i j = grown_own v IsClosed i j
+    grown_home v l r IsIdle i j = grown_own v IsIdle i j
+    grown_home v l r IsSpent i j = grown_own v IsSpent i j
+    grown_home v l r LooksAtStage i j = grown_own v LooksAtStage i j
+    grown_home v l r (Elects t e) i j = grown_own v (Elects t e) i j
+    grown_home v l r (TakesPage t) i j = grown_own v (TakesPage t) i j
+    grown_home v l r (AwaitsPage t) i j = grown_own v (AwaitsPage t) i j
+    grown_home v l r (StoresWord t page stored) i j = grown_own v (StoresWord t page stored) i j
+    grown_home v l r (StoresLength t page stored) i j = grown_own v (StoresLength t page stored) i j
+    grown_home v l r (HasHanded t reason) i j = grown_own v (HasHanded t reason) i j
+
+    grown_pinning : (v : Participant E) (u : Pin) (l : Option Passing) (z : Own E)
+        → v.core.layout ≡ m.layout → v.rows ≡ rows
+        → IsGrown v (pinning u l v.reclaimer z)
+        (due_beside (step_at u (presence_at (sizes_of v) v.core.me) stage_at) l v.reclaimer z)
+    grown_pinning v Away l z i j = grown_home v l v.reclaimer z i j
+    grown_pinning v (Announcing t) l z i j = record { pins = refl; actions = refl; heard = refl }
+    grown_pinning v (Validating t) l z i j = record { pins = refl; actions = refl; heard = refl }
+    grown_pinning v (Pinned t) l z i j = grown_home v l v.reclaimer z i j
+    grown_pinning v (Unpinning t) l z i j = record { pins = refl; actions = refl; heard = refl }
+    grown_pinning v (Invalidated t) l z i j = record { pins = refl; actions = refl; heard = refl }
+
+    pub grown_is : (v : Participant E) → v.core.layout ≡ m.layout → v.rows ≡ rows
         → GrowsBy v (situation X (with_rows_again v))
         (found m (line_now X (with_rows_again v)) word) (due X v)
-    grown_is v none i j = subst (λ n. GrowsBy v (situation X (with_rows_again v)) n (due X v))
-        (sym (ap (number_found (slice_index m.words)) ((at_some X v none).op word)))
-        (subst (λ l. IsGrown v (pinning v.pin l v.reclaimer (situation_of X v.core)) (due X v))
-        (sym (none_left v.core.layout.passers v.passed none))
-        (grown_pinning v v.pin (situation_of X v.core) i j))
+    grown_is v i j = subst (λ n. GrowsBy v (situation X (with_rows_again v)) n (due X v))
+        (sym (ap (number_found (slice_index m.words)) ((at_some X v).op word)))
+        (grown_pinning v v.pin (passing_left v.core.layout.passers v.passed)
+        (situation_of X v.core) i j)
 
 -- ---- one event
 module _ {E : Type 0} (X : Election E) (P : Protocol E (Unit {0}) ℕ) (rows : ℕ) (m : Machine E)
     (T : Trails) (q : Serves X P m.layout) (ok : IsLayout m.layout) (two : 2 ≤ rows)
     (l : IsLed X rows m T) where
   abbrev its_protocol : CyclicProtocol E
-  its_protocol = protocol_of m l.reclaimer l.owners
+  its_protocol = protocol_of m l.reclaimer l.passing l.owners
 
   abbrev got_by : Participant E → ℕ → ℕ
   got_by v word = number_found (slice_index m.words) (op_due X v (due X v) word)
@@ -210,11 +234,11 @@ module _ {E : Type 0} (X : Election E) (P : Protocol E (Unit {0}) ℕ) (rows : �
     owners = told_after v s word;
   }
 
-  turn_is : (v : Participant E) → v.core.layout.passers ≡ 0 → (s word : ℕ)
+  turn_is : (v : Participant E) (s word : ℕ)
       → machine_after m s (line_now X (with_rows_again v)) word ≡ turned_by v s word
-  turn_is v none s word =
+  turn_is v s word =
       let l = line_now X (with_rows_again v) in
-      let i = at_some X v none in
+      let i = at_some X v in
       let d = due X v in
       let got = got_by v word in
       ap (λ o. after o l.move (l.fed (number_found (slice_index m.words) o) word)) (i.op word)
@@ -228,12 +252,12 @@ module _ {E : Type 0} (X : Election E) (P : Protocol E (Unit {0}) ℕ) (rows : �
         senders = slice_set m.senders s (moved (after_step w) m.home f);
       }
 
-  answer_is : (v : Participant E) → v.core.layout.passers ≡ 0 → (word : ℕ)
+  answer_is : (v : Participant E) (word : ℕ)
       → turn_answer m (line_now X (with_rows_again v)) word
       ≡ answer_due X v (due X v) (got_by v word) word
-  answer_is v none word =
+  answer_is v word =
       let l = line_now X (with_rows_again v) in
-      let i = at_some X v none in
+      let i = at_some X v in
       ap (λ o. l.answer (number_found (slice_index m.words) o) word) (i.op word)
       ∙ i.answer (got_by v word) word
 
@@ -257,14 +281,13 @@ module _ {E : Type 0} (X : Election E) (P : Protocol E (Unit {0}) ℕ) (rows : �
       let v = o.v in
       let part =
       (protocol_kept X P rows m T q ok two l).kept.sending.parts s v.core (ap core_in o.at) in
-      let none : v.core.layout.passers ≡ 0 =
-      ap (λ (x : Layout). x.passers) part.layout ∙ ok.passers in
-      let i = at_some X v none in
+      let i = at_some X v in
       let t = answer_due X v (due X v) (got_by v word) word in
       let told : a ≡ answer.Turn t =
       h.answered ∙ ap (λ w. answer.Turn (turn_answer m (line_now X w) word)) o.is
-      ∙ ap answer.Turn (answer_is v none word) in
-      let g = grown_is X m rows l.reclaimer l.owners s word T t v none part.layout o.same_rows in
+      ∙ ap answer.Turn (answer_is v word) in
+      let g =
+      grown_is X m rows l.reclaimer l.passing l.owners s word T t v part.layout o.same_rows in
       let low = subst (IsOnWord m) (i.op word)
       (subst (λ w. IsOnWord m ((line_now X w).op word)) o.is h.within) in
       let U = turn_trails (situation X (with_rows_again v)) (line_now X (with_rows_again v)) s
@@ -276,7 +299,7 @@ module _ {E : Type 0} (X : Election E) (P : Protocol E (Unit {0}) ℕ) (rows : �
       ∙ ap (λ f. T.log ++ words_of_frame f) i.publishes) in
       let is : m' ≡ turned_by v s word =
       h.after ∙ ap (λ w. machine_after m s (line_now X w) word) o.is
-      ∙ turn_is v none s word in
+      ∙ turn_is v s word in
       let grown : trails_grown X m (Turn s word) a T ≡ U =
       ap (λ w. trails_grown X m (Turn s word) w T) told
       ∙ ap (λ w. turn_grown X m s w word (answer.Turn t) T) (h.goes ∙ ap Some o.is) in
@@ -346,28 +369,63 @@ module _ {E : Type 0} (X : Election E) (P : Protocol E (Unit {0}) ℕ) (rows : �
         owners = l.owners;
         reclaimer = l.reclaimer;
         holder = l.holder;
+        passing = l.passing;
+        passed = l.passed;
         led = l.led;
       }
+
+  -- a step of receiver r, or none, which leaves this
+  abbrev heard_by : ℕ → Option Op → Receiving → Machine E
+  heard_by r o next = record m {
+    words = words_after m.words o;
+    receivers = slice_set m.receivers r next;
+  }
+
+  -- as it is of the protocol
+  heard_led : (r : ℕ) (v next : Receiving) (o : Option Op) (T' : Trails)
+      → slice_get m.receivers r ≡ Some v → IsOnWord m o
+      → Led X m.layout rows (protocol_heard its_protocol r o next) T'.pins T'.actions T'.heard
+      T'.log
+      → IsLed X rows (heard_by r o next) T'
+  heard_led r v next o T' there within led = record {
+    reuse = l.reuse;
+    words = words_many m.words o ∙ l.words;
+    participants = l.participants;
+    owners = l.owners;
+    reclaimer = l.reclaimer;
+    holder = l.holder;
+    passing = l.passing;
+    passed = l.passed;
+    led = subst (λ ws. Led X m.layout rows (record its_protocol {
+      reclamation = record its_protocol.reclamation { words = ws };
+      receivers = slice_get (slice_set m.receivers r next);
+    }) T'.pins T'.actions T'.heard T'.log)
+        (sym (stepped_words m.words o (λ d e. subst (IsOnWord m) e within)))
+        (subst (λ rs. Led X m.layout rows (record its_protocol {
+          reclamation = record its_protocol.reclamation {
+            words = words_stepped (λ q. q) its_protocol.reclamation.words o;
+          };
+          receivers = rs;
+        }) T'.pins T'.actions T'.heard T'.log)
+        (sym (list_put (λ w. w) m.receivers r next (slice_get_within m.receivers r v there)))
+        led);
+  }
 
   hears : (r : ℕ) (a : Answer) (m' : Machine E) → Hears m r a m'
       → IsLed X rows m' (trails_grown X m (Recv r) a T)
   hears r a m' h =
-      let new : Machine E = record m { receivers = slice_set m.receivers r h.next } in
+      let new = heard_by r (receiving_op h.receiver) h.next in
       subst (λ n. IsLed X rows n (trails_grown X m (Recv r) a T)) (sym h.after)
-      (subst (λ w. IsLed X rows new (trails_grown X m (Recv r) w T)) (sym h.answered) record {
-        reuse = l.reuse;
-        words = l.words;
-        participants = l.participants;
-        owners = l.owners;
-        reclaimer = l.reclaimer;
-        holder = l.holder;
-        led = subst (λ rs. Led X m.layout rows (record its_protocol { receivers = rs }) T.pins
-            T.actions (answers_with r h.heard T.heard) T.log)
-            (sym (list_put (λ o. o) m.receivers r h.next
-            (slice_get_within m.receivers r h.receiver h.there)))
-            (Heard its_protocol T.pins T.actions T.heard T.log r h.receiver h.next h.heard l.led
-            h.there h.does);
-      })
+      (subst (λ w. IsLed X rows new (trails_grown X m (Recv r) w T)) (sym h.answered)
+      (heard_led r h.receiver h.next (receiving_op h.receiver)
+      (trails_grown X m (Recv r) (answer.Recv h.heard) T) h.there h.within
+      (Heard its_protocol T.pins T.actions T.heard T.log r h.receiver h.next h.heard l.led
+      h.there h.stays h.does)))
+
+  leaves : (r : ℕ) (a : Answer) (m' : Machine E) → LeavesForGood m r a m' → IsLed X rows m' T
+  leaves r a m' h = subst (λ n. IsLed X rows n T) (sym h.after)
+      (heard_led r h.receiver (with_leave h.receiver) (leaving_op h.receiver) T h.there h.within
+      (LeftFor its_protocol T.pins T.actions T.heard T.log r h.receiver l.led h.there h.stays))
 
   pub event_led : (m' : Machine E) (e : Event) (a : Answer) → Happens X m e a m'
       → IsLed X rows m' (trails_grown X m e a T)
@@ -376,6 +434,7 @@ module _ {E : Type 0} (X : Election E) (P : Protocol E (Unit {0}) ℕ) (rows : �
   event_led m' (Turn s word) a h = turns s word a m' h
   event_led m' (Recv r) a h = hears r a m' h
   event_led m' (Stop s) a h = stops s a m' h
+  event_led m' (Gone r) a h = leaves r a m' h
 
 -- ---- at the start
 module _ {E : Type 0} (X : Election E) (rows : ℕ) (m : Machine E) (new : IsNew m)
@@ -418,8 +477,11 @@ module _ {E : Type 0} (X : Election E) (rows : ℕ) (m : Machine E) (new : IsNew
     holder = λ p v t at held. absurd (let bad : None ≡ Some t =
         ap (λ (u : Sender E). held_of u.core.phase) (sym (made p v at)) ∙ held in
         cc);
-    led = NewProtocol (protocol_of m None []) record {
+    passing = passing_begun;
+    passed = λ p v t at held. ap (λ (u : Sender E). passing_in u.reuse) (made p v at);
+    led = NewProtocol (protocol_of m None passing_begun []) record {
       bases_are = new.bases_are;
+      passing = refl;
       reclamation = ap
           (λ w. record { words = w; pins = λ p. pin_in (slice_get m.senders p); reclaimer = None })
           (ap slice_index words_are
@@ -429,8 +491,10 @@ module _ {E : Type 0} (X : Election E) (rows : ℕ) (m : Machine E) (new : IsNew
       home = new.home;
       senders = λ p c at. new_core_is p c (slice_get m.senders p) refl at;
       receivers = λ r v at. subst
-          (λ o. IsNewReceiver m.layout.senders (log_place m.layout o) m.layout.capacity v) used
-          (new.receivers r v at);
+          (λ o. IsNewReceiver m.layout.senders (log_place m.layout o) m.layout.capacity
+          (passed_by m.layout o r) v) used (new.receivers r v at);
+      many = new.many;
+      ring_bases = new.ring_bases;
       owners = refl;
     };
   }

@@ -9,6 +9,7 @@ use Rattle.std.proofs.lemmas.Bool.Decides.{nat_tests}
 use Rattle.std.proofs.lemmas.List.{length-append}
 use Rattle.std.proofs.lemmas.List.Elements.{filter-append}
 use Rattle.bus_core.specs.Senders.{Sender, Situation, Does, Validates, situation, ReadsPassed}
+use Rattle.bus_core.specs.Reusing.Passing.{passing_fed}
 use Rattle.bus_core.specs.Table.{line, line_now, seen}
 use Rattle.bus_core.specs.declared.reuses.Reuse.{Reuse}
 use Rattle.bus_presence.specs.Reclamation.{Entry}
@@ -21,7 +22,7 @@ use Rattle.bus_tenure.specs.Core.{Core, Election, Layout, row_at}
 use Rattle.bus_tenure.specs.Seen.{tenure_of}
 use Rattle.bus_tenure.specs.Situations.{LooksAtStage, Elects, TakesPage, AwaitsPage, StoresWord}
 use Rattle.bus_tenure.specs.Situations.{StoresLength, GivesBack, HasHanded, waits, core_begun}
-use Rattle.bus_tenure.specs.Situations.{core_elected}
+use Rattle.bus_tenure.specs.Situations.{core_elected, core_floored, phase_floored}
 use Rattle.bus_tenure.specs.declared.pages.Page.{Page}
 use Rattle.bus_tenure.specs.declared.phases.Phase.{Phase}
 use Rattle.bus_tenure.specs.declared.phases.Phase.TheVariants as phase
@@ -33,7 +34,7 @@ use Rattle.bus_world.specs.Trails.{step_action, put_actions, mark_actions}
 use Rattle.bus_world.specs.Turning.{after_step, core_moved, core_with_page}
 use Rattle.bus_world.specs.declared.events.Answer.{Answer}
 use Rattle.bus_world.specs.declared.events.Answer.TheVariants as answer
-use Rattle.bus_machine.proofs.Knowing.{none_passed}
+use Rattle.bus_machine.proofs.Knowing.{HasPage, passes_held}
 use Rattle.bus_machine.proofs.AtNone.{event_reuse}
 use Rattle.bus_machine.proofs.EachSender.{added, OfEach, each}
 use Rattle.bus_machine.proofs.Entering.{entry, entry_from, entry_in, may_enter, phase_tells, enters}
@@ -252,6 +253,17 @@ module _ {E : Type 0} (X : Election E) (P : Protocol E (Unit {0}) ℕ) (m : Mach
   laid t c ds k None = k
   laid t c ds k (Some page) = record { less = k.less }
 
+  -- its page gets its floor, or not
+  floored : (t : ℕ) → HasPage t v.core.phase → (least : ℕ) (ds : List Action)
+      → ((s : ℕ) → steps_towards s ds ≡ 0) → (b : Bool)
+      → To (cond b (core_floored v.core least) v.core) ds
+  floored t h least ds none true = over P.left bound t v.core (core_floored v.core least) _ ds h.has
+      refl (ap (λ ph. entry_from (tenure_of (phase_floored least ph)) v.core.least) h.has)
+      (λ s. ap (λ ph. run P.left bound (phase_floored least ph) s) h.has) none
+  floored t h least ds none false = over P.left bound t v.core v.core _ ds h.has refl
+      (ap (λ ph. entry_from (tenure_of ph) v.core.least) h.has)
+      (λ s. ap (λ ph. run P.left bound ph s) h.has) none
+
   -- any turn
   module _ (reached : Reached X m T) (home : Option Page) (got word : ℕ) (told : Answered) where
     abbrev After : Situation E → Type 0
@@ -289,7 +301,9 @@ module _ {E : Type 0} (X : Election E) (P : Protocol E (Unit {0}) ℕ) (m : Mach
         over P.left bound t v.core _ _ _ own refl refl (λ s. refl) (λ s. refl)
     by_turn (Validates t) i =
         validated t (got / 2 == t) (enters X P m T sits reached p v at t i)
-    by_turn (ReadsPassed t q) i = absurd (none_passed X P m T f p v at sits.ok t q i)
+    by_turn (ReadsPassed t q) i =
+        let l = passing_fed q got in
+        floored t (passes_held X v t q i) l.least _ (λ s. refl) (l.loaded == v.core.layout.passers)
     by_turn z i = same P.left bound v.core
 
 -- ---- of all senders

@@ -1,8 +1,9 @@
 -- What a machine that a program holds has, as its calls say it.
-use Rattle.std.proofs.Common.{◌≡◌, ℕ, ◌+◌, ◌-◌, ◌<◌, ◌≤◌, Bool, List, length, slice_get, subst}
+use Rattle.std.proofs.Common.{◌≡◌, ℕ, ◌+◌, ◌-◌, ◌<◌, ◌≤◌, Bool, List, length, take, slice_get}
+use Rattle.std.proofs.Common.{subst}
 use Rattle.std.specs.Prelude.{Result, Ok, Err, IfOk, OnOk}
 use Rattle.bus_adoptcommit.specs.declared.verdicts.Verdict.{Verdict}
-use Rattle.bus_batch.specs.Frames.{Frame, Order, AreFrames, log_words}
+use Rattle.bus_batch.specs.Frames.{Frame, Order, AreFrames, log_words, log_pieces, order_in}
 use Rattle.bus_deliverylog.specs.Receiving.{Receiving}
 use Rattle.bus_register.specs.Protocol.{Protocol}
 use Rattle.bus_tenure.specs.Core.{Election, Layout}
@@ -20,11 +21,15 @@ use Rattle.bus_machine.proofs.Leading.{sits_after}
 use Rattle.bus_machine.proofs.Leaving.{opens_only}
 use Rattle.bus_machine.proofs.Following.{follows, tells}
 use Rattle.bus_machine.proofs.Losing.{losses}
+use Rattle.bus_machine.proofs.Framed.{framed}
+use Rattle.bus_machine.proofs.Giving.{still_given}
 use Rattle.bus_machine.proofs.Holding.{sits}
 use Rattle.bus_machine.proofs.Holding as holding
 use Rattle.bus_machine.proofs.PlayLaws as playing
 use Rattle.bus_machine.proofs.Promised as promises
+use Rattle.bus_machine.specs.Giving.{StillGiven}
 use Rattle.bus_machine.specs.Machine.{Machine, Trails, Reached, Then, Happens, trails_grown, log_of}
+use Rattle.bus_machine.specs.Machine.{floor_of}
 use Rattle.bus_machine.specs.Playing.{Answers, AllAnswered, Played, IsHeld}
 use Rattle.bus_machine.specs.Promise.{IsPromised, TakersTold}
 use Rattle.bus_machine.specs.Telling.{Causes, Says, LossesAreSeen}
@@ -95,13 +100,29 @@ module _ {S : Type 0} (X : Election (Elector S)) (Q : Protocol S Bool Verdict)
   pub took : (T : Trails) → Reached X now T → TakersTold now.reuse now.owners T.actions
   took T r = (promised T r).by.takers
 
+  pub stands : (r : ℕ) → r < length now.receivers → (order : Order)
+      → ((v : Receiving) (rest : List Frame)
+      → slice_get now.receivers r ≡ Rattle.std.specs.Prelude.Some v
+      → AreFrames now.layout.senders rest → log_of now ≡ log_words rest
+      → order ≡ order_in (take (v.place - floor_of now) (log_pieces rest)))
+      → (T : Trails) → Reached X now T → StillGiven now T r order
+  stands = subst (λ y. (r : ℕ) → r < length y.receivers → (order : Order)
+      → ((v : Receiving) (rest : List Frame)
+      → slice_get y.receivers r ≡ Rattle.std.specs.Prelude.Some v
+      → AreFrames y.layout.senders rest → log_of y ≡ log_words rest
+      → order ≡ order_in (take (v.place - floor_of y) (log_pieces rest)))
+      → (T : Trails) → Reached X y T → StillGiven y T r order) is
+      (λ r l order says T reached.
+      still_given P m T (framed X P m T (sits X P m s h) reached) r l order says)
+
   pub heard : (r : ℕ) → r < length now.receivers → (order : Order)
       → ((frames : List Frame) (v : Receiving) → AreFrames now.layout.senders frames
       → log_of now ≡ log_words frames → slice_get now.receivers r ≡ Rattle.std.specs.Prelude.Some v
       → order ≡ given_at frames v)
-      → (T : Trails) → Reached X now T → order ≡ order_given (T.heard r)
+      → now.layout.passers ≡ 0 → (T : Trails) → Reached X now T → order ≡ order_given (T.heard r)
   heard = subst (λ y. (r : ℕ) → r < length y.receivers → (order : Order)
       → ((frames : List Frame) (v : Receiving) → AreFrames y.layout.senders frames
       → log_of y ≡ log_words frames → slice_get y.receivers r ≡ Rattle.std.specs.Prelude.Some v
       → order ≡ given_at frames v)
-      → (T : Trails) → Reached X y T → order ≡ order_given (T.heard r)) is (holding.heard X P m s h)
+      → y.layout.passers ≡ 0 → (T : Trails) → Reached X y T → order ≡ order_given (T.heard r)) is
+      (holding.heard X P m s h)

@@ -1,22 +1,18 @@
 -- A turn of a machine whose rows are used again, as a turn of its protocol.
-use Rattle.std.proofs.Common.{◌≡◌, ◌≢◌, inl, inr, ℕ, ◌+◌, ◌<◌, ◌≤◌, Bool, true, false, cond, ◌&&◌}
+use Rattle.std.proofs.Common.{◌≡◌, ◌≢◌, inl, inr, ℕ, ◌+◌, ◌<◌, ◌≤◌, Bool, true, false, cond}
 use Rattle.std.proofs.Common.{◌==◌, nat_le, ◌/◌, Option, Some, None, List, ◌++◌, length, slice_get}
 use Rattle.std.proofs.Common.{slice_index, slice_set, arith, refl, sym, ◌∙◌, ap, subst}
-use mathlib.Core.Path.{fun_ext}
 use Rattle.std.proofs.lemmas.Bool.{cases_eq}
-use Rattle.std.proofs.lemmas.List.{get_or-set_same, get_or-set_other}
 use Rattle.std.proofs.Math.ListN.{length-set}
 use Rattle.std.proofs.lemmas.Option.{same_Some, slice_get_within}
 use Rattle.bus_register.specs.declared.registers.Op.{Op}
-use Rattle.bus_register.specs.declared.registers.Op.TheVariants.{Load, Store, Add, Cas}
 use Rattle.bus_register.specs.Words.{register, after}
 use Rattle.bus_register.specs.Tables.{put, of_some}
-use Rattle.bus_register.specs.Proved.TableLaws.{put_here, put_beside, get_set_same, get_set_other}
+use Rattle.bus_register.specs.Proved.TableLaws.{get_set_same, get_set_other}
 use Rattle.bus_register.specs.Protocol.{Protocol}
 use Rattle.bus_batch.specs.Batches.{Pending}
-use Rattle.bus_deliverylog.specs.Receiving.{Receiving}
 use Rattle.bus_presence.specs.Reclamation.{presence_at, reclaimer_after}
-use Rattle.bus_presence.specs.Reclaimers.{Reclaiming, reclaim_op, reclaim_fed}
+use Rattle.bus_presence.specs.Reclaimers.{Reclaiming, reclaim_fed}
 use Rattle.bus_presence.specs.Pins.{step_at, pin_fed}
 use Rattle.bus_presence.specs.declared.pins.Pin.{Pin}
 use Rattle.bus_presence.specs.declared.pins.Pin.TheVariants.{Away, Announcing, Validating, Pinned}
@@ -24,23 +20,28 @@ use Rattle.bus_presence.specs.declared.pins.Pin.TheVariants.{Unpinning, Invalida
 use Rattle.bus_core.specs.Keeping.{reclaimer_in}
 use Rattle.bus_core.specs.Proved.Bridge.{move_of, publishes_of, with_rows_again}
 use Rattle.bus_core.specs.Reusing.Participants.{sizes_with, core_seen}
-use Rattle.bus_core.specs.Proved.ParticipantTable.{Due, Pins, Reclaims, Goes, due_of, due_beside}
-use Rattle.bus_core.specs.Proved.ParticipantTable.{due_home, due_reclaimed, reclaim_due, place_for}
-use Rattle.bus_core.specs.Proved.ParticipantTable.{core_looked, core_going, pin_going}
-use Rattle.bus_core.specs.Proved.ParticipantTable.{reclaimer_going, answer_going}
+use Rattle.bus_core.specs.Proved.ParticipantTable.{Due, Pins, Reads, Reclaims, Goes, due_of}
+use Rattle.bus_core.specs.Proved.ParticipantTable.{due_beside, due_passed, due_home}
+use Rattle.bus_core.specs.Proved.ParticipantTable.{passed_due, passed_op, lacking, reclaim_due}
+use Rattle.bus_core.specs.Proved.ParticipantTable.{place_for, core_looked, core_going, pin_going}
+use Rattle.bus_core.specs.Proved.ParticipantTable.{reclaimer_going, passed_going, answer_going}
+use Rattle.bus_core.specs.Reusing.Passing.{passing_begun, passing_left, passing_fed, core_passed}
+use Rattle.bus_core.specs.declared.reuses.Passing.{Passing}
 use Rattle.bus_core.specs.Reusing.Keeping.{held_of}
-use Rattle.bus_core.specs.Reusing.Turns.{Participant, on_place, op_placed, queue_seen}
+use Rattle.bus_core.specs.Reusing.Turns.{Participant, op_placed}
 use Rattle.bus_core.specs.Proved.ParticipantTurns.{due, op_due, participant_due, answer_due}
 use Rattle.bus_core.specs.Senders.{Sender}
-use Rattle.bus_tenure.specs.Core.{Core, Election, stage_at}
+use Rattle.bus_tenure.specs.Core.{Election, stage_at}
 use Rattle.bus_tenure.specs.Situations.{Situation, IsClosed, IsIdle, IsSpent, LooksAtStage, Elects}
 use Rattle.bus_tenure.specs.Situations.{TakesPage, AwaitsPage, StoresWord, StoresLength, GivesBack}
 use Rattle.bus_tenure.specs.Situations.{HasHanded, PageMove, situation_of, line_of, op_at}
 use Rattle.bus_tenure.specs.Situations.{core_begun, core_elected, waits}
 use Rattle.bus_tenure.specs.declared.pages.Page.{Page}
 use Rattle.bus_tenure.specs.declared.phases.Reason.{Reason}
+use Rattle.bus_tenure.specs.declared.phases.Reason.TheVariants.{NoRoom}
 use Rattle.bus_tenure.specs.declared.phases.Phase.TheVariants as phase
 use Rattle.bus_tenure.specs.declared.turns.Turn.{Turn as Answered}
+use Rattle.bus_tenure.specs.declared.turns.Turn.TheVariants as turn
 use Rattle.bus_tenure.proofs.Situated.{tells}
 use Rattle.bus_world.specs.World.{IsLayout}
 use Rattle.bus_world.specs.Proved.Sending.{Part, Fits, standing_of}
@@ -48,181 +49,28 @@ use Rattle.bus_world.specs.Headline.{Action}
 use Rattle.bus_world.specs.Log.{words_of_frame}
 use Rattle.bus_world.specs.Proved.Tenures.Standing.{Holds}
 use Rattle.bus_world.specs.Turning.{words_after, number_found, home_moved, core_moved, after_step}
-use Rattle.bus_world.specs.Proved.Machines.{home_after, is_open, can_put, can_close}
+use Rattle.bus_world.specs.Proved.Machines.{home_after}
 use Rattle.bus_world.specs.Proved.CyclicProtocols.{CyclicProtocol, Led, Turned, AnswersDue, due_in}
 use Rattle.bus_world.specs.Proved.CyclicProtocols.{due_actions, trails_with, protocol_after}
-use Rattle.bus_world.specs.Proved.CyclicProtocols.{words_stepped, word_found}
+use Rattle.bus_world.specs.Proved.CyclicProtocols.{word_found}
 use Rattle.bus_world.specs.Trails.{actions_with}
 use Rattle.bus_world.proofs.Serving.{Serves}
-use Rattle.bus_world.proofs.PlacedSteps.{same_register, placed_found, due_goes}
+use Rattle.bus_world.proofs.PlacedSteps.{placed_found, due_goes, due_reads}
 use Rattle.bus_world.proofs.CyclicProtocolKept.{HasKept}
 use Rattle.bus_world.proofs.CyclicProtocolLaws.{led_kept}
 use Rattle.bus_world.proofs.CyclicProtocolWords.{put_is}
 use Rattle.bus_machine.proofs.AtHome.{held_stands, finds_page, holds_page}
-use Rattle.bus_machine.specs.Proved.Bridge.{core_in, protocol_of, IsLed}
+use Rattle.bus_machine.proofs.ProtocolParts.{list_put, index_put, placed_words, protocols_same}
+use Rattle.bus_machine.proofs.ProtocolParts.{due_reclaims}
+use Rattle.bus_machine.specs.Proved.Bridge.{core_in, passing_in, protocol_of, IsLed}
 use Rattle.bus_machine.specs.Machine.{Machine, Trails, IsOnWord, with_sender}
 use Rattle.bus_machine.specs.Promise.{pin_in}
-
--- ---- lists as tables
-pub list_put : {A B : Type 0} (f : Option A → B) (xs : List A) (s : ℕ) (a : A) → s < length xs
-    → (λ p. f (slice_get (slice_set xs s a) p)) ≡ put s (f (Some a)) (λ p. f (slice_get xs p))
-list_put f xs s a l = fun_ext (λ p. elim (cases_eq p s) [
-  | inl i ↦
-      ap (λ q. f (slice_get (slice_set xs s a) q)) i ∙ ap f (get_set_same xs s a l)
-      ∙ sym (put_here s (f (Some a)) (λ q. f (slice_get xs q)))
-      ∙ sym (ap (put s (f (Some a)) (λ q. f (slice_get xs q))) i)
-  | inr ne ↦
-      ap f (get_set_other xs s a p ne)
-      ∙ sym (put_beside s (f (Some a)) (λ q. f (slice_get xs q)) p ne)
-])
-
-index_put : (xs : List ℕ) (r n : ℕ) → r < length xs
-    → slice_index (slice_set xs r n) ≡ put r n (slice_index xs)
-index_put xs r n l = fun_ext (λ q. elim (cases_eq q r) [
-  | inl i ↦
-      ap (slice_index (slice_set xs r n)) i ∙ get_or-set_same xs r n 0 l
-      ∙ sym (put_here r n (slice_index xs)) ∙ sym (ap (put r n (slice_index xs)) i)
-  | inr ne ↦ get_or-set_other xs r q n 0 ne ∙ sym (put_beside r n (slice_index xs) q ne)
-])
-
-same_after : (f : ℕ → ℕ) (o : Op) (n : ℕ) → after (on_place f o) n ≡ after o n
-same_after f (Load at) n = refl
-same_after f (Store at m) n = refl
-same_after f (Add at m) n = refl
-same_after f (Cas at m k) n = refl
-
-placed_words : (f : ℕ → ℕ) (xs : List ℕ) (d : Option Op)
-    → ((o : Op) → op_placed f d ≡ Some o → register o < length xs)
-    → slice_index (words_after xs (op_placed f d)) ≡ words_stepped f (slice_index xs) d
-placed_words f xs None low = refl
-placed_words f xs (Some o) low =
-    let r = register (on_place f o) in
-    index_put xs r (after (on_place f o) (slice_index xs r)) (low (on_place f o) refl)
-    ∙ ap (λ q. put q (after (on_place f o) (slice_index xs q)) (slice_index xs)) (same_register f o)
-    ∙ ap (λ n. put (f (register o)) n (slice_index xs))
-    (same_after f o (slice_index xs (f (register o))))
-
--- ---- protocols alike
-protocols_same : {E : Type 0} (bases : List ℕ) (w w' : ℕ → ℕ) (v v' : ℕ → Pin)
-    (c c' : ℕ → Option (Core E)) (reclaimer : Option Reclaiming) (home : Option Page)
-    (receivers : ℕ → Option Receiving) (owners : List ℕ) → w ≡ w' → v ≡ v' → c ≡ c'
-    → ◌≡◌ {A = CyclicProtocol E} record {
-      bases = bases;
-      reclamation = record { words = w; pins = v; reclaimer = reclaimer };
-      home = home;
-      senders = c;
-      receivers = receivers;
-      owners = owners;
-    } record {
-      bases = bases;
-      reclamation = record { words = w'; pins = v'; reclaimer = reclaimer };
-      home = home;
-      senders = c';
-      receivers = receivers;
-      owners = owners;
-    }
-protocols_same bases w w' v v' c c' reclaimer home receivers owners i j k =
-    ap (λ a. record {
-      bases = bases;
-      reclamation = record { words = a; pins = v; reclaimer = reclaimer };
-      home = home;
-      senders = c;
-      receivers = receivers;
-      owners = owners;
-    }) i
-    ∙ ap (λ a. record {
-      bases = bases;
-      reclamation = record { words = w'; pins = a; reclaimer = reclaimer };
-      home = home;
-      senders = c;
-      receivers = receivers;
-      owners = owners;
-    }) j
-    ∙ ap (λ a. record {
-      bases = bases;
-      reclamation = record { words = w'; pins = v'; reclaimer = reclaimer };
-      home = home;
-      senders = a;
-      receivers = receivers;
-      owners = owners;
-    }) k
-
--- ---- what is due
-
--- a step of a reclamation is due only of who would give the page back
-record IsReclaiming {E : Type 0} (z : Situation E) (s : Option Reclaiming) (t : Reclaiming) :
-    Type 0 where
-  tenure : ℕ
-  page : Page
-  reason : Reason
-  is : z ≡ GivesBack tenure page reason
-  same : s ≡ Some t
-
-reclaiming : {E : Type 0} (z : Situation E) (s : Option Reclaiming) (t : Reclaiming)
-    → reclaim_due z s ≡ Some t → IsReclaiming z s t
-reclaiming IsClosed s t e = absurd cc
-reclaiming IsIdle s t e = absurd cc
-reclaiming IsSpent s t e = absurd cc
-reclaiming LooksAtStage s t e = absurd cc
-reclaiming (Elects u f) s t e = absurd cc
-reclaiming (TakesPage u) s t e = absurd cc
-reclaiming (AwaitsPage u) s t e = absurd cc
-reclaiming (StoresWord u page stored) s t e = absurd cc
-reclaiming (StoresLength u page stored) s t e = absurd cc
-reclaiming (GivesBack u page reason) s t e = record {
-  tenure = u;
-  page = page;
-  reason = reason;
-  is = refl;
-  same = e;
-}
-reclaiming (HasHanded u reason) s t e = absurd cc
-
-due_reclaims :
-    {E : Type 0} (v : Option Op) (s : Option Reclaiming) (z : Situation E) (t : Reclaiming) (o : Op)
-    → due_beside v s z ≡ Reclaims t o → IsReclaiming z s t
-due_reclaims (Some p) s z t o e = absurd cc
-due_reclaims {E} None s z t o e = by_home (reclaim_due z s) refl e
-  where
-    by_step : (r : Reclaiming) → reclaim_due z s ≡ Some r → (d : Option Op)
-        → due_reclaimed r d z ≡ Reclaims t o → IsReclaiming z s t
-    by_step r is None e = absurd cc
-    by_step r is (Some p) e = reclaiming z s t (is ∙ ap Some (let same : r ≡ t = cc in same))
-
-    by_home : (d : Option Reclaiming) → reclaim_due z s ≡ d → due_home d z ≡ Reclaims t o
-        → IsReclaiming z s t
-    by_home None is e = absurd cc
-    by_home (Some r) is e = by_step r is (reclaim_op r) e
-
--- ---- a batch that may be filled is not on its way
-busy_puts : (p : Bool) → (p && false) ≡ true → ⊥
-busy_puts true e = cc
-busy_puts false e = cc
-
--- whose batch takes a message, or a close, pins no tenure
-pub away_puts : (q : Pending) (v : Pin) (n : ℕ) → can_put (queue_seen q v) n ≡ true
-    → (v ≡ Away) × (can_put q n ≡ true)
-away_puts q Away n e = (refl, e)
-away_puts q (Announcing t) n e = absurd (busy_puts (is_open q.phase) e)
-away_puts q (Validating t) n e = absurd (busy_puts (is_open q.phase) e)
-away_puts q (Pinned t) n e = absurd (busy_puts (is_open q.phase) e)
-away_puts q (Unpinning t) n e = absurd (busy_puts (is_open q.phase) e)
-away_puts q (Invalidated t) n e = absurd (busy_puts (is_open q.phase) e)
-
-pub away_closes : (q : Pending) (v : Pin) → can_close (queue_seen q v) ≡ true
-    → (v ≡ Away) × (can_close q ≡ true)
-away_closes q Away e = (refl, e)
-away_closes q (Announcing t) e = absurd (busy_puts (is_open q.phase) e)
-away_closes q (Validating t) e = absurd (busy_puts (is_open q.phase) e)
-away_closes q (Pinned t) e = absurd (busy_puts (is_open q.phase) e)
-away_closes q (Unpinning t) e = absurd (busy_puts (is_open q.phase) e)
-away_closes q (Invalidated t) e = absurd (busy_puts (is_open q.phase) e)
 
 -- ---- senders in their places
 abbrev pub participant_moved : {E : Type 0} → PageMove → Option Page → Participant E → Participant E
 participant_moved move home v = record v { core = core_moved move home v.core }
 
-words_many : (xs : List ℕ) (d : Option Op) → length (words_after xs d) ≡ length xs
+pub words_many : (xs : List ℕ) (d : Option Op) → length (words_after xs d) ≡ length xs
 words_many xs None = refl
 words_many xs (Some o) = length-set xs (register o) (after o (slice_index xs (register o)))
 
@@ -247,7 +95,7 @@ module _ {E : Type 0} (X : Election E) (P : Protocol E (Unit {0}) ℕ) (rows : �
     (T : Trails) (q : Serves X P m.layout) (ok : IsLayout m.layout) (two : 2 ≤ rows)
     (l : IsLed X rows m T) where
   abbrev y : CyclicProtocol E
-  y = protocol_of m l.reclaimer l.owners
+  y = protocol_of m l.reclaimer l.passing l.owners
 
   pub protocol_kept : HasKept X P q.laws m.layout ok q.width q.starts q.owner_is q.named q.announces
       q.apart rows two T.heard y T.pins T.actions T.log
@@ -304,23 +152,66 @@ module _ {E : Type 0} (X : Election E) (P : Protocol E (Unit {0}) ℕ) (rows : �
         l.holder s (with_rows_again v) t at (gives_held t page reason e)
     reclaims_same (HasHanded t reason) e = refl
 
+    passes_same : (z : Situation E) → situation_of X v.core ≡ z
+        → passed_due z (passing_left m.layout.passers v.passed)
+        ≡ passed_due z (passing_left m.layout.passers l.passing)
+    passes_same IsClosed e = refl
+    passes_same IsIdle e = refl
+    passes_same IsSpent e = refl
+    passes_same LooksAtStage e = refl
+    passes_same (Elects t f) e = refl
+    passes_same (TakesPage t) e = refl
+    passes_same (AwaitsPage t) e = refl
+    passes_same (StoresWord t page stored) e = refl
+    passes_same (StoresLength t page stored) e = refl
+    passes_same (GivesBack t page reason) e =
+        ap (λ p. lacking reason t (passing_left m.layout.passers p))
+        (l.passed s (with_rows_again v) t at (gives_held t page reason e))
+    passes_same (HasHanded t reason) e = refl
+
     beside_same : (o : Option Op)
-        → due_beside o v.reclaimer (situation_of X v.core)
-        ≡ due_beside o l.reclaimer (situation_of X v.core)
+        → due_beside o (passing_left m.layout.passers v.passed) v.reclaimer (situation_of X v.core)
+        ≡ due_beside o (passing_left m.layout.passers l.passing) l.reclaimer (situation_of X v.core)
     beside_same None =
-        ap (λ w. due_home w (situation_of X v.core)) (reclaims_same (situation_of X v.core) refl)
+        let z = situation_of X v.core in
+        let left = passing_left m.layout.passers v.passed in
+        ap (λ w. due_passed (passed_due z left) (due_home w z)) (reclaims_same z refl)
+        ∙ ap (λ d. due_passed d (due_home (reclaim_due z l.reclaimer) z)) (passes_same z refl)
     beside_same (Some o) = refl
 
     due_same : due X v ≡ due_in X m.layout rows y s v.core
     due_same =
-        ap (λ x. due_of X x v.rows v.core.me v.core v.pin v.reclaimer) part.layout
-        ∙ ap (λ r. due_of X m.layout r v.core.me v.core v.pin v.reclaimer) same_rows
-        ∙ ap (λ p. due_of X m.layout rows p v.core v.pin v.reclaimer) part.me
-        ∙ ap (λ w. due_of X m.layout rows s v.core w v.reclaimer) (sym pin_is)
+        ap (λ x. due_of X x v.rows v.core.me v.core v.pin v.passed v.reclaimer) part.layout
+        ∙ ap (λ r. due_of X m.layout r v.core.me v.core v.pin v.passed v.reclaimer) same_rows
+        ∙ ap (λ p. due_of X m.layout rows p v.core v.pin v.passed v.reclaimer) part.me
+        ∙ ap (λ w. due_of X m.layout rows s v.core w v.passed v.reclaimer) (sym pin_is)
         ∙ beside_same
         (step_at (y.reclamation.pins s) (presence_at (sizes_with m.layout rows) s) stage_at)
 
     -- ---- who holds the page afterwards
+    -- what is read off each that holds it, before and now
+    held_after : {A : Type 0} (of : Sender E → A) (before now : A)
+        → ((p : ℕ) (w : Sender E) (t : ℕ) → slice_get m.senders p ≡ Some w
+        → held_of w.core.phase ≡ Some t → of w ≡ before)
+        → (v' : Participant E)
+        → ((t : ℕ) → held_of v'.core.phase ≡ Some t → of (with_rows_again v') ≡ now)
+        → ((p : ℕ) (w : Sender E) (t : ℕ) → p ≢ s → slice_get m.senders p ≡ Some w
+        → held_of w.core.phase ≡ Some t → before ≡ now)
+        → (p : ℕ) (w : Sender E) (t : ℕ)
+        → slice_get (slice_set m.senders s (with_rows_again v')) p ≡ Some w
+        → held_of w.core.phase ≡ Some t → of w ≡ now
+    held_after of before now was v' own others p w t here e = elim (cases_eq p s) [
+      | inl i ↦
+          let same : with_rows_again v' ≡ w = same_Some _ _
+          (sym (get_set_same m.senders s (with_rows_again v') within)
+          ∙ sym (ap (slice_get (slice_set m.senders s (with_rows_again v'))) i) ∙ here) in
+          subst (λ (u : Sender E). of u ≡ now) same
+          (own t (ap (λ (u : Sender E). held_of u.core.phase) same ∙ e))
+      | inr ne ↦
+          let there = sym (get_set_other m.senders s (with_rows_again v') p ne) ∙ here in
+          was p w t there e ∙ others p w t ne there e
+    ]
+
     holder_after : (v' : Participant E) (reclaimer : Option Reclaiming)
         → ((t : ℕ) → held_of v'.core.phase ≡ Some t → v'.reclaimer ≡ reclaimer)
         → ((p : ℕ) (w : Sender E) (t : ℕ) → p ≢ s → slice_get m.senders p ≡ Some w
@@ -328,23 +219,25 @@ module _ {E : Type 0} (X : Election E) (P : Protocol E (Unit {0}) ℕ) (rows : �
         → (p : ℕ) (w : Sender E) (t : ℕ)
         → slice_get (slice_set m.senders s (with_rows_again v')) p ≡ Some w
         → held_of w.core.phase ≡ Some t → reclaimer_in w.reuse ≡ reclaimer
-    holder_after v' reclaimer own others p w t here e = elim (cases_eq p s) [
-      | inl i ↦
-          let same : with_rows_again v' ≡ w = same_Some _ _
-          (sym (get_set_same m.senders s (with_rows_again v') within)
-          ∙ sym (ap (slice_get (slice_set m.senders s (with_rows_again v'))) i) ∙ here) in
-          subst (λ (u : Sender E). reclaimer_in u.reuse ≡ reclaimer) same
-          (own t (ap (λ (u : Sender E). held_of u.core.phase) same ∙ e))
-      | inr ne ↦
-          let was = sym (get_set_other m.senders s (with_rows_again v') p ne) ∙ here in
-          l.holder p w t was e ∙ others p w t ne was e
-    ]
+    holder_after v' reclaimer own others =
+        held_after (λ (w : Sender E). reclaimer_in w.reuse) l.reclaimer reclaimer l.holder v' own
+        others
+
+    passed_after : (v' : Participant E) (passing : Passing)
+        → ((t : ℕ) → held_of v'.core.phase ≡ Some t → v'.passed ≡ passing)
+        → ((p : ℕ) (w : Sender E) (t : ℕ) → p ≢ s → slice_get m.senders p ≡ Some w
+        → held_of w.core.phase ≡ Some t → l.passing ≡ passing)
+        → (p : ℕ) (w : Sender E) (t : ℕ)
+        → slice_get (slice_set m.senders s (with_rows_again v')) p ≡ Some w
+        → held_of w.core.phase ≡ Some t → passing_in w.reuse ≡ passing
+    passed_after v' passing own others =
+        held_after (λ (w : Sender E). passing_in w.reuse) l.passing passing l.passed v' own others
 
     -- nobody else holds it where this sender does
-    nobody_else : (t : ℕ) → held_of v.core.phase ≡ Some t
-        → (reclaimer : Option Reclaiming) (p : ℕ) (w : Sender E) (r : ℕ) → p ≢ s
-        → slice_get m.senders p ≡ Some w → held_of w.core.phase ≡ Some r → l.reclaimer ≡ reclaimer
-    nobody_else t e reclaimer p w r ne here f =
+    nobody_else : {A : Type 0} (before now : A) (t : ℕ) → held_of v.core.phase ≡ Some t
+        → (p : ℕ) (w : Sender E) (r : ℕ) → p ≢ s
+        → slice_get m.senders p ≡ Some w → held_of w.core.phase ≡ Some r → before ≡ now
+    nobody_else before now t e p w r ne here f =
         absurd (ne (alone p s w (with_rows_again v) r t here f at e))
 
     -- ---- a step of its pin
@@ -370,6 +263,9 @@ module _ {E : Type 0} (X : Election E) (P : Protocol E (Unit {0}) ℕ) (rows : �
     -- who held the page before, and holds it still
     kept_reclaimer : (t : ℕ) → held_of v.core.phase ≡ Some t → v.reclaimer ≡ l.reclaimer
     kept_reclaimer t e = l.holder s (with_rows_again v) t at e
+
+    kept_passed : (t : ℕ) → held_of v.core.phase ≡ Some t → v.passed ≡ l.passing
+    kept_passed t e = l.passed s (with_rows_again v) t at e
 
     seen_held : (got t : ℕ) → held_of (core_seen v.core got).phase ≡ Some t
         → held_of v.core.phase ≡ Some t
@@ -397,10 +293,10 @@ module _ {E : Type 0} (X : Election E) (P : Protocol E (Unit {0}) ℕ) (rows : �
         by_test false e = cc
 
     -- nobody holds the page while a sender takes it
-    at_home : (t : ℕ) → situation_of X v.core ≡ TakesPage t
-        → (reclaimer : Option Reclaiming) (p : ℕ) (w : Sender E) (r : ℕ) → p ≢ s
-        → slice_get m.senders p ≡ Some w → held_of w.core.phase ≡ Some r → l.reclaimer ≡ reclaimer
-    at_home t here reclaimer p w r ne there f =
+    at_home : {A : Type 0} (before now : A) (t : ℕ) → situation_of X v.core ≡ TakesPage t
+        → (p : ℕ) (w : Sender E) (r : ℕ) → p ≢ s
+        → slice_get m.senders p ≡ Some w → held_of w.core.phase ≡ Some r → before ≡ now
+    at_home before now t here p w r ne there f =
         let sending = protocol_kept.kept.sending in
         let found = finds_page X P q.laws m.layout ok q.width q.starts q.owner_is protocol_kept.V
         m.home y.senders l.owners protocol_kept.frames sending s v.core old t here in
@@ -411,6 +307,7 @@ module _ {E : Type 0} (X : Election E) (P : Protocol E (Unit {0}) ℕ) (rows : �
     due_rows : (d : Due E) (move : PageMove) (got word : ℕ)
         → (participant_moved move m.home (participant_due X v d got word)).rows ≡ v.rows
     due_rows (Pins o) move got word = refl
+    due_rows (Reads t p) move got word = refl
     due_rows (Reclaims r o) move got word = refl
     due_rows (Goes z) move got word = refl
 
@@ -436,9 +333,13 @@ module _ {E : Type 0} (X : Election E) (P : Protocol E (Unit {0}) ℕ) (rows : �
           reclaimer = l.reclaimer;
           holder = holder_after v' l.reclaimer (λ t e. l.holder s (with_rows_again v) t at e)
               (λ p w t ne here e. refl);
+          passing = l.passing;
+          passed = passed_after v' l.passing (λ t e. l.passed s (with_rows_again v) t at e)
+              (λ p w t ne here e. refl);
           led = subst
               (λ yy. Led X m.layout rows yy T.pins (actions_with s ds T.actions) T.heard T.log)
-              (protocols_same m.bases _ _ _ _ _ _ l.reclaimer m.home y.receivers l.owners refl
+              (protocols_same m.bases _ _ _ _ _ _ l.reclaimer l.passing m.home y.receivers l.owners
+              refl
               (sym (put_is s v.pin y.reclamation.pins (ap pin_in at))
               ∙ sym (list_put pin_in m.senders s (with_rows_again v') within))
               (sym (list_put core_in m.senders s (with_rows_again v') within)))
@@ -470,7 +371,11 @@ module _ {E : Type 0} (X : Election E) (P : Protocol E (Unit {0}) ℕ) (rows : �
         reclaimer : Option Reclaiming
         holder : (p : ℕ) (w : Sender E) (t : ℕ) → slice_get n.senders p ≡ Some w
             → held_of w.core.phase ≡ Some t → reclaimer_in w.reuse ≡ reclaimer
-        led : Led X n.layout rows (protocol_of n reclaimer owners) (trails_with y s d T.pins)
+        passing : Passing
+        passed : (p : ℕ) (w : Sender E) (t : ℕ) → slice_get n.senders p ≡ Some w
+            → held_of w.core.phase ≡ Some t → passing_in w.reuse ≡ passing
+        led : Led X n.layout rows (protocol_of n reclaimer passing owners)
+            (trails_with y s d T.pins)
             (actions_with s (due_actions X m.layout rows y v.core d word answer) T.actions) T.heard
             (log_due d)
 
@@ -498,10 +403,15 @@ module _ {E : Type 0} (X : Election E) (P : Protocol E (Unit {0}) ℕ) (rows : �
             holder = holder_after v' l.reclaimer
                 (λ t f. l.holder s (with_rows_again v) t at (looked_held v.pin got t f))
                 (λ p w t ne here f. refl);
+            passing = l.passing;
+            passed = passed_after v' l.passing
+                (λ t f. l.passed s (with_rows_again v) t at (looked_held v.pin got t f))
+                (λ p w t ne here f. refl);
             led = subst (λ yy. Led X m.layout rows yy (trails_with y s (Pins o) T.pins)
                 (actions_with s (due_actions X m.layout rows y v.core (Pins o) word answer)
                 T.actions) T.heard (log_due (Pins o)))
-                (protocols_same m.bases _ _ _ _ _ _ l.reclaimer m.home y.receivers l.owners
+                (protocols_same m.bases _ _ _ _ _ _ l.reclaimer l.passing m.home y.receivers
+                l.owners
                 (sym (index_put m.words (register o) (after o got) low))
                 (ap (λ u. put s (pin_fed u got) y.reclamation.pins) pin_is
                 ∙ sym (list_put pin_in m.senders s (with_rows_again v') within))
@@ -510,24 +420,65 @@ module _ {E : Type 0} (X : Election E) (P : Protocol E (Unit {0}) ℕ) (rows : �
                 (led_as (Pins o) e tt);
           }
 
+      -- ---- a passed place that it loads
+      reads_lead : (t : ℕ) (p : Passing) → due X v ≡ Reads t p
+          → register (passed_op v.core.layout v.rows p) < length m.words → answer ≡ turn.Going
+          → HasLed (turned (Reads t p)) (Reads t p)
+      reads_lead t p e low given =
+          let o = passed_op v.core.layout v.rows p in
+          let o' = passed_op m.layout rows p in
+          let got = slice_index m.words (register o) in
+          let got' = slice_index m.words (register o') in
+          let got_is : got ≡ got' =
+          ap (λ x. slice_index m.words (register (passed_op x v.rows p))) part.layout
+          ∙ ap (λ r. slice_index m.words (register (passed_op m.layout r p))) same_rows in
+          let v' = participant_due X v (Reads t p) got word in
+          let by = due_reads _ _ v.reclaimer (situation_of X v.core) t p e in
+          let held = gives_held t by.page NoRoom by.is in
+          record {
+            owners = l.owners;
+            reclaimer = l.reclaimer;
+            holder = holder_after v' l.reclaimer (λ r f. kept_reclaimer t held)
+                (λ q w r ne here f. refl);
+            passing = passing_fed p got';
+            passed = passed_after v' (passing_fed p got') (λ r f. ap (passing_fed p) got_is)
+                (nobody_else l.passing (passing_fed p got') t held);
+            led = subst (λ yy. Led X m.layout rows yy (trails_with y s (Reads t p) T.pins)
+                (actions_with s (due_actions X m.layout rows y v.core (Reads t p) word answer)
+                T.actions) T.heard (log_due (Reads t p)))
+                (protocols_same m.bases _ _ _ _ _ _ l.reclaimer (passing_fed p got') m.home
+                y.receivers l.owners
+                (sym (put_is (register o) got (slice_index m.words) refl)
+                ∙ sym (index_put m.words (register o) got low))
+                (sym (put_is s v.pin y.reclamation.pins pin_is)
+                ∙ sym (list_put pin_in m.senders s (with_rows_again v') within))
+                (ap (λ g. put s (Some (core_passed v.core (passing_fed p g))) y.senders)
+                (sym got_is)
+                ∙ sym (list_put core_in m.senders s (with_rows_again v') within)))
+                (led_as (Reads t p) e given);
+          }
+
       -- ---- a step of its reclamation
       reclaims_lead : (r : Reclaiming) (o : Op) → due X v ≡ Reclaims r o
           → register o < length m.words → HasLed (turned (Reclaims r o)) (Reclaims r o)
       reclaims_lead r o e low =
           let got = slice_index m.words (register o) in
           let v' = participant_due X v (Reclaims r o) got word in
-          let by = due_reclaims _ v.reclaimer (situation_of X v.core) r o e in
+          let by = due_reclaims _ _ v.reclaimer (situation_of X v.core) r o e in
           let held = gives_held by.tenure by.page by.reason by.is in
           record {
             owners = l.owners;
             reclaimer = Some (reclaim_fed r got);
             holder = holder_after v' (Some (reclaim_fed r got)) (λ t f. refl)
-                (nobody_else by.tenure held (Some (reclaim_fed r got)));
+                (nobody_else l.reclaimer (Some (reclaim_fed r got)) by.tenure held);
+            passing = l.passing;
+            passed = passed_after v' l.passing (λ t f. l.passed s (with_rows_again v) t at f)
+                (λ p w t ne here f. refl);
             led = subst (λ yy. Led X m.layout rows yy (trails_with y s (Reclaims r o) T.pins)
                 (actions_with s (due_actions X m.layout rows y v.core (Reclaims r o) word answer)
                 T.actions) T.heard (log_due (Reclaims r o)))
-                (protocols_same m.bases _ _ _ _ _ _ (Some (reclaim_fed r got)) m.home y.receivers
-                l.owners
+                (protocols_same m.bases _ _ _ _ _ _ (Some (reclaim_fed r got)) l.passing m.home
+                y.receivers l.owners
                 (sym (index_put m.words (register o) (after o got) low))
                 (sym (put_is s v.pin y.reclamation.pins pin_is)
                 ∙ sym (list_put pin_in m.senders s (with_rows_again v') within))
@@ -550,6 +501,9 @@ module _ {E : Type 0} (X : Election E) (P : Protocol E (Unit {0}) ℕ) (rows : �
         abbrev reclaimer' : Option Reclaiming
         reclaimer' = reclaimer_going m.layout rows l.reclaimer z
 
+        abbrev passing' : Passing
+        passing' = passed_going l.passing z
+
         got_is : got ≡ word_found (place_for m.layout rows z) y.reclamation.words step
         got_is =
             ap (λ f. number_found (slice_index m.words) (op_placed f step)) (place_same z)
@@ -558,17 +512,23 @@ module _ {E : Type 0} (X : Election E) (P : Protocol E (Unit {0}) ℕ) (rows : �
         goes_as : ((t : ℕ) → held_of v'.core.phase ≡ Some t → v'.reclaimer ≡ reclaimer')
             → ((p : ℕ) (w : Sender E) (t : ℕ) → p ≢ s → slice_get m.senders p ≡ Some w
             → held_of w.core.phase ≡ Some t → l.reclaimer ≡ reclaimer')
+            → ((t : ℕ) → held_of v'.core.phase ≡ Some t → v'.passed ≡ passing')
+            → ((p : ℕ) (w : Sender E) (t : ℕ) → p ≢ s → slice_get m.senders p ≡ Some w
+            → held_of w.core.phase ≡ Some t → l.passing ≡ passing')
             → ((o : Op) → op_due X v (Goes z) word ≡ Some o → register o < length m.words)
             → answer ≡ answer_going X v.core z got word → HasLed (turned (Goes z)) (Goes z)
-        goes_as own others low given = record {
+        goes_as own others own_passed others_passed low given = record {
           owners = (protocol_after X m.layout rows y s v.core (Goes z) word).owners;
           reclaimer = reclaimer';
           holder = holder_after v' reclaimer' own others;
+          passing = passing';
+          passed = passed_after v' passing' own_passed others_passed;
           led = subst (λ yy. Led X m.layout rows yy (trails_with y s (Goes z) T.pins)
               (actions_with s (due_actions X m.layout rows y v.core (Goes z) word answer) T.actions)
               T.heard (log_due (Goes z)))
-              (protocols_same m.bases _ _ _ _ _ _ reclaimer' (home_after X v.core z m.home)
-              y.receivers (protocol_after X m.layout rows y s v.core (Goes z) word).owners
+              (protocols_same m.bases _ _ _ _ _ _ reclaimer' passing'
+              (home_after X v.core z m.home) y.receivers
+              (protocol_after X m.layout rows y s v.core (Goes z) word).owners
               (sym (ap (λ f. slice_index (words_after m.words (op_placed f step))) (place_same z)
               ∙ placed_words (place_for m.layout rows z) m.words step
               (λ o i. low o (ap (λ f. op_placed f step) (place_same z) ∙ i))))
@@ -592,34 +552,45 @@ module _ {E : Type 0} (X : Election E) (P : Protocol E (Unit {0}) ℕ) (rows : �
           → HasLed (turned (Goes z)) (Goes z)
       goes_lead IsClosed here e =
           goes_as IsClosed here e (λ t f. kept_reclaimer t f) (λ p w t ne there f. refl)
+          (λ t f. kept_passed t f) (λ p w t ne there f. refl)
       goes_lead IsIdle here e =
           goes_as IsIdle here e (λ t f. kept_reclaimer t f) (λ p w t ne there f. refl)
+          (λ t f. kept_passed t f) (λ p w t ne there f. refl)
       goes_lead IsSpent here e =
           goes_as IsSpent here e (λ t f. kept_reclaimer t f) (λ p w t ne there f. refl)
+          (λ t f. kept_passed t f) (λ p w t ne there f. refl)
       goes_lead LooksAtStage here e = goes_as LooksAtStage here e
           (λ t f. kept_reclaimer t (seen_held (slice_index m.words 1) t f))
           (λ p w t ne there f. refl)
+          (λ t f. kept_passed t (seen_held (slice_index m.words 1) t f))
+          (λ p w t ne there f. refl)
       goes_lead (Elects t g) here e = goes_as (Elects t g) here e
+          (λ r f. absurd (elected_held t (X.fed g (got (Elects t g) here e) word)
+          (X.owner (X.fed g (got (Elects t g) here e) word)) r f)) (λ p w r ne there f. refl)
           (λ r f. absurd (elected_held t (X.fed g (got (Elects t g) here e) word)
           (X.owner (X.fed g (got (Elects t g) here e) word)) r f)) (λ p w r ne there f. refl)
       goes_lead (TakesPage t) here e = goes_as (TakesPage t) here e
           (λ r f.
           ap (λ x. reclaimer_after (sizes_with x v.rows) t) part.layout
           ∙ ap (λ n. reclaimer_after (sizes_with m.layout n) t) same_rows)
-          (at_home t here (reclaimer_after (sizes_with m.layout rows) t))
+          (at_home l.reclaimer (reclaimer_after (sizes_with m.layout rows) t) t here)
+          (λ r f. refl) (at_home l.passing passing_begun t here)
       goes_lead (AwaitsPage t) here e = absurd
           (subst (Fits (slice_index m.bases) protocol_kept.V protocol_kept.frames v.core)
           (tells X v.core (AwaitsPage t) here) part.fits)
       goes_lead (StoresWord t page stored) here e =
           let f = tells X v.core (StoresWord t page stored) here in
           goes_as (StoresWord t page stored) here e (λ r g. kept_reclaimer t (ap held_of f.1))
+          (λ p w r ne there g. refl) (λ r g. kept_passed t (ap held_of f.1))
           (λ p w r ne there g. refl)
       goes_lead (StoresLength t page stored) here e =
           let f = tells X v.core (StoresLength t page stored) here in
           goes_as (StoresLength t page stored) here e (λ r g. kept_reclaimer t (ap held_of f.1))
+          (λ p w r ne there g. refl) (λ r g. kept_passed t (ap held_of f.1))
           (λ p w r ne there g. refl)
       goes_lead (GivesBack t page reason) here e = goes_as (GivesBack t page reason) here e
-          (λ r f. refl) (nobody_else t (gives_held t page reason here) None)
+          (λ r f. refl) (nobody_else l.reclaimer None t (gives_held t page reason here))
+          (λ r f. kept_passed t (gives_held t page reason here)) (λ p w r ne there f. refl)
       goes_lead (HasHanded t reason) here e = absurd
           (subst (Fits (slice_index m.bases) protocol_kept.V protocol_kept.frames v.core)
           (tells X v.core (HasHanded t reason) here) part.fits)
@@ -628,8 +599,10 @@ module _ {E : Type 0} (X : Election E) (P : Protocol E (Unit {0}) ℕ) (rows : �
           → answer ≡ answer_due X v d (number_found (slice_index m.words) (op_due X v d word)) word
           → HasLed (turned d) d
       by_due (Pins o) e low given = pins_lead o e low
+      by_due (Reads t p) e low given = reads_lead t p e low given
       by_due (Reclaims r o) e low given = reclaims_lead r o e low
-      by_due (Goes z) e low given = goes_lead z (due_goes _ v.reclaimer (situation_of X v.core) z e)
+      by_due (Goes z) e low given =
+          goes_lead z (due_goes _ _ v.reclaimer (situation_of X v.core) z e)
           e (on_word (op_due X v (Goes z) word) low) given
 
       -- whoever holds these trails
@@ -657,15 +630,21 @@ module _ {E : Type 0} (X : Election E) (P : Protocol E (Unit {0}) ℕ) (rows : �
             owners = has.owners;
             reclaimer = has.reclaimer;
             holder = has.holder;
-            led = subst (λ w. Led X m.layout rows (protocol_of (turned d) has.reclaimer has.owners)
+            passing = has.passing;
+            passed = has.passed;
+            led = subst (λ w.
+                Led X m.layout rows (protocol_of (turned d) has.reclaimer has.passing has.owners)
                 w U.actions U.heard U.log) (sym pins)
-                (subst (λ w. Led X m.layout rows (protocol_of (turned d) has.reclaimer has.owners)
+                (subst (λ w.
+                Led X m.layout rows (protocol_of (turned d) has.reclaimer has.passing has.owners)
                 (trails_with y s d T.pins) w U.heard U.log) (sym actions)
-                (subst (λ w. Led X m.layout rows (protocol_of (turned d) has.reclaimer has.owners)
+                (subst (λ w.
+                Led X m.layout rows (protocol_of (turned d) has.reclaimer has.passing has.owners)
                 (trails_with y s d T.pins)
                 (actions_with s (due_actions X m.layout rows y v.core d word answer) T.actions) w
                 U.log) (sym heard)
-                (subst (Led X m.layout rows (protocol_of (turned d) has.reclaimer has.owners)
+                (subst
+                (Led X m.layout rows (protocol_of (turned d) has.reclaimer has.passing has.owners)
                 (trails_with y s d T.pins)
                 (actions_with s (due_actions X m.layout rows y v.core d word answer) T.actions)
                 T.heard) (sym log) has.led)));

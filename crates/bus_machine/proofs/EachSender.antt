@@ -20,7 +20,7 @@ use Rattle.bus_world.proofs.Stopping.{shown_there}
 use Rattle.bus_world.specs.Headline.{Action}
 use Rattle.bus_world.specs.Trails.{step_action, put_actions, mark_actions, actions_with}
 use Rattle.bus_world.specs.Turning.{after_step}
-use Rattle.bus_world.specs.World.{Event, Put, Ask, Turn, Recv, Stop}
+use Rattle.bus_world.specs.World.{Event, Put, Ask, Turn, Recv, Stop, Gone}
 use Rattle.bus_world.specs.declared.events.Answer.{Answer}
 use Rattle.bus_world.specs.declared.events.Answer.TheVariants as answer
 use Rattle.bus_machine.proofs.Leading.{Sits, sits_before}
@@ -196,6 +196,8 @@ module _ {E : Type 0} (X : Election E) (P : Protocol E (Unit {0}) ℕ)
   event_keeps m m' T (Recv q) a t r h old k =
       subst (λ l. OfEach K m' l T) (sym (ap (λ (y : Machine E). y.senders) h.after)) k
   event_keeps m m' T (Stop s) a t r h old k =
+      subst (λ l. OfEach K m' l T) (sym (ap (λ (y : Machine E). y.senders) h.after)) k
+  event_keeps m m' T (Gone q) a t r h old k =
       subst (λ l. OfEach K m' l T) (sym (ap (λ (y : Machine E). y.senders) h.after)) k
 
   pub each : (m : Machine E) (T : Trails) → Sits X P m → Reached X m T → OfEach K m m.senders T

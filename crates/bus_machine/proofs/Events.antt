@@ -6,7 +6,7 @@ use Rattle.std.specs.Prelude.{All, IfSome, Result, Ok, Err, IfOk, IfErr, OnOk, O
 use Rattle.std.proofs.lemmas.Option.{slice_get_past}
 use Rattle.bus_core.specs.Senders.{Sender}
 use Rattle.bus_core.specs.Table.{Line, line_now}
-use Rattle.bus_deliverylog.specs.Receiving.{Receiving}
+use Rattle.bus_deliverylog.specs.Receiving.{Receiving, with_leave, receiving_op, leaving_op}
 use Rattle.bus_deliverylog.specs.declared.receiving.RecvTurn.{RecvTurn}
 use Rattle.bus_register.specs.Words.{register}
 use Rattle.bus_register.specs.declared.registers.Op.{Op}
@@ -20,9 +20,9 @@ use Rattle.bus_tenure.specs.declared.turns.Turn.{Turn as Answered}
 use Rattle.bus_world.proofs.PlayingLaws.{set_same, one_there}
 use Rattle.bus_world.proofs.Stopping.{set_there}
 use Rattle.bus_batch.specs.declared.messages.Mark.{Mark}
-use Rattle.bus_world.specs.Playing.{RecvRefused, asked_answer}
+use Rattle.bus_world.specs.Playing.{asked_answer}
 use Rattle.bus_world.specs.Turning.{words_after, home_moved, after_step, owners_by}
-use Rattle.bus_world.specs.World.{Put, Ask, Turn, Recv, Stop, RecvDoes}
+use Rattle.bus_world.specs.World.{Put, Ask, Turn, Recv, Stop, Gone, RecvDoes}
 use Rattle.bus_world.specs.declared.events.Answer.TheVariants as answer
 use Rattle.bus_world.specs.declared.events.StepFault.{StepFault}
 use Rattle.bus_world.specs.declared.events.StepFault.TheVariants as fault
@@ -126,20 +126,14 @@ module _ {E : Type 0} where
     pub stop_refused : Refuses now (Stop p) why now
     stop_refused = record { refused = w; nothing = refl }
 
-  pub recv_unknown : (m now : Machine E) → m ≡ now → (r : ℕ) → length m.receivers ≤ r
-      → Refuses now (Recv r) fault.NoSuchReceiver now
-  recv_unknown m now is r l = record {
-    refused = subst (λ y. RecvRefused (slice_get y.receivers r) fault.NoSuchReceiver) is
-        (subst (λ o. RecvRefused o fault.NoSuchReceiver) (sym (slice_get_past m.receivers r l))
-        refl);
-    nothing = refl;
-  }
-
 -- ---- what happens
 module _ {E : Type 0} (X : Election E) (m : Machine E) (h : IsHeld X m) (now : Machine E)
     (is : m ≡ now) where
   pub senders_many : (p : ℕ) → p < length now.senders → p < length m.senders
   senders_many p l = subst (λ (y : Machine E). p < length y.senders) (sym is) l
+
+  pub receivers_many : (r : ℕ) → r < length now.receivers → r < length m.receivers
+  receivers_many r l = subst (λ (y : Machine E). r < length y.receivers) (sym is) l
 
   -- ---- a sender that goes on
   module _ (p : ℕ) (v : Sender E) (at : slice_get m.senders p ≡ Some v)
@@ -307,30 +301,71 @@ module _ {E : Type 0} (X : Election E) (m : Machine E) (h : IsHeld X m) (now : M
       pub turn_sits : IsHeld X with_turn
       turn_sits = held_after X m with_turn (Turn p word) (answer.Turn t) h turn_does
 
-  -- ---- a turn of a receiver
-  module _ (r : ℕ) (v next : Receiving) (t : RecvTurn) (words' : List ℕ)
-      (at : slice_get m.receivers r ≡ Some v) (never : v.passed_at ≡ None)
-      (does : RecvDoes (slice_index m.words) v t next) (same : words' ≡ m.words) where
-    abbrev with_reader : Machine E
-    with_reader = record m { words = words'; receivers = slice_set m.receivers r next }
+  -- ---- a receiver that has not left
+  module _ (r : ℕ) (v : Receiving) (at : slice_get m.receivers r ≡ Some v)
+      (free : (w : Receiving) → slice_get now.receivers r ≡ Some w → w.gone ≡ false) where
+    stays : v.gone ≡ false
+    stays = free v (subst (λ (y : Machine E). slice_get y.receivers r ≡ Some v) is at)
 
-    recv_does : Happens X m (Recv r) (answer.Recv t) with_reader
-    recv_does = record {
-      receiver = v;
-      next = next;
-      heard = t;
-      there = at;
-      never = never;
-      does = does;
-      answered = refl;
-      after = ap (λ w. record m { words = w; receivers = slice_set m.receivers r next }) same;
-    }
+    on_word : (o : Option Op) → IfSome o (λ q. register q < length m.words) → IsOnWord m o
+    on_word None k = tt
+    on_word (Some o) k = k
 
-    pub recv_happens : Happens X now (Recv r) (answer.Recv t) with_reader
-    recv_happens = subst (λ y. Happens X y (Recv r) (answer.Recv t) with_reader) is recv_does
+    -- ---- a turn
+    module _ (next : Receiving) (t : RecvTurn) (words' : List ℕ)
+        (low : IfSome (receiving_op v) (λ q. register q < length m.words))
+        (does : RecvDoes (slice_index m.words) v t next)
+        (same : words' ≡ words_after m.words (receiving_op v)) where
+      abbrev with_reader : Machine E
+      with_reader = record m { words = words'; receivers = slice_set m.receivers r next }
 
-    pub recv_sits : IsHeld X with_reader
-    recv_sits = held_after X m with_reader (Recv r) (answer.Recv t) h recv_does
+      recv_does : Happens X m (Recv r) (answer.Recv t) with_reader
+      recv_does = record {
+        receiver = v;
+        next = next;
+        heard = t;
+        there = at;
+        stays = stays;
+        within = on_word (receiving_op v) low;
+        does = does;
+        answered = refl;
+        after = ap (λ w. record m { words = w; receivers = slice_set m.receivers r next }) same;
+      }
+
+      pub recv_happens : Happens X now (Recv r) (answer.Recv t) with_reader
+      recv_happens = subst (λ y. Happens X y (Recv r) (answer.Recv t) with_reader) is recv_does
+
+      pub recv_sits : IsHeld X with_reader
+      recv_sits = held_after X m with_reader (Recv r) (answer.Recv t) h recv_does
+
+    -- ---- its leave
+    module _ (left : Receiving) (words' : List ℕ)
+        (low : IfSome (leaving_op v) (λ q. register q < length m.words))
+        (left_is : left ≡ with_leave v)
+        (same : words' ≡ words_after m.words (leaving_op v)) where
+      abbrev without : Machine E
+      without = record m { words = words'; receivers = slice_set m.receivers r left }
+
+      gone_does : Happens X m (Gone r) answer.Gone without
+      gone_does = record {
+        receiver = v;
+        there = at;
+        stays = stays;
+        within = on_word (leaving_op v) low;
+        answered = refl;
+        after =
+            ap (λ w. record m { words = w; receivers = slice_set m.receivers r left }) same
+            ∙ ap (λ u. record m {
+              words = words_after m.words (leaving_op v);
+              receivers = slice_set m.receivers r u;
+            }) left_is;
+      }
+
+      pub gone_happens : Happens X now (Gone r) answer.Gone without
+      gone_happens = subst (λ y. Happens X y (Gone r) answer.Gone without) is gone_does
+
+      pub gone_sits : IsHeld X without
+      gone_sits = held_after X m without (Gone r) answer.Gone h gone_does
 
 -- ---- why it takes its step
 module _ {S : Type 0} (X : Election (Elector S)) (Q : Protocol S Bool Verdict)

@@ -1,11 +1,12 @@
 -- Whatever happens, the new machine follows the old one, and what is answered is so.
-use Rattle.std.proofs.Common.{◌≡◌, ℕ, Option, Some, None, refl, ◌∙◌, ap, subst}
+use Rattle.std.proofs.Common.{◌≡◌, ℕ, Option, Some, None, refl, ap, subst}
 use Rattle.bus_register.specs.Protocol.{Protocol}
 use Rattle.bus_tenure.specs.Core.{Election}
 use Rattle.bus_world.specs.World.{Event}
 use Rattle.bus_world.specs.declared.events.Answer.{Answer}
 use Rattle.bus_machine.proofs.AtNone.{event_reuse}
-use Rattle.bus_machine.proofs.Framed.{framed, history, reuses}
+use Rattle.bus_machine.proofs.Floors.{floors_rise}
+use Rattle.bus_machine.proofs.Framed.{framed, history, history_below, reuses}
 use Rattle.bus_machine.proofs.Gone.{event_stays}
 use Rattle.bus_machine.proofs.Joining.{joins, grows}
 use Rattle.bus_machine.proofs.Leading.{Sits, sits_after}
@@ -14,6 +15,7 @@ use Rattle.bus_machine.proofs.Rising.{rises}
 use Rattle.bus_machine.proofs.Staying.{promise_stays, grown_longer}
 use Rattle.bus_machine.proofs.Telling.{told}
 use Rattle.bus_machine.specs.Machine.{Machine, Trails, Reached, Then, Happens, trails_grown}
+use Rattle.bus_machine.specs.Machine.{ShowsLog, StandsBelow}
 use Rattle.bus_machine.specs.Promise.{Follows, HasGoneOn, HasRows, ReusesSafely}
 use Rattle.bus_machine.specs.Promise.{actions_in}
 use Rattle.bus_machine.specs.Telling.{Tells}
@@ -39,10 +41,14 @@ module _ {E : Type 0} (X : Election E) (P : Protocol E (Unit {0}) ℕ) (m : Mach
   pub follows : (m' : Machine E) (e : Event) (a : Answer) → Happens X m e a m' → Follows X m e a m'
   follows m' e a h = record {
     led = (T₀, r₀);
-    stands = λ T r. history X P m' (trails_grown X m e a T) (sits_after X P m m' e a h s)
-        (Then m m' T e a r h)
-        ∙ joins X m m' e a T h;
+    stands = λ T r. subst (ShowsLog m') (joins X m m' e a T h)
+        (history X P m' (trails_grown X m e a T) (sits_after X P m m' e a h s)
+        (Then m m' T e a r h));
+    below = λ T r. subst (StandsBelow m') (joins X m m' e a T h)
+        (history_below X P m' (trails_grown X m e a T) (sits_after X P m m' e a h s)
+        (Then m m' T e a r h));
     rises = rises X P m m' T₀ e a s r₀ h;
+    floors = floors_rise X P m m' T₀ e a s r₀ h;
     reached = λ T r. Then m m' T e a r h;
     promised = λ T r. promise_stays X m m' T (trails_grown X m e a T)
         (ap (λ x. x.senders) (event_reuse X m m' e a h).0)

@@ -1,17 +1,26 @@
 -- What words, page and senders of a machine keep by the frames of its log, of both kinds of rows.
-use Rattle.std.proofs.Common.{◌≡◌, ◌≢◌, ℕ, ◌+◌, ◌<◌, ◌≤◌, Option, Some, None}
-use Rattle.std.proofs.Common.{List, ◌++◌, length, map, slice_get, slice_index, ◌-◌, arith}
+use Rattle.std.proofs.Common.{◌≡◌, ◌≢◌, ℕ, zero, suc, ◌+◌, ◌*◌, ◌<◌, ◌≤◌, Option, Some, None}
+use Rattle.std.proofs.Common.{List, ◌++◌, drop, length, map, slice_get, slice_index, ◌-◌, ◌%◌}
+use Rattle.std.proofs.Common.{arith}
+use Rattle.std.proofs.Common.{◌^◌, Bool, true, false, cond, inl, inr, nat_lt}
 use Rattle.std.proofs.Common.{refl, sym, ◌∙◌, ap, subst}
 use Rattle.std.specs.Prelude.{option_map}
+use Rattle.std.proofs.Math.Nat.{mod-eq_of_lt}
+use Rattle.std.proofs.lemmas.Bool.{cases_lt, ltb-true}
 use Rattle.std.proofs.lemmas.Option.{slice_get-map, same_Some}
 use Rattle.bus_batch.proofs.FrameLaws.{spells_one}
 use Rattle.bus_batch.specs.Frames.{Frame, log_words, order_of, tenure_and_owner}
 use Rattle.bus_core.proofs.Situated.{own_is}
+use Rattle.bus_core.specs.Reusing.Keeping.{held_of}
 use Rattle.bus_core.specs.Table.{line, line_now, in_row}
+use Rattle.bus_core.specs.declared.limits.TheConstants.{PASSED_APART}
+use Rattle.bus_core.specs.declared.reuses.Passing.{Passing}
+use Rattle.bus_core.specs.declared.reuses.Reuse.{Reuse}
 use Rattle.bus_core.specs.Senders.{Sender, Does, Clears, log_start, situation}
 use Rattle.bus_core.specs.Proved.Bridge.{with_a_row_each, reuse_of}
 use Rattle.bus_machine.proofs.Clearing.{clearing, spared}
-use Rattle.bus_core.specs.Reusing.Participants.{log_from, sizes_with}
+use Rattle.bus_core.specs.Reusing.Participants.{log_from, passed_from, sizes_with}
+use Rattle.bus_core.specs.declared.limits.TheConstants.{PASSED_APART}
 use Rattle.bus_core.specs.Proved.ParticipantTable.{place_for}
 use Rattle.bus_core.specs.Reusing.Turns.{Participant, on_place}
 use Rattle.bus_deliverylog.specs.Receiving.{Receiving}
@@ -30,32 +39,41 @@ use Rattle.bus_register.specs.declared.registers.Op.{Op}
 use Rattle.bus_register.specs.declared.registers.Op.TheVariants.{Store}
 use Rattle.bus_tenure.proofs.Situated.{tells}
 use Rattle.bus_tenure.specs.Situations.{Elects}
-use Rattle.bus_tenure.specs.declared.phases.Phase.TheVariants.{Electing}
+use Rattle.bus_tenure.specs.declared.pages.Page.{Page}
+use Rattle.bus_tenure.specs.declared.phases.Phase.TheVariants.{Electing, Holding}
 use Rattle.bus_tenure.specs.Core.{Core, Election, Layout, log_at, row_at}
 use Rattle.bus_world.proofs.EventTrails as plain
 use Rattle.bus_world.proofs.PlacedSteps.{same_register}
 use Rattle.bus_world.proofs.CyclicProtocolHears.{placed}
-use Rattle.bus_world.proofs.LogLaws.{length-read}
+use Rattle.bus_world.proofs.Bounds.{words_low}
+use Rattle.bus_world.proofs.FloorLaws.{boundary_first, lesser_is}
+use Rattle.bus_world.proofs.LogLaws.{index-read, length-logged}
+use Rattle.bus_world.proofs.RingLaws.{ring_shows, ring_straight, shown_is}
+use Rattle.bus_world.proofs.RingWords.{found_there}
 use Rattle.bus_world.proofs.Serving.{Serves}
 use Rattle.bus_world.proofs.CyclicProtocolKept.{HasKept}
 use Rattle.bus_world.proofs.CyclicProtocolLaws.{protocol_promised}
 use Rattle.bus_world.specs.World.{IsLayout}
-use Rattle.bus_world.specs.Proved.Sending.{Sending}
+use Rattle.bus_world.specs.Proved.Floors.{IsBoundary, ShowsRing, passed_place}
+use Rattle.bus_world.specs.Proved.Sending.{Sending, Fits}
+use Rattle.bus_world.specs.Log.{KeepsFloor, floor_shown, least_passed, words_in_ring}
 use Rattle.bus_world.specs.Log.{words_read_from}
 use Rattle.bus_world.specs.Proved.Trails.{Reached as PlainReached, IsPromisedBy as PlainPromised}
 use Rattle.bus_world.specs.Trails.{Takers}
 use Rattle.bus_world.specs.Proved.Machines.{Bus}
-use Rattle.bus_world.specs.Proved.Receiving.{IsReceiver, NeverPasses}
+use Rattle.bus_world.specs.Proved.Receiving.{IsReceiver}
 use Rattle.bus_world.specs.Proved.CyclicProtocols.{CyclicProtocol}
 use Rattle.bus_world.specs.Proved.Invariants.{given_at}
 use Rattle.bus_world.specs.Proved.KeptProtocols.{IsKeptProtocol}
-use Rattle.bus_machine.proofs.AtNone.{made_there, reached_at_none}
+use Rattle.bus_machine.proofs.AtNone.{flat_at_none, made_there, reached_at_none}
 use Rattle.bus_machine.proofs.CyclicTurns.{protocol_kept}
 use Rattle.bus_machine.proofs.Leading.{Sits, two_rows, led_some}
-use Rattle.bus_machine.specs.Proved.Bridge.{of_bus, plain_trails, core_in, protocol_of, IsLed}
+use Rattle.bus_machine.specs.Proved.Bridge.{of_bus, plain_trails, core_in, passing_in}
+use Rattle.bus_machine.specs.Proved.Bridge.{protocol_of, IsLed}
 use Rattle.bus_machine.specs.Machine.{base_of, Machine, Trails, Reached, log_place}
-use Rattle.bus_machine.specs.Machine.{ShowsLog, stage_of}
-use Rattle.bus_machine.specs.Promise.{ReusesRows, ReusesSafely}
+use Rattle.bus_machine.specs.Machine.{FindsWords, ShowsLog, floor_of, log_of, passers_place}
+use Rattle.bus_machine.specs.Machine.{stage_of, StandsBelow}
+use Rattle.bus_machine.specs.Promise.{IsPageOf, ReusesRows, ReusesSafely}
 use Rattle.bus_machine.specs.Remembering.{rows_in}
 
 -- The frames, over words V that stand where a bus with a row for each tenure has them.
@@ -66,6 +84,24 @@ pub record IsFramed {E : Type 0} (P : Protocol E (Unit {0}) ℕ) (m : Machine E)
   pub cores : ℕ → Option (Core E)
   pub owners : List ℕ
   pub room : length m.words ≡ log_place m.layout m.reuse + m.layout.capacity
+  -- from a floor on each word of the log stands in its cell; each page has that floor, and it is
+  -- not past that of the log, where a frame begins
+  pub floor : ℕ
+  pub flat : m.layout.passers ≡ 0 → floor ≡ 0
+  pub low : floor ≤ floor_of m
+  pub floored_home : (page : Page) → m.home ≡ Some page → page.floor ≡ floor
+  pub floored : (p : ℕ) (v : Sender E) (t : ℕ) (page : Page) (stored : ℕ) (published : Bool)
+      → slice_get m.senders p ≡ Some v → v.core.phase ≡ Holding t page stored published
+      → page.floor ≡ floor
+  pub finds : (place : ℕ) → floor ≤ place → place < V 0
+      → slice_index m.words (log_place m.layout m.reuse + place % m.layout.capacity)
+      ≡ V (log_at m.layout + place)
+  pub edge : IsBoundary frames (floor_of m)
+  -- it is not past what a receiver has passed, nor what a holder has loaded
+  pub passed : (r : ℕ) → r < m.layout.passers
+      → floor ≤ slice_index m.words (passers_place m.layout m.reuse + PASSED_APART * r)
+  pub least : (p : ℕ) (v : Sender E) (r : Reuse) (t : ℕ) → slice_get m.senders p ≡ Some v
+      → v.reuse ≡ Some r → held_of v.core.phase ≡ Some t → floor ≤ r.passed.least
   pub sending : Sending (base_of m) P m.layout V m.home cores owners frames
   pub core_of : (p : ℕ) (v : Sender E) → slice_get m.senders p ≡ Some v → cores p ≡ Some v.core
   pub sender_of : (p : ℕ) (c : Core E) → cores p ≡ Some c
@@ -88,30 +124,124 @@ pub record IsFramed {E : Type 0} (P : Protocol E (Unit {0}) ℕ) (m : Machine E)
       → row_at m.layout t ≤ register o → register o < row_at m.layout t + m.layout.width
       → in_row m.layout v.reuse t (Some o) ≡ Some q
       → slice_index m.words (register q) ≡ V (register o)
-  -- a receiver has read the log as far as its place, and was given what stands below it
+  -- a receiver has read the log as far as its place, and was given what stands below it; its passed
+  -- place is a word, and one that has not left has passed the floor
   pub reads : (r : ℕ) (v : Receiving) → slice_get m.receivers r ≡ Some v
       → (v.log_at ≡ log_place m.layout m.reuse)
-      × IsReceiver m.layout frames (V 0) (placed m.layout v) × NeverPasses v
+      × IsReceiver m.layout frames (V 0) (placed m.layout v)
+      × ((at : ℕ) → v.passed_at ≡ Some at → at < log_place m.layout m.reuse)
+      × (v.gone ≡ false → floor_of m ≤ v.place)
   pub given : (r : ℕ) (v : Receiving) → slice_get m.receivers r ≡ Some v
       → order_given (T.heard r) ≡ given_at frames v
   pub takers : Takers owners T.actions
   pub promises : Promises (base_of m) T.actions T.heard (order_of frames)
       (map tenure_and_owner frames)
 
+-- ---- the log
+-- where no word of the log is used again it stands from its first word on
+pub floor_first : {E : Type 0} (m : Machine E) → m.layout.passers ≡ 0 → floor_of m ≡ 0
+floor_first m flat =
+    ap (λ n. floor_shown (slice_index m.words) (passers_place m.layout m.reuse) n
+    (slice_index m.words 0)) flat
+
+-- so it is read straight
+pub log_straight : {E : Type 0} (m : Machine E) → m.layout.passers ≡ 0
+    → slice_index m.words 0 ≤ m.layout.capacity
+    → log_of m
+    ≡ words_read_from (slice_index m.words) (log_place m.layout m.reuse) (slice_index m.words 0)
+log_straight m flat few =
+    ap (λ k. words_in_ring (slice_index m.words) (log_place m.layout m.reuse) m.layout.capacity k
+    (slice_index m.words 0 - k)) (floor_first m flat)
+    ∙ ap
+    (λ n. words_in_ring (slice_index m.words) (log_place m.layout m.reuse) m.layout.capacity 0 n)
+    (let all : slice_index m.words 0 - 0 ≡ slice_index m.words 0 = omega arith in all)
+    ∙ ring_straight (slice_index m.words) (log_place m.layout m.reuse) m.layout.capacity
+    (slice_index m.words 0) few
+
+-- where no word of the log is used again what was published is read from the words below the length
+pub read_below : {E : Type 0} (P : Protocol E (Unit {0}) ℕ) (m : Machine E) (T : Trails)
+    → IsFramed P m T → StandsBelow m T.log
+read_below P m T f flat =
+    let fits = f.sending.log.fits flat in
+    let same = f.length in
+    let few : slice_index m.words 0 ≤ m.layout.capacity = omega arith in
+    sym (log_straight m flat few) ∙ f.stands.1 ∙ ap (λ n. drop n T.log) (floor_first m flat)
+
+-- a receiver that has not left finds its word
+pub finds_words : {E : Type 0} (P : Protocol E (Unit {0}) ℕ) (m : Machine E) (T : Trails)
+    → IsFramed P m T → FindsWords m T.log
+finds_words P m T f r v at stays below =
+    let its = f.reads r v at in
+    let low : v.place < f.V 0 = let a = f.stands.0 in let b = f.length in omega arith in
+    ap (λ n. slice_index m.words (n + v.place % v.log_words)) its.0
+    ∙ ap (λ n. slice_index m.words (log_place m.layout m.reuse + v.place % n)) its.1.log_words
+    ∙ f.finds v.place (let a = its.3 stays in let b = f.low in omega arith) low
+    ∙ sym (index-read f.V (log_at m.layout) (f.V 0) v.place low)
+    ∙ ap (λ ws. slice_index ws v.place) (f.sending.log.words_are ∙ f.log_is)
+
+-- the floor is not past what a passed place shows
+least_below : (words : ℕ → ℕ) (at len n r : ℕ) → r < n
+    → least_passed words at n len ≤ words (at + PASSED_APART * r)
+least_below words at len zero r low = absurd (omega arith)
+least_below words at len (suc k) r low =
+    elim (lesser_is (words (at + PASSED_APART * k)) (least_passed words at k len)) [
+      | inl a ↦ (elim (cases_lt r k) [
+        | inl below ↦
+            (let more = least_below words at len k r below in
+            let is = a.0 in let less = a.1 in omega arith)
+        | inr past ↦
+            (let same : k ≡ r = omega arith in
+            let is = a.0 in
+            subst (λ q. least_passed words at (suc k) len ≤ words (at + PASSED_APART * q)) same
+            (omega arith))
+      ])
+      | inr b ↦ (elim (cases_lt r k) [
+        | inl below ↦
+            (let more = least_below words at len k r below in let is = b.0 in omega arith)
+        | inr past ↦
+            (let same : k ≡ r = omega arith in
+            let is = b.0 in let less = b.1 in
+            subst (λ q. least_passed words at (suc k) len ≤ words (at + PASSED_APART * q)) same
+            (omega arith))
+      ])
+    ]
+
+shown_below : (words : ℕ → ℕ) (at len n r : ℕ) → r < n
+    → floor_shown words at n len ≤ words (at + PASSED_APART * r)
+shown_below words at len zero r low = absurd (omega arith)
+shown_below words at len (suc k) r low = least_below words at len (suc k) r low
+
+-- no page has a floor past that of the log
+pub floors_low : {E : Type 0} (P : Protocol E (Unit {0}) ℕ) (m : Machine E) (T : Trails)
+    → IsFramed P m T → (page : Page) → IsPageOf m page → page.floor ≤ floor_of m
+floors_low P m T f page (inl home) =
+    let is = f.floored_home page home in let low = f.low in omega arith
+floors_low P m T f page (inr held) =
+    let is = f.floored held.0 held.1 held.2 page held.3 held.4 held.5 held.6 in
+    let low = f.low in omega arith
+
+-- a page that is held where no word of the log is used again has the first floor
+held_flat : {E : Type 0} (base V : ℕ → ℕ) (frames : List Frame) (c : Core E) (t : ℕ) (page : Page)
+    (stored : ℕ) (published : Bool) → c.layout.passers ≡ 0
+    → Fits base V frames c (Holding t page stored published) → KeepsFloor page
+held_flat base V frames c t page stored false flat fits = fits.1.flat flat
+held_flat base V frames c t page stored true flat fits = fits.1.flat flat
+
 module _ {E : Type 0} (X : Election E) (P : Protocol E (Unit {0}) ℕ) where
   -- ---- with a row for each tenure
-  module _ (bases : List ℕ) (x : Layout) (q : Serves X P x) (ok : IsLayout x) (b : Bus E)
+  module _ (bases : List ℕ) (x : Layout) (q : Serves X P x) (ok : IsLayout x)
+      (flat : x.passers ≡ 0) (b : Bus E)
       (T : Trails) (r : PlainReached X bases x b (plain_trails T)) where
-    k : plain.Kept bases X P q.laws x ok q.width q.starts q.owner_is q.named q.announces q.apart b
-        (plain_trails T)
+    k : plain.Kept bases X P q.laws x ok q.width q.starts q.owner_is q.named q.announces q.apart
+        flat b (plain_trails T)
     k = plain.reached_kept bases X P q.laws x ok q.width q.starts q.owner_is q.named q.announces
-        q.apart b (plain_trails T) r
+        q.apart flat b (plain_trails T) r
 
     -- and the promise holds of it
     promise : PlainPromised bases x b (plain_trails T) (order_of k.frames)
         (map tenure_and_owner k.frames)
     promise = plain.by_frames bases X P q.laws x ok q.width q.starts q.owner_is q.named q.announces
-        q.apart b (plain_trails T) k
+        q.apart flat b (plain_trails T) k
 
     -- a sender of the machine is one of the bus
     core_at : (p : ℕ) (v : Sender E) → slice_get (of_bus bases x b).senders p ≡ Some v
@@ -125,7 +255,8 @@ module _ {E : Type 0} (X : Election E) (P : Protocol E (Unit {0}) ℕ) where
     -- and its receivers are those of the bus
     reads_at : (r : ℕ) (v : Receiving) → slice_get b.receivers r ≡ Some v
         → (v.log_at ≡ log_at x) × IsReceiver x k.frames (slice_index b.side.words 0) (placed x v)
-        × NeverPasses v
+        × ((place : ℕ) → v.passed_at ≡ Some place → place < log_at x)
+        × (v.gone ≡ false → floor_of (of_bus bases x b) ≤ v.place)
     reads_at r v at =
         let o = k.lawful.keeps.receiving r v at in (
           o.log,
@@ -136,8 +267,34 @@ module _ {E : Type 0} (X : Election E) (P : Protocol E (Unit {0}) ℕ) where
             log_words = o.log_words;
             receives = o.receives;
           },
-          k.lawful.keeps.never r v at,
+          λ place is. absurd (let bad : None ≡ Some place =
+              sym (k.lawful.keeps.never r v at).never ∙ is in
+              cc),
+          λ stays. let first = floor_first (of_bus bases x b) flat in omega arith,
         )
+
+    -- the log shows all that was published
+    abbrev this : Machine E
+    this = of_bus bases x b
+
+    many : slice_index b.side.words 0 ≤ x.capacity
+    many = k.lawful.keeps.sending.log.fits flat
+
+    shows_at_none : ShowsLog this T.log
+    shows_at_none =
+        let first = floor_first this flat in (
+          sym (length-logged k.lawful.keeps.sending.log) ∙ ap length k.log_is,
+          log_straight this flat many ∙ promise.shows ∙ ap (λ n. drop n T.log) (sym first),
+        )
+
+    floored_at : (p : ℕ) (v : Sender E) (t : ℕ) (page : Page) (stored : ℕ) (published : Bool)
+        → slice_get this.senders p ≡ Some v → v.core.phase ≡ Holding t page stored published
+        → page.floor ≡ 0
+    floored_at p v t page stored published at held =
+        let part = k.lawful.keeps.sending.parts p v.core (core_at p v at).0 in
+        held_flat (slice_index bases) (slice_index b.side.words) k.frames v.core t page stored
+        published (ap (λ (l : Layout). l.passers) part.layout ∙ flat)
+        (subst (Fits (slice_index bases) (slice_index b.side.words) k.frames v.core) held part.fits)
 
     -- the bus with a row for each tenure is framed
     pub framed_at_none : IsFramed P (of_bus bases x b) T
@@ -147,6 +304,17 @@ module _ {E : Type 0} (X : Election E) (P : Protocol E (Unit {0}) ℕ) where
       cores = slice_get b.side.senders;
       owners = b.side.owners;
       room = k.lawful.words;
+      floor = 0;
+      flat = λ none. refl;
+      low = omega arith;
+      floored_home = k.lawful.keeps.sending.flat_home flat;
+      floored = floored_at;
+      finds = λ place past below. ap (λ n. slice_index b.side.words (log_at x + n))
+          (let low : place < x.capacity = let a = many in omega arith in mod-eq_of_lt low);
+      edge = subst (IsBoundary k.frames) (sym (floor_first this flat))
+          (boundary_first k.frames);
+      passed = λ r low. omega arith;
+      least = λ p v r t at again held. omega arith;
       sending = k.lawful.keeps.sending;
       core_of = λ p v at. (core_at p v at).0;
       sender_of = λ p c at. (
@@ -161,7 +329,7 @@ module _ {E : Type 0} (X : Election E) (P : Protocol E (Unit {0}) ℕ) where
           ∙ ap (λ o. map (λ i. i.message) (of_sender p (order_of k.frames)) ++ waiting_of o)
           (core_at p v at).0;
       log_is = k.log_is;
-      stands = promise.shows;
+      stands = shows_at_none;
       length = refl;
       stage = refl;
       found = λ p t v e o q at runs low from to is. ap (λ w. slice_index b.side.words (register w))
@@ -184,7 +352,7 @@ module _ {E : Type 0} (X : Election E) (P : Protocol E (Unit {0}) ℕ) where
     q = sits.serves
 
     abbrev y : CyclicProtocol E
-    y = protocol_of m l.reclaimer l.owners
+    y = protocol_of m l.reclaimer l.passing l.owners
 
     kept : HasKept X P q.laws m.layout sits.ok q.width q.starts q.owner_is q.named q.announces
         q.apart rows two T.heard y T.pins T.actions T.log
@@ -242,18 +410,114 @@ module _ {E : Type 0} (X : Election E) (P : Protocol E (Unit {0}) ℕ) where
         ∙ ap (λ r. row_of (sizes_with m.layout r) t + (register o - row_at m.layout t)) u.2)
         ∙ kept.kept.laid.row t (register o - row_at m.layout t) below within live ∙ ap kept.V place
 
-    -- its receivers read the log of these frames
+    -- ---- its log
+    -- as many words were published as the length says
+    size_is : length (log_words kept.frames) ≡ kept.V 0
+    size_is = length-logged kept.kept.sending.log
+
+    long : length T.log ≡ kept.V 0
+    long = sym (ap length kept.kept.log_is) ∙ size_is
+
+    -- from the floor on each stands in its cell
+    finds_some : (place : ℕ) → kept.kept.floor ≤ place → place < kept.V 0
+        → slice_index m.words (log_from m.layout rows + place % m.layout.capacity)
+        ≡ kept.V (log_at m.layout + place)
+    finds_some place past below =
+        let low = kept.kept.stored.low in
+        found_there m.layout rows y.reclamation kept.V kept.kept.W kept.kept.floor place
+        kept.kept.laid kept.kept.stored.few past (omega arith)
+
+    -- so the log shows what was published
+    ring : ShowsRing m.layout rows (slice_index m.words) kept.frames T.log kept.kept.floor
+    ring = record {
+      long = kept.kept.laid.length ∙ sym long;
+      low = let a = kept.kept.floors.low in let b = long in omega arith;
+      none = kept.kept.floors.none;
+      stands = λ place past below.
+          let low : place < kept.V 0 = let a = long in omega arith in
+          finds_some place past low
+          ∙ sym (index-read kept.V (log_at m.layout) (kept.V 0) place low)
+          ∙ ap (λ ws. slice_index ws place) (kept.kept.sending.log.words_are ∙ kept.kept.log_is);
+      behind = kept.kept.floors.behind;
+      edges = kept.kept.floors.edges;
+    }
+
+    few : length T.log < 2 ^ 48
+    few = subst (λ ws. length ws < 2 ^ 48) kept.kept.log_is
+        (words_low m.layout.senders kept.frames kept.kept.sending.log.lawful)
+
+    -- its floor, and what stands from there on, where so many rows are used again
+    abbrev floor_with : Option ℕ → ℕ
+    floor_with o =
+        floor_shown (slice_index m.words) (passers_place m.layout o) m.layout.passers
+        (slice_index m.words 0)
+
+    abbrev log_with : Option ℕ → List ℕ
+    log_with o =
+        words_in_ring (slice_index m.words) (log_place m.layout o) m.layout.capacity (floor_with o)
+        (slice_index m.words 0 - floor_with o)
+
+    floor_some : (kept.kept.floor ≤ floor_of m) × IsBoundary kept.frames (floor_of m)
+    floor_some =
+        let is = shown_is m.layout rows (slice_index m.words) kept.frames T.log kept.kept.floor ring
+        kept.kept.log_is few in
+        subst (λ o. (kept.kept.floor ≤ floor_with o) × IsBoundary kept.frames (floor_with o))
+        (sym l.reuse) (is.0, is.2)
+
+    shows_some : ShowsLog m T.log
+    shows_some = (
+      ring.long,
+      subst (λ o. log_with o ≡ drop (floor_with o) T.log) (sym l.reuse)
+          (ring_shows m.layout rows (slice_index m.words) kept.frames T.log kept.kept.floor ring
+          kept.kept.log_is few),
+    )
+
+    -- ---- its receivers
+    -- a passed place lies before the log
+    passed_low : (r : ℕ) (v : Receiving) → slice_get m.receivers r ≡ Some v → (place : ℕ)
+        → v.passed_at ≡ Some place → place < log_from m.layout rows
+    passed_low r v at place is =
+        by (nat_lt r m.layout.passers) refl (sym (kept.kept.floors.each r v at).at ∙ is)
+      where
+        by : (b : Bool) → nat_lt r m.layout.passers ≡ b
+            → cond {A = Option ℕ} b (Some (passed_place m.layout rows r)) None ≡ Some place
+            → place < log_from m.layout rows
+        by false e i = absurd cc
+        by true e i =
+            let low = ltb-true r m.layout.passers e in
+            let same : passed_place m.layout rows r ≡ place = same_Some _ _ i in omega arith
+
+    -- one that has not left is still to hear no word before the floor
+    comes_some : (r : ℕ) (v : Receiving) → slice_get m.receivers r ≡ Some v → v.gone ≡ false
+        → floor_of m ≤ v.place
+    comes_some r v at stays =
+        let its = kept.kept.floors.each r v at in
+        let from = passed_from m.layout rows in
+        let past = its.past in
+        subst (λ o. floor_with o ≤ v.place) (sym l.reuse) (elim its.many [
+          | inl none ↦
+              (let first : floor_with (Some rows) ≡ 0 =
+              ap (λ n. floor_shown (slice_index m.words) from n (slice_index m.words 0)) none in
+              omega arith)
+          | inr low ↦
+              (let shown = its.shows stays low in
+              let below = shown_below (slice_index m.words) from (slice_index m.words 0)
+              m.layout.passers r low in
+              omega arith)
+        ])
+
+    -- they read the log of these frames
     reads_some : (r : ℕ) (v : Receiving) → slice_get m.receivers r ≡ Some v
         → (v.log_at ≡ log_place m.layout m.reuse)
-        × IsReceiver m.layout kept.frames (kept.V 0) (placed m.layout v) × NeverPasses v
+        × IsReceiver m.layout kept.frames (kept.V 0) (placed m.layout v)
+        × ((place : ℕ) → v.passed_at ≡ Some place → place < log_place m.layout m.reuse)
+        × (v.gone ≡ false → floor_of m ≤ v.place)
     reads_some r v at =
-        let hears = kept.kept.hears.each r v at in
-        let size : length (log_words kept.frames) ≡ kept.V 0 =
-        sym (ap length kept.kept.sending.log.words_are)
-        ∙ length-read kept.V (log_at m.layout) (kept.V 0) in (
+        let hears = kept.kept.hears.each r v at in (
           hears.log ∙ sym place_is,
-          subst (λ n. IsReceiver m.layout kept.frames n (placed m.layout v)) size hears.own,
-          hears.never,
+          subst (λ n. IsReceiver m.layout kept.frames n (placed m.layout v)) size_is hears.own,
+          λ place is. subst (λ n. place < n) (sym place_is) (passed_low r v at place is),
+          λ stays. comes_some r v at stays,
         )
 
     -- the machine is framed
@@ -264,6 +528,24 @@ module _ {E : Type 0} (X : Election E) (P : Protocol E (Unit {0}) ℕ) where
       cores = y.senders;
       owners = l.owners;
       room = l.words ∙ ap (λ n. n + m.layout.capacity) (sym place_is);
+      floor = kept.kept.floor;
+      flat = kept.kept.floors.none;
+      low = floor_some.0;
+      floored_home = kept.kept.stored.floor_home;
+      floored = λ p v t page stored published at held.
+          kept.kept.stored.floor_held p t page stored published v.core (ap core_in at) held;
+      finds = λ place past below.
+          ap (λ n. slice_index m.words (n + place % m.layout.capacity)) place_is
+          ∙ finds_some place past below;
+      edge = floor_some.1;
+      passed = λ r low. subst
+          (λ o. kept.kept.floor
+          ≤ slice_index m.words (passers_place m.layout o + PASSED_APART * r))
+          (sym l.reuse) (kept.kept.floors.behind r low);
+      least = λ p v r t at again held.
+          let same = ap (λ (q : Passing). q.least)
+          (sym (ap passing_in again) ∙ l.passed p v t at held) in
+          let low = kept.kept.floors.least in omega arith;
       sending = kept.kept.sending;
       core_of = λ p v at. ap core_in at;
       sender_of = λ p c at. sender_there p c (slice_get m.senders p) refl at;
@@ -279,8 +561,7 @@ module _ {E : Type 0} (X : Election E) (P : Protocol E (Unit {0}) ℕ) where
           ∙ ap (λ o. map (λ i. i.message) (of_sender p (order_of kept.frames)) ++ waiting_of o)
           (ap core_in at);
       log_is = kept.kept.log_is;
-      stands = ap (λ n. words_read_from (slice_index m.words) n (slice_index m.words 0)) place_is
-          ∙ keeps.by.shows;
+      stands = shows_some;
       length = kept.kept.laid.length;
       stage = kept.kept.laid.stage;
       found = found_at;
@@ -364,12 +645,17 @@ module _ {E : Type 0} (X : Election E) (P : Protocol E (Unit {0}) ℕ) where
     by None e =
         let i = reached_at_none X m T r e in
         subst (λ y. IsFramed P y T) (sym i.is)
-        (framed_at_none m.bases m.layout s.serves s.ok i.bus T i.reached)
+        (framed_at_none m.bases m.layout s.serves s.ok (flat_at_none X m T r e) i.bus T i.reached)
     by (Some rows) e = framed_at_some m T s rows (led_some X P m T s r rows e)
 
   -- so all that was ever published stands in the words of its log
   pub history : (m : Machine E) (T : Trails) → Sits X P m → Reached X m T → ShowsLog m T.log
   history m T s r = (framed m T s r).stands
+
+  -- and where no word of the log is used again, just in those below the length
+  pub history_below : (m : Machine E) (T : Trails) → Sits X P m → Reached X m T
+      → StandsBelow m T.log
+  history_below m T s r flat = read_below P m T (framed m T s r) flat
 
   -- and its rows are used again as is promised
   pub reuses : (m : Machine E) (T : Trails) → Sits X P m → Reached X m T

@@ -21,12 +21,12 @@ use Rattle.bus_tenure.specs.declared.turns.Turn.{Turn as Answered}
 use Rattle.bus_world.specs.Proved.Sending.{Fits}
 use Rattle.bus_world.specs.Trails.{actions_with, step_action, put_actions, mark_actions}
 use Rattle.bus_world.specs.Headline.{Action}
-use Rattle.bus_world.specs.World.{Event, Put, Ask, Turn, Recv, Stop}
+use Rattle.bus_world.specs.World.{Event, Put, Ask, Turn, Recv, Stop, Gone}
 use Rattle.bus_world.specs.declared.events.Answer.{Answer}
 use Rattle.bus_world.specs.declared.events.Answer.TheVariants as answer
 use Rattle.bus_machine.proofs.EachSender.{added, added_is}
 use Rattle.bus_machine.proofs.Framed.{IsFramed}
-use Rattle.bus_machine.proofs.Knowing.{none_passed}
+use Rattle.bus_machine.proofs.Knowing.{passes_held}
 use Rattle.bus_machine.proofs.Leading.{Sits}
 use Rattle.bus_machine.proofs.Paging.{takes_it, holds_it}
 use Rattle.bus_machine.specs.Machine.{base_of, Machine, Trails, Happens, found, has_stopped}
@@ -64,6 +64,7 @@ module _ (t : ℕ) where
   put_stays bytes (answer.Turn told) = refl
   put_stays bytes (answer.Recv told) = refl
   put_stays bytes answer.Stopped = refl
+  put_stays bytes answer.Gone = refl
 
   -- a mark
   mark_stays : (a : Answer) → actions_in t (mark_actions a) ≡ []
@@ -73,6 +74,7 @@ module _ (t : ℕ) where
   mark_stays (answer.Turn told) = refl
   mark_stays (answer.Recv told) = refl
   mark_stays answer.Stopped = refl
+  mark_stays answer.Gone = refl
 
 module _ {E : Type 0} (X : Election E) (P : Protocol E (Unit {0}) ℕ) (m : Machine E) (T : Trails)
     (sits : Sits X P m) (f : IsFramed P m T)
@@ -135,7 +137,8 @@ module _ {E : Type 0} (X : Election E) (P : Protocol E (Unit {0}) ℕ) (m : Mach
     added_stays (Withdraws n) i = refl
     added_stays (Scans r) i = refl
     added_stays (Clears r) i = refl
-    added_stays (ReadsPassed n p) i = absurd (none_passed X P m T f s v at sits.ok n p i)
+    added_stays (ReadsPassed n p) i = step_stays (ReadsPassed n p) n refl
+        (holding n (ap held_of (passes_held X v n p i).has))
 
   -- ---- whatever happens
   pub event_stays : (e : Event) (a : Answer) (m' : Machine E) → Happens X m e a m' → (q : ℕ)
@@ -157,3 +160,4 @@ module _ {E : Type 0} (X : Election E) (P : Protocol E (Unit {0}) ℕ) (m : Mach
       (found m l word) word told z refl) q
   event_stays (Recv r) a m' h q = refl
   event_stays (Stop s) a m' h q = refl
+  event_stays (Gone r) a m' h q = refl

@@ -1,25 +1,28 @@
 -- What a machine that a program holds goes by: room, sums that fit, numbers that fit, no page under
 -- way between turns, and its log.
-use Rattle.std.proofs.Common.{◌≡◌, ◌≢◌, ◌⊎◌, inl, inr, ℕ, ◌+◌, ◌-◌, ◌*◌, ◌%◌, ◌<◌, ◌≤◌, ◌^◌, Bool}
-use Rattle.std.proofs.Common.{true, false, cond, ◌==◌, is_some, Option, Some, None, List, length}
-use Rattle.std.proofs.Common.{take, drop, slice_get, slice_index, arith, refl, sym, ◌∙◌, ap, subst}
+use Rattle.std.proofs.Common.{◌≡◌, ℕ, zero, suc, ◌+◌, ◌-◌, ◌*◌, ◌%◌, ◌<◌, ◌≤◌, ◌^◌, Bool, ◌&&◌}
+use Rattle.std.proofs.Common.{nat_lt}
+use Rattle.std.proofs.Common.{true, false, cond, ◌==◌, is_some, Option, Some, None, List, [], ◌∷◌}
+use Rattle.std.proofs.Common.{length}
+use Rattle.std.proofs.Common.{drop, slice_get, slice_index, arith, refl, sym, ◌∙◌, ap, subst}
 use Rattle.std.specs.Prelude.{IfSome}
 use Rattle.std.proofs.Math.ListN.{length-set}
-use Rattle.std.proofs.Math.Nat.{mod-le}
-use Rattle.std.proofs.lemmas.Bool.{true≢false}
-use Rattle.std.proofs.lemmas.Bool.Decides.{eqb_tells}
-use Rattle.std.proofs.lemmas.List.{length-drop}
+use Rattle.std.proofs.lemmas.Grind.{flat_map-append}
+use Rattle.std.proofs.lemmas.List.{length-append, length-drop}
+use Rattle.std.proofs.lemmas.Nat.{mod_below}
 use Rattle.std.proofs.lemmas.Option.{same_Some}
 use Rattle.bus_register.specs.declared.limits.TheConstants.{MOST_SENDERS}
 use Rattle.bus_register.specs.Tables.{of_some}
 use Rattle.bus_batch.specs.Batches.{next_of}
-use Rattle.bus_batch.specs.Frames.{Frame, Order, AreFrames, log_words}
+use Rattle.bus_batch.specs.Frames.{Frame, Order, AreFrames, frame_words, log_words}
+use Rattle.bus_batch.specs.Reading.{is_between}
 use Rattle.bus_core.proofs.Situated.{own_is}
 use Rattle.bus_core.specs.Senders.{Sender, Situation, Does, log_start, situation, words_all}
 use Rattle.bus_core.specs.Table.{line, line_now, in_row}
 use Rattle.bus_core.specs.declared.reuses.Reuse.{Reuse}
-use Rattle.bus_deliverylog.proofs.ReceiveLaws.{no_due}
-use Rattle.bus_deliverylog.specs.Receiving.{Receiving, receiving_op, op_by}
+use Rattle.bus_core.specs.declared.limits.TheConstants.{PASSED_APART}
+use Rattle.bus_deliverylog.specs.Receiving.{Receiving, receiving_op, op_by, leaving_op, leaving_by}
+use Rattle.bus_deliverylog.specs.Receiving.{passing_due}
 use Rattle.bus_register.specs.Protocol.{Protocol}
 use Rattle.bus_register.specs.Words.{register, SumFits}
 use Rattle.bus_register.specs.declared.registers.Op.{Op}
@@ -32,29 +35,29 @@ use Rattle.bus_tenure.specs.declared.phases.Phase.TheVariants as phase
 use Rattle.bus_tenure.specs.declared.turns.Turn.TheVariants as turn
 use Rattle.bus_world.proofs.Accepting.{numbers_fit}
 use Rattle.bus_world.proofs.CyclicProtocolHears.{placed}
-use Rattle.bus_world.proofs.LogLaws.{length-read}
+use Rattle.bus_world.proofs.LogLaws.{length-logged}
 use Rattle.bus_world.proofs.PlayingLaws.{one_there}
 use Rattle.bus_world.proofs.Serving.{Serves}
 use Rattle.bus_world.proofs.TenuresLaws.{within_its_row}
-use Rattle.bus_world.proofs.ViewingLaws.{read-list}
+use Rattle.bus_world.specs.Log.{floor_shown, least_passed, words_in_ring}
 use Rattle.bus_world.proofs.Stopping.{shown_there}
-use Rattle.bus_world.specs.World.{IsLayout, Event, Put, Ask, Turn, Recv, Stop}
+use Rattle.bus_world.specs.World.{IsLayout, Event, Put, Ask, Turn, Recv, Stop, Gone}
 use Rattle.bus_world.specs.Proved.Sending.{Part, Fits, standing_of, stands_at, least_of}
 use Rattle.bus_world.specs.Headline.{order_given}
 use Rattle.bus_world.specs.Proved.Tenures.Standing.{Runs}
-use Rattle.bus_world.specs.Proved.Receiving.{IsReceiver, NeverPasses}
+use Rattle.bus_world.specs.Proved.Receiving.{IsReceiver}
 use Rattle.bus_world.specs.declared.events.Answer.{Answer}
 use Rattle.bus_world.specs.Proved.Invariants.{given_at}
-use Rattle.bus_machine.proofs.AtNone.{event_reuse}
+use Rattle.bus_machine.proofs.AtNone.{event_reuse, flat_at_none}
 use Rattle.bus_machine.proofs.Leading.{Sits}
-use Rattle.bus_machine.proofs.Framed.{IsFramed, framed}
+use Rattle.bus_machine.proofs.Framed.{IsFramed, floor_first, framed}
 use Rattle.bus_machine.proofs.Rising.{log_behind}
 use Rattle.bus_machine.proofs.Paging.{takes_it}
 use Rattle.bus_machine.proofs.Takes.{owns_page}
 use Rattle.bus_machine.proofs.Taking.{takers_told, counted}
 use Rattle.bus_machine.specs.Machine.{base_of, Machine, Trails, Reached, Then, Happens, found}
 use Rattle.bus_machine.specs.Machine.{has_stopped, trails_grown, log_place, log_of, owners_told}
-use Rattle.bus_machine.specs.Machine.{turn_answer, going}
+use Rattle.bus_machine.specs.Machine.{floor_of, passers_place, turn_answer, going}
 use Rattle.bus_machine.specs.Playing.{IsHeld, AreRows}
 use Rattle.bus_machine.specs.Promise.{HasRows}
 
@@ -70,6 +73,7 @@ module _ {E : Type 0} (X : Election E) where
       ap (λ (y : Machine E). length y.senders) h.after ∙ length-set m.senders s _
   many_after m m' (Recv r) a h = ap (λ (y : Machine E). length y.senders) h.after
   many_after m m' (Stop s) a h = ap (λ (y : Machine E). length y.senders) h.after
+  many_after m m' (Gone r) a h = ap (λ (y : Machine E). length y.senders) h.after
 
   pub held_after : (m m' : Machine E) (e : Event) (a : Answer) → IsHeld X m → Happens X m e a m'
       → IsHeld X m'
@@ -79,12 +83,28 @@ module _ {E : Type 0} (X : Election E) where
         senders_few = subst (λ x. x.senders ≤ MOST_SENDERS) (sym i.0) h.senders_few;
         rows =
             subst (λ x. AreRows x m'.reuse) (sym i.0) (subst (AreRows m.layout) (sym i.1) h.rows);
+        capacity_some = subst (λ x. 0 < x.capacity) (sym i.0) h.capacity_some;
         capacity_few = subst (λ x. x.capacity ≤ 65536) (sym i.0) h.capacity_few;
-        passers_none = ap (λ x. x.passers) i.0 ∙ h.passers_none;
+        passers_few = subst (λ x. x.passers ≤ 8) (sym i.0) h.passers_few;
         senders = many_after m m' e a d ∙ h.senders ∙ sym (ap (λ x. x.senders) i.0);
         trails = trails_grown X m e a h.trails;
         reached = Then m m' h.trails e a h.reached d;
       }
+
+-- ---- the log
+length-ring : (words : ℕ → ℕ) (at capacity place many : ℕ)
+    → length (words_in_ring words at capacity place many) ≡ many
+length-ring words at capacity place zero = refl
+length-ring words at capacity place (suc k) =
+    length-append (words_in_ring words at capacity place k)
+    (words (at + (place + k) % capacity) ∷ [])
+    ∙ (let before = length-ring words at capacity place k in omega arith)
+
+-- the least of some passed places is the floor
+shown_some : (words : ℕ → ℕ) (at many len : ℕ) → (many ≡ 0 → ⊥)
+    → least_passed words at many len ≡ floor_shown words at many len
+shown_some words at zero len some = absurd (some refl)
+shown_some words at (suc k) len some = refl
 
 -- ---- what a step adds to
 -- A step of an election stands where its row does, and adds as much there.
@@ -162,18 +182,18 @@ module _ {E : Type 0} (X : Election E) (P : Protocol E (Unit {0}) ℕ) (m : Mach
 module _ {E : Type 0} (X : Election E) (P : Protocol E (Unit {0}) ℕ) where
   -- ---- its sizes are served
   layout_ok : (x : Layout) (o : Option ℕ) → x.senders ≤ MOST_SENDERS → x.capacity ≤ 65536
-      → x.passers ≡ 0 → AreRows x o → IsLayout x
-  layout_ok x None few small none r = record {
+      → x.passers ≤ 8 → AreRows x o → IsLayout x
+  layout_ok x None few small passed r = record {
     senders = few;
     rows = omega arith;
     capacity = omega arith;
-    passers = none;
+    passers = passed;
   }
-  layout_ok x (Some rows) few small none r = record {
+  layout_ok x (Some rows) few small passed r = record {
     senders = few;
     rows = (let e = r.1 in omega arith);
     capacity = omega arith;
-    passers = none;
+    passers = passed;
   }
 
   has_rows : (x : Layout) (o : Option ℕ) → AreRows x o → HasRows o
@@ -183,7 +203,7 @@ module _ {E : Type 0} (X : Election E) (P : Protocol E (Unit {0}) ℕ) where
   pub sits : (m : Machine E) → Serves X P m.layout → IsHeld X m → Sits X P m
   sits m s h = record {
     serves = s;
-    ok = layout_ok m.layout m.reuse h.senders_few h.capacity_few h.passers_none h.rows;
+    ok = layout_ok m.layout m.reuse h.senders_few h.capacity_few h.passers_few h.rows;
     rows = has_rows m.layout m.reuse h.rows;
   }
 
@@ -192,9 +212,16 @@ module _ {E : Type 0} (X : Election E) (P : Protocol E (Unit {0}) ℕ) where
     its_frames : IsFramed P m h.trails
     its_frames = framed X P m h.trails (sits m s h) h.reached
 
-    pub log_below : slice_index m.words 0 ≤ m.layout.capacity
-    log_below =
-        subst (λ n. n ≤ m.layout.capacity) (sym its_frames.length) its_frames.sending.log.fits
+    -- its floor is no further than the length
+    pub floor_below : floor_of m ≤ slice_index m.words 0
+    floor_below =
+        let edge = its_frames.edge in
+        let at = edge.place_is in
+        let all = ap (λ fs. length (log_words fs)) edge.frames_are
+        ∙ ap length (flat_map-append frame_words edge.front edge.rest)
+        ∙ length-append (log_words edge.front) (log_words edge.rest) in
+        let size = length-logged its_frames.sending.log in
+        let same = its_frames.length in omega arith
 
     -- there is a first word, and the log is among the words
     pub word_there : (words : List ℕ) → words ≡ m.words → (capacity : ℕ)
@@ -205,32 +232,72 @@ module _ {E : Type 0} (X : Election E) (P : Protocol E (Unit {0}) ℕ) where
         let two = log_behind m.layout m.reuse in
         (omega arith, omega arith)
 
-    pub log_within : (words : List ℕ) → words ≡ m.words → (capacity : ℕ)
+    -- the log stands behind all other words
+    pub log_there : (words : List ℕ) → words ≡ m.words → (capacity : ℕ)
         → capacity ≡ m.layout.capacity
-        → length words - capacity + slice_index words 0 ≤ length words
-    log_within words words_are capacity capacity_is =
+        → length words - capacity ≡ log_place m.layout m.reuse
+    log_there words words_are capacity capacity_is =
         let size : length words ≡ log_place m.layout m.reuse + m.layout.capacity =
         ap length words_are ∙ its_frames.room in
-        let low = log_below in
-        let same = ap (λ l. slice_index l 0) words_are in
         omega arith
 
-    -- the log stands behind all other words
-    pub log_is : (words : List ℕ) → words ≡ m.words → (capacity : ℕ) → capacity ≡ m.layout.capacity
-        → take (length words - capacity + slice_index words 0 - (length words - capacity))
-        (drop (length words - capacity) words) ≡ log_of m
-    log_is words words_are capacity capacity_is =
-        let size : length words ≡ log_place m.layout m.reuse + m.layout.capacity =
-        ap length words_are ∙ its_frames.room in
-        let at : length words - capacity ≡ log_place m.layout m.reuse = omega arith in
-        let low = log_below in
-        let many : length words - capacity + slice_index words 0 - (length words - capacity)
-        ≡ slice_index m.words 0 = let same = ap (λ l. slice_index l 0) words_are in omega arith in
-        ap (λ k. take k (drop (length words - capacity) words)) many
-        ∙ ap (λ k. take (slice_index m.words 0) (drop k words)) at
-        ∙ ap (λ l. take (slice_index m.words 0) (drop (log_place m.layout m.reuse) l)) words_are
-        ∙ sym (read-list m.words (log_place m.layout m.reuse) (slice_index m.words 0)
-        (let w = its_frames.room in omega arith))
+    -- and the passed places right before it, if there are any
+    passers_behind : (o : Option ℕ) → m.reuse ≡ o → (m.layout.passers ≡ 0 → ⊥)
+        → passers_place m.layout o + PASSED_APART * m.layout.passers ≡ log_place m.layout o
+    passers_behind None fresh some = absurd (some (flat_at_none X m h.trails h.reached fresh))
+    passers_behind (Some rows) used some = refl
+
+    pub passers_there : (passers : ℕ) → m.layout.passers ≡ passers → (passers ≡ 0 → ⊥)
+        → (words : List ℕ) → words ≡ m.words → (capacity : ℕ) → capacity ≡ m.layout.capacity
+        → (PASSED_APART * passers ≤ length words - capacity)
+        × (length words - capacity - PASSED_APART * passers ≡ passers_place m.layout m.reuse)
+    passers_there passers is some words words_are capacity capacity_is =
+        let at = log_there words words_are capacity capacity_is in
+        let behind = ap (λ n. passers_place m.layout m.reuse + PASSED_APART * n) (sym is)
+        ∙ passers_behind m.reuse refl (λ none. some (sym is ∙ none)) in
+        (omega arith, omega arith)
+
+    -- so the least of them is its floor
+    pub floor_is : (passers : ℕ) → m.layout.passers ≡ passers → (passers ≡ 0 → ⊥)
+        → (words : List ℕ) → words ≡ m.words → (capacity : ℕ) → capacity ≡ m.layout.capacity
+        → least_passed (slice_index words) (length words - capacity - PASSED_APART * passers)
+        passers (slice_index words 0) ≡ floor_of m
+    floor_is passers is some words words_are capacity capacity_is =
+        ap (λ n. least_passed (slice_index words) n passers (slice_index words 0))
+        (passers_there passers is some words words_are capacity capacity_is).1
+        ∙ shown_some (slice_index words) (passers_place m.layout m.reuse) passers
+        (slice_index words 0) some
+        ∙ ap (λ l. floor_shown (slice_index l) (passers_place m.layout m.reuse) passers
+        (slice_index l 0)) words_are
+        ∙ ap (λ n. floor_shown (slice_index m.words) (passers_place m.layout m.reuse) n
+        (slice_index m.words 0)) (sym is)
+
+    pub floor_within : (words : List ℕ) → words ≡ m.words → (now : Machine E) → m ≡ now
+        → (floor : ℕ) → floor ≡ floor_of now → floor ≤ slice_index words 0
+    floor_within words words_are now is floor floor_are =
+        subst (λ n. n ≤ slice_index words 0) (sym floor_are)
+        (subst (λ y. floor_of y ≤ slice_index words 0) is
+        (subst (λ l. floor_of m ≤ slice_index l 0) (sym words_are) floor_below))
+
+    -- what is copied from there on is the log that stands
+    pub log_shown : (words : List ℕ) → words ≡ m.words → (capacity : ℕ)
+        → capacity ≡ m.layout.capacity → (now : Machine E) → m ≡ now → (floor : ℕ)
+        → floor ≡ floor_of now
+        → words_in_ring (slice_index words) (length words - capacity) capacity floor
+        (slice_index words 0 - floor) ≡ log_of now
+    log_shown words words_are capacity capacity_is now is floor = subst
+        (λ y. floor ≡ floor_of y
+        → words_in_ring (slice_index words) (length words - capacity) capacity floor
+        (slice_index words 0 - floor) ≡ log_of y) is
+        (λ e.
+        ap (λ n. words_in_ring (slice_index words) n capacity floor (slice_index words 0 - floor))
+        (log_there words words_are capacity capacity_is)
+        ∙ ap (λ n. words_in_ring (slice_index words) (log_place m.layout m.reuse) n floor
+        (slice_index words 0 - floor)) capacity_is
+        ∙ ap (λ l. words_in_ring (slice_index l) (log_place m.layout m.reuse) m.layout.capacity
+        floor (slice_index l 0 - floor)) words_are
+        ∙ ap (λ n. words_in_ring (slice_index m.words) (log_place m.layout m.reuse)
+        m.layout.capacity n (slice_index m.words 0 - n)) e)
 
     -- at most so many owners are told
     pub owners_few : (rows : ℕ) → m.reuse ≡ Some rows → length m.owners ≤ rows
@@ -301,60 +368,81 @@ module _ {E : Type 0} (X : Election E) (P : Protocol E (Unit {0}) ℕ) where
     module _ (r : ℕ) (v : Receiving) (at : slice_get m.receivers r ≡ Some v) where
       its_reads : (v.log_at ≡ log_place m.layout m.reuse)
           × IsReceiver m.layout its_frames.frames (its_frames.V 0) (placed m.layout v)
-          × NeverPasses v
+          × ((place : ℕ) → v.passed_at ≡ Some place → place < log_place m.layout m.reuse)
+          × (v.gone ≡ false → floor_of m ≤ v.place)
       its_reads = its_frames.reads r v at
 
-      -- no word of the log is used again
-      pub never_passes : v.passed_at ≡ None
-      never_passes = its_reads.2.never
+      passed_there : (place : ℕ) → v.passed_at ≡ Some place → place < length m.words
+      passed_there place is =
+          let low = its_reads.2 place is in
+          let size = its_frames.room in
+          omega arith
+
+      pub leaves_within : IfSome (leaving_op v) (λ o. register o < length m.words)
+      leaves_within = by v.passed_at refl where
+        by : (o : Option ℕ) → v.passed_at ≡ o
+            → IfSome (leaving_by o) (λ q. register q < length m.words)
+        by None is = tt
+        by (Some place) is = passed_there place is
+
+      due_there : (place : ℕ) → passing_due v ≡ Some place → v.passed_at ≡ Some place
+      due_there place = by (is_between v.frames.place && nat_lt v.passed v.place) where
+        by : (b : Bool) → cond b v.passed_at None ≡ Some place → v.passed_at ≡ Some place
+        by true e = e
+        by false e = absurd cc
 
       pub loads_within : IfSome (receiving_op v) (λ o. register o < length m.words)
-      loads_within = subst
-          (λ d. IfSome (cond {A = Option Op} v.ended None (Some (op_by d v)))
-          (λ o. register o < length m.words))
-          (sym (no_due v never_passes))
-          (by v.ended (v.place == v.known) (eqb_tells v.place v.known)) where
-            by : (e q : Bool)
-                → ((q ≡ true) × (v.place ≡ v.known)) ⊎ ((q ≡ false) × (v.place ≢ v.known))
-                → IfSome
-                (cond {A = Option Op} e None (Some (cond q (Load record { 0 = v.length_at })
-                (Load record { 0 = v.log_at + v.place % v.log_words }))))
-                (λ o. register o < length m.words)
-            by true q how = tt
-            by false true how =
-                let first = its_reads.1.len_at in
-                let some = (word_there m.words refl m.layout.capacity refl).0 in omega arith
-            by false false (inl how) = absurd (true≢false (sym how.0))
-            by false false (inr how) =
-                let own = its_reads.1.receives in
-                let a = own.place_below in
-                let b = own.known_below in
-                let other = how.1 in
-                let below : v.place < v.known = omega arith in
-                let from = its_reads.0 in
-                let size = its_frames.room in
-                let fits = its_frames.sending.log.fits in
-                let cell = mod-le v.place v.log_words in
-                omega arith
+      loads_within = by v.ended (passing_due v) refl where
+        load : (b : Bool)
+            → register (cond b (Load record { 0 = v.length_at })
+            (Load record { 0 = v.log_at + v.place % v.log_words })) < length m.words
+        load true =
+            let first = its_reads.1.len_at in
+            let some = (word_there m.words refl m.layout.capacity refl).0 in omega arith
+        load false =
+            let from = its_reads.0 in
+            let many = its_reads.1.log_words in
+            let some = h.capacity_some in
+            let size = its_frames.room in
+            let cell = mod_below v.place v.log_words (omega arith) in omega arith
 
-      pub place_within : v.place ≤ length (log_of m)
+        by : (e : Bool) (d : Option ℕ) → passing_due v ≡ d
+            → IfSome (cond {A = Option Op} e None (Some (op_by d v)))
+            (λ o. register o < length m.words)
+        by true d due = tt
+        by false None due = load (v.place == v.known)
+        by false (Some place) due = passed_there place (due_there place due)
+
+      -- what it has read of what stands
+      pub place_within : v.place - floor_of m ≤ length (log_of m)
       place_within =
           let own = its_reads.1.receives in
           let a = own.place_below in
           let b = own.known_below in
-          let size : length (log_of m) ≡ its_frames.V 0 =
-          length-read (slice_index m.words) (log_place m.layout m.reuse) (slice_index m.words 0)
-          ∙ its_frames.length in
+          let same = its_frames.length in
+          let size = length-ring (slice_index m.words) (log_place m.layout m.reuse)
+          m.layout.capacity (floor_of m) (slice_index m.words 0 - floor_of m) in
           omega arith
 
-    -- what stands below the place of a receiver is what it was given
+      pub until_within : (now : Machine E) → m ≡ now → (place floor until : ℕ) (log : List ℕ)
+          → place ≡ v.place → floor ≡ floor_of now → until ≡ place - floor → log ≡ log_of now
+          → until ≤ length log
+      until_within now is place floor until log place_is floor_are until_is log_is =
+          let within = subst (λ y. v.place - floor_of y ≤ length (log_of y)) is place_within in
+          let size = ap length log_is in
+          omega arith
+
+    -- where no word of the log is used again, what stands below the place of a receiver is what it
+    -- was given
     pub heard : (r : ℕ) → r < length m.receivers → (order : Order)
         → ((frames : List Frame) (v : Receiving) → AreFrames m.layout.senders frames
         → log_of m ≡ log_words frames → slice_get m.receivers r ≡ Some v
         → order ≡ given_at frames v)
-        → (T : Trails) → Reached X m T → order ≡ order_given (T.heard r)
-    heard r l order stands T reached =
+        → m.layout.passers ≡ 0 → (T : Trails) → Reached X m T → order ≡ order_given (T.heard r)
+    heard r l order stands flat T reached =
         let f = framed X P m T (sits m s h) reached in
         let there = one_there m.receivers r l in
-        stands f.frames there.0 f.sending.log.lawful (f.stands ∙ sym f.log_is) there.1
+        let first = floor_first m flat in
+        stands f.frames there.0 f.sending.log.lawful
+        (f.stands.1 ∙ ap (λ n. drop n T.log) first ∙ sym f.log_is) there.1
         ∙ sym (f.given r there.0 there.1)

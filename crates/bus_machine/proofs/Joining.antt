@@ -9,7 +9,7 @@ use Rattle.bus_core.specs.Senders.{Withdraws, Scans, Clears, ReadsPassed, situat
 use Rattle.bus_core.specs.Table.{Line, line_now}
 use Rattle.bus_world.specs.Headline.{IsPrefix}
 use Rattle.bus_world.specs.Log.{words_of_frame}
-use Rattle.bus_world.specs.World.{Event, Put, Ask, Turn, Recv, Stop}
+use Rattle.bus_world.specs.World.{Event, Put, Ask, Turn, Recv, Stop, Gone}
 use Rattle.bus_world.specs.declared.events.Answer.{Answer}
 use Rattle.bus_world.specs.declared.events.Answer.TheVariants as answer
 use Rattle.bus_machine.specs.Machine.{Machine, Trails, Happens, trails_grown, turn_answer}
@@ -45,6 +45,7 @@ joins {E} X m m' (Turn s word) a T h =
     ∙ ap (λ (o : Option (Sender E)). T.log ++ words_of_frame (frame_next X o)) (sym h.goes)
 joins X m m' (Recv r) a T h = sym (append-nil T.log)
 joins X m m' (Stop s) a T h = sym (append-nil T.log)
+joins X m m' (Gone r) a T h = sym (append-nil T.log)
 
 -- so it begins with what it was
 pub grows :

@@ -1,6 +1,6 @@
 -- What the page knows, who has it while it is out, and where a word of the log is stored, by the
 -- frames of the log.
-use Rattle.std.proofs.Common.{◌≡◌, ℕ, ◌+◌, ◌*◌, Bool, true, false, is_some, Option, Some, None}
+use Rattle.std.proofs.Common.{◌≡◌, ℕ, ◌+◌, ◌*◌, ◌%◌, Bool, true, false, is_some, Option, Some, None}
 use Rattle.std.proofs.Common.{List, length, map, slice_get, slice_index, refl, sym, ◌∙◌, ap, subst}
 use Rattle.std.proofs.Common.{arith, cond, [], ◌++◌}
 use Rattle.std.proofs.lemmas.Bool.{true≢false}
@@ -10,9 +10,10 @@ use Rattle.bus_batch.proofs.FrameLaws.{spells_one}
 use Rattle.bus_batch.specs.Batches.{frame_of}
 use Rattle.bus_batch.specs.Frames.{Order, Spells, AreFrames, order_of, log_words, tenure_and_owner}
 use Rattle.bus_batch.specs.Frames.{frame_words, has_gone}
-use Rattle.bus_core.proofs.Situated.{own_is, never_passes}
+use Rattle.bus_core.proofs.Situated.{own_is, situation_tells, SituationTells}
 use Rattle.bus_core.specs.Reusing.Keeping.{held_of}
 use Rattle.bus_core.specs.Senders.{Sender, Does, ReadsPassed, log_start, situation}
+use Rattle.bus_core.specs.declared.reuses.Reuse.{Reuse}
 use Rattle.bus_core.specs.declared.reuses.Passing.{Passing}
 use Rattle.bus_core.specs.Table.{line, line_now}
 use Rattle.bus_machine.proofs.Taking.{takers_one}
@@ -23,12 +24,13 @@ use Rattle.bus_register.specs.Words.{register}
 use Rattle.bus_register.specs.declared.registers.Op.{Op}
 use Rattle.bus_register.specs.declared.registers.Op.TheVariants.{Store}
 use Rattle.bus_register.specs.declared.registers.SenderNo.{SenderNo}
-use Rattle.bus_tenure.proofs.Fitting.{word_straight}
+use Rattle.bus_tenure.proofs.Caused.{word_room}
 use Rattle.bus_tenure.proofs.Situated.{tells}
 use Rattle.bus_tenure.specs.Core.{Core, Election, Layout, log_at, cell_of, frame_len}
-use Rattle.bus_tenure.specs.Situations.{StoresWord, situation_at, situation_of}
+use Rattle.bus_tenure.specs.Situations.{StoresWord, GivesBack, situation_at, situation_of}
 use Rattle.bus_tenure.specs.declared.pages.Page.{Page}
 use Rattle.bus_tenure.specs.declared.phases.Phase.{Phase}
+use Rattle.bus_tenure.specs.declared.phases.Reason.TheVariants.{NoRoom}
 use Rattle.bus_tenure.specs.declared.phases.Phase.TheVariants as phase
 use Rattle.bus_world.proofs.Framing.{front_lawful}
 use Rattle.bus_world.proofs.LogLaws.{length-read, log_words-append}
@@ -37,11 +39,11 @@ use Rattle.bus_world.specs.Proved.Sending.{Part, Fits, IsWriting, standing_of, s
 use Rattle.bus_world.specs.Proved.Tenures.Stage.{Open, Held}
 use Rattle.bus_world.specs.Proved.Tenures.{Standing}
 use Rattle.bus_world.specs.Proved.Tenures.Standing.{Holds}
-use Rattle.bus_world.specs.World.{IsLayout}
 use Rattle.bus_machine.proofs.Framed.{IsFramed}
 use Rattle.bus_machine.proofs.AtHome.{held_stands}
 use Rattle.bus_machine.specs.Machine.{base_of, Machine, Trails, log_place}
 use Rattle.bus_machine.specs.Promise.{TakersTold, KnowsOrder, KnowsFront, IsWithOwner}
+use Rattle.bus_machine.specs.Promise.{IsPastLength}
 
 -- ---- a phase
 -- a sender holds the page of this tenure
@@ -68,6 +70,18 @@ module _ (base : ℕ → ℕ) {E : Type 0} (words : ℕ → ℕ)
             (same_Holding u t e);
       }
   page_held t (phase.Giving u reason) fits e = absurd fits
+
+-- who loads a passed place holds the page that it would give back
+pub passes_held : {E : Type 0} (X : Election E) (v : Sender E) (t : ℕ) (q : Passing)
+    → situation X v ≡ ReadsPassed t q → HasPage t v.core.phase
+passes_held {E} X v t q i = by v.reuse (situation_tells X v (ReadsPassed t q) i) where
+  by : (reuse : Option Reuse)
+      → SituationTells v.core.layout.passers (ReadsPassed t q) reuse (situation_of X v.core)
+      → HasPage t v.core.phase
+  by None w = absurd w
+  by (Some r) w =
+      let h = tells X v.core (GivesBack t w.page NoRoom) w.gives in
+      record { page = w.page; stored = h.0; published = h.1; has = h.2 }
 
 -- a sender that there is
 core_found : {E : Type 0} (o : Option (Core E)) (s : Standing E) → of_some standing_of o ≡ Some s
@@ -98,7 +112,7 @@ module _ {E : Type 0} (X : Election E) (P : Protocol E (Unit {0}) ℕ) (m : Mach
   -- a page at home knows the order
   pub knows : (order : Order) (owners : List (ℕ × SenderNo))
       → Spells m.layout.senders T.log order owners → (page : Page)
-      → m.home ≡ Some page → KnowsOrder (base_of m) page order
+      → m.home ≡ Some page → KnowsOrder (base_of m) m.layout.passers page order
   knows order owners s page at = elim f.sending.tenures.stage_is [
     | Open stage here many ↦
         let k = (f.sending.page_knows page f.sending.tenures.ended at stage).0 in
@@ -110,7 +124,10 @@ module _ {E : Type 0} (X : Election E) (P : Protocol E (Unit {0}) ℕ) (m : Mach
           left = λ q low.
               k.left q low
               ∙ ap (λ (o : Order). Some (has_gone q o)) (order_same P m T f order owners s);
-          floor = k.floor;
+          floor = record {
+            low = k.floor;
+            flat = λ flat. f.sending.flat_home flat page at;
+          };
         }
     | Held holder stage away many holds ↦ absurd (true≢false (sym (ap is_some at) ∙ away))
   ]
@@ -132,7 +149,7 @@ module _ {E : Type 0} (X : Election E) (P : Protocol E (Unit {0}) ℕ) (m : Mach
     -- what the page knows, and what stands behind it
     record IsFront (page : Page) (published : Bool) : Type 0 where
       front : List ℕ
-      known : KnowsFront (base_of m) m.layout.senders t page front
+      known : KnowsFront (base_of m) m.layout t page front
       behind : T.log ≡ front ++ cond published (frame_words (frame_of core.0.queue t)) []
 
     -- the frames have as many words as the length says
@@ -166,7 +183,10 @@ module _ {E : Type 0} (X : Election E) (P : Protocol E (Unit {0}) ℕ) (m : Mach
               entries = knows.entries;
               next = knows.next;
               left = knows.left;
-              floor = knows.floor;
+              floor = record {
+                low = knows.floor;
+                flat = λ flat. w.flat (ap (λ (x : Layout). x.passers) part.layout ∙ flat);
+              };
             };
             ended = knows.ended;
             tenures = knows.tenures;
@@ -201,7 +221,10 @@ module _ {E : Type 0} (X : Election E) (P : Protocol E (Unit {0}) ℕ) (m : Mach
               entries = knows.entries;
               next = knows.next;
               left = knows.left;
-              floor = knows.floor;
+              floor = record {
+                low = knows.floor;
+                flat = λ flat. w.flat (ap (λ (x : Layout). x.passers) part.layout ∙ flat);
+              };
             };
             ended = knows.ended;
             tenures = knows.tenures;
@@ -271,12 +294,6 @@ module _ {E : Type 0} (X : Election E) (P : Protocol E (Unit {0}) ℕ) (m : Mach
     pub its_part : Part (base_of m) m.layout f.V f.frames p v.core
     its_part = f.sending.parts p v.core (f.core_of p v at)
 
-    -- it loads no passed place
-    pub none_passed : IsLayout m.layout → (t : ℕ) (q : Passing) → situation X v ≡ ReadsPassed t q
-        → ⊥
-    none_passed ok =
-        never_passes X v (ap (λ (x : Layout). x.passers) its_part.layout ∙ ok.passers)
-
     -- its log begins where that of the machine does
     pub its_start : log_start v.core.layout v.reuse ≡ log_place m.layout m.reuse
     its_start = ap (λ x. log_start x v.reuse) its_part.layout ∙ f.starts p v at
@@ -296,11 +313,11 @@ module _ {E : Type 0} (X : Election E) (P : Protocol E (Unit {0}) ℕ) (m : Mach
     writes t page stored ph =
         let fits = subst (Fits (base_of m) f.V f.frames v.core) ph its_part.fits in fits.1
 
-    -- it is stored past the length
+    -- it is stored past the length, in a cell that no word has which stands
     pub past : (t : ℕ) (page : Page) (stored word : ℕ) (o : Op)
         → situation X v ≡ Does (StoresWord t page stored)
         → (line_now X v).op word ≡ Some o
-        → register o ≡ log_place m.layout m.reuse + slice_index m.words 0 + stored
+        → IsPastLength m stored o
     past t page stored word o i next =
         let own = own_is X v (StoresWord t page stored) i in
         let ph = tells X v.core (StoresWord t page stored) own in
@@ -312,9 +329,19 @@ module _ {E : Type 0} (X : Election E) (P : Protocol E (Unit {0}) ℕ) (m : Mach
           0 = log_start v.core.layout v.reuse + cell_of v.core.layout (page.words + stored);
         } (slice_index (frame_words (frame_of v.core.queue t)) stored)) =
         ap (λ z. (line X v z).op word) i in
-        let straight = word_straight X v.core t page stored own w.page_knows.floor in
-        let place : register o
-        ≡ log_place m.layout m.reuse + cell_of v.core.layout (page.words + stored) =
-        ap register (same_Some _ _ (sym next ∙ due))
-        ∙ ap (λ n. n + cell_of v.core.layout (page.words + stored)) its_start in
-        omega arith
+        let room = word_room v.core t page stored ph.0 ph.1
+        (ap (situation_at X v.core) (sym ph.1) ∙ own) in
+        record {
+          cell =
+              ap register (same_Some _ _ (sym next ∙ due))
+              ∙ ap (λ n. n + cell_of v.core.layout (page.words + stored)) its_start
+              ∙ ap (λ (x : Layout).
+              log_place m.layout m.reuse + (page.words + stored) % x.capacity) its_part.layout
+              ∙ ap (λ n. log_place m.layout m.reuse + (n + stored) % m.layout.capacity) knows;
+          room =
+              let fits = room.0 in
+              let left = room.1 in
+              let capacity_is = ap (λ (x : Layout). x.capacity) its_part.layout in
+              let floor_is = f.floored p v t page stored ph.0 at ph.1 in
+              let low = f.low in omega arith;
+        }

@@ -19,7 +19,7 @@ use Rattle.bus_tenure.specs.Situations.{situation_of}
 use Rattle.bus_tenure.specs.declared.pages.Page.{Page}
 use Rattle.bus_tenure.specs.declared.turns.Turn.TheVariants as turn
 use Rattle.bus_world.specs.Turning.{home_moved, words_after}
-use Rattle.bus_world.specs.World.{Event, Put, Ask, Turn, Recv, Stop}
+use Rattle.bus_world.specs.World.{Event, Put, Ask, Turn, Recv, Stop, Gone}
 use Rattle.bus_world.specs.declared.events.Answer.{Answer}
 use Rattle.bus_world.specs.declared.events.Answer.TheVariants as answer
 use Rattle.bus_world.proofs.Stopping.{shown_there}
@@ -131,7 +131,9 @@ opens_only {E} X m m' T T' (Ask s asked) a p p' told h t opened leaves =
     (ap (λ (y : Machine E). y.words) h.after)
 opens_only {E} X m m' T T' (Turn s word) a p p' told h t opened leaves = by_turn X m m' T T'
     (Turn s word) a p p' told t opened leaves s word refl h (situation X h.sender) refl
-opens_only {E} X m m' T T' (Recv r) a p p' told h t opened leaves = same_words X m m' T T' (Recv r)
-    a p p' told t opened leaves (ap (λ (y : Machine E). y.words) h.after)
+opens_only {E} X m m' T T' (Recv r) a p p' told h t opened leaves = page_stays X m m' T T' (Recv r)
+    a p p' told t opened leaves (ap (λ (y : Machine E). y.home) h.after)
 opens_only {E} X m m' T T' (Stop s) a p p' told h t opened leaves = same_words X m m' T T' (Stop s)
     a p p' told t opened leaves (ap (λ (y : Machine E). y.words) h.after)
+opens_only {E} X m m' T T' (Gone r) a p p' told h t opened leaves = page_stays X m m' T T' (Gone r)
+    a p p' told t opened leaves (ap (λ (y : Machine E). y.home) h.after)

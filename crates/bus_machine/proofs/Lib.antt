@@ -3,6 +3,7 @@ pub mod Own
 pub mod Joining
 pub mod AtNone
 pub mod AtHome
+pub mod ProtocolParts
 pub mod CyclicTurns
 pub mod AtSome
 pub mod Leading
@@ -22,10 +23,12 @@ pub mod Remembering
 pub mod Losing
 pub mod Telling
 pub mod Promised
+pub mod Floors
 pub mod Following
 pub mod PinBounds
 pub mod Leaving
 pub mod StopLaws
+pub mod Giving
 pub mod Holding
 pub mod TurnLaws
 pub mod HandTells
@@ -37,4 +40,5 @@ pub mod Calls
 pub mod SameActions
 pub mod RefusalLaws
 mod PromiseRefused
+mod LeaveLaws
 mod LogRefused

@@ -1,13 +1,19 @@
 -- No promise holds of a log that lacks what was put, or has a word that was never stored.
-use Rattle.std.proofs.Common.{◌≡◌, ℕ, ◌+◌, ◌*◌, ◌^◌, List, [], ◌∷◌, ◌++◌, length, map, arith, ◌∙◌}
-use Rattle.std.proofs.Common.{ap, sym}
-use Rattle.bus_batch.proofs.FrameLaws.{spells_one}
-use Rattle.bus_batch.specs.Frames.{Frame, Order, body_words, log_words}
+use Rattle.std.proofs.Common.{◌≡◌, ◌⊎◌, inl, inr, ℕ, ◌+◌, ◌*◌, ◌^◌, ◌<◌, ◌≤◌, List, [], ◌∷◌, ◌++◌}
+use Rattle.std.proofs.Common.{drop, length, map, slice_index, arith, sym, ◌∙◌, ap, subst}
+use Rattle.std.proofs.lemmas.Grind.{flat_map-append}
+use Rattle.std.proofs.Math.Seq.{drop-append_seam}
+use Rattle.std.proofs.lemmas.List.{length-append}
+use Rattle.bus_batch.proofs.FrameLaws.{same_log, spells_one}
+use Rattle.bus_batch.specs.Frames.{Frame, Order, body_words, frame_words, log_words}
 use Rattle.bus_batch.specs.declared.messages.Item.{Item}
 use Rattle.bus_deliverylog.specs.Orders.{of_sender}
 use Rattle.bus_tenure.specs.Core.{Election}
 use Rattle.bus_world.specs.Waiting.{waiting_at}
-use Rattle.bus_machine.specs.Machine.{Machine, Trails}
+use Rattle.bus_world.proofs.LogLaws.{index-read}
+use Rattle.bus_world.specs.Proved.Floors.{IsBoundary}
+use Rattle.bus_machine.specs.Machine.{Machine, Trails, floor_of, log_of, log_place}
+use Rattle.bus_machine.specs.Promise.{IsPromised}
 use Rattle.bus_machine.specs.LogRefusals.{LogsRefuse}
 
 no_zero_head : (frames : List Frame) (rest : List ℕ) → log_words frames ≡ 0 ∷ rest → ⊥
@@ -21,9 +27,64 @@ no_zero_head (f ∷ fs) rest e = positive (f.owner.0 * 2 ^ 54) (length (body_wor
     positive : (a b c : ℕ) → 2 ^ 62 + a + b + c ≡ 0 → ⊥
     positive a b c e = omega arith
 
+-- where some frames end there is no place within another one
+apart : (front back rest rest' : List Frame) (f : Frame) → front ++ f ∷ rest ≡ back ++ rest'
+    → (length (log_words back) ≤ length (log_words front))
+    ⊎ (length (log_words front) + length (frame_words f) ≤ length (log_words back))
+apart front [] rest rest' f e = inl (omega arith)
+apart [] (g ∷ back) rest rest' f e =
+    let same : f ≡ g = cc in
+    let long = length-append (frame_words g) (log_words back) in
+    let one = ap (λ (w : Frame). length (frame_words w)) same in
+    inr (omega arith)
+apart (h ∷ front) (g ∷ back) rest rest' f e =
+    let same : h ≡ g = cc in
+    let later : front ++ f ∷ rest ≡ back ++ rest' = cc in
+    let one = ap (λ (w : Frame). length (frame_words w)) same in
+    let long = length-append (frame_words h) (log_words front) in
+    let long' = length-append (frame_words g) (log_words back) in
+    elim (apart front back rest rest' f later) [
+      | inl low ↦ inl (omega arith)
+      | inr high ↦ inr (omega arith)
+    ]
+
+none_within : (front rest : List Frame) (f : Frame) (place : ℕ)
+    → IsBoundary (front ++ f ∷ rest) place → length (log_words front) < place
+    → place < length (log_words front) + length (frame_words f) → ⊥
+none_within front rest f place b low high = elim (apart front b.front rest b.rest f b.frames_are) [
+  | inl a ↦ (let at = b.place_is in absurd (omega arith))
+  | inr a ↦ (let at = b.place_is in absurd (omega arith))
+]
+
+-- what stands is the words of the frames from the floor on
+last_frames : {E : Type 0} (X : Election E) (m : Machine E) (T : Trails) (k : IsPromised X m T)
+    → log_of m ≡ log_words k.by.edge.rest
+last_frames X m T k =
+    let s = k.by.spelled in
+    let b = k.by.edge in
+    k.by.stands.1 ∙ ap (drop (floor_of m)) (sym s.words_are)
+    ∙ ap (λ fs. drop (floor_of m) (log_words fs)) b.frames_are
+    ∙ ap (λ n. drop n (log_words (b.front ++ b.rest))) b.place_is
+    ∙ ap (drop (length (log_words b.front))) (flat_map-append frame_words b.front b.rest)
+    ∙ drop-append_seam (log_words b.front) (log_words b.rest)
+
 pub logs_refused : {E : Type 0} (X : Election E) (m : Machine E) (T : Trails) → LogsRefuse X m T
 logs_refused {E} X m T = record {
   other_words = λ other kept. other kept.by.stands;
+  wrapped = λ place flat low other kept.
+      let long = kept.by.stands.0 in
+      let below : place < slice_index m.words 0 = omega arith in
+      other
+      (sym (index-read (slice_index m.words) (log_place m.layout m.reuse) (slice_index m.words 0)
+      place below)
+      ∙ ap (λ ws. slice_index ws place) (kept.by.below flat));
+  floor_within_a_frame = λ front rest f lawful are past below kept.
+      let s = kept.by.spelled in
+      let same = same_log m.layout.senders 0 0 s.frames (front ++ f ∷ rest) s.lawful lawful
+      (s.words_are ∙ sym are) in
+      none_within front rest f (floor_of m)
+      (subst (λ fs. IsBoundary fs (floor_of m)) same kept.by.edge) past below;
+  passed_ahead = λ r v at stays past kept. let low = kept.by.comes r v at stays in omega arith;
   dropped = λ s v order owners at spelled other kept.
       let one = spells_one m.layout.senders T.log kept.order order kept.owners owners
       kept.by.spelled spelled in
@@ -31,6 +92,6 @@ logs_refused {E} X m T = record {
       map (λ (i : Item). i.message) (of_sender s o) ++ waiting_at v.core v.core.phase in
       other (kept.by.sent s v at ∙ ap stand one.0);
   length_before_words =
-      λ rest zero kept. no_zero_head kept.by.spelled.frames rest
-      (kept.by.spelled.words_are ∙ sym kept.by.stands ∙ zero);
+      λ rest zero kept.
+      no_zero_head kept.by.edge.rest rest (sym (last_frames X m T kept) ∙ zero);
 }

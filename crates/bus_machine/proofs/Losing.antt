@@ -26,7 +26,7 @@ use Rattle.bus_tenure.specs.Situations.{Situation as Own, IsClosed, IsIdle, IsSp
 use Rattle.bus_tenure.specs.Situations.{Elects, TakesPage, AwaitsPage, StoresWord, StoresLength}
 use Rattle.bus_tenure.specs.Situations.{GivesBack, HasHanded, situation_of}
 use Rattle.bus_world.specs.Turning.{after_step}
-use Rattle.bus_world.specs.World.{Event, Put, Ask, Turn, Recv, Stop}
+use Rattle.bus_world.specs.World.{Event, Put, Ask, Turn, Recv, Stop, Gone}
 use Rattle.bus_world.specs.declared.events.Answer.{Answer}
 use Rattle.bus_machine.proofs.Ending.{elected_more}
 use Rattle.bus_machine.proofs.Framed.{framed}
@@ -256,6 +256,8 @@ module _ {E : Type 0} (X : Election E) (P : Protocol E (Unit {0}) ℕ) where
       none_other X m m' T (Recv q) a l (ap (λ (y : Machine E). y.senders) h.after)
   event_losses m m' T (Stop s) a sits r h l =
       none_other X m m' T (Stop s) a l (ap (λ (y : Machine E). y.senders) h.after)
+  event_losses m m' T (Gone q) a sits r h l =
+      none_other X m m' T (Gone q) a l (ap (λ (y : Machine E). y.senders) h.after)
 
   -- nobody has lost a tenure at the start
   new_losses : (m : Machine E) → IsNew m → LossesAreSeen m (λ q. [])

@@ -11,7 +11,9 @@ use Rattle.bus_core.specs.Keeping.{new_reuse}
 use Rattle.bus_core.specs.Senders.{Sender, Situation, Does, Announces, Validates, Unpins, Withdraws}
 use Rattle.bus_core.specs.Senders.{Scans, Clears, ReadsPassed, situation}
 use Rattle.bus_core.specs.Table.{line, line_now, seen, presence_of, reuse_elected, reuse_taken}
-use Rattle.bus_core.specs.Table.{reuse_given, reuse_pinning, reuse_reclaiming}
+use Rattle.bus_core.specs.Table.{reuse_given, reuse_passed, reuse_pinning, reuse_reclaiming}
+use Rattle.bus_core.specs.Reusing.Passing.{core_passed, passing_fed}
+use Rattle.bus_core.specs.declared.reuses.Passing.{Passing}
 use Rattle.bus_core.specs.declared.reuses.Reuse.{Reuse}
 use Rattle.bus_presence.specs.Reclamation.{Entry}
 use Rattle.bus_presence.specs.Reclaimers.{Reclaiming}
@@ -24,19 +26,19 @@ use Rattle.bus_tenure.specs.Core.{Core, Election, stage_at}
 use Rattle.bus_tenure.specs.Seen.{tenure_of}
 use Rattle.bus_tenure.specs.Situations.{LooksAtStage, Elects, TakesPage, AwaitsPage, StoresWord}
 use Rattle.bus_tenure.specs.Situations.{StoresLength, GivesBack, HasHanded, waits, core_begun}
-use Rattle.bus_tenure.specs.Situations.{Situation as Own, situation_of, core_elected}
+use Rattle.bus_tenure.specs.Situations.{Situation as Own, situation_of, core_elected, core_floored}
+use Rattle.bus_tenure.specs.Situations.{phase_floored}
 use Rattle.bus_tenure.specs.declared.pages.Page.{Page}
 use Rattle.bus_tenure.specs.declared.phases.Phase.{Phase}
 use Rattle.bus_tenure.specs.declared.phases.Phase.TheVariants as phase
 use Rattle.bus_world.specs.Headline.{Action}
 use Rattle.bus_world.specs.Turning.{after_step, core_moved, core_with_page}
 use Rattle.bus_world.specs.World.{Turn}
-use Rattle.bus_machine.proofs.Framed.{framed}
 use Rattle.bus_machine.proofs.EachSender.{OfEach, pins_added, each}
 use Rattle.bus_machine.proofs.Entering.{entry, entry_from, entry_in, may_enter, pin_is}
 use Rattle.bus_machine.proofs.Entering.{phase_tells, stands_in, enters}
 use Rattle.bus_machine.proofs.Rising.{rises}
-use Rattle.bus_machine.proofs.Knowing.{none_passed}
+use Rattle.bus_machine.proofs.Knowing.{HasPage, passes_held}
 use Rattle.bus_machine.proofs.Leading.{Sits}
 use Rattle.bus_machine.specs.Bounding.{named_by, is_tenure, pins_from, steps_of_pin, IsNamedFirst}
 use Rattle.bus_machine.specs.Bounding.{PinsAreBounded}
@@ -213,6 +215,10 @@ reclaiming_same : (r : Option Reuse) (q : Reclaiming) → pin_of (reuse_reclaimi
 reclaiming_same None q = refl
 reclaiming_same (Some r) q = refl
 
+passed_same : (r : Option Reuse) (p : Passing) → pin_of (reuse_passed r p) ≡ pin_of r
+passed_same None p = refl
+passed_same (Some r) p = refl
+
 -- ---- one turn of sender p
 module _ {E : Type 0} (X : Election E) (P : Protocol E (Unit {0}) ℕ) (m : Machine E) (T : Trails)
     (sits : Sits X P m) (reached : Reached X m T) (p : ℕ) (v : Sender E)
@@ -382,6 +388,14 @@ module _ {E : Type 0} (X : Election E) (P : Protocol E (Unit {0}) ℕ) (m : Mach
         spent (t == s) 1 (room (entry v.core) stage s) (room (entry v.core) stage s) (omega arith))
         (below t (stage / 2) fits.0 (λ j. is.1 (sym j)), refl)
 
+  -- its page gets its floor, or not
+  floored : (t : ℕ) → HasPage t v.core.phase → (least : ℕ) (b : Bool)
+      → Pins (entry (cond b (core_floored v.core least) v.core)) (pin_of v.reuse) stage now
+  floored t h least true = subst (λ n. Pins n (pin_of v.reuse) stage now)
+      (sym (ap (λ ph. entry_from (tenure_of (phase_floored least ph)) v.core.least) h.has))
+      (goes_in t _ h.has refl (pin_of v.reuse) refl)
+  floored t h least false = still
+
   by_turn : (z : Situation E) → situation X v ≡ z → After z
   by_turn (Does LooksAtStage) i = looks i v.reuse
   by_turn (Does (Elects t e)) i =
@@ -427,7 +441,9 @@ module _ {E : Type 0} (X : Election E) (P : Protocol E (Unit {0}) ℕ) (m : Mach
       subst (λ u. Pins (entry v.core) u stage now) (sym (reclaiming_same v.reuse _))
       still
   by_turn (ReadsPassed t q) i =
-      absurd (none_passed X P m T (framed X P m T sits reached) p v at sits.ok t q i)
+      let l = passing_fed q (got (ReadsPassed t q)) in
+      subst (λ u. Pins (entry (core_passed v.core l)) u stage now) (sym (passed_same v.reuse l))
+      (floored t (passes_held X v t q i) l.least (l.loaded == v.core.layout.passers))
   by_turn z i = still
 
 -- ---- of all senders

@@ -10,14 +10,16 @@ use Rattle.bus_world.proofs.Growing.{prefix_after}
 use Rattle.bus_world.specs.World.{Event}
 use Rattle.bus_world.specs.declared.events.Answer.{Answer}
 use Rattle.bus_machine.proofs.AtNone.{event_reuse}
-use Rattle.bus_machine.proofs.Framed.{history}
+use Rattle.bus_machine.proofs.Floors.{one_floor, raises}
+use Rattle.bus_machine.proofs.Framed.{framed, history, history_below}
 use Rattle.bus_machine.proofs.Joining.{joins}
 use Rattle.bus_machine.proofs.Leading.{Sits, sits_after}
 use Rattle.bus_machine.proofs.Promised.{promised}
 use Rattle.bus_machine.proofs.Staying.{Longer, stays_long, grown_longer, promise_stays}
-use Rattle.bus_machine.specs.Machine.{Machine, Trails, Reached, trails_grown, stage_of}
+use Rattle.bus_machine.specs.Machine.{Machine, Trails, Reached, ShowsLog, StandsBelow}
+use Rattle.bus_machine.specs.Machine.{trails_grown, stage_of}
 use Rattle.bus_machine.specs.Playing.{Answers, AllAnswered, trails_after, words_after, Played}
-use Rattle.bus_machine.specs.Promise.{HasGoneOn, actions_in, words_joined}
+use Rattle.bus_machine.specs.Promise.{FloorsRise, HasGoneOn, IsPageOf, actions_in, words_joined}
 
 -- one event more
 pub answered_more : {S : Type 0} (X : Election (Elector S)) (P : Protocol S Bool Verdict)
@@ -101,6 +103,19 @@ module _ {S : Type 0} (X : Election (Elector S)) (Q : Protocol S Bool Verdict) w
       run_stays events run.0 new run.3 (trails_grown X old e run.1 T) (one.reached T r) t s still
       ∙ one.stays T r t s gone
 
+  run_floors : (P : Protocol (Elector S) (Unit {0}) ℕ) (events : List Event)
+      (old new : Machine (Elector S)) → AllAnswered X Q old events new → (T : Trails) → Sits X P old
+      → Reached X old T → FloorsRise old new
+  run_floors P [] old new run T s r page next has has' =
+      let same = one_floor P old T (framed X P old T s r) page next has
+      (subst (λ y. IsPageOf y next) run has') in omega arith
+  run_floors P (e ∷ events) old new run T s r page next has has' =
+      let one = raises X old run.0 P T e run.1 s r run.2.happens page has in
+      let rest = run_floors P events run.0 new run.3 (trails_grown X old e run.1 T)
+      (sits_after X P old run.0 e run.1 run.2.happens s) (run.2.follows.reached T r) one.0 next
+      one.1 has' in
+      let higher = one.2 in omega arith
+
   sits_on :
       (P : Protocol (Elector S) (Unit {0}) ℕ) (events : List Event) (old new : Machine (Elector S))
       → AllAnswered X Q old events new → Sits X P old → Sits X P new
@@ -116,10 +131,14 @@ module _ {S : Type 0} (X : Election (Elector S)) (Q : Protocol S Bool Verdict) w
     answered = run;
     extends = record {
       led = (T₀, r₀);
-      stands = λ T r. history X P new (trails_after X Q old events new run T)
-          (sits_on P events old new run s) (run_reached events old new run T r)
-          ∙ run_joins events old new run T;
+      stands = λ T r. subst (ShowsLog new) (run_joins events old new run T)
+          (history X P new (trails_after X Q old events new run T)
+          (sits_on P events old new run s) (run_reached events old new run T r));
+      below = λ T r. subst (StandsBelow new) (run_joins events old new run T)
+          (history_below X P new (trails_after X Q old events new run T)
+          (sits_on P events old new run s) (run_reached events old new run T r));
       rises = run_rises events old new run;
+      floors = run_floors P events old new run T₀ s r₀;
       reached = λ T r. run_reached events old new run T r;
       promised = λ T r. promise_stays X old new T (trails_after X Q old events new run T)
           (ap (λ (x : Layout). x.senders) (run_same events old new run).0) (promised X P old T s r)

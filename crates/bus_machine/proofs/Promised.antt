@@ -4,7 +4,7 @@ use Rattle.std.proofs.Common.{ℕ, map, refl}
 use Rattle.bus_batch.specs.Frames.{Spells, order_of, tenure_and_owner}
 use Rattle.bus_register.specs.Protocol.{Protocol}
 use Rattle.bus_tenure.specs.Core.{Election}
-use Rattle.bus_machine.proofs.Framed.{IsFramed, framed, reuses}
+use Rattle.bus_machine.proofs.Framed.{IsFramed, framed, read_below, reuses, floors_low}
 use Rattle.bus_machine.proofs.Knowing.{knows, out, past, owns, counts}
 use Rattle.bus_machine.proofs.Leading.{Sits}
 use Rattle.bus_machine.proofs.Paging.{paged_it, takes_it, holds_it}
@@ -34,12 +34,16 @@ module _ {E : Type 0} (X : Election E) (P : Protocol E (Unit {0}) ℕ) (m : Mach
 
   -- the promise
   pub promised : IsPromised X m T
+  unfolding spelled
   promised = record {
     order = order_of f.frames;
     owners = map tenure_and_owner f.frames;
     by = record {
       stands = f.stands;
+      below = λ flat. read_below P m T f flat;
       spelled = spelled;
+      edge = f.edge;
+      comes = λ p v at stays. (f.reads p v at).3 stays;
       takers = told;
       promises = f.promises;
       paged = paged_it X P m T s f;
@@ -49,6 +53,7 @@ module _ {E : Type 0} (X : Election E) (P : Protocol E (Unit {0}) ℕ) (m : Mach
       counts = counts X P m T f told;
       knows = knows X P m T f (order_of f.frames) (map tenure_and_owner f.frames) spelled;
       out = out X P m T f told;
+      floors = λ page has. floors_low P m T f page has;
       past = λ p v t page stored word o at. past X P m T f p v at t page stored word o;
       sent = f.puts;
       remembers = remembered X P m T s r;

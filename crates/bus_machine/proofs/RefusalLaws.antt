@@ -1,10 +1,13 @@
 -- Answers, memories and machines that the definitions refuse.
-use Rattle.std.proofs.Common.{◌+◌, ◌≡◌, ◌⊎◌, inl, inr, ℕ, ◌≤◌, Bool, true, false, cond, Option}
+use Rattle.std.proofs.Common.{◌+◌, ◌≡◌, ◌⊎◌, inl, inr, ℕ, ◌<◌, ◌≤◌, Bool, true, false, cond}
+use Rattle.std.proofs.Common.{Option}
 use Rattle.std.proofs.Common.{Some, None, IsSome, List, [], ◌∷◌, ◌++◌, drop, length, map}
 use Rattle.std.proofs.Common.{slice_get, slice_index, arith, refl, sym, ◌∙◌, ap, subst}
-use Rattle.std.proofs.lemmas.Bool.{true≢false}
+use Rattle.std.proofs.Math.Nat.{mod-eq_of_lt}
+use Rattle.std.proofs.lemmas.Bool.{cases_lt, true≢false}
 use Rattle.std.proofs.lemmas.Option.{same_Some, slice_get_within}
-use Rattle.std.proofs.lemmas.List.{append-nil, length-append}
+use Rattle.std.proofs.lemmas.List.{append-nil, drop-append-le, get_or_append_left, length-append}
+use Rattle.std.proofs.lemmas.List.{length-drop}
 use Rattle.bus_batch.proofs.FrameLaws.{same_frame, same_log, spells_one}
 use Rattle.bus_batch.specs.Frames.{Frame, Order, Spells, AreFrames, frame_words, items_of}
 use Rattle.bus_batch.specs.Frames.{log_words, order_of, has_end, has_gone, tenure_and_owner}
@@ -14,6 +17,7 @@ use Rattle.bus_batch.specs.declared.messages.Item.{Item}
 use Rattle.bus_core.specs.Senders.{Sender}
 use Rattle.bus_deliverylog.specs.Orders.{of_sender}
 use Rattle.bus_core.specs.Reusing.Keeping.{held_of}
+use Rattle.bus_presence.proofs.ReclamationKept.{one_of_row}
 use Rattle.bus_presence.specs.declared.pins.Pin.TheVariants.{Unpinning}
 use Rattle.bus_register.specs.declared.kinds.Kind.TheVariants as kind
 use Rattle.bus_register.specs.declared.registers.SenderNo.{SenderNo}
@@ -33,12 +37,13 @@ use Rattle.bus_batch.specs.declared.messages.Mark.{Mark}
 use Rattle.bus_world.specs.declared.events.Answer.{Answer}
 use Rattle.bus_world.specs.declared.events.Answer.TheVariants as answer
 use Rattle.bus_machine.proofs.Ending.{has_gone_last}
+use Rattle.bus_machine.proofs.Framed.{floor_first}
 use Rattle.bus_machine.proofs.SameActions.{says_no_more}
 use Rattle.bus_register.specs.Proved.TableLaws.{get_set_same}
 use Rattle.bus_machine.specs.Bounding.{steps_towards, steps_of_pin, IsNamedFirst}
 use Rattle.bus_machine.specs.Machine.{base_of, Machine, Trails, TakesMark, has_stopped, mark_in}
-use Rattle.bus_machine.specs.Machine.{stage_of}
-use Rattle.bus_machine.specs.Promise.{IsPagedBy, ReusesSafely}
+use Rattle.bus_machine.specs.Machine.{ShowsLog, floor_of, log_place, stage_of}
+use Rattle.bus_machine.specs.Promise.{IsPagedBy, ReusesSafely, words_joined}
 use Rattle.bus_machine.specs.Machine.{words_of_frame}
 use Rattle.bus_machine.specs.Refusals.{LossesRefuse, AnswersRefuse, SaysMore, NumbersRefuse}
 use Rattle.bus_machine.specs.Refusals.{BoundsRefuse, FollowsRefuse, PagesRefuse, MemoriesRefuse}
@@ -46,6 +51,7 @@ use Rattle.bus_machine.specs.Refusals.{WordsRefuse, MarksRefuse}
 use Rattle.bus_machine.specs.Remembering.{HasEnded, HasLeftIt, rows_in}
 use Rattle.bus_machine.specs.Telling.{ClosedTells}
 use Rattle.bus_world.proofs.Framing.{not_nil}
+use Rattle.bus_world.proofs.LogLaws.{index-read}
 use Rattle.bus_world.proofs.Stopping.{shown_there}
 
 nothing_there : (i : ℕ) (d : Action) → slice_get [] i ≡ Some d → ⊥
@@ -198,7 +204,7 @@ module _ {E : Type 0} (m : Machine E) where
         let same = delivered_last m log p t first last front f lawful are told in
         other
         (counts_from first i (items_of told.frame) rest told.numbers (ap items_of same ∙ items));
-    full_with_room = λ room told. omega arith;
+    full_with_room = λ room told. let lacks = told.lacks in omega arith;
     left_without_mark = λ t order owners spelled stays told.
         stays_in m log p order owners spelled stays (left_told m log p t told);
     left_elsewhere = λ t front f lawful are other told.
@@ -301,9 +307,8 @@ says_more t before after = record {
 }
 
 -- a frame has a word
-nothing_joins : (xs : List ℕ) (f : Frame) → xs ≡ xs ++ frame_words f → ⊥
-nothing_joins xs f e =
-    let many = ap length e in let more = length-append xs (frame_words f) in omega arith
+nothing_joins : (xs : List ℕ) (f : Frame) → length xs ≡ length (xs ++ frame_words f) → ⊥
+nothing_joins xs f many = let more = length-append xs (frame_words f) in omega arith
 
 -- what joins one front is the same
 front_off : (xs ys zs : List ℕ) → xs ++ ys ≡ xs ++ zs → ys ≡ zs
@@ -321,6 +326,16 @@ back_off (x ∷ xs) (y ∷ ys) zs e =
     let first : x ≡ y = ap (λ l. slice_index l 0) e in
     ap (λ h. h ∷ xs) first ∙ ap (λ l. y ∷ l) (back_off xs ys zs (ap (drop 1) e))
 
+-- what is behind more than a front is less than its end
+too_short : (n : ℕ) (xs ys zs : List ℕ) → length xs < n → ys ++ zs ≡ drop n (xs ++ zs)
+    → 0 < length zs → ⊥
+too_short n xs ys zs past e some =
+    let many = ap length e in
+    let left = length-drop n (xs ++ zs) in
+    let all = length-append xs zs in
+    let more = length-append ys zs in
+    omega arith
+
 pub follows_refused :
     {E : Type 0} (X : Election E) (old : Machine E) (e : Event) (a : Answer) (new : Machine E)
     → FollowsRefuse X old e a new
@@ -329,19 +344,40 @@ follows_refused X old e a new = record {
       let more = f.rises in
       let before : stage_of old ≡ 2 = ap (λ l. slice_index l 1) was in
       let after : stage_of new ≡ 1 = ap (λ l. slice_index l 1) now in omega arith;
+  floor_falls = λ page next has has' falls f.
+      let rises = f.floors page next has has' in omega arith;
   led_by_nothing = λ nothing f. nothing f.led.0 f.led.1;
   grows_unpublished = λ T led none other f.
-      other (f.stands T led ∙ ap (λ o. T.log ++ words_of_frame o) none ∙ append-nil T.log);
+      other (subst (ShowsLog new)
+      (ap (λ o. T.log ++ words_of_frame o) none ∙ append-nil T.log) (f.stands T led));
   publishes_nothing = λ T g led some same f. nothing_joins T.log g
-      (sym same ∙ f.stands T led ∙ ap (λ o. T.log ++ words_of_frame o) some);
-  other_frame = λ T senders g k led some lawful lawful' apart has f.
-      let both = front_off T.log (frame_words k) (frame_words g)
-      (sym has ∙ f.stands T led ∙ ap (λ o. T.log ++ words_of_frame o) some)
-      in
+      (sym same.0 ∙ (f.stands T led).0 ∙ ap (λ o. length (T.log ++ words_of_frame o)) some);
+  wraps = λ T place led flat low other f.
+      let long = (f.stands T led).0 in
+      let joined = words_joined X old e in
+      let more = length-append T.log joined in
+      let below : place < slice_index new.words 0 = omega arith in
+      other
+      (sym (index-read (slice_index new.words) (log_place new.layout new.reuse)
+      (slice_index new.words 0) place below)
+      ∙ ap (λ ws. slice_index ws place) (f.below T led flat)
+      ∙ get_or_append_left T.log joined 0 place low);
+  other_frame = λ T senders g k led some lawful lawful' apart low has f.
+      let both = front_off (drop (floor_of new) T.log) (frame_words k) (frame_words g)
+      (sym has ∙ (f.stands T led).1
+      ∙ ap (λ o. drop (floor_of new) (T.log ++ words_of_frame o)) some
+      ∙ drop-append-le (floor_of new) T.log (frame_words g) low) in
       apart (same_frame senders k g [] [] lawful' lawful (ap (λ w. w ++ []) both)).0;
   rewritten = λ T g log led some other has f.
-      other (back_off log T.log (frame_words g)
-      (sym has ∙ f.stands T led ∙ ap (λ o. T.log ++ words_of_frame o) some));
+      let both = sym has ∙ (f.stands T led).1
+      ∙ ap (λ o. drop (floor_of new) (T.log ++ words_of_frame o)) some in
+      elim (cases_lt (length T.log) (floor_of new)) [
+        | inl past ↦
+            too_short (floor_of new) T.log log (frame_words g) past both (omega arith)
+        | inr low ↦
+            other (back_off log (drop (floor_of new) T.log) (frame_words g)
+            (both ∙ drop-append-le (floor_of new) T.log (frame_words g) low))
+      ];
 }
 
 -- who holds a page holds one
@@ -359,6 +395,11 @@ pages_refused {E} X m T = record {
   out_while_open = λ t home opened p.
       let k = subst (IsPagedBy (stage_of m) _ _) home p.by.paged in let a = k.1 in omega arith;
   other_tenure = λ page home apart p. apart (subst (IsPagedBy (stage_of m) _ _) home p.by.paged).0;
+  floor_past_length = λ page home past p.
+      let k = subst (IsPagedBy (stage_of m) _ _) home p.by.paged in
+      let words_are = k.1 in
+      let low = (p.by.knows page home).floor.low in omega arith;
+  floor_past_receivers = λ page has past p. let low = p.by.floors page has in omega arith;
   other_items = λ page order owners s home spelled few apart p.
       let one =
       spells_one m.layout.senders T.log order p.order owners p.owners spelled p.by.spelled in
@@ -485,8 +526,19 @@ memories_refused X m T = record {
 -- words of the log stored below the length, and words cleared of rows in which somebody stands
 pub words_refused : {E : Type 0} (X : Election E) (m : Machine E) (T : Trails) → WordsRefuse X m T
 words_refused X m T = record {
-  below_the_length = λ s v t page stored word o at i next below p.
-      let is = p.by.past s v t page stored word o at i next in omega arith;
+  below_the_length = λ s v t page stored word o at i next flat below p.
+      let is = p.by.past s v t page stored word o at i next in
+      let first = floor_first m flat in
+      let room = is.room in
+      let cell = is.cell in
+      let low : slice_index m.words 0 + stored < m.layout.capacity = omega arith in
+      let straight = mod-eq_of_lt low in omega arith;
+  over_a_word = λ s v t page stored word place o at i next low below here p.
+      let is = p.by.past s v t page stored word o at i next in
+      let room = is.room in
+      let cell = is.cell in
+      let same = one_of_row m.layout.capacity place (slice_index m.words 0 + stored)
+      (omega arith) (omega arith) (omega arith) in omega arith;
   clears_under_a_stander = λ rows p q t place word v s o used at i next stands low same k.
       (subst (ReusesSafely X m T) used k.by.reuse).spares p q t place word v s o at i next stands
       low same;

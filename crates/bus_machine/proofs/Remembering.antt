@@ -38,7 +38,8 @@ use Rattle.bus_tenure.specs.Core.{Core, Election}
 use Rattle.bus_tenure.specs.Seen.{tenure_of}
 use Rattle.bus_tenure.specs.Situations.{IsClosed, IsIdle, IsSpent, LooksAtStage, Elects, TakesPage}
 use Rattle.bus_tenure.specs.Situations.{AwaitsPage, StoresWord, StoresLength, GivesBack, HasHanded}
-use Rattle.bus_tenure.specs.Situations.{core_begun, core_elected, core_at_rest, waits}
+use Rattle.bus_tenure.specs.Situations.{core_begun, core_elected, core_floored, core_at_rest, waits}
+use Rattle.bus_core.specs.Reusing.Passing.{passing_fed}
 use Rattle.bus_tenure.specs.declared.pages.Page.{Page}
 use Rattle.bus_tenure.specs.declared.phases.Phase.{Phase}
 use Rattle.bus_tenure.specs.declared.phases.Phase.TheVariants as phase
@@ -57,7 +58,7 @@ use Rattle.bus_world.proofs.Stopping.{shown_there}
 use Rattle.bus_world.specs.Trails.{step_action, put_actions, mark_actions, actions_with}
 use Rattle.bus_world.specs.Turning.{after_step, core_with_page, words_after}
 use Rattle.bus_tenure.specs.declared.turns.Turn.{Turn as Answered}
-use Rattle.bus_world.specs.World.{Event, Put, Ask, Turn, Recv, Stop}
+use Rattle.bus_world.specs.World.{Event, Put, Ask, Turn, Recv, Stop, Gone}
 use Rattle.bus_world.specs.declared.events.Answer.{Answer}
 use Rattle.bus_world.specs.declared.events.Answer.TheVariants as answer
 use Rattle.bus_machine.proofs.AtNone.{event_reuse}
@@ -67,7 +68,7 @@ use Rattle.bus_machine.proofs.Ending.{ended_of, left_of, still_ended, still_left
 use Rattle.bus_machine.proofs.Entering.{entry, entry_from}
 use Rattle.bus_machine.proofs.Framed.{IsFramed, framed}
 use Rattle.bus_machine.proofs.Joining.{grows}
-use Rattle.bus_machine.proofs.Knowing.{order_same, none_passed}
+use Rattle.bus_machine.proofs.Knowing.{order_same}
 use Rattle.bus_machine.proofs.Leading.{Sits, sits_before, sits_after}
 use Rattle.bus_machine.proofs.PinBounds.{PinFits, kept_of}
 use Rattle.bus_machine.proofs.Rising.{rises}
@@ -311,6 +312,7 @@ put_asks bytes answer.Leaving = nothing_asks
 put_asks bytes (answer.Turn t) = nothing_asks
 put_asks bytes (answer.Recv t) = nothing_asks
 put_asks bytes answer.Stopped = nothing_asks
+put_asks bytes answer.Gone = nothing_asks
 
 step_asks : (k : Option Kind) (tenure : Option ℕ) (got : ℕ) (chose : Option ℕ) (told : Answered)
     → AsksNone (step_action k tenure got chose told)
@@ -636,6 +638,11 @@ module _ {E : Type 0} (X : Election E) (P : Protocol E (Unit {0}) ℕ) (m m' : M
         past = λ u small. inl (omega arith);
       }
 
+  -- its page gets its floor, or not
+  floored : (least : ℕ) (b : Bool) → Good (cond b (core_floored v.core least) v.core)
+  floored least true = good (core_floored v.core least) (λ j. j) refl refl
+  floored least false = good v.core (λ j. j) refl refl
+
   -- ---- whatever the turn is
   by_turn : (z : Situation E) → situation X v ≡ z
       → Good (moved (after_step (line X v z).move) m.home ((line X v z).fed (got z) word)).core
@@ -661,7 +668,9 @@ module _ {E : Type 0} (X : Election E) (P : Protocol E (Unit {0}) ℕ) (m m' : M
   by_turn (Withdraws t) i = good v.core (λ j. j) refl refl
   by_turn (Scans q) i = good v.core (λ j. j) refl refl
   by_turn (Clears q) i = good v.core (λ j. j) refl refl
-  by_turn (ReadsPassed t p) i = absurd (none_passed X P m T f s v at sits.ok t p i)
+  by_turn (ReadsPassed t p) i =
+      let l = passing_fed p (got (ReadsPassed t p)) in
+      floored l.least (l.loaded == v.core.layout.passers)
 
   turn_recalls : AllRecall m' U
   turn_recalls =
@@ -705,6 +714,8 @@ module _ {E : Type 0} (X : Election E) (P : Protocol E (Unit {0}) ℕ) where
       none_other X P m m' T (Recv q) a sits r h k (ap (λ (y : Machine E). y.senders) h.after) refl
   event_recalls m m' T (Stop s) a sits r h k =
       none_other X P m m' T (Stop s) a sits r h k (ap (λ (y : Machine E). y.senders) h.after) refl
+  event_recalls m m' T (Gone q) a sits r h k =
+      none_other X P m m' T (Gone q) a sits r h k (ap (λ (y : Machine E). y.senders) h.after) refl
 
   new_recalls : (m : Machine E) → IsNew m → AllRecall m no_machine_trails
   new_recalls m new s v at =

@@ -1,12 +1,17 @@
 -- Whatever happens, the stage never falls.
-use Rattle.std.proofs.Common.{◌≡◌, ◌≢◌, inl, inr, ℕ, ◌+◌, ◌*◌, ◌<◌, ◌≤◌, is_some, Option, Some}
+use Rattle.std.proofs.Common.{◌≡◌, ◌≢◌, inl, inr, ℕ, ◌+◌, ◌*◌, ◌%◌, ◌<◌, ◌≤◌, is_some, Option}
+use Rattle.std.proofs.Common.{Bool, true, false, cond, ◌==◌, ◌&&◌, nat_lt, Some}
 use Rattle.std.proofs.Common.{None, List, length, slice_get, slice_index, slice_set, arith, refl}
 use Rattle.std.proofs.Common.{sym, ◌∙◌, ap, subst}
 use Rattle.std.proofs.lemmas.Bool.{cases_eq}
 use Rattle.std.proofs.lemmas.List.{get_or-set_same, get_or-set_other}
 use Rattle.bus_batch.specs.Batches.{frame_of}
 use Rattle.bus_batch.specs.Frames.{frame_words}
+use Rattle.bus_batch.specs.Reading.{is_between}
 use Rattle.bus_core.proofs.Situated.{own_is}
+use Rattle.bus_deliverylog.specs.Receiving.{Receiving, passing_due, op_by, receiving_op}
+use Rattle.bus_deliverylog.specs.Receiving.{leaving_by, leaving_op}
+use Rattle.bus_register.specs.declared.limits.TheConstants.{PASSED_ALL}
 use Rattle.bus_core.specs.Reusing.Keeping.{held_of}
 use Rattle.bus_core.specs.Reusing.Participants.{sizes_with}
 use Rattle.bus_core.specs.Senders.{Sender, Situation, Does, Announces, Validates, Unpins}
@@ -31,8 +36,9 @@ use Rattle.bus_world.proofs.TenuresLaws as tenures
 use Rattle.bus_world.proofs.Stopping.{shown_there}
 use Rattle.bus_world.specs.Proved.Sending.{Fits, standing_of, stands_at, least_of}
 use Rattle.bus_world.specs.Turning.{words_after}
-use Rattle.bus_world.specs.World.{Event, Put, Ask, Turn, Recv, Stop}
+use Rattle.bus_world.specs.World.{Event, Put, Ask, Turn, Recv, Stop, Gone}
 use Rattle.bus_world.specs.declared.events.Answer.{Answer}
+use Rattle.bus_machine.proofs.AtNone.{passed_past, passes_by}
 use Rattle.bus_machine.proofs.Clearing.{clearing, clears_at}
 use Rattle.bus_machine.proofs.Framed.{IsFramed, framed, reuses}
 use Rattle.bus_machine.proofs.Knowing.{its_part}
@@ -213,22 +219,77 @@ module _ {E : Type 0} (X : Election E) (P : Protocol E (Unit {0}) ℕ) (m m' : M
 
 -- ---- whatever happens
 module _ {E : Type 0} (X : Election E) (P : Protocol E (Unit {0}) ℕ) (m m' : Machine E) (T : Trails)
-    (sits : Sits X P m) (f : IsFramed P m T)
+    (sits : Sits X P m) (reached : Reached X m T) (f : IsFramed P m T)
     (u : ReusesSafely X m T m.reuse) where
   -- words that are as before
   same_words : m'.words ≡ m.words → stage_of m ≤ stage_of m'
   same_words is = let same = ap (λ w. slice_index w stage_at) is in omega arith
 
+  -- ---- a step of a receiver
+  -- a passed place is another word than the stage
+  apart : (r : ℕ) (v : Receiving) → slice_get m.receivers r ≡ Some v → (place : ℕ)
+      → v.passed_at ≡ Some place → stage_at ≢ place
+  apart r v at place is same =
+      let past = passed_past m.layout m.reuse r place (sym (passes_by X m T reached r v at) ∙ is) in
+      omega arith
+
+  -- a store in it leaves the stage
+  stores_beside : (place n : ℕ) → stage_at ≢ place
+      → slice_index (words_after m.words (Some (Store record { 0 = place } n))) stage_at
+      ≡ stage_of m
+  stores_beside place n ne = get_or-set_other m.words place stage_at n 0 ne
+
+  due_there : (v : Receiving) (place : ℕ) → passing_due v ≡ Some place → v.passed_at ≡ Some place
+  due_there v place = by (is_between v.frames.place && nat_lt v.passed v.place) where
+    by : (b : Bool) → cond b v.passed_at None ≡ Some place → v.passed_at ≡ Some place
+    by true e = e
+    by false e = absurd cc
+
+  hears_on : (r : ℕ) (v : Receiving) → slice_get m.receivers r ≡ Some v
+      → IsOnWord m (receiving_op v)
+      → slice_index (words_after m.words (receiving_op v)) stage_at ≡ stage_of m
+  hears_on r v at = by v.ended (passing_due v) refl where
+    load : (b : Bool) → IsOnWord m (Some (cond b (Load record { 0 = v.length_at })
+        (Load record { 0 = v.log_at + v.place % v.log_words })))
+        → slice_index (words_after m.words (Some (cond b (Load record { 0 = v.length_at })
+        (Load record { 0 = v.log_at + v.place % v.log_words })))) stage_at ≡ stage_of m
+    load true low = loads_same m.words v.length_at stage_at low
+    load false low = loads_same m.words (v.log_at + v.place % v.log_words) stage_at low
+
+    by : (e : Bool) (d : Option ℕ) → passing_due v ≡ d
+        → IsOnWord m (cond e None (Some (op_by d v)))
+        → slice_index (words_after m.words (cond e None (Some (op_by d v)))) stage_at
+        ≡ stage_of m
+    by true d due low = refl
+    by false None due low = load (v.place == v.known) low
+    by false (Some place) due low =
+        stores_beside place v.place (apart r v at place (due_there v place due))
+
+  leaves_on : (r : ℕ) (v : Receiving) → slice_get m.receivers r ≡ Some v
+      → slice_index (words_after m.words (leaving_op v)) stage_at ≡ stage_of m
+  leaves_on r v at = by v.passed_at refl where
+    by : (o : Option ℕ) → v.passed_at ≡ o
+        → slice_index (words_after m.words (leaving_by o)) stage_at ≡ stage_of m
+    by None is = refl
+    by (Some place) is = stores_beside place PASSED_ALL (apart r v at place is)
+
+  heard_rises : (w : List ℕ) → m'.words ≡ w → slice_index w stage_at ≡ stage_of m
+      → stage_of m ≤ stage_of m'
+  heard_rises w is same = let now = ap (λ l. slice_index l stage_at) is in omega arith
+
   event_rises : (e : Event) (a : Answer) → Happens X m e a m' → stage_of m ≤ stage_of m'
   event_rises (Put s bytes) a h = same_words (ap (λ (y : Machine E). y.words) h.after)
   event_rises (Ask s asked) a h = same_words (ap (λ (y : Machine E). y.words) h.after)
   event_rises (Turn s word) a h = turned X P m m' T sits f u s word a h
-  event_rises (Recv r) a h = same_words (ap (λ (y : Machine E). y.words) h.after)
+  event_rises (Recv r) a h = heard_rises (words_after m.words (receiving_op h.receiver))
+      (ap (λ (y : Machine E). y.words) h.after) (hears_on r h.receiver h.there h.within)
   event_rises (Stop s) a h = same_words (ap (λ (y : Machine E). y.words) h.after)
+  event_rises (Gone r) a h = heard_rises (words_after m.words (leaving_op h.receiver))
+      (ap (λ (y : Machine E). y.words) h.after) (leaves_on r h.receiver h.there)
 
 -- by trails that lead to the machine before it
 pub rises : {E : Type 0} (X : Election E) (P : Protocol E (Unit {0}) ℕ) (m m' : Machine E)
     (T : Trails) (e : Event) (a : Answer) → Sits X P m → Reached X m T → Happens X m e a m'
     → stage_of m ≤ stage_of m'
 rises X P m m' T e a s r h =
-    event_rises X P m m' T s (framed X P m T s r) (reuses X P m T s r) e a h
+    event_rises X P m m' T s r (framed X P m T s r) (reuses X P m T s r) e a h

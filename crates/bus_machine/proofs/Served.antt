@@ -10,7 +10,7 @@ use Rattle.bus_adoptcommit.specs.Kinds.{IsOfRatifier}
 use Rattle.bus_tenure.specs.Elections.{elections, election_with}
 use Rattle.bus_world.proofs.Serving.{Serves, serves}
 use Rattle.bus_world.specs.declared.shapes.Shape.{Shape}
-use Rattle.bus_machine.specs.Playing.{layout_of}
+use Rattle.bus_machine.specs.Playing.{layout_passed}
 
 module _ {S : Type 0} (kind_of : S → Option Kind) (op : S → ℕ → Option Op) (fed : S → ℕ → ℕ → S)
     (P : Protocol S Bool Verdict)
@@ -19,9 +19,10 @@ module _ {S : Type 0} (kind_of : S → Option Kind) (op : S → ℕ → Option O
     (shape : Shape)
     (laws : Laws (election_with kind_of op fed P).op (election_with kind_of op fed P).fed
     (elections P shape.rounds) OneOwner) where
-  pub served : (reuse : Option ℕ)
-      → Serves (election_with kind_of op fed P) (elections P shape.rounds) (layout_of P shape reuse)
-  served None = serves kind_of op fed P named own_kinds shape.senders shape.rounds shape.rows
-      shape.log_words laws
-  served (Some rows) = serves kind_of op fed P named own_kinds shape.senders shape.rounds TENURES
-      shape.log_words laws
+  pub served : (reuse : Option ℕ) (passers : ℕ)
+      → Serves (election_with kind_of op fed P) (elections P shape.rounds)
+      (layout_passed P shape reuse passers)
+  served None passers = serves kind_of op fed P named own_kinds shape.senders shape.rounds
+      shape.rows shape.log_words passers laws
+  served (Some rows) passers = serves kind_of op fed P named own_kinds shape.senders shape.rounds
+      TENURES shape.log_words passers laws

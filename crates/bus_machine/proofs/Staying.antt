@@ -24,7 +24,7 @@ use Rattle.bus_world.proofs.Growing.{nothing_more}
 use Rattle.bus_world.proofs.Places.{got_before}
 use Rattle.bus_world.specs.Headline.{Action, Stepped, entry_heard, end_heard, order_given, IsPrefix}
 use Rattle.bus_world.specs.Trails.{Takers, actions_with}
-use Rattle.bus_world.specs.World.{Event, Put, Ask, Turn, Recv, Stop}
+use Rattle.bus_world.specs.World.{Event, Put, Ask, Turn, Recv, Stop, Gone}
 use Rattle.bus_world.specs.declared.events.Answer.{Answer}
 use Rattle.bus_world.specs.declared.events.Answer.TheVariants as answer
 use Rattle.bus_machine.specs.Machine.{Machine, Trails, trails_grown, turn_grown, turn_trails}
@@ -177,6 +177,7 @@ module _ {E : Type 0} (X : Election E) (m : Machine E) (T : Trails) where
       turn_longer (situation X v) (line_now X v) s (found m (line_now X v) word) word t
   sender_longer s word (Some v) (answer.Recv t) = stays_long T
   sender_longer s word (Some v) answer.Stopped = stays_long T
+  sender_longer s word (Some v) answer.Gone = stays_long T
 
   heard_longer : (r : ℕ) (a : Answer) (q : ℕ) → IsPrefix (T.heard q) (heard_grown r a T.heard q)
   heard_longer r (answer.Number n) q = nothing_more (T.heard q)
@@ -185,6 +186,7 @@ module _ {E : Type 0} (X : Election E) (m : Machine E) (T : Trails) where
   heard_longer r (answer.Turn t) q = nothing_more (T.heard q)
   heard_longer r (answer.Recv t) q = record { rest = cond (q == r) (t ∷ []) []; together = refl }
   heard_longer r answer.Stopped q = nothing_more (T.heard q)
+  heard_longer r answer.Gone q = nothing_more (T.heard q)
 
   pub grown_longer : (e : Event) (a : Answer) → Longer T (trails_grown X m e a T)
   grown_longer (Put s bytes) a = record {
@@ -201,6 +203,7 @@ module _ {E : Type 0} (X : Election E) (m : Machine E) (T : Trails) where
     heard = heard_longer r a;
   }
   grown_longer (Stop s) a = stays_long T
+  grown_longer (Gone r) a = stays_long T
 
 -- ---- the promise
 pub promise_stays : {E : Type 0} (X : Election E) (m m' : Machine E) (T T' : Trails)

@@ -22,7 +22,7 @@ use Rattle.bus_tenure.specs.Elections.{Elector}
 use Rattle.bus_tenure.specs.declared.turns.Turn.{Turn as Answered}
 use Rattle.bus_world.specs.Playing.{RecvRefused}
 use Rattle.bus_world.specs.Trails.{put_actions, mark_actions}
-use Rattle.bus_world.specs.World.{Event, Put, Ask, Turn, Recv, Stop, is_set}
+use Rattle.bus_world.specs.World.{Event, Put, Ask, Turn, Recv, Stop, Gone, is_set}
 use Rattle.bus_world.specs.declared.events.Answer.{Answer}
 use Rattle.bus_world.specs.declared.events.Answer.TheVariants as answer
 use Rattle.bus_world.specs.declared.events.StepFault.{StepFault}
@@ -47,6 +47,7 @@ module _ {E : Type 0} (X : Election E) where
   stops_after w m (Recv r) a h = ap (λ (y : Machine E). length y.stopped) h.after
   stops_after w m (Stop s) a h =
       ap (λ (y : Machine E). length y.stopped) h.after ∙ length-set w.stopped s true
+  stops_after w m (Gone r) a h = ap (λ (y : Machine E). length y.stopped) h.after
 
   -- it is told of each sender that there can be whether they have stopped
   reached_stops : (m : Machine E) (T : Trails) → Reached X m T → length m.stopped ≡ MOST_SENDERS
@@ -73,6 +74,10 @@ module _ {E : Type 0} (X : Election E) where
     ap (λ (y : Machine E). y.layout) h.after,
   )
   many_after w m (Stop s) a h = (
+    ap (λ (y : Machine E). length y.senders) h.after,
+    ap (λ (y : Machine E). y.layout) h.after,
+  )
+  many_after w m (Gone r) a h = (
     ap (λ (y : Machine E). length y.senders) h.after,
     ap (λ (y : Machine E). y.layout) h.after,
   )
@@ -158,7 +163,8 @@ module _ {E : Type 0} (X : Election E) (m : Machine E) (s : ℕ) (t : Bool) wher
     next = h.next;
     heard = h.heard;
     there = h.there;
-    never = h.never;
+    stays = h.stays;
+    within = on_word _ h.within;
     does = h.does;
     answered = h.answered;
     after = ap (with_stop_of s t) h.after;
@@ -172,6 +178,14 @@ module _ {E : Type 0} (X : Election E) (m : Machine E) (s : ℕ) (t : Bool) wher
         ∙ ap (λ l. record m { stopped = l })
         (sym (set_comm m.stopped s q t true (λ e. ne (sym e))));
   }
+  happens_alike (Gone r) a next ne h = record {
+    receiver = h.receiver;
+    there = h.there;
+    stays = h.stays;
+    within = on_word _ h.within;
+    answered = h.answered;
+    after = ap (with_stop_of s t) h.after;
+  }
 
   trails_alike : (e : Event) (g : Answer) (T : Trails) → IsOfOther s e
       → trails_grown X told e g T ≡ trails_grown X m e g T
@@ -180,6 +194,7 @@ module _ {E : Type 0} (X : Election E) (m : Machine E) (s : ℕ) (t : Bool) wher
   trails_alike (Turn q word) g T ne = ap (λ o. turn_grown X m q o word g T) (going_alike q ne)
   trails_alike (Recv r) g T ne = refl
   trails_alike (Stop q) g T ne = refl
+  trails_alike (Gone r) g T ne = refl
 
 -- who has stopped is told otherwise, but the same of the others than s
 module _ {E : Type 0} (m : Machine E) (s : ℕ) (l : List Bool)
@@ -196,6 +211,7 @@ module _ {E : Type 0} (m : Machine E) (s : ℕ) (l : List Bool)
   refused_alike (Recv r) why ne w = w
   refused_alike (Stop q) why ne w =
       subst (λ t. SenderRefused (slice_get m.senders q) t why (λ v. ⊥)) (sym (same q ne)) w
+  refused_alike (Gone r) why ne w = w
 
 -- ---- what an event of another adds
 record AddsNothing (s : ℕ) (T T' : Trails) : Type 0 where
@@ -260,6 +276,7 @@ module _ {E : Type 0} (X : Election E) (m : Machine E) (q s : ℕ) (ne : s ≢ q
       line_adds (situation X v) (line_now X v) (found m (line_now X v) word) word t T
   turn_adds (Some v) word (answer.Recv t) T = the_same s T
   turn_adds (Some v) word answer.Stopped T = the_same s T
+  turn_adds (Some v) word answer.Gone T = the_same s T
 
 -- ---- whatever happens next
 module _ {E : Type 0} (X : Election E) where
@@ -304,6 +321,8 @@ module _ {E : Type 0} (X : Election E) where
     | inr ne ↦ leaves m m' _ T _ s h.after stop (ap is_set (get_set_other m.stopped q true s ne))
         refl (the_same s T)
   ]
+  event_leaves m m' (Gone r) a T s stop h =
+      leaves m m' _ T _ s h.after stop refl refl (the_same s T)
 
   -- nobody stops but by a stop of its own
   event_tells : (m m' : Machine E) (e : Event) (a : Answer) (s : ℕ) → e ≢ Stop s
@@ -318,6 +337,7 @@ module _ {E : Type 0} (X : Election E) where
         ap (λ (y : Machine E). has_stopped y s) h.after
         ∙ ap is_set (get_set_other m.stopped q true s ne)
   ]
+  event_tells m m' (Gone r) a s other h = ap (λ (y : Machine E). has_stopped y s) h.after
 
   -- ---- a stop
   happens_before : (m : Machine E) (s : ℕ) → has_stopped m s ≡ false
@@ -433,7 +453,7 @@ module _ {E : Type 0} where
 
 never_a_recv : (o : Option Receiving) → RecvRefused o fault.Stopped → ⊥
 never_a_recv None e = cc
-never_a_recv (Some v) e = e
+never_a_recv (Some v) e = let bad : fault.Stopped ≡ fault.Gone = e.1 in cc
 
 pub refuses : {E : Type 0} (X : Election E) → StopRefuses X
 refuses X = record {
@@ -452,6 +472,7 @@ refuses X = record {
   stop_untimely = λ m s free w.
       not_as_stopped (slice_get m.senders s) (has_stopped m s) (λ v. ⊥) free (λ v e. e) w;
   recv_untimely = λ m r w. never_a_recv (slice_get m.receivers r) w;
+  gone_untimely = λ m r w. never_a_recv (slice_get m.receivers r) w;
 }
 
 pub for_good : {S : Type 0} (X : Election (Elector S)) (P : Protocol S Bool Verdict)

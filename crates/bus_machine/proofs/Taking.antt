@@ -27,7 +27,7 @@ use Rattle.bus_tenure.specs.Situations.{AwaitsPage, StoresWord, StoresLength, Gi
 use Rattle.bus_tenure.specs.declared.turns.Turn.{Turn as Answered}
 use Rattle.bus_world.specs.Headline.{Stepped}
 use Rattle.bus_world.specs.Proved.Tenures.Stage.{Open, Held}
-use Rattle.bus_world.specs.World.{Event, Put, Ask, Turn, Recv, Stop}
+use Rattle.bus_world.specs.World.{Event, Put, Ask, Turn, Recv, Stop, Gone}
 use Rattle.bus_world.specs.declared.events.Answer.{Answer}
 use Rattle.bus_world.specs.declared.events.Answer.TheVariants as answer
 use Rattle.bus_machine.proofs.AtNone.{event_reuse}
@@ -231,6 +231,7 @@ put_none bytes answer.Leaving t place w = nothing_takes t place w
 put_none bytes (answer.Turn told) t place w = nothing_takes t place w
 put_none bytes (answer.Recv told) t place w = nothing_takes t place w
 put_none bytes answer.Stopped t place w = nothing_takes t place w
+put_none bytes answer.Gone t place w = nothing_takes t place w
 
 -- what a mark adds
 mark_none : (a : Answer) → TakesNone (mark_actions a)
@@ -240,6 +241,7 @@ mark_none answer.Leaving t place w = mark_takes Leave t place w
 mark_none (answer.Turn told) t place w = nothing_takes t place w
 mark_none (answer.Recv told) t place w = nothing_takes t place w
 mark_none answer.Stopped t place w = nothing_takes t place w
+mark_none answer.Gone t place w = nothing_takes t place w
 
 -- as many have taken pages as tenures were opened
 pub counted : {E : Type 0} {P : Protocol E (Unit {0}) ℕ} (m : Machine E) (T : Trails)
@@ -367,6 +369,13 @@ module _ {E : Type 0} (X : Election E) (P : Protocol E (Unit {0}) ℕ) where
     told =
         ap (λ (y : Machine E). y.owners) h.after ∙ k.told
         ∙ ap (λ o. owners_told o k.all) (sym (event_reuse X m m' (Stop s) a h).1);
+  }
+  event_told m m' T (Gone q) a sits r h k = record {
+    all = k.all;
+    takers = k.takers;
+    told =
+        ap (λ (y : Machine E). y.owners) h.after ∙ k.told
+        ∙ ap (λ o. owners_told o k.all) (sym (event_reuse X m m' (Gone q) a h).1);
   }
 
   -- of none none is told

@@ -48,7 +48,7 @@ use Rattle.bus_world.proofs.Stopping.{shown_there}
 use Rattle.bus_world.specs.Proved.Sending.{Part, Fits}
 use Rattle.bus_world.specs.Headline.{HasPut, Stepped, Elected, Took, IsPrefix, put_of, puts}
 use Rattle.bus_world.specs.Telling.{HasDelivered, HasLeft}
-use Rattle.bus_world.specs.World.{Event, Put, Ask, Turn, Recv, Stop}
+use Rattle.bus_world.specs.World.{Event, Put, Ask, Turn, Recv, Stop, Gone}
 use Rattle.bus_world.specs.declared.events.Answer.{Answer}
 use Rattle.bus_world.specs.declared.events.Answer.TheVariants as answer
 use Rattle.bus_machine.proofs.EachSender.{actions_of_it}
@@ -212,15 +212,22 @@ module _ {E : Type 0} (X : Election E) (P : Protocol E (Unit {0}) ℕ) (m m' : M
   sent t ph HandsOnSent fits q i end = absurd fits
 
   -- or with no room for it
-  full : (t : ℕ) (ph : Phase E) → LacksRoom c t ph → Fits (base_of m) f.V f.frames c ph
-      → Told turn.Full
-  full t ph (FindsNoRoom page stored past) fits =
-      let words_are = fits.1.page_knows.words in
-      let floor = fits.1.page_knows.floor in
-      let capacity_is = ap (λ (x : Layout). x.capacity) part.layout in
-      let size = sym (ap length f.log_is) ∙ length-logged f.sending.log in
-      omega arith
-  full t ph HandsOnFull fits = absurd fits
+  full : (t : ℕ) (ph : Phase E) → c.phase ≡ ph → LacksRoom c t ph
+      → Fits (base_of m) f.V f.frames c ph → Told turn.Full
+  full t ph is (FindsNoRoom page stored past) fits = record {
+    tenure = t;
+    page = page;
+    stored = stored;
+    published = false;
+    holds = is;
+    flat = λ flat. fits.1.flat (ap (λ (x : Layout). x.passers) part.layout ∙ flat);
+    lacks =
+        let words_are = fits.1.page_knows.words in
+        let capacity_is = ap (λ (x : Layout). x.capacity) part.layout in
+        let size = sym (ap length f.log_is) ∙ length-logged f.sending.log in
+        omega arith;
+  }
+  full t ph is HandsOnFull fits = absurd fits
 
   -- of whom the page goes back
   returned : (t : ℕ) (reason : Reason) → Shows c t c.phase reason
@@ -230,7 +237,7 @@ module _ {E : Type 0} (X : Election E) (P : Protocol E (Unit {0}) ℕ) (m m' : M
       inl (ended_of P m T f (published_ends (base_of m) f.V f.frames c t c.phase w i part.fits)))
   returned t FoundEnd w =
       inl (ended_of P m T f (found_ends (base_of m) f.V f.frames c t c.phase w part.fits))
-  returned t NoRoom w = full t c.phase w part.fits
+  returned t NoRoom w = full t c.phase refl w part.fits
 
   -- whose batch is closed
   closed_told : c.queue.phase ≡ batch.Closed → ClosedTells m T.log s v
@@ -319,3 +326,4 @@ told X P m m' T (Ask s asked) a sits r h = tt
 told X P m m' T (Turn s word) a sits r h = turn_told X P m m' T s word a sits r h
 told X P m m' T (Recv q) a sits r h = tt
 told X P m m' T (Stop s) a sits r h = tt
+told X P m m' T (Gone q) a sits r h = tt

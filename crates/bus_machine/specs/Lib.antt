@@ -3,10 +3,12 @@ pub mod Machine
 pub mod Remembering
 pub mod Promise
 pub mod Telling
+pub mod Giving
 pub mod Bounding
 pub mod Playing
 pub mod Turning
 pub mod Stopping
+pub mod Leaves
 pub mod Refusals
 pub mod PromiseRefusals
 pub mod LogRefusals

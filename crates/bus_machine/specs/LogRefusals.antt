@@ -1,18 +1,34 @@
 -- What is promised of no machine by what was published and what its cells show.
-use Rattle.std.specs.Prelude.{◌≡◌, ◌≢◌, ℕ, Some, List, ◌∷◌, ◌++◌, map, slice_get}
-use Rattle.bus_batch.specs.Frames.{Order, Spells}
+use Rattle.std.specs.Prelude.{◌≡◌, ◌≢◌, ℕ, ◌+◌, ◌<◌, false, Some, List, ◌∷◌, ◌++◌, length, map}
+use Rattle.std.specs.Prelude.{slice_get, slice_index}
+use Rattle.bus_batch.specs.Frames.{Frame, Order, Spells, AreFrames, frame_words, log_words}
 use Rattle.bus_core.specs.Senders.{Sender}
 use Rattle.bus_deliverylog.specs.Orders.{of_sender}
+use Rattle.bus_deliverylog.specs.Receiving.{Receiving}
 use Rattle.bus_register.specs.declared.registers.SenderNo.{SenderNo}
 use Rattle.bus_tenure.specs.Core.{Election}
 use Rattle.bus_world.specs.Headline.{puts}
 use Rattle.bus_world.specs.Waiting.{waiting_at}
-use Rattle.bus_machine.specs.Machine.{Machine, Trails, ShowsLog}
+use Rattle.bus_machine.specs.Machine.{Machine, Trails, ShowsLog, floor_of, log_of, log_place}
 use Rattle.bus_machine.specs.Promise.{IsPromised}
 
 pub record LogsRefuse {E : Type 0} (X : Election E) (m : Machine E) (T : Trails) : Type 0 where
   -- the cells show other words than were published
   pub other_words : ¬ ShowsLog m T.log → ¬ IsPromised X m T
+  -- a log of which no word is used again has wrapped: a word below the length, read straight, is
+  -- not the one that was published there
+  pub wrapped : (place : ℕ) → m.layout.passers ≡ 0 → place < length T.log
+      → slice_index m.words (log_place m.layout m.reuse + place) ≢ slice_index T.log place
+      → ¬ IsPromised X m T
+  -- the floor is within a frame, so that words of its messages could be read as frames
+  pub floor_within_a_frame : (front rest : List Frame) (f : Frame)
+      → AreFrames m.layout.senders (front ++ f ∷ rest) → log_words (front ++ f ∷ rest) ≡ T.log
+      → length (log_words front) < floor_of m
+      → floor_of m < length (log_words front) + length (frame_words f) → ¬ IsPromised X m T
+  -- the floor is past the place of a receiver that has not left, so that a word that it is still to
+  -- hear may be lost: the passed places are ahead of it
+  pub passed_ahead : (r : ℕ) (v : Receiving) → slice_get m.receivers r ≡ Some v → v.gone ≡ false
+      → v.place < floor_of m → ¬ IsPromised X m T
   -- a message was dropped or added: what its sender has put is not what was published of it, and
   -- then what waits
   pub dropped : (s : ℕ) (v : Sender E) (order : Order) (owners : List (ℕ × SenderNo))
@@ -21,5 +37,5 @@ pub record LogsRefuse {E : Type 0} (X : Election E) (m : Machine E) (T : Trails)
       → puts (T.actions s)
       ≢ map (λ i. i.message) (of_sender s order) ++ waiting_at v.core v.core.phase
       → ¬ IsPromised X m T
-  -- the length was stored before the words: the first word below it is zero
-  pub length_before_words : (rest : List ℕ) → ShowsLog m (0 ∷ rest) → ¬ IsPromised X m T
+  -- the length was stored before the words: the first word that stands is zero
+  pub length_before_words : (rest : List ℕ) → log_of m ≡ 0 ∷ rest → ¬ IsPromised X m T

@@ -1,27 +1,30 @@
 -- The bus as a machine that plays events, with a row of words for each tenure or with rows that are
 -- used again; and which trails lead to it.
-use Rattle.std.specs.Prelude.{◌≡◌, ℕ, ◌+◌, ◌-◌, ◌<◌, Bool, true, Option, Some, None, List, [], ◌∷◌}
-use Rattle.std.specs.Prelude.{◌++◌, All, drop, length, slice_get, slice_index, slice_set}
+use Rattle.std.specs.Prelude.{◌≡◌, ◌⊎◌, ℕ, ◌+◌, ◌-◌, ◌*◌, ◌%◌, ◌<◌, Bool, true, false, Option}
+use Rattle.std.specs.Prelude.{Some}
+use Rattle.std.specs.Prelude.{None, List, nat_lt}
+use Rattle.std.specs.Prelude.{[], ◌∷◌, ◌++◌, All, drop, length, slice_get, slice_index, slice_set}
 use Rattle.std.specs.Prelude.{replicate, if◌then◌else◌}
 use Rattle.bus_register.specs.declared.registers.Op.{Op}
 use Rattle.bus_register.specs.Words.{register}
 use Rattle.bus_batch.specs.Batches.{next_of, CanPut, CanClose}
 use Rattle.bus_batch.specs.declared.batches.Phase.TheVariants.{Marking}
 use Rattle.bus_batch.specs.declared.messages.Mark.{Mark}
-use Rattle.bus_deliverylog.specs.Receiving.{Receiving}
+use Rattle.bus_deliverylog.specs.Receiving.{Receiving, with_leave, receiving_op, leaving_op}
 use Rattle.bus_deliverylog.specs.declared.receiving.RecvTurn.{RecvTurn}
 use Rattle.bus_presence.specs.Reclamation.{Trails as Entries, no_trails, trails_with_entry}
 use Rattle.bus_tenure.specs.Core.{Election, Layout, log_at, stage_at}
 use Rattle.bus_tenure.specs.Situations.{PageMove}
 use Rattle.bus_tenure.specs.declared.pages.Page.{Page}
 use Rattle.bus_tenure.specs.declared.turns.Turn.{Turn as Answered}
+use Rattle.bus_core.specs.declared.limits.TheConstants.{PASSED_APART}
 use Rattle.bus_core.specs.Keeping.{queue_of, new_sender}
 use Rattle.bus_core.specs.Senders.{Sender, Situation, Does, Announces, Validates, Unpins}
 use Rattle.bus_core.specs.Senders.{Withdraws, Scans, Clears, ReadsPassed, situation}
 use Rattle.bus_core.specs.Table.{Line, line_now}
-use Rattle.bus_core.specs.Reusing.Participants.{log_from}
+use Rattle.bus_core.specs.Reusing.Participants.{log_from, passed_from}
 use Rattle.bus_world.specs.Headline.{Action}
-use Rattle.bus_world.specs.Log.{words_read_from}
+use Rattle.bus_world.specs.Log.{words_read_from, words_in_ring, floor_shown}
 pub use Rattle.bus_world.specs.Log.{words_of_frame}
 use Rattle.bus_world.specs.Playing.{asked_answer}
 use Rattle.bus_world.specs.Trails.{step_action, put_actions, mark_actions, no_actions, no_answers}
@@ -29,8 +32,9 @@ use Rattle.bus_world.specs.Trails.{actions_with, answers_with}
 use Rattle.bus_world.specs.Turning.{words_after, number_found, home_moved, core_moved, after_step}
 use Rattle.bus_world.specs.Turning.{owners_by}
 use Rattle.bus_world.specs.Starting.{IsNewReceiver}
-use Rattle.bus_world.specs.World.{Event, Put, Ask, Turn, Recv, Stop, is_set, no_stops, AreBases}
-use Rattle.bus_world.specs.World.{first_page, RecvDoes}
+use Rattle.bus_world.specs.World.{Event, Put, Ask, Turn, Recv, Stop, Gone, is_set, no_stops}
+use Rattle.bus_world.specs.World.{AreBases, first_page, RecvDoes}
+use Rattle.bus_world.specs.declared.limits.TheConstants.{FIRST_RING_NUMBERS}
 use Rattle.bus_world.specs.declared.events.Answer.{Answer}
 use Rattle.bus_world.specs.declared.events.Answer.TheVariants as answer
 
@@ -59,14 +63,49 @@ abbrev pub log_place : Layout → Option ℕ → ℕ
 log_place x None = log_at x
 log_place x (Some rows) = log_from x rows
 
--- the words of the log below the length
+-- where the passed places begin; where each tenure has a row there are none
+abbrev pub passers_place : Layout → Option ℕ → ℕ
+passers_place x None = log_at x
+passers_place x (Some rows) = passed_from x rows
+
+-- the place of the passed place of receiver r, if it has one
+abbrev pub passed_by : Layout → Option ℕ → ℕ → Option ℕ
+passed_by x o r =
+    if nat_lt r x.passers then Some (passers_place x o + PASSED_APART * r) else None
+
+-- From this place on all words of the log stand: the least that a receiver has passed, and the
+-- length where all have left. Where no word of the log is used again it is the first.
+abbrev pub floor_of : {E : Type 0} → Machine E → ℕ
+floor_of b =
+    floor_shown (slice_index b.words) (passers_place b.layout b.reuse) b.layout.passers
+    (slice_index b.words 0)
+
+-- the words of the log from its floor up to the length, each in its cell
 abbrev pub log_of : {E : Type 0} → Machine E → List ℕ
 log_of b =
+    words_in_ring (slice_index b.words) (log_place b.layout b.reuse) b.layout.capacity (floor_of b)
+    (slice_index b.words 0 - floor_of b)
+
+-- the length and the cells show this as all that was ever published: so many words, of which those
+-- from the floor on stand
+abbrev pub ShowsLog : {E : Type 0} → Machine E → List ℕ → Type 0
+ShowsLog b log = (slice_index b.words 0 ≡ length log) × (log_of b ≡ drop (floor_of b) log)
+
+-- the words of the log below the length, where no word of the log is used again
+abbrev pub words_below : {E : Type 0} → Machine E → List ℕ
+words_below b =
     words_read_from (slice_index b.words) (log_place b.layout b.reuse) (slice_index b.words 0)
 
--- the cells show this as all that was ever published: it stands in the words below the length
-abbrev pub ShowsLog : {E : Type 0} → Machine E → List ℕ → Type 0
-ShowsLog b log = log_of b ≡ log
+-- where no word of the log is used again all that was ever published stands in them, in its order
+abbrev pub StandsBelow : {E : Type 0} → Machine E → List ℕ → Type 0
+StandsBelow b log = b.layout.passers ≡ 0 → words_below b ≡ log
+
+-- a receiver that has not left finds at its place the word that was published there
+abbrev pub FindsWords : {E : Type 0} → Machine E → List ℕ → Type 0
+FindsWords b log =
+    (r : ℕ) (v : Receiving) → slice_get b.receivers r ≡ Some v → v.gone ≡ false
+    → v.place < length log
+    → slice_index b.words (v.log_at + v.place % v.log_words) ≡ slice_index log v.place
 
 -- twice the tenure that is open, and one more while its page is out
 abbrev pub stage_of : {E : Type 0} → Machine E → ℕ
@@ -167,27 +206,45 @@ pub record StopsNow {E : Type 0} (old : Machine E) (s : ℕ) (a : Answer) (new :
   pub answered : a ≡ answer.Stopped
   pub after : new ≡ record old { stopped = slice_set old.stopped s true }
 
--- a receiver takes a turn
+-- a receiver that has not left takes a turn
 pub record Hears {E : Type 0} (old : Machine E) (r : ℕ) (a : Answer) (new : Machine E) :
     Type 0 where
   pub receiver : Receiving
   pub next : Receiving
   pub heard : RecvTurn
   pub there : slice_get old.receivers r ≡ Some receiver
-  -- no bus gives a receiver a passed place yet
-  pub never : receiver.passed_at ≡ None
+  pub stays : receiver.gone ≡ false
+  pub within : IsOnWord old (receiving_op receiver)
   pub does : RecvDoes (slice_index old.words) receiver heard next
   pub answered : a ≡ answer.Recv heard
-  pub after : new ≡ record old { receivers = slice_set old.receivers r next }
+  pub after : new ≡ record old {
+    words = words_after old.words (receiving_op receiver);
+    receivers = slice_set old.receivers r next;
+  }
+
+-- it leaves for good, with a store of 2^64 - 1 in its passed place, if it has one; without one this
+-- is no step
+pub record LeavesForGood {E : Type 0} (old : Machine E) (r : ℕ) (a : Answer) (new : Machine E) :
+    Type 0 where
+  pub receiver : Receiving
+  pub there : slice_get old.receivers r ≡ Some receiver
+  pub stays : receiver.gone ≡ false
+  pub within : IsOnWord old (leaving_op receiver)
+  pub answered : a ≡ answer.Gone
+  pub after : new ≡ record old {
+    words = words_after old.words (leaving_op receiver);
+    receivers = slice_set old.receivers r (with_leave receiver);
+  }
 
 -- Event e happens, a is its answer, and new is what is left. Nothing is assumed of who is
--- scheduled, of the random words, or of who stops.
+-- scheduled, of the random words, or of who stops or leaves.
 abbrev pub Happens : {E : Type 0} → Election E → Machine E → Event → Answer → Machine E → Type 0
 Happens X old (Put s bytes) a new = TakesPut old s bytes a new
 Happens X old (Ask s mark) a new = TakesMark old s mark a new
 Happens X old (Turn s word) a new = TakesTurn X old s word a new
 Happens X old (Recv r) a new = Hears old r a new
 Happens X old (Stop s) a new = StopsNow old s a new
+Happens X old (Gone r) a new = LeavesForGood old r a new
 
 -- ---- what happened: the steps of pins and of reclamations, the actions of senders, the answers of
 -- receivers
@@ -269,6 +326,7 @@ turn_grown X b s (Some v) word (answer.Turn t) T =
     turn_trails (situation X v) (line_now X v) s (found b (line_now X v) word) word t T
 turn_grown X b s (Some v) word (answer.Recv t) T = T
 turn_grown X b s (Some v) word answer.Stopped T = T
+turn_grown X b s (Some v) word answer.Gone T = T
 
 abbrev pub heard_grown : ℕ → Answer → (ℕ → List RecvTurn) → ℕ → List RecvTurn
 heard_grown r (answer.Number n) H = H
@@ -277,8 +335,9 @@ heard_grown r answer.Leaving H = H
 heard_grown r (answer.Turn t) H = H
 heard_grown r (answer.Recv t) H = answers_with r t H
 heard_grown r answer.Stopped H = H
+heard_grown r answer.Gone H = H
 
--- what an event with this answer adds: a stop is no action
+-- what an event with this answer adds: a stop and a receiver that leaves are no actions
 abbrev pub trails_grown : {E : Type 0} → Election E → Machine E → Event → Answer → Trails → Trails
 trails_grown X b (Put s bytes) a T =
     record T { actions = actions_with s (put_actions bytes a) T.actions }
@@ -286,6 +345,7 @@ trails_grown X b (Ask s mark) a T = record T { actions = actions_with s (mark_ac
 trails_grown X b (Turn s word) a T = turn_grown X b s (going b s) word a T
 trails_grown X b (Recv r) a T = record T { heard = heard_grown r a T.heard }
 trails_grown X b (Stop s) a T = T
+trails_grown X b (Gone r) a T = T
 
 -- ---- what is reached
 -- nothing has happened: words of zero, the page at home, senders and receivers at their starts,
@@ -297,7 +357,14 @@ pub record IsNew {E : Type 0} (b : Machine E) : Type 0 where
   pub senders : (p : ℕ) (v : Sender E) → slice_get b.senders p ≡ Some v
       → (p < b.layout.senders) × (v ≡ new_sender b.layout p b.reuse (base_of b p))
   pub receivers : (r : ℕ) (v : Receiving) → slice_get b.receivers r ≡ Some v
-      → IsNewReceiver b.layout.senders (log_place b.layout b.reuse) b.layout.capacity v
+      → IsNewReceiver b.layout.senders (log_place b.layout b.reuse) b.layout.capacity
+      (passed_by b.layout b.reuse r) v
+  -- Where words of the log are used again, rows are too, each receiver has a passed place, and
+  -- numbers begin low enough for all tenures.
+  pub apart : b.reuse ≡ None → b.layout.passers ≡ 0
+  pub many : (r : ℕ) (v : Receiving) → slice_get b.receivers r ≡ Some v
+      → (b.layout.passers ≡ 0) ⊎ (r < b.layout.passers)
+  pub ring_bases : 0 < b.layout.passers → (s : ℕ) → base_of b s < FIRST_RING_NUMBERS
   pub stopped : b.stopped ≡ no_stops
   pub owners : b.owners ≡ []
 

@@ -1,6 +1,7 @@
 -- The machine as a program holds it: which shapes are served, what each call tells, and what is
 -- said of events one after another.
-use Rattle.std.specs.Prelude.{◌≡◌, ℕ, ◌^◌, ◌<◌, ◌≤◌, Bool, true, false, Option, Some, None, List}
+use Rattle.std.specs.Prelude.{◌≡◌, ℕ, zero, suc, ◌^◌, ◌<◌, ◌≤◌, Bool, true, false, Option, Some}
+use Rattle.std.specs.Prelude.{None, List}
 use Rattle.std.specs.Prelude.{[], ◌∷◌, ◌++◌, length, take, slice_get, slice_index}
 use Rattle.bus_register.specs.declared.limits.TheConstants.{MOST_SENDERS, MOST_RECEIVERS}
 use Rattle.bus_register.specs.declared.limits.TheConstants.{MOST_ROUNDS, MOST_ROWS}
@@ -18,9 +19,9 @@ use Rattle.bus_core.specs.declared.limits.TheConstants.{LEAST_ROWS_AGAIN, MOST_R
 use Rattle.bus_tenure.specs.Core.{Election, Layout, words_of}
 use Rattle.bus_tenure.specs.Elections.{Elector, layout_with}
 use Rattle.bus_tenure.specs.declared.pages.Page.{Page}
+use Rattle.bus_world.specs.Log.{first_numbers}
 use Rattle.bus_world.specs.Playing.{Within, Beyond, RecvRefused}
-use Rattle.bus_world.specs.World.{Event, Put, Ask, Turn, Recv, Stop, no_bases}
-use Rattle.bus_world.specs.declared.limits.TheConstants.{FIRST_NUMBERS}
+use Rattle.bus_world.specs.World.{Event, Put, Ask, Turn, Recv, Stop, Gone, no_bases}
 use Rattle.bus_world.specs.declared.events.Answer.{Answer}
 use Rattle.bus_world.specs.declared.events.StepFault.{StepFault}
 use Rattle.bus_world.specs.declared.events.StepFault.TheVariants as fault
@@ -33,11 +34,17 @@ use Rattle.bus_machine.specs.Promise.{Extends, Follows, words_joined}
 use Rattle.bus_machine.specs.Telling.{Causes, Says, Tells, OpensOnly}
 
 -- ---- shapes
--- the sizes of a bus of this shape, over such ratifiers: its rows are its tenures, or are used
--- again by up to 2^40 of them
+-- the sizes of a bus of this shape with so many passed places, over such ratifiers: its rows are
+-- its tenures, or are used again by up to 2^40 of them
+abbrev pub layout_passed : {S : Type 0} → Protocol S Bool Verdict → Shape → Option ℕ → ℕ → Layout
+layout_passed P shape None passers =
+    layout_with P shape.senders shape.rounds shape.rows shape.log_words passers
+layout_passed P shape (Some rows) passers =
+    layout_with P shape.senders shape.rounds TENURES shape.log_words passers
+
+-- without any, where no word of the log is used again
 abbrev pub layout_of : {S : Type 0} → Protocol S Bool Verdict → Shape → Option ℕ → Layout
-layout_of P shape None = layout_with P shape.senders shape.rounds shape.rows shape.log_words
-layout_of P shape (Some rows) = layout_with P shape.senders shape.rounds TENURES shape.log_words
+layout_of P shape reuse = layout_passed P shape reuse 0
 
 abbrev pub least_rows : Option ℕ → ℕ
 least_rows None = 1
@@ -57,11 +64,16 @@ abbrev pub RoomFor : {S : Type 0} → Protocol S Bool Verdict → Shape → Opti
 RoomFor P shape None = words_of (layout_of P shape None) ≤ 2 ^ 63
 RoomFor P shape (Some rows) = Unit {0}
 
+-- where the first passed place stands here, if there are any
+abbrev pub first_passed : ℕ → ℕ → Option ℕ
+first_passed at zero = None
+first_passed at (suc passers) = Some at
+
 -- the bus of these parts
-abbrev pub machine_of : {E S : Type 0} → Protocol S Bool Verdict → Shape → Option ℕ → List ℕ
+abbrev pub machine_of : {E S : Type 0} → Protocol S Bool Verdict → Shape → Option ℕ → ℕ → List ℕ
     → List ℕ → Option Page → List (Sender E) → List Receiving → List Bool → List ℕ → Machine E
-machine_of P shape reuse bases words home senders receivers stopped owners = record {
-  layout = layout_of P shape reuse;
+machine_of P shape reuse passers bases words home senders receivers stopped owners = record {
+  layout = layout_passed P shape reuse passers;
   reuse = reuse;
   bases = bases;
   words = words;
@@ -101,67 +113,90 @@ MakeRefused shape reuse make.Numbers = ⊥
 MakeRefused shape reuse make.NoMemory = IsServed shape reuse
 
 -- ---- a next sitting
--- the page of a sitting that a bus can go on with: it has ended, and each next number leaves room
--- for a whole log
-pub record IsFollowed (page : Page) : Type 0 where
+-- the page of a sitting that a bus with so many passed places can go on with: it has ended, and
+-- each next number leaves room for a whole log, or where words of the log are used again for all
+-- tenures
+pub record IsFollowedBy (passers : ℕ) (page : Page) : Type 0 where
   pub ended : page.ended ≡ true
-  pub low : (s : ℕ) → slice_index page.next s < FIRST_NUMBERS
+  pub low : (s : ℕ) → slice_index page.next s < first_numbers passers
+
+abbrev pub IsFollowed : Page → Type 0
+IsFollowed page = IsFollowedBy 0 page
 
 -- why no bus is made that is to go on with it: of all 64 senders the next number is looked at,
 -- whatever the shape
-abbrev pub AfterRefused : Shape → Option ℕ → Page → MakeFault → Type 0
-AfterRefused shape reuse page make.Senders = MakeRefused shape reuse make.Senders
-AfterRefused shape reuse page make.Receivers = MakeRefused shape reuse make.Receivers
-AfterRefused shape reuse page make.Rounds = MakeRefused shape reuse make.Rounds
-AfterRefused shape reuse page make.Rows = MakeRefused shape reuse make.Rows
-AfterRefused shape reuse page make.LogWords = MakeRefused shape reuse make.LogWords
-AfterRefused shape reuse page make.NotEnded = IsServed shape reuse × (page.ended ≡ false)
-AfterRefused shape reuse page make.Numbers =
+abbrev pub RefusedAfter : ℕ → Shape → Option ℕ → Page → MakeFault → Type 0
+RefusedAfter passers shape reuse page make.Senders = MakeRefused shape reuse make.Senders
+RefusedAfter passers shape reuse page make.Receivers = MakeRefused shape reuse make.Receivers
+RefusedAfter passers shape reuse page make.Rounds = MakeRefused shape reuse make.Rounds
+RefusedAfter passers shape reuse page make.Rows = MakeRefused shape reuse make.Rows
+RefusedAfter passers shape reuse page make.LogWords = MakeRefused shape reuse make.LogWords
+RefusedAfter passers shape reuse page make.NotEnded = IsServed shape reuse × (page.ended ≡ false)
+RefusedAfter passers shape reuse page make.Numbers =
     IsServed shape reuse × (page.ended ≡ true) × (s : ℕ) × (s < MOST_SENDERS)
-    × (FIRST_NUMBERS ≤ slice_index page.next s)
-AfterRefused shape reuse page make.NoMemory = IsServed shape reuse × IsFollowed page
+    × (first_numbers passers ≤ slice_index page.next s)
+RefusedAfter passers shape reuse page make.NoMemory =
+    IsServed shape reuse × IsFollowedBy passers page
+
+abbrev pub AfterRefused : Shape → Option ℕ → Page → MakeFault → Type 0
+AfterRefused shape reuse page why = RefusedAfter 0 shape reuse page why
 
 -- what is wrong with the page itself
-abbrev pub PageRefused : Page → MakeFault → Type 0
-PageRefused page make.Senders = ⊥
-PageRefused page make.Receivers = ⊥
-PageRefused page make.Rounds = ⊥
-PageRefused page make.Rows = ⊥
-PageRefused page make.LogWords = ⊥
-PageRefused page make.NotEnded = page.ended ≡ false
-PageRefused page make.Numbers =
-    (page.ended ≡ true) × (s : ℕ) × (s < MOST_SENDERS) × (FIRST_NUMBERS ≤ slice_index page.next s)
-PageRefused page make.NoMemory = ⊥
+abbrev pub PageRefused : ℕ → Page → MakeFault → Type 0
+PageRefused passers page make.Senders = ⊥
+PageRefused passers page make.Receivers = ⊥
+PageRefused passers page make.Rounds = ⊥
+PageRefused passers page make.Rows = ⊥
+PageRefused passers page make.LogWords = ⊥
+PageRefused passers page make.NotEnded = page.ended ≡ false
+PageRefused passers page make.Numbers =
+    (page.ended ≡ true) × (s : ℕ) × (s < MOST_SENDERS)
+    × (first_numbers passers ≤ slice_index page.next s)
+PageRefused passers page make.NoMemory = ⊥
+
+abbrev pub MayNotGoOn : ℕ → Option Page → MakeFault → Type 0
+MayNotGoOn passers None why = ⊥
+MayNotGoOn passers (Some page) why = PageRefused passers page why
 
 abbrev pub MayNotFollow : Option Page → MakeFault → Type 0
-MayNotFollow None why = ⊥
-MayNotFollow (Some page) why = PageRefused page why
+MayNotFollow page why = MayNotGoOn 0 page why
 
 -- with this page, if with any
+abbrev pub RefusedWith : ℕ → Shape → Option ℕ → Option Page → MakeFault → Type 0
+RefusedWith passers shape reuse None why = MakeRefused shape reuse why
+RefusedWith passers shape reuse (Some page) why = RefusedAfter passers shape reuse page why
+
 abbrev pub MakeRefusedAfter : Shape → Option ℕ → Option Page → MakeFault → Type 0
-MakeRefusedAfter shape reuse None why = MakeRefused shape reuse why
-MakeRefusedAfter shape reuse (Some page) why = AfterRefused shape reuse page why
+MakeRefusedAfter shape reuse page why = RefusedWith 0 shape reuse page why
 
 -- and the numbers that the sitting begins with: nothing else of the page is carried over
 abbrev pub bases_after : Option Page → List ℕ
 bases_after None = no_bases
 bases_after (Some page) = page.next
 
-abbrev pub MayFollow : Option Page → Type 0
-MayFollow None = Unit {0}
-MayFollow (Some page) = IsFollowed page
+abbrev pub MayGoOn : ℕ → Option Page → Type 0
+MayGoOn passers None = Unit {0}
+MayGoOn passers (Some page) = IsFollowedBy passers page
 
--- a new bus of this shape, over such ratifiers, of a sitting that begins with these numbers
-pub record IsMade {E S : Type 0} (X : Election E) (P : Protocol S Bool Verdict) (shape : Shape)
-    (reuse : Option ℕ) (bases : List ℕ) (m : Machine E) : Type 0 where
+abbrev pub MayFollow : Option Page → Type 0
+MayFollow page = MayGoOn 0 page
+
+-- a new bus of this shape with so many passed places, over such ratifiers, of a sitting that begins
+-- with these numbers
+pub record IsMadeWith {E S : Type 0} (X : Election E) (P : Protocol S Bool Verdict) (shape : Shape)
+    (reuse : Option ℕ) (passers : ℕ) (bases : List ℕ) (m : Machine E) : Type 0 where
   pub served : IsServed shape reuse
-  pub layout : m.layout ≡ layout_of P shape reuse
+  pub layout : m.layout ≡ layout_passed P shape reuse passers
   pub rows : m.reuse ≡ reuse
   pub bases_are : m.bases ≡ bases
   pub new : IsNew m
   pub senders : length m.senders ≡ shape.senders
   pub receivers : length m.receivers ≡ shape.receivers
   pub begins : Reached X m no_machine_trails
+
+abbrev pub IsMade : {E S : Type 0} → Election E → Protocol S Bool Verdict → Shape → Option ℕ
+    → List ℕ → Machine E → Type 0
+IsMade X P shape reuse bases m = IsMadeWith X P shape reuse 0 bases m
 
 -- ---- why an event is refused
 -- there is no such sender; or it has stopped; or it has a cause of its own
@@ -182,7 +217,7 @@ CloseRefused why v =
     × (why ≡ fault.Close cause)
 
 -- each fault where its cause holds and no earlier one; both marks have the same, and turns and
--- stops none of their own
+-- stops none of their own. A receiver that has left is refused all.
 abbrev pub Refused : {E : Type 0} → Machine E → Event → StepFault → Type 0
 Refused m (Put s bytes) why =
     SenderRefused (slice_get m.senders s) (has_stopped m s) why (PutRefused (length bytes) why)
@@ -191,6 +226,7 @@ Refused m (Ask s mark) why =
 Refused m (Turn s word) why = SenderRefused (slice_get m.senders s) (has_stopped m s) why (λ v. ⊥)
 Refused m (Recv r) why = RecvRefused (slice_get m.receivers r) why
 Refused m (Stop s) why = SenderRefused (slice_get m.senders s) (has_stopped m s) why (λ v. ⊥)
+Refused m (Gone r) why = RecvRefused (slice_get m.receivers r) why
 
 -- ---- what a call tells
 -- The event happened, and this was its answer. The sender whose turn it was had a cause for its
@@ -262,8 +298,9 @@ AreRows x (Some rows) = Within LEAST_ROWS_AGAIN MOST_ROWS_AGAIN rows × (x.rows 
 pub record IsHeld {E : Type 0} (X : Election E) (m : Machine E) : Type 0 where
   pub senders_few : m.layout.senders ≤ MOST_SENDERS
   pub rows : AreRows m.layout m.reuse
+  pub capacity_some : 0 < m.layout.capacity
   pub capacity_few : m.layout.capacity ≤ MOST_LOG_WORDS
-  pub passers_none : m.layout.passers ≡ 0
+  pub passers_few : m.layout.passers ≤ MOST_RECEIVERS
   pub senders : length m.senders ≡ m.layout.senders
   pub trails : Trails
   pub reached : Reached X m trails

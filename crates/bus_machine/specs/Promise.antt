@@ -1,7 +1,7 @@
 -- What is promised of the machine, and how an event leaves the promise: of both kinds of rows.
-use Rattle.std.specs.Prelude.{◌≡◌, ◌≢◌, ℕ, ◌+◌, ◌*◌, ◌/◌, ◌<◌, ◌≤◌, Bool, false, Option, Some}
+use Rattle.std.specs.Prelude.{◌≡◌, ◌≢◌, ℕ, ◌+◌, ◌*◌, ◌/◌, ◌%◌, ◌<◌, ◌≤◌, Bool, false, Option, Some}
 use Rattle.std.specs.Prelude.{None, List, [], ◌++◌, filter, length, map, slice_get, slice_index}
-use Rattle.std.specs.Prelude.{◌==◌, if◌then◌else◌}
+use Rattle.std.specs.Prelude.{◌==◌, ◌⊎◌, if◌then◌else◌}
 use Rattle.bus_register.specs.declared.limits.TheConstants.{MOST_SENDERS}
 use Rattle.bus_register.specs.declared.registers.Op.{Op}
 use Rattle.bus_register.specs.declared.registers.SenderNo.{SenderNo}
@@ -13,6 +13,7 @@ use Rattle.bus_core.specs.Senders.{Sender, Does, Clears, situation}
 use Rattle.bus_core.specs.Table.{line_now}
 use Rattle.bus_core.specs.declared.reuses.Reuse.{Reuse}
 use Rattle.bus_deliverylog.specs.Orders.{of_sender, IsPrefixOfOrder}
+use Rattle.bus_deliverylog.specs.Receiving.{Receiving}
 use Rattle.bus_core.specs.Reusing.Participants.{sizes_with}
 use Rattle.bus_core.specs.Reusing.Keeping.{held_of}
 use Rattle.bus_core.specs.declared.limits.TheConstants.{LEAST_ROWS_AGAIN}
@@ -21,19 +22,22 @@ use Rattle.bus_presence.specs.Standing.{IsSafe, Stands}
 use Rattle.bus_presence.specs.Reclaimers.{Reclaiming}
 use Rattle.bus_presence.specs.declared.pins.Pin.{Pin}
 use Rattle.bus_presence.specs.declared.pins.Pin.TheVariants.{Away}
-use Rattle.bus_tenure.specs.Core.{Election}
+use Rattle.bus_tenure.specs.Core.{Election, Layout}
 use Rattle.bus_tenure.specs.Situations.{Elects, TakesPage, StoresWord}
 use Rattle.bus_tenure.specs.declared.pages.Page.{Page}
 use Rattle.bus_tenure.specs.declared.phases.Phase.TheVariants.{Electing, Holding}
 use Rattle.bus_world.specs.Headline.{Action, HasPut, HasMarked, Stepped, Took, puts, order_given}
 use Rattle.bus_world.specs.Headline.{IsPrefix, Promises}
 use Rattle.bus_world.specs.Log.{KeepsFloor}
+use Rattle.bus_world.specs.Proved.Floors.{IsBoundary}
 use Rattle.bus_world.specs.Trails.{Takers}
 use Rattle.bus_world.specs.Waiting.{waiting_at}
-use Rattle.bus_world.specs.World.{Event, Put, Ask, Turn, Recv, Stop}
+use Rattle.bus_world.specs.World.{Event, Put, Ask, Turn, Recv, Stop, Gone}
 use Rattle.bus_world.specs.declared.events.Answer.{Answer}
 use Rattle.bus_machine.specs.Machine.{Machine, Trails, base_of, Reached, trails_grown, owners_told}
-use Rattle.bus_machine.specs.Machine.{log_place, ShowsLog, stage_of, going, words_of_frame}
+use Rattle.bus_machine.specs.Machine.{floor_of, log_place, ShowsLog, StandsBelow}
+use Rattle.bus_machine.specs.Machine.{stage_of, going}
+use Rattle.bus_machine.specs.Machine.{words_of_frame}
 use Rattle.bus_machine.specs.Remembering.{Remembers}
 
 -- a row for each tenure, or two rows or more
@@ -108,24 +112,30 @@ IsPagedBy stage len ended None = (t : ℕ) × (stage ≡ 2 * t + 1)
 IsPagedBy stage len ended (Some page) =
     (stage ≡ 2 * page.tenures) × (page.words ≡ len) × (page.ended ≡ ended)
 
+-- its floor is not past the words that it knows, and where no word of the log is used again it
+-- stays at the first
+pub record KeepsItsFloor (passers : ℕ) (page : Page) : Type 0 where
+  pub low : page.floor ≤ page.words
+  pub flat : passers ≡ 0 → KeepsFloor page
+
 -- it knows the next number of each sender behind this order, and who has left by it; and its floor
--- is kept
-pub record KnowsOrder (base : ℕ → ℕ) (page : Page) (order : Order) : Type 0 where
+-- is kept, where there are so many passed places
+pub record KnowsOrder (base : ℕ → ℕ) (passers : ℕ) (page : Page) (order : Order) : Type 0 where
   pub entries : length page.next ≡ MOST_SENDERS
   pub next : (s : ℕ) → s < MOST_SENDERS
       → slice_index page.next s ≡ base s + length (of_sender s order)
   pub left : (s : ℕ) → s < MOST_SENDERS → slice_get page.left s ≡ Some (has_gone s order)
-  pub floor : KeepsFloor page
+  pub floor : KeepsItsFloor passers page
 
 -- A page that is out knows what the log was when it left home: how many words it had, the order
 -- that these spell, and the tenures.
-pub record KnowsFront (base : ℕ → ℕ) (senders tenure : ℕ) (page : Page) (front : List ℕ) :
+pub record KnowsFront (base : ℕ → ℕ) (x : Layout) (tenure : ℕ) (page : Page) (front : List ℕ) :
     Type 0 where
   pub order : Order
   pub owners : List (ℕ × SenderNo)
-  pub spelled : Spells senders front order owners
+  pub spelled : Spells x.senders front order owners
   pub words : page.words ≡ length front
-  pub knows : KnowsOrder base page order
+  pub knows : KnowsOrder base x.passers page order
   pub ended : page.ended ≡ order.ended
   pub tenures : page.tenures ≡ tenure
 
@@ -145,7 +155,7 @@ pub record IsWithOwner {E : Type 0} (m : Machine E) (T : Trails) (owners : List 
   pub published : Bool
   pub has : sender.core.phase ≡ Holding tenure page stored published
   pub front : List ℕ
-  pub knows : KnowsFront (base_of m) m.layout.senders tenure page front
+  pub knows : KnowsFront (base_of m) m.layout tenure page front
   pub behind : T.log
       ≡ front ++ (if published then frame_words (frame_of sender.core.queue tenure) else [])
 
@@ -155,13 +165,41 @@ pub record FindsPage {E : Type 0} (m : Machine E) (t : ℕ) : Type 0 where
   pub home : m.home ≡ Some page
   pub stage : stage_of m ≡ 2 * t
 
+-- the page is at home, or a sender holds it
+abbrev pub IsPageOf : {E : Type 0} → Machine E → Page → Type 0
+IsPageOf {E} m page =
+    (m.home ≡ Some page)
+    ⊎ ((s : ℕ) × (v : Sender E) × (t stored : ℕ) × (published : Bool)
+    × (slice_get m.senders s ≡ Some v) × (v.core.phase ≡ Holding t page stored published))
+
+-- the floor of the page only rises
+abbrev pub FloorsRise : {E : Type 0} → Machine E → Machine E → Type 0
+FloorsRise old new =
+    (page next : Page) → IsPageOf old page → IsPageOf new next → page.floor ≤ next.floor
+
+-- ---- the log
+-- a step is on the cell of the word that is so many past the length; and no word that stands has
+-- that cell
+pub record IsPastLength {E : Type 0} (m : Machine E) (stored : ℕ) (o : Op) : Type 0 where
+  pub cell : register o
+      ≡ log_place m.layout m.reuse + (slice_index m.words 0 + stored) % m.layout.capacity
+  pub room : slice_index m.words 0 + stored < m.layout.capacity + floor_of m
+
 -- ---- the promise
 -- of these trails, with the order and the owners of frames that all that was published spells; and
--- the cells of the log show that
+-- the cells of the log show that from its floor on, which is all of it where no word of the log is
+-- used again
 pub record IsPromisedBy {E : Type 0} (X : Election E) (m : Machine E) (T : Trails) (order : Order)
     (owners : List (ℕ × SenderNo)) : Type 0 where
   pub stands : ShowsLog m T.log
+  pub below : StandsBelow m T.log
   pub spelled : Spells m.layout.senders T.log order owners
+  -- one of its frames begins at the floor: so what stands is the last frames, and spells by itself
+  -- what they say
+  pub edge : IsBoundary spelled.frames (floor_of m)
+  -- and no receiver that has not left is still to hear a word before it
+  pub comes : (r : ℕ) (v : Receiving) → slice_get m.receivers r ≡ Some v → v.gone ≡ false
+      → floor_of m ≤ v.place
   pub takers : TakersTold m.reuse m.owners T.actions
   pub promises : Promises (base_of m) T.actions T.heard order owners
   pub paged : IsPagedBy (stage_of m) (slice_index m.words 0) order.ended m.home
@@ -178,13 +216,16 @@ pub record IsPromisedBy {E : Type 0} (X : Election E) (m : Machine E) (T : Trail
   pub counts : (page : Page) → m.home ≡ Some page → page.tenures ≡ length takers.all
   -- it knows the next number of each sender behind the order, and who has left in it; a page that
   -- is out is with the owner of the tenure that is held
-  pub knows : (page : Page) → m.home ≡ Some page → KnowsOrder (base_of m) page order
+  pub knows : (page : Page) → m.home ≡ Some page
+      → KnowsOrder (base_of m) m.layout.passers page order
   pub out : m.home ≡ None → IsWithOwner m T takers.all
+  -- the floor of a page, at home or held, is not past that of the log: all words from it on stand
+  pub floors : (page : Page) → IsPageOf m page → page.floor ≤ floor_of m
   -- a word of the log is stored past its length, behind those of the same frame that are stored
   pub past : (s : ℕ) (v : Sender E) (t : ℕ) (page : Page) (stored word : ℕ) (o : Op)
       → slice_get m.senders s ≡ Some v
       → situation X v ≡ Does (StoresWord t page stored) → (line_now X v).op word ≡ Some o
-      → register o ≡ log_place m.layout m.reuse + slice_index m.words 0 + stored
+      → IsPastLength m stored o
   -- what a sender has put is what stands of it in the order, and then what waits
   pub sent : (s : ℕ) (v : Sender E) → slice_get m.senders s ≡ Some v
       → puts (T.actions s)
@@ -241,23 +282,27 @@ frame_published X m (Ask s mark) = None
 frame_published X m (Turn s word) = frame_next X (going m s)
 frame_published X m (Recv r) = None
 frame_published X m (Stop s) = None
+frame_published X m (Gone r) = None
 
 -- the words that join the log with an event
 abbrev pub words_joined : {E : Type 0} → Election E → Machine E → Event → List ℕ
 words_joined X m e = words_of_frame (frame_published X m e)
 
 -- ---- one machine follows another
--- Some trails led to the old machine. Whatever trails did, the cells of the new one show all that
--- was published by them, with these words behind it, and no other: so what was published is
--- extended and never otherwise changed. The stage never falls. With these ones those trails lead to
--- the new machine, and the promise stays; and of a tenure whose row had gone on before, no sender
--- has an action more: no step of its election, and none of who holds its page. So what was elected
--- there stays as it is.
+-- Some trails led to the old machine. Whatever trails did, the length of the new one counts all
+-- that was published by them, with these words behind it, and its cells show that from its floor
+-- on, and no other: so what was published is extended and never otherwise changed. Where no word of
+-- the log is used again it is just the words below the length. The stage never falls, nor does the
+-- floor of the page. With these ones those trails lead to the new machine, and the promise stays;
+-- and of a tenure whose row had gone on before, no sender has an action more: no step of its
+-- election, and none of who holds its page. So what was elected there stays as it is.
 pub record Extends {E : Type 0} (X : Election E) (old new : Machine E) (joined : List ℕ)
     (grown : Trails → Trails) : Type 0 where
   pub led : (T : Trails) × Reached X old T
   pub stands : (T : Trails) → Reached X old T → ShowsLog new (T.log ++ joined)
+  pub below : (T : Trails) → Reached X old T → StandsBelow new (T.log ++ joined)
   pub rises : stage_of old ≤ stage_of new
+  pub floors : FloorsRise old new
   pub reached : (T : Trails) → Reached X old T → Reached X new (grown T)
   pub promised : (T : Trails) → Reached X old T → StaysPromised X old T new (grown T)
   pub stays : (T : Trails) → Reached X old T → (t s : ℕ) → HasGoneOn old old.reuse t

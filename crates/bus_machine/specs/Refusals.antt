@@ -1,7 +1,7 @@
 -- What no turn of a machine may answer, what no sender of it remembers, and what follows no
 -- machine.
-use Rattle.std.specs.Prelude.{◌≡◌, ◌≢◌, ℕ, ◌+◌, ◌*◌, ◌<◌, ◌≤◌, true, false, Some, None, List, []}
-use Rattle.std.specs.Prelude.{◌∷◌, ◌++◌, length, slice_get, slice_index}
+use Rattle.std.specs.Prelude.{◌≡◌, ◌≢◌, ℕ, ◌+◌, ◌*◌, ◌%◌, ◌<◌, ◌≤◌, true, false, Some, None, List}
+use Rattle.std.specs.Prelude.{[], ◌∷◌, ◌++◌, drop, length, slice_get, slice_index}
 use Rattle.bus_batch.specs.declared.batches.Phase.TheVariants as batch
 use Rattle.bus_batch.specs.Frames.{Frame, Order, Spells, IsFrame, AreFrames, frame_words, items_of}
 use Rattle.bus_batch.specs.Frames.{log_words, has_gone}
@@ -41,8 +41,9 @@ use Rattle.bus_world.specs.declared.events.Answer.{Answer}
 use Rattle.bus_world.specs.declared.events.Answer.TheVariants as answer
 use Rattle.bus_machine.specs.Bounding.{named_by, AreBounded, PinsAreBounded}
 use Rattle.bus_machine.specs.Machine.{Machine, Trails, Reached, Happens, base_of, log_place}
-use Rattle.bus_machine.specs.Machine.{ShowsLog, stage_of}
-use Rattle.bus_machine.specs.Promise.{IsPromised, Follows, actions_in, pin_of, frame_published}
+use Rattle.bus_machine.specs.Machine.{ShowsLog, stage_of, floor_of, log_of}
+use Rattle.bus_machine.specs.Promise.{IsPageOf, IsPromised, Follows, actions_in, pin_of}
+use Rattle.bus_machine.specs.Promise.{frame_published}
 use Rattle.bus_machine.specs.Telling.{TurnTells, PutTells, LossesAreSeen}
 
 pub record LossesRefuse {E : Type 0} (m : Machine E) : Type 0 where
@@ -188,6 +189,9 @@ pub record FollowsRefuse {E : Type 0} (X : Election E) (old : Machine E) (e : Ev
   -- the stage falls from that of tenure 1, which is open, to that of tenure 0, which is held
   pub falls : (length length' : ℕ) (rest rest' : List ℕ) → old.words ≡ length ∷ 2 ∷ rest
       → new.words ≡ length' ∷ 1 ∷ rest' → ¬ Follows X old e a new
+  -- the floor of the page falls
+  pub floor_falls : (page next : Page) → IsPageOf old page → IsPageOf new next
+      → next.floor < page.floor → ¬ Follows X old e a new
   -- nothing led to the old machine
   pub led_by_nothing : ((T : Trails) → ¬ Reached X old T) → ¬ Follows X old e a new
   -- the cells show other words than were published, and no length was stored: so more or fewer
@@ -196,15 +200,22 @@ pub record FollowsRefuse {E : Type 0} (X : Election E) (old : Machine E) (e : Ev
   -- a length was stored, and they show what they showed
   pub publishes_nothing : (T : Trails) (f : Frame) → Reached X old T
       → frame_published X old e ≡ Some f → ShowsLog new T.log → ¬ Follows X old e a new
-  -- another frame was published than that of who stored the length
+  -- no word of the log is used again, and it has wrapped: a word below the length, read straight,
+  -- is not the one that was published there
+  pub wraps : (T : Trails) (place : ℕ) → Reached X old T → new.layout.passers ≡ 0
+      → place < length T.log
+      → slice_index new.words (log_place new.layout new.reuse + place) ≢ slice_index T.log place
+      → ¬ Follows X old e a new
+  -- another frame was published than that of who stored the length, and stands
   pub other_frame : (T : Trails) (senders : ℕ) (f g : Frame) → Reached X old T
       → frame_published X old e ≡ Some f → IsFrame senders f → IsFrame senders g → g ≢ f
-      → ShowsLog new (T.log ++ frame_words g) → ¬ Follows X old e a new
+      → floor_of new ≤ length T.log
+      → log_of new ≡ drop (floor_of new) T.log ++ frame_words g → ¬ Follows X old e a new
   -- a frame was published, and beside it a cell was rewritten: before the frame they show other
   -- words than were published
   pub rewritten : (T : Trails) (f : Frame) (log : List ℕ) → Reached X old T
-      → frame_published X old e ≡ Some f → log ≢ T.log → ShowsLog new (log ++ frame_words f)
-      → ¬ Follows X old e a new
+      → frame_published X old e ≡ Some f → log ≢ drop (floor_of new) T.log
+      → log_of new ≡ log ++ frame_words f → ¬ Follows X old e a new
 
 -- a page at home with an odd stage, or out with an even one; or one that knows another number of
 -- tenures
@@ -213,6 +224,11 @@ pub record PagesRefuse {E : Type 0} (X : Election E) (m : Machine E) (T : Trails
       → ¬ IsPromised X m T
   pub out_while_open : (t : ℕ) → m.home ≡ None → stage_of m ≡ 2 * t → ¬ IsPromised X m T
   pub other_tenure : (page : Page) → m.home ≡ Some page → stage_of m ≢ 2 * page.tenures
+      → ¬ IsPromised X m T
+  -- or whose floor is past the length, or past what a receiver has passed
+  pub floor_past_length : (page : Page) → m.home ≡ Some page → slice_index m.words 0 < page.floor
+      → ¬ IsPromised X m T
+  pub floor_past_receivers : (page : Page) → IsPageOf m page → floor_of m < page.floor
       → ¬ IsPromised X m T
   -- or another next number of a sender than that behind the log
   pub other_items : (page : Page) (order : Order) (owners : List (ℕ × SenderNo)) (s : ℕ)
@@ -326,7 +342,14 @@ pub record WordsRefuse {E : Type 0} (X : Election E) (m : Machine E) (T : Trails
   pub below_the_length : (s : ℕ) (v : Sender E) (t : ℕ) (page : Page) (stored word : ℕ) (o : Op)
       → slice_get m.senders s ≡ Some v
       → situation X v ≡ Does (StoresWord t page stored) → (line_now X v).op word ≡ Some o
+      → m.layout.passers ≡ 0
       → register o < log_place m.layout m.reuse + slice_index m.words 0 → ¬ IsPromised X m T
+  -- or in the cell of a word that stands
+  pub over_a_word : (s : ℕ) (v : Sender E) (t : ℕ) (page : Page) (stored word place : ℕ) (o : Op)
+      → slice_get m.senders s ≡ Some v
+      → situation X v ≡ Does (StoresWord t page stored) → (line_now X v).op word ≡ Some o
+      → floor_of m ≤ place → place < slice_index m.words 0
+      → register o ≡ log_place m.layout m.reuse + place % m.layout.capacity → ¬ IsPromised X m T
   -- a step that clears a word of a row in which somebody stands
   pub clears_under_a_stander : (rows p q t place word : ℕ) (v : Sender E) (s : Reclaiming) (o : Op)
       → m.reuse ≡ Some rows

@@ -8,7 +8,7 @@ use Rattle.bus_register.specs.Protocol.{Protocol}
 use Rattle.bus_adoptcommit.specs.declared.verdicts.Verdict.{Verdict}
 use Rattle.bus_tenure.specs.Core.{Election}
 use Rattle.bus_tenure.specs.Elections.{Elector}
-use Rattle.bus_world.specs.World.{Event, Put, Ask, Turn, Recv, Stop}
+use Rattle.bus_world.specs.World.{Event, Put, Ask, Turn, Recv, Stop, Gone}
 use Rattle.bus_world.specs.declared.events.Answer.{Answer}
 use Rattle.bus_world.specs.declared.events.Answer.TheVariants as answer
 use Rattle.bus_world.specs.declared.events.StepFault.{StepFault}
@@ -23,6 +23,7 @@ IsOfOther s (Ask q mark) = q ≢ s
 IsOfOther s (Turn q word) = q ≢ s
 IsOfOther s (Recv r) = Unit {0}
 IsOfOther s (Stop q) = q ≢ s
+IsOfOther s (Gone r) = Unit {0}
 
 -- the same machine, where this is told of a sender: that it has stopped, or that it has not
 abbrev pub with_stop_of : {E : Type 0} → ℕ → Bool → Machine E → Machine E
@@ -121,3 +122,4 @@ pub record StopRefuses {E : Type 0} (X : Election E) : Type 0 where
       → ¬ Refused m (Stop s) fault.Stopped
   -- also of a receiver, whatever its number
   pub recv_untimely : (m : Machine E) (r : ℕ) → ¬ Refused m (Recv r) fault.Stopped
+  pub gone_untimely : (m : Machine E) (r : ℕ) → ¬ Refused m (Gone r) fault.Stopped

@@ -14,13 +14,16 @@ use Rattle.bus_core.specs.Table.{line_now, lost_of}
 use Rattle.bus_core.specs.Telling.{FeedTells, RestTells}
 use Rattle.bus_presence.specs.declared.pins.Pin.{Pin}
 use Rattle.bus_presence.specs.declared.pins.Pin.TheVariants.{Unpinning}
-use Rattle.bus_tenure.specs.Core.{Election, frame_len}
+use Rattle.bus_tenure.specs.Core.{Core, Election, Layout, frame_len}
 use Rattle.bus_tenure.specs.Elections.{Elector}
+use Rattle.bus_tenure.specs.declared.pages.Page.{Page}
+use Rattle.bus_tenure.specs.declared.phases.Phase.TheVariants.{Holding}
 use Rattle.bus_tenure.specs.declared.turns.Turn.{Turn as Answered}
 use Rattle.bus_tenure.specs.declared.turns.Turn.TheVariants as turn
 use Rattle.bus_world.specs.Headline.{Action, Elected, Took, puts}
+use Rattle.bus_world.specs.Log.{KeepsFloor}
 use Rattle.bus_world.specs.Telling.{HasDelivered, HasLeft}
-use Rattle.bus_world.specs.World.{Event, Put, Ask, Turn, Recv, Stop}
+use Rattle.bus_world.specs.World.{Event, Put, Ask, Turn, Recv, Stop, Gone}
 use Rattle.bus_world.specs.declared.events.Answer.{Answer}
 use Rattle.bus_world.specs.declared.events.Answer.TheVariants as answer
 use Rattle.bus_machine.specs.Machine.{Machine, Trails, Reached, base_of, trails_grown, going}
@@ -45,6 +48,7 @@ SenderSays X words (Some v) word (answer.Turn t) =
     StepTells X words v ((line_now X v).op word) word t
 SenderSays X words (Some v) word (answer.Recv r) = Unit {0}
 SenderSays X words (Some v) word answer.Stopped = Unit {0}
+SenderSays X words (Some v) word answer.Gone = Unit {0}
 
 -- So Behind is answered only by a holder that loaded a presence with this step and found in it the
 -- tenure whose row is to be cleared; Own only by who stood in that tenure, whose election had
@@ -57,6 +61,7 @@ Says X m (Ask s mark) a = Unit {0}
 Says X m (Turn s word) a = SenderSays X m.words (going m s) word a
 Says X m (Recv r) a = Unit {0}
 Says X m (Stop s) a = Unit {0}
+Says X m (Gone r) a = Unit {0}
 
 -- ---- why a sender takes its step
 abbrev pub SenderCauses : {S : Type 0} → Election (Elector S) → Protocol S Bool Verdict
@@ -72,6 +77,7 @@ Causes X P m (Ask s mark) = Unit {0}
 Causes X P m (Turn s word) = SenderCauses X P (going m s)
 Causes X P m (Recv r) = Unit {0}
 Causes X P m (Stop s) = Unit {0}
+Causes X P m (Gone r) = Unit {0}
 
 -- ---- by whatever trails led to the machine
 -- ---- an answer of sender s
@@ -80,11 +86,23 @@ Causes X P m (Stop s) = Unit {0}
 abbrev pub ClosedTells : {E : Type 0} → Machine E → List ℕ → ℕ → Sender E → Type 0
 ClosedTells m log s v = HasEnded m log ⊎ ((v.core.queue.phase ≡ batch.Closed) × HasLeftIt m log s)
 
+-- The frame of the sender, which holds a page, does not fit the log behind what was published,
+-- counted from the floor of that page. Where no word of the log is used again that is the first
+-- place.
+pub record FindsFull {E : Type 0} (x : Layout) (log : List ℕ) (c : Core E) : Type 0 where
+  pub tenure : ℕ
+  pub page : Page
+  pub stored : ℕ
+  pub published : Bool
+  pub holds : c.phase ≡ Holding tenure page stored published
+  pub flat : x.passers ≡ 0 → KeepsFloor page
+  pub lacks : x.capacity + page.floor < length log + frame_len c
+
 -- A tenure is lost to the owner with which a step of this sender saw its election end, and which is
 -- another sender. A tenure is the sender's own where it is elected in it and took its page.
 -- Messages are delivered where the last frame of the order is that of this sender and tenure and
 -- holds them, with these numbers. A sender has left where that frame is its leave mark. The log is
--- full where the sender's frame does not fit behind it. With a step and without one, a sender is
+-- full where the sender's frame does not fit. With a step and without one, a sender is
 -- closed where the order has ended, and tenures are spent where none is left to it; without one it
 -- is closed also where it has left. A presence stands in the way only where rows are used again.
 -- The log is all that was published before the turn.
@@ -99,7 +117,7 @@ TurnTells m log s v actions (turn.Own t) =
 TurnTells m log s v actions (turn.Delivered t first last) =
     HasDelivered m.layout.senders log s t first last
 TurnTells m log s v actions (turn.Left t) = HasLeft m.layout.senders log s t
-TurnTells m log s v actions turn.Full = m.layout.capacity < length log + frame_len v.core
+TurnTells m log s v actions turn.Full = FindsFull m.layout log v.core
 TurnTells m log s v actions turn.Closed = ClosedTells m log s v
 TurnTells m log s v actions turn.Spent = NoneIsLeft m s actions
 TurnTells m log s v actions (turn.Behind t p) = IsSome m.reuse
@@ -114,6 +132,7 @@ SenderTells m log s (Some v) actions answer.Leaving = Unit {0}
 SenderTells m log s (Some v) actions (answer.Turn t) = TurnTells m log s v actions t
 SenderTells m log s (Some v) actions (answer.Recv r) = Unit {0}
 SenderTells m log s (Some v) actions answer.Stopped = Unit {0}
+SenderTells m log s (Some v) actions answer.Gone = Unit {0}
 
 -- a message that was accepted has the number of its sender's base and of those that it had put
 -- before it, by the actions with this put
@@ -124,6 +143,7 @@ PutTells first actions answer.Leaving = Unit {0}
 PutTells first actions (answer.Turn t) = Unit {0}
 PutTells first actions (answer.Recv r) = Unit {0}
 PutTells first actions answer.Stopped = Unit {0}
+PutTells first actions answer.Gone = Unit {0}
 
 -- an event of the machine as it was, where this was published, with its answer, by the trails that
 -- lead to the machine as it is then
@@ -133,6 +153,7 @@ EventTells m log (Ask s mark) a T = Unit {0}
 EventTells m log (Turn s word) a T = SenderTells m log s (going m s) (T.actions s) a
 EventTells m log (Recv r) a T = Unit {0}
 EventTells m log (Stop s) a T = Unit {0}
+EventTells m log (Gone r) a T = Unit {0}
 
 -- whatever trails led to the old machine: with what this event and its answer add to them, what the
 -- answer tells is so

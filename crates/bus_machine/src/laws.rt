@@ -8,8 +8,10 @@ ghost use Rattle.bus_core.specs.Senders.{Sender};
 ghost use Rattle.bus_world.specs.Headline.{Action};
 ghost use Rattle.bus_world.specs.World.{Event};
 ghost use Rattle.bus_world.specs.declared.events.Answer.{Answer};
+ghost use Rattle.bus_machine.specs.Leaves.{LeavesAreForGood, LeaveRefuses};
 ghost use Rattle.bus_machine.specs.LogRefusals.{LogsRefuse};
 ghost use Rattle.bus_machine.specs.Machine.{Machine, Trails, Reached, Happens, ShowsLog};
+ghost use Rattle.bus_machine.specs.Machine.{FindsWords, StandsBelow};
 ghost use Rattle.bus_machine.specs.Bounding.{AreBounded, PinsAreBounded};
 ghost use Rattle.bus_machine.specs.Promise.{IsPromised, HasRows, Follows};
 ghost use Rattle.bus_machine.specs.Promise.{actions_in};
@@ -29,10 +31,10 @@ use bus_ownerbits::laws::election_is_lawful;
 /// tenure has seen the election of that tenure end so.
 pub fn machine_keeps_promise<Q: Ratifier>()
     ensures { let X = election_of Q.Ratifier in
-        (senders rounds rows capacity : ℕ)
-        → IsLayout (layout_with Q.protocol senders rounds rows capacity)
+        (senders rounds rows capacity passers : ℕ)
+        → IsLayout (layout_with Q.protocol senders rounds rows capacity passers)
         → (machine : Machine (Elector Q)) (trails : Trails)
-        → machine.layout ≡ layout_with Q.protocol senders rounds rows capacity
+        → machine.layout ≡ layout_with Q.protocol senders rounds rows capacity passers
         → HasRows machine.reuse → Reached X machine trails
         → IsPromised X machine trails × LossesAreSeen machine trails.actions }
 {
@@ -43,10 +45,10 @@ pub fn machine_keeps_promise<Q: Ratifier>()
 /// answer tells is so, and the stage leaves that of an open tenure only by who takes its page.
 pub fn events_keep_promise<Q: Ratifier>()
     ensures { let X = election_of Q.Ratifier in
-        (senders rounds rows capacity : ℕ)
-        → IsLayout (layout_with Q.protocol senders rounds rows capacity)
+        (senders rounds rows capacity passers : ℕ)
+        → IsLayout (layout_with Q.protocol senders rounds rows capacity passers)
         → (old : Machine (Elector Q)) (trails : Trails)
-        → old.layout ≡ layout_with Q.protocol senders rounds rows capacity
+        → old.layout ≡ layout_with Q.protocol senders rounds rows capacity passers
         → HasRows old.reuse → Reached X old trails
         → (event : Event) (given : Answer) (new : Machine (Elector Q))
         → Happens X old event given new
@@ -56,17 +58,20 @@ pub fn events_keep_promise<Q: Ratifier>()
     election_is_lawful::<Q>();
 }
 
-/// The cells of the log show all that was ever published, by all that led to the machine: it stands
-/// in the words below the length. What is said of answers, of what senders remember and of what
-/// joins goes by what was published, and this says where that stands.
+/// The length and the cells of the log show all that was ever published, by all that led to the
+/// machine: from its floor on it stands in the cells. A receiver that has not left finds at its
+/// place the word that was published there. Where no word of the log is used again all of it
+/// stands in the words below the length. What is said of answers, of what senders remember and of
+/// what joins goes by what was published, and this says where that stands.
 pub fn history_stands<Q: Ratifier>()
     ensures { let X = election_of Q.Ratifier in
-        (senders rounds rows capacity : ℕ)
-        → IsLayout (layout_with Q.protocol senders rounds rows capacity)
+        (senders rounds rows capacity passers : ℕ)
+        → IsLayout (layout_with Q.protocol senders rounds rows capacity passers)
         → (machine : Machine (Elector Q)) (trails : Trails)
-        → machine.layout ≡ layout_with Q.protocol senders rounds rows capacity
+        → machine.layout ≡ layout_with Q.protocol senders rounds rows capacity passers
         → HasRows machine.reuse → Reached X machine trails
-        → ShowsLog machine trails.log }
+        → ShowsLog machine trails.log × FindsWords machine trails.log
+        × StandsBelow machine trails.log }
 {
     election_is_lawful::<Q>();
 }
@@ -78,10 +83,10 @@ pub fn history_stands<Q: Ratifier>()
 /// of that tenure.
 pub fn steps_are_bounded<Q: Ratifier>()
     ensures { let X = election_of Q.Ratifier in
-        (senders rounds rows capacity : ℕ)
-        → IsLayout (layout_with Q.protocol senders rounds rows capacity)
+        (senders rounds rows capacity passers : ℕ)
+        → IsLayout (layout_with Q.protocol senders rounds rows capacity passers)
         → (machine : Machine (Elector Q)) (trails : Trails)
-        → machine.layout ≡ layout_with Q.protocol senders rounds rows capacity
+        → machine.layout ≡ layout_with Q.protocol senders rounds rows capacity passers
         → HasRows machine.reuse → Reached X machine trails
         → AreBounded X (election_bound Q.protocol.steps senders rounds) machine trails
         × PinsAreBounded trails }
@@ -99,6 +104,17 @@ pub fn steps_are_bounded<Q: Ratifier>()
 pub fn stops_are_for_good<Q: Ratifier>()
     ensures stops { StopsAreForGood (election_of Q.Ratifier) Q.protocol }
     ensures refuses { StopRefuses (election_of Q.Ratifier) }
+{}
+
+/// A leave of a receiver that is answered changes that it has left, and its passed place, which
+/// shows 2^64 - 1 then, if it has one; and nothing else. Whoever has left stays so, whatever
+/// happens next: it holds what it held, it is answered nothing more, and each event of it is
+/// refused as Gone, and as nothing else. A leave that does nothing, or after which the passed place
+/// shows another number, is none. Nothing is refused as Gone of a receiver that has not left, or
+/// that there is not, and nobody leaves but by a leave of its own.
+pub fn leaves_are_for_good<Q: Ratifier>()
+    ensures leaves { LeavesAreForGood (election_of Q.Ratifier) Q.protocol }
+    ensures refuses { LeaveRefuses (election_of Q.Ratifier) }
 {}
 
 /// Of no machine the promise holds in which senders saw the election of one tenure end with two
@@ -143,19 +159,21 @@ pub fn same_actions_say_no_more()
 {}
 
 /// No close is answered Leaving and no leave Closing, and neither lets the mark of the other wait.
-/// No machine follows another to which nothing led; or by an event with which the stage falls; or
-/// with which the cells of the log show other words than were published though no length was
-/// stored, or what they showed though one was, or another frame than that of who stored it, or
-/// other words before that frame. None is promised whose page is at home while the stage is odd, or
-/// out while it is even, or knows another number of tenures or of items, or others that have left,
-/// or is out while nobody holds it, or counts a tenure that nobody took, or that two senders hold,
-/// or one that did not take it; nor one of which a sender goes by another number, layout or count
-/// of rows, is to put its second message first, is closed while the order goes on in which it has
-/// not left, has left in it and is open or at rest with its mark, has asked for a mark and is open,
-/// passes over a tenure that is open, has begun one that is not opened yet, or has its batch on its
-/// way at rest, or not in a tenure; nor one of which a sender stores a word of the log below the
-/// length next, or clears a word of a row in which somebody stands. None is bounded of which a
-/// sender took more steps towards a page, or has no turn left while its election runs.
+/// No machine follows another to which nothing led; or by an event with which the stage or the
+/// floor of the page falls; or with which the cells of the log show other words than were
+/// published though no length was stored, or what they showed though one was, or another frame
+/// than that of who stored it, or other words before that frame, or a log of which no word is used
+/// again has wrapped. None is promised whose page is at home while the stage is odd, or out while
+/// it is even, or knows another number of tenures or of items, or others that have left, or is out
+/// while nobody holds it, or counts a tenure that nobody took, or that two senders hold, or one
+/// that did not take it, or whose floor is past the length or what a receiver has passed; nor one
+/// of which a sender goes by another number, layout or count of rows, is to put its second message
+/// first, is closed while the order goes on in which it has not left, has left in it and is open or
+/// at rest with its mark, has asked for a mark and is open, passes over a tenure that is open, has
+/// begun one that is not opened yet, or has its batch on its way at rest, or not in a tenure; nor
+/// one of which a sender stores a word of the log next in the cell of one that stands, or clears a
+/// word of a row in which somebody stands. None is bounded of which a sender took more steps
+/// towards a page, or has no turn left while its election runs.
 pub fn machines_refuse<Q: Ratifier>()
     ensures follows { let X = election_of Q.Ratifier in
         (old : Machine (Elector Q)) (event : Event) (given : Answer) (new : Machine (Elector Q))
@@ -173,9 +191,11 @@ pub fn machines_refuse<Q: Ratifier>()
         → BoundsRefuse X bound machine trails }
 {}
 
-/// Of no machine the promise holds whose cells show another log than was published, or one whose
-/// first word is zero. Nor of one in which what a sender has put is not what was published of it
-/// and then what waits.
+/// Of no machine the promise holds whose cells show another log than was published, or, where no
+/// word of the log is used again, another word below the length than was published there, or one
+/// whose first word that stands is zero, or whose floor is within a frame, or past the place of a
+/// receiver that has not left. Nor of one in which what a sender has put is not what was published
+/// of it and then what waits.
 pub fn logs_refuse<Q: Ratifier>()
     ensures { let X = election_of Q.Ratifier in
         (machine : Machine (Elector Q)) (trails : Trails) → LogsRefuse X machine trails }

@@ -22,6 +22,7 @@
 #![tactic(auto)]
 
 pub mod laws;
+mod logs;
 pub mod shapes;
 mod starts;
 mod turns;

@@ -2,13 +2,14 @@
 
 ghost use Rattle.std.specs.Prelude.{◌≡◌, ◌≢◌, ℕ, ◌<◌, ◌≤◌, ◌^◌, false};
 ghost use Rattle.std.specs.Prelude.{IfErr, IfOk, IfSome, None, OnOk};
-ghost use Rattle.std.specs.Prelude.{slice_index, true};
+ghost use Rattle.std.specs.Prelude.{length, slice_index, true};
 ghost use Rattle.std.specs.Option.{option_copied};
 ghost use Rattle.bus_machine.specs.Playing.{IsServed, MakeRefused, least_rows as spec_least_rows};
 ghost use Rattle.bus_machine.specs.Machine.{log_place};
 ghost use Rattle.bus_machine.specs.Playing.{most_rows as spec_most_rows, ShapeOf};
-ghost use Rattle.bus_machine.specs.Playing.{MayFollow, MayNotFollow, bases_after};
+ghost use Rattle.bus_machine.specs.Playing.{MayGoOn, MayNotGoOn, bases_after};
 ghost use Rattle.bus_register.specs.declared.limits.TheConstants.{MOST_SENDERS};
+ghost use Rattle.bus_world.specs.Log.{first_numbers as spec_numbers};
 ghost use Rattle.bus_world.specs.World.{AreBases};
 ghost use Rattle.bus_world.specs.declared.limits.TheConstants.{FIRST_NUMBERS};
 ghost use Rattle.bus_world.specs.declared.shapes.MakeFault.TheVariants.{NoMemory};
@@ -18,7 +19,7 @@ use bus_register::limits::{
     LEAST_LOG_WORDS, MOST_LOG_WORDS, MOST_RECEIVERS, MOST_ROUNDS, MOST_ROWS, MOST_SENDERS,
 };
 use bus_tenure::Page;
-use bus_world::limits::FIRST_NUMBERS;
+use bus_world::limits::{FIRST_NUMBERS, FIRST_RING_NUMBERS};
 use bus_world::{MakeFault, Shape};
 
 /// The least number of rows: a row for each tenure, or rows that are used again.
@@ -62,14 +63,28 @@ pub fn fault_of(shape: Shape, reuse: Option<u64>) -> Option<MakeFault>
     }
 }
 
-/// Whether each of these numbers leaves room for a whole log.
-fn are_low(next: [u64; MOST_SENDERS]) -> bool
-    ensures low { result ≡ true → AreBases next }
+/// Below this each sender's numbers begin in a sitting of a bus with so many passed places.
+fn numbers_below(passers: u64) -> u64
+    ensures is { result ≡ spec_numbers passers }
+    ensures some { 0 < result }
+    ensures most { result ≤ FIRST_NUMBERS }
+{
+    match passers {
+        0 => FIRST_NUMBERS,
+        _ => FIRST_RING_NUMBERS,
+    }
+}
+
+/// Whether each of these numbers is below that bound.
+fn are_low(next: [u64; MOST_SENDERS], below: u64) -> bool
+    requires some { 0 < below }
+    ensures many { length next ≡ MOST_SENDERS }
+    ensures low { result ≡ true → (s : ℕ) → slice_index next s < below }
     ensures high { result ≡ false
-        → (s : ℕ) × (s < MOST_SENDERS) × (FIRST_NUMBERS ≤ slice_index next s) }
+        → (s : ℕ) × (s < MOST_SENDERS) × (below ≤ slice_index next s) }
 {
     for sender in 0..MOST_SENDERS {
-        if next[sender] >= FIRST_NUMBERS {
+        if next[sender] >= below {
             return false;
         }
     }
@@ -77,12 +92,13 @@ fn are_low(next: [u64; MOST_SENDERS]) -> bool
 }
 
 /// The numbers that a sitting begins with, by sender: those of the page, if it goes on with one, of
-/// which nothing else is carried over.
-pub fn first_numbers(page: Option<&Page>) -> Result<[u64; MOST_SENDERS], MakeFault>
+/// which nothing else is carried over. They are low enough for a bus with so many passed places.
+pub fn first_numbers(page: Option<&Page>, passers: u64) -> Result<[u64; MOST_SENDERS], MakeFault>
     ensures bases { IfOk result (λ bases. bases ≡ bases_after (option_copied page.entry)) }
     ensures are { IfOk result (λ bases. AreBases bases) }
-    ensures follows { OnOk result (MayFollow (option_copied page.entry)) }
-    ensures fault { IfErr result (MayNotFollow (option_copied page.entry)) }
+    ensures low { IfOk result (λ bases. (s : ℕ) → slice_index bases s < spec_numbers passers) }
+    ensures follows { OnOk result (MayGoOn passers (option_copied page.entry)) }
+    ensures fault { IfErr result (MayNotGoOn passers (option_copied page.entry)) }
 {
     let Some(page) = page else {
         return Ok([0; MOST_SENDERS]);
@@ -90,7 +106,7 @@ pub fn first_numbers(page: Option<&Page>) -> Result<[u64; MOST_SENDERS], MakeFau
     if !page.ended {
         return Err(MakeFault::NotEnded);
     }
-    if !are_low(page.next) {
+    if !are_low(page.next, numbers_below(passers)) {
         return Err(MakeFault::Numbers);
     }
     Ok(page.next)

@@ -1,11 +1,11 @@
 //! The senders of a new bus.
 
-ghost use Rattle.std.specs.Prelude.{◌≡◌, ℕ, ◌+◌, ◌<◌, ◌≤◌, ◌^◌, IfOk};
+ghost use Rattle.std.specs.Prelude.{◌≡◌, ℕ, ◌+◌, ◌<◌, ◌≤◌, ◌^◌, IfOk, None};
 ghost use Rattle.bus_core.specs.Keeping.{new_sender as spec_new_sender};
 ghost use Rattle.bus_tenure.specs.Core.{words_of};
-ghost use Rattle.bus_machine.specs.Playing.{layout_of, IsServed, RoomFor, ShapeOf};
+ghost use Rattle.bus_machine.specs.Playing.{layout_of, layout_passed, IsServed, RoomFor, ShapeOf};
 ghost use Rattle.bus_machine.specs.Turning.{AreNewSenders};
-ghost use Rattle.bus_register.specs.declared.limits.TheConstants.{NUMBERS};
+ghost use Rattle.bus_register.specs.declared.limits.TheConstants.{MOST_RECEIVERS, NUMBERS};
 ghost use Rattle.bus_world.specs.World.{AreBases};
 
 use bus_adoptcommit::Ratifier;
@@ -18,20 +18,24 @@ use std::alloc::Global;
 fn new_sender<Q: Ratifier + Drop>(
     shape: Shape,
     reuse: Option<u64>,
+    passers: u64,
     me: SenderNo,
     first: u64,
 ) -> SenderCore<Q>
     requires served { IsServed shape reuse }
     requires shape { ShapeOf shape reuse }
     requires room { RoomFor Q.protocol shape reuse }
+    requires apart { reuse ≡ None → passers ≡ 0 }
+    requires few { passers ≤ MOST_RECEIVERS }
     requires below { me.0 < shape.senders }
     requires numbers { first ≤ NUMBERS }
-    ensures { result ≡ spec_new_sender (layout_of Q.protocol shape reuse) me.0 reuse first }
+    ensures { result
+        ≡ spec_new_sender (layout_passed Q.protocol shape reuse passers) me.0 reuse first }
 {
     let (senders, rounds, words) = (shape.senders, shape.rounds, shape.log_words);
     match reuse {
         None => SenderCore::new(senders, me, rounds, shape.rows, words, first),
-        Some(rows) => SenderCore::cyclic(senders, me, rounds, rows, words, first),
+        Some(rows) => SenderCore::cyclic(senders, me, rounds, rows, words, first, passers),
     }
 }
 
@@ -40,19 +44,22 @@ pub fn new_senders<Q: Ratifier + Drop>(
     alloc: Global,
     shape: Shape,
     reuse: Option<u64>,
+    passers: u64,
     bases: &[u64],
 ) -> Result<Vec<SenderCore<Q>>, NoMemory>
     requires served { IsServed shape reuse }
     requires shape { ShapeOf shape reuse }
     requires room { RoomFor Q.protocol shape reuse }
+    requires apart { reuse ≡ None → passers ≡ 0 }
+    requires few { passers ≤ MOST_RECEIVERS }
     requires bases { AreBases bases.now }
-    ensures { IfOk result (λ senders. AreNewSenders (layout_of Q.protocol shape reuse) reuse
-        bases.now shape.senders senders.items) }
+    ensures { IfOk result (λ senders. AreNewSenders (layout_passed Q.protocol shape reuse passers)
+        reuse bases.now shape.senders senders.items) }
 {
     let mut senders = Vec::new(alloc);
     for me in 0..shape.senders {
         let first = bases[me as usize];
-        senders.push(new_sender(shape, reuse, SenderNo(me as u8), first))?;
+        senders.push(new_sender(shape, reuse, passers, SenderNo(me as u8), first))?;
     }
     Ok(senders)
 }

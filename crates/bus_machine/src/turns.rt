@@ -1,7 +1,7 @@
 //! One turn of one sender on what all share.
 
 ghost use Rattle.std.specs.Prelude.{◌≡◌, ◌≤◌, ◌<◌, ℕ, length, map, slice_index};
-ghost use Rattle.std.specs.Prelude.{IsSome, Some, IfOk, IfErr, OnOk, OnErr};
+ghost use Rattle.std.specs.Prelude.{IfSome, IsSome, Some, IfOk, IfErr, OnOk, OnErr};
 ghost use Rattle.bus_register.specs.declared.registers.Op.{Op};
 ghost use Rattle.bus_register.specs.Words.{register, SumFits};
 ghost use Rattle.bus_batch.specs.Batches.{next_of};
@@ -11,7 +11,9 @@ ghost use Rattle.bus_tenure.specs.Situations.{Elects, situation_of};
 ghost use Rattle.bus_core.specs.Keeping.{core_without};
 ghost use Rattle.bus_core.specs.Senders.{words_all};
 ghost use Rattle.bus_core.specs.Table.{line_now};
+ghost use Rattle.bus_deliverylog.specs.Receiving.{leaving_op, with_leave};
 ghost use Rattle.bus_world.specs.Turning.{home_moved, before_step, laying, owners_by};
+ghost use Rattle.bus_world.specs.Turning.{words_after};
 ghost use Rattle.bus_machine.specs.Machine.{moved, owners_told, last_of};
 ghost use Rattle.bus_machine.specs.Playing.{PutRefused, CloseRefused};
 ghost use Rattle.bus_machine.specs.Telling.{StepTells};
@@ -21,6 +23,7 @@ use arrayvec::ArrayVec;
 use bus_adoptcommit::Ratifier;
 use bus_batch::Mark;
 use bus_core::SenderCore;
+use bus_deliverylog::Reader;
 use bus_register::limits::{MOST_ROWS, NUMBERS};
 use bus_register::{Cells, SenderNo};
 use bus_tenure::{OwnedPage, Turn};
@@ -101,6 +104,18 @@ pub fn turn_sender<Q: Ratifier + Drop>(
     let turn = take_step(cells, core, word);
     lay_page(home, core);
     turn
+}
+
+/// A receiver leaves for good, and stores that in its passed place, if it has one.
+pub fn leave_for_good(cells: &mut Cells, reader: &mut Reader)
+    requires within { IfSome (leaving_op reader.old) (λ o. register o < length cells.old) }
+    ensures words { cells.new ≡ words_after cells.old (leaving_op reader.old) }
+    ensures left { reader.new ≡ with_leave reader.old }
+{
+    if let Some(op) = reader.leaving() {
+        let _ = cells.apply(op);
+    }
+    reader.leave();
 }
 
 /// A message goes into the batch of a sender, or is refused.

@@ -1,35 +1,42 @@
 //! A bus that plays events, with a row of words for each tenure or with rows that are used again.
 
-ghost use Rattle.std.specs.Prelude.{◌≡◌, ℕ, ◌<◌, ◌≤◌, false, length, map, slice_get};
+ghost use Rattle.std.specs.Prelude.{◌≡◌, ◌⊎◌, ℕ, ◌<◌, ◌≤◌, false, length, map, slice_get};
 ghost use Rattle.std.specs.Prelude.{List, Some, None};
 ghost use Rattle.std.specs.Prelude.{IfOk, IfErr, OnOk, OnErr};
 ghost use Rattle.std.specs.Option.{option_copied};
 ghost use Rattle.bus_register.specs.declared.registers.SenderNo.{SenderNo as Number};
 ghost use Rattle.bus_batch.specs.Frames.{Spells};
 ghost use Rattle.bus_deliverylog.specs.Orders.{order_held, HasPlaces};
+ghost use Rattle.bus_deliverylog.specs.Receiving.{Receiving};
 ghost use Rattle.bus_tenure.specs.Elections.{election_of};
 ghost use Rattle.bus_world.specs.declared.events.Answer.TheVariants as answer;
 ghost use Rattle.bus_world.specs.Headline.{order_given};
 ghost use Rattle.bus_batch.specs.declared.messages.Mark.TheVariants.{End, Leave};
 ghost use Rattle.bus_world.specs.Playing.{event_told, asked_answer};
 ghost use Rattle.bus_world.specs.World.{no_bases, Put, Ask, Turn as SenderTurn, Recv, Stop};
+ghost use Rattle.bus_world.specs.World.{Gone};
 ghost use Rattle.bus_ownerbits.specs.Sizes.{election_bound};
 ghost use Rattle.bus_machine.specs.Bounding.{AreBounded, PinsAreBounded};
+ghost use Rattle.bus_machine.specs.Giving.{StillGiven};
 ghost use Rattle.bus_machine.specs.Machine.{Trails, Reached, Happens, has_stopped, log_of};
-ghost use Rattle.bus_machine.specs.Playing.{IsMade, MakeRefused, ShapeOf, Answers, Refused};
+ghost use Rattle.bus_machine.specs.Machine.{floor_of};
+ghost use Rattle.bus_machine.specs.Playing.{IsMade, IsMadeWith, MakeRefused, ShapeOf, Answers};
+ghost use Rattle.bus_machine.specs.Playing.{MayGoOn, Refused, RefusedWith};
 ghost use Rattle.bus_machine.specs.Playing.{AfterRefused, IsFollowed, MakeRefusedAfter, MayFollow};
 ghost use Rattle.bus_machine.specs.Playing.{bases_after};
 ghost use Rattle.bus_machine.specs.Playing.{Refuses, Played, Stops};
 ghost use Rattle.bus_machine.specs.Promise.{IsPromised, TakersTold};
 ghost use Rattle.bus_machine.specs.Telling.{Causes, Says, LossesAreSeen};
 
+use crate::logs::{behind, copy_ring, first_passed, least_passed};
 use crate::shapes::{fault_of, first_numbers, log_word};
 use crate::starts::new_senders;
-use crate::turns::{mark_to, note_owner, put_to, turn_sender};
+use crate::turns::{leave_for_good, mark_to, note_owner, put_to, turn_sender};
 use arrayvec::ArrayVec;
 use bus_adoptcommit::Ratifier;
 use bus_batch::Mark;
 use bus_core::SenderCore;
+use bus_core::limits::PASSED_APART;
 use bus_deliverylog::{Order, Reader, read_front, read_log};
 use bus_ownerbits::Election;
 use bus_ownerbits::laws::election_is_lawful;
@@ -55,6 +62,9 @@ pub struct World<Q: Ratifier> {
     shape: Shape,
     /// How many rows are used again.
     reuse: Option<u64>,
+    /// How many passed places there are: one of each receiver where words of the log are used
+    /// again, and none else.
+    passers: u64,
     /// The numbers that the sitting began with, by sender.
     bases: [u64; MOST_SENDERS],
     cells: Cells,
@@ -76,11 +86,11 @@ impl<Q: Ratifier> Model for World<Q> {
 
     ghost Value = { Machine (Elector Q) };
 
-    ghost view = { λ w. machine_of Q.protocol w.shape w.reuse w.bases w.cells w.home w.senders.items
-        w.receivers.items w.stopped (map (λ s. s.0) w.owners.items) };
+    ghost view = { λ w. machine_of Q.protocol w.shape w.reuse w.passers w.bases w.cells w.home
+        w.senders.items w.receivers.items w.stopped (map (λ s. s.0) w.owners.items) };
 
     ghost invariant = { λ w. IsHeld (election_with Q.kind_of Q.op Q.fed Q.protocol)
-        (machine_of Q.protocol w.shape w.reuse w.bases w.cells w.home w.senders.items
+        (machine_of Q.protocol w.shape w.reuse w.passers w.bases w.cells w.home w.senders.items
         w.receivers.items w.stopped (map (λ s. s.0) w.owners.items)) };
 }
 
@@ -91,7 +101,7 @@ impl<Q: Ratifier + Drop> World<Q> {
             IfOk result (IsMade X Q.protocol shape None no_bases) }
         ensures fault { IfErr result (MakeRefused shape None) }
     {
-        World::make(alloc, shape, None, None)
+        World::make(alloc, shape, None, 0, None)
     }
 
     /// The next sitting: a new bus with a row of words for each tenure, whose senders go on with
@@ -103,7 +113,7 @@ impl<Q: Ratifier + Drop> World<Q> {
         ensures follows { OnOk result (IsFollowed page.now) }
         ensures fault { IfErr result (AfterRefused shape None page.now) }
     {
-        World::make(alloc, shape, None, Some(page))
+        World::make(alloc, shape, None, 0, Some(page))
     }
 
     /// A new bus whose rows of words are used again: `rows` of its shape, 2 to 8. With a page it is
@@ -116,35 +126,59 @@ impl<Q: Ratifier + Drop> World<Q> {
         ensures fault { IfErr result
             (MakeRefusedAfter shape (Some shape.rows) (option_copied page.entry)) }
     {
-        World::make(alloc, shape, Some(shape.rows), page)
+        World::make(alloc, shape, Some(shape.rows), 0, page)
     }
 
-    /// A new bus of either kind.
+    /// A new bus whose rows are used again, as `cyclic`, and whose log is: a ring of words that go
+    /// on without an end. Each receiver has a passed place, in which it says behind each frame how
+    /// far it has come, and where no frame fits any more before the least of them a sender answers
+    /// Full. With a page it is the next sitting, as `after`, where each next number is below 2^48
+    /// - 2^44 - 16.
+    pub fn ring(alloc: Global, shape: Shape, page: Option<&Page>) -> Result<World<Q>, MakeFault>
+        ensures made { let X = election_of Q.Ratifier in
+            IfOk result (IsMadeWith X Q.protocol shape (Some shape.rows) shape.receivers
+            (bases_after (option_copied page.entry))) }
+        ensures follows { OnOk result (MayGoOn shape.receivers (option_copied page.entry)) }
+        ensures fault { IfErr result (RefusedWith shape.receivers shape (Some shape.rows)
+            (option_copied page.entry)) }
+    {
+        World::make(alloc, shape, Some(shape.rows), shape.receivers, page)
+    }
+
+    /// A new bus of any kind.
     fn make(
         alloc: Global,
         shape: Shape,
         reuse: Option<u64>,
+        passers: u64,
         page: Option<&Page>,
     ) -> Result<World<Q>, MakeFault>
-        requires { ShapeOf shape reuse }
+        requires rows { ShapeOf shape reuse }
+        requires apart { reuse ≡ None → passers ≡ 0 }
+        requires each { (passers ≡ 0) ⊎ (passers ≡ shape.receivers) }
         ensures made { let X = election_of Q.Ratifier in
-            IfOk result (IsMade X Q.protocol shape reuse (bases_after (option_copied page.entry))) }
-        ensures follows { OnOk result (MayFollow (option_copied page.entry)) }
-        ensures fault { IfErr result (MakeRefusedAfter shape reuse (option_copied page.entry)) }
+            IfOk result (IsMadeWith X Q.protocol shape reuse passers
+            (bases_after (option_copied page.entry))) }
+        ensures follows { OnOk result (MayGoOn passers (option_copied page.entry)) }
+        ensures fault { IfErr result
+            (RefusedWith passers shape reuse (option_copied page.entry)) }
     {
         if let Some(fault) = fault_of(shape, reuse) {
             return Err(fault);
         }
-        let bases = first_numbers(page)?;
+        let bases = first_numbers(page, passers)?;
         let width = Election::<Q>::width(shape.senders, shape.rounds);
-        let log = log_word(shape, reuse, width);
+        let first = log_word(shape, reuse, width);
+        let log = first + PASSED_APART * passers;
         let cells = Cells::new(alloc, log + shape.log_words)?;
         let home = first_page(alloc, bases)?;
-        let senders = new_senders(alloc, shape, reuse, &bases)?;
-        let receivers = new_receivers(alloc, shape, Reg(log))?;
+        let senders = new_senders(alloc, shape, reuse, passers, &bases)?;
+        let passed = first_passed(first, passers);
+        let receivers = new_receivers(alloc, shape, Reg(log), passed)?;
         Ok(World {
             shape,
             reuse,
+            passers,
             bases,
             cells,
             home: Some(home),
@@ -166,6 +200,22 @@ impl<Q: Ratifier + Drop> World<Q> {
         }
         if self.stopped[sender as usize] {
             return Err(StepFault::Stopped);
+        }
+        Ok(())
+    }
+
+    /// Wants a receiver that there is and that has not left for good.
+    fn listens(&self, receiver: u64) -> Result<(), StepFault>
+        ensures there { OnOk result (receiver < length self.now.receivers) }
+        ensures stays { OnOk result ((reader : Receiving)
+            → slice_get self.now.receivers receiver ≡ Some reader → reader.gone ≡ false) }
+        ensures fault { IfErr result (Refused self.now (Recv receiver)) }
+    {
+        if receiver >= self.receivers.len() as u64 {
+            return Err(StepFault::NoSuchReceiver);
+        }
+        if self.receivers[receiver as usize].has_left() {
+            return Err(StepFault::Gone);
         }
         Ok(())
     }
@@ -222,9 +272,7 @@ impl<Q: Ratifier + Drop> World<Q> {
             (λ why. Refuses self.old (Recv receiver) why self.new) }
     {
         election_is_lawful::<Q>();
-        if receiver as usize >= self.receivers.len() {
-            return Err(StepFault::NoSuchReceiver);
-        }
+        self.listens(receiver)?;
         let reader = &mut self.receivers[receiver as usize];
         Ok(Answer::Recv(turn_receiver(&mut self.cells, reader)))
     }
@@ -237,6 +285,19 @@ impl<Q: Ratifier + Drop> World<Q> {
     {
         self.goes_on(sender)?;
         self.stopped[sender as usize] = true;
+        Ok(())
+    }
+
+    /// A receiver leaves for good.
+    fn gone_at(&mut self, receiver: u64) -> Result<(), StepFault>
+        ensures happens { let X = election_of Q.Ratifier in
+            OnOk result (Happens X self.old (Gone receiver) answer.Gone self.new) }
+        ensures refused { IfErr result (λ why. Refuses self.old (Gone receiver) why self.new) }
+    {
+        election_is_lawful::<Q>();
+        self.listens(receiver)?;
+        let reader = &mut self.receivers[receiver as usize];
+        leave_for_good(&mut self.cells, reader);
         Ok(())
     }
 
@@ -295,6 +356,20 @@ impl<Q: Ratifier + Drop> World<Q> {
         self.stop_at(u64::from(sender.0))
     }
 
+    /// A receiver leaves for good: from now on it is asked nothing, and what it was given stays.
+    /// Where words of the log are used again it stores 2^64 - 1 in its passed place, and nobody
+    /// waits for it any more; else this is no step, and nobody waits for a receiver. Takes no
+    /// memory.
+    pub fn gone(&mut self, receiver: u64) -> Result<(), StepFault>
+        ensures answered { let X = election_of Q.Ratifier in
+            OnOk result (Answers X Q.protocol self.old (Gone receiver) answer.Gone self.new) }
+        ensures refused { IfErr result (λ why. Refuses self.old (Gone receiver) why self.new) }
+    {
+        election_is_lawful::<Q>();
+        let _ = &self.shape;
+        self.gone_at(receiver)
+    }
+
     /// What happens next, and its answer.
     fn take_in(&mut self, event: &Event) -> Result<Answer, StepFault>
         ensures happens { let X = election_of Q.Ratifier in
@@ -322,6 +397,10 @@ impl<Q: Ratifier + Drop> World<Q> {
                 self.stop_at(*sender)?;
                 Ok(Answer::Stopped)
             }
+            Event::Gone(receiver) => {
+                self.gone_at(*receiver)?;
+                Ok(Answer::Gone)
+            }
         }
     }
 
@@ -331,9 +410,9 @@ impl<Q: Ratifier + Drop> World<Q> {
     /// the election of that tenure end with the owner that it names, which is another sender; one
     /// that answers Own is elected and took the page; what is Delivered is the last frame of the
     /// order, and where one has Left that frame is its leave mark; and Full is answered only where
-    /// the frame does not fit behind the log. No turn is an action in a tenure whose row had gone
-    /// on before: what was elected there stays as it is. The log gets the frame of a sender whose
-    /// turn stores a length, with that turn, and no word else.
+    /// the frame does not fit behind the log, counted from the floor of the page. No turn is an
+    /// action in a tenure whose row had gone on before: what was elected there stays as it is. The
+    /// log gets the frame of a sender whose turn stores a length, with that turn, and no word else.
     pub fn step(&mut self, event: &Event) -> Result<Answer, StepFault>
         ensures answered { let X = election_of Q.Ratifier in
             IfOk result (λ a. Answers X Q.protocol self.old (event_told event.now) a self.new) }
@@ -444,43 +523,74 @@ impl<Q: Ratifier + Drop> World<Q> {
         self.receivers.len() as u64
     }
 
-    /// The words of the log below the length.
-    pub fn log(&self) -> &[u64]
-        ensures { result.now ≡ log_of self.now }
+    /// From this place on all words of the log stand. It is the least that a receiver has passed,
+    /// and the length where all have left; where no word of the log is used again it is 0.
+    pub fn floor(&self) -> u64
+        ensures { result ≡ floor_of self.now }
+    {
+        election_is_lawful::<Q>();
+        if self.passers == 0 {
+            return 0;
+        }
+        let words = self.cells.as_slice();
+        let log = words.len() as u64 - self.shape.log_words;
+        least_passed(words, log - PASSED_APART * self.passers, self.passers)
+    }
+
+    /// The words of the log that stand, from its floor up to the length: all of them where none is
+    /// used again.
+    pub fn log(&self, alloc: Global) -> Result<Vec<u64>, NoMemory>
+        ensures { IfOk result (λ log. log.items ≡ log_of self.now) }
     {
         election_is_lawful::<Q>();
         let words = self.cells.as_slice();
-        let log = words.len() - self.shape.log_words as usize;
-        &words[log..log + words[0] as usize]
+        let log = words.len() as u64 - self.shape.log_words;
+        copy_ring(
+            alloc,
+            words,
+            log,
+            self.shape.log_words,
+            self.floor(),
+            words[0],
+        )
     }
 
-    /// The order: what the words below the length spell. Each leave mark has its place, which is
-    /// how many items stand before it. Memory is its only refusal.
+    /// The order: what the words spell that stand, all of them where none is used again, and else
+    /// those of the last frames, as is promised of the floor. Each leave mark has its place, which
+    /// is how many items stand before it. Memory is its only refusal.
     pub fn order(&self, alloc: Global) -> Result<Order, NoMemory>
         ensures spells { IfOk result (λ order. (owners : List (ℕ × Number))
             × Spells self.now.layout.senders (log_of self.now) (order_held order) owners) }
         ensures places { IfOk result HasPlaces }
     {
         election_is_lawful::<Q>();
-        match read_log(alloc, self.log(), self.shape.senders) {
+        let log = self.log(alloc)?;
+        match read_log(alloc, &log, self.shape.senders) {
             Ok(read) => Ok(read.order),
             Err(_) => Err(NoMemory),
         }
     }
 
     /// What the receiver of this number was given: the items, leave marks and the end that it was
-    /// answered, each leave mark behind as many items as stood before it. There must be such a
-    /// receiver. Memory is its only refusal.
+    /// answered, each leave mark behind as many items as stood before it. Where words of the log
+    /// are used again it is what still stands of that. There must be such a receiver. Memory is
+    /// its only refusal.
     pub fn given(&self, alloc: Global, receiver: u64) -> Result<Order, NoMemory>
         requires { receiver < length self.now.receivers }
         ensures answered { let X = election_of Q.Ratifier in
-            IfOk result (λ order. (trails : Trails) → Reached X self.now trails
+            IfOk result (λ order. self.now.layout.passers ≡ 0
+            → (trails : Trails) → Reached X self.now trails
             → order_held order ≡ order_given (trails.heard receiver)) }
+        ensures stands { let X = election_of Q.Ratifier in
+            IfOk result (λ order. (trails : Trails) → Reached X self.now trails
+            → StillGiven self.now trails receiver (order_held order)) }
         ensures places { IfOk result HasPlaces }
     {
         election_is_lawful::<Q>();
+        let log = self.log(alloc)?;
         let place = self.receivers[receiver as usize].place();
-        match read_front(alloc, &self.log()[..place as usize], self.shape.senders) {
+        let until = behind(place, self.floor());
+        match read_front(alloc, &log[..until as usize], self.shape.senders) {
             Ok(front) => Ok(front.order),
             Err(_) => Err(NoMemory),
         }

@@ -70,7 +70,8 @@ module _ {C : Type 0} (P : Process C) (A : Automaton C) (L : AutomatonLaws P A) 
       let home : A.home z ≡ Some page = slot_is (A.home z) page
       (some-injective _ _ (ap (λ (hs : List (maybe.Option (Option Page))). get_elem? hs 0) same)) in
       let s = q.spelled in
-      let knows = (L.page_knows z page s.frames h.shown.reached home s.lawful s.words_are).2 in
+      let by_page = L.page_knows z page s.frames h.shown.reached home s.lawful s.words_are in
+      let knows = by_page.2 in
       let spells = subst (λ ws. Spells A.table_layout.senders ws q.order q.owners) log_is s in
       record {
         order = q.order;
@@ -87,7 +88,7 @@ module _ {C : Type 0} (P : Process C) (A : Automaton C) (L : AutomatonLaws P A) 
             ∙ sym
             (length-read (slice_index (A.words z)) A.table_layout.log (slice_index (A.words z) 0))
             ∙ ap length stands ∙ ap length log_is;
-        floor = knows.floor;
+        floor = by_page.3;
         tenures = above q.order q.owners spells;
       }
 

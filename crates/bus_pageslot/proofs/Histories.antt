@@ -53,7 +53,7 @@ module _ {S : Type 0} (kind_of : S → Option Kind) (op : S → ℕ → Option O
 
 -- what is so of all sizes is so of those of a shape
 pub sized : {S : Type 0} (Q : Protocol S Bool Verdict) (G : Layout → Type 0)
-    → ((senders rounds rows capacity : ℕ) → G (layout_with Q senders rounds rows capacity))
+    → ((senders rounds rows capacity : ℕ) → G (layout_with Q senders rounds rows capacity 0))
     → (shape : Shape) (reuse : Option ℕ) → G (layout_of Q shape reuse)
 sized Q G h shape None = h shape.senders shape.rounds shape.rows shape.log_words
 sized Q G h shape (Some rows) = h shape.senders shape.rounds TENURES shape.log_words

@@ -15,6 +15,7 @@ pub mod Walks
 pub mod Counted
 pub mod Plain
 pub mod PlainRows
+pub mod ElectionRows
 pub mod TurnsLeft
 pub mod HoldingTurns
 pub mod Rows

@@ -17,7 +17,8 @@ use Rattle.bus_automaton.specs.Processes.{Process}
 use Rattle.bus_pageslot.specs.Rule.{stored_in}
 use Rattle.bus_pageslot.specs.Seats.{SenderSeat, TookAndTold, stored_of}
 use Rattle.bus_pageslot.specs.Steps.{stored_by}
-use Rattle.bus_pageslot.specs.Turns.{Tellings, TurnsPlainly, GoesPlainly, Next, tells_with}
+use Rattle.bus_pageslot.specs.Turns.{Tellings, TurnsPlainly, GoesPlainly, NoneYet, Next}
+use Rattle.bus_pageslot.specs.Turns.{tells_with}
 use Rattle.bus_pageslot.proofs.Plain.{due_some, stored_behind}
 use Rattle.bus_pageslot.proofs.Processes.{plain_op, plain_draws_none}
 
@@ -70,3 +71,16 @@ module _ {S : Type 0} (kind_of : S → Option Kind) (op : S → ℕ → Option O
   length_stays old new at value stores took =
       took.took.stored ∙ ap (λ o. stored_by o (stored_of old)) (stores.step 0)
       ∙ stored_behind at value (stored_of old) stores.behind
+
+-- some of them and then more are all these
+pub goes_on : {C : Type 0} {L : C → Type 0} (P : Process C) (T : Tellings C)
+    (first : SenderSeat C) (some : ℕ) (mid : SenderSeat C) (more : ℕ) (new : SenderSeat C)
+    → GoesPlainly P T L first some mid → GoesPlainly P T L mid more new
+    → GoesPlainly P T L first (some + more) new
+goes_on {L = L} P T first some mid _ _ before NoneYet =
+    let same : some ≡ some + 0 = omega arith in
+    subst (λ n. GoesPlainly P T L first n mid) same before
+goes_on {L = L} P T first some mid _ _ before (Next n old new goes one) =
+    let same : some + n + 1 ≡ some + (n + 1) = omega arith in
+    subst (λ m. GoesPlainly P T L first m new) same
+    (Next (some + n) old new (goes_on P T first some mid n old before goes) one)

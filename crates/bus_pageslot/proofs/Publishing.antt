@@ -1,13 +1,14 @@
 -- What was published grows by the frame of who stores the length.
 use Rattle.std.proofs.Common.{◌≡◌, ℕ, Option, Some, List, ◌++◌, slice_get, slice_index, sym, ◌∙◌}
-use Rattle.std.proofs.Common.{ap, subst, ◌<◌}
+use Rattle.std.proofs.Common.{ap, drop, subst, ◌<◌, ◌≤◌}
 use Rattle.std.proofs.lemmas.Option.{same_Some}
 use mathlib.Core.Option.{some}
 use lib.ListN.{get_elem?}
 use Rattle.atomic_table.specs.Table.{State}
 use Rattle.bus_core.specs.Senders.{Sender}
 use Rattle.bus_core.specs.Table.{line_now}
-use Rattle.bus_machine.specs.Machine.{Machine, going, log_of, log_place}
+use Rattle.bus_machine.proofs.Framed.{floor_first, log_straight}
+use Rattle.bus_machine.specs.Machine.{Machine, ShowsLog, going, log_place}
 use Rattle.bus_machine.specs.Promise.{Follows, frame_next}
 use Rattle.bus_machine.specs.Machine.{words_of_frame}
 use Rattle.bus_register.specs.Words.{register}
@@ -21,7 +22,7 @@ use Rattle.bus_world.proofs.Stopping.{shown_there}
 use Rattle.bus_automaton.specs.Lawful.{AutomatonLaws}
 use Rattle.bus_automaton.specs.OneAutomaton.{bus_of}
 use Rattle.bus_automaton.specs.OneProcess.{process_of, table_layout_by}
-use Rattle.bus_automaton.specs.Processes.{log_below}
+use Rattle.bus_automaton.specs.Processes.{TableLayout, log_below}
 use Rattle.bus_automaton.proofs.Leading.{takes_turn}
 use Rattle.bus_pageslot.specs.Histories.{LeavesLog}
 use Rattle.bus_pageslot.specs.Rule.{Sat, TableInvariant}
@@ -29,14 +30,19 @@ use Rattle.bus_pageslot.specs.Steps.{IsDue}
 use Rattle.bus_pageslot.specs.declared.rule.View.{View}
 use Rattle.bus_pageslot.proofs.Stepping as stepping
 
--- the log of a machine is that of its words
-pub log_is : {E : Type 0} (m : Machine E) (x : Layout) (reuse : Option ℕ) → m.layout ≡ x
-    → m.reuse ≡ reuse
-    → log_of m ≡ log_below (table_layout_by x reuse) m.words
-log_is m x reuse sizes rows =
-    ap (λ y. words_read_from (slice_index m.words) (log_place y m.reuse) (slice_index m.words 0))
-    sizes
-    ∙ ap (λ q. words_read_from (slice_index m.words) (log_place x q) (slice_index m.words 0)) rows
+-- what the cells of a machine show as all that was published stands below the length of its words,
+-- where no word of its log is used again
+shown_below : {E : Type 0} (m : Machine E) (x : Layout) (reuse : Option ℕ) (log : List ℕ)
+    → m.layout ≡ x → m.reuse ≡ reuse → x.passers ≡ 0 → slice_index m.words 0 ≤ x.capacity
+    → ShowsLog m log → log_below (table_layout_by x reuse) m.words ≡ log
+shown_below m x reuse log sizes rows none few shows =
+    let flat = ap (λ (y : Layout). y.passers) sizes ∙ none in
+    let short = subst (λ (y : Layout). slice_index m.words 0 ≤ y.capacity) (sym sizes) few in
+    ap (λ q. words_read_from (slice_index m.words) (log_place x q) (slice_index m.words 0))
+    (sym rows)
+    ∙ ap (λ y. words_read_from (slice_index m.words) (log_place y m.reuse) (slice_index m.words 0))
+    (sym sizes)
+    ∙ sym (log_straight m flat short) ∙ shows.1 ∙ ap (λ k. drop k log) (floor_first m flat)
 
 pub joins_frame : {E : Type 0} (X : Election E) (x : Layout) (reuse : Option ℕ) (bases : List ℕ)
     (L : AutomatonLaws (process_of X) (bus_of X x reuse bases))
@@ -70,6 +76,11 @@ joins_frame {E} X x reuse bases L s r id m at d word many o is_due law =
     (subst (λ n. register o < n) (L.wide z h) low) in
     let now : done.state.machine.words ≡ new.words = done.words
     ∙ sym (stepping.words_now X x reuse bases L s r id m at d word many o is_due) in
+    let its = L.senders z p d h here in
+    let flat : x.passers ≡ 0 =
+    ap (λ (t : TableLayout). t.passers) (sym its.table_layout) ∙ its.counted.passers in
+    let few : slice_index new.words 0 ≤ x.capacity =
+    subst (λ ws. slice_index ws 0 ≤ x.capacity) now (L.log done.state done.changes.reached).fits in
     record {
       state = done.state;
       reached = done.changes.reached;
@@ -77,8 +88,8 @@ joins_frame {E} X x reuse bases L s r id m at d word many o is_due law =
       log = λ w there are. sym (L.log w there).stands
           ∙ ap (log_below (table_layout_by x reuse)) (are
           ∙ sym (done.words ∙ ap (λ w. words_after w (Some o)) (sym same)) ∙ now)
-          ∙ sym (log_is new x reuse h.layout h.rows_are)
-          ∙ follows.stands z.trails h.reached
+          ∙ shown_below new x reuse _ h.layout h.rows_are flat few
+          (follows.stands z.trails h.reached)
           ∙ ap (λ g. z.trails.log ++ words_of_frame (frame_next X g)) goes
           ∙ ap (λ l. l ++ words_of_frame (line_now X d).publishes) before.log;
     }

@@ -1,5 +1,5 @@
 -- Turns in a row, and the last of them.
-use Rattle.std.proofs.Common.{◌≡◌, ◌⊎◌, inl, inr, ℕ, ◌<◌, arith, Bool, refl, ◌∙◌, subst}
+use Rattle.std.proofs.Common.{◌≡◌, ◌⊎◌, inl, inr, ℕ, Bool, refl, ◌∙◌, subst}
 use Rattle.bus_tenure.specs.declared.turns.Turn.{Turn}
 use Rattle.bus_tenure.specs.declared.turns.Turn.TheVariants.{Going}
 use Rattle.bus_world.specs.Headline.{puts}
@@ -77,11 +77,3 @@ while_next {C = C} {P = P} {T = T} {So = So} old words answer new left (inl none
     (λ i. (none.1 i, none.2 i)) one)
 while_next old words answer new left (inr takes) so one =
     TakesMore old words answer new left takes so one
-
--- where some were to be taken, some were
-pub while_some : {C : Type 0} {P : Process C} {T : Tellings C} {So : C → Type 0}
-    {first : SenderSeat C} {given : Stream} (new : SenderSeat C) (left : Stream) (count : ℕ)
-    → TakenWhile P T So first given new left count → 0 < count
-    → TakesWhile P T So first given Going new left
-while_some new left count (inl none) some = let zero = none.0 in absurd (omega arith)
-while_some new left count (inr takes) some = takes

@@ -50,9 +50,7 @@ ghost use Rattle.bus_pageslot.specs.Turns.{Turned, tells_by};
 
 use bus_adoptcommit::Ratifier;
 use bus_automaton::laws::threads_may_go_by;
-use bus_machine::laws::{
-    events_keep_promise, history_stands, machine_keeps_promise, steps_are_bounded,
-};
+use bus_machine::laws::{events_keep_promise, machine_keeps_promise, steps_are_bounded};
 use bus_ownerbits::laws::election_is_lawful;
 
 /// Whenever the rule of the table holds, which is between any two steps of any threads, the page
@@ -132,7 +130,7 @@ pub fn tables_are_machines<Q: Ratifier>()
 {
     machine_keeps_promise::<Q>();
     steps_are_bounded::<Q>();
-    history_stands::<Q>();
+    threads_may_go_by::<Q>();
 }
 
 /// What was published grows with no step of a sender but the one that stores the length, and with

@@ -53,7 +53,7 @@ fn start<Q: Ratifier + Drop>(plan: Plan, me: SenderNo) -> SenderCore<Q>
     let first = plan.bases[usize::from(me.0)];
     match plan.reuse {
         None => SenderCore::new(senders, me, rounds, shape.rows, words, first),
-        Some(rows) => SenderCore::cyclic(senders, me, rounds, rows, words, first),
+        Some(rows) => SenderCore::cyclic(senders, me, rounds, rows, words, first, 0),
     }
 }
 

@@ -1,9 +1,11 @@
 //! One step of a sender on one word, with which the page comes to it or goes home.
 
-ghost use Rattle.std.specs.Prelude.{◌≡◌, ℕ, ◌+◌, ◌<◌, ◌≤◌, ◌^◌, ◌∷◌, true, [], Some, IsTrue};
+ghost use Rattle.std.specs.Prelude.{◌≡◌, ℕ, ◌+◌, ◌<◌, ◌≤◌, ◌^◌, ◌∷◌, true, [], Some, None, IsTrue};
+ghost use Rattle.std.specs.Prelude.{IsSome, length, slice_index, unwrap_or};
 ghost use Rattle.bus_register.specs.Words.{register};
 ghost use Rattle.bus_tenure.specs.Elections.{election_of};
 ghost use Rattle.bus_core.specs.Doings.{step_of};
+ghost use Rattle.bus_core.specs.TenureRows.{row_told};
 ghost use Rattle.bus_core.specs.Plain.{IsPlain, StoresPlain, StoresRow, stored_on};
 ghost use Rattle.bus_core.specs.Senders.{situation};
 ghost use Rattle.bus_tenure.specs.declared.turns.Turn.TheVariants as turn;
@@ -13,15 +15,17 @@ ghost use Rattle.bus_pageslot.specs.Steps.{laid_at, carried_of, out_with, stored
 ghost use Rattle.bus_pageslot.specs.Steps.{GoesOn, Due, slot_in, slots_emptied};
 ghost use Rattle.bus_pageslot.specs.Rule.{stored_in};
 ghost use Rattle.bus_pageslot.specs.Seats.{Shows, TookAndTold};
-ghost use Rattle.bus_pageslot.specs.Turns.{tells_by, GoesPlainly};
+ghost use Rattle.bus_pageslot.specs.Turns.{tells_by, GoesPlainly, TakesWhile, ElectsIn};
+ghost use Rattle.bus_pageslot.specs.Turns.{IsElecting, word_drawn};
 
 use crate::rule::{BusSeat, Told};
 use crate::words::Words;
 use bus_adoptcommit::Ratifier;
 use bus_automaton::laws::threads_may_go_by;
-use bus_core::{SenderCore, Step};
+use bus_core::{Row, SenderCore, Step};
 use bus_register::{Op, Reg};
 use bus_tenure::Turn;
+use rand_core::Rng;
 use std::marker::Brand;
 
 /// A sender that is to give the page back puts it into its slot. What it does next becomes what it
@@ -193,6 +197,126 @@ pub(crate) fn clear_row<Q: Ratifier + Drop>(
     for taken in 0..many {
         store_behind::<Q, Brand>(words, seat, core, taken, at + taken, 0);
     }
+}
+
+/// The turns in a row of a sender that stores these words one behind another, the first of them in
+/// the word at `at`. What it holds does not take them in.
+#[inline(always)]
+pub(crate) fn store_row<Q: Ratifier + Drop>(
+    words: &Words<Q>,
+    seat: &mut BusSeat<Q>,
+    core: &SenderCore<Q>,
+    at: u64,
+    values: &[u64],
+)
+    requires table { seat.old.table_id ≡ words.now.table }
+    requires shows { Shows (process_by Q.Ratifier) core.now seat.old }
+    requires row { let X = election_of Q.Ratifier in
+        StoresRow X core.now at (λ n. slice_index values.now n) (length values.now) }
+    requires room { at + length values.now ≤ 2 ^ 63 }
+    ensures table { (seat.new.table_id ≡ seat.old.table_id) × (seat.new.id ≡ seat.old.id) }
+    ensures shows { let X = election_of Q.Ratifier in
+        Shows (process_by Q.Ratifier) (stored_on X core.now (length values.now)) seat.new }
+    ensures stored { stored_in seat.new.me.0 ≡ stored_in seat.old.me.0 }
+    ensures goes { let X = election_of Q.Ratifier in
+        GoesPlainly (process_by Q.Ratifier) (tells_by Q.Ratifier) (IsPlain X)
+        (record { core = core.now; seat = seat.old }) (length values.now) (record {
+          core = stored_on X core.now (length values.now);
+          seat = seat.new;
+        }) }
+{
+    for (taken, value) in values.iter().enumerate() {
+        store_behind::<Q, Brand>(words, seat, core, taken as u64, at + taken as u64, *value);
+    }
+}
+
+/// How many turns of an election `elect_row` takes at most.
+const MOST_ELECTION_TURNS: u32 = 256;
+
+/// The turn of a sender whose step is one of its election, on the row that `election_row` told.
+/// None says that the election goes on, and the answer is Going; else it has ended, with this
+/// answer.
+#[inline(always)]
+fn elect_once<Q: Ratifier + Drop, K: Told<SenderCore<Q>>>(
+    words: &Words<Q>,
+    seat: &mut BusSeat<Q>,
+    core: &mut SenderCore<Q>,
+    tenure: u64,
+    row: Row,
+    word: u32,
+) -> Option<Turn>
+    requires table { seat.old.table_id ≡ words.now.table }
+    requires told { (K.core ≡ Some core.old) × (K.word ≡ word) }
+    requires shows { Shows (process_by Q.Ratifier) core.old seat.old }
+    requires elects { ElectsIn (election_of Q.Ratifier) core.old tenure }
+    requires row { row ≡ row_told core.old.core.layout core.old.reuse tenure }
+    ensures table { (seat.new.table_id ≡ seat.old.table_id) × (seat.new.id ≡ seat.old.id) }
+    ensures shows { Shows (process_by Q.Ratifier) core.new seat.new }
+    ensures stored { stored_in seat.new.me.0 ≡ stored_in seat.old.me.0 }
+    ensures due { IsSome ((process_by Q.Ratifier).op core.old word) }
+    ensures took { TookAndTold (process_by Q.Ratifier) (FeedTells (election_of Q.Ratifier))
+        (record { core = core.old; seat = seat.old }) word (unwrap_or result turn.Going) (record {
+          core = core.new;
+          seat = seat.new;
+        }) }
+    ensures goes { result ≡ None → ElectsIn (election_of Q.Ratifier) core.new tenure }
+    ensures row { result ≡ None → row ≡ row_told core.new.core.layout core.new.reuse tenure }
+{
+    threads_may_go_by::<Q>();
+    let Some(op) = core.election_next(tenure, row, word) else {
+        unreachable!()
+    };
+    let got = words.step::<K>(seat, op);
+    core.elect_on(tenure, got, word)
+}
+
+/// The word of a turn of an election: of a vote the next one of `rng`, and else none is drawn.
+#[inline(always)]
+fn word_of_election<Q: Ratifier + Drop, R: Rng>(
+    core: &SenderCore<Q>,
+    tenure: u64,
+    rng: &mut R,
+) -> u32
+    requires { ElectsIn (election_of Q.Ratifier) core.now tenure }
+    ensures { (result, R.stream rng.new) ≡ word_drawn ((process_by Q.Ratifier).wants_word
+        core.now) (R.stream rng.old) }
+{
+    if core.election_wants_word(tenure) {
+        rng.next_u32()
+    } else {
+        0
+    }
+}
+
+/// Turns in a row of an election that runs, one at least, and none once it has ended. The answer is
+/// the last one's.
+#[inline(always)]
+pub(crate) fn elect_row<Q: Ratifier + Drop, R: Rng>(
+    words: &Words<Q>,
+    seat: &mut BusSeat<Q>,
+    core: &mut SenderCore<Q>,
+    tenure: u64,
+    rng: &mut R,
+) -> Turn
+    requires table { seat.old.table_id ≡ words.now.table }
+    requires shows { Shows (process_by Q.Ratifier) core.old seat.old }
+    requires elects { ElectsIn (election_of Q.Ratifier) core.old tenure }
+    ensures table { (seat.new.table_id ≡ seat.old.table_id) × (seat.new.id ≡ seat.old.id) }
+    ensures shows { Shows (process_by Q.Ratifier) core.new seat.new }
+    ensures stored { stored_in seat.new.me.0 ≡ stored_in seat.old.me.0 }
+    ensures takes { TakesWhile (process_by Q.Ratifier) (tells_by Q.Ratifier)
+        (IsElecting (election_of Q.Ratifier)) (record { core = core.old; seat = seat.old })
+        (R.stream rng.old) result (record { core = core.new; seat = seat.new })
+        (R.stream rng.new) }
+{
+    let row = core.election_row(tenure);
+    for _taken in 0..MOST_ELECTION_TURNS {
+        let word = word_of_election(core, tenure, rng);
+        if let Some(answer) = elect_once::<Q, Brand>(words, seat, core, tenure, row, word) {
+            return answer;
+        }
+    }
+    Turn::Going
 }
 
 /// The last length that a sender has stored, once it takes this step. `before` is the one that it

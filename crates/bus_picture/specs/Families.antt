@@ -23,6 +23,9 @@ stores =
     ∷ codes "StoreLogWord" ∷ codes "StoreLength" ∷ codes "Enter" ∷ codes "Withdraw"
     ∷ codes "ClearRow" ∷ codes "StorePassed" ∷ []
 
+abbrev pub calls : List (List ℕ)
+calls = codes "put" ∷ codes "close" ∷ codes "leave" ∷ codes "stop" ∷ codes "gone" ∷ []
+
 -- the family of what stands in the column of kinds, where that is a kind's name, a call's or a dash
 abbrev pub family_of : List ℕ → Option Family
 family_of kind =
@@ -31,8 +34,7 @@ family_of kind =
     (if bytes_eq kind (codes "Vote") then Some family.Add else
     (if bytes_eq kind (codes "Fallback") then Some family.Exchange else
     (if is_one_of (codes "TakePage" ∷ codes "GivePageBack" ∷ []) kind then Some family.Page else
-    (if is_one_of (codes "put" ∷ codes "close" ∷ codes "leave" ∷ codes "stop" ∷ []) kind
-    then Some family.Call else
+    (if is_one_of calls kind then Some family.Call else
     (if bytes_eq kind (codes "-") then Some family.Nothing else None))))))
 
 -- the shape of its mark

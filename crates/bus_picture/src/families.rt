@@ -16,7 +16,7 @@ pub enum Family {
     Exchange,
     /// A step that stores the stage, and takes the page or gives it back.
     Page,
-    /// A call that takes no step: a put, a close, a leave or a stop.
+    /// A call that takes no step: a put, a close, a leave, a stop, or a receiver that leaves.
     Call,
     /// A turn that took no step.
     Nothing,
@@ -51,7 +51,7 @@ pub fn family_of(kind: &str) -> Option<Family>
         "Vote" => Some(Family::Add),
         "Fallback" => Some(Family::Exchange),
         "TakePage" | "GivePageBack" => Some(Family::Page),
-        "put" | "close" | "leave" | "stop" => Some(Family::Call),
+        "put" | "close" | "leave" | "stop" | "gone" => Some(Family::Call),
         "-" => Some(Family::Nothing),
         _ => None,
     }

@@ -42,7 +42,7 @@ pub fn other_input(first: &[u8]) -> Option<Reason<'static>> {
 fn is_of_replay(first: &[u8]) -> bool {
     matches!(
         str::from_utf8(first),
-        Ok("shape" | "cycle" | "put" | "close" | "turn" | "recv" | "stop" | "leave")
+        Ok("shape" | "cycle" | "put" | "close" | "turn" | "recv" | "stop" | "leave" | "gone")
     )
 }
 

@@ -19,7 +19,7 @@ const MOST_TURNS_A_LINE: u64 = 10_000;
 
 /// Any other.
 const LINES: &str =
-    "begins no line here: others are 'put', 'close', 'turn', 'recv', 'stop' and 'leave'";
+    "begins no line here: others are 'put', 'close', 'turn', 'recv', 'stop', 'leave' and 'gone'";
 
 /// Why this script was refused so.
 pub fn replay_reason<'a>(script: &'a [u8], refusal: Refusal<'_>) -> Option<Reason<'a>> {
@@ -47,7 +47,7 @@ fn first_reason(line: &[u8]) -> Option<Reason<'_>> {
             numbers_of(words, 5, "shape N M R T L").or(sizes_reason(line, 1, MOST_ROWS as u64))
         }
         Ok("cycle") => numbers_of(words, 5, "cycle N M R T L").or(sizes_reason(line, 2, 8)),
-        Ok("put" | "close" | "turn" | "recv" | "stop" | "leave") => Some(FIRST),
+        Ok("put" | "close" | "turn" | "recv" | "stop" | "leave" | "gone") => Some(FIRST),
         _ => Some(other_input(first).unwrap_or(FIRST)),
     }
 }
@@ -111,10 +111,11 @@ fn length_of(line: &[u8]) -> Option<u64> {
     Some(words.next_word()?.len() as u64 / 2)
 }
 
-/// Why a sender takes no put, close or leave as it stands.
+/// Why a sender takes no put, close or leave as it stands, or a receiver no turn.
 fn state_note(name: &str) -> Option<&'static str> {
     match name {
         "Stopped" => Some("the sender has stopped: from then on each line of it is refused"),
+        "Gone" => Some("the receiver has left for good: from then on each line of it is refused"),
         "Closed" => Some("the sender has closed or left, or its order has ended: it takes no more"),
         "Busy" => Some("the sender's batch is on its way: take turns until 'delivered'"),
         "BatchFull" => Some("16 messages wait at the sender, and no more can: take turns first"),
@@ -137,6 +138,7 @@ fn line_reason(line: &[u8]) -> Option<Reason<'_>> {
         Ok("close") => numbers_of(words, 1, "close S"),
         Ok("stop") => numbers_of(words, 1, "stop S"),
         Ok("leave") => numbers_of(words, 1, "leave S"),
+        Ok("gone") => numbers_of(words, 1, "gone M"),
         Ok("turn") => numbers_of(words, 3, "turn S W K").or(turn_reason(line)),
         Ok("recv") => numbers_of(words, 2, "recv M K").or(times_reason(line, 2)),
         Ok("shape" | "cycle") => Some(Reason::Note(

@@ -3,3 +3,4 @@ pub mod RepeatLemmas
 pub mod PlayLemmas
 pub mod GivenLemmas
 pub mod EntryLemmas
+pub mod SizeLemmas

@@ -1,6 +1,6 @@
 -- The lines of a script of `replay`, obeyed one by one.
-use Rattle.std.proofs.Common.{◌≡◌, ℕ, Bool, Some, List, [], ◌∷◌, ◌++◌, length, refl, sym, ap}
-use Rattle.std.proofs.Common.{subst, ◌∙◌, append_assoc, inr}
+use Rattle.std.proofs.Common.{◌≡◌, ℕ, Bool, Some, List, [], ◌∷◌, ◌++◌, drop, length, refl, sym}
+use Rattle.std.proofs.Common.{ap, subst, ◌∙◌, append_assoc, inr}
 use Rattle.std.proofs.lemmas.List.{append-nil, append_cancel_left}
 use Rattle.bus_register.specs.Protocol.{Protocol}
 use Rattle.bus_register.specs.declared.registers.SenderNo.{SenderNo}
@@ -8,6 +8,7 @@ use Rattle.bus_adoptcommit.specs.declared.verdicts.Verdict.{Verdict}
 use Rattle.bus_batch.specs.Frames.{Order, Spells}
 use Rattle.bus_tenure.specs.Core.{Election}
 use Rattle.bus_tenure.specs.Elections.{Elector}
+use Rattle.bus_machine.proofs.Framed.{floor_first}
 use Rattle.bus_machine.specs.Machine.{Machine, Trails, Reached, ShowsLog, log_of}
 use Rattle.bus_world.specs.World.{no_bases}
 use Rattle.bus_machine.specs.Playing.{IsMade}
@@ -93,14 +94,14 @@ module _ {S : Type 0} (X : Election (Elector S)) (P : Protocol S Bool Verdict) w
   -- the closing lines tell of any trails that lead to the bus
   pub closes : (b : Machine (Elector S)) (old mid whole takers : List ℕ) (order : Order)
       (owners : List (ℕ × SenderNo))
-      → Spells b.layout.senders (log_of b) order owners
+      → b.layout.passers ≡ 0 → Spells b.layout.senders (log_of b) order owners
       → ((T : Trails) → Reached X b T → ShowsLog b T.log) → takers ≡ b.owners
       → ((T : Trails) → Reached X b T → TakersTold b.reuse takers T.actions)
       → (T : Trails) × Reached X b T → mid ≡ (old ++ owners_line takers) ++ order_text order
       → ((T : Trails) → Reached X b T
       → whole ≡ mid ++ given_text (given_by T (length b.receivers)))
       → (closing : List ℕ) × Closes X P b closing × (whole ≡ old ++ closing)
-  closes b old mid whole takers order owners spelled stands told took some mid_is whole_is =
+  closes b old mid whole takers order owners flat spelled stands told took some mid_is whole_is =
       let given = given_text (given_by some.0 (length b.receivers)) in (
         owners_line takers ++ order_text order ++ given,
         record {
@@ -109,7 +110,8 @@ module _ {S : Type 0} (X : Election (Elector S)) (P : Protocol S Bool Verdict) w
           happened = some;
           stands = stands;
           spelled = λ T r.
-              subst (λ l. Spells b.layout.senders l order owners) (stands T r) spelled;
+              subst (λ l. Spells b.layout.senders l order owners)
+              ((stands T r).1 ∙ ap (λ k. drop k T.log) (floor_first b flat)) spelled;
           took = λ T r. subst (λ o. TakersTold b.reuse o T.actions) told (took T r);
           text_is = λ T r.
               let same = append_cancel_left mid given (given_text (given_by T (length b.receivers)))

@@ -1,7 +1,8 @@
 -- An event that is repeated while it goes on: behind an answer with which it goes on it is not
 -- refused.
 use Rattle.std.proofs.Common.{◌≡◌, ℕ, zero, suc, ◌-◌, ◌<◌, Bool, true, false, cond, Option, Some}
-use Rattle.std.proofs.Common.{None, slice_get, refl, sym, ap, subst, ◌∙◌, ◌⊎◌, inl, inr, arith}
+use Rattle.std.proofs.Common.{None, slice_get, slice_index, refl, sym, ap, subst, ◌∙◌, ◌⊎◌}
+use Rattle.std.proofs.Common.{inl, inr, arith}
 use Rattle.std.proofs.lemmas.Bool.{true≢false}
 use Rattle.std.proofs.lemmas.Option.{slice_get_within}
 use Rattle.bus_register.specs.Protocol.{Protocol}
@@ -12,7 +13,8 @@ use Rattle.bus_core.specs.Senders.{Sender}
 use Rattle.bus_tenure.specs.Core.{Election}
 use Rattle.bus_tenure.specs.Elections.{Elector}
 use Rattle.bus_world.specs.Playing.{RecvRefused}
-use Rattle.bus_world.specs.World.{Event, Put, Ask, Turn, Recv, Stop, is_set}
+use Rattle.bus_world.proofs.WorldLaws.{words_stay}
+use Rattle.bus_world.specs.World.{Event, Put, Ask, Turn, Recv, Stop, Gone, is_set}
 use Rattle.bus_world.specs.declared.events.Answer.{Answer}
 use Rattle.bus_world.specs.declared.events.Answer.TheVariants as answer
 use Rattle.bus_world.specs.declared.events.StepFault.{StepFault}
@@ -60,10 +62,13 @@ not_refused {E} X old new (Turn s word) a why h goes refused =
     here.1) in
     turns (slice_get new.senders s) _ (has_stopped new s) why at unset refused
 not_refused {E} X old new (Recv r) a why h goes refused =
-    subst (λ o. RecvRefused o why)
+    let same = words_stay (slice_index old.words) h.receiver h.next h.heard h.does in
+    let gone = (subst (λ o. RecvRefused o why)
     (ap (λ (y : Machine E). slice_get y.receivers r) h.after ∙ get_set_same old.receivers r h.next
-    (slice_get_within old.receivers r h.receiver h.there)) refused
+    (slice_get_within old.receivers r h.receiver h.there)) refused).0 in
+    true≢false (sym gone ∙ same.4 ∙ h.stays)
 not_refused X old new (Stop s) a why h goes refused = stops_so a answer.Stopped h.answered refl goes
+not_refused X old new (Gone r) a why h goes refused = stops_so a answer.Gone h.answered refl goes
 
 -- ---- an event again and again
 module _ {S : Type 0} (X : Election (Elector S)) (P : Protocol S Bool Verdict) (e : Event)

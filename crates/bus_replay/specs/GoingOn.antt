@@ -13,3 +13,4 @@ goes_on answer.Leaving = false
 goes_on (answer.Turn t) = still_goes t
 goes_on (answer.Recv t) = recv_goes_on t
 goes_on answer.Stopped = false
+goes_on answer.Gone = false

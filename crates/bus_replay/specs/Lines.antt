@@ -4,7 +4,7 @@ use Rattle.std.specs.Prelude.{Some, None, codes, nat_lt, nat_le, if◌then◌els
 use Rattle.std.specs.Option.{option_map}
 use Rattle.std.specs.Str.{bytes_eq}
 use Rattle.bus_batch.specs.declared.messages.Mark.TheVariants as mark
-use Rattle.bus_world.specs.World.{Event, Put, Ask, Turn, Recv, Stop}
+use Rattle.bus_world.specs.World.{Event, Put, Ask, Turn, Recv, Stop, Gone}
 use Rattle.bus_world.specs.declared.shapes.Shape.{Shape}
 use Rattle.bus_replay.specs.declared.lines.TheConstants.{MOST_TURNS_A_LINE}
 use Rattle.bus_replay.specs.declared.lines.FirstLine.{FirstLine}
@@ -133,6 +133,12 @@ leave_from [] = None
 leave_from (s ∷ []) = Some (record { event = Ask s mark.Leave; times = 1 })
 leave_from (s ∷ x ∷ more) = None
 
+-- `gone M`
+abbrev pub gone_from : List ℕ → Option Command
+gone_from [] = None
+gone_from (m ∷ []) = Some (record { event = Gone m; times = 1 })
+gone_from (m ∷ x ∷ more) = None
+
 -- what a line behind the first one says
 abbrev pub command_of : List ℕ → Option Command
 command_of line =
@@ -141,4 +147,5 @@ command_of line =
     (or_else (option_and_then turn_from (numbers_behind (codes "turn") line))
     (or_else (option_and_then recv_from (numbers_behind (codes "recv") line))
     (or_else (option_and_then stop_from (numbers_behind (codes "stop") line))
-    (option_and_then leave_from (numbers_behind (codes "leave") line))))))
+    (or_else (option_and_then leave_from (numbers_behind (codes "leave") line))
+    (option_and_then gone_from (numbers_behind (codes "gone") line)))))))

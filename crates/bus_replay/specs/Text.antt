@@ -10,7 +10,7 @@ use Rattle.bus_batch.specs.declared.messages.Mark.TheVariants as mark
 use Rattle.bus_batch.specs.Frames.{Order, Entry, Says, Leaves, items_in}
 use Rattle.bus_deliverylog.specs.Text.{item_text, recv_text}
 use Rattle.bus_tenure.specs.Text.{turn_text}
-use Rattle.bus_world.specs.World.{Event, Put, Ask, Turn, Recv, Stop}
+use Rattle.bus_world.specs.World.{Event, Put, Ask, Turn, Recv, Stop, Gone}
 use Rattle.bus_world.specs.declared.events.Answer.{Answer}
 use Rattle.bus_world.specs.declared.events.Answer.TheVariants as answer
 use Rattle.bus_world.specs.declared.events.StepFault.{StepFault}
@@ -33,6 +33,7 @@ answer_text answer.Leaving = codes "leaving"
 answer_text (answer.Turn t) = turn_text t
 answer_text (answer.Recv t) = recv_text t
 answer_text answer.Stopped = codes "stopped"
+answer_text answer.Gone = codes "gone"
 
 -- who is asked
 abbrev pub event_text : Event → List ℕ
@@ -42,6 +43,7 @@ event_text (Ask s mark.Leave) = codes "leave" ++ behind s
 event_text (Turn s word) = codes "turn" ++ behind s
 event_text (Recv r) = codes "recv" ++ behind r
 event_text (Stop s) = codes "stop" ++ behind s
+event_text (Gone r) = codes "gone" ++ behind r
 
 -- the line of a command that was answered
 abbrev pub answer_line : Event → Answer → List ℕ
@@ -66,6 +68,7 @@ step_fault_name fault.NoSuchReceiver = codes "NoSuchReceiver"
 step_fault_name fault.Stopped = codes "Stopped"
 step_fault_name (fault.Put why) = put_fault_name why
 step_fault_name (fault.Close why) = close_fault_name why
+step_fault_name fault.Gone = codes "Gone"
 
 -- want of memory is no refusal of a script, and is never printed
 abbrev pub make_fault_name : MakeFault → List ℕ

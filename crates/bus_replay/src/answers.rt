@@ -49,6 +49,7 @@ fn answer_from<Q: Ratifier + Drop>(
     mut bus: World<Q>,
     lines: Lines<'_>,
 ) -> Result<Answer, NoMemory>
+    requires { bus.layout.passers ≡ 0 }
     ensures { let X = election_of Q.Ratifier in
         IfOk result (λ answer. (text : List ℕ) × (end : End (Elector Q))
         × Prints X Q.protocol bus lines.entry text end

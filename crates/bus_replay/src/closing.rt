@@ -108,6 +108,7 @@ fn push_all_given<Q: Ratifier + Drop>(
     bus: &World<Q>,
     text: &mut String,
 ) -> Result<(), NoMemory>
+    requires { bus.now.layout.passers ≡ 0 }
     ensures { let X = election_of Q.Ratifier in
         OnOk result ((trails : Trails) → Reached X bus.now trails
         → string_bytes text.new ≡ string_bytes text.old ++ given_text
@@ -120,12 +121,13 @@ fn push_all_given<Q: Ratifier + Drop>(
     Ok(())
 }
 
-/// Puts the closing lines at the end of a text.
+/// Puts the closing lines at the end of a text, of a bus that has no passed places.
 pub fn push_closing<Q: Ratifier + Drop>(
     alloc: Global,
     bus: &World<Q>,
     text: &mut String,
 ) -> Result<(), NoMemory>
+    requires { bus.now.layout.passers ≡ 0 }
     ensures { let X = election_of Q.Ratifier in
         OnOk result ((closing : List ℕ) × Closes X Q.protocol bus.now closing
         × (string_bytes text.new ≡ string_bytes text.old ++ closing)) }

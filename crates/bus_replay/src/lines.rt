@@ -7,6 +7,7 @@ ghost use Rattle.bus_script.specs.Grammar.{number_of, each_of, and_before, argum
 ghost use Rattle.bus_replay.specs.Lines.{shape_from, shape_of, first_of};
 ghost use Rattle.bus_replay.specs.Lines.{put_of, put_from, close_from, are_times};
 ghost use Rattle.bus_replay.specs.Lines.{turn_from, recv_from, stop_from, leave_from};
+ghost use Rattle.bus_replay.specs.Lines.{gone_from};
 ghost use Rattle.bus_replay.specs.Lines.{numbers_behind, command_of, hex_of};
 ghost use Rattle.bus_replay.specs.Told.{command_told};
 
@@ -196,6 +197,21 @@ fn leave_of(line: &[u8]) -> Option<Command>
     })
 }
 
+fn gone_of(line: &[u8]) -> Option<Command>
+    ensures { option_map command_told result ≡ option_and_then gone_from
+        (numbers_behind (codes "gone") line.now) }
+{
+    let mut words = words_behind(line, b"gone")?;
+    let receiver = next_number(&mut words)?;
+    if words.next_word().is_some() {
+        return None;
+    }
+    Some(Command {
+        event: Event::Gone(receiver),
+        times: 1,
+    })
+}
+
 /// What a line behind the first one asks for.
 pub fn command_of(alloc: Global, line: &[u8]) -> Result<Option<Command>, AllocError>
     ensures { IfOk result (λ command. option_map command_told command ≡ command_of line.now) }
@@ -212,8 +228,11 @@ pub fn command_of(alloc: Global, line: &[u8]) -> Result<Option<Command>, AllocEr
     if let Some(command) = recv_of(line) {
         return Ok(Some(command));
     }
-    match stop_of(line) {
+    if let Some(command) = stop_of(line) {
+        return Ok(Some(command));
+    }
+    match leave_of(line) {
         Some(command) => Ok(Some(command)),
-        None => Ok(leave_of(line)),
+        None => Ok(gone_of(line)),
     }
 }

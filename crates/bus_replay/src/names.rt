@@ -38,6 +38,7 @@ pub fn step_fault_name(fault: StepFault) -> &'static str
         StepFault::Stopped => "Stopped",
         StepFault::Put(why) => put_fault_name(why),
         StepFault::Close(why) => close_fault_name(why),
+        StepFault::Gone => "Gone",
     }
 }
 

@@ -45,7 +45,8 @@ pub fn goes_on(answer: &Answer) -> bool
     ensures { result ≡ goes_on answer.now }
 {
     match answer {
-        Answer::Number(_) | Answer::Closing | Answer::Leaving | Answer::Stopped => false,
+        Answer::Number(_) | Answer::Closing | Answer::Leaving | Answer::Stopped | Answer::Gone =>
+            false,
         Answer::Turn(turn) => turn_goes_on(*turn),
         Answer::Recv(turn) => recv_goes_on(turn),
     }

@@ -19,6 +19,7 @@ pub fn push_answer(text: &mut String, answer: &Answer) -> Result<(), AllocError>
         Answer::Turn(turn) => write!(text, "{turn}"),
         Answer::Recv(turn) => write!(text, "{turn}"),
         Answer::Stopped => text.push_str("stopped"),
+        Answer::Gone => text.push_str("gone"),
     }
 }
 
@@ -34,6 +35,7 @@ fn push_event(text: &mut String, event: &Event) -> Result<(), AllocError>
         Event::Turn { sender, word: _ } => write!(text, "turn {sender}"),
         Event::Recv(receiver) => write!(text, "recv {receiver}"),
         Event::Stop(sender) => write!(text, "stop {sender}"),
+        Event::Gone(receiver) => write!(text, "gone {receiver}"),
     }
 }
 

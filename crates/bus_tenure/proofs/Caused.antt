@@ -25,7 +25,7 @@ module _ {E : Type 0} (t : ℕ) (page : Page) (stored : ℕ) where
       (cond r (cond l (StoresWord t page stored) (StoresLength t page stored))
       (GivesBack t page NoRoom)))
 
-  told_word : (p e r l : Bool) → told p e r l ≡ StoresWord t page stored
+  pub told_word : (p e r l : Bool) → told p e r l ≡ StoresWord t page stored
       → (p ≡ false) × (e ≡ false) × (r ≡ true) × (l ≡ true)
   told_word true e r l h = absurd cc
   told_word false true r l h = absurd cc

@@ -12,12 +12,9 @@ use Rattle.bus_tenure.proofs.Caused.{word_room, length_room}
 use Rattle.bus_tenure.proofs.Inverted.{word_is, length_is}
 use Rattle.bus_tenure.proofs.Situated.{tells}
 
--- a frame fits that ends where the log does, counted from the floor, and not one word further
+-- a frame fits that ends no further behind the floor than the log is long, and no other
 pub goes_by_floor : {E : Type 0} (c : Core E) (page : Page) → GoesByFloor c page
-goes_by_floor c page = (
-  λ e. le-leb _ _ (omega arith),
-  λ e. lt-leb _ _ (omega arith),
-)
+goes_by_floor c page = (λ low. le-leb _ _ low, λ high. lt-leb _ _ high)
 
 -- a place that no whole log lies below lives in the word of its number
 pub cell_straight : (x : Layout) (place : ℕ) → place < x.capacity → cell_of x place ≡ place

@@ -8,3 +8,5 @@ mod Electing
 pub mod Inverted
 pub mod Rows
 pub mod Fitting
+pub mod Floors
+pub mod Words

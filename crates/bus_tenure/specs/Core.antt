@@ -1,6 +1,6 @@
 -- One sender: the words of the bus that it is on, its batch, and the tenure that it has begun.
-use Rattle.std.specs.Prelude.{◌≡◌, ℕ, ◌+◌, ◌*◌, ◌%◌, Bool, true, false, Option, List, [], ◌∷◌}
-use Rattle.std.specs.Prelude.{length, nat_le, slice_set, if◌then◌else◌}
+use Rattle.std.specs.Prelude.{◌≡◌, ℕ, ◌+◌, ◌*◌, ◌%◌, ◌<◌, ◌≤◌, Bool, true, false, Option, List, []}
+use Rattle.std.specs.Prelude.{◌∷◌, length, nat_le, slice_set, if◌then◌else◌}
 use Rattle.bus_register.specs.declared.kinds.Kind.{Kind}
 use Rattle.bus_register.specs.declared.registers.Op.{Op}
 use Rattle.bus_batch.specs.Batches.{Pending, next_of, frame_of}
@@ -102,11 +102,11 @@ frame_len c = length (frame_words (frame_of c.queue 0))
 abbrev pub has_room : {E : Type 0} → Core E → Page → Bool
 has_room c page = nat_le (page.words + frame_len c) (c.layout.capacity + page.floor)
 
--- a frame fits that ends as far behind the floor as the log is long, and not one word further
+-- a frame fits that ends no further behind the floor than the log is long, and no other
 abbrev pub GoesByFloor : {E : Type 0} → Core E → Page → Type 0
 GoesByFloor c page =
-    (page.words + frame_len c ≡ c.layout.capacity + page.floor → has_room c page ≡ true)
-    × (page.words + frame_len c ≡ c.layout.capacity + page.floor + 1 → has_room c page ≡ false)
+    (page.words + frame_len c ≤ c.layout.capacity + page.floor → has_room c page ≡ true)
+    × (c.layout.capacity + page.floor < page.words + frame_len c → has_room c page ≡ false)
 
 -- the page as a holder hands it on: the numbers, who left, the end mark, the tenures and the words
 -- brought up to date, and the floor that it has

@@ -41,6 +41,14 @@ is_holding (Taken t) = false
 is_holding (Holding t page stored published) = true
 is_holding (Giving t reason) = false
 
+-- the floor of the page that lies before it; 0 where none does
+abbrev pub floor_in : {E : Type 0} → Phase E → ℕ
+floor_in Resting = 0
+floor_in (Electing t e) = 0
+floor_in (Taken t) = 0
+floor_in (Holding t page stored published) = page.floor
+floor_in (Giving t reason) = 0
+
 -- its frame stands below the length, and it has the page still
 pub record HoldsPublished {E : Type 0} (phase : Phase E) : Type 0 where
   pub tenure : ℕ

@@ -23,8 +23,8 @@ pub fn published_frames_go_on<Q: Ratifier>()
     ensures { (c : Core (Elector Q)) → PublishesOnward (election_of Q.Ratifier) c }
 {}
 
-/// Room goes by the floor: a frame fits that ends as far behind it as the log is long, and not one
-/// that ends a word further.
+/// Room goes by the floor: a frame fits that ends no further behind it than the log is long, and
+/// no other.
 pub fn room_goes_by_the_floor<Q: Ratifier>()
     ensures { (c : Core (Elector Q)) (page : Page) → GoesByFloor c page }
 {}

@@ -16,15 +16,16 @@ ghost use Rattle.bus_tenure.specs.Situations.{core_begun, LooksAtStage, GivesBac
 ghost use Rattle.bus_tenure.specs.Situations.{holding, situation_of, kind_at, op_at, core_at_rest};
 ghost use Rattle.bus_tenure.specs.Situations.{core_after_stage, tenure_begun, fed_at};
 ghost use Rattle.bus_tenure.specs.Situations.{answer_of_stage, answer_of_return, answer_at};
-ghost use Rattle.bus_tenure.specs.Situations.{wants_at, answer_sent, core_floored};
-ghost use Rattle.bus_tenure.specs.Situations.{lesser as spec_lesser};
-ghost use Rattle.bus_tenure.specs.Causes.{HoldsUnfitting};
+ghost use Rattle.bus_tenure.specs.Situations.{wants_at, answer_sent};
 ghost use Rattle.bus_tenure.specs.declared.pages.Page.{Page};
 ghost use Rattle.bus_tenure.specs.declared.phases.Phase.TheVariants as phase;
 ghost use Rattle.bus_tenure.specs.Doings.{doing_of, Ends, IsWord, FitsBehind, StoresNext};
 ghost use Rattle.bus_tenure.specs.declared.doings.Doing.TheVariants as doing;
 
 mod filling;
+mod flooring;
+mod running;
+mod storing;
 
 use super::doings::Doing;
 use super::pages::OwnedPage;
@@ -49,15 +50,6 @@ struct Sizes {
     width: u64,
     capacity: u64,
     passers: u64,
-}
-
-/// The lesser one of two numbers.
-fn lesser(one: u64, other: u64) -> u64
-    ensures is { result ≡ spec_lesser one other }
-    ensures first { result ≤ one }
-    ensures second { result ≤ other }
-{
-    if one < other { one } else { other }
 }
 
 /// What a sender holds in its tenures: the batch that it fills, the tenure that it has begun, and
@@ -115,8 +107,8 @@ impl<Q: Ratifier> Model for Turns<Q> {
 }
 
 impl<Q: Ratifier + Drop> Turns<Q> {
-    /// Sender `me` of so many, with nothing pending, of a bus of so many rounds for each bit, rows
-    /// and log words. Its first message gets the number `first`.
+    /// Sender `me` of so many, with nothing pending, of a bus of so many rounds for each bit, rows,
+    /// log words and passed places. Its first message gets the number `first`.
     pub fn new(
         senders: u64,
         me: SenderNo,
@@ -124,6 +116,7 @@ impl<Q: Ratifier + Drop> Turns<Q> {
         rows: u64,
         log_words: u64,
         first: u64,
+        passers: u64,
     ) -> Turns<Q>
         requires me_below { me.0 < senders }
         requires few { senders ≤ MOST_SENDERS }
@@ -131,10 +124,12 @@ impl<Q: Ratifier + Drop> Turns<Q> {
         requires rounds_few { rounds ≤ MOST_ROUNDS }
         requires rows_few { rows ≤ TENURES }
         requires log_few { log_words ≤ 2 ^ 20 }
-        requires room { words_of (layout_with Q.protocol senders rounds rows log_words) ≤ 2 ^ 63 }
+        requires passers_few { passers ≤ MOST_RECEIVERS }
+        requires room { words_of (layout_with Q.protocol senders rounds rows log_words passers)
+            ≤ 2 ^ 63 }
         requires numbers { first ≤ NUMBERS }
         ensures { result ≡ record {
-          layout = layout_with Q.protocol senders rounds rows log_words;
+          layout = layout_with Q.protocol senders rounds rows log_words passers;
           me = me.0;
           queue = record {
             sender = me;
@@ -154,7 +149,7 @@ impl<Q: Ratifier + Drop> Turns<Q> {
                 rows,
                 width: Election::<Q>::width(senders, rounds),
                 capacity: log_words,
-                passers: 0,
+                passers,
             },
             me,
             batch: Batch::new(me, first),
@@ -403,6 +398,7 @@ impl<Q: Ratifier + Drop> Turns<Q> {
     }
 
     /// The next step of its election.
+    #[inline(always)]
     pub fn election_next(&self, tenure: u64, word: u32) -> Option<Op>
         requires { let X = election_of Q.Ratifier in
             doing_of (situation_of X self.now) ≡ doing.Elects tenure }
@@ -542,21 +538,10 @@ impl<Q: Ratifier + Drop> Turns<Q> {
         ensures answer { let X = election_of Q.Ratifier in
             result ≡ answer_at X self.old (situation_of X self.old) got word }
     {
-        let Phase::Electing { tenure, election } = &mut self.phase else {
-            unreachable!()
-        };
-        let tenure = *tenure;
-        election.feed(got, word);
-        let Some(owner) = election.owner() else {
-            return Turn::Going;
-        };
-        if owner.0 == self.me.0 {
-            return Turn::Going;
+        match self.elect_on(started, got, word) {
+            None => Turn::Going,
+            Some(answer) => answer,
         }
-        self.batch.back();
-        self.least = tenure + 1;
-        self.phase = Phase::Resting;
-        Turn::Lost { tenure, owner }
     }
 
     /// Takes the page.
@@ -617,19 +602,6 @@ impl<Q: Ratifier + Drop> Turns<Q> {
         *value = self.frame_word(tenure, words, stored);
         *place = words + stored;
         true
-    }
-
-    /// All passed places are loaded, and this is the least of them: the page's floor becomes it,
-    /// or the words below the length where those are fewer.
-    pub fn set_floor(&mut self, least: u64)
-        requires lacks { HoldsUnfitting self.old }
-        requires some { 0 < self.old.layout.passers }
-        ensures { self.new ≡ core_floored self.old least }
-    {
-        if let Phase::Holding { page, .. } = &mut self.phase {
-            let words = page.get().words;
-            page.set_floor(lesser(lesser(least, words), NUMBERS));
-        }
     }
 
     /// The length is stored.

@@ -21,7 +21,7 @@ use Rattle.bus_tenure.specs.Elections.{Elector}
 use Rattle.bus_core.specs.Senders.{Sender}
 use Rattle.bus_machine.specs.Machine.{Machine, Happens, has_stopped, going}
 use Rattle.bus_tenure.specs.Core.{Election}
-use Rattle.bus_world.specs.World.{Event, Put, Ask, Turn, Recv, Stop}
+use Rattle.bus_world.specs.World.{Event, Put, Ask, Turn, Recv, Stop, Gone}
 use Rattle.bus_world.specs.declared.events.Answer.{Answer}
 use Rattle.bus_world.specs.declared.events.StepFault.{StepFault}
 use Rattle.bus_world.specs.declared.events.StepFault.TheVariants as fault
@@ -82,6 +82,7 @@ plain_fault fault.NoSuchReceiver = plain_by (codes "NoSuchReceiver") refl
 plain_fault fault.Stopped = plain_by (codes "Stopped") refl
 plain_fault (fault.Put why) = plain_put why
 plain_fault (fault.Close why) = plain_close why
+plain_fault fault.Gone = plain_by (codes "Gone") refl
 
 plain_make : (why : MakeFault) → IsPlain (make_fault_name why)
 plain_make make.Senders = plain_by (codes "Senders") refl
@@ -159,6 +160,8 @@ module _ {E : Type 0} (X : Election E) where
   few_kept m (Recv r) a new few h =
       subst HasFew (sym h.after) (few.0, few_set MOST_RECEIVERS m.receivers r _ few.1)
   few_kept m (Stop s) a new few h = subst HasFew (sym h.after) few
+  few_kept m (Gone r) a new few h =
+      subst HasFew (sym h.after) (few.0, few_set MOST_RECEIVERS m.receivers r _ few.1)
 
   sender_few : (m : Machine E) (s : ℕ) (v : Sender E) → HasFew m → going m s ≡ Some v
       → s < MOST_SENDERS
@@ -176,6 +179,8 @@ module _ {E : Type 0} (X : Election E) where
   few_asked m (Recv r) a new few h =
       let lt = slice_get_within m.receivers r h.receiver h.there in omega (arith, lt, few.1)
   few_asked m (Stop s) a new few h = sender_few m s h.sender few h.goes
+  few_asked m (Gone r) a new few h =
+      let lt = slice_get_within m.receivers r h.receiver h.there in omega (arith, lt, few.1)
 
 -- ---- runs
 module _ {S : Type 0} (X : Election (Elector S)) (P : Protocol S Bool Verdict)

@@ -25,7 +25,7 @@ use Rattle.bus_tenure.specs.declared.turns.Turn.{Turn as Turned}
 use Rattle.bus_tenure.specs.declared.turns.Turn.TheVariants as turn
 use Rattle.bus_world.specs.Headline.{Action, HasPut, HasMarked, Stepped}
 use Rattle.bus_world.specs.Trails.{put_actions, mark_actions}
-use Rattle.bus_world.specs.World.{Event, Put, Ask, Turn, Recv, Stop}
+use Rattle.bus_world.specs.World.{Event, Put, Ask, Turn, Recv, Stop, Gone}
 use Rattle.bus_world.specs.declared.events.Answer.{Answer}
 use Rattle.bus_world.specs.declared.events.Answer.TheVariants as answer
 use Rattle.bus_replay.specs.Text.{behind, answer_text}
@@ -211,6 +211,7 @@ plain_answer answer.Leaving = plain_by (codes "leaving") refl
 plain_answer (answer.Turn t) = plain_turn t
 plain_answer (answer.Recv t) = plain_recv t
 plain_answer answer.Stopped = plain_by (codes "stopped") refl
+plain_answer answer.Gone = plain_by (codes "gone") refl
 
 -- ---- tenure, kind, word, found and after
 dash : IsPlain (codes "-")
@@ -291,6 +292,9 @@ of_sender p X words (Some v) word =
 a_stop : IsMiddle (no_step (codes "stop"))
 a_stop = without_step (codes "stop") family.Call refl (plain_by (codes "stop") refl)
 
+a_leave : IsMiddle (no_step (codes "gone"))
+a_leave = without_step (codes "gone") family.Call refl (plain_by (codes "gone") refl)
+
 -- ---- who is asked, where a bus can have it
 abbrev pub AsksFew : Event → Type 0
 AsksFew (Put s bytes) = s < MOST_SENDERS
@@ -298,6 +302,7 @@ AsksFew (Ask s mark) = s < MOST_SENDERS
 AsksFew (Turn s word) = s < MOST_SENDERS
 AsksFew (Recv r) = r < MOST_RECEIVERS
 AsksFew (Stop s) = s < MOST_SENDERS
+AsksFew (Gone r) = r < MOST_RECEIVERS
 
 a_sender : (s : ℕ) → s < MOST_SENDERS → IsWho (codes "sender" ++ behind s)
 a_sender s few = record {
@@ -336,3 +341,6 @@ line_read p X line m (Recv r) a few = readable (decimal line) (codes "receiver" 
 line_read p X line m (Stop s) a few =
     readable (decimal line) (codes "sender" ++ behind s) (columns p X m (Stop s) a) (answer_text a)
     (plain_decimal line) (a_sender s few) a_stop (plain_answer a)
+line_read p X line m (Gone r) a few =
+    readable (decimal line) (codes "receiver" ++ behind r) (columns p X m (Gone r) a)
+    (answer_text a) (plain_decimal line) (a_receiver r few) a_leave (plain_answer a)

@@ -13,7 +13,7 @@ use Rattle.bus_deliverylog.specs.Receiving.{Receiving, receiving_kind, receiving
 use Rattle.bus_machine.specs.Machine.{Machine, Happens, has_stopped}
 use Rattle.bus_tenure.specs.Core.{Election}
 use Rattle.bus_world.specs.Trails.{put_actions, mark_actions}
-use Rattle.bus_world.specs.World.{Event, Put, Ask, Turn, Recv, Stop}
+use Rattle.bus_world.specs.World.{Event, Put, Ask, Turn, Recv, Stop, Gone}
 use Rattle.bus_world.specs.declared.events.Answer.{Answer}
 use Rattle.bus_replay.specs.Text.{answer_text}
 use Rattle.bus_register.specs.Words.{register}
@@ -69,6 +69,7 @@ columns_told p X m m' (Turn s word) a h =
 columns_told p X m m' (Recv r) a h =
     receiver_told p (slice_index m.words) r (slice_get m.receivers r)
 columns_told p X m m' (Stop s) a h = refl
+columns_told p X m m' (Gone r) a h = refl
 
 -- the whole line
 pub row_is : {E : Type 0} (p : TraceSizes) (X : Election E) (line : ℕ) (m m' : Machine E)

@@ -26,7 +26,7 @@ use Rattle.bus_replay.specs.Text.{answer_text, behind}
 use Rattle.bus_world.specs.Headline.{Action, HasPut, HasMarked, Stepped}
 use Rattle.bus_world.specs.Trails.{step_action, put_actions, mark_actions}
 use Rattle.bus_world.specs.Turning.{number_found}
-use Rattle.bus_world.specs.World.{Event, Put, Ask, Turn, Recv, Stop}
+use Rattle.bus_world.specs.World.{Event, Put, Ask, Turn, Recv, Stop, Gone}
 use Rattle.bus_world.specs.declared.events.Answer.{Answer}
 use Rattle.bus_world.specs.declared.events.Answer.TheVariants as answer
 use Rattle.bus_trace.specs.Rows.{actions_text, due_text, line_text, receiving_text, sender_text}
@@ -90,6 +90,7 @@ put_answered bytes answer.Leaving action e = absurd cc
 put_answered bytes (answer.Turn t) action e = absurd cc
 put_answered bytes (answer.Recv t) action e = absurd cc
 put_answered bytes answer.Stopped action e = absurd cc
+put_answered bytes answer.Gone action e = absurd cc
 
 mark_answered : (a : Answer) (action : Action) → mark_actions a ≡ action ∷ []
     → answer_text a ≡ answer_text (answer_of action)
@@ -99,6 +100,7 @@ mark_answered answer.Leaving action e = one_action (HasMarked mark.Leave) action
 mark_answered (answer.Turn t) action e = absurd cc
 mark_answered (answer.Recv t) action e = absurd cc
 mark_answered answer.Stopped action e = absurd cc
+mark_answered answer.Gone action e = absurd cc
 
 nothing_added : (s : ℕ) (action : Action) → cond (s == s) [] [] ≡ action ∷ [] → ⊥
 nothing_added s action e = let bad : [] ≡ action ∷ [] = sym (own s [] []) ∙ e in cc
@@ -240,6 +242,7 @@ module _ {S : Type 0} (p : TraceSizes) (X : Election (Elector S)) (P : Protocol 
       goes (subst (SenderCauses X P) goes h.causes)
   event_shown (Recv r) a new h = heard_shown r a h.happens.heard h.happens.answered
   event_shown (Stop s) a new h = (refl, refl)
+  event_shown (Gone r) a new h = (refl, refl)
 
   -- a sender's turn adds no action to another trail, and no answer
   turn_adds : (s word : ℕ) (o : Option (Sender (Elector S))) (a : Answer) (q : ℕ)
@@ -252,6 +255,7 @@ module _ {S : Type 0} (p : TraceSizes) (X : Election (Elector S)) (P : Protocol 
       adds_own p (slice_index m.words) (line_now X v) s word t (situation X v) q some
   turn_adds s word (Some v) (answer.Recv t) q some = absurd (some refl)
   turn_adds s word (Some v) answer.Stopped q some = absurd (some refl)
+  turn_adds s word (Some v) answer.Gone q some = absurd (some refl)
 
   turn_hears : (s word : ℕ) (o : Option (Sender (Elector S))) (a : Answer) (r : ℕ)
       → (turn_grown X m s o word a no_machine_trails).heard r ≡ []
@@ -263,6 +267,7 @@ module _ {S : Type 0} (p : TraceSizes) (X : Election (Elector S)) (P : Protocol 
       hears_none p (slice_index m.words) (line_now X v) s word t (situation X v) r
   turn_hears s word (Some v) (answer.Recv t) r = refl
   turn_hears s word (Some v) answer.Stopped r = refl
+  turn_hears s word (Some v) answer.Gone r = refl
 
   recv_hears : (q : ℕ) (a : Answer) (r : ℕ) → (added X m (Recv q) a).heard r ≢ [] → r ≡ q
   recv_hears q (answer.Number n) r some = absurd (some refl)
@@ -271,6 +276,7 @@ module _ {S : Type 0} (p : TraceSizes) (X : Election (Elector S)) (P : Protocol 
   recv_hears q (answer.Turn t) r some = absurd (some refl)
   recv_hears q (answer.Recv t) r some = whose r q (t ∷ []) some
   recv_hears q answer.Stopped r some = absurd (some refl)
+  recv_hears q answer.Gone r some = absurd (some refl)
 
   who_shown : (e : Event) (a : Answer) → ShowsWho X m e a
   who_shown (Put s bytes) a = record {
@@ -291,6 +297,10 @@ module _ {S : Type 0} (p : TraceSizes) (X : Election (Elector S)) (P : Protocol 
   }
   who_shown (Stop s) a = record {
     sender = λ q some. absurd (some refl);
+    receiver = λ r some. absurd (some refl);
+  }
+  who_shown (Gone q) a = record {
+    sender = λ s some. absurd (some refl);
     receiver = λ r some. absurd (some refl);
   }
 

@@ -20,8 +20,7 @@ use Rattle.bus_core.specs.Reusing.Passing.{passing_left}
 use Rattle.bus_core.specs.declared.reuses.Passing.{Passing}
 use Rattle.bus_core.specs.Table.{line, line_now}
 use Rattle.bus_core.specs.declared.reuses.Reuse.{Reuse}
-use Rattle.bus_deliverylog.specs.Receiving.{Receiving, kind_by, op_by}
-use Rattle.bus_deliverylog.proofs.ReceiveLaws.{no_due}
+use Rattle.bus_deliverylog.specs.Receiving.{receiving_kind, receiving_op}
 use Rattle.bus_machine.specs.Machine.{Machine, Happens, IsOnWord, has_stopped}
 use Rattle.bus_presence.specs.Reclaimers.{Reclaiming}
 use Rattle.bus_presence.specs.declared.pins.Pin.{Pin}
@@ -41,7 +40,7 @@ use Rattle.bus_tenure.specs.declared.phases.Reason.TheVariants.{Sent, FoundEnd, 
 use Rattle.bus_core.specs.Causes.{LeavesTenure, AsLoser, AsHolder, AsLate, StandsInRow}
 use Rattle.bus_core.specs.Reusing.Turns.{tenure_begun_by}
 use Rattle.bus_world.specs.Turning.{words_after}
-use Rattle.bus_world.specs.World.{Event, Put, Ask, Turn, Recv, Stop}
+use Rattle.bus_world.specs.World.{Event, Put, Ask, Turn, Recv, Stop, Gone}
 use Rattle.bus_world.specs.declared.events.Answer.{Answer}
 use Rattle.bus_trace.specs.declared.seen.Step.{Step}
 use Rattle.bus_trace.specs.Steps.{step_of, sender_due, receiver_due, due_by, seen_in}
@@ -226,15 +225,6 @@ stood : (words : List ℕ) (o : Op) → register o < length words
     (slice_index words (register o))
 stood words o l = get_or-set_same words (register o) (after o (slice_index words (register o))) 0 l
 
-load_leaves : (v : Receiving) (step : Step) (n : ℕ) (a b : Bool)
-    → step_of None (cond a None (Some (cond b kind.LoadLength kind.LoadLogWord)))
-    (cond a None (Some (cond b (Load (record { 0 = v.length_at }))
-    (Load (record { 0 = v.log_at + v.place % v.log_words }))))) ≡ Some step
-    → after step.op n ≡ n
-load_leaves v step n true b e = absurd cc
-load_leaves v step n false true e = ap (λ (z : Step). after z.op n) (sym (same_Some _ _ e))
-load_leaves v step n false false e = ap (λ (z : Step). after z.op n) (sym (same_Some _ _ e))
-
 pub leaves : {E : Type 0} (X : Election E) (m m' : Machine E) (e : Event) (a : Answer) (step : Step)
     → Happens X m e a m'
     → Some step ≡ due_by X m e
@@ -253,12 +243,14 @@ leaves {E} X m m' (Turn s word) a step h is =
     ∙ stood m.words step.op (subst (IsOnWord m) op_is h.within)
 leaves {E} X m m' (Recv r) a step h is =
     let v = h.receiver in
+    let op_is : receiving_op v ≡ Some step.op =
+    op_of_step None (receiving_kind v) (receiving_op v) step
+    (ap receiver_due (sym h.there) ∙ sym is) in
     ap (λ (y : Machine E). slice_index y.words (register step.op)) h.after
-    ∙ sym (load_leaves v step (slice_index m.words (register step.op)) v.ended (v.place == v.known)
-    (ap (λ d. step_of None (cond v.ended None (Some (kind_by d v)))
-    (cond v.ended None (Some (op_by d v)))) (sym (no_due v h.never))
-    ∙ ap receiver_due (sym h.there) ∙ sym is))
+    ∙ ap (λ o. slice_index (words_after m.words o) (register step.op)) op_is
+    ∙ stood m.words step.op (subst (IsOnWord m) op_is h.within)
 leaves X m m' (Stop s) a step h is = absurd cc
+leaves X m m' (Gone r) a step h is = absurd cc
 
 -- what was seen of a step
 pub seen_so : (words : ℕ → ℕ) (due : Option Step) (step : Step) (found left : ℕ) → Some step ≡ due

@@ -14,7 +14,7 @@ use Rattle.bus_machine.specs.Machine.{Machine, going}
 use Rattle.bus_tenure.specs.Core.{Election}
 use Rattle.bus_world.specs.Headline.{Action, HasPut, HasMarked, Stepped}
 use Rattle.bus_world.specs.Trails.{put_actions, mark_actions}
-use Rattle.bus_world.specs.World.{Event, Put, Ask, Turn, Recv, Stop}
+use Rattle.bus_world.specs.World.{Event, Put, Ask, Turn, Recv, Stop, Gone}
 use Rattle.bus_world.specs.declared.events.Answer.{Answer}
 use Rattle.bus_replay.specs.Text.{behind, answer_text}
 use Rattle.bus_trace.specs.Words.{TraceSizes, word_name}
@@ -77,6 +77,7 @@ who_text (Ask s mark) = column (codes "sender" ++ behind s)
 who_text (Turn s word) = column (codes "sender" ++ behind s)
 who_text (Recv r) = column (codes "receiver" ++ behind r)
 who_text (Stop s) = column (codes "sender" ++ behind s)
+who_text (Gone r) = column (codes "receiver" ++ behind r)
 
 -- Of a turn of a sender that goes on, the step that is due of it by its line in the table of turns:
 -- as a sender, of its pin of a tenure, or of its reclamation. Its tenure is the one that it has
@@ -97,6 +98,7 @@ columns p X m (Ask s mark) a = actions_text p None (mark_actions a)
 columns p X m (Turn s word) a = sender_text p X (slice_index m.words) (going m s) word
 columns p X m (Recv r) a = receiving_text p (slice_index m.words) (slice_get m.receivers r)
 columns p X m (Stop s) a = no_step (codes "stop")
+columns p X m (Gone r) a = no_step (codes "gone")
 
 -- the line of an event that a line of a script asks for, without its number
 abbrev pub row_text : {E : Type 0} → TraceSizes → Election E → ℕ → Machine E → Event → Answer

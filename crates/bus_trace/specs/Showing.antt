@@ -14,7 +14,7 @@ use Rattle.bus_presence.specs.Reclamation.{Entry}
 use Rattle.bus_tenure.specs.Core.{Election}
 use Rattle.bus_tenure.specs.Situations.{Situation as Own}
 use Rattle.bus_world.specs.Headline.{Action, HasPut, HasMarked, Stepped}
-use Rattle.bus_world.specs.World.{Event, Put, Ask, Turn, Recv, Stop}
+use Rattle.bus_world.specs.World.{Event, Put, Ask, Turn, Recv, Stop, Gone}
 use Rattle.bus_world.specs.declared.events.Answer.{Answer}
 use Rattle.bus_world.specs.declared.events.Answer.TheVariants as answer
 use Rattle.bus_replay.specs.Text.{answer_text, behind}
@@ -96,6 +96,8 @@ ShowsEvent {E} p X m (Turn s word) a =
 ShowsEvent p X m (Recv r) a = ShowsHeard p X m r a
 ShowsEvent p X m (Stop s) a =
     (added X m (Stop s) a ≡ no_machine_trails) × (columns p X m (Stop s) a ≡ no_step (codes "stop"))
+ShowsEvent p X m (Gone r) a =
+    (added X m (Gone r) a ≡ no_machine_trails) × (columns p X m (Gone r) a ≡ no_step (codes "gone"))
 
 -- a line has who is asked, the columns of the event and its answer (row_text)
 pub record Shows {E : Type 0} (p : TraceSizes) (X : Election E) (m : Machine E) (e : Event)

@@ -8,7 +8,7 @@ use Rattle.bus_core.specs.Table.{Line, line_now}
 use Rattle.bus_deliverylog.specs.Receiving.{Receiving, receiving_kind, receiving_op}
 use Rattle.bus_machine.specs.Machine.{Machine}
 use Rattle.bus_tenure.specs.Core.{Election}
-use Rattle.bus_world.specs.World.{Event, Put, Ask, Turn, Recv, Stop}
+use Rattle.bus_world.specs.World.{Event, Put, Ask, Turn, Recv, Stop, Gone}
 use Rattle.bus_trace.specs.declared.seen.Seen.{Seen}
 use Rattle.bus_trace.specs.declared.seen.Step.{Step}
 
@@ -37,6 +37,7 @@ due_by X m (Ask s mark) = None
 due_by X m (Turn s word) = sender_due X (slice_get m.senders s) word
 due_by X m (Recv r) = receiver_due (slice_get m.receivers r)
 due_by X m (Stop s) = None
+due_by X m (Gone r) = None
 
 -- with the number that it finds in these words, and the one that it leaves
 abbrev pub seen_in : (ℕ → ℕ) → Option Step → Option Seen

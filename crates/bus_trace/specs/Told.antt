@@ -2,7 +2,7 @@
 use Rattle.std.specs.Prelude.{ℕ, Option, Some, None, List, [], ◌∷◌, ◌++◌, codes, decimal}
 use Rattle.bus_register.specs.Words.{register}
 use Rattle.bus_batch.specs.declared.messages.Mark.TheVariants as mark
-use Rattle.bus_world.specs.World.{Event, Put, Ask, Turn, Recv, Stop}
+use Rattle.bus_world.specs.World.{Event, Put, Ask, Turn, Recv, Stop, Gone}
 use Rattle.bus_world.specs.declared.events.Answer.{Answer}
 use Rattle.bus_replay.specs.Text.{answer_text}
 use Rattle.bus_trace.specs.Words.{TraceSizes, word_name}
@@ -18,6 +18,7 @@ name_told (Ask s mark.Leave) = codes "leave"
 name_told (Turn s word) = codes "-"
 name_told (Recv r) = codes "-"
 name_told (Stop s) = codes "stop"
+name_told (Gone r) = codes "gone"
 
 abbrev pub seen_columns : TraceSizes → Seen → List ℕ
 seen_columns p s =

@@ -53,6 +53,7 @@ fn push_who(text: &mut String, event: &Event) -> Result<(), AllocError>
         Event::Turn { sender, word: _ } => write!(text, "sender {sender}\t"),
         Event::Recv(receiver) => write!(text, "receiver {receiver}\t"),
         Event::Stop(sender) => write!(text, "sender {sender}\t"),
+        Event::Gone(receiver) => write!(text, "receiver {receiver}\t"),
     }
 }
 
@@ -91,6 +92,7 @@ fn push_no_step(text: &mut String, event: &Event) -> Result<(), AllocError>
         Event::Close(_) => text.push_str("-\tclose\t-\t-\t-\t"),
         Event::Leave(_) => text.push_str("-\tleave\t-\t-\t-\t"),
         Event::Stop(_) => text.push_str("-\tstop\t-\t-\t-\t"),
+        Event::Gone(_) => text.push_str("-\tgone\t-\t-\t-\t"),
         Event::Turn { .. } | Event::Recv(_) => text.push_str("-\t-\t-\t-\t-\t"),
     }
 }

@@ -62,7 +62,8 @@ fn due_of<Q: Ratifier + Drop>(bus: &World<Q>, event: &Event) -> Option<Step>
         result ≡ due_by X bus.now (event_told event.now) }
 {
     match event {
-        Event::Put { .. } | Event::Close(_) | Event::Leave(_) | Event::Stop(_) => None,
+        Event::Put { .. } | Event::Close(_) | Event::Leave(_) | Event::Stop(_) | Event::Gone(_) =>
+            None,
         Event::Turn { sender, word } => due_of_sender(bus, *sender, *word),
         Event::Recv(receiver) => due_of_reader(bus, *receiver),
     }

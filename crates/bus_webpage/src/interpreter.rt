@@ -7,13 +7,18 @@ pub const INTERPRETER: &str = r#"'use strict';
 // from docs/PROTOCOL.md and docs/FORMATS.md, and is not proved.
 
 // ---- A bus. Its words stand by their names, and those that nobody has stored are 0. The words of
-// the log are BigInt, since they have 64 bits; all others are plain numbers.
-function newBus(isCyclic, [senders, receivers, rounds, rows, log]) {
+// the log are BigInt, since they have 64 bits, and what a receiver stores that leaves a ring; all
+// others are plain numbers.
+const PASSED_ALL = BigInt('18446744073709551615');
+
+function newBus(kind, [senders, receivers, rounds, rows, log]) {
+    const isCyclic = kind !== 'shape';
     let bits = 0;
     while (2 ** bits < senders) bits += 1;
     return {
-        isCyclic, rounds, rows, log, bits, end: isCyclic ? 2 ** 40 : rows, words: new Map(),
-        page: {words: 0, hasEnded: false},
+        isCyclic, isRing: kind === 'ring', rounds, rows, log, bits,
+        end: isCyclic ? 2 ** 40 : rows, words: new Map(),
+        page: {words: 0, hasEnded: false, floor: 0},
         senders: Array.from({length: senders}, (none, number) => newSender(number)),
         receivers: Array.from({length: receivers}, (none, number) => newReceiver(number)),
     };
@@ -29,15 +34,18 @@ function newSender(number) {
         candidate: 0, spelled: 0, bit: 0, round: 1, value: 0, votes: 0, looksAt: 0,
         // with the page
         page: null, frame: [], stored: 0, isPublished: false, asks: 0, cleared: 0,
+        // of a ring: how many passed places it has loaded, and the least of them and of the words
+        loaded: 0, lowest: 0,
     };
 }
 
 // A receiver: its place, the length that it knows, and of the frame in which it reads the words
-// that are left, the owner, and the message of which bytes are missing.
+// that are left, the owner, and the message of which bytes are missing; what it has passed, of a
+// ring; and whether it has left for good.
 function newReceiver(number) {
     return {
         seat: 'receiver', number, place: 0, known: 0, hasEnded: false, left: 0, owner: 0,
-        message: null,
+        message: null, passed: 0, isGone: false,
     };
 }
 
@@ -145,7 +153,7 @@ const STEPS = {
     },
     TakePage: {word: () => 'stage', leaves: (bus, s) => 2 * s.tenure + 1, then: takePage},
     StoreLogWord: {
-        word: (bus, s) => 'log ' + (s.page.words + s.stored),
+        word: (bus, s) => 'log ' + (s.page.words + s.stored) % bus.log,
         leaves: (bus, s) => s.frame[s.stored],
         then: (bus, s) => {
             s.stored += 1;
@@ -169,7 +177,7 @@ const STEPS = {
             return 'going';
         },
     },
-    LoadLogWord: {word: (bus, r) => 'log ' + r.place, then: readWord},
+    LoadLogWord: {word: (bus, r) => 'log ' + r.place % bus.log, then: readWord},
     // These are of a bus whose rows are used again.
     Enter: {
         word: (bus, s) => 'presence ' + s.number,
@@ -200,6 +208,24 @@ const STEPS = {
         then: (bus, s) => {
             s.cleared += 1;
             return holdOn(bus, s);
+        },
+    },
+    // These are of a ring.
+    ReadPassed: {
+        word: (bus, s) => 'passed ' + s.loaded,
+        then: (bus, s, found) => {
+            s.lowest = Math.min(s.lowest, Number(found));
+            s.loaded += 1;
+            if (s.loaded === bus.receivers.length) s.page.floor = s.lowest;
+            return holdOn(bus, s);
+        },
+    },
+    StorePassed: {
+        word: (bus, r) => 'passed ' + r.number,
+        leaves: (bus, r) => (r.isGone ? PASSED_ALL : r.place),
+        then: (bus, r) => {
+            r.passed = r.place;
+            return r.isGone ? 'gone' : 'going';
         },
     },
 };
@@ -293,6 +319,7 @@ function withdraw(bus, s) {
 // ---- The holder of the page.
 function takePage(bus, s) {
     Object.assign(s, {page: bus.page, stored: 0, isPublished: false, asks: 0, cleared: 0});
+    Object.assign(s, {loaded: 0, lowest: bus.page.words});
     bus.page = null;
     s.frame = frameOf(s);
     holdOn(bus, s);
@@ -309,6 +336,7 @@ function dueOfHolder(bus, s) {
     if (fitsLog(bus, s) && !s.isPublished) {
         return s.stored < s.frame.length ? 'StoreLogWord' : 'StoreLength';
     }
+    if (seeksRoom(bus, s)) return 'ReadPassed';
     if (bus.isCyclic && s.tenure + 1 >= bus.rows) {
         if (s.asks < bus.senders.length) return 'ReadPresence';
         if (s.cleared < rowWidth(bus)) return 'ClearRow';
@@ -317,7 +345,13 @@ function dueOfHolder(bus, s) {
 }
 
 function fitsLog(bus, s) {
-    return !s.page.hasEnded && s.page.words + s.frame.length <= bus.log;
+    return !s.page.hasEnded && s.page.words + s.frame.length <= bus.log + s.page.floor;
+}
+
+// Its frame does not fit, and a passed place is left to load.
+function seeksRoom(bus, s) {
+    const isOpen = bus.isRing && !s.page.hasEnded && !s.isPublished;
+    return isOpen && s.loaded < bus.receivers.length;
 }
 
 function givePageBack(bus, s) {
@@ -398,6 +432,7 @@ function itemOf(r) {
 function kindDue(bus, process) {
     if (process.seat === 'receiver') {
         if (process.hasEnded) return '-';
+        if (bus.isRing && !process.left && process.place > process.passed) return 'StorePassed';
         return process.place === process.known ? 'LoadLength' : 'LoadLogWord';
     }
     return process.due || (answerAtRest(bus, process) ? '-' : 'LoadStage');
@@ -411,7 +446,10 @@ function answerAtRest(bus, s) {
 }
 
 function stepDue(bus, process, random) {
-    const kind = kindDue(bus, process);
+    return stepOf(bus, process, kindDue(bus, process), random);
+}
+
+function stepOf(bus, process, kind, random) {
     if (kind === '-') return {kind, word: '-', found: '-', after: '-'};
     const step = STEPS[kind];
     const word = step.word(bus, process);
@@ -421,7 +459,12 @@ function stepDue(bus, process, random) {
 }
 
 function takeTurn(bus, process, random) {
-    const row = stepDue(bus, process, random);
+    return takeStep(bus, process, kindDue(bus, process), random);
+}
+
+// The step of a kind.
+function takeStep(bus, process, kind, random) {
+    const row = stepOf(bus, process, kind, random);
     row.tenure = process.seat === 'sender' && process.tenure !== null ? process.tenure : '-';
     if (row.kind === '-') {
         row.answer = process.hasEnded ? 'end' : answerAtRest(bus, process);
@@ -449,6 +492,10 @@ const CALLS = {
         s.isStopped = true;
         return 'stopped';
     },
+    gone(r) {
+        r.isGone = true;
+        return 'gone';
+    },
 };
 
 function mark(s, name, answer) {
@@ -472,7 +519,7 @@ const isMessage = (word) => /^(-|([0-9a-f]{2})+)$/.test(word);
 // What the words behind the first of a line have to be.
 const FORMS = {
     put: [isNumber, isMessage], close: [isNumber], leave: [isNumber], stop: [isNumber],
-    turn: [isNumber, isRandom, isTimes], recv: [isNumber, isTimes],
+    turn: [isNumber, isRandom, isTimes], recv: [isNumber, isTimes], gone: [isNumber],
     shape: [isNumber, isNumber, isNumber, isNumber, isNumber],
     cycle: [isNumber, isNumber, isNumber, isNumber, isNumber],
 };
@@ -502,26 +549,27 @@ function playLine(game, text) {
     game.line += 1;
     if (text === '' || text.startsWith('#')) return;
     const [word, ...rest] = text.split(' ');
-    const isFirst = word === 'shape' || word === 'cycle';
+    const isFirst = ['shape', 'cycle'].includes(word);
     const why = !hasForm(word, rest) || isFirst !== (game.bus === null) ? 'BadLine' :
         isFirst ? playFirst(game, word, rest.map(Number)) : playEvent(game, word, rest);
     if (why) game.refusal = 'line ' + game.line + ': ' + why;
 }
 
 function playFirst(game, word, sizes) {
-    const why = sizeRefused(word === 'cycle', sizes);
-    if (!why) game.bus = newBus(word === 'cycle', sizes);
+    const why = sizeRefused(word !== 'shape', sizes);
+    if (!why) game.bus = newBus(word, sizes);
     return why;
 }
 
 // Gives the name of the refusal, or nothing.
 function playEvent(game, word, rest) {
     const {bus} = game;
-    const isOfReceiver = word === 'recv';
+    const isOfReceiver = word === 'recv' || word === 'gone';
     const process = (isOfReceiver ? bus.receivers : bus.senders)[Number(rest[0])];
     if (!process) return isOfReceiver ? 'NoSuchReceiver' : 'NoSuchSender';
     if (process.isStopped) return 'Stopped';
-    if (isOfReceiver) playTurns(game, process, 0, Number(rest[1]));
+    if (process.isGone) return 'Gone';
+    if (word === 'recv') playTurns(game, process, 0, Number(rest[1]));
     else if (word === 'turn') playTurns(game, process, Number(rest[1]), Number(rest[2]));
     else return playCall(game, process, word, rest[1]);
     return '';
@@ -530,7 +578,9 @@ function playEvent(game, word, rest) {
 function playCall(game, s, word, message) {
     const answer = CALLS[word](s, message);
     if (/^[A-Z]/.test(answer)) return answer;
-    addRow(game, s, {tenure: '-', kind: word, word: '-', found: '-', after: '-', answer});
+    const stores = word === 'gone' && game.bus.isRing;
+    if (stores) addRow(game, s, takeStep(game.bus, s, 'StorePassed', 0));
+    else addRow(game, s, {tenure: '-', kind: word, word: '-', found: '-', after: '-', answer});
     return '';
 }
 

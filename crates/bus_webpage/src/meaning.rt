@@ -24,6 +24,11 @@ const KINDS = {
         does: 'call',
         why: 'The sender takes no step from here on. Its words stay as they are.',
     },
+    gone: {
+        does: 'call',
+        why: 'The receiver takes no step from here on. No log word is used again, so nobody ' +
+            'waits for it.',
+    },
     LoadStage: {
         does: 'load',
         why: 'Looks which tenure is open. The stage is 2t while tenure t is open, and 2t + 1 ' +
@@ -138,8 +143,8 @@ const KINDS = {
     },
     StorePassed: {
         does: 'store',
-        why: 'It has heard a whole frame, and says so: it needs the words of that frame no ' +
-            'more.',
+        why: 'It has heard a whole frame, or leaves for good, and says so: it needs the words ' +
+            'before that place no more.',
     },
     '-': {
         does: 'call',
@@ -155,8 +160,11 @@ const PLAIN = {
     closed: 'this sender sends nothing more', spent: 'no tenure is left',
     empty: 'nothing more is published', end: 'the order has ended', closing: 'an end mark waits',
     leaving: 'a leave mark waits',
-    stopped: 'for good',
+    stopped: 'for good', gone: 'for good',
 };
+
+// What a receiver that has left for good stores in its passed place.
+const ALL = '18446744073709551615';
 
 // The text of an answer, beside the answer itself.
 function saidAnswer(answer) {
@@ -207,6 +215,7 @@ function said(place, value) {
     case 'stage': return saidStage(value);
     case 'length': return counted(+value, 'word');
     case 'presence': return value === '0' ? 'nowhere' : 'in tenure ' + (+value - 1);
+    case 'passed': return value === ALL ? 'left for good' : 'up to position ' + value;
     case 'proposal':
     case 'fallback': return value === '0' ? 'empty' : 'bit ' + (+value - 1);
     case 'counter': return saidVotes(value);
@@ -231,6 +240,7 @@ function named(page, place) {
     const behind = where.length ? ' (' + where.join(', ') + ')' : '';
     switch (place.is) {
     case 'presence': return 'the presence of sender ' + place.of;
+    case 'passed': return 'the passed place of receiver ' + place.of;
     case 'log': return 'log word ' + place.at;
     case 'announcement': return 'the announcement of sender ' + place.of + behind;
     case 'counter': return 'the coin' + behind;
@@ -259,6 +269,7 @@ function told(page, row) {
     if (row.kind === 'close') return actor(row) + ' is asked to close the order.';
     if (row.kind === 'leave') return actor(row) + ' is asked to leave for good.';
     if (row.kind === 'stop') return actor(row) + ' stops for good.';
+    if (row.kind === 'gone') return actor(row) + ' leaves for good.';
     if (row.word === '-') return actor(row) + ' has a turn and takes no step.';
     const place = placeOf(row.word);
     const found = said(place, row.found);
@@ -309,6 +320,10 @@ function follows(page, row) {
     case 'Fallback':
         return empty ? 'It is the first here: the bit is ' + (row.after - 1) + '.' :
             'It is not the first: the bit is ' + (row.found - 1) + '.';
+    case 'ReadPassed':
+        return row.found === ALL ? 'Receiver ' + place.of + ' has left: it waits for nothing.' :
+            'Receiver ' + place.of + ' may still need the words from position ' + row.found +
+            ' on.';
     case 'ReadAnnouncement':
         return empty ? 'Sender ' + place.of + ' does not stand for election: it looks further.' :
             'Sender ' + place.of + ' is its candidate from here on.';

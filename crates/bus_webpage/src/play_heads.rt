@@ -78,6 +78,8 @@ pub const GAME: &str = r#"<section id="game" aria-labelledby="game-title">
 <button id="close">Close</button>
 <button id="leave">Leave</button>
 <button id="stop">Stop</button>
+<label>Receiver <select id="which"></select></label>
+<button id="gone">Leave for good</button>
 </div>
 <details id="new-fold"><summary>A new bus</summary>
 <div class="bar">

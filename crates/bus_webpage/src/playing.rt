@@ -12,6 +12,7 @@ const playing = {game: null, past: null, turns: [], ways: new Map(), way: ''};
 
 // Why something cannot be done, by what is promised (docs/PROOF.md or CLAIMS.md has each).
 const FORBIDS = {
+    Gone: 'It has left for good, and nothing waits for it any more.',
     Stopped: 'A stop is for good. No later event of that sender is answered, and nobody takes ' +
         'its steps (stops_are_for_good).',
     Closed: 'It has closed or left, or the order has ended. Nothing follows the end (silent), ' +
@@ -41,7 +42,8 @@ const FOLLOWS = {
     behind: 'It cannot open the next tenure: somebody is shown in the one whose row it would ' +
         'clear, and no row is cleared under a sender (rows_are_safe).',
     full: 'Its frame does not fit in the log. Its batch is kept, and nothing of it is in the ' +
-        'order.',
+        'order. In a ring it fits once all receivers have passed what it would overwrite.',
+    gone: 'Nobody waits for it any more: what it has not heard may be overwritten.',
     spent: 'No tenure is left for it.',
     idle: 'Nothing waits to be sent: put it a message.',
     empty: 'Nothing more is published.',
@@ -157,6 +159,8 @@ function buildTurns() {
     const asked = at('whom').value;
     at('whom').replaceChildren(...choices);
     if (choices.some((one) => one.value === asked)) at('whom').value = asked;
+    const receivers = bus ? bus.receivers.map((r) => made('option', '', r.number)) : [];
+    at('which').replaceChildren(...receivers);
 }
 
 function turnOf({seat, number}) {
@@ -186,8 +190,8 @@ function processAt({seat, number}) {
 // So many turns of a process. Where a vote is due the button says which one.
 function turn(part, vote) {
     const process = processAt(part);
-    if (process.isStopped) {
-        say('Stopped. ' + FORBIDS.Stopped);
+    if (process.isStopped || process.isGone) {
+        saysWhy(process.isGone ? ': Gone' : ': Stopped');
         return;
     }
     const times = Math.min(10000, Math.max(1, Math.floor(at('times').value) || 1));
@@ -201,10 +205,11 @@ function showTurns() {
     for (const part of playing.turns) {
         const process = processAt(part);
         const due = stepDue(gameNow().bus, process, 0);
-        const isVote = due.kind === 'Vote' && !process.isStopped;
+        const isOver = Boolean(process.isStopped || process.isGone);
+        const isVote = due.kind === 'Vote' && !isOver;
         const [first, second] = part.buttons;
-        first.node.setAttribute('aria-disabled', String(Boolean(process.isStopped)));
-        write(first.kind, process.isStopped ? 'stopped' : isVote ? 'tails' : saidKind(due));
+        first.node.setAttribute('aria-disabled', String(isOver));
+        write(first.kind, isOver ? 'stopped' : isVote ? 'tails' : saidKind(due));
         write(first.on, saidDue(process, due));
         if (second.node.hidden !== !isVote) second.node.hidden = !isVote;
         write(second.kind, 'heads');
@@ -215,7 +220,7 @@ function showTurns() {
 
 // The word that a step is on; of a turn without a step the answer.
 function saidDue(process, due) {
-    if (process.isStopped) return 'for good';
+    if (process.isStopped || process.isGone) return 'for good';
     if (due.word !== '-') return named(page, placeOf(due.word));
     return process.hasEnded ? 'end' : answerAtRest(gameNow().bus, process);
 }
@@ -319,9 +324,9 @@ function hexOf(text) {
     return bytes.map((byte) => byte.toString(16).padStart(2, '0')).join('') || '-';
 }
 
-function callOf(name, message) {
+function callOf(name, of, message) {
     if (!playing.game.bus) say('There is no bus: begin another, or play another script.');
-    else call(name + ' ' + at('whom').value + (message === undefined ? '' : ' ' + message));
+    else call(name + ' ' + at(of).value + (message === undefined ? '' : ' ' + message));
 }
 
 function newBusOf() {
@@ -372,7 +377,8 @@ function copyLink() {
 // ---- Keys of their own: a digit is a turn of that sender, with Shift for heads.
 function onPlayKey(event) {
     const {target} = event;
-    if (target.id === 'message' && event.key === 'Enter') callOf('put', hexOf(target.value));
+    const puts = target.id === 'message' && event.key === 'Enter';
+    if (puts) callOf('put', 'whom', hexOf(target.value));
     const isField = ['INPUT', 'SELECT', 'TEXTAREA'].includes(target.tagName);
     const isTyping = isField && target.type !== 'range';
     if (isTyping || event.ctrlKey || event.metaKey || event.altKey) return;
@@ -389,8 +395,9 @@ function onPlayKey(event) {
 
 function listenToPlay() {
     const on = (id, act) => at(id).addEventListener('click', act);
-    on('put', () => callOf('put', hexOf(at('message').value)));
-    for (const name of ['close', 'leave', 'stop']) on(name, () => callOf(name));
+    on('put', () => callOf('put', 'whom', hexOf(at('message').value)));
+    for (const name of ['close', 'leave', 'stop']) on(name, () => callOf(name, 'whom'));
+    on('gone', () => callOf('gone', 'which'));
     on('anew', beginAnew);
     on('new', newBusOf);
     on('read', readText);

@@ -42,16 +42,17 @@ function readRows() {
 function readShape(lines) {
     const first = lines.find((line) => line !== '' && !line.startsWith('#')) || '';
     const part = first.split(' ');
-    if (part.length !== 6 || (part[0] !== 'shape' && part[0] !== 'cycle')) return null;
+    if (part.length !== 6 || !['shape', 'cycle', 'ring'].includes(part[0])) return null;
     const [senders, receivers, rounds, rows, log] = part.slice(1).map(Number);
     const bits = Math.ceil(Math.log2(senders));
-    return {cyclic: part[0] === 'cycle', senders, receivers, rounds, rows, log, bits};
+    const [cyclic, ring] = [part[0] !== 'shape', part[0] === 'ring'];
+    return {cyclic, ring, senders, receivers, rounds, rows, log, bits};
 }
 
 // Which word a name of the trace means.
 function placeOf(name) {
     const part = name.split(' ');
-    if (part[0] === 'presence') return {is: 'presence', of: +part[1]};
+    if (part[0] === 'presence' || part[0] === 'passed') return {is: part[0], of: +part[1]};
     if (part[0] === 'log') return {is: 'log', at: +part[1]};
     if (part[0] !== 'row') return {is: part[0]};
     const row = +part[1];
@@ -95,7 +96,8 @@ function pageOf(lines, hasBus, refusal) {
     const shape = readShape(lines);
     const page = {
         rows: [], refusal, lines, shape, words: new Map(), processes: new Map(), takes: new Map(),
-        firstOfLine: new Map(), log: [], logStores: [], touched: new Set(), roles: null,
+        firstOfLine: new Map(), log: [], logStores: [], placed: [], touched: new Set(),
+        roles: null,
     };
     if (shape && hasBus) {
         for (let s = 0; s < shape.senders; s += 1) processOf(page, 'sender ' + s);
@@ -128,7 +130,8 @@ function noteRow(page, row) {
     const process = processOf(page, row.who);
     process.steps.push(step);
     if (row.kind === 'put') process.puts.push(step);
-    if (row.kind === 'stop') process.stops.push(step);
+    if (row.kind === 'stop' || row.answer === 'gone') process.stops.push(step);
+    if (row.kind === 'StoreLogWord') page.placed.push(step);
     if (row.answer.startsWith('item ')) process.given.push(step);
     if (row.answer.startsWith('delivered ')) process.delivered.push(step);
     if (row.answer.startsWith('left ')) process.left.push(step);
@@ -158,7 +161,20 @@ function valueAt(page, word, step) {
     return by ? page.rows[by - 1].after : '0';
 }
 
-// ---- The log: words that begin frames tell what the words behind them are.
+// ---- The log: words that begin frames tell what the words behind them are. The word of position p
+// is the p-th that was stored, and it lives in cell p mod L: of a ring another one may live there
+// later. Which position lives in a cell after a step, or -1 where none does yet.
+function positionAt(page, at, step) {
+    const stored = countUpTo(page.placed, step);
+    const size = page.shape ? page.shape.log : stored;
+    return at < stored ? at + size * Math.floor((stored - 1 - at) / size) : -1;
+}
+
+// The word of a position.
+function placedAt(page, position) {
+    return BigInt(page.rows[page.placed[position] - 1].after);
+}
+
 const SIXTY_TWO = BigInt(62);
 
 function bitsOf(word, from, count) {
@@ -177,32 +193,30 @@ function messageOf(word) {
     return {bytes: bitsOf(word, 54, 8), number};
 }
 
-// What a log word is, by what stands in the log at the end of the trace.
-function roleOf(page, index) {
+// What the log word of a position is, by all that were stored up to the end of the trace.
+function roleOf(page, position) {
     if (!page.roles) page.roles = rolesOf(page);
-    return page.roles[index] || {is: 'other'};
+    return page.roles[position] || {is: 'other'};
 }
 
 function rolesOf(page) {
     const roles = [];
-    const last = page.rows.length;
-    const final = (at) => (page.log[at] ? BigInt(valueAt(page, page.log[at], last)) : BigInt(0));
     let at = 0;
-    while (at < page.log.length) {
-        const head = headOf(final(at));
+    while (at < page.placed.length) {
+        const head = headOf(placedAt(page, at));
         roles[at] = {is: head ? 'head' : 'other'};
         at += 1;
-        if (head) at = framed(page, roles, final, at, at + head.count, head.owner);
+        if (head) at = framed(page, roles, at, at + head.count, head.owner);
     }
     return roles;
 }
 
 // Of the words of a frame behind its head, up to where it ends.
-function framed(page, roles, final, from, end, owner) {
+function framed(page, roles, from, end, owner) {
     let at = from;
-    while (at < end && at < page.log.length) {
-        const message = messageOf(final(at));
-        const mark = bitsOf(final(at), 0, 1) ? 'leave' : 'end';
+    while (at < end && at < page.placed.length) {
+        const message = messageOf(placedAt(page, at));
+        const mark = bitsOf(placedAt(page, at), 0, 1) ? 'leave' : 'end';
         roles[at] = {is: message ? 'message' : mark, owner};
         const first = at;
         at += 1;
@@ -215,15 +229,14 @@ function framed(page, roles, final, from, end, owner) {
     return end;
 }
 
-// The bytes of a message after a step, as far as they stand there.
-function bytesAt(page, at, step) {
-    const word = page.log[at];
-    const message = word && messageOf(BigInt(valueAt(page, word, step)));
+// The bytes of the message at a position after a step, where all of them were stored by then.
+function bytesAt(page, position, step) {
+    const message = page.placed[position] <= step && messageOf(placedAt(page, position));
     const bytes = [];
     for (let place = 0; message && place < message.bytes; place += 1) {
-        const data = page.log[at + 1 + (place >> 3)];
-        if (!data || !storedBy(data, step)) return null;
-        bytes.push(bitsOf(BigInt(valueAt(page, data, step)), 56 - 8 * (place & 7), 8));
+        const data = position + 1 + (place >> 3);
+        if (!(page.placed[data] <= step)) return null;
+        bytes.push(bitsOf(placedAt(page, data), 56 - 8 * (place & 7), 8));
     }
     return message ? bytes : null;
 }

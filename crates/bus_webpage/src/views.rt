@@ -272,7 +272,9 @@ function showStep() {
 // What a word of the log is.
 function spelled(row) {
     const place = placeOf(row.word);
-    return place.is === 'log' ? 'It spells: ' + saidWord(place.at, BigInt(row.after)) + '.' : '';
+    if (place.is !== 'log') return '';
+    const position = positionAt(page, place.at, view.step);
+    return 'It spells: ' + saidWord(position, BigInt(row.after)) + '.';
 }
 
 // Who stored what the step found.
@@ -370,9 +372,10 @@ function holder() {
 }
 
 // What a receiver was given: the latest four, and how many.
-function showGiven(parts, {given}) {
+function showGiven(parts, {given, stops}) {
     const count = countUpTo(given, view.step);
-    write(parts.more, 'given ' + counted(count, 'message'));
+    const left = countUpTo(stops, view.step) ? '; has left for good' : '';
+    write(parts.more, 'given ' + counted(count, 'message') + left);
     if (parts.count === count) return;
     parts.count = count;
     parts.list.replaceChildren();
@@ -423,6 +426,9 @@ function sharedWords() {
     box.append(cell(made('div'), 'stage', 'stage'), cell(made('div'), 'length', 'length'));
     for (let s = 0; shape.cyclic && s < shape.senders; s += 1) {
         box.append(cell(made('div'), 'presence ' + s, 'presence of S' + s));
+    }
+    for (let r = 0; shape.ring && r < shape.receivers; r += 1) {
+        box.append(cell(made('div'), 'passed ' + r, 'passed by R' + r));
     }
 }
 
@@ -533,8 +539,10 @@ function drawWord(index) {
     digits.append(made('span', 'faint', index));
     digits.append(made('span', '', by ? inHex(value) : 'not stored yet'));
     if (by) digits.append(badge(rowAt(by).who));
-    node.append(digits, made('div', '', by ? saidWord(index, BigInt(value)) : ''));
-    const isOut = index < lengthNow();
+    const position = positionAt(page, index, view.step);
+    if (position > index) digits.append(made('span', 'faint', 'position ' + position));
+    node.append(digits, made('div', '', by ? saidWord(position, BigInt(value)) : ''));
+    const isOut = position >= 0 && position < lengthNow();
     node.classList.toggle('unpublished', !isOut);
     if (by && !isOut) node.lastChild.append(made('span', 'faint', ' (not published)'));
     const isNow = view.step > 0 && rowAt(view.step).word === 'log ' + index;
@@ -548,25 +556,36 @@ function lengthNow() {
     return word ? +valueAt(page, word, view.step) : 0;
 }
 
-function saidWord(index, value) {
-    const role = roleOf(page, index);
+function saidWord(position, value) {
+    const role = roleOf(page, position);
     const head = role.is === 'head' && headOf(value);
     if (head) {
         return 'head, tenure ' + head.tenure + ', sender ' + head.owner + ', ' +
             counted(head.count, 'word');
     }
     const message = role.is === 'message' && messageOf(value);
-    if (message) return saidMessage(index, role.owner, message);
+    if (message) return saidMessage(position, role.owner, message);
     if (role.is === 'bytes') return 'bytes of that message';
     if (role.is === 'leave') return 'sender ' + role.owner + ' has left';
     return role.is === 'end' ? 'end of the order' : 'no word of a frame';
 }
 
-function saidMessage(index, owner, message) {
-    const bytes = bytesAt(page, index, view.step);
+function saidMessage(position, owner, message) {
+    const bytes = bytesAt(page, position, view.step);
     const digits = bytes && bytes.map((byte) => byte.toString(16).padStart(2, '0')).join('');
     return 'message ' + message.number + ' of sender ' + owner + ', ' +
         (bytes ? saidBytes(digits || '-') : counted(message.bytes, 'byte'));
+}
+
+// The cell of the last word that is published, or the first one.
+function lastCell() {
+    return Math.max(0, lengthNow() - 1) % (page.shape ? page.shape.log : 1);
+}
+
+function logTitle(length) {
+    const title = page.log.length ? 'Log, ' + counted(length, 'word') + ' published' : 'Log';
+    const isRing = page.shape && page.shape.ring;
+    return title + (isRing ? ': position p lives in cell p mod ' + page.shape.log : '');
 }
 
 function logList() {
@@ -581,10 +600,9 @@ function logList() {
             const now = view.step ? placeOf(rowAt(view.step).word) : {};
             const state = countUpTo(page.logStores, view.step);
             if (now.is === 'log') list.reveal(now.at);
-            else if (list.length !== lengthNow()) list.reveal(Math.max(0, lengthNow() - 1));
+            else if (list.length !== lengthNow()) list.reveal(lastCell());
             list.length = lengthNow();
-            write(at('log-title'), page.log.length ?
-                'Log, ' + counted(list.length, 'word') + ' published' : 'Log');
+            write(at('log-title'), logTitle(list.length));
             if (list.state !== state || now.is === 'log' || list.wasNow) list.show(true);
             else list.show();
             list.state = state;

@@ -1,6 +1,7 @@
 -- What a sender accepts between its turns keeps what senders, words, page and owners keep: said of
 -- words and senders by number.
-use Rattle.std.proofs.Common.{◌+◌, ◌*◌, ◌≡◌, ℕ, suc, ◌<◌, ◌≤◌, ◌^◌, Bool, true, false, cond, ◌&&◌}
+use Rattle.std.proofs.Common.{◌+◌, ◌*◌, ◌≡◌, ℕ, zero, suc, ◌<◌, ◌≤◌, ◌^◌, Bool, true, false, cond}
+use Rattle.std.proofs.Common.{◌&&◌}
 use Rattle.std.proofs.Common.{◌==◌, nat_lt, nat_le, Option, Some, List, [], ◌∷◌, ◌++◌, length}
 use Rattle.std.proofs.Common.{filter, arith, refl, sym, ◌∙◌, ap, subst}
 use Rattle.std.specs.Prelude.{All}
@@ -23,13 +24,14 @@ use Rattle.bus_tenure.specs.declared.pages.Page.{Page}
 use Rattle.bus_tenure.specs.declared.phases.Phase.{Phase as SenderPhase}
 use Rattle.bus_tenure.specs.declared.phases.Phase.TheVariants as phase
 use Rattle.bus_ownerbits.specs.OneOwner.{OneOwner}
-use Rattle.bus_world.specs.Log.{sent_count}
+use Rattle.bus_world.specs.Log.{first_numbers, next_number, sent_count}
+use Rattle.bus_world.specs.declared.limits.TheConstants.{FIRST_NUMBERS, FIRST_RING_NUMBERS}
 use Rattle.bus_world.proofs.LogLaws.{length-logged, log_words-append}
 use Rattle.bus_world.specs.World.{IsLayout}
 use Rattle.bus_world.specs.Proved.Sending.{Part, Fits, Sending}
 use Rattle.bus_world.proofs.BusLaws as bus
 use Rattle.bus_world.proofs.Framing.{front_lawful}
-use Rattle.bus_world.proofs.Bounds.{items_few}
+use Rattle.bus_world.proofs.Bounds.{items_few, items_low}
 use Rattle.bus_world.specs.Proved.Machines.{is_open, can_put, can_close, put_in, mark_in}
 use Rattle.bus_world.proofs.TurningLaws.{open_apart}
 
@@ -62,11 +64,18 @@ filter_short : (p : Item → Bool) (xs : List Item) → length (filter p xs) ≤
 filter_short p [] = omega arith
 filter_short p (x ∷ xs) = shorter (p x) x (filter p xs) (length xs) (filter_short p xs)
 
-pub sent_short : (senders s : ℕ) (frames : List Frame) → AreFrames senders frames
+sent_short : (senders s : ℕ) (frames : List Frame) → AreFrames senders frames
     → 17 * sent_count s frames ≤ 16 * length (log_words frames)
 sent_short senders s frames lawful =
     let a = filter_short (λ i. i.sender.0 == s) (items_in (order_of frames).entries) in
     let b = items_few senders frames lawful in omega arith
+
+-- and no more than sixteen in each tenure
+sent_low : (senders s : ℕ) (frames : List Frame) → AreFrames senders frames
+    → sent_count s frames ≤ 2 ^ 44
+sent_low senders s frames lawful =
+    let a = filter_short (λ i. i.sender.0 == s) (items_in (order_of frames).entries) in
+    let b = items_low senders frames lawful in omega arith
 
 -- ---- tests
 pub open_is : (ph : Phase) → is_open ph ≡ true → ph ≡ Open
@@ -104,40 +113,65 @@ module _ {E : Type 0} (X : Election E) (P : Protocol E (Unit {0}) ℕ)
     own : Part base x words frames p c
     own = h.parts p c old
 
-    -- its numbers stay far below their range
-    first_below : (ph : SenderPhase E) → Fits base words frames c ph
-        → 17 * c.queue.first ≤ 17 * base c.me + 16 * length (log_words frames)
-    first_below phase.Resting f =
-        let short = sent_short x.senders c.me frames h.log.lawful in
-        let first = f.1.0 in omega arith
-    first_below (phase.Electing t u) f =
-        let short = sent_short x.senders c.me frames h.log.lawful in
-        let first = f.1.0 in omega arith
-    first_below (phase.Taken t) f = absurd f
-    first_below (phase.Holding t page stored true) f =
+    -- the frames behind which its messages go on, of which there are no more words
+    record GoesBehind : Type 0 where
+      front : List Frame
+      lawful : AreFrames x.senders front
+      fewer : length (log_words front) ≤ length (log_words frames)
+      first : c.queue.first ≡ next_number base c.me front
+
+    behind_all : c.queue.first ≡ next_number base c.me frames → GoesBehind
+    behind_all e =
+        record { front = frames; lawful = h.log.lawful; fewer = omega arith; first = e }
+
+    goes_behind : (ph : SenderPhase E) → Fits base words frames c ph → GoesBehind
+    goes_behind phase.Resting f = behind_all f.1.0
+    goes_behind (phase.Electing t u) f = behind_all f.1.0
+    goes_behind (phase.Taken t) f = absurd f
+    goes_behind (phase.Holding t page stored true) f =
         let written = f.1 in
-        let short = sent_short x.senders c.me written.front
-        (front_lawful x.senders 0 written.front (frame_of c.queue t)
-        (subst (AreFrames x.senders) written.frames_are h.log.lawful)).0 in
-        let first = written.goes_on.0 in
         let more =
         ap length
         (ap log_words written.frames_are ∙ log_words-append written.front (frame_of c.queue t))
         ∙ length-append (log_words written.front) (frame_words (frame_of c.queue t)) in
-        omega arith
-    first_below (phase.Holding t page stored false) f =
-        let short = sent_short x.senders c.me frames h.log.lawful in
-        let first = f.1.goes_on.0 in omega arith
-    first_below (phase.Giving t reason) f = absurd f
+        record {
+          front = written.front;
+          lawful = (front_lawful x.senders 0 written.front (frame_of c.queue t)
+              (subst (AreFrames x.senders) written.frames_are h.log.lawful)).0;
+          fewer = omega arith;
+          first = written.goes_on.0;
+        }
+    goes_behind (phase.Holding t page stored false) f = behind_all f.1.goes_on.0
+    goes_behind (phase.Giving t reason) f = absurd f
+
+    -- its numbers stay below their range, also those of a whole batch more
+    pub first_fits : c.queue.first + 16 < 2 ^ 48
+    first_fits = by x.passers refl
+      where
+        its : GoesBehind
+        its = goes_behind c.phase own.fits
+
+        base_low : (n : ℕ) → x.passers ≡ n → base c.me < first_numbers n
+        base_low n e = subst (λ k. base c.me < first_numbers k) e (h.log.low c.me)
+
+        by : (n : ℕ) → x.passers ≡ n → c.queue.first + 16 < 2 ^ 48
+        by zero flat =
+            let low : base c.me < FIRST_NUMBERS = base_low zero flat in
+            let short = sent_short x.senders c.me its.front its.lawful in
+            let fewer = its.fewer in
+            let first = its.first in
+            let cap = ok.capacity in
+            let within = h.log.fits flat in
+            let size = length-logged h.log in
+            omega arith
+        by (suc n) ring =
+            let low : base c.me < FIRST_RING_NUMBERS = base_low (suc n) ring in
+            let short = sent_low x.senders c.me its.front its.lawful in
+            let first = its.first in
+            omega arith
 
     pub numbers_fit : next_of c.queue < 2 ^ 48
-    numbers_fit =
-        let few = own.queue.few in
-        let low = h.log.low c.me in
-        let first = first_below c.phase own.fits in
-        let cap = ok.capacity in let within = h.log.fits in
-        let size = length-logged h.log in
-        omega arith
+    numbers_fit = let few = own.queue.few in let first = first_fits in omega arith
 
     module _ (senders' : ℕ → Option (Core E)) (beside : Beside p senders senders') where
       unchanged : senders' p ≡ Some c → Sending base P x words home senders' owners frames

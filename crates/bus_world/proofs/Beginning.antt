@@ -13,10 +13,11 @@ use Rattle.bus_register.specs.Proved.TableLaws.{some_of}
 use Rattle.bus_register.specs.Protocol.{Protocol, Laws}
 use Rattle.bus_batch.specs.Messages.{IsMessage}
 use Rattle.bus_ownerbits.specs.OneOwner.{OneOwner}
-use Rattle.bus_tenure.specs.Core.{Core, Election, Layout, log_at, words_of}
+use Rattle.bus_tenure.specs.Core.{Core, Election, Layout, words_of}
 use Rattle.bus_world.specs.World.{IsLayout, AreBases, no_bases, first_page}
 use Rattle.bus_world.specs.Proved.Sending.{Part, Sending, standing_of, stands_at, least_of, Logged}
-use Rattle.bus_world.specs.Log.{Knows}
+use Rattle.bus_world.specs.Log.{first_numbers, KeepsFloor, Knows}
+use Rattle.bus_world.specs.declared.limits.TheConstants.{FIRST_RING_NUMBERS}
 use Rattle.bus_world.specs.Proved.Tenures.{Standing}
 use Rattle.bus_world.specs.Proved.Tenures.Standing.{Rests}
 use Rattle.bus_world.specs.Proved.Machines.{Bus, IsNew, new_core}
@@ -39,9 +40,25 @@ no_bases_are = record {
   low = λ s. let z = zeros MOST_SENDERS s in omega arith;
 }
 
+-- where no word of the log is used again
+pub flat_low : (x : Layout) (bases : List ℕ) → x.passers ≡ 0 → AreBases bases → (s : ℕ)
+    → slice_index bases s < first_numbers x.passers
+flat_low x bases flat are s =
+    subst (λ n. slice_index bases s < first_numbers n) (sym flat) (are.low s)
+
+-- and where words of the log are used again, by the lower limit
+pub bases_low : (x : Layout) (bases : List ℕ) → AreBases bases
+    → (0 < x.passers → (s : ℕ) → slice_index bases s < FIRST_RING_NUMBERS)
+    → (s : ℕ) → slice_index bases s < first_numbers x.passers
+bases_low x bases are ring s = by x.passers refl
+  where
+    by : (n : ℕ) → x.passers ≡ n → slice_index bases s < first_numbers n
+    by zero flat = are.low s
+    by (suc n) some = ring (omega arith) s
+
 module _ {E : Type 0} (X : Election E) (P : Protocol E (Unit {0}) ℕ)
     (laws : Laws X.op X.fed P OneOwner) (x : Layout) (ok : IsLayout x) (bases : List ℕ)
-    (are : AreBases bases)
+    (are : AreBases bases) (low : (s : ℕ) → slice_index bases s < first_numbers x.passers)
     (words : ℕ → ℕ) (zero_at : (r : ℕ) → words r ≡ 0) (senders : ℕ → Option (Core E))
     (new : (p : ℕ) (c : Core E) → senders p ≡ Some c
     → (p < x.senders) × (c ≡ new_core x (slice_index bases p) p)) where
@@ -86,7 +103,7 @@ module _ {E : Type 0} (X : Election E) (P : Protocol E (Unit {0}) ℕ)
     ended = refl;
     tenures = refl;
     words = refl;
-    floor = refl;
+    floor = omega arith;
   }
 
   pub new_sending : Sending (slice_index bases) P x words (Some (first_page bases)) senders [] []
@@ -97,14 +114,13 @@ module _ {E : Type 0} (X : Election E) (P : Protocol E (Unit {0}) ℕ)
         (λ q. of_some standing_of (senders q)) (λ r a d. zero_at r) new_standing)
         words (words 1) true (λ q. of_some standing_of (senders q)) (λ q. least_of (senders q)) []
         (λ r a d. refl) (zero_at 1) refl (λ q. refl) (λ q. new_least q (senders q) refl) refl;
-    log = subst (λ z. Logged (slice_index bases) x.senders x.capacity (log_at x) words z [])
-        (sym (zero_at 0)) record {
-          lawful = tt;
-          words_are = refl;
-          fits = omega arith;
-          low = are.low;
-          counted = λ s. tt;
-        };
+    log = subst (λ z. Logged (slice_index bases) x words z []) (sym (zero_at 0)) record {
+      lawful = tt;
+      words_are = refl;
+      fits = λ flat. omega arith;
+      low = low;
+      counted = λ s. tt;
+    };
     owned = tt;
     page_knows = λ page t e d.
         let page_is : first_page bases ≡ page = same_Some _ _ e in
@@ -115,6 +131,7 @@ module _ {E : Type 0} (X : Election E) (P : Protocol E (Unit {0}) ℕ)
               new_knows)),
           tt,
         );
+    flat_home = λ flat page e. subst KeepsFloor (same_Some _ _ e) refl;
     parts = new_part;
     chosen = λ p c t e o f g out.
         absurd (bus.resting_apart t e (sym (ap (λ (z : Core E). z.phase) (new p c f).1) ∙ g));

@@ -1,13 +1,15 @@
 -- How many items a log can have: a frame has a head and at most 16 messages, each of one word or
--- more.
-use Rattle.std.proofs.Common.{◌≡◌, ℕ, ◌+◌, ◌*◌, ◌≤◌, List, [], ◌∷◌, length, map, flat_map, arith}
-use Rattle.std.proofs.Common.{sym, subst}
+-- more. And how many words: it is of a tenure of its own, of which there are 2^40.
+use Rattle.std.proofs.Common.{◌≡◌, ℕ, ◌+◌, ◌*◌, ◌^◌, ◌<◌, ◌≤◌, List, [], ◌∷◌, length, map, flat_map}
+use Rattle.std.proofs.Common.{arith, sym, subst}
 use Rattle.std.proofs.lemmas.List.{length-append}
+use Rattle.bus_register.specs.declared.limits.TheConstants.{TENURES}
 use Rattle.bus_register.specs.declared.registers.SenderNo.{SenderNo}
 use Rattle.bus_batch.specs.Messages.{Numbered}
 use Rattle.bus_batch.specs.Frames.{Frame, Body, Messages, Marked, IsBody, AreFrames, AreFramesFrom}
 use Rattle.bus_batch.specs.Frames.{order_of, items_in, items_of, body_items, item_of, log_words}
 use Rattle.bus_batch.specs.Frames.{frame_words, body_words, message_words}
+use Rattle.bus_batch.proofs.Heads.{body_most}
 use Rattle.bus_batch.proofs.PieceLaws.{entries_are_items}
 
 items_short : (owner : SenderNo) (ms : List Numbered)
@@ -40,3 +42,45 @@ pub items_few : (senders : ℕ) (frames : List Frame) → AreFrames senders fram
     → 17 * length (items_in (order_of frames).entries) ≤ 16 * length (log_words frames)
 items_few senders frames lawful = subst (λ z. 17 * length z ≤ 16 * length (log_words frames))
     (sym (entries_are_items frames)) (few_from senders 0 frames lawful)
+
+-- ---- by tenures
+frames_few : (senders least : ℕ) (frames : List Frame) → least ≤ TENURES
+    → AreFramesFrom senders least frames → least + length frames ≤ TENURES
+frames_few senders least [] low lawful = omega arith
+frames_few senders least (f ∷ frames) low lawful =
+    let below = lawful.0.tenure in
+    let above = lawful.1 in
+    let more = frames_few senders (f.tenure + 1) frames (omega arith) lawful.3 in omega arith
+
+items_from : (senders least : ℕ) (frames : List Frame) → AreFramesFrom senders least frames
+    → length (flat_map items_of frames) ≤ 16 * length frames
+items_from senders least [] lawful = omega arith
+items_from senders least (f ∷ frames) lawful =
+    let a = length-append (items_of f) (flat_map items_of frames) in
+    let b = body_many f.owner f.body lawful.0.body in
+    let e = items_from senders (f.tenure + 1) frames lawful.3 in omega arith
+  where
+    body_many : (owner : SenderNo) (b : Body) → IsBody b → length (body_items owner b) ≤ 16
+    body_many owner (Messages ms) is =
+        let many = items_many owner ms in let few = is.1 in omega arith
+    body_many owner (Marked m) is = omega arith
+
+words_from : (senders least : ℕ) (frames : List Frame) → AreFramesFrom senders least frames
+    → length (log_words frames) ≤ 129 * length frames
+words_from senders least [] lawful = omega arith
+words_from senders least (f ∷ frames) lawful =
+    let a = length-append (frame_words f) (log_words frames) in
+    let b = body_most f.body lawful.0.body in
+    let e = words_from senders (f.tenure + 1) frames lawful.3 in omega arith
+
+pub items_low : (senders : ℕ) (frames : List Frame) → AreFrames senders frames
+    → length (items_in (order_of frames).entries) ≤ 2 ^ 44
+items_low senders frames lawful = subst (λ z. length z ≤ 2 ^ 44) (sym (entries_are_items frames))
+    (let a = frames_few senders 0 frames (omega arith) lawful in
+    let b = items_from senders 0 frames lawful in omega arith)
+
+pub words_low : (senders : ℕ) (frames : List Frame) → AreFrames senders frames
+    → length (log_words frames) < 2 ^ 48
+words_low senders frames lawful =
+    let a = frames_few senders 0 frames (omega arith) lawful in
+    let b = words_from senders 0 frames lawful in omega arith

@@ -6,14 +6,14 @@ use Rattle.std.proofs.lemmas.Bool.{cases_eq, true≢false}
 use Rattle.std.proofs.lemmas.Option.{same_Some}
 use Rattle.bus_register.specs.declared.registers.Op.{Op}
 use Rattle.bus_register.specs.Words.{register, after}
-use Rattle.bus_register.specs.Tables.{of_some, Beside, Agree, Stepped, put}
+use Rattle.bus_register.specs.Tables.{of_some, Beside, Stepped, put}
 use Rattle.bus_register.specs.Protocol.{Protocol, Laws}
 use Rattle.bus_batch.specs.Frames.{Frame}
 use Rattle.bus_tenure.specs.Core.{Core, Election, Layout, log_at}
 use Rattle.bus_tenure.specs.Situations.{core_at_rest}
 use Rattle.bus_tenure.specs.declared.pages.Page.{Page}
 use Rattle.bus_tenure.specs.declared.phases.Phase.TheVariants as phase
-use Rattle.bus_world.specs.Log.{Knows}
+use Rattle.bus_world.specs.Log.{AgreeFrom, Knows}
 use Rattle.bus_world.specs.Proved.Sending.{AreEarlier, Logged, stands_at, standing_of, least_of}
 use Rattle.bus_world.specs.Proved.Sending.{IsWriting, HasBegun, Fits, Part, Sending}
 use Rattle.bus_register.specs.Proved.TableLaws.{put_here, put_beside, some_or_none}
@@ -155,7 +155,7 @@ module _ {E : Type 0} (X : Election E) (P : Protocol E (Unit {0}) ℕ)
           d (λ u f. ne (sym (one_holder p q t u holds (stand q d e ∙ ap Some f)))) (same q ne)
           (h.parts q d e)
 
-      others_agree : (words' : ℕ → ℕ) → Agree (log_at x) x.capacity words words'
+      others_agree : (words' : ℕ → ℕ) → AgreeFrom (log_at x) words words'
           → words' 0 ≡ words 0 → (q : ℕ) (d : Core E) → q ≢ p → senders q ≡ Some d
           → Part base x words' frames q d
       others_agree words' agree len q d ne e =
@@ -182,7 +182,7 @@ module _ {E : Type 0} (X : Election E) (P : Protocol E (Unit {0}) ℕ)
         pub others_rest : (t : ℕ) (words' : ℕ → ℕ) (frames' : List Frame) → S p ≡ Some (Holds t)
             → ((q : ℕ) → q ≢ p → SaySame base q frames frames') → (q : ℕ) (d : Core E) → q ≢ p
             → senders q ≡ Some d → Part base x words' frames' q d
-        pub others_agree : (words' : ℕ → ℕ) → Agree (log_at x) x.capacity words words'
+        pub others_agree : (words' : ℕ → ℕ) → AgreeFrom (log_at x) words words'
             → words' 0 ≡ words 0 → (q : ℕ) (d : Core E) → q ≢ p → senders q ≡ Some d
             → Part base x words' frames q d
 
@@ -216,6 +216,7 @@ module _ {E : Type 0} (X : Election E) (P : Protocol E (Unit {0}) ℕ)
         log = h.log;
         owned = h.owned;
         page_knows = h.page_knows;
+        flat_home = h.flat_home;
         parts = parts_from words frames (λ q d ne e. h.parts q d e) part;
         chosen = chosen_resting rests;
       }
@@ -239,6 +240,7 @@ module _ {E : Type 0} (X : Election E) (P : Protocol E (Unit {0}) ℕ)
         log = h.log;
         owned = h.owned;
         page_knows = h.page_knows;
+        flat_home = h.flat_home;
         parts = parts_from words frames (λ q d ne e. h.parts q d e) part;
         chosen = chosen_from (λ u e o a b. absurd (
             let e_is =
@@ -278,14 +280,12 @@ module _ {E : Type 0} (X : Election E) (P : Protocol E (Unit {0}) ℕ)
         stepped : Stepped 2 (x.rows * P.width x.senders) o words words'
         stepped = record { here = step.here; elsewhere = λ r a b ne. step.elsewhere r ne }
 
-        log_agrees : Agree (log_at x) x.capacity words words'
-        log_agrees r a b = outside r (inr a)
+        log_agrees : AgreeFrom (log_at x) words words'
+        log_agrees r a = outside r (inr a)
 
-        row_log : Logged base x.senders x.capacity (log_at x) words' (words' 0) frames
-        row_log = subst (λ z. Logged base x.senders x.capacity (log_at x) words' z frames)
-            (sym (outside 0 (inl (omega arith)))) (Logged-agree x.senders x.capacity (log_at x)
-            words (words 0) frames h.log words'
-            (λ r a b. log_agrees r a (let z = h.log.fits in omega arith)))
+        row_log : Logged base x words' (words' 0) frames
+        row_log = subst (λ z. Logged base x words' z frames) (sym (outside 0 (inl (omega arith))))
+            (Logged-agree x words (words 0) frames h.log words' (λ r a b. log_agrees r a))
 
         knows_row : (page : Page) (u : ℕ) → home ≡ Some page → words' 1 ≡ 2 * u
             → Knows base page frames u (words' 0) × AreEarlier u frames
@@ -308,6 +308,7 @@ module _ {E : Type 0} (X : Election E) (P : Protocol E (Unit {0}) ℕ)
           log = row_log;
           owned = h.owned;
           page_knows = knows_row;
+          flat_home = h.flat_home;
           parts = parts_from words' frames
               (others_agree words' log_agrees (outside 0 (inl (omega arith)))) part;
           chosen = chosen_from
@@ -337,6 +338,7 @@ module _ {E : Type 0} (X : Election E) (P : Protocol E (Unit {0}) ℕ)
               log = row_log;
               owned = h.owned;
               page_knows = knows_row;
+              flat_home = h.flat_home;
               parts = parts_from words' frames
                   (others_agree words' log_agrees (outside 0 (inl (omega arith)))) part;
               chosen = chosen_resting rests;
@@ -372,6 +374,9 @@ module _ {E : Type 0} (X : Election E) (P : Protocol E (Unit {0}) ℕ)
                     Knows-len page frames t (words 0) (words' 0) (elsewhere 0 (omega arith)) k.0;
                 earlier = k.1;
                 stored_below = omega arith;
+                flat = λ flat.
+                    h.flat_home (sym (ap (λ (z : Layout). z.passers) part.layout) ∙ flat) page
+                    at_home;
                 allowed = λ z. absurd (omega arith);
                 words_are = refl;
               },
@@ -392,13 +397,13 @@ module _ {E : Type 0} (X : Election E) (P : Protocol E (Unit {0}) ℕ)
               S-beside)
               words' (words' 1) false S' L' (owners ++ p ∷ []) (λ r a b. stage_past r a) stage refl
               (λ q. refl) (L-same (ap (λ z. z.least) goes)) refl;
-          log = subst (λ z. Logged base x.senders x.capacity (log_at x) words' z frames)
-              (sym (elsewhere 0 (omega arith))) (Logged-agree x.senders x.capacity (log_at x) words
-              (words 0) frames h.log words' (λ r a b. log_past r a));
+          log = subst (λ z. Logged base x words' z frames) (sym (elsewhere 0 (omega arith)))
+              (Logged-agree x words (words 0) frames h.log words' (λ r a b. log_past r a));
           owned = AreOwned-push owners p frames h.owned;
           page_knows = λ g u a b. absurd cc;
+          flat_home = λ flat g a. absurd cc;
           parts = parts_from words' frames
-              (others_agree words' (λ r a b. log_past r a) (elsewhere 0 (omega arith)))
+              (others_agree words' log_past (elsewhere 0 (omega arith)))
               (subst (Part base x words' frames p) (sym goes)
               (part_of x words words' frames frames p c (phase.Holding t page 0 false) part
               fits_then));

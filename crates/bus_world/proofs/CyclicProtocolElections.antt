@@ -45,10 +45,13 @@ use Rattle.bus_world.proofs.Waiting.{waiting_at}
 use Rattle.bus_world.proofs.Asking.{turn_waiting}
 use Rattle.bus_world.proofs.PutLaws.{elected_waits, laid_waits}
 use Rattle.bus_world.proofs.CyclicProtocolNotes.{steps_put_nothing}
-use Rattle.bus_world.proofs.CyclicProtocolWords.{put_is}
+use Rattle.bus_world.proofs.CyclicProtocolWords.{put_is, behind_rows}
 use Rattle.bus_world.proofs.RingWords.{laid_worked, laid_taken}
+use Rattle.bus_world.specs.Proved.Floors.{passed_place}
+use Rattle.bus_world.proofs.FloorLaws.{floors_begun}
 use Rattle.bus_world.proofs.CyclicProtocolKept as kept
-use Rattle.bus_world.proofs.CyclicProtocolKept.{stored_is, resting_no_holding, pinned_is}
+use Rattle.bus_world.proofs.CyclicProtocolKept.{stored_is, held_page_is, resting_no_holding}
+use Rattle.bus_world.proofs.CyclicProtocolKept.{pinned_is}
 
 electing_no_holding : {E : Type 0} (t : ℕ) (e : E) (u : ℕ) (page : Page) (k : ℕ) (b : Bool)
     → phase.Electing t e ≡ phase.Holding u page k b → ⊥
@@ -119,6 +122,8 @@ module _ {E : Type 0} (X : Election E) (P : Protocol E (Unit {0}) ℕ)
           participant,
           reclamation_keeps,
           stored_put,
+          floors_same,
+          length_low,
           participants_on,
           noted_as,
           changes_put,
@@ -234,6 +239,11 @@ module _ {E : Type 0} (X : Election E) (P : Protocol E (Unit {0}) ℕ)
                   sending = sending';
                   log_is = k.log_is;
                   W = k.W;
+                  floor = k.floor;
+                  floors = floors_same (put (row_of z t + far) n y.reclamation.words) V'
+                      (put_beside (row_at x t + far) n V 0 (λ i. omega arith))
+                      (λ r l. put_beside (row_of z t + far) n y.reclamation.words
+                      (passed_place x rows r) (behind_rows x rows two t far r low));
                   stored = stored_put V' (put_beside (row_at x t + far) n V 0 (λ i. omega arith)) c'
                       (λ u page stored b i.
                       absurd (elected_holds c t later (X.owner later) u page stored b i));
@@ -360,6 +370,8 @@ module _ {E : Type 0} (X : Election E) (P : Protocol E (Unit {0}) ℕ)
             frames k.sending p c old word t e elects u own in
             let held : taker ≡ record c { phase = phase.Holding t page.0 0 false } =
             ap (core_with_page (record c { phase = phase.Taken t }) t) page.1 in
+            let same_first : put 1 (2 * t + 1) V 0 ≡ V 0 =
+            put_beside 1 (2 * t + 1) V 0 (λ i. omega arith) in
             record {
               V = put 1 (2 * t + 1) V;
               frames = frames;
@@ -387,6 +399,13 @@ module _ {E : Type 0} (X : Election E) (P : Protocol E (Unit {0}) ℕ)
                     (λ m. turn_waiting X c m (TakesPage t) y.home (y.reclamation.words 1) word);
                 log_is = k.log_is;
                 W = k.W;
+                floor = k.floor;
+                floors = floors_begun x rows (put 1 (2 * t + 1) y.reclamation.words) y.passing
+                    y.receivers frames (put 1 (2 * t + 1) V 0) k.floor
+                    (floors_same (put 1 (2 * t + 1) y.reclamation.words) (put 1 (2 * t + 1) V)
+                    same_first (λ r l. put_beside 1 (2 * t + 1) y.reclamation.words
+                    (passed_place x rows r) (λ i. omega arith)))
+                    (let a = length_low in let b = same_first in omega arith);
                 stored = record {
                   few = k.stored.few;
                   low = subst (λ n. n ≤ k.W) (sym (put_beside 1 (2 * t + 1) V 0 (λ i. omega arith)))
@@ -422,6 +441,21 @@ module _ {E : Type 0} (X : Election E) (P : Protocol E (Unit {0}) ℕ)
                         k.stored.written q v pg st d
                         (sym (put_beside p (Some taker) y.senders q ne) ∙ at) is
                         ∙ sym (put_beside 1 (2 * t + 1) V 0 (λ i. omega arith))
+                  ];
+                  floor_home = λ pg there. absurd cc;
+                  floor_held = λ q v pg st b d at is. elim (cases_eq q p) [
+                    | inl i ↦
+                        let own_phase : phase.Holding t page.0 0 false
+                        ≡ phase.Holding v pg st b =
+                        sym (ap (λ (w : Core E). w.phase) held)
+                        ∙ ap (λ (w : Core E). w.phase)
+                        (same_Some _ _ (sym (put_here p (Some taker) y.senders)
+                        ∙ ap (put p (Some taker) y.senders) (sym i) ∙ at)) ∙ is in
+                        ap (λ (w : Page). w.floor)
+                        (sym (held_page_is t page.0 0 false v pg st b own_phase))
+                        ∙ k.stored.floor_home page.0 page.1
+                    | inr ne ↦ k.stored.floor_held q v pg st b d
+                        (sym (put_beside p (Some taker) y.senders q ne) ∙ at) is
                   ];
                 };
                 laid = laid_taken x rows y.reclamation T reclamation_keeps

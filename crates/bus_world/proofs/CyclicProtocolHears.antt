@@ -1,6 +1,6 @@
 -- Receivers of a bus whose rows are used again are as those of one that has a row for each tenure,
 -- whose log lies elsewhere.
-use Rattle.std.proofs.Common.{◌≡◌, ℕ, ◌+◌, ◌%◌, ◌<◌, true, false, cond, Option, Some, None, inl}
+use Rattle.std.proofs.Common.{◌≡◌, ℕ, ◌+◌, ◌%◌, ◌<◌, cond, Option, Some, None, inl}
 use Rattle.std.proofs.Common.{inr, List, [], ◌∷◌, ◌++◌, length, take, slice_index, arith, refl, sym}
 use Rattle.std.proofs.Common.{◌∙◌, ap, subst}
 use Rattle.std.proofs.lemmas.Bool.{true≢false}
@@ -11,20 +11,21 @@ use Rattle.bus_register.specs.Tables.{put, of_some}
 use Rattle.bus_register.specs.Proved.TableLaws.{put_here, put_beside}
 use Rattle.bus_batch.specs.Frames.{Frame, log_words, frame_words, order_in, owners_in}
 use Rattle.bus_batch.specs.Reading.{HasRead}
-use Rattle.bus_deliverylog.specs.Receiving.{Receiving}
+use Rattle.bus_deliverylog.specs.Receiving.{Receiving, with_leave}
 use Rattle.bus_deliverylog.specs.declared.receiving.RecvTurn.{RecvTurn}
 use Rattle.bus_tenure.specs.Core.{Layout, log_at}
 use Rattle.bus_core.specs.Reusing.Participants.{log_from}
 use Rattle.bus_world.specs.Proved.Sending.{Logged}
-use Rattle.bus_world.specs.Proved.Receiving.{IsReceiver, IsFoundIn, NeverPasses}
+use Rattle.bus_world.specs.Proved.Receiving.{IsReceiver, IsFoundIn}
+use Rattle.bus_world.specs.Proved.Floors.{passed_of}
 use Rattle.bus_world.specs.Starting.{IsNewReceiver}
 use Rattle.bus_world.specs.World.{RecvDoes, recv_found}
 use Rattle.bus_world.specs.Trails.{answers_with, no_answers}
-use Rattle.bus_world.proofs.HearTrails.{IsTold, hears_later, hears_more}
+use Rattle.bus_world.proofs.HearTrails.{IsTold, hears_later, hears_more, hears_left}
 use Rattle.bus_world.proofs.LogLaws.{length-logged, log_words-append, index-read}
 use Rattle.bus_world.proofs.ReceivingLaws.{Receives-append}
 use Rattle.bus_world.proofs.Tying.{Hears}
-use Rattle.bus_world.proofs.WorldLaws.{reads_more, words_stay, never_more}
+use Rattle.bus_world.proofs.WorldLaws.{reads_more, words_stay, receiver_left}
 
 -- the receiver of a log that lies behind a row for each tenure
 abbrev pub placed : Layout → Receiving → Receiving
@@ -36,7 +37,6 @@ pub record HearsCyclic (x : Layout) (rows : ℕ) (frames : List Frame) (v : Rece
   pub log : v.log_at ≡ log_from x rows
   pub own : IsReceiver x frames (length (log_words frames)) (placed x v)
   pub hears : Hears frames (placed x v) trail
-  pub never : NeverPasses v
 
 -- as does each receiver; who is none was answered nothing
 pub record AllHear (x : Layout) (rows : ℕ) (receivers : ℕ → Option Receiving) (frames : List Frame)
@@ -45,9 +45,9 @@ pub record AllHear (x : Layout) (rows : ℕ) (receivers : ℕ → Option Receivi
   pub silent : (r : ℕ) → receivers r ≡ None → H r ≡ []
 
 -- ---- a receiver that has read nothing
-new_hears : (x : Layout) (rows : ℕ) (v : Receiving)
-    → IsNewReceiver x.senders (log_from x rows) x.capacity v → HearsCyclic x rows [] v []
-new_hears x rows v new = record {
+new_hears : (x : Layout) (rows : ℕ) (passed_at : Option ℕ) (v : Receiving)
+    → IsNewReceiver x.senders (log_from x rows) x.capacity passed_at v → HearsCyclic x rows [] v []
+new_hears x rows passed_at v new = record {
   log = new.log_is;
   own = record {
     senders = new.senders_are;
@@ -68,15 +68,14 @@ new_hears x rows v new = record {
     going = λ e. refl;
     silent = λ j k a at l here. absurd cc;
   };
-  never = record { never = new.never; unpassed = new.unpassed };
 }
 
 pub all_new : (x : Layout) (rows : ℕ) (receivers : ℕ → Option Receiving)
     → ((r : ℕ) (v : Receiving) → receivers r ≡ Some v
-    → IsNewReceiver x.senders (log_from x rows) x.capacity v)
+    → IsNewReceiver x.senders (log_from x rows) x.capacity (passed_of x rows r) v)
     → AllHear x rows receivers [] no_answers
 all_new x rows receivers new = record {
-  each = λ r v e. new_hears x rows v (new r v e);
+  each = λ r v e. new_hears x rows (passed_of x rows r) v (new r v e);
   silent = λ r e. refl;
 }
 
@@ -101,7 +100,6 @@ hears_after x rows frames f v trail h =
       };
       hears = hears_later frames (f ∷ []) (placed x v) trail
           (let a = o.receives.place_below in let b = o.receives.known_below in omega arith) h.hears;
-      never = h.never;
     }
 
 pub all_after : (x : Layout) (rows : ℕ) (receivers : ℕ → Option Receiving) (frames : List Frame)
@@ -126,7 +124,7 @@ hears_at frames v trail at h = record {
 
 -- words in whose log, which lies elsewhere, a place below the length has its word
 module _ {base : ℕ → ℕ} (x : Layout) (rows : ℕ) (frames : List Frame) (W V : ℕ → ℕ)
-    (log : Logged base x.senders x.capacity (log_at x) V (V 0) frames) (first : W 0 ≡ V 0)
+    (log : Logged base x V (V 0) frames) (first : W 0 ≡ V 0)
     (v : Receiving)
     (there : v.place < V 0
     → W (log_from x rows + v.place % x.capacity) ≡ V (log_at x + v.place))
@@ -174,7 +172,6 @@ module _ {base : ℕ → ℕ} (x : Layout) (rows : ℕ) (frames : List Frame) (W
             (hears_more x.senders frames (V 0) log.lawful (length-logged log) v own.senders
             own.receives trail (hears_at frames (placed x v) trail v.log_at h.hears) answer next W
             found_cyclic d);
-        never = never_more W v next answer d h.never;
       }
 
 -- a turn of receiver r
@@ -205,6 +202,39 @@ one_hears x rows frames receivers H h r v next answer at turns = record {
         ∙ h.silent q (sym (put_beside r (Some next) receivers q y.1) ∙ e)
   ];
 }
+
+-- ---- receiver r leaves for good
+left_hears : (x : Layout) (rows : ℕ) (frames : List Frame) (v : Receiving) (trail : List RecvTurn)
+    → HearsCyclic x rows frames v trail → HearsCyclic x rows frames (with_leave v) trail
+left_hears x rows frames v trail h = record {
+  log = h.log;
+  own = receiver_left x frames (length (log_words frames)) (placed x v) h.own;
+  hears = hears_left frames (placed x v) trail h.hears;
+}
+
+pub one_leaves : (x : Layout) (rows : ℕ) (frames : List Frame) (receivers : ℕ → Option Receiving)
+    (H : ℕ → List RecvTurn) → AllHear x rows receivers frames H
+    → (r : ℕ) (v : Receiving) → receivers r ≡ Some v
+    → AllHear x rows (put r (Some (with_leave v)) receivers) frames H
+one_leaves x rows frames receivers H h r v at = record {
+  each = λ q w e. elim (eqb_tells q r) [
+    | inl y ↦
+        let w_is : with_leave v ≡ w = same_Some _ _
+        (sym (ap left y.1 ∙ put_here r (Some (with_leave v)) receivers) ∙ e) in
+        subst (λ s. HearsCyclic x rows frames w (H s)) (sym y.1)
+        (subst (λ s. HearsCyclic x rows frames s (H r)) w_is
+        (left_hears x rows frames v (H r) (h.each r v at)))
+    | inr y ↦ h.each q w (sym (put_beside r (Some (with_leave v)) receivers q y.1) ∙ e)
+  ];
+  silent = λ q e. elim (eqb_tells q r) [
+    | inl y ↦ absurd (let bad : None ≡ Some (with_leave v) =
+        sym e ∙ ap left y.1 ∙ put_here r (Some (with_leave v)) receivers in
+        cc)
+    | inr y ↦ h.silent q (sym (put_beside r (Some (with_leave v)) receivers q y.1) ∙ e)
+  ];
+} where
+  left : ℕ → Option Receiving
+  left = put r (Some (with_leave v)) receivers
 
 -- ---- as it is told of each
 pub told_in : (x : Layout) (rows : ℕ) (receivers : ℕ → Option Receiving) (frames : List Frame)

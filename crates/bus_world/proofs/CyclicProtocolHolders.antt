@@ -3,7 +3,6 @@
 use Rattle.std.proofs.Common.{◌≡◌, ◌⊎◌, inl, inr, ℕ, ◌+◌, ◌-◌, ◌*◌, ◌%◌, ◌<◌, ◌≤◌, Bool, true}
 use Rattle.std.proofs.Common.{false, cond, nat_lt, nat_le, Option, Some, None, List, [], ◌∷◌, ◌++◌}
 use Rattle.std.proofs.Common.{is_some, slice_get, slice_index, arith, refl, sym, ◌∙◌, ap, subst}
-use Rattle.std.proofs.Math.Nat.{mod-eq_of_lt}
 use Rattle.std.proofs.lemmas.Bool.{cases_eq, cases_lt, ltb-false, true≢false, and_from, le-leb}
 use Rattle.std.proofs.lemmas.Option.{same_Some}
 use Rattle.bus_register.specs.declared.kinds.Kind.TheVariants as kind
@@ -26,9 +25,9 @@ use Rattle.bus_presence.specs.Reclamation.{Reached, Then}
 use Rattle.bus_presence.proofs.ReclamationKept.{lt_tells}
 use Rattle.bus_presence.proofs.ReclamationLaws.{safe}
 use Rattle.bus_tenure.specs.Core.{Core, Election, Layout, log_at, cell_of, frame_len, has_room}
-use Rattle.bus_tenure.proofs.Fitting.{word_straight}
+use Rattle.bus_tenure.proofs.Caused.{word_room}
 use Rattle.bus_tenure.specs.Situations.{Situation, StoresWord, StoresLength, GivesBack}
-use Rattle.bus_tenure.specs.Situations.{situation_of, situation_at, op_at, core_at_rest}
+use Rattle.bus_tenure.specs.Situations.{situation_of, situation_at, core_at_rest}
 use Rattle.bus_tenure.specs.declared.pages.Page.{Page}
 use Rattle.bus_tenure.specs.declared.phases.Reason.{Reason}
 use Rattle.bus_tenure.specs.declared.phases.Reason.TheVariants.{Sent, FoundEnd, NoRoom}
@@ -43,7 +42,6 @@ use Rattle.bus_world.specs.Proved.CyclicProtocols.{protocol_reclaimed, protocol_
 use Rattle.bus_world.specs.Trails.{actions_with}
 use Rattle.bus_world.proofs.BusLaws as bus
 use Rattle.bus_world.proofs.LogLaws.{log_words-append}
-use Rattle.bus_world.proofs.TurningLaws.{turn_within}
 use Rattle.bus_world.proofs.Waiting.{frames_after, waiting_at, waiting_of}
 use Rattle.bus_world.specs.Headline.{Action, Stepped, Asked}
 use Rattle.bus_world.proofs.Tying.{next_at, next_tenure}
@@ -55,7 +53,10 @@ use Rattle.bus_world.proofs.CyclicProtocolNotes.{noted_turn, steps_put_nothing, 
 use Rattle.bus_world.proofs.CyclicProtocolWords.{put_is, quiet_reclaimer}
 use Rattle.bus_world.proofs.RingWords.{Laid, laid_quiet, laid_logged, laid_told, laid_given}
 use Rattle.bus_world.proofs.CyclicProtocolKept as kept
-use Rattle.bus_world.proofs.CyclicProtocolKept.{stored_is, resting_no_holding}
+use Rattle.bus_world.proofs.CyclicProtocolKept.{stored_is, held_page_is, resting_no_holding}
+use Rattle.bus_world.proofs.FloorLaws.{floors_over, floors_later}
+use Rattle.bus_world.proofs.SenderParts.{floor_after}
+use Rattle.bus_world.specs.Proved.Floors.{passed_place}
 
 -- ---- what a holder's situation tells of its phase
 module _ {E : Type 0} (t : ℕ) (page : Page) (stored : ℕ) where
@@ -102,6 +103,14 @@ module _ {E : Type 0} (t : ℕ) (page : Page) (stored : ℕ) where
   sent_is : (reason : Reason)
       → ◌≡◌ {A = Situation E} (GivesBack t page Sent) (GivesBack t page reason) → Sent ≡ reason
   sent_is reason h = cc
+
+  -- who gives it back for want of room has published nothing
+  pub lacks_unpublished : (published ended room more : Bool)
+      → cond published (GivesBack t page Sent) (held_as ended room more)
+      ≡ GivesBack t page NoRoom → published ≡ false
+  lacks_unpublished true ended room more h =
+      absurd (let bad : Sent ≡ NoRoom = sent_is NoRoom h in cc)
+  lacks_unpublished false ended room more h = refl
 
   -- who gives the page back keeps what waits
   gives_waits : (c : Core E) (published ended room more : Bool)
@@ -152,7 +161,7 @@ module _ {E : Type 0} (X : Election E) (P : Protocol E (Unit {0}) ℕ)
   IsParticipant =
       kept.IsParticipant X P laws x ok width starts owner_is named announces apart rows two
 
-  abbrev AreStored : Option Page → (ℕ → Option (Core E)) → (ℕ → ℕ) → ℕ → Type 0
+  abbrev AreStored : Option Page → (ℕ → Option (Core E)) → (ℕ → ℕ) → ℕ → ℕ → Type 0
   AreStored = kept.AreStored X P laws x ok width starts owner_is named announces apart rows two
 
   abbrev Kept : (ℕ → List RecvTurn) → CyclicProtocol E → Trails → (ℕ → List Action) → List ℕ
@@ -172,6 +181,7 @@ module _ {E : Type 0} (X : Election E) (P : Protocol E (Unit {0}) ℕ)
           part,
           participant,
           reclamation_keeps,
+          floors_same,
           participants_on,
           tied,
           tied_put,
@@ -191,6 +201,7 @@ module _ {E : Type 0} (X : Election E) (P : Protocol E (Unit {0}) ℕ)
           words = words_after y.reclamation o;
           reclaimer = Some (reclaim_fed s (number_of_step y.reclamation o));
         } in
+        let quiet = quiet_reclaimer x rows two y.reclamation T reclamation_keeps s is o due in
         record {
           V = V;
           frames = frames;
@@ -201,9 +212,10 @@ module _ {E : Type 0} (X : Election E) (P : Protocol E (Unit {0}) ℕ)
             sending = k.sending;
             log_is = k.log_is;
             W = k.W;
+            floor = k.floor;
+            floors = floors_same reclamation'.words V refl quiet.passed;
             stored = k.stored;
-            laid = laid_quiet x rows y.reclamation reclamation' V k.W
-                (quiet_reclaimer x rows two y.reclamation T reclamation_keeps s is o due) k.laid;
+            laid = laid_quiet x rows y.reclamation reclamation' V k.W quiet k.laid;
             ties = tied V c y.senders (λ q ne. refl) old [] (λ q a b. refl) (omega arith)
                 (λ t e i. i) plain_none;
             notes = noted c y.senders (λ q ne. refl) old [] nothing_put refl (λ m i. i);
@@ -285,14 +297,51 @@ module _ {E : Type 0} (X : Election E) (P : Protocol E (Unit {0}) ℕ)
         stored_now unpublished = k.stored.writing p t page stored c old
             (holds ∙ ap (phase.Holding t page stored) unpublished)
 
+        -- what of this the file of its loads opens
+        pub record HolderFacts : Type 0 where
+          pub held_next : next_tenure c ≡ t + 1
+          pub pins_same : pins_on ≡ y.reclamation.pins
+          pub alone : (q u : ℕ) (pg : Page) (st : ℕ) (b : Bool) (d : Core E) → y.senders q ≡ Some d
+              → d.phase ≡ phase.Holding u pg st b → q ≡ p
+          pub not_home : is_some y.home ≡ true → ⊥
+          pub writing_now : published ≡ false
+              → IsWriting (slice_index y.bases) V frames c t page stored
+          pub holds_on : (c' : Core E) → ((u : ℕ) (e : E) → c'.phase ≡ phase.Electing u e → ⊥)
+              → IsParticipant (y.reclamation.pins p) c'
+
+        pub holder_facts : HolderFacts
+        holder_facts = record {
+          held_next = held_next;
+          pins_same = pins_same;
+          alone = alone;
+          not_home = not_home;
+          writing_now = writing_now;
+          holds_on = held_participant t page stored published holds;
+        }
+
+        -- its page has the floor that it had
+        held_on : (c' : Core E) (k' : ℕ) (b' : Bool) → c'.phase ≡ phase.Holding t page k' b'
+            → (q v : ℕ) (pg : Page) (st : ℕ) (b : Bool) (d : Core E)
+            → put p (Some c') y.senders q ≡ Some d → d.phase ≡ phase.Holding v pg st b
+            → pg.floor ≡ k.floor
+        held_on c' k' b' now q v pg st b d at is = elim (cases_eq q p) [
+          | inl i ↦
+              let own_phase : phase.Holding t page k' b' ≡ phase.Holding v pg st b =
+              sym now
+              ∙ ap (λ (w : Core E). w.phase) (same_Some _ _ (sym (put_here p (Some c') y.senders)
+              ∙ ap (put p (Some c') y.senders) (sym i) ∙ at)) ∙ is in
+              ap (λ (w : Page). w.floor) (sym (held_page_is t page k' b' v pg st b own_phase))
+              ∙ k.stored.floor_held p t page stored published c old holds
+          | inr ne ↦ k.stored.floor_held q v pg st b d
+              (sym (put_beside p (Some c') y.senders q ne) ∙ at) is
+        ]
+
         -- it stores a word of its frame
         module _ (unpublished : published ≡ false)
             (at : situation_of X c ≡ StoresWord t page stored) where
-          abbrev r : ℕ
-          r = log_at c.layout + cell_of c.layout (page.words + stored)
-
+          -- in a cell of the log, counted from its first
           abbrev spot : ℕ
-          spot = r - log_at x
+          spot = log_at c.layout + cell_of c.layout (page.words + stored) - log_at x
 
           abbrev number : ℕ
           number = slice_index (frame_words (frame_of c.queue t)) stored
@@ -303,37 +352,44 @@ module _ {E : Type 0} (X : Election E) (P : Protocol E (Unit {0}) ℕ)
           log_is : log_at c.layout ≡ log_at x
           log_is = ap log_at part.layout
 
-          spot_is : log_at x + spot ≡ r
-          spot_is = let l = log_is in omega arith
+          behind : (a b n : ℕ) → a ≡ b → n ≡ a + n - b
+          behind a b n e = omega arith
 
-          spot_low : spot < x.capacity
-          spot_low =
-              let a = spot_is in
-              let within = turn_within X P laws x ok width starts owner_is V y.home y.senders
-              y.owners frames k.sending p c old word V y.senders (λ q ne. refl)
-              (Store record { 0 = r } number) (ap (λ s. op_at X c s word) at) in
-              omega arith
-
-          spot_now : k.W ≡ spot
-          spot_now =
+          -- the next word is stored
+          next_is : k.W ≡ page.words + stored
+          next_is =
               let a = stored_now unpublished in
               let knows = (writing_now unpublished).page_knows in
               let b = knows.words in
-              let d = word_straight X c t page stored at knows.floor in
-              let l = log_is in omega arith
+              omega arith
 
           cell_is : k.W % x.capacity ≡ spot
           cell_is =
-              let few : k.W < x.capacity = (let a = spot_now in let b = spot_low in omega arith) in
-              mod-eq_of_lt few ∙ spot_now
+              ap (λ n. n % x.capacity) next_is
+              ∙ ap (λ (l : Layout). cell_of l (page.words + stored)) (sym part.layout)
+              ∙ behind (log_at c.layout) (log_at x) (cell_of c.layout (page.words + stored)) log_is
 
-          same_first : put (log_at x + spot) number V 0 ≡ V 0
-          same_first = put_beside (log_at x + spot) number V 0 (λ i. omega arith)
+          -- and there is room for it
+          few_now : k.W < x.capacity + k.floor
+          few_now =
+              let floor = k.stored.floor_held p t page stored published c old holds in
+              let room = word_room c t page stored published holds
+              (sym (ap (situation_at X c) holds) ∙ at) in
+              let fits = room.0 in let left = room.1 in
+              let a = next_is in
+              let b = ap (λ (l : Layout). l.capacity) part.layout in
+              omega arith
+
+          place_is : log_at c.layout + page.words + stored ≡ log_at x + k.W
+          place_is = let a = log_is in let b = next_is in omega arith
+
+          same_first : put (log_at x + k.W) number V 0 ≡ V 0
+          same_first = put_beside (log_at x + k.W) number V 0 (λ i. omega arith)
 
           stored_one : AreStored y.home (put p (Some writer) y.senders)
-              (put (log_at x + spot) number V) (k.W + 1)
+              (put (log_at x + k.W) number V) (k.W + 1) k.floor
           stored_one = record {
-            few = (let a = spot_low in let b = spot_now in omega arith);
+            few = (let a = few_now in omega arith);
             low = (let a = k.stored.low in let b = same_first in omega arith);
             home = λ there. absurd (not_home there);
             writing = λ q v pg st d at is. elim (cases_eq q p) [
@@ -362,6 +418,8 @@ module _ {E : Type 0} (X : Election E) (P : Protocol E (Unit {0}) ℕ)
                   (ne (alone q v pg st true d (sym (put_beside p (Some writer) y.senders q ne) ∙ at)
                   is))
             ];
+            floor_home = k.stored.floor_home;
+            floor_held = held_on writer (stored + 1) false refl;
           }
 
           pub stores_kept : HasKept H
@@ -369,7 +427,7 @@ module _ {E : Type 0} (X : Election E) (P : Protocol E (Unit {0}) ℕ)
               (actions_with p (going_actions X x rows y c (StoresWord t page stored) word answer) D)
               L
           stores_kept = record {
-            V = put (log_at x + spot) number V;
+            V = put (log_at x + k.W) number V;
             frames = frames;
             kept = record {
               hears = k.hears;
@@ -382,12 +440,13 @@ module _ {E : Type 0} (X : Election E) (P : Protocol E (Unit {0}) ℕ)
                     words = put (log_from x rows + spot) number y.reclamation.words;
                   }) T T k.reached
                   (Stores y.reclamation T (log_from x rows + spot) number (inr (omega arith))));
-              sending = turn_on (StoresWord t page stored) at (put (log_at x + spot) number V)
-                  writer (changes_put (Store record { 0 = r } number) (log_at x + spot) number
-                  (sym spot_is) refl) refl;
-              ties = tied_put (put (log_at x + spot) number V) writer
+              sending = turn_on (StoresWord t page stored) at (put (log_at x + k.W) number V)
+                  writer
+                  (changes_put (Store record { 0 = log_at c.layout + page.words + stored } number)
+                  (log_at x + k.W) number place_is refl) refl;
+              ties = tied_put (put (log_at x + k.W) number V) writer
                   (Stepped (Some t) kind.StoreLogWord (y.reclamation.words (log_from x rows + spot))
-                  None answer ∷ []) (beside_rows (log_at x + spot) number (inr (omega arith)))
+                  None answer ∷ []) (beside_rows (log_at x + k.W) number (inr (omega arith)))
                   (let a = held_next in omega arith)
                   (λ u e i. absurd (bus.holding_apart t page (stored + 1) false u e i))
                   (plain_step _ _ _ _ (λ i. cc));
@@ -399,18 +458,18 @@ module _ {E : Type 0} (X : Election E) (P : Protocol E (Unit {0}) ℕ)
                   (λ m i. i);
               log_is = k.log_is;
               W = k.W + 1;
+              floor = k.floor;
+              floors = floors_same (put (log_from x rows + spot) number y.reclamation.words)
+                  (put (log_at x + k.W) number V) same_first
+                  (λ r l. put_beside (log_from x rows + spot) number y.reclamation.words
+                  (passed_place x rows r) (λ i. omega arith));
               stored = stored_one;
               laid = subst (λ n. Laid x rows (record {
                 words = put (log_from x rows + n) number y.reclamation.words;
                 pins = pins_on;
                 reclaimer = y.reclamation.reclaimer;
-              }) (put (log_at x + spot) number V) (k.W + 1)) cell_is
-                  (subst (λ n. Laid x rows (record {
-                    words = put (log_from x rows + k.W % x.capacity) number y.reclamation.words;
-                    pins = pins_on;
-                    reclaimer = y.reclamation.reclaimer;
-                  }) (put (log_at x + n) number V) (k.W + 1)) spot_now
-                  (laid_logged x rows y.reclamation pins_on V k.W k.laid number two));
+              }) (put (log_at x + k.W) number V) (k.W + 1)) cell_is
+                  (laid_logged x rows y.reclamation pins_on V k.W k.laid number two);
               participants = participants_on (y.reclamation.pins p) writer
                   (held_participant t page stored published holds writer
                   (λ u e. bus.holding_apart t page (stored + 1) false u e));
@@ -480,6 +539,15 @@ module _ {E : Type 0} (X : Election E) (P : Protocol E (Unit {0}) ℕ)
                 log_is = log_words-append frames (frame_of c.queue t)
                     ∙ ap (λ l. l ++ frame_words (frame_of c.queue t)) k.log_is;
                 W = k.W;
+                floor = k.floor;
+                floors = floors_over x rows y.reclamation.words y.passing y.receivers
+                    (frames ++ frame_of c.queue t ∷ []) n k.floor
+                    (floors_later x rows y.reclamation.words y.passing y.receivers frames (V 0)
+                    k.floor k.floors (frame_of c.queue t ∷ []) n
+                    (let a = k.stored.low in let b = all_told in omega arith))
+                    (put 0 n y.reclamation.words) (put 0 n V 0) (put_here 0 n V)
+                    (λ r l. put_beside 0 n y.reclamation.words (passed_place x rows r)
+                    (λ i. omega arith));
                 stored = record {
                   few = k.stored.few;
                   low = (let a = all_told in let b = put_here 0 n V in omega arith);
@@ -497,6 +565,8 @@ module _ {E : Type 0} (X : Election E) (P : Protocol E (Unit {0}) ℕ)
                         (sym (put_beside p (Some c') y.senders q ne) ∙ here) is))
                   ];
                   written = λ q v pg st d here is. all_told ∙ sym (put_here 0 n V);
+                  floor_home = k.stored.floor_home;
+                  floor_held = held_on c' stored true refl;
                 };
                 laid = laid_told x rows y.reclamation pins_on V k.W k.laid n;
                 participants = participants_on (y.reclamation.pins p) c'
@@ -549,6 +619,10 @@ module _ {E : Type 0} (X : Election E) (P : Protocol E (Unit {0}) ℕ)
                     (y.reclamation.words 1) word);
                 log_is = k.log_is;
                 W = k.W;
+                floor = k.floor;
+                floors = floors_same (put 1 (2 * t + 2) y.reclamation.words) (put 1 (2 * t + 2) V)
+                    same_first (λ r l. put_beside 1 (2 * t + 2) y.reclamation.words
+                    (passed_place x rows r) (λ i. omega arith));
                 stored = record {
                   few = k.stored.few;
                   low = subst (λ n. n ≤ k.W) (sym same_first) k.stored.low;
@@ -569,6 +643,19 @@ module _ {E : Type 0} (X : Election E) (P : Protocol E (Unit {0}) ℕ)
                         ∙ ap (put p (Some c') y.senders) (sym i) ∙ here)) ∙ is))
                     | inr ne ↦ absurd
                         (ne (alone q v pg st true d
+                        (sym (put_beside p (Some c') y.senders q ne) ∙ here) is))
+                  ];
+                  floor_home = λ pg there.
+                      ap (λ (w : Page). w.floor) (sym (same_Some _ _ there))
+                      ∙ floor_after c t page reason
+                      ∙ k.stored.floor_held p t page stored published c old holds;
+                  floor_held = λ q v pg st b d here is. elim (cases_eq q p) [
+                    | inl i ↦ absurd (resting_no_holding v pg st b
+                        (ap (λ (w : Core E). w.phase)
+                        (same_Some _ _ (sym (put_here p (Some c') y.senders)
+                        ∙ ap (put p (Some c') y.senders) (sym i) ∙ here)) ∙ is))
+                    | inr ne ↦ absurd
+                        (ne (alone q v pg st b d
                         (sym (put_beside p (Some c') y.senders q ne) ∙ here) is))
                   ];
                 };

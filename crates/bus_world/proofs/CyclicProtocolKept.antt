@@ -1,7 +1,8 @@
 -- What is always kept of a bus whose rows are used again, beside one that has a row for each
 -- tenure; and what a turn of one sender leaves of it.
-use Rattle.std.proofs.Common.{◌≡◌, ◌⊎◌, inl, inr, ℕ, ◌+◌, ◌*◌, ◌<◌, ◌≤◌, Bool, true, false, Option}
-use Rattle.std.proofs.Common.{Some, None, List, is_some, slice_index, refl, sym, ◌∙◌, ap, subst}
+use Rattle.std.proofs.Common.{◌≡◌, ◌⊎◌, inl, inr, ℕ, ◌+◌, ◌*◌, ◌^◌, ◌<◌, ◌≤◌, Bool, true, false}
+use Rattle.std.proofs.Common.{Option, Some, None, List, is_some, slice_index, arith, refl, sym}
+use Rattle.std.proofs.Common.{◌∙◌, ap, subst}
 use Rattle.std.proofs.lemmas.Bool.{cases_eq}
 use Rattle.std.proofs.lemmas.Option.{same_Some}
 use Rattle.bus_register.specs.declared.kinds.Kind.TheVariants as kind
@@ -33,12 +34,16 @@ use Rattle.bus_tenure.specs.declared.turns.Turn.{Turn as Answered}
 use Rattle.bus_world.specs.World.{IsLayout}
 use Rattle.bus_world.specs.Proved.Sending.{Part, Sending}
 use Rattle.bus_core.specs.Reusing.Participants.{sizes_with}
+use Rattle.bus_world.specs.Proved.Floors.{passed_place, AreFloors}
+use Rattle.bus_world.proofs.Bounds.{words_low}
+use Rattle.bus_world.proofs.FloorLaws.{floors_over}
+use Rattle.bus_world.proofs.LogLaws.{length-logged}
 use Rattle.bus_world.specs.Turning.{number_found}
 use Rattle.bus_world.specs.Proved.Machines.{core_after, home_after, owners_after}
 use Rattle.bus_world.specs.Proved.CyclicProtocols.{CyclicProtocol, word_found}
 use Rattle.bus_world.specs.Trails.{actions_with, step_action}
 use Rattle.bus_world.proofs.BusLaws as bus
-use Rattle.bus_world.proofs.TurningLaws.{Steps, turn_keeps}
+use Rattle.bus_world.proofs.TurningLaws.{Steps, op_laid, turn_keeps}
 use Rattle.bus_world.proofs.Waiting.{frames_after, waiting_of}
 use Rattle.bus_world.specs.Headline.{Action}
 use Rattle.bus_world.proofs.Tying.{next_tenure}
@@ -54,6 +59,12 @@ pub stored_is : {E : Type 0} (t : ℕ) (page : Page) (k : ℕ) (b : Bool) (u : �
     → ◌≡◌ {A = Phase E} (phase.Holding t page k b) (phase.Holding u page' k' b')
     → (k ≡ k') × (b ≡ b')
 stored_is t page k b u page' k' b' h = (cc, cc)
+
+pub held_page_is : {E : Type 0} (t : ℕ) (page : Page) (k : ℕ) (b : Bool) (u : ℕ) (page' : Page)
+    (k' : ℕ) (b' : Bool)
+    → ◌≡◌ {A = Phase E} (phase.Holding t page k b) (phase.Holding u page' k' b')
+    → page ≡ page'
+held_page_is t page k b u page' k' b' h = cc
 
 pub resting_no_holding : {E : Type 0} (t : ℕ) (page : Page) (k : ℕ) (b : Bool)
     → ◌≡◌ {A = Phase E} phase.Resting (phase.Holding t page k b) → ⊥
@@ -90,14 +101,18 @@ module _ {E : Type 0} (X : Election E) (P : Protocol E (Unit {0}) ℕ)
   -- how many words of the log are stored so far: those below the length, and those that a holder
   -- has stored past it
   pub record AreStored (page_home : Option Page) (senders : ℕ → Option (Core E)) (V : ℕ → ℕ)
-      (W : ℕ) : Type 0 where
-    pub few : W ≤ x.capacity
+      (W floor : ℕ) : Type 0 where
+    pub few : W ≤ x.capacity + floor
     pub low : V 0 ≤ W
     pub home : is_some page_home ≡ true → W ≡ V 0
     pub writing : (q t : ℕ) (page : Page) (stored : ℕ) (d : Core E) → senders q ≡ Some d
         → d.phase ≡ phase.Holding t page stored false → W ≡ V 0 + stored
     pub written : (q t : ℕ) (page : Page) (stored : ℕ) (d : Core E) → senders q ≡ Some d
         → d.phase ≡ phase.Holding t page stored true → W ≡ V 0
+    -- a page has that floor, at home and out
+    pub floor_home : (page : Page) → page_home ≡ Some page → page.floor ≡ floor
+    pub floor_held : (q t : ℕ) (page : Page) (stored : ℕ) (b : Bool) (d : Core E)
+        → senders q ≡ Some d → d.phase ≡ phase.Holding t page stored b → page.floor ≡ floor
 
   -- what is always kept, of words with a row for each tenure; and its frames are all that was
   -- published
@@ -108,7 +123,9 @@ module _ {E : Type 0} (X : Election E) (P : Protocol E (Unit {0}) ℕ)
     pub sending : Sending (slice_index y.bases) P x V y.home y.senders y.owners frames
     pub log_is : log_words frames ≡ L
     pub W : ℕ
-    pub stored : AreStored y.home y.senders V W
+    pub floor : ℕ
+    pub stored : AreStored y.home y.senders V W floor
+    pub floors : AreFloors x rows y.reclamation.words y.passing y.receivers frames (V 0) floor
     pub laid : Laid x rows y.reclamation V W
     pub ties : TiesOf P x V y.senders y.owners D
     pub notes : IsNoted (slice_index y.bases) y.senders frames D
@@ -148,7 +165,7 @@ module _ {E : Type 0} (X : Election E) (P : Protocol E (Unit {0}) ℕ)
     -- as many words are stored, where the length is the same
     stored_over : (V' : ℕ → ℕ) → V' 0 ≡ V 0 → (senders' : ℕ → Option (Core E))
         → Beside p y.senders senders' → (c' : Core E) → senders' p ≡ Some c' → HoldsAs c'
-        → AreStored y.home senders' V' k.W
+        → AreStored y.home senders' V' k.W k.floor
     stored_over V' same senders' beside c' new holds = record {
       few = k.stored.few;
       low = subst (λ n. n ≤ k.W) (sym same) k.stored.low;
@@ -170,12 +187,33 @@ module _ {E : Type 0} (X : Election E) (P : Protocol E (Unit {0}) ℕ)
             (same_Some _ _ (sym new ∙ ap senders' (sym e) ∙ at)) ∙ is)) ∙ sym same
         | inr ne ↦ k.stored.written q t page stored d (sym (beside q ne) ∙ at) is ∙ sym same
       ];
+      floor_home = k.stored.floor_home;
+      floor_held = λ q t page stored b d at is. elim (cases_eq q p) [
+        | inl e ↦ k.stored.floor_held p t page stored b c old (holds t page stored b
+            (ap (λ (w : Core E). w.phase) (same_Some _ _ (sym new ∙ ap senders' (sym e) ∙ at))
+            ∙ is))
+        | inr ne ↦ k.stored.floor_held q t page stored b d (sym (beside q ne) ∙ at) is
+      ];
     }
 
     stored_put : (V' : ℕ → ℕ) → V' 0 ≡ V 0 → (c' : Core E) → HoldsAs c'
-        → AreStored y.home (put p (Some c') y.senders) V' k.W
+        → AreStored y.home (put p (Some c') y.senders) V' k.W k.floor
     stored_put V' same c' holds = stored_over V' same (put p (Some c') y.senders)
         (put_beside p (Some c') y.senders) c' (put_here p (Some c') y.senders) holds
+
+    -- the floor is the same, where no passed place has changed
+    floors_same : (words' V' : ℕ → ℕ) → V' 0 ≡ V 0
+        → ((r : ℕ) → r < x.passers
+        → words' (passed_place x rows r) ≡ y.reclamation.words (passed_place x rows r))
+        → AreFloors x rows words' y.passing y.receivers frames (V' 0) k.floor
+    floors_same words' V' long same = floors_over x rows y.reclamation.words y.passing y.receivers
+        frames (V 0) k.floor k.floors words' (V' 0) long same
+
+    -- a length is a number below 2^48
+    length_low : V 0 < 2 ^ 48
+    length_low =
+        let size = length-logged k.sending.log in
+        let low = words_low x.senders frames k.sending.log.lawful in omega arith
 
     -- the others stay participants
     participants_on : (v : Pin) (c' : Core E) → IsParticipant v c' → (q : ℕ) (d : Core E)
@@ -238,7 +276,12 @@ module _ {E : Type 0} (X : Election E) (P : Protocol E (Unit {0}) ℕ)
       pub participant : IsParticipant (y.reclamation.pins p) c
       pub reclamation_keeps : Keeps z y.reclamation T
       pub stored_put : (V' : ℕ → ℕ) → V' 0 ≡ V 0 → (c' : Core E) → HoldsAs c'
-          → AreStored y.home (put p (Some c') y.senders) V' k.W
+          → AreStored y.home (put p (Some c') y.senders) V' k.W k.floor
+      pub floors_same : (words' V' : ℕ → ℕ) → V' 0 ≡ V 0
+          → ((r : ℕ) → r < x.passers
+          → words' (passed_place x rows r) ≡ y.reclamation.words (passed_place x rows r))
+          → AreFloors x rows words' y.passing y.receivers frames (V' 0) k.floor
+      pub length_low : V 0 < 2 ^ 48
       pub participants_on : (v : Pin) (c' : Core E) → IsParticipant v c' → (q : ℕ) (d : Core E)
           → put p (Some c') y.senders q ≡ Some d → IsParticipant (put p v y.reclamation.pins q) d
       pub tied : (V' : ℕ → ℕ) (c' : Core E) (senders' : ℕ → Option (Core E))
@@ -270,6 +313,8 @@ module _ {E : Type 0} (X : Election E) (P : Protocol E (Unit {0}) ℕ)
       participant = participant;
       reclamation_keeps = reclamation_keeps;
       stored_put = stored_put;
+      floors_same = floors_same;
+      length_low = length_low;
       participants_on = participants_on;
       tied = tied;
       tied_put = tied_put;
@@ -282,13 +327,13 @@ module _ {E : Type 0} (X : Election E) (P : Protocol E (Unit {0}) ℕ)
         (free : step_at (y.reclamation.pins p) (presence_at z p) 1 ≡ None) where
       -- ---- the turn, in words with a row for each tenure
       turn_on : (zz : Situation E) → situation_of X c ≡ zz → (V' : ℕ → ℕ) (c' : Core E)
-          → Steps (op_at X c zz word) V V'
-          → c' ≡ core_after X c zz y.home (word_found (λ r. r) V (op_at X c zz word)) word
+          → Steps (op_laid X c zz word) V V'
+          → c' ≡ core_after X c zz y.home (word_found (λ r. r) V (op_laid X c zz word)) word
           → Sending (slice_index y.bases) P x V' (home_after X c zz y.home)
           (put p (Some c') y.senders) (owners_after X c zz p y.owners) (frames_after X c zz frames)
       turn_on zz at V' c' = subst (λ s.
-          Steps (op_at X c s word) V V'
-          → c' ≡ core_after X c s y.home (word_found (λ r. r) V (op_at X c s word)) word
+          Steps (op_laid X c s word) V V'
+          → c' ≡ core_after X c s y.home (word_found (λ r. r) V (op_laid X c s word)) word
           → Sending (slice_index y.bases) P x V' (home_after X c s y.home)
           (put p (Some c') y.senders) (owners_after X c s p y.owners) (frames_after X c s frames))
           at
@@ -296,7 +341,7 @@ module _ {E : Type 0} (X : Election E) (P : Protocol E (Unit {0}) ℕ)
           frames k.sending p c old word V' (put p (Some c') y.senders)
           (put_beside p (Some c') y.senders) steps
           (put_here p (Some c') y.senders ∙ ap Some same
-          ∙ found_same (op_at X c (situation_of X c) word)))
+          ∙ found_same (op_laid X c (situation_of X c) word)))
         where
           found_same : (d : Option Op)
               → Some (core_after X c (situation_of X c) y.home (word_found (λ r. r) V d) word)
@@ -327,8 +372,8 @@ module _ {E : Type 0} (X : Election E) (P : Protocol E (Unit {0}) ℕ)
       -- as above
       pub record StepFacts : Type 0 where
         pub turn_on : (zz : Situation E) → situation_of X c ≡ zz → (V' : ℕ → ℕ) (c' : Core E)
-            → Steps (op_at X c zz word) V V'
-            → c' ≡ core_after X c zz y.home (word_found (λ r. r) V (op_at X c zz word)) word
+            → Steps (op_laid X c zz word) V V'
+            → c' ≡ core_after X c zz y.home (word_found (λ r. r) V (op_laid X c zz word)) word
             → Sending (slice_index y.bases) P x V' (home_after X c zz y.home)
             (put p (Some c') y.senders) (owners_after X c zz p y.owners)
             (frames_after X c zz frames)

@@ -1,8 +1,8 @@
 -- Whatever senders do whose rows are used again, it is as if each tenure had a row for itself.
-use Rattle.std.proofs.Common.{◌≡◌, inl, inr, ℕ, zero, suc, ◌+◌, ◌-◌, ◌*◌, ◌<◌, ◌≤◌, Bool, true}
-use Rattle.std.proofs.Common.{false, cond, nat_lt, Option, Some, None, List, [], ◌∷◌, ◌++◌, is_some}
-use Rattle.std.proofs.Common.{length, map, slice_index, arith, refl, sym, ◌∙◌, ap, subst}
-use Rattle.std.proofs.lemmas.Bool.{cases_eq, true≢false}
+use Rattle.std.proofs.Common.{◌≡◌, inl, inr, ℕ, zero, suc, ◌+◌, ◌-◌, ◌*◌, ◌%◌, ◌<◌, ◌≤◌, Bool}
+use Rattle.std.proofs.Common.{true, false, cond, nat_lt, Option, Some, None, List, [], ◌∷◌, ◌++◌}
+use Rattle.std.proofs.Common.{is_some, length, map, slice_index, arith, refl, sym, ◌∙◌, ap, subst}
+use Rattle.std.proofs.lemmas.Bool.{cases_eq, ltb-true, true≢false}
 use Rattle.std.proofs.lemmas.Option.{same_Some}
 use Rattle.bus_register.specs.declared.kinds.Kind.TheVariants as kind
 use Rattle.bus_register.specs.declared.registers.Op.{Op}
@@ -16,7 +16,7 @@ use Rattle.bus_batch.specs.declared.batches.Phase.TheVariants.{Marking}
 use Rattle.bus_batch.specs.declared.messages.Mark.TheVariants as mark
 use Rattle.bus_batch.specs.Frames.{Frame, Leaves, order_of, tenure_and_owner}
 use Rattle.bus_deliverylog.specs.Orders.{of_sender}
-use Rattle.bus_deliverylog.specs.Receiving.{Receiving}
+use Rattle.bus_deliverylog.specs.Receiving.{Receiving, with_leave, receiving_op, leaving_op}
 use Rattle.bus_deliverylog.specs.declared.receiving.RecvTurn.{RecvTurn}
 use Rattle.bus_ownerbits.specs.OneOwner.{OneOwner}
 use Rattle.bus_presence.specs.declared.pins.Pin.{Pin}
@@ -33,6 +33,7 @@ use Rattle.bus_tenure.specs.Situations.{TakesPage, AwaitsPage, StoresWord, Store
 use Rattle.bus_tenure.specs.Situations.{HasHanded, situation_of, situation_at, line_of}
 use Rattle.bus_tenure.specs.declared.pages.Page.{Page}
 use Rattle.bus_tenure.specs.declared.phases.Reason.{Reason}
+use Rattle.bus_tenure.specs.declared.phases.Reason.TheVariants.{NoRoom}
 use Rattle.bus_tenure.specs.declared.phases.Phase.TheVariants as phase
 use Rattle.bus_tenure.specs.declared.turns.Turn.{Turn as Answered}
 use Rattle.bus_tenure.proofs.Situated.{tells}
@@ -40,22 +41,30 @@ use Rattle.bus_world.specs.World.{IsLayout, first_page, RecvDoes}
 use Rattle.bus_world.specs.Proved.Sending.{Fits, Sending, standing_of, least_of, stands_at}
 use Rattle.bus_core.specs.Proved.Bridge.{publishes_of}
 use Rattle.bus_core.specs.Reusing.Participants.{sizes_with, log_from}
-use Rattle.bus_core.specs.Proved.ParticipantTable.{Due, reclaim_due, due_reclaimed, due_home}
-use Rattle.bus_core.specs.Proved.ParticipantTable.{due_beside}
+use Rattle.bus_core.specs.Proved.ParticipantTable.{Due, Reads, reclaim_due, passed_due}
+use Rattle.bus_core.specs.Proved.ParticipantTable.{due_reclaimed}
+use Rattle.bus_core.specs.Proved.ParticipantTable.{due_home, due_passed, due_beside}
+use Rattle.bus_core.specs.Reusing.Passing.{passing_left}
+use Rattle.bus_core.specs.declared.reuses.Passing.{Passing}
 use Rattle.bus_world.specs.Proved.Machines.{can_put, can_close}
 use Rattle.bus_world.specs.Proved.CyclicProtocols.{CyclicProtocol, IsNewProtocol, Led, NewProtocol}
-use Rattle.bus_world.specs.Proved.CyclicProtocols.{Turned, PutIn, MarkedIn, Heard, going_actions}
-use Rattle.bus_world.specs.Proved.CyclicProtocols.{due_actions, due_in, protocol_reclaimed}
+use Rattle.bus_world.specs.Proved.CyclicProtocols.{Turned, PutIn, MarkedIn, Heard, LeftFor}
+use Rattle.bus_world.specs.Proved.CyclicProtocols.{going_actions, due_actions, due_in}
+use Rattle.bus_world.specs.Proved.CyclicProtocols.{protocol_reclaimed}
 use Rattle.bus_world.specs.Proved.CyclicProtocols.{protocol_after_going, protocol_after}
+use Rattle.bus_world.specs.Proved.CyclicProtocols.{protocol_heard}
 use Rattle.bus_world.specs.Proved.CyclicProtocols.{trails_with}
 use Rattle.bus_world.specs.Trails.{no_answers, answers_with, actions_with, no_actions}
 use Rattle.bus_world.proofs.Accepting.{Accepted, Puts, Asks, AreAccepted, accept, grows}
-use Rattle.bus_world.proofs.Beginning.{new_sending}
+use Rattle.bus_world.proofs.Beginning.{new_sending, bases_low}
 use Rattle.bus_world.proofs.BusLaws as bus
 use Rattle.bus_world.proofs.TenuresLaws as tenures
 use Rattle.bus_world.specs.Headline.{Action, HasPut, HasMarked, Took, IsPrefix, Asked}
 use Rattle.bus_world.specs.Log.{words_read_from}
 use Rattle.bus_world.proofs.WorldLaws.{counted_at}
+use Rattle.bus_core.specs.Reusing.Passing.{passing_begun}
+use Rattle.bus_world.proofs.FloorLaws.{floors_new}
+use Rattle.bus_world.specs.Proved.Floors.{AreFloors}
 use Rattle.bus_world.proofs.FrameOwners.{owner_took, rise}
 use Rattle.bus_world.proofs.Framing.{framed, entry_of, has_left, gone_for_good, last_frame}
 use Rattle.std.proofs.lemmas.List.{append-nil, map-append}
@@ -67,18 +76,24 @@ use Rattle.bus_world.proofs.Waiting.{log_with, log_more, waiting_of}
 use Rattle.bus_world.proofs.Asking.{open_no_marking}
 use Rattle.bus_world.proofs.PutLaws.{nothing_left}
 use Rattle.bus_world.proofs.HearTrails.{delivered_to, heads_to, silent_to}
-use Rattle.bus_world.proofs.CyclicProtocolHears.{all_new, turn_hears, one_hears, told_in}
+use Rattle.bus_world.proofs.CyclicProtocolHears.{all_new, turn_hears, one_hears, one_leaves}
+use Rattle.bus_world.proofs.CyclicProtocolHears.{told_in}
 use Rattle.bus_world.proofs.CyclicProtocolNotes.{sent_by, IsNoted, noted_put, noted_mark}
 use Rattle.bus_world.proofs.CyclicProtocolNotes.{nothing_put}
 use Rattle.bus_world.proofs.RingWords.{Laid, found_there, found_straight}
+use Rattle.bus_world.proofs.LogLaws.{length-logged, index-read}
 use Rattle.bus_world.proofs.Places.{none_in}
+use Rattle.bus_world.proofs.PlacedSteps.{passes}
 use Rattle.bus_world.proofs.CyclicProtocolKept as kept
 use Rattle.bus_world.proofs.CyclicProtocolKept.{resting_no_holding}
 use Rattle.bus_world.proofs.CyclicProtocolPins.{pin_kept, idle_kept, looks_kept}
 use Rattle.bus_world.proofs.CyclicProtocolElections.{elects_kept, takes_kept}
 use Rattle.bus_world.proofs.CyclicProtocolHolders.{stores_unpublished, tells_unpublished}
+use Rattle.bus_world.proofs.CyclicProtocolHolders.{lacks_unpublished}
 use Rattle.bus_world.proofs.CyclicProtocolHolders.{reclaimer_kept, stores_kept, tells_kept}
 use Rattle.bus_world.proofs.CyclicProtocolHolders.{gives_kept}
+use Rattle.bus_world.proofs.CyclicProtocolReads.{reads_kept}
+use Rattle.bus_world.proofs.CyclicProtocolPasses as receivers
 
 owner_of : (o : Option ℕ) → is_some o ≡ true → (u : ℕ) × (o ≡ Some u)
 owner_of None i = absurd (true≢false (sym i))
@@ -215,12 +230,43 @@ module _ {E : Type 0} (X : Election E) (P : Protocol E (Unit {0}) ℕ)
             cc))
         by_reclaimer (Some s) is free = by_step s is free (reclaim_op s) refl
 
+        -- the passed places that are left to load are those that its holder has still to load
+        left_is : (b : Bool) → nat_lt y.passing.loaded x.passers ≡ b → (q : Passing)
+            → cond b (Some y.passing) None ≡ Some q
+            → (y.passing ≡ q) × (y.passing.loaded < x.passers)
+        left_is true low q e = (same_Some _ _ e, ltb-true y.passing.loaded x.passers low)
+        left_is false past q e = absurd cc
+
+        by_read : (t : ℕ) (q : Passing)
+            → passed_due (situation_of X c) (passing_left x.passers y.passing) ≡ Some (t, q)
+            → step_at (y.reclamation.pins p) (presence_at z p) 1 ≡ None
+            → KeptDue word answer (Reads t q)
+        by_read t q due free =
+            let lacks = passes (situation_of X c) (passing_left x.passers y.passing) t q due in
+            let left = left_is (nat_lt y.passing.loaded x.passers) refl q lacks.same in
+            let f = tells X c (GivesBack t lacks.page NoRoom) lacks.is in
+            subst (λ l. KeptDue word answer (Reads t l)) left.0
+            (reads_kept X P laws x ok width starts owner_is named announces apart rows two H y T D L
+            V frames k p c old word answer free t lacks.page f.0 f.1 f.2
+            (lacks_unpublished t lacks.page f.0 f.1 lacks.page.ended (has_room c lacks.page)
+            (nat_lt f.0 (frame_len c)) (sym (ap (situation_at X c) f.2) ∙ lacks.is)) left.1)
+
+        by_passed : (d : Option (ℕ × Passing))
+            → passed_due (situation_of X c) (passing_left x.passers y.passing) ≡ d
+            → step_at (y.reclamation.pins p) (presence_at z p) 1 ≡ None
+            → KeptDue word answer (due_passed d
+            (due_home (reclaim_due (situation_of X c) y.reclamation.reclaimer) (situation_of X c)))
+        by_passed None none free =
+            by_reclaimer (reclaim_due (situation_of X c) y.reclamation.reclaimer) refl free
+        by_passed (Some d) some free = by_read d.0 d.1 some free
+
         by_pin : (o : Option Op) → step_at (y.reclamation.pins p) (presence_at z p) 1 ≡ o
-            → KeptDue word answer (due_beside o y.reclamation.reclaimer (situation_of X c))
+            → KeptDue word answer (due_beside o (passing_left x.passers y.passing)
+            y.reclamation.reclaimer (situation_of X c))
         by_pin (Some o) due = pin_kept X P laws x ok width starts owner_is named announces apart
             rows two H y T D L V frames k p c old o due (y.reclamation.pins p) refl
-        by_pin None free =
-            by_reclaimer (reclaim_due (situation_of X c) y.reclamation.reclaimer) refl free
+        by_pin None free = by_passed
+            (passed_due (situation_of X c) (passing_left x.passers y.passing)) refl free
 
     -- ---- what a sender accepts that pins no tenure
     abbrev accepted_actions : Accepted → List Action
@@ -242,6 +288,8 @@ module _ {E : Type 0} (X : Election E) (P : Protocol E (Unit {0}) ℕ)
             (put_beside p (Some (accept c a)) y.senders) (put_here p (Some (accept c a)) y.senders);
         log_is = k.log_is;
         W = k.W;
+        floor = k.floor;
+        floors = k.floors;
         stored = stored_put V refl (accept c a) (λ t page stored b e. sym (same_phase a) ∙ e);
         laid = k.laid;
         ties = accepted_ties a;
@@ -352,10 +400,18 @@ module _ {E : Type 0} (X : Election E) (P : Protocol E (Unit {0}) ℕ)
           (subst (λ w.
           Sending (slice_index y.bases) P x (λ r. 0) (Some (first_page y.bases)) y.senders w [])
           (sym new.owners)
-          (new_sending X P laws x ok y.bases new.bases_are (λ r. 0) (λ r. refl) y.senders
+          (new_sending X P laws x ok y.bases new.bases_are
+          (bases_low x y.bases new.bases_are new.ring_bases) (λ r. 0) (λ r. refl) y.senders
           new.senders));
       log_is = refl;
       W = 0;
+      floor = 0;
+      floors = subst (λ q. AreFloors x rows y.reclamation.words q y.receivers [] 0 0)
+          (sym new.passing)
+          (subst (λ w. AreFloors x rows w.words passing_begun y.receivers [] 0 0)
+          (sym new.reclamation)
+          (floors_new x rows (λ r. 0) (λ r. refl) y.receivers (λ r v e.
+          let n = new.receivers r v e in (n.passed_is, new.many r v e, n.unpassed))));
       stored = record {
         few = omega arith;
         low = omega arith;
@@ -365,6 +421,11 @@ module _ {E : Type 0} (X : Election E) (P : Protocol E (Unit {0}) ℕ)
             (sym (ap (λ (w : Core E). w.phase) (new.senders q d at).1) ∙ is));
         written = λ q t page stored d at is. absurd
             (resting_no_holding t page stored true
+            (sym (ap (λ (w : Core E). w.phase) (new.senders q d at).1) ∙ is));
+        floor_home = λ page e.
+            ap (λ (w : Page). w.floor) (sym (same_Some _ _ (sym new.home ∙ e)));
+        floor_held = λ q t page stored b d at is. absurd
+            (resting_no_holding t page stored b
             (sym (ap (λ (w : Core E). w.phase) (new.senders q d at).1) ∙ is));
       };
       laid = subst (λ w. Laid x rows w (λ r. 0) 0) (sym new.reclamation) record {
@@ -410,32 +471,27 @@ module _ {E : Type 0} (X : Election E) (P : Protocol E (Unit {0}) ℕ)
   -- ---- a turn of a receiver
   heard_kept : (H : ℕ → List RecvTurn) (y : CyclicProtocol E) (T : Trails) (D : ℕ → List Action)
       (L : List ℕ) → HasKept H y T D L → (r : ℕ) (v next : Receiving) (answer : RecvTurn)
-      → y.receivers r ≡ Some v → RecvDoes y.reclamation.words v answer next
-      → HasKept (answers_with r answer H) (record y { receivers = put r (Some next) y.receivers }) T
-      D L
-  heard_kept H y T D L has r v next answer at does =
+      → y.receivers r ≡ Some v → v.gone ≡ false → RecvDoes y.reclamation.words v answer next
+      → HasKept (answers_with r answer H) (protocol_heard y r (receiving_op v) next) T D L
+  heard_kept H y T D L has r v next answer at stays does =
       let k = has.kept in
-      record {
-        V = has.V;
-        frames = has.frames;
-        kept = record {
-          hears = one_hears x rows has.frames y.receivers H k.hears r v next answer at
-              (λ h. turn_hears x rows has.frames y.reclamation.words has.V k.sending.log
-              k.laid.length v (λ low. found_there x rows y.reclamation has.V k.W 0 v.place k.laid
-              (let a = k.stored.few in omega arith) (omega arith)
-              (let a = k.stored.low in omega arith)) (H r) h answer next does);
-          reached = k.reached;
-          sending = k.sending;
-          log_is = k.log_is;
-          W = k.W;
-          stored = k.stored;
-          laid = k.laid;
-          ties = k.ties;
-          notes = k.notes;
-          participants = k.participants;
-          ready = k.ready;
-        };
-      }
+      let its = k.floors.each r v at in
+      receivers.turn_kept X P laws x ok width starts owner_is named announces apart rows two H
+      (answers_with r answer H) y T D L has.V has.frames k r v at stays answer next
+      (one_hears x rows has.frames y.receivers H k.hears r v next answer at
+      (λ h. turn_hears x rows has.frames y.reclamation.words has.V k.sending.log
+      k.laid.length v (λ low. found_there x rows y.reclamation has.V k.W k.floor v.place
+      k.laid k.stored.few (let a = its.behind stays in let b = its.past in omega arith)
+      (let a = k.stored.low in omega arith)) (H r) h answer next does)) does
+
+  -- ---- a receiver leaves for good
+  left_kept : (H : ℕ → List RecvTurn) (y : CyclicProtocol E) (T : Trails) (D : ℕ → List Action)
+      (L : List ℕ) → HasKept H y T D L → (r : ℕ) (v : Receiving) → y.receivers r ≡ Some v
+      → HasKept H (protocol_heard y r (leaving_op v) (with_leave v)) T D L
+  left_kept H y T D L has r v at =
+      receivers.leave_kept X P laws x ok width starts owner_is named announces apart rows two H
+      H y T D L has.V has.frames has.kept r v at
+      (one_leaves x rows has.frames y.receivers H has.kept.hears r v at)
 
   -- ---- whatever happens
   pub led_kept : (H : ℕ → List RecvTurn) (y : CyclicProtocol E) (T : Trails) (D : ℕ → List Action)
@@ -453,8 +509,10 @@ module _ {E : Type 0} (X : Election E) (P : Protocol E (Unit {0}) ℕ)
   led_kept H y T D L (MarkedIn w U F J M p c m before old away) =
       let k = led_kept J w U F M before in
       accept_kept J w U F M k.V k.frames k.kept p c old (Asks m) tt away
-  led_kept H y T D L (Heard w U F J M r v next answer before at does) =
-      heard_kept J w U F M (led_kept J w U F M before) r v next answer at does
+  led_kept H y T D L (Heard w U F J M r v next answer before at stays does) =
+      heard_kept J w U F M (led_kept J w U F M before) r v next answer at stays does
+  led_kept H y T D L (LeftFor w U F J M r v before at stays) =
+      left_kept J w U F M (led_kept J w U F M before) r v at
 
   -- ---- what is promised
   above_it : (a k w : ℕ) → k < w → (a ≤ a + k) × (a + k < a + w)
@@ -477,13 +535,22 @@ module _ {E : Type 0} (X : Election E) (P : Protocol E (Unit {0}) ℕ)
       let tables = h.ties.tables in
       let takers = h.ties.takers in
       let told = told_in x rows y.receivers k.frames H h.hears in
+      let long : length L ≡ k.V 0 = sym (ap length h.log_is) ∙ length-logged h.sending.log in
       let one : (t : ℕ) → t < x.rows
       → OneOwner (inputs P (tables.elections t)) (outputs P (tables.elections t)) = λ t l.
       laws.outcome x.senders (2 + t * P.width x.senders) k.V (tables.elections t)
       (tables.kept t l) in
+      let stands : (place : ℕ) → h.floor ≤ place → place < length L
+      → y.reclamation.words (log_from x rows + place % x.capacity) ≡ slice_index L place =
+      λ place past below. (let w = h.stored.low in
+      found_there x rows y.reclamation k.V h.W h.floor place h.laid h.stored.few past
+      (let a = long in omega arith)
+      ∙ sym (index-read k.V (log_at x) (k.V 0) place (let a = long in omega arith))
+      ∙ ap (λ ws. slice_index ws place) (h.sending.log.words_are ∙ h.log_is)) in
       record {
         order = order_of k.frames;
         owners = map tenure_and_owner k.frames;
+        floor = h.floor;
         by = record {
           reached = h.reached;
           safe = safe z two y.reclamation T (keeps z two y.reclamation T h.reached);
@@ -508,9 +575,33 @@ module _ {E : Type 0} (X : Election E) (P : Protocol E (Unit {0}) ℕ)
             order_is = refl;
             owners_are = refl;
           };
-          shows = ap (words_read_from y.reclamation.words (log_from x rows)) h.laid.length
+          ring = record {
+            long = h.laid.length ∙ sym (length-logged h.sending.log) ∙ ap length h.log_is;
+            low = let a = h.floors.low in let b = long in omega arith;
+            none = h.floors.none;
+            stands = stands;
+            behind = h.floors.behind;
+            edges = h.floors.edges;
+          };
+          floor_home = h.stored.floor_home;
+          floor_held = h.stored.floor_held;
+          finds = λ r v at stays below.
+              let its = h.floors.each r v at in
+              stands v.place (let a = its.behind stays in let b = its.past in omega arith) below;
+          believes = λ r v at stays.
+              let most = h.stored.low in
+              let room = h.stored.few in
+              let behind = (h.floors.each r v at).behind stays in
+              let words = (h.hears.each r v at).own.log_words in
+              let first = h.laid.length in omega arith;
+          comes = λ r v at stays low.
+              let its = h.floors.each r v at in
+              let shows = its.shows stays low in let past = its.past in omega arith;
+          shows = λ flat.
+              ap (words_read_from y.reclamation.words (log_from x rows)) h.laid.length
               ∙ words_read (k.V 0) y.reclamation.words k.V (log_from x rows) (log_at x)
-              (λ j l. found_straight x rows y.reclamation k.V h.W j h.laid h.stored.few
+              (λ j l. found_straight x rows y.reclamation k.V h.W j h.laid
+              (let a = h.stored.few in let b = h.floors.none flat in omega arith)
               (let a = h.stored.low in omega arith)) ∙ h.sending.log.words_are ∙ h.log_is;
           promises = record {
             one_owner = λ t s s' o o' e f.

@@ -42,7 +42,8 @@ use Rattle.bus_world.proofs.TableTrails.{IsPlain, plain_none, plain_step}
 use Rattle.bus_world.proofs.TurnTrails.{calm, begins}
 use Rattle.bus_world.proofs.Waiting.{waiting_at}
 use Rattle.bus_world.proofs.CyclicProtocolNotes.{PutsNothing, steps_put_nothing, nothing_put}
-use Rattle.bus_world.proofs.CyclicProtocolWords.{put_is, quiet_same, quiet_pin}
+use Rattle.bus_world.proofs.CyclicProtocolWords.{put_is, IsQuiet, quiet_same, quiet_pin}
+use Rattle.bus_world.specs.Proved.Floors.{AreFloors}
 use Rattle.bus_world.proofs.RingWords.{Laid, laid_quiet}
 use Rattle.bus_world.proofs.CyclicProtocolKept as kept
 use Rattle.bus_world.proofs.CyclicProtocolKept.{resting_no_holding, pinned_is}
@@ -90,6 +91,7 @@ module _ {E : Type 0} (X : Election E) (P : Protocol E (Unit {0}) ℕ)
           part,
           participant,
           stored_put,
+          floors_same,
           participants_on,
           tied,
           tied_put,
@@ -118,11 +120,16 @@ module _ {E : Type 0} (X : Election E) (P : Protocol E (Unit {0}) ℕ)
       reached' =
           Then y.reclamation reclamation' T trail' k.reached (PinStep y.reclamation T p o due)
 
-      laid' : Laid x rows reclamation' V k.W
-      laid' = laid_quiet x rows y.reclamation reclamation' V k.W
-          (quiet_pin x rows y.reclamation
+      quiet : IsQuiet x rows y.reclamation reclamation'
+      quiet = quiet_pin x rows y.reclamation
           (put p (pin_fed (y.reclamation.pins p) got) y.reclamation.pins) p (y.reclamation.pins p) o
-          part.below due) k.laid
+          part.below due
+
+      laid' : Laid x rows reclamation' V k.W
+      laid' = laid_quiet x rows y.reclamation reclamation' V k.W quiet k.laid
+
+      floors' : AreFloors x rows reclamation'.words y.passing y.receivers frames (V 0) k.floor
+      floors' = floors_same reclamation'.words V refl quiet.passed
 
       ready' : (t : ℕ) → reclamation'.words 1 ≡ 2 * t + 1 → y.reclamation.reclaimer ≡ None
           → t + 1 < rows
@@ -143,6 +150,8 @@ module _ {E : Type 0} (X : Election E) (P : Protocol E (Unit {0}) ℕ)
               (old ∙ ap Some (sym (ap (λ w. core_looked X c w got) at ∙ same))))) k.sending;
           log_is = k.log_is;
           W = k.W;
+          floor = k.floor;
+          floors = floors';
           stored = stored_put V refl (core_looked X c (y.reclamation.pins p) got)
               (λ t page stored b e.
               ap (λ (w : Core E). w.phase) (sym (ap (λ w. core_looked X c w got) at ∙ same)) ∙ e);
@@ -191,6 +200,8 @@ module _ {E : Type 0} (X : Election E) (P : Protocol E (Unit {0}) ℕ)
                   ∙ ap Some c_now);
               log_is = k.log_is;
               W = k.W;
+              floor = k.floor;
+              floors = floors';
               stored = stored_put V refl (core_looked X c (y.reclamation.pins p) got)
                   (λ u page stored b e. absurd (bus.holding_apart u page stored b t
                   (X.started c.layout.senders c.me c.layout.rounds (row_at c.layout t))
@@ -306,6 +317,8 @@ module _ {E : Type 0} (X : Election E) (P : Protocol E (Unit {0}) ℕ)
               (sym (put_is p (Some c) y.senders old)) k.sending;
           log_is = k.log_is;
           W = k.W;
+          floor = k.floor;
+          floors = k.floors;
           stored = stored_put V refl c (λ t page stored b e. e);
           laid = laid_quiet x rows y.reclamation (record {
             words = y.reclamation.words;
@@ -393,6 +406,8 @@ module _ {E : Type 0} (X : Election E) (P : Protocol E (Unit {0}) ℕ)
                     };
                 log_is = k.log_is;
                 W = k.W;
+                floor = k.floor;
+                floors = k.floors;
                 stored = stored_put V refl c' (λ t page stored b e.
                     absurd (resting_no_holding t page stored b (sym rests ∙ e)));
                 laid = laid_quiet x rows y.reclamation (record {
@@ -437,6 +452,8 @@ module _ {E : Type 0} (X : Election E) (P : Protocol E (Unit {0}) ℕ)
                     (sym (put_is p (Some c) y.senders old)) k.sending;
                 log_is = k.log_is;
                 W = k.W;
+                floor = k.floor;
+                floors = k.floors;
                 stored = stored_put V refl c (λ t page stored b e. e);
                 laid = laid_quiet x rows y.reclamation reclamation' V k.W
                     (quiet_same x rows y.reclamation reclamation' refl refl) k.laid;

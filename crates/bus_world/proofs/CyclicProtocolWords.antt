@@ -20,6 +20,7 @@ use Rattle.bus_presence.proofs.ReclaimerLaws.{reclaim_does, Scans}
 use Rattle.bus_presence.proofs.RowLaws.{IsLive, alive_same, pin_place, load_same}
 use Rattle.bus_tenure.specs.Core.{Layout}
 use Rattle.bus_core.specs.Reusing.Participants.{sizes_with, log_from}
+use Rattle.bus_world.specs.Proved.Floors.{passed_place}
 
 -- a table stays where what stands at a place is put there
 pub put_is : {A : Type 0} (p : ℕ) (v : A) (table : ℕ → A) → table p ≡ v → put p v table ≡ table
@@ -40,12 +41,22 @@ module _ (x : Layout) (rows : ℕ) where
   abbrev z : ReclamationSizes
   z = sizes_with x rows
 
+  -- passed places stand behind all rows
+  pub behind_rows : 2 ≤ rows → (t k r : ℕ) → k < x.width
+      → passed_place x rows r ≢ row_of z t + k
+  behind_rows two t k r low same = omega (
+    arith,
+    row_fits (t % rows) x.width rows x.width (mod_below t rows (omega arith)) (omega arith),
+  )
+
   -- a reclamation after another, with the same words but for those that are no tenure's
   pub record IsQuiet (h h' : Reclamation) : Type 0 where
     pub length : h'.words 0 ≡ h.words 0
     pub stage : h'.words 1 ≡ h.words 1
     pub log : (k : ℕ) → k < x.capacity
         → h'.words (log_from x rows + k) ≡ h.words (log_from x rows + k)
+    pub passed : (r : ℕ) → r < x.passers
+        → h'.words (passed_place x rows r) ≡ h.words (passed_place x rows r)
     pub alive : (t : ℕ) → IsLive z h' t → IsLive z h t
     pub row : (t k : ℕ) → k < x.width → IsLive z h' t
         → h'.words (row_of z t + k) ≡ h.words (row_of z t + k)
@@ -56,6 +67,7 @@ module _ (x : Layout) (rows : ℕ) where
     length = ap (λ w. w 0) e;
     stage = ap (λ w. w 1) e;
     log = λ k low. ap (λ w. w (log_from x rows + k)) e;
+    passed = λ r low. ap (λ w. w (passed_place x rows r)) e;
     alive = λ t live. alive_same z h h' t (ap (λ w. w 1) e) f live;
     row = λ t k low live. ap (λ w. w (row_of z t + k)) e;
   }
@@ -67,6 +79,7 @@ module _ (x : Layout) (rows : ℕ) where
     length = beside 0 (λ e. omega arith);
     stage = beside 1 (λ e. omega arith);
     log = λ k low. beside (log_from x rows + k) (λ e. omega arith);
+    passed = λ r low. beside (passed_place x rows r) (λ e. omega arith);
     alive = λ t live. alive_same z h
         (record { words = put (presence_at z p) n h.words; pins = pins; reclaimer = h.reclaimer }) t
         (beside 1 (λ e. omega arith)) refl live;
@@ -103,6 +116,7 @@ module _ (x : Layout) (rows : ℕ) where
       length = ap (λ y. y 0) same;
       stage = ap (λ y. y 1) same;
       log = λ k low. ap (λ y. y (log_from x rows + k)) same;
+      passed = λ r low. ap (λ y. y (passed_place x rows r)) same;
       alive = λ u live.
           let e = ap (λ y. y 1) same in let b = live.opened in let c = live.stays in record {
             opened = omega arith;
@@ -138,6 +152,7 @@ module _ (x : Layout) (rows : ℕ) where
           length = beside 0 (λ e. omega arith);
           stage = stage;
           log = λ k low. beside (log_from x rows + k) (λ e. omega arith);
+          passed = λ r low. beside (passed_place x rows r) (λ e. omega arith);
           alive = λ u live.
               let b = live.opened in
               let d = live.stays in

@@ -22,7 +22,7 @@ use Rattle.bus_batch.specs.declared.messages.Mark.TheVariants as mark
 use Rattle.bus_batch.specs.Frames.{Frame, Leaves, log_words, log_pieces, order_of, owners_in}
 use Rattle.bus_batch.specs.Frames.{order_in, tenure_and_owner}
 use Rattle.bus_deliverylog.specs.Orders.{of_sender}
-use Rattle.bus_deliverylog.specs.Receiving.{Receiving}
+use Rattle.bus_deliverylog.specs.Receiving.{Receiving, with_leave}
 use Rattle.bus_deliverylog.specs.declared.receiving.RecvTurn.{RecvTurn}
 use Rattle.bus_tenure.specs.Core.{Core, Election, Layout}
 use Rattle.bus_tenure.specs.Situations.{kind_at, situation_of, line_of, op_at, answer_at}
@@ -39,7 +39,7 @@ use Rattle.bus_batch.specs.Batches.{Pending, CanPut}
 use Rattle.std.proofs.lemmas.List.{map-append}
 use Rattle.std.proofs.lemmas.Bool.Decides.{nat_tests}
 use Rattle.std.proofs.lemmas.Bool.{le-leb}
-use Rattle.bus_world.specs.World.{IsLayout, Event, Put, Ask, Turn, Recv, Stop}
+use Rattle.bus_world.specs.World.{IsLayout, Event, Put, Ask, Turn, Recv, Stop, Gone}
 use Rattle.bus_world.specs.Proved.Sending.{Fits}
 use Rattle.bus_world.proofs.FrameOwners.{owner_took, rise}
 use Rattle.bus_world.proofs.Beginning.{words_zero}
@@ -50,11 +50,11 @@ use Rattle.bus_world.specs.Log.{next_number, sent_count, words_of_frame}
 use Rattle.bus_world.proofs.LogLaws.{length-logged, log_words-append}
 use Rattle.bus_world.specs.Proved.Machines.{Side, side_after, core_after, Bus, going, IsEvent}
 use Rattle.bus_world.specs.Proved.Machines.{Happens, SenderDoes, with_sender, can_put, can_close}
-use Rattle.bus_world.specs.Proved.Machines.{put_in, mark_in, IsNew, is_open}
+use Rattle.bus_world.specs.Proved.Machines.{put_in, mark_in, IsNew, is_open, LeaverDoes}
 use Rattle.bus_world.specs.Turning.{number_found}
 use Rattle.bus_world.proofs.TurningLaws.{side_of}
 use Rattle.bus_world.proofs.WorldLaws.{counted_at, event_left, event_puts, new_is_lawful}
-use Rattle.bus_world.proofs.WorldLaws.{found_flat}
+use Rattle.bus_world.proofs.WorldLaws.{found_flat, set_each}
 use Rattle.bus_world.specs.Proved.Answers.{Answers, PutGives, CloseGives, TurnAnswers, RecvAnswers}
 use Rattle.bus_world.specs.Playing.{asked_answer}
 use Rattle.bus_world.specs.declared.events.Answer.{Answer}
@@ -73,7 +73,7 @@ use Rattle.bus_world.proofs.Places.{got_split, none_in, only_one}
 use Rattle.bus_world.proofs.TableTrails.{plain_put, plain_mark}
 use Rattle.bus_world.proofs.TurnTrails.{Ties, turn_ties, batch_ties}
 use Rattle.bus_world.proofs.HearTrails.{IsTold, hears_later, hears_more, delivered_to, heads_to}
-use Rattle.bus_world.proofs.HearTrails.{silent_to}
+use Rattle.bus_world.proofs.HearTrails.{silent_to, hears_left}
 use Rattle.bus_world.proofs.Asking.{Askings, still_asked, askings_after, one_waits, frames_later}
 use Rattle.bus_world.proofs.Asking.{own_asked, own_asks, turn_waiting, turn_frames, open_no_marking}
 use Rattle.bus_world.proofs.PutLaws.{nothing_left}
@@ -167,6 +167,7 @@ module _ {E : Type 0} (X : Election E) where
   actions_put b (Turn s word) a b' q w = turn_puts_at (q == s) b.side.words (going b s) word a w
   actions_put b (Recv r) a b' q w = refl
   actions_put b (Stop s) a b' q w = refl
+  actions_put b (Gone r) a b' q w = refl
 
 module _ (bases : List ℕ) {E : Type 0} (X : Election E) (P : Protocol E (Unit {0}) ℕ)
     (laws : Laws X.op X.fed P OneOwner) (x : Layout) (ok : IsLayout x)
@@ -175,7 +176,7 @@ module _ (bases : List ℕ) {E : Type 0} (X : Election E) (P : Protocol E (Unit 
     (owner_is : (e : E) → X.owner e ≡ P.output e)
     (named : (e : E) (word : ℕ) → is_some (X.kind_of e) ≡ is_some (X.op e word))
     (announces : (e : E) → P.has_begun e ≡ false → X.kind_of e ≡ Some kind.Announce)
-    (apart : (e : E) → X.kind_of e ≡ Some kind.TakePage → ⊥) where
+    (apart : (e : E) → X.kind_of e ≡ Some kind.TakePage → ⊥) (flat : x.passers ≡ 0) where
   -- ---- the senders' side
   module _ (b b' : Bus E) (frames : List Frame) (h : LawfulBus (slice_index bases) P x b frames)
       (D : ℕ → List Action) (T : Ties P x b.side D) where
@@ -192,12 +193,12 @@ module _ (bases : List ℕ) {E : Type 0} (X : Election E) (P : Protocol E (Unit 
             → Ties P x (with_sender b.side s (cond t
             (record c { queue = record c.queue { messages = c.queue.messages ++ bytes ∷ [] } }) c))
             (λ q. D q ++ cond (q == s) (HasPut n bytes ∷ []) [])
-        by_test true = batch_ties X P laws x ok width starts owner_is named announces apart b.side
-            frames (side_of h) s c (is_there b s c i) 0 D T
+        by_test true = batch_ties X P laws x ok width starts owner_is named announces apart flat
+            b.side frames (side_of h) s c (is_there b s c i) 0 D T
             (record c { queue = record c.queue { messages = c.queue.messages ++ bytes ∷ [] } })
             (HasPut n bytes ∷ []) refl refl (plain_put n bytes)
-        by_test false = batch_ties X P laws x ok width starts owner_is named announces apart b.side
-            frames (side_of h) s c (is_there b s c i) 0 D T c (HasPut n bytes ∷ []) refl refl
+        by_test false = batch_ties X P laws x ok width starts owner_is named announces apart flat
+            b.side frames (side_of h) s c (is_there b s c i) 0 D T c (HasPut n bytes ∷ []) refl refl
             (plain_put n bytes)
 
     mark_ties : (s : ℕ) (m : Mark) (o : Option (Core E)) → going b s ≡ o
@@ -212,12 +213,12 @@ module _ (bases : List ℕ) {E : Type 0} (X : Election E) (P : Protocol E (Unit 
             → Ties P x (with_sender b.side s
             (cond t (record c { queue = record c.queue { phase = Marking m } }) c))
             (λ q. D q ++ cond (q == s) (HasMarked m ∷ []) [])
-        by_test true = batch_ties X P laws x ok width starts owner_is named announces apart b.side
-            frames (side_of h) s c (is_there b s c i) 0 D T
+        by_test true = batch_ties X P laws x ok width starts owner_is named announces apart flat
+            b.side frames (side_of h) s c (is_there b s c i) 0 D T
             (record c { queue = record c.queue { phase = Marking m } }) (HasMarked m ∷ []) refl refl
             (plain_mark m)
-        by_test false = batch_ties X P laws x ok width starts owner_is named announces apart b.side
-            frames (side_of h) s c (is_there b s c i) 0 D T c (HasMarked m ∷ []) refl refl
+        by_test false = batch_ties X P laws x ok width starts owner_is named announces apart flat
+            b.side frames (side_of h) s c (is_there b s c i) 0 D T c (HasMarked m ∷ []) refl refl
             (plain_mark m)
 
     turning_ties : (s word : ℕ) (o : Option (Core E)) → going b s ≡ o
@@ -233,8 +234,8 @@ module _ (bases : List ℕ) {E : Type 0} (X : Election E) (P : Protocol E (Unit 
         ++ cond (q == s) (turning_actions X b.side.words (Some c) word
         (answer.Turn (answer_at X c (situation_of X c)
         (number_found (slice_index b.side.words) (op_at X c (situation_of X c) word)) word))) []))
-        (sym d) (turn_ties X P laws x ok width starts owner_is named announces apart b.side frames
-        (side_of h) s c (is_there b s c i) word D T))
+        (sym d) (turn_ties X P laws x ok width starts owner_is named announces apart flat b.side
+        frames (side_of h) s c (is_there b s c i) word D T))
 
     event_ties : (e : Event) (a : Answer) → Happens X b e b' → Answers X b e a b'
         → Ties P x b'.side (λ q. D q ++ actions_of X b e a q)
@@ -247,6 +248,8 @@ module _ (bases : List ℕ) {E : Type 0} (X : Election E) (P : Protocol E (Unit 
     event_ties (Recv r) a d w = subst (λ z. Ties P x z (λ q. D q ++ [])) (sym d.0)
         (subst (Ties P x b.side) (sym (fun_ext (λ q. append-nil (D q)))) T)
     event_ties (Stop s) a d w = subst (λ z. Ties P x z (λ q. D q ++ [])) (sym d.0)
+        (subst (Ties P x b.side) (sym (fun_ext (λ q. append-nil (D q)))) T)
+    event_ties (Gone r) a d w = subst (λ z. Ties P x z (λ q. D q ++ [])) (sym d.0)
         (subst (Ties P x b.side) (sym (fun_ext (λ q. append-nil (D q)))) T)
 
   -- ---- who asked for a mark
@@ -345,6 +348,10 @@ module _ (bases : List ℕ) {E : Type 0} (X : Election E) (P : Protocol E (Unit 
         (λ z. Askings (slice_get z.senders) frames (λ q. D q ++ [])) (sym d.0)
         (subst (Askings (slice_get b.side.senders) frames) (sym (fun_ext (λ q. append-nil (D q))))
         C)
+    event_askings (Gone r) a d w = subst
+        (λ z. Askings (slice_get z.senders) frames (λ q. D q ++ [])) (sym d.0)
+        (subst (Askings (slice_get b.side.senders) frames) (sym (fun_ext (λ q. append-nil (D q))))
+        C)
 
   -- ---- the receivers
   -- each has heard what stands below its place, and where there is none nothing is heard
@@ -373,6 +380,31 @@ module _ (bases : List ℕ) {E : Type 0} (X : Election E) (P : Protocol E (Unit 
       silent = λ r i. append-nil (A r) ∙ H.silent r (ap (λ z. slice_get z r) (sym same) ∙ i);
     }
 
+    -- one that leaves hears nothing more, and what it heard stays
+    leaver_hears : (q : ℕ) (o : Option Receiving) → slice_get b.receivers q ≡ o
+        → LeaverDoes b.receivers q o b'.receivers
+        → Heard (frames ++ more) b'.receivers (λ r. A r ++ [])
+    leaver_hears q None i d = nobody_hears d
+    leaver_hears q (Some v) i d = record {
+      each = λ r u j. set_each b.receivers q v (with_leave v) i
+          (λ n w. Hears (frames ++ more) w (A n ++ [])) later
+          (hears_left (frames ++ more) v (A q ++ []) (later q v i)) r u
+          (ap (λ z. slice_get z r) (sym d) ∙ j);
+      silent = λ r j. elim (eqb_tells r q) [
+        | inl y ↦ absurd (none-some (with_leave v) (sym j ∙ ap (slice_get b'.receivers) y.1
+            ∙ ap (λ z. slice_get z q) d ∙ get_set_same b.receivers q (with_leave v)
+            (slice_get_within b.receivers q v i)))
+        | inr y ↦
+            append-nil (A r)
+            ∙ H.silent r (sym (get_set_other b.receivers q (with_leave v) r y.1)
+            ∙ ap (λ z. slice_get z r) (sym d) ∙ j)
+      ];
+    } where
+      later : (r : ℕ) (w : Receiving) → slice_get b.receivers r ≡ Some w
+          → Hears (frames ++ more) w (A r ++ [])
+      later r w j = subst (Hears (frames ++ more) w) (sym (append-nil (A r)))
+          (hears_later frames more w (A r) (below r w j) (H.each r w j))
+
     one_hears : b'.side ≡ b.side → (lawful : LawfulBus (slice_index bases) P x b' (frames ++ more))
         → (q : ℕ) (o : Option Receiving) → slice_get b.receivers q ≡ o → (a : Answer)
         → RecvAnswers b.side.words b.receivers q o a b'.receivers
@@ -396,7 +428,7 @@ module _ (bases : List ℕ) {E : Type 0} (X : Election E) (P : Protocol E (Unit 
                 h.keeps.sending.log.lawful (length-logged h.keeps.sending.log) v
                 (h.keeps.receiving q v i).senders (h.keeps.receiving q v i).receives (A q)
                 (H.each q v i) w.1 w.0 (slice_index b.side.words)
-                (found_flat x frames (slice_index b.side.words) h.keeps.sending.log v
+                (found_flat x flat frames (slice_index b.side.words) h.keeps.sending.log v
                 (h.keeps.receiving q v i)) w.2))))
             | inr y ↦
                 let was =
@@ -436,6 +468,7 @@ module _ (bases : List ℕ) {E : Type 0} (X : Election E) (P : Protocol E (Unit 
     event_heard lawful (Turn s word) a d w = nobody_hears d.1
     event_heard lawful (Recv r) a d w = one_hears d.0 lawful r (slice_get b.receivers r) refl a w
     event_heard lawful (Stop s) a d w = nobody_hears d.1
+    event_heard lawful (Gone r) a d w = leaver_hears r (slice_get b.receivers r) refl d.1
 
   -- ---- the numbers of messages
   module _ (b : Bus E) (frames : List Frame) (h : LawfulBus (slice_index bases) P x b frames) where
@@ -518,6 +551,7 @@ module _ (bases : List ℕ) {E : Type 0} (X : Election E) (P : Protocol E (Unit 
             (ap (λ z. slice_get (turning_actions X b.side.words (Some c) word z) j) (sym told) ∙ f)
     numbers b' (Recv r) a w q j n bytes e = absurd (none_in j _ e)
     numbers b' (Stop s) a w q j n bytes e = absurd (none_in j _ e)
+    numbers b' (Gone r) a w q j n bytes e = absurd (none_in j _ e)
 
   -- ---- what is published
   words_by : (o : Option (Core E)) (frames : List Frame)
@@ -532,6 +566,7 @@ module _ (bases : List ℕ) {E : Type 0} (X : Election E) (P : Protocol E (Unit 
   event_words b (Turn s word) frames = words_by (going b s) frames
   event_words b (Recv r) frames = refl
   event_words b (Stop s) frames = refl
+  event_words b (Gone r) frames = refl
 
   -- ---- one event, and any list of them
   pub record Kept (b : Bus E) (T : Trails) : Type 0 where
@@ -550,7 +585,8 @@ module _ (bases : List ℕ) {E : Type 0} (X : Election E) (P : Protocol E (Unit 
   event_on : (b b' : Bus E) (e : Event) (a : Answer) (T : Trails) (k : Kept b T) → IsEvent e
       → Happens X b e b' → Answers X b e a b' → KeptOn k.frames b' (trails_grown X b e a T)
   event_on b b' e a T k is d w =
-      let after = event_left X P laws x ok width starts owner_is b k.frames k.lawful b' e is d in
+      let after =
+      event_left X P laws x ok width starts owner_is flat b k.frames k.lawful b' e is d in
       let more = after.left.continues.more in
       let frames_are : k.frames ++ more ≡ event_frames X b e k.frames =
       after.left.continues.together ∙ after.now_is in
@@ -571,7 +607,8 @@ module _ (bases : List ℕ) {E : Type 0} (X : Election E) (P : Protocol E (Unit 
               flat_map-append _ (T.actions s) (actions_of X b e a s)
               ∙ ap (λ z. z ++ puts (actions_of X b e a s)) (k.tied.puts s)
               ∙ ap (λ z. put_by b k.frames s ++ z) (actions_put X b e a b' s w)
-              ∙ sym (event_puts X P laws x ok width starts owner_is b k.frames k.lawful b' e d s)
+              ∙ sym (event_puts X P laws x ok width starts owner_is flat b k.frames k.lawful b' e d
+              s)
               ∙ ap (λ z. put_by b' z s) (sym frames_are);
           counted = λ s. numbered_more (slice_index bases s) (T.actions s) (actions_of X b e a s)
               (k.tied.counted s) (λ j n bytes i.
@@ -611,7 +648,7 @@ module _ (bases : List ℕ) {E : Type 0} (X : Election E) (P : Protocol E (Unit 
     start_kept : Kept b no_trails
     start_kept = record {
       frames = [];
-      lawful = new_is_lawful X P laws x ok width starts owner_is bases b new;
+      lawful = new_is_lawful X P laws x ok width starts owner_is flat bases b new;
       log_is = refl;
       tied = record {
         tables = record {

@@ -1,12 +1,11 @@
 -- A turn of a receiver keeps what ties its trail to its place.
-use Rattle.std.proofs.Common.{◌≡◌, ◌≢◌, ℕ, zero, suc, ◌+◌, ◌<◌, ◌≤◌, Bool, true, false, cond, ◌||◌}
+use Rattle.std.proofs.Common.{◌≡◌, ◌≢◌, ℕ, zero, suc, ◌+◌, ◌<◌, ◌≤◌, Bool, true, false, ◌||◌}
 use Rattle.std.proofs.Common.{Option, Some, None, ◌⊎◌, inl, inr, List, [], ◌∷◌, ◌++◌, length, map}
 use Rattle.std.proofs.Common.{flat_map, take, drop, slice_get, slice_index, arith, refl, sym, ◌∙◌}
 use Rattle.std.proofs.Common.{ap, subst}
 use Rattle.std.specs.List.{list_any}
 use Rattle.std.proofs.Math.Bool.{or-false}
 use Rattle.std.proofs.lemmas.Bool.{cases_eq, cases_lt, or_right}
-use Rattle.std.proofs.lemmas.Bool.Decides.{eqb_tells}
 use Rattle.std.proofs.lemmas.Grind.{flat_map-append}
 use Rattle.std.proofs.lemmas.List.{append-nil, take-append-le, take-append-drop, take_more}
 use Rattle.std.proofs.lemmas.List.Folds.{list_any-append}
@@ -19,6 +18,7 @@ use Rattle.bus_batch.specs.Frames.{piece_owners, is_end, tenure_and_owner}
 use Rattle.bus_batch.proofs.PieceLaws.{owners_in-log}
 use Rattle.bus_deliverylog.specs.Orders.{IsPrefixOfOrder}
 use Rattle.bus_deliverylog.specs.Receiving.{Receiving, LogReading, turn_of, passing_due}
+use Rattle.bus_deliverylog.specs.Receiving.{with_leave}
 use Rattle.bus_deliverylog.specs.declared.receiving.RecvTurn.{RecvTurn}
 use Rattle.bus_deliverylog.specs.declared.receiving.RecvTurn.TheVariants as heard
 use Rattle.bus_world.proofs.ReceivingLaws.{given_is_prefix, length-log_pieces, next_word}
@@ -112,6 +112,17 @@ hears_later frames more v trail l h =
       going = h.going;
       silent = h.silent;
     }
+
+-- ---- a receiver that has left for good
+pub hears_left : (frames : List Frame) (v : Receiving) (trail : List RecvTurn)
+    → Hears frames v trail → Hears frames (with_leave v) trail
+hears_left frames v trail h = record {
+  given_is = h.given_is;
+  heads_are = h.heads_are;
+  ended = h.ended;
+  going = h.going;
+  silent = h.silent;
+}
 
 -- ---- after the end
 end_given : (trail : List RecvTurn) (j : ℕ) → slice_get trail j ≡ Some heard.End

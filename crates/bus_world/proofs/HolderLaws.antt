@@ -21,7 +21,7 @@ use Rattle.bus_tenure.specs.declared.phases.Reason.{Reason}
 use Rattle.bus_tenure.specs.declared.phases.Reason.TheVariants.{Sent}
 use Rattle.bus_tenure.specs.declared.pages.Page.{Page}
 use Rattle.bus_tenure.specs.declared.phases.Phase.TheVariants as phase
-use Rattle.bus_world.specs.Log.{words_read_from, next_number, AreCounted, Knows}
+use Rattle.bus_world.specs.Log.{words_read_from, next_number, AreCounted, KeepsFloor, Knows}
 use Rattle.bus_world.specs.Proved.Sending.{AreEarlier, Logged, stands_at, standing_of, least_of}
 use Rattle.bus_world.specs.Proved.Sending.{GoesOn, IsWriting, HasBegun, Fits, Part, Sending}
 use Rattle.bus_world.proofs.LogLaws.{read-agree, Logged-agree, Logged-publish, next-append_other}
@@ -37,7 +37,7 @@ use Rattle.bus_world.specs.World.{IsLayout}
 use Rattle.bus_world.proofs.SenderParts.{still_here, Knows-len, part_of, IsUnsent, left_shut}
 use Rattle.bus_world.proofs.SenderParts.{noted_own, noted_other, not_busy, sender_after, none_short}
 use Rattle.bus_world.proofs.SenderParts.{unsent_goes_on, unsent_queue, unsent_knows}
-use Rattle.bus_world.proofs.SenderParts.{AreOwned-append}
+use Rattle.bus_world.proofs.SenderParts.{floor_after, AreOwned-append}
 use Rattle.bus_world.proofs.BusLaws as bus
 
 module _ {E : Type 0} (X : Election E) (P : Protocol E (Unit {0}) ℕ)
@@ -87,9 +87,21 @@ module _ {E : Type 0} (X : Election E) (P : Protocol E (Unit {0}) ℕ)
             × (L p ≤ t)
         held = h.tenures.holding p t is_holder
 
+        -- where no word of the log is used again
+        pub floor_flat : x.passers ≡ 0 → KeepsFloor page
+        floor_flat flat = by published (subst (Fits base words frames c) holds own_part.fits) where
+          own_flat : c.layout.passers ≡ 0
+          own_flat = ap (λ (z : Layout). z.passers) own_part.layout ∙ flat
+
+          by : (b : Bool) → Fits base words frames c (phase.Holding t page stored b)
+              → KeepsFloor page
+          by true f = f.1.flat own_flat
+          by false f = f.1.flat own_flat
+
         -- ── it stores the next word of its frame ──
         module _ (words' : ℕ → ℕ) (none_yet : published ≡ false) (is_open : page.ended ≡ false)
-            (room : page.words + frame_len c ≤ c.layout.capacity) (more : stored < frame_len c)
+            (room : page.words + frame_len c ≤ c.layout.capacity + page.floor)
+            (more : stored < frame_len c)
             (word : words' (log_at c.layout + page.words + stored)
             ≡ slice_index (frame_words (frame_of c.queue t)) stored)
             (elsewhere : (r : ℕ) → r ≢ log_at c.layout + page.words + stored → words' r ≡ words r)
@@ -119,6 +131,7 @@ module _ {E : Type 0} (X : Election E) (P : Protocol E (Unit {0}) ℕ)
             page_knows = Knows-len page frames t (words 0) (words' 0) len_same w.page_knows;
             earlier = w.earlier;
             stored_below = omega arith;
+            flat = w.flat;
             allowed = λ z. (is_open, room);
             words_are =
                 let at = log_at c.layout + words' 0 in
@@ -148,13 +161,14 @@ module _ {E : Type 0} (X : Election E) (P : Protocol E (Unit {0}) ℕ)
                 (λ r a b. past r (let w = ap (λ z. x.rows * z) width in omega arith)) stage_same
                 refl (S-same (ap (λ z. stands_at z.phase) goes ∙ sym (ap stands_at holds)))
                 (L-same (ap (λ z. z.least) goes)) refl;
-            log = subst (λ z. Logged base x.senders x.capacity (log_at x) words' z frames)
-                (sym len_same) (Logged-agree x.senders x.capacity (log_at x) words (words 0) frames
-                h.log words' (λ r a b. past r (omega arith)));
+            log = subst (λ z. Logged base x words' z frames) (sym len_same)
+                (Logged-agree x words (words 0) frames h.log words'
+                (λ r a b. past r (omega arith)));
             owned = h.owned;
             page_knows = λ g u a b.
                 let k = h.page_knows g u a (sym stage_same ∙ b) in
                 (Knows-len g frames u (words 0) (words' 0) len_same k.0, k.1);
+            flat_home = h.flat_home;
             parts = parts_from words' frames
                 (others_rest t words' frames is_holder (λ q ne. (refl, refl)))
                 (subst (Part base x words' frames p) (sym goes)
@@ -163,9 +177,86 @@ module _ {E : Type 0} (X : Election E) (P : Protocol E (Unit {0}) ℕ)
             chosen = chosen_holding t page (stored + 1) false (ap (λ z. z.phase) goes);
           }
 
+        -- ── its page gets a higher floor, where words of the log are used again ──
+        module _ (floor : ℕ) (higher : page.floor ≤ floor) (low : floor ≤ page.words)
+            (again : x.passers ≡ 0 → ⊥)
+            (goes : c'
+            ≡ record c { phase = phase.Holding t (record page { floor = floor }) stored published })
+          where
+            abbrev raised : Page
+            raised = record page { floor = floor }
+
+            knows_raised : (fs : List Frame) (past len : ℕ) → Knows base page fs past len
+                → Knows base raised fs past len
+            knows_raised fs past len k = record {
+              entries = k.entries;
+              next = k.next;
+              left = k.left;
+              ended = k.ended;
+              tenures = k.tenures;
+              words = k.words;
+              floor = low;
+            }
+
+            never_flat : c.layout.passers ≡ 0 → ⊥
+            never_flat flat = again (sym (ap (λ (z : Layout). z.passers) own_part.layout) ∙ flat)
+
+            fits_raised : (b : Bool) → Fits base words frames c (phase.Holding t page stored b)
+                → Fits base words frames
+                (record c { phase = phase.Holding t raised stored published })
+                (phase.Holding t raised stored b)
+            fits_raised false f = (
+              f.0,
+              let w = f.1 in
+                  record {
+                    goes_on = w.goes_on;
+                    page_knows = knows_raised frames t (words 0) w.page_knows;
+                    earlier = w.earlier;
+                    stored_below = w.stored_below;
+                    flat = λ flat. absurd (never_flat flat);
+                    allowed = λ some.
+                        let a = w.allowed some in (a.0, (let b = a.1 in omega arith));
+                    words_are = w.words_are;
+                  },
+            )
+            fits_raised true f = (
+              f.0,
+              let w = f.1 in
+                  record {
+                    front = w.front;
+                    frames_are = w.frames_are;
+                    goes_on = w.goes_on;
+                    page_knows = knows_raised w.front t page.words w.page_knows;
+                    flat = λ flat. absurd (never_flat flat);
+                    earlier = w.earlier;
+                    is_open = w.is_open;
+                    len_is = w.len_is;
+                  },
+            )
+
+            pub raises : Sending base P x words home senders' owners frames
+            raises = record {
+              tenures = tenures.same X.op X.fed P laws x.senders x.rows 2 words (words 1)
+                  (is_some home) S L owners h.tenures words (words 1) (is_some home) S' L' owners
+                  (λ r a b. refl) refl refl
+                  (S-same (ap (λ z. stands_at z.phase) goes ∙ sym (ap stands_at holds)))
+                  (L-same (ap (λ z. z.least) goes)) refl;
+              log = h.log;
+              owned = h.owned;
+              page_knows = h.page_knows;
+              flat_home = h.flat_home;
+              parts = parts_from words frames (λ q d ne e. h.parts q d e)
+                  (subst (Part base x words frames p) (sym goes)
+                  (part_of x words words frames frames p c (phase.Holding t raised stored published)
+                  own_part (fits_raised published (subst (Fits base words frames c) holds
+                  own_part.fits))));
+              chosen = chosen_holding t raised stored published (ap (λ z. z.phase) goes);
+            }
+
         -- ── it stores the length ──
         module _ (words' : ℕ → ℕ) (none_yet : published ≡ false) (is_open : page.ended ≡ false)
-            (room : page.words + frame_len c ≤ c.layout.capacity) (all : frame_len c ≤ stored)
+            (room : page.words + frame_len c ≤ c.layout.capacity + page.floor)
+            (all : frame_len c ≤ stored)
             (word : words' 0 ≡ page.words + frame_len c)
             (elsewhere : (r : ℕ) → r ≢ 0 → words' r ≡ words r)
             (goes : c' ≡ record c { phase = phase.Holding t page stored true }) where
@@ -216,6 +307,13 @@ module _ {E : Type 0} (X : Election E) (P : Protocol E (Unit {0}) ℕ)
               (own_part.me ∙ sym sender_is)
               (still_here base frames c written.1.goes_on written.0.is_open)
 
+          -- where no word of the log is used again
+          fits_flat : x.passers ≡ 0 → words 0 + length (frame_words f) ≤ x.capacity
+          fits_flat flat =
+              let floor = floor_flat flat in
+              let a = written.1.page_knows.words in
+              let b = ap (λ (z : Layout). z.capacity) own_part.layout in omega arith
+
           pub publishes : Sending base P x words' home senders' owners (frames ++ f ∷ [])
           publishes = record {
             tenures = tenures.same X.op X.fed P laws x.senders x.rows 2 words (words 1)
@@ -223,19 +321,15 @@ module _ {E : Type 0} (X : Election E) (P : Protocol E (Unit {0}) ℕ)
                 (λ r a b. elsewhere r (omega arith)) (elsewhere 1 (omega arith)) refl
                 (S-same (ap (λ z. stands_at z.phase) goes ∙ sym (ap stands_at holds)))
                 (L-same (ap (λ z. z.least) goes)) refl;
-            log = subst
-                (λ z. Logged base x.senders x.capacity (log_at x) words' z (frames ++ f ∷ []))
-                (sym len_now)
-                (Logged-agree x.senders x.capacity (log_at x) words
-                (words 0 + length (frame_words f)) (frames ++ f ∷ [])
-                (Logged-publish x.senders x.capacity (log_at x) words (words 0) frames h.log f
-                frame_lawful still_open has_stayed written.1.earlier counts whole
-                (let a = written.1.page_knows.words in
-                let b = ap (λ (z : Layout). z.capacity) own_part.layout in omega arith))
+            log = subst (λ z. Logged base x words' z (frames ++ f ∷ [])) (sym len_now)
+                (Logged-agree x words (words 0 + length (frame_words f)) (frames ++ f ∷ [])
+                (Logged-publish x words (words 0) frames h.log f frame_lawful still_open has_stayed
+                written.1.earlier counts whole fits_flat)
                 words' (λ r a b. elsewhere r (omega arith)));
             owned = AreOwned-append owners frames f h.owned (held.2 ∙ ap Some (sym sender_is));
             page_knows = λ g u a b.
                 absurd (let y = elsewhere 1 (omega arith) in let z = held.1 in omega arith);
+            flat_home = h.flat_home;
             parts = parts_from words' (frames ++ f ∷ [])
                 (others_rest t words' (frames ++ f ∷ []) is_holder
                 (λ q ne. say_same base q frames f (λ e. ne (e ∙ sender_is))))
@@ -249,6 +343,7 @@ module _ {E : Type 0} (X : Election E) (P : Protocol E (Unit {0}) ℕ)
                     goes_on = written.1.goes_on;
                     page_knows = Knows-len page frames t (words 0) page.words
                         written.1.page_knows.words written.1.page_knows;
+                    flat = written.1.flat;
                     earlier = written.1.earlier;
                     is_open = is_open;
                     len_is = word;
@@ -277,9 +372,9 @@ module _ {E : Type 0} (X : Election E) (P : Protocol E (Unit {0}) ℕ)
                 S-beside L' (ap least_of new ∙ ap (λ z. z.least) goes) L-beside)
                 words' (words' 1) true S' L' owners (λ r a b. elsewhere r (omega arith)) stage refl
                 (λ q. refl) (λ q. refl) refl;
-            log = subst (λ z. Logged base x.senders x.capacity (log_at x) words' z frames)
-                (sym (elsewhere 0 (omega arith))) (Logged-agree x.senders x.capacity (log_at x)
-                words (words 0) frames h.log words' (λ r a b. elsewhere r (omega arith)));
+            log = subst (λ z. Logged base x words' z frames) (sym (elsewhere 0 (omega arith)))
+                (Logged-agree x words (words 0) frames h.log words'
+                (λ r a b. elsewhere r (omega arith)));
             owned = h.owned;
             page_knows = λ g u a b.
                 let g_is : page_after c t page reason ≡ g = same_Some _ _ a in
@@ -290,8 +385,10 @@ module _ {E : Type 0} (X : Election E) (P : Protocol E (Unit {0}) ℕ)
                       (elsewhere 0 (omega arith)) knows_now)),
                   subst (λ z. AreEarlier z frames) u_is earlier_now,
                 );
+            flat_home = λ flat g a.
+                subst KeepsFloor (same_Some _ _ a) (floor_after c t page reason ∙ floor_flat flat);
             parts = parts_from words' frames (others_agree words'
-                (λ r a b. elsewhere r (omega arith)) (elsewhere 0 (omega arith)))
+                (λ r a. elsewhere r (omega arith)) (elsewhere 0 (omega arith)))
                 (subst (Part base x words' frames p) (sym goes) record {
                   layout = own_part.layout;
                   me = own_part.me;
@@ -390,7 +487,7 @@ module _ {E : Type 0} (X : Election E) (P : Protocol E (Unit {0}) ℕ)
                     ∙ ap has_end (sym w.1.frames_are);
                 tenures = refl;
                 words = sym w.1.len_is;
-                floor = k.floor;
+                floor = (let a = k.floor in omega arith);
               }
               (subst (AreEarlier (t + 1)) (sym w.1.frames_are)
               (AreEarlier-append (t + 1) w.1.front f

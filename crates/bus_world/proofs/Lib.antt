@@ -31,11 +31,17 @@ pub mod Beginning
 pub mod CyclicProtocolWords
 pub mod RingWords
 pub mod Standing
+pub mod FloorLaws
+pub mod RingLaws
 pub mod CyclicProtocolNotes
 pub mod CyclicProtocolHears
 pub mod CyclicProtocolKept
 pub mod CyclicProtocolPins
 pub mod CyclicProtocolElections
 pub mod CyclicProtocolHolders
+pub mod ReceiverSteps
+pub mod CyclicProtocolReads
+pub mod CyclicProtocolPasses
 pub mod CyclicProtocolLaws
+pub mod RingRefused
 pub mod PlacedSteps

@@ -21,6 +21,7 @@ use Rattle.bus_batch.proofs.PieceLaws.{entries_are_items}
 use Rattle.bus_register.specs.declared.registers.SenderNo.{SenderNo}
 use Rattle.bus_deliverylog.specs.Orders.{of_sender}
 use Rattle.bus_world.specs.Log.{words_read_from, sent_count, next_number, AreCounted}
+use Rattle.bus_tenure.specs.Core.{Layout, log_at}
 use Rattle.bus_world.specs.Proved.Sending.{AreEarlier, Logged}
 
 -- ---- words
@@ -51,10 +52,10 @@ length-read words at (suc k) =
     length-append (words_read_from words at k) (words (at + k) ∷ [])
     ∙ (let z = length-read words at k in omega arith)
 
-pub length-logged : {base : ℕ → ℕ} {n capacity at len : ℕ} {words : ℕ → ℕ} {frames : List Frame}
-    → Logged base n capacity at words len frames → length (log_words frames) ≡ len
-length-logged {base} {n} {capacity} {at} {len} {words} log =
-    sym (ap length log.words_are) ∙ length-read words at len
+pub length-logged : {base : ℕ → ℕ} {x : Layout} {len : ℕ} {words : ℕ → ℕ} {frames : List Frame}
+    → Logged base x words len frames → length (log_words frames) ≡ len
+length-logged {base} {x} {len} {words} log =
+    sym (ap length log.words_are) ∙ length-read words (log_at x) len
 
 pub index-read : (words : ℕ → ℕ) (at k i : ℕ) → i < k
     → slice_index (words_read_from words at k) i ≡ words (at + i)
@@ -241,31 +242,33 @@ pub others_items : (s : ℕ) (f : Frame) → s ≢ f.owner.0
     → filter (λ i. i.sender.0 == s) (items_of f) ≡ []
 others_items s f ne = others_body s f.owner f.body ne
 
-module _ {base : ℕ → ℕ} (n capacity at : ℕ) (words : ℕ → ℕ) (len : ℕ) (frames : List Frame)
-    (h : Logged base n capacity at words len frames) where
+module _ {base : ℕ → ℕ} (x : Layout) (words : ℕ → ℕ) (len : ℕ) (frames : List Frame)
+    (h : Logged base x words len frames) where
   -- words past the length do not matter
-  pub Logged-agree : (words' : ℕ → ℕ) → Agree at len words words'
-      → Logged base n capacity at words' len frames
+  pub Logged-agree : (words' : ℕ → ℕ) → Agree (log_at x) len words words'
+      → Logged base x words' len frames
   Logged-agree words' same = record {
     lawful = h.lawful;
-    words_are = read-agree words words' at len same ∙ h.words_are;
+    words_are = read-agree words words' (log_at x) len same ∙ h.words_are;
     fits = h.fits;
     low = h.low;
     counted = h.counted;
   }
 
   -- a frame whose words stand past the length is published by raising the length
-  pub Logged-publish : (f : Frame) → IsFrame n f → has_end frames ≡ false
+  pub Logged-publish : (f : Frame) → IsFrame x.senders f → has_end frames ≡ false
       → has_gone f.owner.0 (order_of frames) ≡ false → AreEarlier f.tenure frames
       → AreCounted (next_number base f.owner.0 frames) (items_of f)
-      → words_read_from words (at + len) (length (frame_words f)) ≡ frame_words f
-      → len + length (frame_words f) ≤ capacity
-      → Logged base n capacity at words (len + length (frame_words f)) (frames ++ f ∷ [])
+      → words_read_from words (log_at x + len) (length (frame_words f)) ≡ frame_words f
+      → (x.passers ≡ 0 → len + length (frame_words f) ≤ x.capacity)
+      → Logged base x words (len + length (frame_words f)) (frames ++ f ∷ [])
   Logged-publish f is open_ended stays earlier counts stored fits = record {
-    lawful = AreFramesFrom-append n 0 frames f h.lawful is open_ended earlier (omega arith) stays;
+    lawful =
+        AreFramesFrom-append x.senders 0 frames f h.lawful is open_ended earlier (omega arith)
+        stays;
     words_are =
-        read-add words at len (length (frame_words f))
-        ∙ ap (λ z. z ++ words_read_from words (at + len) (length (frame_words f))) h.words_are
+        read-add words (log_at x) len (length (frame_words f))
+        ∙ ap (λ z. z ++ words_read_from words (log_at x + len) (length (frame_words f))) h.words_are
         ∙ ap (λ z. log_words frames ++ z) stored ∙ sym (log_words-append frames f);
     fits = fits;
     low = h.low;

@@ -14,7 +14,8 @@ use Rattle.bus_presence.specs.Reclamation.{reclaimer_after}
 use Rattle.bus_presence.proofs.ReclamationKept.{Keeps, one_of_row}
 use Rattle.bus_presence.proofs.RowLaws.{IsLive, live_apart, alive_same}
 use Rattle.bus_tenure.specs.Core.{Layout, row_at, log_at}
-use Rattle.bus_world.proofs.CyclicProtocolWords.{IsQuiet, far_rows}
+use Rattle.bus_world.proofs.CyclicProtocolWords.{IsQuiet, behind_rows, far_rows}
+use Rattle.bus_world.specs.Proved.Floors.{passed_place}
 use Rattle.bus_core.specs.Reusing.Participants.{sizes_with, log_from}
 
 -- Words of 0 to the log's end stand in a ring: of all that was stored so far the last, as many as
@@ -172,6 +173,25 @@ module _ (x : Layout) (rows : ℕ) where
               let same = ap (λ y. y / 2) stage in
               there (row_at x u + j) (λ e. omega arith) ∙ l.late u j (omega arith) room less;
         }
+
+  -- a passed place, of which the other table has none
+  module _ (h : Reclamation) (V : ℕ → ℕ) (W : ℕ) (l : Laid h V W) (r n : ℕ) (low : r < x.passers)
+    where
+      pub laid_passed : 2 ≤ rows
+          → Laid (record h { words = put (passed_place x rows r) n h.words }) V W
+      laid_passed two = let here = put_beside (passed_place x rows r) n h.words in
+          let stage = here 1 (λ e. omega arith) in record {
+            length = here 0 (λ e. omega arith) ∙ l.length;
+            stage = stage ∙ l.stage;
+            log = λ j less last.
+                here (log_from x rows + j % x.capacity) (λ e. omega arith) ∙ l.log j less last;
+            row = λ u j room less live.
+                here (row_of z u + j) (λ e. behind_rows x rows two u j r less (sym e))
+                ∙ l.row u j room less (alive_same z h
+                (record h { words = put (passed_place x rows r) n h.words }) u stage refl live);
+            late = λ u j late room less.
+                let same = ap (λ y. y / 2) stage in l.late u j (omega arith) room less;
+          }
 
   -- the stage, where the page is taken: the reclaimer of the next row begins, and has passed nobody
   module _ (h : Reclamation) (T : Trails) (keeps : Keeps z h T) (pins : ℕ → Pin) (V : ℕ → ℕ) (W : ℕ)

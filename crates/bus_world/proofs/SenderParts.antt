@@ -1,13 +1,12 @@
 -- What is kept of one sender beside the steps of others: its part, who has left, and who owns a
 -- frame; and what it keeps that gives a page back without having published.
-use Rattle.std.proofs.Common.{◌≡◌, ◌≢◌, ℕ, ◌+◌, ◌<◌, ◌≤◌, Bool, true, false, Some, List, [], ◌∷◌}
+use Rattle.std.proofs.Common.{◌≡◌, ◌≢◌, ℕ, ◌+◌, Bool, true, false, Some, List, [], ◌∷◌}
 use Rattle.std.proofs.Common.{◌++◌, cond, slice_get, slice_set, arith, refl, sym, ◌∙◌, ap, subst}
 use Rattle.std.proofs.lemmas.Bool.{true≢false}
 use Rattle.std.specs.Prelude.{All}
 use Rattle.std.proofs.lemmas.List.Elements.{All-from_recursion}
 use Rattle.bus_batch.specs.Messages.{IsMessage}
 use Rattle.std.proofs.lemmas.Option.{slice_get_within}
-use Rattle.bus_register.specs.Tables.{Agree}
 use Rattle.bus_batch.specs.Batches.{Pending, IsKept, phase_sent}
 use Rattle.bus_batch.specs.declared.batches.Phase.{Phase as BatchPhase}
 use Rattle.bus_batch.specs.declared.batches.Phase.TheVariants.{Open, Marking, Closed}
@@ -19,7 +18,7 @@ use Rattle.bus_tenure.specs.declared.phases.Reason.TheVariants.{Sent, FoundEnd, 
 use Rattle.bus_tenure.specs.declared.pages.Page.{Page}
 use Rattle.bus_tenure.specs.declared.phases.Phase.{Phase}
 use Rattle.bus_tenure.specs.declared.phases.Phase.TheVariants as phase
-use Rattle.bus_world.specs.Log.{words_read_from, Knows}
+use Rattle.bus_world.specs.Log.{AgreeFrom, words_read_from, Knows}
 use Rattle.bus_world.specs.Proved.Sending.{stands_at, GoesOn, IsWriting, Fits, Part, AreOwned}
 use Rattle.bus_register.specs.Proved.TableLaws.{push_beside, get_set_same, get_set_other}
 use Rattle.bus_world.proofs.LogLaws.{read-agree, SaySame}
@@ -60,7 +59,7 @@ Knows-len {base} page frames past len len' e k =
 
 module _ (base : ℕ → ℕ) {E : Type 0} (x : Layout) (words words' : ℕ → ℕ) (frames : List Frame)
     (c : Core E) (layout : c.layout ≡ x)
-    (agree : Agree (log_at x) x.capacity words words') (len : words' 0 ≡ words 0) where
+    (agree : AgreeFrom (log_at x) words words') (len : words' 0 ≡ words 0) where
   writing_stays : (t : ℕ) (page : Page) (stored : ℕ) → IsWriting base words frames c t page stored
       → IsWriting base words' frames c t page stored
   writing_stays t page stored w = record {
@@ -68,20 +67,13 @@ module _ (base : ℕ → ℕ) {E : Type 0} (x : Layout) (words words' : ℕ → 
     page_knows = Knows-len page frames t (words 0) (words' 0) len w.page_knows;
     earlier = w.earlier;
     stored_below = w.stored_below;
+    flat = w.flat;
     allowed = w.allowed;
     words_are =
         ap (λ z. words_read_from words' (log_at c.layout + z) stored) len
         ∙ read-agree words words' (log_at c.layout + words 0) stored
-        (λ r a b. agree r (let z = ap log_at layout in omega arith) (bound r a b)) ∙ w.words_are;
-  } where
-    bound : (r : ℕ) → log_at c.layout + words 0 ≤ r → r < log_at c.layout + words 0 + stored
-        → r < log_at x + x.capacity
-    bound r a b =
-        let l = ap log_at layout in let cap = ap (λ (z : Layout). z.capacity) layout in
-        let positive : 0 < stored = omega arith in
-        let room = (w.allowed positive).1 in
-        let knows = w.page_knows.words in let below = w.stored_below in
-        omega arith
+        (λ r a b. agree r (let z = ap log_at layout in omega arith)) ∙ w.words_are;
+  }
 
   Fits-agree : (ph : Phase E) → Fits base words frames c ph → Fits base words' frames c ph
   Fits-agree phase.Resting f = f
@@ -96,6 +88,7 @@ module _ (base : ℕ → ℕ) {E : Type 0} (x : Layout) (words words' : ℕ → 
           frames_are = h.frames_are;
           goes_on = h.goes_on;
           page_knows = h.page_knows;
+          flat = h.flat;
           earlier = h.earlier;
           is_open = h.is_open;
           len_is = len ∙ h.len_is;
@@ -104,7 +97,7 @@ module _ (base : ℕ → ℕ) {E : Type 0} (x : Layout) (words words' : ℕ → 
   Fits-agree (phase.Giving t reason) f = f
 
 pub Part-agree : {base : ℕ → ℕ} {E : Type 0} (x : Layout) (words words' : ℕ → ℕ)
-    (frames : List Frame) (p : ℕ) (c : Core E) → Agree (log_at x) x.capacity words words'
+    (frames : List Frame) (p : ℕ) (c : Core E) → AgreeFrom (log_at x) words words'
     → words' 0 ≡ words 0 → Part base x words frames p c → Part base x words' frames p c
 Part-agree {base} x words words' frames p c agree len h = record {
   layout = h.layout;
@@ -225,6 +218,13 @@ unsent_knows NoRoom u c t page frames len k = record {
   words = k.words;
   floor = k.floor;
 }
+
+-- a page is handed on with the floor that it has
+pub floor_after : {E : Type 0} (c : Core E) (t : ℕ) (page : Page) (reason : Reason)
+    → (page_after c t page reason).floor ≡ page.floor
+floor_after c t page Sent = refl
+floor_after c t page FoundEnd = refl
+floor_after c t page NoRoom = refl
 
 pub AreOwned-push : (owners : List ℕ) (o : ℕ) (frames : List Frame) → AreOwned owners frames
     → AreOwned (owners ++ o ∷ []) frames

@@ -1,11 +1,25 @@
--- Frames from one of them on are a log by themselves: what stands of a log whose first frames are
--- gone can be read as a whole one.
-use Rattle.std.proofs.Common.{ℕ, ◌+◌, ◌≤◌, List, [], ◌∷◌, ◌++◌, length, map, drop, arith}
-use Rattle.std.proofs.Common.{refl, sym, ◌∙◌, ap}
+-- Frames whose words begin those of others begin them, and frames from one of them on are a log by
+-- themselves: what stands of a log whose first frames are gone can be read as a whole one.
+use Rattle.std.proofs.Common.{◌≡◌, ℕ, ◌+◌, ◌≤◌, List, [], ◌∷◌, ◌++◌, length, map, drop, arith}
+use Rattle.std.proofs.Common.{refl, sym, ◌∙◌, ap, append_assoc}
+use Rattle.bus_batch.proofs.FrameLaws.{same_frame}
 use Rattle.std.proofs.Math.Seq.{drop-append_seam}
 use Rattle.std.proofs.lemmas.Grind.{flat_map-append}
 use Rattle.bus_batch.specs.Frames.{Frame, Spells, AreFramesFrom, AreFrames, frame_words, log_words}
 use Rattle.bus_batch.specs.Frames.{order_of, tenure_and_owner}
+
+pub frames_begin : (senders least least' : ℕ) (fs gs : List Frame) (rest : List ℕ)
+    → AreFramesFrom senders least fs
+    → AreFramesFrom senders least' gs → log_words fs ++ rest ≡ log_words gs
+    → (more : List Frame) × (gs ≡ fs ++ more)
+frames_begin senders least least' [] gs rest lawful lawful' e = (gs, refl)
+frames_begin senders least least' (f ∷ fs) [] rest lawful lawful' e = absurd cc
+frames_begin senders least least' (f ∷ fs) (g ∷ gs) rest lawful lawful' e =
+    let s = same_frame senders f g (log_words fs ++ rest) (log_words gs) lawful.0 lawful'.0
+    (sym (append_assoc (frame_words f) (log_words fs) rest) ∙ e) in
+    let later =
+    frames_begin senders (f.tenure + 1) (g.tenure + 1) fs gs rest lawful.3 lawful'.3 s.1 in
+    (later.0, λ i. sym s.0 i ∷ later.1 i)
 
 -- a lower first tenure asks no more
 lower : (n a b : ℕ) (frames : List Frame) → b ≤ a → AreFramesFrom n a frames

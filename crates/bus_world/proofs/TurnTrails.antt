@@ -550,7 +550,7 @@ module _ {base : ℕ → ℕ} {E : Type 0} (X : Election E) (P : Protocol E (Uni
     (owner_is : (e : E) → X.owner e ≡ P.output e)
     (named : (e : E) (word : ℕ) → is_some (X.kind_of e) ≡ is_some (X.op e word))
     (announces : (e : E) → P.has_begun e ≡ false → X.kind_of e ≡ Some kind.Announce)
-    (apart : (e : E) → X.kind_of e ≡ Some kind.TakePage → ⊥)
+    (apart : (e : E) → X.kind_of e ≡ Some kind.TakePage → ⊥) (flat : x.passers ≡ 0)
     (side : Side E) (frames : List Frame) (h : IsSide base P x side frames) (p : ℕ) (c : Core E)
     (old : slice_get side.senders p ≡ Some c) (word : ℕ) (D : ℕ → List Action)
     (T : Ties P x side D) where
@@ -575,7 +575,7 @@ module _ {base : ℕ → ℕ} {E : Type 0} (X : Election E) (P : Protocol E (Uni
       let within = turn_within X P laws x ok width starts owner_is W side.home
       (slice_get side.senders) side.owners frames h.sending p c old word
       (slice_index (words_after side.words taken_step)) senders'
-      (get_set_other side.senders p core_now) in
+      (get_set_other side.senders p core_now) flat in
       turn_tied X P laws x ok width starts owner_is named announces apart W side.home
       (slice_get side.senders) side.owners frames h.sending p c old D T
       (slice_index (words_after side.words taken_step)) senders'

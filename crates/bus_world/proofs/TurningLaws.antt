@@ -78,8 +78,15 @@ open_stage c got e = elim (eqb_tells (got % 2) 0) [
   | inr h ↦ absurd (true≢false (ap (λ b. cond b (nat_lt (got / 2) c.least) true) (sym h.0) ∙ e))
 ]
 
--- ---- a step that is due, or none
--- the words after it
+-- ---- the step that is due
+-- on words of a log without an end, where each of its words lies at its own place
+abbrev pub op_laid : {E : Type 0} → Election E → Core E → Situation E → ℕ → Option Op
+op_laid X c (StoresWord t page stored) word =
+    Some (Store record { 0 = log_at c.layout + page.words + stored }
+    (slice_index (frame_words (frame_of c.queue t)) stored))
+op_laid X c z word = op_at X c z word
+
+-- the words after a step, or none
 abbrev pub Steps : Option Op → (ℕ → ℕ) → (ℕ → ℕ) → Type 0
 Steps None words words' = (r : ℕ) → words' r ≡ words r
 Steps (Some o) words words' = bus.Changes o words words'
@@ -150,12 +157,14 @@ module _ {base : ℕ → ℕ} {E : Type 0} (X : Election E) (P : Protocol E (Uni
   -- ---- after the turn
   module _ (words' : ℕ → ℕ) (senders' : ℕ → Option (Core E))
       (beside : Beside p senders senders') where
-    -- the turn's step is on a word that there is; and once it is taken, and the sender is as it is
-    -- after it, all is kept
+    -- where no word of the log is used again, the turn's step is on the word of its own place, and
+    -- there is such a word; and once it is taken, on a log without an end, and the sender is as it
+    -- is after it, all is kept
     abbrev pub Kept : Situation E → Type 0
-    Kept z = ((o : Op) → op_at X c z word ≡ Some o → register o < words_of x)
-        × (Steps (op_at X c z word) words words'
-        → senders' p ≡ Some (core_after X c z home (number_found words (op_at X c z word)) word)
+    Kept z = (x.passers ≡ 0 → (op_laid X c z word ≡ op_at X c z word)
+        × ((o : Op) → op_at X c z word ≡ Some o → register o < words_of x))
+        × (Steps (op_laid X c z word) words words'
+        → senders' p ≡ Some (core_after X c z home (number_found words (op_laid X c z word)) word)
         → Sending base P x words' (home_after X c z home) senders' (owners_after X c z p owners)
         (frames_after X c z frames))
 
@@ -163,20 +172,22 @@ module _ {base : ℕ → ℕ} {E : Type 0} (X : Election E) (P : Protocol E (Uni
     choose true s u e f = e
     choose false s u e f = f
 
-    only : (o : Op) → register o < words_of x → (o' : Op) → Some o ≡ Some o'
-        → register o' < words_of x
-    only o below o' same = subst (λ z. register z < words_of x) (same_Some _ _ same) below
+    only : (o : Op) → register o < words_of x → x.passers ≡ 0
+        → (Some o ≡ Some o) × ((o' : Op) → Some o ≡ Some o' → register o' < words_of x)
+    only o below flat =
+        (refl, λ o' same. subst (λ z. register z < words_of x) (same_Some _ _ same) below)
 
     -- nothing happens
     unchanged : senders' p ≡ Some c → Sending base P x words home senders' owners frames
     unchanged new = subst (λ z. Sending base P x words home z owners frames)
         (sym (bus.same_senders p c senders senders' old new beside)) h
 
-    idle : ((o : Op) → None ≡ Some o → register o < words_of x)
+    idle : (x.passers ≡ 0 → (◌≡◌ {A = Option Op} None None)
+        × ((o : Op) → None ≡ Some o → register o < words_of x))
         × (Steps None words words' → senders' p ≡ Some c
         → Sending base P x words' home senders' owners frames)
     idle = (
-      λ o bad. absurd cc,
+      λ flat. (refl, λ o bad. absurd cc),
       λ same new. subst (λ w. Sending base P x w home senders' owners frames) (sym (fun_ext same))
           (unchanged new),
     )
@@ -409,7 +420,7 @@ module _ {base : ℕ → ℕ} {E : Type 0} (X : Election E) (P : Protocol E (Uni
 
       elect_kept : (o : Op) → X.op e word ≡ Some o → Kept (Elects t e)
       elect_kept o next = (
-        in_row t e elects,
+        λ flat. (refl, in_row t e elects),
         subst KeptBy (sym next) (λ step now.
             by_owner o next step (X.owner (X.fed e (words (register o)) word)) refl now),
       )
@@ -452,22 +463,35 @@ module _ {base : ℕ → ℕ} {E : Type 0} (X : Election E) (P : Protocol E (Uni
           step.here (λ r ne. step.elsewhere r ne) out refl)
 
       module _ (none_yet : published ≡ false) (is_open : page.ended ≡ false)
-          (room : page.words + frame_len c ≤ c.layout.capacity) where
-        store_kept : stored < frame_len c → Kept (StoresWord t page stored)
-        store_kept more =
+          (room : page.words + frame_len c ≤ c.layout.capacity + page.floor) where
+        abbrev number : ℕ
+        number = slice_index (frame_words (frame_of c.queue t)) stored
+
+        -- where no word of the log is used again
+        straight : stored < frame_len c → x.passers ≡ 0
+            → (log_at c.layout + cell_of c.layout (page.words + stored)
+            ≡ log_at c.layout + page.words + stored)
+            × (log_at c.layout + page.words + stored < words_of x)
+        straight more flat =
+            let floor = holders.floor_flat X P laws x ok width words home senders owners frames h p
+            c c senders old old (λ q ne. refl) t page stored published holds flat in
             let cell = cell_straight c.layout (page.words + stored) (omega arith) in
-            let place : log_at c.layout + cell_of c.layout (page.words + stored)
-            ≡ log_at c.layout + page.words + stored = omega arith in (
-              only (Store record { 0 = log_at c.layout + cell_of c.layout (page.words + stored) }
-                  (slice_index (frame_words (frame_of c.queue t)) stored))
-                  (let b = capacity_is in let d = log_is in omega arith),
-              λ step new.
-                  holders.writes X P laws x ok width words home senders owners frames h p c
-                  (record c { phase = phase.Holding t page (stored + 1) false }) senders' old new
-                  beside t page stored published holds words' none_yet is_open room more
-                  (ap words' (sym place) ∙ step.here)
-                  (λ r ne. step.elsewhere r (λ i. ne (i ∙ place))) refl,
-            )
+            let b = capacity_is in let d = log_is in (omega arith, omega arith)
+
+        store_kept : stored < frame_len c → Kept (StoresWord t page stored)
+        store_kept more = (
+          λ flat.
+              let place = straight more flat in (
+                ap (λ r. Some (Store record { 0 = r } number)) (sym place.0),
+                λ o same. subst (λ z. register z < words_of x) (same_Some _ _ same)
+                    (subst (λ r. r < words_of x) (sym place.0) place.1),
+              ),
+          λ step new.
+              holders.writes X P laws x ok width words home senders owners frames h p c
+              (record c { phase = phase.Holding t page (stored + 1) false }) senders' old new beside
+              t page stored published holds words' none_yet is_open room more step.here
+              (λ r ne. step.elsewhere r ne) refl,
+        )
 
         publish_kept : frame_len c ≤ stored → Kept (StoresLength t page stored)
         publish_kept all = (
@@ -490,12 +514,9 @@ module _ {base : ℕ → ℕ} {E : Type 0} (X : Election E) (P : Protocol E (Uni
           by_room : (b : Bool) → published ≡ false → page.ended ≡ false → has_room c page ≡ b
               → Kept (cond b (cond (nat_lt stored (frame_len c)) (StoresWord t page stored)
               (StoresLength t page stored)) (GivesBack t page NoRoom))
-          by_room true a d e =
-              let writes = subst (λ z. Fits base words frames c (phase.Holding t page stored z)) a
-              (subst (Fits base words frames c) holds part.fits) in
-              let room = leb-true (page.words + frame_len c) (c.layout.capacity + page.floor) e in
-              let floor = writes.1.page_knows.floor in
-              stores_by a d (omega arith) (nat_lt stored (frame_len c)) refl
+          by_room true a d e = stores_by a d
+              (leb-true (page.words + frame_len c) (c.layout.capacity + page.floor) e)
+              (nat_lt stored (frame_len c)) refl
           by_room false a d e = unsent_kept NoRoom tt a
 
           by_ended : (b : Bool) → published ≡ false → page.ended ≡ b
@@ -521,19 +542,26 @@ module _ {base : ℕ → ℕ} {E : Type 0} (X : Election E) (P : Protocol E (Uni
     turn_at (phase.Holding t page stored published) e = hold_kept t page stored published e
     turn_at (phase.Giving t reason) e = absurd (subst (Fits base words frames c) e part.fits)
 
-    abbrev due : Option Op
-    due = op_at X c (situation_of X c) word
-
-    -- its step is on a word that there is
-    pub turn_within : (o : Op) → due ≡ Some o → register o < words_of x
-    turn_within = (turn_at c.phase refl).0
-
-    -- a turn of a sender keeps what senders, words, page and owners keep
-    pub turn_keeps : Steps due words words'
+    -- a turn of a sender keeps what senders, words, page and owners keep, with this step
+    abbrev KeptWith : Option Op → Type 0
+    KeptWith due =
+        Steps due words words'
         → senders' p ≡ Some (core_after X c (situation_of X c) home (number_found words due) word)
         → Sending base P x words' (home_after X c (situation_of X c) home) senders'
         (owners_after X c (situation_of X c) p owners) (frames_after X c (situation_of X c) frames)
+
+    -- with that on words of a log without an end
+    pub turn_keeps : KeptWith (op_laid X c (situation_of X c) word)
     turn_keeps = (turn_at c.phase refl).1
+
+    -- and with its own, where no word of the log is used again, on a word that there is
+    module _ (flat : x.passers ≡ 0) where
+      pub turn_within : (o : Op) → op_at X c (situation_of X c) word ≡ Some o
+          → register o < words_of x
+      turn_within = ((turn_at c.phase refl).0 flat).1
+
+      pub turn_straight : KeptWith (op_at X c (situation_of X c) word)
+      turn_straight = subst KeptWith ((turn_at c.phase refl).0 flat).0 turn_keeps
 
 -- ---- lists
 -- what the senders of a machine keep, with these frames in the log
@@ -568,6 +596,7 @@ module _ {base : ℕ → ℕ} {E : Type 0} (X : Election E) (P : Protocol E (Uni
     (width : x.width ≡ P.width x.senders)
     (starts : (n me at : ℕ) → X.started n me x.rounds at ≡ P.started n me tt at)
     (owner_is : (e : E) → X.owner e ≡ P.output e)
+    (flat : x.passers ≡ 0)
     (side : Side E) (frames : List Frame) (h : IsSide base P x side frames) (p : ℕ) (c : Core E)
     (old : slice_get side.senders p ≡ Some c) (word : ℕ) where
   pub turn_lawful : IsSide base P x (side_after X side p c (situation_of X c) word)
@@ -580,12 +609,13 @@ module _ {base : ℕ → ℕ} {E : Type 0} (X : Election E) (P : Protocol E (Uni
       let senders' = slice_get (slice_set side.senders p c') in
       let others = get_set_other side.senders p c' in
       let within = turn_within X P laws x ok width starts owner_is W side.home
-      (slice_get side.senders) side.owners frames h.sending p c old word words' senders' others in
+      (slice_get side.senders) side.owners frames h.sending p c old word words' senders' others
+      flat in
       record {
         words = length-stepped side.words op ∙ h.words;
-        sending = turn_keeps X P laws x ok width starts owner_is W side.home
+        sending = turn_straight X P laws x ok width starts owner_is W side.home
             (slice_get side.senders) side.owners frames h.sending p c old word words' senders'
-            others
+            others flat
             (stepped-steps side.words op
             (λ o due. let a = within o due in let b = h.words in omega arith))
             (get_set_same side.senders p c' (slice_get_within side.senders p c old));

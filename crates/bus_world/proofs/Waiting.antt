@@ -9,7 +9,7 @@ use Rattle.bus_tenure.specs.Situations.{Situation, situation_of, line_of}
 use Rattle.bus_world.specs.Log.{words_of_frame}
 pub use Rattle.bus_world.specs.Waiting.{waiting_at}
 use Rattle.bus_world.specs.Proved.Machines.{Bus, going, can_put}
-use Rattle.bus_world.specs.World.{Event, Put, Ask, Turn, Recv, Stop}
+use Rattle.bus_world.specs.World.{Event, Put, Ask, Turn, Recv, Stop, Gone}
 
 -- ---- the frames of the log
 abbrev pub with_frame : Option Frame → List Frame → List Frame
@@ -40,6 +40,7 @@ event_frames X b (Ask s m) frames = frames
 event_frames X b (Turn s word) frames = frames_by X (going b s) frames
 event_frames X b (Recv r) frames = frames
 event_frames X b (Stop s) frames = frames
+event_frames X b (Gone r) frames = frames
 
 -- ---- messages
 -- those of a sender that are not in the order yet
@@ -64,3 +65,4 @@ accepted b (Ask s m) q = []
 accepted b (Turn s word) q = []
 accepted b (Recv r) q = []
 accepted b (Stop s) q = []
+accepted b (Gone r) q = []

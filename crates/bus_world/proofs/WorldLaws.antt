@@ -1,7 +1,7 @@
 -- Every event keeps the bus lawful, and a lawful bus keeps its promises.
-use Rattle.std.proofs.Common.{◌≡◌, ◌≢◌, ℕ, zero, suc, ◌+◌, ◌%◌, ◌<◌, Bool, true, false, cond, ◌&&◌}
-use Rattle.std.proofs.Common.{◌==◌, nat_lt, nat_le, Option, Some, None, ◌⊎◌, inl, inr, List, []}
-use Rattle.std.proofs.Common.{◌∷◌, ◌++◌, length, map, take, slice_get, slice_index, slice_set}
+use Rattle.std.proofs.Common.{◌≡◌, ◌≢◌, ℕ, zero, suc, ◌+◌, ◌%◌, ◌<◌, ◌≤◌, Bool, true, false, cond}
+use Rattle.std.proofs.Common.{◌&&◌, ◌==◌, nat_lt, nat_le, Option, Some, None, ◌⊎◌, inl, inr, List}
+use Rattle.std.proofs.Common.{[], ◌∷◌, ◌++◌, length, map, take, slice_get, slice_index, slice_set}
 use Rattle.std.proofs.Common.{arith, refl, sym, ◌∙◌, ap, subst, append_assoc}
 use Rattle.std.specs.Prelude.{All}
 use Rattle.std.proofs.lemmas.Bool.{and_parts, cases_eq, cases_lt}
@@ -30,15 +30,15 @@ use Rattle.bus_world.specs.Proved.Receiving.{Receives, IsReceiver, IsFoundIn, Ne
 use Rattle.bus_batch.specs.Reading.{HasRead}
 use Rattle.bus_deliverylog.specs.declared.receiving.RecvTurn.{RecvTurn}
 use Rattle.bus_deliverylog.specs.Receiving.{Receiving, LogReading, HasReceived, reading_of}
-use Rattle.bus_deliverylog.specs.Receiving.{passing_due}
+use Rattle.bus_deliverylog.specs.Receiving.{passing_due, with_leave}
 use Rattle.bus_deliverylog.proofs.ReceiveLaws.{no_due}
 use Rattle.bus_ownerbits.specs.OneOwner.{OneOwner}
 use Rattle.bus_world.proofs.Beginning as beginning
-use Rattle.bus_world.specs.World.{IsLayout, Event, Put, Ask, Turn, Recv, Stop, recv_found}
+use Rattle.bus_world.specs.World.{IsLayout, Event, Put, Ask, Turn, Recv, Stop, Gone, recv_found}
 use Rattle.bus_world.specs.World.{RecvStep, RecvDoes, first_page}
 use Rattle.bus_world.specs.Proved.Machines.{Side, side_after, going, IsEvent, Happens, SenderDoes}
-use Rattle.bus_world.specs.Proved.Machines.{ReceiverDoes, Bus, is_open, can_put, can_close, put_in}
-use Rattle.bus_world.specs.Proved.Machines.{mark_in, with_sender, IsNew}
+use Rattle.bus_world.specs.Proved.Machines.{ReceiverDoes, LeaverDoes, Bus, is_open, can_put}
+use Rattle.bus_world.specs.Proved.Machines.{can_close, put_in, mark_in, with_sender, IsNew}
 use Rattle.bus_world.proofs.TurningLaws.{IsSide, side_of}
 use Rattle.bus_world.proofs.TurningLaws as turning
 use Rattle.bus_world.proofs.PutLaws as puts
@@ -163,6 +163,41 @@ module _ (n : ℕ) (frames : List Frame) (len : ℕ) (lawful : AreFrames n frame
         as_before (ap (λ (z : Receiving). z.place) t) (ap (λ (z : Receiving). z.known) t)
         (ap (λ (z : Receiving). z.frames) t)
 
+  -- its place never falls
+  pub place_rises : (got : ℕ) (answer : RecvTurn) (next : Receiving) → RecvStep v got answer next
+      → v.place ≤ next.place
+  place_rises got answer next step = by_due (passing_due v) refl
+    where
+      moved_on : (n : Receiving) → next ≡ n → v.place ≤ n.place → v.place ≤ next.place
+      moved_on n e le = (let a = ap (λ (w : Receiving). w.place) e in omega arith)
+
+      at_known : passing_due v ≡ None → v.place ≡ v.known → v.place ≤ next.place
+      at_known none e =
+          let t = step.at_length none e in
+          elim (cases_lt v.known got) [
+            | inl more ↦ elim (cases_lt (v.log_words + v.passed) got) [
+              | inl beyond ↦ moved_on v (t.beyond more beyond).1 (omega arith)
+              | inr within ↦
+                  moved_on (record v { known = got }) (t.more more within).1 (omega arith)
+            ]
+            | inr past ↦ elim (cases_eq got v.known) [
+              | inl i ↦ moved_on v (t.same i).1 (omega arith)
+              | inr ne ↦ moved_on v (t.less (omega arith)).1 (omega arith)
+            ]
+          ]
+
+      by_due : (o : Option ℕ) → passing_due v ≡ o → v.place ≤ next.place
+      by_due None none = elim (cases_eq v.place v.known) [
+        | inl e ↦ at_known none e
+        | inr ne ↦ elim (step.at_word none ne (take v.place (log_words frames))
+            (take v.place (log_pieces frames)) received) [
+              | inl bad ↦ (let a = ap (λ (w : LogReading). w.place) bad.2 in omega arith)
+              | inr good ↦ (let a = ap (λ (w : LogReading). w.place) good.new_is in omega arith)
+            ]
+      ]
+      by_due (Some at) due =
+          moved_on (record v { passed = v.place }) (step.at_passed at due).1 (omega arith)
+
   -- a turn of a receiver
   pub reads_more : (words : ℕ → ℕ) → IsFoundIn frames len v (recv_found words v)
       → (answer : RecvTurn) (next : Receiving) → RecvDoes words v answer next
@@ -179,21 +214,23 @@ module _ (n : ℕ) (frames : List Frame) (len : ℕ) (lawful : AreFrames n frame
         reads_step (recv_found words v) found answer next step (passing_due v) refl,
       )
 
--- the words of a receiver stay where they are
+-- the words of a receiver stay where they are, and it leaves by no turn
 pub words_stay : (words : ℕ → ℕ) (v next : Receiving) (answer : RecvTurn)
     → RecvDoes words v answer next
     → (next.log_at ≡ v.log_at) × (next.length_at ≡ v.length_at) × (next.log_words ≡ v.log_words)
-    × (next.passed_at ≡ v.passed_at)
+    × (next.passed_at ≡ v.passed_at) × (next.gone ≡ v.gone)
 words_stay words v next answer does = by_end v.ended refl
   where
     by_end : (q : Bool) → v.ended ≡ q
         → (next.log_at ≡ v.log_at) × (next.length_at ≡ v.length_at)
         × (next.log_words ≡ v.log_words) × (next.passed_at ≡ v.passed_at)
+        × (next.gone ≡ v.gone)
     by_end true e = let same = (does.ended e).1 in (
       ap (λ (z : Receiving). z.log_at) same,
       ap (λ (z : Receiving). z.length_at) same,
       ap (λ (z : Receiving). z.log_words) same,
       ap (λ (z : Receiving). z.passed_at) same,
+      ap (λ (z : Receiving). z.gone) same,
     )
     by_end false e = (does.going e).keeps
 
@@ -208,9 +245,35 @@ never_more words v next answer does h = record {
   by_end false e =
       ap (λ (z : Receiving). z.passed) ((does.going e).registers (no_due v h.never))
 
+-- one that has left for good is what it was else
+pub never_left : (v : Receiving) → NeverPasses v → NeverPasses (with_leave v)
+never_left v h = record { never = h.never; unpassed = h.unpassed }
+
+pub receiver_left : (x : Layout) (frames : List Frame) (len : ℕ) (v : Receiving)
+    → IsReceiver x frames len v → IsReceiver x frames len (with_leave v)
+receiver_left x frames len v h = record {
+  senders = h.senders;
+  log = h.log;
+  len_at = h.len_at;
+  log_words = h.log_words;
+  receives = h.receives;
+}
+
+-- what is so of each in a list stays so of each, where one is another of which it is so
+pub set_each : {A : Type 0} (xs : List A) (r : ℕ) (v now : A) → slice_get xs r ≡ Some v
+    → (Q : ℕ → A → Type 0) → ((q : ℕ) (w : A) → slice_get xs q ≡ Some w → Q q w) → Q r now
+    → (q : ℕ) (w : A) → slice_get (slice_set xs r now) q ≡ Some w → Q q w
+set_each xs r v now there Q each own q w e = elim (cases_eq q r) [
+  | inl j ↦ subst (λ n. Q n w) (sym j)
+      (subst (Q r) (same_Some _ _
+      (sym (get_set_same xs r now (slice_get_within xs r v there))
+      ∙ ap (slice_get (slice_set xs r now)) (sym j) ∙ e)) own)
+  | inr ne ↦ each q w (sym (get_set_other xs r now q ne) ∙ e)
+]
+
 -- of a log that is not used again: what a load finds stands at its place
-module _ {base : ℕ → ℕ} (x : Layout) (frames : List Frame) (words : ℕ → ℕ)
-    (log : Logged base x.senders x.capacity (log_at x) words (words 0) frames) (v : Receiving)
+module _ {base : ℕ → ℕ} (x : Layout) (flat : x.passers ≡ 0) (frames : List Frame) (words : ℕ → ℕ)
+    (log : Logged base x words (words 0) frames) (v : Receiving)
     (h : IsReceiver x frames (words 0) v) where
   pub found_flat : IsFoundIn frames (words 0) v (recv_found words v)
   found_flat = (
@@ -225,7 +288,7 @@ module _ {base : ℕ → ℕ} (x : Layout) (frames : List Frame) (words : ℕ �
       | inr y ↦
           let low : v.place < words 0 =
           let a = h.receives.place_below in let b = h.receives.known_below in omega arith in
-          let few : v.place < x.capacity = let a = log.fits in omega arith in
+          let few : v.place < x.capacity = let a = log.fits flat in omega arith in
           ap (λ q. cond q (words v.length_at) (words (v.log_at + v.place % v.log_words))) y.0
           ∙ ap (λ q. words (q + v.place % v.log_words)) h.log
           ∙ ap (λ q. words (log_at x + v.place % q)) h.log_words
@@ -251,18 +314,15 @@ module _ {base : ℕ → ℕ} (x : Layout) (frames : List Frame) (words : ℕ �
 
 -- receivers, where the log has grown
 module _ {base : ℕ → ℕ} (x : Layout) (frames : List Frame) (words words' : ℕ → ℕ)
-    (log : Logged base x.senders x.capacity (log_at x) words (words 0) frames) where
-  same_len : (log' : Logged base x.senders x.capacity (log_at x) words' (words' 0) frames)
-      → words' 0 ≡ words 0
+    (log : Logged base x words (words 0) frames) where
+  same_len : (log' : Logged base x words' (words' 0) frames) → words' 0 ≡ words 0
   same_len log' = sym (length-logged log') ∙ length-logged log
 
-  receiver_stays :
-      (log' : Logged base x.senders x.capacity (log_at x) words' (words' 0) frames) (v : Receiving)
+  receiver_stays : (log' : Logged base x words' (words' 0) frames) (v : Receiving)
       → IsReceiver x frames (words 0) v → IsReceiver x frames (words' 0) v
   receiver_stays log' v h = subst (λ z. IsReceiver x frames z v) (sym (same_len log')) h
 
-  receiver_follows : (f : Frame)
-      (log' : Logged base x.senders x.capacity (log_at x) words' (words' 0) (frames ++ f ∷ []))
+  receiver_follows : (f : Frame) (log' : Logged base x words' (words' 0) (frames ++ f ∷ []))
       (v : Receiving) → IsReceiver x frames (words 0) v
       → IsReceiver x (frames ++ f ∷ []) (words' 0) v
   receiver_follows f log' v h =
@@ -306,7 +366,7 @@ module _ {E : Type 0} (X : Election E) (P : Protocol E (Unit {0}) ℕ)
     (laws : Laws X.op X.fed P OneOwner) (x : Layout) (ok : IsLayout x)
     (width : x.width ≡ P.width x.senders)
     (starts : (n me at : ℕ) → X.started n me x.rounds at ≡ P.started n me tt at)
-    (owner_is : (e : E) → X.owner e ≡ P.output e) where
+    (owner_is : (e : E) → X.owner e ≡ P.output e) (flat : x.passers ≡ 0) where
   -- what an event leaves: a lawful bus, whose log continues the one before
   pub record Left (base : ℕ → ℕ) (frames : List Frame) (b : Bus E) : Type 0 where
     pub frames_now : List Frame
@@ -382,8 +442,8 @@ module _ {E : Type 0} (X : Election E) (P : Protocol E (Unit {0}) ℕ)
     }
     turn_left s word (Some c) i d same =
         let side = subst (λ z. IsSide base P x z (frames_after X c (situation_of X c) frames))
-        (sym d) (turning.turn_lawful X P laws x ok width starts owner_is b.side frames (side_of h) s
-        c (is_there b s c i) word) in
+        (sym d) (turning.turn_lawful X P laws x ok width starts owner_is flat b.side frames
+        (side_of h) s c (is_there b s c i) word) in
         elim (one_or_none (line_of X c (situation_of X c)).publishes frames) [
           | inl e ↦ record {
             left = quiet (subst (IsSide base P x b'.side) e side) same;
@@ -406,7 +466,7 @@ module _ {E : Type 0} (X : Election E) (P : Protocol E (Unit {0}) ℕ)
         let words = slice_index b.side.words in
         let log = h.keeps.sending.log in
         let own = h.keeps.receiving r v i in
-        let next_is = receiver_more x frames words log v own rs.1 rs.0 rs.2 in
+        let next_is = receiver_more x flat frames words log v own rs.1 rs.0 rs.2 in
         record {
           now_is = refl;
           left = record {
@@ -437,6 +497,31 @@ module _ {E : Type 0} (X : Election E) (P : Protocol E (Unit {0}) ℕ)
           };
         }
 
+    leaves_left : (r : ℕ) (o : Option Receiving) → slice_get b.receivers r ≡ o → b'.side ≡ b.side
+        → LeaverDoes b.receivers r o b'.receivers → After base frames frames b'
+    unfolding quiet longer
+    leaves_left r None i d rs = record {
+      left = quiet (same_side P x frames b.side b'.side d (side_of h)) rs;
+      now_is = refl;
+    }
+    leaves_left r (Some v) i d rs =
+        let len = slice_index b.side.words 0 in
+        record {
+          now_is = refl;
+          left = record {
+            frames_now = frames;
+            lawful = lawful_of {b = b'} (same_side P x frames b.side b'.side d (side_of h))
+                (λ q w e. subst (λ z. IsReceiver x frames (slice_index z.words 0) w) (sym d)
+                (set_each b.receivers r v (with_leave v) i (λ n u. IsReceiver x frames len u)
+                h.keeps.receiving (receiver_left x frames len v (h.keeps.receiving r v i)) q w
+                (ap (λ z. slice_get z q) (sym rs) ∙ e)))
+                (λ q w e. set_each b.receivers r v (with_leave v) i (λ n u. NeverPasses u)
+                h.keeps.never (never_left v (h.keeps.never r v i)) q w
+                (ap (λ z. slice_get z q) (sym rs) ∙ e));
+            continues = record { more = []; together = append-nil frames };
+          };
+        }
+
     stop_left : b'.side ≡ b.side → b'.receivers ≡ b.receivers → After base frames frames b'
     unfolding quiet
     stop_left d same = record {
@@ -452,6 +537,7 @@ module _ {E : Type 0} (X : Election E) (P : Protocol E (Unit {0}) ℕ)
     event_left (Turn s word) is d = turn_left s word (going b s) refl d.0 d.1
     event_left (Recv r) is d = recv_left r (slice_get b.receivers r) refl d.0 d.1
     event_left (Stop s) is d = stop_left d.0 d.1
+    event_left (Gone r) is d = leaves_left r (slice_get b.receivers r) refl d.0 d.1
 
     -- ---- what it puts
     bus_same : b'.side ≡ b.side → (fs : List Frame) (q : ℕ) → put_by b' fs q ≡ put_by b fs q
@@ -592,6 +678,7 @@ module _ {E : Type 0} (X : Election E) (P : Protocol E (Unit {0}) ℕ)
     event_puts (Turn s word) d q = turn_event_puts s word (going b s) refl d.0 q
     event_puts (Recv r) d q = bus_same d.0 frames q ∙ sym (append-nil (put_by b frames q))
     event_puts (Stop s) d q = bus_same d.0 frames q ∙ sym (append-nil (put_by b frames q))
+    event_puts (Gone r) d q = bus_same d.0 frames q ∙ sym (append-nil (put_by b frames q))
 
   -- ---- a new bus is lawful
   module _ (bases : List ℕ) (b : Bus E) (new : IsNew bases x b) where
@@ -601,7 +688,8 @@ module _ {E : Type 0} (X : Election E) (P : Protocol E (Unit {0}) ℕ)
         (slice_get b.side.senders) b.side.owners []) (sym new.home)
         (subst (λ z. Sending (slice_index bases) P x (slice_index b.side.words)
         (Some (first_page bases)) (slice_get b.side.senders) z []) (sym new.owners)
-        (beginning.new_sending X P laws x ok bases new.bases_are (slice_index b.side.words)
+        (beginning.new_sending X P laws x ok bases new.bases_are
+        (beginning.flat_low x bases flat new.bases_are) (slice_index b.side.words)
         (beginning.words_zero b new) (slice_get b.side.senders) new.senders))
 
     pub new_is_lawful : LawfulBus (slice_index bases) P x b []
@@ -624,6 +712,6 @@ module _ {E : Type 0} (X : Election E) (P : Protocol E (Unit {0}) ℕ)
                 (sym n.place) n.read;
           };
         }) (λ r v e. let n = new.receivers r v e in record {
-          never = n.never;
+          never = n.passed_is;
           unpassed = n.unpassed;
         })

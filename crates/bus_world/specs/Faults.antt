@@ -22,3 +22,4 @@ step_fault_text fault.NoSuchReceiver = codes "no such receiver"
 step_fault_text (fault.Put why) = put_fault_text why
 step_fault_text (fault.Close why) = close_fault_text why
 step_fault_text fault.Stopped = codes "sender stopped"
+step_fault_text fault.Gone = codes "receiver gone"

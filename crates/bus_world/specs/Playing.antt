@@ -1,9 +1,9 @@
 -- The events that a program tells, and ranges of sizes.
-use Rattle.std.specs.Prelude.{◌≡◌, ℕ, ◌<◌, ◌≤◌, ◌⊎◌, Option, Some, None}
+use Rattle.std.specs.Prelude.{◌≡◌, ℕ, ◌<◌, ◌≤◌, ◌⊎◌, true, Option, Some, None}
 use Rattle.bus_batch.specs.declared.messages.Mark.{Mark}
 use Rattle.bus_batch.specs.declared.messages.Mark.TheVariants.{End, Leave}
 use Rattle.bus_deliverylog.specs.Receiving.{Receiving}
-use Rattle.bus_world.specs.World.{Event, Put, Ask, Turn, Recv, Stop}
+use Rattle.bus_world.specs.World.{Event, Put, Ask, Turn, Recv, Stop, Gone}
 use Rattle.bus_world.specs.declared.events.Event.{Event as Told}
 use Rattle.bus_world.specs.declared.events.Event.TheVariants as told
 use Rattle.bus_world.specs.declared.events.Answer.{Answer}
@@ -25,13 +25,14 @@ event_told (told.Leave s) = Ask s Leave
 event_told (told.Turn s word) = Turn s word
 event_told (told.Recv r) = Recv r
 event_told (told.Stop s) = Stop s
+event_told (told.Gone r) = Gone r
 
 -- what a close or a leave that is taken is answered
 abbrev pub asked_answer : Mark → Answer
 asked_answer End = answer.Closing
 asked_answer Leave = answer.Leaving
 
--- a receiver that is not there
+-- a receiver that is not there, or has left for good
 abbrev pub RecvRefused : Option Receiving → StepFault → Type 0
 RecvRefused None why = why ≡ fault.NoSuchReceiver
-RecvRefused (Some v) why = ⊥
+RecvRefused (Some v) why = (v.gone ≡ true) × (why ≡ fault.Gone)

@@ -3,9 +3,11 @@
 pub mod Tenures
 pub mod Sending
 pub mod Receiving
+pub mod Floors
 pub mod Machines
 pub mod Answers
 pub mod Trails
 pub mod Invariants
 pub mod CyclicProtocols
 pub mod KeptProtocols
+pub mod RingRefusals

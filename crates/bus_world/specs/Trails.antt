@@ -22,6 +22,7 @@ put_actions bytes answer.Leaving = []
 put_actions bytes (answer.Turn t) = []
 put_actions bytes (answer.Recv t) = []
 put_actions bytes answer.Stopped = []
+put_actions bytes answer.Gone = []
 
 -- what a close or a leave adds, by its answer
 abbrev pub mark_actions : Answer → List Action
@@ -31,6 +32,7 @@ mark_actions answer.Leaving = HasMarked mark.Leave ∷ []
 mark_actions (answer.Turn t) = []
 mark_actions (answer.Recv t) = []
 mark_actions answer.Stopped = []
+mark_actions answer.Gone = []
 
 -- ---- the trails of all
 -- these actions join the trail of sender p

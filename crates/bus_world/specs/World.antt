@@ -1,7 +1,8 @@
 -- The sizes of a bus, its events, what a receiver does in a turn, and what a new bus is.
 use Rattle.std.specs.Prelude.{◌≡◌, ◌≢◌, ℕ, ◌+◌, ◌%◌, ◌<◌, Bool, true, false, Option, Some, None}
 use Rattle.std.specs.Prelude.{List, length, replicate, slice_index, if◌then◌else◌, ◌==◌, ◌≤◌}
-use Rattle.bus_register.specs.declared.limits.TheConstants.{MOST_SENDERS, MOST_LOG_WORDS, TENURES}
+use Rattle.bus_register.specs.declared.limits.TheConstants.{MOST_SENDERS, MOST_RECEIVERS}
+use Rattle.bus_register.specs.declared.limits.TheConstants.{MOST_LOG_WORDS, TENURES}
 use Rattle.bus_batch.specs.declared.messages.Mark.{Mark}
 use Rattle.bus_deliverylog.specs.declared.receiving.RecvTurn.{RecvTurn}
 use Rattle.bus_deliverylog.specs.declared.receiving.RecvTurn.TheVariants.{End as RecvEnd}
@@ -16,16 +17,16 @@ pub record IsLayout (x : Layout) : Type 0 where
   pub senders : x.senders ≤ MOST_SENDERS
   pub rows : x.rows ≤ TENURES
   pub capacity : x.capacity ≤ MOST_LOG_WORDS
-  -- no bus has passed places yet
-  pub passers : x.passers ≡ 0
+  -- none where no word of the log is used again
+  pub passers : x.passers ≤ MOST_RECEIVERS
 
 abbrev pub is_set : Option Bool → Bool
 is_set None = false
 is_set (Some t) = t
 
 -- What may happen next, in any order and number: nothing is assumed of who is scheduled, of the
--- random words, or of who stops. A sender stops by an event of its own, or just by having none any
--- more.
+-- random words, or of who stops or leaves. A sender stops by an event of its own, or just by having
+-- none any more.
 pub data Event : Type 0 where
   Put : (sender : ℕ) → (bytes : List ℕ) → Event
   -- a close asks for the end mark, a leave for the leave mark
@@ -33,6 +34,8 @@ pub data Event : Type 0 where
   Turn : (sender : ℕ) → (word : ℕ) → Event
   Recv : (receiver : ℕ) → Event
   Stop : (sender : ℕ) → Event
+  -- a receiver leaves for good
+  Gone : (receiver : ℕ) → Event
 
 -- ---- a turn of a receiver
 -- what one step of a receiver does, where it found this number
@@ -43,9 +46,9 @@ pub record RecvStep (old : Receiving) (got : ℕ) (answer : RecvTurn) (new : Rec
   pub at_word : passing_due old ≡ None → old.place ≢ old.known
       → TakesNext (reading_of old) got answer (reading_of new)
   pub registers : passing_due old ≡ None → new ≡ with_reading old (reading_of new)
-  -- its words are where they were
+  -- its words are where they were, and it has not left by it
   pub keeps : (new.log_at ≡ old.log_at) × (new.length_at ≡ old.length_at)
-      × (new.log_words ≡ old.log_words) × (new.passed_at ≡ old.passed_at)
+      × (new.log_words ≡ old.log_words) × (new.passed_at ≡ old.passed_at) × (new.gone ≡ old.gone)
 
 -- what a load finds; what a store finds is not looked at
 abbrev pub recv_found : (ℕ → ℕ) → Receiving → ℕ

@@ -20,6 +20,10 @@ pub enum Event {
     /// The sender stops for good. This is no step, and it takes none from then on: a page that it
     /// has stays out. Refused only where there is no such sender, or it has stopped before.
     Stop(u64),
+    /// The receiver leaves for good. It is asked nothing from then on, and has no part in what room
+    /// there is. Where no word of the log is used again this is no step. Refused only where there
+    /// is no such receiver, or it has left before.
+    Gone(u64),
 }
 
 /// The answer to an event.
@@ -37,6 +41,8 @@ pub enum Answer {
     Recv(RecvTurn),
     /// The sender has stopped.
     Stopped,
+    /// The receiver has left for good.
+    Gone,
 }
 
 /// Why an event is refused; of several causes the first counts. A refused event changes nothing.
@@ -49,6 +55,8 @@ pub enum StepFault {
     Put(PutFault),
     /// Of a close or a leave.
     Close(CloseFault),
+    /// The receiver has left for good.
+    Gone,
 }
 
 /// The first event that was refused. Those before its place have happened, and no other.

@@ -39,6 +39,7 @@ impl fmt::Display for StepFault {
             StepFault::Stopped => f.write_str("sender stopped"),
             StepFault::Put(why) => why.fmt(f),
             StepFault::Close(why) => why.fmt(f),
+            StepFault::Gone => f.write_str("receiver gone"),
         }
     }
 }

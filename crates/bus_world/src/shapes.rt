@@ -31,7 +31,8 @@ pub enum MakeFault {
     LogWords,
     /// The sitting that a bus is to go on with has not ended.
     NotEnded,
-    /// A sender's next number is 2^48 - 65,536 or more.
+    /// A sender's next number is 2^48 - 65,536 or more, or where words of the log are used again
+    /// 2^48 - 2^44 - 16 or more.
     Numbers,
     /// Memory was refused.
     NoMemory,

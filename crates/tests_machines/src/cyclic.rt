@@ -104,8 +104,8 @@ fn tells_senders(rt: &impl Abort, world: &World<ThreeWord>) {
 }
 
 /// What the machine tells of its words and its receivers.
-fn tells_words(rt: &impl Abort, world: &World<ThreeWord>) {
-    assert!(rt; !world.log().is_empty());
+fn tells_words<R: Abort + AllocGlobal>(rt: &R, world: &World<ThreeWord>) {
+    assert!(rt; world.log(rt.alloc()).is_ok_and(|log| !log.is_empty()));
     same(rt, &world.word(Reg(1)), &Some(2));
     assert!(rt; world.word(Reg(1000)).is_none());
     assert!(rt; world.reader(0).is_some_and(|reader| reader.has_ended()));

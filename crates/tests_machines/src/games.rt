@@ -73,6 +73,14 @@ impl Game {
         Game { world }
     }
 
+    /// A bus whose rows are used again and whose log is.
+    pub fn ring<R: Abort + AllocGlobal>(rt: &R, shape: Shape) -> Game {
+        let Ok(world) = World::ring(rt.alloc(), shape, None) else {
+            panic!(rt; "a ring of this shape");
+        };
+        Game { world }
+    }
+
     /// The sitting after this page, with a row of words for each tenure.
     pub fn after<R: Abort + AllocGlobal>(rt: &R, shape: Shape, page: &Page) -> Game {
         let Ok(world) = World::after(rt.alloc(), shape, page) else {
@@ -122,6 +130,11 @@ impl Game {
         same(rt, &self.world.stop(SenderNo(sender)), &want);
     }
 
+    /// Wants that a receiver's leave is answered so.
+    pub fn lets_go(&mut self, rt: &impl Abort, receiver: u64, want: Result<(), StepFault>) {
+        same(rt, &self.world.gone(receiver), &want);
+    }
+
     /// One turn of a sender.
     pub fn turn(&mut self, rt: &impl Abort, sender: u64, word: u32) -> Turn {
         match self.step(&Event::Turn { sender, word }) {
@@ -163,12 +176,34 @@ impl Game {
         core.expect(rt, "a sender").kind().is_none()
     }
 
-    /// One turn of receiver 0.
-    pub fn recv(&mut self, rt: &impl Abort) -> RecvTurn {
-        match self.step(&Event::Recv(0)) {
+    /// One turn of a receiver.
+    pub fn recv_of(&mut self, rt: &impl Abort, receiver: u64) -> RecvTurn {
+        match self.step(&Event::Recv(receiver)) {
             Ok(Answer::Recv(turn)) => turn,
             _ => panic!(rt; "a receiver answers"),
         }
+    }
+
+    /// One turn of receiver 0.
+    pub fn recv(&mut self, rt: &impl Abort) -> RecvTurn {
+        self.recv_of(rt, 0)
+    }
+
+    /// The last of so many turns of a receiver at most, up to one that finds nothing or the end.
+    pub fn listens(&mut self, rt: &impl Abort, receiver: u64, most: u64) -> RecvTurn {
+        let mut last = RecvTurn::Going;
+        for _ in 0..most {
+            last = self.recv_of(rt, receiver);
+            if matches!(last, RecvTurn::Empty | RecvTurn::End) {
+                return last;
+            }
+        }
+        last
+    }
+
+    /// Wants that a receiver has heard all that there is.
+    pub fn hears_all(&mut self, rt: &impl Abort, receiver: u64) {
+        same(rt, &self.listens(rt, receiver, 99), &RecvTurn::Empty);
     }
 
     /// Wants that a turn of receiver 0 is answered so.
@@ -198,8 +233,9 @@ impl Game {
     }
 
     /// Wants that these are the words of the log.
-    pub fn has_log(&self, rt: &impl Abort, words: &[u64]) {
-        same(rt, &self.world.log(), &words);
+    pub fn has_log<R: Abort + AllocGlobal>(&self, rt: &R, words: &[u64]) {
+        let log = self.world.log(rt.alloc()).expect(rt, "memory");
+        same(rt, &log.as_slice(), &words);
     }
 
     /// Wants that these took the pages.

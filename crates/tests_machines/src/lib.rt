@@ -12,6 +12,8 @@ mod games;
 #[cfg(test)]
 mod replays;
 #[cfg(test)]
+mod rings;
+#[cfg(test)]
 mod senders;
 #[cfg(test)]
 mod worlds;

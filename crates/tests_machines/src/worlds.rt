@@ -1,5 +1,6 @@
 //! Worked calls of a bus.
 
+mod going;
 mod leaving;
 mod sittings;
 mod stops;
@@ -15,7 +16,7 @@ use bus_world::{Event, MakeFault, PlayFault, StepFault};
 use std::process::Abort;
 
 /// The only sender sends a message of no bytes.
-fn sends_it(rt: &impl Abort, game: &mut Game) {
+fn sends_it<R: Abort + AllocGlobal>(rt: &R, game: &mut Game) {
     game.puts(rt, 0, b"", Ok(0));
     game.comes_to(rt, 0, Turn::Own { tenure: 0 });
     assert!(rt; game.is_out());
@@ -24,7 +25,7 @@ fn sends_it(rt: &impl Abort, game: &mut Game) {
 }
 
 /// What stands in the bus then.
-fn holds_it(rt: &impl Abort, game: &Game) {
+fn holds_it<R: Abort + AllocGlobal>(rt: &R, game: &Game) {
     game.has_log(rt, &[0x4000_0100_0000_0000, 0x8000_0000_0000_0000]);
     game.has_page(rt, [1, 0], [false, false], (false, 1, 2));
     game.has_owners(rt, &[SenderNo(0)]);

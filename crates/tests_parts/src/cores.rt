@@ -30,7 +30,12 @@ fn only_one() -> Core {
 
 /// The second of two senders, where two rows are used again.
 fn cyclic() -> Core {
-    SenderCore::cyclic(2, SenderNo(1), 1, 2, 16, 0)
+    SenderCore::cyclic(2, SenderNo(1), 1, 2, 16, 0, 0)
+}
+
+/// The same of a bus with two passed places.
+fn of_a_ring() -> Core {
+    SenderCore::cyclic(2, SenderNo(1), 1, 2, 16, 0, 2)
 }
 
 /// The page of a bus that has had no tenure.
@@ -333,4 +338,29 @@ fn where_rows_are_used_again_it_pins_its_tenure(rt: HostRuntime) {
     lays(&rt, &mut core, first_page());
     takes(&rt, &mut core, &mut cells, &[Kind::Withdraw], Turn::Going);
     pins(&rt, &core, Pin::Away);
+}
+
+#[test]
+fn of_a_ring_its_frame_goes_by_the_passed_places(rt: HostRuntime) {
+    let mut cells = words(&rt, 120);
+    let mut core = of_a_ring();
+    puts(&rt, &mut core, b"a", Ok(0));
+    let mut page = first_page();
+    page.words = 16;
+    owns(&rt, &mut core, &mut cells, page);
+    takes(&rt, &mut core, &mut cells, &[Kind::Withdraw], Turn::Going);
+    for found in [6, 4] {
+        is_due(&rt, &core, Kind::ReadPassed);
+        same(&rt, &feeds(&rt, &mut core, found), &Turn::Going);
+    }
+    let stores = [
+        Kind::StoreLogWord,
+        Kind::StoreLogWord,
+        Kind::StoreLogWord,
+        Kind::StoreLength,
+    ];
+    takes(&rt, &mut core, &mut cells, &stores, Turn::Going);
+    lengths(&rt, &cells, 19, 1);
+    let page = page_home(&rt, &mut core);
+    same(&rt, &(page.words, page.floor), &(19, 4));
 }

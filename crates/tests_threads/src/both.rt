@@ -145,7 +145,8 @@ impl<'b> BusReceiver<'b> {
 pub struct Both<'b> {
     /// None where a sender has stopped: it is dropped.
     senders: Vec<Option<BusSender<'b>>>,
-    receivers: Vec<BusReceiver<'b>>,
+    /// None where a receiver has left for good: it is dropped.
+    receivers: Vec<Option<BusReceiver<'b>>>,
     pub world: World<ThreeWord>,
     lost: u64,
 }
@@ -156,12 +157,15 @@ impl<'b> Both<'b> {
         let Seats { senders, receivers } = seats;
         let mut both = Both {
             senders: Vec::new(rt.alloc()),
-            receivers,
+            receivers: Vec::new(rt.alloc()),
             world: machine(rt, rt.alloc(), first),
             lost: 0,
         };
         for sender in senders {
             both.senders.push(Some(sender)).expect(rt, "memory");
+        }
+        for receiver in receivers {
+            both.receivers.push(Some(receiver)).expect(rt, "memory");
         }
         both
     }
@@ -193,10 +197,12 @@ impl<'b> Both<'b> {
                 Some(found) => answer_of(found, event),
                 None => Err(StepFault::NoSuchSender),
             },
-            Event::Recv(receiver) => match self.receivers.get_mut(*receiver as usize) {
-                Some(found) => Ok(Answer::Recv(found.turn())),
-                None => Err(StepFault::NoSuchReceiver),
-            },
+            Event::Recv(receiver) | Event::Gone(receiver) => {
+                match self.receivers.get_mut(*receiver as usize) {
+                    Some(found) => heard_by(found, event),
+                    None => Err(StepFault::NoSuchReceiver),
+                }
+            }
         }
     }
 
@@ -253,6 +259,20 @@ fn answer_of(found: &mut Option<BusSender<'_>>, event: &Event) -> Result<Answer,
     }
 }
 
+/// What a receiver answers, which is none once it has left.
+fn heard_by(found: &mut Option<BusReceiver<'_>>, event: &Event) -> Result<Answer, StepFault> {
+    let Some(receiver) = found else {
+        return Err(StepFault::Gone);
+    };
+    match event {
+        Event::Recv(_) => Ok(Answer::Recv(receiver.turn())),
+        _ => {
+            *found = None;
+            Ok(Answer::Gone)
+        }
+    }
+}
+
 /// The bus answers what the machine does.
 fn is_same(got: &Result<Answer, StepFault>, want: &Result<Answer, StepFault>) -> bool {
     match (got, want) {
@@ -262,6 +282,7 @@ fn is_same(got: &Result<Answer, StepFault>, want: &Result<Answer, StepFault>) ->
         (Ok(Answer::Stopped), Ok(Answer::Stopped)) => true,
         (Ok(Answer::Turn(got)), Ok(Answer::Turn(want))) => got == want,
         (Ok(Answer::Recv(got)), Ok(Answer::Recv(want))) => got == want,
+        (Ok(Answer::Gone), Ok(Answer::Gone)) => true,
         (Err(got), Err(want)) => got == want,
         _ => false,
     }
@@ -277,14 +298,15 @@ fn machine(rt: &impl Abort, alloc: Global, first: FirstLine) -> World<ThreeWord>
 
 /// What the bus leaves is what the machine has: its log and its page, and no page where one is out.
 /// Says whether it is at home.
-pub fn leave_the_same(
-    rt: &impl Abort,
+pub fn leave_the_same<R: Abort + AllocGlobal>(
+    rt: &R,
     left: &Result<Ended, EndFault>,
     world: &World<ThreeWord>,
 ) -> bool {
     match (left, world.page()) {
         (Ok(ended), Some(page)) => {
-            assert!(rt; ended.log() == world.log());
+            let log = world.log(rt.alloc()).expect(rt, "memory");
+            assert!(rt; ended.log() == log.as_slice());
             assert!(rt; ended.page() == page);
             true
         }

@@ -24,7 +24,7 @@ fn below(dice: &mut Pcg32, most: u32) -> u32 {
 }
 
 /// Something happens: a put, a close, a leave, some turns of a sender, or some of a receiver; in
-/// one time of 200 a sender stops.
+/// one time of 200 a sender stops, and in one a receiver leaves for good.
 fn happens<R: Abort + AllocGlobal>(rt: &R, both: &mut Both<'_>, dice: &mut Pcg32) {
     let sender = u64::from(below(dice, 8)) % both.many().max(1);
     let receiver = u64::from(below(dice, 4)) % both.hearing().max(1);
@@ -42,7 +42,10 @@ fn happens<R: Abort + AllocGlobal>(rt: &R, both: &mut Both<'_>, dice: &mut Pcg32
         70 => {
             both.take(rt, &Event::Stop(sender));
         }
-        71..170 => turns(rt, both, dice, sender),
+        71 => {
+            both.take(rt, &Event::Gone(receiver));
+        }
+        72..170 => turns(rt, both, dice, sender),
         _ => {
             for _ in 0..below(dice, 12) {
                 both.take(rt, &Event::Recv(receiver));

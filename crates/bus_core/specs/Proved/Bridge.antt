@@ -5,7 +5,7 @@ use Rattle.bus_batch.specs.Frames.{Frame}
 use Rattle.bus_tenure.specs.Core.{Core, Election}
 use Rattle.bus_tenure.specs.Situations.{PageMove, Stays, Line as OwnLine, line_of}
 use Rattle.bus_tenure.specs.Situations.{situation_of as own_situation}
-use Rattle.bus_core.specs.Proved.ParticipantTable.{Due, Pins, Reclaims, Goes}
+use Rattle.bus_core.specs.Proved.ParticipantTable.{Due, Pins, Reads, Reclaims, Goes}
 use Rattle.bus_core.specs.Proved.ParticipantTurns.{due, op_due, kind_due, wants_due, rest_due}
 use Rattle.bus_core.specs.Proved.ParticipantTurns.{participant_due, answer_due}
 use Rattle.bus_core.specs.Reusing.Turns.{Participant}
@@ -54,11 +54,13 @@ AtNone {E} X =
 -- how the page moves with what is due
 abbrev pub move_of : {E : Type 0} → Election E → Core E → Due E → PageMove
 move_of X c (Pins o) = Stays
+move_of X c (Reads t p) = Stays
 move_of X c (Reclaims s o) = Stays
 move_of X c (Goes z) = (line_of X c z).move
 
 abbrev pub publishes_of : {E : Type 0} → Election E → Core E → Due E → Option Frame
 publishes_of X c (Pins o) = None
+publishes_of X c (Reads t p) = None
 publishes_of X c (Reclaims s o) = None
 publishes_of X c (Goes z) = (line_of X c z).publishes
 
@@ -74,8 +76,5 @@ pub record IsLineOf {E : Type 0} (X : Election E) (v : Participant E) (d : Due E
   pub move : l.move ≡ move_of X v.core d
   pub publishes : l.publishes ≡ publishes_of X v.core d
 
--- on a bus without passed places
 abbrev pub AtSome : {E : Type 0} → Election E → Type 0
-AtSome {E} X =
-    (v : Participant E) → v.core.layout.passers ≡ 0
-    → IsLineOf X v (due X v) (line_now X (with_rows_again v))
+AtSome {E} X = (v : Participant E) → IsLineOf X v (due X v) (line_now X (with_rows_again v))

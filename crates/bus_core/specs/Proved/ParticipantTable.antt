@@ -1,10 +1,11 @@
 -- The table of a participant, a sender of a bus whose rows are used again: what it does beside the
 -- turns of a sender that has a row for each tenure. It stores its presence before it enters a
--- tenure and clears it afterwards; as a holder it makes the row of the next tenure ready. Where no
--- step of its pin is due, one line says for each situation of such a sender what a participant does
--- otherwise. Its bus has no passed places.
-use Rattle.std.specs.Prelude.{ℕ, ◌+◌, ◌-◌, ◌/◌, Option, Some, None, ◌==◌, if◌then◌else◌}
+-- tenure and clears it afterwards; as a holder it makes the row of the next tenure ready, and where
+-- its frame does not fit it first loads what is left of the passed places. Where no step of its pin
+-- is due, one line says for each situation of such a sender what a participant does otherwise.
+use Rattle.std.specs.Prelude.{ℕ, ◌+◌, ◌-◌, ◌*◌, ◌/◌, Option, Some, None, ◌==◌, if◌then◌else◌}
 use Rattle.bus_register.specs.declared.registers.Op.{Op}
+use Rattle.bus_register.specs.declared.registers.Op.TheVariants.{Load}
 use Rattle.bus_register.specs.declared.registers.SenderNo.{SenderNo}
 use Rattle.bus_presence.specs.Pins.{step_at}
 use Rattle.bus_presence.specs.Reclaimers.{Reclaiming, reclaim_op}
@@ -17,11 +18,14 @@ use Rattle.bus_tenure.specs.Core.{Core, Election, Layout, stage_at, row_at, log_
 use Rattle.bus_tenure.specs.Situations.{Situation, IsClosed, IsIdle, IsSpent, LooksAtStage, Elects}
 use Rattle.bus_tenure.specs.Situations.{TakesPage, AwaitsPage, StoresWord, StoresLength, GivesBack}
 use Rattle.bus_tenure.specs.Situations.{HasHanded, situation_of, fed_at, answer_at, core_begun}
+use Rattle.bus_tenure.specs.declared.phases.Reason.{Reason}
+use Rattle.bus_tenure.specs.declared.phases.Reason.TheVariants.{Sent, FoundEnd, NoRoom}
 use Rattle.bus_tenure.specs.declared.turns.Turn.{Turn}
 use Rattle.bus_tenure.specs.declared.turns.Turn.TheVariants as turn
 use Rattle.bus_core.specs.Reusing.Participants.{sizes_with, log_from, core_seen, pin_seen}
-use Rattle.bus_core.specs.Reusing.Participants.{pin_elected, lost_elected}
-use Rattle.bus_core.specs.Reusing.Passing.{passing_begun}
+use Rattle.bus_core.specs.Reusing.Participants.{pin_elected, lost_elected, passed_from}
+use Rattle.bus_core.specs.Reusing.Passing.{passing_begun, passing_left}
+use Rattle.bus_core.specs.declared.limits.TheConstants.{PASSED_APART}
 use Rattle.bus_core.specs.declared.reuses.Passing.{Passing}
 
 -- ---- a line of the table
@@ -29,7 +33,10 @@ use Rattle.bus_core.specs.declared.reuses.Passing.{Passing}
 pub record ParticipantLine (E : Type 0) : Type 0 where
   -- where with so many rows the word lies that has this place on a bus with a row for each tenure
   pub place : Layout → (rows place : ℕ) → ℕ
-  -- of the reclaimer that it has: what comes before the step
+  -- of the passed places that are left to load: the tenure whose page it holds, and which come
+  -- before the step
+  pub passed_before : Option Passing → Option (ℕ × Passing)
+  -- of the reclaimer that it has: what comes before the step, behind those
   pub reclaimer_before : Option Reclaiming → Option Reclaiming
   -- after a step that found this number, with this random word: what it holds as a sender, how far
   -- its pin has come, and who won the tenure that it lost
@@ -47,6 +54,7 @@ pub record ParticipantLine (E : Type 0) : Type 0 where
 abbrev pub rests_as : {E : Type 0} → Turn → ParticipantLine E
 rests_as answer = record {
   place = λ x rows r. r;
+  passed_before = λ l. None;
   reclaimer_before = λ s. None;
   core = λ X c got word. c;
   pin = λ X c v got word. v;
@@ -63,6 +71,13 @@ steps_as z answer = record (rests_as answer) { core = λ X c got word. fed_at X 
 -- it answers as a sender does, too
 abbrev pub steps_alike : {E : Type 0} → Situation E → ParticipantLine E
 steps_alike z = record (steps_as z turn.Going) { answer = λ X c got word. answer_at X c z got word }
+
+-- who gives the page of a tenure back for want of room, with these left to load
+abbrev pub lacking : Reason → ℕ → Option Passing → Option (ℕ × Passing)
+lacking Sent t l = None
+lacking FoundEnd t l = None
+lacking NoRoom t None = None
+lacking NoRoom t (Some p) = Some (t, p)
 
 -- ---- THE TABLE: one line for each situation
 -- No step of the election is answered by Lost. The reclamation begins with the page that is taken,
@@ -93,6 +108,7 @@ participant_line (StoresWord t page stored) =
     }
 participant_line (StoresLength t page stored) = steps_as (StoresLength t page stored) turn.Going
 participant_line (GivesBack t page reason) = record (steps_alike (GivesBack t page reason)) {
+  passed_before = λ l. lacking reason t l;
   reclaimer_before = λ s. s;
   reclaimer_after = λ x rows s. None;
 }
@@ -102,6 +118,9 @@ participant_line (HasHanded t reason) =
 -- ---- a line, read by its parts
 abbrev pub place_for : {E : Type 0} → Layout → ℕ → Situation E → ℕ → ℕ
 place_for x rows z r = (participant_line z).place x rows r
+
+abbrev pub passed_due : {E : Type 0} → Situation E → Option Passing → Option (ℕ × Passing)
+passed_due z l = (participant_line z).passed_before l
 
 abbrev pub reclaim_due : {E : Type 0} → Situation E → Option Reclaiming → Option Reclaiming
 reclaim_due z s = (participant_line z).reclaimer_before s
@@ -126,6 +145,8 @@ answer_going X c z got word = (participant_line z).answer X c got word
 pub data Due (E : Type 0) : Type 0 where
   -- it takes this step of its pin
   Pins : Op → Due E
+  -- as the holder of the page of a tenure it loads the next passed place, with these loaded
+  Reads : (tenure : ℕ) → Passing → Due E
   -- it takes this step of its reclamation
   Reclaims : Reclaiming → Op → Due E
   -- it goes on as a sender that has a row for each tenure
@@ -139,16 +160,28 @@ abbrev pub due_home : {E : Type 0} → Option Reclaiming → Situation E → Due
 due_home None z = Goes z
 due_home (Some s) z = due_reclaimed s (reclaim_op s) z
 
--- a step of its pin comes first
-abbrev pub due_beside : {E : Type 0} → Option Op → Option Reclaiming → Situation E → Due E
-due_beside (Some o) s z = Pins o
-due_beside None s z = due_home (reclaim_due z s) z
+-- a passed place comes before a reclamation
+abbrev pub due_passed : {E : Type 0} → Option (ℕ × Passing) → Due E → Due E
+due_passed None d = d
+due_passed (Some q) d = Reads q.0 q.1
 
--- of sender p, which holds this, whose pin has come so far, with the reclaimer of the holder
-abbrev pub due_of : {E : Type 0} → Election E → Layout → ℕ → ℕ → Core E → Pin → Option Reclaiming
+-- a step of its pin comes first
+abbrev pub due_beside : {E : Type 0} → Option Op → Option Passing → Option Reclaiming → Situation E
     → Due E
-due_of X x rows p c pin reclaimer = due_beside
-    (step_at pin (presence_at (sizes_with x rows) p) stage_at) reclaimer (situation_of X c)
+due_beside (Some o) l s z = Pins o
+due_beside None l s z = due_passed (passed_due z l) (due_home (reclaim_due z s) z)
+
+-- of sender p, which holds this, whose pin has come so far, with the passed places that the holder
+-- has loaded and its reclaimer
+abbrev pub due_of : {E : Type 0} → Election E → Layout → ℕ → ℕ → Core E → Pin → Passing
+    → Option Reclaiming → Due E
+due_of X x rows p c pin passing reclaimer = due_beside
+    (step_at pin (presence_at (sizes_with x rows) p) stage_at) (passing_left x.passers passing)
+    reclaimer (situation_of X c)
+
+-- the load of the passed place behind those that are loaded
+abbrev pub passed_op : Layout → ℕ → Passing → Op
+passed_op x rows p = Load (record { 0 = passed_from x rows + PASSED_APART * p.loaded })
 
 -- ---- what it holds after a step of its pin
 -- a sender that has looked at the stage again begins the tenure, where the stage is of that tenure

@@ -17,9 +17,10 @@ use Rattle.bus_tenure.specs.declared.turns.Turn.{Turn}
 use Rattle.bus_tenure.specs.declared.turns.Turn.TheVariants as turn
 use Rattle.bus_core.specs.Reusing.Participants.{log_from}
 use Rattle.bus_core.specs.Proved.ParticipantTable.{place_for, participant_line, Due, Pins}
-use Rattle.bus_core.specs.Proved.ParticipantTable.{Reclaims, Goes, due_of, core_looked, core_going}
-use Rattle.bus_core.specs.Proved.ParticipantTable.{pin_going, reclaimer_going, passed_going}
-use Rattle.bus_core.specs.Proved.ParticipantTable.{answer_going}
+use Rattle.bus_core.specs.Proved.ParticipantTable.{Reads, Reclaims, Goes, due_of, passed_op}
+use Rattle.bus_core.specs.Proved.ParticipantTable.{core_looked, core_going, pin_going}
+use Rattle.bus_core.specs.Proved.ParticipantTable.{reclaimer_going, passed_going, answer_going}
+use Rattle.bus_core.specs.Reusing.Passing.{core_passed, passing_fed}
 use Rattle.bus_core.specs.Reusing.Turns.{Participant, op_placed, answer_of_loss, answer_of_reclaim}
 
 -- all words of the bus
@@ -28,12 +29,13 @@ words_with v = log_from v.core.layout v.rows + v.core.layout.capacity
 
 -- what it does next
 abbrev pub due : {E : Type 0} → Election E → Participant E → Due E
-due X v = due_of X v.core.layout v.rows v.core.me v.core v.pin v.reclaimer
+due X v = due_of X v.core.layout v.rows v.core.me v.core v.pin v.passed v.reclaimer
 
 -- ---- the next step
 -- with this random word
 abbrev pub op_due : {E : Type 0} → Election E → Participant E → Due E → ℕ → Option Op
 op_due X v (Pins o) word = Some o
+op_due X v (Reads t p) word = Some (passed_op v.core.layout v.rows p)
 op_due X v (Reclaims s o) word = Some o
 op_due X v (Goes z) word = op_placed (place_for v.core.layout v.rows z) (op_at X v.core z word)
 
@@ -54,17 +56,20 @@ kind_of_reclaim s = if nat_lt s.scanned s.senders then kind.ReadPresence else ki
 
 abbrev pub kind_due : {E : Type 0} → Election E → Participant E → Due E → Option Kind
 kind_due X v (Pins o) = kind_of_pin v.pin
+kind_due X v (Reads t p) = Some kind.ReadPassed
 kind_due X v (Reclaims s o) = Some (kind_of_reclaim s)
 kind_due X v (Goes z) = kind_at X v.core z
 
 abbrev pub wants_due : {E : Type 0} → Election E → Participant E → Due E → Bool
 wants_due X v (Pins o) = false
+wants_due X v (Reads t p) = false
 wants_due X v (Reclaims s o) = false
 wants_due X v (Goes z) = wants_at X v.core z
 
 -- the answer where no step is due, and Going where one is
 abbrev pub rest_due : {E : Type 0} → Election E → Participant E → Due E → Turn
 rest_due X v (Pins o) = turn.Going
+rest_due X v (Reads t p) = turn.Going
 rest_due X v (Reclaims s o) = turn.Going
 rest_due X v (Goes z) = rest_at X v.core z
 
@@ -83,6 +88,10 @@ participant_due X v (Pins o) got word = record {
   passed = v.passed;
   lost = None;
   rows = v.rows;
+}
+participant_due X v (Reads t p) got word = record v {
+  core = core_passed v.core (passing_fed p got);
+  passed = passing_fed p got;
 }
 participant_due X v (Reclaims s o) got word = record v { reclaimer = Some (reclaim_fed s got) }
 participant_due X v (Goes z) got word = record {
@@ -105,5 +114,6 @@ answer_of_pin (Invalidated t) l = turn.Waiting
 
 abbrev pub answer_due : {E : Type 0} → Election E → Participant E → Due E → ℕ → ℕ → Turn
 answer_due X v (Pins o) got word = answer_of_pin v.pin v.lost
+answer_due X v (Reads t p) got word = turn.Going
 answer_due X v (Reclaims s o) got word = answer_of_reclaim (behind_of s got)
 answer_due X v (Goes z) got word = answer_going X v.core z got word

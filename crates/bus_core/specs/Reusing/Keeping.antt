@@ -11,11 +11,13 @@ use Rattle.bus_tenure.specs.Core.{Core, row_at}
 use Rattle.bus_tenure.specs.Causes.{LooksForTenure}
 use Rattle.bus_tenure.specs.Keeping.{AreSizes}
 use Rattle.bus_tenure.specs.declared.phases.Reason.{Reason}
+use Rattle.bus_tenure.specs.declared.phases.Reason.TheVariants.{Sent, FoundEnd, NoRoom}
 use Rattle.bus_tenure.specs.declared.phases.Phase.{Phase}
 use Rattle.bus_tenure.specs.declared.phases.Phase.TheVariants.{Resting, Electing, Taken, Holding}
 use Rattle.bus_tenure.specs.declared.phases.Phase.TheVariants.{Giving}
 use Rattle.bus_core.specs.declared.limits.TheConstants.{LEAST_ROWS_AGAIN, MOST_ROWS_AGAIN}
 use Rattle.bus_core.specs.Reusing.Turns.{Participant, sizes_of}
+use Rattle.bus_core.specs.declared.reuses.Passing.{Passing}
 
 -- it has begun no tenure yet, and may begin this one
 pub record IsBound {E : Type 0} (c : Core E) (t : ℕ) : Type 0 where
@@ -97,6 +99,17 @@ abbrev pub LostKeeps : {E : Type 0} → ℕ → Phase E → Pin → Option Sende
 LostKeeps me phase pin None = (t : ℕ) → pin ≡ Unpinning t → held_of phase ≡ Some t
 LostKeeps me phase pin (Some o) = HasLost me phase pin o
 
+-- who has handed its page on for want of room has loaded all passed places, of which there are so
+-- many
+abbrev pub LoadedKeeps : {E : Type 0} → ℕ → Phase E → Passing → Type 0
+LoadedKeeps passers Resting p = Unit {0}
+LoadedKeeps passers (Electing t e) p = Unit {0}
+LoadedKeeps passers (Taken t) p = Unit {0}
+LoadedKeeps passers (Holding t page stored published) p = Unit {0}
+LoadedKeeps passers (Giving t Sent) p = Unit {0}
+LoadedKeeps passers (Giving t FoundEnd) p = Unit {0}
+LoadedKeeps passers (Giving t NoRoom) p = passers ≤ p.loaded
+
 pub record ParticipantKeeps {E : Type 0} (width : ℕ) (Belongs : ℕ → E → Type 0)
     (v : Participant E) : Type 0 where
   pub sizes : AreSizes v.core.layout width
@@ -107,3 +120,4 @@ pub record ParticipantKeeps {E : Type 0} (width : ℕ) (Belongs : ℕ → E → 
   pub pin : PinKeeps Belongs v.core v.pin
   pub reclaimer : ReclaimerKeeps (sizes_of v) v.core.phase v.reclaimer
   pub lost : LostKeeps v.core.me v.core.phase v.pin v.lost
+  pub loaded : LoadedKeeps v.core.layout.passers v.core.phase v.passed

@@ -1,9 +1,13 @@
 -- How a holder whose frame does not fit the log goes through the passed places of all receivers, by
 -- which the page gets its floor.
-use Rattle.std.specs.Prelude.{◌≡◌, ℕ, ◌+◌, ◌-◌, ◌^◌, ◌≤◌, Option, Some, None, List, [], ◌∷◌}
-use Rattle.std.specs.Prelude.{length, nat_lt, ◌==◌, if◌then◌else◌}
+use Rattle.std.specs.Prelude.{◌≡◌, ℕ, ◌+◌, ◌-◌, ◌^◌, ◌≤◌, Bool, Option, Some, None, List, [], ◌∷◌}
+use Rattle.std.specs.Prelude.{◌<◌, length, nat_lt, ◌==◌, if◌then◌else◌}
+use Rattle.bus_register.specs.declared.limits.TheConstants.{NUMBERS}
 use Rattle.bus_tenure.specs.Core.{Core}
+use Rattle.bus_tenure.specs.Paging.{PageKeeps}
 use Rattle.bus_tenure.specs.Situations.{core_floored, lesser}
+use Rattle.bus_tenure.specs.declared.pages.Page.{Page}
+use Rattle.bus_tenure.specs.declared.phases.Phase.TheVariants.{Holding}
 use Rattle.bus_core.specs.declared.reuses.Passing.{Passing}
 
 -- none is loaded in the tenure
@@ -44,3 +48,26 @@ pub record GivesLeast (p : Passing) (places : List ℕ) : Type 0 where
   pub below : AreBehind (passing_over p places).least places
   pub greatest : (least : ℕ) → least ≤ p.least → AreBehind least places
       → least ≤ (passing_over p places).least
+
+-- ---- the floor
+-- what a sender is after it has loaded these, one after another
+abbrev pub core_over : {E : Type 0} → Core E → Passing → List ℕ → Core E
+core_over c p [] = c
+core_over c p (place ∷ places) =
+    core_over (core_passed c (passing_fed p place)) (passing_fed p place) places
+
+-- With the last of as many as there are, and no earlier one, the page that a holder has gets this
+-- floor, and nothing else changes: it is no further than each of these places and than the words of
+-- the page, and the furthest that is so, of the numbers that there are. So it does not fall where
+-- none of these places lies before the floor that the page had.
+pub record GivesFloor {E : Type 0} (c : Core E) (t : ℕ) (page : Page) (stored : ℕ)
+    (published : Bool) (places : List ℕ) : Type 0 where
+  pub before : (some : List ℕ) → length some < c.layout.passers
+      → core_over c passing_begun some ≡ c
+  pub floor : ℕ
+  pub after : core_over c passing_begun places
+      ≡ record c { phase = Holding t (record page { floor = floor }) stored published }
+  pub behind : AreBehind floor places
+  pub within : floor ≤ page.words
+  pub furthest : (n : ℕ) → n ≤ page.words → n ≤ NUMBERS → AreBehind n places → n ≤ floor
+  pub rises : PageKeeps page → AreBehind page.floor places → page.floor ≤ floor

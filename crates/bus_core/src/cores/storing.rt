@@ -1,16 +1,19 @@
 //! The plain stores of a sender: words of its frame, and words of the next row that it clears.
 
-ghost use Rattle.std.specs.Prelude.{◌≡◌, ℕ, ◌+◌, ◌<◌, ◌≤◌, ◌^◌, Option, Some, IsTrue};
+ghost use Rattle.std.specs.Prelude.{◌≡◌, ℕ, ◌+◌, ◌-◌, ◌<◌, ◌≤◌, ◌^◌, Option, Some, IsTrue};
+ghost use Rattle.std.specs.Prelude.{List, [], length, slice_index, take};
 ghost use Rattle.bus_tenure.specs.Core.{cell_of};
 ghost use Rattle.bus_tenure.specs.Elections.{election_of};
-ghost use Rattle.bus_tenure.specs.Situations.{situation_of, Stays};
-ghost use Rattle.bus_tenure.specs.Doings.{doing_of, IsWord};
+ghost use Rattle.bus_tenure.specs.Situations.{situation_of, StoresWord, Stays};
+ghost use Rattle.bus_tenure.specs.Doings.{doing_of, IsWord, words_of_messages, left_behind};
+ghost use Rattle.bus_tenure.specs.declared.pages.Page.{Page};
 ghost use Rattle.bus_tenure.specs.declared.turns.Turn.TheVariants as turn;
 ghost use Rattle.bus_presence.specs.Reclaimers.{Reclaiming, IsClearing, reclaim_fed};
 ghost use Rattle.bus_presence.specs.Reclaimers.{clears_left, with_cleared};
 ghost use Rattle.bus_core.specs.Keeping.{IsAway, reclaimer_in};
 ghost use Rattle.bus_core.specs.Plain.{IsPlain, StoresPlain, StoresRow, stored_on, clears_from};
-ghost use Rattle.bus_core.specs.Senders.{log_start, situation};
+ghost use Rattle.bus_core.specs.Plain.{StoresWords};
+ghost use Rattle.bus_core.specs.Senders.{Does, log_start, situation, words_all};
 ghost use Rattle.bus_core.specs.Table.{line_now, reuse_reclaiming};
 ghost use Rattle.bus_core.specs.Telling.{FeedTells};
 
@@ -130,6 +133,41 @@ impl<Q: Ratifier + Drop> SenderCore<Q> {
         clear_many(&mut self.reuse, many);
     }
 
+    /// The words of its frame that it stores one behind another from its next step on, which is a
+    /// plain store in the word at `at`; at most so many. None where that is of the head of its
+    /// frame, of a mark, or of the next row.
+    #[inline(always)]
+    pub fn words_left(&self, at: u64, most: u64) -> &[u64]
+        requires { (value : ℕ) × StoresPlain (election_of Q.Ratifier) self.now at value }
+        ensures exact { let X = election_of Q.Ratifier in
+            (tenure : ℕ) (page : Page) (stored : ℕ)
+            → situation X self.now ≡ Does (StoresWord tenure page stored)
+            → result.now ≡ take most (take (words_all self.now - at)
+            (left_behind stored (words_of_messages self.now.core))) }
+        ensures some { let X = election_of Q.Ratifier in
+            0 < length result.now → StoresWords X self.now (length result.now) }
+        ensures row { let X = election_of Q.Ratifier in
+            StoresRow X self.now at (λ n. slice_index result.now n) (length result.now) }
+        ensures room { at + length result.now ≤ 2 ^ 63 }
+        ensures few { length result.now ≤ most }
+    {
+        self.is_small();
+        if self.turns.has_published() {
+            return &[];
+        }
+        let room = self.log_start() + self.turns.capacity() - at;
+        at_most(at_most(self.turns.words_left(), room), most)
+    }
+
+    /// So many words of its frame are stored, one behind another.
+    #[inline(always)]
+    pub fn words_done(&mut self, many: u64)
+        requires { StoresWords (election_of Q.Ratifier) self.old many }
+        ensures { self.new ≡ stored_on (election_of Q.Ratifier) self.old many }
+    {
+        self.turns.words_stored(many);
+    }
+
     /// The word of the log in which this place lives, where the place before it lives at `at`.
     #[inline(always)]
     fn log_word_behind(&self, at: u64, place: u64) -> u64
@@ -205,5 +243,19 @@ fn clear_many(reuse: &mut Option<Reuse>, many: u64)
         if let Some(reclaimer) = &mut reuse.reclaimer {
             reclaimer.clear_many(many);
         }
+    }
+}
+
+/// The first so many of these words.
+#[inline(always)]
+fn at_most(words: &[u64], many: u64) -> &[u64]
+    ensures first { result.now ≡ take many words.now }
+    ensures few { length result.now ≤ many }
+    ensures short { length result.now ≤ length words.now }
+{
+    if many < words.len() as u64 {
+        &words[..many as usize]
+    } else {
+        words
     }
 }

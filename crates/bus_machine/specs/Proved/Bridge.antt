@@ -5,8 +5,12 @@ use Rattle.bus_core.specs.Keeping.{reclaimer_in}
 use Rattle.bus_core.specs.Reusing.Keeping.{held_of}
 use Rattle.bus_core.specs.Reusing.Participants.{log_from}
 use Rattle.bus_core.specs.Reusing.Turns.{Participant}
+use Rattle.bus_core.specs.Reusing.Passing.{passing_begun}
 use Rattle.bus_core.specs.Senders.{Sender}
 use Rattle.bus_core.specs.Proved.Bridge.{with_a_row_each, with_rows_again}
+use Rattle.bus_core.specs.declared.reuses.Passing.{Passing}
+use Rattle.bus_core.specs.declared.reuses.Reuse.{Reuse}
+use Rattle.bus_deliverylog.specs.Receiving.{Receiving}
 use Rattle.bus_presence.specs.Reclaimers.{Reclaiming}
 use Rattle.bus_tenure.specs.Core.{Core, Election, Layout}
 use Rattle.bus_world.specs.Proved.CyclicProtocols.{CyclicProtocol, Led}
@@ -50,10 +54,16 @@ pub record IsPlainEvent {E : Type 0} (X : Election E) (bases : List ℕ) (x : La
       → plain_grown X b e a (plain_trails T)
       ≡ plain_trails (trails_grown X (of_bus bases x b) e a T)
 
+-- no receiver has a passed place
+abbrev pub NonePasses : List Receiving → Type 0
+NonePasses receivers =
+    (r : ℕ) (v : Receiving) → slice_get receivers r ≡ Some v → v.passed_at ≡ None
+
 abbrev pub HappensAtNone : {E : Type 0} → Election E → Type 0
 HappensAtNone {E} X =
     (bases : List ℕ) (x : Layout) (b : Bus E) (e : Event) (a : Answer) (m : Machine E)
-    → Happens X (of_bus bases x b) e a m → IsPlainEvent X bases x b e a m
+    → NonePasses b.receivers → Happens X (of_bus bases x b) e a m
+    → IsPlainEvent X bases x b e a m
 
 -- ---- what is reached
 pub record IsPlain {E : Type 0} (X : Election E) (m : Machine E) (T : Trails) : Type 0 where
@@ -66,11 +76,19 @@ abbrev pub core_in : {E : Type 0} → Option (Sender E) → Option (Core E)
 core_in None = None
 core_in (Some v) = Some v.core
 
--- as a protocol, with the reclaimer of who holds the page, and who took the pages
-abbrev pub protocol_of : {E : Type 0} → Machine E → Option Reclaiming → List ℕ → CyclicProtocol E
-protocol_of m reclaimer owners = record {
+-- which passed places it has loaded
+abbrev pub passing_in : Option Reuse → Passing
+passing_in None = passing_begun
+passing_in (Some r) = r.passed
+
+-- as a protocol, with the reclaimer of who holds the page, the passed places that it has loaded,
+-- and who took the pages
+abbrev pub protocol_of : {E : Type 0} → Machine E → Option Reclaiming → Passing → List ℕ
+    → CyclicProtocol E
+protocol_of m reclaimer passing owners = record {
   bases = m.bases;
   reclamation = reclamation_of m reclaimer;
+  passing = passing;
   home = m.home;
   senders = λ p. core_in (slice_get m.senders p);
   receivers = slice_get m.receivers;
@@ -88,4 +106,8 @@ pub record IsLed {E : Type 0} (X : Election E) (rows : ℕ) (m : Machine E) (T :
   pub reclaimer : Option Reclaiming
   pub holder : (p : ℕ) (v : Sender E) (t : ℕ) → slice_get m.senders p ≡ Some v
       → held_of v.core.phase ≡ Some t → reclaimer_in v.reuse ≡ reclaimer
-  pub led : Led X m.layout rows (protocol_of m reclaimer owners) T.pins T.actions T.heard T.log
+  pub passing : Passing
+  pub passed : (p : ℕ) (v : Sender E) (t : ℕ) → slice_get m.senders p ≡ Some v
+      → held_of v.core.phase ≡ Some t → passing_in v.reuse ≡ passing
+  pub led : Led X m.layout rows (protocol_of m reclaimer passing owners) T.pins T.actions T.heard
+      T.log

@@ -12,18 +12,14 @@ ghost use Rattle.bus_pageslot.specs.Turns.{TakesWhile, TakesSome, ElectsIn, IsEl
 ghost use Rattle.bus_register.specs.declared.registers.Op.{Op};
 ghost use Rattle.bus_tenure.specs.Classes.{still_goes};
 ghost use Rattle.bus_tenure.specs.Elections.{election_of};
-ghost use Rattle.bus_tenure.specs.Situations.{lesser as spec_lesser};
 
 use crate::buses::Bus;
 use crate::seats::Sender;
-use crate::steps::clear_row;
+use crate::steps::{clear_row, elect_row, store_row};
 use bus_adoptcommit::Ratifier;
 use bus_core::Step;
 use bus_tenure::{Doing, Turn};
 use rand_core::Rng;
-
-/// How many turns of an election `election_turns` takes at most.
-const MOST_ELECTION_TURNS: u32 = 256;
 
 impl<Q: Ratifier + Drop> Sender<Q> {
     /// A turn with this random word, and as long as the last one was answered Going up to so many
@@ -77,7 +73,7 @@ impl<Q: Ratifier + Drop> Sender<Q> {
         if cleared > 0 {
             return cleared;
         }
-        self.word_turns(bus, at, value, most)
+        self.frame_turns(bus, at, value, most)
     }
 
     /// Turns in a row that clear words of the next row, from the one at `at` on, at most so many:
@@ -93,7 +89,7 @@ impl<Q: Ratifier + Drop> Sender<Q> {
         ensures goes { GoesPlainly (process_by Q.Ratifier) (tells_by Q.Ratifier)
             (IsPlain (election_of Q.Ratifier)) self.old result self.new }
     {
-        let many = lesser(self.core.clears_left(), most);
+        let many = self.core.clears_left().min(most);
         if many == 0 {
             return 0;
         }
@@ -102,10 +98,10 @@ impl<Q: Ratifier + Drop> Sender<Q> {
         many
     }
 
-    /// Turns in a row whose steps are plain stores, the first of `value` in the word at `at`, at
+    /// Turns in a row that store words of its frame, of which the first is this plain store, at
     /// most so many, and one at least where one is allowed: how many it took.
     #[inline(always)]
-    fn word_turns(&mut self, bus: &Bus<Q>, at: u64, value: u64, most: u64) -> u64
+    fn frame_turns(&mut self, bus: &Bus<Q>, at: u64, value: u64, most: u64) -> u64
         requires table { table_of self.old ≡ bus.now.table }
         requires stores { StoresPlain (election_of Q.Ratifier) self.old.core at value }
         ensures table { table_of self.new ≡ table_of self.old }
@@ -114,13 +110,36 @@ impl<Q: Ratifier + Drop> Sender<Q> {
         ensures goes { GoesPlainly (process_by Q.Ratifier) (tells_by Q.Ratifier)
             (IsPlain (election_of Q.Ratifier)) self.old result self.new }
     {
-        let (mut at, mut value) = (at, value);
-        for taken in 0..most {
-            if !self.store_on(bus, &mut at, &mut value, 0) {
-                return taken + 1;
-            }
+        if most == 0 {
+            return 0;
         }
-        most
+        let (mut at, mut value) = (at, value);
+        if !self.store_on(bus, &mut at, &mut value, 0) {
+            return 1;
+        }
+        1 + self.row_turns(bus, at, most - 1)
+    }
+
+    /// Turns in a row that store words of its frame one behind another, from its next step on,
+    /// which is a plain store in the word at `at`; at most so many: how many it took.
+    #[inline(always)]
+    fn row_turns(&mut self, bus: &Bus<Q>, at: u64, most: u64) -> u64
+        requires table { table_of self.old ≡ bus.now.table }
+        requires stores { let X = election_of Q.Ratifier in
+            (value : ℕ) × StoresPlain X self.old.core at value }
+        ensures table { table_of self.new ≡ table_of self.old }
+        ensures few { result ≤ most }
+        ensures goes { GoesPlainly (process_by Q.Ratifier) (tells_by Q.Ratifier)
+            (IsPlain (election_of Q.Ratifier)) self.old result self.new }
+    {
+        let words = self.core.words_left(at, most);
+        let many = words.len() as u64;
+        if many == 0 {
+            return 0;
+        }
+        store_row(&bus.words, &mut self.seat, &self.core, at, words);
+        self.core.words_done(many);
+        many
     }
 
     /// The next turn, and where that is one of an election, those of it that follow. The answer is
@@ -149,18 +168,7 @@ impl<Q: Ratifier + Drop> Sender<Q> {
             (IsElecting (election_of Q.Ratifier)) self.old (R.stream rng.old) result self.new
             (R.stream rng.new) }
     {
-        let mut tenure = begun;
-        for _taken in 0..MOST_ELECTION_TURNS {
-            let turn = self.turn_drawing(bus, Step::Does(Doing::Elects { tenure }), rng);
-            let Turn::Going = turn else {
-                return turn;
-            };
-            let Step::Does(Doing::Elects { tenure: same }) = self.next_step() else {
-                return Turn::Going;
-            };
-            tenure = same;
-        }
-        Turn::Going
+        elect_row(&bus.words, &mut self.seat, &mut self.core, begun, rng)
     }
 
     /// The turn of which `next_step` told `next`, with the word that it asks for.
@@ -208,16 +216,6 @@ impl<Q: Ratifier + Drop> Sender<Q> {
             _ => self.full_turn(bus, word),
         }
     }
-}
-
-/// The lesser one of two numbers.
-#[inline(always)]
-fn lesser(one: u64, other: u64) -> u64
-    ensures is { result ≡ spec_lesser one other }
-    ensures first { result ≤ one }
-    ensures second { result ≤ other }
-{
-    if one < other { one } else { other }
 }
 
 /// A step was taken, and nothing more is said.

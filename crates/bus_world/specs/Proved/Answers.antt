@@ -8,7 +8,7 @@ use Rattle.bus_tenure.specs.Core.{Core, Election}
 use Rattle.bus_tenure.specs.Situations.{situation_of, op_at, answer_at}
 use Rattle.bus_world.specs.Turning.{number_found}
 use Rattle.bus_world.specs.Proved.Machines.{Bus, going}
-use Rattle.bus_world.specs.World.{Event, Put, Ask, Turn, Recv, Stop, RecvDoes}
+use Rattle.bus_world.specs.World.{Event, Put, Ask, Turn, Recv, Stop, Gone, RecvDoes}
 use Rattle.bus_world.specs.declared.events.Answer.{Answer}
 use Rattle.bus_world.specs.declared.events.Answer.TheVariants as answer
 use Rattle.bus_world.specs.Playing.{asked_answer}
@@ -44,6 +44,11 @@ abbrev pub StopGives : {E : Type 0} → Option (Core E) → Type 0
 StopGives None = ⊥
 StopGives (Some c) = Unit {0}
 
+-- a receiver that there is leaves
+abbrev pub LeaveGives : Option Receiving → Type 0
+LeaveGives None = ⊥
+LeaveGives (Some v) = Unit {0}
+
 -- no event of a sender that has stopped is answered
 abbrev pub Answers : {E : Type 0} → Election E → Bus E → Event → Answer → Bus E → Type 0
 Answers X old (Put s bytes) a new =
@@ -53,3 +58,4 @@ Answers X old (Turn s word) a new = TurnAnswers X old.side.words (going old s) w
 Answers X old (Recv r) a new =
     RecvAnswers old.side.words old.receivers r (slice_get old.receivers r) a new.receivers
 Answers X old (Stop s) a new = StopGives (going old s) × (a ≡ answer.Stopped)
+Answers X old (Gone r) a new = LeaveGives (slice_get old.receivers r) × (a ≡ answer.Gone)

@@ -1,28 +1,32 @@
 -- What is promised of senders and receivers of a bus whose rows are used again.
-use Rattle.std.specs.Prelude.{◌≡◌, ℕ, ◌+◌, ◌*◌, ◌<◌, ◌≤◌, Some, None, List, slice_index}
+use Rattle.std.specs.Prelude.{◌≡◌, ℕ, ◌+◌, ◌*◌, ◌%◌, ◌<◌, ◌≤◌, Bool, false, Some, None, List}
+use Rattle.std.specs.Prelude.{length, slice_index}
 use Rattle.bus_register.specs.declared.registers.Op.{Op}
 use Rattle.bus_register.specs.declared.registers.SenderNo.{SenderNo}
 use Rattle.bus_register.specs.Words.{register}
 use Rattle.bus_batch.specs.Frames.{Order, Spells}
+use Rattle.bus_deliverylog.specs.Receiving.{Receiving}
 use Rattle.bus_deliverylog.specs.declared.receiving.RecvTurn.{RecvTurn}
 use Rattle.bus_presence.specs.Standing.{IsSafe, Stands}
 use Rattle.bus_presence.specs.Reclamation.{Trails, row_of, Reached}
 use Rattle.bus_tenure.specs.Core.{Core, Election, Layout, stage_at}
 use Rattle.bus_tenure.specs.Situations.{Elects}
-use Rattle.bus_tenure.specs.declared.phases.Phase.TheVariants.{Electing}
+use Rattle.bus_tenure.specs.declared.pages.Page.{Page}
+use Rattle.bus_tenure.specs.declared.phases.Phase.TheVariants.{Electing, Holding}
 use Rattle.bus_core.specs.Reusing.Participants.{sizes_with, log_from}
 use Rattle.bus_core.specs.Proved.ParticipantTable.{place_for}
 use Rattle.bus_world.specs.Headline.{Action, Promises}
 use Rattle.bus_world.specs.Log.{words_read_from}
 use Rattle.bus_world.specs.Trails.{Takers}
 use Rattle.bus_world.specs.Proved.CyclicProtocols.{CyclicProtocol}
+use Rattle.bus_world.specs.Proved.Floors.{ShowsRing, passed_place}
 
 -- ---- what is promised of it
 -- of its trails, actions, answers and published words, with one order and one list of tenures and
 -- owners
 pub record KeepsPromises {E : Type 0} (X : Election E) (x : Layout) (rows : ℕ)
     (y : CyclicProtocol E) (T : Trails) (D : ℕ → List Action) (H : ℕ → List RecvTurn)
-    (L : List ℕ) (order : Order) (owners : List (ℕ × SenderNo)) : Type 0 where
+    (L : List ℕ) (order : Order) (owners : List (ℕ × SenderNo)) (floor : ℕ) : Type 0 where
   -- its trails lead to its reclamation by moves of a reclamation: so no row is cleared while
   -- somebody stands in a tenure of it, ..
   pub reached : Reached (sizes_with x rows) y.reclamation T
@@ -43,8 +47,25 @@ pub record KeepsPromises {E : Type 0} (X : Election E) (x : Layout) (rows : ℕ)
   pub takers : Takers y.owners D
   -- what was published spells the order and the owners, ..
   pub spelled : Spells x.senders L order owners
-  -- .. and stands in the words below the length
-  pub shows : words_read_from y.reclamation.words (log_from x rows) (y.reclamation.words 0) ≡ L
+  -- .. and stands in the log from a floor on
+  pub ring : ShowsRing x rows y.reclamation.words spelled.frames L floor
+  -- the page has that floor, at home and out
+  pub floor_home : (page : Page) → y.home ≡ Some page → page.floor ≡ floor
+  pub floor_held : (p t : ℕ) (page : Page) (stored : ℕ) (published : Bool) (c : Core E)
+      → y.senders p ≡ Some c → c.phase ≡ Holding t page stored published → page.floor ≡ floor
+  -- a receiver that has not left finds at its place the word that was published there
+  pub finds : (r : ℕ) (v : Receiving) → y.receivers r ≡ Some v → v.gone ≡ false
+      → v.place < length L
+      → y.reclamation.words (log_from x rows + v.place % x.capacity) ≡ slice_index L v.place
+  -- and believes the length that it finds
+  pub believes : (r : ℕ) (v : Receiving) → y.receivers r ≡ Some v → v.gone ≡ false
+      → y.reclamation.words 0 ≤ v.log_words + v.passed
+  -- and its passed place shows no place that it has not come to
+  pub comes : (r : ℕ) (v : Receiving) → y.receivers r ≡ Some v → v.gone ≡ false → r < x.passers
+      → y.reclamation.words (passed_place x rows r) ≤ v.place
+  -- where no word of the log is used again, all of it stands in the words below the length
+  pub shows : x.passers ≡ 0
+      → words_read_from y.reclamation.words (log_from x rows) (y.reclamation.words 0) ≡ L
   -- the headline's promise, also of tenures whose rows have gone on to others
   pub promises : Promises (slice_index y.bases) D H order owners
 
@@ -53,4 +74,5 @@ pub record IsKeptProtocol {E : Type 0} (X : Election E) (x : Layout) (rows : ℕ
     (L : List ℕ) : Type 0 where
   pub order : Order
   pub owners : List (ℕ × SenderNo)
-  pub by : KeepsPromises X x rows y T D H L order owners
+  pub floor : ℕ
+  pub by : KeepsPromises X x rows y T D H L order owners floor

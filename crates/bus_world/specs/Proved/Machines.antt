@@ -8,14 +8,14 @@ use Rattle.bus_batch.specs.declared.batches.Phase.TheVariants.{Open, Marking, Cl
 use Rattle.bus_batch.specs.declared.messages.Mark.{Mark}
 use Rattle.bus_batch.specs.Batches.{Pending}
 use Rattle.bus_deliverylog.specs.declared.receiving.RecvTurn.{RecvTurn}
-use Rattle.bus_deliverylog.specs.Receiving.{Receiving}
+use Rattle.bus_deliverylog.specs.Receiving.{Receiving, with_leave}
 use Rattle.bus_tenure.specs.Core.{Core, Election, Layout, log_at, words_of, is_empty}
 use Rattle.bus_tenure.specs.Situations.{situation_of, Situation, line_of, op_at, fed_at}
 use Rattle.bus_tenure.specs.declared.phases.Phase.TheVariants as phase
 use Rattle.bus_tenure.specs.declared.pages.Page.{Page}
 use Rattle.bus_world.specs.Starting.{IsNewReceiver}
-use Rattle.bus_world.specs.World.{Event, Put, Ask, Turn, Recv, Stop, is_set, RecvDoes, AreBases}
-use Rattle.bus_world.specs.World.{first_page, no_stops}
+use Rattle.bus_world.specs.World.{Event, Put, Ask, Turn, Recv, Stop, Gone, is_set, RecvDoes}
+use Rattle.bus_world.specs.World.{AreBases, first_page, no_stops}
 use Rattle.bus_world.specs.Turning.{words_after, number_found, home_moved, core_moved, after_step}
 
 -- what senders share, and the senders
@@ -72,6 +72,7 @@ IsEvent (Ask s mark) = Unit {0}
 IsEvent (Turn s word) = Unit {0}
 IsEvent (Recv r) = Unit {0}
 IsEvent (Stop s) = Unit {0}
+IsEvent (Gone r) = Unit {0}
 
 abbrev pub is_open : Phase → Bool
 is_open Open = true
@@ -113,12 +114,18 @@ ReceiverDoes words old r (Some v) new =
     (next : Receiving) × (answer : RecvTurn) × RecvDoes (slice_index words) v answer next
     × (new ≡ slice_set old r next)
 
+-- whoever leaves for good is the same else: it has no passed place
+abbrev pub LeaverDoes : List Receiving → ℕ → Option Receiving → List Receiving → Type 0
+LeaverDoes old r None new = new ≡ old
+LeaverDoes old r (Some v) new = new ≡ slice_set old r (with_leave v)
+
 -- whoever stops is one more that has stopped
 abbrev pub StopDoes : {E : Type 0} → List Bool → ℕ → Option (Core E) → List Bool → Type 0
 StopDoes old s None new = new ≡ old
 StopDoes old s (Some c) new = new ≡ slice_set old s true
 
--- A stop takes no step, and changes nothing but who has stopped; and no other event changes that.
+-- A stop takes no step, and changes nothing but who has stopped; and no other event changes that. A
+-- receiver leaves with no step either.
 abbrev pub Happens : {E : Type 0} → Election E → Bus E → Event → Bus E → Type 0
 Happens X old (Put s bytes) new =
     SenderDoes old.side (going old s) (λ c. with_sender old.side s (put_in c bytes)) new.side
@@ -136,6 +143,10 @@ Happens X old (Recv r) new =
 Happens X old (Stop s) new =
     (new.side ≡ old.side) × (new.receivers ≡ old.receivers)
     × StopDoes old.stopped s (going old s) new.stopped
+Happens X old (Gone r) new =
+    (new.side ≡ old.side)
+    × LeaverDoes old.receivers r (slice_get old.receivers r) new.receivers
+    × (new.stopped ≡ old.stopped)
 
 -- ---- a new bus
 abbrev pub new_core : {E : Type 0} → Layout → ℕ → ℕ → Core E
@@ -163,4 +174,4 @@ pub record IsNew {E : Type 0} (bases : List ℕ) (x : Layout) (bus : Bus E) : Ty
   pub owners : bus.side.owners ≡ []
   pub stopped : bus.stopped ≡ no_stops
   pub receivers : (r : ℕ) (v : Receiving) → slice_get bus.receivers r ≡ Some v
-      → IsNewReceiver x.senders (log_at x) x.capacity v
+      → IsNewReceiver x.senders (log_at x) x.capacity None v

@@ -10,25 +10,25 @@ use Rattle.bus_tenure.specs.Core.{Core, Layout, log_at, frame_len}
 use Rattle.bus_tenure.specs.declared.pages.Page.{Page}
 use Rattle.bus_tenure.specs.declared.phases.Phase.{Phase}
 use Rattle.bus_tenure.specs.declared.phases.Phase.TheVariants as phase
-use Rattle.bus_world.specs.Log.{words_read_from, AreCounted, next_number, Knows}
+use Rattle.bus_world.specs.Log.{words_read_from, AreCounted, next_number, first_numbers}
+use Rattle.bus_world.specs.Log.{KeepsFloor, Knows}
 use Rattle.bus_world.specs.Proved.Tenures.{Standing, Tenures}
 use Rattle.bus_world.specs.Proved.Tenures.Standing.{Rests, Runs, Holds}
 use Rattle.bus_deliverylog.specs.Orders.{of_sender}
-use Rattle.bus_world.specs.declared.limits.TheConstants.{FIRST_NUMBERS}
 
 -- frames of tenures below this one
 abbrev pub AreEarlier : ℕ → List Frame → Type 0
 AreEarlier tenure [] = Unit {0}
 AreEarlier tenure (f ∷ frames) = (f.tenure < tenure) × AreEarlier tenure frames
 
--- the words below the length are frames, and each sender's numbers count from its base, which
--- leaves room for a whole log
-pub record Logged (base : ℕ → ℕ) (n capacity at : ℕ) (words : ℕ → ℕ) (len : ℕ)
-    (frames : List Frame) : Type 0 where
-  pub lawful : AreFrames n frames
-  pub words_are : words_read_from words at len ≡ log_words frames
-  pub fits : len ≤ capacity
-  pub low : (s : ℕ) → base s < FIRST_NUMBERS
+-- the words below the length are frames, which fit the log where no word of it is used again; and
+-- each sender's numbers count from its base, which leaves room for a whole sitting
+pub record Logged (base : ℕ → ℕ) (x : Layout) (words : ℕ → ℕ) (len : ℕ) (frames : List Frame) :
+    Type 0 where
+  pub lawful : AreFrames x.senders frames
+  pub words_are : words_read_from words (log_at x) len ≡ log_words frames
+  pub fits : x.passers ≡ 0 → len ≤ x.capacity
+  pub low : (s : ℕ) → base s < first_numbers x.passers
   pub counted : (s : ℕ) → AreCounted (base s) (of_sender s (order_of frames))
 
 -- what a sender stands in, as far as tenures go
@@ -60,7 +60,10 @@ pub record IsWriting {E : Type 0} (base : ℕ → ℕ) (words : ℕ → ℕ) (fr
   pub page_knows : Knows base page frames t (words 0)
   pub earlier : AreEarlier t frames
   pub stored_below : stored ≤ frame_len c
-  pub allowed : 0 < stored → (page.ended ≡ false) × (page.words + frame_len c ≤ c.layout.capacity)
+  -- where no word of the log is used again
+  pub flat : c.layout.passers ≡ 0 → KeepsFloor page
+  pub allowed : 0 < stored
+      → (page.ended ≡ false) × (page.words + frame_len c ≤ c.layout.capacity + page.floor)
   pub words_are : words_read_from words (log_at c.layout + words 0) stored
       ≡ take stored (frame_words (frame_of c.queue t))
 
@@ -71,6 +74,8 @@ pub record HasWritten {E : Type 0} (base : ℕ → ℕ) (words : ℕ → ℕ) (f
   pub frames_are : frames ≡ front ++ frame_of c.queue t ∷ []
   pub goes_on : GoesOn base front c
   pub page_knows : Knows base page front t page.words
+  -- as above
+  pub flat : c.layout.passers ≡ 0 → KeepsFloor page
   pub earlier : AreEarlier t front
   pub is_open : page.ended ≡ false
   pub len_is : words 0 ≡ page.words + frame_len c
@@ -112,11 +117,13 @@ pub record Sending {E : Type 0} (base : ℕ → ℕ) (P : Protocol E (Unit {0}) 
     (frames : List Frame) : Type 0 where
   pub tenures : Tenures P x.senders x.rows 2 words (words 1) (is_some home)
       (λ p. of_some standing_of (senders p)) (λ p. least_of (senders p)) owners
-  pub log : Logged base x.senders x.capacity (log_at x) words (words 0) frames
+  pub log : Logged base x words (words 0) frames
   pub owned : AreOwned owners frames
   -- a page at home knows the frames, all of which are of tenures that have ended
   pub page_knows : (page : Page) (t : ℕ) → home ≡ Some page → words 1 ≡ 2 * t
       → Knows base page frames t (words 0) × AreEarlier t frames
+  -- where no word of the log is used again
+  pub flat_home : x.passers ≡ 0 → (page : Page) → home ≡ Some page → KeepsFloor page
   pub parts : (p : ℕ) (c : Core E) → senders p ≡ Some c → Part base x words frames p c
   -- who stays in an election that has an owner is that owner
   pub chosen : (p : ℕ) (c : Core E) (t : ℕ) (e : E) (o : ℕ) → senders p ≡ Some c

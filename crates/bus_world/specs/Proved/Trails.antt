@@ -12,7 +12,7 @@ use Rattle.bus_world.specs.Headline.{Action, Promises}
 use Rattle.bus_world.specs.Log.{words_read_from, words_of_frame}
 use Rattle.bus_world.specs.Turning.{number_found}
 use Rattle.bus_world.specs.Proved.Machines.{Bus, going, IsEvent, Happens, IsNew}
-use Rattle.bus_world.specs.World.{Event, Put, Ask, Turn, Recv, Stop}
+use Rattle.bus_world.specs.World.{Event, Put, Ask, Turn, Recv, Stop, Gone}
 use Rattle.bus_world.specs.Proved.Answers.{Answers}
 use Rattle.bus_world.specs.declared.events.Answer.{Answer}
 use Rattle.bus_world.specs.declared.events.Answer.TheVariants as answer
@@ -29,6 +29,7 @@ turn_actions X c z got word (answer.Turn t) =
     step_action (kind_at X c z) (tenure_at X c z) got (chosen_at X c z got word) t
 turn_actions X c z got word (answer.Recv t) = []
 turn_actions X c z got word answer.Stopped = []
+turn_actions X c z got word answer.Gone = []
 
 -- of the sender that there is
 abbrev pub turning_actions : {E : Type 0} → Election E → List ℕ → Option (Core E) → ℕ → Answer
@@ -37,7 +38,8 @@ turning_actions X words None word a = []
 turning_actions X words (Some c) word a = turn_actions X c (situation_of X c)
     (number_found (slice_index words) (op_at X c (situation_of X c) word)) word a
 
--- what an event with this answer adds to the trail of sender q: a stop is no action
+-- what an event with this answer adds to the trail of sender q: a stop is no action, and a receiver
+-- that leaves no sender's
 abbrev pub actions_of : {E : Type 0} → Election E → Bus E → Event → Answer → ℕ → List Action
 actions_of X b (Put s bytes) a q = if q == s then put_actions bytes a else []
 actions_of X b (Ask s asked) a q = if q == s then mark_actions a else []
@@ -45,6 +47,7 @@ actions_of X b (Turn s word) a q =
     if q == s then turning_actions X b.side.words (going b s) word a else []
 actions_of X b (Recv r) a q = []
 actions_of X b (Stop s) a q = []
+actions_of X b (Gone r) a q = []
 
 abbrev pub answer_heard : Answer → List RecvTurn
 answer_heard (answer.Number n) = []
@@ -53,6 +56,7 @@ answer_heard answer.Leaving = []
 answer_heard (answer.Turn t) = []
 answer_heard (answer.Recv t) = t ∷ []
 answer_heard answer.Stopped = []
+answer_heard answer.Gone = []
 
 -- what an event and its answer add to the trail of a receiver
 abbrev pub heard_of : Event → Answer → ℕ → List RecvTurn
@@ -61,6 +65,7 @@ heard_of (Ask s asked) a q = []
 heard_of (Turn s word) a q = []
 heard_of (Recv r) a q = if q == r then answer_heard a else []
 heard_of (Stop s) a q = []
+heard_of (Gone r) a q = []
 
 -- all that was published, with the frame of this sender where its next turn stores a length
 abbrev pub log_by : {E : Type 0} → Election E → Option (Core E) → List ℕ → List ℕ
@@ -74,6 +79,7 @@ event_log X b (Ask s asked) log = log
 event_log X b (Turn s word) log = log_by X (going b s) log
 event_log X b (Recv r) log = log
 event_log X b (Stop s) log = log
+event_log X b (Gone r) log = log
 
 -- ---- the trails of all
 pub record Trails : Type 0 where

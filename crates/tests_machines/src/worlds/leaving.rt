@@ -29,7 +29,7 @@ fn one_leaves(rt: &impl Abort, game: &mut Game) {
 }
 
 /// The words of both frames, and the page that is at home.
-fn holds_them(rt: &impl Abort, game: &Game) {
+fn holds_them<R: Abort + AllocGlobal>(rt: &R, game: &Game) {
     let words: [u64; 5] = [
         0x4000_0100_0000_0000,
         0xC000_0000_0000_0001,

@@ -191,7 +191,8 @@ impl Story {
 
 /// What stands in the log, which is of whole frames.
 fn frames<R: Abort + AllocGlobal>(rt: &R, game: &Game) -> LogRead {
-    let read = read_log(rt.alloc(), game.world().log(), 3).ok();
+    let log = game.world().log(rt.alloc()).expect(rt, "memory");
+    let read = read_log(rt.alloc(), &log, 3).ok();
     read.expect(rt, "whole frames")
 }
 

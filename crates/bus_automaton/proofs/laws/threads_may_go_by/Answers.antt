@@ -7,7 +7,8 @@ use Rattle.bus_automaton.specs.Buses.{process_with, automaton_with}
 use Rattle.bus_automaton.proofs.Beginning.{opens}
 use Rattle.bus_automaton.proofs.HandedTells.{handed_tells}
 use Rattle.bus_automaton.proofs.RestingTells.{rest_tells}
-use Rattle.bus_automaton.proofs.ServedPlans.{one_cause_after, is_layout, has_rows}
+use Rattle.bus_automaton.proofs.ServedPlans.{one_cause_after, is_layout, none_passed}
+use Rattle.bus_automaton.proofs.ServedPlans.{has_rows}
 use Rattle.bus_automaton.proofs.States.{automaton_laws}
 use Rattle.bus_automaton.proofs.Turns.{process_laws}
 use Rattle.bus_automaton.proofs.laws.threads_may_go_by.Goals as goal
@@ -20,7 +21,7 @@ returns-clause-process g c =
     let law = c.election_is_lawful.ensures.lawful.laws 0 in
     process_laws X (elections P 0) law
     (serves g.Q.Machine.kind_of g.Q.Machine.op g.Q.Machine.fed P g.met.Q.Machine.names_each_step
-    g.met.Q.Ratifier.own_kinds 0 0 0 0 law).named
+    g.met.Q.Ratifier.own_kinds 0 0 0 0 0 law).named
 
 pub returns-clause-tells : goal.returns-clause-tells
 unfolding process_with
@@ -37,7 +38,7 @@ returns-clause-rests g c v word laid none going =
     let law = c.election_is_lawful.ensures.lawful.laws 0 in
     rest_tells X (elections P 0) law
     (serves g.Q.Machine.kind_of g.Q.Machine.op g.Q.Machine.fed P g.met.Q.Machine.names_each_step
-    g.met.Q.Ratifier.own_kinds 0 0 0 0 law).owner_is
+    g.met.Q.Ratifier.own_kinds 0 0 0 0 0 law).owner_is
     v word laid none going
 
 pub returns-clause-one_cause : goal.returns-clause-one_cause
@@ -63,7 +64,8 @@ returns-clause-automaton g c plan =
     automaton_laws X (elections P plan.shape.rounds) (layout_of P plan.shape plan.reuse)
     (served g.Q.Machine.kind_of g.Q.Machine.op g.Q.Machine.fed P g.met.Q.Machine.names_each_step
     g.met.Q.Ratifier.own_kinds plan.shape
-    (c.election_is_lawful.ensures.lawful.laws plan.shape.rounds) plan.reuse) plan.reuse plan.bases
+    (c.election_is_lawful.ensures.lawful.laws plan.shape.rounds) plan.reuse 0)
+    (none_passed P plan.shape plan.reuse) plan.reuse plan.bases
 
 pub returns-clause-opens : goal.returns-clause-opens
 unfolding process_with automaton_with
@@ -71,7 +73,8 @@ returns-clause-opens g c plan h =
     let P = g.Q.Ratifier.protocol in
     let X = election_with g.Q.Machine.kind_of g.Q.Machine.op g.Q.Machine.fed P in
     opens X (layout_of P plan.shape plan.reuse) plan.reuse plan.bases
-    (is_layout P plan.shape plan.reuse h.0) (has_rows plan.shape plan.reuse h.0 h.1) h.2
+    (is_layout P plan.shape plan.reuse h.0) (none_passed P plan.shape plan.reuse)
+    (has_rows plan.shape plan.reuse h.0 h.1) h.2
 
 pub returns-clause-bases : goal.returns-clause-bases
 unfolding automaton_with

@@ -1,6 +1,5 @@
 use Rattle.std.proofs.Common.{ℕ, ◌<◌, slice_index}
-use Rattle.bus_world.specs.declared.limits.TheConstants.{FIRST_NUMBERS}
 use Rattle.bus_machine.proofs.shapes.are_low.Given as goal
 
 abbrev pub invariant-loop-sender : goal.invariant-loop-sender
-invariant-loop-sender l = (s : ℕ) → s < l.sender → slice_index l.next s < FIRST_NUMBERS
+invariant-loop-sender l = (s : ℕ) → s < l.sender → slice_index l.next s < l.below

@@ -21,7 +21,7 @@ pub returns-in_err-made-clause-fault : goal.returns-in_err-made-clause-fault
 returns-in_err-made-clause-fault g c =
     passed_up _ _ (MakeRefusedAfter c.args.plan.shape c.args.plan.reuse (option_copied c.args.page))
     c.from_residual-in_err-made.ensures
-    (no_memory_after c.args.plan.shape c.args.plan.reuse (option_copied c.args.page)
+    (no_memory_after c.args.plan.shape c.args.plan.reuse 0 (option_copied c.args.page)
     (c.in_default.ensures.served refl) c.in_ok-next.ensures.follows)
 
 pub returns-clause-plan : goal.returns-clause-plan

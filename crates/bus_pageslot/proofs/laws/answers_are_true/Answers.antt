@@ -17,5 +17,5 @@ returns g c plan s id m d word many o r at due =
     r id m at d word many o due
     (sized Q (OfEvents X (λ old e a new. Tells X old e a))
     (λ a b d e ok old T same rows reached event given new happens.
-    (c.events_keep_promise.ensures a b d e ok old T same rows reached event given new happens).1)
+    (c.events_keep_promise.ensures a b d e 0 ok old T same rows reached event given new happens).1)
     plan.shape plan.reuse)

@@ -14,7 +14,7 @@ returns g c plan s id m d word many t o r at due is_open leaves =
     let X = elector g.Q.Machine.kind_of g.Q.Machine.op g.Q.Machine.fed Q plan in
     let y = served g.Q.Machine.kind_of g.Q.Machine.op g.Q.Machine.fed Q
     g.met.Q.Machine.names_each_step g.met.Q.Ratifier.own_kinds plan.shape
-    (c.election_is_lawful.ensures.lawful.laws plan.shape.rounds) plan.reuse in
+    (c.election_is_lawful.ensures.lawful.laws plan.shape.rounds) plan.reuse 0 in
     owners_leave X (elections Q plan.shape.rounds)
     (sizes g.Q.Machine.kind_of g.Q.Machine.op g.Q.Machine.fed Q plan) y plan.reuse plan.bases
     (laws_are g.Q.Machine.kind_of g.Q.Machine.op g.Q.Machine.fed Q plan
@@ -23,5 +23,5 @@ returns g c plan s id m d word many t o r at due is_open leaves =
     due
     (sized Q (OfEvents X (OpensOnly X))
     (λ a b d e ok old T same rows reached event given new happens.
-    (c.events_keep_promise.ensures a b d e ok old T same rows reached event given new happens).2)
+    (c.events_keep_promise.ensures a b d e 0 ok old T same rows reached event given new happens).2)
     plan.shape plan.reuse) t is_open leaves

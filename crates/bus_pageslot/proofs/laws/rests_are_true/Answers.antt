@@ -17,7 +17,7 @@ returns-clause-rests g c plan s seat v d sender_trail actions r shown more =
     r seat v d sender_trail actions shown more
     (sized Q (OfEvents X (λ old e a new. Tells X old e a))
     (λ a b d e ok old T same rows reached event given new happens.
-    (c.events_keep_promise.ensures a b d e ok old T same rows reached event given new happens).1)
+    (c.events_keep_promise.ensures a b d e 0 ok old T same rows reached event given new happens).1)
     plan.shape plan.reuse)
 
 pub returns-clause-refused : goal.returns-clause-refused

@@ -1,14 +1,13 @@
-use Rattle.std.proofs.Common.{◌≡◌, ◌∙◌, sym, subst}
+use Rattle.std.proofs.Common.{◌≡◌, sym, subst}
 use Rattle.bus_machine.specs.Bounding.{AreBounded, PinsAreBounded}
-use Rattle.bus_machine.specs.Machine.{Machine, Trails, Reached, log_of}
+use Rattle.bus_machine.specs.Machine.{Machine, Trails, Reached}
 use Rattle.bus_ownerbits.specs.Sizes.{election_bound}
 use Rattle.bus_machine.specs.Promise.{IsPromised, HasRows}
 use Rattle.bus_machine.specs.Telling.{LossesAreSeen}
 use Rattle.bus_tenure.specs.Core.{Election}
 use Rattle.bus_tenure.specs.Elections.{Elector, election_with}
 use Rattle.bus_world.specs.World.{IsLayout}
-use Rattle.bus_pageslot.proofs.Publishing.{log_is}
-use Rattle.bus_pageslot.proofs.Histories.{rule_is, sized, has_history}
+use Rattle.bus_pageslot.proofs.Histories.{rule_is, laws_are, sized, has_history}
 use Rattle.bus_pageslot.proofs.laws.tables_are_machines.Goals as goal
 
 pub returns : goal.returns
@@ -22,18 +21,14 @@ returns g c plan s r =
     (sized Q (λ x.
     IsLayout x → (m : Machine S) (T : Trails) → m.layout ≡ x → HasRows m.reuse → Reached X m T
     → IsPromised X m T × LossesAreSeen m T.actions)
-    c.machine_keeps_promise.ensures plan.shape plan.reuse h.served k.state.machine k.state.trails
-    h.layout
+    (λ senders rounds rows capacity. c.machine_keeps_promise.ensures senders rounds rows capacity 0)
+    plan.shape plan.reuse h.served k.state.machine k.state.trails h.layout
     (subst HasRows (sym h.rows_are) h.has_rows) h.reached)
     (sized Q (λ x.
     IsLayout x → (m : Machine S) (T : Trails) → m.layout ≡ x → HasRows m.reuse → Reached X m T
     → AreBounded X (election_bound Q.steps x.senders x.rounds) m T × PinsAreBounded T)
-    c.steps_are_bounded.ensures plan.shape plan.reuse h.served k.state.machine k.state.trails
-    h.layout
+    (λ senders rounds rows capacity. c.steps_are_bounded.ensures senders rounds rows capacity 0)
+    plan.shape plan.reuse h.served k.state.machine k.state.trails h.layout
     (subst HasRows (sym h.rows_are) h.has_rows) h.reached)
-    (sym (log_is k.state.machine _ plan.reuse h.layout h.rows_are)
-    ∙ sized Q (λ x.
-    IsLayout x → (m : Machine S) (T : Trails) → m.layout ≡ x → HasRows m.reuse → Reached X m T
-    → log_of m ≡ T.log)
-    c.history_stands.ensures plan.shape plan.reuse h.served k.state.machine k.state.trails h.layout
-    (subst HasRows (sym h.rows_are) h.has_rows) h.reached)
+    ((laws_are g.Q.Machine.kind_of g.Q.Machine.op g.Q.Machine.fed Q plan
+    (c.threads_may_go_by.ensures.automaton plan)).log k.state h).stands

@@ -10,7 +10,7 @@ loop-receiver-preserved g c trails reached =
     c.loop-receiver.receiver
     (order_held c.in_ok-given.given) (string_bytes c.loop-receiver.text)
     (string_bytes c.push_given.new.text) _ (search rules)
-    (c.in_ok-given.ensures.answered trails reached) c.in_ok-push_given.ensures
+    (c.in_ok-given.ensures.answered c.requires trails reached) c.in_ok-push_given.ensures
     (c.loop-receiver.invariant trails reached)
 
 pub returns : goal.returns

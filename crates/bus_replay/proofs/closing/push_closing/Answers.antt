@@ -16,7 +16,7 @@ returns g c =
     (λ all. closes X g.Q.Ratifier.protocol c.args.bus.now (string_bytes c.args.text.now)
     (string_bytes c.push_order.new.text)
     (string_bytes c.push_all_given.new.text) (map (λ s. s.0) c.owners.result.now) order read.0
-    read.1 (λ T r. (c.promises.ensures.promised T r).by.stands)
+    c.requires read.1 (λ T r. (c.promises.ensures.promised T r).by.stands)
     c.owners.ensures.state c.owners.ensures.took c.promises.ensures.happened
     (c.in_ok-push_order.ensures
     ∙ ap (λ l. l ++ order_text order) c.in_ok-push_owners.ensures) all)

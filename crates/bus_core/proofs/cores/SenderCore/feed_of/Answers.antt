@@ -1,5 +1,6 @@
 use Rattle.std.proofs.Common.{sym, ◌∙◌, ap, subst, IsSome}
 use Rattle.bus_tenure.specs.Elections.{election_with, elections}
+use Rattle.bus_core.specs.Loading.{KeepsFloor}
 use Rattle.bus_core.specs.Table.{line_now}
 use Rattle.bus_core.specs.Telling.{FeedTells}
 use Rattle.bus_core.proofs.Kept.{keeps_line, Keeps}
@@ -46,3 +47,17 @@ returns-clause-tells g c =
     subst (FeedTells X c.args.self.now c.args.got c.args.word)
     (sym (c.feed_parts.ensures.answer
     ∙ ap (λ y. (line_now X y).answer c.args.got c.args.word) c.self.view_is)) c.tells.ensures
+
+pub returns-clause-floor : goal.returns-clause-floor
+returns-clause-floor g c =
+    let X =
+    election_with g.Q.Machine.kind_of g.Q.Machine.op g.Q.Machine.fed g.Q.Ratifier.protocol in
+    subst (KeepsFloor X c.args.self.now c.args.got) (sym (c.feed_parts.ensures.state
+    ∙ ap (λ y. (line_now X y).fed c.args.got c.args.word) c.self.view_is)) c.keeps_floor.ensures
+
+pub returns-clause-full : goal.returns-clause-full
+returns-clause-full g c full =
+    let X =
+    election_with g.Q.Machine.kind_of g.Q.Machine.op g.Q.Machine.fed g.Q.Ratifier.protocol in
+    c.loads_first.ensures (sym (c.feed_parts.ensures.answer
+    ∙ ap (λ y. (line_now X y).answer c.args.got c.args.word) c.self.view_is) ∙ full)

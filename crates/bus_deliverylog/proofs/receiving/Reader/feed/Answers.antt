@@ -15,6 +15,7 @@ invariant_of-self c = (
       (sym c.passing.ensures ∙ c.in-Some.is) in
       let at = sym none ∙ ap (λ (v : Receiving). v.passed_at) c.self.view_is ∙ due in
       cc),
+  c.self.invariant.5,
 )
 
 pub returns-clause-word : goal.returns-clause-word

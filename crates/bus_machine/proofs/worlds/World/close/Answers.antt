@@ -18,7 +18,8 @@ returns-clause-answered g c =
     let R = elections P shape.rounds in
     let s = served g.Q.Machine.kind_of g.Q.Machine.op g.Q.Machine.fed P
     g.met.Q.Machine.names_each_step g.met.Q.Ratifier.own_kinds shape
-    (c.election_is_lawful.ensures.lawful.laws shape.rounds) c.self.inside.reuse in
+    (c.election_is_lawful.ensures.lawful.laws shape.rounds) c.self.inside.reuse
+    c.self.inside.passers in
     subst (λ n. OnOk c.mark_at.result
     (Answers X P c.args.self.now (Ask n End) answer.Closing c.mark_at.new.self)) c.from.ensures
     (unit_more c.mark_at.result _ _ c.mark_at.ensures.happens

@@ -13,7 +13,8 @@ returns-clause-took g c trails reached =
     let R = elections P shape.rounds in
     let s = served g.Q.Machine.kind_of g.Q.Machine.op g.Q.Machine.fed P
     g.met.Q.Machine.names_each_step g.met.Q.Ratifier.own_kinds shape
-    (c.election_is_lawful.ensures.lawful.laws shape.rounds) c.self.inside.reuse in
+    (c.election_is_lawful.ensures.lawful.laws shape.rounds) c.self.inside.reuse
+    c.self.inside.passers in
     subst (λ o. TakersTold c.args.self.now.reuse o trails.actions)
     (sym (ap (map (λ s. s.0)) c.as_slice.ensures.value ∙ ap (λ y. y.owners) c.self.view_is))
     (took X P R _ s c.self.invariant c.args.self.now c.self.view_is trails reached)

@@ -28,7 +28,8 @@ returns-clause-played g c =
     let R = elections P shape.rounds in
     let s = served g.Q.Machine.kind_of g.Q.Machine.op g.Q.Machine.fed P
     g.met.Q.Machine.names_each_step g.met.Q.Ratifier.own_kinds shape
-    (c.election_is_lawful.ensures.lawful.laws shape.rounds) c.self.inside.reuse in
+    (c.election_is_lawful.ensures.lawful.laws shape.rounds) c.self.inside.reuse
+    c.self.inside.passers in
     let all = all_told c.args.events.now c.loop-place.place (omega arith) in
     played X P R _ s c.self.invariant c.args.self.now c.self.view_is
     (map event_told c.args.events.now) c.loop-place.self
@@ -42,7 +43,8 @@ returns-in-Err-clause-stopped g c =
     let R = elections P shape.rounds in
     let s = served g.Q.Machine.kind_of g.Q.Machine.op g.Q.Machine.fed P
     g.met.Q.Machine.names_each_step g.met.Q.Ratifier.own_kinds shape
-    (c.election_is_lawful.ensures.lawful.laws shape.rounds) c.self.inside.reuse in
+    (c.election_is_lawful.ensures.lawful.laws shape.rounds) c.self.inside.reuse
+    c.self.inside.passers in
     let same = c.in-Err.ensures.refused.nothing in
     let answered = subst
     (AllAnswered X P c.args.self.now (map event_told (take c.loop-place.place c.args.events.now)))

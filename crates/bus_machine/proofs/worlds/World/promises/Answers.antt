@@ -1,6 +1,6 @@
 use Rattle.std.proofs.Common.{◌≡◌, ℕ, ◌+◌, Bool, Option, Some, None, refl, arith}
 use Rattle.bus_adoptcommit.specs.declared.verdicts.Verdict.{Verdict}
-use Rattle.bus_machine.specs.Playing.{layout_of}
+use Rattle.bus_machine.specs.Playing.{layout_passed}
 use Rattle.bus_ownerbits.specs.Sizes.{election_bound}
 use Rattle.bus_register.specs.Protocol.{Protocol}
 use Rattle.bus_tenure.specs.Elections.{elections, election_with}
@@ -11,10 +11,12 @@ use Rattle.bus_machine.proofs.worlds.World.promises.Goals as goal
 
 -- the bound of steps, by the sizes of the shape
 bound_is : {S : Type 0} (P : Protocol S Bool Verdict) (shape : Shape) (reuse : Option ℕ)
-    → (elections P shape.rounds).steps (layout_of P shape reuse).senders + 1
-    ≡ election_bound P.steps (layout_of P shape reuse).senders (layout_of P shape reuse).rounds
-bound_is P shape None = omega arith
-bound_is P shape (Some rows) = omega arith
+    (passers : ℕ)
+    → (elections P shape.rounds).steps (layout_passed P shape reuse passers).senders + 1
+    ≡ election_bound P.steps (layout_passed P shape reuse passers).senders
+    (layout_passed P shape reuse passers).rounds
+bound_is P shape None passers = omega arith
+bound_is P shape (Some rows) passers = omega arith
 
 pub returns-clause-happened : goal.returns-clause-happened
 returns-clause-happened g c =
@@ -24,7 +26,8 @@ returns-clause-happened g c =
     let R = elections P shape.rounds in
     let s = served g.Q.Machine.kind_of g.Q.Machine.op g.Q.Machine.fed P
     g.met.Q.Machine.names_each_step g.met.Q.Ratifier.own_kinds shape
-    (c.election_is_lawful.ensures.lawful.laws shape.rounds) c.self.inside.reuse in
+    (c.election_is_lawful.ensures.lawful.laws shape.rounds) c.self.inside.reuse
+    c.self.inside.passers in
     happened X P R _ s c.self.invariant c.args.self.now c.self.view_is
 
 pub returns-clause-promised : goal.returns-clause-promised
@@ -35,7 +38,8 @@ returns-clause-promised g c =
     let R = elections P shape.rounds in
     let s = served g.Q.Machine.kind_of g.Q.Machine.op g.Q.Machine.fed P
     g.met.Q.Machine.names_each_step g.met.Q.Ratifier.own_kinds shape
-    (c.election_is_lawful.ensures.lawful.laws shape.rounds) c.self.inside.reuse in
+    (c.election_is_lawful.ensures.lawful.laws shape.rounds) c.self.inside.reuse
+    c.self.inside.passers in
     promised X P R _ s c.self.invariant c.args.self.now c.self.view_is
 
 pub returns-clause-losses : goal.returns-clause-losses
@@ -46,7 +50,8 @@ returns-clause-losses g c =
     let R = elections P shape.rounds in
     let s = served g.Q.Machine.kind_of g.Q.Machine.op g.Q.Machine.fed P
     g.met.Q.Machine.names_each_step g.met.Q.Ratifier.own_kinds shape
-    (c.election_is_lawful.ensures.lawful.laws shape.rounds) c.self.inside.reuse in
+    (c.election_is_lawful.ensures.lawful.laws shape.rounds) c.self.inside.reuse
+    c.self.inside.passers in
     losses_seen X P R _ s c.self.invariant c.args.self.now c.self.view_is
 
 pub returns-clause-bounded : goal.returns-clause-bounded
@@ -57,10 +62,11 @@ returns-clause-bounded g c =
     let R = elections P shape.rounds in
     let s = served g.Q.Machine.kind_of g.Q.Machine.op g.Q.Machine.fed P
     g.met.Q.Machine.names_each_step g.met.Q.Ratifier.own_kinds shape
-    (c.election_is_lawful.ensures.lawful.laws shape.rounds) c.self.inside.reuse in
-    let l = layout_of P shape c.self.inside.reuse in
+    (c.election_is_lawful.ensures.lawful.laws shape.rounds) c.self.inside.reuse
+    c.self.inside.passers in
+    let l = layout_passed P shape c.self.inside.reuse c.self.inside.passers in
     steps_bounded X P R _ s c.self.invariant c.args.self.now c.self.view_is
     (λ x. election_bound P.steps x.senders x.rounds)
-    (bound_is P shape c.self.inside.reuse) (λ e. refl)
+    (bound_is P shape c.self.inside.reuse c.self.inside.passers) (λ e. refl)
     (λ p at e belongs.
     c.election_is_lawful.ensures.lawful.turns_last shape.rounds l.senders p at e belongs)

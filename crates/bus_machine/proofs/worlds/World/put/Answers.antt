@@ -17,7 +17,8 @@ returns-clause-answered g c =
     let R = elections P shape.rounds in
     let s = served g.Q.Machine.kind_of g.Q.Machine.op g.Q.Machine.fed P
     g.met.Q.Machine.names_each_step g.met.Q.Ratifier.own_kinds shape
-    (c.election_is_lawful.ensures.lawful.laws shape.rounds) c.self.inside.reuse in
+    (c.election_is_lawful.ensures.lawful.laws shape.rounds) c.self.inside.reuse
+    c.self.inside.passers in
     subst (λ n. IfOk c.put_at.result (λ number.
     Answers X P c.args.self.now (Put n c.args.bytes.now) (answer.Number number) c.put_at.new.self))
     c.from.ensures

@@ -16,7 +16,8 @@ put_to-requires g c =
     let R = elections P shape.rounds in
     let s = served g.Q.Machine.kind_of g.Q.Machine.op g.Q.Machine.fed P
     g.met.Q.Machine.names_each_step g.met.Q.Ratifier.own_kinds shape
-    (c.election_is_lawful.ensures.lawful.laws shape.rounds) c.self.inside.reuse in
+    (c.election_is_lawful.ensures.lawful.laws shape.rounds) c.self.inside.reuse
+    c.self.inside.passers in
     let many = senders_many X _ c.self.invariant c.args.self.now c.self.view_is c.args.sender
     c.in_ok-goes_on.ensures.there in
     let at = there c.self.inside.senders.items c.args.sender c.index_mut.result.now many
@@ -31,7 +32,8 @@ invariant_of-self g c =
     let R = elections P shape.rounds in
     let s = served g.Q.Machine.kind_of g.Q.Machine.op g.Q.Machine.fed P
     g.met.Q.Machine.names_each_step g.met.Q.Ratifier.own_kinds shape
-    (c.election_is_lawful.ensures.lawful.laws shape.rounds) c.self.inside.reuse in
+    (c.election_is_lawful.ensures.lawful.laws shape.rounds) c.self.inside.reuse
+    c.self.inside.passers in
     let many = senders_many X _ c.self.invariant c.args.self.now c.self.view_is c.args.sender
     c.in_ok-goes_on.ensures.there in
     let at = there c.self.inside.senders.items c.args.sender c.index_mut.result.now many
@@ -49,7 +51,8 @@ returns-clause-happens g c =
     let R = elections P shape.rounds in
     let s = served g.Q.Machine.kind_of g.Q.Machine.op g.Q.Machine.fed P
     g.met.Q.Machine.names_each_step g.met.Q.Ratifier.own_kinds shape
-    (c.election_is_lawful.ensures.lawful.laws shape.rounds) c.self.inside.reuse in
+    (c.election_is_lawful.ensures.lawful.laws shape.rounds) c.self.inside.reuse
+    c.self.inside.passers in
     let many = senders_many X _ c.self.invariant c.args.self.now c.self.view_is c.args.sender
     c.in_ok-goes_on.ensures.there in
     let at = there c.self.inside.senders.items c.args.sender c.index_mut.result.now many
@@ -67,7 +70,8 @@ returns-clause-refused g c =
     let R = elections P shape.rounds in
     let s = served g.Q.Machine.kind_of g.Q.Machine.op g.Q.Machine.fed P
     g.met.Q.Machine.names_each_step g.met.Q.Ratifier.own_kinds shape
-    (c.election_is_lawful.ensures.lawful.laws shape.rounds) c.self.inside.reuse in
+    (c.election_is_lawful.ensures.lawful.laws shape.rounds) c.self.inside.reuse
+    c.self.inside.passers in
     let many = senders_many X _ c.self.invariant c.args.self.now c.self.view_is c.args.sender
     c.in_ok-goes_on.ensures.there in
     let at = there c.self.inside.senders.items c.args.sender c.index_mut.result.now many

@@ -1,40 +1,28 @@
-use Rattle.std.proofs.Common.{arith}
 use Rattle.bus_tenure.specs.Elections.{elections, election_with}
 use Rattle.bus_machine.proofs.Served.{served}
 use Rattle.bus_world.proofs.PlayingLaws.{there}
-use Rattle.bus_machine.proofs.Events.{recv_happens, recv_sits, recv_unknown}
-use Rattle.bus_machine.proofs.Holding.{loads_within, never_passes}
+use Rattle.bus_machine.proofs.Events.{receivers_many, recv_happens, recv_sits}
+use Rattle.bus_machine.proofs.Holding.{loads_within}
 use Rattle.bus_machine.proofs.worlds.World.recv_at.Goals as goal
 
-pub returns-then-receiver-len-clause-refused : goal.returns-then-receiver-len-clause-refused
-returns-then-receiver-len-clause-refused g c =
-    recv_unknown _ c.args.self.now c.self.view_is c.args.receiver (omega arith)
-
-pub turn_receiver-requires-clause-within : goal.turn_receiver-requires-clause-within
-turn_receiver-requires-clause-within g c =
+pub turn_receiver-requires : goal.turn_receiver-requires
+turn_receiver-requires g c =
     let P = g.Q.Ratifier.protocol in
     let X = election_with g.Q.Machine.kind_of g.Q.Machine.op g.Q.Machine.fed P in
     let shape = c.self.inside.shape in
     let R = elections P shape.rounds in
     let s = served g.Q.Machine.kind_of g.Q.Machine.op g.Q.Machine.fed P
     g.met.Q.Machine.names_each_step g.met.Q.Ratifier.own_kinds shape
-    (c.election_is_lawful.ensures.lawful.laws shape.rounds) c.self.inside.reuse in
-    let at = there c.self.inside.receivers.items c.args.receiver c.index_mut-reader.result.now
-    (omega arith) c.index_mut-reader.ensures.value in
-    loads_within X R _ s c.self.invariant c.args.receiver c.index_mut-reader.result.now at
-
-pub turn_receiver-requires-clause-never : goal.turn_receiver-requires-clause-never
-turn_receiver-requires-clause-never g c =
-    let P = g.Q.Ratifier.protocol in
-    let X = election_with g.Q.Machine.kind_of g.Q.Machine.op g.Q.Machine.fed P in
-    let shape = c.self.inside.shape in
-    let R = elections P shape.rounds in
-    let s = served g.Q.Machine.kind_of g.Q.Machine.op g.Q.Machine.fed P
-    g.met.Q.Machine.names_each_step g.met.Q.Ratifier.own_kinds shape
-    (c.election_is_lawful.ensures.lawful.laws shape.rounds) c.self.inside.reuse in
-    let at = there c.self.inside.receivers.items c.args.receiver c.index_mut-reader.result.now
-    (omega arith) c.index_mut-reader.ensures.value in
-    never_passes X R _ s c.self.invariant c.args.receiver c.index_mut-reader.result.now at
+    (c.election_is_lawful.ensures.lawful.laws shape.rounds) c.self.inside.reuse
+    c.self.inside.passers in
+    let many = receivers_many X _ c.self.invariant c.args.self.now c.self.view_is c.args.receiver
+    c.in_ok-listens.ensures.there in
+    let at = there c.self.inside.receivers.items c.args.receiver c.index_mut-reader.result.now many
+    c.index_mut-reader.ensures.value in
+    record {
+      within = loads_within X R _ s c.self.invariant c.args.receiver
+          c.index_mut-reader.result.now at;
+    }
 
 pub invariant_of-self : goal.invariant_of-self
 invariant_of-self g c =
@@ -43,14 +31,18 @@ invariant_of-self g c =
     let shape = c.self.inside.shape in
     let s = served g.Q.Machine.kind_of g.Q.Machine.op g.Q.Machine.fed P
     g.met.Q.Machine.names_each_step g.met.Q.Ratifier.own_kinds shape
-    (c.election_is_lawful.ensures.lawful.laws shape.rounds) c.self.inside.reuse in
-    let at = there c.self.inside.receivers.items c.args.receiver c.index_mut-reader.result.now
-    (omega arith) c.index_mut-reader.ensures.value in
-    let never = never_passes X (elections P shape.rounds) _ s c.self.invariant c.args.receiver
+    (c.election_is_lawful.ensures.lawful.laws shape.rounds) c.self.inside.reuse
+    c.self.inside.passers in
+    let many = receivers_many X _ c.self.invariant c.args.self.now c.self.view_is c.args.receiver
+    c.in_ok-listens.ensures.there in
+    let at = there c.self.inside.receivers.items c.args.receiver c.index_mut-reader.result.now many
+    c.index_mut-reader.ensures.value in
+    let low = loads_within X (elections P shape.rounds) _ s c.self.invariant c.args.receiver
     c.index_mut-reader.result.now at in
     recv_sits X _ c.self.invariant c.args.self.now c.self.view_is c.args.receiver
-    c.index_mut-reader.result.now c.turn_receiver.new.reader c.turn_receiver.result
-    c.turn_receiver.new.cells at never c.turn_receiver.ensures.step c.turn_receiver.ensures.words
+    c.index_mut-reader.result.now at c.in_ok-listens.ensures.stays
+    c.turn_receiver.new.reader c.turn_receiver.result c.turn_receiver.new.cells low
+    c.turn_receiver.ensures.step c.turn_receiver.ensures.words
 
 pub returns-clause-happens : goal.returns-clause-happens
 returns-clause-happens g c =
@@ -59,11 +51,15 @@ returns-clause-happens g c =
     let shape = c.self.inside.shape in
     let s = served g.Q.Machine.kind_of g.Q.Machine.op g.Q.Machine.fed P
     g.met.Q.Machine.names_each_step g.met.Q.Ratifier.own_kinds shape
-    (c.election_is_lawful.ensures.lawful.laws shape.rounds) c.self.inside.reuse in
-    let at = there c.self.inside.receivers.items c.args.receiver c.index_mut-reader.result.now
-    (omega arith) c.index_mut-reader.ensures.value in
-    let never = never_passes X (elections P shape.rounds) _ s c.self.invariant c.args.receiver
+    (c.election_is_lawful.ensures.lawful.laws shape.rounds) c.self.inside.reuse
+    c.self.inside.passers in
+    let many = receivers_many X _ c.self.invariant c.args.self.now c.self.view_is c.args.receiver
+    c.in_ok-listens.ensures.there in
+    let at = there c.self.inside.receivers.items c.args.receiver c.index_mut-reader.result.now many
+    c.index_mut-reader.ensures.value in
+    let low = loads_within X (elections P shape.rounds) _ s c.self.invariant c.args.receiver
     c.index_mut-reader.result.now at in
     recv_happens X _ c.self.invariant c.args.self.now c.self.view_is c.args.receiver
-    c.index_mut-reader.result.now c.turn_receiver.new.reader c.turn_receiver.result
-    c.turn_receiver.new.cells at never c.turn_receiver.ensures.step c.turn_receiver.ensures.words
+    c.index_mut-reader.result.now at c.in_ok-listens.ensures.stays
+    c.turn_receiver.new.reader c.turn_receiver.result c.turn_receiver.new.cells low
+    c.turn_receiver.ensures.step c.turn_receiver.ensures.words

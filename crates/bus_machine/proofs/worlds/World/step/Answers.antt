@@ -11,6 +11,7 @@ returns-clause-answered g c =
     let R = elections P shape.rounds in
     let s = served g.Q.Machine.kind_of g.Q.Machine.op g.Q.Machine.fed P
     g.met.Q.Machine.names_each_step g.met.Q.Ratifier.own_kinds shape
-    (c.election_is_lawful.ensures.lawful.laws shape.rounds) c.self.inside.reuse in
+    (c.election_is_lawful.ensures.lawful.laws shape.rounds) c.self.inside.reuse
+    c.self.inside.passers in
     all_answer X P R _ s c.self.invariant c.args.self.now c.self.view_is _ c.take_in.new.self
     c.take_in.result c.take_in.ensures.happens c.take_in.ensures.causes c.take_in.ensures.says

@@ -18,7 +18,8 @@ turn_sender-turn-requires-clause-room g c =
     let R = elections P shape.rounds in
     let s = served g.Q.Machine.kind_of g.Q.Machine.op g.Q.Machine.fed P
     g.met.Q.Machine.names_each_step g.met.Q.Ratifier.own_kinds shape
-    (c.election_is_lawful.ensures.lawful.laws shape.rounds) c.self.inside.reuse in
+    (c.election_is_lawful.ensures.lawful.laws shape.rounds) c.self.inside.reuse
+    c.self.inside.passers in
     let many = senders_many X _ c.self.invariant c.args.self.now c.self.view_is c.args.sender
     c.in_ok-goes_on.ensures.there in
     let at = there c.self.inside.senders.items c.args.sender c.index_mut-core.result.now many
@@ -33,7 +34,8 @@ turn_sender-turn-requires-clause-sums g c =
     let R = elections P shape.rounds in
     let s = served g.Q.Machine.kind_of g.Q.Machine.op g.Q.Machine.fed P
     g.met.Q.Machine.names_each_step g.met.Q.Ratifier.own_kinds shape
-    (c.election_is_lawful.ensures.lawful.laws shape.rounds) c.self.inside.reuse in
+    (c.election_is_lawful.ensures.lawful.laws shape.rounds) c.self.inside.reuse
+    c.self.inside.passers in
     let many = senders_many X _ c.self.invariant c.args.self.now c.self.view_is c.args.sender
     c.in_ok-goes_on.ensures.there in
     let at = there c.self.inside.senders.items c.args.sender c.index_mut-core.result.now many
@@ -48,7 +50,8 @@ turn_sender-turn-requires-clause-laid g c =
     let R = elections P shape.rounds in
     let s = served g.Q.Machine.kind_of g.Q.Machine.op g.Q.Machine.fed P
     g.met.Q.Machine.names_each_step g.met.Q.Ratifier.own_kinds shape
-    (c.election_is_lawful.ensures.lawful.laws shape.rounds) c.self.inside.reuse in
+    (c.election_is_lawful.ensures.lawful.laws shape.rounds) c.self.inside.reuse
+    c.self.inside.passers in
     let many = senders_many X _ c.self.invariant c.args.self.now c.self.view_is c.args.sender
     c.in_ok-goes_on.ensures.there in
     let at = there c.self.inside.senders.items c.args.sender c.index_mut-core.result.now many
@@ -63,7 +66,8 @@ note_owner-requires-clause-some g c rows same =
     let R = elections P shape.rounds in
     let s = served g.Q.Machine.kind_of g.Q.Machine.op g.Q.Machine.fed P
     g.met.Q.Machine.names_each_step g.met.Q.Ratifier.own_kinds shape
-    (c.election_is_lawful.ensures.lawful.laws shape.rounds) c.self.inside.reuse in
+    (c.election_is_lawful.ensures.lawful.laws shape.rounds) c.self.inside.reuse
+    c.self.inside.passers in
     let few = (rows_within X R _ s c.self.invariant rows same).0 in omega arith
 
 pub note_owner-requires-clause-few : goal.note_owner-requires-clause-few
@@ -74,7 +78,8 @@ note_owner-requires-clause-few g c rows same =
     let R = elections P shape.rounds in
     let s = served g.Q.Machine.kind_of g.Q.Machine.op g.Q.Machine.fed P
     g.met.Q.Machine.names_each_step g.met.Q.Ratifier.own_kinds shape
-    (c.election_is_lawful.ensures.lawful.laws shape.rounds) c.self.inside.reuse in
+    (c.election_is_lawful.ensures.lawful.laws shape.rounds) c.self.inside.reuse
+    c.self.inside.passers in
     let few = (rows_within X R _ s c.self.invariant rows same).1 in omega arith
 
 pub note_owner-requires-clause-most : goal.note_owner-requires-clause-most
@@ -85,7 +90,8 @@ note_owner-requires-clause-most g c rows same =
     let R = elections P shape.rounds in
     let s = served g.Q.Machine.kind_of g.Q.Machine.op g.Q.Machine.fed P
     g.met.Q.Machine.names_each_step g.met.Q.Ratifier.own_kinds shape
-    (c.election_is_lawful.ensures.lawful.laws shape.rounds) c.self.inside.reuse in
+    (c.election_is_lawful.ensures.lawful.laws shape.rounds) c.self.inside.reuse
+    c.self.inside.passers in
     subst (λ n. n ≤ rows) (length-map c.self.inside.owners.items (λ s. s.0))
     (owners_few X R _ s c.self.invariant rows same)
 
@@ -97,7 +103,8 @@ note_owner-requires-clause-room g c t told =
     let R = elections P shape.rounds in
     let s = served g.Q.Machine.kind_of g.Q.Machine.op g.Q.Machine.fed P
     g.met.Q.Machine.names_each_step g.met.Q.Ratifier.own_kinds shape
-    (c.election_is_lawful.ensures.lawful.laws shape.rounds) c.self.inside.reuse in
+    (c.election_is_lawful.ensures.lawful.laws shape.rounds) c.self.inside.reuse
+    c.self.inside.passers in
     let many = senders_many X _ c.self.invariant c.args.self.now c.self.view_is c.args.sender
     c.in_ok-goes_on.ensures.there in
     let at = there c.self.inside.senders.items c.args.sender c.index_mut-core.result.now many
@@ -115,7 +122,8 @@ invariant_of-self g c =
     let R = elections P shape.rounds in
     let s = served g.Q.Machine.kind_of g.Q.Machine.op g.Q.Machine.fed P
     g.met.Q.Machine.names_each_step g.met.Q.Ratifier.own_kinds shape
-    (c.election_is_lawful.ensures.lawful.laws shape.rounds) c.self.inside.reuse in
+    (c.election_is_lawful.ensures.lawful.laws shape.rounds) c.self.inside.reuse
+    c.self.inside.passers in
     let many = senders_many X _ c.self.invariant c.args.self.now c.self.view_is c.args.sender
     c.in_ok-goes_on.ensures.there in
     let at = there c.self.inside.senders.items c.args.sender c.index_mut-core.result.now many
@@ -133,7 +141,8 @@ returns-clause-happens g c =
     let R = elections P shape.rounds in
     let s = served g.Q.Machine.kind_of g.Q.Machine.op g.Q.Machine.fed P
     g.met.Q.Machine.names_each_step g.met.Q.Ratifier.own_kinds shape
-    (c.election_is_lawful.ensures.lawful.laws shape.rounds) c.self.inside.reuse in
+    (c.election_is_lawful.ensures.lawful.laws shape.rounds) c.self.inside.reuse
+    c.self.inside.passers in
     let many = senders_many X _ c.self.invariant c.args.self.now c.self.view_is c.args.sender
     c.in_ok-goes_on.ensures.there in
     let at = there c.self.inside.senders.items c.args.sender c.index_mut-core.result.now many
@@ -151,7 +160,8 @@ returns-clause-says g c =
     let R = elections P shape.rounds in
     let s = served g.Q.Machine.kind_of g.Q.Machine.op g.Q.Machine.fed P
     g.met.Q.Machine.names_each_step g.met.Q.Ratifier.own_kinds shape
-    (c.election_is_lawful.ensures.lawful.laws shape.rounds) c.self.inside.reuse in
+    (c.election_is_lawful.ensures.lawful.laws shape.rounds) c.self.inside.reuse
+    c.self.inside.passers in
     let many = senders_many X _ c.self.invariant c.args.self.now c.self.view_is c.args.sender
     c.in_ok-goes_on.ensures.there in
     let at = there c.self.inside.senders.items c.args.sender c.index_mut-core.result.now many
@@ -170,7 +180,8 @@ returns-clause-causes g c =
     let R = elections P shape.rounds in
     let s = served g.Q.Machine.kind_of g.Q.Machine.op g.Q.Machine.fed P
     g.met.Q.Machine.names_each_step g.met.Q.Ratifier.own_kinds shape
-    (c.election_is_lawful.ensures.lawful.laws shape.rounds) c.self.inside.reuse in
+    (c.election_is_lawful.ensures.lawful.laws shape.rounds) c.self.inside.reuse
+    c.self.inside.passers in
     let many = senders_many X _ c.self.invariant c.args.self.now c.self.view_is c.args.sender
     c.in_ok-goes_on.ensures.there in
     let at = there c.self.inside.senders.items c.args.sender c.index_mut-core.result.now many

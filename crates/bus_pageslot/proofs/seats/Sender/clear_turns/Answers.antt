@@ -21,8 +21,8 @@ clear_row-requires-clause-row g c =
     let value = c.requires.stores.0 in
     let stores =
     subst (λ s. StoresPlain X s.core c.args.at value) (sym c.self.view_is) c.requires.stores.1 in
-    row_fewer X c.self.inside.core c.args.at (λ n. 0) c.clears_left.result c.lesser-many.result
-    c.lesser-many.ensures.first (c.clears_left.ensures.row c.args.at value stores)
+    row_fewer X c.self.inside.core c.args.at (λ n. 0) c.clears_left.result c.min-many.result
+    (omega (arith, c.min-many.ensures)) (c.clears_left.ensures.row c.args.at value stores)
 
 pub clear_row-requires-clause-room : goal.clear_row-requires-clause-room
 clear_row-requires-clause-room g c =
@@ -32,7 +32,7 @@ clear_row-requires-clause-room g c =
     let stores =
     subst (λ s. StoresPlain X s.core c.args.at value) (sym c.self.view_is) c.requires.stores.1 in
     let room = c.clears_left.ensures.room c.args.at value stores in
-    let few = c.lesser-many.ensures.first in
+    let few = c.min-many.ensures in
     omega (arith, room, few)
 
 pub clears_done-requires-clause-plain : goal.clears_done-requires-clause-plain

@@ -29,8 +29,8 @@ clear_turns-cleared-requires-clause-stores g c =
           (c.plain.ensures.stores c.if-not-plain.false),
     )
 
-pub word_turns-requires-clause-stores : goal.word_turns-requires-clause-stores
-word_turns-requires-clause-stores g c =
+pub frame_turns-requires-clause-stores : goal.frame_turns-requires-clause-stores
+frame_turns-requires-clause-stores g c =
     let X =
     election_with g.Q.Machine.kind_of g.Q.Machine.op g.Q.Machine.fed g.Q.Ratifier.protocol in
     let none = c.if-cleared-gt0.false in

@@ -1,0 +1,21 @@
+use Rattle.bus_tenure.specs.Elections.{elections, election_with}
+use Rattle.bus_machine.proofs.Served.{served}
+use Rattle.bus_world.specs.World.{Gone}
+use Rattle.bus_world.specs.declared.events.Answer.TheVariants as answer
+use Rattle.bus_machine.proofs.Calls.{answers}
+use Rattle.bus_machine.proofs.Events.{unit_more}
+use Rattle.bus_machine.proofs.worlds.World.gone.Goals as goal
+
+pub returns-clause-answered : goal.returns-clause-answered
+returns-clause-answered g c =
+    let P = g.Q.Ratifier.protocol in
+    let X = election_with g.Q.Machine.kind_of g.Q.Machine.op g.Q.Machine.fed P in
+    let shape = c.self.inside.shape in
+    let R = elections P shape.rounds in
+    let s = served g.Q.Machine.kind_of g.Q.Machine.op g.Q.Machine.fed P
+    g.met.Q.Machine.names_each_step g.met.Q.Ratifier.own_kinds shape
+    (c.election_is_lawful.ensures.lawful.laws shape.rounds) c.self.inside.reuse
+    c.self.inside.passers in
+    unit_more c.gone_at.result _ _ c.gone_at.ensures.happens
+    (λ h. answers X P R _ s c.self.invariant c.args.self.now c.self.view_is (Gone c.args.receiver)
+    answer.Gone c.gone_at.new.self h tt tt)

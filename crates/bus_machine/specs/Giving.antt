@@ -1,0 +1,18 @@
+-- What a receiver was given, and what of it still stands.
+use Rattle.std.specs.Prelude.{◌≡◌, ℕ, Some, List, drop, take, slice_get}
+use Rattle.bus_batch.specs.Frames.{Frame, Order, AreFrames, log_words, log_pieces, order_in}
+use Rattle.bus_deliverylog.specs.Receiving.{Receiving}
+use Rattle.bus_world.specs.Headline.{order_given}
+use Rattle.bus_machine.specs.Machine.{Machine, Trails, floor_of}
+
+-- It was given what the words below its place say that were published; and of that this order is
+-- what those say that stand, from the floor of the log on.
+pub record StillGiven {E : Type 0} (m : Machine E) (T : Trails) (r : ℕ) (order : Order) :
+    Type 0 where
+  pub receiver : Receiving
+  pub there : slice_get m.receivers r ≡ Some receiver
+  pub frames : List Frame
+  pub lawful : AreFrames m.layout.senders frames
+  pub words_are : log_words frames ≡ T.log
+  pub given : order_given (T.heard r) ≡ order_in (take receiver.place (log_pieces frames))
+  pub still : order ≡ order_in (drop (floor_of m) (take receiver.place (log_pieces frames)))

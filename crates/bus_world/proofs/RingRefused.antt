@@ -1,0 +1,91 @@
+-- To each of the wrong buses nothing leads.
+use Rattle.std.proofs.Common.{◌≡◌, ◌⊎◌, inl, inr, ℕ, ◌+◌, ◌<◌, ◌≤◌, List, [], ◌∷◌, ◌++◌, length}
+use Rattle.std.proofs.Common.{arith, sym, ◌∙◌, ap, subst}
+use Rattle.std.proofs.lemmas.Grind.{flat_map-append}
+use Rattle.std.proofs.lemmas.List.{length-append}
+use Rattle.bus_register.specs.Protocol.{Protocol}
+use Rattle.bus_batch.proofs.FrameLaws.{same_log}
+use Rattle.bus_batch.specs.Frames.{Frame, frame_words, log_words}
+use Rattle.bus_deliverylog.specs.declared.receiving.RecvTurn.{RecvTurn}
+use Rattle.bus_presence.specs.Reclamation.{Trails}
+use Rattle.bus_tenure.specs.Core.{Election, Layout}
+use Rattle.bus_world.specs.Headline.{Action}
+use Rattle.bus_world.specs.World.{IsLayout}
+use Rattle.bus_world.specs.Proved.CyclicProtocols.{CyclicProtocol, Led}
+use Rattle.bus_world.specs.Proved.Floors.{IsBoundary, passed_place}
+use Rattle.bus_world.specs.Proved.KeptProtocols.{IsKeptProtocol}
+use Rattle.bus_world.specs.Proved.RingRefusals.{RingRefuses}
+use Rattle.bus_world.proofs.Bounds.{words_low}
+use Rattle.bus_world.proofs.CyclicProtocolLaws.{protocol_promised}
+use Rattle.bus_world.proofs.Serving.{Serves}
+
+-- where some frames end there is no place within another one
+apart : (front back rest rest' : List Frame) (f : Frame) → front ++ f ∷ rest ≡ back ++ rest'
+    → (length (log_words back) ≤ length (log_words front))
+    ⊎ (length (log_words front) + length (frame_words f) ≤ length (log_words back))
+apart front [] rest rest' f e = inl (omega arith)
+apart [] (g ∷ back) rest rest' f e =
+    let same : f ≡ g = cc in
+    let long = length-append (frame_words g) (log_words back) in
+    let one = ap (λ (w : Frame). length (frame_words w)) same in
+    inr (omega arith)
+apart (h ∷ front) (g ∷ back) rest rest' f e =
+    let same : h ≡ g = cc in
+    let later : front ++ f ∷ rest ≡ back ++ rest' = cc in
+    let one = ap (λ (w : Frame). length (frame_words w)) same in
+    let long = length-append (frame_words h) (log_words front) in
+    let long' = length-append (frame_words g) (log_words back) in
+    elim (apart front back rest rest' f later) [
+      | inl low ↦ inl (omega arith)
+      | inr high ↦ inr (omega arith)
+    ]
+
+none_within : (front rest : List Frame) (f : Frame) (place : ℕ)
+    → IsBoundary (front ++ f ∷ rest) place → length (log_words front) < place
+    → place < length (log_words front) + length (frame_words f) → ⊥
+none_within front rest f place b low high = elim (apart front b.front rest b.rest f b.frames_are) [
+  | inl a ↦ (let at = b.place_is in absurd (omega arith))
+  | inr a ↦ (let at = b.place_is in absurd (omega arith))
+]
+
+module _ {E : Type 0} (X : Election E) (P : Protocol E (Unit {0}) ℕ) (x : Layout)
+    (s : Serves X P x) (ok : IsLayout x) (rows : ℕ) (two : 2 ≤ rows) (y : CyclicProtocol E)
+    (T : Trails) (D : ℕ → List Action) (H : ℕ → List RecvTurn) (L : List ℕ) where
+  kept : Led X x rows y T D H L → IsKeptProtocol X x rows y T D H L
+  kept led = protocol_promised X P s.laws x ok s.width s.starts s.owner_is s.named s.announces
+      s.apart rows two y T D H L led
+
+  floor_low : (k : IsKeptProtocol X x rows y T D H L) → k.floor ≤ y.reclamation.words 0
+  floor_low k = (let a = k.by.ring.long in let b = k.by.ring.low in omega arith)
+
+  pub refuses : RingRefuses X x rows y T D H L
+  refuses = record {
+    overwritten = λ r v at stays below other led.
+        other ((kept led).by.finds r v at stays below);
+    length_past_the_log = λ longer led.
+        let a = (kept led).by.ring.long in absurd (omega arith);
+    floor_past_the_length = λ page at high led.
+        let k = kept led in
+        let a = floor_low k in let b = k.by.floor_home page at in absurd (omega arith);
+    held_floor_past_the_length = λ p t page stored published c at is high led.
+        let k = kept led in
+        let a = floor_low k in
+        let b = k.by.floor_held p t page stored published c at is in absurd (omega arith);
+    passed_ahead = λ r v at stays low ahead led.
+        let a = (kept led).by.comes r v at stays low in absurd (omega arith);
+    passed_within_a_frame = λ front rest f r low lawful are past below led.
+        let k = kept led in
+        let same = same_log x.senders 0 0 k.by.spelled.frames (front ++ f ∷ rest)
+        k.by.spelled.lawful lawful (k.by.spelled.words_are ∙ sym are) in
+        elim (k.by.ring.edges r low) [
+          | inl b ↦ none_within front rest f (y.reclamation.words (passed_place x rows r))
+              (subst (λ fs. IsBoundary fs (y.reclamation.words (passed_place x rows r))) same b)
+              past below
+          | inr all ↦
+              let few = words_low x.senders (front ++ f ∷ rest) lawful in
+              let long = ap length (flat_map-append frame_words front (f ∷ rest))
+              ∙ length-append (log_words front) (log_words (f ∷ rest)) in
+              let more = length-append (frame_words f) (log_words rest) in
+              absurd (omega arith)
+        ];
+  }
