@@ -90,6 +90,14 @@ module _ (senders least : ℕ) (gone : List Bool) (owner : SenderNo) (left room 
       let s = fills_some senders least gone owner left room h in
       (s.0, s.1, after_covers s.0 s.1 s.2)
 
+-- behind a message is not the end
+pub after_goes_on : (owner : SenderNo) (left room : ℕ) (p : Place) → IsAfter owner left room p
+    → p ≢ place.Ended
+after_goes_on owner left room p after e = elim (cases_lt 0 left) [
+  | inl some ↦ let is = after.some some in absurd cc
+  | inr none ↦ let is = after.none (omega arith) in absurd cc
+]
+
 -- the rest of a message can follow
 pub completes_some : (senders least : ℕ) (gone : List Bool) (owner : SenderNo)
     (left room number len : ℕ) (bytes : List ℕ)
@@ -259,6 +267,10 @@ module _ (senders least word : ℕ) (gone : List Bool) (owner : SenderNo) (left 
         covers = empty_covers;
         begins = after_begins senders least gone owner (left - 1) (room - 1) p bytes' after
             (omega arith);
+        ended = (
+          (λ e. absurd (after_goes_on owner (left - 1) (room - 1) p after e)),
+          (λ e. absurd cc),
+        );
       }
 
     -- a message with bytes
@@ -368,6 +380,7 @@ module _ (senders least word : ℕ) (gone : List Bool) (owner : SenderNo) (left 
         covers = begun_covers;
         begins = completes_some senders least gone owner (left - 1) (room - 1) m.number m.len []
             long (omega arith) (omega arith);
+        ended = ((λ e. absurd cc), (λ e. absurd cc));
       }
 
 -- ---- who has left
@@ -448,6 +461,7 @@ module _ (senders least word : ℕ) (gone : List Bool) (owner : SenderNo) (left 
       ]
     ];
     begins = ([], [], (refl, refl));
+    ended = ((λ _. refl), (λ _. refl));
   }
 
   pub refuses_end : 1 ≤ left → word ≡ end_word → ((left ≡ 1) → (room ≡ 16) → ⊥)
@@ -522,6 +536,7 @@ module _ (senders least word : ℕ) (gone : List Bool) (owner : SenderNo) (left 
         refl,
       ),
     );
+    ended = ((λ e. absurd cc), (λ e. absurd cc));
   }
 
   pub refuses_leave : 1 ≤ left → word ≡ mark_word mark.Leave → ((left ≡ 1) → (room ≡ 16) → ⊥)

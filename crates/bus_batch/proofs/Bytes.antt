@@ -21,7 +21,8 @@ use Rattle.bus_batch.specs.declared.readers.Place.TheVariants as place
 use Rattle.bus_batch.specs.Frames.{data_word, data_len, words_of_bytes, item_pieces}
 use Rattle.bus_batch.specs.Reading.{Awaits, Fills, Completes}
 use Rattle.bus_batch.specs.Steps.{IsAfter, Takes, Refuses}
-use Rattle.bus_batch.proofs.Bodies.{after_leads, after_covers, after_begins, completes_some}
+use Rattle.bus_batch.proofs.Bodies.{after_leads, after_covers, after_begins, after_goes_on}
+use Rattle.bus_batch.proofs.Bodies.{completes_some}
 
 pub spread_len : (word : ℕ) → length (to_be_bytes w64 word) ≡ 8
 spread_len word = refl
@@ -263,6 +264,10 @@ module _ (senders least word : ℕ) (gone : List Bool) (owner : SenderNo) (left 
         leads = whole_leads;
         covers = whole_covers;
         begins = after_begins senders least gone owner (left - 1) room p bytes' after (omega arith);
+        ended = (
+          (λ e. absurd (after_goes_on owner (left - 1) room p after e)),
+          (λ e. absurd cc),
+        );
       }
 
     -- more bytes are to come
@@ -408,4 +413,5 @@ module _ (senders least word : ℕ) (gone : List Bool) (owner : SenderNo) (left 
             length-append bytes (take k (to_be_bytes w64 word)) in
             completes_some senders least gone owner (left - 1) room number len
             (bytes ++ take k (to_be_bytes w64 word)) (omega arith) (omega arith) (omega arith);
+        ended = ((λ e. absurd cc), (λ e. absurd cc));
       }

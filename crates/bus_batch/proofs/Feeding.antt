@@ -1,26 +1,28 @@
 -- From one step of a reader to what it has read.
 use Rattle.std.proofs.Common.{◌≡◌, ℕ, suc, ◌+◌, ◌≤◌, true, false, List, [], ◌∷◌, ◌++◌, length}
 use Rattle.std.proofs.Common.{arith, refl, sym, ap, ◌∙◌, subst, inl, inr, append_assoc, Ok, Err}
-use Rattle.std.proofs.Common.{Some, None}
+use Rattle.std.proofs.Common.{Some}
 use Rattle.std.proofs.lemmas.List.Elements.{All-nil, All-cons}
-use Rattle.std.specs.Prelude.{◌<◌, zero, replicate, All, Bool, Option, Result, IfOk, IfSome}
+use Rattle.std.specs.Prelude.{◌<◌, zero, replicate, All, Bool, Option, Result, IfOk}
 use Rattle.std.specs.Prelude.{IsErr, ◌↔◌, slice_get}
 use Rattle.std.proofs.lemmas.List.{length-append}
 use Rattle.std.proofs.Common.{append-nil}
-use Rattle.std.specs.List.{flat_map}
+use Rattle.std.specs.List.{flat_map, list_any}
+use Rattle.std.specs.Prelude.{◌||◌}
+use Rattle.std.proofs.Math.Bool.{or-false}
+use Rattle.std.proofs.lemmas.Bool.{false_from_ne_true, true≢false}
+use Rattle.std.proofs.lemmas.List.Folds.{list_any-append}
 use Rattle.bus_register.specs.declared.registers.SenderNo.{SenderNo}
-use Rattle.bus_batch.specs.declared.messages.Item.{Item}
 use Rattle.bus_batch.specs.declared.messages.Mark.TheVariants as mark
 use Rattle.bus_batch.specs.declared.messages.Piece.{Piece}
-use Rattle.bus_batch.specs.declared.messages.Piece.TheVariants as piece
 use Rattle.bus_batch.specs.declared.readers.BadWord.{BadWord}
 use Rattle.bus_batch.specs.declared.readers.Place.{Place}
 use Rattle.bus_batch.specs.declared.readers.Place.TheVariants as place
 use Rattle.bus_batch.specs.Frames.{Frame, AreFramesFrom, IsLog, BeginsLog, IsBadWord, GivesPiece}
 use Rattle.bus_batch.specs.Frames.{end_word, mark_word, log_words, log_pieces, message_words}
-use Rattle.bus_batch.specs.Frames.{words_of_bytes, Spells, order_in, owners_in}
+use Rattle.bus_batch.specs.Frames.{words_of_bytes, Spells, order_in, owners_in, AreFrames, is_end}
 use Rattle.bus_batch.proofs.PieceLaws.{order_in-log, owners_in-log}
-use Rattle.bus_batch.specs.Reading.{Reading, Awaits, HasRead, IsSound, IsTornOrLast, is_between}
+use Rattle.bus_batch.specs.Reading.{Reading, Awaits, HasRead, IsSound, IsTornOrEnded, is_between}
 use Rattle.bus_batch.specs.Steps.{Steps, Takes, Refuses}
 use Rattle.bus_batch.proofs.Taking.{reading}
 
@@ -32,19 +34,39 @@ get_at (x ∷ xs) y ys = get_at xs y ys
 module _ (senders : ℕ) (words : List ℕ) (pieces : List (Option Piece)) (word : ℕ)
     (old new : Reading) (had : HasRead senders words pieces old) where
   module _ (found : Option Piece) (takes : Takes old word found new) where
-    pub has_read : HasRead senders (words ++ word ∷ []) (pieces ++ found ∷ []) new
-    has_read = record {
+    leads_on : (rest : List ℕ) (further : List (Option Piece)) → Awaits new rest further
+        → (frames : List Frame) × AreFrames senders frames
+        × (log_words frames ≡ (words ++ word ∷ []) ++ rest)
+        × (log_pieces frames ≡ (pieces ++ found ∷ []) ++ further)
+    leads_on rest further awaited =
+        let log =
+        had.leads (word ∷ rest) (found ∷ further) (takes.leads rest further awaited) in (
+          log.0,
+          log.1,
+          log.2 ∙ sym (append_assoc words (word ∷ []) rest),
+          log.3 ∙ sym (append_assoc pieces (found ∷ []) further),
+        )
+
+    -- no word is taken at the end, so the end is not among what was read before
+    going : list_any is_end pieces ≡ false
+    going = false_from_ne_true (list_any is_end pieces) (λ e.
+        let some = takes.begins in
+        let nothing =
+        subst (λ p. Awaits (record old { place = p }) (word ∷ some.0) (found ∷ some.1))
+        (had.ended.1 e) (takes.leads some.0 some.1 some.2) in
+        absurd (let none : word ∷ some.0 ≡ [] = nothing.0 in cc))
+
+    gave : list_any is_end (pieces ++ found ∷ []) ≡ is_end found
+    gave = list_any-append is_end pieces (found ∷ [])
+        ∙ ap (λ z. z || (is_end found || false)) going ∙ or-false (is_end found)
+
+    pub has_read : IsSound new.place new.bytes
+        → HasRead senders (words ++ word ∷ []) (pieces ++ found ∷ []) new
+    has_read sound = record {
       many =
           length-append pieces (found ∷ []) ∙ ap (λ z. z + 1) had.many
           ∙ sym (length-append words (word ∷ []));
-      leads = λ rest further awaited.
-          let log =
-          had.leads (word ∷ rest) (found ∷ further) (takes.leads rest further awaited) in (
-            log.0,
-            log.1,
-            log.2 ∙ sym (append_assoc words (word ∷ []) rest),
-            log.3 ∙ sym (append_assoc pieces (found ∷ []) further),
-          );
+      leads = leads_on;
       covers = λ frames rest lawful is.
           let before =
           had.covers frames (word ∷ rest) lawful (is ∙ append_assoc words (word ∷ []) rest) in
@@ -55,6 +77,8 @@ module _ (senders : ℕ) (words : List ℕ) (pieces : List (Option Piece)) (word
                 ∙ sym (append_assoc pieces (found ∷ []) after.0),
           );
       begins = takes.begins;
+      sound = sound;
+      ended = ((λ e. gave ∙ takes.ended.0 e), (λ e. takes.ended.1 (sym gave ∙ e)));
     }
 
     pub gives_piece : GivesPiece senders words word found
@@ -70,7 +94,7 @@ module _ (senders : ℕ) (words : List ℕ) (pieces : List (Option Piece)) (word
     pub begins_log : BeginsLog senders (words ++ word ∷ [])
     begins_log =
         let some = takes.begins in
-        let log = has_read.leads some.0 some.1 some.2 in
+        let log = leads_on some.0 some.1 some.2 in
         (some.0, record { frames = log.0; lawful = log.1; words_are = log.2 })
 
   pub is_bad : Refuses old word → IsBadWord senders words word
@@ -93,23 +117,11 @@ module _ (senders : ℕ) (words : List ℕ) (pieces : List (Option Piece)) (word
   gives_of (Ok found) steps = gives_piece found steps.good
   gives_of (Err e) steps = tt
 
-  pub read_of : (answer : Result (Option Piece) BadWord) → Steps old word answer new
+  pub read_of : (answer : Result (Option Piece) BadWord) → IsSound new.place new.bytes
+      → Steps old word answer new
       → IfOk answer (λ found. HasRead senders (words ++ word ∷ []) (pieces ++ found ∷ []) new)
-  read_of (Ok found) steps = has_read found steps.good
-  read_of (Err e) steps = tt
-
-  pub item_gives : (answer : Option Item)
-      → IfSome answer (λ item. Steps old word (Ok (Some (piece.Item item))) new)
-      → IfSome answer (λ item. GivesPiece senders words word (Some (piece.Item item)))
-  item_gives (Some item) steps = gives_piece (Some (piece.Item item)) steps.good
-  item_gives None steps = tt
-
-  pub item_read : (answer : Option Item)
-      → IfSome answer (λ item. Steps old word (Ok (Some (piece.Item item))) new)
-      → IfSome answer
-      (λ item. HasRead senders (words ++ word ∷ []) (pieces ++ Some (piece.Item item) ∷ []) new)
-  item_read (Some item) steps = has_read (Some (piece.Item item)) steps.good
-  item_read None steps = tt
+  read_of (Ok found) sound steps = has_read found steps.good sound
+  read_of (Err e) sound steps = tt
 
 -- ---- the end of the words
 
@@ -194,22 +206,6 @@ module _ (senders : ℕ) (words : List ℕ) (pieces : List (Option Piece)) (s l 
   whole_outside body held = whole_log senders words pieces old had
       (subst (λ r. Awaits r [] []) is (whole_at q refl body held))
 
-  -- where a reader does not stand between frames, the words so far are no log, or none goes on
-  pub outside_between : (q ≡ place.Between → ⊥) → IsSound q bytes → IsTornOrLast senders words
-  outside_between not sound = by q refl
-    where
-      by : (p : Place) → q ≡ p → IsTornOrLast senders words
-      by place.Between e = absurd (not e)
-      by (place.Body owner left room) e = inl (torn_in_body owner left room e sound)
-      by (place.Data owner left room number len) e =
-          inl (torn_in_data owner left room number len e)
-      by place.Ended e = inr (λ rest log.
-          let a = had.covers log.frames rest log.lawful log.words_are in
-          (subst (λ r. Awaits r rest a.0) (sym is ∙ ap (λ z. reading s l gone z bytes) e) a.1).0)
-      by place.Bad e =
-          let a = had.begins in
-          absurd (subst (λ r. Awaits r a.0 a.1) (sym is ∙ ap (λ z. reading s l gone z bytes) e) a.2)
-
 pub not_between : (p : Place) → (p ≡ place.Between → ⊥) → false ≡ is_between p
 not_between place.Between not = absurd (not refl)
 not_between (place.Body owner left room) not = refl
@@ -236,6 +232,33 @@ between_is_log senders words pieces old had at =
     by place.Ended e = absurd cc
     by place.Bad e = absurd cc
 
+-- that have not ended
+pub between_goes_on : (senders : ℕ) (words : List ℕ) (pieces : List (Option Piece)) (old : Reading)
+    → HasRead senders words pieces old → is_between old.place ≡ true
+    → list_any is_end pieces ≡ false
+between_goes_on senders words pieces old had at =
+    false_from_ne_true (list_any is_end pieces)
+    (λ e. true≢false (sym at ∙ ap is_between (had.ended.1 e)))
+
+-- where a reader does not stand between frames, the words so far are no log, or it has ended
+pub outside_between : (senders : ℕ) (words : List ℕ) (pieces : List (Option Piece)) (old : Reading)
+    → HasRead senders words pieces old → is_between old.place ≡ false
+    → IsTornOrEnded senders words pieces
+outside_between senders words pieces old had not = by old.place refl
+  where
+    by : (p : Place) → old.place ≡ p → IsTornOrEnded senders words pieces
+    by place.Between e = absurd (true≢false (sym (ap is_between e) ∙ not))
+    by (place.Body owner left room) e =
+        inl (torn_in_body senders words pieces old.senders old.least old.left old.place old.bytes
+        old refl had owner left room e had.sound)
+    by (place.Data owner left room number len) e =
+        inl (torn_in_data senders words pieces old.senders old.least old.left old.place old.bytes
+        old refl had owner left room number len e)
+    by place.Ended e = inr (had.ended.0 e)
+    by place.Bad e =
+        let a = had.begins in
+        absurd (subst (λ p. Awaits (record old { place = p }) a.0 a.1) e a.2)
+
 -- ---- before the first word
 
 nobody_left : (n k : ℕ) → k < n → slice_get (replicate n false) k ≡ Some false
@@ -255,8 +278,8 @@ none_left senders least gone (f ∷ fs) is lawful =
     (none_left senders (f.tenure + 1) gone fs is lawful.3)
 
 pub reads_none : (senders : ℕ) (gone : List Bool) (bytes : List ℕ) → gone ≡ replicate 256 false
-    → HasRead senders [] [] (reading senders 0 gone place.Between bytes)
-reads_none senders gone bytes is = record {
+    → bytes ≡ [] → HasRead senders [] [] (reading senders 0 gone place.Between bytes)
+reads_none senders gone bytes is none = record {
   many = refl;
   leads = λ rest further a. (a.0, a.1.0, sym a.2, sym a.3);
   covers = λ frames rest lawful words. (
@@ -265,4 +288,6 @@ reads_none senders gone bytes is = record {
     refl,
   );
   begins = ([], [], ([], (tt, All-nil (λ f. slice_get gone f.owner.0 ≡ Some false)), refl, refl));
+  sound = none;
+  ended = ((λ e. absurd cc), (λ e. absurd cc));
 }

@@ -250,6 +250,7 @@ module _ (senders least word : ℕ) (gone : List Bool) (bytes bytes' : List ℕ)
         let s = fills_some senders (h.tenure + 1) gone h.owner h.count 16
         (let m = is.most in omega arith) in
         (s.0, s.1, inl s.2);
+    ended = ((λ e. absurd cc), (λ e. absurd cc));
   }
 
 -- a word that is no head is refused

@@ -5,6 +5,7 @@ pub mod Padding
 pub mod Bytes
 pub mod Taking
 pub mod Feeding
+pub mod Standing
 pub mod Batching
 pub mod Spelling
 pub mod FrameLaws

@@ -1,7 +1,8 @@
 -- Where a reader of frames stands.
 use Rattle.std.specs.Prelude.{◌≡◌, ◌≢◌, ℕ, suc, ◌+◌, ◌-◌, ◌*◌, ◌%◌, ◌<◌, ◌≤◌, List, [], ◌∷◌, ◌++◌}
 use Rattle.std.specs.Prelude.{length, flat_map, All, ◌⊎◌, Option, Some, Bool, true, false}
-use Rattle.std.specs.Prelude.{slice_get}
+use Rattle.std.specs.Prelude.{slice_get, ◌↔◌}
+use Rattle.std.specs.List.{list_any}
 use Rattle.bus_register.specs.declared.limits.TheConstants.{MOST_MESSAGES, MOST_BYTES}
 use Rattle.bus_register.specs.declared.limits.TheConstants.{MOST_MESSAGE_WORDS}
 use Rattle.bus_register.specs.declared.registers.SenderNo.{SenderNo}
@@ -14,7 +15,7 @@ use Rattle.bus_batch.specs.Messages.{Numbered, IsNumbered}
 use Rattle.bus_batch.specs.Frames.{Frame, AreFrames, AreFramesFrom, IsLog, data_len}
 use Rattle.bus_batch.specs.Frames.{words_of_bytes}
 use Rattle.bus_batch.specs.Frames.{message_words, message_pieces, item_pieces, end_word, mark_word}
-use Rattle.bus_batch.specs.Frames.{log_words, log_pieces}
+use Rattle.bus_batch.specs.Frames.{log_words, log_pieces, is_end}
 
 -- what a reader knows: how many senders there are, the least tenure that the next frame may have,
 -- who has left, by number, its place in the log, and the bytes that it has of an unfinished message
@@ -98,37 +99,6 @@ Awaits reader rest pieces = at reader.place
     at Ended = (rest ≡ []) × (pieces ≡ [])
     at Bad = ⊥
 
--- The reader has read these words, which gave these pieces: what can follow them in a log, and
--- give, is exactly what it awaits.
-pub record HasRead (senders : ℕ) (words : List ℕ) (pieces : List (Option Piece))
-    (reader : Reading) : Type 0 where
-  pub many : length pieces ≡ length words
-  pub leads : (rest : List ℕ) (further : List (Option Piece)) → Awaits reader rest further
-      → (frames : List Frame) × AreFrames senders frames × (log_words frames ≡ words ++ rest)
-      × (log_pieces frames ≡ pieces ++ further)
-  pub covers : (frames : List Frame) (rest : List ℕ) → AreFrames senders frames
-      → log_words frames ≡ words ++ rest
-      → (further : List (Option Piece)) × Awaits reader rest further
-      × (log_pieces frames ≡ pieces ++ further)
-  pub begins : (rest : List ℕ) × (further : List (Option Piece)) × Awaits reader rest further
-
--- no frame is under way where a reader stands: the next word is a head
-abbrev pub is_between : Place → Bool
-is_between Between = true
-is_between (Body owner left room) = false
-is_between (Data owner left room number len) = false
-is_between Ended = false
-is_between Bad = false
-
--- words that are no log, or a log with which no longer one begins
-abbrev pub IsTornOrLast : ℕ → List ℕ → Type 0
-IsTornOrLast senders words =
-    (¬ IsLog senders words) ⊎ ((rest : List ℕ) → IsLog senders (words ++ rest) → rest ≡ [])
-
--- the reader has met a bad word, and stays so
-abbrev pub HasMetBadWord : Reading → Type 0
-HasMetBadWord reader = reader.place ≡ Bad
-
 -- what the numbers of a reader always keep: the words that are left can be filled
 abbrev pub IsSound : Place → List ℕ → Type 0
 IsSound Between bytes = bytes ≡ []
@@ -140,3 +110,39 @@ IsSound (Data owner left room number len) bytes =
     × (length bytes % 8 ≡ 0)
 IsSound Ended bytes = Unit {0}
 IsSound Bad bytes = Unit {0}
+
+-- The reader has read these words, which gave these pieces: what can follow them in a log, and
+-- give, is exactly what it awaits. Where it stands is said by itself, since at a frame of which
+-- nothing is left, or at an end that nobody wrote, it would await the same as between frames.
+pub record HasRead (senders : ℕ) (words : List ℕ) (pieces : List (Option Piece))
+    (reader : Reading) : Type 0 where
+  pub many : length pieces ≡ length words
+  pub leads : (rest : List ℕ) (further : List (Option Piece)) → Awaits reader rest further
+      → (frames : List Frame) × AreFrames senders frames × (log_words frames ≡ words ++ rest)
+      × (log_pieces frames ≡ pieces ++ further)
+  pub covers : (frames : List Frame) (rest : List ℕ) → AreFrames senders frames
+      → log_words frames ≡ words ++ rest
+      → (further : List (Option Piece)) × Awaits reader rest further
+      × (log_pieces frames ≡ pieces ++ further)
+  pub begins : (rest : List ℕ) × (further : List (Option Piece)) × Awaits reader rest further
+  -- in a frame only where some of it is left
+  pub sound : IsSound reader.place reader.bytes
+  -- at the end exactly where the end was among what they gave
+  pub ended : (reader.place ≡ Ended) ↔ (list_any is_end pieces ≡ true)
+
+-- no frame is under way where a reader stands: the next word is a head
+abbrev pub is_between : Place → Bool
+is_between Between = true
+is_between (Body owner left room) = false
+is_between (Data owner left room number len) = false
+is_between Ended = false
+is_between Bad = false
+
+-- words that are no log, or gave the end
+abbrev pub IsTornOrEnded : ℕ → List ℕ → List (Option Piece) → Type 0
+IsTornOrEnded senders words pieces =
+    (¬ IsLog senders words) ⊎ (list_any is_end pieces ≡ true)
+
+-- the reader has met a bad word, and stays so
+abbrev pub HasMetBadWord : Reading → Type 0
+HasMetBadWord reader = reader.place ≡ Bad

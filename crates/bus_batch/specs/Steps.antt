@@ -1,5 +1,6 @@
 -- What the words of a log are made of, one by one, and what one word does to a reader.
 use Rattle.std.specs.Prelude.{◌≡◌, ℕ, ◌<◌, ◌≤◌, ◌^◌, List, ◌∷◌, Option, Result, IfOk, OnErr}
+use Rattle.std.specs.Prelude.{◌↔◌, true}
 use Rattle.bus_register.specs.declared.limits.TheConstants.{MOST_BODY_WORDS, TENURES, MOST_BYTES}
 use Rattle.bus_register.specs.declared.limits.TheConstants.{NUMBERS}
 use Rattle.bus_batch.specs.declared.messages.Piece.{Piece}
@@ -7,9 +8,9 @@ use Rattle.bus_batch.specs.declared.readers.BadWord.{BadWord}
 use Rattle.bus_batch.specs.declared.readers.Head.{Head}
 use Rattle.bus_register.specs.declared.registers.SenderNo.{SenderNo}
 use Rattle.bus_batch.specs.declared.readers.Place.{Place}
-use Rattle.bus_batch.specs.declared.readers.Place.TheVariants.{Between, Body}
+use Rattle.bus_batch.specs.declared.readers.Place.TheVariants.{Between, Body, Ended}
 use Rattle.bus_batch.specs.declared.readers.Length.{Length}
-use Rattle.bus_batch.specs.Frames.{head_word, message_word}
+use Rattle.bus_batch.specs.Frames.{head_word, message_word, is_end}
 use Rattle.bus_batch.specs.Reading.{Reading, Awaits}
 
 -- a word is this head, of one of so many senders and of a tenure not below least
@@ -35,6 +36,7 @@ pub record Takes (old : Reading) (word : ℕ) (found : Option Piece) (new : Read
   pub covers : (rest : List ℕ) (pieces : List (Option Piece)) → Awaits old (word ∷ rest) pieces
       → (further : List (Option Piece)) × (pieces ≡ found ∷ further) × Awaits new rest further
   pub begins : (rest : List ℕ) × (pieces : List (Option Piece)) × Awaits new rest pieces
+  pub ended : (new.place ≡ Ended) ↔ (is_end found ≡ true)
 
 -- no log goes on with the word
 abbrev pub Refuses : Reading → ℕ → Type 0

@@ -2,12 +2,15 @@
 
 ghost use Rattle.std.specs.Prelude.{◌≡◌, ◌≢◌, ℕ, ◌+◌, ◌-◌, ◌*◌, ◌%◌, ◌^◌, ◌<◌, ◌≤◌};
 ghost use Rattle.std.specs.Prelude.{List, [], ◌∷◌};
-ghost use Rattle.std.specs.Prelude.{◌++◌, All, flat_map, map, false};
+ghost use Rattle.std.specs.Prelude.{◌++◌, All, flat_map, map, false, true, ◌↔◌};
 ghost use Rattle.bus_batch.specs.declared.messages.Mark.{Mark};
 ghost use Rattle.bus_batch.specs.declared.messages.Mark.TheVariants as mark;
 ghost use Rattle.bus_batch.specs.Frames.{Frame, Messages, Marked, IsFrame, AreFrames, frame_words};
 ghost use Rattle.bus_batch.specs.Frames.{mark_word, entries_of, has_gone, items_in, IsBadWord};
-ghost use Rattle.bus_batch.specs.Frames.{Says, leaves};
+ghost use Rattle.bus_batch.specs.Frames.{Says, leaves, order_in, frame_pieces};
+ghost use Rattle.bus_batch.specs.Reading.{Reading, HasRead, Awaits, is_between};
+ghost use Rattle.bus_batch.specs.declared.readers.Place.TheVariants as place;
+ghost use Rattle.bus_register.specs.declared.registers.SenderNo.{SenderNo};
 ghost use Rattle.bus_batch.specs.Frames.{IsLog, head_word, message_word};
 ghost use Rattle.bus_batch.specs.Frames.{Spells, order_of, items_of, ends, tenure_and_owner};
 ghost use Rattle.bus_register.specs.declared.limits.TheConstants.{TENURES, NUMBERS};
@@ -108,6 +111,45 @@ pub fn no_log_has()
     ensures padding { (senders owner count tenure len number word : ℕ) (rest : List ℕ)
         → 0 < len → len < 8 → number < NUMBERS → word % 256 ≢ 0
         → ¬ IsLog senders (head_word owner count tenure ∷ message_word len number ∷ word ∷ rest) }
+{}
+
+/// Where a reader stands says what it has read. It stands between frames exactly where its words
+/// are a log that has not ended, and at the end exactly where they have given it. Two readers that
+/// have read the same words were given the same pieces, stand alike, and await the same.
+pub fn stands_where_its_words_end()
+    ensures between { (senders : ℕ) (words : _) (pieces : _) (r : Reading)
+        → HasRead senders words pieces r
+        → ((is_between r.place ≡ true)
+        ↔ (IsLog senders words × ((order_in pieces).ended ≡ false))) }
+    ensures ended { (senders : ℕ) (words : _) (pieces : _) (r : Reading)
+        → HasRead senders words pieces r
+        → ((r.place ≡ place.Ended) ↔ ((order_in pieces).ended ≡ true)) }
+    ensures one { (senders : ℕ) (words : _) (pieces : _) (pieces' : _) (r : Reading)
+        (r' : Reading) → HasRead senders words pieces r → HasRead senders words pieces' r'
+        → (pieces ≡ pieces') × (is_between r.place ≡ is_between r'.place)
+        × ((r.place ≡ place.Ended) ↔ (r'.place ≡ place.Ended)) }
+    ensures awaits { (senders : ℕ) (words : _) (pieces : _) (pieces' : _) (r : Reading)
+        (r' : Reading) (rest : List ℕ) (further : _) → HasRead senders words pieces r
+        → HasRead senders words pieces' r' → Awaits r rest further → Awaits r' rest further }
+    // Behind one whole frame there is one place alone.
+    ensures frame { (senders : ℕ) (f : Frame) (r : Reading) → IsFrame senders f
+        → HasRead senders (frame_words f) (frame_pieces f) r
+        → (ends f.body ≡ false → r.place ≡ place.Between)
+        × (ends f.body ≡ true → r.place ≡ place.Ended) }
+{}
+
+/// Where no reader stands, whatever it has read: in a frame of which nothing is left, at an end
+/// that was not read, and between frames where it was.
+pub fn standing_refuses()
+    ensures nothing_left { (senders : ℕ) (words : _) (pieces : _) (r : Reading)
+        (owner : SenderNo) (room : ℕ) → r.place ≡ place.Body owner 0 room
+        → ¬ HasRead senders words pieces r }
+    ensures no_end { (senders : ℕ) (words : _) (pieces : _) (r : Reading)
+        → r.place ≡ place.Ended → (order_in pieces).ended ≡ false
+        → ¬ HasRead senders words pieces r }
+    ensures past_end { (senders : ℕ) (words : _) (pieces : _) (r : Reading)
+        → r.place ≡ place.Between → (order_in pieces).ended ≡ true
+        → ¬ HasRead senders words pieces r }
 {}
 
 /// A message that is taken has no fault, and one that is refused has one alone; a close or a leave

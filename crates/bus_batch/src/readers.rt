@@ -138,7 +138,7 @@ impl FrameReader {
     ghost use Rattle.bus_batch.specs.Frames.{owners_in, end_word, mark_word};
     ghost use Rattle.bus_batch.specs.declared.messages.Mark.TheVariants as mark;
     ghost use Rattle.bus_batch.specs.Reading.{HasRead, HasMetBadWord, is_between};
-    ghost use Rattle.bus_batch.specs.Reading.{IsTornOrLast};
+    ghost use Rattle.bus_batch.specs.Reading.{IsTornOrEnded, IsSound};
     ghost use Rattle.bus_batch.specs.declared.messages.Piece.TheVariants as piece;
     ghost use Rattle.bus_batch.specs.Steps.{Steps, Refuses};
 
@@ -173,13 +173,14 @@ impl FrameReader {
     /// No frame is under way, and the order has not ended: the next word is a head.
     pub fn is_between(&self) -> bool
         ensures between { result ≡ is_between self.now.place }
-        // The words so far are a log, and the pieces say its order and owners.
+        // The words so far are a log that has not ended, and the pieces say its order and owners.
         ensures log { (words : _) (pieces : _) → HasRead self.now.senders words pieces self.now
             → IsTrue result
-            → Spells self.now.senders words (order_in pieces) (owners_in pieces) }
-        // Else they are none, or no word goes on with it.
+            → Spells self.now.senders words (order_in pieces) (owners_in pieces)
+            × ((order_in pieces).ended ≡ false) }
+        // Else they are none, or it has ended.
         ensures within { (words : _) (pieces : _) → HasRead self.now.senders words pieces self.now
-            → result ≡ false → IsTornOrLast self.now.senders words }
+            → result ≡ false → IsTornOrEnded self.now.senders words pieces }
     {
         matches!(self.place, Place::Between)
     }
@@ -188,6 +189,7 @@ impl FrameReader {
     fn take_head(&mut self, word: u64) -> Result<Option<Piece>, BadWord>
         requires { self.old.place ≡ place.Between }
         ensures senders { self.new.senders ≡ self.old.senders }
+        ensures sound { IsSound self.new.place self.new.bytes }
         ensures steps { Steps self.old word result self.new }
     {
         match head_of(word, self.senders, self.least) {
@@ -220,6 +222,7 @@ impl FrameReader {
     ) -> Result<Option<Piece>, BadWord>
         requires { self.old.place ≡ place.Body owner left room }
         ensures senders { self.new.senders ≡ self.old.senders }
+        ensures sound { IsSound self.new.place self.new.bytes }
         ensures steps { Steps self.old word result self.new }
     {
         let _held = &self.bytes;
@@ -243,6 +246,7 @@ impl FrameReader {
         requires place { self.old.place ≡ place.Body owner left room }
         requires word { end_word ≤ word }
         ensures senders { self.new.senders ≡ self.old.senders }
+        ensures sound { IsSound self.new.place self.new.bytes }
         ensures steps { Steps self.old word result self.new }
     {
         let _held = &self.bytes;
@@ -266,6 +270,7 @@ impl FrameReader {
         requires place { self.old.place ≡ place.Body owner left room }
         requires word { word ≡ end_word }
         ensures senders { self.new.senders ≡ self.old.senders }
+        ensures sound { IsSound self.new.place self.new.bytes }
         ensures steps { Steps self.old word result self.new }
     {
         if left == 1 && room == BATCH_MESSAGES {
@@ -287,6 +292,7 @@ impl FrameReader {
         requires place { self.old.place ≡ place.Body owner left room }
         requires word { word ≡ mark_word mark.Leave }
         ensures senders { self.new.senders ≡ self.old.senders }
+        ensures sound { IsSound self.new.place self.new.bytes }
         ensures steps { Steps self.old word result self.new }
     {
         let _held = &self.bytes;
@@ -311,6 +317,7 @@ impl FrameReader {
         requires place { self.old.place ≡ place.Body owner left room }
         requires word { IsMessageWord word length }
         ensures senders { self.new.senders ≡ self.old.senders }
+        ensures sound { IsSound self.new.place self.new.bytes }
         ensures steps { Steps self.old word result self.new }
     {
         let _held = &self.bytes;
@@ -347,6 +354,7 @@ impl FrameReader {
         requires word { IsMessageWord word length }
         requires some { 0 < length.len }
         ensures senders { self.new.senders ≡ self.old.senders }
+        ensures sound { IsSound self.new.place self.new.bytes }
         ensures good { IsTrue result → Steps self.old word (Ok None) self.new }
         ensures bad { result ≡ false → Refuses self.old word × (self.new ≡ self.old) }
     {
@@ -375,6 +383,7 @@ impl FrameReader {
     ) -> Result<Option<Piece>, BadWord>
         requires { self.old.place ≡ place.Data owner left room length.number length.len }
         ensures senders { self.new.senders ≡ self.old.senders }
+        ensures sound { IsSound self.new.place self.new.bytes }
         ensures steps { Steps self.old word result self.new }
     {
         if length.len as usize - self.bytes.len() > 8 {
@@ -395,6 +404,7 @@ impl FrameReader {
         requires place { self.old.place ≡ place.Data owner left room told.number told.len }
         requires more { length self.old.bytes + 8 < told.len }
         ensures senders { self.new.senders ≡ self.old.senders }
+        ensures sound { IsSound self.new.place self.new.bytes }
         ensures steps { Steps self.old word (Ok None) self.new }
     {
         let _held = &self.bytes;
@@ -423,6 +433,7 @@ impl FrameReader {
         requires place { self.old.place ≡ place.Data owner left room told.number told.len }
         requires last { told.len ≤ length self.old.bytes + 8 }
         ensures senders { self.new.senders ≡ self.old.senders }
+        ensures sound { IsSound self.new.place self.new.bytes }
         ensures good { IsTrue result
             → Steps self.old word (Ok (Some (piece.Item item.new))) self.new }
         ensures bad { result ≡ false

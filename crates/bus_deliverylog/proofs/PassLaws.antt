@@ -1,18 +1,19 @@
 -- When a receiver stores its place: where a frame ends, in its passed place, and once.
-use Rattle.std.proofs.Common.{◌≡◌, ◌≢◌, ℕ, ◌<◌, List, [], ◌++◌, length, Bool, true, false}
-use Rattle.std.proofs.Common.{cond, nat_lt, ◌&&◌, Option, Some, None, inl, inr, arith, refl}
-use Rattle.std.proofs.Common.{sym, ap, ◌∙◌, subst, ◌+◌, ◌%◌, ◌==◌, IfSome}
+use Rattle.std.proofs.Common.{◌≡◌, ℕ, ◌<◌, List, length, Bool, true, false}
+use Rattle.std.proofs.Common.{cond, nat_lt, ◌&&◌, Option, Some, None, arith, refl}
+use Rattle.std.proofs.Common.{ap, ◌∙◌, subst, ◌+◌, ◌%◌, ◌==◌, IfSome}
+use Rattle.std.specs.List.{list_any}
+use Rattle.std.specs.Prelude.{if◌then◌else◌}
 use Rattle.bus_register.specs.declared.registers.Op.TheVariants.{Load}
 use Rattle.std.proofs.lemmas.Bool.{and_parts, ltb-true, lt-ltb, le-ltb}
 use Rattle.bus_batch.specs.declared.messages.Piece.{Piece}
-use Rattle.bus_batch.specs.declared.readers.Place.{Place}
-use Rattle.bus_batch.specs.declared.readers.Place.TheVariants as place
-use Rattle.bus_batch.specs.Frames.{IsLog}
-use Rattle.bus_batch.specs.Reading.{IsSound, is_between}
-use Rattle.bus_batch.proofs.Feeding.{between_is_log, outside_between}
+use Rattle.bus_batch.specs.Frames.{IsLog, is_end}
+use Rattle.bus_batch.specs.Reading.{Reading, HasRead, is_between}
+use Rattle.bus_batch.proofs.Standing.{stands_between, between_alike}
 use Rattle.bus_deliverylog.specs.declared.receiving.RecvTurn.{RecvTurn}
 use Rattle.bus_deliverylog.specs.Receiving.{Receiving, HasReceived, TakesPassed, reading_of}
-use Rattle.bus_deliverylog.specs.Receiving.{passing_due, receiving_op, leaving_op, op_by}
+use Rattle.bus_deliverylog.specs.Receiving.{passing_due, receiving_kind, receiving_op, leaving_op}
+use Rattle.bus_deliverylog.specs.Receiving.{kind_by, op_by}
 use Rattle.bus_deliverylog.specs.Receiving.{leaving_by, LiesApart, WritesApart}
 use Rattle.bus_deliverylog.proofs.ReceiveLaws.{due_at}
 
@@ -23,40 +24,55 @@ by_test false o at e = absurd cc
 
 pub ends_there : (v : Receiving) (words : List ℕ) (pieces : List (Option Piece)) (at : ℕ)
     → HasReceived words pieces (reading_of v) → passing_due v ≡ Some at
-    → IsLog v.frames.senders words × (v.place ≡ length words) × (v.passed < v.place)
-    × (v.passed_at ≡ Some at)
+    → IsLog v.frames.senders words × (list_any is_end pieces ≡ false)
+    × (v.place ≡ length words) × (v.passed < v.place) × (v.passed_at ≡ Some at)
 ends_there v words pieces at had due =
     let test = by_test (is_between v.frames.place && nat_lt v.passed v.place) v.passed_at at due in
     let both = and_parts (is_between v.frames.place) (nat_lt v.passed v.place) test.0 in
-    let log = between_is_log v.frames.senders words pieces v.frames had.read both.0 in (
-      record { frames = log.frames; lawful = log.lawful; words_are = log.words_are },
+    let log = (stands_between v.frames.senders words pieces v.frames had.read).0 both.0 in (
+      log.0,
+      log.1,
       had.place,
       ltb-true v.passed v.place both.1,
       test.1,
     )
 
-pub due_there : (v : Receiving) (words : List ℕ) (pieces : List (Option Piece)) (rest : List ℕ)
-    (at : ℕ) → HasReceived words pieces (reading_of v) → IsSound v.frames.place v.frames.bytes
-    → IsLog v.frames.senders words → rest ≢ [] → IsLog v.frames.senders (words ++ rest)
-    → v.passed < v.place → v.passed_at ≡ Some at → passing_due v ≡ Some at
-due_there v words pieces rest at had sound log more longer past is =
-    ap (λ b. cond (b && nat_lt v.passed v.place) v.passed_at None) (between v.frames.place refl)
+pub due_there : (v : Receiving) (words : List ℕ) (pieces : List (Option Piece)) (at : ℕ)
+    → HasReceived words pieces (reading_of v) → IsLog v.frames.senders words
+    → list_any is_end pieces ≡ false → v.passed < v.place → v.passed_at ≡ Some at
+    → passing_due v ≡ Some at
+due_there v words pieces at had log going past is =
+    ap (λ b. cond (b && nat_lt v.passed v.place) v.passed_at None)
+    ((stands_between v.frames.senders words pieces v.frames had.read).1 (log, going))
     ∙ ap (λ b. cond b v.passed_at None) (lt-ltb v.passed v.place past) ∙ is
-  where
-    outside : (v.frames.place ≡ place.Between → ⊥) → is_between v.frames.place ≡ true
-    outside not = elim (outside_between v.frames.senders words pieces v.frames.senders
-        v.frames.least v.frames.left v.frames.place v.frames.bytes v.frames refl had.read not
-        sound) [
-          | inl torn ↦ absurd (torn log)
-          | inr last ↦ absurd (more (last rest longer))
-        ]
 
-    between : (p : Place) → v.frames.place ≡ p → is_between v.frames.place ≡ true
-    between place.Between e = ap is_between e
-    between (place.Body owner left room) e = outside (λ f. let z = sym f ∙ e in cc)
-    between (place.Data owner left room number len) e = outside (λ f. let z = sym f ∙ e in cc)
-    between place.Ended e = outside (λ f. let z = sym f ∙ e in cc)
-    between place.Bad e = outside (λ f. let z = sym f ∙ e in cc)
+-- what is kept of the words that were read decides nothing about the next step
+module _ (v : Receiving) (frames : Reading) (words : List ℕ) (pieces pieces' : List (Option Piece))
+    (had : HasReceived words pieces (reading_of v))
+    (had' : HasReceived words pieces' (reading_of (record v { frames = frames })))
+    (senders : frames.senders ≡ v.frames.senders) where
+  due_alike : passing_due (record v { frames = frames }) ≡ passing_due v
+  due_alike = ap (λ b. cond (b && nat_lt v.passed v.place) v.passed_at None)
+      (between_alike v.frames.senders words pieces' pieces frames v.frames
+      (subst (λ n. HasRead n words pieces' frames) senders had'.read) had.read)
+
+  pub same_kind : receiving_kind (record v { frames = frames }) ≡ receiving_kind v
+  same_kind =
+      ap (λ o. if v.ended then None else Some (kind_by o (record v { frames = frames }))) due_alike
+      ∙ ap (λ k. if v.ended then None else Some k) (by (passing_due v))
+    where
+      by : (o : Option ℕ) → kind_by o (record v { frames = frames }) ≡ kind_by o v
+      by None = refl
+      by (Some at) = refl
+
+  pub same_op : receiving_op (record v { frames = frames }) ≡ receiving_op v
+  same_op =
+      ap (λ o. if v.ended then None else Some (op_by o (record v { frames = frames }))) due_alike
+      ∙ ap (λ k. if v.ended then None else Some k) (by (passing_due v))
+    where
+      by : (o : Option ℕ) → op_by o (record v { frames = frames }) ≡ op_by o v
+      by None = refl
+      by (Some at) = refl
 
 -- it is not due again before more is read
 pub once_there : (v : Receiving) (answer : RecvTurn) (new : Receiving) → TakesPassed v answer new

@@ -10,13 +10,13 @@ ghost use Rattle.bus_batch.specs.Frames.{Frame, IsFrame, frame_words, Spells, en
 ghost use Rattle.bus_batch.specs.Frames.{tenure_and_owner, order_in, owners_in, has_gone, IsLog};
 ghost use Rattle.bus_batch.specs.Frames.{Entry, Says, Leaves, items_in};
 ghost use Rattle.bus_register.specs.declared.registers.SenderNo.{SenderNo};
-ghost use Rattle.bus_batch.specs.Reading.{HasRead, IsSound};
+ghost use Rattle.bus_batch.specs.Reading.{Reading, HasRead};
 ghost use Rattle.bus_batch.specs.declared.messages.Item.{Item};
 ghost use Rattle.bus_deliverylog.specs.Orders.{IsPrefixOfOrder, merged, AreMarks};
 ghost use Rattle.bus_deliverylog.specs.Logs.{IsFirstBad, IsTorn};
 ghost use Rattle.bus_deliverylog.specs.Writing.{Writing, writing_kind, writing_op, writing_fed};
 ghost use Rattle.bus_deliverylog.specs.Receiving.{Receiving, HasReceived, TakesPassed, reading_of};
-ghost use Rattle.bus_deliverylog.specs.Receiving.{passing_due};
+ghost use Rattle.bus_deliverylog.specs.Receiving.{passing_due, receiving_kind, receiving_op};
 ghost use Rattle.bus_deliverylog.specs.declared.receiving.RecvTurn.{RecvTurn};
 ghost use Rattle.bus_deliverylog.specs.Writing.{words_at, HasStored, IsApart};
 
@@ -117,18 +117,25 @@ pub fn readings_are_exact()
         → IsFirstBad senders words place → IsFirstBad senders words other → place ≡ other }
 {}
 
-/// A receiver stores its place only where what it has read is a whole log, longer than what it
-/// stored last, and only in its passed place. There it does, if another log goes on with these
-/// words, and not a second time.
+/// A receiver that has a passed place is to store its place there exactly where what it has read
+/// is a whole log that has not ended, longer than what it stored last; and not a second time. Two
+/// receivers that have read the same words, and differ in nothing but what they keep of them, take
+/// the same next step.
 pub fn passes_where_a_frame_ends()
     ensures ends { (v : Receiving) (words : List ℕ) (pieces : _) (at : ℕ)
         → HasReceived words pieces (reading_of v) → passing_due v ≡ Some at
-        → IsLog v.frames.senders words × (v.place ≡ length words)
-        × (v.passed < v.place) × (v.passed_at ≡ Some at) }
-    ensures due { (v : Receiving) (words : List ℕ) (pieces : _) (rest : List ℕ) (at : ℕ)
-        → HasReceived words pieces (reading_of v) → IsSound v.frames.place v.frames.bytes
-        → IsLog v.frames.senders words → rest ≢ [] → IsLog v.frames.senders (words ++ rest)
-        → v.passed < v.place → v.passed_at ≡ Some at → passing_due v ≡ Some at }
+        → IsLog v.frames.senders words × ((order_in pieces).ended ≡ false)
+        × (v.place ≡ length words) × (v.passed < v.place) × (v.passed_at ≡ Some at) }
+    ensures due { (v : Receiving) (words : List ℕ) (pieces : _) (at : ℕ)
+        → HasReceived words pieces (reading_of v) → IsLog v.frames.senders words
+        → (order_in pieces).ended ≡ false → v.passed < v.place → v.passed_at ≡ Some at
+        → passing_due v ≡ Some at }
+    ensures one { (v : Receiving) (frames : Reading) (words : List ℕ) (pieces : _) (pieces' : _)
+        → HasReceived words pieces (reading_of v)
+        → HasReceived words pieces' (reading_of (record v { frames = frames }))
+        → frames.senders ≡ v.frames.senders
+        → (receiving_kind (record v { frames = frames }) ≡ receiving_kind v)
+        × (receiving_op (record v { frames = frames }) ≡ receiving_op v) }
     ensures once { (v : Receiving) (answer : RecvTurn) (new : Receiving)
         → TakesPassed v answer new → passing_due new ≡ None }
     ensures never { (v : Receiving) → v.passed_at ≡ None → passing_due v ≡ None }

@@ -3,3 +3,4 @@ use Rattle.bus_batch.proofs.readers.FrameReader.new.Goals as goal
 
 pub returns-clause-read : goal.returns-clause-read
 returns-clause-read c = reads_none c.args.senders c.nobody.result c.new.result c.nobody.ensures
+    c.new.ensures

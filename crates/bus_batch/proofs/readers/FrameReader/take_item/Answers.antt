@@ -11,4 +11,5 @@ returns-else-len-gt8-clause-gives c words pieces had did = gives_of c.args.self.
 pub returns-else-len-gt8-clause-read : goal.returns-else-len-gt8-clause-read
 returns-else-len-gt8-clause-read c words pieces had did = read_of c.args.self.now.senders words
     pieces c.args.word c.args.self.now c.take_last.new.self had
-    (Ok (Some (piece.Item c.take_last.new.item))) (c.take_last.ensures.good did)
+    (Ok (Some (piece.Item c.take_last.new.item))) c.take_last.ensures.sound
+    (c.take_last.ensures.good did)

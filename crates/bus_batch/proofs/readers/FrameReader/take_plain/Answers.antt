@@ -10,6 +10,7 @@ returns-then-length-gt0-clause-gives c words pieces had did = gives_of c.args.se
 pub returns-then-length-gt0-clause-read : goal.returns-then-length-gt0-clause-read
 returns-then-length-gt0-clause-read c words pieces had did = read_of c.args.self.now.senders words
     pieces c.args.word c.args.self.now c.begin_message.new.self had (Ok None)
+    c.begin_message.ensures.sound
     (c.begin_message.ensures.good did)
 
 pub returns-else-len-le8-clause-gives : goal.returns-else-len-le8-clause-gives
@@ -18,4 +19,5 @@ returns-else-len-le8-clause-gives c words pieces had did = gives_of c.args.self.
 
 pub returns-else-len-le8-clause-read : goal.returns-else-len-le8-clause-read
 returns-else-len-le8-clause-read c words pieces had did = read_of c.args.self.now.senders words
-    pieces c.args.word c.args.self.now c.take_part.new.self had (Ok None) c.take_part.ensures.steps
+    pieces c.args.word c.args.self.now c.take_part.new.self had (Ok None)
+    c.take_part.ensures.sound c.take_part.ensures.steps

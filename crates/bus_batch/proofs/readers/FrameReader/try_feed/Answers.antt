@@ -14,7 +14,7 @@ returns-in-Between-clause-gives c words pieces had = gives_of c.args.self.now.se
 pub returns-in-Between-clause-read : goal.returns-in-Between-clause-read
 returns-in-Between-clause-read c words pieces had = read_of c.args.self.now.senders words pieces
     c.args.word c.args.self.now c.take_head.new.self had c.take_head.result
-    c.take_head.ensures.steps
+    c.take_head.ensures.sound c.take_head.ensures.steps
 
 pub returns-in-Body-clause-bad : goal.returns-in-Body-clause-bad
 returns-in-Body-clause-bad c words pieces had = bad_of c.args.self.now.senders words pieces
@@ -29,7 +29,7 @@ returns-in-Body-clause-gives c words pieces had = gives_of c.args.self.now.sende
 pub returns-in-Body-clause-read : goal.returns-in-Body-clause-read
 returns-in-Body-clause-read c words pieces had = read_of c.args.self.now.senders words pieces
     c.args.word c.args.self.now c.take_message.new.self had c.take_message.result
-    c.take_message.ensures.steps
+    c.take_message.ensures.sound c.take_message.ensures.steps
 
 pub returns-in-Data-clause-bad : goal.returns-in-Data-clause-bad
 returns-in-Data-clause-bad c words pieces had = bad_of c.args.self.now.senders words pieces
@@ -44,4 +44,4 @@ returns-in-Data-clause-gives c words pieces had = gives_of c.args.self.now.sende
 pub returns-in-Data-clause-read : goal.returns-in-Data-clause-read
 returns-in-Data-clause-read c words pieces had = read_of c.args.self.now.senders words pieces
     c.args.word c.args.self.now c.take_bytes.new.self had c.take_bytes.result
-    c.take_bytes.ensures.steps
+    c.take_bytes.ensures.sound c.take_bytes.ensures.steps
