@@ -34,6 +34,7 @@ use Rattle.bus_presence.proofs.ReclaimerLaws.{keeps as reclamation_keeps}
 use Rattle.bus_presence.proofs.RowLaws.{alive_pinned}
 use Rattle.bus_presence.specs.Standing.{Stands}
 use Rattle.bus_register.specs.Protocol.{Protocol}
+use Rattle.bus_register.specs.declared.limits.TheConstants.{PASSED_ALL}
 use Rattle.bus_register.specs.Words.{register}
 use Rattle.bus_register.specs.declared.registers.Op.{Op}
 use Rattle.bus_register.specs.declared.registers.Op.TheVariants.{Store}
@@ -54,7 +55,7 @@ use Rattle.bus_world.proofs.Serving.{Serves}
 use Rattle.bus_world.proofs.CyclicProtocolKept.{HasKept}
 use Rattle.bus_world.proofs.CyclicProtocolLaws.{protocol_promised}
 use Rattle.bus_world.specs.World.{IsLayout}
-use Rattle.bus_world.specs.Proved.Floors.{IsBoundary, ShowsRing, passed_place}
+use Rattle.bus_world.specs.Proved.Floors.{IsBoundary, IsPasser, ShowsRing, passed_place}
 use Rattle.bus_world.specs.Proved.Sending.{Sending, Fits}
 use Rattle.bus_world.specs.Log.{KeepsFloor, floor_shown, least_passed, words_in_ring}
 use Rattle.bus_world.specs.Log.{words_read_from}
@@ -72,7 +73,7 @@ use Rattle.bus_machine.specs.Proved.Bridge.{of_bus, plain_trails, core_in, passi
 use Rattle.bus_machine.specs.Proved.Bridge.{protocol_of, IsLed}
 use Rattle.bus_machine.specs.Machine.{base_of, Machine, Trails, Reached, log_place}
 use Rattle.bus_machine.specs.Machine.{FindsWords, ShowsLog, floor_of, log_of, passers_place}
-use Rattle.bus_machine.specs.Machine.{stage_of, StandsBelow}
+use Rattle.bus_machine.specs.Machine.{stage_of, ShowsPassed, StandsBelow}
 use Rattle.bus_machine.specs.Promise.{IsPageOf, ReusesRows, ReusesSafely}
 use Rattle.bus_machine.specs.Remembering.{rows_in}
 
@@ -131,6 +132,8 @@ pub record IsFramed {E : Type 0} (P : Protocol E (Unit {0}) ℕ) (m : Machine E)
       × IsReceiver m.layout frames (V 0) (placed m.layout v)
       × ((at : ℕ) → v.passed_at ≡ Some at → at < log_place m.layout m.reuse)
       × (v.gone ≡ false → floor_of m ≤ v.place)
+  -- and shows what it has passed, or that it has left
+  pub passes : ShowsPassed m
   pub given : (r : ℕ) (v : Receiving) → slice_get m.receivers r ≡ Some v
       → order_given (T.heard r) ≡ given_at frames v
   pub takers : Takers owners T.actions
@@ -335,6 +338,9 @@ module _ {E : Type 0} (X : Election E) (P : Protocol E (Unit {0}) ℕ) where
       found = λ p t v e o q at runs low from to is. ap (λ w. slice_index b.side.words (register w))
           (sym (same_Some _ _ (subst (λ r. in_row x r t (Some o) ≡ Some q) (core_at p v at).1 is)));
       reads = reads_at;
+      passes = λ r v place at is. absurd (let bad : None ≡ Some place =
+          sym (k.lawful.keeps.never r v at).never ∙ is in
+          cc);
       given = λ r v at. (k.tied.heard r v at).given_is;
       takers = promise.takers;
       promises = promise.promises;
@@ -487,6 +493,28 @@ module _ {E : Type 0} (X : Election E) (P : Protocol E (Unit {0}) ℕ) where
             let low = ltb-true r m.layout.passers e in
             let same : passed_place m.layout rows r ≡ place = same_Some _ _ i in omega arith
 
+    -- and shows what its receiver has passed, or that it has left
+    passes_some : ShowsPassed m
+    passes_some r v place at is =
+        by (nat_lt r m.layout.passers) refl (sym (kept.kept.floors.each r v at).at ∙ is)
+      where
+        its : IsPasser m.layout rows (slice_index m.words) kept.kept.floor r v
+        its = kept.kept.floors.each r v at
+
+        shows : r < m.layout.passers → (gone : Bool) → v.gone ≡ gone
+            → slice_index m.words (passed_place m.layout rows r)
+            ≡ cond gone PASSED_ALL v.passed
+        shows low true left = its.left left low
+        shows low false stays = its.shows stays low
+
+        by : (b : Bool) → nat_lt r m.layout.passers ≡ b
+            → cond {A = Option ℕ} b (Some (passed_place m.layout rows r)) None ≡ Some place
+            → slice_index m.words place ≡ cond v.gone PASSED_ALL v.passed
+        by false e i = absurd cc
+        by true e i =
+            ap (slice_index m.words) (sym (same_Some _ _ i))
+            ∙ shows (ltb-true r m.layout.passers e) v.gone refl
+
     -- one that has not left is still to hear no word before the floor
     comes_some : (r : ℕ) (v : Receiving) → slice_get m.receivers r ≡ Some v → v.gone ≡ false
         → floor_of m ≤ v.place
@@ -566,6 +594,7 @@ module _ {E : Type 0} (X : Election E) (P : Protocol E (Unit {0}) ℕ) where
       stage = kept.kept.laid.stage;
       found = found_at;
       reads = reads_some;
+      passes = passes_some;
       given = λ r v at. (kept.kept.hears.each r v at).hears.given_is;
       takers = keeps.by.takers;
       promises = subst

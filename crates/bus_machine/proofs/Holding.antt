@@ -2,7 +2,7 @@
 -- way between turns, and its log.
 use Rattle.std.proofs.Common.{◌≡◌, ℕ, zero, suc, ◌+◌, ◌-◌, ◌*◌, ◌%◌, ◌<◌, ◌≤◌, ◌^◌, Bool, ◌&&◌}
 use Rattle.std.proofs.Common.{nat_lt}
-use Rattle.std.proofs.Common.{true, false, cond, ◌==◌, is_some, Option, Some, None, List, [], ◌∷◌}
+use Rattle.std.proofs.Common.{true, false, cond, ◌==◌, is_some, Option, Some, None, List}
 use Rattle.std.proofs.Common.{length}
 use Rattle.std.proofs.Common.{drop, slice_get, slice_index, arith, refl, sym, ◌∙◌, ap, subst}
 use Rattle.std.specs.Prelude.{IfSome}
@@ -49,6 +49,7 @@ use Rattle.bus_world.specs.Proved.Receiving.{IsReceiver}
 use Rattle.bus_world.specs.declared.events.Answer.{Answer}
 use Rattle.bus_world.specs.Proved.Invariants.{given_at}
 use Rattle.bus_machine.proofs.AtNone.{event_reuse, flat_at_none}
+use Rattle.bus_machine.proofs.Cells.{length-ring}
 use Rattle.bus_machine.proofs.Leading.{Sits}
 use Rattle.bus_machine.proofs.Framed.{IsFramed, floor_first, framed}
 use Rattle.bus_machine.proofs.Rising.{log_behind}
@@ -92,14 +93,6 @@ module _ {E : Type 0} (X : Election E) where
       }
 
 -- ---- the log
-length-ring : (words : ℕ → ℕ) (at capacity place many : ℕ)
-    → length (words_in_ring words at capacity place many) ≡ many
-length-ring words at capacity place zero = refl
-length-ring words at capacity place (suc k) =
-    length-append (words_in_ring words at capacity place k)
-    (words (at + (place + k) % capacity) ∷ [])
-    ∙ (let before = length-ring words at capacity place k in omega arith)
-
 -- the least of some passed places is the floor
 shown_some : (words : ℕ → ℕ) (at many len : ℕ) → (many ≡ 0 → ⊥)
     → least_passed words at many len ≡ floor_shown words at many len

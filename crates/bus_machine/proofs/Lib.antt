@@ -9,6 +9,8 @@ pub mod AtSome
 pub mod Leading
 pub mod Paging
 pub mod Framed
+pub mod Cells
+pub mod Publishing
 pub mod Clearing
 pub mod Taking
 pub mod Knowing

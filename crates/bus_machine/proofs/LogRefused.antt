@@ -1,6 +1,7 @@
 -- No promise holds of a log that lacks what was put, or has a word that was never stored.
-use Rattle.std.proofs.Common.{◌≡◌, ◌⊎◌, inl, inr, ℕ, ◌+◌, ◌*◌, ◌^◌, ◌<◌, ◌≤◌, List, [], ◌∷◌, ◌++◌}
-use Rattle.std.proofs.Common.{drop, length, map, slice_index, arith, sym, ◌∙◌, ap, subst}
+use Rattle.std.proofs.Common.{◌≡◌, ◌⊎◌, inl, inr, ℕ, ◌+◌, ◌-◌, ◌*◌, ◌^◌, ◌<◌, ◌≤◌, List, [], ◌∷◌}
+use Rattle.std.proofs.Common.{◌++◌, drop, length, map, slice_index, arith, refl, sym, ◌∙◌, ap}
+use Rattle.std.proofs.Common.{cond, subst}
 use Rattle.std.proofs.lemmas.Grind.{flat_map-append}
 use Rattle.std.proofs.Math.Seq.{drop-append_seam}
 use Rattle.std.proofs.lemmas.List.{length-append}
@@ -8,13 +9,16 @@ use Rattle.bus_batch.proofs.FrameLaws.{same_log, spells_one}
 use Rattle.bus_batch.specs.Frames.{Frame, Order, body_words, frame_words, log_words}
 use Rattle.bus_batch.specs.declared.messages.Item.{Item}
 use Rattle.bus_deliverylog.specs.Orders.{of_sender}
+use Rattle.bus_register.specs.declared.limits.TheConstants.{PASSED_ALL}
 use Rattle.bus_tenure.specs.Core.{Election}
 use Rattle.bus_world.specs.Waiting.{waiting_at}
 use Rattle.bus_world.proofs.LogLaws.{index-read}
 use Rattle.bus_world.specs.Proved.Floors.{IsBoundary}
+use Rattle.bus_world.specs.Log.{words_in_ring}
+use Rattle.bus_machine.proofs.Cells.{length-ring, index-ring}
 use Rattle.bus_machine.specs.Machine.{Machine, Trails, floor_of, log_of, log_place}
 use Rattle.bus_machine.specs.Promise.{IsPromised}
-use Rattle.bus_machine.specs.LogRefusals.{LogsRefuse}
+use Rattle.bus_machine.specs.LogRefusals.{LogsRefuse, PublishedRefuse}
 
 no_zero_head : (frames : List Frame) (rest : List ℕ) → log_words frames ≡ 0 ∷ rest → ⊥
 no_zero_head [] rest e = cc
@@ -68,6 +72,48 @@ last_frames X m T k =
     ∙ ap (drop (length (log_words b.front))) (flat_map-append frame_words b.front b.rest)
     ∙ drop-append_seam (log_words b.front) (log_words b.rest)
 
+-- what joins one front is the same
+front_off : (front xs ys : List ℕ) → front ++ xs ≡ front ++ ys → xs ≡ ys
+front_off front xs ys e =
+    sym (drop-append_seam front xs) ∙ ap (drop (length front)) e ∙ drop-append_seam front ys
+
+-- so are two fronts of one length
+front_same : (xs ys us vs : List ℕ) → length xs ≡ length ys → xs ++ us ≡ ys ++ vs → xs ≡ ys
+front_same [] [] us vs many e = refl
+front_same [] (y ∷ ys) us vs many e = absurd (omega arith)
+front_same (x ∷ xs) [] us vs many e = absurd (omega arith)
+front_same (x ∷ xs) (y ∷ ys) us vs many e =
+    let first : x ≡ y = ap (λ l. slice_index l 0) e in
+    ap (λ h. h ∷ xs) first
+    ∙ ap (λ l. y ∷ l) (front_same xs ys us vs (omega arith) (ap (drop 1) e))
+
+pub published_refused : {E : Type 0} (m : Machine E) (before : List ℕ) (f : Frame)
+    → PublishedRefuse m before f
+published_refused m before f =
+    let since = slice_index m.words 0 - length before in
+    let read = words_in_ring (slice_index m.words) (log_place m.layout m.reuse) m.layout.capacity
+    (length before) since in
+    let size : length read ≡ since = length-ring (slice_index m.words)
+    (log_place m.layout m.reuse) m.layout.capacity (length before) since in
+    record {
+      other_word = λ place low other shown.
+          let same : frame_words f ≡ read = front_off before (frame_words f) read shown in
+          let many = ap length same in
+          let below : place < since = omega arith in
+          other (sym (ap (λ ws. slice_index ws place) same
+          ∙ index-ring (slice_index m.words) (log_place m.layout m.reuse) m.layout.capacity
+          (length before) since place below));
+      other_length = λ other shown.
+          let many = ap length (front_off before (frame_words f) read shown) in
+          let some : 0 < length (frame_words f) = omega arith in
+          other (omega arith);
+      nothing = λ more shown.
+          let many = ap length shown in
+          let all = length-append before read in omega arith;
+      other_before = λ front long other shown.
+          other (front_same front before (frame_words f) read long shown);
+    }
+
 pub logs_refused : {E : Type 0} (X : Election E) (m : Machine E) (T : Trails) → LogsRefuse X m T
 logs_refused {E} X m T = record {
   other_words = λ other kept. other kept.by.stands;
@@ -85,6 +131,10 @@ logs_refused {E} X m T = record {
       none_within front rest f (floor_of m)
       (subst (λ fs. IsBoundary fs (floor_of m)) same kept.by.edge) past below;
   passed_ahead = λ r v at stays past kept. let low = kept.by.comes r v at stays in omega arith;
+  passed_otherwise = λ r v place at is stays other kept.
+      other (kept.by.passes r v place at is ∙ ap (λ b. cond b PASSED_ALL v.passed) stays);
+  left_unshown = λ r v place at is left other kept.
+      other (kept.by.passes r v place at is ∙ ap (λ b. cond b PASSED_ALL v.passed) left);
   dropped = λ s v order owners at spelled other kept.
       let one = spells_one m.layout.senders T.log kept.order order kept.owners owners
       kept.by.spelled spelled in

@@ -44,6 +44,7 @@ module _ {E : Type 0} (X : Election E) (P : Protocol E (Unit {0}) ℕ) (m : Mach
       spelled = spelled;
       edge = f.edge;
       comes = λ p v at stays. (f.reads p v at).3 stays;
+      passes = f.passes;
       takers = told;
       promises = f.promises;
       paged = paged_it X P m T s f;

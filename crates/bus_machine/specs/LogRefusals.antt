@@ -1,15 +1,18 @@
--- What is promised of no machine by what was published and what its cells show.
-use Rattle.std.specs.Prelude.{◌≡◌, ◌≢◌, ℕ, ◌+◌, ◌<◌, false, Some, List, ◌∷◌, ◌++◌, length, map}
-use Rattle.std.specs.Prelude.{slice_get, slice_index}
+-- What is promised of no machine by what was published and what its cells show; and with which
+-- cells a frame does not stand that has just been published.
+use Rattle.std.specs.Prelude.{◌≡◌, ◌≢◌, ℕ, ◌+◌, ◌%◌, ◌<◌, true, false, Some, List, ◌∷◌, ◌++◌}
+use Rattle.std.specs.Prelude.{length, map, slice_get, slice_index}
 use Rattle.bus_batch.specs.Frames.{Frame, Order, Spells, AreFrames, frame_words, log_words}
 use Rattle.bus_core.specs.Senders.{Sender}
 use Rattle.bus_deliverylog.specs.Orders.{of_sender}
 use Rattle.bus_deliverylog.specs.Receiving.{Receiving}
+use Rattle.bus_register.specs.declared.limits.TheConstants.{PASSED_ALL}
 use Rattle.bus_register.specs.declared.registers.SenderNo.{SenderNo}
 use Rattle.bus_tenure.specs.Core.{Election}
 use Rattle.bus_world.specs.Headline.{puts}
 use Rattle.bus_world.specs.Waiting.{waiting_at}
-use Rattle.bus_machine.specs.Machine.{Machine, Trails, ShowsLog, floor_of, log_of, log_place}
+use Rattle.bus_machine.specs.Machine.{Machine, Trails, ShowsLog, ShowsPublished, floor_of, log_of}
+use Rattle.bus_machine.specs.Machine.{log_place}
 use Rattle.bus_machine.specs.Promise.{IsPromised}
 
 pub record LogsRefuse {E : Type 0} (X : Election E) (m : Machine E) (T : Trails) : Type 0 where
@@ -29,6 +32,14 @@ pub record LogsRefuse {E : Type 0} (X : Election E) (m : Machine E) (T : Trails)
   -- hear may be lost: the passed places are ahead of it
   pub passed_ahead : (r : ℕ) (v : Receiving) → slice_get m.receivers r ≡ Some v → v.gone ≡ false
       → v.place < floor_of m → ¬ IsPromised X m T
+  -- its passed place shows another number than the place that it has passed
+  pub passed_otherwise : (r : ℕ) (v : Receiving) (place : ℕ) → slice_get m.receivers r ≡ Some v
+      → v.passed_at ≡ Some place → v.gone ≡ false → slice_index m.words place ≢ v.passed
+      → ¬ IsPromised X m T
+  -- it has left, and its passed place shows a place still, so that a floor could wait for it
+  pub left_unshown : (r : ℕ) (v : Receiving) (place : ℕ) → slice_get m.receivers r ≡ Some v
+      → v.passed_at ≡ Some place → v.gone ≡ true → slice_index m.words place ≢ PASSED_ALL
+      → ¬ IsPromised X m T
   -- a message was dropped or added: what its sender has put is not what was published of it, and
   -- then what waits
   pub dropped : (s : ℕ) (v : Sender E) (order : Order) (owners : List (ℕ × SenderNo))
@@ -39,3 +50,21 @@ pub record LogsRefuse {E : Type 0} (X : Election E) (m : Machine E) (T : Trails)
       → ¬ IsPromised X m T
   -- the length was stored before the words: the first word that stands is zero
   pub length_before_words : (rest : List ℕ) → log_of m ≡ 0 ∷ rest → ¬ IsPromised X m T
+
+-- No frame stands in its cells, behind what was published before:
+pub record PublishedRefuse {E : Type 0} (m : Machine E) (before : List ℕ) (f : Frame) :
+    Type 0 where
+  -- the length was stored over a cell that holds another word than the frame has there
+  pub other_word : (place : ℕ) → place < length (frame_words f)
+      → slice_index m.words
+      (log_place m.layout m.reuse + (length before + place) % m.layout.capacity)
+      ≢ slice_index (frame_words f) place
+      → ¬ ShowsPublished m before (before ++ frame_words f)
+  -- the length lacks the frame's last word, or counts a word more
+  pub other_length : slice_index m.words 0 ≢ length before + length (frame_words f)
+      → ¬ ShowsPublished m before (before ++ frame_words f)
+  -- the length was stored, and nothing was published
+  pub nothing : length before < slice_index m.words 0 → ¬ ShowsPublished m before before
+  -- what was published before has changed
+  pub other_before : (front : List ℕ) → length front ≡ length before → front ≢ before
+      → ¬ ShowsPublished m before (front ++ frame_words f)

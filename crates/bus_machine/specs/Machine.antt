@@ -5,6 +5,7 @@ use Rattle.std.specs.Prelude.{Some}
 use Rattle.std.specs.Prelude.{None, List, nat_lt}
 use Rattle.std.specs.Prelude.{[], ◌∷◌, ◌++◌, All, drop, length, slice_get, slice_index, slice_set}
 use Rattle.std.specs.Prelude.{replicate, if◌then◌else◌}
+use Rattle.bus_register.specs.declared.limits.TheConstants.{PASSED_ALL}
 use Rattle.bus_register.specs.declared.registers.Op.{Op}
 use Rattle.bus_register.specs.Words.{register}
 use Rattle.bus_batch.specs.Batches.{next_of, CanPut, CanClose}
@@ -91,6 +92,14 @@ log_of b =
 abbrev pub ShowsLog : {E : Type 0} → Machine E → List ℕ → Type 0
 ShowsLog b log = (slice_index b.words 0 ≡ length log) × (log_of b ≡ drop (floor_of b) log)
 
+-- all that was published since is read from its cells, which go on where what was published
+-- before ended
+abbrev pub ShowsPublished : {E : Type 0} → Machine E → List ℕ → List ℕ → Type 0
+ShowsPublished b before after =
+    after
+    ≡ before ++ words_in_ring (slice_index b.words) (log_place b.layout b.reuse) b.layout.capacity
+    (length before) (slice_index b.words 0 - length before)
+
 -- the words of the log below the length, where no word of the log is used again
 abbrev pub words_below : {E : Type 0} → Machine E → List ℕ
 words_below b =
@@ -106,6 +115,13 @@ FindsWords b log =
     (r : ℕ) (v : Receiving) → slice_get b.receivers r ≡ Some v → v.gone ≡ false
     → v.place < length log
     → slice_index b.words (v.log_at + v.place % v.log_words) ≡ slice_index log v.place
+
+-- a passed place shows the place that its receiver has passed, and 2^64 - 1 once that has left
+abbrev pub ShowsPassed : {E : Type 0} → Machine E → Type 0
+ShowsPassed b =
+    (r : ℕ) (v : Receiving) (place : ℕ) → slice_get b.receivers r ≡ Some v
+    → v.passed_at ≡ Some place
+    → slice_index b.words place ≡ (if v.gone then PASSED_ALL else v.passed)
 
 -- twice the tenure that is open, and one more while its page is out
 abbrev pub stage_of : {E : Type 0} → Machine E → ℕ

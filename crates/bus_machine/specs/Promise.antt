@@ -35,7 +35,7 @@ use Rattle.bus_world.specs.Waiting.{waiting_at}
 use Rattle.bus_world.specs.World.{Event, Put, Ask, Turn, Recv, Stop, Gone}
 use Rattle.bus_world.specs.declared.events.Answer.{Answer}
 use Rattle.bus_machine.specs.Machine.{Machine, Trails, base_of, Reached, trails_grown, owners_told}
-use Rattle.bus_machine.specs.Machine.{floor_of, log_place, ShowsLog, StandsBelow}
+use Rattle.bus_machine.specs.Machine.{floor_of, log_place, ShowsLog, ShowsPassed, StandsBelow}
 use Rattle.bus_machine.specs.Machine.{stage_of, going}
 use Rattle.bus_machine.specs.Machine.{words_of_frame}
 use Rattle.bus_machine.specs.Remembering.{Remembers}
@@ -200,6 +200,8 @@ pub record IsPromisedBy {E : Type 0} (X : Election E) (m : Machine E) (T : Trail
   -- and no receiver that has not left is still to hear a word before it
   pub comes : (r : ℕ) (v : Receiving) → slice_get m.receivers r ≡ Some v → v.gone ≡ false
       → floor_of m ≤ v.place
+  -- a receiver's passed place shows the place that it has passed, and 2^64 - 1 once it has left
+  pub passes : ShowsPassed m
   pub takers : TakersTold m.reuse m.owners T.actions
   pub promises : Promises (base_of m) T.actions T.heard order owners
   pub paged : IsPagedBy (stage_of m) (slice_index m.words 0) order.ended m.home

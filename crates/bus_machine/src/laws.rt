@@ -1,6 +1,7 @@
 //! What holds of the machine.
 
 ghost use Rattle.std.specs.Prelude.{◌≡◌, ℕ, List};
+ghost use Rattle.bus_batch.specs.Frames.{Frame};
 ghost use Rattle.bus_ownerbits.specs.Sizes.{election_bound};
 ghost use Rattle.bus_tenure.specs.Elections.{Elector, election_of, layout_with};
 ghost use Rattle.bus_world.specs.World.{IsLayout};
@@ -9,9 +10,9 @@ ghost use Rattle.bus_world.specs.Headline.{Action};
 ghost use Rattle.bus_world.specs.World.{Event};
 ghost use Rattle.bus_world.specs.declared.events.Answer.{Answer};
 ghost use Rattle.bus_machine.specs.Leaves.{LeavesAreForGood, LeaveRefuses};
-ghost use Rattle.bus_machine.specs.LogRefusals.{LogsRefuse};
+ghost use Rattle.bus_machine.specs.LogRefusals.{LogsRefuse, PublishedRefuse};
 ghost use Rattle.bus_machine.specs.Machine.{Machine, Trails, Reached, Happens, ShowsLog};
-ghost use Rattle.bus_machine.specs.Machine.{FindsWords, StandsBelow};
+ghost use Rattle.bus_machine.specs.Machine.{FindsWords, StandsBelow, ShowsPublished, trails_grown};
 ghost use Rattle.bus_machine.specs.Bounding.{AreBounded, PinsAreBounded};
 ghost use Rattle.bus_machine.specs.Promise.{IsPromised, HasRows, Follows};
 ghost use Rattle.bus_machine.specs.Promise.{actions_in};
@@ -72,6 +73,23 @@ pub fn history_stands<Q: Ratifier>()
         → HasRows machine.reuse → Reached X machine trails
         → ShowsLog machine trails.log × FindsWords machine trails.log
         × StandsBelow machine trails.log }
+{
+    election_is_lawful::<Q>();
+}
+
+/// And whatever happens to such a machine: what that publishes, if it publishes anything, stands in
+/// its cells just behind what was published before, also where no receiver is left for whom it has
+/// to stand.
+pub fn published_words_stand<Q: Ratifier>()
+    ensures { let X = election_of Q.Ratifier in
+        (senders rounds rows capacity passers : ℕ)
+        → IsLayout (layout_with Q.protocol senders rounds rows capacity passers)
+        → (old : Machine (Elector Q)) (trails : Trails)
+        → old.layout ≡ layout_with Q.protocol senders rounds rows capacity passers
+        → HasRows old.reuse → Reached X old trails
+        → (event : Event) (given : Answer) (new : Machine (Elector Q))
+        → Happens X old event given new
+        → ShowsPublished new trails.log (trails_grown X old event given trails).log }
 {
     election_is_lawful::<Q>();
 }
@@ -194,9 +212,15 @@ pub fn machines_refuse<Q: Ratifier>()
 /// Of no machine the promise holds whose cells show another log than was published, or, where no
 /// word of the log is used again, another word below the length than was published there, or one
 /// whose first word that stands is zero, or whose floor is within a frame, or past the place of a
-/// receiver that has not left. Nor of one in which what a sender has put is not what was published
-/// of it and then what waits.
+/// receiver that has not left; or in which the passed place of such a receiver shows another number
+/// than the place that it has passed, or that of one that has left another than 2^64 - 1. Nor of
+/// one in which what a sender has put is not what was published of it and then what waits. No frame
+/// stands in its cells behind what was published before where one of these holds another word than
+/// the frame has there, or the length lacks a word of it or counts one more, or what was published
+/// before has changed; nor does nothing with a length that counts more.
 pub fn logs_refuse<Q: Ratifier>()
-    ensures { let X = election_of Q.Ratifier in
+    ensures logs { let X = election_of Q.Ratifier in
         (machine : Machine (Elector Q)) (trails : Trails) → LogsRefuse X machine trails }
+    ensures published { (machine : Machine (Elector Q)) (before : List ℕ) (frame : Frame)
+        → PublishedRefuse machine before frame }
 {}

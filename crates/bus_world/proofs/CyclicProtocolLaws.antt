@@ -411,7 +411,7 @@ module _ {E : Type 0} (X : Election E) (P : Protocol E (Unit {0}) ℕ)
           (subst (λ w. AreFloors x rows w.words passing_begun y.receivers [] 0 0)
           (sym new.reclamation)
           (floors_new x rows (λ r. 0) (λ r. refl) y.receivers (λ r v e.
-          let n = new.receivers r v e in (n.passed_is, new.many r v e, n.unpassed))));
+          let n = new.receivers r v e in (n.passed_is, new.many r v e, n.unpassed, n.stays))));
       stored = record {
         few = omega arith;
         low = omega arith;
@@ -585,6 +585,9 @@ module _ {E : Type 0} (X : Election E) (P : Protocol E (Unit {0}) ℕ)
           };
           floor_home = h.stored.floor_home;
           floor_held = h.stored.floor_held;
+          waits = λ r v at stays.
+              let its = h.floors.each r v at in
+              let behind = its.behind stays in let past = its.past in omega arith;
           finds = λ r v at stays below.
               let its = h.floors.each r v at in
               stands v.place (let a = its.behind stays in let b = its.past in omega arith) below;

@@ -147,6 +147,7 @@ module _ {E : Type 0} (X : Election E) (P : Protocol E (Unit {0}) ℕ)
             past = omega arith;
             behind = λ s. omega arith;
             shows = λ s l. put_here (passed_place x rows r) v.place y.reclamation.words;
+            left = λ s l. absurd (true≢false (sym s ∙ stays));
           }) hears
 
       -- it loads a word
@@ -171,6 +172,7 @@ module _ {E : Type 0} (X : Election E) (P : Protocol E (Unit {0}) ℕ)
             behind = λ s. subst (λ n. k.floor ≤ n) (sym passed)
                 (its.behind (sym step.keeps.4 ∙ s));
             shows = λ s l. its.shows (sym step.keeps.4 ∙ s) l ∙ sym passed;
+            left = λ s l. its.left (sym step.keeps.4 ∙ s) l;
           } hears)
 
       pub turn_kept : RecvDoes y.reclamation.words v answer next → HasHeard (receiving_op v) next
@@ -220,6 +222,7 @@ module _ {E : Type 0} (X : Election E) (P : Protocol E (Unit {0}) ℕ)
             past = its.past;
             behind = λ s. absurd (true≢false s);
             shows = λ s l. absurd (true≢false s);
+            left = λ s l. put_here (passed_place x rows r) PASSED_ALL y.reclamation.words;
           } hears)
       | inr past ↦ subst (λ o. HasHeard (leaving_by o) (with_leave v))
           (sym (its.at
@@ -230,6 +233,7 @@ module _ {E : Type 0} (X : Election E) (P : Protocol E (Unit {0}) ℕ)
             past = its.past;
             behind = λ s. absurd (true≢false s);
             shows = λ s l. absurd (true≢false s);
+            left = λ s l. absurd (let a = past.1 in omega arith);
           } hears)
     ] where
       few : V 0 < NUMBERS

@@ -115,7 +115,7 @@ module _ (x : Layout) (rows : ℕ) where
       → (receivers : ℕ → Option Receiving)
       → ((r : ℕ) (v : Receiving) → receivers r ≡ Some v
       → (v.passed_at ≡ passed_of x rows r) × ((x.passers ≡ 0) ⊎ (r < x.passers))
-      × (v.passed ≡ 0))
+      × (v.passed ≡ 0) × (v.gone ≡ false))
       → AreFloors x rows words passing_begun receivers [] 0 0
   floors_new words zeros receivers new = record {
     low = omega arith;
@@ -133,6 +133,7 @@ module _ (x : Layout) (rows : ℕ) where
       past = omega arith;
       behind = λ stays. omega arith;
       shows = λ stays l. zeros (passed_place x rows r) ∙ sym n.2;
+      left = λ gone l. absurd (true≢false (sym gone ∙ n.3));
     };
   }
 
@@ -159,6 +160,7 @@ module _ (x : Layout) (rows : ℕ) where
         past = p.past;
         behind = p.behind;
         shows = λ stays l. same r l ∙ p.shows stays l;
+        left = λ gone l. same r l ∙ p.left gone l;
       };
     }
 
@@ -305,6 +307,7 @@ module _ (x : Layout) (rows : ℕ) where
               | inr one ↦ subst (λ n. risen ≤ n) (p.shows stays one) (behind_risen r one)
             ];
             shows = p.shows;
+            left = p.left;
           };
         },
       )
@@ -386,6 +389,7 @@ module _ (x : Layout) (rows : ℕ) where
                 past = p.past;
                 behind = p.behind;
                 shows = λ stays l. beside q ne ∙ p.shows stays l;
+                left = λ gone l. beside q ne ∙ p.left gone l;
               }
             ];
           }

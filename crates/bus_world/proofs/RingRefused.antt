@@ -62,6 +62,24 @@ module _ {E : Type 0} (X : Election E) (P : Protocol E (Unit {0}) ℕ) (x : Layo
   refuses = record {
     overwritten = λ r v at stays below other led.
         other ((kept led).by.finds r v at stays below);
+    lost_behind = λ r v place at stays from below other led.
+        let k = kept led in
+        let waits = k.by.waits r v at stays in
+        other (k.by.ring.stands place (omega arith) below);
+    lost_behind_the_floor = λ page place at from below other led.
+        let k = kept led in
+        let same = k.by.floor_home page at in
+        other (k.by.ring.stands place (omega arith) below);
+    floor_past_a_receiver = λ r v page at stays home high led.
+        let k = kept led in
+        let a = k.by.waits r v at stays in
+        let b = k.by.floor_home page home in absurd (omega arith);
+    held_floor_past_a_receiver = λ r p t v page stored published c at stays there is high led.
+        let k = kept led in
+        let a = k.by.waits r v at stays in
+        let b = k.by.floor_held p t page stored published c there is in absurd (omega arith);
+    length_short_of_the_log = λ short led.
+        let a = (kept led).by.ring.long in absurd (omega arith);
     length_past_the_log = λ longer led.
         let a = (kept led).by.ring.long in absurd (omega arith);
     floor_past_the_length = λ page at high led.

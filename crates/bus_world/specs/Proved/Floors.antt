@@ -1,7 +1,7 @@
 -- Passed places and the floor of a log whose words are used again: all its words stand from the
 -- floor on, and no receiver has still to hear a word before it.
-use Rattle.std.specs.Prelude.{◌≡◌, ◌⊎◌, ℕ, ◌+◌, ◌*◌, ◌<◌, ◌≤◌, false, Option, Some, None, List}
-use Rattle.std.specs.Prelude.{◌++◌, ◌%◌, length, slice_index, nat_lt, if◌then◌else◌}
+use Rattle.std.specs.Prelude.{◌≡◌, ◌⊎◌, ℕ, ◌+◌, ◌*◌, ◌<◌, ◌≤◌, true, false, Option, Some, None}
+use Rattle.std.specs.Prelude.{List, ◌++◌, ◌%◌, length, slice_index, nat_lt, if◌then◌else◌}
 use Rattle.bus_register.specs.declared.limits.TheConstants.{PASSED_ALL}
 use Rattle.bus_batch.specs.Frames.{Frame, log_words}
 use Rattle.bus_core.specs.Reusing.Participants.{passed_from, log_from}
@@ -40,7 +40,8 @@ pub record ShowsRing (x : Layout) (rows : ℕ) (words : ℕ → ℕ) (frames : L
       ⊎ (words (passed_place x rows r) ≡ PASSED_ALL)
 
 -- receiver r stores in its own passed place, where there is one, and until it has left for good it
--- shows there how far it said that it has come: past the floor, and not past its place
+-- shows there how far it said that it has come: past the floor, and not past its place; and then
+-- 2^64 - 1
 pub record IsPasser (x : Layout) (rows : ℕ) (words : ℕ → ℕ) (floor r : ℕ) (v : Receiving) :
     Type 0 where
   pub at : v.passed_at ≡ passed_of x rows r
@@ -48,6 +49,7 @@ pub record IsPasser (x : Layout) (rows : ℕ) (words : ℕ → ℕ) (floor r : �
   pub past : v.passed ≤ v.place
   pub behind : v.gone ≡ false → floor ≤ v.passed
   pub shows : v.gone ≡ false → r < x.passers → words (passed_place x rows r) ≡ v.passed
+  pub left : v.gone ≡ true → r < x.passers → words (passed_place x rows r) ≡ PASSED_ALL
 
 -- Of these words, with what the holder of the page has loaded of the passed places, and of these
 -- frames, which have so many words: the floor lies before what each passed place shows, and before

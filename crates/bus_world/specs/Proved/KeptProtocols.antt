@@ -53,7 +53,9 @@ pub record KeepsPromises {E : Type 0} (X : Election E) (x : Layout) (rows : ℕ)
   pub floor_home : (page : Page) → y.home ≡ Some page → page.floor ≡ floor
   pub floor_held : (p t : ℕ) (page : Page) (stored : ℕ) (published : Bool) (c : Core E)
       → y.senders p ≡ Some c → c.phase ≡ Holding t page stored published → page.floor ≡ floor
-  -- a receiver that has not left finds at its place the word that was published there
+  -- which is not past the place of a receiver that has not left
+  pub waits : (r : ℕ) (v : Receiving) → y.receivers r ≡ Some v → v.gone ≡ false → floor ≤ v.place
+  -- such a receiver finds at its place the word that was published there
   pub finds : (r : ℕ) (v : Receiving) → y.receivers r ≡ Some v → v.gone ≡ false
       → v.place < length L
       → y.reclamation.words (log_from x rows + v.place % x.capacity) ≡ slice_index L v.place

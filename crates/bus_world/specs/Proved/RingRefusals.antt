@@ -1,6 +1,6 @@
 -- Buses whose rows are used again to which nothing leads: their words have lost what somebody is
 -- still to hear, or would lose it.
-use Rattle.std.specs.Prelude.{◌≡◌, ◌≢◌, ℕ, ◌+◌, ◌%◌, ◌<◌, Bool, false, Some, List, ◌∷◌, ◌++◌}
+use Rattle.std.specs.Prelude.{◌≡◌, ◌≢◌, ℕ, ◌+◌, ◌%◌, ◌<◌, ◌≤◌, Bool, false, Some, List, ◌∷◌, ◌++◌}
 use Rattle.std.specs.Prelude.{length, slice_index}
 use Rattle.bus_batch.specs.Frames.{Frame, AreFrames, frame_words, log_words}
 use Rattle.bus_deliverylog.specs.Receiving.{Receiving}
@@ -22,6 +22,25 @@ pub record RingRefuses {E : Type 0} (X : Election E) (x : Layout) (rows : ℕ)
       → v.place < length L
       → y.reclamation.words (log_from x rows + v.place % x.capacity) ≢ slice_index L v.place
       → ¬ Led X x rows y T D H L
+  -- behind it, what such a receiver has still to hear is lost: the cell of a word has another one
+  pub lost_behind : (r : ℕ) (v : Receiving) (place : ℕ) → y.receivers r ≡ Some v
+      → v.gone ≡ false → v.place ≤ place → place < length L
+      → y.reclamation.words (log_from x rows + place % x.capacity) ≢ slice_index L place
+      → ¬ Led X x rows y T D H L
+  -- likewise from the floor of a page on, whoever is to hear it
+  pub lost_behind_the_floor : (page : Page) (place : ℕ) → y.home ≡ Some page
+      → page.floor ≤ place → place < length L
+      → y.reclamation.words (log_from x rows + place % x.capacity) ≢ slice_index L place
+      → ¬ Led X x rows y T D H L
+  -- the floor of a page is past the place of a receiver that has not left, at home or out
+  pub floor_past_a_receiver : (r : ℕ) (v : Receiving) (page : Page) → y.receivers r ≡ Some v
+      → v.gone ≡ false → y.home ≡ Some page → v.place < page.floor → ¬ Led X x rows y T D H L
+  pub held_floor_past_a_receiver : (r p t : ℕ) (v : Receiving) (page : Page) (stored : ℕ)
+      (published : Bool) (c : Core E) → y.receivers r ≡ Some v → v.gone ≡ false
+      → y.senders p ≡ Some c → c.phase ≡ Holding t page stored published
+      → v.place < page.floor → ¬ Led X x rows y T D H L
+  -- the length falls short of what was published
+  pub length_short_of_the_log : y.reclamation.words 0 < length L → ¬ Led X x rows y T D H L
   -- the length is past what was published
   pub length_past_the_log : length L < y.reclamation.words 0 → ¬ Led X x rows y T D H L
   -- the floor of a page is past the length, at home or out
