@@ -1,7 +1,7 @@
 """The interpreter of scripts that a page for playing has, beside the program, for bench/pages."""
 
 import concurrent.futures, json, queue, random, subprocess
-from random_scripts import cyclic_script, shaped_script
+from random_scripts import cyclic_script, ring_script, shaped_script
 
 # Node is told expressions, a line each, and gives their values.
 LOOP = """
@@ -50,6 +50,10 @@ MUTANTS = [
     ("if (s.tenure !== null) return 'Busy';\n    if (s.batch", "if (s.batch"),
     ("s.value = total > 0 ? 1 : 0;", "s.value = total >= 0 ? 1 : 0;"),
     ("message.length > 2 * 56", "message.length > 2 * 57"),
+    ("s.lowest = Math.min(s.lowest, Number(found));", "s.lowest = Number(found);"),
+    ("process.place > process.passed", "process.place > process.passed + 2"),
+    ("isOpen && s.loaded < bus.receivers.length", "isOpen && s.loaded + 1 < bus.receivers.length"),
+    ("'log ' + r.place % bus.log", "'log ' + r.place"),
 ]
 
 # A sender sees tenure 0 open, falls asleep, and shows itself in it once tenure 2 is held: whoever clears a row then passes it by.
@@ -102,10 +106,10 @@ def broken(script, dice):
 
 
 def batch_of(seed, count):
-    """Scripts of both kinds, behind two fixed ones; the fourth of five as it is, and the fifth broken; of the others refused lines go."""
+    """Scripts of all kinds, behind two fixed ones; the fourth of five as it is, and the fifth broken; of the others refused lines go."""
     dice, batch = random.Random(seed), [[LATE_PRESENCE, True], [TIED_COIN, True]]
     for number in range(count - len(batch)):
-        script = (cyclic_script if number % 2 else shaped_script)(dice)
+        script = (shaped_script, cyclic_script, ring_script)[number % 3](dice)
         if number % 5 == 4:
             script = broken(script, dice)
         batch.append([script.decode("latin1"), number % 5 > 2])

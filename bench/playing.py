@@ -47,17 +47,18 @@ function clickAny(random) {
         clickTurn(pick(random, turnsShown()));
     } else if (what < .9) {
         choose('whom', Math.floor(random() * page.shape.senders));
+        choose('which', Math.floor(random() * page.shape.receivers));
         choose('message', pick(random, ['', 'a', 'hello', 'eight or more', 'x'.repeat(57), '\\u00e4']));
-        press(pick(random, ['put', 'put', 'put', 'put', 'put', 'put', 'close', 'leave', 'stop']));
+        press(pick(random, ['put', 'put', 'put', 'put', 'put', 'put', 'close', 'leave', 'stop', 'gone']));
     } else {
         go(Math.floor(random() * (total + 1)));
     }
 }
 function sequence(seed) {
     const random = dice(seed);
-    const isCyclic = random() < .5;
+    const kind = pick(random, ['shape', 'cycle', 'ring']);
     begin_bus([1 + Math.floor(random() * 4), 1 + Math.floor(random() * 2), 1 + Math.floor(random() * 3),
-        2 + Math.floor(random() * 4), 64], isCyclic ? 'cycle' : 'shape');
+        2 + Math.floor(random() * 4), 64], kind);
     const [clicks, busy] = [3 + Math.floor(random() * 20), random() < .5];
     for (let s = 0; busy && s < page.shape.senders; s += 1) { choose('whom', s); choose('message', 's' + s); press('put'); }
     for (let click = 0; click < clicks; click += 1) clickAny(random);
@@ -147,7 +148,7 @@ class Play:
         if part[0] == "recv":
             return f"choose('times', {part[2]}); clickTurn(document.querySelector(\"#turns [data-who='receiver {part[1]}']\"))"
         message = f"choose('message', {json.dumps(bytes.fromhex(part[2].replace('-', '')).decode())}); " if part[0] == "put" else ""
-        return f"choose('whom', {part[1]}); {message}press('{part[0]}')"
+        return f"choose('{'which' if part[0] == 'gone' else 'whom'}', {part[1]}); {message}press('{part[0]}')"
 
     # ---- Sequences of clicks at random.
     def sequences(self, tabs, count):
@@ -308,8 +309,9 @@ class Play:
             3: ["turn 0 0 99", "stop 0", "turn 1 0 99", "turn 1 0 99", "turn 1 0 1", "recv 0 1"],
             4: ["turn 0 0 99", "turn 1 0 99"],
             5: ["turn 0 0 99", "turn 0 0 1", "turn 0 0 99", "turn 1 0 99", "turn 0 0 99"],
+            6: ["turn 0 0 99", "recv 1 99", "turn 0 0 99", "turn 0 0 99", "put 0 61", "gone 1", "turn 0 0 99", "turn 0 0 99"],
         }
-        ends = {1: "WriteFirst\trow 0 bit 0 round 2 input 0", 2: None, 3: "waiting", 4: "lost 0 0", 5: "delivered 1 1 1"}
+        ends = {1: "WriteFirst\trow 0 bit 0 round 2 input 0", 2: None, 3: "waiting", 4: "lost 0 0", 5: "delivered 1 1 1", 6: "delivered 3 2 2"}
         for place, way in ways.items():
             tab.do(f"choose('opening', '{place}'); at('opening').dispatchEvent(new Event('change')); 0")
             for line in way:

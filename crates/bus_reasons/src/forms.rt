@@ -42,7 +42,8 @@ pub fn other_input(first: &[u8]) -> Option<Reason<'static>> {
 fn is_of_replay(first: &[u8]) -> bool {
     matches!(
         str::from_utf8(first),
-        Ok("shape" | "cycle" | "put" | "close" | "turn" | "recv" | "stop" | "leave" | "gone")
+        Ok("shape" | "cycle" | "ring" | "put" | "close" | "turn" | "recv" | "stop")
+            | Ok("leave" | "gone")
     )
 }
 

@@ -11,7 +11,7 @@ use bus_script::{Lines, Words};
 
 /// The first line of a script.
 const FIRST: Reason<'static> = Reason::Note(
-    "the first line is 'shape N M R T L' or 'cycle N M R T L', with five numbers",
+    "the first line is 'shape N M R T L', 'cycle' or 'ring' in its place, with five numbers",
 );
 
 /// Turns that one line asks for, at most.
@@ -47,6 +47,7 @@ fn first_reason(line: &[u8]) -> Option<Reason<'_>> {
             numbers_of(words, 5, "shape N M R T L").or(sizes_reason(line, 1, MOST_ROWS as u64))
         }
         Ok("cycle") => numbers_of(words, 5, "cycle N M R T L").or(sizes_reason(line, 2, 8)),
+        Ok("ring") => numbers_of(words, 5, "ring N M R T L").or(sizes_reason(line, 2, 8)),
         Ok("put" | "close" | "turn" | "recv" | "stop" | "leave" | "gone") => Some(FIRST),
         _ => Some(other_input(first).unwrap_or(FIRST)),
     }
@@ -141,8 +142,8 @@ fn line_reason(line: &[u8]) -> Option<Reason<'_>> {
         Ok("gone") => numbers_of(words, 1, "gone M"),
         Ok("turn") => numbers_of(words, 3, "turn S W K").or(turn_reason(line)),
         Ok("recv") => numbers_of(words, 2, "recv M K").or(times_reason(line, 2)),
-        Ok("shape" | "cycle") => Some(Reason::Note(
-            "'shape' and 'cycle' stand in the first line alone",
+        Ok("shape" | "cycle" | "ring") => Some(Reason::Note(
+            "'shape', 'cycle' and 'ring' stand in the first line alone",
         )),
         _ => Some(other_input(first).unwrap_or(Reason::Wrong(Word(first), LINES))),
     }

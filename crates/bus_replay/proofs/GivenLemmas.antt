@@ -1,57 +1,48 @@
 -- The lines of what receivers were given, one by one.
-use Rattle.std.proofs.Common.{◌≡◌, ℕ, zero, suc, ◌+◌, ◌<◌, ◌≤◌, Some, List, [], ◌∷◌, ◌++◌, map}
-use Rattle.std.proofs.Common.{length, drop, slice_get, sym, ap, ◌∙◌, append_assoc, inl, inr, arith}
+use Rattle.std.proofs.Common.{◌≡◌, ℕ, suc, ◌+◌, ◌<◌, Some, List, [], ◌∷◌, ◌++◌, map, length}
+use Rattle.std.proofs.Common.{slice_get, refl, ap, ◌∙◌, subst, arith}
 use Rattle.std.specs.Prelude.{flat_map}
 use Rattle.std.specs.List.{enumerate_from, range_with_len}
-use Rattle.std.proofs.lemmas.Option.{same_Some, slice_get_cases}
-use Rattle.std.proofs.lemmas.List.{append-nil, drop_all, drop_more}
-use Rattle.std.proofs.lemmas.List.FromFn.{length-map-range_with_len}
-use Rattle.bus_batch.specs.Frames.{Order}
-use Rattle.bus_replay.specs.Text.{given_line}
+use Rattle.std.proofs.lemmas.Option.{same_Some}
+use Rattle.bus_deliverylog.specs.declared.receiving.RecvTurn.{RecvTurn}
+use Rattle.bus_world.specs.Headline.{order_given}
+use Rattle.bus_replay.specs.Histories.{given_of}
+use Rattle.bus_replay.specs.Text.{count_line, given_line}
+use Rattle.bus_replay.specs.declared.histories.Given.{Given}
 
--- an element, and those behind it
-found : {A : Type 0} (xs : List A) (r : ℕ) → r < length xs
-    → (x : A) × (slice_get xs r ≡ Some x) × (drop r xs ≡ x ∷ drop (r + 1) xs)
-found xs r lt = elim (slice_get_cases xs r).1 [
-  | inl h ↦ (h.0, h.2, drop_more xs r h.0 h.1 ∙ ap (λ y. y ∷ drop (r + 1) xs) h.3)
-  | inr h ↦ absurd (omega arith)
-]
+-- the lines of these counts, from this receiver on
+abbrev pub counts_from : ℕ → List Given → List ℕ
+counts_from k given = flat_map (λ g. count_line g.0 g.1.items g.1.ended) (enumerate_from k given)
 
-abbrev pub lines_from : ℕ → List Order → List ℕ
-lines_from r given = flat_map (λ g. given_line g.0 g.1) (enumerate_from r given)
+-- counts of answers are told as the orders that these give
+told_from : (heard : ℕ → List RecvTurn) (given : List Given) (k : ℕ)
+    → ((r : ℕ) → r < length given → slice_get given r ≡ Some (given_of (heard (k + r))))
+    → counts_from k given
+    ≡ flat_map (λ g. given_line g.0 g.1)
+    (enumerate_from k (map (λ r. order_given (heard r)) (range_with_len k (length given))))
+told_from heard [] k each = refl
+told_from heard (g ∷ given) k each =
+    let place : k + 0 ≡ k = omega arith in
+    let here : 0 < length (g ∷ given) = omega arith in
+    let first : g ≡ given_of (heard k) =
+    same_Some _ _ (each 0 here) ∙ ap (λ (r : ℕ). given_of (heard r)) place in
+    let later = told_from heard given (k + 1) (λ r lt.
+    let next : k + suc r ≡ k + 1 + r = omega arith in
+    let within : suc r < length (g ∷ given) = omega arith in
+    each (suc r) within ∙ ap (λ (q : ℕ). Some (given_of (heard q))) next) in
+    ap (λ (y : Given). count_line k y.items y.ended ++ counts_from (k + 1) given) first
+    ∙ ap (λ (l : List ℕ). count_line k (given_of (heard k)).items (given_of (heard k)).ended ++ l)
+    later
 
-numbered_at : (f : ℕ → Order) (k n r : ℕ) (q : Order)
-    → slice_get (map f (range_with_len k n)) r ≡ Some q → q ≡ f (k + r)
-numbered_at f k zero r q e = absurd cc
-numbered_at f k (suc n) zero q e =
-    sym (same_Some _ _ e) ∙ ap f (let z : k ≡ k + 0 = omega arith in z)
-numbered_at f k (suc n) (suc r) q e =
-    numbered_at f (k + 1) n r q e ∙ ap f (let z : k + 1 + r ≡ k + suc r = omega arith in z)
-
--- one more receiver has its line
-pub one_given : (f : ℕ → Order) (receivers r : ℕ) (order : Order) (old new all : List ℕ)
-    → r < receivers → order ≡ f r → new ≡ old ++ given_line r order
-    → old ++ lines_from r (drop r (map f (range_with_len 0 receivers))) ≡ all
-    → new ++ lines_from (r + 1) (drop (r + 1) (map f (range_with_len 0 receivers))) ≡ all
-one_given f receivers r order old new all lt is text so_far =
-    let given : List Order = map f (range_with_len 0 receivers) in
-    let many = length-map-range_with_len f 0 receivers in
-    let here = found (map f (range_with_len 0 receivers)) r (omega arith) in
-    let same : order ≡ here.0 =
-    is ∙ ap f (let z : r ≡ 0 + r = omega arith in z)
-    ∙ sym (numbered_at f 0 receivers r here.0 here.1) in
-    ap (λ (l : List ℕ). l ++ lines_from (r + 1) (drop (r + 1) given))
-    (text ∙ ap (λ o. old ++ given_line r o) same)
-    ∙ append_assoc old (given_line r here.0) (lines_from (r + 1) (drop (r + 1) given))
-    ∙ ap (λ l. old ++ lines_from r l) (sym here.2) ∙ so_far
-
--- after the last receiver no line is left
-pub all_given : (f : ℕ → Order) (receivers r : ℕ) (text old : List ℕ) → receivers ≤ r
-    → text ++ lines_from r (drop r (map f (range_with_len 0 receivers)))
-    ≡ old ++ lines_from 0 (map f (range_with_len 0 receivers))
-    → text ≡ old ++ lines_from 0 (map f (range_with_len 0 receivers))
-all_given f receivers r text old past so_far =
-    let many = length-map-range_with_len f 0 receivers in
-    let none : drop r (map f (range_with_len 0 receivers)) ≡ [] =
-    drop_all r (map f (range_with_len 0 receivers)) (omega arith) in
-    sym (append-nil text) ∙ ap (λ z. text ++ lines_from r z) (sym none) ∙ so_far
+pub counts_told : (heard : ℕ → List RecvTurn) (given : List Given) (receivers : ℕ)
+    → length given ≡ receivers
+    → ((r : ℕ) → r < receivers → slice_get given r ≡ Some (given_of (heard r)))
+    → counts_from 0 given
+    ≡ flat_map (λ g. given_line g.0 g.1)
+    (enumerate_from 0 (map (λ r. order_given (heard r)) (range_with_len 0 receivers)))
+counts_told heard given receivers many each =
+    told_from heard given 0 (λ r lt.
+    let same : r ≡ 0 + r = omega arith in
+    each r (omega arith) ∙ ap (λ (q : ℕ). Some (given_of (heard q))) same)
+    ∙ ap (λ (n : ℕ). flat_map (λ g. given_line g.0 g.1)
+    (enumerate_from 0 (map (λ r. order_given (heard r)) (range_with_len 0 n)))) many

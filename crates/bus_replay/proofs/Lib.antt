@@ -3,4 +3,5 @@ pub mod RepeatLemmas
 pub mod PlayLemmas
 pub mod GivenLemmas
 pub mod EntryLemmas
+pub mod HistoryLemmas
 pub mod SizeLemmas

@@ -18,10 +18,13 @@ use Rattle.bus_world.specs.World.{Event, Put, Ask, Turn, Recv, Stop, Gone, is_se
 use Rattle.bus_world.specs.declared.events.Answer.{Answer}
 use Rattle.bus_world.specs.declared.events.Answer.TheVariants as answer
 use Rattle.bus_world.specs.declared.events.StepFault.{StepFault}
-use Rattle.bus_machine.specs.Machine.{Machine, Happens, has_stopped}
+use Rattle.bus_machine.specs.Machine.{Machine, Trails, Happens, has_stopped, trails_grown}
 use Rattle.bus_machine.specs.Playing.{Answers, Refused, SenderRefused}
 use Rattle.bus_replay.specs.GoingOn.{goes_on}
-use Rattle.bus_replay.specs.Answers.{Repeats}
+use Rattle.bus_replay.specs.Answers.{Repeats, repeat_trails}
+use Rattle.bus_replay.specs.Histories.{Kept, Holds, kept_after}
+use Rattle.bus_replay.specs.Told.{IsRepeated}
+use Rattle.bus_replay.proofs.HistoryLemmas.{PublishedStands, holds_on}
 
 -- ---- what is not refused
 stops_so : (a b : Answer) → a ≡ b → goes_on b ≡ false → goes_on a ≡ true → ⊥
@@ -72,38 +75,72 @@ not_refused X old new (Gone r) a why h goes refused = stops_so a answer.Gone h.a
 
 -- ---- an event again and again
 module _ {S : Type 0} (X : Election (Elector S)) (P : Protocol S Bool Verdict) (e : Event)
-    (old : Machine (Elector S)) (all : ℕ) where
-  -- the last answer so far, from the bus before it, and how what is behind it goes on from the
-  -- first
-  pub record Repeated (left : ℕ) (last : Answer) (new : Machine (Elector S)) : Type 0 where
+    (old : Machine (Elector S)) (h : Kept) (all : ℕ) where
+  -- The last answer so far, from the bus before it, and how what is behind it goes on from the
+  -- first; what was added to trails before that answer; and the history has all of it.
+  pub record Repeated (left : ℕ) (last : Answer) (new : Machine (Elector S)) (kept : Kept) :
+      Type 0 where
     pub before : Machine (Elector S)
     pub answered : Answers X P before e last new
+    pub grown : Trails → Trails
     pub from_first : (final : Answer) (end : Machine (Elector S))
-        → Repeats X P before e left final end → Repeats X P old e all final end
+        → (run : Repeats X P before e left final end)
+        → (whole : Repeats X P old e all final end)
+        × ((T : Trails) → repeat_trails X P old e all final end whole T
+        ≡ repeat_trails X P before e left final end run (grown T))
+    pub holds : (T : Trails) → Holds X P old h T
+        → Holds X P new kept (trails_grown X before e last (grown T))
 
-  pub once : (last : Answer) (new : Machine (Elector S)) → Answers X P old e last new
-      → Repeated all last new
-  once last new answered = record {
-    before = old;
-    answered = answered;
-    from_first = λ final end r. r;
-  }
+  module _ (law : PublishedStands X P) where
+    pub once : (last : Answer) (new : Machine (Elector S)) (kept : Kept)
+        → Answers X P old e last new → kept ≡ kept_after new.words e last h
+        → Repeated all last new kept
+    once last new kept answered is = record {
+      before = old;
+      answered = answered;
+      grown = λ T. T;
+      from_first = λ final end r. (r, λ T. refl);
+      holds = λ T k.
+          subst (λ (y : Kept). Holds X P new y (trails_grown X old e last T)) (sym is)
+          (holds_on X P old new law h T e last answered.happens k);
+    }
 
-  pub once_more : (left : ℕ) (first last : Answer) (mid new : Machine (Elector S))
-      → Repeated left first mid → 0 < left
-      → goes_on first ≡ true → Answers X P mid e last new → Repeated (left - 1) last new
-  once_more zero first last mid new h some goes answered = absurd (omega arith)
-  once_more (suc left) first last mid new h some goes answered =
-      let less : left ≡ suc left - 1 = omega arith in
-      subst (λ k. Repeated k last new) less record {
-        before = mid;
-        answered = answered;
-        from_first = λ final end r. h.from_first final end (inr (mid, first, h.answered, goes, r));
-      }
+    pub once_more : (left : ℕ) (first last : Answer) (mid new : Machine (Elector S))
+        (kept kept' : Kept) → Repeated left first mid kept → 0 < left → goes_on first ≡ true
+        → Answers X P mid e last new → kept' ≡ kept_after new.words e last kept
+        → Repeated (left - 1) last new kept'
+    once_more zero first last mid new kept kept' h some goes answered is = absurd (omega arith)
+    once_more (suc left) first last mid new kept kept' h some goes answered is =
+        let less : left ≡ suc left - 1 = omega arith in
+        subst (λ k. Repeated k last new kept') less record {
+          before = mid;
+          answered = answered;
+          grown = λ T. trails_grown X h.before e first (h.grown T);
+          from_first = λ final end r.
+              h.from_first final end (inr (mid, first, h.answered, goes, r));
+          holds = λ T k.
+              subst (λ (y : Kept). Holds X P new y
+              (trails_grown X mid e last (trails_grown X h.before e first (h.grown T)))) (sym is)
+              (holds_on X P mid new law kept (trails_grown X h.before e first (h.grown T)) e last
+              answered.happens (h.holds T k));
+        }
 
-  pub at_last : (left : ℕ) (last : Answer) (new : Machine (Elector S)) → Repeated left last new
-      → (left ≡ 0) ⊎ (goes_on last ≡ false)
-      → Repeats X P old e all last new
-  at_last zero last new h stops = h.from_first last new h.answered
-  at_last (suc left) last new h (inl none) = absurd (omega arith)
-  at_last (suc left) last new h (inr stops) = h.from_first last new (inl (h.answered, stops))
+  -- the last one, from the bus before it
+  ended : (left : ℕ) (last : Answer) (new : Machine (Elector S)) (kept : Kept)
+      (k : Repeated left last new kept) (run : Repeats X P k.before e left last new)
+      → ((T : Trails) → repeat_trails X P k.before e left last new run T
+      ≡ trails_grown X k.before e last T)
+      → IsRepeated X P old h e all last new kept
+  ended left last new kept k run same =
+      let whole = k.from_first last new run in (
+        whole.0,
+        λ T hold. subst (Holds X P new kept) (sym (whole.1 T ∙ same (k.grown T))) (k.holds T hold),
+      )
+
+  pub at_last : (left : ℕ) (last : Answer) (new : Machine (Elector S)) (kept : Kept)
+      → Repeated left last new kept → (left ≡ 0) ⊎ (goes_on last ≡ false)
+      → IsRepeated X P old h e all last new kept
+  at_last zero last new kept k stops = ended zero last new kept k k.answered (λ T. refl)
+  at_last (suc left) last new kept k (inl none) = absurd (omega arith)
+  at_last (suc left) last new kept k (inr stops) =
+      ended (suc left) last new kept k (inl (k.answered, stops)) (λ T. refl)

@@ -2,6 +2,7 @@
 -- what they print.
 use Rattle.std.specs.Prelude.{◌≡◌, ◌≢◌, ◌-◌, ℕ, zero, suc, Bool, true, false, ◌⊎◌, Option, Some}
 use Rattle.std.specs.Prelude.{None, List, [], ◌∷◌, ◌++◌, length, map, codes}
+use mathlib.Core.Logic.{inl, inr}
 use Rattle.std.specs.List.{range_with_len}
 use Rattle.bus_register.specs.declared.registers.SenderNo.{SenderNo}
 use Rattle.bus_register.specs.Protocol.{Protocol}
@@ -16,8 +17,9 @@ use Rattle.bus_world.specs.declared.events.StepFault.{StepFault}
 use Rattle.bus_world.specs.declared.shapes.MakeFault.{MakeFault}
 use Rattle.bus_world.specs.declared.shapes.MakeFault.TheVariants as make
 use Rattle.bus_machine.specs.Machine.{Machine, Trails, Reached as ReachedBy, ShowsLog}
+use Rattle.bus_machine.specs.Machine.{no_machine_trails, trails_grown}
 use Rattle.bus_world.specs.World.{no_bases}
-use Rattle.bus_machine.specs.Playing.{IsMade, MakeRefused, Answers, Refused as RefusedBy}
+use Rattle.bus_machine.specs.Playing.{IsMadeWith, MakeRefused, Answers, Refused as RefusedBy}
 use Rattle.bus_machine.specs.Promise.{TakersTold}
 use Rattle.bus_script.specs.declared.line_numbers.LineNumber.TheVariants.{AtLine, AtEnd}
 use Rattle.bus_script.specs.declared.answers.Outcome.{Outcome}
@@ -27,6 +29,7 @@ use Rattle.bus_script.specs.LineNumbers.{refusal_line}
 use Rattle.bus_replay.specs.GoingOn.{goes_on}
 use Rattle.bus_replay.specs.declared.lines.FirstLine.{FirstLine}
 use Rattle.bus_replay.specs.Lines.{Command, first_of, command_of, shape_in, reuse_in}
+use Rattle.bus_replay.specs.Lines.{passers_in}
 use Rattle.bus_replay.specs.Text.{answer_line, step_fault_name, make_fault_name, owners_line}
 use Rattle.bus_replay.specs.Text.{order_text, given_text}
 
@@ -69,24 +72,53 @@ module _ {S : Type 0} (X : Election (Elector S)) (P : Protocol S Bool Verdict) w
   Prints m (line ∷ lines) text end =
       Asked m line.0 (command_of line.1) (λ mid rest stop. Prints mid lines rest stop) text end
 
-  -- The closing lines, whatever trails led to the bus, as some have: who took the pages; the one
-  -- order that all that was published spells, which the cells of the log show; and of each receiver
-  -- what it was given.
-  pub record Closes (m : Machine (Elector S)) (text : List ℕ) : Type 0 where
+  -- ---- what the events of a run add to trails, one after another
+  -- of an event that was repeated while it went on
+  abbrev pub repeat_trails : (m : Machine (Elector S)) (e : Event) (more : ℕ) (last : Answer)
+      (new : Machine (Elector S)) → Repeats m e more last new → Trails → Trails
+  repeat_trails m e zero last new run T = trails_grown X m e last T
+  repeat_trails m e (suc more) last new (inl once) T = trails_grown X m e last T
+  repeat_trails m e (suc more) last new (inr run) T =
+      repeat_trails run.0 e more last new run.4 (trails_grown X m e run.1 T)
+
+  -- of a line of the script, and of those behind it
+  abbrev pub asked_trails : (m : Machine (Elector S)) (number : ℕ) (c : Option Command)
+      (Behind : Machine (Elector S) → List ℕ → End (Elector S) → Type 0)
+      → ((mid : Machine (Elector S)) (rest : List ℕ) (end : End (Elector S)) → Behind mid rest end
+      → Trails → Trails)
+      → (text : List ℕ) (end : End (Elector S)) → Asked m number c Behind text end
+      → Trails → Trails
+  asked_trails m number None Behind behind text end run T = T
+  asked_trails m number (Some c) Behind behind text end (inl refused) T = T
+  asked_trails m number (Some c) Behind behind text end (inr run) T =
+      behind run.0 run.2 end run.4
+      (repeat_trails m c.event (c.times - 1) run.1 run.0 run.3 T)
+
+  -- of all lines
+  abbrev pub printed_trails : (m : Machine (Elector S)) (lines : List (ℕ × List ℕ))
+      (text : List ℕ) (end : End (Elector S)) → Prints m lines text end → Trails → Trails
+  printed_trails m [] text end run T = T
+  printed_trails m (line ∷ lines) text end run T =
+      asked_trails m line.0 (command_of line.1) (λ mid rest stop. Prints mid lines rest stop)
+      (λ mid rest stop behind. printed_trails mid lines rest stop behind) text end run T
+
+  -- The closing lines, by the trails of the run, which led to the bus: who took the pages; the one
+  -- order that all that was published spells, of which the cells of the log show what stands; and
+  -- of each receiver what it was given.
+  pub record Closes (m : Machine (Elector S)) (T : Trails) (text : List ℕ) : Type 0 where
     pub order : Order
     pub owners : List (ℕ × SenderNo)
-    pub happened : (T : Trails) × ReachedBy X m T
-    pub stands : (T : Trails) → ReachedBy X m T → ShowsLog m T.log
-    pub spelled : (T : Trails) → ReachedBy X m T → Spells m.layout.senders T.log order owners
-    pub took : (T : Trails) → ReachedBy X m T → TakersTold m.reuse m.owners T.actions
-    pub text_is : (T : Trails) → ReachedBy X m T
-        → text
+    pub happened : ReachedBy X m T
+    pub stands : ShowsLog m T.log
+    pub spelled : Spells m.layout.senders T.log order owners
+    pub took : TakersTold m.reuse m.owners T.actions
+    pub text_is : text
         ≡ owners_line m.owners ++ order_text order ++ given_text (given_by T (length m.receivers))
 
-  abbrev pub Ends : End (Elector S) → List ℕ → Outcome → List ℕ → Type 0
-  Ends (Left m) text outcome whole =
-      (closing : List ℕ) × Closes m closing × (outcome ≡ Done) × (whole ≡ text ++ closing)
-  Ends (Stopped refusal) text outcome whole = (outcome ≡ Refused) × (whole ≡ text ++ refusal)
+  abbrev pub Ends : End (Elector S) → Trails → List ℕ → Outcome → List ℕ → Type 0
+  Ends (Left m) T text outcome whole =
+      (closing : List ℕ) × Closes m T closing × (outcome ≡ Done) × (whole ≡ text ++ closing)
+  Ends (Stopped refusal) T text outcome whole = (outcome ≡ Refused) × (whole ≡ text ++ refusal)
 
   -- by what the first line asks for: such a new bus is made and moved by the lines behind it, or it
   -- is not made
@@ -97,9 +129,10 @@ module _ {S : Type 0} (X : Election (Elector S)) (P : Protocol S Bool Verdict) w
       ((why : MakeFault) × MakeRefused (shape_in first) (reuse_in first) why × (why ≢ make.NoMemory)
       × (outcome ≡ Refused)
       × (whole ≡ refusal_line (AtLine number) (make_fault_name why)))
-      ⊎ ((m : Machine (Elector S)) × IsMade X P (shape_in first) (reuse_in first) no_bases m
-      × (text : List ℕ) × (end : End (Elector S))
-      × Prints m lines text end × Ends end text outcome whole)
+      ⊎ ((m : Machine (Elector S))
+      × IsMadeWith X P (shape_in first) (reuse_in first) (passers_in first) no_bases m
+      × (text : List ℕ) × (end : End (Elector S)) × (run : Prints m lines text end)
+      × Ends end (printed_trails m lines text end run no_machine_trails) text outcome whole)
 
   abbrev pub Replays : List (ℕ × List ℕ) → Outcome → List ℕ → Type 0
   Replays [] outcome whole = (outcome ≡ Refused) × (whole ≡ refusal_line AtEnd (codes "BadLine"))

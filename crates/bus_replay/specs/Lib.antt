@@ -3,3 +3,4 @@ pub mod Text
 pub mod GoingOn
 pub mod Answers
 pub mod Told
+pub mod Histories

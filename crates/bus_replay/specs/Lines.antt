@@ -9,6 +9,7 @@ use Rattle.bus_world.specs.declared.shapes.Shape.{Shape}
 use Rattle.bus_replay.specs.declared.lines.TheConstants.{MOST_TURNS_A_LINE}
 use Rattle.bus_replay.specs.declared.lines.FirstLine.{FirstLine}
 use Rattle.bus_replay.specs.declared.lines.FirstLine.TheVariants.{Shape as Shaped, Cycle as Cycled}
+use Rattle.bus_replay.specs.declared.lines.FirstLine.TheVariants.{Ring as Ringed}
 use Rattle.bus_script.specs.Grammar.{number_of, and_before, each_of, arguments_of}
 
 -- what a line asks for: an event, at most so many times
@@ -69,19 +70,32 @@ shape_of line = option_and_then shape_from (numbers_behind (codes "shape") line)
 abbrev pub cycle_of : List ℕ → Option Shape
 cycle_of line = option_and_then shape_from (numbers_behind (codes "cycle") line)
 
--- the shape of the bus that the first line asks for, and how many of its rows are used again: none
--- where each tenure has one
+-- what a line `ring N M R T L` says
+abbrev pub ring_of : List ℕ → Option Shape
+ring_of line = option_and_then shape_from (numbers_behind (codes "ring") line)
+
+-- The shape of the bus that the first line asks for; how many of its rows are used again, none where
+-- each tenure has one; and how many passed places it has, none where no log word is used again.
 abbrev pub shape_in : FirstLine → Shape
 shape_in (Shaped shape) = shape
 shape_in (Cycled shape) = shape
+shape_in (Ringed shape) = shape
 
 abbrev pub reuse_in : FirstLine → Option ℕ
 reuse_in (Shaped shape) = None
 reuse_in (Cycled shape) = Some shape.rows
+reuse_in (Ringed shape) = Some shape.rows
+
+abbrev pub passers_in : FirstLine → ℕ
+passers_in (Shaped shape) = 0
+passers_in (Cycled shape) = 0
+passers_in (Ringed shape) = shape.receivers
 
 -- what the first line asks for
 abbrev pub first_of : List ℕ → Option FirstLine
-first_of line = or_else (option_map Shaped (shape_of line)) (option_map Cycled (cycle_of line))
+first_of line =
+    or_else (option_map Shaped (shape_of line))
+    (or_else (option_map Cycled (cycle_of line)) (option_map Ringed (ring_of line)))
 
 abbrev pub put_of : Option ℕ → Option (List ℕ) → Option Command
 put_of None bytes = None

@@ -17,6 +17,7 @@ use Rattle.bus_world.specs.declared.events.StepFault.{StepFault}
 use Rattle.bus_world.specs.declared.events.StepFault.TheVariants as fault
 use Rattle.bus_world.specs.declared.shapes.MakeFault.{MakeFault}
 use Rattle.bus_world.specs.declared.shapes.MakeFault.TheVariants as make
+use Rattle.bus_replay.specs.declared.histories.Given.{Given}
 
 -- ---- numbers
 
@@ -105,6 +106,10 @@ order_text q = flat_map entry_line q.entries ++ order_end q.ended
 
 abbrev pub count_line : ℕ → ℕ → Bool → List ℕ
 count_line r items ended = codes "given" ++ behind r ++ behind items ++ end_text ended ++ 10 ∷ []
+
+-- a line for each of so many counts, in order
+abbrev pub counts_text : List Given → List ℕ
+counts_text given = flat_map (λ g. count_line g.0 g.1.items g.1.ended) (enumerate_from 0 given)
 
 -- how many items a receiver was given, and whether the end
 abbrev pub given_line : ℕ → Order → List ℕ

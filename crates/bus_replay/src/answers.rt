@@ -2,13 +2,16 @@
 
 ghost use Rattle.std.specs.Prelude.{◌≡◌, ℕ, List, Some, IfOk, IfErr, string_bytes};
 ghost use Rattle.bus_tenure.specs.Elections.{Elector, election_of};
-ghost use Rattle.bus_machine.specs.Playing.{IsMade, MakeRefused};
+ghost use Rattle.bus_machine.specs.Machine.{no_machine_trails};
+ghost use Rattle.bus_machine.specs.Playing.{IsMadeWith, MakeRefused};
 ghost use Rattle.bus_world.specs.World.{no_bases};
 ghost use Rattle.bus_script.specs.LineNumbers.{refusal_line};
-ghost use Rattle.bus_replay.specs.Lines.{shape_in, reuse_in};
+ghost use Rattle.bus_replay.specs.Lines.{shape_in, reuse_in, passers_in};
 ghost use Rattle.bus_replay.specs.Answers.{End, Prints, Ends, Begins, IsReplay};
+ghost use Rattle.bus_replay.specs.Answers.{printed_trails};
 
 use crate::closing::push_closing;
+use crate::histories::History;
 use crate::lines::{FirstLine, first_of};
 use crate::names::make_fault_name;
 use crate::playing::play;
@@ -22,12 +25,14 @@ use std::alloc::Global;
 /// A new bus, such as the first line of a script asks for.
 pub fn new_bus<Q: Ratifier + Drop>(alloc: Global, first: FirstLine) -> Result<World<Q>, MakeFault>
     ensures made { let X = election_of Q.Ratifier in
-        IfOk result (IsMade X Q.protocol (shape_in first) (reuse_in first) no_bases) }
+        IfOk result (IsMadeWith X Q.protocol (shape_in first) (reuse_in first)
+        (passers_in first) no_bases) }
     ensures fault { IfErr result (MakeRefused (shape_in first) (reuse_in first)) }
 {
     match first {
         FirstLine::Shape(shape) => World::new(alloc, shape),
         FirstLine::Cycle(shape) => World::cyclic(alloc, shape, None),
+        FirstLine::Ring(shape) => World::ring(alloc, shape, None),
     }
 }
 
@@ -47,18 +52,22 @@ fn refused(alloc: Global, line_number: LineNumber, name: &str) -> Result<Answer,
 fn answer_from<Q: Ratifier + Drop>(
     alloc: Global,
     mut bus: World<Q>,
+    first: FirstLine,
     lines: Lines<'_>,
 ) -> Result<Answer, NoMemory>
-    requires { bus.layout.passers ≡ 0 }
+    requires { let X = election_of Q.Ratifier in
+        IsMadeWith X Q.protocol (shape_in first) (reuse_in first) (passers_in first) no_bases bus }
     ensures { let X = election_of Q.Ratifier in
         IfOk result (λ answer. (text : List ℕ) × (end : End (Elector Q))
-        × Prints X Q.protocol bus lines.entry text end
-        × Ends X Q.protocol end text answer.outcome (string_bytes answer.text)) }
+        × (run : Prints X Q.protocol bus lines.entry text end)
+        × Ends X Q.protocol end (printed_trails X Q.protocol bus lines.entry text end run
+        no_machine_trails) text answer.outcome (string_bytes answer.text)) }
 {
     let mut text = String::new(alloc);
-    match play(alloc, &mut bus, lines, &mut text)? {
+    let mut history = History::new(alloc, first.shape().log_words, bus.receivers())?;
+    match play(alloc, &mut bus, &mut history, lines, &mut text)? {
         Outcome::Done => {
-            push_closing(alloc, &bus, &mut text)?;
+            push_closing(alloc, &bus, &history, &mut text)?;
             Ok(Answer {
                 outcome: Outcome::Done,
                 text,
@@ -83,7 +92,7 @@ fn answer_behind<Q: Ratifier + Drop>(
         (string_bytes answer.text)) }
 {
     match new_bus::<Q>(alloc, first) {
-        Ok(bus) => answer_from(alloc, bus, lines),
+        Ok(bus) => answer_from(alloc, bus, first, lines),
         Err(MakeFault::NoMemory) => Err(NoMemory),
         Err(fault) => refused(alloc, LineNumber::AtLine(number), make_fault_name(fault)),
     }

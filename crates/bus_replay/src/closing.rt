@@ -1,20 +1,23 @@
 //! What `replay` prints behind the answers to a script.
 
-ghost use Rattle.std.specs.Prelude.{◌≡◌, ◌++◌, ℕ, List, map, flat_map, length, OnOk};
+ghost use Rattle.std.specs.Prelude.{◌≡◌, ◌++◌, ℕ, List, map, flat_map, OnOk, IfOk};
 ghost use Rattle.std.specs.Prelude.{string_bytes};
 ghost use Rattle.bus_batch.specs.Frames.{Says};
 ghost use Rattle.bus_deliverylog.specs.Orders.{merged, order_held};
 ghost use Rattle.bus_tenure.specs.Elections.{election_of};
-ghost use Rattle.bus_machine.specs.Machine.{Trails, Reached};
+ghost use Rattle.bus_machine.specs.Machine.{Trails};
+ghost use Rattle.bus_register.specs.declared.registers.SenderNo.{SenderNo as Number};
+ghost use Rattle.bus_batch.specs.Frames.{IsLog, Spells};
+ghost use Rattle.bus_replay.specs.Histories.{Holds};
 ghost use Rattle.bus_replay.specs.Text.{owners_line, entry_line, order_text, count_line};
-ghost use Rattle.bus_replay.specs.Text.{given_line, given_text};
-ghost use Rattle.bus_replay.specs.Answers.{Closes, given_by};
+ghost use Rattle.bus_replay.specs.Text.{counts_text};
+ghost use Rattle.bus_replay.specs.Answers.{Closes};
 
+use crate::histories::{Given, History};
 use bus_adoptcommit::Ratifier;
 use bus_batch::Item;
-use bus_deliverylog::Order;
-use bus_deliverylog::laws::merged_is_one_list;
 use bus_deliverylog::texts::ItemText;
+use bus_deliverylog::{LogFault, Order, read_log};
 use bus_machine::World;
 use bus_register::{NoMemory, SenderNo};
 use std::alloc::{AllocError, Global};
@@ -92,49 +95,49 @@ fn push_count(text: &mut String, receiver: u64, items: u64, ended: bool) -> Resu
     text.push_str("\n")
 }
 
-/// Puts the line of what a receiver was given at the end of a text.
-fn push_given(text: &mut String, receiver: u64, order: &Order) -> Result<(), AllocError>
-    ensures { OnOk result
-        (string_bytes text.new ≡ string_bytes text.old ++ given_line receiver
-        (order_held order.now)) }
-{
-    merged_is_one_list();
-    push_count(text, receiver, order.items.len() as u64, order.ended)
-}
-
 /// Puts the lines of all receivers at the end of a text.
-fn push_all_given<Q: Ratifier + Drop>(
-    alloc: Global,
-    bus: &World<Q>,
-    text: &mut String,
-) -> Result<(), NoMemory>
-    requires { bus.now.layout.passers ≡ 0 }
-    ensures { let X = election_of Q.Ratifier in
-        OnOk result ((trails : Trails) → Reached X bus.now trails
-        → string_bytes text.new ≡ string_bytes text.old ++ given_text
-        (given_by trails (length bus.now.receivers))) }
+fn push_all_given(text: &mut String, all: &[Given]) -> Result<(), AllocError>
+    ensures { OnOk result (string_bytes text.new ≡ string_bytes text.old ++ counts_text all.now) }
 {
-    for receiver in 0..bus.receivers() {
-        let given = bus.given(alloc, receiver)?;
-        push_given(text, receiver, &given)?;
+    for (receiver, given) in all.iter().enumerate() {
+        push_count(text, receiver as u64, given.items, given.ended)?;
     }
     Ok(())
 }
 
-/// Puts the closing lines at the end of a text, of a bus that has no passed places.
+/// The order that all words of a history spell, which are a whole log: want of memory is its only
+/// refusal.
+fn order_of(alloc: Global, history: &History, senders: u64) -> Result<Order, NoMemory>
+    requires { IsLog senders history.now.log }
+    ensures { IfOk result (λ order. (owners : List (ℕ × Number))
+        × Spells senders history.now.log (order_held order) owners) }
+{
+    match read_log(alloc, history.log(), senders) {
+        Ok(read) => Ok(read.order),
+        Err(LogFault::NoMemory) => Err(NoMemory),
+        Err(LogFault::BadWord { .. }) => unreachable!(),
+        Err(LogFault::Torn) => unreachable!(),
+    }
+}
+
+/// Puts the closing lines at the end of a text.
 pub fn push_closing<Q: Ratifier + Drop>(
     alloc: Global,
     bus: &World<Q>,
+    history: &History,
     text: &mut String,
 ) -> Result<(), NoMemory>
-    requires { bus.now.layout.passers ≡ 0 }
+    requires { let X = election_of Q.Ratifier in
+        (trails : Trails) × Holds X Q.protocol bus.now history.now trails }
     ensures { let X = election_of Q.Ratifier in
-        OnOk result ((closing : List ℕ) × Closes X Q.protocol bus.now closing
+        OnOk result ((trails : Trails) → Holds X Q.protocol bus.now history.now trails
+        → (closing : List ℕ) × Closes X Q.protocol bus.now trails closing
         × (string_bytes text.new ≡ string_bytes text.old ++ closing)) }
 {
     bus.promises();
-    let order = bus.order(alloc)?;
+    let order = order_of(alloc, history, bus.senders())?;
     push_owners(text, bus.owners())?;
     push_order(text, &order)?;
-    push_all_given(alloc, bus, text)
+    push_all_given(text, history.given())?;
+    Ok(())
 }

@@ -21,6 +21,7 @@ pub mod answers;
 pub mod closing;
 pub mod commands;
 pub mod hex;
+pub mod histories;
 pub mod lines;
 pub mod names;
 pub mod playing;

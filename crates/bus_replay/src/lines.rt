@@ -7,7 +7,7 @@ ghost use Rattle.bus_script.specs.Grammar.{number_of, each_of, and_before, argum
 ghost use Rattle.bus_replay.specs.Lines.{shape_from, shape_of, first_of};
 ghost use Rattle.bus_replay.specs.Lines.{put_of, put_from, close_from, are_times};
 ghost use Rattle.bus_replay.specs.Lines.{turn_from, recv_from, stop_from, leave_from};
-ghost use Rattle.bus_replay.specs.Lines.{gone_from};
+ghost use Rattle.bus_replay.specs.Lines.{gone_from, shape_in};
 ghost use Rattle.bus_replay.specs.Lines.{numbers_behind, command_of, hex_of};
 ghost use Rattle.bus_replay.specs.Told.{command_told};
 
@@ -36,6 +36,19 @@ pub enum FirstLine {
     Shape(Shape),
     /// `cycle N M R T L`: a bus whose rows are used again.
     Cycle(Shape),
+    /// `ring N M R T L`: a bus whose rows are used again, and whose log words are.
+    Ring(Shape),
+}
+
+impl FirstLine {
+    /// The sizes that it has.
+    pub fn shape(self) -> Shape
+        ensures { result ≡ shape_in self }
+    {
+        match self {
+            FirstLine::Shape(shape) | FirstLine::Cycle(shape) | FirstLine::Ring(shape) => shape,
+        }
+    }
 }
 
 /// The sizes that stand behind a first line's keyword.
@@ -71,9 +84,12 @@ pub fn shape_of(line: &[u8]) -> Option<Shape>
 pub fn first_of(line: &[u8]) -> Option<FirstLine>
     ensures { result ≡ first_of line.now }
 {
-    match shape_of(line) {
-        Some(shape) => Some(FirstLine::Shape(shape)),
-        None => Some(FirstLine::Cycle(sizes_behind(line, b"cycle")?)),
+    if let Some(shape) = shape_of(line) {
+        return Some(FirstLine::Shape(shape));
+    }
+    match sizes_behind(line, b"cycle") {
+        Some(shape) => Some(FirstLine::Cycle(shape)),
+        None => Some(FirstLine::Ring(sizes_behind(line, b"ring")?)),
     }
 }
 

@@ -7,18 +7,21 @@ ghost use Rattle.bus_world.specs.Playing.{event_told};
 ghost use Rattle.bus_machine.specs.Playing.{Refused};
 ghost use Rattle.bus_script.specs.declared.line_numbers.LineNumber.TheVariants.{AtLine};
 ghost use Rattle.bus_script.specs.LineNumbers.{refusal_line};
-ghost use Rattle.bus_replay.specs.Answers.{Repeats};
+ghost use Rattle.bus_machine.specs.Machine.{Trails};
 ghost use Rattle.bus_replay.specs.GoingOn.{goes_on};
+ghost use Rattle.bus_replay.specs.Histories.{Holds};
 ghost use Rattle.bus_deliverylog.specs.Receiving.{recv_goes_on};
 ghost use Rattle.bus_tenure.specs.Classes.{still_goes};
-ghost use Rattle.bus_replay.specs.Told.{IsObeyed, ArePlayed};
+ghost use Rattle.bus_replay.specs.Told.{IsRepeated, IsObeyed, ArePlayed};
 
+use crate::histories::History;
 use crate::lines::command_of;
 use crate::names::step_fault_name;
 use crate::text::push_answer_line;
 use bus_adoptcommit::Ratifier;
 use bus_deliverylog::RecvTurn;
 use bus_machine::World;
+use bus_machine::laws::published_words_stand;
 use bus_register::NoMemory;
 use bus_script::{Line, LineNumber, Lines, Outcome, refusal_line};
 use bus_tenure::Turn;
@@ -55,22 +58,34 @@ pub fn goes_on(answer: &Answer) -> bool
 /// An event once, and more while it goes on, up to so many times. The answer is the last one.
 fn repeat<Q: Ratifier + Drop>(
     bus: &mut World<Q>,
+    history: &mut History,
     event: &Event,
     times: u64,
-) -> Result<Answer, StepFault>
-    requires { 0 < times }
+) -> Result<Result<Answer, StepFault>, NoMemory>
+    requires some { 0 < times }
+    requires held { let X = election_of Q.Ratifier in
+        (trails : Trails) × Holds X Q.protocol bus.old history.old trails }
     ensures last { let X = election_of Q.Ratifier in
-        IfOk result (λ last. Repeats X Q.protocol bus.old (event_told event.now) (times - 1) last
-        bus.new) }
-    ensures fault { IfErr result (Refused bus.old (event_told event.now)) }
+        IfOk result (λ told. IfOk told (λ last. IsRepeated X Q.protocol bus.old history.old
+        (event_told event.now) (times - 1) last bus.new history.new)) }
+    ensures fault { IfOk result (λ told. IfErr told (Refused bus.old (event_told event.now))) }
 {
-    let mut last = bus.step(event)?;
+    published_words_stand::<Q>();
+    let mut last = match bus.step(event) {
+        Ok(answer) => answer,
+        Err(fault) => return Ok(Err(fault)),
+    };
+    history.note(bus.words(), event, &last)?;
     let mut more = times - 1;
     while more > 0 && goes_on(&last) {
-        last = bus.step(event)?;
+        last = match bus.step(event) {
+            Ok(answer) => answer,
+            Err(fault) => return Ok(Err(fault)),
+        };
+        history.note(bus.words(), event, &last)?;
         more -= 1;
     }
-    Ok(last)
+    Ok(Ok(last))
 }
 
 /// Puts the line of a refusal at the end of a text.
@@ -91,19 +106,22 @@ pub fn push_refusal(
 fn obey<Q: Ratifier + Drop>(
     alloc: Global,
     bus: &mut World<Q>,
+    history: &mut History,
     line: Line<'_>,
     text: &mut String,
 ) -> Result<Outcome, NoMemory>
+    requires held { let X = election_of Q.Ratifier in
+        (trails : Trails) × Holds X Q.protocol bus.old history.old trails }
     ensures { let X = election_of Q.Ratifier in
         IfOk result (λ outcome. (added : List ℕ)
-        × IsObeyed X Q.protocol bus.old (line.entry.number, line.entry.bytes.now) outcome added
-        bus.new × (string_bytes text.new ≡ string_bytes text.old ++ added)) }
+        × IsObeyed X Q.protocol bus.old history.old (line.entry.number, line.entry.bytes.now)
+        outcome added bus.new history.new × (string_bytes text.new ≡ string_bytes text.old ++ added)) }
 {
     let Some(command) = command_of(alloc, line.bytes)? else {
         push_refusal(alloc, line.number, "BadLine", text)?;
         return Ok(Outcome::Refused);
     };
-    match repeat(bus, &command.event, command.times) {
+    match repeat(bus, history, &command.event, command.times)? {
         Ok(answer) => {
             push_answer_line(text, &command.event, &answer)?;
             Ok(Outcome::Done)
@@ -119,16 +137,20 @@ fn obey<Q: Ratifier + Drop>(
 pub fn play<Q: Ratifier + Drop>(
     alloc: Global,
     bus: &mut World<Q>,
+    history: &mut History,
     mut lines: Lines<'_>,
     text: &mut String,
 ) -> Result<Outcome, NoMemory>
+    requires held { let X = election_of Q.Ratifier in
+        (trails : Trails) × Holds X Q.protocol bus.old history.old trails }
     ensures { let X = election_of Q.Ratifier in
         IfOk result (λ outcome. (added : List ℕ)
-        × ArePlayed X Q.protocol bus.old lines.entry outcome added bus.new
+        × ArePlayed X Q.protocol bus.old history.old lines.entry outcome added bus.new
+        history.new
         × (string_bytes text.new ≡ string_bytes text.old ++ added)) }
 {
     while let Some(line) = lines.next_line() {
-        match obey(alloc, bus, line, text)? {
+        match obey(alloc, bus, history, line, text)? {
             Outcome::Done => {}
             Outcome::Refused => return Ok(Outcome::Refused),
         }

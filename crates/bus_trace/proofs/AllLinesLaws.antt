@@ -34,6 +34,7 @@ use Rattle.bus_script.specs.Grammar.{script_lines}
 use Rattle.bus_script.specs.LineNumbers.{line_number_text, refusal_line}
 use Rattle.bus_replay.specs.declared.lines.FirstLine.{FirstLine}
 use Rattle.bus_replay.specs.Lines.{Command, first_of, command_of, shape_in, reuse_in}
+use Rattle.bus_replay.specs.Lines.{passers_in}
 use Rattle.bus_replay.specs.Text.{put_fault_name, close_fault_name, step_fault_name}
 use Rattle.bus_replay.specs.Text.{make_fault_name}
 use Rattle.bus_replay.specs.Answers.{End, Repeats, Asked, Prints}
@@ -284,7 +285,8 @@ module _ {S : Type 0} (X : Election (Elector S)) (P : Protocol S Bool Verdict) w
       (names_refusal (AtLine line) name (plain_make no_bus.0)) no_bus.3
   begins_read line (Some first) lines outcome whole (inr h) =
       let made = h.1 in
-      all_printed X P (sizes_of P (shape_in first) (reuse_in first)) h.0 lines outcome whole (
+      all_printed X P (sizes_of P (shape_in first) (reuse_in first) (passers_in first)) h.0 lines
+      outcome whole (
         omega (arith, made.senders, made.served.senders.1),
         omega (arith, made.receivers, made.served.receivers.1),
       ) h.2

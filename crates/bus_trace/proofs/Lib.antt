@@ -6,3 +6,4 @@ pub mod PlayRows
 mod ShowLemmas
 mod LineLaws
 mod AllLinesLaws
+mod NameLemmas

@@ -12,7 +12,8 @@ use Rattle.bus_register.specs.Names.{kind_name}
 use Rattle.bus_register.specs.Words.{register, after}
 use Rattle.bus_core.specs.Senders.{Sender as OneSender}
 use Rattle.bus_core.specs.Table.{line_now}
-use Rattle.bus_deliverylog.specs.Receiving.{Receiving, receiving_kind, receiving_op}
+use Rattle.bus_core.specs.declared.limits.TheConstants.{PASSED_APART}
+use Rattle.bus_deliverylog.specs.Receiving.{Receiving, receiving_kind, receiving_op, leaving_op}
 use Rattle.bus_deliverylog.specs.Text.{hex_digit, hex_pair, hex_text, item_text, recv_text}
 use Rattle.bus_deliverylog.specs.declared.receiving.RecvTurn.{RecvTurn}
 use Rattle.bus_deliverylog.specs.declared.receiving.RecvTurn.TheVariants as recv
@@ -41,7 +42,8 @@ use Rattle.bus_picture.proofs.ReadingLaws.{receiver_known}
 use Rattle.bus_trace.specs.Words.{TraceSizes, ratifier_word, round_word, decision_word, row_word}
 use Rattle.bus_trace.specs.Words.{word_name}
 use Rattle.bus_trace.specs.Rows.{tenure_text, no_step, step_text, action_text, actions_text}
-use Rattle.bus_trace.specs.Rows.{due_text, receiving_text, sender_text, columns, row_text}
+use Rattle.bus_trace.specs.Rows.{due_text, receiving_text, gone_text, leaving_text, sender_text}
+use Rattle.bus_trace.specs.Rows.{columns, row_text}
 
 -- ---- texts
 plain_behind : (n : ℕ) → IsPlain (behind n)
@@ -129,7 +131,9 @@ plain_word p r =
     let row : List ℕ =
     codes "row" ++ behind ((r - 2 - p.presences) / p.row)
     ++ 32 ∷ row_word p ((r - 2 - p.presences) % p.row) in
-    let log : List ℕ = cond (nat_le p.log r) (codes "log" ++ behind (r - p.log)) row in
+    let far : ℕ = (r - p.passed) / PASSED_APART in
+    let passed : List ℕ = cond (nat_le p.passed r) (codes "passed" ++ behind far) row in
+    let log : List ℕ = cond (nat_le p.log r) (codes "log" ++ behind (r - p.log)) passed in
     let presence : List ℕ =
     cond (nat_lt (r - 2) p.presences) (codes "presence" ++ behind (r - 2)) log in
     let other : List ℕ = cond (r == 1) (codes "stage") presence in
@@ -137,11 +141,13 @@ plain_word p r =
     plain_cond (r == 1) (codes "stage") presence (plain_by (codes "stage") refl) (
     plain_cond (nat_lt (r - 2) p.presences) (codes "presence" ++ behind (r - 2)) log
     (numbered_word (codes "presence") (r - 2) (plain_by (codes "presence") refl)) (
-    plain_cond (nat_le p.log r) (codes "log" ++ behind (r - p.log)) row
+    plain_cond (nat_le p.log r) (codes "log" ++ behind (r - p.log)) passed
     (numbered_word (codes "log") (r - p.log) (plain_by (codes "log") refl)) (
+    plain_cond (nat_le p.passed r) (codes "passed" ++ behind far) row
+    (numbered_word (codes "passed") far (plain_by (codes "passed") refl)) (
     and_more (codes "row") ((r - 2 - p.presences) / p.row)
     (row_word p ((r - 2 - p.presences) % p.row)) (plain_by (codes "row") refl)
-    (plain_row_word p ((r - 2 - p.presences) % p.row))))))
+    (plain_row_word p ((r - 2 - p.presences) % p.row)))))))
 
 -- ---- answers
 then_number : (front : List ℕ) (n : ℕ) → IsPlain front → IsPlain (front ++ decimal n)
@@ -292,8 +298,14 @@ of_sender p X words (Some v) word =
 a_stop : IsMiddle (no_step (codes "stop"))
 a_stop = without_step (codes "stop") family.Call refl (plain_by (codes "stop") refl)
 
-a_leave : IsMiddle (no_step (codes "gone"))
-a_leave = without_step (codes "gone") family.Call refl (plain_by (codes "gone") refl)
+of_gone : (p : TraceSizes) (words : ℕ → ℕ) (o : Option Op) → IsMiddle (gone_text p words o)
+of_gone p words None = without_step (codes "gone") family.Call refl (plain_by (codes "gone") refl)
+of_gone p words (Some o) = with_step p None kind.StorePassed (words (register o)) (Some o)
+
+of_leaver : (p : TraceSizes) (words : ℕ → ℕ) (v : Option Receiving)
+    → IsMiddle (leaving_text p words v)
+of_leaver p words None = of_gone p words None
+of_leaver p words (Some v) = of_gone p words (leaving_op v)
 
 -- ---- who is asked, where a bus can have it
 abbrev pub AsksFew : Event → Type 0
@@ -343,4 +355,5 @@ line_read p X line m (Stop s) a few =
     (plain_decimal line) (a_sender s few) a_stop (plain_answer a)
 line_read p X line m (Gone r) a few =
     readable (decimal line) (codes "receiver" ++ behind r) (columns p X m (Gone r) a)
-    (answer_text a) (plain_decimal line) (a_receiver r few) a_leave (plain_answer a)
+    (answer_text a) (plain_decimal line) (a_receiver r few)
+    (of_leaver p (slice_index m.words) (slice_get m.receivers r)) (plain_answer a)

@@ -9,13 +9,13 @@ use Rattle.bus_tenure.specs.Elections.{Elector}
 use Rattle.bus_world.specs.declared.events.StepFault.{StepFault}
 use Rattle.bus_machine.specs.Machine.{Machine}
 use Rattle.bus_world.specs.World.{no_bases}
-use Rattle.bus_machine.specs.Playing.{IsMade, Refused as RefusedBy}
+use Rattle.bus_machine.specs.Playing.{IsMadeWith, Refused as RefusedBy}
 use Rattle.bus_script.specs.declared.answers.Outcome.{Outcome}
 use Rattle.bus_script.specs.declared.answers.Outcome.TheVariants as outcome
 use Rattle.bus_script.specs.declared.line_numbers.LineNumber.TheVariants.{AtLine}
 use Rattle.bus_script.specs.LineNumbers.{refusal_line}
 use Rattle.bus_replay.specs.declared.lines.FirstLine.{FirstLine}
-use Rattle.bus_replay.specs.Lines.{Command, command_of, shape_in, reuse_in}
+use Rattle.bus_replay.specs.Lines.{Command, command_of, shape_in, reuse_in, passers_in}
 use Rattle.bus_replay.specs.Text.{answer_line, step_fault_name}
 use Rattle.bus_replay.specs.Answers.{End, Left, Stopped, Asked, Prints}
 use Rattle.bus_trace.specs.Rows.{header}
@@ -245,8 +245,9 @@ module _ {S : Type 0} (X : Election (Elector S)) (P : Protocol S Bool Verdict)
 pub begun : {S : Type 0} (X : Election (Elector S)) (P : Protocol S Bool Verdict) (p : TraceSizes)
     (line : ℕ) (first : FirstLine)
     (lines : List (ℕ × List ℕ)) (b : Machine (Elector S)) (o : Outcome) (whole : List ℕ)
-    → IsMade X P (shape_in first) (reuse_in first) no_bases b
-    → p ≡ sizes_of P (shape_in first) (reuse_in first) → ArePrinted X P p b lines o whole
+    → IsMadeWith X P (shape_in first) (reuse_in first) (passers_in first) no_bases b
+    → p ≡ sizes_of P (shape_in first) (reuse_in first) (passers_in first)
+    → ArePrinted X P p b lines o whole
     → Begins X P line (Some first) lines o whole
 begun X P p line first lines b o whole made sizes rows = inr (
   b,

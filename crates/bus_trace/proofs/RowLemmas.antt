@@ -5,11 +5,12 @@ use Rattle.std.proofs.Common.{append_assoc, arith}
 use Rattle.std.specs.Prelude.{codes, decimal}
 use Rattle.std.proofs.lemmas.List.{append-nil, length-append}
 use Rattle.bus_register.specs.declared.kinds.Kind.{Kind}
+use Rattle.bus_register.specs.declared.kinds.Kind.TheVariants.{StorePassed}
 use Rattle.bus_register.specs.declared.registers.Op.{Op}
 use Rattle.bus_batch.specs.declared.messages.Mark.TheVariants as mark
 use Rattle.bus_core.specs.Senders.{Sender}
 use Rattle.bus_core.specs.Table.{line_now}
-use Rattle.bus_deliverylog.specs.Receiving.{Receiving, receiving_kind, receiving_op}
+use Rattle.bus_deliverylog.specs.Receiving.{Receiving, receiving_kind, receiving_op, leaving_op}
 use Rattle.bus_machine.specs.Machine.{Machine, Happens, has_stopped}
 use Rattle.bus_tenure.specs.Core.{Election}
 use Rattle.bus_world.specs.Trails.{put_actions, mark_actions}
@@ -21,8 +22,9 @@ use Rattle.bus_trace.specs.declared.seen.Seen.{Seen}
 use Rattle.bus_trace.specs.Words.{TraceSizes, word_name}
 use Rattle.bus_register.specs.Names.{kind_name}
 use Rattle.bus_trace.specs.Rows.{column, tenure_text, no_step, actions_text, due_text}
-use Rattle.bus_trace.specs.Rows.{receiving_text, sender_text, who_text, columns, row_text}
-use Rattle.bus_trace.specs.Steps.{step_of, sender_due, receiver_due, due_by, seen_in}
+use Rattle.bus_trace.specs.Rows.{receiving_text, gone_text, leaving_text, sender_text, who_text}
+use Rattle.bus_trace.specs.Rows.{columns, row_text}
+use Rattle.bus_trace.specs.Steps.{step_of, sender_due, receiver_due, leaver_due, due_by, seen_in}
 use Rattle.bus_trace.specs.Told.{name_told, seen_columns, seen_told, row_told, numbered_row}
 use Rattle.bus_trace.specs.Traces.{numbered_rows}
 use Rattle.bus_trace.specs.Obeying.{Grows}
@@ -41,13 +43,25 @@ due_told p words e plain tenure None o = ap no_step (sym plain)
 due_told p words e plain tenure (Some k) None = ap no_step (sym plain)
 due_told p words e plain tenure (Some k) (Some o) = refl
 
--- of a load of a receiver
+-- of a load of a receiver, or of the store of its place
 receiver_told : (p : TraceSizes) (words : ℕ → ℕ) (r : ℕ) (o : Option Receiving)
     → receiving_text p words o ≡ seen_told p (Recv r)
     (seen_in words (receiver_due o))
 receiver_told p words r None = refl
 receiver_told p words r (Some v) =
     due_told p words (Recv r) refl None (receiving_kind v) (receiving_op v)
+
+-- of a receiver that leaves for good
+gone_told : (p : TraceSizes) (words : ℕ → ℕ) (r : ℕ) (o : Option Op)
+    → gone_text p words o
+    ≡ seen_told p (Gone r) (seen_in words (step_of None (Some StorePassed) o))
+gone_told p words r None = refl
+gone_told p words r (Some o) = refl
+
+leaver_told : (p : TraceSizes) (words : ℕ → ℕ) (r : ℕ) (o : Option Receiving)
+    → leaving_text p words o ≡ seen_told p (Gone r) (seen_in words (leaver_due o))
+leaver_told p words r None = refl
+leaver_told p words r (Some v) = gone_told p words r (leaving_op v)
 
 columns_told :
     {E : Type 0} (p : TraceSizes) (X : Election E) (m m' : Machine E) (e : Event) (a : Answer)
@@ -69,7 +83,8 @@ columns_told p X m m' (Turn s word) a h =
 columns_told p X m m' (Recv r) a h =
     receiver_told p (slice_index m.words) r (slice_get m.receivers r)
 columns_told p X m m' (Stop s) a h = refl
-columns_told p X m m' (Gone r) a h = refl
+columns_told p X m m' (Gone r) a h =
+    leaver_told p (slice_index m.words) r (slice_get m.receivers r)
 
 -- the whole line
 pub row_is : {E : Type 0} (p : TraceSizes) (X : Election E) (line : ℕ) (m m' : Machine E)

@@ -1,40 +1,49 @@
 -- What the columns of an event show is what it adds to the trails.
 use Rattle.std.proofs.Common.{◌≡◌, ◌≢◌, ℕ, ◌==◌, Bool, cond, Option, Some, None, List, [], ◌∷◌}
-use Rattle.std.proofs.Common.{◌++◌, codes, get_or, slice_index, inl, inr, refl, sym, ap, subst, ◌∙◌}
+use Rattle.std.proofs.Common.{◌++◌, ◌<◌, codes, decimal, length, get_or, slice_index}
+use Rattle.std.proofs.Common.{inl, inr, refl, sym, ap, subst, ◌∙◌}
 use Rattle.std.proofs.lemmas.Bool.{cases_eq, eq-eqb, ne_eqb}
+use Rattle.std.proofs.lemmas.List.{get_or-set_other}
+use Rattle.std.proofs.lemmas.Option.{same_Some}
 use Rattle.bus_register.specs.Protocol.{Protocol}
 use Rattle.bus_adoptcommit.specs.declared.verdicts.Verdict.{Verdict}
 use Rattle.bus_core.specs.Causes.{IsCaused}
 use Rattle.bus_register.specs.declared.kinds.Kind.{Kind}
+use Rattle.bus_register.specs.declared.kinds.Kind.TheVariants.{StorePassed}
+use Rattle.bus_register.specs.declared.limits.TheConstants.{PASSED_ALL}
 use Rattle.bus_batch.specs.declared.messages.Mark.TheVariants as mark
 use Rattle.bus_register.specs.declared.registers.Op.{Op}
-use Rattle.bus_register.specs.Words.{register}
+use Rattle.bus_register.specs.declared.registers.Op.TheVariants.{Store}
+use Rattle.bus_register.specs.Names.{kind_name}
+use Rattle.bus_register.specs.Words.{register, after as left_by}
 use Rattle.bus_core.specs.Senders.{Sender, Situation, Does, Announces, Validates, Unpins}
 use Rattle.bus_core.specs.Senders.{Withdraws, Scans, Clears, ReadsPassed, situation}
-use Rattle.bus_core.specs.Table.{Line, line_now}
+use Rattle.bus_core.specs.Table.{Line, line, line_now}
+use Rattle.bus_deliverylog.specs.Receiving.{receiving_kind, receiving_op, leaving_by}
+use Rattle.bus_deliverylog.specs.Receiving.{leaving_op}
 use Rattle.bus_machine.specs.Machine.{Machine, Trails, no_machine_trails, entered, turn_trails}
-use Rattle.bus_machine.specs.Machine.{turn_grown, turn_answer, going}
+use Rattle.bus_machine.specs.Machine.{turn_grown, turn_answer, going, IsOnWord}
+use Rattle.bus_machine.specs.Machine.{TakesTurn, Hears, LeavesForGood}
 use Rattle.bus_machine.specs.Playing.{Answers}
 use Rattle.bus_machine.specs.Telling.{SenderCauses}
 use Rattle.bus_presence.specs.Reclamation.{Entry, no_trails}
 use Rattle.bus_tenure.specs.Core.{Election}
 use Rattle.bus_tenure.specs.Elections.{Elector}
-use Rattle.bus_tenure.specs.Situations.{Situation as Own}
 use Rattle.bus_tenure.specs.declared.turns.Turn.{Turn as Answered}
-use Rattle.bus_deliverylog.specs.declared.receiving.RecvTurn.{RecvTurn}
 use Rattle.bus_replay.specs.Text.{answer_text, behind}
 use Rattle.bus_world.specs.Headline.{Action, HasPut, HasMarked, Stepped}
 use Rattle.bus_world.specs.Trails.{step_action, put_actions, mark_actions}
-use Rattle.bus_world.specs.Turning.{number_found}
+use Rattle.bus_world.specs.Turning.{number_found, words_after}
 use Rattle.bus_world.specs.World.{Event, Put, Ask, Turn, Recv, Stop, Gone}
 use Rattle.bus_world.specs.declared.events.Answer.{Answer}
 use Rattle.bus_world.specs.declared.events.Answer.TheVariants as answer
-use Rattle.bus_trace.specs.Rows.{actions_text, due_text, line_text, receiving_text, sender_text}
-use Rattle.bus_trace.specs.Rows.{column, columns}
-use Rattle.bus_trace.specs.Showing.{added, answer_of, entry_text, ShowsEvent, ShowsHeard, ShowsTurn}
-use Rattle.bus_trace.specs.Showing.{Shows, ShowsWho}
-use Rattle.bus_trace.specs.Words.{TraceSizes}
-use Rattle.bus_trace.proofs.StepLemmas.{tenure_is}
+use Rattle.bus_trace.specs.Rows.{action_text, actions_text, due_text, line_text, receiving_text}
+use Rattle.bus_trace.specs.Rows.{sender_text, gone_text, leaving_text, step_text, tenure_text}
+use Rattle.bus_trace.specs.Rows.{no_step, column, columns}
+use Rattle.bus_trace.specs.Showing.{added, answer_of, entry_text, AddsOne, ShowsEvent, ShowsHeard}
+use Rattle.bus_trace.specs.Showing.{ShowsGone, ShowsNone, ShowsStep, ShowsTurn, Shows, ShowsWho}
+use Rattle.bus_trace.specs.Words.{TraceSizes, word_name}
+use Rattle.bus_trace.proofs.StepLemmas.{tenure_is, stood}
 
 own : {A : Type 0} (s : ℕ) (one other : A) → cond (s == s) one other ≡ one
 own s one other = ap (λ b. cond b one other) (eq-eqb s s refl)
@@ -118,11 +127,21 @@ module _ {E : Type 0} (p : TraceSizes) (words : ℕ → ℕ) (l : Line E) (s wor
   abbrev after : Situation E → Trails
   after i = turn_trails i l s (number_found words (l.op word)) word t no_machine_trails
 
-  action_shown : (z : Own E)
-      → line_text p words l word ≡ actions_text p (l.op word) ((after (Does z)).actions s)
-  action_shown z = step_shown p words l.tenure l.kind (l.op word)
+  -- the one action that is added
+  action_shown : (i : Situation E) (action : Action) → (after i).actions s ≡ action ∷ []
+      → line_text p words l word ≡ action_text p (l.op word) action
+  action_shown (Does z) action e = step_shown p words l.tenure l.kind (l.op word)
       (l.chosen (number_found words (l.op word)) word) t
-      ∙ ap (actions_text p (l.op word)) (sym (own s _ []))
+      ∙ ap (actions_text p (l.op word)) (sym (own s _ []) ∙ e)
+  action_shown (Announces u) action e = absurd (nothing_added s action e)
+  action_shown (Validates u) action e = absurd (nothing_added s action e)
+  action_shown (Unpins u) action e = absurd (nothing_added s action e)
+  action_shown (Withdraws u) action e = absurd (nothing_added s action e)
+  action_shown (Scans r) action e = absurd (nothing_added s action e)
+  action_shown (Clears r) action e = absurd (nothing_added s action e)
+  action_shown (ReadsPassed u q) action e = step_shown p words l.tenure l.kind (l.op word)
+      (l.chosen (number_found words (l.op word)) word) t
+      ∙ ap (actions_text p (l.op word)) (sym (own s _ []) ∙ e)
 
   pin_shown : (i : Situation E) (entry : Entry) → (after i).pins s ≡ entry ∷ []
       → line_text p words l word ≡ entry_text p l.tenure l.kind
@@ -186,13 +205,71 @@ module _ {E : Type 0} (p : TraceSizes) (words : ℕ → ℕ) (l : Line E) (s wor
   hears_none (Clears u) r = refl
   hears_none (ReadsPassed u q) r = refl
 
+-- a turn with a step adds one of the three
+one_added : {E : Type 0} (X : Election E) (v : Sender E) (words : ℕ → ℕ) (s word : ℕ) (t : Answered)
+    (i : Situation E) (k : Kind) → (line X v i).kind ≡ Some k
+    → AddsOne (turn_trails i (line X v i) s (number_found words ((line X v i).op word)) word t
+    no_machine_trails) s
+one_added X v words s word t (Does z) k is =
+    let l = line X v (Does z) in
+    let got = number_found words (l.op word) in inl (
+      Stepped l.tenure k got (l.chosen got word) t,
+      own s _ [] ∙ ap (λ o. step_action o l.tenure got (l.chosen got word) t) is,
+    )
+one_added X v words s word t (Announces u) k is = inr (inl (_, own s _ []))
+one_added X v words s word t (Validates u) k is = inr (inl (_, own s _ []))
+one_added X v words s word t (Unpins u) k is = inr (inl (_, own s _ []))
+one_added X v words s word t (Withdraws u) k is = inr (inl (_, own s _ []))
+one_added X v words s word t (Scans r) k is = inr (inr (_, own s _ []))
+one_added X v words s word t (Clears r) k is = inr (inr (_, own s _ []))
+one_added X v words s word t (ReadsPassed u q) k is = inl (_, own s _ [])
+
+-- ---- a step on a word
+due_some : (p : TraceSizes) (words : ℕ → ℕ) (tenure : Option ℕ) (ks : Option Kind) (os : Option Op)
+    (k : Kind) (o : Op) → ks ≡ Some k → os ≡ Some o
+    → due_text p words tenure ks os ≡ step_text p tenure k (words (register o)) (Some o)
+due_some p words tenure ks os k o kind_is op_is =
+    ap (λ z. due_text p words tenure z os) kind_is
+    ∙ ap (λ z. due_text p words tenure (Some k) z) op_is
+
+due_none : (p : TraceSizes) (words : ℕ → ℕ) (tenure : Option ℕ) (ks : Option Kind)
+    → due_text p words tenure ks None ≡ no_step (codes "-")
+due_none p words tenure None = refl
+due_none p words tenure (Some k) = refl
+
+module _ {E : Type 0} (p : TraceSizes) (old new : Machine E) (text : List ℕ) where
+  -- what stood in its word and what stands there now are shown
+  step_taken : (tenure : Option ℕ) (k : Kind) (o : Op) → register o < length old.words
+      → new.words ≡ words_after old.words (Some o)
+      → text ≡ step_text p tenure k (slice_index old.words (register o)) (Some o)
+      → ShowsStep p old new tenure k (register o) text
+  step_taken tenure k o within words is =
+      let at : ℕ = register o in
+      let found : ℕ = slice_index old.words at in
+      let stands : slice_index new.words at ≡ left_by o found =
+      ap (λ w. slice_index w at) words ∙ stood old.words o within in
+      record {
+        shown = is
+            ∙ ap (λ n. column (tenure_text tenure) ++ column (kind_name k) ++
+            column (word_name p at) ++ column (decimal found) ++ column (decimal n)) (sym stands);
+        others = λ place apart. ap (λ w. slice_index w place) words
+            ∙ get_or-set_other old.words at place (left_by o found) 0 apart;
+      }
+
+  -- without a step no word has changed
+  none_taken : (name : List ℕ) (o : Option Op) → o ≡ None → new.words ≡ words_after old.words o
+      → text ≡ no_step name → ShowsNone old new name text
+  none_taken name o none words is =
+      record { shown = is; words = words ∙ ap (words_after old.words) none }
+
 -- ---- an event
 module _ {S : Type 0} (p : TraceSizes) (X : Election (Elector S)) (P : Protocol S Bool Verdict)
     (m : Machine (Elector S)) where
-  turn_shown : (s word : ℕ) (a : Answer) (t : Answered) → a ≡ answer.Turn t
+  turn_shown : (s word : ℕ) (a : Answer) (new : Machine (Elector S)) (t : Answered)
+      → a ≡ answer.Turn t → TakesTurn X m s word a new
       → (v : Sender (Elector S)) → going m s ≡ Some v → IsCaused X P v
-      → ShowsTurn p X m s word a v
-  turn_shown s word a t told v goes caused =
+      → ShowsTurn p X m s word a new v
+  turn_shown s word a new t told h v goes caused =
       let l = line_now X v in
       let words = slice_index m.words in
       let line_is : columns p X m (Turn s word) a ≡ line_text p words l word =
@@ -200,10 +277,18 @@ module _ {S : Type 0} (p : TraceSizes) (X : Election (Elector S)) (P : Protocol 
       let grown : added X m (Turn s word) a ≡ after p words l s word t (situation X v) =
       ap (λ (b : Answer). added X m (Turn s word) b) told
       ∙ ap (λ o. turn_grown X m s o word (answer.Turn t) no_machine_trails) goes in
+      let same : h.sender ≡ v = same_Some h.sender v (sym h.goes ∙ goes) in
+      let within : IsOnWord m (l.op word) =
+      subst (λ u. IsOnWord m ((line_now X u).op word)) same h.within in
+      let stand : new.words ≡ words_after m.words (l.op word) =
+      ap (λ (y : Machine (Elector S)). y.words) h.after
+      ∙ ap (λ u. words_after m.words ((line_now X u).op word)) same in
+      let text = columns p X m (Turn s word) a in
       record {
-        action = λ z is. line_is ∙ action_shown p words l s word t z
-            ∙ ap (λ i. actions_text p (l.op word) ((after p words l s word t i).actions s)) (sym is)
-            ∙ ap (λ (T : Trails). actions_text p (l.op word) (T.actions s)) (sym grown);
+        action = λ action e.
+            line_is
+            ∙ action_shown p words l s word t (situation X v) action
+            (ap (λ (T : Trails). T.actions s) (sym grown) ∙ e);
         pin = λ entry e.
             line_is
             ∙ pin_shown p words l s word t (situation X v) entry
@@ -217,32 +302,102 @@ module _ {S : Type 0} (p : TraceSizes) (X : Election (Elector S)) (P : Protocol 
             ∙ answer_shown p words l s word t (situation X v) action
             (ap (λ (T : Trails). T.actions s) (sym grown) ∙ e);
         tenure = λ k is. sym (tenure_is X P v.core v.reuse k (caused k is));
+        adds = λ k is. subst (λ (T : Trails). AddsOne T s) (sym grown)
+            (one_added X v words s word t (situation X v) k is);
+        idle = λ is. line_is ∙ ap (λ z. due_text p words l.tenure z (l.op word)) is;
+        step = λ k o kind_is op_is. step_taken p m new text l.tenure k o
+            (subst (IsOnWord m) op_is within) (stand ∙ ap (words_after m.words) op_is)
+            (line_is ∙ due_some p words l.tenure l.kind (l.op word) k o kind_is op_is);
+        none = λ op_is. none_taken p m new text (codes "-") (l.op word) op_is stand
+            (line_is ∙ ap (due_text p words l.tenure l.kind) op_is
+            ∙ due_none p words l.tenure l.kind);
       }
 
-  heard_shown : (r : ℕ) (a : Answer) (t : RecvTurn) → a ≡ answer.Recv t → ShowsHeard p X m r a
-  heard_shown r a t told = record {
-    heard = t;
-    added_is = ap (λ (b : Answer). (added X m (Recv r) b).heard r) told ∙ own r (t ∷ []) [];
-    answers = ap answer_text told;
-    load = λ v at. ap (receiving_text p (slice_index m.words)) at;
-  }
+  heard_shown : (r : ℕ) (a : Answer) (new : Machine (Elector S)) → Hears m r a new
+      → ShowsHeard p X m r a new
+  heard_shown r a new h =
+      let words = slice_index m.words in
+      let text = columns p X m (Recv r) a in
+      let stand : new.words ≡ words_after m.words (receiving_op h.receiver) =
+      ap (λ (y : Machine (Elector S)). y.words) h.after in
+      record {
+        heard = h.heard;
+        added_is =
+            ap (λ (b : Answer). (added X m (Recv r) b).heard r) h.answered
+            ∙ own r (h.heard ∷ []) [];
+        answers = ap answer_text h.answered;
+        step = λ v k o at kind_is op_is.
+            let same : h.receiver ≡ v = same_Some h.receiver v (sym h.there ∙ at) in
+            let within : IsOnWord m (receiving_op v) =
+            subst (λ u. IsOnWord m (receiving_op u)) same h.within in
+            step_taken p m new text None k o (subst (IsOnWord m) op_is within)
+            (stand ∙ ap (λ u. words_after m.words (receiving_op u)) same
+            ∙ ap (words_after m.words) op_is)
+            (ap (receiving_text p words) at
+            ∙ due_some p words None (receiving_kind v) (receiving_op v) k o kind_is op_is);
+        none = λ v at op_is.
+            let same : h.receiver ≡ v = same_Some h.receiver v (sym h.there ∙ at) in
+            none_taken p m new text (codes "-") (receiving_op v) op_is
+            (stand ∙ ap (λ u. words_after m.words (receiving_op u)) same)
+            (ap (receiving_text p words) at ∙ ap (due_text p words None (receiving_kind v)) op_is
+            ∙ due_none p words None (receiving_kind v));
+      }
+
+  gone_shown : (r : ℕ) (a : Answer) (new : Machine (Elector S)) → LeavesForGood m r a new
+      → ShowsGone p X m r a new
+  gone_shown r a new h =
+      let words = slice_index m.words in
+      let text = columns p X m (Gone r) a in
+      let stand : new.words ≡ words_after m.words (leaving_op h.receiver) =
+      ap (λ (y : Machine (Elector S)). y.words) h.after in
+      record {
+        who = refl;
+        store = λ v at there passed.
+            let same : h.receiver ≡ v = same_Some h.receiver v (sym h.there ∙ there) in
+            let o : Op = Store (record { 0 = at }) PASSED_ALL in
+            let op_is : leaving_op v ≡ Some o = ap leaving_by passed in
+            let within : register o < length m.words =
+            subst (IsOnWord m) op_is (subst (λ u. IsOnWord m (leaving_op u)) same h.within) in
+            let now : new.words ≡ words_after m.words (Some o) =
+            stand ∙ ap (λ u. words_after m.words (leaving_op u)) same
+            ∙ ap (words_after m.words) op_is in (
+              step_taken p m new text None StorePassed o within now
+                  (ap (leaving_text p words) there ∙ ap (gone_text p words) op_is),
+              ap (λ w. slice_index w at) now ∙ stood m.words o within,
+            );
+        none = λ v there passed.
+            let same : h.receiver ≡ v = same_Some h.receiver v (sym h.there ∙ there) in
+            let op_is : leaving_op v ≡ None = ap leaving_by passed in
+            none_taken p m new text (codes "gone") (leaving_op v) op_is
+            (stand ∙ ap (λ u. words_after m.words (leaving_op u)) same)
+            (ap (leaving_text p words) there ∙ ap (gone_text p words) op_is);
+        adds_nothing = refl;
+      }
 
   event_shown : (e : Event) (a : Answer) (new : Machine (Elector S)) → Answers X P m e a new
-      → ShowsEvent p X m e a
+      → ShowsEvent p X m e a new
   event_shown (Put s bytes) a new h = record {
     action = ap (actions_text p None) (sym (own s (put_actions bytes a) []));
     answers = λ action e. put_answered bytes a action (sym (own s (put_actions bytes a) []) ∙ e);
+    words = ap (λ (y : Machine (Elector S)). y.words) h.happens.after;
   }
   event_shown (Ask s mark) a new h = record {
     action = ap (actions_text p None) (sym (own s (mark_actions a) []));
     answers = λ action e. mark_answered a action (sym (own s (mark_actions a) []) ∙ e);
+    words = ap (λ (y : Machine (Elector S)). y.words) h.happens.after;
   }
   event_shown (Turn s word) a new h = λ v goes.
-      turn_shown s word a (turn_answer m (line_now X h.happens.sender) word) h.happens.answered v
-      goes (subst (SenderCauses X P) goes h.causes)
-  event_shown (Recv r) a new h = heard_shown r a h.happens.heard h.happens.answered
-  event_shown (Stop s) a new h = (refl, refl)
-  event_shown (Gone r) a new h = (refl, refl)
+      turn_shown s word a new (turn_answer m (line_now X h.happens.sender) word)
+      h.happens.answered h.happens v goes (subst (SenderCauses X P) goes h.causes)
+  event_shown (Recv r) a new h = heard_shown r a new h.happens
+  event_shown (Stop s) a new h = (
+    refl,
+    record {
+      shown = refl;
+      words = ap (λ (y : Machine (Elector S)). y.words) h.happens.after;
+    },
+  )
+  event_shown (Gone r) a new h = gone_shown r a new h.happens
 
   -- a sender's turn adds no action to another trail, and no answer
   turn_adds : (s word : ℕ) (o : Option (Sender (Elector S))) (a : Answer) (q : ℕ)
@@ -305,5 +460,5 @@ module _ {S : Type 0} (p : TraceSizes) (X : Election (Elector S)) (P : Protocol 
   }
 
   pub shown : (e : Event) (a : Answer) (new : Machine (Elector S)) → Answers X P m e a new
-      → Shows p X m e a
+      → Shows p X m e a new
   shown e a new h = record { who = who_shown e a; event = event_shown e a new h }

@@ -1,5 +1,5 @@
 -- The step of an event: of which tenure it is, and what stands in its word afterwards.
-use Rattle.std.proofs.Common.{◌≡◌, ℕ, ◌+◌, ◌%◌, ◌<◌, ◌==◌, Bool, true, false, cond, Option, Some}
+use Rattle.std.proofs.Common.{◌≡◌, ℕ, ◌<◌, Bool, true, false, cond, Option, Some}
 use Rattle.std.proofs.Common.{None, List, length, slice_get, slice_index, is_some, nat_lt, refl}
 use Rattle.std.proofs.Common.{sym, ap, subst, ◌∙◌}
 use Rattle.std.proofs.lemmas.List.{get_or-set_same}
@@ -8,7 +8,6 @@ use Rattle.bus_register.specs.Protocol.{Protocol}
 use Rattle.bus_register.specs.declared.kinds.Kind.{Kind}
 use Rattle.bus_register.specs.declared.kinds.Kind.TheVariants as kind
 use Rattle.bus_register.specs.declared.registers.Op.{Op}
-use Rattle.bus_register.specs.declared.registers.Op.TheVariants.{Load}
 use Rattle.bus_register.specs.Words.{register, after}
 use Rattle.bus_adoptcommit.specs.declared.verdicts.Verdict.{Verdict}
 use Rattle.bus_core.specs.Causes.{HasCause}
@@ -20,7 +19,7 @@ use Rattle.bus_core.specs.Reusing.Passing.{passing_left}
 use Rattle.bus_core.specs.declared.reuses.Passing.{Passing}
 use Rattle.bus_core.specs.Table.{line, line_now}
 use Rattle.bus_core.specs.declared.reuses.Reuse.{Reuse}
-use Rattle.bus_deliverylog.specs.Receiving.{receiving_kind, receiving_op}
+use Rattle.bus_deliverylog.specs.Receiving.{receiving_kind, receiving_op, leaving_op}
 use Rattle.bus_machine.specs.Machine.{Machine, Happens, IsOnWord, has_stopped}
 use Rattle.bus_presence.specs.Reclaimers.{Reclaiming}
 use Rattle.bus_presence.specs.declared.pins.Pin.{Pin}
@@ -43,7 +42,7 @@ use Rattle.bus_world.specs.Turning.{words_after}
 use Rattle.bus_world.specs.World.{Event, Put, Ask, Turn, Recv, Stop, Gone}
 use Rattle.bus_world.specs.declared.events.Answer.{Answer}
 use Rattle.bus_trace.specs.declared.seen.Step.{Step}
-use Rattle.bus_trace.specs.Steps.{step_of, sender_due, receiver_due, due_by, seen_in}
+use Rattle.bus_trace.specs.Steps.{step_of, sender_due, receiver_due, leaver_due, due_by, seen_in}
 use Rattle.bus_trace.proofs.RowLemmas.{there}
 
 -- ---- the tenure
@@ -220,7 +219,7 @@ op_of_step tenure None o step e = absurd cc
 op_of_step tenure (Some k) None step e = absurd cc
 op_of_step tenure (Some k) (Some o) step e = ap (λ (z : Step). Some z.op) (same_Some _ _ e)
 
-stood : (words : List ℕ) (o : Op) → register o < length words
+pub stood : (words : List ℕ) (o : Op) → register o < length words
     → slice_index (words_after words (Some o)) (register o) ≡ after o
     (slice_index words (register o))
 stood words o l = get_or-set_same words (register o) (after o (slice_index words (register o))) 0 l
@@ -250,7 +249,14 @@ leaves {E} X m m' (Recv r) a step h is =
     ∙ ap (λ o. slice_index (words_after m.words o) (register step.op)) op_is
     ∙ stood m.words step.op (subst (IsOnWord m) op_is h.within)
 leaves X m m' (Stop s) a step h is = absurd cc
-leaves X m m' (Gone r) a step h is = absurd cc
+leaves {E} X m m' (Gone r) a step h is =
+    let v = h.receiver in
+    let op_is : leaving_op v ≡ Some step.op =
+    op_of_step None (Some kind.StorePassed) (leaving_op v) step
+    (ap leaver_due (sym h.there) ∙ sym is) in
+    ap (λ (y : Machine E). slice_index y.words (register step.op)) h.after
+    ∙ ap (λ o. slice_index (words_after m.words o) (register step.op)) op_is
+    ∙ stood m.words step.op (subst (IsOnWord m) op_is h.within)
 
 -- what was seen of a step
 pub seen_so : (words : ℕ → ℕ) (due : Option Step) (step : Step) (found left : ℕ) → Some step ≡ due

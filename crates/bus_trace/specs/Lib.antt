@@ -1,4 +1,5 @@
 pub mod Words
+pub mod Naming
 pub mod Rows
 pub mod Told
 pub mod Steps

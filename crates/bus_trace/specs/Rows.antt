@@ -3,13 +3,14 @@
 use Rattle.std.specs.Prelude.{ℕ, Option, Some, None, List, [], ◌∷◌, ◌++◌, codes, decimal}
 use Rattle.std.specs.Prelude.{slice_get, slice_index}
 use Rattle.bus_register.specs.declared.kinds.Kind.{Kind}
+use Rattle.bus_register.specs.declared.kinds.Kind.TheVariants.{StorePassed}
 use Rattle.bus_register.specs.declared.registers.Op.{Op}
 use Rattle.bus_register.specs.Names.{kind_name}
 use Rattle.bus_register.specs.Words.{register, after}
 use Rattle.bus_batch.specs.declared.messages.Mark.TheVariants as mark
 use Rattle.bus_core.specs.Senders.{Sender}
 use Rattle.bus_core.specs.Table.{Line, line_now}
-use Rattle.bus_deliverylog.specs.Receiving.{Receiving, receiving_kind, receiving_op}
+use Rattle.bus_deliverylog.specs.Receiving.{Receiving, receiving_kind, receiving_op, leaving_op}
 use Rattle.bus_machine.specs.Machine.{Machine, going}
 use Rattle.bus_tenure.specs.Core.{Election}
 use Rattle.bus_world.specs.Headline.{Action, HasPut, HasMarked, Stepped}
@@ -65,10 +66,20 @@ due_text p words tenure None o = no_step (codes "-")
 due_text p words tenure (Some k) None = no_step (codes "-")
 due_text p words tenure (Some k) (Some o) = step_text p tenure k (words (register o)) (Some o)
 
--- the load of a receiver
+-- of a receiver, its load, or the store of its place
 abbrev pub receiving_text : TraceSizes → (ℕ → ℕ) → Option Receiving → List ℕ
 receiving_text p words None = no_step (codes "-")
 receiving_text p words (Some v) = due_text p words None (receiving_kind v) (receiving_op v)
+
+-- the store with which a receiver leaves for good; without a passed place that is no step, but a
+-- call
+abbrev pub gone_text : TraceSizes → (ℕ → ℕ) → Option Op → List ℕ
+gone_text p words None = no_step (codes "gone")
+gone_text p words (Some o) = step_text p None StorePassed (words (register o)) (Some o)
+
+abbrev pub leaving_text : TraceSizes → (ℕ → ℕ) → Option Receiving → List ℕ
+leaving_text p words None = no_step (codes "gone")
+leaving_text p words (Some v) = gone_text p words (leaving_op v)
 
 -- who is asked
 abbrev pub who_text : Event → List ℕ
@@ -91,14 +102,14 @@ sender_text p X words None word = no_step (codes "-")
 sender_text p X words (Some v) word = line_text p words (line_now X v) word
 
 -- of a put and of a mark that is asked for the action that it added, of a sender's turn the step
--- that is due of it, and of a receiver the load that it makes
+-- that is due of it, and of a receiver the step that it takes, also where it leaves for good
 abbrev pub columns : {E : Type 0} → TraceSizes → Election E → Machine E → Event → Answer → List ℕ
 columns p X m (Put s bytes) a = actions_text p None (put_actions bytes a)
 columns p X m (Ask s mark) a = actions_text p None (mark_actions a)
 columns p X m (Turn s word) a = sender_text p X (slice_index m.words) (going m s) word
 columns p X m (Recv r) a = receiving_text p (slice_index m.words) (slice_get m.receivers r)
 columns p X m (Stop s) a = no_step (codes "stop")
-columns p X m (Gone r) a = no_step (codes "gone")
+columns p X m (Gone r) a = leaving_text p (slice_index m.words) (slice_get m.receivers r)
 
 -- the line of an event that a line of a script asks for, without its number
 abbrev pub row_text : {E : Type 0} → TraceSizes → Election E → ℕ → Machine E → Event → Answer

@@ -2,10 +2,11 @@
 use Rattle.std.specs.Prelude.{ℕ, Option, Some, None, slice_get}
 use Rattle.bus_register.specs.Words.{register, after}
 use Rattle.bus_register.specs.declared.kinds.Kind.{Kind}
+use Rattle.bus_register.specs.declared.kinds.Kind.TheVariants as kind
 use Rattle.bus_register.specs.declared.registers.Op.{Op}
 use Rattle.bus_core.specs.Senders.{Sender}
 use Rattle.bus_core.specs.Table.{Line, line_now}
-use Rattle.bus_deliverylog.specs.Receiving.{Receiving, receiving_kind, receiving_op}
+use Rattle.bus_deliverylog.specs.Receiving.{Receiving, receiving_kind, receiving_op, leaving_op}
 use Rattle.bus_machine.specs.Machine.{Machine}
 use Rattle.bus_tenure.specs.Core.{Election}
 use Rattle.bus_world.specs.World.{Event, Put, Ask, Turn, Recv, Stop, Gone}
@@ -25,10 +26,15 @@ abbrev pub sender_due : {E : Type 0} → Election E → Option (Sender E) → �
 sender_due X None word = None
 sender_due X (Some v) word = line_due (line_now X v) word
 
--- of a receiver, its load
+-- of a receiver, its load, or the store of its place
 abbrev pub receiver_due : Option Receiving → Option Step
 receiver_due None = None
 receiver_due (Some v) = step_of None (receiving_kind v) (receiving_op v)
+
+-- of a receiver that leaves for good, its store, if it makes one
+abbrev pub leaver_due : Option Receiving → Option Step
+leaver_due None = None
+leaver_due (Some v) = step_of None (Some kind.StorePassed) (leaving_op v)
 
 -- the step that an event is to take on a word, if it takes one
 abbrev pub due_by : {E : Type 0} → Election E → Machine E → Event → Option Step
@@ -37,7 +43,7 @@ due_by X m (Ask s mark) = None
 due_by X m (Turn s word) = sender_due X (slice_get m.senders s) word
 due_by X m (Recv r) = receiver_due (slice_get m.receivers r)
 due_by X m (Stop s) = None
-due_by X m (Gone r) = None
+due_by X m (Gone r) = leaver_due (slice_get m.receivers r)
 
 -- with the number that it finds in these words, and the one that it leaves
 abbrev pub seen_in : (ℕ → ℕ) → Option Step → Option Seen

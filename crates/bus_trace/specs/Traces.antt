@@ -14,7 +14,7 @@ use Rattle.bus_world.specs.declared.shapes.MakeFault.{MakeFault}
 use Rattle.bus_world.specs.declared.shapes.MakeFault.TheVariants as make
 use Rattle.bus_machine.specs.Machine.{Machine}
 use Rattle.bus_world.specs.World.{no_bases}
-use Rattle.bus_machine.specs.Playing.{IsMade, MakeRefused}
+use Rattle.bus_machine.specs.Playing.{IsMadeWith, MakeRefused}
 use Rattle.bus_script.specs.declared.line_numbers.LineNumber.TheVariants.{AtLine, AtEnd}
 use Rattle.bus_script.specs.declared.answers.Outcome.{Outcome}
 use Rattle.bus_script.specs.declared.answers.Outcome.TheVariants.{Done, Refused}
@@ -22,6 +22,7 @@ use Rattle.bus_script.specs.Grammar.{script_lines}
 use Rattle.bus_script.specs.LineNumbers.{refusal_line}
 use Rattle.bus_replay.specs.declared.lines.FirstLine.{FirstLine}
 use Rattle.bus_replay.specs.Lines.{Command, first_of, command_of, shape_in, reuse_in}
+use Rattle.bus_replay.specs.Lines.{passers_in}
 use Rattle.bus_replay.specs.Text.{make_fault_name}
 use Rattle.bus_replay.specs.Answers.{End, Left, Stopped, Repeats, Asked, Prints}
 use Rattle.bus_trace.specs.Words.{TraceSizes, sizes_of}
@@ -93,8 +94,10 @@ module _ {S : Type 0} (X : Election (Elector S)) (P : Protocol S Bool Verdict) w
   Begins line (Some first) lines outcome whole =
       ((why : MakeFault) × MakeRefused (shape_in first) (reuse_in first) why × (why ≢ make.NoMemory)
       × IsRefused (refusal_line (AtLine line) (make_fault_name why)) outcome whole)
-      ⊎ ((m : Machine (Elector S)) × IsMade X P (shape_in first) (reuse_in first) no_bases m
-      × ArePrinted (sizes_of P (shape_in first) (reuse_in first)) m lines outcome whole)
+      ⊎ ((m : Machine (Elector S))
+      × IsMadeWith X P (shape_in first) (reuse_in first) (passers_in first) no_bases m
+      × ArePrinted (sizes_of P (shape_in first) (reuse_in first) (passers_in first)) m lines outcome
+      whole)
 
   abbrev pub Traces : List (ℕ × List ℕ) → Outcome → List ℕ → Type 0
   Traces [] outcome whole = IsRefused (refusal_line AtEnd (codes "BadLine")) outcome whole

@@ -4,8 +4,9 @@ use Rattle.std.specs.Prelude.{◌++◌, codes, nat_lt, nat_le, if◌then◌else�
 use Rattle.bus_register.specs.Protocol.{Protocol}
 use Rattle.bus_adoptcommit.specs.declared.verdicts.Verdict.{Verdict}
 use Rattle.bus_binconsensus.specs.Decisions.{decisions}
-use Rattle.bus_machine.specs.Machine.{log_place}
-use Rattle.bus_machine.specs.Playing.{layout_of}
+use Rattle.bus_core.specs.declared.limits.TheConstants.{PASSED_APART}
+use Rattle.bus_machine.specs.Machine.{log_place, passers_place}
+use Rattle.bus_machine.specs.Playing.{layout_passed}
 use Rattle.bus_world.specs.declared.shapes.Shape.{Shape}
 use Rattle.bus_replay.specs.Text.{behind}
 use Rattle.bus_trace.specs.declared.memory_maps.MemoryMap.{MemoryMap}
@@ -21,7 +22,8 @@ pub record TraceSizes : Type 0 where
   pub ratifier : ℕ
   pub decision : ℕ
   pub row : ℕ
-  -- where the log begins
+  -- where the passed places begin, which is where the log does if there are none, and the log
+  pub passed : ℕ
   pub log : ℕ
 
 -- as a program holds them
@@ -33,6 +35,7 @@ sizes_told p = record {
   ratifier = p.ratifier;
   decision = p.decision;
   row = p.row;
+  passed = p.passed;
   log = p.log;
 }
 
@@ -42,16 +45,17 @@ presences_of shape None = 0
 presences_of shape (Some rows) = shape.senders
 
 -- the sizes of a bus of this shape, over such ratifiers: it has a row for each tenure, or so many
--- rows are used again
-abbrev pub sizes_of : {S : Type 0} → Protocol S Bool Verdict → Shape → Option ℕ → TraceSizes
-sizes_of P shape reuse = record {
+-- rows are used again; and so many passed places
+abbrev pub sizes_of : {S : Type 0} → Protocol S Bool Verdict → Shape → Option ℕ → ℕ → TraceSizes
+sizes_of P shape reuse passers = record {
   senders = shape.senders;
   presences = presences_of shape reuse;
   rounds = shape.rounds;
   ratifier = P.width shape.senders;
   decision = (decisions P shape.rounds).width shape.senders;
-  row = (layout_of P shape reuse).width;
-  log = log_place (layout_of P shape reuse) reuse;
+  row = (layout_passed P shape reuse passers).width;
+  passed = passers_place (layout_passed P shape reuse passers) reuse;
+  log = log_place (layout_passed P shape reuse passers) reuse;
 }
 
 -- a ratifier of three words has two inputs and a proposal; the words of another one are numbered
@@ -84,12 +88,13 @@ row_word p k =
     (codes "bit" ++ behind ((k - p.senders) / p.decision)
     ++ 32 ∷ decision_word p ((k - p.senders) % p.decision))
 
--- the length, the stage, the presences, the rows, and the log
+-- the length, the stage, the presences, the rows, the passed places, and the log
 abbrev pub word_name : TraceSizes → ℕ → List ℕ
 word_name p r =
     if r == 0 then codes "length" else
     (if r == 1 then codes "stage" else
     (if nat_lt (r - 2) p.presences then codes "presence" ++ behind (r - 2) else
     (if nat_le p.log r then codes "log" ++ behind (r - p.log) else
+    (if nat_le p.passed r then codes "passed" ++ behind ((r - p.passed) / PASSED_APART) else
     (codes "row" ++ behind ((r - 2 - p.presences) / p.row)
-    ++ 32 ∷ row_word p ((r - 2 - p.presences) % p.row)))))
+    ++ 32 ∷ row_word p ((r - 2 - p.presences) % p.row))))))

@@ -17,6 +17,8 @@ pub struct MemoryMap {
     pub decision: u64,
     /// How many words a row has.
     pub row: u64,
+    /// The place of the first passed place; that of the log's first word where there is none.
+    pub passed: u64,
     /// The place of the log's first word.
     pub log: u64,
     ghost ratifier_few: { ratifier ≤ 2 ^ 32 },

@@ -4,12 +4,13 @@ ghost use Rattle.std.specs.Prelude.{◌≡◌, slice_get, slice_index, IfOk, IfE
 ghost use Rattle.bus_tenure.specs.Elections.{election_of};
 ghost use Rattle.bus_world.specs.Playing.{event_told};
 ghost use Rattle.bus_machine.specs.Playing.{Answers, Refuses};
-ghost use Rattle.bus_trace.specs.Steps.{sender_due, receiver_due, due_by, seen_in};
+ghost use Rattle.bus_trace.specs.Steps.{sender_due, receiver_due, leaver_due};
+ghost use Rattle.bus_trace.specs.Steps.{due_by, seen_in};
 
 use crate::seen::{Seen, Step, register_of};
 use bus_adoptcommit::Ratifier;
 use bus_machine::World;
-use bus_register::{Reg, SenderNo};
+use bus_register::{Kind, Reg, SenderNo};
 use bus_world::{Answer, Event, StepFault};
 
 /// The step that a sender is to take with this random word, if it takes one.
@@ -36,7 +37,7 @@ fn due_of_sender<Q: Ratifier + Drop>(bus: &World<Q>, sender: u64, word: u32) -> 
     })
 }
 
-/// The load that a receiver is to make, if it makes one.
+/// The step that a receiver is to take, if it takes one.
 fn due_of_reader<Q: Ratifier + Drop>(bus: &World<Q>, receiver: u64) -> Option<Step>
     ensures { result ≡ receiver_due (slice_get bus.now.receivers receiver) }
 {
@@ -56,14 +57,31 @@ fn due_of_reader<Q: Ratifier + Drop>(bus: &World<Q>, receiver: u64) -> Option<St
     })
 }
 
+/// The store that a receiver is to make with which it leaves for good, if it makes one.
+fn due_of_leaver<Q: Ratifier + Drop>(bus: &World<Q>, receiver: u64) -> Option<Step>
+    ensures { result ≡ leaver_due (slice_get bus.now.receivers receiver) }
+{
+    let Some(reader) = bus.reader(receiver) else {
+        return None;
+    };
+    let Some(op) = reader.leaving() else {
+        return None;
+    };
+    Some(Step {
+        tenure: None,
+        kind: Kind::StorePassed,
+        op,
+    })
+}
+
 /// The step that an event is to take on a word, if it takes one.
 fn due_of<Q: Ratifier + Drop>(bus: &World<Q>, event: &Event) -> Option<Step>
     ensures { let X = election_of Q.Ratifier in
         result ≡ due_by X bus.now (event_told event.now) }
 {
     match event {
-        Event::Put { .. } | Event::Close(_) | Event::Leave(_) | Event::Stop(_) | Event::Gone(_) =>
-            None,
+        Event::Put { .. } | Event::Close(_) | Event::Leave(_) | Event::Stop(_) => None,
+        Event::Gone(receiver) => due_of_leaver(bus, *receiver),
         Event::Turn { sender, word } => due_of_sender(bus, *sender, *word),
         Event::Recv(receiver) => due_of_reader(bus, *receiver),
     }

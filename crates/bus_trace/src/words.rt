@@ -2,13 +2,14 @@
 
 ghost use Rattle.std.specs.Prelude.{◌≡◌, ◌++◌, ◌<◌, OnOk, string_bytes};
 ghost use Rattle.bus_machine.specs.Playing.{IsServed};
-ghost use Rattle.bus_replay.specs.Lines.{shape_in, reuse_in};
+ghost use Rattle.bus_replay.specs.Lines.{shape_in, reuse_in, passers_in};
 ghost use Rattle.bus_trace.specs.Words.{ratifier_word, round_word, decision_word, row_word};
 ghost use Rattle.bus_trace.specs.Words.{word_name, sizes_told, sizes_of};
 
 use crate::memory_maps::MemoryMap;
 use bus_adoptcommit::Ratifier;
 use bus_binconsensus::Decide;
+use bus_core::limits::PASSED_APART;
 use bus_ownerbits::Election;
 use bus_replay::lines::FirstLine;
 use std::alloc::AllocError;
@@ -16,13 +17,16 @@ use std::alloc::AllocError;
 /// The memory map of a bus such as the first line of a script asks for.
 pub fn memory_map_of<Q: Ratifier + Drop>(first: FirstLine) -> MemoryMap
     requires { IsServed (shape_in first) (reuse_in first) }
-    ensures { sizes_told result ≡ sizes_of Q.protocol (shape_in first) (reuse_in first) }
+    ensures { sizes_told result ≡ sizes_of Q.protocol (shape_in first) (reuse_in first)
+        (passers_in first) }
 {
-    let (shape, presences) = match first {
-        FirstLine::Shape(shape) => (shape, 0),
-        FirstLine::Cycle(shape) => (shape, shape.senders),
+    let (shape, presences, passers) = match first {
+        FirstLine::Shape(shape) => (shape, 0, 0),
+        FirstLine::Cycle(shape) => (shape, shape.senders, 0),
+        FirstLine::Ring(shape) => (shape, shape.senders, shape.receivers),
     };
     let row = Election::<Q>::width(shape.senders, shape.rounds);
+    let passed = 2 + presences + shape.rows * row;
     MemoryMap {
         senders: shape.senders,
         presences,
@@ -30,7 +34,8 @@ pub fn memory_map_of<Q: Ratifier + Drop>(first: FirstLine) -> MemoryMap
         ratifier: Q::width(shape.senders),
         decision: Decide::<Q>::width(shape.senders, shape.rounds),
         row,
-        log: 2 + presences + shape.rows * row,
+        passed,
+        log: passed + PASSED_APART * passers,
     }
 }
 
@@ -108,6 +113,9 @@ pub fn push_word(text: &mut String, memory_map: MemoryMap, word: u64) -> Result<
     }
     if word >= memory_map.log {
         return write!(text, "log {}", word - memory_map.log);
+    }
+    if word >= memory_map.passed {
+        return write!(text, "passed {}", (word - memory_map.passed) / PASSED_APART);
     }
     let behind = word - 2 - memory_map.presences;
     write!(text, "row {} ", behind / memory_map.row)?;

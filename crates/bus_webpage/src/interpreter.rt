@@ -522,6 +522,7 @@ const FORMS = {
     turn: [isNumber, isRandom, isTimes], recv: [isNumber, isTimes], gone: [isNumber],
     shape: [isNumber, isNumber, isNumber, isNumber, isNumber],
     cycle: [isNumber, isNumber, isNumber, isNumber, isNumber],
+    ring: [isNumber, isNumber, isNumber, isNumber, isNumber],
 };
 
 function hasForm(word, rest) {
@@ -549,7 +550,7 @@ function playLine(game, text) {
     game.line += 1;
     if (text === '' || text.startsWith('#')) return;
     const [word, ...rest] = text.split(' ');
-    const isFirst = ['shape', 'cycle'].includes(word);
+    const isFirst = ['shape', 'cycle', 'ring'].includes(word);
     const why = !hasForm(word, rest) || isFirst !== (game.bus === null) ? 'BadLine' :
         isFirst ? playFirst(game, word, rest.map(Number)) : playEvent(game, word, rest);
     if (why) game.refusal = 'line ' + game.line + ': ' + why;

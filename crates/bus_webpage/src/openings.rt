@@ -66,5 +66,15 @@ const OPENINGS = [
             '1, and answers behind. No row is cleared under a sender: that is rows_are_safe. ' +
             'Wake sender 1, and sender 0 can go on.',
     },
+    {
+        name: 'a slow receiver of a ring',
+        script: 'ring 1 2 1 2 16\nput 0 ' + '61'.repeat(56) + '\nturn 0 0 99\nturn 0 0 99\n' +
+            'recv 0 99\nput 0 ' + '62'.repeat(56) + '\nturn 0 0 99\n',
+        question: 'Overwrite words that receiver 1 has not heard: sender 0 has the page, and ' +
+            'its frame of nine words has no room behind the first in a log of sixteen.',
+        can: 'No. The sender loads what each receiver has passed, and is answered full while ' +
+            'receiver 1 has not passed the first frame. Each receiver is given a prefix of the ' +
+            'one order (delivered). Let receiver 1 hear, or leave for good: then it fits.',
+    },
 ];
 "#;

@@ -84,7 +84,8 @@ pub const GAME: &str = r#"<section id="game" aria-labelledby="game-title">
 <details id="new-fold"><summary>A new bus</summary>
 <div class="bar">
 <select id="rows-kind" aria-label="Kind of bus"><option value="shape">a row for each tenure</option>
-<option value="cycle">rows used again</option></select>
+<option value="cycle">rows used again</option>
+<option value="ring">a ring: log words too</option></select>
 <label>senders <input id="size-0" class="small" type="number" min="1" max="64" value="2"></label>
 <label>receivers <input id="size-1" class="small" type="number" min="1" max="8" value="1"></label>
 <label>rounds <input id="size-2" class="small" type="number" min="1" max="8" value="2"></label>

@@ -4,15 +4,20 @@ use super::*;
 use bus_pageslot::Bus;
 use bus_tenure::Page;
 use bus_world::MakeFault;
-use std::alloc::Global;
 
 /// How many senders and receivers a bus has that a first line asks for, after this page, if after
 /// any; or why there is none.
-fn many(alloc: Global, line: FirstLine, page: Option<&Page>) -> Result<(usize, usize), MakeFault> {
+fn many<R: Abort + AllocGlobal>(
+    rt: &R,
+    line: FirstLine,
+    page: Option<&Page>,
+) -> Result<(usize, usize), MakeFault> {
+    let alloc = rt.alloc();
     let made = match (line, page) {
         (FirstLine::Shape(shape), None) => Bus::<ThreeWord>::new(alloc, shape),
         (FirstLine::Shape(shape), Some(page)) => Bus::<ThreeWord>::after(alloc, shape, page),
         (FirstLine::Cycle(shape), page) => Bus::<ThreeWord>::cyclic(alloc, shape, page),
+        (FirstLine::Ring(_), _) => panic!(rt; "no bus between threads is a ring yet"),
     };
     let (_, senders, taps) = made?;
     Ok((senders.len(), taps.len()))
@@ -20,7 +25,7 @@ fn many(alloc: Global, line: FirstLine, page: Option<&Page>) -> Result<(usize, u
 
 #[test]
 fn as_many_as_the_shape_says_unless_memory_is_refused(rt: HostRuntime) {
-    match many(rt.alloc(), FirstLine::Shape(TWO), None) {
+    match many(&rt, FirstLine::Shape(TWO), None) {
         Ok(many) => assert_eq!(rt; many, (2, 1)),
         Err(fault) => assert_eq!(rt; fault, MakeFault::NoMemory),
     }
@@ -43,7 +48,7 @@ fn shapes_that_are_refused(rt: HostRuntime) {
         (FirstLine::Cycle(Shape { rows: 1, ..TWO }), MakeFault::Rows),
         (FirstLine::Cycle(Shape { rows: 9, ..TWO }), MakeFault::Rows),
     ] {
-        assert!(rt; many(rt.alloc(), line, None) == Err(fault));
+        assert!(rt; many(&rt, line, None) == Err(fault));
     }
 }
 
@@ -70,7 +75,7 @@ fn pages_that_are_refused(rt: HostRuntime) {
         (page_with(most, true), Ok((2, 1))),
     ] {
         for line in [FirstLine::Shape(TWO), FirstLine::Cycle(TWO_AGAIN)] {
-            assert!(rt; many(rt.alloc(), line, Some(&page)) == want);
+            assert!(rt; many(&rt, line, Some(&page)) == want);
         }
     }
 }

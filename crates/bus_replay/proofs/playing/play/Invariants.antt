@@ -7,8 +7,8 @@ abbrev pub invariant-loop-line : goal.invariant-loop-line
 invariant-loop-line g l =
     let X =
     election_with g.Q.Machine.kind_of g.Q.Machine.op g.Q.Machine.fed g.Q.Ratifier.protocol in
-    Played X g.Q.Ratifier.protocol l.fn.bus l.fn.lines l.lines (string_bytes l.fn.text)
-    (string_bytes l.text) l.bus
+    Played X g.Q.Ratifier.protocol l.fn.bus l.fn.history l.fn.lines l.lines (string_bytes l.fn.text)
+    (string_bytes l.text) l.bus l.history
 
 abbrev pub decreases-loop-line : goal.decreases-loop-line
 decreases-loop-line g l = length l.lines

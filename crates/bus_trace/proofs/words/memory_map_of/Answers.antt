@@ -1,33 +1,55 @@
 use Rattle.std.proofs.Common.{sym, subst, arith}
-use Rattle.bus_trace.proofs.SizeLemmas.{AreFew, few_apart, few_again, rows_fit}
+use Rattle.bus_trace.proofs.SizeLemmas.{AreFew, few_apart, few_again, few_in_ring, rows_fit}
 use Rattle.bus_trace.proofs.words.memory_map_of.Goals as goal
-use Rattle.bus_trace.proofs.words.memory_map_of.Goals.{in-Shape, in-Cycle}
+use Rattle.bus_trace.proofs.words.memory_map_of.Goals.{in-Shape, in-Cycle, in-Ring}
 
-pub overflow_mul-result : goal.overflow_mul-result
-overflow_mul-result g c =
+pub overflow_mul-passed : goal.overflow_mul-passed
+overflow_mul-passed g c =
     let q = c.match-first.presences in
-    let few : AreFew q.0 q.1 = elim c.match-first.branch [
-      | in-Shape w ↦ subst (λ z. AreFew z.0 z.1) (sym w.presences-is)
+    let few : AreFew q.0 q.1 q.2 = elim c.match-first.branch [
+      | in-Shape w ↦ subst (λ z. AreFew z.0 z.1 z.2) (sym w.presences-is)
           (few_apart c.args.first w.in-Shape.shape w.in-Shape.is c.requires)
-      | in-Cycle w ↦ subst (λ z. AreFew z.0 z.1) (sym w.presences-is)
+      | in-Cycle w ↦ subst (λ z. AreFew z.0 z.1 z.2) (sym w.presences-is)
           (few_again c.args.first w.in-Cycle.shape w.in-Cycle.is c.requires)
+      | in-Ring w ↦ subst (λ z. AreFew z.0 z.1 z.2) (sym w.presences-is)
+          (few_in_ring c.args.first w.in-Ring.shape w.in-Ring.is c.requires)
     ] in
-    let all = rows_fit q.0 q.1 (g.Q.Ratifier.protocol.width q.0.senders) c.width-row.result few
+    let all = rows_fit q.0 q.1 q.2 (g.Q.Ratifier.protocol.width q.0.senders) c.width-row.result few
     (g.met.Q.Ratifier.narrow q.0.senders
     (let z = few.senders in omega arith)) c.width-row.ensures.words in
     omega arith
 
-pub overflow_add-result-2 : goal.overflow_add-result-2
-overflow_add-result-2 g c =
+pub overflow_add-passed-2 : goal.overflow_add-passed-2
+overflow_add-passed-2 g c =
     let q = c.match-first.presences in
-    let few : AreFew q.0 q.1 = elim c.match-first.branch [
-      | in-Shape w ↦ subst (λ z. AreFew z.0 z.1) (sym w.presences-is)
+    let few : AreFew q.0 q.1 q.2 = elim c.match-first.branch [
+      | in-Shape w ↦ subst (λ z. AreFew z.0 z.1 z.2) (sym w.presences-is)
           (few_apart c.args.first w.in-Shape.shape w.in-Shape.is c.requires)
-      | in-Cycle w ↦ subst (λ z. AreFew z.0 z.1) (sym w.presences-is)
+      | in-Cycle w ↦ subst (λ z. AreFew z.0 z.1 z.2) (sym w.presences-is)
           (few_again c.args.first w.in-Cycle.shape w.in-Cycle.is c.requires)
+      | in-Ring w ↦ subst (λ z. AreFew z.0 z.1 z.2) (sym w.presences-is)
+          (few_in_ring c.args.first w.in-Ring.shape w.in-Ring.is c.requires)
     ] in
-    let all = rows_fit q.0 q.1 (g.Q.Ratifier.protocol.width q.0.senders) c.width-row.result few
+    let all = rows_fit q.0 q.1 q.2 (g.Q.Ratifier.protocol.width q.0.senders) c.width-row.result few
     (g.met.Q.Ratifier.narrow q.0.senders
     (let z = few.senders in omega arith)) c.width-row.ensures.words in
     let some = few.presences_few in
+    omega arith
+
+pub overflow_add-result : goal.overflow_add-result
+overflow_add-result g c =
+    let q = c.match-first.presences in
+    let few : AreFew q.0 q.1 q.2 = elim c.match-first.branch [
+      | in-Shape w ↦ subst (λ z. AreFew z.0 z.1 z.2) (sym w.presences-is)
+          (few_apart c.args.first w.in-Shape.shape w.in-Shape.is c.requires)
+      | in-Cycle w ↦ subst (λ z. AreFew z.0 z.1 z.2) (sym w.presences-is)
+          (few_again c.args.first w.in-Cycle.shape w.in-Cycle.is c.requires)
+      | in-Ring w ↦ subst (λ z. AreFew z.0 z.1 z.2) (sym w.presences-is)
+          (few_in_ring c.args.first w.in-Ring.shape w.in-Ring.is c.requires)
+    ] in
+    let all = rows_fit q.0 q.1 q.2 (g.Q.Ratifier.protocol.width q.0.senders) c.width-row.result few
+    (g.met.Q.Ratifier.narrow q.0.senders
+    (let z = few.senders in omega arith)) c.width-row.ensures.words in
+    let some = few.presences_few in
+    let more = few.passers_few in
     omega arith
