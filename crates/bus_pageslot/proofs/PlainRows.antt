@@ -1,5 +1,5 @@
 -- Plain stores in a row, of which the sender takes in none before the last.
-use Rattle.std.proofs.Common.{◌≡◌, ℕ, suc, ◌+◌, ◌<◌, ◌≤◌, arith, Bool, Option, Some, refl, sym, ◌∙◌}
+use Rattle.std.proofs.Common.{◌≡◌, ℕ, suc, ◌+◌, ◌≤◌, arith, Bool, Option, ◌∙◌}
 use Rattle.std.proofs.Common.{ap, subst}
 use Rattle.bus_register.specs.Protocol.{Protocol}
 use Rattle.bus_register.specs.declared.kinds.Kind.{Kind}
@@ -14,7 +14,6 @@ use Rattle.bus_tenure.specs.Elections.{Elector, election_with}
 use Rattle.bus_tenure.specs.declared.turns.Turn.TheVariants.{Going}
 use Rattle.bus_automaton.specs.Buses.{process_with}
 use Rattle.bus_automaton.specs.Processes.{Process}
-use Rattle.bus_pageslot.specs.Rule.{stored_in}
 use Rattle.bus_pageslot.specs.Seats.{SenderSeat, TookAndTold, stored_of}
 use Rattle.bus_pageslot.specs.Steps.{stored_by}
 use Rattle.bus_pageslot.specs.Turns.{Tellings, TurnsPlainly, GoesPlainly, NoneYet, Next}

@@ -1,5 +1,8 @@
 -- Turns in a row, and the last of them.
-use Rattle.std.proofs.Common.{◌≡◌, ◌⊎◌, inl, inr, ℕ, Bool, refl, ◌∙◌, subst}
+use Rattle.std.proofs.Common.{◌≡◌, ℕ, ◌+◌, ◌<◌, arith, Bool, true, false, sym, ◌∙◌, ap}
+use Rattle.std.proofs.Common.{subst}
+use Rattle.std.proofs.lemmas.Bool.{true≢false}
+use Rattle.bus_tenure.specs.Classes.{still_goes}
 use Rattle.bus_tenure.specs.declared.turns.Turn.{Turn}
 use Rattle.bus_tenure.specs.declared.turns.Turn.TheVariants.{Going}
 use Rattle.bus_world.specs.Headline.{puts}
@@ -7,9 +10,10 @@ use Rattle.rand_core.specs.Stream.{Stream}
 use Rattle.bus_automaton.specs.Lawful.{ProcessLaws}
 use Rattle.bus_automaton.specs.Processes.{Process}
 use Rattle.bus_pageslot.specs.Seats.{SenderSeat, actions_of}
-use Rattle.bus_pageslot.specs.Turns.{Tellings, AsksOn, Goes, DrawsOn, TurnsDrawing, TakesWhile}
-use Rattle.bus_pageslot.specs.Turns.{TakesOne, TakesMore}
-use Rattle.bus_pageslot.proofs.Sending.{turned_puts, drawn_on}
+use Rattle.bus_pageslot.specs.Turns.{Tellings, AsksOn, DrawsOn, TurnsDrawing, word_drawn}
+use Rattle.bus_pageslot.specs.Turns.{GoesPlainly, NoneYet, Next, TakesPlainly, TakesSome}
+use Rattle.bus_pageslot.specs.Turns.{TakesOn, Again}
+use Rattle.bus_pageslot.proofs.Plain.{goes_asking, goes_drawing, goes_putting, takes_plainly}
 
 -- what led to the last turn of a row, and that turn
 pub record LastOf {C F : Type 0} (P : Process C) (T : Tellings C) (Tells : F → Bool → F → Type 0)
@@ -22,58 +26,94 @@ pub record LastOf {C F : Type 0} (P : Process C) (T : Tellings C) (Tells : F →
   pub same : puts (actions_of P old) ≡ puts (actions_of P at)
   pub last : TurnsDrawing P T old before answer new left
 
--- nobody asks behind the others, which all answer Going
+-- nobody asks behind the others, which all answer Going and draw no word
 pub last_of : {C F : Type 0} {P : Process C} {T : Tellings C} {Tells : F → Bool → F → Type 0}
-    {first : SenderSeat C} {given f : F} {words : Stream} {So : C → Type 0} {at : SenderSeat C}
-    {before : Stream} → ProcessLaws P → (answer : Turn) (new : SenderSeat C) (left : Stream)
+    {first : SenderSeat C} {given f : F} {words : Stream} {at : SenderSeat C} {before : Stream}
+    → ProcessLaws P → (answer : Turn) (new : SenderSeat C) (left : Stream)
     → AsksOn P T Tells first given at f → DrawsOn P T first words at before
-    → TakesWhile P T So at before answer new left
+    → TakesSome P T at before answer new left
     → LastOf P T Tells first given f words at answer new left
-last_of {at = at} {before = before} K _ _ _ asks draws (TakesOne answer new left so one) = record {
-  old = at;
-  before = before;
-  asks = asks;
-  draws = draws;
-  same = refl;
-  last = one;
-}
-last_of {P = P} {T = T} {first = first} {f = f} {words = words} K _ _ _ asks draws
-    (TakesMore old mid answer new left takes so one) =
-    let b = last_of K Going old mid asks draws takes in
-    record {
-      old = old;
-      before = mid;
-      asks = Goes b.old f b.last.word Going old b.asks b.last.turned refl refl;
-      draws = drawn_on P T first words b.old b.before b.last.word Going old mid b.last.drawn b.draws
-          b.last.turned;
-      same = turned_puts P T K b.old b.last.word Going old b.last.turned ∙ b.same;
-      last = one;
+last_of {P = P} {T = T} {Tells = Tells} {first = first} {given = given} {f = f} {words = words}
+    {at = at} {before = before} K answer new left asks draws some = record {
+      old = some.old;
+      before = before;
+      asks = goes_asking P T Tells first given f at some.n some.old asks some.before;
+      draws = goes_drawing P T first words before at some.n some.old draws some.before;
+      same = goes_putting P T K at some.n some.old some.before;
+      last = some.last;
     }
 
 -- whatever was so before each
+pub goes_any : {C : Type 0} {P : Process C} {T : Tellings C} {So : C → Type 0}
+    {first : SenderSeat C} (n : ℕ) (new : SenderSeat C) → GoesPlainly P T So first n new
+    → GoesPlainly P T (λ c. Unit {0}) first n new
+goes_any _ _ NoneYet = NoneYet
+goes_any _ _ (Next n old new goes one) = Next n old new (goes_any n old goes) (record {
+  plain = tt;
+  wordless = one.wordless;
+  turned = one.turned;
+})
+
 pub takes_any : {C : Type 0} {P : Process C} {T : Tellings C} {So : C → Type 0}
-    {first : SenderSeat C} {given : Stream} (answer : Turn) (new : SenderSeat C) (left : Stream)
-    → TakesWhile P T So first given answer new left
-    → TakesWhile P T (λ c. Unit {0}) first given answer new left
-takes_any _ _ _ (TakesOne answer new left so one) = TakesOne answer new left tt one
-takes_any _ _ _ (TakesMore old mid answer new left takes so one) =
-    TakesMore old mid answer new left (takes_any Going old mid takes) tt one
+    {first : SenderSeat C} (many : ℕ) (answer : Turn) (new : SenderSeat C)
+    → TakesPlainly P T So first many answer new
+    → TakesPlainly P T (λ c. Unit {0}) first many answer new
+takes_any many answer new takes = record {
+  n = takes.n;
+  old = takes.old;
+  before = goes_any takes.n takes.old takes.before;
+  so = tt;
+  wordless = takes.wordless;
+  turned = takes.turned;
+  all = takes.all;
+}
 
--- none so far, or one or more
-abbrev pub TakenWhile : {C : Type 0} → Process C → Tellings C → (C → Type 0) → SenderSeat C
-    → Stream → SenderSeat C → Stream → ℕ → Type 0
-TakenWhile P T So first given new left count =
-    ((count ≡ 0) × (new ≡ first) × (left ≡ given)) ⊎ TakesWhile P T So first given Going new left
+-- one or more that all answered Going, of which the last did
+pub goes_last : {C : Type 0} {P : Process C} {T : Tellings C} {So : C → Type 0}
+    {first : SenderSeat C} (many : ℕ) (new : SenderSeat C) → GoesPlainly P T So first many new
+    → 0 < many → TakesPlainly P T So first many Going new
+goes_last _ _ NoneYet some = absurd (omega (arith, some))
+goes_last _ _ (Next n old new goes one) some = record {
+  n = n;
+  old = old;
+  before = goes;
+  so = one.plain;
+  wordless = one.wordless;
+  turned = one.turned;
+  all = omega arith;
+}
 
--- and then one more
-pub while_next : {C : Type 0} {P : Process C} {T : Tellings C} {So : C → Type 0}
-    {first : SenderSeat C} {given : Stream} {count : ℕ} (old : SenderSeat C) (words : Stream)
-    (answer : Turn) (new : SenderSeat C) (left : Stream)
-    → TakenWhile P T So first given old words count → So old.core
-    → TurnsDrawing P T old words answer new left → TakesWhile P T So first given answer new left
-while_next {C = C} {P = P} {T = T} {So = So} old words answer new left (inl none) so one =
-    TakesOne answer new left (subst (λ y. So y.core) none.1 so)
-    (subst (λ (y : SenderSeat C × Stream). TurnsDrawing P T y.0 y.1 answer new left)
-    (λ i. (none.1 i, none.2 i)) one)
-while_next old words answer new left (inr takes) so one =
-    TakesMore old words answer new left takes so one
+-- up to one that asks for a word, where the first one does not
+pub goes_some : {C : Type 0} {P : Process C} {T : Tellings C} {So : C → Type 0}
+    {first : SenderSeat C} (many : ℕ) (new : SenderSeat C) → GoesPlainly P T So first many new
+    → P.wants_word first.core ≡ false → P.wants_word new.core ≡ true → 0 < many
+goes_some _ _ NoneYet wordless wants = absurd (true≢false (sym wants ∙ wordless))
+goes_some _ _ (Next n old new goes one) wordless wants = omega arith
+
+-- they draw no word
+pub takes_some : {C : Type 0} {P : Process C} {T : Tellings C} {first : SenderSeat C}
+    (many : ℕ) (answer : Turn) (new : SenderSeat C) (words : Stream)
+    → TakesPlainly P T (λ c. Unit {0}) first many answer new
+    → TakesSome P T first words answer new words
+takes_some many answer new words takes = record {
+  n = takes.n;
+  old = takes.old;
+  before = takes.before;
+  last = record {
+    word = 0;
+    drawn = ap (λ b. word_drawn b words) (sym takes.wordless);
+    turned = takes.turned;
+  };
+}
+
+-- so many more behind a turn that answered Going
+pub takes_more : {C : Type 0} {P : Process C} {T : Tellings C} {So : C → Type 0}
+    {first mid : SenderSeat C} {word n : ℕ} (before : Turn) (many : ℕ) (answer : Turn)
+    (new : SenderSeat C) → TakesOn P T first word n before mid → still_goes before ≡ true
+    → TakesPlainly P T So mid many answer new → TakesOn P T first word (n + many) answer new
+takes_more {P = P} {T = T} {first = first} {word = word} {n = n} before many answer new on goes
+    takes =
+    let same : n + takes.n + 1 ≡ n + many = let all = takes.all in omega arith in
+    subst (λ m. TakesOn P T first word m answer new) same
+    (Again (n + takes.n) before takes.old 0 answer new
+    (takes_plainly before takes.n takes.old on goes takes.before) goes takes.wordless takes.turned)

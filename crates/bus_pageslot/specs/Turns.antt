@@ -153,7 +153,6 @@ pub data DrawsOn {C : Type 0} (P : Process C) (T : Tellings C) (first : SenderSe
       → Turned P T old (word_drawn (P.wants_word old.core) words).0 answer new
       → DrawsOn P T first given new (word_drawn (P.wants_word old.core) words).1
 
--- ---- turns in a row that a generator has the words of
 -- a turn, whose word was what a generator was to answer, and what that is left with
 pub record TurnsDrawing {C : Type 0} (P : Process C) (T : Tellings C) (old : SenderSeat C)
     (words : Stream) (answer : Turn) (new : SenderSeat C) (left : Stream) : Type 0 where
@@ -161,21 +160,27 @@ pub record TurnsDrawing {C : Type 0} (P : Process C) (T : Tellings C) (old : Sen
   pub drawn : (word, left) ≡ word_drawn (P.wants_word old.core) words
   pub turned : Turned P T old word answer new
 
--- Such turns, one or more, led from one sender to another: before each of them the sender was so,
--- and each but the last answered Going. The answer is the last one's.
-pub data TakesWhile {C : Type 0} (P : Process C) (T : Tellings C) (So : C → Type 0)
-    (first : SenderSeat C) (given : Stream) : Turn → SenderSeat C → Stream → Type 0 where
-  TakesOne : (answer : Turn) (new : SenderSeat C) (left : Stream) → So first.core
-      → TurnsDrawing P T first given answer new left → TakesWhile P T So first given answer new left
-  TakesMore : (old : SenderSeat C) (words : Stream) (answer : Turn) (new : SenderSeat C)
-      (left : Stream) → TakesWhile P T So first given turn.Going old words → So old.core
-      → TurnsDrawing P T old words answer new left → TakesWhile P T So first given answer new left
+-- ---- turns in a row, of which the last one's answer is given
+-- So many led from one sender to another, and none asked for a random word: before each of them the
+-- sender was so, and each but the last answered Going.
+pub record TakesPlainly {C : Type 0} (P : Process C) (T : Tellings C) (So : C → Type 0)
+    (first : SenderSeat C) (many : ℕ) (answer : Turn) (new : SenderSeat C) : Type 0 where
+  pub n : ℕ
+  pub old : SenderSeat C
+  pub before : GoesPlainly P T So first n old
+  pub so : So old.core
+  pub wordless : P.wants_word old.core ≡ false
+  pub turned : Turned P T old 0 answer new
+  pub all : many ≡ n + 1
 
--- whatever was so before each of them
-abbrev pub TakesSome : {C : Type 0} → Process C → Tellings C → SenderSeat C → Stream → Turn
-    → SenderSeat C → Stream → Type 0
-TakesSome P T first given answer new left =
-    TakesWhile P T (λ c. Unit {0}) first given answer new left
+-- One or more led from one sender to another: each but the last answered Going and asked for no
+-- random word, and the word of the last one was what a generator was to answer.
+pub record TakesSome {C : Type 0} (P : Process C) (T : Tellings C) (first : SenderSeat C)
+    (words : Stream) (answer : Turn) (new : SenderSeat C) (left : Stream) : Type 0 where
+  pub n : ℕ
+  pub old : SenderSeat C
+  pub before : GoesPlainly P T (λ c. Unit {0}) first n old
+  pub last : TurnsDrawing P T old words answer new left
 
 -- its next step is one of the election of this tenure, of which it knows no owner yet
 abbrev pub ElectsIn : {E : Type 0} → Election E → Sender E → ℕ → Type 0

@@ -437,21 +437,7 @@ impl<Q: Ratifier + Drop> Sender<Q> {
         ensures { (result, R.stream rng.new) ≡ word_drawn ((process_by Q.Ratifier).wants_word
             self.now.core) (R.stream rng.old) }
     {
-        self.word_for(self.next_step(), rng)
-    }
-
-    /// The word of the turn of which `next_step` told `next`.
-    #[inline(always)]
-    fn word_for<R: Rng>(&self, next: Step, rng: &mut R) -> u32
-        requires { let X = election_of Q.Ratifier in step_of (situation X self.now.core) ≡ next }
-        ensures { (result, R.stream rng.new) ≡ word_drawn ((process_by Q.Ratifier).wants_word
-            self.now.core) (R.stream rng.old) }
-    {
-        if self.wants_word_for(next) {
-            rng.next_u32()
-        } else {
-            0
-        }
+        if self.wants_word() { rng.next_u32() } else { 0 }
     }
 
     /// Whether the turn asks for a random word of which `next_step` told `next`.

@@ -1,6 +1,6 @@
 //! One step of a sender on one word, with which the page comes to it or goes home.
 
-ghost use Rattle.std.specs.Prelude.{◌≡◌, ℕ, ◌+◌, ◌<◌, ◌≤◌, ◌^◌, ◌∷◌, true, [], Some, None, IsTrue};
+ghost use Rattle.std.specs.Prelude.{◌≡◌, ℕ, ◌+◌, ◌<◌, ◌≤◌, ◌^◌, ◌∷◌, true, false, [], Some, None, IsTrue};
 ghost use Rattle.std.specs.Prelude.{IsSome, length, slice_index, unwrap_or};
 ghost use Rattle.bus_register.specs.Words.{register};
 ghost use Rattle.bus_tenure.specs.Elections.{election_of};
@@ -15,8 +15,8 @@ ghost use Rattle.bus_pageslot.specs.Steps.{laid_at, carried_of, out_with, stored
 ghost use Rattle.bus_pageslot.specs.Steps.{GoesOn, Due, slot_in, slots_emptied};
 ghost use Rattle.bus_pageslot.specs.Rule.{stored_in};
 ghost use Rattle.bus_pageslot.specs.Seats.{Shows, TookAndTold};
-ghost use Rattle.bus_pageslot.specs.Turns.{tells_by, GoesPlainly, TakesWhile, ElectsIn};
-ghost use Rattle.bus_pageslot.specs.Turns.{IsElecting, word_drawn};
+ghost use Rattle.bus_pageslot.specs.Turns.{tells_by, GoesPlainly, TakesPlainly, ElectsIn};
+ghost use Rattle.bus_pageslot.specs.Turns.{IsElecting};
 
 use crate::rule::{BusSeat, Told};
 use crate::words::Words;
@@ -25,7 +25,6 @@ use bus_automaton::laws::threads_may_go_by;
 use bus_core::{Row, SenderCore, Step};
 use bus_register::{Op, Reg};
 use bus_tenure::Turn;
-use rand_core::Rng;
 use std::marker::Brand;
 
 /// A sender that is to give the page back puts it into its slot. What it does next becomes what it
@@ -230,9 +229,6 @@ pub(crate) fn store_row<Q: Ratifier + Drop>(
     }
 }
 
-/// How many turns of an election `elect_row` takes at most.
-const MOST_ELECTION_TURNS: u32 = 256;
-
 /// The turn of a sender whose step is one of its election, on the row that `election_row` told.
 /// None says that the election goes on, and the answer is Going; else it has ended, with this
 /// answer.
@@ -270,53 +266,39 @@ fn elect_once<Q: Ratifier + Drop, K: Told<SenderCore<Q>>>(
     core.elect_on(tenure, got, word)
 }
 
-/// The word of a turn of an election: of a vote the next one of `rng`, and else none is drawn.
+/// Turns in a row of an election that runs, at most so many: up to a vote, and none once it has
+/// ended. How many it took, and the answer of the last one.
 #[inline(always)]
-fn word_of_election<Q: Ratifier + Drop, R: Rng>(
-    core: &SenderCore<Q>,
-    tenure: u64,
-    rng: &mut R,
-) -> u32
-    requires { ElectsIn (election_of Q.Ratifier) core.now tenure }
-    ensures { (result, R.stream rng.new) ≡ word_drawn ((process_by Q.Ratifier).wants_word
-        core.now) (R.stream rng.old) }
-{
-    if core.election_wants_word(tenure) {
-        rng.next_u32()
-    } else {
-        0
-    }
-}
-
-/// Turns in a row of an election that runs, one at least, and none once it has ended. The answer is
-/// the last one's.
-#[inline(always)]
-pub(crate) fn elect_row<Q: Ratifier + Drop, R: Rng>(
+pub(crate) fn elect_row<Q: Ratifier + Drop>(
     words: &Words<Q>,
     seat: &mut BusSeat<Q>,
     core: &mut SenderCore<Q>,
     tenure: u64,
-    rng: &mut R,
-) -> Turn
+    most: u64,
+) -> (u64, Turn)
     requires table { seat.old.table_id ≡ words.now.table }
     requires shows { Shows (process_by Q.Ratifier) core.old seat.old }
     requires elects { ElectsIn (election_of Q.Ratifier) core.old tenure }
+    requires wordless { (process_by Q.Ratifier).wants_word core.old ≡ false }
+    requires some { 0 < most }
     ensures table { (seat.new.table_id ≡ seat.old.table_id) × (seat.new.id ≡ seat.old.id) }
     ensures shows { Shows (process_by Q.Ratifier) core.new seat.new }
     ensures stored { stored_in seat.new.me.0 ≡ stored_in seat.old.me.0 }
-    ensures takes { TakesWhile (process_by Q.Ratifier) (tells_by Q.Ratifier)
+    ensures few { result.0 ≤ most }
+    ensures takes { TakesPlainly (process_by Q.Ratifier) (tells_by Q.Ratifier)
         (IsElecting (election_of Q.Ratifier)) (record { core = core.old; seat = seat.old })
-        (R.stream rng.old) result (record { core = core.new; seat = seat.new })
-        (R.stream rng.new) }
+        result.0 result.1 (record { core = core.new; seat = seat.new }) }
 {
     let row = core.election_row(tenure);
-    for _taken in 0..MOST_ELECTION_TURNS {
-        let word = word_of_election(core, tenure, rng);
-        if let Some(answer) = elect_once::<Q, Brand>(words, seat, core, tenure, row, word) {
-            return answer;
+    for taken in 0..most {
+        if core.election_wants_word(tenure) {
+            return (taken, Turn::Going);
+        }
+        if let Some(answer) = elect_once::<Q, Brand>(words, seat, core, tenure, row, 0) {
+            return (taken + 1, answer);
         }
     }
-    Turn::Going
+    (most, Turn::Going)
 }
 
 /// The last length that a sender has stored, once it takes this step. `before` is the one that it

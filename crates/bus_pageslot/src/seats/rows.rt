@@ -1,14 +1,14 @@
 //! A sender that takes turns in a row.
 
-ghost use Rattle.std.specs.Prelude.{◌≡◌, ℕ, ◌≤◌, ◌<◌, None, Some};
+ghost use Rattle.std.specs.Prelude.{◌≡◌, ℕ, ◌≤◌, ◌<◌, None, Some, false};
 ghost use Rattle.bus_automaton.specs.Buses.{process_by};
 ghost use Rattle.bus_core.specs.Doings.{step_of};
 ghost use Rattle.bus_core.specs.Plain.{IsPlain, StoresPlain};
 ghost use Rattle.bus_core.specs.Senders.{situation};
 ghost use Rattle.bus_core.specs.Telling.{FeedTells, RestTells};
 ghost use Rattle.bus_pageslot.specs.Seats.{table_of, TookAndTold};
-ghost use Rattle.bus_pageslot.specs.Turns.{tells_by, TakesUpTo, GoesPlainly, TurnsDrawing};
-ghost use Rattle.bus_pageslot.specs.Turns.{TakesWhile, TakesSome, ElectsIn, IsElecting};
+ghost use Rattle.bus_pageslot.specs.Turns.{tells_by, TakesUpTo, GoesPlainly, TakesPlainly};
+ghost use Rattle.bus_pageslot.specs.Turns.{TakesSome, ElectsIn, IsElecting};
 ghost use Rattle.bus_register.specs.declared.registers.Op.{Op};
 ghost use Rattle.bus_tenure.specs.Classes.{still_goes};
 ghost use Rattle.bus_tenure.specs.Elections.{election_of};
@@ -20,6 +20,9 @@ use bus_adoptcommit::Ratifier;
 use bus_core::Step;
 use bus_tenure::{Doing, Turn};
 use rand_core::Rng;
+
+/// How many turns of an election `next_turns` takes at most.
+const MOST_ELECTION_TURNS: u64 = 256;
 
 impl<Q: Ratifier + Drop> Sender<Q> {
     /// A turn with this random word, and as long as the last one was answered Going up to so many
@@ -47,8 +50,9 @@ impl<Q: Ratifier + Drop> Sender<Q> {
             if self.wants_word_for(next) {
                 return turn;
             }
-            turn = self.turn_apart(bus, next, 0);
-            taken += 1;
+            let (many, last) = self.wordless_turns(bus, next, more - taken);
+            turn = last;
+            taken += many;
         }
         turn
     }
@@ -142,8 +146,8 @@ impl<Q: Ratifier + Drop> Sender<Q> {
         many
     }
 
-    /// The next turn, and where that is one of an election, those of it that follow. The answer is
-    /// the last one's.
+    /// The next turn, and where that is one of an election, those of it that follow, up to a vote.
+    /// The answer is the last one's.
     #[inline(always)]
     pub(super) fn next_turns<R: Rng>(&mut self, bus: &Bus<Q>, rng: &mut R) -> Turn
         requires { table_of self.old ≡ bus.now.table }
@@ -151,40 +155,52 @@ impl<Q: Ratifier + Drop> Sender<Q> {
         ensures some { TakesSome (process_by Q.Ratifier) (tells_by Q.Ratifier) self.old
             (R.stream rng.old) result self.new (R.stream rng.new) }
     {
-        match self.next_step() {
-            Step::Does(Doing::Elects { tenure }) => self.election_turns(bus, tenure, rng),
-            next => self.turn_drawing(bus, next, rng),
+        let next = self.next_step();
+        if !self.wants_word_for(next) {
+            let (_many, last) = self.wordless_turns(bus, next, MOST_ELECTION_TURNS);
+            return last;
         }
+        let word = rng.next_u32();
+        self.full_turn(bus, word)
     }
 
-    /// Turns in a row of an election that runs, one at least, and none once it knows an owner. The
-    /// answer is the last one's.
-    #[inline(never)]
-    fn election_turns<R: Rng>(&mut self, bus: &Bus<Q>, begun: u64, rng: &mut R) -> Turn
-        requires table { table_of self.old ≡ bus.now.table }
-        requires elects { ElectsIn (election_of Q.Ratifier) self.old.core begun }
-        ensures table { table_of self.new ≡ table_of self.old }
-        ensures takes { TakesWhile (process_by Q.Ratifier) (tells_by Q.Ratifier)
-            (IsElecting (election_of Q.Ratifier)) self.old (R.stream rng.old) result self.new
-            (R.stream rng.new) }
-    {
-        elect_row(&bus.words, &mut self.seat, &mut self.core, begun, rng)
-    }
-
-    /// The turn of which `next_step` told `next`, with the word that it asks for.
+    /// The turn of which `next_step` told `next`, which asks for no random word, and where it is
+    /// one of an election, those of it that follow, up to a vote; at most so many: how many it
+    /// took, and the last one's answer.
     #[inline(always)]
-    fn turn_drawing<R: Rng>(&mut self, bus: &Bus<Q>, next: Step, rng: &mut R) -> Turn
+    fn wordless_turns(&mut self, bus: &Bus<Q>, next: Step, most: u64) -> (u64, Turn)
         requires table { table_of self.old ≡ bus.now.table }
         requires next { let X = election_of Q.Ratifier in
             step_of (situation X self.old.core) ≡ next }
+        requires wordless { (process_by Q.Ratifier).wants_word self.old.core ≡ false }
+        requires some { 0 < most }
         ensures table { table_of self.new ≡ table_of self.old }
-        ensures draws { TurnsDrawing (process_by Q.Ratifier) (tells_by Q.Ratifier) self.old
-            (R.stream rng.old) result self.new (R.stream rng.new) }
-        ensures some { TakesSome (process_by Q.Ratifier) (tells_by Q.Ratifier) self.old
-            (R.stream rng.old) result self.new (R.stream rng.new) }
+        ensures few { result.0 ≤ most }
+        ensures takes { TakesPlainly (process_by Q.Ratifier) (tells_by Q.Ratifier) (λ c. Unit)
+            self.old result.0 result.1 self.new }
     {
-        let word = self.word_for(next, rng);
-        self.turn_apart(bus, next, word)
+        if let Step::Does(doing) = next {
+            if let Doing::Elects { tenure } = doing {
+                return self.election_turns(bus, tenure, most);
+            }
+        }
+        (1, self.turn_apart(bus, next, 0))
+    }
+
+    /// Turns in a row of an election that runs, at most so many: up to a vote, and none once it
+    /// knows an owner. How many it took, and the last one's answer.
+    #[inline(never)]
+    fn election_turns(&mut self, bus: &Bus<Q>, begun: u64, most: u64) -> (u64, Turn)
+        requires table { table_of self.old ≡ bus.now.table }
+        requires elects { ElectsIn (election_of Q.Ratifier) self.old.core begun }
+        requires wordless { (process_by Q.Ratifier).wants_word self.old.core ≡ false }
+        requires some { 0 < most }
+        ensures table { table_of self.new ≡ table_of self.old }
+        ensures few { result.0 ≤ most }
+        ensures takes { TakesPlainly (process_by Q.Ratifier) (tells_by Q.Ratifier)
+            (IsElecting (election_of Q.Ratifier)) self.old result.0 result.1 self.new }
+    {
+        elect_row(&bus.words, &mut self.seat, &mut self.core, begun, most)
     }
 
     /// The turn of which `next_step` told `next`. A situation that is often has a copy of it, which
@@ -204,7 +220,6 @@ impl<Q: Ratifier + Drop> Sender<Q> {
     {
         match next {
             Step::Does(Doing::Looks) => self.turn_by(bus, next, word),
-            Step::Does(Doing::Elects { .. }) => self.turn_by(bus, next, word),
             Step::Does(Doing::Takes { .. }) => self.turn_by(bus, next, word),
             Step::Does(Doing::Length { .. }) => self.turn_by(bus, next, word),
             Step::Does(Doing::Back { .. }) => self.turn_by(bus, next, word),

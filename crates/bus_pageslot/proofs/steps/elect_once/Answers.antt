@@ -1,4 +1,4 @@
-use Rattle.std.proofs.Common.{ℕ, ◌<◌, ◌≤◌, Option, Some, IfSome, IsSome, refl, sym, ◌∙◌, ap}
+use Rattle.std.proofs.Common.{ℕ, ◌<◌, ◌≤◌, Option, IfSome, IsSome, refl, sym, ◌∙◌, ap}
 use Rattle.std.proofs.Common.{subst, unwrap_or}
 use Rattle.bus_register.specs.Words.{register}
 use Rattle.bus_core.specs.Senders.{Sender, words_all}

@@ -1,15 +1,26 @@
 use Rattle.std.proofs.Common.{sym, ◌∙◌, ap}
-use Rattle.bus_core.specs.declared.steps.Step.TheVariants as step
-use Rattle.bus_pageslot.specs.Turns.{tells_with}
-use Rattle.bus_pageslot.proofs.Rows.{takes_any}
+use Rattle.bus_pageslot.specs.Turns.{tells_with, word_drawn, NoneYet}
+use Rattle.bus_pageslot.proofs.Rows.{takes_some}
 use Rattle.bus_pageslot.proofs.seats.Sender.next_turns.Goals as goal
 
-pub election_turns-requires-clause-elects : goal.election_turns-requires-clause-elects
-election_turns-requires-clause-elects g c =
-    sym c.next_step.ensures ∙ c.in-Does-Elects.is ∙ ap step.Does c.in-Does-Elects.field-0-is
-
-pub returns-in-Does-Elects-clause-some : goal.returns-in-Does-Elects-clause-some
+-- a vote
+pub returns-clause-some : goal.returns-clause-some
 unfolding tells_with
-returns-in-Does-Elects-clause-some g c =
-    takes_any c.election_turns.result c.election_turns.new.self
-    (g.R.Rng.stream c.election_turns.new.rng) c.election_turns.ensures.takes
+returns-clause-some g c = record {
+  n = 0;
+  old = c.args.self.now;
+  before = NoneYet;
+  last = record {
+    word = c.next_u32-word.result;
+    drawn = c.next_u32-word.ensures
+        ∙ ap (λ b. word_drawn b (g.R.Rng.stream c.args.rng.now))
+        (sym (sym c.wants_word_for.ensures ∙ c.if-not-wants_word_for.false));
+    turned = record { rests = c.full_turn.ensures.rests; steps = c.full_turn.ensures.steps };
+  };
+}
+
+pub returns-then-not-wants_word_for-clause-some : goal.returns-then-not-wants_word_for-clause-some
+unfolding tells_with
+returns-then-not-wants_word_for-clause-some g c =
+    takes_some c.wordless_turns-many.result.0 c.wordless_turns-many.result.1 c.wordless_turns-many.new.self
+    (g.R.Rng.stream c.args.rng.now) c.wordless_turns-many.ensures.takes

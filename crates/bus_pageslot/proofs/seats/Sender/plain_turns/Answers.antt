@@ -1,11 +1,8 @@
-use Rattle.std.proofs.Common.{arith, refl, sym, ◌∙◌, subst}
+use Rattle.std.proofs.Common.{arith, sym, ◌∙◌, subst}
 use Rattle.std.proofs.lemmas.Bool.{true≢false}
-use Rattle.bus_automaton.specs.Buses.{process_with}
 use Rattle.bus_core.specs.Plain.{IsPlain, StoresPlain}
 use Rattle.bus_tenure.specs.Elections.{election_with}
-use Rattle.bus_pageslot.specs.Turns.{tells_with, TurnsPlainly, NoneYet, Next}
-use Rattle.bus_pageslot.proofs.Plain.{due_some, goes_nowhere}
-use Rattle.bus_pageslot.proofs.Processes.{plain_op, plain_draws_none}
+use Rattle.bus_pageslot.specs.Turns.{NoneYet}
 use Rattle.bus_pageslot.proofs.seats.Sender.plain_turns.Goals as goal
 
 pub returns-then-not-plain-clause-exact : goal.returns-then-not-plain-clause-exact

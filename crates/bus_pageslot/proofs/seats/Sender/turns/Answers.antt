@@ -1,7 +1,8 @@
 use Rattle.std.proofs.Common.{◌+◌, inl, inr, arith, sym, ◌∙◌}
 use Rattle.std.proofs.lemmas.Bool.{true≢false}
-use Rattle.bus_pageslot.specs.Turns.{tells_with, Once, Again}
+use Rattle.bus_pageslot.specs.Turns.{tells_with, Once}
 use Rattle.bus_pageslot.proofs.Plain.{takes_plainly}
+use Rattle.bus_pageslot.proofs.Rows.{takes_more}
 use Rattle.bus_pageslot.proofs.seats.Sender.turns.Goals as goal
 
 pub loop-init : goal.loop-init
@@ -61,20 +62,16 @@ loop-preserved g c =
     let goes = sym c.is_going.ensures ∙ c.if-not-is_going.false in
     let row = takes_plainly c.loop.turn c.plain_turns-taken.result c.plain_turns-taken.new.self
     c.loop.invariant.0 goes c.plain_turns-taken.ensures.goes in
-    let wordless = sym c.wants_word_for.ensures ∙ c.if-wants_word_for.false in
     let most = c.plain_turns-taken.ensures.few in
     let less = c.loop.invariant.2 in
     let so = c.loop.invariant.1 in
-    let left = c.if-taken-more.false in (
-      Again (c.loop.taken + c.plain_turns-taken.result) c.loop.turn c.plain_turns-taken.new.self 0
-          c.turn_apart-turn.result c.turn_apart-turn.new.self row goes wordless
-          (record {
-            rests = c.turn_apart-turn.ensures.rests;
-            steps = c.turn_apart-turn.ensures.steps;
-          }),
+    let few = c.wordless_turns-many.ensures.few in
+    let all = c.wordless_turns-many.ensures.takes.all in (
+      takes_more c.loop.turn c.wordless_turns-many.result.0 c.wordless_turns-many.result.1
+          c.wordless_turns-many.new.self row goes c.wordless_turns-many.ensures.takes,
       omega arith,
       omega arith,
-      c.turn_apart-turn.ensures.table ∙ c.plain_turns-taken.ensures.table ∙ c.loop.invariant.3,
+      c.wordless_turns-many.ensures.table ∙ c.plain_turns-taken.ensures.table ∙ c.loop.invariant.3,
     )
 
 -- all were taken, each of the last ones by itself
