@@ -17,7 +17,7 @@ pub const BUS: &str = "Examples:
   bus run --log | bus log --senders 3
 
 'bus COMMAND --help' says more of a command. Formats, refusals and exit statuses stand in
-docs/FORMATS.md, and examples/tour has eight commented scripts.";
+docs/FORMATS.md, and examples/tour has nine commented scripts.";
 
 /// How `ratify` is called. It and the three below it read standard input.
 pub const RATIFY_USAGE: &str = "bus ratify < FILE";

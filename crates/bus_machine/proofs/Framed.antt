@@ -73,7 +73,7 @@ use Rattle.bus_machine.specs.Proved.Bridge.{of_bus, plain_trails, core_in, passi
 use Rattle.bus_machine.specs.Proved.Bridge.{protocol_of, IsLed}
 use Rattle.bus_machine.specs.Machine.{base_of, Machine, Trails, Reached, log_place}
 use Rattle.bus_machine.specs.Machine.{FindsWords, ShowsLog, floor_of, log_of, passers_place}
-use Rattle.bus_machine.specs.Machine.{stage_of, ShowsPassed, StandsBelow}
+use Rattle.bus_machine.specs.Machine.{stage_of, passed_by, ShowsPassed, StandsBelow}
 use Rattle.bus_machine.specs.Promise.{IsPageOf, ReusesRows, ReusesSafely}
 use Rattle.bus_machine.specs.Remembering.{rows_in}
 
@@ -134,6 +134,10 @@ pub record IsFramed {E : Type 0} (P : Protocol E (Unit {0}) ℕ) (m : Machine E)
       × (v.gone ≡ false → floor_of m ≤ v.place)
   -- and shows what it has passed, or that it has left
   pub passes : ShowsPassed m
+  -- of one that has not left: no place past its own, and one where a frame begins
+  pub heard : (r : ℕ) (v : Receiving) (at : ℕ) → slice_get m.receivers r ≡ Some v
+      → passed_by m.layout m.reuse r ≡ Some at → v.gone ≡ false
+      → (slice_index m.words at ≤ v.place) × IsBoundary frames (slice_index m.words at)
   pub given : (r : ℕ) (v : Receiving) → slice_get m.receivers r ≡ Some v
       → order_given (T.heard r) ≡ given_at frames v
   pub takers : Takers owners T.actions
@@ -290,6 +294,13 @@ module _ {E : Type 0} (X : Election E) (P : Protocol E (Unit {0}) ℕ) where
           log_straight this flat many ∙ promise.shows ∙ ap (λ n. drop n T.log) (sym first),
         )
 
+    -- there is no passed place
+    none_passed : (r place : ℕ) (b : Bool) → nat_lt r x.passers ≡ b
+        → cond {A = Option ℕ} b (Some (passers_place x None + PASSED_APART * r)) None ≡ Some place
+        → ⊥
+    none_passed r place false e i = absurd cc
+    none_passed r place true e i = let low = ltb-true r x.passers e in omega arith
+
     floored_at : (p : ℕ) (v : Sender E) (t : ℕ) (page : Page) (stored : ℕ) (published : Bool)
         → slice_get this.senders p ≡ Some v → v.core.phase ≡ Holding t page stored published
         → page.floor ≡ 0
@@ -341,6 +352,8 @@ module _ {E : Type 0} (X : Election E) (P : Protocol E (Unit {0}) ℕ) where
       passes = λ r v place at is. absurd (let bad : None ≡ Some place =
           sym (k.lawful.keeps.never r v at).never ∙ is in
           cc);
+      heard = λ r v place at is stays. absurd
+          (none_passed r place (nat_lt r x.passers) refl is);
       given = λ r v at. (k.tied.heard r v at).given_is;
       takers = promise.takers;
       promises = promise.promises;
@@ -515,6 +528,57 @@ module _ {E : Type 0} (X : Election E) (P : Protocol E (Unit {0}) ℕ) where
             ap (slice_index m.words) (sym (same_Some _ _ i))
             ∙ shows (ltb-true r m.layout.passers e) v.gone refl
 
+    -- of one that has not left that is no place past its own, and one where a frame begins
+    heard_some : (r : ℕ) (v : Receiving) (place : ℕ) → slice_get m.receivers r ≡ Some v
+        → passed_by m.layout m.reuse r ≡ Some place → v.gone ≡ false
+        → (slice_index m.words place ≤ v.place)
+        × IsBoundary kept.frames (slice_index m.words place)
+    heard_some r v place at is stays = by (nat_lt r m.layout.passers) refl
+        (subst (λ o. passed_by m.layout o r ≡ Some place) l.reuse is) where
+          its : IsPasser m.layout rows (slice_index m.words) kept.kept.floor r v
+          its = kept.kept.floors.each r v at
+
+          own : IsReceiver m.layout kept.frames (length (log_words kept.frames)) (placed m.layout v)
+          own = (kept.kept.hears.each r v at).own
+
+          many : length (log_words kept.frames) < 2 ^ 48
+          many = words_low m.layout.senders kept.frames kept.kept.sending.log.lawful
+
+          at_most : (n : ℕ) → n ≡ v.passed → n ≤ v.place
+          at_most n same = let past = its.past in omega arith
+
+          -- it is not 2^64 - 1, since no log is so long
+          no_end : (n : ℕ) → n ≤ v.place → n ≡ PASSED_ALL → ⊥
+          no_end n low all =
+              let below : v.place ≤ v.known = own.receives.place_below in
+              let known : v.known ≤ length (log_words kept.frames) = own.receives.known_below in
+              let few = many in omega arith
+
+          shown : r < m.layout.passers
+              → (slice_index m.words (passed_place m.layout rows r) ≤ v.place)
+              × IsBoundary kept.frames (slice_index m.words (passed_place m.layout rows r))
+          shown below =
+              let low = at_most (slice_index m.words (passed_place m.layout rows r))
+              (its.shows stays below) in (
+                low,
+                elim (kept.kept.floors.edges r below) [
+                  | inl edge ↦ edge
+                  | inr all ↦
+                      absurd
+                      (no_end (slice_index m.words (passed_place m.layout rows r)) low all)
+                ],
+              )
+
+          by : (b : Bool) → nat_lt r m.layout.passers ≡ b
+              → cond {A = Option ℕ} b (Some (passed_place m.layout rows r)) None ≡ Some place
+              → (slice_index m.words place ≤ v.place)
+              × IsBoundary kept.frames (slice_index m.words place)
+          by false e i = absurd cc
+          by true e i =
+              subst (λ n. (slice_index m.words n ≤ v.place)
+              × IsBoundary kept.frames (slice_index m.words n))
+              (same_Some _ _ i) (shown (ltb-true r m.layout.passers e))
+
     -- one that has not left is still to hear no word before the floor
     comes_some : (r : ℕ) (v : Receiving) → slice_get m.receivers r ≡ Some v → v.gone ≡ false
         → floor_of m ≤ v.place
@@ -595,6 +659,7 @@ module _ {E : Type 0} (X : Election E) (P : Protocol E (Unit {0}) ℕ) where
       found = found_at;
       reads = reads_some;
       passes = passes_some;
+      heard = heard_some;
       given = λ r v at. (kept.kept.hears.each r v at).hears.given_is;
       takers = keeps.by.takers;
       promises = subst

@@ -97,21 +97,19 @@ published_refused m before f =
     (log_place m.layout m.reuse) m.layout.capacity (length before) since in
     record {
       other_word = λ place low other shown.
-          let same : frame_words f ≡ read = front_off before (frame_words f) read shown in
+          let same : frame_words f ≡ read = front_off before (frame_words f) read shown.1 in
           let many = ap length same in
           let below : place < since = omega arith in
           other (sym (ap (λ ws. slice_index ws place) same
           ∙ index-ring (slice_index m.words) (log_place m.layout m.reuse) m.layout.capacity
           (length before) since place below));
       other_length = λ other shown.
-          let many = ap length (front_off before (frame_words f) read shown) in
-          let some : 0 < length (frame_words f) = omega arith in
-          other (omega arith);
-      nothing = λ more shown.
-          let many = ap length shown in
-          let all = length-append before read in omega arith;
+          let all = length-append before (frame_words f) in
+          let many = shown.0 in other (omega arith);
+      nothing = λ more shown. let many = shown.0 in omega arith;
+      fallen = λ less shown. let many = shown.0 in omega arith;
       other_before = λ front long other shown.
-          other (front_same front before (frame_words f) read long shown);
+          other (front_same front before (frame_words f) read long shown.1);
     }
 
 pub logs_refused : {E : Type 0} (X : Election E) (m : Machine E) (T : Trails) → LogsRefuse X m T
@@ -133,6 +131,15 @@ logs_refused {E} X m T = record {
   passed_ahead = λ r v at stays past kept. let low = kept.by.comes r v at stays in omega arith;
   passed_otherwise = λ r v place at is stays other kept.
       other (kept.by.passes r v place at is ∙ ap (λ b. cond b PASSED_ALL v.passed) stays);
+  passed_unheard = λ r v place at is stays past kept.
+      let low = (kept.by.passed r v place at is stays).0 in omega arith;
+  passed_within = λ r v place at is stays front rest f lawful are past below kept.
+      let s = kept.by.spelled in
+      let same = same_log m.layout.senders 0 0 s.frames (front ++ f ∷ rest) s.lawful lawful
+      (s.words_are ∙ sym are) in
+      none_within front rest f (slice_index m.words place)
+      (subst (λ fs. IsBoundary fs (slice_index m.words place)) same
+      (kept.by.passed r v place at is stays).1) past below;
   left_unshown = λ r v place at is left other kept.
       other (kept.by.passes r v place at is ∙ ap (λ b. cond b PASSED_ALL v.passed) left);
   dropped = λ s v order owners at spelled other kept.

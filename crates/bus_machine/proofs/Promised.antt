@@ -45,6 +45,7 @@ module _ {E : Type 0} (X : Election E) (P : Protocol E (Unit {0}) ℕ) (m : Mach
       edge = f.edge;
       comes = λ p v at stays. (f.reads p v at).3 stays;
       passes = f.passes;
+      passed = f.heard;
       takers = told;
       promises = f.promises;
       paged = paged_it X P m T s f;

@@ -40,10 +40,12 @@ shows_same : {E : Type 0} (m : Machine E) (before after : List ℕ) → ShowsLog
 shows_same m before after shows same =
     let long = shows.0 in
     let many = ap length same in
-    let none : 0 ≡ slice_index m.words 0 - length before = omega arith in
-    same ∙ sym (append-nil before)
-    ∙ ap (λ n. before ++ words_in_ring (slice_index m.words) (log_place m.layout m.reuse)
-    m.layout.capacity (length before) n) none
+    let none : 0 ≡ slice_index m.words 0 - length before = omega arith in (
+      long,
+      same ∙ sym (append-nil before)
+          ∙ ap (λ n. before ++ words_in_ring (slice_index m.words) (log_place m.layout m.reuse)
+          m.layout.capacity (length before) n) none,
+    )
 
 -- ---- a machine, by the frames of its log
 module _ {E : Type 0} (P : Protocol E (Unit {0}) ℕ) (m : Machine E) (T : Trails)
@@ -75,10 +77,12 @@ module _ {E : Type 0} (P : Protocol E (Unit {0}) ℕ) (m : Machine E) (T : Trail
       → ShowsPublished m before T.log
   shows_joined before joined is past =
       let many = ap length is in
-      let all = length-append before joined in
-      is ∙ ap (λ ws. before ++ ws)
-      (sym (drop-append_seam before joined) ∙ ap (drop (length before)) (sym is)
-      ∙ sym (read_on (length before) past (omega arith)))
+      let all = length-append before joined in (
+        f.stands.0,
+        is ∙ ap (λ ws. before ++ ws)
+            (sym (drop-append_seam before joined) ∙ ap (drop (length before)) (sym is)
+            ∙ sym (read_on (length before) past (omega arith))),
+      )
 
 -- ---- a turn of sender s
 module _ {E : Type 0} (X : Election E) (P : Protocol E (Unit {0}) ℕ) (m m' : Machine E) (T : Trails)

@@ -12,7 +12,7 @@ use Rattle.bus_tenure.specs.Core.{Election}
 use Rattle.bus_world.specs.Headline.{puts}
 use Rattle.bus_world.specs.Waiting.{waiting_at}
 use Rattle.bus_machine.specs.Machine.{Machine, Trails, ShowsLog, ShowsPublished, floor_of, log_of}
-use Rattle.bus_machine.specs.Machine.{log_place}
+use Rattle.bus_machine.specs.Machine.{log_place, passed_by}
 use Rattle.bus_machine.specs.Promise.{IsPromised}
 
 pub record LogsRefuse {E : Type 0} (X : Election E) (m : Machine E) (T : Trails) : Type 0 where
@@ -35,6 +35,20 @@ pub record LogsRefuse {E : Type 0} (X : Election E) (m : Machine E) (T : Trails)
   -- its passed place shows another number than the place that it has passed
   pub passed_otherwise : (r : ℕ) (v : Receiving) (place : ℕ) → slice_get m.receivers r ≡ Some v
       → v.passed_at ≡ Some place → v.gone ≡ false → slice_index m.words place ≢ v.passed
+      → ¬ IsPromised X m T
+  -- the passed place of one that has not left shows a place that it has not come to, so that words
+  -- could be lost that it is still to hear
+  pub passed_unheard : (r : ℕ) (v : Receiving) (at : ℕ) → slice_get m.receivers r ≡ Some v
+      → passed_by m.layout m.reuse r ≡ Some at → v.gone ≡ false
+      → v.place < slice_index m.words at
+      → ¬ IsPromised X m T
+  -- it shows one within a frame, so that a floor could come to be there
+  pub passed_within : (r : ℕ) (v : Receiving) (at : ℕ) → slice_get m.receivers r ≡ Some v
+      → passed_by m.layout m.reuse r ≡ Some at → v.gone ≡ false
+      → (front rest : List Frame) (f : Frame)
+      → AreFrames m.layout.senders (front ++ f ∷ rest) → log_words (front ++ f ∷ rest) ≡ T.log
+      → length (log_words front) < slice_index m.words at
+      → slice_index m.words at < length (log_words front) + length (frame_words f)
       → ¬ IsPromised X m T
   -- it has left, and its passed place shows a place still, so that a floor could wait for it
   pub left_unshown : (r : ℕ) (v : Receiving) (place : ℕ) → slice_get m.receivers r ≡ Some v
@@ -65,6 +79,8 @@ pub record PublishedRefuse {E : Type 0} (m : Machine E) (before : List ℕ) (f :
       → ¬ ShowsPublished m before (before ++ frame_words f)
   -- the length was stored, and nothing was published
   pub nothing : length before < slice_index m.words 0 → ¬ ShowsPublished m before before
+  -- the length has fallen
+  pub fallen : slice_index m.words 0 < length before → ¬ ShowsPublished m before before
   -- what was published before has changed
   pub other_before : (front : List ℕ) → length front ≡ length before → front ≢ before
       → ¬ ShowsPublished m before (front ++ frame_words f)

@@ -92,13 +92,14 @@ log_of b =
 abbrev pub ShowsLog : {E : Type 0} → Machine E → List ℕ → Type 0
 ShowsLog b log = (slice_index b.words 0 ≡ length log) × (log_of b ≡ drop (floor_of b) log)
 
--- all that was published since is read from its cells, which go on where what was published
--- before ended
+-- The length counts all that is published now. What was published since stands in its cells, the
+-- first word behind the last one of what was published before.
 abbrev pub ShowsPublished : {E : Type 0} → Machine E → List ℕ → List ℕ → Type 0
 ShowsPublished b before after =
-    after
+    (slice_index b.words 0 ≡ length after)
+    × (after
     ≡ before ++ words_in_ring (slice_index b.words) (log_place b.layout b.reuse) b.layout.capacity
-    (length before) (slice_index b.words 0 - length before)
+    (length before) (slice_index b.words 0 - length before))
 
 -- the words of the log below the length, where no word of the log is used again
 abbrev pub words_below : {E : Type 0} → Machine E → List ℕ

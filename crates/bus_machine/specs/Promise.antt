@@ -36,7 +36,7 @@ use Rattle.bus_world.specs.World.{Event, Put, Ask, Turn, Recv, Stop, Gone}
 use Rattle.bus_world.specs.declared.events.Answer.{Answer}
 use Rattle.bus_machine.specs.Machine.{Machine, Trails, base_of, Reached, trails_grown, owners_told}
 use Rattle.bus_machine.specs.Machine.{floor_of, log_place, ShowsLog, ShowsPassed, StandsBelow}
-use Rattle.bus_machine.specs.Machine.{stage_of, going}
+use Rattle.bus_machine.specs.Machine.{stage_of, going, passed_by}
 use Rattle.bus_machine.specs.Machine.{words_of_frame}
 use Rattle.bus_machine.specs.Remembering.{Remembers}
 
@@ -202,6 +202,12 @@ pub record IsPromisedBy {E : Type 0} (X : Election E) (m : Machine E) (T : Trail
       → floor_of m ≤ v.place
   -- a receiver's passed place shows the place that it has passed, and 2^64 - 1 once it has left
   pub passes : ShowsPassed m
+  -- as long as it has not left it has heard all words before the place that is shown there, and one
+  -- of those frames begins at that place, or the last ends; its passed place is where the layout
+  -- has it
+  pub passed : (r : ℕ) (v : Receiving) (at : ℕ) → slice_get m.receivers r ≡ Some v
+      → passed_by m.layout m.reuse r ≡ Some at → v.gone ≡ false
+      → (slice_index m.words at ≤ v.place) × IsBoundary spelled.frames (slice_index m.words at)
   pub takers : TakersTold m.reuse m.owners T.actions
   pub promises : Promises (base_of m) T.actions T.heard order owners
   pub paged : IsPagedBy (stage_of m) (slice_index m.words 0) order.ended m.home

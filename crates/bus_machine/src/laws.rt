@@ -79,7 +79,7 @@ pub fn history_stands<Q: Ratifier>()
 
 /// And whatever happens to such a machine: what that publishes, if it publishes anything, stands in
 /// its cells just behind what was published before, also where no receiver is left for whom it has
-/// to stand.
+/// to stand; and the length counts all that is published then.
 pub fn published_words_stand<Q: Ratifier>()
     ensures { let X = election_of Q.Ratifier in
         (senders rounds rows capacity passers : ℕ)
@@ -213,11 +213,12 @@ pub fn machines_refuse<Q: Ratifier>()
 /// word of the log is used again, another word below the length than was published there, or one
 /// whose first word that stands is zero, or whose floor is within a frame, or past the place of a
 /// receiver that has not left; or in which the passed place of such a receiver shows another number
-/// than the place that it has passed, or that of one that has left another than 2^64 - 1. Nor of
-/// one in which what a sender has put is not what was published of it and then what waits. No frame
-/// stands in its cells behind what was published before where one of these holds another word than
-/// the frame has there, or the length lacks a word of it or counts one more, or what was published
-/// before has changed; nor does nothing with a length that counts more.
+/// than the place that it has passed, a place that it has not come to, or one within a frame, or
+/// that of one that has left another than 2^64 - 1. Nor of one in which what a sender has put is
+/// not what was published of it and then what waits. No frame stands in its cells behind what was
+/// published before where one of these holds another word than the frame has there, or the length
+/// lacks a word of it or counts one more, or what was published before has changed; nor does
+/// nothing with a length that counts more, or one that counts less.
 pub fn logs_refuse<Q: Ratifier>()
     ensures logs { let X = election_of Q.Ratifier in
         (machine : Machine (Elector Q)) (trails : Trails) → LogsRefuse X machine trails }

@@ -1,7 +1,7 @@
 //! One step of a sender on one word, with which the page comes to it or goes home.
 
-ghost use Rattle.std.specs.Prelude.{◌≡◌, ℕ, ◌+◌, ◌<◌, ◌≤◌, ◌^◌, ◌∷◌, true, false, [], Some, None, IsTrue};
-ghost use Rattle.std.specs.Prelude.{IsSome, length, slice_index, unwrap_or};
+ghost use Rattle.std.specs.Prelude.{◌≡◌, ℕ, ◌+◌, ◌<◌, ◌≤◌, ◌^◌, ◌∷◌, true, false, [], Some, None};
+ghost use Rattle.std.specs.Prelude.{IsTrue, IsSome, length, slice_index, unwrap_or};
 ghost use Rattle.bus_register.specs.Words.{register};
 ghost use Rattle.bus_tenure.specs.Elections.{election_of};
 ghost use Rattle.bus_core.specs.Doings.{step_of};

@@ -1,8 +1,9 @@
 -- What a history keeps: words that are copied one by one, answers that are counted, and what each
 -- event adds.
 use Rattle.std.proofs.Common.{◌≡◌, ℕ, suc, ◌+◌, ◌-◌, ◌%◌, ◌<◌, ◌≤◌, Bool, true, false, cond}
-use Rattle.std.proofs.Common.{◌==◌, Option, Some, None, List, [], ◌∷◌, ◌++◌, length, slice_get, slice_index}
-use Rattle.std.proofs.Common.{slice_set, sym, ap, refl, ◌∙◌, append_assoc, subst, inl, inr, arith}
+use Rattle.std.proofs.Common.{Option, Some, None, List, [], ◌∷◌, ◌++◌, length, slice_get}
+use Rattle.std.proofs.Common.{slice_index, slice_set, sym, ap, refl, ◌∙◌, append_assoc, subst}
+use Rattle.std.proofs.Common.{inl, inr, arith}
 use Rattle.std.specs.Prelude.{◌||◌, flat_map, slice_index_or}
 use Rattle.std.specs.List.{list_any}
 use Rattle.std.proofs.Math.Bool.{or-false}
@@ -314,7 +315,7 @@ module _ {S : Type 0} (X : Election (Elector S)) (P : Protocol S Bool Verdict)
       (words 0 - length T.log)) place
       ∙ ap (λ (c : ℕ). T.log ++ words_in_ring words (log_place new.layout new.reuse) c
       (length T.log) (words 0 - length T.log)) capacity
-      ∙ sym shows
+      ∙ sym shows.1
 
   -- the history has all that an event adds
   remembered : (h : Kept) (T : Trails) (e : Event) (a : Answer) → Happens X old e a new

@@ -10,7 +10,7 @@ use Rattle.bus_tenure.specs.Core.{Election}
 use Rattle.bus_tenure.specs.Elections.{Elector}
 use Rattle.bus_world.specs.World.{no_bases}
 use Rattle.bus_world.specs.declared.events.Answer.{Answer}
-use Rattle.bus_machine.specs.Machine.{Machine, Trails, Reached, no_machine_trails}
+use Rattle.bus_machine.specs.Machine.{Machine, Trails, no_machine_trails}
 use Rattle.bus_machine.specs.Playing.{IsMadeWith}
 use Rattle.bus_machine.specs.Promise.{IsPromised}
 use Rattle.bus_script.specs.declared.answers.Outcome.{Outcome}
@@ -21,7 +21,7 @@ use Rattle.bus_replay.specs.Text.{answer_line, owners_line, order_text, counts_t
 use Rattle.bus_replay.specs.Answers.{End, Left, Stopped, Asked, Prints, Closes, Ends, Begins}
 use Rattle.bus_replay.specs.Answers.{repeat_trails, asked_trails, printed_trails}
 use Rattle.bus_replay.specs.Histories.{Kept, Holds}
-use Rattle.bus_replay.specs.Told.{GoesOn, IsRepeated, IsObeyed, ArePlayed}
+use Rattle.bus_replay.specs.Told.{IsRepeated, IsObeyed, ArePlayed}
 use Rattle.bus_replay.proofs.GivenLemmas.{counts_told}
 
 module _ {S : Type 0} (X : Election (Elector S)) (P : Protocol S Bool Verdict) where

@@ -3,6 +3,7 @@
 use Rattle.std.proofs.Common.{◌≡◌, ℕ, zero, suc, ◌-◌, ◌<◌, Bool, true, false, cond, Option, Some}
 use Rattle.std.proofs.Common.{None, slice_get, slice_index, refl, sym, ap, subst, ◌∙◌, ◌⊎◌}
 use Rattle.std.proofs.Common.{inl, inr, arith}
+use Rattle.std.specs.Prelude.{Result, Ok, Err, IfOk, IfErr}
 use Rattle.std.proofs.lemmas.Bool.{true≢false}
 use Rattle.std.proofs.lemmas.Option.{slice_get_within}
 use Rattle.bus_register.specs.Protocol.{Protocol}
@@ -22,9 +23,16 @@ use Rattle.bus_machine.specs.Machine.{Machine, Trails, Happens, has_stopped, tra
 use Rattle.bus_machine.specs.Playing.{Answers, Refused, SenderRefused}
 use Rattle.bus_replay.specs.GoingOn.{goes_on}
 use Rattle.bus_replay.specs.Answers.{Repeats, repeat_trails}
-use Rattle.bus_replay.specs.Histories.{Kept, Holds, kept_after}
+use Rattle.bus_replay.specs.Histories.{Kept, Holds}
 use Rattle.bus_replay.specs.Told.{IsRepeated}
-use Rattle.bus_replay.proofs.HistoryLemmas.{PublishedStands, holds_on}
+
+-- ---- what a result says, where it is known
+pub when_ok : {A E : Type 0} (Q : A → Type 0) (r : Result A E) (x : A) → r ≡ Ok x → IfOk r Q → Q x
+when_ok Q r x is h = subst (λ y. IfOk y Q) is h
+
+pub when_err : {A E : Type 0} (Q : E → Type 0) (r : Result A E) (why : E) → r ≡ Err why
+    → IfErr r Q → Q why
+when_err Q r why is h = subst (λ y. IfErr y Q) is h
 
 -- ---- what is not refused
 stops_so : (a b : Answer) → a ≡ b → goes_on b ≡ false → goes_on a ≡ true → ⊥
@@ -91,39 +99,34 @@ module _ {S : Type 0} (X : Election (Elector S)) (P : Protocol S Bool Verdict) (
     pub holds : (T : Trails) → Holds X P old h T
         → Holds X P new kept (trails_grown X before e last (grown T))
 
-  module _ (law : PublishedStands X P) where
-    pub once : (last : Answer) (new : Machine (Elector S)) (kept : Kept)
-        → Answers X P old e last new → kept ≡ kept_after new.words e last h
-        → Repeated all last new kept
-    once last new kept answered is = record {
-      before = old;
-      answered = answered;
-      grown = λ T. T;
-      from_first = λ final end r. (r, λ T. refl);
-      holds = λ T k.
-          subst (λ (y : Kept). Holds X P new y (trails_grown X old e last T)) (sym is)
-          (holds_on X P old new law h T e last answered.happens k);
-    }
+  pub once : (last : Answer) (new : Machine (Elector S)) (kept : Kept) → Answers X P old e last new
+      → ((T : Trails) → Holds X P old h T → Holds X P new kept (trails_grown X old e last T))
+      → Repeated all last new kept
+  once last new kept answered noted = record {
+    before = old;
+    answered = answered;
+    grown = λ T. T;
+    from_first = λ final end r. (r, λ T. refl);
+    holds = noted;
+  }
 
-    pub once_more : (left : ℕ) (first last : Answer) (mid new : Machine (Elector S))
-        (kept kept' : Kept) → Repeated left first mid kept → 0 < left → goes_on first ≡ true
-        → Answers X P mid e last new → kept' ≡ kept_after new.words e last kept
-        → Repeated (left - 1) last new kept'
-    once_more zero first last mid new kept kept' h some goes answered is = absurd (omega arith)
-    once_more (suc left) first last mid new kept kept' h some goes answered is =
-        let less : left ≡ suc left - 1 = omega arith in
-        subst (λ k. Repeated k last new kept') less record {
-          before = mid;
-          answered = answered;
-          grown = λ T. trails_grown X h.before e first (h.grown T);
-          from_first = λ final end r.
-              h.from_first final end (inr (mid, first, h.answered, goes, r));
-          holds = λ T k.
-              subst (λ (y : Kept). Holds X P new y
-              (trails_grown X mid e last (trails_grown X h.before e first (h.grown T)))) (sym is)
-              (holds_on X P mid new law kept (trails_grown X h.before e first (h.grown T)) e last
-              answered.happens (h.holds T k));
-        }
+  pub once_more : (left : ℕ) (first last : Answer) (mid new : Machine (Elector S))
+      (kept kept' : Kept) → Repeated left first mid kept → 0 < left → goes_on first ≡ true
+      → Answers X P mid e last new
+      → ((T : Trails) → Holds X P mid kept T → Holds X P new kept' (trails_grown X mid e last T))
+      → Repeated (left - 1) last new kept'
+  once_more zero first last mid new kept kept' k some goes answered noted = absurd (omega arith)
+  once_more (suc left) first last mid new kept kept' k some goes answered noted =
+      let less : left ≡ suc left - 1 = omega arith in
+      subst (λ n. Repeated n last new kept') less record {
+        before = mid;
+        answered = answered;
+        grown = λ T. trails_grown X k.before e first (k.grown T);
+        from_first = λ final end r.
+            k.from_first final end (inr (mid, first, k.answered, goes, r));
+        holds = λ T hold.
+            noted (trails_grown X k.before e first (k.grown T)) (k.holds T hold);
+      }
 
   -- the last one, from the bus before it
   ended : (left : ℕ) (last : Answer) (new : Machine (Elector S)) (kept : Kept)

@@ -1,6 +1,6 @@
 -- What a new bus has: sizes that are served, and trails that its history has.
-use Rattle.std.proofs.Common.{◌≡◌, ℕ, ◌+◌, ◌<◌, ◌≤◌, Bool, false, Option, Some, None, List, [], length}
-use Rattle.std.proofs.Common.{slice_get, replicate, arith, refl, sym, ap, subst, ◌∙◌}
+use Rattle.std.proofs.Common.{◌≡◌, ℕ, ◌+◌, ◌<◌, ◌≤◌, Bool, false, Option, Some, None, List, []}
+use Rattle.std.proofs.Common.{length, slice_get, replicate, arith, refl, sym, ap, subst, ◌∙◌}
 use Rattle.std.proofs.lemmas.List.{get_or-replicate, length-replicate}
 use Rattle.std.proofs.lemmas.Option.{slice_get-get_or}
 use Rattle.bus_register.specs.Protocol.{Protocol}
@@ -15,7 +15,6 @@ use Rattle.bus_machine.specs.Playing.{IsMadeWith, ShapeOf}
 use Rattle.bus_machine.specs.Promise.{HasRows}
 use Rattle.bus_replay.specs.Histories.{Kept, HasSizes, Holds, no_given}
 use Rattle.bus_replay.specs.Lines.{shape_in, reuse_in, passers_in}
-use Rattle.bus_replay.specs.declared.histories.Given.{Given}
 use Rattle.bus_replay.specs.declared.lines.FirstLine.{FirstLine}
 use Rattle.bus_replay.specs.declared.lines.FirstLine.TheVariants.{Shape as Shaped, Cycle as Cycled}
 use Rattle.bus_replay.specs.declared.lines.FirstLine.TheVariants.{Ring as Ringed}

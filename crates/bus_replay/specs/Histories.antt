@@ -1,9 +1,9 @@
 -- What a bus has published and given, as a program holds it.
-use Rattle.std.specs.Prelude.{◌≡◌, ℕ, ◌+◌, ◌-◌, ◌<◌, Bool, true, false, Option, Some, List, ◌++◌}
+use Rattle.std.specs.Prelude.{◌≡◌, ℕ, ◌+◌, ◌-◌, ◌<◌, Bool, true, false, Some, List, ◌++◌}
 use Rattle.std.specs.Prelude.{length, slice_get, slice_index, slice_index_or, slice_set}
 use Rattle.bus_register.specs.Protocol.{Protocol}
 use Rattle.bus_adoptcommit.specs.declared.verdicts.Verdict.{Verdict}
-use Rattle.bus_batch.specs.Frames.{Order, items_in}
+use Rattle.bus_batch.specs.Frames.{items_in}
 use Rattle.bus_deliverylog.specs.declared.receiving.RecvTurn.{RecvTurn}
 use Rattle.bus_deliverylog.specs.declared.receiving.RecvTurn.TheVariants as recv
 use Rattle.bus_world.specs.Headline.{order_given}
@@ -96,8 +96,8 @@ pub record HasSizes {S : Type 0} (P : Protocol S Bool Verdict) (m : Machine (Ele
     pub many : length m.senders ≡ m.layout.senders
     pub words : length m.words ≡ log_place m.layout m.reuse + m.layout.capacity
 
--- These trails lead to the machine, which has such sizes, and this history has all of them. It knows
--- the size of the log.
+-- These trails lead to the machine, which has such sizes, and this history has all of them. It
+-- knows the size of the log.
 pub record Holds {S : Type 0} (X : Election (Elector S)) (P : Protocol S Bool Verdict)
     (m : Machine (Elector S)) (h : Kept) (T : Trails) : Type 0 where
   pub reached : Reached X m T

@@ -74,8 +74,9 @@ cycle_of line = option_and_then shape_from (numbers_behind (codes "cycle") line)
 abbrev pub ring_of : List ℕ → Option Shape
 ring_of line = option_and_then shape_from (numbers_behind (codes "ring") line)
 
--- The shape of the bus that the first line asks for; how many of its rows are used again, none where
--- each tenure has one; and how many passed places it has, none where no log word is used again.
+-- The shape of the bus that the first line asks for; how many of its rows are used again, none
+-- where each tenure has one; and how many passed places it has, none where no log word is used
+-- again.
 abbrev pub shape_in : FirstLine → Shape
 shape_in (Shaped shape) = shape
 shape_in (Cycled shape) = shape

@@ -4,10 +4,10 @@ ghost use Rattle.std.specs.Prelude.{◌≡◌, ◌++◌, ◌-◌, ℕ, ◌<◌, 
 ghost use Rattle.std.specs.Prelude.{OnOk, string_bytes};
 ghost use Rattle.bus_tenure.specs.Elections.{election_of};
 ghost use Rattle.bus_world.specs.Playing.{event_told};
-ghost use Rattle.bus_machine.specs.Playing.{Refused};
+ghost use Rattle.bus_machine.specs.Playing.{Answers, Refused};
 ghost use Rattle.bus_script.specs.declared.line_numbers.LineNumber.TheVariants.{AtLine};
 ghost use Rattle.bus_script.specs.LineNumbers.{refusal_line};
-ghost use Rattle.bus_machine.specs.Machine.{Trails};
+ghost use Rattle.bus_machine.specs.Machine.{Trails, trails_grown};
 ghost use Rattle.bus_replay.specs.GoingOn.{goes_on};
 ghost use Rattle.bus_replay.specs.Histories.{Holds};
 ghost use Rattle.bus_deliverylog.specs.Receiving.{recv_goes_on};
@@ -55,6 +55,33 @@ pub fn goes_on(answer: &Answer) -> bool
     }
 }
 
+/// What happens next, and its answer, which the history notes.
+fn step_noted<Q: Ratifier + Drop>(
+    bus: &mut World<Q>,
+    history: &mut History,
+    event: &Event,
+) -> Result<Result<Answer, StepFault>, NoMemory>
+    requires { let X = election_of Q.Ratifier in
+        (trails : Trails) × Holds X Q.protocol bus.old history.old trails }
+    ensures answered { let X = election_of Q.Ratifier in
+        IfOk result (λ told. IfOk told (λ answer. Answers X Q.protocol bus.old
+        (event_told event.now) answer bus.new)) }
+    ensures noted { let X = election_of Q.Ratifier in
+        IfOk result (λ told. IfOk told (λ answer. (trails : Trails)
+        → Holds X Q.protocol bus.old history.old trails
+        → Holds X Q.protocol bus.new history.new
+        (trails_grown X bus.old (event_told event.now) answer trails))) }
+    ensures fault { IfOk result (λ told. IfErr told (Refused bus.old (event_told event.now))) }
+{
+    published_words_stand::<Q>();
+    let answer = match bus.step(event) {
+        Ok(answer) => answer,
+        Err(fault) => return Ok(Err(fault)),
+    };
+    history.note(bus.words(), event, &answer)?;
+    Ok(Ok(answer))
+}
+
 /// An event once, and more while it goes on, up to so many times. The answer is the last one.
 fn repeat<Q: Ratifier + Drop>(
     bus: &mut World<Q>,
@@ -70,19 +97,16 @@ fn repeat<Q: Ratifier + Drop>(
         (event_told event.now) (times - 1) last bus.new history.new)) }
     ensures fault { IfOk result (λ told. IfErr told (Refused bus.old (event_told event.now))) }
 {
-    published_words_stand::<Q>();
-    let mut last = match bus.step(event) {
+    let mut last = match step_noted(bus, history, event)? {
         Ok(answer) => answer,
         Err(fault) => return Ok(Err(fault)),
     };
-    history.note(bus.words(), event, &last)?;
     let mut more = times - 1;
     while more > 0 && goes_on(&last) {
-        last = match bus.step(event) {
+        last = match step_noted(bus, history, event)? {
             Ok(answer) => answer,
             Err(fault) => return Ok(Err(fault)),
         };
-        history.note(bus.words(), event, &last)?;
         more -= 1;
     }
     Ok(Ok(last))
@@ -110,12 +134,13 @@ fn obey<Q: Ratifier + Drop>(
     line: Line<'_>,
     text: &mut String,
 ) -> Result<Outcome, NoMemory>
-    requires held { let X = election_of Q.Ratifier in
+    requires { let X = election_of Q.Ratifier in
         (trails : Trails) × Holds X Q.protocol bus.old history.old trails }
     ensures { let X = election_of Q.Ratifier in
         IfOk result (λ outcome. (added : List ℕ)
         × IsObeyed X Q.protocol bus.old history.old (line.entry.number, line.entry.bytes.now)
-        outcome added bus.new history.new × (string_bytes text.new ≡ string_bytes text.old ++ added)) }
+        outcome added bus.new history.new
+        × (string_bytes text.new ≡ string_bytes text.old ++ added)) }
 {
     let Some(command) = command_of(alloc, line.bytes)? else {
         push_refusal(alloc, line.number, "BadLine", text)?;
@@ -141,7 +166,7 @@ pub fn play<Q: Ratifier + Drop>(
     mut lines: Lines<'_>,
     text: &mut String,
 ) -> Result<Outcome, NoMemory>
-    requires held { let X = election_of Q.Ratifier in
+    requires { let X = election_of Q.Ratifier in
         (trails : Trails) × Holds X Q.protocol bus.old history.old trails }
     ensures { let X = election_of Q.Ratifier in
         IfOk result (λ outcome. (added : List ℕ)

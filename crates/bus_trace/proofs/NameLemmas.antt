@@ -8,10 +8,13 @@ use Rattle.std.proofs.lemmas.Nat.{div-mul-add, mod-mul-add}
 use Rattle.std.proofs.lemmas.Option.{same_Some}
 use Rattle.bus_register.specs.Protocol.{Protocol}
 use Rattle.bus_adoptcommit.specs.declared.verdicts.Verdict.{Verdict}
+use Rattle.bus_binconsensus.specs.Decisions.{decisions}
 use Rattle.bus_core.specs.Reusing.Participants.{sizes_with}
 use Rattle.bus_core.specs.declared.limits.TheConstants.{PASSED_APART}
 use Rattle.bus_machine.specs.Playing.{IsServed, layout_passed}
-use Rattle.bus_presence.specs.Reclamation.{presence_at}
+use Rattle.bus_ownerbits.specs.Sizes.{bits_of}
+use Rattle.bus_presence.specs.Reclamation.{presence_at, row_of}
+use Rattle.bus_tenure.specs.Core.{row_at}
 use Rattle.bus_world.specs.declared.shapes.Shape.{Shape}
 use Rattle.bus_replay.specs.declared.lines.FirstLine.{FirstLine}
 use Rattle.bus_replay.specs.declared.lines.FirstLine.TheVariants.{Shape as Shaped, Cycle as Cycled}
@@ -19,7 +22,7 @@ use Rattle.bus_replay.specs.declared.lines.FirstLine.TheVariants.{Ring as Ringed
 use Rattle.bus_replay.specs.Lines.{shape_in, reuse_in, passers_in}
 use Rattle.bus_replay.specs.Text.{behind}
 use Rattle.bus_trace.specs.Naming.{AreNamed}
-use Rattle.bus_trace.specs.Words.{TraceSizes, sizes_of, row_word, word_name}
+use Rattle.bus_trace.specs.Words.{TraceSizes, sizes_of, decision_word, row_word, word_name}
 
 module _ (p : TraceSizes) where
   -- the texts that a word may have, from the last on
@@ -105,6 +108,36 @@ module _ (p : TraceSizes) where
       (div-mul-add t p.row k lt)
       ∙ ap (λ n. codes "row" ++ behind t ++ 32 ∷ row_word p n) (mod-mul-add t p.row k lt)
 
+  -- what the words of a row are called: an announcement, and a word of the decision of a bit
+  abbrev bit_text : ℕ → List ℕ
+  bit_text k =
+      codes "bit" ++ behind ((k - p.senders) / p.decision)
+      ++ 32 ∷ decision_word p ((k - p.senders) % p.decision)
+
+  announced : (s : ℕ) → s < p.senders → row_word p s ≡ codes "announcement" ++ behind s
+  announced s lt =
+      ap (λ b. cond b (codes "announcement" ++ behind s) (bit_text s)) (lt-ltb s p.senders lt)
+
+  of_bit : (k word : ℕ) → word < p.decision
+      → row_word p (p.senders + k * p.decision + word)
+      ≡ codes "bit" ++ behind k ++ 32 ∷ decision_word p word
+  of_bit k word lt =
+      let place : ℕ = k * p.decision + word in
+      let at : ℕ = p.senders + k * p.decision + word in
+      let back : at - p.senders ≡ place = omega arith in
+      ap (λ b. cond b (codes "announcement" ++ behind at) (bit_text at))
+      (le-ltb at p.senders (omega arith))
+      ∙ ap (λ n. codes "bit" ++ behind (n / p.decision) ++ 32 ∷ decision_word p (n % p.decision))
+      back
+      ∙ ap (λ n. codes "bit" ++ behind n ++ 32 ∷ decision_word p (place % p.decision))
+      (div-mul-add k p.decision word lt)
+      ∙ ap (λ n. codes "bit" ++ behind k ++ 32 ∷ decision_word p n)
+      (mod-mul-add k p.decision word lt)
+
+-- a sum is no less than its first part
+no_less : (a b : ℕ) → a ≤ a + b
+no_less a b = omega arith
+
 -- a word of a row lies before those behind all rows
 in_rows : (t k rows width : ℕ) → t < rows → k < width → t * width + k < rows * width
 in_rows t k rows width lt short =
@@ -124,15 +157,24 @@ module _ {S : Type 0} (P : Protocol S Bool Verdict) (shape : Shape) where
   named_apart =
       let p = sizes_of P shape None 0 in
       let x = layout_passed P shape None 0 in
+      let n : ℕ = shape.senders in
+      let all : n ≤ x.width = no_less n (bits_of n * (decisions P shape.rounds).width n) in
+      let row_named : (t k : ℕ) → t < x.rows → k < x.width
+      → word_name p (row_at x t + k) ≡ codes "row" ++ behind t ++ 32 ∷ row_word p k =
+      λ t k lt short.
+      let fits = in_rows t k x.rows x.width lt short in
+      ap (word_name p)
+      (let e : 2 + t * x.width + k ≡ 2 + 0 + (t * x.width + k) = omega arith in e)
+      ∙ named_row p t k short (omega (arith, fits)) (omega arith) in
       record {
         length = refl;
         stage = refl;
         presence = λ rows s again lt. absurd cc;
-        row = λ t k lt short.
-            let fits = in_rows t k x.rows x.width lt short in
-            ap (word_name p)
-            (let e : 2 + t * x.width + k ≡ 2 + 0 + (t * x.width + k) = omega arith in e)
-            ∙ named_row p t k short (omega (arith, fits)) (omega arith);
+        row = row_named;
+        announcement = λ t s lt few. row_named t s lt (omega (arith, few, all))
+            ∙ ap (λ w. codes "row" ++ behind t ++ 32 ∷ w) (announced p s few);
+        bit = λ t k word lt short within. row_named t (n + k * p.decision + word) lt within
+            ∙ ap (λ w. codes "row" ++ behind t ++ 32 ∷ w) (of_bit p k word short);
         passed = λ r at is.
             let lt = ltb-true r 0 (passed_case (nat_lt r 0) _ at is).0 in
             absurd (omega (arith, lt));
@@ -146,6 +188,16 @@ module _ {S : Type 0} (P : Protocol S Bool Verdict) (shape : Shape) where
       let p = sizes_of P shape (Some rows) passers in
       let x = layout_passed P shape (Some rows) passers in
       let n : ℕ = shape.senders in
+      let all : n ≤ x.width = no_less n (bits_of n * (decisions P shape.rounds).width n) in
+      let row_named : (t k : ℕ) → t < x.rows → k < x.width
+      → word_name p (row_of (sizes_with x rows) t + k)
+      ≡ codes "row" ++ behind (t % rows) ++ 32 ∷ row_word p k =
+      λ t k lt short.
+      let u : ℕ = t % rows in
+      let fits = in_rows u k rows x.width (mod-lt t some) short in
+      ap (word_name p)
+      (let e : 1 + 1 + n + u * x.width + k ≡ 2 + n + (u * x.width + k) = omega arith in e)
+      ∙ named_row p u k short (omega (arith, fits)) (omega arith) in
       record {
         length = refl;
         stage = refl;
@@ -153,12 +205,11 @@ module _ {S : Type 0} (P : Protocol S Bool Verdict) (shape : Shape) where
             ap (word_name p)
             (let e : presence_at (sizes_with x more) s ≡ 2 + s = omega arith in e)
             ∙ named_presence p s lt;
-        row = λ t k lt short.
-            let u : ℕ = t % rows in
-            let fits = in_rows u k rows x.width (mod-lt t some) short in
-            ap (word_name p)
-            (let e : 1 + 1 + n + u * x.width + k ≡ 2 + n + (u * x.width + k) = omega arith in e)
-            ∙ named_row p u k short (omega (arith, fits)) (omega arith);
+        row = row_named;
+        announcement = λ t s lt few. row_named t s lt (omega (arith, few, all))
+            ∙ ap (λ w. codes "row" ++ behind (t % rows) ++ 32 ∷ w) (announced p s few);
+        bit = λ t k word lt short within. row_named t (n + k * p.decision + word) lt within
+            ∙ ap (λ w. codes "row" ++ behind (t % rows) ++ 32 ∷ w) (of_bit p k word short);
         passed = λ r at is.
             let found = passed_case (nat_lt r passers) _ at is in
             let lt = ltb-true r passers found.0 in

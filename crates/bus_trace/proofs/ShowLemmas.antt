@@ -215,14 +215,16 @@ one_added X v words s word t (Does z) k is =
     let got = number_found words (l.op word) in inl (
       Stepped l.tenure k got (l.chosen got word) t,
       own s _ [] ∙ ap (λ o. step_action o l.tenure got (l.chosen got word) t) is,
+      refl,
+      refl,
     )
-one_added X v words s word t (Announces u) k is = inr (inl (_, own s _ []))
-one_added X v words s word t (Validates u) k is = inr (inl (_, own s _ []))
-one_added X v words s word t (Unpins u) k is = inr (inl (_, own s _ []))
-one_added X v words s word t (Withdraws u) k is = inr (inl (_, own s _ []))
-one_added X v words s word t (Scans r) k is = inr (inr (_, own s _ []))
-one_added X v words s word t (Clears r) k is = inr (inr (_, own s _ []))
-one_added X v words s word t (ReadsPassed u q) k is = inl (_, own s _ [])
+one_added X v words s word t (Announces u) k is = inr (inl (_, own s [] [], own s _ [], refl))
+one_added X v words s word t (Validates u) k is = inr (inl (_, own s [] [], own s _ [], refl))
+one_added X v words s word t (Unpins u) k is = inr (inl (_, own s [] [], own s _ [], refl))
+one_added X v words s word t (Withdraws u) k is = inr (inl (_, own s [] [], own s _ [], refl))
+one_added X v words s word t (Scans r) k is = inr (inr (_, own s [] [], refl, own s _ []))
+one_added X v words s word t (Clears r) k is = inr (inr (_, own s [] [], refl, own s _ []))
+one_added X v words s word t (ReadsPassed u q) k is = inl (_, own s _ [], refl, refl)
 
 -- ---- a step on a word
 due_some : (p : TraceSizes) (words : ℕ → ℕ) (tenure : Option ℕ) (ks : Option Kind) (os : Option Op)

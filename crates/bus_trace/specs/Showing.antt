@@ -67,9 +67,9 @@ pub record ShowsNone {E : Type 0} (old new : Machine E) (name text : List ℕ) :
 -- reclamation
 abbrev pub AddsOne : Trails → ℕ → Type 0
 AddsOne T s =
-    ((action : Action) × (T.actions s ≡ action ∷ []))
-    ⊎ (((entry : Entry) × (T.pins s ≡ entry ∷ []))
-    ⊎ ((entry : Entry) × (T.reclaims s ≡ entry ∷ [])))
+    ((action : Action) × (T.actions s ≡ action ∷ []) × (T.pins s ≡ []) × (T.reclaims s ≡ []))
+    ⊎ (((entry : Entry) × (T.actions s ≡ []) × (T.pins s ≡ entry ∷ []) × (T.reclaims s ≡ []))
+    ⊎ ((entry : Entry) × (T.actions s ≡ []) × (T.pins s ≡ []) × (T.reclaims s ≡ entry ∷ [])))
 
 -- a put, a close or a leave of sender s: it shows the action that it adds, and its answer, and no
 -- word has changed

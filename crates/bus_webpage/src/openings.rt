@@ -70,11 +70,11 @@ const OPENINGS = [
         name: 'a slow receiver of a ring',
         script: 'ring 1 2 1 2 16\nput 0 ' + '61'.repeat(56) + '\nturn 0 0 99\nturn 0 0 99\n' +
             'recv 0 99\nput 0 ' + '62'.repeat(56) + '\nturn 0 0 99\n',
-        question: 'Overwrite words that receiver 1 has not heard: sender 0 has the page, and ' +
-            'its frame of nine words has no room behind the first in a log of sixteen.',
+        question: 'Overwrite words that receiver 1 has not heard, while it has not left. Sender ' +
+            '0 has the page, and its frame of nine words has no room in a log of sixteen.',
         can: 'No. The sender loads what each receiver has passed, and is answered full while ' +
-            'receiver 1 has not passed the first frame. Each receiver is given a prefix of the ' +
-            'one order (delivered). Let receiver 1 hear, or leave for good: then it fits.',
+            'receiver 1 has not passed the first frame. Who has not left finds at its place the ' +
+            'word that was published there (history_stands). Let receiver 1 hear, and it fits.',
     },
 ];
 "#;

@@ -11,7 +11,8 @@ use Rattle.bus_pageslot.proofs.Rows.{goes_last, goes_some}
 use Rattle.bus_pageslot.proofs.steps.elect_row.Goals as goal
 
 -- a vote is next
-pub returns-then-election_wants_word-clause-takes : goal.returns-then-election_wants_word-clause-takes
+pub returns-then-election_wants_word-clause-takes
+    : goal.returns-then-election_wants_word-clause-takes
 unfolding process_with
 returns-then-election_wants_word-clause-takes g c =
     let new : SenderSeat (Sender (Elector g.row.Q.Denot)) = record {

@@ -12,7 +12,7 @@ play-requires g c =
     let begins = made_holds X g.Q.Ratifier.protocol c.args.first c.args.bus c.shape.result.log_words
     c.receivers.result c.in_ok-history.history c.requires (ap (λ s. s.log_words) c.shape.ensures)
     c.receivers.ensures c.in_ok-history.ensures in
-    record { held = (no_machine_trails, begins) }
+    (no_machine_trails, begins)
 
 pub push_closing-requires : goal.push_closing-requires
 push_closing-requires g c =

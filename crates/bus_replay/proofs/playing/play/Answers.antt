@@ -12,9 +12,8 @@ loop-line-init g c =
 
 pub obey-requires : goal.obey-requires
 obey-requires g c =
-    let held = c.requires.held in
     let so_far = c.loop-line.invariant in
-    record { held = (so_far.grown held.0, so_far.holds held.0 held.1) }
+    (so_far.grown c.requires.0, so_far.holds c.requires.0 c.requires.1)
 
 pub loop-line-preserved : goal.loop-line-preserved
 loop-line-preserved g c =

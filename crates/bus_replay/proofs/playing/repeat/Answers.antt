@@ -1,103 +1,69 @@
-use Rattle.std.proofs.Common.{◌-◌, ◌<◌, length, sym, ap, subst, ◌∙◌, inl, inr, arith}
+use Rattle.std.proofs.Common.{◌-◌, sym, ◌∙◌, inl, inr, arith}
 use Rattle.bus_tenure.specs.Elections.{election_with}
 use Rattle.bus_world.specs.Playing.{event_told}
-use Rattle.bus_machine.specs.Machine.{trails_grown}
-use Rattle.bus_replay.specs.Histories.{kept_after}
-use Rattle.bus_replay.proofs.HistoryLemmas.{capacity_some, log_within, receiver_there}
-use Rattle.bus_replay.proofs.RepeatLemmas.{not_refused, once, once_more, at_last}
+use Rattle.bus_machine.specs.Machine.{Trails, trails_grown}
+use Rattle.bus_machine.specs.Playing.{Answers, Refused}
+use Rattle.bus_replay.specs.Histories.{Holds}
+use Rattle.bus_replay.proofs.RepeatLemmas.{when_ok, when_err, not_refused, once, once_more}
+use Rattle.bus_replay.proofs.RepeatLemmas.{at_last}
 use Rattle.bus_replay.proofs.playing.repeat.Goals as goal
 use Rattle.bus_replay.proofs.playing.repeat.Goals.{then-loop-more-test+else-goes_on}
 use Rattle.bus_replay.proofs.playing.repeat.Goals.{else-loop-more-test}
-
-pub note-requires-clause-within : goal.note-requires-clause-within
-note-requires-clause-within g c =
-    let X =
-    election_with g.Q.Machine.kind_of g.Q.Machine.op g.Q.Machine.fed g.Q.Ratifier.protocol in
-    let held = c.requires.held in
-    subst (λ l. c.args.history.now.capacity < length l) (sym c.words.ensures)
-    (log_within X g.Q.Ratifier.protocol c.args.bus.now c.step.new.self
-    c.published_words_stand.ensures c.args.history.now held.0 (event_told c.args.event.now)
-    c.in-Ok.answer c.in-Ok.ensures.answered.happens held.1)
-
-pub note-requires-clause-there : goal.note-requires-clause-there
-note-requires-clause-there g c =
-    let X =
-    election_with g.Q.Machine.kind_of g.Q.Machine.op g.Q.Machine.fed g.Q.Ratifier.protocol in
-    let held = c.requires.held in
-    receiver_there X g.Q.Ratifier.protocol c.args.bus.now c.step.new.self
-    c.published_words_stand.ensures c.args.history.now held.0 (event_told c.args.event.now)
-    c.in-Ok.answer c.in-Ok.ensures.answered.happens held.1
 
 pub loop-more-init : goal.loop-more-init
 loop-more-init g c =
     let X =
     election_with g.Q.Machine.kind_of g.Q.Machine.op g.Q.Machine.fed g.Q.Ratifier.protocol in
+    let P = g.Q.Ratifier.protocol in
     let e = event_told c.args.event.now in
-    once X g.Q.Ratifier.protocol e c.args.bus.now c.args.history.now (c.args.times - 1)
-    c.published_words_stand.ensures c.in-Ok.answer c.step.new.self c.note.new.self
-    c.in-Ok.ensures.answered
-    (c.in_ok-note.ensures
-    ∙ ap (λ l. kept_after l e c.in-Ok.answer c.args.history.now) c.words.ensures)
+    let old = c.args.bus.now in
+    let new = c.step_noted.new in
+    once X P e old c.args.history.now (c.args.times - 1) c.in-Ok.answer new.bus new.history
+    (when_ok (λ a. Answers X P old e a new.bus) c.in_ok-answer.field-0 c.in-Ok.answer c.in-Ok.is
+    c.in_ok-answer.ensures.answered)
+    (when_ok (λ a. (T : Trails) → Holds X P old c.args.history.now T
+    → Holds X P new.bus new.history (trails_grown X old e a T)) c.in_ok-answer.field-0
+    c.in-Ok.answer c.in-Ok.is c.in_ok-answer.ensures.noted)
 
-pub note-requires-in-loop-more-clause-some : goal.note-requires-in-loop-more-clause-some
-note-requires-in-loop-more-clause-some g c =
+pub step_noted-requires-in-loop-more : goal.step_noted-requires-in-loop-more
+step_noted-requires-in-loop-more g c =
     let X =
     election_with g.Q.Machine.kind_of g.Q.Machine.op g.Q.Machine.fed g.Q.Ratifier.protocol in
     let so_far = c.loop-more.invariant in
-    let held = c.requires.held in
-    capacity_some X g.Q.Ratifier.protocol c.loop-more.bus c.step-in-loop-more.new.self
-    c.published_words_stand.ensures c.loop-more.history
-    (trails_grown X so_far.before (event_told c.args.event.now) c.loop-more.last
-    (so_far.grown held.0)) (event_told c.args.event.now) c.in-Ok-step.answer
-    c.in-Ok-step.ensures.answered.happens (so_far.holds held.0 held.1)
+    let held = c.requires.held in (
+      trails_grown X so_far.before (event_told c.args.event.now) c.loop-more.last
+          (so_far.grown held.0),
+      so_far.holds held.0 held.1,
+    )
 
-pub note-requires-in-loop-more-clause-within : goal.note-requires-in-loop-more-clause-within
-note-requires-in-loop-more-clause-within g c =
+pub returns-in-Err-2-clause-fault : goal.returns-in-Err-2-clause-fault
+returns-in-Err-2-clause-fault g c =
     let X =
     election_with g.Q.Machine.kind_of g.Q.Machine.op g.Q.Machine.fed g.Q.Ratifier.protocol in
     let so_far = c.loop-more.invariant in
-    let held = c.requires.held in
-    subst (λ l. c.loop-more.history.capacity < length l) (sym c.words-in-loop-more.ensures)
-    (log_within X g.Q.Ratifier.protocol c.loop-more.bus c.step-in-loop-more.new.self
-    c.published_words_stand.ensures c.loop-more.history
-    (trails_grown X so_far.before (event_told c.args.event.now) c.loop-more.last
-    (so_far.grown held.0)) (event_told c.args.event.now) c.in-Ok-step.answer
-    c.in-Ok-step.ensures.answered.happens (so_far.holds held.0 held.1))
-
-pub note-requires-in-loop-more-clause-there : goal.note-requires-in-loop-more-clause-there
-note-requires-in-loop-more-clause-there g c =
-    let X =
-    election_with g.Q.Machine.kind_of g.Q.Machine.op g.Q.Machine.fed g.Q.Ratifier.protocol in
-    let so_far = c.loop-more.invariant in
-    let held = c.requires.held in
-    receiver_there X g.Q.Ratifier.protocol c.loop-more.bus c.step-in-loop-more.new.self
-    c.published_words_stand.ensures c.loop-more.history
-    (trails_grown X so_far.before (event_told c.args.event.now) c.loop-more.last
-    (so_far.grown held.0)) (event_told c.args.event.now) c.in-Ok-step.answer
-    c.in-Ok-step.ensures.answered.happens (so_far.holds held.0 held.1)
-
-pub returns-in-Err-step-clause-fault : goal.returns-in-Err-step-clause-fault
-returns-in-Err-step-clause-fault g c =
-    let X =
-    election_with g.Q.Machine.kind_of g.Q.Machine.op g.Q.Machine.fed g.Q.Ratifier.protocol in
-    let so_far = c.loop-more.invariant in
-    absurd (not_refused X so_far.before c.loop-more.bus (event_told c.args.event.now)
-    c.loop-more.last c.in-Err-step.fault so_far.answered.happens
-    (sym c.goes_on.ensures ∙ c.if-goes_on.true) c.in-Err-step.ensures.refused.refused)
+    let e = event_told c.args.event.now in
+    absurd (not_refused X so_far.before c.loop-more.bus e c.loop-more.last c.in-Err-2.fault
+    so_far.answered.happens (sym c.goes_on.ensures ∙ c.if-goes_on.true)
+    (when_err (Refused c.loop-more.bus e) c.in_ok-answer-2.field-0 c.in-Err-2.fault c.in-Err-2.is
+    c.in_ok-answer-2.ensures.fault))
 
 pub loop-more-preserved : goal.loop-more-preserved
 loop-more-preserved g c =
     let X =
     election_with g.Q.Machine.kind_of g.Q.Machine.op g.Q.Machine.fed g.Q.Ratifier.protocol in
+    let P = g.Q.Ratifier.protocol in
     let e = event_told c.args.event.now in
-    once_more X g.Q.Ratifier.protocol e c.args.bus.now c.args.history.now (c.args.times - 1)
-    c.published_words_stand.ensures c.loop-more.more c.loop-more.last c.in-Ok-step.answer
-    c.loop-more.bus c.step-in-loop-more.new.self c.loop-more.history c.note-in-loop-more.new.self
-    c.loop-more.invariant (omega arith) (sym c.goes_on.ensures ∙ c.if-goes_on.true)
-    c.in-Ok-step.ensures.answered
-    (c.in_ok-note-2.ensures
-    ∙ ap (λ l. kept_after l e c.in-Ok-step.answer c.loop-more.history)
-    c.words-in-loop-more.ensures)
+    let mid = c.loop-more.bus in
+    let kept = c.loop-more.history in
+    let new = c.step_noted-in-loop-more.new in
+    once_more X P e c.args.bus.now c.args.history.now (c.args.times - 1) c.loop-more.more
+    c.loop-more.last c.in-Ok-2.answer mid new.bus kept new.history c.loop-more.invariant
+    (omega arith) (sym c.goes_on.ensures ∙ c.if-goes_on.true)
+    (when_ok (λ a. Answers X P mid e a new.bus) c.in_ok-answer-2.field-0 c.in-Ok-2.answer
+    c.in-Ok-2.is c.in_ok-answer-2.ensures.answered)
+    (when_ok (λ a. (T : Trails) → Holds X P mid kept T
+    → Holds X P new.bus new.history (trails_grown X mid e a T)) c.in_ok-answer-2.field-0
+    c.in-Ok-2.answer c.in-Ok-2.is c.in_ok-answer-2.ensures.noted)
 
 pub returns-clause-last : goal.returns-clause-last
 returns-clause-last g c =

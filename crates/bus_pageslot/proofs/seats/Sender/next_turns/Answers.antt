@@ -22,5 +22,6 @@ returns-clause-some g c = record {
 pub returns-then-not-wants_word_for-clause-some : goal.returns-then-not-wants_word_for-clause-some
 unfolding tells_with
 returns-then-not-wants_word_for-clause-some g c =
-    takes_some c.wordless_turns-many.result.0 c.wordless_turns-many.result.1 c.wordless_turns-many.new.self
+    takes_some c.wordless_turns-many.result.0 c.wordless_turns-many.result.1
+    c.wordless_turns-many.new.self
     (g.R.Rng.stream c.args.rng.now) c.wordless_turns-many.ensures.takes
