@@ -11,8 +11,8 @@ use Rattle.bus_batch.specs.Batches.{Pending, next_of, CanPut, CanClose}
 use Rattle.bus_batch.specs.declared.messages.Mark.{Mark}
 use Rattle.bus_batch.specs.declared.messages.Mark.TheVariants.{End, Leave}
 use Rattle.bus_core.specs.Keeping.{queue_of}
-use Rattle.bus_core.specs.Senders.{Sender, Situation, Does, Scans, Clears, ReadsPassed}
-use Rattle.bus_core.specs.Senders.{situation}
+use Rattle.bus_core.specs.Senders.{Sender, Situation, Does, Announces, Validates, Unpins}
+use Rattle.bus_core.specs.Senders.{Withdraws, Scans, Clears, ReadsPassed, situation}
 use Rattle.bus_core.specs.Table.{Line, line_now}
 use Rattle.bus_core.specs.declared.reuses.Reuse.{Reuse}
 use Rattle.bus_machine.proofs.EachSender.{actions_of_it, actions_of_other, entered_beside}
@@ -30,6 +30,7 @@ use Rattle.bus_world.specs.declared.events.Answer.TheVariants as answer
 use Rattle.bus_machine.specs.Machine.{Machine, Trails, Reached, Then, Happens, IsOnWord, going}
 use Rattle.bus_machine.specs.Machine.{with_sender, put_in, mark_in, machine_after, found}
 use Rattle.bus_machine.specs.Machine.{turn_answer, trails_grown, turn_trails, turn_grown, entered}
+use Rattle.bus_machine.specs.Machine.{words_of_frame}
 use Rattle.bus_automaton.specs.Lawful.{AcceptsIn, StepsIn, LogGrows}
 use Rattle.bus_automaton.specs.SenderTrails.{with_sender_trail}
 use Rattle.bus_automaton.specs.OneAutomaton.{MachineHistory, IsMachineHistory, trail_of, bus_of}
@@ -125,7 +126,7 @@ module _ {E : Type 0} (bases : List ℕ) (l : Line E) (p got word : ℕ) (T : Tr
       (entered_beside T.pins p q (l.op word) got ne) refl
 
 -- a step that is due is on a word
-on_word : {E : Type 0} (m : Machine E) (a : Option Op) (o : Op) → a ≡ Some o
+pub on_word : {E : Type 0} (m : Machine E) (a : Option Op) (o : Op) → a ≡ Some o
     → register o < length m.words → IsOnWord m a
 on_word m a o due low = subst (IsOnWord m) (sym due) low
 
@@ -162,9 +163,11 @@ module _ {E : Type 0} (X : Election E) (x : Layout) (reuse : Option ℕ) (bases 
         rows_are = h.rows_are;
         bases_are = h.bases_are;
         reached = reached;
-        alone = h.alone;
+        many = h.many;
+        rest = h.rest;
         running = h.running;
       };
+      passed = λ r. refl;
       here = get_set_same m.senders p w (slice_get_within m.senders p v at);
       others = λ q ne. get_set_other m.senders p w q ne;
       sender_trail =
@@ -226,6 +229,22 @@ module _ {E : Type 0} (X : Election E) (x : Layout) (reuse : Option ℕ) (bases 
     grown_is : turn_trails (situation X v) l p (found m l word) word told T ≡ grown
     grown_is = ap (λ g. turn_grown X m p g word (answer.Turn told) T) (sym goes)
 
+    -- all that was published grows by the frame that it publishes
+    turned_log : (s : Situation E)
+        → (turn_trails s l p (found m l word) word told T).log
+        ≡ T.log ++ words_of_frame l.publishes
+    turned_log (Does z) = refl
+    turned_log (Scans r) = refl
+    turned_log (Clears r) = refl
+    turned_log (ReadsPassed t q) = refl
+    turned_log (Announces t) = refl
+    turned_log (Validates t) = refl
+    turned_log (Unpins t) = refl
+    turned_log (Withdraws t) = refl
+
+    pub grows_by : grown.log ≡ T.log ++ words_of_frame l.publishes
+    grows_by = ap (λ U. U.log) (sym grown_is) ∙ turned_log (situation X v)
+
     -- it finds the number of its word
     found_is : found m l word ≡ slice_index m.words (register o)
     found_is = ap (number_found (slice_index m.words)) due
@@ -264,7 +283,8 @@ module _ {E : Type 0} (X : Election E) (x : Layout) (reuse : Option ℕ) (bases 
       bases_are = h.bases_are;
       reached =
           Then m (machine_after m p l word) T (Turn p word) (answer.Turn told) h.reached takes_turn;
-      alone = h.alone;
+      many = h.many;
+      rest = h.rest;
       running = h.running;
     }
 
@@ -275,6 +295,7 @@ module _ {E : Type 0} (X : Election E) (x : Layout) (reuse : Option ℕ) (bases 
       state = next;
       changes = record {
         reached = next_reached;
+        passed = λ r. refl;
         here = get_set_same m.senders p _ (slice_get_within m.senders p v at)
             ∙ ap (λ g. Some ((process_of X).after v m.home g word)) found_is;
         others = λ q ne. get_set_other m.senders p _ q ne;

@@ -1,3 +1,4 @@
+pub mod Fitting
 pub mod Turns
 pub mod Leading
 pub mod ReachedMachines
@@ -7,3 +8,7 @@ pub mod HandedTells
 pub mod RestingTells
 pub mod Owning
 pub mod ServedPlans
+pub mod Readings
+pub mod Walking
+pub mod Passing
+pub mod Owed

@@ -1,7 +1,8 @@
 -- What processes and automata owe, so that threads may go by them.
 use Rattle.std.specs.Prelude.{◌≡◌, ◌≢◌, ◌⊎◌, ℕ, ◌+◌, ◌*◌, ◌%◌, ◌<◌, ◌≤◌, true, false, Option, Some}
-use Rattle.std.specs.Prelude.{is_some, List, [], ◌∷◌, ◌++◌, All, length, map, replicate}
-use Rattle.std.specs.Prelude.{slice_index}
+use Rattle.std.specs.Prelude.{None, is_some, List, [], ◌∷◌, ◌++◌, ◌-◌, All, drop, length, map}
+use Rattle.std.specs.Prelude.{replicate, slice_index, slice_set, take}
+use Rattle.bus_register.specs.declared.limits.TheConstants.{PASSED_ALL}
 use Rattle.bus_register.specs.declared.kinds.Kind.{Kind}
 use Rattle.bus_register.specs.declared.registers.Op.{Op}
 use Rattle.bus_register.specs.declared.registers.Op.TheVariants.{Store}
@@ -11,19 +12,22 @@ use Rattle.bus_batch.specs.Batches.{next_of, CanPut, CanClose}
 use Rattle.bus_batch.specs.declared.batches.Phase.TheVariants.{Marking}
 use Rattle.bus_batch.specs.declared.messages.Item.{Item}
 use Rattle.bus_batch.specs.declared.messages.Mark.{Mark}
-use Rattle.bus_batch.specs.Frames.{Frame, AreFrames, Order, Spells, log_words, order_of}
+use Rattle.bus_batch.specs.Frames.{Frame, AreFrames, Order, Spells, log_words, log_pieces}
+use Rattle.bus_batch.specs.Frames.{order_of, order_in}
 use Rattle.bus_deliverylog.specs.Orders.{of_sender}
 use Rattle.bus_tenure.specs.Situations.{Comes}
 use Rattle.bus_tenure.specs.declared.pages.Page.{Page}
 use Rattle.bus_tenure.specs.declared.turns.Turn.{Turn}
 use Rattle.bus_core.specs.Keeping.{page_out}
 use Rattle.bus_world.specs.Headline.{Action, HasPut, HasMarked, Stepped, puts, Promises}
-use Rattle.bus_world.specs.Log.{KeepsFloor, Knows}
+use Rattle.bus_world.specs.Log.{KeepsFloor, Knows, floor_shown, words_in_ring}
+use Rattle.bus_world.specs.Proved.Floors.{IsBoundary}
 use Rattle.bus_world.specs.Trails.{no_answers}
 use Rattle.bus_world.specs.Turning.{words_after, home_moved}
 use Rattle.bus_world.specs.World.{first_page}
-use Rattle.bus_automaton.specs.Processes.{Process, Automaton, IsCounted, base_in, actions_at}
-use Rattle.bus_automaton.specs.Processes.{log_below, log_in, EndsBy}
+use Rattle.bus_automaton.specs.Processes.{TableLayout, Process, Automaton, IsCounted, base_in}
+use Rattle.bus_automaton.specs.Processes.{actions_at, log_below, log_cell, log_in, passed_word}
+use Rattle.bus_automaton.specs.Processes.{EndsBy}
 use Rattle.bus_tenure.specs.Classes.{is_refusal, is_last}
 use Rattle.bus_automaton.specs.SenderTrails.{SenderTrail, new_sender_trail, with_actions}
 use Rattle.bus_automaton.specs.SenderTrails.{with_sender_trail}
@@ -106,6 +110,7 @@ pub record ChangesTo {C : Type 0} (A : Automaton C) (z : A.State) (p : ℕ) (d :
   pub here : A.sender z' p ≡ Some d
   pub others : (q : ℕ) → q ≢ p → A.sender z' q ≡ A.sender z q
   pub sender_trail : A.sender_trail z' p ≡ all
+  pub passed : (r : ℕ) → A.passed z' r ≡ A.passed z r
   pub nothing_else : (q : ℕ) → q ≢ p → A.sender_trail z' q ≡ A.sender_trail z q
 
 -- it has accepted something: no word has changed, and nothing was published
@@ -140,13 +145,63 @@ pub record StepsIn {C : Type 0} (P : Process C) (A : Automaton C) (z : A.State) 
   pub home : A.home state ≡ home_moved (P.move d) (A.home z)
   pub grows : LogGrows A z state
 
--- all that was published: some frames, which stand in the words below the length
+-- the place from which on all words stand: the least that a receiver has passed, and the length
+-- where all have left; the first one, where no word of the log is used again
+abbrev pub floor_in : TableLayout → List ℕ → ℕ
+floor_in x words =
+    floor_shown (slice_index words) x.passed x.passers (slice_index words 0)
+
+-- the words from there up to the length, each from its cell
+abbrev pub log_from_floor : TableLayout → List ℕ → List ℕ
+log_from_floor x words =
+    words_in_ring (slice_index words) x.log x.capacity (floor_in x words)
+    (slice_index words 0 - floor_in x words)
+
+-- All that was published: some frames, as many words as the length says. From the floor on, where a
+-- frame begins, the cells show them; and where no word of the log is used again, the words below
+-- the length do.
 pub record HasLog {C : Type 0} (A : Automaton C) (z : A.State) : Type 0 where
   pub frames : List Frame
   pub lawful : AreFrames A.table_layout.senders frames
   pub words_are : log_words frames ≡ log_in A z
-  pub fits : slice_index (A.words z) 0 ≤ A.table_layout.capacity
-  pub stands : log_below A.table_layout (A.words z) ≡ log_in A z
+  pub long : length (log_in A z) ≡ slice_index (A.words z) 0
+  pub shows : log_from_floor A.table_layout (A.words z)
+      ≡ drop (floor_in A.table_layout (A.words z)) (log_in A z)
+  pub edge : IsBoundary frames (floor_in A.table_layout (A.words z))
+  -- they fit: no more than a whole log lies behind the floor
+  pub room : length (log_in A z)
+      ≤ A.table_layout.capacity + floor_in A.table_layout (A.words z)
+  pub fits : A.table_layout.passers ≡ 0 → slice_index (A.words z) 0 ≤ A.table_layout.capacity
+  pub stands : A.table_layout.passers ≡ 0 → log_below A.table_layout (A.words z) ≡ log_in A z
+
+-- ---- receivers
+-- A receiver does not ask for this word of the log in vain: it has not left, and its passed place
+-- is no further. Where no word of the log is used again each may be asked for.
+abbrev pub MayAsk : {C : Type 0} → (A : Automaton C) → A.State → (r place : ℕ) → Type 0
+MayAsk A z r place =
+    (A.table_layout.passers ≡ 0) ⊎ ((p : ℕ) × (A.passed z r ≡ Some p) × (p ≤ place))
+
+-- Where a frame begins, before any end mark: what a receiver may store in its passed place.
+pub record MayPass {C : Type 0} (A : Automaton C) (z : A.State) (place : ℕ) : Type 0 where
+  pub frames : List Frame
+  pub lawful : AreFrames A.table_layout.senders frames
+  pub words_are : log_words frames ≡ log_in A z
+  pub begins : IsBoundary frames place
+  pub no_end : (order_in (take place (log_pieces frames))).ended ≡ false
+
+-- Receiver r has stored this number in its passed place: it has passed this, or it has left for
+-- good. Nothing else has changed.
+pub record PassesIn {C : Type 0} (A : Automaton C) (z : A.State) (r number : ℕ)
+    (passed : Option ℕ) : Type 0 where
+  pub state : A.State
+  pub reached : A.IsReached state
+  pub words : A.words state ≡ slice_set (A.words z) (passed_word A.table_layout r) number
+  pub home : A.home state ≡ A.home z
+  pub senders : (p : ℕ) → A.sender state p ≡ A.sender z p
+  pub trails : (p : ℕ) → A.sender_trail state p ≡ A.sender_trail z p
+  pub log : A.log state ≡ A.log z
+  pub here : A.passed state r ≡ passed
+  pub others : (q : ℕ) → q ≢ r → A.passed state q ≡ A.passed z q
 
 -- the headline's page holds of what its senders did, of receivers that were answered nothing
 pub record IsPromisedOf {C : Type 0} (A : Automaton C) (z : A.State) : Type 0 where
@@ -158,6 +213,10 @@ pub record IsPromisedOf {C : Type 0} (A : Automaton C) (z : A.State) : Type 0 wh
 pub record AutomatonLaws {C : Type 0} (P : Process C) (A : Automaton C) : Type 0 where
   pub room : A.table_layout.log + A.table_layout.capacity ≤ A.table_layout.words
   pub behind : 2 ≤ A.table_layout.log
+  -- passed places stand between the stage and the log
+  pub passed_behind : 2 ≤ A.table_layout.passed
+  pub passed_room : (r : ℕ) → r < A.table_layout.passers
+      → passed_word A.table_layout r < A.table_layout.log
   -- a sender at its start
   pub started_me : (p : ℕ) → P.me (A.started p) ≡ p
   pub started_table_layout : (p : ℕ) → P.table_layout (A.started p) ≡ A.table_layout
@@ -199,8 +258,33 @@ pub record AutomatonLaws {C : Type 0} (P : Process C) (A : Automaton C) : Type 0
       → A.home z ≡ Some page → AreFrames A.table_layout.senders frames
       → log_words frames ≡ log_in A z
       → (past : ℕ) × (slice_index (A.words z) 1 ≡ 2 * past)
-      × Knows (base_in A) page frames past (slice_index (A.words z) 0) × KeepsFloor page
+      × Knows (base_in A) page frames past (slice_index (A.words z) 0)
+      × (A.table_layout.passers ≡ 0 → KeepsFloor page)
+  -- its floor is not past that of the words, and no more than a whole log lies behind it
+  pub page_fits : (z : A.State) (page : Page) → A.IsReached z → A.home z ≡ Some page
+      → (page.floor ≤ floor_in A.table_layout (A.words z))
+      × (length (log_in A z) ≤ A.table_layout.capacity + page.floor)
   pub log : (z : A.State) → A.IsReached z → HasLog A z
+  -- a receiver finds at each place that it may ask for the word that was published there, however
+  -- often the cell was used before
+  pub finds : (z : A.State) (r place : ℕ) → A.IsReached z → MayAsk A z r place
+      → place < length (log_in A z)
+      → slice_index (A.words z) (log_cell A.table_layout place) ≡ slice_index (log_in A z) place
+  -- its passed place shows what it has passed: a place where a frame begins, before any end
+  pub shows : (z : A.State) (r p : ℕ) → A.IsReached z → A.passed z r ≡ Some p
+      → (r < A.table_layout.passers) × (p ≤ length (log_in A z))
+      × (slice_index (A.words z) (passed_word A.table_layout r) ≡ p)
+  pub passed_whole : (z : A.State) (r p : ℕ) → A.IsReached z → A.passed z r ≡ Some p
+      → MayPass A z p
+  -- and 2^64 - 1 once it has left for good
+  pub left : (z : A.State) (r : ℕ) → A.IsReached z → r < A.table_layout.passers
+      → A.passed z r ≡ None
+      → slice_index (A.words z) (passed_word A.table_layout r) ≡ PASSED_ALL
+  -- it may pass more, or leave
+  pub passes : (z : A.State) (r p place : ℕ) → A.IsReached z → A.passed z r ≡ Some p → p ≤ place
+      → MayPass A z place → PassesIn A z r place (Some place)
+  pub leaves : (z : A.State) (r p : ℕ) → A.IsReached z → A.passed z r ≡ Some p
+      → PassesIn A z r PASSED_ALL None
   -- of each sender it has what that put, but for what waits
   pub sent : (z : A.State) (p : ℕ) (c : C) (frames : List Frame) → A.IsReached z
       → A.sender z p ≡ Some c → AreFrames A.table_layout.senders frames
@@ -220,4 +304,5 @@ pub record Opens {C : Type 0} (P : Process C) (A : Automaton C) : Type 0 where
   pub home : A.home state ≡ Some (first_page A.bases)
   pub senders : (p : ℕ) → p < A.table_layout.senders → A.sender state p ≡ Some (A.started p)
   pub sender_trail : (p : ℕ) → A.sender_trail state p ≡ new_sender_trail (base_in A p)
+  pub passed : (r : ℕ) → r < A.table_layout.passers → A.passed state r ≡ Some 0
   pub counted : (p : ℕ) → IsCounted P (A.started p)

@@ -1,6 +1,9 @@
 -- A bus of either kind of rows as threads go by it: one automaton, by the one machine and what
 -- leads to it.
-use Rattle.std.specs.Prelude.{◌≡◌, ℕ, Option, List, [], slice_get, slice_index}
+use Rattle.std.specs.Prelude.{◌≡◌, ℕ, false, Option, Some, None, List, [], length, slice_get}
+use Rattle.std.specs.Prelude.{slice_index, if◌then◌else◌}
+use Rattle.bus_batch.specs.declared.readers.Place.TheVariants.{Between}
+use Rattle.bus_deliverylog.specs.Receiving.{Receiving}
 use Rattle.bus_tenure.specs.Core.{Election, Layout}
 use Rattle.bus_core.specs.Keeping.{new_sender}
 use Rattle.bus_core.specs.Senders.{Sender}
@@ -16,8 +19,22 @@ pub record MachineHistory (E : Type 0) : Type 0 where
   pub machine : Machine E
   pub trails : Trails
 
--- Some events lead to it, of whichever senders and in any order. It has no receivers of its own,
--- and no event was a stop.
+-- A receiver between frames: it has passed all that it has read, and no end was among that. So it
+-- goes on with each word that may come.
+pub record IsResting (v : Receiving) : Type 0 where
+  pub going : v.ended ≡ false
+  pub passed : v.passed ≡ v.place
+  pub between : v.frames.place ≡ Between
+  pub nothing : v.frames.bytes ≡ []
+
+-- what a receiver has passed, until it leaves for good
+abbrev pub passed_of : Option Receiving → Option ℕ
+passed_of None = None
+passed_of (Some v) = if v.gone then None else Some v.passed
+
+-- Some events lead to it, of whichever senders and in any order. It has a receiver for each passed
+-- place and no others; of each that has not left, what it did was to go on to where it has passed
+-- all. No event was a stop.
 pub record IsMachineHistory {E : Type 0} (X : Election E) (x : Layout) (reuse : Option ℕ)
     (bases : List ℕ) (z : MachineHistory E) : Type 0 where
   pub served : IsLayout x
@@ -26,7 +43,9 @@ pub record IsMachineHistory {E : Type 0} (X : Election E) (x : Layout) (reuse : 
   pub rows_are : z.machine.reuse ≡ reuse
   pub bases_are : z.machine.bases ≡ bases
   pub reached : Reached X z.machine z.trails
-  pub alone : z.machine.receivers ≡ []
+  pub many : length z.machine.receivers ≡ x.passers
+  pub rest : (r : ℕ) (v : Receiving) → slice_get z.machine.receivers r ≡ Some v → v.gone ≡ false
+      → IsResting v
   pub running : z.machine.stopped ≡ no_stops
 
 -- all that a sender did, where the numbers began with these
@@ -52,4 +71,5 @@ bus_of {E} X x reuse bases = record {
   sender = λ z p. slice_get z.machine.senders p;
   sender_trail = λ z p. trail_of bases z.trails p;
   log = λ z. z.trails.log;
+  passed = λ z r. passed_of (slice_get z.machine.receivers r);
 }

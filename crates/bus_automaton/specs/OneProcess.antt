@@ -13,7 +13,7 @@ use Rattle.bus_core.specs.Table.{Line, line_now, rest_at}
 use Rattle.bus_world.specs.Trails.{step_action}
 use Rattle.bus_world.specs.Turning.{before_step, after_step, laying}
 use Rattle.bus_world.specs.Waiting.{waiting_at}
-use Rattle.bus_machine.specs.Machine.{log_place, moved, put_in, mark_in}
+use Rattle.bus_machine.specs.Machine.{log_place, passers_place, moved, put_in, mark_in}
 use Rattle.bus_machine.specs.Remembering.{rows_in}
 use Rattle.bus_automaton.specs.Processes.{TableLayout, Process}
 use Rattle.bus_automaton.specs.SenderTrails.{SenderTrail, sender_trail_of_actions}
@@ -26,6 +26,7 @@ table_layout_by x reuse = record {
   words = log_place x reuse + x.capacity;
   log = log_place x reuse;
   capacity = x.capacity;
+  passed = passers_place x reuse;
   passers = x.passers;
 }
 

@@ -1,13 +1,14 @@
 -- What threads go by. A sender is a process, which says by itself what its next turn is; and a bus
 -- is an automaton, of which executions lead to some states. They are one for both kinds of rows, of
 -- which what is said here knows nothing.
-use Rattle.std.specs.Prelude.{◌≡◌, ℕ, ◌+◌, ◌≤◌, ◌<◌, Bool, true, false, Option, Some, List}
-use Rattle.std.specs.Prelude.{length, slice_index}
+use Rattle.std.specs.Prelude.{◌≡◌, ℕ, ◌+◌, ◌*◌, ◌%◌, ◌≤◌, ◌<◌, Bool, true, false, Option, Some}
+use Rattle.std.specs.Prelude.{List, length, slice_index}
 use Rattle.bus_register.specs.declared.kinds.Kind.{Kind}
 use Rattle.bus_register.specs.declared.limits.TheConstants.{MOST_MESSAGES, NUMBERS}
 use Rattle.bus_register.specs.declared.registers.Op.{Op}
 use Rattle.bus_batch.specs.Batches.{Pending}
 use Rattle.bus_batch.specs.declared.messages.Mark.{Mark}
+use Rattle.bus_core.specs.declared.limits.TheConstants.{PASSED_APART}
 use Rattle.bus_tenure.specs.Situations.{PageMove, Stays, Comes, Returns}
 use Rattle.bus_tenure.specs.declared.pages.Page.{Page}
 use Rattle.bus_tenure.specs.declared.turns.Turn.{Turn}
@@ -22,11 +23,27 @@ pub record TableLayout : Type 0 where
   pub words : ℕ
   pub log : ℕ
   pub capacity : ℕ
-  -- how many passed places there are
+  -- where passed places begin, and how many there are: none where no word of the log is used again
+  pub passed : ℕ
   pub passers : ℕ
 
 abbrev pub no_table_layout : TableLayout
-no_table_layout = record { senders = 0; words = 0; log = 0; capacity = 0; passers = 0 }
+no_table_layout = record {
+  senders = 0;
+  words = 0;
+  log = 0;
+  capacity = 0;
+  passed = 0;
+  passers = 0;
+}
+
+-- which word is the passed place of receiver r
+abbrev pub passed_word : TableLayout → ℕ → ℕ
+passed_word x r = x.passed + PASSED_APART * r
+
+-- and which is the cell of this word of the log
+abbrev pub log_cell : TableLayout → ℕ → ℕ
+log_cell x place = x.log + place % x.capacity
 
 -- ---- a sender that holds C
 pub record Process (C : Type 0) : Type 0 where
@@ -68,11 +85,10 @@ pub record Process (C : Type 0) : Type 0 where
   pub laid : C → Page → C
 
 -- the numbers of a sender's messages stay within their range, also that of a message more where its
--- batch is full; and no bus has passed places yet
+-- batch is full
 pub record IsCounted {C : Type 0} (P : Process C) (c : C) : Type 0 where
   pub first : (P.queue c).first + MOST_MESSAGES < NUMBERS
   pub few : length (P.queue c).messages ≤ MOST_MESSAGES
-  pub passers : (P.table_layout c).passers ≡ 0
 
 -- ---- a turn, part by part
 -- The parts of a turn are the whole turn: c has taken its step, is s once it was told what that
@@ -93,9 +109,9 @@ pub record Automaton (C : Type 0) : Type 1 where
   -- a sender at its start
   pub started : ℕ → C
   pub State : Type 0
-  -- Executions lead to this state, whatever its senders did and in whichever order: in none has a
-  -- receiver taken part, and no sender has stopped by an event of its own. One that is dropped just
-  -- takes no step any more.
+  -- Executions lead to this state, whatever its senders did and in whichever order: of what a
+  -- receiver does it has what that stores in its passed place alone, and no sender has stopped by
+  -- an event of its own. One that is dropped just takes no step any more.
   pub IsReached : State → Type 0
   pub words : State → List ℕ
   -- the page, where it is at home
@@ -105,6 +121,9 @@ pub record Automaton (C : Type 0) : Type 1 where
   pub sender_trail : State → ℕ → SenderTrail
   -- all words that were ever published
   pub log : State → List ℕ
+  -- The place that receiver r has stored in its passed place, before which it asks for no word any
+  -- more. None once it has left for good, and where there is no such passed place.
+  pub passed : State → ℕ → Option ℕ
 
 abbrev pub base_in : {C : Type 0} → Automaton C → ℕ → ℕ
 base_in A = slice_index A.bases

@@ -82,6 +82,13 @@ receiving_kind r = if r.ended then None else Some (kind_by (passing_due r) r)
 abbrev pub receiving_op : Receiving → Option Op
 receiving_op r = if r.ended then None else Some (op_by (passing_due r) r)
 
+-- and of one that has left for good none is due
+abbrev pub due_kind : Receiving → Option Kind
+due_kind r = if r.gone then None else receiving_kind r
+
+abbrev pub due_op : Receiving → Option Op
+due_op r = if r.gone then None else receiving_op r
+
 -- with its leave it stores 2^64 - 1 in its passed place, past all words; without one it takes no
 -- step
 abbrev pub leaving_by : Option ℕ → Option Op

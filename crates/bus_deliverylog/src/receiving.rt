@@ -228,7 +228,7 @@ impl Model for Reader {
 }
 
 impl Reader {
-    ghost use Rattle.bus_deliverylog.specs.Receiving.{receiving_kind, receiving_op, reading_of};
+    ghost use Rattle.bus_deliverylog.specs.Receiving.{due_kind, due_op, receiving_op, reading_of};
     ghost use Rattle.bus_deliverylog.specs.Receiving.{leaving_op, with_leave, LiesApart};
     ghost use Rattle.bus_deliverylog.specs.Receiving.{WritesApart};
     ghost use Rattle.bus_deliverylog.specs.Receiving.{with_reading, HasReceived, passing_due};
@@ -338,11 +338,13 @@ impl Reader {
         }
     }
 
-    /// What the next step is for; none after the end.
+    /// What the next step is for; none after the end, and none of one that has left.
     pub fn kind(&self) -> Option<Kind>
-        ensures { result ≡ receiving_kind self.now }
+        ensures { result ≡ due_kind self.now }
     {
-        if self.reader.has_ended() {
+        if self.has_left() {
+            None
+        } else if self.reader.has_ended() {
             None
         } else if let Some(_) = self.passing() {
             Some(Kind::StorePassed)
@@ -353,11 +355,13 @@ impl Reader {
         }
     }
 
-    /// The next step; none after the end.
+    /// The next step; none after the end, and none of one that has left.
     pub fn next(&self) -> Option<Op>
-        ensures { result ≡ receiving_op self.now }
+        ensures { result ≡ due_op self.now }
     {
-        if self.reader.has_ended() {
+        if self.gone {
+            None
+        } else if self.reader.has_ended() {
             None
         } else if let Some(at) = self.passing() {
             Some(Op::Store(Reg(at), self.reader.place()))

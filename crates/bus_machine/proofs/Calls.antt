@@ -17,6 +17,7 @@ use Rattle.bus_world.specs.Proved.Invariants.{given_at}
 use Rattle.bus_machine.proofs.Bounding.{bounded}
 use Rattle.bus_machine.proofs.PinBounds.{pins_bounded}
 use Rattle.bus_machine.specs.Bounding.{AreBounded, PinsAreBounded}
+use Rattle.bus_machine.proofs.Joining.{joins}
 use Rattle.bus_machine.proofs.Leading.{sits_after}
 use Rattle.bus_machine.proofs.Leaving.{opens_only}
 use Rattle.bus_machine.proofs.Following.{follows, tells}
@@ -27,9 +28,10 @@ use Rattle.bus_machine.proofs.Holding.{sits}
 use Rattle.bus_machine.proofs.Holding as holding
 use Rattle.bus_machine.proofs.PlayLaws as playing
 use Rattle.bus_machine.proofs.Promised as promises
+use Rattle.bus_machine.proofs.Publishing.{published_stands}
 use Rattle.bus_machine.specs.Giving.{StillGiven}
 use Rattle.bus_machine.specs.Machine.{Machine, Trails, Reached, Then, Happens, trails_grown, log_of}
-use Rattle.bus_machine.specs.Machine.{floor_of}
+use Rattle.bus_machine.specs.Machine.{floor_of, ShowsPublished}
 use Rattle.bus_machine.specs.Playing.{Answers, AllAnswered, Played, IsHeld}
 use Rattle.bus_machine.specs.Promise.{IsPromised, TakersTold}
 use Rattle.bus_machine.specs.Telling.{Causes, Says, LossesAreSeen}
@@ -52,6 +54,8 @@ module _ {S : Type 0} (X : Election (Elector S)) (Q : Protocol S Bool Verdict)
             (promises.promised X P new U (sits_after X P m new e a d t)
             (Then m new h.trails e a h.reached d)) told d;
         follows = follows X P m h.trails t h.reached new e a d;
+        publishes = λ T r. subst (ShowsPublished new T.log) (joins X m new e a T d)
+            (published_stands X P m new T e a t r d);
       }
 
   pub answers : (e : Event) (a : Answer) (new : Machine (Elector S)) → Happens X now e a new
@@ -104,13 +108,15 @@ module _ {S : Type 0} (X : Election (Elector S)) (Q : Protocol S Bool Verdict)
       → ((v : Receiving) (rest : List Frame)
       → slice_get now.receivers r ≡ Rattle.std.specs.Prelude.Some v
       → AreFrames now.layout.senders rest → log_of now ≡ log_words rest
-      → order ≡ order_in (take (v.place - floor_of now) (log_pieces rest)))
+      → (order.entries ≡ (order_in (take (v.place - floor_of now) (log_pieces rest))).entries)
+      × (order.ended ≡ v.ended))
       → (T : Trails) → Reached X now T → StillGiven now T r order
   stands = subst (λ y. (r : ℕ) → r < length y.receivers → (order : Order)
       → ((v : Receiving) (rest : List Frame)
       → slice_get y.receivers r ≡ Rattle.std.specs.Prelude.Some v
       → AreFrames y.layout.senders rest → log_of y ≡ log_words rest
-      → order ≡ order_in (take (v.place - floor_of y) (log_pieces rest)))
+      → (order.entries ≡ (order_in (take (v.place - floor_of y) (log_pieces rest))).entries)
+      × (order.ended ≡ v.ended))
       → (T : Trails) → Reached X y T → StillGiven y T r order) is
       (λ r l order says T reached.
       still_given P m T (framed X P m T (sits X P m s h) reached) r l order says)
@@ -118,11 +124,11 @@ module _ {S : Type 0} (X : Election (Elector S)) (Q : Protocol S Bool Verdict)
   pub heard : (r : ℕ) → r < length now.receivers → (order : Order)
       → ((frames : List Frame) (v : Receiving) → AreFrames now.layout.senders frames
       → log_of now ≡ log_words frames → slice_get now.receivers r ≡ Rattle.std.specs.Prelude.Some v
-      → order ≡ given_at frames v)
+      → (order.entries ≡ (given_at frames v).entries) × (order.ended ≡ v.ended))
       → now.layout.passers ≡ 0 → (T : Trails) → Reached X now T → order ≡ order_given (T.heard r)
   heard = subst (λ y. (r : ℕ) → r < length y.receivers → (order : Order)
       → ((frames : List Frame) (v : Receiving) → AreFrames y.layout.senders frames
       → log_of y ≡ log_words frames → slice_get y.receivers r ≡ Rattle.std.specs.Prelude.Some v
-      → order ≡ given_at frames v)
+      → (order.entries ≡ (given_at frames v).entries) × (order.ended ≡ v.ended))
       → y.layout.passers ≡ 0 → (T : Trails) → Reached X y T → order ≡ order_given (T.heard r)) is
       (holding.heard X P m s h)

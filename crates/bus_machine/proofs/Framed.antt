@@ -1,9 +1,8 @@
 -- What words, page and senders of a machine keep by the frames of its log, of both kinds of rows.
 use Rattle.std.proofs.Common.{◌≡◌, ◌≢◌, ℕ, zero, suc, ◌+◌, ◌*◌, ◌<◌, ◌≤◌, Option, Some, None}
 use Rattle.std.proofs.Common.{List, ◌++◌, drop, length, map, slice_get, slice_index, ◌-◌, ◌%◌}
-use Rattle.std.proofs.Common.{arith}
 use Rattle.std.proofs.Common.{◌^◌, Bool, true, false, cond, inl, inr, nat_lt}
-use Rattle.std.proofs.Common.{refl, sym, ◌∙◌, ap, subst}
+use Rattle.std.proofs.Common.{arith, refl, sym, ◌∙◌, ap, subst}
 use Rattle.std.specs.Prelude.{option_map}
 use Rattle.std.proofs.Math.Nat.{mod-eq_of_lt}
 use Rattle.std.proofs.lemmas.Bool.{cases_lt, ltb-true}
@@ -20,11 +19,11 @@ use Rattle.bus_core.specs.Senders.{Sender, Does, Clears, log_start, situation}
 use Rattle.bus_core.specs.Proved.Bridge.{with_a_row_each, reuse_of}
 use Rattle.bus_machine.proofs.Clearing.{clearing, spared}
 use Rattle.bus_core.specs.Reusing.Participants.{log_from, passed_from, sizes_with}
-use Rattle.bus_core.specs.declared.limits.TheConstants.{PASSED_APART}
 use Rattle.bus_core.specs.Proved.ParticipantTable.{place_for}
 use Rattle.bus_core.specs.Reusing.Turns.{Participant, on_place}
 use Rattle.bus_deliverylog.specs.Receiving.{Receiving}
 use Rattle.bus_deliverylog.specs.Orders.{of_sender}
+use Rattle.bus_deliverylog.specs.declared.receiving.RecvTurn.{RecvTurn}
 use Rattle.bus_world.proofs.Waiting.{waiting_of}
 use Rattle.bus_world.specs.Headline.{puts, order_given, Promises}
 use Rattle.bus_world.specs.Waiting.{waiting_at}
@@ -49,9 +48,11 @@ use Rattle.bus_world.proofs.CyclicProtocolHears.{placed}
 use Rattle.bus_world.proofs.Bounds.{words_low}
 use Rattle.bus_world.proofs.FloorLaws.{boundary_first, lesser_is}
 use Rattle.bus_world.proofs.LogLaws.{index-read, length-logged}
+use Rattle.bus_world.proofs.ReceiverSteps.{found_length, found_word}
 use Rattle.bus_world.proofs.RingLaws.{ring_shows, ring_straight, shown_is}
 use Rattle.bus_world.proofs.RingWords.{found_there}
 use Rattle.bus_world.proofs.Serving.{Serves}
+use Rattle.bus_world.proofs.Tying.{Hears}
 use Rattle.bus_world.proofs.CyclicProtocolKept.{HasKept}
 use Rattle.bus_world.proofs.CyclicProtocolLaws.{protocol_promised}
 use Rattle.bus_world.specs.World.{IsLayout}
@@ -66,7 +67,7 @@ use Rattle.bus_world.specs.Proved.Receiving.{IsReceiver}
 use Rattle.bus_world.specs.Proved.CyclicProtocols.{CyclicProtocol}
 use Rattle.bus_world.specs.Proved.Invariants.{given_at}
 use Rattle.bus_world.specs.Proved.KeptProtocols.{IsKeptProtocol}
-use Rattle.bus_machine.proofs.AtNone.{flat_at_none, made_there, reached_at_none}
+use Rattle.bus_machine.proofs.AtNone.{flat_at_none, made_there, passed_first, reached_at_none}
 use Rattle.bus_machine.proofs.CyclicTurns.{protocol_kept}
 use Rattle.bus_machine.proofs.Leading.{Sits, two_rows, led_some}
 use Rattle.bus_machine.specs.Proved.Bridge.{of_bus, plain_trails, core_in, passing_in}
@@ -140,9 +141,19 @@ pub record IsFramed {E : Type 0} (P : Protocol E (Unit {0}) ℕ) (m : Machine E)
       → (slice_index m.words at ≤ v.place) × IsBoundary frames (slice_index m.words at)
   pub given : (r : ℕ) (v : Receiving) → slice_get m.receivers r ≡ Some v
       → order_given (T.heard r) ≡ given_at frames v
+  -- whose end it has heard where it has ended
+  pub ends : (r : ℕ) (v : Receiving) → slice_get m.receivers r ≡ Some v
+      → (order_given (T.heard r)).ended ≡ v.ended
   pub takers : Takers owners T.actions
   pub promises : Promises (base_of m) T.actions T.heard (order_of frames)
       (map tenure_and_owner frames)
+
+heard_end : (frames : List Frame) (v : Receiving) (trail : List RecvTurn) → Hears frames v trail
+    → (order_given trail).ended ≡ v.ended
+heard_end frames v trail h = by v.ended refl where
+  by : (b : Bool) → v.ended ≡ b → (order_given trail).ended ≡ v.ended
+  by true e = h.ended e ∙ sym e
+  by false e = h.going e ∙ sym e
 
 -- ---- the log
 -- where no word of the log is used again it stands from its first word on
@@ -174,9 +185,11 @@ read_below P m T f flat =
     let few : slice_index m.words 0 ≤ m.layout.capacity = omega arith in
     sym (log_straight m flat few) ∙ f.stands.1 ∙ ap (λ n. drop n T.log) (floor_first m flat)
 
--- a receiver that has not left finds its word
+-- the cell at the place of a receiver that has not left has the word that was published there
 pub finds_words : {E : Type 0} (P : Protocol E (Unit {0}) ℕ) (m : Machine E) (T : Trails)
-    → IsFramed P m T → FindsWords m T.log
+    → IsFramed P m T → (r : ℕ) (v : Receiving) → slice_get m.receivers r ≡ Some v
+    → v.gone ≡ false → v.place < length T.log
+    → slice_index m.words (v.log_at + v.place % v.log_words) ≡ slice_index T.log v.place
 finds_words P m T f r v at stays below =
     let its = f.reads r v at in
     let low : v.place < f.V 0 = let a = f.stands.0 in let b = f.length in omega arith in
@@ -185,6 +198,24 @@ finds_words P m T f r v at stays below =
     ∙ f.finds v.place (let a = its.3 stays in let b = f.low in omega arith) low
     ∙ sym (index-read f.V (log_at m.layout) (f.V 0) v.place low)
     ∙ ap (λ ws. slice_index ws v.place) (f.sending.log.words_are ∙ f.log_is)
+
+-- so its load finds that
+pub loads_words : {E : Type 0} (P : Protocol E (Unit {0}) ℕ) (m : Machine E) (T : Trails)
+    → IsFramed P m T → FindsWords m T.log
+loads_words P m T f r v at stays =
+    let its = f.reads r v at in (
+      λ here.
+          found_length (slice_index m.words) v here ∙ ap (slice_index m.words) its.1.len_at
+          ∙ f.stands.0,
+      λ apart.
+          let low : v.place < length T.log =
+          (let a = its.1.receives.place_below in
+          let b = its.1.receives.known_below in
+          let c = f.stands.0 in let d = f.length in omega arith) in (
+            low,
+            found_word (slice_index m.words) v apart ∙ finds_words P m T f r v at stays low,
+          ),
+    )
 
 -- the floor is not past what a passed place shows
 least_below : (words : ℕ → ℕ) (at len n r : ℕ) → r < n
@@ -349,12 +380,14 @@ module _ {E : Type 0} (X : Election E) (P : Protocol E (Unit {0}) ℕ) where
       found = λ p t v e o q at runs low from to is. ap (λ w. slice_index b.side.words (register w))
           (sym (same_Some _ _ (subst (λ r. in_row x r t (Some o) ≡ Some q) (core_at p v at).1 is)));
       reads = reads_at;
-      passes = λ r v place at is. absurd (let bad : None ≡ Some place =
-          sym (k.lawful.keeps.never r v at).never ∙ is in
-          cc);
+      passes = λ r v at. (
+        (k.lawful.keeps.never r v at).never ∙ sym (passed_first x None r flat),
+        λ place is. absurd (none_passed r place (nat_lt r x.passers) refl is),
+      );
       heard = λ r v place at is stays. absurd
           (none_passed r place (nat_lt r x.passers) refl is);
       given = λ r v at. (k.tied.heard r v at).given_is;
+      ends = λ r v at. heard_end k.frames v (T.heard r) (k.tied.heard r v at);
       takers = promise.takers;
       promises = promise.promises;
     }
@@ -508,8 +541,12 @@ module _ {E : Type 0} (X : Election E) (P : Protocol E (Unit {0}) ℕ) where
 
     -- and shows what its receiver has passed, or that it has left
     passes_some : ShowsPassed m
-    passes_some r v place at is =
-        by (nat_lt r m.layout.passers) refl (sym (kept.kept.floors.each r v at).at ∙ is)
+    passes_some r v at = (
+      its.at ∙ ap (λ o. passed_by m.layout o r) (sym l.reuse),
+      λ place is.
+          by place (nat_lt r m.layout.passers) refl
+          (subst (λ o. passed_by m.layout o r ≡ Some place) l.reuse is),
+    )
       where
         its : IsPasser m.layout rows (slice_index m.words) kept.kept.floor r v
         its = kept.kept.floors.each r v at
@@ -520,11 +557,11 @@ module _ {E : Type 0} (X : Election E) (P : Protocol E (Unit {0}) ℕ) where
         shows low true left = its.left left low
         shows low false stays = its.shows stays low
 
-        by : (b : Bool) → nat_lt r m.layout.passers ≡ b
+        by : (place : ℕ) (b : Bool) → nat_lt r m.layout.passers ≡ b
             → cond {A = Option ℕ} b (Some (passed_place m.layout rows r)) None ≡ Some place
             → slice_index m.words place ≡ cond v.gone PASSED_ALL v.passed
-        by false e i = absurd cc
-        by true e i =
+        by place false e i = absurd cc
+        by place true e i =
             ap (slice_index m.words) (sym (same_Some _ _ i))
             ∙ shows (ltb-true r m.layout.passers e) v.gone refl
 
@@ -661,6 +698,8 @@ module _ {E : Type 0} (X : Election E) (P : Protocol E (Unit {0}) ℕ) where
       passes = passes_some;
       heard = heard_some;
       given = λ r v at. (kept.kept.hears.each r v at).hears.given_is;
+      ends = λ r v at. heard_end kept.frames (placed m.layout v) (T.heard r)
+          (kept.kept.hears.each r v at).hears;
       takers = keeps.by.takers;
       promises = subst
           (λ o. Promises (base_of m) T.actions T.heard o (map tenure_and_owner kept.frames))

@@ -65,11 +65,16 @@ pub still_given : {E : Type 0} (P : Protocol E (Unit {0}) ℕ) (m : Machine E) (
     → IsFramed P m T → (r : ℕ) → r < length m.receivers → (order : Order)
     → ((v : Receiving) (rest : List Frame) → slice_get m.receivers r ≡ Some v
     → AreFrames m.layout.senders rest → log_of m ≡ log_words rest
-    → order ≡ order_in (take (v.place - floor_of m) (log_pieces rest)))
+    → (order.entries ≡ (order_in (take (v.place - floor_of m) (log_pieces rest))).entries)
+    × (order.ended ≡ v.ended))
     → StillGiven m T r order
 still_given P m T f r l order says =
     let there = one_there m.receivers r l in
     let b = f.edge in
+    let its = says there.0 b.rest there.1
+    (later_frames m.layout.senders 0 b.front b.rest
+    (subst (AreFrames m.layout.senders) b.frames_are f.sending.log.lawful))
+    (f.stands.1 ∙ ap (drop (floor_of m)) (sym f.log_is) ∙ rest_words f.frames (floor_of m) b) in
     record {
       receiver = there.0;
       there = there.1;
@@ -78,10 +83,8 @@ still_given P m T f r l order says =
       words_are = f.log_is;
       given = f.given r there.0 there.1;
       still =
-          says there.0 b.rest there.1
-          (later_frames m.layout.senders 0 b.front b.rest
-          (subst (AreFrames m.layout.senders) b.frames_are f.sending.log.lawful))
-          (f.stands.1 ∙ ap (drop (floor_of m)) (sym f.log_is)
-          ∙ rest_words f.frames (floor_of m) b)
-          ∙ ap order_in (sym (still_pieces f.frames (floor_of m) b there.0.place));
+          its.0
+          ∙ ap (λ ps. (order_in ps).entries)
+          (sym (still_pieces f.frames (floor_of m) b there.0.place));
+      ended = its.1 ∙ sym (f.ends r there.0 there.1);
     }

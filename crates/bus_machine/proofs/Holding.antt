@@ -43,6 +43,7 @@ use Rattle.bus_world.specs.Log.{floor_shown, least_passed, words_in_ring}
 use Rattle.bus_world.proofs.Stopping.{shown_there}
 use Rattle.bus_world.specs.World.{IsLayout, Event, Put, Ask, Turn, Recv, Stop, Gone}
 use Rattle.bus_world.specs.Proved.Sending.{Part, Fits, standing_of, stands_at, least_of}
+use Rattle.bus_world.proofs.HearTrails.{order_so}
 use Rattle.bus_world.specs.Headline.{order_given}
 use Rattle.bus_world.specs.Proved.Tenures.Standing.{Runs}
 use Rattle.bus_world.specs.Proved.Receiving.{IsReceiver}
@@ -430,12 +431,15 @@ module _ {E : Type 0} (X : Election E) (P : Protocol E (Unit {0}) ℕ) where
     pub heard : (r : ℕ) → r < length m.receivers → (order : Order)
         → ((frames : List Frame) (v : Receiving) → AreFrames m.layout.senders frames
         → log_of m ≡ log_words frames → slice_get m.receivers r ≡ Some v
-        → order ≡ given_at frames v)
+        → (order.entries ≡ (given_at frames v).entries) × (order.ended ≡ v.ended))
         → m.layout.passers ≡ 0 → (T : Trails) → Reached X m T → order ≡ order_given (T.heard r)
     heard r l order stands flat T reached =
         let f = framed X P m T (sits m s h) reached in
         let there = one_there m.receivers r l in
         let first = floor_first m flat in
-        stands f.frames there.0 f.sending.log.lawful
-        (f.stands.1 ∙ ap (λ n. drop n T.log) first ∙ sym f.log_is) there.1
-        ∙ sym (f.given r there.0 there.1)
+        let its = stands f.frames there.0 f.sending.log.lawful
+        (f.stands.1 ∙ ap (λ n. drop n T.log) first ∙ sym f.log_is) there.1 in
+        order_so order.entries (order_given (T.heard r)).entries order.ended
+        (order_given (T.heard r)).ended
+        (its.0 ∙ ap (λ (o : Order). o.entries) (sym (f.given r there.0 there.1)))
+        (its.1 ∙ sym (f.ends r there.0 there.1))

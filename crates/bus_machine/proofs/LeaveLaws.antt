@@ -1,9 +1,11 @@
 -- A leave of a receiver is for good.
 use Rattle.std.proofs.Common.{◌≡◌, ◌≢◌, ℕ, Bool, true, false, Option, Some, None, inl, inr}
-use Rattle.std.proofs.Common.{List, All, [], ◌∷◌, ◌++◌, slice_get, slice_index}
+use Rattle.std.proofs.Common.{List, All, [], ◌∷◌, ◌++◌, slice_get, slice_index, slice_set}
+use Rattle.std.proofs.Common.{length, ◌+◌, ◌*◌, ◌<◌, cond, nat_lt, arith}
 use Rattle.std.proofs.Common.{refl, sym, ◌∙◌, ap, subst}
-use Rattle.std.proofs.lemmas.Bool.{true≢false, cases_eq, cases_Bool}
+use Rattle.std.proofs.lemmas.Bool.{true≢false, cases_eq, cases_Bool, ltb-true}
 use Rattle.std.proofs.lemmas.List.{append-nil, get_or-set_same, get_or-set_other}
+use Rattle.std.proofs.lemmas.List.{length-replicate}
 use Rattle.std.proofs.lemmas.List.Elements.{All-head, All-tail}
 use Rattle.std.proofs.lemmas.Option.{same_Some, slice_get_within}
 use Rattle.bus_register.specs.Proved.TableLaws.{get_set_same, get_set_other}
@@ -12,11 +14,15 @@ use Rattle.bus_register.specs.declared.limits.TheConstants.{PASSED_ALL}
 use Rattle.bus_core.specs.Senders.{Sender, Situation, Does, Announces, Validates, Unpins}
 use Rattle.bus_core.specs.Senders.{Withdraws, Scans, Clears, ReadsPassed, situation}
 use Rattle.bus_core.specs.Table.{Line, line_now}
+use Rattle.bus_core.specs.declared.limits.TheConstants.{PASSED_APART}
 use Rattle.bus_deliverylog.specs.Receiving.{Receiving, with_leave, leaving_by, leaving_op}
+use Rattle.bus_deliverylog.specs.Receiving.{receiving_op}
 use Rattle.bus_adoptcommit.specs.declared.verdicts.Verdict.{Verdict}
-use Rattle.bus_tenure.specs.Core.{Election}
+use Rattle.bus_tenure.specs.Core.{Election, Layout}
 use Rattle.bus_tenure.specs.Elections.{Elector}
 use Rattle.bus_tenure.specs.declared.turns.Turn.{Turn as Answered}
+use Rattle.bus_machine.proofs.AtNone.{event_reuse, flat_at_none, passed_first, passes_by}
+use Rattle.bus_machine.proofs.CyclicTurns.{words_many}
 use Rattle.bus_machine.proofs.EachSender.{cond_beside}
 use Rattle.bus_world.specs.Playing.{RecvRefused}
 use Rattle.bus_world.specs.Turning.{words_after}
@@ -27,7 +33,8 @@ use Rattle.bus_world.specs.declared.events.StepFault.{StepFault}
 use Rattle.bus_world.specs.declared.events.StepFault.TheVariants as fault
 use Rattle.bus_machine.specs.Machine.{Machine, Trails, Happens, IsOnWord, LeavesForGood}
 use Rattle.bus_machine.specs.Machine.{trails_grown, turn_grown, turn_trails, going, found}
-use Rattle.bus_machine.specs.Machine.{heard_grown}
+use Rattle.bus_machine.specs.Machine.{heard_grown, log_place, passed_by, passers_place, Reached}
+use Rattle.bus_machine.specs.Machine.{New, Then}
 use Rattle.bus_machine.specs.Playing.{AllAnswered, trails_after}
 use Rattle.bus_machine.specs.Leaves.{is_gone, has_left, JustLeft, StaysGone}
 use Rattle.bus_machine.specs.Leaves.{LeavesAreForGood, LeaveRefuses}
@@ -200,6 +207,87 @@ leave_refuses {E} X = record {
   leave_untimely = λ m r stays w. not_as_gone (slice_get m.receivers r) stays w;
 }
 
+-- ---- who has not left may leave
+module _ {E : Type 0} (X : Election E) where
+  -- each machine has the words of its layout
+  event_words : (m m' : Machine E) (e : Event) (a : Answer) → Happens X m e a m'
+      → length m'.words ≡ length m.words
+  event_words m m' (Put s bytes) a h = ap (λ (y : Machine E). length y.words) h.after
+  event_words m m' (Ask s asked) a h = ap (λ (y : Machine E). length y.words) h.after
+  event_words m m' (Turn s word) a h =
+      ap (λ (y : Machine E). length y.words) h.after
+      ∙ words_many m.words ((line_now X h.sender).op word)
+  event_words m m' (Recv q) a h =
+      ap (λ (y : Machine E). length y.words) h.after
+      ∙ words_many m.words (receiving_op h.receiver)
+  event_words m m' (Stop s) a h = ap (λ (y : Machine E). length y.words) h.after
+  event_words m m' (Gone q) a h =
+      ap (λ (y : Machine E). length y.words) h.after
+      ∙ words_many m.words (leaving_op h.receiver)
+
+  abbrev size_of : Machine E → ℕ
+  size_of m = log_place m.layout m.reuse + m.layout.capacity
+
+  many_words : (m : Machine E) (T : Trails) → Reached X m T → length m.words ≡ size_of m
+  many_words m T (New w new) = ap length new.words ∙ length-replicate (size_of w) 0
+  many_words m T (Then w v U e a before h) =
+      let i = event_reuse X w v e a h in
+      event_words w v e a h ∙ many_words w U before
+      ∙ ap (λ (x : Layout). log_place x w.reuse + x.capacity) (sym i.0)
+      ∙ ap (λ o. log_place v.layout o + v.layout.capacity) (sym i.1)
+
+  -- a passed place is one of them
+  passed_low : (x : Layout) (o : Option ℕ) (r place : ℕ) → (o ≡ None → x.passers ≡ 0)
+      → passed_by x o r ≡ Some place → place < log_place x o + x.capacity
+  passed_low x None r place flat is =
+      absurd (let bad : None ≡ Some place = sym (passed_first x None r (flat refl)) ∙ is in cc)
+  passed_low x (Some rows) r place flat is = by (nat_lt r x.passers) refl is where
+    by : (b : Bool) → nat_lt r x.passers ≡ b
+        → cond {A = Option ℕ} b (Some (passers_place x (Some rows) + PASSED_APART * r)) None
+        ≡ Some place → place < log_place x (Some rows) + x.capacity
+    by false e i = absurd cc
+    by true e i =
+        let low = ltb-true r x.passers e in
+        let same : passers_place x (Some rows) + PASSED_APART * r ≡ place = same_Some _ _ i in
+        omega arith
+
+  on_leave : (m : Machine E) (o : Option ℕ) → ((place : ℕ) → o ≡ Some place
+      → place < length m.words) → IsOnWord m (leaving_by o)
+  on_leave m None low = tt
+  on_leave m (Some place) low = low place refl
+
+  no_cause : (o : Option Receiving) (v : Receiving) (why : StepFault) → o ≡ Some v
+      → v.gone ≡ false → RecvRefused o why → ⊥
+  no_cause None v why there stays w = absurd (let bad = there in cc)
+  no_cause (Some u) v why there stays w =
+      let same : u ≡ v = same_Some _ _ there in
+      true≢false (sym w.0 ∙ ap (λ (y : Receiving). y.gone) same ∙ stays)
+
+  may_leave : (m : Machine E) (T : Trails) (r : ℕ) (v : Receiving) → Reached X m T
+      → slice_get m.receivers r ≡ Some v → v.gone ≡ false
+      → ((why : StepFault) → RecvRefused (slice_get m.receivers r) why → ⊥)
+      × ((new : Machine E) × LeavesForGood m r answer.Gone new)
+  may_leave m T r v led there stays = (
+    λ why w. no_cause (slice_get m.receivers r) v why there stays w,
+    (
+      record m {
+        words = words_after m.words (leaving_op v);
+        receivers = slice_set m.receivers r (with_leave v);
+      },
+      record {
+        receiver = v;
+        there = there;
+        stays = stays;
+        within = on_leave m v.passed_at (λ place is.
+            let low = passed_low m.layout m.reuse r place (flat_at_none X m T led)
+            (sym (passes_by X m T led r v there) ∙ is) in
+            let many = many_words m T led in omega arith);
+        answered = refl;
+        after = refl;
+      },
+    ),
+  )
+
 -- ---- whatever events follow
 module _ {S : Type 0} (X : Election (Elector S)) (P : Protocol S Bool Verdict) where
   stays : (events : List Event) (old new : Machine (Elector S))
@@ -231,5 +319,6 @@ module _ {S : Type 0} (X : Election (Elector S)) (P : Protocol S Bool Verdict) w
     stays = λ old new events run T r left. stays events old new run T r left;
     recv_refused = λ m r left. as_gone (slice_get m.receivers r) left;
     leave_refused = λ m r left. as_gone (slice_get m.receivers r) left;
+    may_leave = λ m T r v led there stays. may_leave X m T r v led there stays;
     goes_on = λ old new events r run others. goes_on events old new r run others;
   }

@@ -23,6 +23,7 @@ pub mod Ending
 pub mod Entering
 pub mod Remembering
 pub mod Losing
+pub mod Loaded
 pub mod Telling
 pub mod Promised
 pub mod Floors

@@ -129,8 +129,9 @@ logs_refused {E} X m T = record {
       none_within front rest f (floor_of m)
       (subst (λ fs. IsBoundary fs (floor_of m)) same kept.by.edge) past below;
   passed_ahead = λ r v at stays past kept. let low = kept.by.comes r v at stays in omega arith;
+  passed_elsewhere = λ r v at other kept. other (kept.by.passes r v at).0;
   passed_otherwise = λ r v place at is stays other kept.
-      other (kept.by.passes r v place at is ∙ ap (λ b. cond b PASSED_ALL v.passed) stays);
+      other ((kept.by.passes r v at).1 place is ∙ ap (λ b. cond b PASSED_ALL v.passed) stays);
   passed_unheard = λ r v place at is stays past kept.
       let low = (kept.by.passed r v place at is stays).0 in omega arith;
   passed_within = λ r v place at is stays front rest f lawful are past below kept.
@@ -141,7 +142,7 @@ logs_refused {E} X m T = record {
       (subst (λ fs. IsBoundary fs (slice_index m.words place)) same
       (kept.by.passed r v place at is stays).1) past below;
   left_unshown = λ r v place at is left other kept.
-      other (kept.by.passes r v place at is ∙ ap (λ b. cond b PASSED_ALL v.passed) left);
+      other ((kept.by.passes r v at).1 place is ∙ ap (λ b. cond b PASSED_ALL v.passed) left);
   dropped = λ s v order owners at spelled other kept.
       let one = spells_one m.layout.senders T.log kept.order order kept.owners owners
       kept.by.spelled spelled in

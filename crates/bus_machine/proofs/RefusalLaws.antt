@@ -49,7 +49,8 @@ use Rattle.bus_machine.specs.Refusals.{LossesRefuse, AnswersRefuse, SaysMore, Nu
 use Rattle.bus_machine.specs.Refusals.{BoundsRefuse, FollowsRefuse, PagesRefuse, MemoriesRefuse}
 use Rattle.bus_machine.specs.Refusals.{WordsRefuse, MarksRefuse}
 use Rattle.bus_machine.specs.Remembering.{HasEnded, HasLeftIt, rows_in}
-use Rattle.bus_machine.specs.Telling.{ClosedTells}
+use Rattle.bus_machine.specs.Telling.{ClosedTells, IsLeast, places_found}
+use Rattle.bus_world.proofs.CyclicProtocolKept.{held_page_is}
 use Rattle.bus_world.proofs.Framing.{not_nil}
 use Rattle.bus_world.proofs.LogLaws.{index-read}
 use Rattle.bus_world.proofs.Stopping.{shown_there}
@@ -205,6 +206,17 @@ module _ {E : Type 0} (m : Machine E) where
         other
         (counts_from first i (items_of told.frame) rest told.numbers (ap items_of same ∙ items));
     full_with_room = λ room told. let lacks = told.lacks in omega arith;
+    full_behind_the_floor = λ t page stored published held room told.
+        let same = held_page_is told.tenure told.page told.stored told.published t page stored
+        published (sym told.holds ∙ held) in
+        let one = ap (λ (g : Page). g.floor) same in
+        let lacks = told.lacks in omega arith;
+    full_unloaded = λ some other told. other (told.loaded some);
+    full_by_another_floor = λ t page stored published some held other told.
+        let same = held_page_is told.tenure told.page told.stored told.published t page stored
+        published (sym told.holds ∙ held) in
+        other (subst (λ (g : Page). IsLeast g.floor (length log) (places_found actions)) same
+        (told.least some));
     left_without_mark = λ t order owners spelled stays told.
         stays_in m log p order owners spelled stays (left_told m log p t told);
     left_elsewhere = λ t front f lawful are other told.

@@ -37,24 +37,32 @@ use Rattle.bus_tenure.specs.Situations.{Situation as Own, IsClosed, IsIdle, IsSp
 use Rattle.bus_tenure.specs.Situations.{Elects, TakesPage, AwaitsPage, StoresWord, StoresLength}
 use Rattle.bus_tenure.specs.Situations.{GivesBack, HasHanded, waits, answer_sent, answer_of_return}
 use Rattle.bus_tenure.specs.Situations.{situation_of}
+use Rattle.bus_tenure.specs.declared.pages.Page.{Page}
 use Rattle.bus_tenure.specs.declared.phases.Phase.{Phase}
+use Rattle.bus_tenure.specs.declared.phases.Phase.TheVariants as phase
 use Rattle.bus_tenure.specs.declared.phases.Reason.{Reason}
 use Rattle.bus_tenure.specs.declared.phases.Reason.TheVariants.{Sent, FoundEnd, NoRoom}
 use Rattle.bus_tenure.specs.declared.turns.Turn.{Turn as Answered}
 use Rattle.bus_tenure.specs.declared.turns.Turn.TheVariants as turn
+use Rattle.bus_world.proofs.Bounds.{words_low}
+use Rattle.bus_world.proofs.CyclicProtocolKept.{held_page_is}
 use Rattle.bus_world.proofs.FrameOfBatch.{counted_frame, length-items}
 use Rattle.bus_world.proofs.LogLaws.{length-logged}
 use Rattle.bus_world.proofs.Stopping.{shown_there}
 use Rattle.bus_world.specs.Proved.Sending.{Part, Fits}
-use Rattle.bus_world.specs.Headline.{HasPut, Stepped, Elected, Took, IsPrefix, put_of, puts}
+use Rattle.bus_world.specs.Headline.{Action, HasPut, Stepped, Elected, Took, IsPrefix, put_of, puts}
 use Rattle.bus_world.specs.Telling.{HasDelivered, HasLeft}
 use Rattle.bus_world.specs.World.{Event, Put, Ask, Turn, Recv, Stop, Gone}
 use Rattle.bus_world.specs.declared.events.Answer.{Answer}
 use Rattle.bus_world.specs.declared.events.Answer.TheVariants as answer
-use Rattle.bus_machine.proofs.EachSender.{actions_of_it}
+use Rattle.bus_machine.proofs.AtNone.{flat_at_none}
+use Rattle.bus_machine.proofs.EachSender.{actions_of_it, added}
 use Rattle.bus_machine.proofs.Ending.{elected_more, ended_of, published_ends, found_ends, none_left}
+use Rattle.bus_machine.proofs.Entering.{phase_tells}
 use Rattle.bus_machine.proofs.Framed.{IsFramed, framed}
 use Rattle.bus_machine.proofs.Leading.{Sits, sits_after}
+use Rattle.bus_machine.proofs.Loaded.{HasLoaded, all_are_found, found_on, gives_loaded}
+use Rattle.bus_machine.proofs.Loaded.{has_loaded, is_least}
 use Rattle.bus_machine.proofs.Losing.{losses}
 use Rattle.bus_machine.proofs.Remembering.{all_recall, done, remembered, saw}
 use Rattle.bus_machine.proofs.Rising.{reused}
@@ -65,6 +73,7 @@ use Rattle.bus_machine.specs.Machine.{trails_grown, turn_answer}
 use Rattle.bus_machine.specs.Promise.{pin_of}
 use Rattle.bus_machine.specs.Remembering.{NoneIsLeft, Remembers, rows_in}
 use Rattle.bus_machine.specs.Telling.{TurnTells, ClosedTells, PutTells, SenderTells, EventTells}
+use Rattle.bus_machine.specs.Telling.{IsLeast, places_found}
 
 -- whose frame is no mark has messages to send
 some_messages : (ph : BatchPhase) (n : ℕ) → (0 < n) ⊎ ((m : Mark) × (ph ≡ batch.Marking m))
@@ -212,9 +221,40 @@ module _ {E : Type 0} (X : Election E) (P : Protocol E (Unit {0}) ℕ) (m m' : M
   sent t ph HandsOnSent fits q i end = absurd fits
 
   -- or with no room for it
-  full : (t : ℕ) (ph : Phase E) → c.phase ≡ ph → LacksRoom c t ph
+  module _ (t : ℕ) (page : Page) (i : situation X v ≡ Does (GivesBack t page NoRoom)) where
+    -- a ring has rows that are used again
+    ring_reuse : 0 < m.layout.passers → (o : Option Reuse) → v.reuse ≡ o
+        → (q : Reuse) × (v.reuse ≡ Some q)
+    ring_reuse some None is =
+        let none = flat_at_none X m T r (sym (f.rows s v at) ∙ ap rows_in is) in
+        absurd (omega arith)
+    ring_reuse some (Some q) is = (q, is)
+
+    abbrev handed : List Action
+    handed =
+        let z = Does (GivesBack t page NoRoom) in
+        added z (line X v z) (found m (line X v z) word) word (turn_answer m (line X v z) word)
+
+    has_found : (q : Reuse) → v.reuse ≡ Some q → (stored : ℕ) (published : Bool)
+        → c.phase ≡ phase.Holding t page stored published
+        → HasLoaded m.layout.passers page q.passed (places_found (U.actions s))
+    has_found q is stored published held =
+        subst (HasLoaded m.layout.passers page q.passed)
+        (sym (found_on [] (T.actions s) handed)
+        ∙ ap places_found
+        (sym (done X P m m' T s word a sits r h (all_recall X P m T sits r)
+        (Does (GivesBack t page NoRoom)) i)))
+        (subst (λ (x : Layout). HasLoaded x.passers page q.passed (places_found (T.actions s)))
+        part.layout (has_loaded X P m T sits r s v at t page stored published q held is))
+
+    all_done : (q : Reuse) → v.reuse ≡ Some q → m.layout.passers ≤ q.passed.loaded
+    all_done q is = subst (λ (x : Layout). x.passers ≤ q.passed.loaded) part.layout
+        (gives_loaded X v t page i q is)
+
+  full : (t : ℕ) (page : Page) → situation X v ≡ Does (GivesBack t page NoRoom)
+      → (ph : Phase E) → c.phase ≡ ph → LacksRoom c t ph
       → Fits (base_of m) f.V f.frames c ph → Told turn.Full
-  full t ph is (FindsNoRoom page stored past) fits = record {
+  full t given i ph is (FindsNoRoom page stored past) fits = record {
     tenure = t;
     page = page;
     stored = stored;
@@ -226,18 +266,40 @@ module _ {E : Type 0} (X : Election E) (P : Protocol E (Unit {0}) ℕ) (m m' : M
         let capacity_is = ap (λ (x : Layout). x.capacity) part.layout in
         let size = sym (ap length f.log_is) ∙ length-logged f.sending.log in
         omega arith;
-  }
-  full t ph is HandsOnFull fits = absurd fits
+    loaded = λ some.
+        let q = ring_reuse t page same some v.reuse refl in
+        all_are_found m.layout.passers page q.0.passed (places_found (U.actions s))
+        (has_found t page same q.0 q.1 stored false is) (all_done t page same q.0 q.1);
+    least = λ some.
+        let q = ring_reuse t page same some v.reuse refl in
+        let few = words_low m.layout.senders f.frames f.sending.log.lawful in
+        subst (λ n. IsLeast page.floor n (places_found (U.actions s))) words_are
+        (is_least m.layout.passers page q.0.passed (places_found (U.actions s))
+        (has_found t page same q.0 q.1 stored false is) some (all_done t page same q.0 q.1)
+        (let e = words_are in let d = ap length f.log_is in omega arith));
+  } where
+    same : situation X v ≡ Does (GivesBack t page NoRoom)
+    same =
+        let own = phase_tells X v (GivesBack t given NoRoom) i in
+        i ∙ ap (λ (g : Page). Does (GivesBack t g NoRoom))
+        (held_page_is t given own.0 own.1 t page stored false (sym own.2 ∙ is))
+
+    words_are : page.words ≡ length T.log
+    words_are =
+        let own = fits.1.page_knows.words in
+        let size = sym (ap length f.log_is) ∙ length-logged f.sending.log in omega arith
+  full t given i ph is HandsOnFull fits = absurd fits
 
   -- of whom the page goes back
-  returned : (t : ℕ) (reason : Reason) → Shows c t c.phase reason
+  returned : (t : ℕ) (page : Page) (reason : Reason)
+      → situation X v ≡ Does (GivesBack t page reason) → Shows c t c.phase reason
       → Told (answer_of_return c.queue t reason)
-  returned t Sent w = sent t c.phase w part.fits c.queue.phase refl
+  returned t page Sent i w = sent t c.phase w part.fits c.queue.phase refl
       (λ i.
       inl (ended_of P m T f (published_ends (base_of m) f.V f.frames c t c.phase w i part.fits)))
-  returned t FoundEnd w =
+  returned t page FoundEnd i w =
       inl (ended_of P m T f (found_ends (base_of m) f.V f.frames c t c.phase w part.fits))
-  returned t NoRoom w = full t c.phase refl w part.fits
+  returned t page NoRoom i w = full t page i c.phase refl w part.fits
 
   -- whose batch is closed
   closed_told : c.queue.phase ≡ batch.Closed → ClosedTells m T.log s v
@@ -277,7 +339,8 @@ module _ {E : Type 0} (X : Election E) (P : Protocol E (Unit {0}) ℕ) (m m' : M
   by_turn (Does (StoresWord t page stored)) i = tt
   by_turn (Does (StoresLength t page stored)) i = tt
   by_turn (Does (GivesBack t page reason)) i =
-      returned t reason (gives_shows X c t page reason (own_is X v (GivesBack t page reason) i))
+      returned t page reason i
+      (gives_shows X c t page reason (own_is X v (GivesBack t page reason) i))
   by_turn (Does (HasHanded t reason)) i =
       absurd (subst (Fits (base_of m) f.V f.frames c)
       (tells_phase X c (HasHanded t reason) (own_is X v (HasHanded t reason) i)) part.fits)

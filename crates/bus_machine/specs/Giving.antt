@@ -5,8 +5,9 @@ use Rattle.bus_deliverylog.specs.Receiving.{Receiving}
 use Rattle.bus_world.specs.Headline.{order_given}
 use Rattle.bus_machine.specs.Machine.{Machine, Trails, floor_of}
 
--- It was given what the words below its place say that were published; and of that this order is
--- what those say that stand, from the floor of the log on.
+-- It was given what the words below its place say that were published; and of that this order has
+-- the items and leave marks of those that stand, from the floor of the log on. It has ended where
+-- the receiver was answered the end, whatever stands.
 pub record StillGiven {E : Type 0} (m : Machine E) (T : Trails) (r : ℕ) (order : Order) :
     Type 0 where
   pub receiver : Receiving
@@ -15,4 +16,6 @@ pub record StillGiven {E : Type 0} (m : Machine E) (T : Trails) (r : ℕ) (order
   pub lawful : AreFrames m.layout.senders frames
   pub words_are : log_words frames ≡ T.log
   pub given : order_given (T.heard r) ≡ order_in (take receiver.place (log_pieces frames))
-  pub still : order ≡ order_in (drop (floor_of m) (take receiver.place (log_pieces frames)))
+  pub still : order.entries
+      ≡ (order_in (drop (floor_of m) (take receiver.place (log_pieces frames)))).entries
+  pub ended : order.ended ≡ (order_given (T.heard r)).ended

@@ -12,7 +12,7 @@ use Rattle.bus_world.specs.declared.events.Answer.{Answer}
 use Rattle.bus_world.specs.declared.events.Answer.TheVariants as answer
 use Rattle.bus_world.specs.declared.events.StepFault.{StepFault}
 use Rattle.bus_world.specs.declared.events.StepFault.TheVariants as fault
-use Rattle.bus_machine.specs.Machine.{Machine, Happens, Trails}
+use Rattle.bus_machine.specs.Machine.{Machine, Happens, Reached, Trails}
 use Rattle.bus_machine.specs.Playing.{Refused, AllAnswered, trails_after}
 
 abbrev pub is_gone : Option Receiving → Bool
@@ -63,6 +63,12 @@ pub record LeavesAreForGood {S : Type 0} (X : Election (Elector S)) (P : Protoco
       → IsRefusedAsGone m (Recv r)
   pub leave_refused : (m : Machine (Elector S)) (r : ℕ) → has_left m r ≡ true
       → IsRefusedAsGone m (Gone r)
+  -- a receiver that has not left may leave, whatever led to the machine: its leave is not refused,
+  -- and there is what it does and is answered
+  pub may_leave : (m : Machine (Elector S)) (T : Trails) (r : ℕ) (v : Receiving) → Reached X m T
+      → slice_get m.receivers r ≡ Some v → v.gone ≡ false
+      → ((why : StepFault) → ¬ Refused m (Gone r) why)
+      × ((new : Machine (Elector S)) × Happens X m (Gone r) answer.Gone new)
   -- nobody leaves but by a leave of its own
   pub goes_on : (old new : Machine (Elector S)) (events : List Event) (r : ℕ)
       → AllAnswered X P old events new → All (λ e. e ≢ Gone r) events

@@ -32,9 +32,13 @@ pub record LogsRefuse {E : Type 0} (X : Election E) (m : Machine E) (T : Trails)
   -- hear may be lost: the passed places are ahead of it
   pub passed_ahead : (r : ℕ) (v : Receiving) → slice_get m.receivers r ≡ Some v → v.gone ≡ false
       → v.place < floor_of m → ¬ IsPromised X m T
+  -- a receiver stores the place that it has passed elsewhere than the layout has it, or nowhere
+  pub passed_elsewhere : (r : ℕ) (v : Receiving) → slice_get m.receivers r ≡ Some v
+      → v.passed_at ≢ passed_by m.layout m.reuse r → ¬ IsPromised X m T
   -- its passed place shows another number than the place that it has passed
   pub passed_otherwise : (r : ℕ) (v : Receiving) (place : ℕ) → slice_get m.receivers r ≡ Some v
-      → v.passed_at ≡ Some place → v.gone ≡ false → slice_index m.words place ≢ v.passed
+      → passed_by m.layout m.reuse r ≡ Some place → v.gone ≡ false
+      → slice_index m.words place ≢ v.passed
       → ¬ IsPromised X m T
   -- the passed place of one that has not left shows a place that it has not come to, so that words
   -- could be lost that it is still to hear
@@ -52,7 +56,8 @@ pub record LogsRefuse {E : Type 0} (X : Election E) (m : Machine E) (T : Trails)
       → ¬ IsPromised X m T
   -- it has left, and its passed place shows a place still, so that a floor could wait for it
   pub left_unshown : (r : ℕ) (v : Receiving) (place : ℕ) → slice_get m.receivers r ≡ Some v
-      → v.passed_at ≡ Some place → v.gone ≡ true → slice_index m.words place ≢ PASSED_ALL
+      → passed_by m.layout m.reuse r ≡ Some place → v.gone ≡ true
+      → slice_index m.words place ≢ PASSED_ALL
       → ¬ IsPromised X m T
   -- a message was dropped or added: what its sender has put is not what was published of it, and
   -- then what waits

@@ -1,6 +1,6 @@
 -- The bus as a machine that plays events, with a row of words for each tenure or with rows that are
 -- used again; and which trails lead to it.
-use Rattle.std.specs.Prelude.{◌≡◌, ◌⊎◌, ℕ, ◌+◌, ◌-◌, ◌*◌, ◌%◌, ◌<◌, Bool, true, false, Option}
+use Rattle.std.specs.Prelude.{◌≡◌, ◌⊎◌, ℕ, ◌+◌, ◌-◌, ◌*◌, ◌<◌, Bool, true, false, Option}
 use Rattle.std.specs.Prelude.{Some}
 use Rattle.std.specs.Prelude.{None, List, nat_lt}
 use Rattle.std.specs.Prelude.{[], ◌∷◌, ◌++◌, All, drop, length, slice_get, slice_index, slice_set}
@@ -34,7 +34,7 @@ use Rattle.bus_world.specs.Turning.{words_after, number_found, home_moved, core_
 use Rattle.bus_world.specs.Turning.{owners_by}
 use Rattle.bus_world.specs.Starting.{IsNewReceiver}
 use Rattle.bus_world.specs.World.{Event, Put, Ask, Turn, Recv, Stop, Gone, is_set, no_stops}
-use Rattle.bus_world.specs.World.{AreBases, first_page, RecvDoes}
+use Rattle.bus_world.specs.World.{AreBases, first_page, RecvDoes, FindsIn, recv_found}
 use Rattle.bus_world.specs.declared.limits.TheConstants.{FIRST_RING_NUMBERS}
 use Rattle.bus_world.specs.declared.events.Answer.{Answer}
 use Rattle.bus_world.specs.declared.events.Answer.TheVariants as answer
@@ -110,19 +110,21 @@ words_below b =
 abbrev pub StandsBelow : {E : Type 0} → Machine E → List ℕ → Type 0
 StandsBelow b log = b.layout.passers ≡ 0 → words_below b ≡ log
 
--- a receiver that has not left finds at its place the word that was published there
+-- a receiver that has not left finds with its load the word that was published at its place, or how
+-- many were
 abbrev pub FindsWords : {E : Type 0} → Machine E → List ℕ → Type 0
 FindsWords b log =
     (r : ℕ) (v : Receiving) → slice_get b.receivers r ≡ Some v → v.gone ≡ false
-    → v.place < length log
-    → slice_index b.words (v.log_at + v.place % v.log_words) ≡ slice_index log v.place
+    → FindsIn log v (recv_found (slice_index b.words) v)
 
--- a passed place shows the place that its receiver has passed, and 2^64 - 1 once that has left
+-- a receiver stores in the passed place that the layout has for it, if it has one, and that shows
+-- the place that it has passed, and 2^64 - 1 once it has left
 abbrev pub ShowsPassed : {E : Type 0} → Machine E → Type 0
 ShowsPassed b =
-    (r : ℕ) (v : Receiving) (place : ℕ) → slice_get b.receivers r ≡ Some v
-    → v.passed_at ≡ Some place
-    → slice_index b.words place ≡ (if v.gone then PASSED_ALL else v.passed)
+    (r : ℕ) (v : Receiving) → slice_get b.receivers r ≡ Some v
+    → (v.passed_at ≡ passed_by b.layout b.reuse r)
+    × ((place : ℕ) → passed_by b.layout b.reuse r ≡ Some place
+    → slice_index b.words place ≡ (if v.gone then PASSED_ALL else v.passed))
 
 -- twice the tenure that is open, and one more while its page is out
 abbrev pub stage_of : {E : Type 0} → Machine E → ℕ

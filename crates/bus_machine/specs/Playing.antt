@@ -29,7 +29,7 @@ use Rattle.bus_world.specs.declared.shapes.MakeFault.{MakeFault}
 use Rattle.bus_world.specs.declared.shapes.MakeFault.TheVariants as make
 use Rattle.bus_world.specs.declared.shapes.Shape.{Shape}
 use Rattle.bus_machine.specs.Machine.{Machine, Trails, Happens, IsNew, Reached, trails_grown}
-use Rattle.bus_machine.specs.Machine.{has_stopped, no_machine_trails}
+use Rattle.bus_machine.specs.Machine.{has_stopped, no_machine_trails, ShowsPublished}
 use Rattle.bus_machine.specs.Promise.{Extends, Follows, words_joined}
 use Rattle.bus_machine.specs.Telling.{Causes, Says, Tells, OpensOnly}
 
@@ -231,8 +231,9 @@ Refused m (Gone r) why = RecvRefused (slice_get m.receivers r) why
 -- ---- what a call tells
 -- The event happened, and this was its answer. The sender whose turn it was had a cause for its
 -- step; what the answer tells is so, of that sender and what its step found, and by whatever trails
--- led to the old machine; the stage leaves that of an open tenure only by who takes its page; and
--- the new machine follows the old one.
+-- led to the old machine; the stage leaves that of an open tenure only by who takes its page; the
+-- new machine follows the old one; and what the event publishes stands in its cells just behind
+-- what was published before, also where nobody is left to hear it.
 pub record Answers {S : Type 0} (X : Election (Elector S)) (P : Protocol S Bool Verdict)
     (old : Machine (Elector S)) (e : Event) (a : Answer) (new : Machine (Elector S)) : Type 0 where
   pub happens : Happens X old e a new
@@ -241,6 +242,8 @@ pub record Answers {S : Type 0} (X : Election (Elector S)) (P : Protocol S Bool 
   pub tells : Tells X old e a
   pub opens : OpensOnly X old e a new
   pub follows : Follows X old e a new
+  pub publishes : (T : Trails) → Reached X old T
+      → ShowsPublished new T.log (T.log ++ words_joined X old e)
 
 -- the event is refused, and nothing has changed
 pub record Refuses {E : Type 0} (old : Machine E) (e : Event) (why : StepFault) (new : Machine E) :

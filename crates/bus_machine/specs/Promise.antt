@@ -200,11 +200,11 @@ pub record IsPromisedBy {E : Type 0} (X : Election E) (m : Machine E) (T : Trail
   -- and no receiver that has not left is still to hear a word before it
   pub comes : (r : ℕ) (v : Receiving) → slice_get m.receivers r ≡ Some v → v.gone ≡ false
       → floor_of m ≤ v.place
-  -- a receiver's passed place shows the place that it has passed, and 2^64 - 1 once it has left
+  -- a receiver's passed place, which is where the layout has it, shows the place that it has
+  -- passed, and 2^64 - 1 once it has left
   pub passes : ShowsPassed m
   -- as long as it has not left it has heard all words before the place that is shown there, and one
-  -- of those frames begins at that place, or the last ends; its passed place is where the layout
-  -- has it
+  -- of those frames begins at that place, or the last ends
   pub passed : (r : ℕ) (v : Receiving) (at : ℕ) → slice_get m.receivers r ≡ Some v
       → passed_by m.layout m.reuse r ≡ Some at → v.gone ≡ false
       → (slice_index m.words at ≤ v.place) × IsBoundary spelled.frames (slice_index m.words at)

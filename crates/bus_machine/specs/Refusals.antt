@@ -1,7 +1,7 @@
 -- What no turn of a machine may answer, what no sender of it remembers, and what follows no
 -- machine.
-use Rattle.std.specs.Prelude.{◌≡◌, ◌≢◌, ℕ, ◌+◌, ◌*◌, ◌%◌, ◌<◌, ◌≤◌, true, false, Some, None, List}
-use Rattle.std.specs.Prelude.{[], ◌∷◌, ◌++◌, drop, length, slice_get, slice_index}
+use Rattle.std.specs.Prelude.{◌≡◌, ◌≢◌, ℕ, ◌+◌, ◌*◌, ◌%◌, ◌<◌, ◌≤◌, Bool, true, false, Some}
+use Rattle.std.specs.Prelude.{None, List, [], ◌∷◌, ◌++◌, drop, length, slice_get, slice_index}
 use Rattle.bus_batch.specs.declared.batches.Phase.TheVariants as batch
 use Rattle.bus_batch.specs.Frames.{Frame, Order, Spells, IsFrame, AreFrames, frame_words, items_of}
 use Rattle.bus_batch.specs.Frames.{log_words, has_gone}
@@ -44,7 +44,7 @@ use Rattle.bus_machine.specs.Machine.{Machine, Trails, Reached, Happens, base_of
 use Rattle.bus_machine.specs.Machine.{ShowsLog, stage_of, floor_of, log_of}
 use Rattle.bus_machine.specs.Promise.{IsPageOf, IsPromised, Follows, actions_in, pin_of}
 use Rattle.bus_machine.specs.Promise.{frame_published}
-use Rattle.bus_machine.specs.Telling.{TurnTells, PutTells, LossesAreSeen}
+use Rattle.bus_machine.specs.Telling.{TurnTells, PutTells, LossesAreSeen, IsLeast, places_found}
 
 pub record LossesRefuse {E : Type 0} (m : Machine E) : Type 0 where
   -- a sender remembers an owner, and has done nothing
@@ -104,6 +104,18 @@ pub record AnswersRefuse {E : Type 0} (m : Machine E) (log : List ℕ) (s : ℕ)
       → ¬ TurnTells m log s v actions (turn.Left t)
   -- Full where there is room
   pub full_with_room : length log + frame_len v.core ≤ m.layout.capacity
+      → ¬ TurnTells m log s v actions turn.Full
+  -- also behind the floor of its page; or where it has not loaded all passed places in the tenure,
+  -- or that floor is not the least of what they showed
+  pub full_behind_the_floor : (t : ℕ) (page : Page) (stored : ℕ) (published : Bool)
+      → v.core.phase ≡ Holding t page stored published
+      → length log + frame_len v.core ≤ m.layout.capacity + page.floor
+      → ¬ TurnTells m log s v actions turn.Full
+  pub full_unloaded : 0 < m.layout.passers → length (places_found actions) ≢ m.layout.passers
+      → ¬ TurnTells m log s v actions turn.Full
+  pub full_by_another_floor : (t : ℕ) (page : Page) (stored : ℕ) (published : Bool)
+      → 0 < m.layout.passers → v.core.phase ≡ Holding t page stored published
+      → ¬ IsLeast page.floor (length log) (places_found actions)
       → ¬ TurnTells m log s v actions turn.Full
   -- Closed with an empty log; or while the order goes on, of one that has not left in it, or whose
   -- batch was not closed

@@ -1,14 +1,16 @@
 -- What the answer of a sender's turn tells: of the sender, of what its step found, and of what
 -- happened by whatever trails led to the machine.
 use Rattle.std.specs.Prelude.{◌≡◌, ◌≢◌, ◌⊎◌, ℕ, ◌+◌, ◌*◌, ◌<◌, Bool, Option, Some, None, IsSome}
-use Rattle.std.specs.Prelude.{List, length, slice_get, slice_index}
+use Rattle.std.specs.Prelude.{◌≤◌, List, [], ◌∷◌, ◌++◌, length, slice_get, slice_index}
 use Rattle.bus_adoptcommit.specs.declared.verdicts.Verdict.{Verdict}
 use Rattle.bus_register.specs.Protocol.{Protocol}
 use Rattle.bus_register.specs.Words.{register}
+use Rattle.bus_register.specs.declared.kinds.Kind.TheVariants as kind
 use Rattle.bus_register.specs.declared.registers.Op.{Op}
 use Rattle.bus_register.specs.declared.registers.SenderNo.{SenderNo}
 use Rattle.bus_batch.specs.declared.batches.Phase.TheVariants as batch
 use Rattle.bus_core.specs.Causes.{IsCaused}
+use Rattle.bus_core.specs.Reusing.Passing.{AreBehind}
 use Rattle.bus_core.specs.Senders.{Sender}
 use Rattle.bus_core.specs.Table.{line_now, lost_of}
 use Rattle.bus_core.specs.Telling.{FeedTells, RestTells}
@@ -20,7 +22,7 @@ use Rattle.bus_tenure.specs.declared.pages.Page.{Page}
 use Rattle.bus_tenure.specs.declared.phases.Phase.TheVariants.{Holding}
 use Rattle.bus_tenure.specs.declared.turns.Turn.{Turn as Answered}
 use Rattle.bus_tenure.specs.declared.turns.Turn.TheVariants as turn
-use Rattle.bus_world.specs.Headline.{Action, Elected, Took, puts}
+use Rattle.bus_world.specs.Headline.{Action, HasPut, HasMarked, Stepped, Elected, Took, puts}
 use Rattle.bus_world.specs.Log.{KeepsFloor}
 use Rattle.bus_world.specs.Telling.{HasDelivered, HasLeft}
 use Rattle.bus_world.specs.World.{Event, Put, Ask, Turn, Recv, Stop, Gone}
@@ -86,10 +88,36 @@ Causes X P m (Gone r) = Unit {0}
 abbrev pub ClosedTells : {E : Type 0} → Machine E → List ℕ → ℕ → Sender E → Type 0
 ClosedTells m log s v = HasEnded m log ⊎ ((v.core.queue.phase ≡ batch.Closed) × HasLeftIt m log s)
 
+-- what a sender has found in passed places since it took a page last, by these actions behind those
+-- that found these
+abbrev pub found_more : List ℕ → Action → List ℕ
+found_more places (HasPut number bytes) = places
+found_more places (HasMarked mark) = places
+found_more places (Stepped t kind.TakePage found chose answer) = []
+found_more places (Stepped t kind.ReadPassed found chose answer) = places ++ found ∷ []
+found_more places (Stepped t k found chose answer) = places
+
+abbrev pub found_since : List ℕ → List Action → List ℕ
+found_since places [] = places
+found_since places (d ∷ actions) = found_since (found_more places d) actions
+
+-- so, of who holds a page, in its tenure
+abbrev pub places_found : List Action → List ℕ
+places_found actions = found_since [] actions
+
+-- the least of so many words and of these places: it is no further than each of them, and no number
+-- that is so is further
+pub record IsLeast (floor words : ℕ) (places : List ℕ) : Type 0 where
+  pub within : floor ≤ words
+  pub behind : AreBehind floor places
+  pub furthest : (n : ℕ) → n ≤ words → AreBehind n places → n ≤ floor
+
 -- The frame of the sender, which holds a page, does not fit the log behind what was published,
 -- counted from the floor of that page. Where no word of the log is used again that is the first
--- place.
-pub record FindsFull {E : Type 0} (x : Layout) (log : List ℕ) (c : Core E) : Type 0 where
+-- place. Else it has loaded all passed places in that tenure, and the floor is the least of what
+-- they showed, and of what was published.
+pub record FindsFull {E : Type 0} (x : Layout) (log : List ℕ) (c : Core E) (actions : List Action) :
+    Type 0 where
   pub tenure : ℕ
   pub page : Page
   pub stored : ℕ
@@ -97,15 +125,17 @@ pub record FindsFull {E : Type 0} (x : Layout) (log : List ℕ) (c : Core E) : T
   pub holds : c.phase ≡ Holding tenure page stored published
   pub flat : x.passers ≡ 0 → KeepsFloor page
   pub lacks : x.capacity + page.floor < length log + frame_len c
+  pub loaded : 0 < x.passers → length (places_found actions) ≡ x.passers
+  pub least : 0 < x.passers → IsLeast page.floor (length log) (places_found actions)
 
 -- A tenure is lost to the owner with which a step of this sender saw its election end, and which is
 -- another sender. A tenure is the sender's own where it is elected in it and took its page.
 -- Messages are delivered where the last frame of the order is that of this sender and tenure and
 -- holds them, with these numbers. A sender has left where that frame is its leave mark. The log is
--- full where the sender's frame does not fit. With a step and without one, a sender is
--- closed where the order has ended, and tenures are spent where none is left to it; without one it
--- is closed also where it has left. A presence stands in the way only where rows are used again.
--- The log is all that was published before the turn.
+-- full where the sender's frame does not fit, by all passed places that it has just loaded. With a
+-- step and without one, a sender is closed where the order has ended, and tenures are spent where
+-- none is left to it; without one it is closed also where it has left. A presence stands in the way
+-- only where rows are used again. The log is all that was published before the turn.
 abbrev pub TurnTells : {E : Type 0} → Machine E → List ℕ → ℕ → Sender E → List Action → Answered
     → Type 0
 TurnTells m log s v actions turn.Idle = Unit {0}
@@ -117,7 +147,7 @@ TurnTells m log s v actions (turn.Own t) =
 TurnTells m log s v actions (turn.Delivered t first last) =
     HasDelivered m.layout.senders log s t first last
 TurnTells m log s v actions (turn.Left t) = HasLeft m.layout.senders log s t
-TurnTells m log s v actions turn.Full = FindsFull m.layout log v.core
+TurnTells m log s v actions turn.Full = FindsFull m.layout log v.core actions
 TurnTells m log s v actions turn.Closed = ClosedTells m log s v
 TurnTells m log s v actions turn.Spent = NoneIsLeft m s actions
 TurnTells m log s v actions (turn.Behind t p) = IsSome m.reuse

@@ -129,7 +129,8 @@ pub fn stops_are_for_good<Q: Ratifier>()
 /// happens next: it holds what it held, it is answered nothing more, and each event of it is
 /// refused as Gone, and as nothing else. A leave that does nothing, or after which the passed place
 /// shows another number, is none. Nothing is refused as Gone of a receiver that has not left, or
-/// that there is not, and nobody leaves but by a leave of its own.
+/// that there is not. One that has not left may leave at any time, and nobody leaves but by a leave
+/// of its own.
 pub fn leaves_are_for_good<Q: Ratifier>()
     ensures leaves { LeavesAreForGood (election_of Q.Ratifier) Q.protocol }
     ensures refuses { LeaveRefuses (election_of Q.Ratifier) }
@@ -157,8 +158,9 @@ pub fn losses_refuse<Q: Ratifier>()
 /// published; Delivered of another tenure, sender or first number than those of the last frame that
 /// was; Left of one whose leave mark was not published, or is not the last frame; Closed while the
 /// order goes on, of one that has not left in it or whose batch was not closed; Full where the
-/// frame fits; Spent in the first of two tenures, or in the only one before its election has ended;
-/// Behind where each tenure has a row.
+/// frame fits, or by a floor that is not the least of all passed places, which it has loaded in
+/// that tenure, and of what was published; Spent in the first of two tenures, or in the only one
+/// before its election has ended; Behind where each tenure has a row.
 pub fn answers_refuse<Q: Ratifier>()
     ensures turns { (machine : Machine (Elector Q)) (log : List ℕ) (number : ℕ)
         (sender : Sender (Elector Q)) (actions : List Action)

@@ -573,8 +573,8 @@ impl<Q: Ratifier + Drop> World<Q> {
 
     /// What the receiver of this number was given: the items, leave marks and the end that it was
     /// answered, each leave mark behind as many items as stood before it. Where words of the log
-    /// are used again it is what still stands of that. There must be such a receiver. Memory is
-    /// its only refusal.
+    /// are used again it is what still stands of the items and leave marks, and the end. There must
+    /// be such a receiver. Memory is its only refusal.
     pub fn given(&self, alloc: Global, receiver: u64) -> Result<Order, NoMemory>
         requires { receiver < length self.now.receivers }
         ensures answered { let X = election_of Q.Ratifier in
@@ -588,10 +588,15 @@ impl<Q: Ratifier + Drop> World<Q> {
     {
         election_is_lawful::<Q>();
         let log = self.log(alloc)?;
-        let place = self.receivers[receiver as usize].place();
+        let reader = &self.receivers[receiver as usize];
+        let place = reader.place();
+        let ended = reader.has_ended();
         let until = behind(place, self.floor());
         match read_front(alloc, &log[..until as usize], self.shape.senders) {
-            Ok(front) => Ok(front.order),
+            Ok(mut front) => {
+                front.order.ended = ended;
+                Ok(front.order)
+            }
             Err(_) => Err(NoMemory),
         }
     }

@@ -20,7 +20,8 @@ use Rattle.bus_receiver.specs.declared.receivers.Next.TheVariants as next
 abbrev pub bus_of : {C : Type 0} → ReceiverSeat C → TableId
 bus_of r = r.table_id
 
--- ---- turns, one after another
+-- ---- turns, one after another; one that stores its place in its passed place answers Going, and
+-- so finds nothing
 -- a frame's head, an item, a leave mark or the end
 abbrev pub is_found : RecvTurn → Bool
 is_found turn.Going = false

@@ -19,7 +19,9 @@ pub use bus_adoptcommit::{ThreeWord, TwoCollect};
 pub use bus_batch::{CloseFault, Item, Message, PutFault};
 pub use bus_core::limits::{LEAST_ROWS_AGAIN, MOST_ROWS_AGAIN};
 pub use bus_deliverylog::{LogFault, LogRead, Order, RecvTurn, read_log};
-pub use bus_pageslot::{Bus, EndFault, Ended, ItemTurn, OfBus, SendFault, Sender, Tap, Unsent};
+pub use bus_pageslot::{
+    Bus, EndFault, Ended, ItemTurn, Left, NeverFits, OfBus, SendFault, Sender, Tap, Unsent,
+};
 pub use bus_register::limits::{
     LEAST_LOG_WORDS, MOST_BYTES, MOST_LOG_WORDS, MOST_MESSAGES, MOST_RECEIVERS, MOST_ROUNDS,
     MOST_ROWS, MOST_SENDERS,

@@ -3,10 +3,11 @@
 ghost use Rattle.std.specs.Prelude.{◌≡◌, ℕ, ◌≤◌, List, length, Some, None, IfOk};
 ghost use Rattle.std.specs.Prelude.{OnErr, true, false};
 ghost use Rattle.std.specs.Ordering.{nat_cmp};
-ghost use Rattle.bus_automaton.specs.Buses.{process_by, automaton_by};
+ghost use Rattle.bus_automaton.specs.Buses.{process_by, automaton_by, plan_passers};
 ghost use Rattle.bus_pageslot.specs.Endings.{IsLeft};
-ghost use Rattle.bus_pageslot.specs.Rule.{receiver_view_in, known_in};
+ghost use Rattle.bus_pageslot.specs.Rule.{receiver_view_in, known_in, table_layout_in};
 ghost use Rattle.bus_pageslot.specs.Listening.{Hears, HearsAfter};
+ghost use Rattle.bus_pageslot.specs.Steps.{HasLeftBy};
 ghost use Rattle.bus_pageslot.specs.Seats.{table_of, actions_of, stored_of};
 ghost use Rattle.bus_receiver.specs.Listening.{bus_of, is_found, Takes, HaveMet, IsTold};
 ghost use Rattle.bus_receiver.specs.Listening.{PassesTo, PassesWhile, item_or_end, written_or_end};
@@ -15,7 +16,7 @@ ghost use Rattle.bus_receiver.specs.Listening.{next_of, LeavesPlace};
 use bus_adoptcommit::{Ratifier, ThreeWord};
 use bus_batch::Item;
 use bus_deliverylog::RecvTurn;
-use bus_pageslot::{Bus, EndFault, Ended, ItemTurn, Sender, Tap};
+use bus_pageslot::{Bus, EndFault, Ended, ItemTurn, Left, Sender, Tap};
 use bus_waiting::Waiter;
 use std::cmp::Ordering;
 use std::marker::Model;
@@ -84,8 +85,20 @@ impl<Q: Ratifier + Drop> Receiver<Q> {
         self.tap.has_ended()
     }
 
-    /// One turn: a load of the length where it has read all that it knows, else a load of the word
-    /// at its place. After the end it takes no step.
+    /// Of a ring: the place that it has stored last, before which the cells may be used again; 0
+    /// before the first such store. Of another bus 0.
+    #[inline(always)]
+    pub fn passed(&self) -> u64
+        ensures passed { result ≡ (receiver_view_in self.now.me.0).passed }
+        ensures within { result ≤ (receiver_view_in self.now.me.0).place }
+        ensures never { (table_layout_in self.now.me.0).passers ≡ 0 → result ≡ 0 }
+    {
+        self.tap.passed()
+    }
+
+    /// One turn. Of a ring, a store of its place where it has heard a whole frame since the last
+    /// such store. Else a load of the length where it has read all that it knows, and a load of the
+    /// word at its place where it has not. After the end it takes no step.
     #[inline(always)]
     pub fn turn(&mut self, bus: &Bus<Q>) -> RecvTurn
         requires { bus_of self.old ≡ bus.now.table }
@@ -108,6 +121,15 @@ impl<Q: Ratifier + Drop> Receiver<Q> {
         self.tap.item_turns(bus, item)
     }
 
+    /// Tells those that wait for room, where it has stored another place since it had stored this
+    /// one.
+    #[inline(always)]
+    fn ring_where_passed<W: Wait>(&self, waiter: &Waiter<'_, W>, before: u64) {
+        if self.passed() != before {
+            waiter.ring();
+        }
+    }
+
     /// Turns, until one finds a head, an item, a leave mark or the end. That it ends is not
     /// promised.
     pub fn take<W: Wait>(&mut self, waiter: &Waiter<'_, W>, bus: &Bus<Q>) -> RecvTurn
@@ -116,6 +138,7 @@ impl<Q: Ratifier + Drop> Receiver<Q> {
         ensures takes { Takes self.old.me result self.new.me }
     {
         for _ in waiter.forever() {
+            let passed = self.passed();
             let turn = self.turn(bus);
             if finds(&turn) {
                 return turn;
@@ -123,6 +146,7 @@ impl<Q: Ratifier + Drop> Receiver<Q> {
             if turn == RecvTurn::Empty {
                 waiter.rest();
             } else {
+                self.ring_where_passed(waiter, passed);
                 waiter.reset();
             }
         }
@@ -224,6 +248,7 @@ impl<Q: Ratifier + Drop> Receiver<Q> {
         ensures kept { LeavesPlace result item.old item.new }
     {
         for _ in waiter.forever() {
+            let passed = self.passed();
             match self.item_turns(bus, item) {
                 ItemTurn::Item => return Found::Item,
                 ItemTurn::End => return Found::End,
@@ -233,7 +258,10 @@ impl<Q: Ratifier + Drop> Receiver<Q> {
                     }
                     waiter.rest();
                 }
-                ItemTurn::Going => waiter.reset(),
+                ItemTurn::Going => {
+                    self.ring_where_passed(waiter, passed);
+                    waiter.reset();
+                }
             }
         }
         unreachable!()
@@ -277,19 +305,30 @@ impl<Q: Ratifier + Drop> Receiver<Q> {
         self.tap.place().cmp(&other.tap.place())
     }
 
-    /// Ends the bus, by a receiver of it: its log and its page, where the page is at home, and
-    /// PageOut where a sender that took it has not given it back. Bus and receiver are gone in
-    /// either case.
+    /// Leaves for good: no cell of a ring waits for this receiver any more. That is one store in
+    /// its passed place; of another bus it is no step.
+    pub fn leave(self, bus: &Bus<Q>) -> Left<Q>
+        requires { bus_of self ≡ bus.now.table }
+        ensures table { bus_of result ≡ bus_of self }
+        ensures left { HasLeftBy self.me result.me }
+    {
+        self.tap.leave(bus)
+    }
+
+    /// Ends the bus, by a receiver of it: what stands of its log and its page, where the page is at
+    /// home, and PageOut where a sender that took it has not given it back. Bus and receiver are
+    /// gone in either case.
     pub fn end(bus: Bus<Q>, receiver: Receiver<Q>) -> Result<Ended, EndFault>
         requires { bus_of receiver ≡ bus.table }
         ensures ended { IfOk result
             (λ left. IsLeft (process_by Q.Ratifier) (automaton_by Q.Ratifier bus.plan)
-            receiver.me.0 left.log (Some left.page)) }
+            receiver.me.0 left.log left.floor (Some left.page)) }
+        ensures flat { IfOk result (λ left. plan_passers bus.plan ≡ 0 → left.floor ≡ 0) }
         ensures senders { IfOk result (λ left. left.senders ≡ bus.plan.shape.senders) }
         ensures bases { IfOk result (λ left. left.bases ≡ bus.plan.bases) }
-        ensures out { OnErr result ((log : List ℕ)
+        ensures out { OnErr result ((log : List ℕ) × (floor : ℕ)
             × IsLeft (process_by Q.Ratifier) (automaton_by Q.Ratifier bus.plan)
-            receiver.me.0 log None) }
+            receiver.me.0 log floor None) }
     {
         bus.end(receiver.tap)
     }

@@ -40,7 +40,7 @@ use Rattle.bus_machine.specs.Machine.{Machine, Trails, Reached, Then, Happens, l
 use Rattle.bus_machine.specs.Machine.{ShowsPublished, going, trails_grown, turn_grown}
 use Rattle.bus_machine.specs.Machine.{turn_trails}
 use Rattle.bus_machine.specs.Promise.{HasRows}
-use Rattle.bus_replay.specs.Histories.{Kept, Remembers, HasSizes, Holds, AsksOne, given_of}
+use Rattle.bus_replay.specs.Histories.{Kept, HasAllOf, HasSizes, IsHistoryOf, AsksOne, given_of}
 use Rattle.bus_replay.specs.Histories.{given_with, kept_after, no_given}
 use Rattle.bus_replay.specs.declared.histories.Given.{Given}
 
@@ -138,8 +138,8 @@ answered_beside r q t H ne = elim (eqb_tells q r) [
   | inr h ↦ ap (λ (b : Bool). H q ++ cond b (t ∷ []) []) h.0 ∙ append-nil (H q)
 ]
 
-heard_remembered : (h : Kept) (n r : ℕ) (t : RecvTurn) (T : Trails) → r < n → Remembers h n T
-    → Remembers (record h {
+heard_remembered : (h : Kept) (n r : ℕ) (t : RecvTurn) (T : Trails) → r < n → HasAllOf h n T
+    → HasAllOf (record h {
       given = slice_set h.given r (given_with t (slice_index_or h.given r no_given));
     }) n (record T { heard = answers_with r t T.heard })
 heard_remembered h n r t T low k = record {
@@ -168,7 +168,7 @@ heard_remembered h n r t T low k = record {
 
 -- ---- trails that say the same
 carried : (h : Kept) (n n' : ℕ) (T U : Trails) → n' ≡ n → U.log ≡ T.log → U.heard ≡ T.heard
-    → Remembers h n T → Remembers h n' U
+    → HasAllOf h n T → HasAllOf h n' U
 carried h n n' T U many log heard k = record {
   log = k.log ∙ sym log;
   many = k.many ∙ sym many;
@@ -321,8 +321,8 @@ module _ {S : Type 0} (X : Election (Elector S)) (P : Protocol S Bool Verdict)
   remembered : (h : Kept) (T : Trails) (e : Event) (a : Answer) → Happens X old e a new
       → HasSizes P new → h.capacity ≡ new.layout.capacity
       → ShowsPublished new T.log (trails_grown X old e a T).log
-      → Remembers h (length old.receivers) T
-      → Remembers (kept_after new.words e a h) (length new.receivers) (trails_grown X old e a T)
+      → HasAllOf h (length old.receivers) T
+      → HasAllOf (kept_after new.words e a h) (length new.receivers) (trails_grown X old e a T)
   remembered h T (Put s bytes) a d z capacity shows k =
       carried h (length old.receivers) (length new.receivers) T
       (trails_grown X old (Put s bytes) a T)
@@ -343,9 +343,9 @@ module _ {S : Type 0} (X : Election (Elector S)) (P : Protocol S Bool Verdict)
             ∙ ap (λ (H : ℕ → List RecvTurn). Some (given_of (H r))) (sym heard);
       }
   remembered h T (Recv r) a d z capacity shows k =
-      subst (λ b. Remembers (kept_after new.words (Recv r) b h) (length new.receivers)
+      subst (λ b. HasAllOf (kept_after new.words (Recv r) b h) (length new.receivers)
       (trails_grown X old (Recv r) b T)) (sym d.answered)
-      (subst (λ n. Remembers (kept_after new.words (Recv r) (answer.Recv d.heard) h) n
+      (subst (λ n. HasAllOf (kept_after new.words (Recv r) (answer.Recv d.heard) h) n
       (trails_grown X old (Recv r) (answer.Recv d.heard) T))
       (sym (same_receivers X old new (Recv r) a d))
       (heard_remembered h (length old.receivers) r d.heard T
@@ -358,7 +358,7 @@ module _ {S : Type 0} (X : Election (Elector S)) (P : Protocol S Bool Verdict)
       (same_receivers X old new (Gone r) a d) refl refl k
 
   module _ (law : PublishedStands X P) (h : Kept) (T : Trails) (e : Event) (a : Answer)
-      (d : Happens X old e a new) (k : Holds X P old h T) where
+      (d : Happens X old e a new) (k : IsHistoryOf X P old h T) where
     sizes : HasSizes P new
     sizes = sizes_stay e a d k.sizes
 
@@ -379,7 +379,7 @@ module _ {S : Type 0} (X : Election (Elector S)) (P : Protocol S Bool Verdict)
     receiver_there =
         subst (AsksOne e) (sym k.remembers.many) (asks_one X old new e a d)
 
-    pub holds_on : Holds X P new (kept_after new.words e a h) (trails_grown X old e a T)
+    pub holds_on : IsHistoryOf X P new (kept_after new.words e a h) (trails_grown X old e a T)
     holds_on =
         let z = k.sizes in
         record {

@@ -5,3 +5,4 @@ pub mod GivenLemmas
 pub mod EntryLemmas
 pub mod HistoryLemmas
 pub mod SizeLemmas
+mod ClosingLaws

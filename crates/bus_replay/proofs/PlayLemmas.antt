@@ -20,7 +20,7 @@ use Rattle.bus_replay.specs.Lines.{Command, command_of, shape_in, reuse_in, pass
 use Rattle.bus_replay.specs.Text.{answer_line, owners_line, order_text, counts_text}
 use Rattle.bus_replay.specs.Answers.{End, Left, Stopped, Asked, Prints, Closes, Ends, Begins}
 use Rattle.bus_replay.specs.Answers.{repeat_trails, asked_trails, printed_trails}
-use Rattle.bus_replay.specs.Histories.{Kept, Holds}
+use Rattle.bus_replay.specs.Histories.{Kept, IsHistoryOf}
 use Rattle.bus_replay.specs.Told.{IsRepeated, IsObeyed, ArePlayed}
 use Rattle.bus_replay.proofs.GivenLemmas.{counts_told}
 
@@ -75,7 +75,7 @@ module _ {S : Type 0} (X : Election (Elector S)) (P : Protocol S Bool Verdict) w
           → (whole : Prints X P b lines (printed ++ rest) end)
           × ((T : Trails) → printed_trails X P b lines (printed ++ rest) end whole T
           ≡ printed_trails X P now left rest end run (grown T))
-      pub holds : (T : Trails) → Holds X P b h T → Holds X P now kept (grown T)
+      pub holds : (T : Trails) → IsHistoryOf X P b h T → IsHistoryOf X P now kept (grown T)
 
     -- none yet
     pub none_played : (old text : List ℕ) → text ≡ old → Played lines old text b h
@@ -160,7 +160,7 @@ module _ {S : Type 0} (X : Election (Elector S)) (P : Protocol S Bool Verdict) w
         × ((T : Trails) → printed_trails X P b lines l (Left now) run T ≡ k.grown T))
         (append-nil k.printed) w in (
           k.printed,
-          (all.0, λ T hold. subst (Holds X P now kept) (sym (all.1 T)) (k.holds T hold)),
+          (all.0, λ T hold. subst (IsHistoryOf X P now kept) (sym (all.1 T)) (k.holds T hold)),
           k.text_is,
         )
 
@@ -190,7 +190,7 @@ module _ {S : Type 0} (X : Election (Elector S)) (P : Protocol S Bool Verdict) w
   -- ---- the whole text
   -- all words of a history are a whole log
   pub whole_log : (b : Machine (Elector S)) (h : Kept) (T : Trails) (senders : ℕ)
-      → Holds X P b h T → IsPromised X b T → senders ≡ length b.senders → IsLog senders h.log
+      → IsHistoryOf X P b h T → IsPromised X b T → senders ≡ length b.senders → IsLog senders h.log
   whole_log b h T senders k promised many =
       let spelled = promised.by.spelled in
       record {
@@ -202,7 +202,7 @@ module _ {S : Type 0} (X : Election (Elector S)) (P : Protocol S Bool Verdict) w
   -- the closing lines tell of trails that lead to the bus and that the history has
   pub closes : (b : Machine (Elector S)) (h : Kept) (T : Trails) (senders : ℕ)
       (old mid whole takers : List ℕ) (order : Order) (owners : List (ℕ × SenderNo))
-      → Holds X P b h T → IsPromised X b T → senders ≡ length b.senders
+      → IsHistoryOf X P b h T → IsPromised X b T → senders ≡ length b.senders
       → Spells senders h.log order owners → takers ≡ b.owners
       → mid ≡ (old ++ owners_line takers) ++ order_text order → whole ≡ mid ++ counts_text h.given
       → (closing : List ℕ) × Closes X P b T closing × (whole ≡ old ++ closing)
@@ -231,9 +231,9 @@ module _ {S : Type 0} (X : Election (Elector S)) (P : Protocol S Bool Verdict) w
   module _ (b new : Machine (Elector S)) (h kept : Kept) (lines : List (ℕ × List ℕ)) (o : Outcome)
     where
       -- to the bus that lines have left, where none was refused, trails lead that the history has
-      pub held_on : (old mid : List ℕ) → o ≡ outcome.Done → Holds X P b h no_machine_trails
+      pub held_on : (old mid : List ℕ) → o ≡ outcome.Done → IsHistoryOf X P b h no_machine_trails
           → (added : List ℕ) × ArePlayed X P b h lines o added new kept × (mid ≡ old ++ added)
-          → (T : Trails) × Holds X P new kept T
+          → (T : Trails) × IsHistoryOf X P new kept T
       held_on old mid done begins played =
           let all : ArePlayed X P b h lines outcome.Done played.0 new kept =
           subst (λ r. ArePlayed X P b h lines r played.0 new kept) done played.1 in (
@@ -243,9 +243,9 @@ module _ {S : Type 0} (X : Election (Elector S)) (P : Protocol S Bool Verdict) w
 
       -- lines were played to their end, and the closing lines are behind their answers
       pub closed : (old mid whole : List ℕ) → o ≡ outcome.Done → old ≡ []
-          → Holds X P b h no_machine_trails
+          → IsHistoryOf X P b h no_machine_trails
           → (added : List ℕ) × ArePlayed X P b h lines o added new kept × (mid ≡ old ++ added)
-          → ((T : Trails) → Holds X P new kept T
+          → ((T : Trails) → IsHistoryOf X P new kept T
           → (closing : List ℕ) × Closes X P new T closing × (whole ≡ mid ++ closing))
           → (text : List ℕ) × (end : End (Elector S)) × (run : Prints X P b lines text end)
           × Ends X P end (printed_trails X P b lines text end run no_machine_trails) text

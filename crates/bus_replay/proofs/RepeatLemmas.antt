@@ -23,7 +23,7 @@ use Rattle.bus_machine.specs.Machine.{Machine, Trails, Happens, has_stopped, tra
 use Rattle.bus_machine.specs.Playing.{Answers, Refused, SenderRefused}
 use Rattle.bus_replay.specs.GoingOn.{goes_on}
 use Rattle.bus_replay.specs.Answers.{Repeats, repeat_trails}
-use Rattle.bus_replay.specs.Histories.{Kept, Holds}
+use Rattle.bus_replay.specs.Histories.{Kept, IsHistoryOf}
 use Rattle.bus_replay.specs.Told.{IsRepeated}
 
 -- ---- what a result says, where it is known
@@ -96,11 +96,12 @@ module _ {S : Type 0} (X : Election (Elector S)) (P : Protocol S Bool Verdict) (
         → (whole : Repeats X P old e all final end)
         × ((T : Trails) → repeat_trails X P old e all final end whole T
         ≡ repeat_trails X P before e left final end run (grown T))
-    pub holds : (T : Trails) → Holds X P old h T
-        → Holds X P new kept (trails_grown X before e last (grown T))
+    pub holds : (T : Trails) → IsHistoryOf X P old h T
+        → IsHistoryOf X P new kept (trails_grown X before e last (grown T))
 
   pub once : (last : Answer) (new : Machine (Elector S)) (kept : Kept) → Answers X P old e last new
-      → ((T : Trails) → Holds X P old h T → Holds X P new kept (trails_grown X old e last T))
+      → ((T : Trails) → IsHistoryOf X P old h T
+      → IsHistoryOf X P new kept (trails_grown X old e last T))
       → Repeated all last new kept
   once last new kept answered noted = record {
     before = old;
@@ -113,7 +114,8 @@ module _ {S : Type 0} (X : Election (Elector S)) (P : Protocol S Bool Verdict) (
   pub once_more : (left : ℕ) (first last : Answer) (mid new : Machine (Elector S))
       (kept kept' : Kept) → Repeated left first mid kept → 0 < left → goes_on first ≡ true
       → Answers X P mid e last new
-      → ((T : Trails) → Holds X P mid kept T → Holds X P new kept' (trails_grown X mid e last T))
+      → ((T : Trails) → IsHistoryOf X P mid kept T
+      → IsHistoryOf X P new kept' (trails_grown X mid e last T))
       → Repeated (left - 1) last new kept'
   once_more zero first last mid new kept kept' k some goes answered noted = absurd (omega arith)
   once_more (suc left) first last mid new kept kept' k some goes answered noted =
@@ -137,7 +139,8 @@ module _ {S : Type 0} (X : Election (Elector S)) (P : Protocol S Bool Verdict) (
   ended left last new kept k run same =
       let whole = k.from_first last new run in (
         whole.0,
-        λ T hold. subst (Holds X P new kept) (sym (whole.1 T ∙ same (k.grown T))) (k.holds T hold),
+        λ T hold.
+            subst (IsHistoryOf X P new kept) (sym (whole.1 T ∙ same (k.grown T))) (k.holds T hold),
       )
 
   pub at_last : (left : ℕ) (last : Answer) (new : Machine (Elector S)) (kept : Kept)

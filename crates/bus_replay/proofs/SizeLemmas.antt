@@ -13,7 +13,7 @@ use Rattle.bus_world.specs.declared.shapes.Shape.{Shape}
 use Rattle.bus_machine.specs.Machine.{Machine, log_place, no_machine_trails}
 use Rattle.bus_machine.specs.Playing.{IsMadeWith, ShapeOf}
 use Rattle.bus_machine.specs.Promise.{HasRows}
-use Rattle.bus_replay.specs.Histories.{Kept, HasSizes, Holds, no_given}
+use Rattle.bus_replay.specs.Histories.{Kept, HasSizes, IsHistoryOf, no_given}
 use Rattle.bus_replay.specs.Lines.{shape_in, reuse_in, passers_in}
 use Rattle.bus_replay.specs.declared.lines.FirstLine.{FirstLine}
 use Rattle.bus_replay.specs.declared.lines.FirstLine.TheVariants.{Shape as Shaped, Cycle as Cycled}
@@ -95,7 +95,7 @@ module _ {S : Type 0} (X : Election (Elector S)) (P : Protocol S Bool Verdict) w
         log = [];
         given = replicate receivers (record { items = 0; ended = false });
       }
-      → Holds X P m h no_machine_trails
+      → IsHistoryOf X P m h no_machine_trails
   made_holds first m capacity receivers h made sized many is = record {
     reached = made.begins;
     sizes = first_sized first m made;

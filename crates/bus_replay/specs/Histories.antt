@@ -76,7 +76,7 @@ kept_after words (Stop s) a h = h
 kept_after words (Gone r) a h = h
 
 -- these are all words and answers of these trails, of so many receivers
-pub record Remembers (h : Kept) (receivers : ℕ) (T : Trails) : Type 0 where
+pub record HasAllOf (h : Kept) (receivers : ℕ) (T : Trails) : Type 0 where
   pub log : h.log ≡ T.log
   pub many : length h.given ≡ receivers
   pub given : (r : ℕ) → r < receivers → slice_get h.given r ≡ Some (given_of (T.heard r))
@@ -98,9 +98,9 @@ pub record HasSizes {S : Type 0} (P : Protocol S Bool Verdict) (m : Machine (Ele
 
 -- These trails lead to the machine, which has such sizes, and this history has all of them. It
 -- knows the size of the log.
-pub record Holds {S : Type 0} (X : Election (Elector S)) (P : Protocol S Bool Verdict)
+pub record IsHistoryOf {S : Type 0} (X : Election (Elector S)) (P : Protocol S Bool Verdict)
     (m : Machine (Elector S)) (h : Kept) (T : Trails) : Type 0 where
   pub reached : Reached X m T
   pub sizes : HasSizes P m
   pub capacity : h.capacity ≡ m.layout.capacity
-  pub remembers : Remembers h (length m.receivers) T
+  pub remembers : HasAllOf h (length m.receivers) T

@@ -14,7 +14,7 @@ use Rattle.bus_replay.specs.declared.commands.Command.{Command as Told}
 use Rattle.bus_replay.specs.Lines.{Command}
 use Rattle.bus_replay.specs.Answers.{End, Left, Stopped, Repeats, Prints}
 use Rattle.bus_replay.specs.Answers.{repeat_trails, printed_trails}
-use Rattle.bus_replay.specs.Histories.{Kept, Holds}
+use Rattle.bus_replay.specs.Histories.{Kept, IsHistoryOf}
 
 -- the command that a program tells
 abbrev pub command_told : Told → Command
@@ -26,8 +26,8 @@ module _ {S : Type 0} (X : Election (Elector S)) (P : Protocol S Bool Verdict) w
       → Kept → Type 0
   IsRepeated m h e more last new kept =
       (run : Repeats X P m e more last new)
-      × ((T : Trails) → Holds X P m h T
-      → Holds X P new kept (repeat_trails X P m e more last new run T))
+      × ((T : Trails) → IsHistoryOf X P m h T
+      → IsHistoryOf X P new kept (repeat_trails X P m e more last new run T))
 
   -- lines that print this go on from a line that adds so to trails: they print what is behind this
   -- text, and add the same behind it
@@ -46,7 +46,7 @@ module _ {S : Type 0} (X : Election (Elector S)) (P : Protocol S Bool Verdict) w
       → Machine (Elector S) → Kept → Type 0
   IsObeyed m h line Done text new kept =
       (grown : Trails → Trails) × GoesOn m line text new grown
-      × ((T : Trails) → Holds X P m h T → Holds X P new kept (grown T))
+      × ((T : Trails) → IsHistoryOf X P m h T → IsHistoryOf X P new kept (grown T))
   IsObeyed m h line Refused text new kept =
       (lines : List (ℕ × List ℕ)) → Prints X P m (line ∷ lines) [] (Stopped text)
 
@@ -55,8 +55,8 @@ module _ {S : Type 0} (X : Election (Elector S)) (P : Protocol S Bool Verdict) w
       → Machine (Elector S) → Kept → Type 0
   ArePlayed m h lines Done text new kept =
       (run : Prints X P m lines text (Left new))
-      × ((T : Trails) → Holds X P m h T
-      → Holds X P new kept (printed_trails X P m lines text (Left new) run T))
+      × ((T : Trails) → IsHistoryOf X P m h T
+      → IsHistoryOf X P new kept (printed_trails X P m lines text (Left new) run T))
   ArePlayed m h lines Refused text new kept =
       (answers refusal : List ℕ) × Prints X P m lines answers (Stopped refusal)
       × (text ≡ answers ++ refusal)

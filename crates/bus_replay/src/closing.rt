@@ -8,7 +8,7 @@ ghost use Rattle.bus_tenure.specs.Elections.{election_of};
 ghost use Rattle.bus_machine.specs.Machine.{Trails};
 ghost use Rattle.bus_register.specs.declared.registers.SenderNo.{SenderNo as Number};
 ghost use Rattle.bus_batch.specs.Frames.{IsLog, Spells};
-ghost use Rattle.bus_replay.specs.Histories.{Holds};
+ghost use Rattle.bus_replay.specs.Histories.{IsHistoryOf};
 ghost use Rattle.bus_replay.specs.Text.{owners_line, entry_line, order_text, count_line};
 ghost use Rattle.bus_replay.specs.Text.{counts_text};
 ghost use Rattle.bus_replay.specs.Answers.{Closes};
@@ -128,9 +128,9 @@ pub fn push_closing<Q: Ratifier + Drop>(
     text: &mut String,
 ) -> Result<(), NoMemory>
     requires { let X = election_of Q.Ratifier in
-        (trails : Trails) × Holds X Q.protocol bus.now history.now trails }
+        (trails : Trails) × IsHistoryOf X Q.protocol bus.now history.now trails }
     ensures { let X = election_of Q.Ratifier in
-        OnOk result ((trails : Trails) → Holds X Q.protocol bus.now history.now trails
+        OnOk result ((trails : Trails) → IsHistoryOf X Q.protocol bus.now history.now trails
         → (closing : List ℕ) × Closes X Q.protocol bus.now trails closing
         × (string_bytes text.new ≡ string_bytes text.old ++ closing)) }
 {

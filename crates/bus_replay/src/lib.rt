@@ -22,6 +22,7 @@ pub mod closing;
 pub mod commands;
 pub mod hex;
 pub mod histories;
+pub mod laws;
 pub mod lines;
 pub mod names;
 pub mod playing;

@@ -9,7 +9,7 @@ ghost use Rattle.bus_script.specs.declared.line_numbers.LineNumber.TheVariants.{
 ghost use Rattle.bus_script.specs.LineNumbers.{refusal_line};
 ghost use Rattle.bus_machine.specs.Machine.{Trails, trails_grown};
 ghost use Rattle.bus_replay.specs.GoingOn.{goes_on};
-ghost use Rattle.bus_replay.specs.Histories.{Holds};
+ghost use Rattle.bus_replay.specs.Histories.{IsHistoryOf};
 ghost use Rattle.bus_deliverylog.specs.Receiving.{recv_goes_on};
 ghost use Rattle.bus_tenure.specs.Classes.{still_goes};
 ghost use Rattle.bus_replay.specs.Told.{IsRepeated, IsObeyed, ArePlayed};
@@ -62,14 +62,14 @@ fn step_noted<Q: Ratifier + Drop>(
     event: &Event,
 ) -> Result<Result<Answer, StepFault>, NoMemory>
     requires { let X = election_of Q.Ratifier in
-        (trails : Trails) × Holds X Q.protocol bus.old history.old trails }
+        (trails : Trails) × IsHistoryOf X Q.protocol bus.old history.old trails }
     ensures answered { let X = election_of Q.Ratifier in
         IfOk result (λ told. IfOk told (λ answer. Answers X Q.protocol bus.old
         (event_told event.now) answer bus.new)) }
     ensures noted { let X = election_of Q.Ratifier in
         IfOk result (λ told. IfOk told (λ answer. (trails : Trails)
-        → Holds X Q.protocol bus.old history.old trails
-        → Holds X Q.protocol bus.new history.new
+        → IsHistoryOf X Q.protocol bus.old history.old trails
+        → IsHistoryOf X Q.protocol bus.new history.new
         (trails_grown X bus.old (event_told event.now) answer trails))) }
     ensures fault { IfOk result (λ told. IfErr told (Refused bus.old (event_told event.now))) }
 {
@@ -91,7 +91,7 @@ fn repeat<Q: Ratifier + Drop>(
 ) -> Result<Result<Answer, StepFault>, NoMemory>
     requires some { 0 < times }
     requires held { let X = election_of Q.Ratifier in
-        (trails : Trails) × Holds X Q.protocol bus.old history.old trails }
+        (trails : Trails) × IsHistoryOf X Q.protocol bus.old history.old trails }
     ensures last { let X = election_of Q.Ratifier in
         IfOk result (λ told. IfOk told (λ last. IsRepeated X Q.protocol bus.old history.old
         (event_told event.now) (times - 1) last bus.new history.new)) }
@@ -135,7 +135,7 @@ fn obey<Q: Ratifier + Drop>(
     text: &mut String,
 ) -> Result<Outcome, NoMemory>
     requires { let X = election_of Q.Ratifier in
-        (trails : Trails) × Holds X Q.protocol bus.old history.old trails }
+        (trails : Trails) × IsHistoryOf X Q.protocol bus.old history.old trails }
     ensures { let X = election_of Q.Ratifier in
         IfOk result (λ outcome. (added : List ℕ)
         × IsObeyed X Q.protocol bus.old history.old (line.entry.number, line.entry.bytes.now)
@@ -167,7 +167,7 @@ pub fn play<Q: Ratifier + Drop>(
     text: &mut String,
 ) -> Result<Outcome, NoMemory>
     requires { let X = election_of Q.Ratifier in
-        (trails : Trails) × Holds X Q.protocol bus.old history.old trails }
+        (trails : Trails) × IsHistoryOf X Q.protocol bus.old history.old trails }
     ensures { let X = election_of Q.Ratifier in
         IfOk result (λ outcome. (added : List ℕ)
         × ArePlayed X Q.protocol bus.old history.old lines.entry outcome added bus.new

@@ -13,7 +13,7 @@ use Rattle.bus_register.specs.Words.{register, after}
 use Rattle.bus_core.specs.Senders.{Sender as OneSender}
 use Rattle.bus_core.specs.Table.{line_now}
 use Rattle.bus_core.specs.declared.limits.TheConstants.{PASSED_APART}
-use Rattle.bus_deliverylog.specs.Receiving.{Receiving, receiving_kind, receiving_op, leaving_op}
+use Rattle.bus_deliverylog.specs.Receiving.{Receiving, due_kind, due_op, leaving_op}
 use Rattle.bus_deliverylog.specs.Text.{hex_digit, hex_pair, hex_text, item_text, recv_text}
 use Rattle.bus_deliverylog.specs.declared.receiving.RecvTurn.{RecvTurn}
 use Rattle.bus_deliverylog.specs.declared.receiving.RecvTurn.TheVariants as recv
@@ -286,7 +286,7 @@ of_due p words tenure (Some k) (Some o) = with_step p tenure k (words (register 
 of_receiving : (p : TraceSizes) (words : ℕ → ℕ) (v : Option Receiving)
     → IsMiddle (receiving_text p words v)
 of_receiving p words None = nothing_done
-of_receiving p words (Some v) = of_due p words None (receiving_kind v) (receiving_op v)
+of_receiving p words (Some v) = of_due p words None (due_kind v) (due_op v)
 
 of_sender : {E : Type 0} (p : TraceSizes) (X : Election E) (words : ℕ → ℕ)
     (v : Option (OneSender E)) (word : ℕ)

@@ -10,7 +10,7 @@ use Rattle.bus_register.specs.declared.registers.Op.{Op}
 use Rattle.bus_batch.specs.declared.messages.Mark.TheVariants as mark
 use Rattle.bus_core.specs.Senders.{Sender}
 use Rattle.bus_core.specs.Table.{line_now}
-use Rattle.bus_deliverylog.specs.Receiving.{Receiving, receiving_kind, receiving_op, leaving_op}
+use Rattle.bus_deliverylog.specs.Receiving.{Receiving, due_kind, due_op, leaving_op}
 use Rattle.bus_machine.specs.Machine.{Machine, Happens, has_stopped}
 use Rattle.bus_tenure.specs.Core.{Election}
 use Rattle.bus_world.specs.Trails.{put_actions, mark_actions}
@@ -49,7 +49,7 @@ receiver_told : (p : TraceSizes) (words : ℕ → ℕ) (r : ℕ) (o : Option Rec
     (seen_in words (receiver_due o))
 receiver_told p words r None = refl
 receiver_told p words r (Some v) =
-    due_told p words (Recv r) refl None (receiving_kind v) (receiving_op v)
+    due_told p words (Recv r) refl None (due_kind v) (due_op v)
 
 -- of a receiver that leaves for good
 gone_told : (p : TraceSizes) (words : ℕ → ℕ) (r : ℕ) (o : Option Op)

@@ -19,7 +19,7 @@ use Rattle.bus_register.specs.Words.{register, after as left_by}
 use Rattle.bus_core.specs.Senders.{Sender, Situation, Does, Announces, Validates, Unpins}
 use Rattle.bus_core.specs.Senders.{Withdraws, Scans, Clears, ReadsPassed, situation}
 use Rattle.bus_core.specs.Table.{Line, line, line_now}
-use Rattle.bus_deliverylog.specs.Receiving.{receiving_kind, receiving_op, leaving_by}
+use Rattle.bus_deliverylog.specs.Receiving.{due_kind, due_op, receiving_op, leaving_by}
 use Rattle.bus_deliverylog.specs.Receiving.{leaving_op}
 use Rattle.bus_machine.specs.Machine.{Machine, Trails, no_machine_trails, entered, turn_trails}
 use Rattle.bus_machine.specs.Machine.{turn_grown, turn_answer, going, IsOnWord}
@@ -43,7 +43,7 @@ use Rattle.bus_trace.specs.Rows.{no_step, column, columns}
 use Rattle.bus_trace.specs.Showing.{added, answer_of, entry_text, AddsOne, ShowsEvent, ShowsHeard}
 use Rattle.bus_trace.specs.Showing.{ShowsGone, ShowsNone, ShowsStep, ShowsTurn, Shows, ShowsWho}
 use Rattle.bus_trace.specs.Words.{TraceSizes, word_name}
-use Rattle.bus_trace.proofs.StepLemmas.{tenure_is, stood}
+use Rattle.bus_trace.proofs.StepLemmas.{due_stays, tenure_is, stood}
 
 own : {A : Type 0} (s : ℕ) (one other : A) → cond (s == s) one other ≡ one
 own s one other = ap (λ b. cond b one other) (eq-eqb s s refl)
@@ -332,17 +332,23 @@ module _ {S : Type 0} (p : TraceSizes) (X : Election (Elector S)) (P : Protocol 
             let same : h.receiver ≡ v = same_Some h.receiver v (sym h.there ∙ at) in
             let within : IsOnWord m (receiving_op v) =
             subst (λ u. IsOnWord m (receiving_op u)) same h.within in
-            step_taken p m new text None k o (subst (IsOnWord m) op_is within)
+            let due : due_op v ≡ receiving_op v =
+            due_stays v (ap (λ u. u.gone) (sym same) ∙ h.stays) in
+            let own : receiving_op v ≡ Some o = sym due ∙ op_is in
+            step_taken p m new text None k o (subst (IsOnWord m) own within)
             (stand ∙ ap (λ u. words_after m.words (receiving_op u)) same
-            ∙ ap (words_after m.words) op_is)
+            ∙ ap (words_after m.words) own)
             (ap (receiving_text p words) at
-            ∙ due_some p words None (receiving_kind v) (receiving_op v) k o kind_is op_is);
+            ∙ due_some p words None (due_kind v) (due_op v) k o kind_is op_is);
         none = λ v at op_is.
             let same : h.receiver ≡ v = same_Some h.receiver v (sym h.there ∙ at) in
-            none_taken p m new text (codes "-") (receiving_op v) op_is
-            (stand ∙ ap (λ u. words_after m.words (receiving_op u)) same)
-            (ap (receiving_text p words) at ∙ ap (due_text p words None (receiving_kind v)) op_is
-            ∙ due_none p words None (receiving_kind v));
+            let due : due_op v ≡ receiving_op v =
+            due_stays v (ap (λ u. u.gone) (sym same) ∙ h.stays) in
+            none_taken p m new text (codes "-") (due_op v) op_is
+            (stand ∙ ap (λ u. words_after m.words (receiving_op u)) same
+            ∙ ap (words_after m.words) (sym due))
+            (ap (receiving_text p words) at ∙ ap (due_text p words None (due_kind v)) op_is
+            ∙ due_none p words None (due_kind v));
       }
 
   gone_shown : (r : ℕ) (a : Answer) (new : Machine (Elector S)) → LeavesForGood m r a new

@@ -19,7 +19,7 @@ use Rattle.bus_core.specs.Reusing.Passing.{passing_left}
 use Rattle.bus_core.specs.declared.reuses.Passing.{Passing}
 use Rattle.bus_core.specs.Table.{line, line_now}
 use Rattle.bus_core.specs.declared.reuses.Reuse.{Reuse}
-use Rattle.bus_deliverylog.specs.Receiving.{receiving_kind, receiving_op, leaving_op}
+use Rattle.bus_deliverylog.specs.Receiving.{Receiving, due_kind, due_op, receiving_op, leaving_op}
 use Rattle.bus_machine.specs.Machine.{Machine, Happens, IsOnWord, has_stopped}
 use Rattle.bus_presence.specs.Reclaimers.{Reclaiming}
 use Rattle.bus_presence.specs.declared.pins.Pin.{Pin}
@@ -224,6 +224,10 @@ pub stood : (words : List ℕ) (o : Op) → register o < length words
     (slice_index words (register o))
 stood words o l = get_or-set_same words (register o) (after o (slice_index words (register o))) 0 l
 
+-- of a receiver that has not left its step is due
+pub due_stays : (v : Receiving) → v.gone ≡ false → due_op v ≡ receiving_op v
+due_stays v stays = ap (λ b. cond {A = Option Op} b None (receiving_op v)) stays
+
 pub leaves : {E : Type 0} (X : Election E) (m m' : Machine E) (e : Event) (a : Answer) (step : Step)
     → Happens X m e a m'
     → Some step ≡ due_by X m e
@@ -243,8 +247,8 @@ leaves {E} X m m' (Turn s word) a step h is =
 leaves {E} X m m' (Recv r) a step h is =
     let v = h.receiver in
     let op_is : receiving_op v ≡ Some step.op =
-    op_of_step None (receiving_kind v) (receiving_op v) step
-    (ap receiver_due (sym h.there) ∙ sym is) in
+    sym (due_stays v h.stays)
+    ∙ op_of_step None (due_kind v) (due_op v) step (ap receiver_due (sym h.there) ∙ sym is) in
     ap (λ (y : Machine E). slice_index y.words (register step.op)) h.after
     ∙ ap (λ o. slice_index (words_after m.words o) (register step.op)) op_is
     ∙ stood m.words step.op (subst (IsOnWord m) op_is h.within)

@@ -10,7 +10,7 @@ use Rattle.bus_register.specs.Words.{register, after}
 use Rattle.bus_batch.specs.declared.messages.Mark.TheVariants as mark
 use Rattle.bus_core.specs.Senders.{Sender}
 use Rattle.bus_core.specs.Table.{Line, line_now}
-use Rattle.bus_deliverylog.specs.Receiving.{Receiving, receiving_kind, receiving_op, leaving_op}
+use Rattle.bus_deliverylog.specs.Receiving.{Receiving, due_kind, due_op, leaving_op}
 use Rattle.bus_machine.specs.Machine.{Machine, going}
 use Rattle.bus_tenure.specs.Core.{Election}
 use Rattle.bus_world.specs.Headline.{Action, HasPut, HasMarked, Stepped}
@@ -69,7 +69,7 @@ due_text p words tenure (Some k) (Some o) = step_text p tenure k (words (registe
 -- of a receiver, its load, or the store of its place
 abbrev pub receiving_text : TraceSizes → (ℕ → ℕ) → Option Receiving → List ℕ
 receiving_text p words None = no_step (codes "-")
-receiving_text p words (Some v) = due_text p words None (receiving_kind v) (receiving_op v)
+receiving_text p words (Some v) = due_text p words None (due_kind v) (due_op v)
 
 -- the store with which a receiver leaves for good; without a passed place that is no step, but a
 -- call

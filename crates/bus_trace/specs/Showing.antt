@@ -12,7 +12,7 @@ use Rattle.bus_batch.specs.declared.messages.Mark.TheVariants as mark
 use Rattle.bus_core.specs.Seen.{tenure_begun}
 use Rattle.bus_core.specs.Senders.{Sender}
 use Rattle.bus_core.specs.Table.{line_now}
-use Rattle.bus_deliverylog.specs.Receiving.{Receiving, receiving_kind, receiving_op}
+use Rattle.bus_deliverylog.specs.Receiving.{Receiving, due_kind, due_op}
 use Rattle.bus_deliverylog.specs.declared.receiving.RecvTurn.{RecvTurn}
 use Rattle.bus_deliverylog.specs.Text.{recv_text}
 use Rattle.bus_machine.specs.Machine.{Machine, Trails, no_machine_trails, trails_grown, going}
@@ -113,9 +113,9 @@ pub record ShowsHeard {E : Type 0} (p : TraceSizes) (X : Election E) (m : Machin
   pub answers : answer_text a ≡ recv_text heard
   -- and the step that is due of the receiver, a load or the store of its place
   pub step : (v : Receiving) (k : Kind) (o : Op) → slice_get m.receivers r ≡ Some v
-      → receiving_kind v ≡ Some k → receiving_op v ≡ Some o
+      → due_kind v ≡ Some k → due_op v ≡ Some o
       → ShowsStep p m new None k (register o) (columns p X m (Recv r) a)
-  pub none : (v : Receiving) → slice_get m.receivers r ≡ Some v → receiving_op v ≡ None
+  pub none : (v : Receiving) → slice_get m.receivers r ≡ Some v → due_op v ≡ None
       → ShowsNone m new (codes "-") (columns p X m (Recv r) a)
 
 -- receiver r leaves for good: it shows

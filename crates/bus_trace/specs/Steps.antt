@@ -6,7 +6,7 @@ use Rattle.bus_register.specs.declared.kinds.Kind.TheVariants as kind
 use Rattle.bus_register.specs.declared.registers.Op.{Op}
 use Rattle.bus_core.specs.Senders.{Sender}
 use Rattle.bus_core.specs.Table.{Line, line_now}
-use Rattle.bus_deliverylog.specs.Receiving.{Receiving, receiving_kind, receiving_op, leaving_op}
+use Rattle.bus_deliverylog.specs.Receiving.{Receiving, due_kind, due_op, leaving_op}
 use Rattle.bus_machine.specs.Machine.{Machine}
 use Rattle.bus_tenure.specs.Core.{Election}
 use Rattle.bus_world.specs.World.{Event, Put, Ask, Turn, Recv, Stop, Gone}
@@ -29,7 +29,7 @@ sender_due X (Some v) word = line_due (line_now X v) word
 -- of a receiver, its load, or the store of its place
 abbrev pub receiver_due : Option Receiving → Option Step
 receiver_due None = None
-receiver_due (Some v) = step_of None (receiving_kind v) (receiving_op v)
+receiver_due (Some v) = step_of None (due_kind v) (due_op v)
 
 -- of a receiver that leaves for good, its store, if it makes one
 abbrev pub leaver_due : Option Receiving → Option Step

@@ -82,6 +82,7 @@ use Rattle.bus_world.proofs.CyclicProtocolNotes.{sent_by, IsNoted, noted_put, no
 use Rattle.bus_world.proofs.CyclicProtocolNotes.{nothing_put}
 use Rattle.bus_world.proofs.RingWords.{Laid, found_there, found_straight}
 use Rattle.bus_world.proofs.LogLaws.{length-logged, index-read}
+use Rattle.bus_world.proofs.ReceiverSteps.{found_length, found_word}
 use Rattle.bus_world.proofs.Places.{none_in}
 use Rattle.bus_world.proofs.PlacedSteps.{passes}
 use Rattle.bus_world.proofs.CyclicProtocolKept as kept
@@ -588,9 +589,28 @@ module _ {E : Type 0} (X : Election E) (P : Protocol E (Unit {0}) ℕ)
           waits = λ r v at stays.
               let its = h.floors.each r v at in
               let behind = its.behind stays in let past = its.past in omega arith;
-          finds = λ r v at stays below.
+          finds = λ r v at stays.
               let its = h.floors.each r v at in
-              stands v.place (let a = its.behind stays in let b = its.past in omega arith) below;
+              let hears = h.hears.each r v at in (
+                λ here.
+                    found_length y.reclamation.words v here
+                    ∙ ap y.reclamation.words hears.own.len_at
+                    ∙ h.laid.length ∙ sym long,
+                λ apart.
+                    let low : v.place < length L =
+                    (let a = hears.own.receives.place_below in
+                    let b = hears.own.receives.known_below in
+                    let c = ap length h.log_is in omega arith) in (
+                      low,
+                      found_word y.reclamation.words v apart
+                          ∙ ap (λ n. y.reclamation.words (n + v.place % v.log_words)) hears.log
+                          ∙ ap (λ n. y.reclamation.words (log_from x rows + v.place % n))
+                          hears.own.log_words
+                          ∙ stands v.place
+                          (let a = its.behind stays in let b = its.past in omega arith)
+                          low,
+                    ),
+              );
           believes = λ r v at stays.
               let most = h.stored.low in
               let room = h.stored.few in

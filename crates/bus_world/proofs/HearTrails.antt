@@ -35,7 +35,7 @@ use Rattle.bus_world.proofs.WorldLaws.{received}
 abbrev pub more_order : Order → List Entry → Bool → Order
 more_order o entries ended = record { entries = o.entries ++ entries; ended = o.ended || ended }
 
-order_so : (entries entries' : List Entry) (a b : Bool) → entries ≡ entries' → a ≡ b
+pub order_so : (entries entries' : List Entry) (a b : Bool) → entries ≡ entries' → a ≡ b
     → ◌≡◌ {A = Order} (record { entries = entries; ended = a })
     (record { entries = entries'; ended = b })
 order_so entries entries' a b e f =

@@ -1,7 +1,8 @@
 -- What the step of a receiver does to the words: a load nothing, and without a passed place it
 -- takes no other. A store that is due comes between frames.
 use Rattle.std.proofs.Common.{◌≡◌, ℕ, ◌+◌, ◌%◌, Bool, true, false, cond, ◌==◌, ◌&&◌, nat_lt}
-use Rattle.std.proofs.Common.{Option, Some, None, List, refl, ◌∙◌, ap}
+use Rattle.std.proofs.Common.{Option, Some, None, List, inl, inr, ◌≢◌, refl, ◌∙◌, ap}
+use Rattle.std.proofs.lemmas.Bool.Decides.{eqb_tells}
 use Rattle.std.proofs.lemmas.List.{set-get_or}
 use Rattle.bus_register.specs.declared.registers.Op.TheVariants.{Load}
 use Rattle.bus_batch.specs.Reading.{is_between}
@@ -9,6 +10,7 @@ use Rattle.bus_deliverylog.specs.Receiving.{Receiving, passing_due, load_op, op_
 use Rattle.bus_deliverylog.specs.Receiving.{leaving_by, leaving_op}
 use Rattle.bus_deliverylog.proofs.ReceiveLaws.{no_due}
 use Rattle.bus_world.specs.Turning.{words_after}
+use Rattle.bus_world.specs.World.{recv_found}
 use Rattle.bus_world.specs.Proved.CyclicProtocols.{words_stepped}
 use Rattle.bus_world.proofs.CyclicProtocolWords.{put_is}
 
@@ -38,6 +40,21 @@ pub leaves_only : (words : List ℕ) (v : Receiving) → v.passed_at ≡ None
 leaves_only words v never = ap (λ o. words_after words (leaving_by o)) never
 
 -- ---- of a table of words
+-- what a load finds at the length that is known, and before it
+pub found_length : (words : ℕ → ℕ) (v : Receiving) → v.place ≡ v.known
+    → recv_found words v ≡ words v.length_at
+found_length words v here = elim (eqb_tells v.place v.known) [
+  | inl y ↦ ap (λ b. cond b (words v.length_at) (words (v.log_at + v.place % v.log_words))) y.0
+  | inr y ↦ absurd (y.1 here)
+]
+
+pub found_word : (words : ℕ → ℕ) (v : Receiving) → v.place ≢ v.known
+    → recv_found words v ≡ words (v.log_at + v.place % v.log_words)
+found_word words v apart = elim (eqb_tells v.place v.known) [
+  | inl y ↦ absurd (apart y.1)
+  | inr y ↦ ap (λ b. cond b (words v.length_at) (words (v.log_at + v.place % v.log_words))) y.0
+]
+
 pub load_stays : (words : ℕ → ℕ) (v : Receiving)
     → words_stepped (λ q. q) words (Some (load_op v)) ≡ words
 load_stays words v = by (v.place == v.known)

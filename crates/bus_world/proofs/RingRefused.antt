@@ -60,8 +60,12 @@ module _ {E : Type 0} (X : Election E) (P : Protocol E (Unit {0}) ℕ) (x : Layo
 
   pub refuses : RingRefuses X x rows y T D H L
   refuses = record {
-    overwritten = λ r v at stays below other led.
-        other ((kept led).by.finds r v at stays below);
+    overwritten = λ r v at stays apart other led.
+        other (((kept led).by.finds r v at stays).1 apart).1;
+    loaded_ahead = λ r v at stays apart past led.
+        let a = (((kept led).by.finds r v at stays).1 apart).0 in absurd (omega arith);
+    another_length = λ r v at stays here other led.
+        other (((kept led).by.finds r v at stays).0 here);
     lost_behind = λ r v place at stays from below other led.
         let k = kept led in
         let waits = k.by.waits r v at stays in
@@ -69,6 +73,10 @@ module _ {E : Type 0} (X : Election E) (P : Protocol E (Unit {0}) ℕ) (x : Layo
     lost_behind_the_floor = λ page place at from below other led.
         let k = kept led in
         let same = k.by.floor_home page at in
+        other (k.by.ring.stands place (omega arith) below);
+    lost_behind_a_held_floor = λ p t page stored published c place at is from below other led.
+        let k = kept led in
+        let same = k.by.floor_held p t page stored published c at is in
         other (k.by.ring.stands place (omega arith) below);
     floor_past_a_receiver = λ r v page at stays home high led.
         let k = kept led in

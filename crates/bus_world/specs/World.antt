@@ -55,6 +55,13 @@ abbrev pub recv_found : (ℕ → ℕ) → Receiving → ℕ
 recv_found words v =
     if v.place == v.known then words v.length_at else words (v.log_at + v.place % v.log_words)
 
+-- By this number it finds what it looks for in a log: at the length that it knows that of the log,
+-- and else the word at its place, which is one of the log.
+abbrev pub FindsIn : List ℕ → Receiving → ℕ → Type 0
+FindsIn log v got =
+    (v.place ≡ v.known → got ≡ length log)
+    × (v.place ≢ v.known → (v.place < length log) × (got ≡ slice_index log v.place))
+
 -- one turn of a receiver: after the end it answers End for good, and takes no step
 pub record RecvDoes (words : ℕ → ℕ) (old : Receiving) (answer : RecvTurn) (new : Receiving) :
     Type 0 where

@@ -34,11 +34,12 @@ pub fn nobody_leaves_unasked()
 {}
 
 /// On a bus whose rows are used again, whatever passed places it has, nothing leads to a receiver
-/// that has not left and finds at its place another word than was published there, or of which a
-/// word is lost that it has still to hear; to a word that is lost from the floor of a page on; to a
-/// length past what was published, or short of it; to a page whose floor is past the length, or
-/// past the place of a receiver that has not left; or to a passed place that is ahead of its
-/// receiver or within a frame.
+/// that has not left and loads another word than was published at its place, one that was not
+/// published yet, or another length, or of which a word is lost that it has still to hear; to a
+/// word that is lost from the floor of a page on, at home or out; to a length past what was
+/// published, or short of it; to a page whose floor is past the length, or past the place of a
+/// receiver that has not left; or to a passed place that is ahead of its receiver or within a
+/// frame.
 pub fn ring_refuses<Q: Ratifier>()
     ensures { let X = election_of Q.Ratifier in
         (senders rounds rows again capacity passers : ℕ)

@@ -1,6 +1,6 @@
 -- What is promised of senders and receivers of a bus whose rows are used again.
-use Rattle.std.specs.Prelude.{◌≡◌, ℕ, ◌+◌, ◌*◌, ◌%◌, ◌<◌, ◌≤◌, Bool, false, Some, None, List}
-use Rattle.std.specs.Prelude.{length, slice_index}
+use Rattle.std.specs.Prelude.{◌≡◌, ℕ, ◌+◌, ◌*◌, ◌<◌, ◌≤◌, Bool, false, Some, None, List}
+use Rattle.std.specs.Prelude.{slice_index}
 use Rattle.bus_register.specs.declared.registers.Op.{Op}
 use Rattle.bus_register.specs.declared.registers.SenderNo.{SenderNo}
 use Rattle.bus_register.specs.Words.{register}
@@ -18,6 +18,7 @@ use Rattle.bus_core.specs.Proved.ParticipantTable.{place_for}
 use Rattle.bus_world.specs.Headline.{Action, Promises}
 use Rattle.bus_world.specs.Log.{words_read_from}
 use Rattle.bus_world.specs.Trails.{Takers}
+use Rattle.bus_world.specs.World.{FindsIn, recv_found}
 use Rattle.bus_world.specs.Proved.CyclicProtocols.{CyclicProtocol}
 use Rattle.bus_world.specs.Proved.Floors.{ShowsRing, passed_place}
 
@@ -55,10 +56,9 @@ pub record KeepsPromises {E : Type 0} (X : Election E) (x : Layout) (rows : ℕ)
       → y.senders p ≡ Some c → c.phase ≡ Holding t page stored published → page.floor ≡ floor
   -- which is not past the place of a receiver that has not left
   pub waits : (r : ℕ) (v : Receiving) → y.receivers r ≡ Some v → v.gone ≡ false → floor ≤ v.place
-  -- such a receiver finds at its place the word that was published there
+  -- such a receiver finds with its load the word that was published at its place, or how many were
   pub finds : (r : ℕ) (v : Receiving) → y.receivers r ≡ Some v → v.gone ≡ false
-      → v.place < length L
-      → y.reclamation.words (log_from x rows + v.place % x.capacity) ≡ slice_index L v.place
+      → FindsIn L v (recv_found y.reclamation.words v)
   -- and believes the length that it finds
   pub believes : (r : ℕ) (v : Receiving) → y.receivers r ≡ Some v → v.gone ≡ false
       → y.reclamation.words 0 ≤ v.log_words + v.passed

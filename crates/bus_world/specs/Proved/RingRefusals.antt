@@ -13,23 +13,35 @@ use Rattle.bus_core.specs.Reusing.Participants.{log_from}
 use Rattle.bus_world.specs.Headline.{Action}
 use Rattle.bus_world.specs.Proved.CyclicProtocols.{CyclicProtocol, Led}
 use Rattle.bus_world.specs.Proved.Floors.{passed_place}
+use Rattle.bus_world.specs.World.{recv_found}
 
 pub record RingRefuses {E : Type 0} (X : Election E) (x : Layout) (rows : ℕ)
     (y : CyclicProtocol E) (T : Trails) (D : ℕ → List Action) (H : ℕ → List RecvTurn)
     (L : List ℕ) : Type 0 where
-  -- the cell at the place of a receiver that has not left has another word than was published there
+  -- a receiver that has not left loads another word than was published at its place, or one that
+  -- was not published yet
   pub overwritten : (r : ℕ) (v : Receiving) → y.receivers r ≡ Some v → v.gone ≡ false
-      → v.place < length L
-      → y.reclamation.words (log_from x rows + v.place % x.capacity) ≢ slice_index L v.place
+      → v.place ≢ v.known → recv_found y.reclamation.words v ≢ slice_index L v.place
+      → ¬ Led X x rows y T D H L
+  pub loaded_ahead : (r : ℕ) (v : Receiving) → y.receivers r ≡ Some v → v.gone ≡ false
+      → v.place ≢ v.known → length L ≤ v.place → ¬ Led X x rows y T D H L
+  -- or another length than that of what was published
+  pub another_length : (r : ℕ) (v : Receiving) → y.receivers r ≡ Some v → v.gone ≡ false
+      → v.place ≡ v.known → recv_found y.reclamation.words v ≢ length L
       → ¬ Led X x rows y T D H L
   -- behind it, what such a receiver has still to hear is lost: the cell of a word has another one
   pub lost_behind : (r : ℕ) (v : Receiving) (place : ℕ) → y.receivers r ≡ Some v
       → v.gone ≡ false → v.place ≤ place → place < length L
       → y.reclamation.words (log_from x rows + place % x.capacity) ≢ slice_index L place
       → ¬ Led X x rows y T D H L
-  -- likewise from the floor of a page on, whoever is to hear it
+  -- likewise from the floor of a page on, at home or out, whoever is to hear it
   pub lost_behind_the_floor : (page : Page) (place : ℕ) → y.home ≡ Some page
       → page.floor ≤ place → place < length L
+      → y.reclamation.words (log_from x rows + place % x.capacity) ≢ slice_index L place
+      → ¬ Led X x rows y T D H L
+  pub lost_behind_a_held_floor : (p t : ℕ) (page : Page) (stored : ℕ) (published : Bool)
+      (c : Core E) (place : ℕ) → y.senders p ≡ Some c
+      → c.phase ≡ Holding t page stored published → page.floor ≤ place → place < length L
       → y.reclamation.words (log_from x rows + place % x.capacity) ≢ slice_index L place
       → ¬ Led X x rows y T D H L
   -- the floor of a page is past the place of a receiver that has not left, at home or out

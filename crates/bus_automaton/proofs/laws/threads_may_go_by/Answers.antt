@@ -1,15 +1,15 @@
-use Rattle.std.proofs.Common.{Some, None, refl}
+use Rattle.std.proofs.Common.{◌<◌, Some, None, slice_index, refl, subst, sym}
+use Rattle.bus_world.specs.Log.{first_numbers}
 use Rattle.bus_machine.proofs.Served.{served}
-use Rattle.bus_machine.specs.Playing.{layout_of}
 use Rattle.bus_tenure.specs.Elections.{elections, election_with}
 use Rattle.bus_world.proofs.Serving.{serves}
-use Rattle.bus_automaton.specs.Buses.{process_with, automaton_with}
+use Rattle.bus_automaton.specs.Buses.{process_with, automaton_with, layout_by, plan_passers}
 use Rattle.bus_automaton.proofs.Beginning.{opens}
 use Rattle.bus_automaton.proofs.HandedTells.{handed_tells}
 use Rattle.bus_automaton.proofs.RestingTells.{rest_tells}
-use Rattle.bus_automaton.proofs.ServedPlans.{one_cause_after, is_layout, none_passed}
-use Rattle.bus_automaton.proofs.ServedPlans.{has_rows}
-use Rattle.bus_automaton.proofs.States.{automaton_laws}
+use Rattle.bus_automaton.proofs.ServedPlans.{one_cause_after, is_layout, few_passers}
+use Rattle.bus_automaton.proofs.ServedPlans.{none_apart, as_planned, has_rows}
+use Rattle.bus_automaton.proofs.Owed.{automaton_laws}
 use Rattle.bus_automaton.proofs.Turns.{process_laws}
 use Rattle.bus_automaton.proofs.laws.threads_may_go_by.Goals as goal
 
@@ -43,7 +43,7 @@ returns-clause-rests g c v word laid none going =
 
 pub returns-clause-one_cause : goal.returns-clause-one_cause
 returns-clause-one_cause g c plan page why other r s =
-    one_cause_after plan.shape plan.reuse page why other r s
+    one_cause_after (plan_passers plan) plan.shape plan.reuse page why other r s
 
 pub returns-clause-memory : goal.returns-clause-memory
 returns-clause-memory g c plan None ok are r = ((r, ok, are), tt)
@@ -54,27 +54,36 @@ returns-clause-no_memory g c plan None h may = h.0
 returns-clause-no_memory g c plan (Some page) h may = (h.0, may)
 
 pub returns-clause-numbers : goal.returns-clause-numbers
-returns-clause-numbers g c plan s h = h.2.low s
+returns-clause-numbers g c plan s h = h.2.1 s
 
 pub returns-clause-automaton : goal.returns-clause-automaton
 unfolding process_with automaton_with
 returns-clause-automaton g c plan =
     let P = g.Q.Ratifier.protocol in
     let X = election_with g.Q.Machine.kind_of g.Q.Machine.op g.Q.Machine.fed P in
-    automaton_laws X (elections P plan.shape.rounds) (layout_of P plan.shape plan.reuse)
+    automaton_laws X (elections P plan.shape.rounds) (layout_by P plan)
     (served g.Q.Machine.kind_of g.Q.Machine.op g.Q.Machine.fed P g.met.Q.Machine.names_each_step
     g.met.Q.Ratifier.own_kinds plan.shape
-    (c.election_is_lawful.ensures.lawful.laws plan.shape.rounds) plan.reuse 0)
-    (none_passed P plan.shape plan.reuse) plan.reuse plan.bases
+    (c.election_is_lawful.ensures.lawful.laws plan.shape.rounds) plan.reuse (plan_passers plan))
+    plan.reuse plan.bases (none_apart P plan.shape plan.reuse plan.ring plan.shape.receivers)
+
+pub returns-clause-passers : goal.returns-clause-passers
+unfolding automaton_with
+returns-clause-passers g c plan =
+    as_planned g.Q.Ratifier.protocol plan.shape plan.reuse (plan_passers plan)
 
 pub returns-clause-opens : goal.returns-clause-opens
 unfolding process_with automaton_with
 returns-clause-opens g c plan h =
     let P = g.Q.Ratifier.protocol in
     let X = election_with g.Q.Machine.kind_of g.Q.Machine.op g.Q.Machine.fed P in
-    opens X (layout_of P plan.shape plan.reuse) plan.reuse plan.bases
-    (is_layout P plan.shape plan.reuse h.0) (none_passed P plan.shape plan.reuse)
-    (has_rows plan.shape plan.reuse h.0 h.1) h.2
+    opens X (layout_by P plan) plan.reuse plan.bases
+    (is_layout P plan.shape plan.reuse (plan_passers plan) h.0
+    (few_passers plan.reuse plan.ring plan.shape.receivers h.0.receivers.1))
+    (none_apart P plan.shape plan.reuse plan.ring plan.shape.receivers)
+    (has_rows plan.shape plan.reuse h.0 h.1) h.2.0
+    (λ s. subst (λ n. slice_index plan.bases s < first_numbers n)
+    (sym (as_planned P plan.shape plan.reuse (plan_passers plan))) (h.2.1 s))
 
 pub returns-clause-bases : goal.returns-clause-bases
 unfolding automaton_with

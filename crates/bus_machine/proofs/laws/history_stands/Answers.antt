@@ -3,7 +3,7 @@ use Rattle.bus_tenure.specs.Elections.{elections, election_with}
 use Rattle.bus_world.proofs.Serving.{Serves, serves}
 use Rattle.bus_world.specs.World.{IsLayout}
 use Rattle.bus_machine.proofs.Leading.{Sits}
-use Rattle.bus_machine.proofs.Framed.{finds_words, framed, read_below}
+use Rattle.bus_machine.proofs.Framed.{framed, loads_words, read_below}
 use Rattle.bus_machine.proofs.laws.history_stands.Goals as goal
 
 pub returns : goal.returns
@@ -21,6 +21,6 @@ returns g c senders rounds rows capacity passers ok machine trails same has reac
     } in
     let f = framed X R machine trails t reached in (
       f.stands,
-      finds_words R machine trails f,
+      loads_words R machine trails f,
       λ flat. read_below R machine trails f flat,
     )

@@ -3,7 +3,7 @@ use Rattle.bus_tenure.specs.Elections.{election_with}
 use Rattle.bus_world.specs.Playing.{event_told}
 use Rattle.bus_machine.specs.Machine.{Trails, trails_grown}
 use Rattle.bus_machine.specs.Playing.{Answers, Refused}
-use Rattle.bus_replay.specs.Histories.{Holds}
+use Rattle.bus_replay.specs.Histories.{IsHistoryOf}
 use Rattle.bus_replay.proofs.RepeatLemmas.{when_ok, when_err, not_refused, once, once_more}
 use Rattle.bus_replay.proofs.RepeatLemmas.{at_last}
 use Rattle.bus_replay.proofs.playing.repeat.Goals as goal
@@ -21,8 +21,8 @@ loop-more-init g c =
     once X P e old c.args.history.now (c.args.times - 1) c.in-Ok.answer new.bus new.history
     (when_ok (λ a. Answers X P old e a new.bus) c.in_ok-answer.field-0 c.in-Ok.answer c.in-Ok.is
     c.in_ok-answer.ensures.answered)
-    (when_ok (λ a. (T : Trails) → Holds X P old c.args.history.now T
-    → Holds X P new.bus new.history (trails_grown X old e a T)) c.in_ok-answer.field-0
+    (when_ok (λ a. (T : Trails) → IsHistoryOf X P old c.args.history.now T
+    → IsHistoryOf X P new.bus new.history (trails_grown X old e a T)) c.in_ok-answer.field-0
     c.in-Ok.answer c.in-Ok.is c.in_ok-answer.ensures.noted)
 
 pub step_noted-requires-in-loop-more : goal.step_noted-requires-in-loop-more
@@ -61,8 +61,8 @@ loop-more-preserved g c =
     (omega arith) (sym c.goes_on.ensures ∙ c.if-goes_on.true)
     (when_ok (λ a. Answers X P mid e a new.bus) c.in_ok-answer-2.field-0 c.in-Ok-2.answer
     c.in-Ok-2.is c.in_ok-answer-2.ensures.answered)
-    (when_ok (λ a. (T : Trails) → Holds X P mid kept T
-    → Holds X P new.bus new.history (trails_grown X mid e a T)) c.in_ok-answer-2.field-0
+    (when_ok (λ a. (T : Trails) → IsHistoryOf X P mid kept T
+    → IsHistoryOf X P new.bus new.history (trails_grown X mid e a T)) c.in_ok-answer-2.field-0
     c.in-Ok-2.answer c.in-Ok-2.is c.in_ok-answer-2.ensures.noted)
 
 pub returns-clause-last : goal.returns-clause-last

@@ -2,7 +2,7 @@ use Rattle.std.proofs.Common.{◌<◌, length, sym, ap, subst, ◌∙◌}
 use Rattle.bus_tenure.specs.Elections.{election_with}
 use Rattle.bus_world.specs.Playing.{event_told}
 use Rattle.bus_machine.specs.Machine.{trails_grown}
-use Rattle.bus_replay.specs.Histories.{Holds, kept_after}
+use Rattle.bus_replay.specs.Histories.{IsHistoryOf, kept_after}
 use Rattle.bus_replay.proofs.HistoryLemmas.{capacity_some, log_within, receiver_there, holds_on}
 use Rattle.bus_replay.proofs.playing.step_noted.Goals as goal
 
@@ -32,7 +32,7 @@ returns-clause-noted g c =
     election_with g.Q.Machine.kind_of g.Q.Machine.op g.Q.Machine.fed g.Q.Ratifier.protocol in
     let e = event_told c.args.event.now in
     λ trails held.
-    subst (λ h. Holds X g.Q.Ratifier.protocol c.step.new.self h
+    subst (λ h. IsHistoryOf X g.Q.Ratifier.protocol c.step.new.self h
     (trails_grown X c.args.bus.now e c.in-Ok.answer trails))
     (sym (c.in_ok-note.ensures
     ∙ ap (λ l. kept_after l e c.in-Ok.answer c.args.history.now) c.words.ensures))

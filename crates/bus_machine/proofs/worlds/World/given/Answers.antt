@@ -27,10 +27,12 @@ slice_bounds-read_front-end g c =
     let many : c.args.receiver < length c.self.inside.receivers.items =
     subst (λ y. c.args.receiver < length y.receivers) (sym c.self.view_is) c.requires in
     let own =
-    there c.self.inside.receivers.items c.args.receiver c.index.result.now many c.index.ensures in
-    let place_is : c.place-place.result ≡ c.index.result.now.place = c.place-place.ensures.place in
+    there c.self.inside.receivers.items c.args.receiver c.index-reader.result.now many
+    c.index-reader.ensures in
+    let place_is : c.place-place.result ≡ c.index-reader.result.now.place =
+    c.place-place.ensures.place in
     let log_is = c.deref.ensures.value ∙ c.in_ok-log.ensures in
-    let fits = until_within X R _ s c.self.invariant c.args.receiver c.index.result.now own
+    let fits = until_within X R _ s c.self.invariant c.args.receiver c.index-reader.result.now own
     c.args.self.now c.self.view_is c.place-place.result c.floor.result c.behind-until.result
     c.deref.result.now place_is c.floor.ensures c.behind-until.ensures log_is in
     let size = length-take c.behind-until.result c.deref.result.now in
@@ -49,27 +51,32 @@ returns-in-Ok-clause-answered g c flat trails leads =
     let many : c.args.receiver < length c.self.inside.receivers.items =
     subst (λ y. c.args.receiver < length y.receivers) (sym c.self.view_is) c.requires in
     let own =
-    there c.self.inside.receivers.items c.args.receiver c.index.result.now many c.index.ensures in
-    let place_is : c.place-place.result ≡ c.index.result.now.place = c.place-place.ensures.place in
+    there c.self.inside.receivers.items c.args.receiver c.index-reader.result.now many
+    c.index-reader.ensures in
+    let place_is : c.place-place.result ≡ c.index-reader.result.now.place =
+    c.place-place.ensures.place in
     let log_is = c.deref.ensures.value ∙ c.in_ok-log.ensures in
-    let fits = until_within X R _ s c.self.invariant c.args.receiver c.index.result.now own
+    let fits = until_within X R _ s c.self.invariant c.args.receiver c.index-reader.result.now own
     c.args.self.now c.self.view_is c.place-place.result c.floor.result c.behind-until.result
     c.deref.result.now place_is c.floor.ensures c.behind-until.ensures log_is in
     let first = floor_first c.args.self.now flat in
     let behind = c.behind-until.ensures in
     let floor_is = c.floor.ensures in
-    let until_is : c.behind-until.result ≡ c.index.result.now.place = omega arith in
+    let until_is : c.behind-until.result ≡ c.index-reader.result.now.place = omega arith in
     heard X P R _ s c.self.invariant c.args.self.now c.self.view_is c.args.receiver c.requires _
     (λ frames v lawful words_are here.
     let same = same_Some _ _
-    (sym (subst (λ y. slice_get y.receivers c.args.receiver ≡ Some c.index.result.now)
-    c.self.view_is own) ∙ here) in
-    front_given shape.senders c.behind-until.result frames c.deref.result.now _ _
-    (subst (λ n. AreFrames n frames)
-    (senders_are P shape c.self.inside.reuse c.self.inside.passers)
-    (subst (λ y. AreFrames y.layout.senders frames) (sym c.self.view_is) lawful))
-    (log_is ∙ words_are) fits c.in-Ok.ensures.read
-    ∙ ap (λ k. order_in (take k (log_pieces frames))) (until_is ∙ ap (λ w. w.place) same)) flat
+    (sym (subst (λ y. slice_get y.receivers c.args.receiver ≡ Some c.index-reader.result.now)
+    c.self.view_is own) ∙ here) in (
+      ap (λ o. o.entries)
+          (front_given shape.senders c.behind-until.result frames c.deref.result.now _ _
+          (subst (λ n. AreFrames n frames)
+          (senders_are P shape c.self.inside.reuse c.self.inside.passers)
+          (subst (λ y. AreFrames y.layout.senders frames) (sym c.self.view_is) lawful))
+          (log_is ∙ words_are) fits c.in-Ok.ensures.read
+          ∙ ap (λ k. order_in (take k (log_pieces frames))) (until_is ∙ ap (λ w. w.place) same)),
+      c.has_ended-ended.ensures ∙ ap (λ w. w.ended) same,
+    )) flat
     trails leads
 
 pub returns-in-Ok-clause-stands : goal.returns-in-Ok-clause-stands
@@ -85,23 +92,28 @@ returns-in-Ok-clause-stands g c trails leads =
     let many : c.args.receiver < length c.self.inside.receivers.items =
     subst (λ y. c.args.receiver < length y.receivers) (sym c.self.view_is) c.requires in
     let own =
-    there c.self.inside.receivers.items c.args.receiver c.index.result.now many c.index.ensures in
-    let place_is : c.place-place.result ≡ c.index.result.now.place = c.place-place.ensures.place in
+    there c.self.inside.receivers.items c.args.receiver c.index-reader.result.now many
+    c.index-reader.ensures in
+    let place_is : c.place-place.result ≡ c.index-reader.result.now.place =
+    c.place-place.ensures.place in
     let log_is = c.deref.ensures.value ∙ c.in_ok-log.ensures in
-    let fits = until_within X R _ s c.self.invariant c.args.receiver c.index.result.now own
+    let fits = until_within X R _ s c.self.invariant c.args.receiver c.index-reader.result.now own
     c.args.self.now c.self.view_is c.place-place.result c.floor.result c.behind-until.result
     c.deref.result.now place_is c.floor.ensures c.behind-until.ensures log_is in
     stands X P R _ s c.self.invariant c.args.self.now c.self.view_is c.args.receiver c.requires _
     (λ v rest here lawful words_are.
     let same = same_Some _ _
-    (sym (subst (λ y. slice_get y.receivers c.args.receiver ≡ Some c.index.result.now)
-    c.self.view_is own) ∙ here) in
-    front_given shape.senders c.behind-until.result rest c.deref.result.now _ _
-    (subst (λ n. AreFrames n rest)
-    (senders_are P shape c.self.inside.reuse c.self.inside.passers)
-    (subst (λ y. AreFrames y.layout.senders rest) (sym c.self.view_is) lawful))
-    (log_is ∙ words_are) fits c.in-Ok.ensures.read
-    ∙ ap (λ k. order_in (take k (log_pieces rest)))
-    (c.behind-until.ensures
-    ∙ ap (λ k. k - c.floor.result) (place_is ∙ ap (λ w. w.place) same)
-    ∙ ap (λ k. v.place - k) c.floor.ensures)) trails leads
+    (sym (subst (λ y. slice_get y.receivers c.args.receiver ≡ Some c.index-reader.result.now)
+    c.self.view_is own) ∙ here) in (
+      ap (λ o. o.entries)
+          (front_given shape.senders c.behind-until.result rest c.deref.result.now _ _
+          (subst (λ n. AreFrames n rest)
+          (senders_are P shape c.self.inside.reuse c.self.inside.passers)
+          (subst (λ y. AreFrames y.layout.senders rest) (sym c.self.view_is) lawful))
+          (log_is ∙ words_are) fits c.in-Ok.ensures.read
+          ∙ ap (λ k. order_in (take k (log_pieces rest)))
+          (c.behind-until.ensures
+          ∙ ap (λ k. k - c.floor.result) (place_is ∙ ap (λ w. w.place) same)
+          ∙ ap (λ k. v.place - k) c.floor.ensures)),
+      c.has_ended-ended.ensures ∙ ap (λ w. w.ended) same,
+    )) trails leads

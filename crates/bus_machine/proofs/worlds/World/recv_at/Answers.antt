@@ -1,3 +1,4 @@
+use Rattle.std.proofs.Common.{◌≡◌, Some, slice_get, subst}
 use Rattle.bus_tenure.specs.Elections.{elections, election_with}
 use Rattle.bus_machine.proofs.Served.{served}
 use Rattle.bus_world.proofs.PlayingLaws.{there}
@@ -20,6 +21,9 @@ turn_receiver-requires g c =
     let at = there c.self.inside.receivers.items c.args.receiver c.index_mut-reader.result.now many
     c.index_mut-reader.ensures.value in
     record {
+      stays = c.in_ok-listens.ensures.stays c.index_mut-reader.result.now
+          (subst (λ y. slice_get y.receivers c.args.receiver ≡ Some c.index_mut-reader.result.now)
+          c.self.view_is at);
       within = loads_within X R _ s c.self.invariant c.args.receiver
           c.index_mut-reader.result.now at;
     }

@@ -1,4 +1,4 @@
-use Rattle.std.proofs.Common.{◌≡◌, subst}
+use Rattle.std.proofs.Common.{subst}
 use Rattle.bus_receiver.specs.Listening.{LeavesPlace}
 use Rattle.bus_receiver.proofs.Passing.{written_in_place, ended_in_place}
 use Rattle.bus_receiver.proofs.receivers.Receiver.next_item_in_place.Goals as goal

@@ -1,0 +1,25 @@
+//! What holds of closing lines.
+
+ghost use Rattle.std.specs.Prelude.{◌≡◌, ℕ, List};
+ghost use Rattle.bus_tenure.specs.Elections.{Elector, election_of, layout_with};
+ghost use Rattle.bus_world.specs.World.{IsLayout};
+ghost use Rattle.bus_machine.specs.Machine.{Machine, Trails, Reached};
+ghost use Rattle.bus_machine.specs.Promise.{HasRows};
+ghost use Rattle.bus_replay.specs.Answers.{Closes};
+
+use bus_adoptcommit::Ratifier;
+use bus_ownerbits::laws::election_is_lawful;
+
+/// The closing lines of a bus without passed places, where no word of the log is used again, are
+/// the same by whatever trails led to it: it is the bus that they tell of.
+pub fn closing_lines_are_of_the_bus<Q: Ratifier>()
+    ensures { let X = election_of Q.Ratifier in
+        (senders rounds rows capacity : ℕ)
+        → IsLayout (layout_with Q.protocol senders rounds rows capacity 0)
+        → (bus : Machine (Elector Q)) (trails other : Trails) (text : List ℕ)
+        → bus.layout ≡ layout_with Q.protocol senders rounds rows capacity 0
+        → HasRows bus.reuse → Closes X Q.protocol bus trails text → Reached X bus other
+        → Closes X Q.protocol bus other text }
+{
+    election_is_lawful::<Q>();
+}
