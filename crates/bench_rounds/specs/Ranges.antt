@@ -28,3 +28,4 @@ IsOutOfRange senders receivers messages bytes repetitions rounds (refusal.Count 
 IsOutOfRange senders receivers messages bytes repetitions rounds (refusal.NotNumber word) = ⊥
 IsOutOfRange senders receivers messages bytes repetitions rounds (refusal.OutOfRange word) =
     IsOut senders receivers messages bytes repetitions rounds word
+IsOutOfRange senders receivers messages bytes repetitions rounds refusal.Ring = ⊥

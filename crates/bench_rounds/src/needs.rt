@@ -1,7 +1,7 @@
 //! What a sitting takes of a bus, and whether a bus has it.
 
 ghost use Rattle.std.specs.Prelude.{◌≡◌, ◌-◌, ◌*◌, ◌<◌, ◌≤◌, ◌⊎◌, IfOk, IfErr};
-ghost use Rattle.std.specs.Prelude.{OnOk, OnErr};
+ghost use Rattle.std.specs.Prelude.{None, OnOk, OnErr};
 ghost use Rattle.bus_receiver.specs.Sizes.{batches_of, tenures_of, words_of};
 ghost use Rattle.bus_register.specs.declared.limits.TheConstants.{MOST_RECEIVERS};
 ghost use Rattle.bus_register.specs.declared.limits.TheConstants.{MOST_MESSAGES, MOST_ROUNDS};
@@ -59,6 +59,8 @@ pub struct Load {
     pub repetitions: u64,
     /// Of each binary decision.
     pub rounds: u64,
+    /// So many words of the log, where they are used again.
+    pub ring: Option<u64>,
     ghost few_senders: { senders ≤ MOST_SEND_WORKERS },
     ghost few_receivers: { receivers ≤ MOST_RECEIVERS },
     ghost few_items: { senders * messages ≤ (MOST_TENURES - 1) * MOST_MESSAGES },
@@ -67,6 +69,22 @@ pub struct Load {
 }
 
 impl Load {
+    /// The same over a ring of so many words, or over a log that is none.
+    pub fn over(self, ring: Option<u64>) -> Load
+        ensures ring { result.ring ≡ ring }
+        ensures items { result.senders * result.messages ≡ self.senders * self.messages }
+    {
+        Load {
+            senders: self.senders,
+            receivers: self.receivers,
+            messages: self.messages,
+            size: self.size,
+            repetitions: self.repetitions,
+            rounds: self.rounds,
+            ring,
+        }
+    }
+
     /// How many items each receiver gets.
     pub fn items(self) -> u64
         ensures { result ≡ self.senders * self.messages }
@@ -108,7 +126,8 @@ impl Request {
         u128::from(self.senders) * (self.batches() + u128::from(self.messages) * each) + 2
     }
 
-    /// The measurement, if a round has enough tenures and its bus enough log words for it.
+    /// The measurement, if a round has enough tenures and its bus enough log words for it. It is
+    /// over a log that is no ring.
     pub fn load(self) -> Result<Load, Shortage>
         ensures workers { IfOk result (λ load. (load.senders ≡ self.senders)
             × (load.receivers ≡ self.receivers)) }
@@ -116,6 +135,7 @@ impl Request {
             × (load.size ≡ self.size)) }
         ensures repetitions { IfOk result (λ load. (load.repetitions ≡ self.repetitions)
             × (load.rounds ≡ self.rounds)) }
+        ensures flat { IfOk result (λ load. load.ring ≡ None) }
         ensures fits { OnOk result ((tenures_of self.senders self.messages ≤ MOST_TENURES)
             × (words_of self.senders self.messages (bytes_of self.size) ≤ MOST_LOG_WORDS)) }
         ensures needed { IfErr result
@@ -135,6 +155,7 @@ impl Request {
             size: self.size,
             repetitions: self.repetitions,
             rounds: self.rounds,
+            ring: None,
         })
     }
 }

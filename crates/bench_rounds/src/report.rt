@@ -39,17 +39,19 @@ pub fn bench<R: Print + Threads + Wait + Clock + Sync>(
     }
 }
 
-/// Runs a round for each line of the input, and prints its nanoseconds from the gate's opening.
+/// Runs a round for each line of the input, over a ring of so many words where there is to be one,
+/// and prints its nanoseconds from the gate's opening.
 pub fn serve<R: Input + Print + Threads + Wait + Clock + Sync>(
     rt: &R,
     alloc: Global,
+    ring: Option<u64>,
 ) -> Result<(), Fault> {
     let mut seed: u64 = 0;
     for line in rt.lines(alloc) {
         let Ok(line) = line else {
             return Err(Fault::Read);
         };
-        let load = load_of(line.as_str())?;
+        let load = load_of(line.as_str())?.over(ring);
         let nanoseconds = round(rt, alloc, load, seed)?.from_gate;
         printed(println!(rt; "{nanoseconds}"))?;
         seed = seed.wrapping_add(1);

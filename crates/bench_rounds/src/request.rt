@@ -5,17 +5,19 @@ ghost use Rattle.std.specs.Prelude.{None, IfSome, IfOk, IfErr, OnOk};
 ghost use Rattle.std.specs.Option.{SomeIff};
 ghost use Rattle.std.specs.Str.Parse.{IsNumeral, digits_value};
 ghost use Rattle.bus_register.specs.declared.limits.TheConstants.{MOST_RECEIVERS, MOST_ROUNDS};
+ghost use Rattle.bus_register.specs.declared.limits.TheConstants.{MOST_LOG_WORDS};
 ghost use Rattle.bus_run.specs.declared.limits.TheConstants.{MOST_SEND_WORKERS};
 ghost use Rattle.bench_rounds.specs.declared.request.TheConstants.{MOST_REPETITIONS};
+ghost use Rattle.bench_rounds.specs.declared.request.TheConstants.{LEAST_RING_WORDS};
 ghost use Rattle.bench_rounds.specs.Sizes.{bytes_of};
 
-use bus_register::limits::{MOST_RECEIVERS, MOST_ROUNDS};
+use bus_register::limits::{MOST_FRAME_WORDS, MOST_LOG_WORDS, MOST_RECEIVERS, MOST_ROUNDS};
 use bus_run::limits::{MOST_SEND_WORKERS, ROUNDS};
 use std::fmt;
 
 /// How the program is called.
 pub const USAGE: &str = "usage: bus_bench SENDERS RECEIVERS MESSAGES BYTES REPETITIONS [ROUNDS]
-       bus_bench lines
+       bus_bench lines [ring [WORDS]]
   SENDERS      1 to 8
   RECEIVERS    1 to 8
   MESSAGES     of each sender: 1 or more
@@ -23,8 +25,12 @@ pub const USAGE: &str = "usage: bus_bench SENDERS RECEIVERS MESSAGES BYTES REPET
   REPETITIONS  0 to 10000; with 0 one bus is run and its times are not printed
   ROUNDS       of each decision: 1 to 8, and 4 if left out
 With `lines` it runs a bus for each line `SENDERS RECEIVERS MESSAGES BYTES [ROUNDS]` of standard
-input, and prints its nanoseconds, from when all threads are up to the last item.
+input, and prints its nanoseconds, from when all threads are up to the last item. With `ring` the
+words of its log are used again. It has WORDS of them, 129 to 65536, and 65536 if left out.
 ";
+
+/// Words of a ring: at least 129, so that each batch fits.
+pub const LEAST_RING_WORDS: u64 = MOST_FRAME_WORDS as u64;
 
 /// Rounds whose times are printed: at most 10,000.
 pub const MOST_REPETITIONS: u64 = 10_000;
@@ -62,6 +68,8 @@ pub enum Refusal {
     /// It is not decimal digits alone, or their number passes `u64::MAX`.
     NotNumber(Field),
     OutOfRange(Field),
+    /// The words of a ring are no decimal number of its range.
+    Ring,
 }
 
 impl fmt::Display for Refusal {
@@ -71,6 +79,7 @@ impl fmt::Display for Refusal {
             Refusal::Count(given) => write!(f, "{given} words are given"),
             Refusal::NotNumber(field) => { write!(f, "{field} is not a decimal number below 2^64") }
             Refusal::OutOfRange(field) => write!(f, "{field} is out of range"),
+            Refusal::Ring => write!(f, "WORDS is not a decimal number from 129 to 65536"),
         }
     }
 }
@@ -195,6 +204,26 @@ pub fn parse(words: &[String]) -> Result<Request, Refusal>
         number(words[5].as_str(), Field::Repetitions)?,
         rounds,
     )
+}
+
+/// What the words behind `lines` ask for: a ring of so many words, or none.
+pub fn parse_ring(words: &[String]) -> Result<Option<u64>, Refusal>
+    ensures { IfOk result (λ ring. IfSome ring
+        (λ words. (LEAST_RING_WORDS ≤ words) × (words ≤ MOST_LOG_WORDS))) }
+{
+    let Some(word) = words.get(2) else {
+        return Ok(None);
+    };
+    if word.as_str() != "ring" || words.len() > 4 {
+        return Err(Refusal::Count(words.len().saturating_sub(1)));
+    }
+    let Some(many) = words.get(3) else {
+        return Ok(Some(MOST_LOG_WORDS));
+    };
+    match number_of(many.as_str()) {
+        Some(many) if many >= LEAST_RING_WORDS && many <= MOST_LOG_WORDS => Ok(Some(many)),
+        _ => Err(Refusal::Ring),
+    }
 }
 
 /// The measurement without repetition that a line asks for, by its words.

@@ -35,7 +35,7 @@ fn shape_of(load: Load) -> Shape {
         receivers: load.receivers,
         rounds: load.rounds,
         rows: ROWS,
-        log_words: MOST_LOG_WORDS,
+        log_words: load.ring.unwrap_or(MOST_LOG_WORDS),
     }
 }
 
@@ -46,7 +46,10 @@ pub fn round<R: Threads + Wait + Clock + Sync>(
     load: Load,
     seed: u64,
 ) -> Result<Times, Fault> {
-    let made = Bus::cyclic(alloc, shape_of(load), None)?;
+    let made = match load.ring {
+        Some(_) => Bus::ring(alloc, shape_of(load), None)?,
+        None => Bus::cyclic(alloc, shape_of(load), None)?,
+    };
     round_on::<Brand, R>(rt, alloc, made, load, seed)
 }
 

@@ -9,7 +9,7 @@ use crate::faults::Fault;
 use crate::gates::Gate;
 use crate::needs::Load;
 use bus_batch::Item;
-use bus_pageslot::OfBus;
+use bus_pageslot::{NeverFits, OfBus};
 use bus_receiver::{Found, Heard};
 use bus_register::SenderNo;
 use bus_register::limits::{MOST_BYTES, MOST_MESSAGES};
@@ -58,6 +58,23 @@ impl<B: OfBus> RoundSender<B> {
     pub fn send<W: Wait>(&mut self, wait: &W, the: &TheBus<B>) -> Turn {
         let waiter = Waiter::yielding(wait);
         self.sender.send(&waiter, &the.bus, &mut self.rng)
+    }
+
+    /// The same, of a ring: where there is no room it waits for some, as long as `go_on` says yes.
+    pub fn send_when_room<W: Wait, F: FnMut() -> bool>(
+        &mut self,
+        wait: &W,
+        the: &TheBus<B>,
+        go_on: F,
+    ) -> Option<Turn>
+        requires { F.IsAlwaysCallable go_on }
+    {
+        let waiter = Waiter::yielding(wait);
+        let sender = &mut self.sender;
+        match sender.send_when_room(&waiter, &the.bus, &mut self.rng, go_on) {
+            Ok(turn) => turn,
+            Err(NeverFits) => Some(Turn::Full),
+        }
     }
 
     /// Its sender closes the bus. Says whether the bus is closed.
@@ -184,13 +201,24 @@ impl<B: OfBus, W: Wait> SendRound<'_, B, W> {
             }
             let end = messages.min(first.saturating_add(MOST_MESSAGES as u64));
             put_all(send_worker, first, end, self.load.size.bytes())?;
-            let turn = send_worker.send(self.wait, self.the);
+            let Some(turn) = self.send_batch(send_worker) else {
+                return Ok(());
+            };
             if !matches!(turn, Turn::Delivered { .. }) {
                 let sender = send_worker.number();
                 return Err(Fault::Answer { sender, turn });
             }
         }
         Ok(())
+    }
+
+    /// Sends what waits in its batch. None where the round was given up before.
+    fn send_batch(&self, send_worker: &mut RoundSender<B>) -> Option<Turn> {
+        if self.load.ring.is_none() {
+            return Some(send_worker.send(self.wait, self.the));
+        }
+        let gate = self.gate;
+        send_worker.send_when_room(self.wait, self.the, || !gate.is_given_up())
     }
 }
 
@@ -232,14 +260,18 @@ pub struct HearRound<'a, B: OfBus, R> {
 }
 
 impl<B: OfBus, R: Wait + Clock> Work<RoundReceiver<B>> for HearRound<'_, B, R> {
-    /// Waits at the gate, takes all items, and notes the instant.
+    /// Waits at the gate, takes all items, and notes the instant. A turn more lets a ring know that
+    /// the last frame is passed, so that the close finds room.
     fn work(&self, mut receive_worker: RoundReceiver<B>) -> RoundReceiver<B> {
         if !self.gate.pass(self.rt) {
             return receive_worker;
         }
         match self.take_all(&mut receive_worker) {
             Ok(true) => match Instant::now(self.rt) {
-                Ok(now) => receive_worker.done = Some(now),
+                Ok(now) => {
+                    receive_worker.done = Some(now);
+                    receive_worker.receiver.turn(&self.the.bus);
+                }
                 Err(_) => receive_worker.fault = Some(Fault::Clock),
             },
             Ok(false) => {}

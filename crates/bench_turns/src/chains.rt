@@ -2,6 +2,7 @@
 //! the one before.
 
 use crate::storms::{Load, SHAPES, Sitting, Tale, receivers_of, senders_of, sit_on};
+use crate::turn_receivers::MOST_ITEMS;
 use bus_receiver::{LEAST_ROWS_AGAIN, MOST_ROWS, Page, Shape};
 use bus_register::limits::MOST_MESSAGES;
 use bus_run::buses::Bus;
@@ -24,6 +25,12 @@ const MOST_BATCH: u32 = MOST_MESSAGES as u32;
 /// Words of the log of a sitting that has words for all.
 const LOG_WORDS: u64 = 16_384;
 
+/// Words of a ring: at least so many. A frame has at most 33 of them, as messages have 8 bytes.
+const LEAST_RING_WORDS: u64 = 64;
+
+/// Words of a ring: at most so many.
+const MOST_RING_WORDS: u64 = 4_096;
+
 /// A run under this seed, in at most so many threads, over 2 to 8 rows that are used again: its
 /// senders have at most 31 messages each. `SHAPES` seeds in a row have all shapes. In two of these
 /// runs two senders have 1,500 messages each, for a tenure each. Of two runs in which nobody is to
@@ -37,16 +44,29 @@ pub fn run<R: Threads + Clock + Sync>(
     let mut dice = Pcg32::new(seed, 0);
     let is_long = seed % SHAPES % 32 == LONG_SHAPE;
     let load = with_leavers(first_load(seed, hands, is_long, &mut dice), &mut dice);
+    let load = if is_long {
+        load
+    } else {
+        some_with_ring(load, &mut dice)
+    };
     let is_scarce = !load.is_calm && !is_long && dice.next_u32() % 4 == 0;
     let shape = Shape {
         senders: load.senders,
         receivers: receivers_of(seed),
         rounds: 1 + u64::from(dice.next_u32() % 4),
         rows: some_rows(&mut dice),
-        log_words: if is_scarce { 128 } else { LOG_WORDS },
+        log_words: match load.ring {
+            Some(words) => words,
+            None if is_scarce => 128,
+            None => LOG_WORDS,
+        },
     };
     let is_chain = load.is_calm && dice.next_u32() % 2 == 0;
-    let made = Bus::cyclic(alloc, shape, None)?;
+    let made = if load.ring.is_some() {
+        Bus::ring(alloc, shape, None)?
+    } else {
+        Bus::cyclic(alloc, shape, None)?
+    };
     let first = sit_on::<Brand, R>(rt, alloc, made, load, &mut dice)?;
     if is_chain {
         go_on(rt, alloc, first, load, &mut dice)
@@ -65,6 +85,7 @@ fn first_load(seed: u64, hands: u64, is_long: bool, dice: &mut Pcg32) -> Load {
         is_calm: dice.next_u32() % 4 == 0,
         leavers: 0,
         batch: if is_long { 1 } else { MOST_BATCH },
+        ring: None,
         after: None,
     }
 }
@@ -80,6 +101,23 @@ fn with_leavers(load: Load, dice: &mut Pcg32) -> Load {
     let leavers = u64::from(dice.next_u32()) % most.max(1);
     Load {
         leavers: if dice.next_u32() % 2 == 0 { leavers } else { 0 },
+        ..load
+    }
+}
+
+/// The same, in one sitting of three over a ring, whose words are used up to eight times over.
+fn some_with_ring(load: Load, dice: &mut Pcg32) -> Load {
+    if dice.next_u32() % 3 != 0 {
+        return load;
+    }
+    let more = 1u32 << (dice.next_u32() % 13);
+    let words = LEAST_RING_WORDS + u64::from(dice.next_u32() % more);
+    let words = words.min(MOST_RING_WORDS);
+    let times = 1 + u64::from(dice.next_u32() % 8);
+    let items = (times * words / 2).min(MOST_ITEMS as u64);
+    Load {
+        messages: items / load.senders.max(1),
+        ring: Some(words),
         ..load
     }
 }
@@ -113,8 +151,8 @@ fn go_on<R: Threads + Clock + Sync>(
     Ok(tale)
 }
 
-/// A sitting after this page, over either kind of rows, and with as many senders as this load or
-/// with others.
+/// A sitting after this page, over either kind of rows or over a ring, and with as many senders as
+/// this load or with others.
 fn sit_after<R: Threads + Clock + Sync>(
     rt: &R,
     alloc: Global,
@@ -124,6 +162,11 @@ fn sit_after<R: Threads + Clock + Sync>(
 ) -> anyhow::Result<Sitting> {
     let is_again = dice.next_u32() % 2 == 0;
     let load = next_load(load, page, is_again, dice);
+    let load = if is_again {
+        some_with_ring(load, dice)
+    } else {
+        load
+    };
     let rows = if is_again {
         some_rows(dice)
     } else {
@@ -135,9 +178,11 @@ fn sit_after<R: Threads + Clock + Sync>(
         receivers: receivers_of(u64::from(dice.next_u32())),
         rounds: 1 + u64::from(dice.next_u32() % 4),
         rows,
-        log_words: LOG_WORDS,
+        log_words: load.ring.unwrap_or(LOG_WORDS),
     };
-    let made = if is_again {
+    let made = if load.ring.is_some() {
+        Bus::ring(alloc, shape, Some(&page))?
+    } else if is_again {
         Bus::cyclic(alloc, shape, Some(&page))?
     } else {
         Bus::after(alloc, shape, &page)?
@@ -159,6 +204,7 @@ fn next_load(load: Load, page: Page, is_again: bool, dice: &mut Pcg32) -> Load {
     Load {
         messages: if is_again { few } else { few.min(most) },
         batch: if is_single { 1 } else { MOST_BATCH },
+        ring: None,
         after: Some(page),
         ..next
     }

@@ -1,6 +1,7 @@
 //! A storm: runs of every shape, as many side by side as make up a number of threads.
 
 use crate::chains::run;
+use crate::rings::Rings;
 use crate::storms::{SHAPES, Tale, receivers_of, senders_of};
 use std::alloc::Global;
 use std::thread::Threads;
@@ -25,6 +26,7 @@ pub struct Figures {
     most_tenures: u64,
     chains: u64,
     sittings: u64,
+    pub rings: Rings,
 }
 
 impl Figures {
@@ -46,6 +48,7 @@ impl Figures {
             most_tenures: 0,
             chains: 0,
             sittings: 0,
+            rings: Rings::none(),
         }
     }
 
@@ -68,6 +71,7 @@ impl Figures {
             most_tenures: tale.last_tenure,
             chains: u64::from(is_chain),
             sittings: if is_chain { tale.sittings } else { 0 },
+            rings: tale.rings,
         })
     }
 
@@ -100,6 +104,7 @@ impl Figures {
             most_tenures: self.most_tenures.max(other.most_tenures),
             chains: self.chains.saturating_add(other.chains),
             sittings: self.sittings.saturating_add(other.sittings),
+            rings: self.rings.and(other.rings),
         }
     }
 
@@ -127,7 +132,8 @@ impl Figures {
         println!(rt;
             "  chains of sittings {}, with {} sittings",
             self.chains, self.sittings
-        )
+        )?;
+        self.rings.print(rt)
     }
 }
 

@@ -1,18 +1,14 @@
-//! Workers of a storm: senders and receivers of the bus B, each of which takes one turn a call,
-//! and rests for good after a number of turns.
-
-ghost use Rattle.std.specs.Prelude.{◌≡◌, All};
+//! Senders of a storm, on the bus B: each takes one turn a call, and rests for good after a number
+//! of turns.
 
 use crate::send_workers::TurnSender;
+use crate::storms::Load;
 use bus_pageslot::OfBus;
-use bus_receiver::{Heard, Item, Page, RecvTurn, SenderNo, Turn};
+use bus_receiver::{SenderNo, Turn};
 use bus_register::Kind;
-use bus_register::limits::MOST_SENDERS;
-use bus_run::buses::{Tap, TheBus};
+use bus_run::buses::TheBus;
 use rand_core::Rng;
 use rand_pcg::Pcg32;
-use std::alloc::{AllocError, Global};
-use std::marker::PhantomData;
 
 /// A worker takes no more turns than these.
 pub const MOST_TURNS: u64 = 100_000;
@@ -20,8 +16,8 @@ pub const MOST_TURNS: u64 = 100_000;
 /// Nor more one after another that find nothing to do.
 const MOST_IDLE: u64 = 2_000;
 
-/// Room for all messages of a run.
-const MOST_ITEMS: usize = 3_072;
+/// Of so many looks for room one is left out, and a turn taken.
+const LOOKS: u32 = 32;
 
 /// Why a worker takes no more turns.
 #[derive(Clone, Copy, Debug, PartialEq, Eq)]
@@ -32,6 +28,8 @@ pub enum Rest {
     Refused,
     /// It stopped for good, as the dice fell.
     Stopped,
+    /// It is a receiver that has left.
+    Left,
     /// Its turns were spent.
     GaveUp,
 }
@@ -55,19 +53,26 @@ impl Patience {
         }
     }
 
-    /// As many; but where workers are to stop, for one in four some number below 2,048, more often
-    /// a small one.
+    /// As many; but where workers are to stop, one in four stops.
     pub fn cast(dice: &mut Pcg32, is_calm: bool) -> Patience {
-        let mut patience = Patience::all();
         if !is_calm && dice.next_u32() % 4 == 0 {
-            let most = 1u32 << (dice.next_u32() % 12);
-            patience.stops_in = Some(u64::from(dice.next_u32() % most));
+            Patience::short(dice)
+        } else {
+            Patience::all()
         }
-        patience
+    }
+
+    /// It stops after some number of turns below 2,048, more often a small one.
+    pub fn short(dice: &mut Pcg32) -> Patience {
+        let most = 1u32 << (dice.next_u32() % 12);
+        Patience {
+            stops_in: Some(u64::from(dice.next_u32() % most)),
+            ..Patience::all()
+        }
     }
 
     /// Takes a turn off, or says why none is left.
-    fn spend(&mut self) -> Option<Rest> {
+    pub fn spend(&mut self) -> Option<Rest> {
         if self.stops_in == Some(0) {
             return Some(Rest::Stopped);
         }
@@ -80,7 +85,7 @@ impl Patience {
     }
 
     /// The turn has found something to do, or nothing.
-    fn note(&mut self, is_idle: bool) {
+    pub fn note(&mut self, is_idle: bool) {
         self.idle = if is_idle {
             self.idle.saturating_sub(1)
         } else {
@@ -137,6 +142,13 @@ pub struct Teller<B: OfBus> {
     pub has_asked: bool,
     /// It has left, by what it was answered.
     pub has_left: bool,
+    /// So many turns were answered Full, of a ring.
+    pub fulls: u64,
+    /// Of a ring: it was answered Full, and its batch was not sent since.
+    pub lacks_room: bool,
+    /// Of a ring: it looks for room, and takes no turn.
+    is_looking: bool,
+    is_ring: bool,
     messages: u64,
     /// It leaves once no more of its messages are left; None where it stays.
     leaves_at: Option<u64>,
@@ -146,12 +158,12 @@ pub struct Teller<B: OfBus> {
 }
 
 impl<B: OfBus> Teller<B> {
-    /// A sender of so many messages, in batches of at most so many, that has not begun. It leaves
-    /// once no more of them are left than the first number in `leaves_at`, if it leaves.
+    /// A sender of this load that has not begun. It leaves once no more of its messages are left
+    /// than `leaves_at`, if it leaves.
     pub fn new(
         send_worker: TurnSender<B>,
-        (messages, leaves_at): (u64, Option<u64>),
-        batch: u32,
+        load: &Load,
+        leaves_at: Option<u64>,
         patience: Patience,
     ) -> Teller<B> {
         let delivered = send_worker.sender.next_number();
@@ -164,9 +176,13 @@ impl<B: OfBus> Teller<B> {
             behinds: 0,
             has_asked: false,
             has_left: false,
-            messages,
+            fulls: 0,
+            lacks_room: false,
+            is_looking: false,
+            is_ring: load.ring.is_some(),
+            messages: load.messages,
             leaves_at,
-            batch: batch.max(1),
+            batch: load.batch.max(1),
             patience,
         }
     }
@@ -192,14 +208,40 @@ impl<B: OfBus> Teller<B> {
         if self.rest.is_some() {
             return false;
         }
+        if self.is_looking && !self.finds_room(the, dice) {
+            self.patience.note(true);
+            return true;
+        }
         if self.send_worker.sender.pending() == 0 {
             self.go_on(dice);
         }
         let turn = self.send_worker.sender.turn(&the.bus, dice.next_u32());
         self.take_in(turn);
         let waits = matches!(turn, Turn::Waiting | Turn::Behind { .. });
-        self.patience.note(waits);
+        if waits || !self.lacks_room {
+            self.patience.note(waits);
+        }
         waits
+    }
+
+    /// A look finds room, or is left out.
+    fn finds_room(&mut self, the: &TheBus<B>, dice: &mut Pcg32) -> bool {
+        self.is_looking = dice.next_u32() % LOOKS != 0 && !self.has_room(the);
+        !self.is_looking
+    }
+
+    /// A look for room.
+    pub fn has_room(&mut self, the: &TheBus<B>) -> bool {
+        self.send_worker.sender.has_room(&the.bus)
+    }
+
+    /// How many words the frame has that is to be sent: each message has two.
+    pub fn frame_words(&self) -> u64 {
+        let pending = self.send_worker.sender.pending();
+        if pending == 0 {
+            return 2;
+        }
+        pending.saturating_mul(2).saturating_add(1)
     }
 
     /// Asks to leave where it is to, and else puts what it has.
@@ -227,12 +269,20 @@ impl<B: OfBus> Teller<B> {
             Turn::Own { .. } => self.has_page = true,
             Turn::Delivered { last, .. } => {
                 self.has_page = false;
+                self.lacks_room = false;
                 self.delivered = last.saturating_add(1);
             }
             Turn::Left { .. } => {
                 self.has_page = false;
+                self.lacks_room = false;
                 self.has_left = true;
                 self.rest = Some(Rest::Done);
+            }
+            Turn::Full if self.is_ring => {
+                self.has_page = false;
+                self.lacks_room = true;
+                self.is_looking = true;
+                self.fulls = self.fulls.saturating_add(1);
             }
             Turn::Full | Turn::Closed | Turn::Spent => {
                 self.has_page = false;
@@ -258,110 +308,4 @@ impl<B: OfBus> Teller<B> {
         }
         true
     }
-}
-
-/// A receiver of the bus B, with all that it was given.
-#[derive(Drop)]
-pub struct TurnReceiver<B: OfBus> {
-    pub tap: Tap,
-    pub heard: Heard,
-    pub items: Vec<Item>,
-    /// Who left, by what it was given, and after how many items.
-    pub left: Vec<(SenderNo, u64)>,
-    pub rest: Option<Rest>,
-    /// Each answer could follow those before it, and there was room for it.
-    pub is_sound: bool,
-    patience: Patience,
-    of: PhantomData<B>,
-    ghost of_bus: { tap.table_id ≡ B.table },
-}
-
-impl<B: OfBus> TurnReceiver<B> {
-    /// A receiver that has not begun, of the sitting that goes on after this page.
-    pub fn new(
-        alloc: Global,
-        tap: Tap,
-        patience: Patience,
-        after: Option<&Page>,
-    ) -> Result<TurnReceiver<B>, AllocError>
-        requires { tap.table_id ≡ B.table }
-    {
-        let heard = match after {
-            Some(page) => Heard::after(page),
-            None => Heard::new(),
-        };
-        Ok(TurnReceiver {
-            tap,
-            heard,
-            items: Vec::with_capacity(alloc, MOST_ITEMS)?,
-            left: Vec::with_capacity(alloc, MOST_SENDERS)?,
-            rest: None,
-            is_sound: true,
-            patience,
-            of: PhantomData,
-        })
-    }
-
-    /// One turn, unless it rests. Says whether there was nothing to do.
-    pub fn turn(&mut self, the: &TheBus<B>) -> bool {
-        self.rest = self.patience.spend();
-        self.rest.is_none() && self.hear(the)
-    }
-
-    /// A turn of its receiver. Says whether nothing was found.
-    fn hear(&mut self, the: &TheBus<B>) -> bool {
-        let turn = self.tap.turn(&the.bus);
-        self.is_sound &= self.heard.note(&turn);
-        let is_idle = turn == RecvTurn::Empty;
-        match turn {
-            RecvTurn::Item(item) => self.is_sound &= self.items.push(item).is_ok(),
-            RecvTurn::Leave(sender) => {
-                let behind = self.items.len() as u64;
-                self.is_sound &= self.left.push((sender, behind)).is_ok();
-            }
-            RecvTurn::End => self.rest = Some(Rest::Done),
-            RecvTurn::Empty | RecvTurn::Going | RecvTurn::Head { .. } => {}
-        }
-        self.patience.note(is_idle);
-        is_idle
-    }
-
-    /// Unless it stopped, it goes on to the end of the log.
-    pub fn catch_up(&mut self, the: &TheBus<B>) {
-        for _ in 0..MOST_TURNS {
-            if matches!(self.rest, Some(Rest::Stopped | Rest::Done)) || self.hear(the) {
-                return;
-            }
-        }
-    }
-
-    /// The words of the log, each by a load.
-    pub fn words(&mut self, alloc: Global, the: &TheBus<B>) -> Result<Vec<u64>, AllocError> {
-        let mut words = Vec::new(alloc);
-        let length = self.tap.load_length(&the.bus);
-        for place in 0..length {
-            if place < self.tap.known() {
-                words.push(self.tap.load_word(&the.bus, place))?;
-            }
-        }
-        Ok(words)
-    }
-}
-
-/// A worker for each receiver, in order, of the sitting that goes on after this page.
-pub fn turn_receivers_of<B: OfBus>(
-    alloc: Global,
-    taps: Vec<Tap>,
-    dice: &mut Pcg32,
-    is_calm: bool,
-    after: Option<&Page>,
-) -> Result<Vec<TurnReceiver<B>>, AllocError>
-    requires { All (λ tap. tap.table_id ≡ B.table) taps.items }
-{
-    let mut receive_workers = Vec::with_capacity(alloc, taps.len())?;
-    for tap in taps {
-        let patience = Patience::cast(dice, is_calm);
-        receive_workers.push(TurnReceiver::new(alloc, tap, patience, after)?)?;
-    }
-    Ok(receive_workers)
 }

@@ -7,7 +7,7 @@
 
 use bench_rounds::faults::Fault;
 use bench_rounds::report::{bench, serve};
-use bench_rounds::request::{Refusal, USAGE, parse};
+use bench_rounds::request::{Refusal, USAGE, parse, parse_ring};
 use std::io::Input;
 use std::process::ExitCode;
 use std::rt::Env;
@@ -32,10 +32,13 @@ fn bus_bench<R: AllocGlobal + Env + Input + Print + Eprint + Threads + Wait + Cl
         }
         Err(_) => return refuse(rt, Refusal::NotText),
     };
-    if let [_, word] = words.as_slice()
+    if let Some(word) = words.get(1)
         && word.as_str() == "lines"
     {
-        return end(rt, serve(rt, rt.alloc()));
+        return match parse_ring(words.as_slice()) {
+            Ok(ring) => end(rt, serve(rt, rt.alloc(), ring)),
+            Err(refusal) => refuse(rt, refusal),
+        };
     }
     match parse(words.as_slice()) {
         Ok(request) => match request.load() {

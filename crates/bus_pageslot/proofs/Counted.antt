@@ -24,12 +24,12 @@ use Rattle.bus_world.specs.Trails.{step_action}
 use Rattle.bus_automaton.specs.Buses.{process_with}
 use Rattle.bus_automaton.specs.Lawful.{ProcessLaws}
 use Rattle.bus_automaton.specs.OneProcess.{entries, adds_by}
-use Rattle.bus_automaton.specs.Processes.{TableLayout, Process}
+use Rattle.bus_automaton.specs.Processes.{TableLayout, Process, log_cell, passed_word}
 use Rattle.bus_automaton.specs.SenderTrails.{SenderTrail, with_sender_trail}
 use Rattle.bus_pageslot.specs.declared.rule.View.{View}
 use Rattle.bus_pageslot.specs.declared.rule.View.TheVariants.{Maker, Sender, Tap, Meeting, Telling}
 use Rattle.bus_pageslot.specs.declared.rule.View.TheVariants.{Spent}
-use Rattle.bus_pageslot.specs.Listening.{Hears, due_load}
+use Rattle.bus_pageslot.specs.Listening.{Hears, PassIsDue, due_load}
 use Rattle.bus_pageslot.specs.ReceiverViews.{ReceiverView}
 use Rattle.bus_pageslot.specs.Rule.{Sat, sender_trail_in, receiver_view_in}
 use Rattle.bus_pageslot.specs.Seats.{SenderSeat, Took, sender_trail_of}
@@ -162,44 +162,63 @@ module _ {C : Type 0} (P : Process C) (one : CountsOne P) where
       let step = one old.core took.found word o due in
       omega arith
 
--- ---- a load is one
-pub hears_counted :
-    {C : Type 0} (x : TableLayout) (e : ReceiverView) (answer : RecvTurn) (m : Sat C)
-    → e.ended ≡ false → e.place ≤ length e.known → Hears (Tap x e, []) answer m
-    → steps_shown m.0 ≡ length e.loads + 1
-hears_counted {C} x e answer m going within h = elim (cases_lt e.place (length e.known)) [
-  | inl l ↦
-      ap (λ (y : Sat C). steps_shown y.0) (h.at_word going l).finds.now
-      ∙ length-append e.loads ((x.log + e.place) ∷ [])
-  | inr l ↦
-      ap (λ (y : Sat C). steps_shown y.0) (h.at_length going (omega arith)).finds.now
-      ∙ length-append e.loads (length_at ∷ [])
-]
+-- ---- a step of a receiver is one
+-- a turn that stores its place notes its passed place
+pub passes_noted : {C : Type 0} (x : TableLayout) (e : ReceiverView) (answer : RecvTurn)
+    (m : Sat C) → e.ended ≡ false → PassIsDue x e → Hears (Tap x e, []) answer m
+    → (receiver_view_in m.0).loads ≡ e.loads ++ passed_word x e.me ∷ []
+passes_noted {C} x e answer m going due h =
+    ap (λ (y : Sat C). (receiver_view_in y.0).loads) (h.at_pass going due).1
 
 -- and the word that it is of is noted
 due_at_length : (x : TableLayout) (e : ReceiverView) → e.place ≡ length e.known
     → due_load x e ≡ length_at
 due_at_length x e same = elim (eqb_tells e.place (length e.known)) [
-  | inl i ↦ ap (λ b. cond b length_at (x.log + e.place)) i.0
+  | inl i ↦ ap (λ b. cond b length_at (log_cell x e.place)) i.0
   | inr i ↦ absurd (i.1 same)
 ]
 
 due_at_word : (x : TableLayout) (e : ReceiverView) → e.place < length e.known
-    → due_load x e ≡ x.log + e.place
+    → due_load x e ≡ log_cell x e.place
 due_at_word x e below = elim (eqb_tells e.place (length e.known)) [
   | inl i ↦ absurd (let same = i.1 in omega (arith, below))
-  | inr i ↦ ap (λ b. cond b length_at (x.log + e.place)) i.0
+  | inr i ↦ ap (λ b. cond b length_at (log_cell x e.place)) i.0
 ]
 
 pub hears_noted : {C : Type 0} (x : TableLayout) (e : ReceiverView) (answer : RecvTurn) (m : Sat C)
-    → e.ended ≡ false → e.place ≤ length e.known → Hears (Tap x e, []) answer m
+    → e.ended ≡ false → (PassIsDue x e → ⊥) → e.place ≤ length e.known
+    → Hears (Tap x e, []) answer m
     → (receiver_view_in m.0).loads ≡ e.loads ++ due_load x e ∷ []
-hears_noted {C} x e answer m going within h = elim (cases_lt e.place (length e.known)) [
+hears_noted {C} x e answer m going not_due within h = elim (cases_lt e.place (length e.known)) [
   | inl l ↦
-      ap (λ (y : Sat C). (receiver_view_in y.0).loads) (h.at_word going l).finds.now
+      ap (λ (y : Sat C). (receiver_view_in y.0).loads) (h.at_word going not_due l).finds.now
       ∙ ap (λ w. e.loads ++ w ∷ []) (sym (due_at_word x e l))
   | inr l ↦
       let same : e.place ≡ length e.known = omega arith in
-      ap (λ (y : Sat C). (receiver_view_in y.0).loads) (h.at_length going same).finds.now
+      ap (λ (y : Sat C). (receiver_view_in y.0).loads) (h.at_length going not_due same).finds.now
       ∙ ap (λ w. e.loads ++ w ∷ []) (sym (due_at_length x e same))
 ]
+
+-- whichever it is, its seat shows one step more
+pub hears_counted :
+    {C : Type 0} (x : TableLayout) (e : ReceiverView) (answer : RecvTurn) (m : Sat C)
+    → e.ended ≡ false → e.place ≤ length e.known → Hears (Tap x e, []) answer m
+    → steps_shown m.0 ≡ length e.loads + 1
+hears_counted {C} x e answer m going within h =
+    let not_due_counts : (PassIsDue x e → ⊥) → steps_shown m.0 ≡ length e.loads + 1 = λ not_due.
+    elim (cases_lt e.place (length e.known)) [
+      | inl l ↦
+          ap (λ (y : Sat C). steps_shown y.0) (h.at_word going not_due l).finds.now
+          ∙ length-append e.loads ((log_cell x e.place) ∷ [])
+      | inr l ↦
+          let same : e.place ≡ length e.known = omega arith in
+          ap (λ (y : Sat C). steps_shown y.0) (h.at_length going not_due same).finds.now
+          ∙ length-append e.loads (length_at ∷ [])
+    ] in
+    let due_counts : PassIsDue x e → steps_shown m.0 ≡ length e.loads + 1 = λ due.
+    ap (λ (y : Sat C). steps_shown y.0) (h.at_pass going due).1
+    ∙ length-append e.loads ((passed_word x e.me) ∷ []) in
+    elim (eqb_tells (steps_shown m.0) (length e.loads + 1)) [
+      | inl same ↦ same.1
+      | inr other ↦ absurd (other.1 (not_due_counts (λ due. other.1 (due_counts due))))
+    ]

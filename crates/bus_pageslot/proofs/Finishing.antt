@@ -32,7 +32,7 @@ use Rattle.bus_core.specs.Causes.{HasCause, HasRowReady, LooksAgain}
 use Rattle.bus_core.specs.Places.{LiesAt}
 use Rattle.bus_register.specs.Words.{register}
 use Rattle.bus_automaton.specs.Buses.{process_with}
-use Rattle.bus_automaton.specs.Processes.{Process, IsCounted}
+use Rattle.bus_automaton.specs.Processes.{Process}
 use Rattle.bus_pageslot.specs.Seats.{SenderSeat}
 use Rattle.bus_pageslot.specs.Turns.{Tellings, Turned, TurnsOn, Here, More, tells_with}
 use Rattle.bus_pageslot.specs.Sendings.{KeptAfter}
@@ -177,12 +177,6 @@ kept_end (turn.Own t) e s = absurd (true≢false (sym e))
 kept_end turn.Spent e s = absurd (true≢false (sym e))
 kept_end (turn.Behind t p) e s = absurd (true≢false (sym e))
 
--- a sender that keeps its numbers in range has a bus without passed places
-pub none_passed : {C : Type 0} (P : Process C) (s d : SenderSeat C) → s ≡ d → IsCounted P s.core
-    → (P.table_layout d.core).passers ≡ 0
-none_passed {C} P s d same h =
-    subst (λ (y : SenderSeat C). (P.table_layout y.core).passers ≡ 0) same h.passers
-
 module _ {S : Type 0} (kind_of : S → Option Kind) (op : S → ℕ → Option Op) (fed : S → ℕ → ℕ → S)
     (Q : Protocol S Bool Verdict) where
   abbrev P : Process (Sender (Elector S))
@@ -198,7 +192,6 @@ module _ {S : Type 0} (kind_of : S → Option Kind) (op : S → ℕ → Option O
   pub turned_begun : (bound : ℕ → ℕ → ℕ) → IsBounded X bound
       → (old : SenderSeat (Sender (Elector S))) (word : ℕ) (a : Turn)
       (new : SenderSeat (Sender (Elector S))) → Turned P T old word a new
-      → (P.table_layout old.core).passers ≡ 0
       → IsSome (tenure_begun old.core)
       → (HasElection old.core.core.phase → 1 ≤ P.turns_left old.core)
       → IfSome (P.kind old.core) (HasCause Q old.core)
@@ -206,7 +199,7 @@ module _ {S : Type 0} (kind_of : S → Option Kind) (op : S → ℕ → Option O
       (λ o. LiesAt old.core (situation X old.core) (register o))
       → IsTurn X old.core a new.core
   unfolding process_with tells_with
-  turned_begun bound bounded old word a new turned none begun running caused lies =
+  turned_begun bound bounded old word a new turned begun running caused lies =
       by (P.op old.core word) refl
     where
       by : (o : Option Op) → P.op old.core word ≡ o → IsTurn X old.core a new.core
@@ -220,7 +213,7 @@ module _ {S : Type 0} (kind_of : S → Option Kind) (op : S → ℕ → Option O
           subst (λ y. FeedTells X old.core took.got word y) took.answer told.tells in
           subst (λ (y : Turn × Sender (Elector S)). IsTurn X old.core y.0 y.1)
           (λ i. (sym took.answer i, sym took.core i))
-          (turn_begun X old.core took.home took.got word begun none running
+          (turn_begun X old.core took.home took.got word begun running
           (λ k. looks_rested old.core (subst (λ y. IfSome y (HasCause Q old.core)) k caused))
           (λ k. gives_away old.core.core old.core.reuse
           (subst (λ y. IfSome y (HasCause Q old.core)) k caused).1)

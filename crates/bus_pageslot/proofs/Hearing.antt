@@ -25,7 +25,8 @@ use Rattle.bus_world.proofs.HearTrails.{more_order, given_more, heads_more, orde
 use Rattle.bus_world.proofs.HearTrails.{owners_more, entry_told, end_told, head_told}
 use Rattle.bus_world.proofs.Places.{got_split}
 use Rattle.bus_world.proofs.ReceivingLaws.{length-log_pieces, given_is_prefix}
-use Rattle.bus_pageslot.specs.ReceiverViews.{ReceiverView, new_receiver_view}
+use Rattle.bus_pageslot.specs.ReceiverViews.{ReceiverView, new_receiver_view, passed_on}
+use Rattle.bus_pageslot.specs.ReceiverViews.{left_for_good}
 use Rattle.bus_pageslot.specs.ReceiverViews.{receiver_view_after_load, receiver_view_knowing}
 use Rattle.bus_pageslot.specs.ReceiverViews.{heard_length, heard_word, length_turn, IsSilent}
 use Rattle.bus_pageslot.specs.ReceiverViews.{HasHeard, Begins, Agree}
@@ -52,8 +53,8 @@ silent_more trail answer goes j k a at l here = elim (got_split trail (answer �
 
 -- ---- one receiver
 module _ (frames : List Frame) where
-  pub heard_new : HasHeard frames new_receiver_view
-  heard_new = record {
+  pub heard_new : (me : ℕ) → HasHeard frames (new_receiver_view me)
+  heard_new me = record {
     given_is = refl;
     heads_are = refl;
     ended_is = refl;
@@ -99,6 +100,26 @@ module _ (frames : List Frame) where
           ended_is = h.ended_is ∙ ap (λ (z : Order). z.ended) (sym same);
           silent = silent_more e.answers answer (sym h.ended_is ∙ going);
         }
+
+    -- it has passed, which tells nothing
+    pub heard_passed : (word : ℕ) → e.ended ≡ false → HasHeard frames (passed_on e word)
+    heard_passed word going =
+        let q = quiet e.known turn.Going going refl refl refl in
+        record {
+          given_is = q.given_is;
+          heads_are = q.heads_are;
+          ended_is = q.ended_is;
+          silent = q.silent;
+        }
+
+    -- or has left
+    pub heard_left : (word : ℕ) → HasHeard frames (left_for_good e word)
+    heard_left word = record {
+      given_is = h.given_is;
+      heads_are = h.heads_are;
+      ended_is = h.ended_is;
+      silent = h.silent;
+    }
 
     quiet_if : (b : Bool) (known : List ℕ) → e.ended ≡ false
         → HasHeard frames (heard_length e known (cond b turn.Empty turn.Going))

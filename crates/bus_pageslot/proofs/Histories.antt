@@ -1,12 +1,12 @@
 -- What stands behind a table: a machine, and what led to it.
 use Rattle.std.proofs.Common.{◌≡◌, ◌⊎◌, ℕ, ◌<◌, Bool, Option, Some, None, List, slice_index, inl}
-use Rattle.std.proofs.Common.{inr, ap, ◌∙◌}
+use Rattle.std.proofs.Common.{inr, ap, drop, sym, subst, ◌∙◌}
 use mathlib.Core.Option.{some}
 use lib.ListN.{get_elem?}
 use Rattle.atomic_table.specs.Table.{State}
 use Rattle.bus_adoptcommit.specs.declared.verdicts.Verdict.{Verdict}
 use Rattle.bus_core.specs.Senders.{Sender}
-use Rattle.bus_machine.specs.Playing.{layout_of}
+use Rattle.bus_machine.specs.Playing.{layout_passed}
 use Rattle.bus_machine.specs.Bounding.{AreBounded, PinsAreBounded}
 use Rattle.bus_machine.specs.Promise.{IsPromised}
 use Rattle.bus_machine.specs.Telling.{LossesAreSeen}
@@ -18,8 +18,8 @@ use Rattle.bus_tenure.specs.Core.{Election, Layout}
 use Rattle.bus_tenure.specs.Elections.{Elector, election_with, layout_with}
 use Rattle.bus_tenure.specs.declared.pages.Page.{Page}
 use Rattle.bus_world.specs.declared.shapes.Shape.{Shape}
-use Rattle.bus_automaton.specs.Buses.{process_with, automaton_with}
-use Rattle.bus_automaton.specs.Lawful.{AutomatonLaws}
+use Rattle.bus_automaton.specs.Buses.{process_with, automaton_with, layout_by, plan_passers}
+use Rattle.bus_automaton.specs.Lawful.{AutomatonLaws, HasLog, floor_in, log_from_floor}
 use Rattle.bus_automaton.specs.OneAutomaton.{bus_of, trail_of}
 use Rattle.bus_automaton.specs.OneProcess.{process_of, table_layout_by}
 use Rattle.bus_automaton.specs.Processes.{log_below}
@@ -37,7 +37,7 @@ module _ {S : Type 0} (kind_of : S → Option Kind) (op : S → ℕ → Option O
   elector = election_with kind_of op fed Q
 
   abbrev pub sizes : Layout
-  sizes = layout_of Q plan.shape plan.reuse
+  sizes = layout_by Q plan
 
   pub rule_is : (s : State (Option Page) (View (Sender (Elector S))))
       → TableInvariant (process_with kind_of op fed Q) (automaton_with kind_of op fed Q plan) s
@@ -52,11 +52,20 @@ module _ {S : Type 0} (kind_of : S → Option Kind) (op : S → ℕ → Option O
   laws_are h = h
 
 -- what is so of all sizes is so of those of a shape
+sized_at : {S : Type 0} (Q : Protocol S Bool Verdict) (G : Layout → Type 0)
+    → ((senders rounds rows capacity passers : ℕ)
+    → G (layout_with Q senders rounds rows capacity passers))
+    → (shape : Shape) (reuse : Option ℕ) (passers : ℕ) → G (layout_passed Q shape reuse passers)
+sized_at Q G h shape None passers =
+    h shape.senders shape.rounds shape.rows shape.log_words passers
+sized_at Q G h shape (Some rows) passers =
+    h shape.senders shape.rounds TENURES shape.log_words passers
+
 pub sized : {S : Type 0} (Q : Protocol S Bool Verdict) (G : Layout → Type 0)
-    → ((senders rounds rows capacity : ℕ) → G (layout_with Q senders rounds rows capacity 0))
-    → (shape : Shape) (reuse : Option ℕ) → G (layout_of Q shape reuse)
-sized Q G h shape None = h shape.senders shape.rounds shape.rows shape.log_words
-sized Q G h shape (Some rows) = h shape.senders shape.rounds TENURES shape.log_words
+    → ((senders rounds rows capacity passers : ℕ)
+    → G (layout_with Q senders rounds rows capacity passers))
+    → (plan : Plan) → G (layout_by Q plan)
+sized Q G h plan = sized_at Q G h plan.shape plan.reuse (plan_passers plan)
 
 -- ---- of a table of which the rule holds
 module _ {E : Type 0} (X : Election E) (x : Layout) (reuse : Option ℕ) (bases : List ℕ)
@@ -102,9 +111,9 @@ module _ {E : Type 0} (X : Election E) (x : Layout) (reuse : Option ℕ) (bases 
       × LossesAreSeen r.state.machine r.state.trails.actions
       → AreBounded X (most x.senders x.rounds) r.state.machine r.state.trails
       × PinsAreBounded r.state.trails
-      → log_below (table_layout_by x reuse) r.state.machine.words ≡ r.state.trails.log
+      → HasLog (bus_of X x reuse bases) r.state
       → HasHistory X x reuse bases most s
-  has_history most h bounded stands = record {
+  has_history most h bounded log = record {
     history = r.state;
     reached = r.reached;
     words = r.words;
@@ -112,7 +121,11 @@ module _ {E : Type 0} (X : Election E) (x : Layout) (reuse : Option ℕ) (bases 
     senders = λ j v sender_trail is. (seated j v sender_trail is).1.core;
     trails = λ j v sender_trail is. (seated j v sender_trail is).1.sender_trail_is;
     all = λ p below. let a = r.all p below in shows p a.0 a.1 a.2 a.3 below;
-    stands = ap (log_below (table_layout_by x reuse)) r.words ∙ stands;
+    shows = subst
+        (λ ws. log_from_floor (table_layout_by x reuse) ws
+        ≡ drop (floor_in (table_layout_by x reuse) ws) r.state.trails.log)
+        (sym r.words) log.shows;
+    stands = λ flat. ap (log_below (table_layout_by x reuse)) r.words ∙ log.stands flat;
     promised = h.0;
     losses = h.1;
     bounded = bounded;

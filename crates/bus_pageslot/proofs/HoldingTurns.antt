@@ -16,6 +16,7 @@ use Rattle.bus_tenure.specs.Situations.{Situation as Own, IsClosed, IsIdle, IsSp
 use Rattle.bus_tenure.specs.Situations.{Elects, TakesPage, AwaitsPage, StoresWord, StoresLength}
 use Rattle.bus_tenure.specs.Situations.{GivesBack, HasHanded, situation_of, situation_at}
 use Rattle.bus_tenure.specs.Situations.{core_at_rest, answer_sent, answer_of_return, Comes}
+use Rattle.bus_tenure.specs.Situations.{core_floored, phase_floored, lesser}
 use Rattle.bus_tenure.specs.declared.pages.Page.{Page}
 use Rattle.bus_tenure.specs.declared.phases.Phase.{Phase}
 use Rattle.bus_tenure.specs.declared.phases.Phase.TheVariants.{Resting, Electing, Taken, Holding}
@@ -30,16 +31,20 @@ use Rattle.bus_core.specs.Reusing.Turns.{answer_of_reclaim, tenure_begun_by}
 use Rattle.bus_core.specs.Seen.{tenure_begun}
 use Rattle.bus_core.specs.Senders.{Sender, Situation, Does, Announces, Validates, Unpins, Withdraws}
 use Rattle.bus_core.specs.Senders.{Scans, Clears, ReadsPassed, situation, participant_of}
-use Rattle.bus_core.specs.Table.{line, line_now, reuse_taken, reuse_given, reuse_reclaiming}
+use Rattle.bus_core.specs.Table.{line, line_now, reuse_taken, reuse_given, reuse_passed}
+use Rattle.bus_core.specs.Table.{reuse_reclaiming}
 use Rattle.bus_core.specs.Telling.{FeedTells, HasBegunNone}
 use Rattle.bus_core.specs.declared.reuses.Reuse.{Reuse}
-use Rattle.bus_core.proofs.Situated.{situation_tells, own_is, never_passes, Reclaims}
+use Rattle.bus_core.proofs.Situated.{IsCalm, Passes, Reclaims, situation_tells, own_is}
+use Rattle.bus_core.specs.Reusing.Passing.{core_passed, passing_fed}
+use Rattle.bus_core.specs.declared.reuses.Passing.{Passing}
 use Rattle.bus_machine.specs.Machine.{moved}
 use Rattle.bus_world.specs.Turning.{core_with_page, after_step}
 use Rattle.bus_register.specs.declared.registers.Op.{Op}
 use Rattle.bus_core.specs.Causes.{LeavesTenure}
 use Rattle.bus_core.specs.Places.{LiesAt, StandsIn}
 use Rattle.bus_register.specs.Words.{register}
+use Rattle.bus_register.specs.declared.limits.TheConstants.{NUMBERS}
 use Rattle.bus_pageslot.specs.Finishing.{turns_to_return, turns_to_clear, turns_in, turns_of_pin}
 use Rattle.bus_pageslot.specs.Finishing.{turns_to_finish, ends_tenure, StaysOrEnds}
 use Rattle.bus_pageslot.proofs.TurnsLeft as turns
@@ -237,6 +242,59 @@ module _ {E : Type 0} (X : Election E) where
         holds = λ y. holds;
       }))
 
+  -- a passed place is loaded, and is the last or not
+  passes_at : (c : Core E) (r : Reuse) (t : ℕ) (page : Page) (stored : ℕ) (published : Bool)
+      (q : Passing) (last : Bool) → c.phase ≡ Holding t page stored published → IsCalm r.pin
+      → r.passed.loaded < c.layout.passers → q.loaded ≡ r.passed.loaded + 1
+      → IsTurn (sender c (Some r)) turn.Going
+      (sender (cond last (core_floored c q.least) c) (Some record r { passed = q }))
+  passes_at c r t page stored published q false at calm less next =
+      let e = ap (turns_in X c (Some r)) at in
+      let new = Some record r { passed = q } in
+      let now = ap (turns_in X c new) at in
+      falls_some (sender c (Some r)) (sender c new) turn.Going (omega arith)
+      (inl record {
+        same = refl;
+        begun = stands c new (ap (λ p. is_some (tenure_of p)) at);
+        goes = refl;
+        holds = λ y. absurd cc;
+      })
+  passes_at c r t page stored published q true at calm less next =
+      let d = core_floored c q.least in
+      let floored : d.phase
+      ≡ Holding t (record page { floor = lesser (lesser q.least page.words) NUMBERS }) stored
+      published = ap (phase_floored q.least) at in
+      let e = ap (turns_in X c (Some r)) at in
+      let new = Some record r { passed = q } in
+      let now = ap (turns_in X d new) floored in
+      let back : turns_to_return d stored published ≡ turns_to_return c stored published = refl in
+      let pin : turns_of_pin X d r.pin ≡ turns_of_pin X c r.pin = refl in
+      falls_some (sender c (Some r)) (sender d new) turn.Going (omega arith)
+      (inl record {
+        same = elim calm [
+          | inl away ↦
+              ap (tenure_begun_by d) away ∙ ap tenure_of floored ∙ sym (ap tenure_of at)
+              ∙ sym (ap (tenure_begun_by c) away)
+          | inr pinned ↦
+              ap (tenure_begun_by d) pinned.1 ∙ sym (ap (tenure_begun_by c) pinned.1)
+        ];
+        begun = stands d new (ap (λ p. is_some (tenure_of p)) floored);
+        goes = refl;
+        holds = λ y. absurd cc;
+      })
+
+  passes : (c : Core E) (r : Option Reuse) (t : ℕ) (p : Passing) (got : ℕ)
+      → IsSomeAnd r (λ y. Passes c.layout.passers y (situation_of X c) t p)
+      → IsTurn (sender c r) turn.Going
+      (sender (core_passed c (passing_fed p got)) (reuse_passed r (passing_fed p got)))
+  passes c None t p got h = absurd h
+  passes c (Some r) t p got h =
+      let held = tells X c (GivesBack t h.page NoRoom) h.gives in
+      let loaded = ap (λ (z : Passing). z.loaded) h.is in
+      let left = h.left in
+      passes_at c r t h.page held.0 held.1 (passing_fed p got)
+      ((passing_fed p got).loaded == c.layout.passers) held.2 h.calm (omega arith) (omega arith)
+
   -- what a holder has left
   held_left : (c : Core E) (r : Option Reuse) (t : ℕ) (page : Page) (stored : ℕ) (published : Bool)
       → c.phase ≡ Holding t page stored published → 1 ≤ turns_in X c r c.phase
@@ -282,7 +340,6 @@ module _ {E : Type 0} (X : Election E) where
 
   -- ---- by the table
   module _ (v : Sender E) (home : Option Page) (got word : ℕ) (begun : IsSome (tenure_begun v))
-      (none : v.core.layout.passers ≡ 0)
       (running : HasElection v.core.phase → 1 ≤ turns_of X v.core.phase)
       (looks : (line_now X v).kind ≡ Some kind.LoadStage → HasBegunNone v)
       (gives : (line_now X v).kind ≡ Some kind.GivePageBack → IsAway v.reuse)
@@ -383,7 +440,8 @@ module _ {E : Type 0} (X : Election E) where
     at (Clears s) i due taken told =
         reclaims_by v.core v.reuse s got
         (clears_by (situation_of X v.core) v.reuse s (situation_tells X v (Clears s) i))
-    at (ReadsPassed t p) i due taken told = absurd (never_passes X v none t p i)
+    at (ReadsPassed t p) i due taken told =
+        passes v.core v.reuse t p got (situation_tells X v (ReadsPassed t p) i)
 
     pub turn_begun : Claim (situation X v)
     turn_begun = at (situation X v) refl

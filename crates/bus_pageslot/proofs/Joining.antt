@@ -1,10 +1,12 @@
 -- Joined seats: how seats are joined, what they learn, and how they are cut apart again.
-use Rattle.std.proofs.Common.{◌≡◌, ◌≢◌, ℕ, Option, List, [], ◌∷◌, ◌++◌, map, set}
+use Rattle.std.proofs.Common.{◌≡◌, ◌≢◌, inl, inr, ℕ, Option, List, [], ◌∷◌, ◌++◌, length, map, set}
+use Rattle.std.proofs.Common.{length-set}
 use Rattle.std.proofs.Common.{slice_index, arith, refl, sym, ◌∙◌, ap, subst, ⊎_elim}
 use mathlib.Core.Option.{some}
 use lib.ListN.{get_elem?}
 use Rattle.atomic_table.specs.Table.{State, keeps, Allows, Splits, Joins}
-use Rattle.atomic_table.proofs.Lists.{at_set, at_snoc, set_else}
+use Rattle.atomic_table.proofs.Lists.{at_set, set_else}
+use Rattle.bus_pageslot.proofs.Openings.{at_end}
 use Rattle.bus_batch.specs.declared.messages.Item.{Item}
 use Rattle.bus_batch.specs.Frames.{AreFrames, order_of, tenure_and_owner}
 use Rattle.bus_batch.proofs.FrameLaws.{same_log}
@@ -26,6 +28,7 @@ use Rattle.bus_pageslot.specs.Steps.{Accepts, Meets, Met, Learns, KnowsSent}
 use Rattle.bus_automaton.specs.SenderTrails.{SenderTrail}
 use Rattle.bus_pageslot.proofs.AllSeats.{still_seen, seen_longer}
 use Rattle.bus_pageslot.proofs.Hearing.{agree}
+use Rattle.bus_pageslot.proofs.Ears.{GoesTo, goes_to, two_of}
 use Rattle.bus_pageslot.proofs.Loads.{reloaded, whole, size, fits}
 use Rattle.bus_pageslot.proofs.Reaching.{accepted}
 
@@ -39,24 +42,40 @@ IsPair (Telling c sender_trail stored x e) = Unit {0}
 IsPair Spent = ⊥
 
 module _ {C : Type 0} (P : Process C) (A : Automaton C) where
-  -- one view replaced
-  abbrev reviewed :
-      (s : State (Option Page) (View C)) (r : TableInvariant P A s) (id : ℕ) (v w : View C)
-      → get_elem? s.views id ≡ some v → ((p : ℕ) → Seats P p v → Seats P p w)
-      → IsTrueOf P A r.state r.seat id w
-      → TableInvariant P A record { words = s.words; homes = s.homes; views = set s.views id w }
-  reviewed s r id v w at still fits = record {
+  -- a receiver's seat is spent, and goes into another, which shows this from then on
+  joined : (s : State (Option Page) (View C)) (r : TableInvariant P A s) (id other : ℕ)
+      (v w : View C)
+      → get_elem? s.views id ≡ some v → id ≢ other → (y : TableLayout) (l : ReceiverView)
+      → get_elem? (set s.views id w) other ≡ some (Tap y l)
+      → ((p : ℕ) → Seats P p v → Seats P p w) → (ear' : ℕ → ℕ)
+      → ((j : ℕ) → j ≢ other → (u : View C) → IsTrueOf P A r.state r.seat r.ear j u
+      → IsTrueOf P A r.state r.seat ear' j u)
+      → IsTrueOf P A r.state r.seat ear' id w
+      → TableInvariant P A record {
+        words = s.words;
+        homes = s.homes;
+        views = set (set s.views id w) other Spent;
+      }
+  joined s r id other v w at apart y l there still ear' others fits = record {
     state = r.state;
     reached = r.reached;
     words = r.words;
     slot = r.slot;
     seat = r.seat;
-    views = λ j v e. ⊎_elim
-        (λ (u : (j ≡ id) × (w ≡ v)). subst (λ (y : ℕ × View C). IsTrueOf P A r.state r.seat y.0 y.1)
-        (λ i. (sym u.0 i, u.1 i)) fits)
-        (λ (u : (j ≢ id) × (get_elem? s.views j ≡ some v)). r.views j v u.1)
-        (at_set s.views id j w v e);
-    all = λ p below. still_seen P s.views id v w at p (still p) (r.all p below);
+    ear = ear';
+    views = λ j u e. ⊎_elim
+        (λ (k : (j ≡ other) × (Spent ≡ u)).
+        subst (IsTrueOf P A r.state r.seat ear' j) k.1 tt)
+        (λ (k : (j ≢ other) × (get_elem? (set s.views id w) j ≡ some u)). ⊎_elim
+        (λ (n : (j ≡ id) × (w ≡ u)).
+        subst (λ (y : ℕ × View C). IsTrueOf P A r.state r.seat ear' y.0 y.1)
+        (λ i. (sym n.0 i, n.1 i)) fits)
+        (λ (n : (j ≢ id) × (get_elem? s.views j ≡ some u)).
+        others j k.0 u (r.views j u n.1))
+        (at_set s.views id j w u k.1))
+        (at_set (set s.views id w) other j Spent u e);
+    all = λ p below. still_seen P (set s.views id w) other (Tap y l) Spent there p (λ is. is)
+        (still_seen P s.views id v w at p (still p) (r.all p below));
   }
 
   -- a receiver's seat goes into another
@@ -66,17 +85,23 @@ module _ {C : Type 0} (P : Process C) (A : Automaton C) where
   joins_allowed (Sender c t stored) is y l id other = λ s r at apart there.
       let w : View C = Telling c t stored y l in
       let h = r.views id (Sender c t stored) at in
-      let k = r.views other (Tap y l) (sym (set_else s.views id other w apart) ∙ there) in
-      reviewed (record { words = s.words; homes = s.homes; views = set s.views id w })
-      (reviewed s r id (Sender c t stored) w at (λ p is. is) (h, k)) other (Tap y l) Spent there
-      (λ p is. is) tt
+      let k : KnowsLog A r.state r.ear other y l =
+      r.views other (Tap y l) (sym (set_else s.views id other w apart) ∙ there) in
+      let g = goes_to P A r.state r.seat r.ear other id y l k in
+      joined s r id other (Sender c t stored) w at (λ e. apart (sym e)) y l there (λ p is. is)
+      g.ear' g.others (h, g.here)
   joins_allowed (Tap x e) is y l id other = λ s r at apart there.
       let w : View C = Meeting x e y l in
-      let h = r.views id (Tap x e) at in
-      let k = r.views other (Tap y l) (sym (set_else s.views id other w apart) ∙ there) in
-      reviewed (record { words = s.words; homes = s.homes; views = set s.views id w })
-      (reviewed s r id (Tap x e) w at (λ p is. is) (h, k)) other (Tap y l) Spent there (λ p is. is)
-      tt
+      let h : KnowsLog A r.state r.ear id x e = r.views id (Tap x e) at in
+      let k : KnowsLog A r.state r.ear other y l =
+      r.views other (Tap y l) (sym (set_else s.views id other w apart) ∙ there) in
+      let g = goes_to P A r.state r.seat r.ear other id y l k in
+      joined s r id other (Tap x e) w at (λ e. apart (sym e)) y l there (λ p is. is)
+      g.ear' g.others (
+        g.others id (λ e. apart (sym e)) (Tap x e) h,
+        g.here,
+        two_of A r.state r.ear id other (λ e. apart (sym e)) x e y l h k,
+      )
   joins_allowed (Meeting x k z m) is y l id other = absurd is
   joins_allowed (Telling c t stored z m) is y l id other = absurd is
   joins_allowed Spent is y l id other = absurd is
@@ -84,26 +109,35 @@ module _ {C : Type 0} (P : Process C) (A : Automaton C) where
   -- one view replaced, and a receiver's added
   parted : (s : State (Option Page) (View C)) (r : TableInvariant P A s) (id : ℕ) (v w : View C)
       → get_elem? s.views id ≡ some v → ((p : ℕ) → Seats P p v → Seats P p w)
-      → IsTrueOf P A r.state r.seat id w → (y : TableLayout) (l : ReceiverView)
-      → KnowsLog A r.state y l
+      → (y : TableLayout) (l : ReceiverView)
+      → (g : GoesTo P A r.state r.seat r.ear id (length s.views) y l)
+      → IsTrueOf P A r.state r.seat g.ear' id w
       → TableInvariant P A record {
         words = s.words;
         homes = s.homes;
         views = set s.views id w ++ Tap y l ∷ [];
       }
-  parted s r id v w at still fits y l log =
-      let one = reviewed s r id v w at still fits in
+  parted s r id v w at still y l g fits =
       record {
         state = r.state;
         reached = r.reached;
         words = r.words;
         slot = r.slot;
         seat = r.seat;
-        views = λ j v e. ⊎_elim
-            (λ (u : get_elem? (set s.views id w) j ≡ some v). one.views j v u)
-            (λ (u : Tap y l ≡ v). subst (IsTrueOf P A r.state r.seat j) u log)
-            (at_snoc (set s.views id w) (Tap y l) v j e);
-        all = λ p below. seen_longer P (set s.views id w) (Tap y l) p (one.all p below);
+        ear = g.ear';
+        views = λ j u e. elim (at_end (set s.views id w) (Tap y l) u j e) [
+          | inl k ↦ ⊎_elim
+              (λ (n : (j ≡ id) × (w ≡ u)).
+              subst (λ (y : ℕ × View C). IsTrueOf P A r.state r.seat g.ear' y.0 y.1)
+              (λ i. (sym n.0 i, n.1 i)) fits)
+              (λ (n : (j ≢ id) × (get_elem? s.views j ≡ some u)).
+              g.others j n.0 u (r.views j u n.1))
+              (at_set s.views id j w u k)
+          | inr k ↦ subst (λ (y : ℕ × View C). IsTrueOf P A r.state r.seat g.ear' y.0 y.1)
+              (λ i. (sym (k.0 ∙ length-set s.views id w) i, k.1 i)) g.here
+        ];
+        all = λ p below. seen_longer P (set s.views id w) (Tap y l) p
+            (still_seen P s.views id v w at p (still p) (r.all p below));
       }
 
   -- joined seats are cut apart
@@ -114,10 +148,12 @@ module _ {C : Type 0} (P : Process C) (A : Automaton C) where
   parts_allowed (Tap x k) is id = absurd is
   parts_allowed (Meeting x k y l) is id = λ s r at.
       let h = r.views id (Meeting x k y l) at in
-      parted s r id (Meeting x k y l) (Tap x k) at (λ p is. is) h.0 y l h.1
+      let g = goes_to P A r.state r.seat r.ear id (length s.views) y l h.1 in
+      parted s r id (Meeting x k y l) (Tap x k) at (λ p is. is) y l g (g.beside x k h.0 h.2)
   parts_allowed (Telling c t stored y l) is id = λ s r at.
       let h = r.views id (Telling c t stored y l) at in
-      parted s r id (Telling c t stored y l) (Sender c t stored) at (λ p is. is) h.0 y l h.1
+      let g = goes_to P A r.state r.seat r.ear id (length s.views) y l h.1 in
+      parted s r id (Telling c t stored y l) (Sender c t stored) at (λ p is. is) y l g h.0
   parts_allowed Spent is id = absurd is
 
   pub pairs : (v : View C) → IsFirst v → (y : TableLayout) (l : ReceiverView)
@@ -138,9 +174,10 @@ module _ {C : Type 0} (P : Process C) (A : Automaton C) where
   still_pair Spent known is = absurd is
 
 -- two receivers of one bus agree
-both_agree : {C : Type 0} (A : Automaton C) (z : A.State) (x y : TableLayout) (e f : ReceiverView)
-    → KnowsLog A z x e → KnowsLog A z y f → Agree e f
-both_agree A z x y e f h k =
+both_agree : {C : Type 0} (A : Automaton C) (z : A.State) (ear : ℕ → ℕ) (j : ℕ)
+    (x y : TableLayout) (e f : ReceiverView)
+    → KnowsLog A z ear j x e → KnowsLog A z ear j y f → Agree e f
+both_agree A z ear j x y e f h k =
     let same : k.frames ≡ h.frames = same_log A.table_layout.senders 0 0 k.frames h.frames k.lawful
     h.lawful (k.words_are ∙ sym h.words_are) in
     agree A.table_layout.senders h.frames h.lawful e f h.heard
@@ -197,7 +234,8 @@ module _ {C : Type 0} (P : Process C) (A : Automaton C) (L : AutomatonLaws P A) 
         tt,
         reloaded P A s r 0 id (Meeting x k y l)
             (Meeting x (receiver_view_knowing k all) y (receiver_view_knowing l all)) at
-            (λ p is. is) (whole A r.state x k h.0, whole A r.state y l h.1),
+            (λ p is. is)
+            (whole A r.state r.ear id x k h.0, whole A r.state r.ear id y l h.1, h.2),
         (
           refl,
           record {
@@ -209,7 +247,7 @@ module _ {C : Type 0} (P : Process C) (A : Automaton C) (L : AutomatonLaws P A) 
               h.1.front,
               fits P A L s r x h.0.table_layout,
               fits P A L s r y h.1.table_layout,
-              both_agree A r.state x y k l h.0 h.1,
+              both_agree A r.state r.ear id x y k l h.0 h.1,
             );
           },
         ),
@@ -222,7 +260,7 @@ module _ {C : Type 0} (P : Process C) (A : Automaton C) (L : AutomatonLaws P A) 
         tt,
         reloaded P A s r 0 id (Telling c t stored y l)
             (Telling c t stored y (receiver_view_knowing l all)) at (λ p is. is)
-            (h.0, whole A r.state y l h.1),
+            (h.0, whole A r.state r.ear id y l h.1),
         (
           refl,
           record {

@@ -42,19 +42,24 @@ use Rattle.bus_pageslot.proofs.Processes.{queue_same}
 
 -- ---- what one step leaves of a batch
 -- the same messages, and a close that waits or none as before
-abbrev Stays : Pending → Pending → Type 0
+abbrev pub Stays : Pending → Pending → Type 0
 Stays q q' = (q'.messages ≡ q.messages) × (is_closing q'.phase ≡ is_closing q.phase)
 
--- they stay where the answer is none of the last; and after a refusal the messages wait still, or
--- its end mark was sent
+-- they stay where the answer is none of the last, and after Full; and after a refusal the messages
+-- wait still, or its end mark was sent
 abbrev IsLeft : Pending → Turn → Pending → Type 0
 IsLeft q a q' =
     (is_last a ≡ false → Stays q q')
+    × (a ≡ turn.Full → Stays q q')
     × (is_refusal a ≡ true
     → (q'.messages ≡ q.messages) ⊎ ((a ≡ turn.Closed) × (is_closing q.phase ≡ true)))
 
 stays_left : (q : Pending) (a : Turn) (q' : Pending) → Stays q q' → IsLeft q a q'
-stays_left q a q' h = (λ going. h, λ refused. inl h.0)
+stays_left q a q' h = (λ going. h, λ full. h, λ refused. inl h.0)
+
+abbrev is_full : Turn → Bool
+is_full turn.Full = true
+is_full a = false
 
 module _ {E : Type 0} (X : Election E) (v : Sender E) where
   abbrev Same : Core E → Type 0
@@ -96,17 +101,24 @@ module _ {E : Type 0} (X : Election E) (v : Sender E) where
   -- the page is given back with its frame in the log, and the batch goes with it
   sent : (t : ℕ) (ph : BatchPhase) → v.core.queue.phase ≡ ph
       → IsLeft v.core.queue (answer_sent v.core.queue t ph) (core_at_rest v.core Sent t).queue
-  sent t Open e = (λ going. absurd (true≢false going), λ refused. absurd (true≢false (sym refused)))
+  sent t Open e = (
+    λ going. absurd (true≢false going),
+    λ full. absurd (true≢false (ap is_full (sym full))),
+    λ refused. absurd (true≢false (sym refused)),
+  )
   sent t (Marking mark.End) e = (
     λ going. absurd (true≢false going),
+    λ full. absurd (true≢false (ap is_full (sym full))),
     λ refused. inr (refl, ap is_closing e),
   )
   sent t (Marking mark.Leave) e = (
     λ going. absurd (true≢false going),
+    λ full. absurd (true≢false (ap is_full (sym full))),
     λ refused. absurd (true≢false (sym refused)),
   )
   sent t Closed e = (
     λ going. absurd (true≢false going),
+    λ full. absurd (true≢false (ap is_full (sym full))),
     λ refused. absurd (true≢false (sym refused)),
   )
 
@@ -114,8 +126,12 @@ module _ {E : Type 0} (X : Election E) (v : Sender E) where
       → IsLeft v.core.queue (answer_of_return v.core.queue t reason)
       (core_at_rest v.core reason t).queue
   given t Sent = sent t v.core.queue.phase refl
-  given t FoundEnd = (λ going. absurd (true≢false going), λ refused. inl refl)
-  given t NoRoom = (λ going. (refl, refl), λ refused. inl refl)
+  given t FoundEnd = (
+    λ going. absurd (true≢false going),
+    λ full. absurd (true≢false (ap is_full (sym full))),
+    λ refused. inl refl,
+  )
+  given t NoRoom = (λ going. (refl, refl), λ full. (refl, refl), λ refused. inl refl)
 
   abbrev After : Situation E → Option Page → ℕ → ℕ → Type 0
   After s home got word =
@@ -172,7 +188,8 @@ left_as : (q k q' k' : Pending) (a : Turn) → q.messages ≡ k.messages
     → is_closing q'.phase ≡ is_closing k'.phase → IsLeft k a k' → IsLeft q a q'
 left_as q k q' k' a m p m' p' h = (
   λ going. let s = h.0 going in (m' ∙ s.0 ∙ sym m, p' ∙ s.1 ∙ sym p),
-  λ refused. elim (h.1 refused) [
+  λ full. let s = h.1 full in (m' ∙ s.0 ∙ sym m, p' ∙ s.1 ∙ sym p),
+  λ refused. elim (h.2 refused) [
     | inl same ↦ inl (m' ∙ same ∙ sym m)
     | inr ends ↦ inr (ends.0, p ∙ ends.1)
   ],
@@ -199,7 +216,7 @@ module _ {C : Type 0} (P : Process C) (T : Tellings C) (L : LeavesBatch P) where
   abbrev Waits : SenderSeat C → SenderSeat C → Type 0
   Waits old new = Stays (P.queue old.core) (P.queue new.core)
 
-  turned_left : (old : SenderSeat C) (word : ℕ) (a : Turn) (new : SenderSeat C)
+  pub turned_left : (old : SenderSeat C) (word : ℕ) (a : Turn) (new : SenderSeat C)
       → Turned P T old word a new
       → IsLeft (P.queue old.core) a (P.queue new.core)
   turned_left old word a new h = by_step (P.op old.core word) refl
@@ -236,7 +253,7 @@ module _ {C : Type 0} (P : Process C) (T : Tellings C) (L : LeavesBatch P) where
       → is_refusal a ≡ true → KeptAfter P first a new
   refused_keeps first a new h refused =
       let before = turns_stay first h.old h.before in
-      elim ((turned_left h.old h.word a new h.turned).1 refused) [
+      elim ((turned_left h.old h.word a new h.turned).2 refused) [
         | inl same ↦ inl (same ∙ before.0)
         | inr ends ↦ inr (ends.0, sym before.1 ∙ ends.1)
       ]

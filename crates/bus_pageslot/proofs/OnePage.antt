@@ -1,7 +1,22 @@
 -- What the seats show and all that was published fix the page of promises; and without a seat of
 -- each sender there is none.
-use Rattle.std.proofs.Common.{◌≡◌, ℕ, zero, suc, ◌<◌, Option, List, [], ◌∷◌, inl, inr, arith, sym}
-use Rattle.std.proofs.Common.{◌∙◌, ap, subst}
+use Rattle.std.proofs.Common.{
+  ◌≡◌,
+  ◌⊎◌,
+  ℕ,
+  zero,
+  suc,
+  ◌<◌,
+  Option,
+  List,
+  [],
+  ◌∷◌,
+  inl,
+  inr,
+  arith,
+  sym,
+}
+use Rattle.std.proofs.Common.{◌∙◌, ap, drop, length, slice_index, subst}
 use mathlib.Core.Option.{some, some-injective, some-ne-none}
 use lib.ListN.{get_elem?}
 use Rattle.std.proofs.lemmas.Bool.{cases_lt}
@@ -15,6 +30,7 @@ use Rattle.bus_pageslot.specs.declared.rule.View.{View}
 use Rattle.bus_pageslot.specs.declared.rule.View.TheVariants.{Maker, Sender, Tap, Meeting, Telling}
 use Rattle.bus_pageslot.specs.declared.rule.View.TheVariants.{Spent}
 use Rattle.bus_pageslot.specs.Rule.{Seats, TableInvariant}
+use Rattle.bus_automaton.specs.Lawful.{floor_in}
 use Rattle.bus_automaton.specs.Processes.{TableLayout, Process, Automaton}
 use Rattle.bus_pageslot.specs.Promised.{Fits, ShowsActions, IsPromised}
 
@@ -34,20 +50,34 @@ the_one a b (suc j) e = absurd (some-ne-none b (sym e))
 
 module _ {C : Type 0} (P : Process C) (x : TableLayout) (base : ℕ → ℕ) (log : List ℕ)
     (s : State (Option Page) (View C)) where
-  -- two pages of one table, which shows one log
-  pub one_page : (log' : List ℕ) (h : IsPromised P x base log s) (k : IsPromised P x base log' s)
-      → ((p : ℕ) → h.actions p ≡ k.actions p) × (h.order ≡ k.order) × (h.owners ≡ k.owners)
-  one_page log' h k =
-      let same : (p : ℕ) → h.actions p ≡ k.actions p = λ p. elim (cases_lt p x.senders) [
-        | inl below ↦
-            let w = h.shown p below in
-            same_at P h.actions k.actions log' p w.1 w.3 (k.views w.0 w.1 w.2)
-        | inr past ↦ h.nobody p past ∙ sym (k.nobody p past)
-      ] in
-      let o = spells_one x.senders log h.order k.order h.owners k.owners h.spelled
-      (subst (λ (l : List ℕ). Spells x.senders l k.order k.owners) (sym k.stands ∙ h.stands)
-      k.spelled) in
-      (same, o.0, o.1)
+  -- two pages of one table: they have the same actions, and logs of one length that show the same
+  -- from the floor on
+  module _ (log' : List ℕ) (h : IsPromised P x base log s) (k : IsPromised P x base log' s) where
+    pub actions_same : (p : ℕ) → h.actions p ≡ k.actions p
+    actions_same p = elim (cases_lt p x.senders) [
+      | inl below ↦
+          let w = h.shown p below in
+          same_at P h.actions k.actions log' p w.1 w.3 (k.views w.0 w.1 w.2)
+      | inr past ↦ h.nobody p past ∙ sym (k.nobody p past)
+    ]
+
+    pub logs_alike : (length log ≡ length log')
+        × (drop (floor_in x s.words) log ≡ drop (floor_in x s.words) log')
+    logs_alike = (h.long ∙ sym k.long, sym h.shows ∙ k.shows)
+
+    -- and the same order, where they have one log: as where no word of it is used again
+    pub orders_same : (x.passers ≡ 0) ⊎ (log ≡ log') → (h.order ≡ k.order) × (h.owners ≡ k.owners)
+    orders_same one =
+        let same : log ≡ log' = elim one [
+          | inl flat ↦ sym (h.stands flat) ∙ k.stands flat
+          | inr is ↦ is
+        ] in
+        spells_one x.senders log h.order k.order h.owners k.owners h.spelled
+        (subst (λ (l : List ℕ). Spells x.senders l k.order k.owners) (sym same) k.spelled)
+
+  -- no page has an empty log where something was published
+  pub no_empty : 0 < slice_index s.words 0 → log ≡ [] → ¬ IsPromised P x base log s
+  no_empty any none h = let long = h.long in let size = ap length none in omega arith
 
   -- the seat of sender 0 alone, of two or more
   module _ (many : 1 < x.senders) (c : C) (sender_trail : SenderTrail) (stored : ℕ)

@@ -1,5 +1,6 @@
 -- The table at its start, and how senders get their seats.
-use Rattle.std.proofs.Common.{◌≡◌, ◌≢◌, ℕ, zero, suc, ◌+◌, ◌<◌, false, length-set, Option, Some}
+use Rattle.std.proofs.Common.{◌≡◌, ◌≢◌, ℕ, zero, suc, ◌+◌, ◌-◌, ◌<◌, ◌≤◌, false, length-set, Option}
+use Rattle.std.proofs.Common.{Some, true}
 use Rattle.std.proofs.Common.{List, [], ◌∷◌, ◌++◌, length, set, slice_get, get_or, replicate}
 use Rattle.std.proofs.Common.{arith, refl, sym, ◌∙◌, ap, subst, ⊎_elim, inl, inr, ◌⊎◌}
 use mathlib.Core.Option.{some, some-injective, some-ne-none}
@@ -9,7 +10,7 @@ use Rattle.std.proofs.lemmas.List.{length-append}
 use Rattle.std.proofs.lemmas.Option.{same_Some, slice_get_within, slice_get-get_or}
 use Rattle.std.specs.Prelude.{All}
 use Rattle.atomic_table.specs.declared.shared.Seat.{Seat}
-use Rattle.atomic_table.specs.Table.{Splits, opening}
+use Rattle.atomic_table.specs.Table.{State, Splits, opening}
 use Rattle.atomic_table.proofs.Lists.{at_set, at_last}
 use Rattle.bus_register.specs.Tables.{put}
 use Rattle.bus_register.specs.Proved.TableLaws.{put_here, put_beside, push_here, push_beside}
@@ -24,18 +25,21 @@ use Rattle.bus_automaton.specs.Processes.{TableLayout, Process, Automaton, IsCou
 use Rattle.bus_automaton.specs.Processes.{log_in}
 use Rattle.bus_automaton.specs.Lawful.{AutomatonLaws, Opens}
 use Rattle.bus_pageslot.specs.Rule.{slot_of, Sat, tap_left, tap_right, sender_trail_in, stored_in}
-use Rattle.bus_pageslot.specs.Rule.{cut_left, cut_right, KnowsLog, IsTrueOf, TableInvariant}
+use Rattle.bus_pageslot.specs.Rule.{cut_left, cut_right, IsUnheard, KnowsLog, IsTrueOf}
+use Rattle.bus_pageslot.specs.Rule.{TableInvariant}
 use Rattle.bus_pageslot.specs.Steps.{Numbers, carried_of}
 use Rattle.bus_pageslot.specs.Steps.Accepts.{Nothing}
 use Rattle.bus_pageslot.specs.Seats.{SenderSeat, ReceiverSeat, Shows, table_of}
 use Rattle.bus_pageslot.specs.Buses.{IsNewSeat, AreNewSeats, IsNewTap, AreNewTaps}
 use Rattle.bus_automaton.specs.SenderTrails.{SenderTrail, new_sender_trail}
 use Rattle.bus_pageslot.proofs.AllSeats.{still_seen, seen_longer}
+use Rattle.bus_pageslot.proofs.Ears.{views_still}
+use Rattle.bus_pageslot.proofs.Loads.{Listens}
 use Rattle.bus_pageslot.proofs.Hearing.{heard_new}
 use Rattle.bus_pageslot.proofs.Numbering.{numbers_next}
 use Rattle.atomic_table.specs.Seated.{TableId}
 
-at_end : {A : Type 0} (l : List A) (a b : A) (j : ℕ) → get_elem? (l ++ a ∷ []) j ≡ some b
+pub at_end : {A : Type 0} (l : List A) (a b : A) (j : ℕ) → get_elem? (l ++ a ∷ []) j ≡ some b
     → (get_elem? l j ≡ some b) ⊎ ((j ≡ length l) × (a ≡ b))
 at_end [] a b zero e = inr (refl, some-injective a b e)
 at_end [] a b (suc j) e = absurd (some-ne-none b (sym e))
@@ -43,17 +47,20 @@ at_end (x ∷ xs) a b zero e = inl e
 at_end (x ∷ xs) a b (suc j) e = ⊎_elim (λ h. inl h) (λ t. inr (ap suc t.0, t.1)) (at_end xs a b j e)
 
 -- a receiver that knows nothing, of a log with these frames
-knows_new : {C : Type 0} (A : Automaton C) (z : A.State) (x : TableLayout) → x ≡ A.table_layout
+knows_new : {C : Type 0} (A : Automaton C) (z : A.State) (ear : ℕ → ℕ) (j me : ℕ)
+    (x : TableLayout) → x ≡ A.table_layout
     → (frames : List Frame) → AreFrames A.table_layout.senders frames
-    → log_words frames ≡ log_in A z → KnowsLog A z x new_receiver_view
-knows_new A z x table_layout frames lawful words = record {
+    → log_words frames ≡ log_in A z → Listens A z ear j (new_receiver_view me)
+    → KnowsLog A z ear j x (new_receiver_view me)
+knows_new A z ear j me x table_layout frames lawful words listens = record {
   table_layout = table_layout;
   front = record { rest = log_in A z; together = refl };
   below = omega arith;
   frames = frames;
   lawful = lawful;
   words_are = words;
-  heard = heard_new frames;
+  heard = heard_new frames me;
+  listens = listens;
 }
 
 module _ {C : Type 0} (P : Process C) (A : Automaton C) (L : AutomatonLaws P A) where
@@ -62,14 +69,15 @@ module _ {C : Type 0} (P : Process C) (A : Automaton C) (L : AutomatonLaws P A) 
 
   module _ (o : Opens P A) where
     only : (j : ℕ) (v : View C) → get_elem? (first ∷ []) j ≡ some v
-        → IsTrueOf P A o.state (λ p. 0) j v
-    only zero v e = subst (IsTrueOf P A o.state (λ p. 0) 0) (some-injective first v e) (
+        → IsTrueOf P A o.state (λ p. 0) (λ r. 0) j v
+    only zero v e = subst (IsTrueOf P A o.state (λ p. 0) (λ r. 0) 0) (some-injective first v e) (
       refl,
       λ p low high. record {
         here = refl;
         core = o.senders p high;
         sender_trail_is = o.sender_trail p;
       },
+      λ r low high. record { here = refl; passed = o.passed r high },
     )
     only (suc j) v e = absurd (some-ne-none v (sym e))
 
@@ -81,16 +89,18 @@ module _ {C : Type 0} (P : Process C) (A : Automaton C) (L : AutomatonLaws P A) 
       words = zeros ∙ sym o.words;
       slot = ap (λ (h : Option Page). slot_of h ∷ []) (sym o.home);
       seat = λ p. 0;
+      ear = λ r. 0;
       views = only;
       all = λ p below. (0, first, refl, omega arith);
     }
 
-  module _ (z : A.State) (seat : ℕ → ℕ) (k id count : ℕ) (mine : seat k ≡ id) (j : ℕ)
+  module _ (z : A.State) (seat ear : ℕ → ℕ) (k id count : ℕ) (mine : seat k ≡ id) (j : ℕ)
       (other : j ≢ id) where
     seats_still : (q : ℕ) → seat q ≡ j → put k count seat q ≡ j
     seats_still q at = put_beside k count seat q (λ e. other (sym at ∙ ap seat e ∙ mine)) ∙ at
 
-    cut_others : (v : View C) → IsTrueOf P A z seat j v → IsTrueOf P A z (put k count seat) j v
+    cut_others : (v : View C) → IsTrueOf P A z seat ear j v
+        → IsTrueOf P A z (put k count seat) ear j v
     cut_others (Maker x made) h = (
       h.0,
       λ q low high.
@@ -100,6 +110,7 @@ module _ {C : Type 0} (P : Process C) (A : Automaton C) (L : AutomatonLaws P A) 
             core = u.core;
             sender_trail_is = u.sender_trail_is;
           },
+      h.2,
     )
     cut_others (Sender c t stored) h = record {
       here = seats_still (P.me c) h.here;
@@ -139,6 +150,7 @@ module _ {C : Type 0} (P : Process C) (A : Automaton C) (L : AutomatonLaws P A) 
         words = r.words;
         slot = r.slot;
         seat = seat;
+        ear = r.ear;
         all = λ p in_range. elim (cases_eq p made) [
           | inl e ↦ (
             count,
@@ -153,7 +165,8 @@ module _ {C : Type 0} (P : Process C) (A : Automaton C) (L : AutomatonLaws P A) 
         views = λ j v e. elim (at_end (set s.views id left) right v j e) [
           | inl u ↦ ⊎_elim
               (λ (y : (j ≡ id) × (left ≡ v)). subst
-              (λ (z : ℕ × View C). IsTrueOf P A r.state seat z.0 z.1) (λ i. (sym y.0 i, y.1 i)) (
+              (λ (z : ℕ × View C). IsTrueOf P A r.state seat r.ear z.0 z.1)
+              (λ i. (sym y.0 i, y.1 i)) (
                 old.0,
                 λ q low high.
                     let w = old.1 q (omega arith) high in
@@ -162,11 +175,12 @@ module _ {C : Type 0} (P : Process C) (A : Automaton C) (L : AutomatonLaws P A) 
                       core = w.core;
                       sender_trail_is = w.sender_trail_is;
                     },
+                λ q low high. old.2 q (omega arith) high,
               ))
               (λ (y : (j ≢ id) × (get_elem? s.views j ≡ some v)).
-              cut_others r.state r.seat made id count mine.here j y.0 v (r.views j v y.1))
+              cut_others r.state r.seat r.ear made id count mine.here j y.0 v (r.views j v y.1))
               (at_set s.views id j left v u)
-          | inr u ↦ subst (λ (z : ℕ × View C). IsTrueOf P A r.state seat z.0 z.1)
+          | inr u ↦ subst (λ (z : ℕ × View C). IsTrueOf P A r.state seat r.ear z.0 z.1)
               (λ i. (sym (u.0 ∙ length-set s.views id left) i, u.1 i))
               (record {
                 here = ap seat me ∙ put_here made count r.seat;
@@ -177,34 +191,95 @@ module _ {C : Type 0} (P : Process C) (A : Automaton C) (L : AutomatonLaws P A) 
         ];
       }
 
-  -- a seat for one more receiver
-  pub tap_allowed : (id : ℕ) (x : TableLayout) (made : ℕ)
+  -- a seat for one more receiver, behind those of all senders
+  module _ (id : ℕ) (x : TableLayout) (made : ℕ) (behind : x.senders ≤ made)
+      (s : State (Option Page) (View C)) (r : TableInvariant P A s)
+      (at : get_elem? s.views id ≡ some (Maker x made)) where
+    abbrev number : ℕ
+    number = made - x.senders
+
+    abbrev tap : View C
+    tap = Tap x (new_receiver_view number)
+
+    abbrev left : View C
+    left = Maker x (made + 1)
+
+    old : IsTrueOf P A r.state r.seat r.ear id (Maker x made)
+    old = r.views id (Maker x made) at
+
+    abbrev Tapped : Type 0
+    Tapped = TableInvariant P A record {
+      words = s.words;
+      homes = s.homes;
+      views = set s.views id left ++ tap ∷ [];
+    }
+
+    -- with these seats of receivers
+    tapped : (ear' : ℕ → ℕ)
+        → ((j : ℕ) → j ≢ id → (v : View C) → IsTrueOf P A r.state r.seat r.ear j v
+        → IsTrueOf P A r.state r.seat ear' j v)
+        → ((q : ℕ) → made + 1 ≤ A.table_layout.senders + q → q < A.table_layout.passers
+        → IsUnheard A r.state ear' id q)
+        → Listens A r.state ear' (length s.views) (new_receiver_view number) → Tapped
+    tapped ear' others unheard listens =
+        let log = L.log r.state r.reached in
+        let same = ap (λ (y : TableLayout). y.senders) old.0 in record {
+          state = r.state;
+          reached = r.reached;
+          words = r.words;
+          slot = r.slot;
+          seat = r.seat;
+          ear = ear';
+          all = λ p below. seen_longer P (set s.views id left) tap p
+              (still_seen P s.views id (Maker x made) left at p
+              (λ is. absurd (omega arith)) (r.all p below));
+          views = λ j v e. elim (at_end (set s.views id left) tap v j e) [
+            | inl u ↦ ⊎_elim
+                (λ (y : (j ≡ id) × (left ≡ v)). subst
+                (λ (z : ℕ × View C). IsTrueOf P A r.state r.seat ear' z.0 z.1)
+                (λ i. (sym y.0 i, y.1 i))
+                (old.0, (λ q low high. old.1 q (omega arith) high), unheard))
+                (λ (y : (j ≢ id) × (get_elem? s.views j ≡ some v)).
+                others j y.0 v (r.views j v y.1))
+                (at_set s.views id j left v u)
+            | inr u ↦ subst (λ (z : ℕ × View C). IsTrueOf P A r.state r.seat ear' z.0 z.1)
+                (λ i. (sym (u.0 ∙ length-set s.views id left) i, u.1 i))
+                (knows_new A r.state ear' (length s.views) number x old.0 log.frames log.lawful
+                log.words_are listens)
+          ];
+        }
+
+    tapped_by : (x.passers ≡ 0) ⊎ (made < x.senders + x.passers) → Tapped
+    tapped_by (inl none) =
+        let flat : A.table_layout.passers ≡ 0 =
+        sym (ap (λ (y : TableLayout). y.passers) old.0) ∙ none in
+        tapped r.ear (λ j ne v is. is) (λ q low high. absurd (omega arith)) (inl flat)
+    tapped_by (inr within) =
+        let senders = ap (λ (y : TableLayout). y.senders) old.0 in
+        let passers = ap (λ (y : TableLayout). y.passers) old.0 in
+        let count : ℕ = length s.views in
+        let mine = old.2 number (omega arith) (omega arith) in
+        tapped (put number count r.ear)
+        (views_still P A r.state r.seat r.ear id number count mine.here)
+        (λ q low high.
+        let w = old.2 q (omega arith) high in
+        record {
+          here = put_beside number count r.ear q (λ e. absurd (omega arith)) ∙ w.here;
+          passed = w.passed;
+        })
+        (inr record {
+          here = put_here number count r.ear;
+          below = omega arith;
+          shown = λ stays. mine.passed;
+          left = λ gone. absurd (let bad : false ≡ true = gone in cc);
+          past = omega arith;
+        })
+
+  pub tap_allowed : (id : ℕ) (x : TableLayout) (made : ℕ) → x.senders ≤ made
+      → (x.passers ≡ 0) ⊎ (made < x.senders + x.passers)
       → Splits (TableInvariant P A) id (Maker x made) (tap_left (Maker x made))
       (tap_right (Maker x made))
-  tap_allowed id x made s r at =
-      let log = L.log r.state r.reached in
-      let maker : View C = Maker x made in
-      let old = r.views id maker at in
-      let tap : View C = Tap x new_receiver_view in
-      record {
-        state = r.state;
-        reached = r.reached;
-        words = r.words;
-        slot = r.slot;
-        seat = r.seat;
-        all = λ p below. seen_longer P (set s.views id maker) tap p
-            (still_seen P s.views id maker maker at p (λ is. is) (r.all p below));
-        views = λ j v e. elim (at_end (set s.views id maker) tap v j e) [
-          | inl u ↦ ⊎_elim
-              (λ (y : (j ≡ id) × (maker ≡ v)). subst
-              (λ (z : ℕ × View C). IsTrueOf P A r.state r.seat z.0 z.1) (λ i. (sym y.0 i, y.1 i))
-              old)
-              (λ (y : (j ≢ id) × (get_elem? s.views j ≡ some v)). r.views j v y.1)
-              (at_set s.views id j maker v u)
-          | inr u ↦ subst (IsTrueOf P A r.state r.seat j) u.1
-              (knows_new A r.state x old.0 log.frames log.lawful log.words_are)
-        ];
-      }
+  tap_allowed id x made behind within s r at = tapped_by id x made behind s r at within
 
 -- a sender shows the seat that was made for it
 pub shows_new : {C : Type 0} (P : Process C) (A : Automaton C) → AutomatonLaws P A → Opens P A
@@ -260,7 +335,7 @@ one_more P A table many senders s h new = record {
 
 pub one_more_tap : {C : Type 0} (x : TableLayout) (table : TableId) (many : ℕ)
     (taps : List (ReceiverSeat C)) (t : ReceiverSeat C) → AreNewTaps x table many taps
-    → IsNewTap x table t → AreNewTaps x table (many + 1) (taps ++ t ∷ [])
+    → IsNewTap x table many t → AreNewTaps x table (many + 1) (taps ++ t ∷ [])
 one_more_tap x table many taps t h new = record {
   many_are = length-append taps (t ∷ []) ∙ (let z = h.many_are in omega arith);
   each = λ r y e.
@@ -270,9 +345,10 @@ one_more_tap x table many taps t h new = record {
         | inl l ↦ h.each r y (sym (push_beside taps t r (λ i. absurd (omega arith))) ∙ e)
         | inr l ↦
             let here : r ≡ length taps = omega arith in
-            subst (IsNewTap x table) (same_Some _ _
+            subst (λ z. IsNewTap x table z y) (sym (here ∙ h.many_are))
+            (subst (IsNewTap x table many) (same_Some _ _
             (sym (push_here taps t (length taps) refl) ∙ ap (slice_get (taps ++ t ∷ [])) (sym here)
-            ∙ e)) new
+            ∙ e)) new)
       ];
 }
 

@@ -22,8 +22,9 @@ use Rattle.bus_world.proofs.Stopping.{shown_there}
 use Rattle.bus_automaton.specs.Lawful.{AutomatonLaws}
 use Rattle.bus_automaton.specs.OneAutomaton.{bus_of}
 use Rattle.bus_automaton.specs.OneProcess.{process_of, table_layout_by}
-use Rattle.bus_automaton.specs.Processes.{TableLayout, log_below}
-use Rattle.bus_automaton.proofs.Leading.{takes_turn}
+use Rattle.bus_automaton.specs.Processes.{log_below}
+use Rattle.bus_automaton.proofs.Leading.{grows_by, next, next_reached, takes_turn}
+use Rattle.bus_automaton.specs.OneAutomaton.{MachineHistory, IsMachineHistory}
 use Rattle.bus_pageslot.specs.Histories.{LeavesLog}
 use Rattle.bus_pageslot.specs.Rule.{Sat, TableInvariant}
 use Rattle.bus_pageslot.specs.Steps.{IsDue}
@@ -76,16 +77,21 @@ joins_frame {E} X x reuse bases L s r id m at d word many o is_due law =
     (subst (λ n. register o < n) (L.wide z h) low) in
     let now : done.state.machine.words ≡ new.words = done.words
     ∙ sym (stepping.words_now X x reuse bases L s r id m at d word many o is_due) in
-    let its = L.senders z p d h here in
-    let flat : x.passers ≡ 0 =
-    ap (λ (t : TableLayout). t.passers) (sym its.table_layout) ∙ its.counted.passers in
-    let few : slice_index new.words 0 ≤ x.capacity =
-    subst (λ ws. slice_index ws 0 ≤ x.capacity) now (L.log done.state done.changes.reached).fits in
+    let step : MachineHistory E = next X x reuse bases z h p d here word o is_due.due low in
+    let led : IsMachineHistory X x reuse bases step =
+    next_reached X x reuse bases z h p d here word o is_due.due low in
+    let stepped : step.machine.words ≡ words_after s.words (Some o) =
+    ap (words_after b.words) is_due.due ∙ ap (λ w. words_after w (Some o)) (sym same) in
     record {
-      state = done.state;
-      reached = done.changes.reached;
-      words_are = done.words ∙ ap (λ w. words_after w (Some o)) (sym same);
-      log = λ w there are. sym (L.log w there).stands
+      state = step;
+      reached = led;
+      words_are = stepped;
+      so = grows_by X x reuse bases z h p d here word o is_due.due low
+          ∙ ap (λ l. l ++ words_of_frame (line_now X d).publishes) before.log;
+      log = λ flat w there are.
+          let few : slice_index new.words 0 ≤ x.capacity =
+          subst (λ ws. slice_index ws 0 ≤ x.capacity) now
+          ((L.log done.state done.changes.reached).fits flat) in sym ((L.log w there).stands flat)
           ∙ ap (log_below (table_layout_by x reuse)) (are
           ∙ sym (done.words ∙ ap (λ w. words_after w (Some o)) (sym same)) ∙ now)
           ∙ shown_below new x reuse _ h.layout h.rows_are flat few

@@ -51,7 +51,6 @@ module _ {C : Type 0} (P : Process C) (L : ProcessLaws P) (d : C) (s : Seat (Opt
     counted = record {
       first = (let a = h.counted.first in omega arith);
       few = few;
-      passers = ap (λ (z : TableLayout). z.passers) keeps.table_layout ∙ h.counted.passers;
     };
     laid = keeps.awaits ∙ h.laid;
     numbered = h.numbered;

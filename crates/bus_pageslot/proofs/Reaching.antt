@@ -20,6 +20,7 @@ module _ {C : Type 0} (P : Process C) (A : Automaton C) (L : AutomatonLaws P A) 
       others = λ q ne. refl;
       sender_trail = ap (λ l. record (A.sender_trail z (P.me c)) { actions = l })
           (sym (append-nil (A.sender_trail z (P.me c)).actions));
+      passed = λ r. refl;
       nothing_else = λ q ne. refl;
     };
     words = refl;
@@ -39,6 +40,7 @@ module _ {C : Type 0} (P : Process C) (A : Automaton C) (L : AutomatonLaws P A) 
           n.changes.sender_trail ∙ ap (λ t. with_actions t more) m.changes.sender_trail
           ∙ ap (λ l. record (A.sender_trail z (P.me c)) { actions = l })
           (append_assoc (A.sender_trail z (P.me c)).actions actions more);
+      passed = λ r. n.changes.passed r ∙ m.changes.passed r;
       nothing_else = λ q ne. n.changes.nothing_else q ne ∙ m.changes.nothing_else q ne;
     };
     words = n.words ∙ m.words;

@@ -1,5 +1,9 @@
 -- What a receiver's reader keeps beside its seat, and what each load makes of it.
-use Rattle.std.proofs.Common.{◌≡◌, ◌≢◌, ℕ, ◌+◌, ◌<◌, ◌≤◌, cond, false, List, [], ◌∷◌}
+use Rattle.std.proofs.Common.{◌≡◌, ◌≢◌, ℕ, ◌+◌, ◌<◌, ◌≤◌, Bool, cond, false, List, [], ◌∷◌}
+use Rattle.std.proofs.Common.{◌||◌}
+use Rattle.std.specs.List.{list_any}
+use Rattle.std.proofs.lemmas.List.Folds.{list_any-append}
+use Rattle.std.proofs.Math.Bool.{or-false}
 use Rattle.std.proofs.Common.{◌++◌, length, take, drop, slice_get, slice_index, inl, inr, arith}
 use Rattle.std.proofs.Common.{refl, sym, ◌∙◌, ap, subst, append_assoc}
 use Rattle.std.specs.Prelude.{Option, Some, None}
@@ -21,16 +25,20 @@ use Rattle.bus_tenure.specs.Core.{length_at}
 use Rattle.bus_world.specs.Headline.{IsPrefix}
 use Rattle.bus_pageslot.specs.ReceiverViews.{ReceiverView, receiver_view_after_load}
 use Rattle.bus_pageslot.specs.ReceiverViews.{receiver_view_knowing, heard_length, heard_word}
-use Rattle.bus_pageslot.specs.ReceiverViews.{length_turn}
+use Rattle.bus_pageslot.specs.ReceiverViews.{length_turn, passed_on}
 use Rattle.bus_pageslot.specs.declared.rule.View.TheVariants.{Tap}
-use Rattle.bus_automaton.specs.Processes.{TableLayout}
+use Rattle.bus_automaton.specs.Processes.{TableLayout, log_cell}
 use Rattle.bus_pageslot.specs.Rule.{Sat, receiver_view_in, known_in, with_receiver_view}
-use Rattle.bus_pageslot.specs.Rule.{capacity_in}
-use Rattle.bus_pageslot.specs.Seats.{IsFit, IsReceiverView}
+use Rattle.bus_pageslot.specs.Rule.{table_layout_in, FitsLog}
+use Rattle.bus_pageslot.specs.Rounds.{GoesRound}
+use Rattle.bus_pageslot.proofs.Rounds.{not_known, round_on}
+use Rattle.bus_pageslot.specs.Seats.{IsFit, HasCells, IsReceiverView}
 use Rattle.bus_pageslot.specs.Steps.{Learns}
 use Rattle.bus_pageslot.specs.declared.listening.ItemTurn.{ItemTurn}
 use Rattle.bus_pageslot.specs.declared.listening.ItemTurn.TheVariants as item_turn
+use Rattle.bus_pageslot.specs.declared.listeners.Listener.{Listener}
 use Rattle.bus_pageslot.specs.Listening.{FindsLength, FindsWord, HearsWord, Hears, Writes}
+use Rattle.bus_pageslot.specs.Listening.{PassIsDue, HearingRefuses}
 use Rattle.bus_pageslot.specs.Listening.{item_turn_of, item_after, sign_after}
 use Rattle.bus_pageslot.proofs.Ties.{no_shorter}
 
@@ -57,6 +65,7 @@ fits_learnt senders got e e' r h place ended grows size =
         read = subst (λ z. HasRead r.frames.senders z h.pieces r.frames) front h.received.read;
         place = h.received.place ∙ ap length front;
       };
+      seen = h.seen;
     }
   where
     front : take r.place e.known ≡ take r.place e'.known
@@ -77,60 +86,81 @@ is_longer place got other = elim (eqb_tells got place) [
 ]
 
 -- its seat knows a length that is no less
-pub no_less : {C : Type 0} {m : Sat C} {words log : ℕ} {r : LogReading}
-    (h : IsReceiverView m words log r) (known : List ℕ) (got : ℕ) → IsPrefix (known_in m.0) known
-    → length known ≡ got → r.known ≤ got
+pub no_less : {C : Type 0} {m : Sat C} {words : ℕ} {l : Listener} (h : IsReceiverView m words l)
+    (known : List ℕ) (got : ℕ) → IsPrefix (known_in m.0) known → length known ≡ got
+    → l.reader.known ≤ got
 no_less {C} {m} h known got grows size =
     let more = no_shorter (known_in m.0) known grows in
     let same = h.fit.known ∙ ap (λ (y : Sat C). length (known_in y.0)) (sym h.me) in
     omega arith
 
-module _ {C : Type 0} {m m' : Sat C} {words words' log got : ℕ} {r : LogReading}
-    (h : IsReceiverView m words log r) (same_words : words' ≡ words) where
+-- the length was learnt
+module _ {C : Type 0} {m m' : Sat C} {words words' got : ℕ} {l l' : Listener}
+    (h : IsReceiverView m words l) (same_words : words' ≡ words) (round : GoesRound l')
+    (reader : l'.reader ≡ record l.reader { known = got })
+    (keeps : (l'.cells ≡ l.cells) × (l'.passed ≡ l.passed)) where
   -- the same of any view that knows more
-  knowing : (e' : ReceiverView) → m' ≡ (Tap h.table_layout e', [])
-      → e'.place ≡ h.receiver_view.place → e'.ended ≡ h.receiver_view.ended
-      → IsPrefix (known_in m.0) e'.known → length e'.known ≡ got → length e'.known ≤ capacity_in m.0
-      → IsReceiverView m' words' log (record r { known = got })
-  knowing e' now place ended grows size within = record {
-    table_layout = h.table_layout;
-    receiver_view = e';
-    me = now;
-    log_is = h.log_is;
-    within = subst (λ (y : Sat C). length e'.known ≤ capacity_in y.0) h.me within;
-    room = h.room;
-    few = h.few;
-    behind = h.behind;
-    wide = same_words ∙ h.wide;
-    fit = fits_learnt h.table_layout.senders got h.receiver_view e' r h.fit place ended
-        (subst (λ (y : Sat C). IsPrefix (known_in y.0) e'.known) h.me grows) size;
-  }
+  knowing : (known : List ℕ) (answers : List RecvTurn) (loads : List ℕ)
+      → m' ≡ (
+        Tap h.table_layout (record h.receiver_view {
+          known = known;
+          answers = answers;
+          loads = loads;
+        }),
+        [],
+      )
+      → IsPrefix (known_in m.0) known → length known ≡ got → FitsLog (table_layout_in m.0) known
+      → IsReceiverView m' words' l'
+  knowing known answers loads now grows size within =
+      let e' : ReceiverView =
+      record h.receiver_view { known = known; answers = answers; loads = loads } in
+      record {
+        table_layout = h.table_layout;
+        receiver_view = e';
+        me = now;
+        wide = same_words ∙ h.wide;
+        cells = subst (HasCells h.table_layout h.receiver_view.me) (sym keeps.0) h.cells;
+        round = round;
+        stays = h.stays;
+        passed = keeps.1 ∙ h.passed;
+        past = h.past;
+        never = h.never;
+        within = subst (λ (y : Sat C). FitsLog (table_layout_in y.0) known) h.me within;
+        fit = subst (IsFit h.table_layout.senders e') (sym reader)
+            (fits_learnt h.table_layout.senders got h.receiver_view e' l.reader h.fit refl refl
+            (subst (λ (y : Sat C). IsPrefix (known_in y.0) known) h.me grows) size);
+      }
 
   -- by a turn
-  pub length_found : FindsLength m got m' → IsReceiverView m' words' log (record r { known = got })
-  length_found f = knowing
-      (heard_length h.receiver_view f.known (length_turn h.receiver_view.place got))
+  pub length_found : FindsLength m got m' → IsReceiverView m' words' l'
+  length_found f = knowing f.known
+      (h.receiver_view.answers ++ length_turn h.receiver_view.place got ∷ [])
+      (h.receiver_view.loads ++ length_at ∷ [])
       (f.now
       ∙ ap
       (λ (y : Sat C). (
         with_receiver_view y.0 (heard_length (receiver_view_in y.0) f.known
             (length_turn (receiver_view_in y.0).place got)),
         y.1,
-      )) h.me) refl refl f.grows f.length_is f.within
+      )) h.me) f.grows f.length_is f.within
 
   -- out of turn
-  pub learned : Learns m got m' → IsReceiverView m' words' log (record r { known = got })
-  learned l = knowing (receiver_view_knowing h.receiver_view l.known)
-      (l.now
+  pub learned : Learns m got m' → IsReceiverView m' words' l'
+  learned k = knowing k.known h.receiver_view.answers (h.receiver_view.loads ++ length_at ∷ [])
+      (k.now
       ∙ ap
       (λ (y : Sat C). (
-        with_receiver_view y.0 (receiver_view_knowing (receiver_view_in y.0) l.known),
+        with_receiver_view y.0 (receiver_view_knowing (receiver_view_in y.0) k.known),
         y.1,
-      )) h.me) refl refl l.grows l.length_is l.within
+      )) h.me) k.grows k.length_is k.within
 
 -- ---- a load of the word at its place, by a turn
+ended_with : (before last : Bool) → before ≡ false → last ≡ (before || (last || false))
+ended_with before last none = sym (or-false last) ∙ ap (λ b. b || (last || false)) (sym none)
+
 module _ {C : Type 0} (x : TableLayout) (e : ReceiverView) (r r' : LogReading) (got : ℕ)
-    (answer : RecvTurn) (m' : Sat C) (fit : IsFit x.senders e r) (unread : r.place ≢ r.known)
+    (answer : RecvTurn) (m' : Sat C) (fit : IsFit x.senders e r) (going : r.ended ≡ false)
+    (unread : r.place ≢ r.known)
     (senders : r'.frames.senders ≡ r.frames.senders)
     (takes : TakesWord (take r.place e.known) fit.pieces r got answer r')
     (f : FindsWord (Tap x e, []) got m') where
@@ -176,12 +206,12 @@ module _ {C : Type 0} (x : TableLayout) (e : ReceiverView) (r r' : LogReading) (
       (let l = length-take r.place e.known in let b = below in let p = fit.place in omega arith) in
       same_Some _ _ (sym f.at ∙ ap (slice_get (log_pieces f.frames)) (sym size) ∙ a)
 
-  pub word_now : m' ≡ (Tap x (heard_word e (x.log + e.place) good.found answer), [])
+  pub word_now : m' ≡ (Tap x (heard_word e (log_cell x e.place) good.found answer), [])
   word_now =
-      f.now ∙ ap (λ u. (Tap x (heard_word e (x.log + e.place) u (turn_of u)), [])) same
-      ∙ ap (λ a. (Tap x (heard_word e (x.log + e.place) good.found a), [])) (sym good.answer_is)
+      f.now ∙ ap (λ u. (Tap x (heard_word e (log_cell x e.place) u (turn_of u)), [])) same
+      ∙ ap (λ a. (Tap x (heard_word e (log_cell x e.place) good.found a), [])) (sym good.answer_is)
 
-  pub word_fits : IsFit x.senders (heard_word e (x.log + e.place) good.found answer) r'
+  pub word_fits : IsFit x.senders (heard_word e (log_cell x e.place) good.found answer) r'
   word_fits =
       let p : r'.place ≡ r.place + 1 = ap (λ (z : LogReading). z.place) good.new_is in
       let q : r'.known ≡ r.known = ap (λ (z : LogReading). z.known) good.new_is in
@@ -198,6 +228,11 @@ module _ {C : Type 0} (x : TableLayout) (e : ReceiverView) (r r' : LogReading) (
         pieces = fit.pieces ++ good.found ∷ [];
         received = subst (λ z. HasReceived z (fit.pieces ++ good.found ∷ []) r')
             (sym front ∙ ap (λ k. take k e.known) (sym p)) good.received;
+        seen =
+            ap (λ (z : LogReading). z.ended) good.new_is
+            ∙ ended_with (list_any is_end fit.pieces) (is_end good.found)
+            (sym fit.seen ∙ going)
+            ∙ sym (list_any-append is_end fit.pieces (good.found ∷ []));
       }
 
   pub word_is_heard : HearsWord (Tap x e, []) answer m'
@@ -210,41 +245,53 @@ module _ {C : Type 0} (x : TableLayout) (e : ReceiverView) (r r' : LogReading) (
   }
 
 -- the same of a seat, whose reader had declined the word before
-module _ {C : Type 0} {m m' : Sat C} {words words' log got : ℕ} {r s r' : LogReading}
-    {answer : RecvTurn} (h : IsReceiverView m words log r) (f : FindsWord m got m')
-    (same_words : words' ≡ words) (unread : r.place ≢ r.known) (same : s ≡ r)
+module _ {C : Type 0} {m m' : Sat C} {words words' got : ℕ} {l : Listener} {s r' : LogReading}
+    {answer : RecvTurn} (h : IsReceiverView m words l) (f : FindsWord m got m')
+    (same_words : words' ≡ words) (going : l.reader.ended ≡ false)
+    (inside : l.reader.place ≢ l.limit) (same : s ≡ l.reader)
     (senders : r'.frames.senders ≡ s.frames.senders) (takes : TakesNext s got answer r') where
+  unread_word : l.reader.place ≢ l.reader.known
+  unread_word = not_known l h.round inside
+
   there : FindsWord (Tap h.table_layout h.receiver_view, []) got m'
   there = subst (λ (y : Sat C). FindsWord y got m') h.me f
 
-  takes_it : TakesWord (take r.place h.receiver_view.known) h.fit.pieces r got answer r'
+  takes_it : TakesWord (take l.reader.place h.receiver_view.known) h.fit.pieces l.reader got answer
+      r'
   takes_it = subst (λ (z : LogReading). TakesNext z got answer r') same takes
-      (take r.place h.receiver_view.known) h.fit.pieces h.fit.received
+      (take l.reader.place h.receiver_view.known) h.fit.pieces h.fit.received
 
-  still : r'.frames.senders ≡ r.frames.senders
+  still : r'.frames.senders ≡ l.reader.frames.senders
   still = senders ∙ ap (λ (z : LogReading). z.frames.senders) same
 
-  pub word_receiver_view : IsReceiverView m' words' log r'
-  word_receiver_view = record {
-    table_layout = h.table_layout;
-    receiver_view =
-        heard_word h.receiver_view (h.table_layout.log + h.receiver_view.place) _ answer;
-    me = word_now h.table_layout h.receiver_view r r' got answer m' h.fit unread still takes_it
-        there;
-    log_is = h.log_is;
-    within = h.within;
-    room = h.room;
-    few = h.few;
-    behind = h.behind;
-    wide = same_words ∙ h.wide;
-    fit = word_fits h.table_layout h.receiver_view r r' got answer m' h.fit unread still takes_it
-        there;
-  }
+  pub word_receiver_view : IsReceiverView m' words' (record l { reader = r' })
+  word_receiver_view =
+      let taken = good h.table_layout h.receiver_view l.reader r' got answer m' h.fit going
+      unread_word still takes_it there in
+      record {
+        table_layout = h.table_layout;
+        receiver_view =
+            heard_word h.receiver_view (log_cell h.table_layout h.receiver_view.place) taken.found
+            answer;
+        me = word_now h.table_layout h.receiver_view l.reader r' got answer m' h.fit going
+            unread_word still takes_it there;
+        wide = same_words ∙ h.wide;
+        cells = h.cells;
+        round = round_on l h.round r' inside (ap (λ (z : LogReading). z.place) taken.new_is)
+            (ap (λ (z : LogReading). z.known) taken.new_is);
+        stays = h.stays;
+        passed = h.passed;
+        past = (let a = h.past in omega arith);
+        never = h.never;
+        within = h.within;
+        fit = word_fits h.table_layout h.receiver_view l.reader r' got answer m' h.fit going
+            unread_word still takes_it there;
+      }
 
   pub word_heard : HearsWord m answer m'
   word_heard = subst (λ (y : Sat C). HearsWord y answer m') (sym h.me)
-      (word_is_heard h.table_layout h.receiver_view r r' got answer m' h.fit unread still takes_it
-      there)
+      (word_is_heard h.table_layout h.receiver_view l.reader r' got answer m' h.fit going
+      unread_word still takes_it there)
 
 -- a word that says nothing by itself is not the end
 no_end : (found : Option Piece) → turn.Going ≡ turn_of found → is_end found ≡ false
@@ -254,8 +301,8 @@ no_end (Some (piece.Item i)) e = refl
 no_end (Some (piece.Leave o)) e = refl
 no_end (Some piece.End) e = absurd (let no : turn.Going ≡ turn.End = e in cc)
 
-pub goes_on_after : {C : Type 0} {m : Sat C} {words log got : ℕ} {r r' : LogReading}
-    → IsReceiverView m words log r → r.ended ≡ false → TakesNext r got turn.Going r'
+pub goes_on_after : {C : Type 0} {m : Sat C} {words got : ℕ} {l : Listener} {r' : LogReading}
+    → IsReceiverView m words l → l.reader.ended ≡ false → TakesNext l.reader got turn.Going r'
     → r'.ended ≡ false
 goes_on_after h going takes = elim (takes _ _ h.fit.received) [
   | inl bad ↦ ap (λ (z : LogReading). z.ended) bad.2 ∙ going
@@ -272,12 +319,65 @@ noted words word same = let more = ap length same ∙ length-append words (word 
 pub no_still_turn : {C : Type 0} (x : TableLayout) (e : ReceiverView) (answer : RecvTurn)
     → e.ended ≡ false → e.place ≤ length e.known → Hears {C = C} (Tap x e, []) answer (Tap x e, [])
     → ⊥
-no_still_turn {C} x e answer going within h = elim (cases_lt e.place (length e.known)) [
-  | inl l ↦ noted e.loads _
-      (ap (λ (y : Sat C). (receiver_view_in y.0).loads) (h.at_word going l).finds.now)
-  | inr l ↦ noted e.loads _
-      (ap (λ (y : Sat C). (receiver_view_in y.0).loads) (h.at_length going (omega arith)).finds.now)
-]
+no_still_turn {C} x e answer going within h =
+    let not_due : PassIsDue x e → ⊥ = λ due.
+    noted e.loads _ (ap (λ (y : Sat C). (receiver_view_in y.0).loads) (h.at_pass going due).1) in
+    elim (cases_lt e.place (length e.known)) [
+      | inl l ↦ noted e.loads _
+          (ap (λ (y : Sat C). (receiver_view_in y.0).loads) (h.at_word going not_due l).finds.now)
+      | inr l ↦
+          let same : e.place ≡ length e.known = omega arith in
+          noted e.loads _
+          (ap (λ (y : Sat C). (receiver_view_in y.0).loads)
+          (h.at_length going not_due same).finds.now)
+    ]
+
+-- ---- what a turn refuses
+-- a view whose passed place is not what it has stored there is another
+module _ {C : Type 0} (x : TableLayout) (e : ReceiverView) (going : e.ended ≡ false) where
+  -- a turn that is due stores its place
+  stores : PassIsDue x e → (answer : RecvTurn) (f : ReceiverView)
+      → Hears {C = C} (Tap x e, []) answer (Tap x f, []) → f.passed ≡ e.place
+  stores due answer f h =
+      ap (λ (y : Sat C). (receiver_view_in y.0).passed) (h.at_pass going due).1
+
+  -- and one that is not leaves what it has passed as it was
+  leaves_passed : (PassIsDue x e → ⊥) → e.place ≤ length e.known → (answer : RecvTurn)
+      (f : ReceiverView) → Hears {C = C} (Tap x e, []) answer (Tap x f, []) → f.passed ≡ e.passed
+  leaves_passed not_due within answer f h = elim (cases_lt e.place (length e.known)) [
+    | inl l ↦
+        ap (λ (y : Sat C). (receiver_view_in y.0).passed) (h.at_word going not_due l).finds.now
+    | inr l ↦
+        let same : e.place ≡ length e.known = omega arith in
+        ap (λ (y : Sat C). (receiver_view_in y.0).passed)
+        (h.at_length going not_due same).finds.now
+  ]
+
+  pub turns_refuse : HearingRefuses C x e
+  turns_refuse = record {
+    loads_length = λ due known told answer h.
+        let a = stores due answer (heard_length e known told) h in
+        let past = due.1 in omega arith;
+    loads_word = λ due word found told answer h.
+        let a = stores due answer (heard_word e word found told) h in
+        let past = due.1 in omega arith;
+    known_length = λ low word answer h.
+        let f : ReceiverView = record (passed_on e word) { passed = length e.known } in
+        let not_due : PassIsDue x e → ⊥ = λ due.
+        (let a = stores due answer f h in omega arith) in
+        let place : e.place ≡ e.place + 1 =
+        ap (λ (y : Sat C). (receiver_view_in y.0).place) (h.at_word going not_due low).finds.now in
+        omega arith;
+    within_frame = λ past within torn word answer h.
+        let a = leaves_passed (λ due. torn due.2) within answer (passed_on e word) h in
+        omega arith;
+    none = λ past within flat word answer h.
+        let a = leaves_passed (λ due. let some = due.0 in omega arith) within answer
+        (passed_on e word) h in
+        omega arith;
+    leaves = λ some h.
+        noted e.loads _ (ap (λ (y : Sat C). (receiver_view_in y.0).loads) (h.ring some));
+  }
 
 -- nor is a receiver told a length without one
 pub no_still_telling : {C : Type 0} (x : TableLayout) (e : ReceiverView) (got : ℕ)
@@ -295,8 +395,8 @@ no_other_telling {C} x e got word other h =
     other cc
 
 -- the word at its place is known where it has not read all that it knows
-pub unread : {C : Type 0} {m : Sat C} {words log : ℕ} {r : LogReading}
-    → IsReceiverView m words log r → r.place ≢ r.known
+pub unread : {C : Type 0} {m : Sat C} {words : ℕ} {l : Listener}
+    → IsReceiverView m words l → l.reader.place ≢ l.reader.known
     → (receiver_view_in m.0).place < length (known_in m.0)
 unread {C} h other =
     subst (λ (y : Sat C). (receiver_view_in y.0).place < length (known_in y.0)) (sym h.me)

@@ -2,7 +2,7 @@
 -- adds no action.
 use Rattle.std.proofs.Common.{◌≡◌, ℕ, ◌+◌, ◌*◌, ◌<◌, cond, eq-eqb, Option, Some, inl, inr, List}
 use Rattle.std.proofs.Common.{[], ◌++◌, slice_get, slice_index, arith, refl, sym, ◌∙◌, ap, subst}
-use Rattle.std.proofs.lemmas.List.{append-nil}
+use Rattle.std.proofs.lemmas.List.{append-nil, nil_from_length}
 use Rattle.atomic_table.specs.Table.{State}
 use Rattle.bus_core.specs.Senders.{Sender, Situation, Does, Announces, Validates, Unpins}
 use Rattle.bus_core.specs.Senders.{Withdraws, Scans, Clears, ReadsPassed, situation}
@@ -23,7 +23,6 @@ use Rattle.bus_tenure.specs.declared.turns.Turn.{Turn as Answered}
 use Rattle.bus_tenure.specs.declared.turns.Turn.TheVariants as turn
 use Rattle.bus_world.specs.Trails.{actions_with}
 use Rattle.bus_world.specs.Headline.{Action}
-use Rattle.bus_world.specs.Log.{words_read_from}
 use Rattle.bus_world.specs.World.{Turn}
 use Rattle.bus_world.specs.declared.events.Answer.TheVariants as answer
 use Rattle.bus_automaton.specs.Lawful.{AutomatonLaws, AcceptsIn, IsSender}
@@ -164,9 +163,8 @@ pub closed_refused : {E : Type 0} {P : Process (Sender E)} {A : Automaton (Sende
     (r : TableInvariant P A s) (d : Sender E) (actions : List Action)
     → slice_index s.words 0 ≡ 0 → IsTrueAnswer x reuse r d actions turn.Closed → ⊥
 closed_refused {E} {P} {A} L x reuse s r d actions none h =
-    let empty : log_in A r.state ≡ [] = sym (L.log r.state r.reached).stands
-    ∙ ap (words_read_from (slice_index (A.words r.state)) A.table_layout.log)
-    (ap (λ ws. slice_index ws 0) (sym r.words) ∙ none) in
+    let empty : log_in A r.state ≡ [] = nil_from_length (log_in A r.state)
+    ((L.log r.state r.reached).long ∙ ap (λ ws. slice_index ws 0) (sym r.words) ∙ none) in
     (answers_refused h.machine (log_in A r.state) d.core.me d actions).closed_with_nothing empty
     h.tells
 

@@ -1,7 +1,7 @@
 -- How what leads to a state becomes the rule of the table: each step of a sender is allowed.
 use Rattle.std.proofs.Common.{◌≡◌, ◌≢◌, ℕ, ◌<◌, ◌≤◌, ◌==◌, cond, eq-eqb, ne_eqb, is_some, Option}
 use Rattle.std.proofs.Common.{Some, List, [], ◌∷◌, ◌++◌, length, set, slice_index, slice_set}
-use Rattle.std.proofs.Common.{arith, sym, ◌∙◌, ap, subst, ⊎_elim, inl, inr}
+use Rattle.std.proofs.Common.{arith, refl, sym, ◌∙◌, ap, subst, ⊎_elim, inl, inr}
 use mathlib.Core.Option.{some, none}
 use mathlib.Core.Option as maybe
 use lib.ListN.{get_elem?}
@@ -32,6 +32,7 @@ use Rattle.bus_automaton.specs.Lawful.{ProcessLaws, AutomatonLaws, ChangesTo, Ac
 use Rattle.bus_automaton.specs.Lawful.{LogGrows, IsSender}
 use Rattle.bus_pageslot.specs.Rule.{slot_of, Sat, sender_trail_in, stored_in, IsSeated, IsUnseated}
 use Rattle.bus_pageslot.specs.Rule.{KnowsLog, IsTrueOf, TableInvariant}
+use Rattle.bus_pageslot.proofs.Loads.{Listens}
 use Rattle.bus_pageslot.specs.Steps.{all_in, since_in, stored_by, Told, Gone, IsDue}
 use Rattle.bus_automaton.specs.SenderTrails.{SenderTrail, with_actions, with_sender_trail}
 use Rattle.bus_pageslot.proofs.Accepting.{since_is}
@@ -61,7 +62,8 @@ module _ {C : Type 0} (A : Automaton C) (z z' : A.State) (g : LogGrows A z z') w
       omega arith
 
 -- the views of the others stay true where the sender p, whose seat is id, is replaced
-module _ {C : Type 0} (P : Process C) (A : Automaton C) (z z' : A.State) (seat : ℕ → ℕ) (p id : ℕ)
+module _ {C : Type 0} (P : Process C) (A : Automaton C) (z z' : A.State) (seat ear : ℕ → ℕ)
+    (p id : ℕ)
     (d : C) (all : SenderTrail) (on : ChangesTo A z p d all z') (g : LogGrows A z z')
     (mine : seat p ≡ id) (j : ℕ) (other : j ≢ id) where
   apart : (q : ℕ) → seat q ≡ j → q ≢ p
@@ -83,7 +85,18 @@ module _ {C : Type 0} (P : Process C) (A : Automaton C) (z z' : A.State) (seat :
     sender_trail_is = on.nothing_else q (apart q h.here) ∙ h.sender_trail_is;
   }
 
-  log_still : (x : TableLayout) (e : ReceiverView) → KnowsLog A z x e → KnowsLog A z' x e
+  listens_still : (e : ReceiverView) → Listens A z ear j e → Listens A z' ear j e
+  listens_still e (inl flat) = inl flat
+  listens_still e (inr l) = inr record {
+    here = l.here;
+    below = l.below;
+    shown = λ stays. on.passed e.me ∙ l.shown stays;
+    left = λ gone. on.passed e.me ∙ l.left gone;
+    past = l.past;
+  }
+
+  log_still : (x : TableLayout) (e : ReceiverView) → KnowsLog A z ear j x e
+      → KnowsLog A z' ear j x e
   log_still x e h =
       let same : h.frames ≡ g.frames = same_log A.table_layout.senders 0 0 h.frames g.frames
       h.lawful g.lawful (h.words_are ∙ sym g.words_are) in
@@ -99,51 +112,71 @@ module _ {C : Type 0} (P : Process C) (A : Automaton C) (z z' : A.State) (seat :
         lawful = g.lawful_now;
         words_are = g.words_now;
         heard = heard_later g.frames e (subst (λ fs. HasHeard fs e) same h.heard) g.more read;
+        listens = listens_still e h.listens;
       }
 
-  pub others_know : (v : View C) → IsTrueOf P A z seat j v → IsTrueOf P A z' seat j v
-  others_know (Maker x made) h = (h.0, λ q low high. unseated_still q (h.1 q low high))
+  pub others_know : (v : View C) → IsTrueOf P A z seat ear j v → IsTrueOf P A z' seat ear j v
+  others_know (Maker x made) h = (
+    h.0,
+    (λ q low high. unseated_still q (h.1 q low high)),
+    λ q low high. record {
+      here = (h.2 q low high).here;
+      passed = on.passed q ∙ (h.2 q low high).passed;
+    },
+  )
   others_know (Sender c t stored) h = seated_still c t stored h
   others_know (Tap x e) h = log_still x e h
-  others_know (Meeting x e y f) h = (log_still x e h.0, log_still y f h.1)
+  others_know (Meeting x e y f) h = (log_still x e h.0, log_still y f h.1, h.2)
   others_know (Telling c t stored x e) h = (seated_still c t stored h.0, log_still x e h.1)
   others_know Spent h = tt
 
+-- the rule holds of a table, and what was published is that of this state
+record Tied {C : Type 0} (P : Process C) (A : Automaton C) (s : State (Option Page) (View C))
+    (z : A.State) : Type 0 where
+  rule : TableInvariant P A s
+  log : log_in A rule.state ≡ log_in A z
+
 -- The tie: where a state with the new words, page and sender goes on from the old one, the rule
 -- holds of the new table
-pub tie : {C : Type 0} (P : Process C) (A : Automaton C) (s : State (Option Page) (View C))
+tie : {C : Type 0} (P : Process C) (A : Automaton C) (s : State (Option Page) (View C))
     (r : TableInvariant P A s) (id : ℕ) (c d : C) (t t' : SenderTrail) (stored stored' : ℕ)
     (words : List ℕ) (homes : List (maybe.Option (Option Page))) (z' : A.State)
     → ChangesTo A r.state (P.me c) d t' z' → LogGrows A r.state z'
     → stored' ≤ slice_index (A.words z') 0
     → get_elem? s.views id ≡ some (Sender c t stored) → P.me d ≡ P.me c → words ≡ A.words z'
     → homes ≡ slot_of (A.home z') ∷ []
-    → TableInvariant P A record {
+    → Tied P A (record {
       words = words;
       homes = homes;
       views = set s.views id (Sender d t' stored');
-    }
+    }) z'
 tie {C} P A s r id c d t t' stored stored' words homes z' on grows long at same words_are slot =
     let k = r.views id (Sender c t stored) at in record {
-      state = z';
-      reached = on.reached;
-      words = words_are;
-      slot = slot;
-      seat = r.seat;
-      views = λ j v e. ⊎_elim
-          (λ (u : (j ≡ id) × (Sender d t' stored' ≡ v)).
-          subst (λ (y : ℕ × View C). IsTrueOf P A z' r.seat y.0 y.1) (λ i. (sym u.0 i, u.1 i))
-          (record {
-            here = ap r.seat same ∙ k.here;
-            core = ap (A.sender z') same ∙ on.here;
-            sender_trail_is = ap (A.sender_trail z') same ∙ on.sender_trail;
-            reached = long;
-          }))
-          (λ (u : (j ≢ id) × (get_elem? s.views j ≡ some v)). others_know P A r.state z' r.seat
-          (P.me c) id d t' on grows k.here j u.0 v (r.views j v u.1))
-          (at_set s.views id j (Sender d t' stored') v e);
-      all = λ p below. still_seen P s.views id (Sender c t stored) (Sender d t' stored') at p
-          (λ is. same ∙ is) (r.all p below);
+      rule = record {
+        state = z';
+        reached = on.reached;
+        words = words_are;
+        slot = slot;
+        seat = r.seat;
+        ear = r.ear;
+        views = λ j v e. ⊎_elim
+            (λ (u : (j ≡ id) × (Sender d t' stored' ≡ v)).
+            subst (λ (y : ℕ × View C). IsTrueOf P A z' r.seat r.ear y.0 y.1)
+            (λ i. (sym u.0 i, u.1 i))
+            (record {
+              here = ap r.seat same ∙ k.here;
+              core = ap (A.sender z') same ∙ on.here;
+              sender_trail_is = ap (A.sender_trail z') same ∙ on.sender_trail;
+              reached = long;
+            }))
+            (λ (u : (j ≢ id) × (get_elem? s.views j ≡ some v)).
+            others_know P A r.state z' r.seat r.ear
+            (P.me c) id d t' on grows k.here j u.0 v (r.views j v u.1))
+            (at_set s.views id j (Sender d t' stored') v e);
+        all = λ p below. still_seen P s.views id (Sender c t stored) (Sender d t' stored') at p
+            (λ is. same ∙ is) (r.all p below);
+      };
+      log = refl;
     }
 
 -- ---- a step
@@ -264,6 +297,7 @@ module _ {C : Type 0} (P : Process C) (A : Automaton C) (K : ProcessLaws P)
       here = placed;
       others = λ q ne. done.changes.others q ne ∙ grown.changes.others q ne;
       sender_trail = did;
+      passed = λ q. done.changes.passed q ∙ grown.changes.passed q;
       nothing_else = λ q ne. done.changes.nothing_else q ne ∙ grown.changes.nothing_else q ne;
     }
 
@@ -300,22 +334,31 @@ module _ {C : Type 0} (P : Process C) (A : Automaton C) (K : ProcessLaws P)
         (stored_long o (A.words z) before (slice_index (A.words done.state) 0)
         (let w = within in omega arith) (ap (λ w. slice_index w 0) done.words) long)
 
-    allowed : (w : View C) × (a : Act (Option Page)) × Valid s.homes m.1 a
-        × TableInvariant P A record {
+    tied : Tied P A (record {
+      words = slice_set s.words (register o) (f n);
+      homes = homes_after s.homes m.1 moved.act;
+      views = set s.views id (Sender d_now sender_trail stored);
+    }) done.state
+    tied = tie P A s r id c d_now (sender_trail_in m.0) sender_trail before stored
+        (slice_set s.words (register o) (f n)) (homes_after s.homes m.1 moved.act) done.state
+        changes grows stored_now at_view is_now.me words_now
+        (moved.homes_now
+        ∙ ap (λ (h : Option Page). slot_of h ∷ [])
+        (ap (home_moved (P.move d)) (sym grown.home) ∙ sym done.home))
+
+    -- the rule holds after it, the seat shows it, and what was published goes on
+    pub goes_on : (w : View C) × (a : Act (Option Page)) × Valid s.homes m.1 a
+        × (k : TableInvariant P A record {
           words = slice_set s.words (register o) (f n);
           homes = homes_after s.homes m.1 a;
           views = set s.views id w;
-        } × Gone P d word m (g n) (w, carried_after m.1 a)
-    allowed = (
+        }) × Gone P d word m (g n) (w, carried_after m.1 a)
+        × IsPrefix (log_in A r.state) (log_in A k.state)
+    goes_on = (
       Sender d_now sender_trail stored,
       moved.act,
       moved.valid,
-      tie P A s r id c d_now (sender_trail_in m.0) sender_trail before stored
-          (slice_set s.words (register o) (f n)) (homes_after s.homes m.1 moved.act) done.state
-          changes grows stored_now at_view is_now.me words_now
-          (moved.homes_now
-          ∙ ap (λ (h : Option Page). slot_of h ∷ [])
-          (ap (home_moved (P.move d)) (sym grown.home) ∙ sym done.home)),
+      tied.rule,
       record {
         home = A.home r.state;
         taken = taken;
@@ -331,6 +374,7 @@ module _ {C : Type 0} (P : Process C) (A : Automaton C) (K : ProcessLaws P)
             (g n);
         now = λ i. (Sender d_now sender_trail stored, moved.carried_now i);
       },
+      subst (IsPrefix (log_in A r.state)) (sym tied.log) (front A r.state done.state grows),
     )
 
   pub goes_allowed : (slots id : ℕ) (m : Sat C) (d : C) (word : ℕ) (o : Op) (many : ℕ)
@@ -340,4 +384,5 @@ module _ {C : Type 0} (P : Process C) (A : Automaton C) (K : ProcessLaws P)
       → ((n : ℕ) → P.answer d (g n) word ≡ P.answer d n word)
       → Allows (TableInvariant P A) slots id m (register o) f (λ n. Gone P d word m (g n))
   goes_allowed slots id m d word o many due f g writes says blind mute s r size at range =
-      allowed id m d word o many due f g writes says blind mute s r at
+      let on = goes_on id m d word o many due f g writes says blind mute s r at in
+      (on.0, on.1, on.2, on.3, on.4)

@@ -40,15 +40,15 @@ pub record AreNewSeats {C : Type 0} (P : Process C) (A : Automaton C) (table : T
   pub many_are : length senders ≡ many
   pub each : (p : ℕ) (s : SenderSeat C) → slice_get senders p ≡ Some s → IsNewSeat P A table p s
 
--- a receiver of this table before its first turn
-pub record IsNewTap {C : Type 0} (x : TableLayout) (table : TableId) (t : ReceiverSeat C) :
-    Type 0 where
+-- the receiver r of this table before its first turn
+pub record IsNewTap {C : Type 0} (x : TableLayout) (table : TableId) (r : ℕ)
+    (t : ReceiverSeat C) : Type 0 where
   pub table_is : t.table_id ≡ table
-  pub receiver_view : receiver_view_in t.me.0 ≡ new_receiver_view
+  pub receiver_view : receiver_view_in t.me.0 ≡ new_receiver_view r
   pub table_layout : table_layout_in t.me.0 ≡ x
 
 -- so many of them, in order
 pub record AreNewTaps {C : Type 0} (x : TableLayout) (table : TableId) (many : ℕ)
     (taps : List (ReceiverSeat C)) : Type 0 where
   pub many_are : length taps ≡ many
-  pub each : (r : ℕ) (t : ReceiverSeat C) → slice_get taps r ≡ Some t → IsNewTap x table t
+  pub each : (r : ℕ) (t : ReceiverSeat C) → slice_get taps r ≡ Some t → IsNewTap x table r t

@@ -31,10 +31,15 @@ abbrev pub turns_to_clear : Option Reclaiming → ℕ
 turns_to_clear None = 0
 turns_to_clear (Some s) = (s.senders - s.scanned) + (s.width - s.cleared)
 
--- what comes to a tenure where rows are used again: the store that clears its presence, and those
--- that make the next row ready
+-- of one whose frame finds no room: a load for each passed place, if there are any
+abbrev pub turns_to_pass : {E : Type 0} → Core E → Option Reuse → ℕ
+turns_to_pass c None = 0
+turns_to_pass c (Some r) = c.layout.passers - r.passed.loaded
+
+-- what comes to a tenure where rows are used again: the store that clears its presence, those that
+-- make the next row ready, and the loads of passed places
 abbrev pub turns_of_reuse : {E : Type 0} → Core E → ℕ
-turns_of_reuse c = 1 + (c.layout.senders + c.layout.width)
+turns_of_reuse c = 1 + (c.layout.senders + c.layout.width) + c.layout.passers
 
 abbrev pub turns_with_reuse : {E : Type 0} → Core E → Option Reuse → ℕ
 turns_with_reuse c None = 0
@@ -44,8 +49,9 @@ turns_with_reuse c (Some r) = turns_of_reuse c
 abbrev pub turns_in : {E : Type 0} → Election E → Core E → Option Reuse → Phase E → ℕ
 turns_in X c r Resting = 0
 turns_in X c r (Electing t e) = X.turns_left e + turns_with_reuse c r + turns_to_return c 0 false
-turns_in X c r (Taken t) = turns_to_return c 0 false
-turns_in X c r (Holding t page stored published) = turns_to_return c stored published
+turns_in X c r (Taken t) = turns_to_return c 0 false + turns_to_pass c r
+turns_in X c r (Holding t page stored published) =
+    turns_to_return c stored published + turns_to_pass c r
 turns_in X c r (Giving t reason) = 1
 
 -- of a tenure that it has begun and not entered yet: that of a new election

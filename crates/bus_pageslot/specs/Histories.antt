@@ -1,20 +1,26 @@
 -- The machine that stands behind a table, and what led to it.
-use Rattle.std.specs.Prelude.{◌≡◌, ◌⊎◌, ℕ, ◌<◌, Option, Some, List, [], ◌∷◌, slice_get, slice_index}
+use Rattle.std.specs.Prelude.{◌≡◌, ◌⊎◌, ℕ, ◌<◌, Option, Some, List, [], ◌∷◌, drop, slice_get}
+use Rattle.std.specs.Prelude.{slice_index, slice_set}
 use mathlib.Core.Option.{some}
 use lib.ListN.{get_elem?}
-use Rattle.atomic_table.specs.Table.{State}
+use Rattle.atomic_table.specs.Table.{State, Act, Valid, homes_after, carried_after}
+use Rattle.bus_register.specs.Words.{register}
+use Rattle.bus_register.specs.declared.registers.Op.{Op}
 use Rattle.bus_core.specs.Senders.{Sender}
 use Rattle.bus_machine.specs.Bounding.{AreBounded, PinsAreBounded}
 use Rattle.bus_machine.specs.Promise.{IsPromised}
 use Rattle.bus_machine.specs.Telling.{LossesAreSeen}
 use Rattle.bus_tenure.specs.Core.{Election, Layout}
 use Rattle.bus_tenure.specs.declared.pages.Page.{Page}
+use Rattle.bus_world.specs.Turning.{words_after}
 use Rattle.bus_automaton.specs.OneAutomaton.{MachineHistory, IsMachineHistory, trail_of}
+use Rattle.bus_automaton.specs.Lawful.{floor_in, log_from_floor}
 use Rattle.bus_automaton.specs.OneProcess.{table_layout_by}
-use Rattle.bus_automaton.specs.Processes.{TableLayout, Automaton, log_below, log_in}
+use Rattle.bus_automaton.specs.Processes.{TableLayout, Process, Automaton, log_below, log_in}
 use Rattle.bus_automaton.specs.SenderTrails.{SenderTrail, new_sender_trail}
 use Rattle.bus_pageslot.specs.ReceiverViews.{ReceiverView}
-use Rattle.bus_pageslot.specs.Rule.{slot_of}
+use Rattle.bus_pageslot.specs.Rule.{Sat, TableInvariant, slot_of}
+use Rattle.bus_pageslot.specs.Steps.{Gone}
 use Rattle.bus_pageslot.specs.declared.rule.View.{View}
 use Rattle.bus_pageslot.specs.declared.rule.View.TheVariants as view
 
@@ -50,19 +56,41 @@ pub record HasHistory {E : Type 0} (X : Election E) (x : Layout) (reuse : Option
   -- each sender shows in a seat, or has none yet and has done nothing
   pub all : (p : ℕ) → p < x.senders
       → IsShown s p ⊎ (trail_of bases history.trails p ≡ new_sender_trail (slice_index bases p))
-  -- all that was published stands in the words below the length
-  pub stands : log_below (table_layout_by x reuse) s.words ≡ history.trails.log
+  -- From the floor on each word that was published stands in its cell. Where no word of the log is
+  -- used again the floor is 0.
+  pub shows : log_from_floor (table_layout_by x reuse) s.words
+      ≡ drop (floor_in (table_layout_by x reuse) s.words) history.trails.log
+  pub stands : x.passers ≡ 0 → log_below (table_layout_by x reuse) s.words ≡ history.trails.log
   pub promised : IsPromised X history.machine history.trails
   pub losses : LossesAreSeen history.machine history.trails.actions
   -- with so many senders and rounds an election has so many turns
   pub bounded : AreBounded X (most x.senders x.rounds) history.machine history.trails
       × PinsAreBounded history.trails
 
--- Executions lead to a state of this automaton with these words; and whichever do, this is so of
--- all that was published by them.
+-- The rule holds of the table after the step o of this sender d. The seat that took it shows it,
+-- and all other seats show what they showed. And this is so of all that was published by then.
+pub record LeavesRule {C : Type 0} (P : Process C) (A : Automaton C)
+    (s : State (Option Page) (View C)) (seat : ℕ) (m : Sat C) (d : C) (word : ℕ) (o : Op)
+    (IsSo : List ℕ → Type 0) : Type 0 where
+  pub view : View C
+  -- what the step did with the slot
+  pub act : Act (Option Page)
+  pub valid : Valid s.homes m.1 act
+  pub rule : TableInvariant P A record {
+    words = words_after s.words (Some o);
+    homes = homes_after s.homes m.1 act;
+    views = slice_set s.views seat view;
+  }
+  pub shows : Gone P d word m (slice_index s.words (register o)) (view, carried_after m.1 act)
+  pub so : IsSo (log_in A rule.state)
+
+-- Executions lead to a state of this automaton with these words, and this is so of all that was
+-- published by them; where no word of its log is used again, by whichever lead there.
 pub record LeavesLog {C : Type 0} (A : Automaton C) (words : List ℕ) (IsSo : List ℕ → Type 0) :
     Type 0 where
   pub state : A.State
   pub reached : A.IsReached state
   pub words_are : A.words state ≡ words
-  pub log : (z : A.State) → A.IsReached z → A.words z ≡ words → IsSo (log_in A z)
+  pub so : IsSo (log_in A state)
+  pub log : A.table_layout.passers ≡ 0
+      → (z : A.State) → A.IsReached z → A.words z ≡ words → IsSo (log_in A z)

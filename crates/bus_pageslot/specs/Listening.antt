@@ -1,20 +1,24 @@
 -- A receiver's turns: what one load makes of its seat, and what is answered.
-use Rattle.std.specs.Prelude.{◌≡◌, ℕ, ◌<◌, ◌≤◌, ◌+◌, true, false, Option, Some, None, List}
+use Rattle.std.specs.Prelude.{◌≡◌, ℕ, ◌<◌, ◌≤◌, true, false, Option, Some, None, List, []}
 use Rattle.std.specs.Prelude.{◌++◌, length, take, slice_get, slice_index, if◌then◌else◌, ◌==◌}
 use Rattle.bus_batch.specs.declared.messages.Item.{Item}
 use Rattle.bus_batch.specs.declared.messages.Piece.{Piece}
-use Rattle.bus_batch.specs.Frames.{Frame, AreFrames, GivesPiece, log_words, log_pieces}
+use Rattle.bus_batch.specs.Frames.{Frame, AreFrames, GivesPiece, IsLog, log_words, log_pieces}
 use Rattle.bus_deliverylog.specs.declared.receiving.RecvTurn.{RecvTurn}
 use Rattle.bus_deliverylog.specs.declared.receiving.RecvTurn.TheVariants as turn
 use Rattle.bus_deliverylog.specs.Receiving.{turn_of}
 use Rattle.bus_tenure.specs.Core.{length_at}
 use Rattle.bus_world.specs.Headline.{IsPrefix}
-use Rattle.bus_automaton.specs.Processes.{TableLayout}
+use Rattle.bus_automaton.specs.Processes.{TableLayout, log_cell}
 use Rattle.bus_pageslot.specs.declared.listening.ItemTurn.{ItemTurn}
 use Rattle.bus_pageslot.specs.declared.listening.ItemTurn.TheVariants as item_turn
 use Rattle.bus_pageslot.specs.ReceiverViews.{ReceiverView, heard_length, heard_word, length_turn}
+use Rattle.bus_pageslot.specs.ReceiverViews.{passed_on}
 use Rattle.bus_pageslot.specs.Rule.{Sat, receiver_view_in, known_in, with_receiver_view}
-use Rattle.bus_pageslot.specs.Rule.{senders_in, capacity_in, log_word_in}
+use Rattle.bus_pageslot.specs.Rule.{senders_in, table_layout_in, log_word_in, FitsLog}
+use Rattle.bus_pageslot.specs.declared.rule.View.{View}
+use Rattle.bus_pageslot.specs.declared.rule.View.TheVariants.{Tap}
+use Rattle.bus_pageslot.specs.Steps.{HasPassed, HasLeftBy}
 
 -- ---- what the step tells
 -- of the length: what the receiver knows of the log grows, up to the length that was found
@@ -22,7 +26,7 @@ pub record FindsLength {C : Type 0} (m : Sat C) (got : ℕ) (m' : Sat C) : Type 
   pub known : List ℕ
   pub grows : IsPrefix (known_in m.0) known
   pub length_is : length known ≡ got
-  pub within : length known ≤ capacity_in m.0
+  pub within : FitsLog (table_layout_in m.0) known
   pub now : m' ≡ (
     with_receiver_view m.0
         (heard_length (receiver_view_in m.0) known (length_turn (receiver_view_in m.0).place got)),
@@ -61,18 +65,33 @@ pub record HearsWord {C : Type 0} (m : Sat C) (answer : RecvTurn) (m' : Sat C) :
       finds.found
   pub answer_is : answer ≡ turn_of finds.found
 
+-- ---- when a receiver passes
+-- Its passed place is due: it has read a whole frame since it stored that last, and none is under
+-- way where it stands.
+abbrev pub PassIsDue : TableLayout → ReceiverView → Type 0
+PassIsDue x e =
+    (0 < x.passers) × (e.passed < e.place) × IsLog x.senders (take e.place e.known)
+
+-- of the view of a receiver's seat
+abbrev pub PassesNext : {C : Type 0} → View C → Type 0
+PassesNext v = PassIsDue (table_layout_in v) (receiver_view_in v)
+
 -- One turn of a receiver. After the end it answers so for good, and takes no step. Where it has
--- read all that it knows it loads the length, and else the word at its place.
+-- read a whole frame that it has not passed it stores its place in its passed place, and answers
+-- Going. Else it loads the length where it has read all that it knows, and else the word at its
+-- place.
 pub record Hears {C : Type 0} (m : Sat C) (answer : RecvTurn) (m' : Sat C) : Type 0 where
   pub ended : (receiver_view_in m.0).ended ≡ true → (answer ≡ turn.End) × (m' ≡ m)
-  pub at_length : (receiver_view_in m.0).ended ≡ false
+  pub at_pass : (receiver_view_in m.0).ended ≡ false → PassesNext m.0
+      → (answer ≡ turn.Going) × HasPassed m m'
+  pub at_length : (receiver_view_in m.0).ended ≡ false → ¬ PassesNext m.0
       → (receiver_view_in m.0).place ≡ length (known_in m.0) → HearsLength m answer m'
-  pub at_word : (receiver_view_in m.0).ended ≡ false
+  pub at_word : (receiver_view_in m.0).ended ≡ false → ¬ PassesNext m.0
       → (receiver_view_in m.0).place < length (known_in m.0) → HearsWord m answer m'
 
--- which word that is, of a receiver that has not ended
+-- which word it loads, of a receiver that has not ended and that is not to pass
 abbrev pub due_load : TableLayout → ReceiverView → ℕ
-due_load x e = if e.place == length e.known then length_at else x.log + e.place
+due_load x e = if e.place == length e.known then length_at else log_cell x e.place
 
 -- ---- an answer of which an item is written in its place
 abbrev pub item_turn_of : RecvTurn → ItemTurn
@@ -127,3 +146,24 @@ pub record HearsAfter {C : Type 0} (first : Sat C) (before : Item) (told : ItemT
   pub answer : RecvTurn
   pub hears : Hears old answer new
   pub writes : Writes answer before told after
+
+-- ---- what these refuse, of a receiver that has not ended
+pub record HearingRefuses (C : Type 0) (x : TableLayout) (e : ReceiverView) : Type 0 where
+  -- a load, where its passed place is due
+  pub loads_length : PassIsDue x e → (known : List ℕ) (told answer : RecvTurn)
+      → ¬ Hears {C = C} (Tap x e, []) answer (Tap x (heard_length e known told), [])
+  pub loads_word : PassIsDue x e → (word : ℕ) (found : Option Piece) (told answer : RecvTurn)
+      → ¬ Hears {C = C} (Tap x e, []) answer (Tap x (heard_word e word found told), [])
+  -- a store of the length that it knows, though it has not read all of it
+  pub known_length : e.place < length e.known → (word : ℕ) (answer : RecvTurn)
+      → ¬ Hears {C = C} (Tap x e, []) answer
+      (Tap x (record (passed_on e word) { passed = length e.known }), [])
+  -- a store of its place within a frame, or of a receiver that has no passed place
+  pub within_frame : e.passed < e.place → e.place ≤ length e.known
+      → ¬ IsLog x.senders (take e.place e.known) → (word : ℕ) (answer : RecvTurn)
+      → ¬ Hears {C = C} (Tap x e, []) answer (Tap x (passed_on e word), [])
+  pub none : e.passed < e.place → e.place ≤ length e.known → x.passers ≡ 0
+      → (word : ℕ) (answer : RecvTurn)
+      → ¬ Hears {C = C} (Tap x e, []) answer (Tap x (passed_on e word), [])
+  -- a leave of a ring without a store
+  pub leaves : 0 < x.passers → ¬ HasLeftBy {C = C} (Tap x e, []) (Tap x e, [])

@@ -1,5 +1,6 @@
 -- What is promised of the seats of a table, whenever its rule holds.
-use Rattle.std.specs.Prelude.{◌≡◌, ℕ, ◌<◌, ◌≤◌, ◌⊎◌, List, [], Option}
+use Rattle.std.specs.Prelude.{◌≡◌, ℕ, ◌<◌, ◌≤◌, ◌⊎◌, List, [], drop, length, Option, slice_index}
+use Rattle.bus_automaton.specs.Lawful.{floor_in, log_from_floor}
 use mathlib.Core.Option.{some}
 use lib.ListN.{get_elem?}
 use Rattle.atomic_table.specs.Table.{State}
@@ -60,8 +61,11 @@ pub record IsPromised {C : Type 0} (P : Process C) (x : TableLayout) (base : ℕ
   pub shown : (p : ℕ) → p < x.senders
       → (j : ℕ) × (v : View C) × (get_elem? s.views j ≡ some v) × ShowsActions P p (actions p) v
   pub nobody : (p : ℕ) → x.senders ≤ p → actions p ≡ []
-  -- all that was published stands in the words below the length
-  pub stands : log_below x s.words ≡ log
+  -- It is as long as the length says, and from the floor on each of its words stands in its cell.
+  -- Where no word of the log is used again the floor is 0.
+  pub long : length log ≡ slice_index s.words 0
+  pub shows : log_from_floor x s.words ≡ drop (floor_in x s.words) log
+  pub stands : x.passers ≡ 0 → log_below x s.words ≡ log
   pub order : Order
   pub owners : List (ℕ × SenderNo)
   pub spelled : Spells x.senders log order owners

@@ -1,6 +1,6 @@
 -- What a receiver knows of the log, what it has read of that, and what it was answered.
-use Rattle.std.specs.Prelude.{◌≡◌, ℕ, ◌+◌, ◌<◌, ◌≤◌, Bool, false, Option, Some, List, [], ◌∷◌}
-use Rattle.std.specs.Prelude.{◌++◌, take, slice_get, if◌then◌else◌, ◌==◌}
+use Rattle.std.specs.Prelude.{◌≡◌, ℕ, ◌+◌, ◌<◌, ◌≤◌, Bool, true, false, Option, Some, List, []}
+use Rattle.std.specs.Prelude.{◌∷◌, ◌++◌, take, slice_get, if◌then◌else◌, ◌==◌}
 use Rattle.bus_batch.specs.declared.messages.Piece.{Piece}
 use Rattle.bus_batch.specs.Frames.{Frame, log_pieces, order_in, owners_in, is_end}
 use Rattle.bus_deliverylog.specs.Orders.{IsPrefixOfOrder}
@@ -9,18 +9,37 @@ use Rattle.bus_deliverylog.specs.declared.receiving.RecvTurn.TheVariants as turn
 use Rattle.bus_tenure.specs.Core.{length_at}
 use Rattle.bus_world.specs.Headline.{IsPrefix, order_given, heads}
 
--- The words of the log that it knows; how many of these it has read, and whether the end was among
--- them; what its turns that took a step have answered; and which words of the table it has loaded.
--- Of both the first is first, and a meeting, which is three loads of the length, counts as one.
+-- A receiver. Where no word of the log is used again it has no passed place, and stores nothing.
 pub record ReceiverView : Type 0 where
+  -- the words of the log that it knows
   pub known : List ℕ
+  -- how many of these it has read, and whether the end was among them
   pub place : ℕ
   pub ended : Bool
+  -- what its turns that took a step have answered, the first first
   pub answers : List RecvTurn
+  -- On which words of the table its steps were, the first first: loads, but for the stores in its
+  -- passed place. A meeting, which is three loads of the length, counts as one.
   pub loads : List ℕ
+  -- its number
+  pub me : ℕ
+  -- the place that it has stored in its passed place; 0 before the first
+  pub passed : ℕ
+  -- it has left for good
+  pub gone : Bool
 
-abbrev pub new_receiver_view : ReceiverView
-new_receiver_view = record { known = []; place = 0; ended = false; answers = []; loads = [] }
+-- the receiver of this number at its start
+abbrev pub new_receiver_view : ℕ → ReceiverView
+new_receiver_view me = record {
+  known = [];
+  place = 0;
+  ended = false;
+  answers = [];
+  loads = [];
+  me = me;
+  passed = 0;
+  gone = false;
+}
 
 -- ---- one load
 -- of this word, out of turn
@@ -47,6 +66,19 @@ heard_word e word found answer = record e {
   answers = e.answers ++ answer ∷ [];
   loads = e.loads ++ word ∷ [];
 }
+
+-- ---- one store, in this word, which is its passed place
+-- of its place, by a turn
+abbrev pub passed_on : ReceiverView → ℕ → ReceiverView
+passed_on e word = record e {
+  answers = e.answers ++ turn.Going ∷ [];
+  loads = e.loads ++ word ∷ [];
+  passed = e.place;
+}
+
+-- of the number past all places: it has left for good
+abbrev pub left_for_good : ReceiverView → ℕ → ReceiverView
+left_for_good e word = record e { loads = e.loads ++ word ∷ []; gone = true }
 
 -- what a turn answers that has found this length: Empty exactly where that is its place
 abbrev pub length_turn : ℕ → ℕ → RecvTurn

@@ -1,8 +1,8 @@
 -- The rule of the table. Its words and its slot are those of a state that executions of a bus lead
 -- to, of senders that did what the views of its seats show: so between any two steps all that is
 -- promised of the machine holds of what threads did.
-use Rattle.std.specs.Prelude.{◌≡◌, ℕ, ◌+◌, ◌<◌, ◌≤◌, List, [], ◌∷◌, length, Option, Some, None}
-use Rattle.std.specs.Prelude.{slice_index}
+use Rattle.std.specs.Prelude.{◌≡◌, ◌≢◌, ◌⊎◌, ℕ, ◌+◌, ◌-◌, ◌<◌, ◌≤◌, true, false, List, [], ◌∷◌}
+use Rattle.std.specs.Prelude.{Option, Some, None, length, slice_index}
 use mathlib.Core.Option.{some, none}
 use mathlib.Core.Option as maybe
 use lib.ListN.{get_elem?}
@@ -13,7 +13,7 @@ use Rattle.bus_world.specs.Headline.{IsPrefix}
 use Rattle.bus_pageslot.specs.ReceiverViews.{ReceiverView, new_receiver_view}
 use Rattle.bus_pageslot.specs.ReceiverViews.{receiver_view_knowing, HasHeard}
 use Rattle.bus_automaton.specs.Processes.{TableLayout, no_table_layout, Process, Automaton}
-use Rattle.bus_automaton.specs.Processes.{base_in, log_in}
+use Rattle.bus_automaton.specs.Processes.{base_in, log_in, log_cell, passed_word}
 use Rattle.bus_automaton.specs.SenderTrails.{SenderTrail, new_sender_trail, no_sender_trail}
 use Rattle.bus_pageslot.specs.declared.rule.View.{View}
 use Rattle.bus_pageslot.specs.declared.rule.View.TheVariants.{Maker, Sender, Tap, Meeting, Telling}
@@ -59,12 +59,13 @@ abbrev pub cut_right : {C : Type 0} → Option C → ℕ → View C
 cut_right None first = Spent
 cut_right (Some c) first = Sender c (new_sender_trail first) 0
 
--- the view of the maker of seats, before and after a receiver's seat is made
+-- the view of the maker of seats, before and after a receiver's seat is made: these come behind
+-- those of all senders
 abbrev pub tap_left : {C : Type 0} → View C → View C
-tap_left v = v
+tap_left v = cut_left v
 
 abbrev pub tap_right : {C : Type 0} → View C → View C
-tap_right (Maker x made) = Tap x new_receiver_view
+tap_right (Maker x made) = Tap x (new_receiver_view (made - x.senders))
 tap_right (Sender c sender_trail stored) = Spent
 tap_right (Tap x e) = Spent
 tap_right (Meeting x e y f) = Spent
@@ -73,12 +74,12 @@ tap_right Spent = Spent
 
 -- what a receiver's seat knows, has read and was answered
 abbrev pub receiver_view_in : {C : Type 0} → View C → ReceiverView
-receiver_view_in (Maker x made) = new_receiver_view
-receiver_view_in (Sender c sender_trail stored) = new_receiver_view
+receiver_view_in (Maker x made) = new_receiver_view 0
+receiver_view_in (Sender c sender_trail stored) = new_receiver_view 0
 receiver_view_in (Tap x e) = e
 receiver_view_in (Meeting x e y f) = e
 receiver_view_in (Telling c sender_trail stored x e) = e
-receiver_view_in Spent = new_receiver_view
+receiver_view_in Spent = new_receiver_view 0
 
 abbrev pub known_in : {C : Type 0} → View C → List ℕ
 known_in v = (receiver_view_in v).known
@@ -106,9 +107,22 @@ senders_in v = (table_layout_in v).senders
 abbrev pub capacity_in : {C : Type 0} → View C → ℕ
 capacity_in v = (table_layout_in v).capacity
 
--- which word of its table is this word of the log
+-- which word of its table is the cell of this word of the log
 abbrev pub log_word_in : {C : Type 0} → View C → ℕ → ℕ
-log_word_in v place = (table_layout_in v).log + place
+log_word_in v place = log_cell (table_layout_in v) place
+
+-- and which is its passed place
+abbrev pub passed_word_in : {C : Type 0} → View C → ℕ
+passed_word_in v = passed_word (table_layout_in v) (receiver_view_in v).me
+
+-- This word of the log stands in its cell as long as the receiver goes on: it has not left, and has
+-- not passed the word. Where no word of the log is used again each stands.
+abbrev pub MayRead : TableLayout → ReceiverView → ℕ → Type 0
+MayRead x e place = (x.passers ≡ 0) ⊎ ((e.gone ≡ false) × (e.passed ≤ place))
+
+-- where no word of the log is used again, no more are known than the log has room for
+abbrev pub FitsLog : TableLayout → List ℕ → Type 0
+FitsLog x known = x.passers ≡ 0 → length known ≤ x.capacity
 
 -- two seats joined: of two receivers, or of a sender and a receiver
 abbrev pub views_joined : {C : Type 0} → View C → View C → View C
@@ -183,10 +197,28 @@ pub record IsUnseated {C : Type 0} (A : Automaton C) (z : A.State) (seat : ℕ �
   pub core : A.sender z p ≡ Some (A.started p)
   pub sender_trail_is : A.sender_trail z p ≡ new_sender_trail (base_in A p)
 
--- A receiver knows a beginning of the log, which has some frames; and its turns have answered just
--- what these give, up to its place.
-pub record KnowsLog {C : Type 0} (A : Automaton C) (z : A.State) (x : TableLayout)
+-- the receiver r has no seat of its own yet, and has passed nothing: the seat j is to make one for
+-- it
+pub record IsUnheard {C : Type 0} (A : Automaton C) (z : A.State) (ear : ℕ → ℕ) (j r : ℕ) :
+    Type 0 where
+  pub here : ear r ≡ j
+  pub passed : A.passed z r ≡ Some 0
+
+-- The seat j is that of the receiver of this number, which has a passed place. Until the receiver
+-- has left, that has what the receiver has stored there; and then it shows that the receiver has
+-- left. What the receiver has stored is not past its place.
+pub record IsListening {C : Type 0} (A : Automaton C) (z : A.State) (ear : ℕ → ℕ) (j : ℕ)
     (e : ReceiverView) : Type 0 where
+  pub here : ear e.me ≡ j
+  pub below : e.me < A.table_layout.passers
+  pub shown : e.gone ≡ false → A.passed z e.me ≡ Some e.passed
+  pub left : e.gone ≡ true → A.passed z e.me ≡ None
+  pub past : e.passed ≤ e.place
+
+-- A receiver knows a beginning of the log, which has some frames; and its turns have answered just
+-- what these give, up to its place. Where words of the log are used again its number is its own.
+pub record KnowsLog {C : Type 0} (A : Automaton C) (z : A.State) (ear : ℕ → ℕ) (j : ℕ)
+    (x : TableLayout) (e : ReceiverView) : Type 0 where
   pub table_layout : x ≡ A.table_layout
   pub front : IsPrefix e.known (log_in A z)
   pub below : e.place ≤ length e.known
@@ -194,18 +226,28 @@ pub record KnowsLog {C : Type 0} (A : Automaton C) (z : A.State) (x : TableLayou
   pub lawful : AreFrames A.table_layout.senders frames
   pub words_are : log_words frames ≡ log_in A z
   pub heard : HasHeard frames e
+  pub listens : (A.table_layout.passers ≡ 0) ⊎ IsListening A z ear j e
 
-abbrev pub IsTrueOf : {C : Type 0} → Process C → (A : Automaton C) → A.State → (ℕ → ℕ) → ℕ → View C
-    → Type 0
-IsTrueOf P A z seat j (Maker x made) =
+-- two receivers have two numbers
+abbrev pub AreTwo : {C : Type 0} → Automaton C → ReceiverView → ReceiverView → Type 0
+AreTwo A e f = (A.table_layout.passers ≡ 0) ⊎ (e.me ≢ f.me)
+
+-- of these seats of senders, and these of receivers
+abbrev pub IsTrueOf : {C : Type 0} → Process C → (A : Automaton C) → A.State → (seat ear : ℕ → ℕ)
+    → ℕ → View C → Type 0
+IsTrueOf P A z seat ear j (Maker x made) =
     (x ≡ A.table_layout)
     × ((p : ℕ) → made ≤ p → p < A.table_layout.senders → IsUnseated A z seat j p)
-IsTrueOf P A z seat j (Sender c sender_trail stored) = IsSeated P A z seat j c sender_trail stored
-IsTrueOf P A z seat j (Tap x e) = KnowsLog A z x e
-IsTrueOf P A z seat j (Meeting x e y f) = KnowsLog A z x e × KnowsLog A z y f
-IsTrueOf P A z seat j (Telling c sender_trail stored x e) =
-    IsSeated P A z seat j c sender_trail stored × KnowsLog A z x e
-IsTrueOf P A z seat j Spent = Unit {0}
+    × ((r : ℕ) → made ≤ A.table_layout.senders + r → r < A.table_layout.passers
+    → IsUnheard A z ear j r)
+IsTrueOf P A z seat ear j (Sender c sender_trail stored) =
+    IsSeated P A z seat j c sender_trail stored
+IsTrueOf P A z seat ear j (Tap x e) = KnowsLog A z ear j x e
+IsTrueOf P A z seat ear j (Meeting x e y f) =
+    KnowsLog A z ear j x e × KnowsLog A z ear j y f × AreTwo A e f
+IsTrueOf P A z seat ear j (Telling c sender_trail stored x e) =
+    IsSeated P A z seat j c sender_trail stored × KnowsLog A z ear j x e
+IsTrueOf P A z seat ear j Spent = Unit {0}
 
 -- the sender p shows in this view: in its own, or in that of the maker of seats while it has none
 -- of its own
@@ -227,6 +269,9 @@ pub record TableInvariant {C : Type 0} (P : Process C) (A : Automaton C)
   pub slot : s.homes ≡ slot_of (A.home state) ∷ []
   -- of each sender the seat that shows it
   pub seat : ℕ → ℕ
-  pub views : (j : ℕ) (v : View C) → get_elem? s.views j ≡ some v → IsTrueOf P A state seat j v
+  -- and of each receiver that has a passed place
+  pub ear : ℕ → ℕ
+  pub views : (j : ℕ) (v : View C) → get_elem? s.views j ≡ some v
+      → IsTrueOf P A state seat ear j v
   pub all : (p : ℕ) → p < A.table_layout.senders
       → (j : ℕ) × (v : View C) × (get_elem? s.views j ≡ some v) × Seats P p v

@@ -1,10 +1,12 @@
 -- What a sender and a receiver of a bus show of their seats.
-use Rattle.std.specs.Prelude.{◌≡◌, ℕ, ◌+◌, ◌≤◌, ◌^◌, length, take, false, Option, Some, None}
-use Rattle.std.specs.Prelude.{List, []}
+use Rattle.std.specs.Prelude.{◌≡◌, ℕ, ◌+◌, ◌<◌, ◌≤◌, ◌^◌, length, take, false, Option, Some}
+use Rattle.std.specs.Prelude.{None, List, []}
 use Rattle.atomic_table.specs.declared.shared.Seat.{Seat}
 use Rattle.atomic_table.specs.Seated.{TableId}
 use Rattle.bus_register.specs.declared.registers.Op.{Op}
+use Rattle.std.specs.List.{list_any}
 use Rattle.bus_batch.specs.declared.messages.Piece.{Piece}
+use Rattle.bus_batch.specs.Frames.{is_end}
 use Rattle.bus_deliverylog.specs.Receiving.{LogReading, HasReceived}
 use Rattle.bus_tenure.specs.Situations.{Comes}
 use Rattle.bus_tenure.specs.declared.pages.Page.{Page}
@@ -13,8 +15,11 @@ use Rattle.bus_world.specs.Headline.{Action}
 use Rattle.bus_pageslot.specs.declared.rule.View.{View}
 use Rattle.bus_pageslot.specs.declared.rule.View.TheVariants.{Sender, Tap, Spent}
 use Rattle.bus_pageslot.specs.ReceiverViews.{ReceiverView, new_receiver_view}
-use Rattle.bus_automaton.specs.Processes.{TableLayout, Process, IsCounted}
-use Rattle.bus_pageslot.specs.Rule.{Sat, sender_trail_in, stored_in}
+use Rattle.bus_automaton.specs.Processes.{TableLayout, Process, IsCounted, passed_word}
+use Rattle.bus_pageslot.specs.declared.listeners.Listener.{Listener}
+use Rattle.bus_pageslot.specs.declared.listeners.LogCells.{LogCells}
+use Rattle.bus_pageslot.specs.Rounds.{GoesRound}
+use Rattle.bus_pageslot.specs.Rule.{Sat, sender_trail_in, stored_in, FitsLog}
 use Rattle.bus_pageslot.specs.Steps.{Accepts, Numbers, carried_of, all_in, stored_by, Told}
 use Rattle.bus_automaton.specs.SenderTrails.{SenderTrail, with_sender_trail}
 
@@ -105,7 +110,8 @@ abbrev pub receiver_seat_of : {C : Type 0} → Option (Seat (Option Page) (View 
 receiver_seat_of (Some s) = receiver_seat s
 receiver_seat_of None = record { table_id = nowhere; me = (Spent, []) }
 
--- A reader beside a seat: it knows as many words as the seat shows, and has read the first of them.
+-- A reader beside a seat: it knows as many words as the seat shows, and has read the first of them,
+-- with the end among what they gave exactly where it has ended.
 pub record IsFit (senders : ℕ) (e : ReceiverView) (r : LogReading) : Type 0 where
   pub known : r.known ≡ length e.known
   pub place : r.place ≡ e.place
@@ -114,31 +120,51 @@ pub record IsFit (senders : ℕ) (e : ReceiverView) (r : LogReading) : Type 0 wh
   pub within : r.place ≤ r.known
   pub pieces : List (Option Piece)
   pub received : HasReceived (take r.place e.known) pieces r
+  pub seen : r.ended ≡ list_any is_end pieces
 
--- a receiver's seat on a table of so many words, with its reader
-pub record IsReceiverView {C : Type 0} (m : Sat C) (words log : ℕ) (r : LogReading) : Type 0 where
+-- the passed place of the receiver of this number, on a table of this layout; none where no word of
+-- the log is used again
+abbrev pub IsPassedAt : TableLayout → ℕ → Option ℕ → Type 0
+IsPassedAt x me None = x.passers ≡ 0
+IsPassedAt x me (Some at) = (me < x.passers) × (at ≡ passed_word x me) × (at < x.words)
+
+-- where the log of such a table lies, and the passed place of that receiver
+pub record HasCells (x : TableLayout) (me : ℕ) (cells : LogCells) : Type 0 where
+  pub log_is : cells.log ≡ x.log
+  pub capacity_is : cells.log_words ≡ x.capacity
+  pub passed_is : IsPassedAt x me cells.passed_at
+  pub some : 0 < x.capacity
+  pub room : x.log + x.capacity ≤ x.words
+  pub few : x.words ≤ 2 ^ 63
+  pub behind : 2 ≤ x.log
+
+-- A receiver's seat on a table of so many words, with what it keeps beside that. It has not left,
+-- and what it has passed it has read. Where no word of the log is used again it has passed nothing,
+-- and what it knows fits the log.
+pub record IsReceiverView {C : Type 0} (m : Sat C) (words : ℕ) (l : Listener) : Type 0 where
   pub table_layout : TableLayout
   pub receiver_view : ReceiverView
   pub me : m ≡ (Tap table_layout receiver_view, [])
-  pub log_is : log ≡ table_layout.log
-  pub within : length receiver_view.known ≤ table_layout.capacity
-  pub room : table_layout.log + table_layout.capacity ≤ table_layout.words
-  pub few : table_layout.words ≤ 2 ^ 63
-  pub behind : 2 ≤ table_layout.log
   pub wide : words ≡ table_layout.words
-  pub fit : IsFit table_layout.senders receiver_view r
+  pub cells : HasCells table_layout receiver_view.me l.cells
+  pub round : GoesRound l
+  pub stays : receiver_view.gone ≡ false
+  pub passed : l.passed ≡ receiver_view.passed
+  pub past : receiver_view.passed ≤ receiver_view.place
+  pub never : table_layout.passers ≡ 0 → receiver_view.passed ≡ 0
+  pub within : FitsLog table_layout receiver_view.known
+  pub fit : IsFit table_layout.senders receiver_view l.reader
 
--- a receiver shows its seat, and where the log is
-abbrev pub IsTap : {C : Type 0} → ReceiverSeat C → ℕ → LogReading → Type 0
-IsTap s log r = IsReceiverView s.me s.table_id.words log r
+-- a receiver shows its seat
+abbrev pub IsTap : {C : Type 0} → ReceiverSeat C → Listener → Type 0
+IsTap s l = IsReceiverView s.me s.table_id.words l
 
 -- the seat of a receiver that has taken no step
-pub record IsFresh {C : Type 0} (s : ReceiverSeat C) (log senders : ℕ) : Type 0 where
+pub record IsFresh {C : Type 0} (s : ReceiverSeat C) (cells : LogCells) (senders : ℕ) :
+    Type 0 where
   pub table_layout : TableLayout
-  pub me : s.me ≡ (Tap table_layout new_receiver_view, [])
-  pub log_is : log ≡ table_layout.log
-  pub senders_are : senders ≡ table_layout.senders
-  pub room : table_layout.log + table_layout.capacity ≤ table_layout.words
-  pub few : table_layout.words ≤ 2 ^ 63
-  pub behind : 2 ≤ table_layout.log
+  pub number : ℕ
+  pub me : s.me ≡ (Tap table_layout (new_receiver_view number), [])
   pub wide : s.table_id.words ≡ table_layout.words
+  pub cells_are : HasCells table_layout number cells
+  pub senders_are : senders ≡ table_layout.senders

@@ -1,5 +1,5 @@
 -- What one step of a sender, or of a receiver, makes of its seat.
-use Rattle.std.specs.Prelude.{◌≡◌, ℕ, ◌+◌, ◌-◌, ◌<◌, ◌≤◌, length, map, slice_index, List, [], ◌∷◌}
+use Rattle.std.specs.Prelude.{◌≡◌, ℕ, ◌+◌, ◌<◌, ◌≤◌, length, map, slice_index, List, [], ◌∷◌}
 use Rattle.std.specs.Prelude.{◌++◌, Option, Some, None, drop, Bool, true, false, if◌then◌else◌}
 use Rattle.std.specs.Prelude.{◌==◌, All}
 use Rattle.atomic_table.specs.Table.{rest}
@@ -19,13 +19,15 @@ use Rattle.bus_tenure.specs.Situations.{PageMove, Stays, Comes, Returns}
 use Rattle.bus_tenure.specs.declared.pages.Page.{Page}
 use Rattle.bus_world.specs.Headline.{Action, HasPut, HasMarked, puts, IsPrefix}
 use Rattle.bus_pageslot.specs.ReceiverViews.{receiver_view_after_load, receiver_view_knowing, Agree}
+use Rattle.bus_pageslot.specs.ReceiverViews.{left_for_good, passed_on}
 use Rattle.bus_pageslot.specs.declared.rule.View.{View}
 use Rattle.bus_pageslot.specs.declared.rule.View.TheVariants.{Maker, Sender, Tap, Meeting, Telling}
 use Rattle.bus_pageslot.specs.declared.rule.View.TheVariants.{Spent}
 use Rattle.bus_automaton.specs.Processes.{Process, IsCounted, EndsBy}
 use Rattle.bus_pageslot.specs.Rule.{Sat, sender_trail_in, stored_in, receiver_view_in, known_in}
 use Rattle.bus_pageslot.specs.Rule.{with_receiver_view, views_joined, first_of, second_of}
-use Rattle.bus_pageslot.specs.Rule.{all_knowing, table_layout_in, capacity_in}
+use Rattle.bus_pageslot.specs.Rule.{all_knowing, table_layout_in, log_word_in, passed_word_in}
+use Rattle.bus_pageslot.specs.Rule.{FitsLog, MayRead}
 use Rattle.bus_automaton.specs.SenderTrails.{SenderTrail, with_actions, with_sender_trail}
 
 -- ---- what a sender accepts between its steps
@@ -179,7 +181,7 @@ pub record Learns {C : Type 0} (m : Sat C) (got : ℕ) (m' : Sat C) : Type 0 whe
   pub now : m' ≡ (with_receiver_view m.0 (receiver_view_knowing (receiver_view_in m.0) known), m.1)
   pub grows : IsPrefix (known_in m.0) known
   pub length_is : length known ≡ got
-  pub within : length known ≤ capacity_in m.0
+  pub within : FitsLog (table_layout_in m.0) known
 
 -- What is known is a log that holds of a sender c, which has done these actions, exactly what it
 -- has put and does not wait any more, and that reaches to each length that it has stored.
@@ -198,10 +200,10 @@ GrowsTo P (Maker x made) known = Unit {0}
 GrowsTo P (Sender c sender_trail stored) known = Unit {0}
 GrowsTo P (Tap x e) known = Unit {0}
 GrowsTo P (Meeting x e y f) known =
-    IsPrefix e.known known × IsPrefix f.known known × (length known ≤ x.capacity)
-    × (length known ≤ y.capacity) × Agree e f
+    IsPrefix e.known known × IsPrefix f.known known × FitsLog x known × FitsLog y known
+    × Agree e f
 GrowsTo {C} P (Telling c sender_trail stored x e) known =
-    IsPrefix e.known known × (length known ≤ x.capacity)
+    IsPrefix e.known known × FitsLog x known
     × ((a : C) (actions : List Action) → Accepts P c a actions
     → KnowsSent P a (sender_trail.actions ++ actions) stored known)
 GrowsTo P Spent known = Unit {0}
@@ -221,10 +223,29 @@ pub record Met {C : Type 0} (P : Process C) (m n : Sat C) (got : ℕ) (m' n' : S
   pub length_is : length known ≡ got
   pub grows : GrowsTo P (views_joined m.0 n.0) known
 
--- of a word of the log below the length that it knows, out of turn
+-- of a cell of the log, out of turn: where a word that it knows stands there, and it has not passed
+-- that, it finds it
 pub record Reads {C : Type 0} (m : Sat C) (word got : ℕ) (m' : Sat C) : Type 0 where
   pub now : m' ≡ (
     with_receiver_view m.0 (receiver_view_after_load (receiver_view_in m.0) word),
     m.1,
   )
-  pub got_is : got ≡ slice_index (known_in m.0) (word - (table_layout_in m.0).log)
+  pub got_is : (place : ℕ) → MayRead (table_layout_in m.0) (receiver_view_in m.0) place
+      → place < length (known_in m.0) → word ≡ log_word_in m.0 place
+      → got ≡ slice_index (known_in m.0) place
+
+-- ---- a receiver's stores
+-- of its place, by a turn
+abbrev pub HasPassed : {C : Type 0} → Sat C → Sat C → Type 0
+HasPassed m m' =
+    m' ≡ (with_receiver_view m.0 (passed_on (receiver_view_in m.0) (passed_word_in m.0)), m.1)
+
+-- it has left for good
+abbrev pub HasLeft : {C : Type 0} → Sat C → Sat C → Type 0
+HasLeft m m' =
+    m' ≡ (with_receiver_view m.0 (left_for_good (receiver_view_in m.0) (passed_word_in m.0)), m.1)
+
+-- it has left for good: of a log that is a ring by that store, and else by no step
+pub record HasLeftBy {C : Type 0} (m m' : Sat C) : Type 0 where
+  pub ring : 0 < (table_layout_in m.0).passers → HasLeft m m'
+  pub flat : (table_layout_in m.0).passers ≡ 0 → m' ≡ m

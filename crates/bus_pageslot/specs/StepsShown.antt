@@ -17,8 +17,8 @@ steps_among (Stepped tenure k found chose answer ∷ more) = steps_among more + 
 abbrev pub steps_in : SenderTrail → ℕ
 steps_in t = steps_among t.actions + length t.pins + length t.reclaims
 
--- those of a view: of a sender its steps, and of a receiver its loads; a seat that makes others has
--- none
+-- those of a view: of a sender its steps, and of a receiver its loads and its stores; a seat that
+-- makes others has none
 abbrev pub steps_shown : {C : Type 0} → View C → ℕ
 steps_shown (Maker x made) = 0
 steps_shown (Sender c sender_trail stored) = steps_in sender_trail

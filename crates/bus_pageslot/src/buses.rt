@@ -1,24 +1,31 @@
 //! The bus: how it is made, and how it ends.
 
 ghost use Rattle.std.specs.Prelude.{All, ◌≡◌, ℕ, List, Some, None, IfOk, OnOk, OnErr, IfErr, []};
-ghost use Rattle.std.specs.Prelude.{◌≤◌};
+ghost use Rattle.std.specs.Prelude.{◌+◌, ◌≤◌, IsTrue, ◌↔◌};
 ghost use Rattle.std.specs.Vec.{vec_len, vec_capacity};
 ghost use Rattle.std.specs.Option.{option_copied};
-ghost use Rattle.bus_machine.specs.Playing.{IsServed, MakeRefused, ShapeOf, MayFollow};
+ghost use Rattle.bus_machine.specs.Playing.{IsServed, MakeRefused, ShapeOf, MayFollow, MayGoOn};
 ghost use Rattle.bus_machine.specs.Playing.{IsFollowed, AfterRefused, MakeRefusedAfter};
+ghost use Rattle.bus_machine.specs.Playing.{RefusedWith};
 ghost use Rattle.bus_automaton.specs.Buses.{process_by, automaton_by, Serves, Refuses};
-ghost use Rattle.bus_automaton.specs.Buses.{plan_after, new_plan, cyclic_plan};
+ghost use Rattle.bus_automaton.specs.Buses.{plan_after, plan_passers, new_plan, cyclic_plan};
+ghost use Rattle.bus_automaton.specs.Buses.{ring_plan};
 ghost use Rattle.bus_pageslot.specs.Buses.{AreNewSeats, AreNewTaps};
 ghost use Rattle.bus_pageslot.specs.Seats.{table_of};
 ghost use Rattle.bus_pageslot.specs.Endings.{IsLeft};
+ghost use Rattle.bus_pageslot.specs.Looks.{HasLooked};
+ghost use Rattle.bus_world.specs.Log.{floor_shown};
 
-use crate::outcomes::{EndFault, Ended, leave};
+use crate::outcomes::{EndFault, Ended, Places, leave, lesser};
+use crate::rule::BusSeat;
 use crate::seating::{bus_table, log_at, seat_all, tap_all};
 use crate::seats::Sender;
 use crate::taps::Tap;
 use crate::words::Words;
 use bus_adoptcommit::{Ratifier, ThreeWord};
 use bus_automaton::Plan;
+use bus_automaton::laws::threads_may_go_by;
+use bus_core::limits::PASSED_APART;
 use bus_machine::shapes::fault_of;
 use bus_register::NoMemory;
 use bus_register::limits::MOST_SENDERS;
@@ -39,17 +46,18 @@ pub struct Bus<Q: Ratifier = ThreeWord> {
     senders: u64,
     /// The numbers that its sitting began with.
     bases: [u64; MOST_SENDERS],
-    /// The place of the log's first word.
-    log: u64,
-    log_words: u64,
+    places: Places,
+    /// For the words that it leaves.
     room: Vec<u64>,
 }
 
 impl<Q: Ratifier> Model for Bus<Q> {
     ghost use Rattle.std.specs.Prelude.{◌≡◌, ◌≤◌, []};
     ghost use Rattle.std.specs.Vec.{vec_len, vec_capacity};
+    ghost use Rattle.std.specs.Prelude.{◌<◌, ◌^◌};
     ghost use Rattle.bus_automaton.specs.Buses.{automaton_with};
     ghost use Rattle.bus_pageslot.specs.Buses.{BusId};
+    ghost use Rattle.bus_pageslot.specs.Places.{AreIn};
 
     ghost Value = { BusId };
 
@@ -61,10 +69,12 @@ impl<Q: Ratifier> Model for Bus<Q> {
         × (b.senders ≡ A.table_layout.senders)
         × (b.bases ≡ b.words.plan.bases)
         × (b.bases ≡ A.bases)
-        × (b.log ≡ A.table_layout.log)
-        × (b.log_words ≡ A.table_layout.capacity)
+        × AreIn A.table_layout b.places
+        × (b.words.table.words ≡ A.table_layout.words)
+        × (A.table_layout.words ≤ 2 ^ 63)
+        × (0 < b.places.log_words)
         × (b.room.items ≡ []) × (vec_len b.room ≡ 0)
-        × (b.log_words ≤ vec_capacity b.room) };
+        × (b.places.log_words ≤ vec_capacity b.room) };
 }
 
 impl<Q: Ratifier + Drop> Bus<Q> {
@@ -151,11 +161,47 @@ impl<Q: Ratifier + Drop> Bus<Q> {
         make(alloc, Plan::cyclic(shape), page)
     }
 
+    /// As `cyclic`, with a log whose words are used again too: a bus that serves without end, for
+    /// as long as it has tenures. Each receiver stores how far it has heard in its passed place,
+    /// and a frame fits as far as the slowest has come: behind that the answer is Full, for now.
+    /// A receiver that stops without leaving stops whoever needs its room.
+    pub fn ring(
+        alloc: Global,
+        shape: Shape,
+        page: Option<&Page>,
+    ) -> Result<(Bus<Q>, Vec<Sender<Q>>, Vec<Tap<Q>>), MakeFault>
+        ensures plan { IfOk result
+            (λ made. made.0.plan ≡ ring_plan shape (option_copied page.entry)) }
+        ensures senders { IfOk result
+            (λ made. AreNewSeats (process_by Q.Ratifier)
+            (automaton_by Q.Ratifier (ring_plan shape (option_copied page.entry))) made.0.table
+            shape.senders made.1.items) }
+        ensures taps { IfOk result
+            (λ made. AreNewTaps
+            (automaton_by Q.Ratifier (ring_plan shape (option_copied page.entry))).table_layout
+            made.0.table shape.receivers made.2.items) }
+        ensures table { IfOk result (λ made. All (λ s. table_of s ≡ made.0.table) made.1.items
+            × All (λ t. t.table_id ≡ made.0.table) made.2.items) }
+        ensures served { IfOk result (λ _. IsServed shape (Some shape.rows)) }
+        ensures follows { OnOk result (MayGoOn shape.receivers (option_copied page.entry)) }
+        ensures fault { IfErr result
+            (RefusedWith shape.receivers shape (Some shape.rows) (option_copied page.entry)) }
+    {
+        make(alloc, Plan::ring(shape), page)
+    }
+
     /// How many senders it has.
     pub fn senders(&self) -> u64
         ensures { result ≡ self.now.plan.shape.senders }
     {
         self.senders
+    }
+
+    /// How many words its log has.
+    pub(crate) fn log_words(&self) -> u64
+        ensures { result ≡ (automaton_by Q.Ratifier self.now.plan).table_layout.capacity }
+    {
+        self.places.log_words
     }
 
     /// The number of each sender's first message.
@@ -165,30 +211,81 @@ impl<Q: Ratifier + Drop> Bus<Q> {
         self.bases
     }
 
-    /// Ends the bus, by a receiver of it: its log and its page, where the page is at home, and
-    /// PageOut where a sender that took it has not given it back. Bus and receiver are gone in
-    /// either case.
+    /// Ends the bus, by a receiver of it: the words of its log that stand and its page, where the
+    /// page is at home, and PageOut where a sender that took it has not given it back. All words
+    /// stand where none is used again. Bus and receiver are gone in either case. Takes no memory.
     pub fn end(self, tap: Tap<Q>) -> Result<Ended, EndFault>
         requires { tap.table_id ≡ self.table }
         ensures ended { IfOk result
             (λ left. IsLeft (process_by Q.Ratifier) (automaton_by Q.Ratifier self.plan)
-            tap.me.0 left.log (Some left.page)) }
+            tap.me.0 left.log left.floor (Some left.page)) }
+        ensures flat { IfOk result (λ left. plan_passers self.plan ≡ 0 → left.floor ≡ 0) }
         ensures senders { IfOk result (λ left. left.senders ≡ self.plan.shape.senders) }
         ensures bases { IfOk result (λ left. left.bases ≡ self.plan.bases) }
-        ensures out { OnErr result ((log : List ℕ)
+        ensures out { OnErr result ((log : List ℕ) × (floor : ℕ)
             × IsLeft (process_by Q.Ratifier) (automaton_by Q.Ratifier self.plan)
-            tap.me.0 log None) }
+            tap.me.0 log floor None) }
     {
+        threads_may_go_by::<Q>();
         let Bus {
             words,
             senders,
             bases,
-            log,
-            log_words,
+            places,
             room,
         } = self;
-        leave(words, tap.into_seat(), senders, bases, log, log_words, room)
+        leave(words, tap.into_seat(), senders, bases, places, room)
     }
+
+    /// Whether a frame of so many words fits the log, by one load of the length and one of each
+    /// passed place, in rising order.
+    pub(crate) fn has_room(&self, seat: &mut BusSeat<Q>, many: u64) -> bool
+        requires { seat.old.table_id ≡ self.now.table }
+        ensures seat { seat.new ≡ seat.old }
+        ensures looked { HasLooked (automaton_by Q.Ratifier self.now.plan).table_layout many
+            result }
+    {
+        threads_may_go_by::<Q>();
+        let length = self.words.look(seat, 0);
+        let floor = self.floor_seen(seat, length);
+        fits(many, length, floor, self.places.log_words)
+    }
+
+    /// The least of this length and of the passed places, each of which it loads once; 0 where
+    /// there are none.
+    fn floor_seen(&self, seat: &mut BusSeat<Q>, length: u64) -> u64
+        requires { seat.old.table_id ≡ self.now.table }
+        ensures seat { seat.new ≡ seat.old }
+        ensures low { result ≤ length }
+        ensures floor { let x = (automaton_by Q.Ratifier self.now.plan).table_layout in
+            (found : ℕ → ℕ) × (found 0 ≡ length)
+            × (result ≡ floor_shown found x.passed x.passers length) }
+    {
+        threads_may_go_by::<Q>();
+        let Places {
+            passed,
+            passers,
+            ..
+        } = self.places;
+        if passers == 0 {
+            return 0;
+        }
+        let mut least = length;
+        for r in 0..passers {
+            let at = passed + PASSED_APART * r;
+            least = lesser(self.words.look(seat, at as usize), least);
+        }
+        least
+    }
+}
+
+/// A frame of so many words, behind this length, ends no further behind the floor than the log is
+/// long.
+fn fits(many: u64, length: u64, floor: u64, log_words: u64) -> bool
+    requires { floor ≤ length }
+    ensures { IsTrue result ↔ (length + many ≤ log_words + floor) }
+{
+    many <= log_words && length - floor <= log_words - many
 }
 
 /// A new bus of this plan, which goes on with the numbers of this page, if of any.
@@ -197,7 +294,7 @@ fn make<Q: Ratifier + Drop>(
     plan: Plan,
     page: Option<&Page>,
 ) -> Result<Made<Q>, MakeFault>
-    requires { ShapeOf plan.shape plan.reuse }
+    requires shape { ShapeOf plan.shape plan.reuse }
     ensures plan { IfOk result (λ made. made.0.plan ≡ plan_after plan (option_copied page.entry)) }
     ensures senders { IfOk result
         (λ made. AreNewSeats (process_by Q.Ratifier)
@@ -210,7 +307,7 @@ fn make<Q: Ratifier + Drop>(
     ensures table { IfOk result (λ made. All (λ s. table_of s ≡ made.0.table) made.1.items
         × All (λ t. t.table_id ≡ made.0.table) made.2.items) }
     ensures served { IfOk result (λ _. IsServed plan.shape plan.reuse) }
-    ensures follows { OnOk result (MayFollow (option_copied page.entry)) }
+    ensures follows { OnOk result (MayGoOn (plan_passers plan) (option_copied page.entry)) }
     ensures fault { IfErr result (Refuses plan (option_copied page.entry)) }
 {
     if let Some(fault) = fault_of(plan.shape, plan.reuse) {
@@ -223,7 +320,7 @@ fn make<Q: Ratifier + Drop>(
 
 /// A new bus of a plan that is served.
 fn build<Q: Ratifier + Drop>(alloc: Global, plan: Plan) -> Result<Made<Q>, NoMemory>
-    requires { Serves plan }
+    requires served { Serves plan }
     ensures plan { IfOk result (λ made. made.0.plan ≡ plan) }
     ensures senders { IfOk result
         (λ made. AreNewSeats (process_by Q.Ratifier) (automaton_by Q.Ratifier plan) made.0.table
@@ -239,13 +336,19 @@ fn build<Q: Ratifier + Drop>(alloc: Global, plan: Plan) -> Result<Made<Q>, NoMem
     let (senders, maker) = seat_all(alloc, plan, &words, maker)?;
     let taps = tap_all(alloc, plan, &words, maker, log)?;
     let room = roomy(alloc, plan.shape.log_words)?;
+    let passers = plan.passers();
+    let places = Places {
+        log,
+        log_words: plan.shape.log_words,
+        passed: log - PASSED_APART * passers,
+        passers,
+    };
     let bases = plan.bases;
     let bus = Bus {
         words,
         senders: plan.shape.senders,
         bases,
-        log,
-        log_words: plan.shape.log_words,
+        places,
         room,
     };
     Ok((bus, senders, taps))

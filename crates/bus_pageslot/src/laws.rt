@@ -1,10 +1,13 @@
 //! What holds of every bus, between any two steps.
 
-ghost use Rattle.std.specs.Prelude.{◌≡◌, ◌≢◌, ℕ, ◌*◌, ◌<◌, ◌≤◌, Option, List, []};
-ghost use Rattle.std.specs.Prelude.{◌∷◌, ◌++◌, ◌+◌, false, length, slice_index, Some, IsSomeAnd};
+ghost use Rattle.std.specs.Prelude.{◌≡◌, ◌≢◌, ◌⊎◌, ℕ, ◌*◌, ◌<◌, ◌≤◌, Option, List, []};
+ghost use Rattle.std.specs.Prelude.{◌∷◌, ◌++◌, ◌+◌, drop, false, length, slice_index, Some};
+ghost use Rattle.std.specs.Prelude.{IsSomeAnd, take};
 ghost use mathlib.Core.Option.{some};
 ghost use lib.ListN.{get_elem?};
+ghost use Rattle.bus_batch.specs.Frames.{IsLog};
 ghost use Rattle.bus_register.specs.Words.{register};
+ghost use Rattle.bus_register.specs.declared.limits.TheConstants.{PASSED_ALL};
 ghost use Rattle.bus_register.specs.declared.registers.Op.{Op};
 ghost use Rattle.bus_register.specs.declared.registers.Op.TheVariants.{Load, Store};
 ghost use Rattle.bus_register.specs.declared.registers.SenderNo.{SenderNo};
@@ -15,7 +18,6 @@ ghost use Rattle.bus_core.specs.Table.{line_now};
 ghost use Rattle.bus_core.specs.Telling.{FeedTells};
 ghost use Rattle.bus_deliverylog.specs.declared.receiving.RecvTurn.{RecvTurn};
 ghost use Rattle.bus_core.specs.Reusing.Participants.{sizes_with};
-ghost use Rattle.bus_machine.specs.Playing.{layout_of};
 ghost use Rattle.bus_machine.specs.Machine.{words_of_frame};
 ghost use Rattle.bus_ownerbits.specs.Sizes.{election_bound};
 ghost use Rattle.bus_presence.specs.Reclamation.{presence_at};
@@ -26,17 +28,20 @@ ghost use Rattle.bus_tenure.specs.declared.turns.Turn.{Turn};
 ghost use Rattle.bus_tenure.specs.declared.turns.Turn.TheVariants.{Behind, Closed, Spent};
 ghost use Rattle.bus_world.specs.Headline.{Action, IsPrefix};
 ghost use Rattle.bus_world.specs.Turning.{words_after};
-ghost use Rattle.bus_automaton.specs.Buses.{process_by, automaton_by, plan_after};
-ghost use Rattle.bus_automaton.specs.Processes.{TableLayout, base_in, log_in};
+ghost use Rattle.bus_automaton.specs.Buses.{process_by, automaton_by, layout_by, plan_after};
+ghost use Rattle.bus_automaton.specs.Lawful.{floor_in};
+ghost use Rattle.bus_automaton.specs.Processes.{TableLayout, base_in, log_in, passed_word};
 ghost use Rattle.bus_automaton.specs.SenderTrails.{SenderTrail, with_sender_trail};
 ghost use Rattle.bus_automaton.specs.declared.plans.Plan.{Plan};
 ghost use Rattle.bus_pageslot.specs.ReceiverViews.{ReceiverView, receiver_view_after_load};
+ghost use Rattle.bus_pageslot.specs.ReceiverViews.{left_for_good, passed_on};
+ghost use Rattle.bus_pageslot.specs.Rings.{LeavesAll, RingShows, ShowsReceiver, StoresApart};
 ghost use Rattle.bus_pageslot.specs.declared.rule.View.{View};
 ghost use Rattle.bus_pageslot.specs.declared.rule.View.TheVariants as view;
 ghost use Rattle.bus_pageslot.specs.Buses.{IsNewSeat};
 ghost use Rattle.bus_pageslot.specs.Carried.{WereAnswered};
-ghost use Rattle.bus_pageslot.specs.Histories.{HasHistory, LeavesLog, Shown};
-ghost use Rattle.bus_pageslot.specs.Listening.{Hears, due_load};
+ghost use Rattle.bus_pageslot.specs.Histories.{HasHistory, LeavesLog, LeavesRule, Shown};
+ghost use Rattle.bus_pageslot.specs.Listening.{Hears, PassIsDue, due_load};
 ghost use Rattle.bus_pageslot.specs.Promised.{IsPromised};
 ghost use Rattle.bus_pageslot.specs.Rule.{Sat, TableInvariant, slot_of, receiver_view_in};
 ghost use Rattle.bus_pageslot.specs.SafeSeats.{AreSafe, LeavesPast};
@@ -66,18 +71,31 @@ pub fn seats_keep_promises<Q: Ratifier>()
     threads_may_go_by::<Q>();
 }
 
-/// What the seats show is one page: of each sender its actions, which its seat shows, and one order
-/// and one list of owners, which all that was published spells.
+/// Two pages of one table have the same actions of each sender, which its seat shows. What was
+/// published is as long in both, and from the floor on it is the same. Where it is the same
+/// altogether, as where no word of the log is used again, so are the order and the owners.
 pub fn seats_show_one_page<Q: Ratifier>()
-    ensures { let P = process_by Q.Ratifier in
+    ensures actions { let P = process_by Q.Ratifier in
         (x : TableLayout) (base : ℕ → ℕ) (log other : List ℕ)
         (s : State (Option Page) (View (Sender (Elector Q))))
-        → (h : IsPromised P x base log s) (k : IsPromised P x base other s)
-        → ((p : ℕ) → h.actions p ≡ k.actions p) × (h.order ≡ k.order) × (h.owners ≡ k.owners) }
+        (h : IsPromised P x base log s) (k : IsPromised P x base other s)
+        → (p : ℕ) → h.actions p ≡ k.actions p }
+    ensures logs { let P = process_by Q.Ratifier in
+        (x : TableLayout) (base : ℕ → ℕ) (log other : List ℕ)
+        (s : State (Option Page) (View (Sender (Elector Q))))
+        → IsPromised P x base log s → IsPromised P x base other s
+        → (length log ≡ length other)
+        × (drop (floor_in x s.words) log ≡ drop (floor_in x s.words) other) }
+    ensures order { let P = process_by Q.Ratifier in
+        (x : TableLayout) (base : ℕ → ℕ) (log other : List ℕ)
+        (s : State (Option Page) (View (Sender (Elector Q))))
+        (h : IsPromised P x base log s) (k : IsPromised P x base other s)
+        → (x.passers ≡ 0) ⊎ (log ≡ other) → (h.order ≡ k.order) × (h.owners ≡ k.owners) }
 {}
 
 /// Each sender shows in some seat: a table with the seat of sender 0 alone, of two or more, is no
-/// bus, and no page holds of it.
+/// bus, and no page holds of it. And none in which nothing was published holds of a table whose
+/// length is above 0.
 pub fn no_page_without_each_sender<Q: Ratifier>()
     ensures shown { let P = process_by Q.Ratifier in let A = automaton_by Q.Ratifier in
         (plan : Plan) (s : State (Option Page) (View (Sender (Elector Q))))
@@ -91,12 +109,59 @@ pub fn no_page_without_each_sender<Q: Ratifier>()
         (v : Sender (Elector Q)) (sender_trail : SenderTrail) (stored : ℕ) → 1 < x.senders
         → P.me v ≡ 0 → s.views ≡ view.Sender v sender_trail stored ∷ []
         → ¬ IsPromised P x base log s }
+    ensures empty { let P = process_by Q.Ratifier in
+        (x : TableLayout) (base : ℕ → ℕ) (s : State (Option Page) (View (Sender (Elector Q))))
+        → 0 < slice_index s.words 0 → ¬ IsPromised P x base [] s }
 {}
 
+/// Of a ring, between any two steps, no word is lost that a receiver has not passed. The passed
+/// place of each receiver shows what that has passed, or that it has left. What one that has not
+/// left has passed are whole frames that it has read; and from there on each word that was
+/// published stands in its cell.
+pub fn rings_are_safe<Q: Ratifier>()
+    ensures { let P = process_by Q.Ratifier in let A = automaton_by Q.Ratifier in
+        (plan : Plan) (s : State (Option Page) (View (Sender (Elector Q)))) (seat : ℕ)
+        (v : View (Sender (Elector Q))) (e : ReceiverView) (r : TableInvariant P (A plan) s)
+        → get_elem? s.views seat ≡ some v → ShowsReceiver e v
+        → 0 < (A plan).table_layout.passers
+        → RingShows (A plan).table_layout s.words (log_in (A plan) r.state) e }
+{
+    threads_may_go_by::<Q>();
+}
+
+/// A receiver of a ring stores in its passed place alone: a store there leaves the length, the
+/// stage and each cell of the log. The rule holds after it, with the same page and with all that
+/// was published until then. So it is where it has read whole frames and stores its place, and
+/// where it leaves.
+pub fn receivers_store_apart<Q: Ratifier>()
+    ensures apart { let A = automaton_by Q.Ratifier in
+        (plan : Plan) (s : State (Option Page) (View (Sender (Elector Q)))) (seat : ℕ)
+        (v : View (Sender (Elector Q))) (e : ReceiverView) (number : ℕ)
+        → TableInvariant (process_by Q.Ratifier) (A plan) s → get_elem? s.views seat ≡ some v
+        → ShowsReceiver e v → 0 < (A plan).table_layout.passers
+        → StoresApart (A plan).table_layout s.words e.me number }
+    ensures passes { let P = process_by Q.Ratifier in let A = automaton_by Q.Ratifier in
+        (plan : Plan) (s : State (Option Page) (View (Sender (Elector Q)))) (seat : ℕ)
+        (x : TableLayout) (e : ReceiverView) (r : TableInvariant P (A plan) s)
+        → get_elem? s.views seat ≡ some (view.Tap x e) → e.gone ≡ false → 0 < x.passers
+        → e.ended ≡ false → IsLog x.senders (take e.place e.known)
+        → LeavesAll P (A plan) s r seat (passed_word x e.me) e.place
+        (view.Tap x (passed_on e (passed_word x e.me))) }
+    ensures leaves { let P = process_by Q.Ratifier in let A = automaton_by Q.Ratifier in
+        (plan : Plan) (s : State (Option Page) (View (Sender (Elector Q)))) (seat : ℕ)
+        (x : TableLayout) (e : ReceiverView) (r : TableInvariant P (A plan) s)
+        → get_elem? s.views seat ≡ some (view.Tap x e) → e.gone ≡ false → 0 < x.passers
+        → LeavesAll P (A plan) s r seat (passed_word x e.me) PASSED_ALL
+        (view.Tap x (left_for_good e (passed_word x e.me))) }
+{
+    threads_may_go_by::<Q>();
+}
+
 /// With a sender's step all that was published begins with all that was before it, whatever the
-/// step is for; and no step stores a smaller length. No other step changes a word: receivers load,
-/// and seats that are made, joined or cut apart leave all words as they are. So between any two
-/// steps what was published until then begins what is published later.
+/// step is for; and no step stores a smaller length. No other step changes the length or a cell: a
+/// receiver stores in its passed place alone, and seats that are made, joined or cut apart leave
+/// all words as they are. The rule holds of the table after such a step, with what was published by
+/// then. So what was published begins what is published after any number of steps.
 pub fn steps_only_extend_the_log<Q: Ratifier>()
     ensures extends { let P = process_by Q.Ratifier in let A = automaton_by Q.Ratifier in
         (plan : Plan) (s : State (Option Page) (View (Sender (Elector Q)))) (seat : ℕ)
@@ -104,6 +169,12 @@ pub fn steps_only_extend_the_log<Q: Ratifier>()
         (r : TableInvariant P (A plan) s) → get_elem? s.views seat ≡ some m.0
         → IsDue P d word m many o
         → LeavesLog (A plan) (words_after s.words (Some o)) (IsPrefix (log_in (A plan) r.state)) }
+    ensures rule { let P = process_by Q.Ratifier in let A = automaton_by Q.Ratifier in
+        (plan : Plan) (s : State (Option Page) (View (Sender (Elector Q)))) (seat : ℕ)
+        (m : Sat (Sender (Elector Q))) (d : Sender (Elector Q)) (word many : ℕ) (o : Op)
+        (r : TableInvariant P (A plan) s) → get_elem? s.views seat ≡ some m.0
+        → IsDue P d word m many o
+        → LeavesRule P (A plan) s seat m d word o (IsPrefix (log_in (A plan) r.state)) }
     ensures refused { let P = process_by Q.Ratifier in let A = automaton_by Q.Ratifier in
         (plan : Plan) (s : State (Option Page) (View (Sender (Elector Q)))) (seat : ℕ)
         (m : Sat (Sender (Elector Q))) (d : Sender (Elector Q)) (word many n : ℕ)
@@ -125,12 +196,23 @@ pub fn tables_are_machines<Q: Ratifier>()
     ensures { let X = election_of Q.Ratifier in
         (plan : Plan) (s : State (Option Page) (View (Sender (Elector Q))))
         → TableInvariant (process_by Q.Ratifier) (automaton_by Q.Ratifier plan) s
-        → HasHistory X (layout_of Q.protocol plan.shape plan.reuse) plan.reuse plan.bases
+        → HasHistory X (layout_by Q.protocol plan) plan.reuse plan.bases
         (election_bound Q.protocol.steps) s }
 {
     machine_keeps_promise::<Q>();
     steps_are_bounded::<Q>();
     threads_may_go_by::<Q>();
+}
+
+/// The words of the log that stand fit it: the length is no further behind the floor than the log
+/// has words. So who copies them from the floor up to the length copies each cell once at most.
+pub fn what_stands_fits<Q: Ratifier>()
+    ensures { let P = process_by Q.Ratifier in let A = automaton_by Q.Ratifier in
+        (plan : Plan) (s : State (Option Page) (View (Sender (Elector Q))))
+        → TableInvariant P (A plan) s → let x = (A plan).table_layout in
+        slice_index s.words 0 ≤ x.capacity + floor_in x s.words }
+{
+    election_is_lawful::<Q>();
 }
 
 /// What was published grows with no step of a sender but the one that stores the length, and with
@@ -150,7 +232,8 @@ pub fn the_log_grows_by_frames<Q: Ratifier>()
 }
 
 /// While a tenure is open the stage is twice its number, and but one step of a sender leaves that:
-/// the one that takes the page, by the sender that the tenure's election chose. Receivers load.
+/// the one that takes the page, by the sender that the tenure's election chose. No step of a
+/// receiver changes the stage.
 pub fn only_owners_leave_the_stage<Q: Ratifier>()
     ensures { let X = election_of Q.Ratifier in let P = process_by Q.Ratifier in
         (plan : Plan) (s : State (Option Page) (View (Sender (Elector Q)))) (seat : ℕ)
@@ -177,7 +260,7 @@ pub fn answers_are_true<Q: Ratifier>()
         (r : TableInvariant P (automaton_by Q.Ratifier plan) s)
         → get_elem? s.views seat ≡ some m.0
         → IsDue P d word m many o → let got = slice_index s.words (register o) in
-        IsTrueAnswer (layout_of Q.protocol plan.shape plan.reuse) plan.reuse r d
+        IsTrueAnswer (layout_by Q.protocol plan) plan.reuse r d
         (with_sender_trail (all_in P m.0 d) (P.adds d got word)).actions (P.answer d got word) }
 {
     threads_may_go_by::<Q>();
@@ -191,14 +274,14 @@ pub fn rows_used_again_are_safe<Q: Ratifier>()
     ensures { (plan : Plan) (rows : ℕ) (s : State (Option Page) (View (Sender (Elector Q))))
         → plan.reuse ≡ Some rows
         → TableInvariant (process_by Q.Ratifier) (automaton_by Q.Ratifier plan) s
-        → AreSafe (sizes_with (layout_of Q.protocol plan.shape plan.reuse) rows) s }
+        → AreSafe (sizes_with (layout_by Q.protocol plan) rows) s }
 {
     tables_are_machines::<Q>();
 }
 
 /// No step of a sender lowers the stage; and where rows of words are used again, none is an action
 /// in a tenure whose row has gone on to a later one: so who announced itself there, whom its
-/// election chose and who took its page stays as it is. Receivers load.
+/// election chose and who took its page stays as it is. No step of a receiver changes the stage.
 pub fn past_tenures_are_left<Q: Ratifier>()
     ensures { let P = process_by Q.Ratifier in
         (plan : Plan) (s : State (Option Page) (View (Sender (Elector Q)))) (seat : ℕ)
@@ -239,8 +322,9 @@ pub fn no_turn_without_a_load<Q: Ratifier>()
 {}
 
 /// A turn takes at most one step. Of a sender of which one is due the seat shows one step more
-/// afterwards, and else the sender is as it was. Of a receiver the seat shows one load more, of the
-/// length where it has read all that it knows, and else of the word at its place. After the end it
+/// afterwards, and else the sender is as it was. Of a receiver the seat shows one step more. It is
+/// on its passed place where it has read a whole frame that it has not passed; else a load of the
+/// length where it has read all that it knows; and else of the word at its place. After the end it
 /// is as it was.
 pub fn turns_take_one_step<Q: Ratifier>()
     ensures sender { let P = process_by Q.Ratifier in
@@ -250,9 +334,13 @@ pub fn turns_take_one_step<Q: Ratifier>()
     ensures receiver { (x : TableLayout) (e : ReceiverView) (answer : RecvTurn)
         (m : Sat (Sender (Elector Q))) → e.ended ≡ false → e.place ≤ length e.known
         → Hears (view.Tap x e, []) answer m → steps_shown m.0 ≡ length e.loads + 1 }
-    ensures loads { (x : TableLayout) (e : ReceiverView) (answer : RecvTurn)
-        (m : Sat (Sender (Elector Q))) → e.ended ≡ false → e.place ≤ length e.known
+    ensures passes { (x : TableLayout) (e : ReceiverView) (answer : RecvTurn)
+        (m : Sat (Sender (Elector Q))) → e.ended ≡ false → PassIsDue x e
         → Hears (view.Tap x e, []) answer m
+        → (receiver_view_in m.0).loads ≡ e.loads ++ passed_word x e.me ∷ [] }
+    ensures loads { (x : TableLayout) (e : ReceiverView) (answer : RecvTurn)
+        (m : Sat (Sender (Elector Q))) → e.ended ≡ false → ¬ PassIsDue x e
+        → e.place ≤ length e.known → Hears (view.Tap x e, []) answer m
         → (receiver_view_in m.0).loads ≡ e.loads ++ due_load x e ∷ [] }
 {
     threads_may_go_by::<Q>();
@@ -294,7 +382,7 @@ pub fn rests_are_true<Q: Ratifier>()
         (v d : Sender (Elector Q)) (sender_trail : SenderTrail) (actions : List Action)
         (r : TableInvariant P (automaton_by Q.Ratifier plan) s) → Shown s seat v sender_trail
         → Accepts P v d actions
-        → IsTrueAnswer (layout_of Q.protocol plan.shape plan.reuse) plan.reuse r d
+        → IsTrueAnswer (layout_by Q.protocol plan) plan.reuse r d
         (sender_trail.actions ++ actions) (P.rest d) }
     ensures refused { let P = process_by Q.Ratifier in
         (sizes : Layout) (reuse : Option ℕ) (plan : Plan)

@@ -26,6 +26,7 @@
 
 mod buses;
 pub mod laws;
+mod listeners;
 mod listening;
 mod outcomes;
 pub mod refusals;
@@ -40,5 +41,5 @@ pub use buses::Bus;
 pub use listening::ItemTurn;
 pub use outcomes::{EndFault, Ended};
 pub use rule::{BusRule, OfBus, ReceiverView, Seated, SenderTrail, TableLayout, Told, View};
-pub use seats::{SendFault, Sender, Unsent};
-pub use taps::Tap;
+pub use seats::{NeverFits, SendFault, Sender, Unsent};
+pub use taps::{Left, Tap};

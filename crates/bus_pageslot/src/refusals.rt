@@ -1,13 +1,24 @@
-//! What finishing does not allow.
+//! What finishing does not allow, nor waiting for room, a receiver's turn, or the table's rule.
 
-ghost use Rattle.bus_automaton.specs.Buses.{process_by};
+ghost use Rattle.std.specs.Prelude.{◌≡◌, ◌<◌, Option, false};
+ghost use Rattle.atomic_table.specs.Table.{State};
+ghost use Rattle.bus_automaton.specs.Buses.{automaton_by, process_by};
+ghost use Rattle.bus_automaton.specs.Processes.{TableLayout};
+ghost use Rattle.bus_automaton.specs.declared.plans.Plan.{Plan};
 ghost use Rattle.bus_core.specs.Senders.{Sender};
 ghost use Rattle.bus_pageslot.specs.Finishing.{FinishingRefuses};
+ghost use Rattle.bus_pageslot.specs.Listening.{HearingRefuses};
+ghost use Rattle.bus_pageslot.specs.ReceiverViews.{ReceiverView};
+ghost use Rattle.bus_pageslot.specs.Rings.{RuleRefuses};
+ghost use Rattle.bus_pageslot.specs.Room.{RoomRefuses};
 ghost use Rattle.bus_pageslot.specs.Seats.{SenderSeat};
 ghost use Rattle.bus_pageslot.specs.Turns.{tells_by};
+ghost use Rattle.bus_pageslot.specs.declared.rule.View.{View};
 ghost use Rattle.bus_tenure.specs.Elections.{Elector, election_of};
+ghost use Rattle.bus_tenure.specs.declared.pages.Page.{Page};
 
 use bus_adoptcommit::Ratifier;
+use bus_automaton::laws::threads_may_go_by;
 
 /// Nobody goes through turns of two tenures, nor through any who has begun none: so a sender that
 /// begins a tenure more, once its own is over, has not finished. Nor has one that is answered so
@@ -18,3 +29,31 @@ pub fn finishing_refuses<Q: Ratifier>()
         → FinishingRefuses (election_of Q.Ratifier) (process_by Q.Ratifier) (tells_by Q.Ratifier)
         first new }
 {}
+
+/// Nobody who sends when there is room ends with Full, or goes on once a call of the function has
+/// told to stop, be it called behind a turn or before a look. And the batch that waits is the same
+/// all the while, and where it stops.
+pub fn room_refuses<Q: Ratifier, F: FnMut() -> bool>()
+    ensures { (first new : SenderSeat (Sender (Elector Q))) (given f : F)
+        → RoomRefuses (process_by Q.Ratifier) (tells_by Q.Ratifier) F.step first new given f }
+{}
+
+/// No turn of a receiver that has not ended loads where its passed place is due, nor stores the
+/// length that it knows in the place of its own, nor stores within a frame or without a passed
+/// place. And of a ring none leaves without a store.
+pub fn hearing_refuses<Q: Ratifier>()
+    ensures { (x : TableLayout) (e : ReceiverView) → e.ended ≡ false
+        → HearingRefuses (Sender (Elector Q)) x e }
+{}
+
+/// The rule holds of no table of a ring where a passed place does not show what its receiver has
+/// passed, or that it has left; where a receiver has passed what it has not read, or a place within
+/// a frame; or where two seats show one receiver.
+pub fn rule_refuses<Q: Ratifier>()
+    ensures { let A = automaton_by Q.Ratifier in
+        (plan : Plan) (s : State (Option Page) (View (Sender (Elector Q))))
+        → 0 < (A plan).table_layout.passers
+        → RuleRefuses (process_by Q.Ratifier) (A plan) s }
+{
+    threads_may_go_by::<Q>();
+}

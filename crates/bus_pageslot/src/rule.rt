@@ -44,17 +44,18 @@ impl Model for ReceiverView {
 
     ghost Value = { ReceiverView };
 
-    ghost view = { λ _. new_receiver_view };
+    ghost view = { λ _. new_receiver_view 0 };
 }
 
 /// What a seat shows, of a bus whose senders are of type C. No value of it is made.
 pub enum View<C> {
-    /// Of a bus that is so large the senders from this one on have no seat yet.
+    /// How many seats it has made, of a bus that is so large: first those of the senders, in their
+    /// order, and then those of receivers.
     Maker(TableLayout, u64),
     /// A sender as it was after its last step, all that it did until then, and the last length
     /// that it has stored.
     Sender(C, SenderTrail, u64),
-    /// A receiver as it was after its last load, on a bus that is so large.
+    /// A receiver as it was after its last step, on a bus that is so large.
     Tap(TableLayout, ReceiverView),
     /// Two receivers, joined while they meet.
     Meeting(TableLayout, ReceiverView, TableLayout, ReceiverView),

@@ -1,13 +1,16 @@
 //! The table of a new bus, and the seats of its senders and receivers.
 
-ghost use Rattle.std.specs.Prelude.{◌≡◌, ℕ, ◌+◌, ◌<◌, ◌≤◌, ◌^◌, List, [], Some};
+ghost use Rattle.std.specs.Prelude.{◌≡◌, ℕ, ◌+◌, ◌*◌, ◌<◌, ◌≤◌, ◌^◌, List, [], Some};
 ghost use Rattle.std.specs.Prelude.{IfOk};
-ghost use Rattle.bus_automaton.specs.Buses.{process_by, automaton_by, Serves};
+ghost use Rattle.bus_automaton.specs.Buses.{process_by, automaton_by, plan_passers, Serves};
 ghost use Rattle.bus_automaton.specs.Processes.{base_in};
+ghost use Rattle.bus_core.specs.declared.limits.TheConstants.{PASSED_APART};
 ghost use Rattle.bus_pageslot.specs.declared.rule.View.TheVariants.{Maker};
 ghost use Rattle.bus_pageslot.specs.Buses.{IsBusTable, IsNewSeat, AreNewSeats};
 ghost use Rattle.bus_pageslot.specs.Buses.{IsNewTap, AreNewTaps};
+ghost use Rattle.bus_pageslot.specs.Seats.{HasCells, IsPassedAt};
 
+use crate::listeners::LogCells;
 use crate::rule::{BusSeat, Seated};
 use crate::seats::Sender;
 use crate::taps::Tap;
@@ -16,6 +19,7 @@ use bus_adoptcommit::Ratifier;
 use bus_automaton::Plan;
 use bus_automaton::laws::threads_may_go_by;
 use bus_core::SenderCore;
+use bus_core::limits::PASSED_APART;
 use bus_machine::shapes::log_word;
 use bus_ownerbits::Election;
 use bus_register::{NoMemory, SenderNo};
@@ -29,15 +33,18 @@ pub(crate) fn log_at<Q: Ratifier + Drop>(plan: Plan) -> u64
     ensures log { result ≡ (automaton_by Q.Ratifier plan).table_layout.log }
     ensures words { result + plan.shape.log_words
         ≡ (automaton_by Q.Ratifier plan).table_layout.words }
+    ensures passed { result
+        ≡ (automaton_by Q.Ratifier plan).table_layout.passed + PASSED_APART * plan_passers plan }
     ensures capacity { plan.shape.log_words
         ≡ (automaton_by Q.Ratifier plan).table_layout.capacity }
     ensures senders { plan.shape.senders
         ≡ (automaton_by Q.Ratifier plan).table_layout.senders }
     ensures bases { plan.bases ≡ (automaton_by Q.Ratifier plan).bases }
+    ensures passers { (automaton_by Q.Ratifier plan).table_layout.passers ≡ plan_passers plan }
     ensures few { result + plan.shape.log_words ≤ 2 ^ 63 }
 {
     let width = Election::<Q>::width(plan.shape.senders, plan.shape.rounds);
-    log_word(plan.shape, plan.reuse, width)
+    log_word(plan.shape, plan.reuse, width) + PASSED_APART * plan.passers()
 }
 
 /// Sender `me` of a bus of this plan, at its start.
@@ -53,7 +60,9 @@ fn start<Q: Ratifier + Drop>(plan: Plan, me: SenderNo) -> SenderCore<Q>
     let first = plan.bases[usize::from(me.0)];
     match plan.reuse {
         None => SenderCore::new(senders, me, rounds, shape.rows, words, first),
-        Some(rows) => SenderCore::cyclic(senders, me, rounds, rows, words, first, 0),
+        Some(rows) => {
+            SenderCore::cyclic(senders, me, rounds, rows, words, first, plan.passers())
+        }
     }
 }
 
@@ -131,29 +140,79 @@ pub(crate) fn seat_all<Q: Ratifier + Drop>(
     Ok((senders, maker))
 }
 
-/// The next receiver, with its seat, of a maker that has made the seats of so many senders.
+/// The passed place of the receiver of this number, if it has one. `log` is the place of the log's
+/// first word.
+fn passed_place<Q: Ratifier + Drop>(plan: Plan, index: u64, log: u64) -> Option<u64>
+    requires log { log ≡ (automaton_by Q.Ratifier plan).table_layout.log }
+    requires passed { log
+        ≡ (automaton_by Q.Ratifier plan).table_layout.passed + PASSED_APART * plan_passers plan }
+    requires below { index < plan.shape.receivers }
+    ensures { IsPassedAt (automaton_by Q.Ratifier plan).table_layout index result }
+{
+    threads_may_go_by::<Q>();
+    let passers = plan.passers();
+    if index < passers {
+        return Some(log - PASSED_APART * (passers - index));
+    }
+    None
+}
+
+/// The cells of the log, as the receiver of this number has them.
+fn cells_of<Q: Ratifier + Drop>(plan: Plan, index: u64, log: u64) -> LogCells
+    requires served { Serves plan }
+    requires room { (automaton_by Q.Ratifier plan).table_layout.words ≤ 2 ^ 63 }
+    requires log { log ≡ (automaton_by Q.Ratifier plan).table_layout.log }
+    requires passed { log
+        ≡ (automaton_by Q.Ratifier plan).table_layout.passed + PASSED_APART * plan_passers plan }
+    requires capacity { plan.shape.log_words
+        ≡ (automaton_by Q.Ratifier plan).table_layout.capacity }
+    requires below { index < plan.shape.receivers }
+    ensures { HasCells (automaton_by Q.Ratifier plan).table_layout index result }
+{
+    threads_may_go_by::<Q>();
+    let passed_at = passed_place::<Q>(plan, index, log);
+    LogCells {
+        log,
+        log_words: plan.shape.log_words,
+        passed_at,
+    }
+}
+
+/// The next receiver, with its seat, of a maker that has made the seats of all senders, and of so
+/// many receivers.
 fn tap_next<Q: Ratifier + Drop>(
     words: &Words<Q>,
     maker: &mut BusSeat<Q>,
     plan: Plan,
-    made: u64,
+    index: u64,
     log: u64,
 ) -> Tap<Q>
     requires table { maker.old.table_id ≡ words.now.table }
+    requires served { Serves plan }
     requires room { (automaton_by Q.Ratifier plan).table_layout.words ≤ 2 ^ 63 }
     requires wide { maker.old.table_id.words ≡ (automaton_by Q.Ratifier plan).table_layout.words }
     requires log { log ≡ (automaton_by Q.Ratifier plan).table_layout.log }
+    requires passed { log
+        ≡ (automaton_by Q.Ratifier plan).table_layout.passed + PASSED_APART * plan_passers plan }
+    requires capacity { plan.shape.log_words
+        ≡ (automaton_by Q.Ratifier plan).table_layout.capacity }
     requires senders { plan.shape.senders ≡ (automaton_by Q.Ratifier plan).table_layout.senders }
+    requires below { index < plan.shape.receivers }
     requires maker { maker.old.me
-        ≡ (Maker (automaton_by Q.Ratifier plan).table_layout made, []) }
+        ≡ (Maker (automaton_by Q.Ratifier plan).table_layout (plan.shape.senders + index), []) }
     ensures table { maker.new.table_id ≡ maker.old.table_id }
-    ensures maker { maker.new.me ≡ maker.old.me }
-    ensures tap { IsNewTap (automaton_by Q.Ratifier plan).table_layout maker.old.table_id result }
+    ensures maker { maker.new.me ≡ (
+      Maker (automaton_by Q.Ratifier plan).table_layout
+          (plan.shape.senders + index + 1),
+      [],
+    ) }
+    ensures tap { IsNewTap (automaton_by Q.Ratifier plan).table_layout maker.old.table_id index
+        result }
 {
-    let _ = made;
     threads_may_go_by::<Q>();
+    let cells = cells_of::<Q>(plan, index, log);
     let seat = words.cut_tap(maker);
-    Tap::seated(seat, log, plan.shape.senders)
+    Tap::seated(seat, cells, plan.shape.senders)
 }
 
 /// All receivers, in order. `log` is the place of the log's first word.
@@ -165,9 +224,14 @@ pub(crate) fn tap_all<Q: Ratifier + Drop>(
     log: u64,
 ) -> Result<Vec<Tap<Q>>, NoMemory>
     requires table { maker.table_id ≡ words.now.table }
+    requires served { Serves plan }
     requires room { (automaton_by Q.Ratifier plan).table_layout.words ≤ 2 ^ 63 }
     requires wide { words.now.table.words ≡ (automaton_by Q.Ratifier plan).table_layout.words }
     requires log { log ≡ (automaton_by Q.Ratifier plan).table_layout.log }
+    requires passed { log
+        ≡ (automaton_by Q.Ratifier plan).table_layout.passed + PASSED_APART * plan_passers plan }
+    requires capacity { plan.shape.log_words
+        ≡ (automaton_by Q.Ratifier plan).table_layout.capacity }
     requires senders { plan.shape.senders ≡ (automaton_by Q.Ratifier plan).table_layout.senders }
     requires maker { maker.me
         ≡ (Maker (automaton_by Q.Ratifier plan).table_layout plan.shape.senders, []) }
@@ -176,8 +240,8 @@ pub(crate) fn tap_all<Q: Ratifier + Drop>(
         taps.items) }
 {
     let mut taps = Vec::new(alloc);
-    for _ in 0..plan.shape.receivers {
-        let tap = tap_next(words, &mut maker, plan, plan.shape.senders, log);
+    for index in 0..plan.shape.receivers {
+        let tap = tap_next(words, &mut maker, plan, index, log);
         taps.push(tap)?;
     }
     Ok(taps)

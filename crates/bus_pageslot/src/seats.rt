@@ -35,6 +35,8 @@ ghost use Rattle.bus_pageslot.specs.Sendings.{Carries, CarryRefused};
 ghost use Rattle.bus_pageslot.specs.SendFaults.{send_fault_text};
 
 mod finishing;
+mod looking;
+mod room;
 mod rows;
 
 use crate::buses::Bus;
@@ -50,6 +52,7 @@ use bus_register::{Kind, SenderNo};
 use bus_tenure::Turn;
 use bus_waiting::Waiter;
 use rand_core::Rng;
+pub use room::NeverFits;
 use std::error::Error;
 use std::fmt;
 use std::marker::{Brand, Model};

@@ -1,34 +1,56 @@
-//! A receiver's seat, and its loads.
+//! A receiver's seat, its loads, and what it stores in its passed place.
 
 ghost use Rattle.std.specs.Prelude.{◌≡◌, ◌<◌, ◌≤◌, [], length, slice_index};
 ghost use Rattle.bus_automaton.specs.Buses.{process_by};
 ghost use Rattle.bus_pageslot.specs.ReceiverViews.{ReceiverView, Agree, receiver_view_after_load};
 ghost use Rattle.bus_pageslot.specs.declared.rule.View.TheVariants as View;
 ghost use Rattle.bus_pageslot.specs.Rule.{receiver_view_in, known_in, with_receiver_view};
-ghost use Rattle.bus_pageslot.specs.Rule.{log_word_in};
-ghost use Rattle.bus_pageslot.specs.Steps.{Learns, KnowsSent};
+ghost use Rattle.bus_pageslot.specs.Rule.{log_word_in, table_layout_in};
+ghost use Rattle.bus_pageslot.specs.Steps.{HasLeftBy, Learns, KnowsSent};
 ghost use Rattle.bus_pageslot.specs.Seats.{IsFresh, receiver_seat, table_of, actions_of, stored_of};
 ghost use Rattle.bus_pageslot.specs.Listening.{Hears, HearsAfter};
 
 use crate::buses::Bus;
+use crate::listeners::{Listener, LogCells};
 use crate::listening::{ItemTurn, answered, hear, hear_on};
 use crate::rule::BusSeat;
 use crate::seats::Sender;
 use bus_adoptcommit::{Ratifier, ThreeWord};
 use bus_batch::Item;
-use bus_deliverylog::{LogReader, RecvTurn};
+use bus_deliverylog::RecvTurn;
+use bus_register::cell;
 use std::marker::Model;
 
 /// A receiver of a bus: its seat, how much of the log it knows, and what it has read of that. One
 /// thread at a time has it, and no call of it waits or takes memory.
 ///
-/// Its seat shows what its turns have answered, and which words it has loaded; a meeting, which is
-/// three loads of the length, counts as one. Only a step on the table adds to either.
+/// Its seat shows what its turns have answered, and which words its steps were on: its loads, and
+/// the stores in its passed place. A meeting, which is three loads of the length, counts as one.
+/// Only a step on the table adds to either.
+///
+/// Where the log is a ring, a turn after each whole frame stores its place there, and from then on
+/// the cells of the words before it may be used again. One that takes no turns holds the ring up.
+/// One that is dropped and has not left holds a ring up for good.
 #[derive(Drop)]
 pub struct Tap<Q: Ratifier = ThreeWord> {
     seat: Option<BusSeat<Q>>,
-    log: u64,
-    reader: LogReader,
+    listener: Listener,
+}
+
+/// The seat of a receiver that has left for good. It is good for nothing any more.
+#[derive(Drop)]
+pub struct Left<Q: Ratifier = ThreeWord> {
+    seat: BusSeat<Q>,
+}
+
+impl<Q: Ratifier> Model for Left<Q> {
+    ghost use Rattle.bus_core.specs.Senders.{Sender};
+    ghost use Rattle.bus_pageslot.specs.Seats.{ReceiverSeat, receiver_seat};
+    ghost use Rattle.bus_tenure.specs.Elections.{Elector};
+
+    ghost Value = { ReceiverSeat (Sender (Elector Q)) };
+
+    ghost view = { λ l. receiver_seat l.seat };
 }
 
 impl<Q: Ratifier> Model for Tap<Q> {
@@ -40,18 +62,17 @@ impl<Q: Ratifier> Model for Tap<Q> {
 
     ghost view = { λ t. receiver_seat_of t.seat };
 
-    ghost invariant = { λ t. IsTap (receiver_seat_of t.seat) t.log t.reader };
+    ghost invariant = { λ t. IsTap (receiver_seat_of t.seat) t.listener };
 }
 
 impl<Q: Ratifier + Drop> Tap<Q> {
-    pub(crate) fn seated(seat: BusSeat<Q>, log: u64, senders: u64) -> Tap<Q>
-        requires { IsFresh (receiver_seat seat) log senders }
+    pub(crate) fn seated(seat: BusSeat<Q>, cells: LogCells, senders: u64) -> Tap<Q>
+        requires { IsFresh (receiver_seat seat) cells senders }
         ensures { result ≡ receiver_seat seat }
     {
         Tap {
             seat: Some(seat),
-            log,
-            reader: LogReader::new(senders),
+            listener: Listener::new(cells, senders),
         }
     }
 
@@ -68,7 +89,7 @@ impl<Q: Ratifier + Drop> Tap<Q> {
     pub fn known(&self) -> u64
         ensures { result ≡ length (known_in self.now.me.0) }
     {
-        self.reader.known()
+        self.listener.reader.known()
     }
 
     /// How many words of the log it has read.
@@ -76,25 +97,36 @@ impl<Q: Ratifier + Drop> Tap<Q> {
         ensures place { result ≡ (receiver_view_in self.now.me.0).place }
         ensures within { result ≤ length (known_in self.now.me.0) }
     {
-        self.reader.place()
+        self.listener.reader.place()
+    }
+
+    /// The place that it has stored in its passed place; 0 before its first such store, and where
+    /// no word of the log is used again. It asks for no word before that any more.
+    pub fn passed(&self) -> u64
+        ensures passed { result ≡ (receiver_view_in self.now.me.0).passed }
+        ensures within { result ≤ (receiver_view_in self.now.me.0).place }
+        ensures never { (table_layout_in self.now.me.0).passers ≡ 0 → result ≡ 0 }
+    {
+        self.listener.passed
     }
 
     /// The end was among what it was answered.
     pub fn has_ended(&self) -> bool
         ensures { result ≡ (receiver_view_in self.now.me.0).ended }
     {
-        self.reader.has_ended()
+        self.listener.reader.has_ended()
     }
 
-    /// One turn: a load of the length where it has read all that it knows, else a load of the word
-    /// at its place. After the end it takes no step.
+    /// One turn: a store of its place, where it has read a whole frame since the last; else a load
+    /// of the length where it has read all that it knows, and else a load of the word at its place.
+    /// After the end it takes no step.
     #[inline(always)]
     pub fn turn(&mut self, bus: &Bus<Q>) -> RecvTurn
         requires { self.old.table_id ≡ bus.now.table }
         ensures table { self.new.table_id ≡ self.old.table_id }
         ensures hears { Hears self.old.me result self.new.me }
     {
-        if self.reader.has_ended() {
+        if self.listener.reader.has_ended() {
             return RecvTurn::End;
         }
         let mut item = Item::blank();
@@ -103,8 +135,7 @@ impl<Q: Ratifier + Drop> Tap<Q> {
         let told = hear(
             &bus.words,
             &mut seat,
-            self.log,
-            &mut self.reader,
+            &mut self.listener,
             &mut item,
             &mut sign,
         );
@@ -121,11 +152,11 @@ impl<Q: Ratifier + Drop> Tap<Q> {
         ensures table { self.new.table_id ≡ self.old.table_id }
         ensures hears { HearsAfter self.old.me item.old result item.new self.new.me }
     {
-        if self.reader.has_ended() {
+        if self.listener.reader.has_ended() {
             return ItemTurn::End;
         }
         let mut seat = self.seat.take().unwrap();
-        let turn = hear_on(&bus.words, &mut seat, self.log, &mut self.reader, item);
+        let turn = hear_on(&bus.words, &mut seat, &mut self.listener, item);
         self.seat = Some(seat);
         turn
     }
@@ -139,14 +170,16 @@ impl<Q: Ratifier + Drop> Tap<Q> {
         let mut seat = self.seat.take().unwrap();
         let length = bus.words.load_length(&mut seat);
         self.seat = Some(seat);
-        self.reader.learn(length);
+        self.listener.learn(length);
         length
     }
 
-    /// Loads a word of the log that it knows; `place` counts the words of the log from 0 on.
+    /// Loads a word of the log that it knows and has not passed; `place` counts the words of the
+    /// log from 0 on.
     pub fn load_word(&mut self, bus: &Bus<Q>, place: u64) -> u64
         requires table { self.old.table_id ≡ bus.now.table }
         requires below { place < length (known_in self.old.me.0) }
+        requires passed { (receiver_view_in self.old.me.0).passed ≤ place }
         ensures table { self.new.table_id ≡ self.old.table_id }
         ensures loads { self.new.me
             ≡ (
@@ -158,9 +191,27 @@ impl<Q: Ratifier + Drop> Tap<Q> {
         ensures word { result ≡ slice_index (known_in self.old.me.0) place }
     {
         let mut seat = self.seat.take().unwrap();
-        let word = bus.words.load_word(&mut seat, (self.log + place) as usize);
+        let cells = self.listener.cells;
+        let at = cells.log + cell(place, cells.log_words);
+        let word = bus.words.load_word(&mut seat, at as usize);
         self.seat = Some(seat);
         word
+    }
+
+    /// Leaves for good. Of a log that is a ring it stores 2^64 - 1 in its passed place, past all
+    /// words: nothing waits for it from then on. Else it takes no step.
+    pub fn leave(self, bus: &Bus<Q>) -> Left<Q>
+        requires { self.table_id ≡ bus.now.table }
+        ensures table { result.table_id ≡ self.table_id }
+        ensures left { HasLeftBy self.me result.me }
+    {
+        let Tap { seat, listener } = self;
+        let mut seat = seat.unwrap();
+        let Some(at) = listener.cells.passed_at else {
+            return Left { seat };
+        };
+        bus.words.leave(&mut seat, at as usize);
+        Left { seat }
     }
 
     /// Two receivers of one bus meet: from then on each knows the log up to the length that is
@@ -180,9 +231,9 @@ impl<Q: Ratifier + Drop> Tap<Q> {
         let theirs = other.seat.take().unwrap();
         let (length, theirs) = bus.words.meet(&mut mine, theirs);
         self.seat = Some(mine);
-        self.reader.learn(length);
+        self.listener.learn(length);
         other.seat = Some(theirs);
-        other.reader.learn(length);
+        other.listener.learn(length);
         length
     }
 
@@ -205,7 +256,7 @@ impl<Q: Ratifier + Drop> Tap<Q> {
         let mine = self.seat.take().unwrap();
         let (length, mine) = sender.tell(bus, mine);
         self.seat = Some(mine);
-        self.reader.learn(length);
+        self.listener.learn(length);
         length
     }
 }

@@ -1,35 +1,39 @@
 //! All steps on the table's words are here. Each function takes one step, or says how many, and its
-//! seat shows it: a receiver's list of the words that it has loaded, or a sender's list of steps,
-//! grows by it.
+//! seat shows it: a receiver's list of the words that its steps were on, or a sender's list of
+//! steps, grows by it. A look alone is a load that no seat shows.
 //!
 //! No other module has the table, so no other function takes a step. What stands in `shown` is
 //! proved. That a body calls the table no second time is for the reader to see: each has one call,
-//! and `meet` three. What `plays` says is what the call makes the seat show: of a receiver's load
-//! that the word is the one that is noted.
+//! and `meet` three. What `plays` says is what the call makes the seat show: of a receiver's step
+//! that the word is the one that is noted, and of its store what was stored.
 
-ghost use Rattle.std.specs.Prelude.{◌≡◌, ℕ, ◌+◌, ◌<◌, Option, Some, [], ◌∷◌, false, length, IfOk};
+ghost use Rattle.std.specs.Prelude.{◌≡◌, ◌⊎◌, ℕ, ◌+◌, ◌<◌, ◌≤◌, Option, Some, [], ◌∷◌, false};
+ghost use Rattle.std.specs.Prelude.{length, take, IfOk};
 ghost use Rattle.std.specs.Slots.{slots_items, slots_len, IsFull};
 ghost use Rattle.atomic_table.specs.Table.{opening, rest, Final, Seen};
 ghost use Rattle.bus_automaton.specs.Buses.{process_by, automaton_by};
-ghost use Rattle.bus_automaton.specs.Processes.{TableLayout, base_in};
+ghost use Rattle.bus_automaton.specs.Processes.{TableLayout, base_in, log_cell, passed_word};
+ghost use Rattle.bus_batch.specs.Frames.{IsLog};
 ghost use Rattle.bus_pageslot.specs.declared.rule.View.TheVariants.{Maker, Tap};
-ghost use Rattle.bus_pageslot.specs.Listening.{FindsLength, FindsWord};
+ghost use Rattle.bus_pageslot.specs.Listening.{FindsLength, FindsWord, PassIsDue};
 ghost use Rattle.bus_pageslot.specs.ReceiverViews.{ReceiverView};
-ghost use Rattle.bus_pageslot.specs.Rule.{IsFirst, TableInvariant, cut_left, cut_right, tap_right};
-ghost use Rattle.bus_pageslot.specs.Steps.{Due, GoesOn, Learns, Reads, Met};
+ghost use Rattle.bus_pageslot.specs.Rule.{IsFirst, MayRead, TableInvariant, cut_left, cut_right};
+ghost use Rattle.bus_pageslot.specs.Rule.{tap_left, tap_right};
+ghost use Rattle.bus_pageslot.specs.Steps.{Due, GoesOn, Learns, Reads, Met, HasPassed, HasLeft};
 ghost use Rattle.bus_pageslot.specs.StepsShown.{steps_shown};
 ghost use Rattle.bus_tenure.specs.declared.pages.Page.{Page};
 
 use crate::rule::{BusRule, BusSeat, Seated, Told, View};
 use crate::words::plays::{
-    Cut, CutTap, Goes, LoadsJoined, LoadsLength, LoadsLengthInTurn, LoadsWord, LoadsWordInTurn,
-    Meet, Part,
+    Cut, CutTap, Goes, Leaves, LoadsJoined, LoadsLength, LoadsLengthInTurn, LoadsWord,
+    LoadsWordInTurn, Looks, Meet, Part, StoresPassed,
 };
 use atomic_table::{Closed, Table};
 use bus_adoptcommit::Ratifier;
 use bus_automaton::Plan;
 use bus_automaton::laws::threads_may_go_by;
 use bus_core::SenderCore;
+use bus_register::limits::PASSED_ALL;
 use bus_register::{NoMemory, Op};
 use bus_tenure::OwnedPage;
 use std::alloc::Global;
@@ -95,14 +99,16 @@ impl<Q: Ratifier> Words<Q> {
         self.table.shared.split_seat::<Cut<Q, K>>(maker)
     }
 
-    /// A receiver's seat. One load, by the same seat, which stays as it was.
+    /// The seat of the next receiver. One load, by the same seat, once it has made those of all
+    /// senders. It has a number of its own where it has a passed place.
     #[inline(always)]
     pub(crate) fn cut_tap(&self, maker: &mut BusSeat<Q>) -> BusSeat<Q>
         requires table { (maker.old.table_id ≡ self.now.table) × (0 < self.now.table.words) }
-        requires maker { (x : TableLayout) × (made : ℕ) × (maker.old.me ≡ (Maker x made, [])) }
+        requires maker { (x : TableLayout) × (made : ℕ) × (maker.old.me ≡ (Maker x made, []))
+            × (x.senders ≤ made) × ((x.passers ≡ 0) ⊎ (made < x.senders + x.passers)) }
         ensures table { (maker.new.table_id ≡ maker.old.table_id)
             × (result.table_id ≡ maker.old.table_id) }
-        ensures maker { maker.new.me ≡ maker.old.me }
+        ensures maker { maker.new.me ≡ (tap_left maker.old.me.0, maker.old.me.1) }
         ensures seat { result.me ≡ (tap_right maker.old.me.0, []) }
     {
         threads_may_go_by::<Q>();
@@ -152,12 +158,13 @@ impl<Q: Ratifier> Words<Q> {
         self.table.shared.exchange(seat, 0, page)
     }
 
-    /// One load of the length, by a turn of a receiver.
+    /// One load of the length, by a turn of a receiver that has not left, and that has no frame to
+    /// pass.
     #[inline(always)]
     pub(crate) fn load_length_in_turn(&self, seat: &mut BusSeat<Q>) -> u64
         requires table { (seat.old.table_id ≡ self.now.table) × (0 < self.now.table.words) }
         requires tap { (x : TableLayout) × (e : ReceiverView) × (seat.old.me ≡ (Tap x e, []))
-            × (e.ended ≡ false) }
+            × (e.ended ≡ false) × (e.gone ≡ false) × ¬ PassIsDue x e }
         ensures table { (seat.new.table_id ≡ seat.old.table_id) × (seat.new.id ≡ seat.old.id) }
         ensures finds { FindsLength seat.old.me result seat.new.me }
         ensures shown { steps_shown seat.new.me.0 ≡ steps_shown seat.old.me.0 + 1 }
@@ -171,7 +178,8 @@ impl<Q: Ratifier> Words<Q> {
     pub(crate) fn load_word_in_turn(&self, seat: &mut BusSeat<Q>, at: usize) -> u64
         requires table { (seat.old.table_id ≡ self.now.table) × (at < self.now.table.words) }
         requires tap { (x : TableLayout) × (e : ReceiverView) × (seat.old.me ≡ (Tap x e, []))
-            × (e.ended ≡ false) × (e.place < length e.known) × (at ≡ x.log + e.place) }
+            × (e.ended ≡ false) × MayRead x e e.place × (e.place < length e.known)
+            × (at ≡ log_cell x e.place) }
         ensures table { (seat.new.table_id ≡ seat.old.table_id) × (seat.new.id ≡ seat.old.id) }
         ensures finds { FindsWord seat.old.me result seat.new.me }
         ensures shown { steps_shown seat.new.me.0 ≡ steps_shown seat.old.me.0 + 1 }
@@ -180,11 +188,12 @@ impl<Q: Ratifier> Words<Q> {
         self.table.shared.load::<LoadsWordInTurn<Q>>(seat, at)
     }
 
-    /// One load of the length, by a receiver out of turn.
+    /// One load of the length, by a receiver that has not left, out of turn.
     #[inline(always)]
     pub(crate) fn load_length(&self, seat: &mut BusSeat<Q>) -> u64
         requires table { (seat.old.table_id ≡ self.now.table) × (0 < self.now.table.words) }
-        requires tap { (x : TableLayout) × (e : ReceiverView) × (seat.old.me ≡ (Tap x e, [])) }
+        requires tap { (x : TableLayout) × (e : ReceiverView) × (seat.old.me ≡ (Tap x e, []))
+            × (e.gone ≡ false) }
         ensures table { (seat.new.table_id ≡ seat.old.table_id) × (seat.new.id ≡ seat.old.id) }
         ensures learns { Learns seat.old.me result seat.new.me }
         ensures shown { steps_shown seat.new.me.0 ≡ steps_shown seat.old.me.0 + 1 }
@@ -198,13 +207,54 @@ impl<Q: Ratifier> Words<Q> {
     pub(crate) fn load_word(&self, seat: &mut BusSeat<Q>, at: usize) -> u64
         requires table { (seat.old.table_id ≡ self.now.table) × (at < self.now.table.words) }
         requires tap { (x : TableLayout) × (e : ReceiverView) × (seat.old.me ≡ (Tap x e, []))
-            × (place : ℕ) × (place < length e.known) × (at ≡ x.log + place) }
+            × (place : ℕ) × MayRead x e place × (place < length e.known)
+            × (at ≡ log_cell x place) }
         ensures table { (seat.new.table_id ≡ seat.old.table_id) × (seat.new.id ≡ seat.old.id) }
         ensures reads { Reads seat.old.me at result seat.new.me }
         ensures shown { steps_shown seat.new.me.0 ≡ steps_shown seat.old.me.0 + 1 }
     {
         threads_may_go_by::<Q>();
         self.table.shared.load::<LoadsWord<Q>>(seat, at)
+    }
+
+    /// One store of its place in its passed place, by a turn of a receiver that has heard whole
+    /// frames, and at least one since it stored that last.
+    #[inline(always)]
+    pub(crate) fn store_passed(&self, seat: &mut BusSeat<Q>, at: usize, place: u64)
+        requires table { (seat.old.table_id ≡ self.now.table) × (at < self.now.table.words) }
+        requires tap { (x : TableLayout) × (e : ReceiverView) × (seat.old.me ≡ (Tap x e, []))
+            × (e.ended ≡ false) × (e.gone ≡ false) × (0 < x.passers)
+            × IsLog x.senders (take e.place e.known) × (at ≡ passed_word x e.me)
+            × (place ≡ e.place) × (e.passed < e.place) }
+        ensures table { (seat.new.table_id ≡ seat.old.table_id) × (seat.new.id ≡ seat.old.id) }
+        ensures passed { HasPassed seat.old.me seat.new.me }
+        ensures shown { steps_shown seat.new.me.0 ≡ steps_shown seat.old.me.0 + 1 }
+    {
+        threads_may_go_by::<Q>();
+        self.table.shared.store::<StoresPassed<Q>>(seat, at, place);
+    }
+
+    /// One store of the number past all places in its passed place: a receiver leaves for good.
+    #[inline(always)]
+    pub(crate) fn leave(&self, seat: &mut BusSeat<Q>, at: usize)
+        requires table { (seat.old.table_id ≡ self.now.table) × (at < self.now.table.words) }
+        requires tap { (x : TableLayout) × (e : ReceiverView) × (seat.old.me ≡ (Tap x e, []))
+            × (e.gone ≡ false) × (0 < x.passers) × (at ≡ passed_word x e.me) }
+        ensures table { (seat.new.table_id ≡ seat.old.table_id) × (seat.new.id ≡ seat.old.id) }
+        ensures left { HasLeft seat.old.me seat.new.me }
+        ensures shown { steps_shown seat.new.me.0 ≡ steps_shown seat.old.me.0 + 1 }
+    {
+        threads_may_go_by::<Q>();
+        self.table.shared.store::<Leaves<Q>>(seat, at, PASSED_ALL);
+    }
+
+    /// One load, of any word, of which its seat shows nothing: a look beside the turns.
+    #[inline(always)]
+    pub(crate) fn look(&self, seat: &mut BusSeat<Q>, at: usize) -> u64
+        requires { (seat.old.table_id ≡ self.now.table) × (at < self.now.table.words) }
+        ensures { seat.new ≡ seat.old }
+    {
+        self.table.shared.load::<Looks<Q>>(seat, at)
     }
 
     /// A receiver's seat goes into another seat, which loads the length, and comes out of it again.

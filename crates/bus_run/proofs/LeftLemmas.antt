@@ -1,24 +1,25 @@
 -- What a seat has learnt, and what a bus of a run leaves behind.
 use Rattle.std.proofs.Common.{◌≡◌, ℕ, List, [], ◌∷◌, ◌++◌, ◌+◌, refl, sym, ap, subst, ◌∙◌}
 use Rattle.std.proofs.Common.{append_assoc, append-nil, replicate, ◌⊎◌, inl, inr, Option, Some}
-use Rattle.std.proofs.Common.{None, map}
+use Rattle.std.proofs.Common.{None, Bool, true, false, map}
 use Rattle.std.proofs.lemmas.List.{replicate_more}
 use Rattle.std.specs.Prelude.{slice_get, get_or, IfSome, All}
 use Rattle.bus_batch.specs.Frames.{Order, Spells}
 use Rattle.bus_tenure.specs.Core.{length_at}
 use Rattle.bus_tenure.specs.declared.pages.Page.{Page}
 use Rattle.bus_world.specs.Headline.{IsPrefix}
-use Rattle.bus_automaton.specs.Buses.{automaton_with}
+use Rattle.bus_automaton.specs.Buses.{automaton_with, passers_in, plan_passers}
 use Rattle.bus_automaton.specs.declared.plans.Plan.{Plan}
 use Rattle.bus_world.specs.declared.shapes.Shape.{Shape}
 use Rattle.bus_pageslot.specs.declared.rule.View.TheVariants.{Maker, Sender, Tap, Meeting, Telling}
 use Rattle.bus_pageslot.specs.declared.rule.View.TheVariants.{Spent}
+use Rattle.bus_pageslot.specs.Endings.{IsLeft}
 use Rattle.bus_pageslot.specs.Outcomes.{Outcome}
 use Rattle.bus_pageslot.specs.Rule.{Sat, receiver_view_in, known_in, with_receiver_view}
 use Rattle.bus_pageslot.specs.Seats.{SenderSeat}
 use Rattle.bus_pageslot.specs.Steps.{Learns}
 use Rattle.bus_run.specs.Audit.{IsSpelled, OfOrder}
-use Rattle.bus_automaton.specs.ThreeWordBuses.{Held, automaton}
+use Rattle.bus_automaton.specs.ThreeWordBuses.{Held, process, automaton}
 use Rattle.bus_run.specs.Left.{Shown, IsLeftBy, IsLeftBehind, HasLearnt, number_of, senders_of}
 use Rattle.bus_run.specs.Stops.{LeavesNoPage, LeavesOrder, IsOpen}
 use Rattle.bus_run.specs.Told.{HasTold}
@@ -124,12 +125,34 @@ one_learnt m got m' h = record {
 
 -- ---- what is left
 -- how many senders the bus of a plan has
-senders_planned : (shape : Shape) (reuse : Option ℕ) (bases : List ℕ)
-    → (automaton (record { shape = shape; reuse = reuse; bases = bases })).table_layout.senders
-    ≡ shape.senders
+senders_planned : (s : Shape) (reuse : Option ℕ) (b : List ℕ) (ring : Bool)
+    → (automaton (record { shape = s; reuse = reuse; bases = b; ring = ring })).table_layout.senders
+    ≡ s.senders
 unfolding automaton_with
-senders_planned shape None bases = refl
-senders_planned shape (Some rows) bases = refl
+senders_planned s None b ring = refl
+senders_planned s (Some rows) b ring = refl
+
+-- and how many passed places
+passers_planned : (s : Shape) (reuse : Option ℕ) (b : List ℕ) (ring : Bool)
+    → (automaton (record { shape = s; reuse = reuse; bases = b; ring = ring })).table_layout.passers
+    ≡ passers_in reuse ring s.receivers
+unfolding automaton_with
+passers_planned s None b ring = refl
+passers_planned s (Some rows) b false = refl
+passers_planned s (Some rows) b true = refl
+
+-- where a plan has none, the log was left whole
+pub stands_whole : (plan : Plan) (seen : Shown) (log : List ℕ) (floor : ℕ) (home : Option Page)
+    → plan_passers plan ≡ 0 → IsLeft process (automaton plan) seen log floor home
+    → IsLeftBy plan seen log home
+stands_whole plan seen log floor home none left =
+    let flat = left.flat (passers_planned plan.shape plan.reuse plan.bases plan.ring ∙ none) in
+    subst (λ n. IsLeft process (automaton plan) seen log n home) flat.first left
+
+-- what the seat knew is a beginning of it
+pub front_left : (plan : Plan) (seen : Shown) (log : List ℕ) (home : Option Page)
+    → IsLeftBy plan seen log home → IsPrefix (known_in seen) log
+front_left plan seen log home left = subst (IsPrefix (known_in seen)) left.published left.front
 
 -- the words that were left spell an order
 pub spelled_behind : (plan : Plan) (left : Outcome) → IsLeftBehind plan left
@@ -140,7 +163,7 @@ spelled_behind plan left h of =
       promised.owners,
       subst (λ n. Spells n left.log promised.order promised.owners) (sym of)
           (subst (λ (z : ℕ × List ℕ). Spells z.0 z.1 promised.order promised.owners)
-          (λ k. (senders_planned plan.shape plan.reuse plan.bases k, h.left.published k))
+          (λ k. (senders_planned plan.shape plan.reuse plan.bases plan.ring k, h.left.published k))
           promised.spelled),
     )
 
@@ -154,10 +177,10 @@ told_of_bus sender a b same seen log home messages xs left told k d l =
     let s = sender (get_or xs k d) in
     let promised = left.promised in
     let spelled = subst (λ (z : ℕ × List ℕ). Spells z.0 z.1 promised.order promised.owners)
-    (λ j. (senders_planned a.shape a.reuse a.bases j, left.published j)) promised.spelled in
+    (λ j. (senders_planned a.shape a.reuse a.bases a.ring j, left.published j)) promised.spelled in
     subst (λ (x : Plan). HasTold x.shape.senders (number_of s) messages (known_in seen)) same
     (told_of (senders_of s) a.shape.senders (number_of s) messages (known_in seen) log
-    promised.order promised.owners (told k d l) left.front spelled)
+    promised.order promised.owners (told k d l) (front_left a seen log home left) spelled)
 
 -- a bus that a seat has ended with its page at home leaves an order
 pub leaves : (a b : Plan) → a ≡ b

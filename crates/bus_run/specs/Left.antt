@@ -55,9 +55,9 @@ Shown = View Held
 -- ---- what is left
 
 -- a table of this plan of which the rule holds, and on which some seat shows this, was left with
--- this log, and with this at home
+-- this log, of which all words stand, and with this at home
 abbrev pub IsLeftBy : Plan → Shown → List ℕ → Option Page → Type 0
-IsLeftBy plan seen log home = IsLeft process (automaton plan) seen log home
+IsLeftBy plan seen log home = IsLeft process (automaton plan) seen log 0 home
 
 -- its log and its page are those of a table of this plan of which the rule holds, and on which some
 -- seat shows this

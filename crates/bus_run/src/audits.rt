@@ -21,8 +21,10 @@ pub enum AuditFault {
     Left { sender: u64 },
 }
 
-/// Holds what each receiver noted against what the bus left behind. Nobody may have left.
+/// Holds what each receiver noted against what the bus left behind. Nobody may have left. The order
+/// stands whole: no word of the log was used again.
 pub fn audit(ended: &Ended, heards: &[Heard]) -> Result<(), AuditFault>
+    requires whole { ended.now.floor ≡ 0 }
     ensures ok { OnOk result (OfOrder ended.now (λ order. All (IsFair order) heards.now)) }
     ensures stay { OnOk result (OfOrder ended.now AllStay) }
     ensures fault { IfErr result
@@ -45,8 +47,10 @@ pub fn audit(ended: &Ended, heards: &[Heard]) -> Result<(), AuditFault>
     Ok(())
 }
 
-/// The lowest sender below `MOST_SENDERS` whose items the listener did not count.
+/// The lowest sender below `MOST_SENDERS` whose items the listener did not count. The order stands
+/// whole.
 fn first_miscount(ended: &Ended, heard: &Heard) -> Option<u64>
+    requires whole { ended.now.floor ≡ 0 }
     ensures none { result ≡ None
         → OfOrder ended.now (λ order. CountsBelow MOST_SENDERS order heard.now) }
     ensures some { IfSome result (λ sender. (sender < MOST_SENDERS)
@@ -61,8 +65,9 @@ fn first_miscount(ended: &Ended, heard: &Heard) -> Option<u64>
     None
 }
 
-/// The lowest sender below `MOST_SENDERS` that has left.
+/// The lowest sender below `MOST_SENDERS` that has left. The order stands whole.
 fn first_leaver(ended: &Ended) -> Option<u64>
+    requires whole { ended.now.floor ≡ 0 }
     ensures none { result ≡ None → OfOrder ended.now AllStay }
     ensures some { IfSome result (λ sender. (sender < MOST_SENDERS)
         × OfOrder ended.now (λ order. IsFirstLeaver order sender)) }

@@ -9,6 +9,7 @@ ghost use Rattle.bus_run.specs.Reports.{IsRunReport};
 ghost use Rattle.bus_run.specs.Left.{run_plan, IsLeftBy, IsEndedBy, IsToldByAll};
 ghost use Rattle.bus_run.specs.Left.{Shown, HasLearnt, number_of, senders_of};
 ghost use Rattle.bus_run.specs.Told.{HasTold};
+ghost use Rattle.bus_automaton.specs.Buses.{plan_passers};
 ghost use Rattle.bus_pageslot.specs.Rule.{known_in};
 ghost use Rattle.bus_receiver.specs.Listening.{bus_of};
 ghost use Rattle.bus_world.specs.Headline.{IsPrefix};
@@ -282,11 +283,14 @@ fn tell<B: OfBus>(
 }
 
 /// Ends the bus by its receiver. Its order has to have ended, for which the first sender answers.
+/// No word of its log was used again, so the order stands whole.
 fn end_closed<B: OfBus>(the: TheBus<B>, first: Receiver) -> Result<Ended, RunFault>
-    requires { bus_of first ≡ B.table }
+    requires table { bus_of first ≡ B.table }
+    requires flat { plan_passers the.bus.plan ≡ 0 }
     ensures of { IfOk result (λ ended. ended.senders ≡ the.bus.plan.shape.senders) }
     ensures left { IfOk result
         (λ ended. IsLeftBy the.bus.plan first.me.0 ended.log (Some ended.page)) }
+    ensures whole { IfOk result (λ ended. ended.floor ≡ 0) }
     ensures words { IfOk result (λ ended. ended.page.words ≡ length ended.log) }
     ensures closed { IfOk result (λ ended. OfOrder ended IsClosed) }
     ensures front { IfOk result (λ ended. IsPrefix (known_in first.me.0) ended.log) }
@@ -303,9 +307,11 @@ fn end_closed<B: OfBus>(the: TheBus<B>, first: Receiver) -> Result<Ended, RunFau
     Ok(ended)
 }
 
-/// Sees that each sender has so many items in the order that the bus left behind.
+/// Sees that each sender has so many items in the order that the bus left behind. The order stands
+/// whole.
 fn all_sent(ended: &Ended, senders: u64, messages: u64) -> Result<(), RunFault>
-    requires { senders ≤ MOST_SENDERS }
+    requires senders { senders ≤ MOST_SENDERS }
+    requires whole { ended.now.floor ≡ 0 }
     ensures ok { OnOk result (OfOrder ended.now (SendsEach senders messages)) }
     ensures fault { IfErr result (λ fault. (s : ℕ) × (fault ≡ stopped s) × (s < senders)
         × IsSpelled ended.now × OfOrder ended.now (λ order. SendsEach s messages order

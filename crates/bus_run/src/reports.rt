@@ -16,11 +16,12 @@ use bus_register::limits::MOST_SENDERS;
 use bus_tenure::Page;
 use std::alloc::{AllocError, Global};
 
-/// What a run leaves behind: the bus, and what each receiver noted.
+/// What a run leaves behind: the bus, whose order stands whole, and what each receiver noted.
 #[derive(Drop)]
 pub struct Report {
     pub ended: Ended,
     pub heards: Vec<Heard>,
+    ghost whole: { ended.floor ≡ 0 },
 }
 
 /// The lines of a run that passes the audit.
@@ -45,9 +46,10 @@ pub fn report_text(alloc: Global, report: &Report, senders: u64) -> Result<Strin
     Ok(text)
 }
 
-/// Puts a line for each sender at the end of a text.
+/// Puts a line for each sender at the end of a text. The order stands whole.
 fn push_senders(text: &mut String, ended: &Ended, senders: u64) -> Result<(), AllocError>
-    requires { senders ≤ MOST_SENDERS }
+    requires senders { senders ≤ MOST_SENDERS }
+    requires whole { ended.now.floor ≡ 0 }
     ensures { OnOk result
         (OfOrder ended.now
         (λ order. string_bytes text.new ≡ string_bytes text.old ++ sender_lines order senders)) }

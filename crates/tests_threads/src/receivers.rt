@@ -291,7 +291,7 @@ fn loads_one(rt: &impl Abort, bus: &Few, tap: &mut Tap<ThreeWord>, place: u64, w
     requires { tap.old.table_id ≡ bus.now.table }
     ensures { tap.new.table_id ≡ bus.now.table }
 {
-    assert!(rt; place < tap.known());
+    assert!(rt; tap.passed() <= place && place < tap.known());
     assert!(rt; tap.load_word(bus, place) == want);
 }
 

@@ -36,8 +36,8 @@ impl<Q: Ratifier + Drop> Sender<Q> {
     /// page still, and may be asked again.
     ///
     /// It waits for nobody: it takes at most the words of a frame, of a row and of its election,
-    /// the presences, and a few turns more. Each vote takes one word of `rng`, any one will do, and
-    /// nothing else takes one.
+    /// the presences, the passed places, and a few turns more. Each vote takes one word of `rng`,
+    /// any one will do, and nothing else takes one.
     pub fn finish<R: Rng>(&mut self, bus: &Bus<Q>, rng: &mut R) -> Option<Turn>
         requires { table_of self.old ≡ bus.now.table }
         ensures table { table_of self.new ≡ table_of self.old }

@@ -1,5 +1,6 @@
-//! What each step on a word makes its seat show. Only `words` can pick one. Each load of a receiver
-//! says here of which word it is: `step.word` is the word that the step was on.
+//! What each step on a word makes its seat show. Only `words` can pick one. Each step of a receiver
+//! says here of which word it is, and each store what was stored: `step.word` is the word that the
+//! step was on, and `step.first` the number that a store stored there.
 
 use crate::rule::{Seated, Told, View};
 use atomic_table::{Join, Play, Split};
@@ -97,6 +98,46 @@ impl<Q: Ratifier> Play<Option<OwnedPage>, View<SenderCore<Q>>> for LoadsWordInTu
 
     ghost then = { λ step m got m'. (step.word ≡ log_word_in m.0 (receiver_view_in m.0).place)
         × FindsWord m got m' };
+}
+
+/// By a turn of it a receiver's seat stored its place in its passed place.
+pub(super) struct StoresPassed<Q> {
+    of: PhantomData<Q>,
+}
+
+impl<Q: Ratifier> Play<Option<OwnedPage>, View<SenderCore<Q>>> for StoresPassed<Q> {
+    ghost use Rattle.std.specs.Prelude.{◌≡◌};
+    ghost use Rattle.bus_pageslot.specs.Rule.{passed_word_in, receiver_view_in};
+    ghost use Rattle.bus_pageslot.specs.Steps.{HasPassed};
+
+    ghost then = { λ step m _ m'. (step.word ≡ passed_word_in m.0)
+        × (step.first ≡ (receiver_view_in m.0).place) × HasPassed m m' };
+}
+
+/// A receiver's seat stored the number past all places there, and has left for good.
+pub(super) struct Leaves<Q> {
+    of: PhantomData<Q>,
+}
+
+impl<Q: Ratifier> Play<Option<OwnedPage>, View<SenderCore<Q>>> for Leaves<Q> {
+    ghost use Rattle.std.specs.Prelude.{◌≡◌};
+    ghost use Rattle.bus_register.specs.declared.limits.TheConstants.{PASSED_ALL};
+    ghost use Rattle.bus_pageslot.specs.Rule.{passed_word_in};
+    ghost use Rattle.bus_pageslot.specs.Steps.{HasLeft};
+
+    ghost then = { λ step m _ m'. (step.word ≡ passed_word_in m.0) × (step.first ≡ PASSED_ALL)
+        × HasLeft m m' };
+}
+
+/// A seat loaded a word and shows nothing of it.
+pub(super) struct Looks<Q> {
+    of: PhantomData<Q>,
+}
+
+impl<Q: Ratifier> Play<Option<OwnedPage>, View<SenderCore<Q>>> for Looks<Q> {
+    ghost use Rattle.std.specs.Prelude.{◌≡◌};
+
+    ghost then = { λ _ m _ m'. m' ≡ m };
 }
 
 /// A receiver's seat goes into another seat.

@@ -10,7 +10,7 @@ returns-in_err-write_whole-clause-write g c is = (
   c.in_ok-report.ensures.served,
   string_bytes c.in_ok-text.text,
   is_run_log _ _ _ c.in_ok-report.report.ended c.in_ok-report.report.heards.items _
-      c.in_ok-report.ensures.report (c.in_ok-text.ensures.text ∙ ap words_text c.log.ensures),
+      c.in_ok-report.ensures.report (c.in_ok-text.ensures.text ∙ ap words_text c.log.ensures.log),
   subst (λ t. WritesPart (g.W.Write.contents c.args.writer.now)
       (g.W.Write.contents c.write_whole.new.writer) t) c.as_bytes.ensures.value
       c.in_err-write_whole.ensures.part,
@@ -21,7 +21,7 @@ returns-clause-ok g c = (
   refl,
   string_bytes c.in_ok-text.text,
   is_run_log _ _ _ c.in_ok-report.report.ended c.in_ok-report.report.heards.items _
-      c.in_ok-report.ensures.report (c.in_ok-text.ensures.text ∙ ap words_text c.log.ensures),
+      c.in_ok-report.ensures.report (c.in_ok-text.ensures.text ∙ ap words_text c.log.ensures.log),
   subst (λ t. Appends (g.W.Write.contents c.args.writer.now)
       (g.W.Write.contents c.write_whole.new.writer) t) c.as_bytes.ensures.value
       c.in_ok-write_whole.ensures.ok,

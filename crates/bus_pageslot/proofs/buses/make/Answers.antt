@@ -1,27 +1,30 @@
-use Rattle.std.proofs.Common.{◌∙◌, refl, sym, ap, subst}
+use Rattle.std.proofs.Common.{◌∙◌, refl, sym, subst}
 use Rattle.std.specs.Option.{option_copied}
-use Rattle.bus_automaton.specs.Buses.{process_with, automaton_with, Serves}
+use Rattle.bus_automaton.specs.Buses.{process_with, automaton_with, plan_passers, AreBasesOf}
+use Rattle.bus_automaton.specs.Buses.{Serves}
 use Rattle.bus_automaton.specs.declared.plans.Plan.{Plan}
 use Rattle.bus_machine.proofs.NewSenders.{no_memory_after}
-use Rattle.bus_machine.specs.Playing.{MakeRefusedAfter}
+use Rattle.bus_machine.specs.Playing.{RefusedWith}
 use Rattle.bus_pageslot.specs.Buses.{AreNewSeats, AreNewTaps}
 use Rattle.bus_world.proofs.PlayingLaws.{passed_up}
-use Rattle.bus_world.specs.World.{AreBases}
 use Rattle.bus_pageslot.proofs.buses.make.Goals as goal
 
 pub build-requires : goal.build-requires
-build-requires g c = subst Serves (sym c.in_ok-next.ensures.plan) (
-  c.in_default.ensures.served refl,
-  c.requires,
-  subst AreBases (ap (λ (p : Plan). p.bases) c.in_ok-next.ensures.plan)
-      c.in_ok-next.ensures.bases,
-)
+build-requires g c = record {
+  served = subst Serves (sym c.in_ok-next.ensures.plan) (
+    c.in_default.ensures.served refl,
+    c.requires.shape,
+    subst AreBasesOf c.in_ok-next.ensures.plan c.in_ok-next.ensures.bases,
+  );
+}
 
 pub returns-in_err-made-clause-fault : goal.returns-in_err-made-clause-fault
 returns-in_err-made-clause-fault g c =
-    passed_up _ _ (MakeRefusedAfter c.args.plan.shape c.args.plan.reuse (option_copied c.args.page))
+    passed_up _ _ (RefusedWith (plan_passers c.args.plan) c.args.plan.shape c.args.plan.reuse
+    (option_copied c.args.page))
     c.from_residual-in_err-made.ensures
-    (no_memory_after c.args.plan.shape c.args.plan.reuse 0 (option_copied c.args.page)
+    (no_memory_after c.args.plan.shape c.args.plan.reuse (plan_passers c.args.plan)
+    (option_copied c.args.page)
     (c.in_default.ensures.served refl) c.in_ok-next.ensures.follows)
 
 pub returns-clause-plan : goal.returns-clause-plan

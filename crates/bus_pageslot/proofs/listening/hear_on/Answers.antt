@@ -1,17 +1,26 @@
 use Rattle.std.proofs.Common.{◌≡◌, None, refl, subst, ◌∙◌, arith}
 use Rattle.bus_deliverylog.specs.declared.receiving.RecvTurn.TheVariants as turn
 use Rattle.bus_pageslot.specs.Listening.{Hears, WritesOrPlain, At, Onward}
+use Rattle.bus_pageslot.proofs.Passing.{pass_is_due, pass_is_not_due, hears_passed}
 use Rattle.bus_pageslot.proofs.ReaderLaws.{unread}
 use Rattle.bus_pageslot.proofs.listening.hear_on.Goals as goal
 
 pub loop-turn-init : goal.loop-turn-init
-loop-turn-init g c = (refl, c.requires.receiver_view, c.requires.going, refl, At)
+loop-turn-init g c = (
+  refl,
+  c.requires.receiver_view,
+  c.requires.going,
+  refl,
+  At,
+  pass_is_not_due c.requires.receiver_view c.requires.going
+      (c.pass_due.ensures.none c.in_default.is),
+)
 
 pub loop-turn-preserved : goal.loop-turn-preserved
 loop-turn-preserved g c =
     let before = c.loop-turn in
-    let taken = c.hear in
-    let none : taken.result ≡ None = c.in_default.is in
+    let taken = c.hear_next in
+    let none : taken.result ≡ None = c.in_default-hear_next.is in
     let h = taken.ensures.hears in
     let plain : (h.0 ≡ turn.Going) × (taken.new.item ≡ before.item) =
     subst (λ t. WritesOrPlain h.0 before.item t taken.new.item) none h.1 in
@@ -23,4 +32,23 @@ loop-turn-preserved g c =
       Onward before.seat.me taken.new.seat.me before.invariant.4
           (unread before.invariant.1 (omega (arith, less)))
           (subst (λ a. Hears before.seat.me a taken.new.seat.me) plain.0 h.3),
+      taken.ensures.passed none,
     )
+
+pub pass-requires-clause-due : goal.pass-requires-clause-due
+pass-requires-clause-due g c =
+    let due = c.pass_due.ensures.due c.in-Some.at c.in-Some.is in
+    pass_is_due c.requires.receiver_view c.in-Some.at due.0 due.1 due.2
+
+pub returns-in-Some-clause-hears : goal.returns-in-Some-clause-hears
+returns-in-Some-clause-hears g c =
+    let due = c.pass_due.ensures.due c.in-Some.at c.in-Some.is in
+    record {
+      old = c.args.seat.now.me;
+      going = At;
+      answer = turn.Going;
+      hears = hears_passed c.requires.receiver_view c.requires.going
+          (pass_is_due c.requires.receiver_view c.in-Some.at due.0 due.1 due.2)
+          c.pass.ensures.passed;
+      writes = record { told_is = refl; after_is = refl };
+    }

@@ -13,7 +13,8 @@ returns-then-page-number-clause-some c =
         c.loop-number.invariant order owners spells,
         sym (get_or_from_slice_get c.page-page.result.now.left c.loop-number.number
             (has_gone c.loop-number.number order) false
-            (c.page-page.ensures.left c.loop-number.number order owners below spells))
+            (c.page-page.ensures.left c.requires.whole c.loop-number.number order owners below
+            spells))
             ∙ c.if-page-number.true,
       ),
     )
@@ -27,7 +28,7 @@ loop-number-preserved c = λ order owners spells s lt. elim (cases_lt s c.loop-n
       subst (λ n. has_gone n order ≡ false) (sym at)
       (sym (get_or_from_slice_get c.page-page.result.now.left c.loop-number.number
       (has_gone c.loop-number.number order) false
-      (c.page-page.ensures.left c.loop-number.number order owners below spells))
+      (c.page-page.ensures.left c.requires.whole c.loop-number.number order owners below spells))
       ∙ c.if-page-number.false)
 ]
 

@@ -15,7 +15,8 @@ returns-then-count-clause-some c =
       λ order owners spells. (
         c.loop-number.invariant order owners spells,
         λ e. c.if-count.true
-            (c.count.ensures ∙ e ∙ sym (c.count-in-loop-number.ensures.counts order owners spells)),
+            (c.count.ensures ∙ e
+            ∙ sym (c.count-in-loop-number.ensures.counts c.requires.whole order owners spells)),
       ),
     )
 
@@ -26,7 +27,7 @@ loop-number-preserved c = λ order owners spells s lt. elim (cases_lt s c.loop-n
       let at : s ≡ c.loop-number.number = omega arith in
       subst (λ n. slice_index c.args.heard.now.counts n ≡ length (of_sender n order)) (sym at)
       (sym c.count.ensures ∙ c.if-count.false
-      ∙ c.count-in-loop-number.ensures.counts order owners spells)
+      ∙ c.count-in-loop-number.ensures.counts c.requires.whole order owners spells)
 ]
 
 pub returns-clause-none : goal.returns-clause-none

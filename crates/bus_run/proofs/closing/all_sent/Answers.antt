@@ -9,7 +9,8 @@ loop-number-preserved c = λ order owners spells s lt. elim (cases_lt s c.loop-n
   | inr ge ↦
       let at : s ≡ c.loop-number.number = omega arith in
       subst (λ n. length (of_sender n order) ≡ c.args.messages) (sym at)
-      (sym (c.count.ensures.counts order owners spells) ∙ c.if-count-messages.false)
+      (sym (c.count.ensures.counts c.requires.whole order owners spells)
+      ∙ c.if-count-messages.false)
 ]
 
 pub returns-then-count-messages-clause-fault : goal.returns-then-count-messages-clause-fault
@@ -20,6 +21,6 @@ returns-then-count-messages-clause-fault c = (
   c.count.ensures.spelled,
   λ order owners spells. (
     c.loop-number.invariant order owners spells,
-    λ e. c.if-count-messages.true (c.count.ensures.counts order owners spells ∙ e),
+    λ e. c.if-count-messages.true (c.count.ensures.counts c.requires.whole order owners spells ∙ e),
   ),
 )

@@ -7,6 +7,7 @@ use Rattle.bus_register.specs.declared.limits.TheConstants.{MOST_SENDERS}
 use Rattle.bus_deliverylog.specs.Orders.{of_sender}
 use Rattle.bus_tenure.specs.declared.pages.Page.{Page}
 use Rattle.bus_pageslot.specs.Rule.{known_in}
+use Rattle.bus_automaton.specs.Buses.{plan_passers}
 use Rattle.bus_automaton.specs.declared.plans.Plan.{Plan}
 use Rattle.bus_run.specs.Audit.{IsFair, IsFirstFault}
 use Rattle.bus_run.specs.Left.{Shown, run_plan, IsLeftBy, IsToldByAll, number_of, senders_of}
@@ -18,6 +19,10 @@ use Rattle.bus_run.proofs.LeftLemmas.{leaves, left_open, told_of_bus}
 use Rattle.bus_run.proofs.StopLemmas.{of_each, passed_up}
 use Rattle.bus_run.proofs.ToldLemmas.{carries, still_told, told_all}
 use Rattle.bus_run.proofs.closing.end_whole.Goals as goal
+
+-- the plan of a run has no passed places
+pub end_closed-requires-clause-flat : goal.end_closed-requires-clause-flat
+end_closed-requires-clause-flat g c = ap plan_passers c.requires.bus
 
 pub returns-in-Some-clause-late : goal.returns-in-Some-clause-late
 returns-in-Some-clause-late g c =

@@ -10,7 +10,7 @@ pub loop-number-preserved : goal.loop-number-preserved
 loop-number-preserved c = λ order owners spells. one_more_sender order c.loop-number.number
     c.count.result (string_bytes c.args.text.now) (string_bytes c.loop-number.text)
     (string_bytes c.push_sender.new.text) (c.loop-number.invariant order owners spells)
-    c.in_ok-push_sender.ensures (c.count.ensures.counts order owners spells)
+    c.in_ok-push_sender.ensures (c.count.ensures.counts c.requires.whole order owners spells)
 
 pub returns : goal.returns
 returns c = λ order owners spells.

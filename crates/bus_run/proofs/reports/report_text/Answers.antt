@@ -1,4 +1,4 @@
-use Rattle.std.proofs.Common.{All, ◌++◌, string_bytes, ap, sym, ◌∙◌, subst}
+use Rattle.std.proofs.Common.{All, ◌++◌, string_bytes, arith, ap, sym, ◌∙◌, subst}
 use Rattle.bus_tenure.specs.declared.pages.Page.{Page}
 use Rattle.bus_run.specs.Audit.{IsFair, IsFirstFault}
 use Rattle.bus_run.specs.RunText.{sender_lines, receiver_lines, page_lines}
@@ -26,7 +26,11 @@ returns-clause-text c = λ order owners spells.
     ∙ ap (λ g. string_bytes c.push_receivers.new.text ++ page_lines g) c.page.ensures.page)
 
 pub returns-clause-words : goal.returns-clause-words
-returns-clause-words c = ap (λ (g : Page). g.words) (sym c.page.ensures.page) ∙ c.page.ensures.words
+returns-clause-words c =
+    let words =
+    ap (λ (g : Page). g.words) (sym c.page.ensures.page) ∙ c.page.ensures.words in
+    let whole = c.args.report.now.whole in
+    omega arith
 
 pub returns-in_err-audit-clause-fault : goal.returns-in_err-audit-clause-fault
 returns-in_err-audit-clause-fault c =

@@ -6,8 +6,7 @@ use Rattle.bus_ownerbits.specs.Sizes.{election_bound}
 use Rattle.bus_register.specs.Words.{register}
 use Rattle.bus_tenure.specs.Elections.{election_with}
 use Rattle.bus_pageslot.specs.Turns.{tells_with}
-use Rattle.bus_automaton.specs.Buses.{process_with}
-use Rattle.bus_pageslot.proofs.Finishing.{turned_begun, none_passed}
+use Rattle.bus_pageslot.proofs.Finishing.{turned_begun}
 use Rattle.bus_pageslot.proofs.seats.Sender.turn_begun.Goals as goal
 
 pub returns-clause-turned : goal.returns-clause-turned
@@ -24,8 +23,7 @@ returns-clause-some g c =
     (election_bound g.Q.Ratifier.protocol.steps) c.elections_are_bounded.ensures c.args.self.now
     c.args.word c.turn.result c.turn.new.self
     (record { rests = c.turn.ensures.rests; steps = c.turn.ensures.steps })
-    (none_passed (process_with g.Q.Machine.kind_of g.Q.Machine.op g.Q.Machine.fed
-    g.Q.Ratifier.protocol) _ _ c.self.view_is c.self.invariant.0.counted) c.requires.begun
+    c.requires.begun
     (λ e. subst (λ n. 1 ≤ n) c.turns_left-left.ensures.turns
     (c.turns_left-left.ensures.running e))
     (subst (λ k. IfSome k (HasCause g.Q.Ratifier.protocol v)) c.kind-due.ensures.kind
@@ -43,8 +41,7 @@ returns-clause-falls g c =
     (election_bound g.Q.Ratifier.protocol.steps) c.elections_are_bounded.ensures c.args.self.now
     c.args.word c.turn.result c.turn.new.self
     (record { rests = c.turn.ensures.rests; steps = c.turn.ensures.steps })
-    (none_passed (process_with g.Q.Machine.kind_of g.Q.Machine.op g.Q.Machine.fed
-    g.Q.Ratifier.protocol) _ _ c.self.view_is c.self.invariant.0.counted) c.requires.begun
+    c.requires.begun
     (λ e. subst (λ n. 1 ≤ n) c.turns_left-left.ensures.turns
     (c.turns_left-left.ensures.running e))
     (subst (λ k. IfSome k (HasCause g.Q.Ratifier.protocol v)) c.kind-due.ensures.kind
@@ -62,8 +59,7 @@ returns-clause-goes g c =
     (election_bound g.Q.Ratifier.protocol.steps) c.elections_are_bounded.ensures c.args.self.now
     c.args.word c.turn.result c.turn.new.self
     (record { rests = c.turn.ensures.rests; steps = c.turn.ensures.steps })
-    (none_passed (process_with g.Q.Machine.kind_of g.Q.Machine.op g.Q.Machine.fed
-    g.Q.Ratifier.protocol) _ _ c.self.view_is c.self.invariant.0.counted) c.requires.begun
+    c.requires.begun
     (λ e. subst (λ n. 1 ≤ n) c.turns_left-left.ensures.turns
     (c.turns_left-left.ensures.running e))
     (subst (λ k. IfSome k (HasCause g.Q.Ratifier.protocol v)) c.kind-due.ensures.kind

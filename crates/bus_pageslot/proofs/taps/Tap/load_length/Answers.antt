@@ -4,8 +4,6 @@ use Rattle.bus_core.specs.Senders.{Sender}
 use Rattle.bus_tenure.specs.Elections.{Elector}
 use Rattle.bus_pageslot.specs.Buses.{BusId}
 use Rattle.bus_pageslot.specs.Seats.{ReceiverSeat, receiver_seat, receiver_seat_of, IsTap}
-use Rattle.bus_pageslot.specs.Seats.{IsReceiverView}
-use Rattle.bus_deliverylog.specs.Receiving.{LogReading}
 use Rattle.bus_pageslot.proofs.ReaderLaws.{learned}
 use Rattle.bus_pageslot.proofs.taps.Tap.load_length.Goals as goal
 
@@ -23,7 +21,7 @@ load_length-length-requires-clause-table g c =
     ap (λ (s : S). s.table_id.words) (sym there) ∙ h.wide in (
       table,
       subst (λ (z : TableId). 0 < z.words) table
-          (let room = h.room in let behind = h.behind in omega arith),
+          (let room = h.cells.room in let behind = h.cells.behind in omega arith),
     )
 
 pub load_length-length-requires-clause-tap : goal.load_length-length-requires-clause-tap
@@ -33,7 +31,7 @@ load_length-length-requires-clause-tap g c =
     let S : Type 0 = ReceiverSeat (Sender (Elector g.row.Q.Denot)) in
     let there : receiver_seat_of c.self.inside.seat ≡ receiver_seat seat =
     ap receiver_seat_of (sym c.take.ensures.value ∙ c.unwrap-seat.ensures) in
-    (h.table_layout, h.receiver_view, ap (λ (s : S). s.me) (sym there) ∙ h.me)
+    (h.table_layout, h.receiver_view, ap (λ (s : S). s.me) (sym there) ∙ h.me, h.stays)
 
 pub invariant_of-self : goal.invariant_of-self
 invariant_of-self g c =
@@ -41,11 +39,8 @@ invariant_of-self g c =
     let S : Type 0 = ReceiverSeat (Sender (Elector g.row.Q.Denot)) in
     let there : receiver_seat_of c.self.inside.seat ≡ receiver_seat seat =
     ap receiver_seat_of (sym c.take.ensures.value ∙ c.unwrap-seat.ensures) in
-    let a : IsTap (receiver_seat seat) c.self.inside.log c.self.inside.reader =
-    subst (λ (s : S). IsTap s c.self.inside.log c.self.inside.reader) there c.self.invariant in
+    let a : IsTap (receiver_seat seat) c.self.inside.listener =
+    subst (λ (s : S). IsTap s c.self.inside.listener) there c.self.invariant in
     let load = c.load_length-length in
-    subst
-    (λ (r : LogReading).
-    IsReceiverView load.new.seat.me load.new.seat.table_id.words c.self.inside.log r)
-    (sym c.learn.ensures)
-    (learned a (ap (λ (z : TableId). z.words) load.ensures.table.0) load.ensures.learns)
+    learned a (ap (λ (z : TableId). z.words) load.ensures.table.0) c.learn.ensures.round
+    c.learn.ensures.reader c.learn.ensures.keeps load.ensures.learns

@@ -6,8 +6,6 @@ use Rattle.bus_automaton.specs.Buses.{process_with}
 use Rattle.bus_pageslot.specs.ReceiverViews.{Agree}
 use Rattle.bus_pageslot.specs.Rule.{receiver_view_in}
 use Rattle.bus_pageslot.specs.Seats.{ReceiverSeat, receiver_seat, receiver_seat_of, IsTap}
-use Rattle.bus_pageslot.specs.Seats.{IsReceiverView}
-use Rattle.bus_deliverylog.specs.Receiving.{LogReading}
 use Rattle.bus_pageslot.proofs.Joining.{met_of}
 use Rattle.bus_pageslot.proofs.ReaderLaws.{learned}
 use Rattle.bus_pageslot.proofs.taps.Tap.meet.Goals as goal
@@ -21,19 +19,17 @@ invariant_of-self g c =
     ap receiver_seat_of (sym c.take.ensures.value ∙ c.unwrap-mine.ensures) in
     let there : receiver_seat_of c.other.inside.seat ≡ receiver_seat theirs =
     ap receiver_seat_of (sym c.take-2.ensures.value ∙ c.unwrap-theirs.ensures) in
-    let a : IsTap (receiver_seat mine) c.self.inside.log c.self.inside.reader =
-    subst (λ (s : S). IsTap s c.self.inside.log c.self.inside.reader) here c.self.invariant in
-    let b : IsTap (receiver_seat theirs) c.other.inside.log c.other.inside.reader =
-    subst (λ (s : S). IsTap s c.other.inside.log c.other.inside.reader) there c.other.invariant in
+    let a : IsTap (receiver_seat mine) c.self.inside.listener =
+    subst (λ (s : S). IsTap s c.self.inside.listener) here c.self.invariant in
+    let b : IsTap (receiver_seat theirs) c.other.inside.listener =
+    subst (λ (s : S). IsTap s c.other.inside.listener) there c.other.invariant in
     let length = c.meet-length in
     let met = met_of
     (process_with g.Q.Machine.kind_of g.Q.Machine.op g.Q.Machine.fed g.Q.Ratifier.protocol)
     a.table_layout a.receiver_view b.table_layout b.receiver_view mine.me theirs.me length.result.0
     length.new.seat.me length.result.1.me a.me b.me length.ensures.met in
-    subst
-    (λ (r : LogReading).
-    IsReceiverView length.new.seat.me length.new.seat.table_id.words c.self.inside.log r)
-    (sym c.learn.ensures) (learned a (ap (λ (z : TableId). z.words) length.ensures.table.0) met.0)
+    learned a (ap (λ (z : TableId). z.words) length.ensures.table.0) c.learn.ensures.round
+    c.learn.ensures.reader c.learn.ensures.keeps met.0
 
 pub invariant_of-other : goal.invariant_of-other
 invariant_of-other g c =
@@ -44,10 +40,10 @@ invariant_of-other g c =
     ap receiver_seat_of (sym c.take.ensures.value ∙ c.unwrap-mine.ensures) in
     let there : receiver_seat_of c.other.inside.seat ≡ receiver_seat theirs =
     ap receiver_seat_of (sym c.take-2.ensures.value ∙ c.unwrap-theirs.ensures) in
-    let a : IsTap (receiver_seat mine) c.self.inside.log c.self.inside.reader =
-    subst (λ (s : S). IsTap s c.self.inside.log c.self.inside.reader) here c.self.invariant in
-    let b : IsTap (receiver_seat theirs) c.other.inside.log c.other.inside.reader =
-    subst (λ (s : S). IsTap s c.other.inside.log c.other.inside.reader) there c.other.invariant in
+    let a : IsTap (receiver_seat mine) c.self.inside.listener =
+    subst (λ (s : S). IsTap s c.self.inside.listener) here c.self.invariant in
+    let b : IsTap (receiver_seat theirs) c.other.inside.listener =
+    subst (λ (s : S). IsTap s c.other.inside.listener) there c.other.invariant in
     let length = c.meet-length in
     let met = met_of
     (process_with g.Q.Machine.kind_of g.Q.Machine.op g.Q.Machine.fed g.Q.Ratifier.protocol)
@@ -57,10 +53,8 @@ invariant_of-other g c =
     length.ensures.table.2 ∙ ap (λ (s : S). s.table_id) (sym here ∙ c.self.view_is)
     ∙ c.requires.table.0 ∙ sym c.requires.table.1
     ∙ ap (λ (s : S). s.table_id) (sym c.other.view_is ∙ there) in
-    subst
-    (λ (r : LogReading).
-    IsReceiverView length.result.1.me length.result.1.table_id.words c.other.inside.log r)
-    (sym c.learn-2.ensures) (learned b (ap (λ (z : TableId). z.words) table) met.1)
+    learned b (ap (λ (z : TableId). z.words) table) c.learn-2.ensures.round
+    c.learn-2.ensures.reader c.learn-2.ensures.keeps met.1
 
 pub returns-clause-agree : goal.returns-clause-agree
 returns-clause-agree g c =
@@ -71,10 +65,10 @@ returns-clause-agree g c =
     ap receiver_seat_of (sym c.take.ensures.value ∙ c.unwrap-mine.ensures) in
     let there : receiver_seat_of c.other.inside.seat ≡ receiver_seat theirs =
     ap receiver_seat_of (sym c.take-2.ensures.value ∙ c.unwrap-theirs.ensures) in
-    let a : IsTap (receiver_seat mine) c.self.inside.log c.self.inside.reader =
-    subst (λ (s : S). IsTap s c.self.inside.log c.self.inside.reader) here c.self.invariant in
-    let b : IsTap (receiver_seat theirs) c.other.inside.log c.other.inside.reader =
-    subst (λ (s : S). IsTap s c.other.inside.log c.other.inside.reader) there c.other.invariant in
+    let a : IsTap (receiver_seat mine) c.self.inside.listener =
+    subst (λ (s : S). IsTap s c.self.inside.listener) here c.self.invariant in
+    let b : IsTap (receiver_seat theirs) c.other.inside.listener =
+    subst (λ (s : S). IsTap s c.other.inside.listener) there c.other.invariant in
     let length = c.meet-length in
     let met = met_of
     (process_with g.Q.Machine.kind_of g.Q.Machine.op g.Q.Machine.fed g.Q.Ratifier.protocol)

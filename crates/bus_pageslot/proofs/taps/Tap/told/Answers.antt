@@ -3,8 +3,6 @@ use Rattle.atomic_table.specs.Seated.{TableId}
 use Rattle.bus_core.specs.Senders.{Sender}
 use Rattle.bus_tenure.specs.Elections.{Elector}
 use Rattle.bus_pageslot.specs.Seats.{ReceiverSeat, receiver_seat, receiver_seat_of, IsTap}
-use Rattle.bus_pageslot.specs.Seats.{IsReceiverView}
-use Rattle.bus_deliverylog.specs.Receiving.{LogReading}
 use Rattle.bus_pageslot.proofs.ReaderLaws.{learned}
 use Rattle.bus_pageslot.proofs.taps.Tap.told.Goals as goal
 
@@ -14,11 +12,8 @@ invariant_of-self g c =
     let S : Type 0 = ReceiverSeat (Sender (Elector g.row.Q.Denot)) in
     let there : receiver_seat_of c.self.inside.seat ≡ receiver_seat seat =
     ap receiver_seat_of (sym c.take.ensures.value ∙ c.unwrap-mine.ensures) in
-    let tap : IsTap (receiver_seat seat) c.self.inside.log c.self.inside.reader =
-    subst (λ (s : S). IsTap s c.self.inside.log c.self.inside.reader) there c.self.invariant in
+    let tap : IsTap (receiver_seat seat) c.self.inside.listener =
+    subst (λ (s : S). IsTap s c.self.inside.listener) there c.self.invariant in
     let told = c.tell-length in
-    subst
-    (λ (r : LogReading).
-    IsReceiverView told.result.1.me told.result.1.table_id.words c.self.inside.log r)
-    (sym c.learn.ensures)
-    (learned tap (ap (λ (z : TableId). z.words) told.ensures.table.1) told.ensures.learns)
+    learned tap (ap (λ (z : TableId). z.words) told.ensures.table.1) c.learn.ensures.round
+    c.learn.ensures.reader c.learn.ensures.keeps told.ensures.learns

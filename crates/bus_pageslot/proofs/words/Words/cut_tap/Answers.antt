@@ -28,5 +28,6 @@ split_seat-requires g c =
           (subst (λ (v : View (Held (Elector g.row.Q.Denot))).
           Splits (TableInvariant P (B plan)) id v (tap_left v) (tap_right v))
           (sym (ap (λ m. m.0) maker.2))
-          (tap_allowed P (B plan) (c.threads_may_go_by.ensures.automaton plan) id maker.0 maker.1)),
+          (tap_allowed P (B plan) (c.threads_may_go_by.ensures.automaton plan) id maker.0 maker.1
+          maker.3 maker.4)),
     )

@@ -21,7 +21,7 @@ load-requires g c =
       subst (λ (z : TableId). c.args.at < z.words) table c.requires.table.1,
       subst (λ at.
           Allows (TableInvariant P A) slots seat.id seat.me at (λ n. n) (λ n. Reads seat.me at n))
-          (sym tap.5)
+          (sym tap.6)
           (word_allowed P A (c.threads_may_go_by.ensures.automaton c.self.inside.table.shared.key)
-          slots seat.id seat.me tap.0 tap.1 tap.3 (ap (λ m. m.0) tap.2) tap.4),
+          slots seat.id seat.me tap.0 tap.1 tap.3 (ap (λ m. m.0) tap.2) tap.4 tap.5),
     )

@@ -22,8 +22,8 @@ load-requires g c =
       subst (λ at. Allows (TableInvariant P A) slots seat.id seat.me at (λ n. n)
           (λ n m'.
           (at ≡ log_word_in seat.me.0 (receiver_view_in seat.me.0).place) × FindsWord seat.me n m'))
-          (sym tap.5)
+          (sym tap.6)
           (word_heard_allowed P A
           (c.threads_may_go_by.ensures.automaton c.self.inside.table.shared.key) slots seat.id
-          seat.me tap.0 tap.1 (ap (λ m. m.0) tap.2) tap.3 tap.4),
+          seat.me tap.0 tap.1 (ap (λ m. m.0) tap.2) tap.3 tap.4 tap.5),
     )

@@ -1,0 +1,16 @@
+use Rattle.std.proofs.Common.{arith}
+use Rattle.bus_pageslot.proofs.seating.cells_of.Goals as goal
+
+pub returns : goal.returns
+returns g c =
+    let L = c.threads_may_go_by.ensures.automaton c.args.plan in
+    record {
+      log_is = c.requires.log;
+      capacity_is = c.requires.capacity;
+      passed_is = c.passed_place-passed_at.ensures;
+      some = (let w = c.requires.served.0.log_words.0 in let same = c.requires.capacity in
+          omega arith);
+      room = L.room;
+      few = c.requires.room;
+      behind = L.behind;
+    }

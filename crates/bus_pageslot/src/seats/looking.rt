@@ -1,0 +1,61 @@
+//! A sender that looks whether there is room, beside its turns.
+
+ghost use Rattle.std.specs.Prelude.{◌≡◌, ◌<◌, ◌≤◌, ◌*◌, false, length};
+ghost use Rattle.bus_automaton.specs.Buses.{process_by, automaton_by};
+ghost use Rattle.bus_pageslot.specs.Looks.{HasLooked, batch_len, messages_len};
+ghost use Rattle.bus_pageslot.specs.Seats.{table_of};
+ghost use Rattle.bus_register.specs.declared.limits.TheConstants.{MOST_MESSAGE_WORDS};
+ghost use Rattle.bus_register.specs.declared.limits.TheConstants.{MOST_MESSAGES};
+
+use crate::buses::Bus;
+use crate::seats::Sender;
+use bus_adoptcommit::Ratifier;
+use bus_automaton::laws::threads_may_go_by;
+use bus_batch::Message;
+
+impl<Q: Ratifier + Drop> Sender<Q> {
+    /// A look whether the frame of its batch fits the log: one load of the length, and then one of
+    /// each passed place. It is no turn, and the sender is as it was.
+    ///
+    /// A sender that was answered Full may look until this says yes, and only then take turns:
+    /// each turn towards a page that ends with Full costs a tenure. Yes is no promise, since
+    /// another sender may take the room first; and no may be yes by now. Of a frame that is longer
+    /// than the log it is never yes. Where no word of the log is used again the passed places are
+    /// none, and no stays no.
+    pub fn has_room(&mut self, bus: &Bus<Q>) -> bool
+        requires table { table_of self.old ≡ bus.now.table }
+        ensures seat { self.new ≡ self.old }
+        ensures never { (automaton_by Q.Ratifier bus.now.plan).table_layout.capacity
+            < batch_len (process_by Q.Ratifier) self.old.core → result ≡ false }
+        ensures looked { HasLooked (automaton_by Q.Ratifier bus.now.plan).table_layout
+            (batch_len (process_by Q.Ratifier) self.old.core) result }
+    {
+        let many = self.batch_len();
+        bus.has_room(&mut self.seat, many)
+    }
+
+    /// How many words the frame of its batch has.
+    pub(super) fn batch_len(&self) -> u64
+        ensures { result ≡ batch_len (process_by Q.Ratifier) self.now.core }
+    {
+        threads_may_go_by::<Q>();
+        if self.core.is_closing() || self.core.is_leaving() {
+            return 2;
+        }
+        let messages = self.core.waiting();
+        1 + messages_len(messages.as_slice())
+    }
+}
+
+/// How many words these messages have in a frame.
+fn messages_len(messages: &[Message]) -> u64
+    requires few { length messages.now ≤ MOST_MESSAGES }
+    ensures len { result ≡ messages_len messages.now }
+    ensures few { result ≤ MOST_MESSAGE_WORDS * length messages.now }
+{
+    let mut len = 0;
+    for message in messages {
+        len += 1 + (message.len() as u64 + 7) / 8;
+    }
+    len
+}
