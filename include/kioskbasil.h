@@ -1,8 +1,8 @@
 /* kioskbasil.h: the broadcast bus of Kioskbasil for C and C++.
  *
  * A bus puts the messages of up to 64 senders into one order, which up to 8 receivers hear, each
- * all of it. No call waits, starts a thread, or (but for kioskbasil_open and
- * kioskbasil_open_after) takes memory. A call that is to wait is a loop of the caller's:
+ * all of it. No call waits or starts a thread. Only kioskbasil_open, kioskbasil_open_ring and
+ * kioskbasil_open_after take memory. A call that is to wait is a loop of the caller's:
  * examples/c/waiting.h, in a release kioskbasil_waiting.h, has the usual ones. There each bus has a
  * bell, by which threads sleep and event loops are woken.
  *
@@ -11,15 +11,29 @@
  * thread is killed there, or never comes back, all others are answered KIOSKBASIL_WAITING for good.
  * A thread that goes another way lets go by kioskbasil_finish, or by kioskbasil_free_sender.
  *
+ * RINGS. Who sends and hears must hear while it is answered KIOSKBASIL_FULL. A bus whose sizes have
+ * `ring` (kioskbasil_open_ring) uses the words of its log again, so it is not over when that is
+ * full. A word is used again once all receivers have passed it. Until then there is no room, and
+ * KIOSKBASIL_FULL is for now: the batch is kept, and is to be tried again by a later call. So a
+ * receiver goes on hearing, or is given up by kioskbasil_free_receiver: then it leaves, and nothing
+ * waits for it. One that does neither keeps all senders without room for good. A worker goes by a
+ * loop of kioskbasil_try_send and kioskbasil_hear (examples/c/counters.c). Each FULL takes a
+ * tenure, so after it ask kioskbasil_has_room while you hear, until that is OK.
+ *
+ * A batch longer than the log is FULL for good, and its sender then neither sends, closes nor
+ * leaves: give a ring 129 words or more, or count the words of a batch before each put: 1, and of
+ * each message 1 and one for each 8 bytes begun. kioskbasil_has_room tells it after the put.
+ *
  * The functions bus_c_.. are those of the archive (crates/bus_c), which are proved against their
  * contracts. The functions kioskbasil_.. stand in this header: they look for NULL and call those. A
  * program calls kioskbasil_.. alone.
  *
  * HANDLES. A kioskbasil_sender or kioskbasil_receiver is the caller's. It starts as
- * KIOSKBASIL_NONE, which is all zeros, and kioskbasil_open or kioskbasil_open_after fills it. It is
- * given up by kioskbasil_free_.., which leaves it empty. A call of an empty handle answers
- * KIOSKBASIL_EMPTY_HANDLE and changes nothing, but for kioskbasil_end; giving up an empty handle is
- * allowed and does nothing. A call changes no handle but those that it is given.
+ * KIOSKBASIL_NONE, which is all zeros, and kioskbasil_open, kioskbasil_open_ring or
+ * kioskbasil_open_after fills it. It is given up by kioskbasil_free_.., which leaves it empty. A
+ * call of an empty handle answers KIOSKBASIL_EMPTY_HANDLE and changes nothing, but for
+ * kioskbasil_end; giving up an empty handle is allowed and does nothing. A call changes no handle
+ * but those that it is given.
  *
  * TWO HANDLES. kioskbasil_tell, kioskbasil_meet and kioskbasil_senders_page want handles of one
  * bus, and answer KIOSKBASIL_OTHER_BUS for those of two. This header sees it by where their buses
@@ -30,10 +44,10 @@
  * is given to one call at a time. It goes to another thread by the start or the join of a thread,
  * or by a lock. No call is made from a signal handler, or in the child of a fork.
  *
- * STACK. With 64 senders kioskbasil_open and kioskbasil_open_after take up to 17 KiB of stack, so a
- * thread with 16 KiB cannot open; kioskbasil_senders_page takes 5 KiB, kioskbasil_end 3, any other
- * call 2. It was measured on an archive that is built without a proof (./quick), beyond what a
- * thread takes that does nothing.
+ * STACK. With 64 senders kioskbasil_open, kioskbasil_open_ring and kioskbasil_open_after take up to
+ * 17 KiB of stack, so a thread with 16 KiB cannot open; kioskbasil_senders_page takes 5 KiB,
+ * kioskbasil_end 3, any other call 2. It was measured on an archive that is built without a proof
+ * (./quick), beyond what a thread takes that does nothing.
  *
  * MEMORY. The archive asks memory of three functions, rattle_alloc, rattle_realloc and
  * rattle_dealloc. examples/c/heap.c has them, with what each has to keep: link it once. In a
@@ -42,6 +56,8 @@
  * WHAT IS TRUSTED OF THE CALLER. Nothing checks that
  *   - a handle starts as zeros, and is not written or copied while it is not empty (moving it and
  *     then zeroing the old one is allowed);
+ *   - `again` and `ring` of a kioskbasil_sizes, and `ended` and each of `gone` of a
+ *     kioskbasil_left, are 0 or 1;
  *   - a handle is given to one call at a time, as said above, and to one place of a call but where
  *     that says otherwise;
  *   - a pointer that is not NULL points to what its type says, as many of them as the call says,
@@ -49,8 +65,10 @@
  *     meanwhile;
  *   - malloc, realloc and free are those of the C library, or as good.
  *
- * ROOM FOR MORE. Answers above KIOSKBASIL_LEAVE, refusals above KIOSKBASIL_UNANSWERED and further
- * calls may come.
+ * ROOM FOR MORE. Answers above KIOSKBASIL_LEAVE, refusals above KIOSKBASIL_NEVER_FITS, further
+ * calls, and further fields at the ends of structs may come. So a program is compiled with the
+ * header that its archive came with, and anew where it was compiled with an older one: this header
+ * has three such fields, `ring`, `passed` and `floor`. So start each struct as zeros (`= {0}`).
  */
 #ifndef KIOSKBASIL_H
 #define KIOSKBASIL_H
@@ -83,7 +101,8 @@ enum kioskbasil_code {
   KIOSKBASIL_OWN = 5,       /* it has taken the page of .tenure */
   KIOSKBASIL_DELIVERED = 6, /* its messages from .first to .last stand in the order, in the frame
                                of .tenure */
-  KIOSKBASIL_FULL = 7,      /* its frame does not fit the log; the batch is kept */
+  KIOSKBASIL_FULL = 7,      /* its frame does not fit the log; the batch is kept. Of a ring it is to
+                               be tried again, unless it is longer than the log */
   KIOSKBASIL_CLOSED = 8,    /* the order has ended, by this sender or another, or this sender had
                                left */
   KIOSKBASIL_SPENT = 9,     /* no tenure is left to this sender: all have ended, or it lost the last
@@ -123,14 +142,17 @@ enum kioskbasil_code {
   KIOSKBASIL_NULL = 48,           /* a pointer is NULL; of this header alone */
   KIOSKBASIL_NOT_ENDED = 49,      /* open_after, senders_page: the order of the bus before has not
                                      ended */
-  KIOSKBASIL_NUMBERS_USED = 50,   /* open_after: a next number is 2^48 - 65,536 or more */
+  KIOSKBASIL_NUMBERS_USED = 50,   /* open_after: a next number is 2^48 - 65,536 or more; of a ring
+                                     2^48 - 2^44 - 16 or more */
   KIOSKBASIL_OTHER_BUS = 51,      /* tell, meet, senders_page: the handles are of two buses */
-  KIOSKBASIL_UNANSWERED = 52      /* senders_page: a sender was not answered CLOSED or LEFT yet, or
+  KIOSKBASIL_UNANSWERED = 52,     /* senders_page: a sender was not answered CLOSED or LEFT yet, or
                                      the handles are not those of all senders in their order */
+  KIOSKBASIL_NEVER_FITS = 53      /* has_room, try_send: the batch is longer than the log */
 };
 
-/* A code of 32 or more says that nothing was done, but of kioskbasil_end: after IN_USE and PAGE_OUT
- * all its handles are empty, and where the first receiver was empty the others are given up. */
+/* A code of 32 or more says that nothing was done, but of two calls. After IN_USE and PAGE_OUT of
+ * kioskbasil_end all its handles are empty, and where the first receiver was empty the others are
+ * given up. Before NEVER_FITS of kioskbasil_try_send turns were taken, and the batch is kept. */
 static inline bool kioskbasil_refused(uint32_t code) { return code >= 32; }
 
 /* Handles. Their fields are the library's. */
@@ -146,14 +168,18 @@ typedef struct kioskbasil_receiver {
 
 #define KIOSKBASIL_NONE {0, 0}
 
-/* The sizes of a bus, but for the numbers of its senders and receivers. */
+/* The sizes of a bus, but for the numbers of its senders and receivers. It starts as zeros
+ * (`= {0}`), so that a field which is not set says no. */
 typedef struct kioskbasil_sizes {
   uint64_t rounds;    /* rounds of one binary decision: 1 to 8; any is safe, 2 are usual */
   uint64_t rows;      /* tenures of the sitting, 1 to 256; where rows are used again 2 to 8; a batch
                          takes one, a close and a leave too */
-  uint64_t log_words; /* words of the whole order, 16 to 65,536: a batch takes 1, a message 1 and
-                         one for each 8 bytes begun, a close or a leave 2 */
-  bool again;         /* rows of words are used again: up to 2^40 tenures */
+  uint64_t log_words; /* words of the whole order, of a ring those that stand at once; 16 to 65,536:
+                         a batch takes 1, a message 1 and one for each 8 bytes begun, a close or a
+                         leave 2 */
+  bool again;         /* 0 or 1: rows of words are used again, up to 2^40 tenures */
+  bool ring;          /* 0 or 1: the words of the log are used again, and so are the rows, whatever
+                         `again` says */
 } kioskbasil_sizes;
 
 /* What an answer to a turn of a sender says beside its code; 0 where that says nothing. */
@@ -193,9 +219,12 @@ typedef struct kioskbasil_sender_shown {
 
 /* What a receiver shows. */
 typedef struct kioskbasil_receiver_shown {
-  uint64_t known; /* words of the log that it knows */
-  uint64_t place; /* words of the log that it has read */
-  bool has_ended; /* the end was among its answers */
+  uint64_t known;  /* words of the log that it knows */
+  uint64_t place;  /* words of the log that it has read */
+  bool has_ended;  /* the end was among its answers */
+  uint64_t passed; /* of a ring: words that may be used again, as far as this one is concerned; 0
+                      of another bus. So it shows who is behind. It passes a frame once it is asked
+                      again behind the frame's last item */
 } kioskbasil_receiver_shown;
 
 /* What a bus leaves behind, beside the words of its log. It is plain numbers, which may be copied
@@ -206,10 +235,12 @@ typedef struct kioskbasil_left {
                                                kioskbasil_open */
   uint64_t next[KIOSKBASIL_MOST_SENDERS];   /* the number that its next item would have: its base
                                                and its count */
-  uint64_t words;                           /* words of the log */
+  uint64_t words;                           /* words of the whole order */
   uint64_t tenures;                         /* tenures that have ended */
   bool ended;                               /* the order has ended */
   bool gone[KIOSKBASIL_MOST_SENDERS];       /* each sender has left in the order */
+  uint64_t floor;                           /* of a ring: from which of them on they stand; 0 of
+                                               another bus */
 } kioskbasil_left;
 
 /* ---- the archive */
@@ -232,6 +263,7 @@ uint32_t bus_c_sender_bus(kioskbasil_sender *sender, const uint8_t **place);
 uint32_t bus_c_begin_page(kioskbasil_sender *sender, uint64_t senders, kioskbasil_left *left);
 uint32_t bus_c_note_sender(kioskbasil_sender *sender, uint64_t number, kioskbasil_left *left);
 uint32_t bus_c_finish(kioskbasil_sender *sender, kioskbasil_turn_answer *answer);
+uint32_t bus_c_has_room(kioskbasil_sender *sender);
 void bus_c_free_sender(kioskbasil_sender *sender);
 uint32_t bus_c_hear_once(kioskbasil_receiver *receiver, kioskbasil_heard *answer);
 uint32_t bus_c_hear(kioskbasil_receiver *receiver, kioskbasil_item *items, size_t room,
@@ -278,7 +310,8 @@ static inline uint64_t kioskbasil_words_needed(uint64_t senders, uint64_t messag
 /* How many words of a log of so many may be in use when one of so many senders begins a batch or a
  * leave, so that the end mark still fits, whatever the others do; 0 where there is no such number.
  * So each sender looks at its own `words` (kioskbasil_show_sender) right before it puts or leaves,
- * and begins nothing above this number. */
+ * and begins nothing above this number. Of a ring there is no such number, and none is needed: its
+ * end mark fits once the receivers have heard. */
 static inline uint64_t kioskbasil_room_to_close(uint64_t log_words, uint64_t senders) {
   uint64_t kept = kioskbasil_plus(2, kioskbasil_times(senders, 129));
   return log_words > kept ? log_words - kept : 0;
@@ -296,14 +329,28 @@ static inline uint32_t kioskbasil_open(const kioskbasil_sizes *sizes,
   return bus_c_open(sizes, senders, sender_count, receivers, receiver_count);
 }
 
+/* The same of a bus whose log is a ring, whatever sizes->ring and sizes->again say: its words and
+ * its rows are used again. The rule of RINGS, above, is for all that hear it. */
+static inline uint32_t kioskbasil_open_ring(const kioskbasil_sizes *sizes,
+                                            kioskbasil_sender *senders, size_t sender_count,
+                                            kioskbasil_receiver *receivers,
+                                            size_t receiver_count) {
+  kioskbasil_sizes ring;
+  if (!sizes || !senders || !receivers) return KIOSKBASIL_NULL;
+  ring = *sizes;
+  ring.ring = true;
+  return bus_c_open(&ring, senders, sender_count, receivers, receiver_count);
+}
+
 /* Opens the next sitting, as kioskbasil_open: a bus whose senders go on with the next numbers of
  * the bus that left *left. Nothing else of that bus is carried over: its log and its tenures are
  * not, and a message that waited in a batch has to be put anew, as kioskbasil_carry does. The sizes
- * and the numbers of handles may be others, and either bus may use its rows again or not. *left is
- * only read, and may be used for more buses than one.
+ * and the numbers of handles may be others, and either bus may be a ring, use its rows again, or
+ * neither. *left is only read, and may be used for more buses than one.
  * KIOSKBASIL_OK, or what kioskbasil_open refuses; where the sizes are good NOT_ENDED if left->ended
- * is false, else NUMBERS_USED if one of the 64 next numbers is 2^48 - 65,536 or more, else
- * NO_MEMORY; the first whose cause holds, and then no handle is changed.
+ * is false, else NUMBERS_USED if one of the 64 next numbers is 2^48 - 65,536 or more, or of a ring
+ * 2^48 - 2^44 - 16 or more, else NO_MEMORY; the first whose cause holds, and then no handle is
+ * changed.
  * Nothing checks that kioskbasil_end filled *left: the numbers go on from left->next, whatever it
  * has. left->ended and each of left->gone have to be 0 or 1, and no handle may lie inside *left.
  * Who had left is there again. */
@@ -386,6 +433,42 @@ static inline uint32_t kioskbasil_turns(kioskbasil_sender *sender, uint32_t word
   return bus_c_turns(sender, word, UINT64_MAX, answer ? answer : &own);
 }
 
+/* Looks whether a batch that waits has room: one load of the length, and of a ring one of each
+ * receiver's passed place. It is no turn, and changes nothing.
+ * KIOSKBASIL_OK where it had room by these words, FULL where it had none, NEVER_FITS where it is
+ * longer than the log; or EMPTY_HANDLE. OK is no promise: another sender may take that room first.
+ * Of a bus that is no ring FULL is for good. It says nothing of use where nothing waits, or after
+ * BEHIND, and it does not see that the order has ended: a turn does. */
+static inline uint32_t kioskbasil_has_room(kioskbasil_sender *sender) {
+  if (!sender) return KIOSKBASIL_NULL;
+  return bus_c_has_room(sender);
+}
+
+/* Turns, until there is nothing more to do, or nothing more that can be done without another: it
+ * waits for nobody. Each random word is asked of word(given).
+ * The last answer, and what it says in *answer (which may be NULL):
+ * - DELIVERED or LEFT: it stands in the order.
+ * - IDLE, CLOSED or SPENT: there is nothing more to do, or nothing more that can be done.
+ * - FULL: there was no room. Of a ring the receivers have to hear before a later call finds some,
+ *   and each FULL takes a tenure: so hear until kioskbasil_has_room is OK, or the order has ended.
+ * - NEVER_FITS in place of FULL: the batch is longer than the log, so this is for good.
+ * - WAITING: another sender has to go on first.
+ * - BEHIND: the same, but this sender holds the page, for which all others wait, and its batch may
+ *   be in the order already. So hear, do not wait, and come back; and send it by no other way.
+ * Unless it is DELIVERED or LEFT the batch is kept, and a later call goes on with it. */
+static inline uint32_t kioskbasil_try_send(kioskbasil_sender *sender,
+                                           uint32_t (*word)(void *given), void *given,
+                                           kioskbasil_turn_answer *answer) {
+  uint32_t code;
+  if (!sender || !word) return KIOSKBASIL_NULL;
+  do {
+    code = kioskbasil_turns(sender, word(given), answer);
+  } while (code == KIOSKBASIL_GOING || code == KIOSKBASIL_LOST || code == KIOSKBASIL_OWN);
+  if (code == KIOSKBASIL_FULL && bus_c_has_room(sender) == KIOSKBASIL_NEVER_FITS)
+    code = KIOSKBASIL_NEVER_FITS;
+  return code;
+}
+
 /* What the sender shows. Takes no step, and changes nothing. */
 static inline uint32_t kioskbasil_show_sender(kioskbasil_sender *sender,
                                               kioskbasil_sender_shown *shown) {
@@ -447,8 +530,8 @@ static inline uint32_t kioskbasil_free_sender(kioskbasil_sender *sender) {
   return code;
 }
 
-/* One turn: one load. The answer, EMPTY, HEAD, ITEM, LEAVE, END or GOING, and what it says in
- * *answer. */
+/* One turn: one load, or of a ring, behind a whole frame, one store by which its words may be used
+ * again. The answer, EMPTY, HEAD, ITEM, LEAVE, END or GOING, and what it says in *answer. */
 static inline uint32_t kioskbasil_hear_once(kioskbasil_receiver *receiver,
                                             kioskbasil_heard *answer) {
   if (!receiver || !answer) return KIOSKBASIL_NULL;
@@ -457,7 +540,8 @@ static inline uint32_t kioskbasil_hear_once(kioskbasil_receiver *receiver,
 
 /* Turns up to the first that is answered EMPTY or END, which is the answer, or GOING where there is
  * no more room. Items are written to items[0], items[1], .. in their order, and how many they are
- * to *many. Places behind these are not changed. That a sender has left is passed over, as the
+ * to *many. Places behind these are not changed. Of a ring: after GOING the frame of the last item
+ * may not be passed yet, and the next call passes it. That a sender has left is passed over, as the
  * heads of frames are: whoever wants to know at which place of the order calls
  * kioskbasil_hear_once, and kioskbasil_end says it of the whole. */
 static inline uint32_t kioskbasil_hear(kioskbasil_receiver *receiver, kioskbasil_item *items,
@@ -505,7 +589,8 @@ static inline uint32_t kioskbasil_meet(kioskbasil_receiver *receiver, kioskbasil
   return bus_c_meet(receiver, other, hears == theirs, order ? order : &own);
 }
 
-/* Gives the handle up; it is empty then. */
+/* Gives the handle up; it is empty then. Of a ring the receiver leaves for good, by one store: no
+ * sender waits for it any more. */
 static inline void kioskbasil_free_receiver(kioskbasil_receiver *receiver) {
   if (receiver) bus_c_free_receiver(receiver);
 }
@@ -514,10 +599,12 @@ static inline void kioskbasil_free_receiver(kioskbasil_receiver *receiver) {
  * handles, which have to be all that are left of one bus, and ends the bus by the first receiver:
  * all handles are empty then, whatever the answer but NULL, which changes nothing.
  * KIOSKBASIL_OK: the first words of the log stand in `log`, as many as it has room for (`log` may
- * be NULL where `room` is 0; docs/FORMATS.md says what they are), and the rest in *left. IN_USE:
- * other handles had the bus still, and the bus goes with the last of them. PAGE_OUT: a sender that
- * took the page had been given up before, and not given it back, and the bus is gone. EMPTY_HANDLE:
- * the first receiver was empty. */
+ * be NULL where `room` is 0; docs/FORMATS.md says what they are), and the rest in *left. Of a ring
+ * they are the words from left->floor on, which is not past what the first receiver has passed, and
+ * there are left->words - left->floor of them; the counts are of the whole order. IN_USE: other
+ * handles had the bus still, and the bus goes with the last of them (of a ring this receiver has
+ * left). PAGE_OUT: a sender that took the page had been given up before, and not given it back, and
+ * the bus is gone. EMPTY_HANDLE: the first receiver was empty. */
 static inline uint32_t kioskbasil_end(kioskbasil_sender *senders, size_t sender_count,
                                       kioskbasil_receiver *receivers, size_t receiver_count,
                                       uint64_t *log, size_t room, kioskbasil_left *left) {
@@ -571,6 +658,7 @@ static inline const char *kioskbasil_text(uint32_t code) {
   case KIOSKBASIL_NUMBERS_USED: return "the numbers of a sender are used up";
   case KIOSKBASIL_OTHER_BUS: return "the handles are of two buses";
   case KIOSKBASIL_UNANSWERED: return "a sender was not answered that the order has ended";
+  case KIOSKBASIL_NEVER_FITS: return "the batch is longer than the log";
   default: return "no code of this version";
   }
 }

@@ -2,7 +2,7 @@
 use Rattle.std.specs.Prelude.{◌≡◌, ℕ, List, map, length, replicate, Option, Some}
 use Rattle.std.specs.Prelude.{Result, Ok, Err, Box}
 use Rattle.std.specs.Global.{Global}
-use Rattle.bus_machine.specs.Playing.{IsServed, MayFollow, MakeRefusedAfter}
+use Rattle.bus_machine.specs.Playing.{IsServed, MayGoOn}
 use Rattle.bus_world.specs.declared.shapes.MakeFault.{MakeFault}
 use Rattle.bus_pageslot.specs.Seats.{SenderSeat}
 use Rattle.bus_handles.specs.Handles.{SeatOfBus, IsOpened}
@@ -10,6 +10,7 @@ use Rattle.bus_embed.specs.declared.buses.Sizes.{Sizes}
 use Rattle.bus_embed.specs.declared.buses.Left.{Left}
 use Rattle.bus_embed.specs.declared.codes.TheConstants.{OK}
 use Rattle.bus_embed.specs.Answers.{make_code}
+use Rattle.bus_automaton.specs.Buses.{plan_passers, Refuses}
 use Rattle.bus_automaton.specs.ThreeWordBuses.{Held, process, automaton}
 use Rattle.bus_embed.specs.Buses.{pages, plan_of}
 use Rattle.bus_c.specs.declared.seats.SenderSeat.{SenderSeat as Sending}
@@ -47,12 +48,11 @@ abbrev pub Opens : Sizes → Option Left → List CSender → List CReceiver
 Opens sizes before senders receivers (Ok made) senders' receivers' =
     let plan = plan_of sizes (length senders) (length receivers) before in
     IsOpened process (automaton plan) plan made.0 made.1 × IsServed plan.shape plan.reuse
-    × MayFollow (pages before)
+    × MayGoOn (plan_passers plan) (pages before)
     × (map held_by senders' ≡ map holds made.0) × (map heard_by receivers' ≡ map hears made.1)
 Opens sizes before senders receivers (Err fault) senders' receivers' =
     let plan = plan_of sizes (length senders) (length receivers) before in
-    MakeRefusedAfter plan.shape plan.reuse (pages before) fault × (senders' ≡ senders)
-    × (receivers' ≡ receivers)
+    Refuses plan (pages before) fault × (senders' ≡ senders) × (receivers' ≡ receivers)
 
 abbrev pub open_code : {A : Type 0} → Result A MakeFault → ℕ
 open_code (Ok made) = OK

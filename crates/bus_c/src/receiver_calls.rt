@@ -182,7 +182,8 @@ pub extern "C" fn bus_c_meet(
     code
 }
 
-/// Gives the handle up: it is empty then.
+/// Gives the handle up: it is empty then. Of a ring the receiver leaves for good, since its handle
+/// is dropped.
 #[unsafe(no_mangle)]
 pub extern "C" fn bus_c_free_receiver(alloc: Global, receiver: &mut CReceiver)
     ensures { receiver.new.held ≡ None }

@@ -5,7 +5,7 @@ ghost use Rattle.bus_batch.specs.declared.messages.Mark.TheVariants as mark;
 ghost use Rattle.bus_embed.specs.declared.codes.TheConstants.{OK as done};
 ghost use Rattle.bus_embed.specs.declared.codes.TheConstants.{EMPTY_HANDLE as no_handle};
 ghost use Rattle.bus_embed.specs.Calls.{PutAnswered, CloseAnswered, TurnAnswered, ShowsSender};
-ghost use Rattle.bus_embed.specs.Calls.{CarryAnswered, TurnsAnswered};
+ghost use Rattle.bus_embed.specs.Calls.{CarryAnswered, TurnsAnswered, RoomAnswered};
 ghost use Rattle.bus_embed.specs.Ends.{BeginsPage, NotesSender};
 ghost use Rattle.bus_embed.specs.Finishing.{FinishAnswered};
 
@@ -13,7 +13,7 @@ use crate::sender::CSender;
 use bus_embed::codes::{EMPTY_HANDLE, OK};
 use bus_embed::{
     Left, SenderShown, TurnAnswer, begin_page, carry_messages, close_sender, finish_sender,
-    leave_sender, note_sender, put_message, show_sender, take_turn, take_turns,
+    leave_sender, look_for_room, note_sender, put_message, show_sender, take_turn, take_turns,
 };
 use std::alloc::Global;
 
@@ -178,6 +178,23 @@ pub extern "C" fn bus_c_sender(alloc: Global, sender: &mut CSender, shown: &mut 
             *shown = show_sender(&seat.handle);
             sender.hold(seat);
             OK
+        }
+        None => EMPTY_HANDLE,
+    }
+}
+
+/// Looks whether the sender's batch has room.
+#[unsafe(no_mangle)]
+pub extern "C" fn bus_c_has_room(alloc: Global, sender: &mut CSender) -> u32
+    ensures none { IfNone sender.old.held ((result ≡ no_handle) × (sender.new.held ≡ None)) }
+    ensures room { IfSome sender.old.held (λ old. IsSomeAnd sender.new.held (λ new.
+        RoomAnswered old.handle result new.handle)) }
+{
+    match sender.take(alloc) {
+        Some(mut seat) => {
+            let code = look_for_room(&mut seat.handle);
+            sender.hold(seat);
+            code
         }
         None => EMPTY_HANDLE,
     }

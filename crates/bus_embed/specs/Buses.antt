@@ -17,9 +17,11 @@ shape_of sizes senders receivers = record {
   log_words = sizes.log_words;
 }
 
-abbrev pub rows_again : Bool → ℕ → Option ℕ
-rows_again true rows = Some rows
-rows_again false rows = None
+-- rows are used again: of a ring always, and else where that is asked for
+abbrev pub rows_again : (ring again : Bool) → ℕ → Option ℕ
+rows_again true again rows = Some rows
+rows_again false true rows = Some rows
+rows_again false false rows = None
 
 -- the page of a bus that left this
 abbrev pub page_of : Left → Page
@@ -40,6 +42,7 @@ pages (Some left) = Some (page_of left)
 abbrev pub plan_of : Sizes → ℕ → ℕ → Option Left → Plan
 plan_of sizes senders receivers before = record {
   shape = shape_of sizes senders receivers;
-  reuse = rows_again sizes.again sizes.rows;
+  reuse = rows_again sizes.ring sizes.again sizes.rows;
   bases = bases_after (pages before);
+  ring = sizes.ring;
 }

@@ -122,6 +122,11 @@ pub record TurnsAnswered (old : SenderSeat Held) (word more answer : ℕ) (told 
   pub code : answer ≡ turn_code turn
   pub says : told ≡ turn_answer turn
 
+-- a look whether its batch has room changed nothing of it, and was answered by one of these
+pub record RoomAnswered (old : SenderSeat Held) (answer : ℕ) (new : SenderSeat Held) : Type 0 where
+  pub seat : new ≡ old
+  pub answers : (answer ≡ code.OK) ⊎ ((answer ≡ code.FULL) ⊎ (answer ≡ code.NEVER_FITS))
+
 -- what it shows
 pub record ShowsSender (s : SenderSeat Held) (shown : SenderShown) : Type 0 where
   pub pending : shown.pending ≡ length (waiting_of process s)
@@ -175,6 +180,7 @@ pub record ShowsReceiver (m : Sat Held) (shown : ReceiverShown) : Type 0 where
   pub known : shown.known ≡ length (known_in m.0)
   pub place : shown.place ≡ (receiver_view_in m.0).place
   pub ended : shown.has_ended ≡ (receiver_view_in m.0).ended
+  pub passed : shown.passed ≡ (receiver_view_in m.0).passed
 
 -- ---- two handles, of one bus or not
 -- a receiver was told by a sender, which stayed as it was

@@ -1,5 +1,5 @@
 -- What the end of a bus leaves, as numbers.
-use Rattle.std.specs.Prelude.{◌≡◌, ℕ, ◌+◌, ◌<◌, ◌⊎◌, true, false, List, length, slice_get}
+use Rattle.std.specs.Prelude.{◌≡◌, ℕ, ◌+◌, ◌<◌, ◌≤◌, ◌⊎◌, true, false, List, length, slice_get}
 use Rattle.std.specs.Prelude.{slice_index, slice_set, Some, None, Result, Ok, Err}
 use Rattle.bus_register.specs.declared.limits.TheConstants.{MOST_SENDERS}
 use Rattle.bus_register.specs.declared.registers.SenderNo.{SenderNo}
@@ -17,34 +17,50 @@ use Rattle.bus_embed.specs.declared.buses.Left.{Left}
 use Rattle.bus_embed.specs.Answers.{end_code, over}
 use Rattle.bus_automaton.specs.ThreeWordBuses.{Held, process, automaton}
 
--- Of the order that the log spells (it spells one alone) how many items each sender has, and
--- whether it has left; its numbers before and behind it; and what the page says besides.
+-- So many items the sender has in the whole order: as many as there are numbers from its first one
+-- up to its next one. (`IsLeft`, in `Leaves` below, says these of all that was published.) That is
+-- no fewer than it has in the order that the log spells, and as many where all words stand.
+pub record CountsItems (z : Outcome) (s count : ℕ) : Type 0 where
+  pub sum : slice_index z.page.next s ≡ slice_index z.bases s + count
+  pub stand : (order : Order) (owners : List (ℕ × SenderNo))
+      → Spells z.senders z.log order owners → length (of_sender s order) ≤ count
+  pub all : z.floor ≡ 0 → (order : Order) (owners : List (ℕ × SenderNo))
+      → Spells z.senders z.log order owners → count ≡ length (of_sender s order)
+
+-- What the page says; from which place on the words of the log stand; and how many items each
+-- sender has. Who has left in the order that the log spells is told, and nobody else where all
+-- words stand. The log spells one order alone.
 pub record IsLeftBy (z : Outcome) (left : Left) : Type 0 where
   pub order : Order
   pub owners : List (ℕ × SenderNo)
   pub spells : Spells z.senders z.log order owners
-  pub counts : (s : ℕ) → s < MOST_SENDERS → slice_index left.counts s ≡ length (of_sender s order)
   pub bases : (s : ℕ) → s < MOST_SENDERS → slice_index left.bases s ≡ slice_index z.bases s
   pub next : left.next ≡ z.page.next
   pub sums : (s : ℕ) → s < MOST_SENDERS
       → slice_index left.next s ≡ slice_index left.bases s + slice_index left.counts s
-  pub words : left.words ≡ length z.log
+  pub counts : (s : ℕ) → s < MOST_SENDERS → CountsItems z s (slice_index left.counts s)
+  pub floor : left.floor ≡ z.floor
+  pub words : left.words ≡ left.floor + length z.log
   pub tenures : left.tenures ≡ z.page.tenures
   pub ended : left.ended ≡ z.page.ended
-  pub gone : (s : ℕ) → s < MOST_SENDERS → slice_get left.gone s ≡ Some (has_gone s order)
+  pub gone : left.gone ≡ z.page.left
+  pub have_left : (s : ℕ) → s < MOST_SENDERS → has_gone s order ≡ true
+      → slice_get left.gone s ≡ Some true
+  pub all_left : z.floor ≡ 0 → (s : ℕ) → s < MOST_SENDERS
+      → slice_get left.gone s ≡ Some (has_gone s order)
 
 -- The bus was ended, and its log's first words are written, as many as there is room for. Or it was
 -- not, and nothing is written.
 abbrev pub Leaves : SeatOfBus Held → List ℕ → Left → Result Outcome BusNotEnded → List ℕ → Left
     → Type 0
 Leaves r log left (Ok z) log' left' =
-    IsLeft process (automaton r.bus.plan) r.me.0 z.log (Some z.page)
+    IsLeft process (automaton r.bus.plan) r.me.0 z.log z.floor (Some z.page)
     × (z.senders ≡ r.bus.plan.shape.senders) × (z.bases ≡ r.bus.plan.bases)
     × (log' ≡ over z.log log) × IsLeftBy z left'
 Leaves r log left (Err why.InUse) log' left' = (log' ≡ log) × (left' ≡ left)
 Leaves r log left (Err why.PageOut) log' left' =
-    ((words : List ℕ) × IsLeft process (automaton r.bus.plan) r.me.0 words None) × (log' ≡ log)
-    × (left' ≡ left)
+    ((words : List ℕ) × (floor : ℕ) × IsLeft process (automaton r.bus.plan) r.me.0 words floor None)
+    × (log' ≡ log) × (left' ≡ left)
 
 pub record EndAnswered (r : SeatOfBus Held) (log : List ℕ) (left : Left) (answer : ℕ)
     (log' : List ℕ) (left' : Left) : Type 0 where

@@ -6,17 +6,19 @@ ghost use Rattle.bus_register.specs.declared.registers.SenderNo.{SenderNo as Num
 ghost use Rattle.bus_batch.specs.Frames.{Order, Spells};
 ghost use Rattle.bus_deliverylog.specs.Orders.{of_sender};
 ghost use Rattle.bus_handles.specs.Handles.{IsOpened};
-ghost use Rattle.bus_machine.specs.Playing.{IsServed, MakeRefused, IsFollowed, AfterRefused};
+ghost use Rattle.bus_machine.specs.Playing.{IsServed, MakeRefused, IsFollowedBy};
+ghost use Rattle.bus_automaton.specs.Buses.{plan_passers, Refuses};
 ghost use Rattle.bus_automaton.specs.ThreeWordBuses.{process, automaton};
 ghost use Rattle.bus_embed.specs.Buses.{plan_of, page_of, shape_of};
 ghost use Rattle.bus_embed.specs.Answers.{make_code};
 ghost use Rattle.bus_embed.specs.Ends.{EndAnswered, IsLeftBy, BeginsPage, NotesSender};
+ghost use Rattle.bus_embed.specs.Ends.{CountsItems};
 
 use crate::codes;
 use crate::writing::write_over;
 use bus_handles::{
     BusNotEnded, Ended, MOST_SENDERS, MakeFault, Page, ReceiverHandle, SenderHandle, SenderNo,
-    Shape, ThreeWord, open, open_after, open_cyclic,
+    Shape, ThreeWord, open, open_after, open_cyclic, open_ring,
 };
 use std::alloc::Global;
 
@@ -32,6 +34,8 @@ pub struct Sizes {
     pub log_words: u64,
     /// Rows of words are used again.
     pub again: bool,
+    /// The log is a ring: its words are used again, and so are rows, whatever `again` says.
+    pub ring: bool,
 }
 
 /// What a bus leaves behind, beside the words of its log.
@@ -44,7 +48,7 @@ pub struct Left {
     pub bases: [u64; MOST_SENDERS],
     /// The number that the next item of each sender would have.
     pub next: [u64; MOST_SENDERS],
-    /// How many words the log has.
+    /// How many words the whole order has.
     pub words: u64,
     /// How many tenures have ended.
     pub tenures: u64,
@@ -52,9 +56,13 @@ pub struct Left {
     pub ended: bool,
     /// Which senders have left.
     pub gone: [bool; MOST_SENDERS],
+    /// Of a ring: how many of the words do not stand any more. The log has those behind them.
+    /// Else 0.
+    pub floor: u64,
 }
 
-/// Opens a bus of these sizes, as `open`, or as `open_cyclic` where its rows are used again.
+/// Opens a bus of these sizes, as `open`; as `open_cyclic` where its rows are used again; or as
+/// `open_ring` where its log is a ring.
 pub fn open_bus(
     alloc: Global,
     sizes: Sizes,
@@ -69,7 +77,9 @@ pub fn open_bus(
         IfErr result (MakeRefused plan.shape plan.reuse) }
 {
     let shape = sizes.shape(senders, receivers);
-    if sizes.again {
+    if sizes.ring {
+        open_ring::<ThreeWord>(alloc, shape, None)
+    } else if sizes.again {
         open_cyclic::<ThreeWord>(alloc, shape, None)
     } else {
         open::<ThreeWord>(alloc, shape)
@@ -77,8 +87,8 @@ pub fn open_bus(
 }
 
 /// Opens a bus of these sizes whose senders go on with the next numbers of a bus that left this,
-/// as `open_after`, or as `open_cyclic` where its rows are used again. Of `left` no more is looked
-/// at than these and whether the order has ended.
+/// as `open_after`, or as `open_cyclic` or `open_ring`. Of `left` no more is looked at than these
+/// and whether the order has ended.
 pub fn open_bus_after(
     alloc: Global,
     sizes: Sizes,
@@ -90,13 +100,16 @@ pub fn open_bus_after(
         IfOk result (λ made. IsOpened process (automaton plan) plan made.0.items made.1.items) }
     ensures served { let plan = plan_of sizes senders receivers (Some left.now) in
         IfOk result (λ _. IsServed plan.shape plan.reuse) }
-    ensures follows { OnOk result (IsFollowed (page_of left.now)) }
+    ensures follows { let plan = plan_of sizes senders receivers (Some left.now) in
+        OnOk result (IsFollowedBy (plan_passers plan) (page_of left.now)) }
     ensures fault { let plan = plan_of sizes senders receivers (Some left.now) in
-        IfErr result (AfterRefused plan.shape plan.reuse (page_of left.now)) }
+        IfErr result (Refuses plan (Some (page_of left.now))) }
 {
     let shape = sizes.shape(senders, receivers);
     let page = left.page();
-    if sizes.again {
+    if sizes.ring {
+        open_ring::<ThreeWord>(alloc, shape, Some(&page))
+    } else if sizes.again {
         open_cyclic::<ThreeWord>(alloc, shape, Some(&page))
     } else {
         open_after::<ThreeWord>(alloc, shape, &page)
@@ -120,7 +133,7 @@ impl Sizes {
 
 /// Ends the bus by the last handle that is left, as `ReceiverHandle::end`: OK, with the first words
 /// of its log in `log`, as many as there is room for, and the rest in `left`; or the code of the
-/// fault, and both as they were.
+/// fault, and both as they were. The log of a ring has the words from the floor on.
 pub fn end_bus(receiver: ReceiverHandle<ThreeWord>, log: &mut [u64], left: &mut Left) -> u32
     ensures { EndAnswered receiver log.old left.old result log.new left.new }
 {
@@ -141,7 +154,7 @@ impl Left {
         ensures { IsLeftBy ended.now result }
     {
         let page = ended.page();
-        let _spelled = ended.count(SenderNo(0));
+        let _log = ended.log();
         Left {
             counts: counts_of(ended),
             bases: bases_of(ended),
@@ -150,6 +163,7 @@ impl Left {
             tenures: page.tenures,
             ended: page.ended,
             gone: page.left,
+            floor: ended.floor(),
         }
     }
 
@@ -165,6 +179,7 @@ impl Left {
             tenures: 0,
             ended: false,
             gone: [false; MOST_SENDERS],
+            floor: 0,
         }
     }
 
@@ -212,11 +227,10 @@ pub fn note_sender(sender: &SenderHandle<ThreeWord>, number: u64, left: &mut Lef
     codes::OK
 }
 
-/// How many items of each sender the order has.
+/// How many items of each sender the whole order has.
 fn counts_of(ended: &Ended) -> [u64; MOST_SENDERS]
-    ensures { (order : Order) (owners : List (ℕ × Number)) (sender : ℕ)
-        → Spells ended.now.senders ended.now.log order owners → sender < MOST_SENDERS
-        → slice_index result sender ≡ length (of_sender sender order) }
+    ensures { (sender : ℕ) → sender < MOST_SENDERS
+        → CountsItems ended.now sender (slice_index result sender) }
 {
     let mut counts = [0; MOST_SENDERS];
     for place in 0..MOST_SENDERS {

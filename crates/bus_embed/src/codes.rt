@@ -15,7 +15,7 @@ pub const LOST: u32 = 4;
 pub const OWN: u32 = 5;
 /// A sender: its messages stand in the order.
 pub const DELIVERED: u32 = 6;
-/// A sender: its frame does not fit the log.
+/// A sender: its frame does not fit the log; of a ring not by now.
 pub const FULL: u32 = 7;
 /// A sender: the order has ended, or this sender had left.
 pub const CLOSED: u32 = 8;
@@ -72,9 +72,11 @@ pub const PAGE_OUT: u32 = 46;
 pub const EMPTY_HANDLE: u32 = 47;
 /// No bus: the order of the bus that it is to go on after has not ended. 48 is the header's own.
 pub const NOT_ENDED: u32 = 49;
-/// No bus: a sender's next number is 2^48 - 65,536 or more.
+/// No bus: a sender's next number is 2^48 - 65,536 or more; of a ring 2^48 - 2^44 - 16 or more.
 pub const NUMBERS_USED: u32 = 50;
 /// Two handles are of two buses.
 pub const OTHER_BUS: u32 = 51;
 /// No page: a sender was not answered Closed or Left yet, or its handle is not at its place.
 pub const UNANSWERED: u32 = 52;
+/// No room, ever: the batch is longer than the log.
+pub const NEVER_FITS: u32 = 53;

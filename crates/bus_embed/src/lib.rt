@@ -23,6 +23,6 @@ pub use receivers::{
     ReceiverShown, hear_items, hear_once, receivers_meet, show_receiver, tell_receiver,
 };
 pub use senders::{
-    SenderShown, carry_messages, close_sender, leave_sender, put_message, show_sender, take_turn,
-    take_turns,
+    SenderShown, carry_messages, close_sender, leave_sender, look_for_room, put_message,
+    show_sender, take_turn, take_turns,
 };

@@ -21,6 +21,8 @@ pub struct ReceiverShown {
     pub place: u64,
     /// The end was among its answers.
     pub has_ended: bool,
+    /// Of a ring: how many words it has passed, so that they may be used again. Else 0.
+    pub passed: u64,
 }
 
 /// One turn, as `ReceiverHandle::turn`: the code of its answer, and what that says in `answer`.
@@ -76,6 +78,7 @@ pub fn show_receiver(receiver: &ReceiverHandle<ThreeWord>) -> ReceiverShown
         known: receiver.known(),
         place: receiver.place(),
         has_ended: receiver.has_ended(),
+        passed: receiver.passed(),
     }
 }
 

@@ -4,7 +4,7 @@ ghost use Rattle.std.specs.Prelude.{◌≡◌};
 ghost use Rattle.bus_batch.specs.declared.messages.Mark.TheVariants as mark;
 ghost use Rattle.bus_embed.specs.Answers.{close_code, put_fault_code, turn_code, turn_answer};
 ghost use Rattle.bus_embed.specs.Calls.{PutAnswered, CloseAnswered, TurnAnswered, ShowsSender};
-ghost use Rattle.bus_embed.specs.Calls.{CarryAnswered, TurnsAnswered};
+ghost use Rattle.bus_embed.specs.Calls.{CarryAnswered, TurnsAnswered, RoomAnswered};
 
 use crate::answers::{TurnAnswer, turn_told};
 use crate::codes;
@@ -125,6 +125,22 @@ pub fn take_turns(
 {
     let turn = sender.turns(word, more);
     told_in(turn, answer)
+}
+
+/// Looks whether the sender's batch has room, as `SenderHandle::fits` and `SenderHandle::has_room`:
+/// OK where it had room by the words that were found, FULL where it had none, and NEVER_FITS where
+/// it is longer than the log. It is no turn.
+pub fn look_for_room(sender: &mut SenderHandle<ThreeWord>) -> u32
+    ensures { RoomAnswered sender.old result sender.new }
+{
+    if !sender.fits() {
+        return codes::NEVER_FITS;
+    }
+    if sender.has_room() {
+        codes::OK
+    } else {
+        codes::FULL
+    }
 }
 
 /// What a sender shows. Takes no step.

@@ -1,15 +1,12 @@
--- What the last answer of a sending says as a Result; and a close that is taken, and then sent.
-use Rattle.std.proofs.Common.{◌≡◌, Result, Ok, Err, OnOk, IfOk, IfErr, sym, subst}
+-- A close that is taken, and then sent.
+use Rattle.std.proofs.Common.{◌≡◌, Result, Ok, Err, OnOk, IfErr, sym, subst}
 use Rattle.bus_tenure.specs.declared.turns.Turn.{Turn}
 use Rattle.bus_tenure.specs.declared.turns.Turn.TheVariants as turn
 use Rattle.bus_automaton.specs.Processes.{Process}
 use Rattle.bus_pageslot.specs.Seats.{SenderSeat}
 use Rattle.bus_pageslot.specs.Turns.{Tellings, Sends}
-use Rattle.bus_handles.specs.Answers.{delivered_turn, not_delivered_turn}
 use Rattle.bus_pageslot.specs.Sendings.{Closes, ClosesAndSends}
 use Rattle.bus_handles.specs.Closings.{NotEndedFor}
-use Rattle.bus_handles.specs.declared.answers.Delivered.{Delivered}
-use Rattle.bus_handles.specs.declared.answers.NotDelivered.{NotDelivered}
 use Rattle.bus_handles.specs.declared.answers.OrderNotEnded.{OrderNotEnded}
 use Rattle.bus_handles.specs.declared.answers.OrderNotEnded.TheVariants as why
 
@@ -36,18 +33,3 @@ ends_not P T old closed new answer (Err e) closes sends is =
       record { closed = closed; closes = closes; sends = sends },
       is.1,
     )
-
--- where messages were delivered, and where none was
-pub delivers : {C : Type 0} (P : Process C) (T : Tellings C) (old : SenderSeat C) (answer : Turn)
-    (new : SenderSeat C) (r : Result Delivered NotDelivered) → Sends P T old answer new
-    → IfOk r (λ done. answer ≡ delivered_turn done)
-    → IfOk r (λ done. Sends P T old (delivered_turn done) new)
-delivers P T old answer new (Ok done) sends is = subst (λ t. Sends P T old t new) is sends
-delivers P T old answer new (Err why) sends is = is
-
-pub delivers_not : {C : Type 0} (P : Process C) (T : Tellings C) (old : SenderSeat C)
-    (answer : Turn) (new : SenderSeat C) (r : Result Delivered NotDelivered)
-    → Sends P T old answer new → IfErr r (λ why. answer ≡ not_delivered_turn why)
-    → IfErr r (λ why. Sends P T old (not_delivered_turn why) new)
-delivers_not P T old answer new (Ok done) sends is = is
-delivers_not P T old answer new (Err why) sends is = subst (λ t. Sends P T old t new) is sends

@@ -1,3 +1,4 @@
 mod ClosingLaws
 mod HandleLaws
 mod PageLaws
+mod SendingLaws

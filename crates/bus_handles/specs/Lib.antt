@@ -1,4 +1,5 @@
 pub mod Answers
+pub mod Asking
 pub mod Closings
 pub mod Handles
 pub mod Pages

@@ -18,6 +18,8 @@ not_delivered_text delivered.Full = codes "nothing is delivered: the log is full
 not_delivered_text delivered.Closed =
     codes "nothing is delivered: the order has ended, or the sender has left"
 not_delivered_text delivered.Spent = codes "nothing is delivered: all rows are spent"
+not_delivered_text delivered.NeverFits =
+    codes "nothing is delivered: the batch is longer than the log"
 
 abbrev pub order_not_ended_text : OrderNotEnded → List ℕ
 order_not_ended_text (order.Close why) = codes "the close is not taken: " ++ close_fault_text why

@@ -2,7 +2,7 @@
 
 ghost use Rattle.std.specs.Prelude.{◌≡◌, ◌≢◌, true, Some, IfOk, IfErr, OnOk};
 ghost use Rattle.bus_tenure.specs.Classes.{is_last};
-ghost use Rattle.bus_handles.specs.Answers.{delivered_turn, not_delivered_turn};
+ghost use Rattle.bus_handles.specs.Answers.{delivered_turn, IsWhy};
 ghost use Rattle.bus_handles.specs.Texts.{not_delivered_text, order_not_ended_text};
 ghost use Rattle.bus_handles.specs.Texts.{bus_not_ended_text};
 
@@ -27,12 +27,15 @@ pub enum NotDelivered {
     Idle,
     /// Its leave mark stands in the order, by its frame of this tenure: it has left for good.
     Left { tenure: u64 },
-    /// The frame does not fit the log. The batch is kept.
+    /// The frame does not fit the log. The batch is kept. Of a ring there is no room for it as yet:
+    /// some receiver has still to hear.
     Full,
     /// The order has ended, by this sender or another, or this sender had left before.
     Closed,
     /// No tenure is left to this sender. The batch is kept.
     Spent,
+    /// The batch is longer than the log, so that no wait for room would end. The batch is kept.
+    NeverFits,
 }
 
 impl Error for NotDelivered {}
@@ -49,6 +52,7 @@ impl fmt::Display for NotDelivered {
                 "nothing is delivered: the order has ended, or the sender has left"
             }
             NotDelivered::Spent => "nothing is delivered: all rows are spent",
+            NotDelivered::NeverFits => "nothing is delivered: the batch is longer than the log",
         })
     }
 }
@@ -101,7 +105,7 @@ impl fmt::Display for BusNotEnded {
 pub fn answered(turn: Turn) -> Result<Delivered, NotDelivered>
     requires { is_last turn ≡ true }
     ensures delivered { IfOk result (λ done. turn ≡ delivered_turn done) }
-    ensures not_delivered { IfErr result (λ why. turn ≡ not_delivered_turn why) }
+    ensures not_delivered { IfErr result (λ why. IsWhy turn why) }
 {
     match turn {
         Turn::Delivered {

@@ -4,7 +4,9 @@ ghost use Rattle.std.specs.Prelude.{All, ◌≡◌, Some, None, IfOk, OnOk, IfEr
 ghost use Rattle.std.specs.Option.{option_copied};
 ghost use Rattle.bus_machine.specs.Playing.{IsServed, MakeRefused, IsFollowed, AfterRefused};
 ghost use Rattle.bus_machine.specs.Playing.{MayFollow, MakeRefusedAfter};
+ghost use Rattle.bus_machine.specs.Playing.{MayGoOn, RefusedWith};
 ghost use Rattle.bus_automaton.specs.Buses.{process_by, automaton_by, new_plan, cyclic_plan};
+ghost use Rattle.bus_automaton.specs.Buses.{ring_plan};
 ghost use Rattle.bus_pageslot.specs.Seats.{table_of};
 ghost use Rattle.bus_handles.specs.Handles.{seats_of, IsOpened};
 
@@ -77,6 +79,26 @@ pub fn open_cyclic<Q: Ratifier + Drop>(
         (MakeRefusedAfter shape (Some shape.rows) (option_copied page.entry)) }
 {
     let (bus, senders, taps) = Bus::<Q>::cyclic(alloc, shape, page)?;
+    let handles = share(alloc, bus, senders, taps)?;
+    Ok(handles)
+}
+
+/// As `open_cyclic`, of a bus whose log is a ring: its words are used again too, so that it serves
+/// without end. With a page it is the next sitting, as `open_after`.
+pub fn open_ring<Q: Ratifier + Drop>(
+    alloc: Global,
+    shape: Shape,
+    page: Option<&Page>,
+) -> Result<(Vec<SenderHandle<Q>>, Vec<ReceiverHandle<Q>>), MakeFault>
+    ensures opened { let plan = ring_plan shape (option_copied page.entry) in
+        IfOk result (λ made. IsOpened (process_by Q.Ratifier) (automaton_by Q.Ratifier plan)
+        plan made.0.items made.1.items) }
+    ensures served { IfOk result (λ _. IsServed shape (Some shape.rows)) }
+    ensures follows { OnOk result (MayGoOn shape.receivers (option_copied page.entry)) }
+    ensures fault { IfErr result
+        (RefusedWith shape.receivers shape (Some shape.rows) (option_copied page.entry)) }
+{
+    let (bus, senders, taps) = Bus::<Q>::ring(alloc, shape, page)?;
     let handles = share(alloc, bus, senders, taps)?;
     Ok(handles)
 }

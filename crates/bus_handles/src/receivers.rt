@@ -3,10 +3,11 @@
 ghost use Rattle.std.specs.Prelude.{◌≡◌, ℕ, ◌≤◌, List, length, Some, None, IfOk, false};
 ghost use Rattle.std.specs.Ordering.{nat_cmp};
 ghost use Rattle.std.specs.Arc.{arc_value};
-ghost use Rattle.bus_automaton.specs.Buses.{process_by, automaton_by};
+ghost use Rattle.bus_automaton.specs.Buses.{process_by, automaton_by, plan_passers};
 ghost use Rattle.bus_pageslot.specs.Endings.{IsLeft};
-ghost use Rattle.bus_pageslot.specs.Rule.{receiver_view_in, known_in};
+ghost use Rattle.bus_pageslot.specs.Rule.{receiver_view_in, known_in, table_layout_in};
 ghost use Rattle.bus_pageslot.specs.Listening.{Hears, HearsAfter};
+ghost use Rattle.bus_pageslot.specs.Steps.{HasLeftBy};
 ghost use Rattle.bus_pageslot.specs.Seats.{table_of, actions_of, stored_of};
 ghost use Rattle.bus_receiver.specs.Listening.{bus_of, Takes, HaveMet, IsTold};
 ghost use Rattle.bus_receiver.specs.Listening.{PassesTo, PassesWhile, item_or_end, written_or_end};
@@ -18,15 +19,14 @@ use bus_adoptcommit::{Ratifier, ThreeWord};
 use bus_batch::Item;
 use bus_deliverylog::RecvTurn;
 use bus_pageslot::{Bus, Ended};
-use bus_receiver::{Found, ItemTurn, Next, Receiver};
+use bus_receiver::{Found, ItemTurn, Left, Next, Receiver};
 use bus_waiting::{SharedBell, Waiting};
 use std::cmp::Ordering;
 use std::marker::Model;
 use std::sync::{Arc, Wait};
 
 /// A receiver with its bus. One thread at a time has it. Its calls are those of `Receiver`, and
-/// none of them takes memory.
-#[derive(Drop)]
+/// none of them takes memory. A handle that is let go leaves, so that no ring waits for it.
 pub struct ReceiverHandle<Q: Ratifier = ThreeWord> {
     bus: Arc<Bus<Q>>,
     bell: SharedBell,
@@ -111,8 +111,20 @@ impl<Q: Ratifier + Drop> ReceiverHandle<Q> {
         self.receiver.has_ended()
     }
 
-    /// One turn: a load of the length where it has read all that it knows, else a load of the word
-    /// at its place. After the end it takes no step.
+    /// Of a ring: the place that it has stored last, before which the cells may be used again; 0
+    /// before the first such store. Of another bus 0.
+    #[inline(always)]
+    pub fn passed(&self) -> u64
+        ensures passed { result ≡ (receiver_view_in self.now.me.0).passed }
+        ensures within { result ≤ (receiver_view_in self.now.me.0).place }
+        ensures never { (table_layout_in self.now.me.0).passers ≡ 0 → result ≡ 0 }
+    {
+        self.receiver.passed()
+    }
+
+    /// One turn. Of a ring, a store of its place where it has heard a whole frame since the last
+    /// such store. Else a load of the length where it has read all that it knows, and a load of the
+    /// word at its place where it has not. After the end it takes no step.
     #[inline(always)]
     pub fn turn(&mut self) -> RecvTurn
         ensures bus { self.new.bus ≡ self.old.bus }
@@ -132,6 +144,13 @@ impl<Q: Ratifier + Drop> ReceiverHandle<Q> {
     {
         let bus: &Bus<Q> = &self.bus;
         self.receiver.item_turns(bus, item)
+    }
+
+    /// Wakes those that sleep at handles of this bus. The calls that wait ring by themselves, and
+    /// so does `leave`. After `turn` or `item_turns` of a ring has stored its place (`passed`) it
+    /// wakes those that wait for room, which else look again within 0.1 s.
+    pub fn ring(&self) {
+        self.bell.ring();
     }
 
     /// Turns, until one finds a head, an item, a leave mark or the end. That it ends is not
@@ -238,25 +257,68 @@ impl<Q: Ratifier + Drop> ReceiverHandle<Q> {
         self.receiver.meet(&mut other.receiver, bus)
     }
 
-    /// Ends the bus by this handle, where it is the last one: its log and its page, where the page
-    /// is at home. The handle is gone in either case, and with the last one the bus.
+    /// Leaves for good: no cell of a ring waits for this receiver any more, and those that wait for
+    /// room wake. Each handle that is let go leaves too, and so does `end` where it is answered
+    /// InUse; but these wake nobody. Of another bus it is no step.
+    pub fn leave(self) {
+        let ReceiverHandle {
+            bus,
+            bell,
+            receiver,
+        } = self;
+        let _ = leave(&bus, receiver);
+        bell.ring();
+    }
+
+    /// Ends the bus by this handle, where it is the last one: what stands of its log and its page,
+    /// where the page is at home. The handle is gone in either case, and with the last one the bus.
+    /// Where it is answered InUse the receiver has left.
     pub fn end(self) -> Result<Ended, BusNotEnded>
         ensures ended { IfOk result
             (λ left. IsLeft (process_by Q.Ratifier) (automaton_by Q.Ratifier self.bus.plan)
-            self.me.0 left.log (Some left.page)) }
+            self.me.0 left.log left.floor (Some left.page)) }
+        ensures flat { IfOk result (λ left. plan_passers self.bus.plan ≡ 0 → left.floor ≡ 0) }
         ensures senders { IfOk result (λ left. left.senders ≡ self.bus.plan.shape.senders) }
         ensures bases { IfOk result (λ left. left.bases ≡ self.bus.plan.bases) }
-        ensures out { result ≡ Err BusNotEnded.PageOut → (log : List ℕ)
+        ensures out { result ≡ Err BusNotEnded.PageOut → (log : List ℕ) × (floor : ℕ)
             × IsLeft (process_by Q.Ratifier) (automaton_by Q.Ratifier self.bus.plan)
-            self.me.0 log None }
+            self.me.0 log floor None }
     {
-        let ReceiverHandle { bus, receiver, .. } = self;
-        let Ok(bus) = Arc::try_unwrap(bus) else {
-            return Err(BusNotEnded::InUse);
-        };
-        match Receiver::end(bus, receiver) {
-            Ok(ended) => Ok(ended),
-            Err(_) => Err(BusNotEnded::PageOut),
+        let ReceiverHandle {
+            bus,
+            bell: _bell,
+            receiver,
+        } = self;
+        match Arc::try_unwrap(bus) {
+            Ok(bus) => match Receiver::end(bus, receiver) {
+                Ok(ended) => Ok(ended),
+                Err(_) => Err(BusNotEnded::PageOut),
+            },
+            Err(shared) => {
+                let _ = leave(&shared, receiver);
+                Err(BusNotEnded::InUse)
+            }
         }
     }
+}
+
+/// Whoever lets a handle go leaves by it. Those that wait for room see it within 0.1 s: what C
+/// links drops handles too, and may wake nobody.
+impl<Q: Ratifier + Drop> Drop for ReceiverHandle<Q> {
+    fn drop(self) {
+        let ReceiverHandle {
+            bus,
+            bell: _bell,
+            receiver,
+        } = self;
+        let _ = leave(&bus, receiver);
+    }
+}
+
+/// The receiver leaves for good.
+fn leave<Q: Ratifier + Drop>(bus: &Bus<Q>, receiver: Receiver<Q>) -> Left<Q>
+    requires { bus_of receiver ≡ bus.now.table }
+    ensures { HasLeftBy receiver.me result.me }
+{
+    receiver.leave(bus)
 }

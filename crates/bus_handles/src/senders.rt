@@ -2,7 +2,7 @@
 
 ghost use Rattle.std.specs.Prelude.{◌≡◌, ℕ, ◌+◌, List, [], ◌∷◌, ◌++◌, length};
 ghost use Rattle.std.specs.Prelude.{Some, None, IfSome, IfNone, IfOk, IfErr, OnOk, OnErr, true};
-ghost use Rattle.std.specs.Prelude.{IsTrue, ◌↔◌, Err, IsSome};
+ghost use Rattle.std.specs.Prelude.{IsTrue, ◌↔◌, Err, IsSome, ◌≢◌};
 ghost use Rattle.std.specs.Arc.{arc_value};
 ghost use Rattle.bus_batch.specs.Batches.{next_of, CanPut, IsPutFault, CanClose, IsCloseFault};
 ghost use Rattle.bus_batch.specs.declared.messages.Mark.TheVariants as mark;
@@ -22,7 +22,9 @@ ghost use Rattle.bus_pageslot.specs.Seats.{first_number_of, actions_of, stored_o
 ghost use Rattle.bus_pageslot.specs.Turns.{tells_by, TakesUpTo, Sends, SendsAsking, StopsWaiting};
 ghost use Rattle.bus_pageslot.specs.Sendings.{waiting_of, HasSent, HasSentPart, KeptAfter};
 ghost use Rattle.bus_pageslot.specs.Sendings.{Carries, CarryRefused};
-ghost use Rattle.bus_handles.specs.Answers.{delivered_turn, not_delivered_turn};
+ghost use Rattle.bus_handles.specs.Answers.{delivered_turn, DeliversNone};
+ghost use Rattle.bus_handles.specs.Asking.{SaysNo, SaysYes};
+ghost use Rattle.bus_pageslot.specs.Room.{SendsForRoom, StopsForRoom};
 ghost use Rattle.bus_pageslot.specs.Sendings.{ClosesAndSends};
 ghost use Rattle.bus_handles.specs.Closings.{NotEndedFor};
 
@@ -32,7 +34,7 @@ use crate::answers::{Delivered, NotDelivered, OrderNotEnded, answered, order_end
 use arrayvec::ArrayVec;
 use bus_adoptcommit::{Ratifier, ThreeWord};
 use bus_batch::{CloseFault, Message, PutFault};
-use bus_pageslot::{Bus, Sender, Unsent};
+use bus_pageslot::{Bus, NeverFits, Sender, Unsent};
 use bus_register::limits::{MOST_MESSAGES, MOST_SENDERS};
 use bus_register::{Kind, SenderNo};
 use bus_tenure::Turn;
@@ -299,9 +301,10 @@ impl<Q: Ratifier + Drop, R: Rng + Drop> SenderHandle<Q, R> {
     /// answered before.
     ///
     /// While it has begun a tenure the answer is Busy: its messages may stand in the order already,
-    /// or come into it by the turns of `finish`. Else it is BatchFull where they do not fit beside
-    /// what waits there, and otherwise what a put gives, or Ok where none waits. Takes no step. A
-    /// fault changes nothing.
+    /// or come into it by the turns of `finish`. After Full, which gives the page back, it has
+    /// begun none, and none of them stands in the order. Else it is BatchFull where they do not fit
+    /// beside what waits there, and otherwise what a put gives, or Ok where none waits. Takes no
+    /// step. A fault changes nothing.
     pub fn carry_to<S>(&self, next: &mut SenderHandle<Q, S>) -> Result<(), PutFault>
         ensures carried { OnOk result
             (Carries (process_by Q.Ratifier) self.now next.old next.new) }
@@ -392,6 +395,77 @@ impl<Q: Ratifier + Drop, R: Rng + Drop> SenderHandle<Q, R> {
         self.sender.send_while(&waiter, bus, &mut self.rng, go_on)
     }
 
+    /// As `send`, but that it waits for nobody: None where a turn answers Waiting or Behind, since
+    /// another sender is at work. The batch is kept then, and any later turn goes on with it. Each
+    /// vote takes one word of its generator.
+    #[must_use]
+    pub fn try_send<W: Wait>(&mut self, wait: &W) -> Option<Turn>
+        ensures table { table_of self.new ≡ table_of self.old }
+        ensures sends { IfSome result (λ turn. SendsAsking (process_by Q.Ratifier)
+            (tells_by Q.Ratifier) SaysNo self.old tt turn self.new) }
+        ensures stops { IfNone result (StopsWaiting (process_by Q.Ratifier) (tells_by Q.Ratifier)
+            SaysNo self.old tt self.new) }
+        ensures keeps { let P = process_by Q.Ratifier in
+            IfSome result (λ turn. is_refusal turn ≡ true → KeptAfter P self.old turn self.new) }
+        ensures waits { let P = process_by Q.Ratifier in
+            IfNone result (waiting_of P self.new ≡ waiting_of P self.old) }
+        ensures puts { let P = process_by Q.Ratifier in
+            puts (actions_of P self.new) ≡ puts (actions_of P self.old) }
+    {
+        self.send_while(wait, || false)
+    }
+
+    /// The frame of its batch is no longer than the log. Where it is longer, it is Full for good.
+    /// Takes no step.
+    pub fn fits(&self) -> bool {
+        let bus: &Bus<Q> = &self.bus;
+        self.sender.fits(bus)
+    }
+
+    /// There is room for its batch: a look at the length, and at the places that the receivers of a
+    /// ring have passed. It is no turn, and changes nothing of the sender. Yes is no promise, since
+    /// another sender may take the room first; no may be yes by now.
+    #[must_use]
+    pub fn has_room(&mut self) -> bool
+        ensures { self.new ≡ self.old }
+    {
+        let bus: &Bus<Q> = &self.bus;
+        self.sender.has_room(bus)
+    }
+
+    /// As `send_while`, but that it goes on after Full: it looks until there is room, asks `go_on`
+    /// once before each look too, and takes turns again. So Full is never its answer. A batch that
+    /// is longer than the log is told before the first turn, and nothing changes then.
+    ///
+    /// Of a ring there is room once each receiver has heard. Who hears in the same thread calls
+    /// `send` and hears where it is answered Full: nobody hears while this call waits.
+    pub fn send_when_room<W: Wait, F: FnMut() -> bool>(
+        &mut self,
+        wait: &W,
+        go_on: F,
+    ) -> Result<Option<Turn>, NeverFits>
+        requires { F.IsAlwaysCallable go_on }
+        ensures table { table_of self.new ≡ table_of self.old }
+        ensures same { OnErr result (self.new ≡ self.old) }
+        ensures sends { IfOk result (λ answered. IfSome answered
+            (λ turn. SendsForRoom (process_by Q.Ratifier) (tells_by Q.Ratifier) F.step self.old
+            go_on turn self.new)) }
+        ensures stops { IfOk result (λ answered. IfNone answered
+            (StopsForRoom (process_by Q.Ratifier) (tells_by Q.Ratifier) F.step self.old go_on
+            self.new)) }
+        ensures keeps { let P = process_by Q.Ratifier in IfOk result (λ answered. IfSome answered
+            (λ turn. is_refusal turn ≡ true → KeptAfter P self.old turn self.new)) }
+        ensures waits { let P = process_by Q.Ratifier in IfOk result (λ answered. IfNone answered
+            (waiting_of P self.new ≡ waiting_of P self.old)) }
+        ensures puts { let P = process_by Q.Ratifier in
+            puts (actions_of P self.new) ≡ puts (actions_of P self.old) }
+    {
+        let bus: &Bus<Q> = &self.bus;
+        let waiter = self.bell.asked(wait);
+        self.sender
+            .send_when_room(&waiter, bus, &mut self.rng, go_on)
+    }
+
     /// Sends messages in their order: first what waits in its batch, and then these, in batches of
     /// 16, of which the last may be smaller. Ok where no message waits any more. It stops at the
     /// first batch that is not sent off, which is kept, and at the first message that is refused.
@@ -414,10 +488,9 @@ impl<Q: Ratifier + Drop, R: Rng + Drop> SenderHandle<Q, R> {
         ensures table { table_of self.new ≡ table_of self.old }
         ensures delivered { IfOk result (λ done. Sends (process_by Q.Ratifier)
             (tells_by Q.Ratifier) self.old (delivered_turn done) self.new) }
-        ensures not_delivered { IfErr result (λ why. Sends (process_by Q.Ratifier)
-            (tells_by Q.Ratifier) self.old (not_delivered_turn why) self.new) }
-        ensures keeps { IfErr result (λ why. is_refusal (not_delivered_turn why) ≡ true
-            → KeptAfter (process_by Q.Ratifier) self.old (not_delivered_turn why) self.new) }
+        ensures not_delivered { let P = process_by Q.Ratifier in let T = tells_by Q.Ratifier in
+            IfErr result (λ why. DeliversNone P (λ turn. Sends P T self.old turn self.new) self.old
+            why self.new) }
         ensures puts { let P = process_by Q.Ratifier in
             puts (actions_of P self.new) ≡ puts (actions_of P self.old) }
     {
@@ -427,8 +500,36 @@ impl<Q: Ratifier + Drop, R: Rng + Drop> SenderHandle<Q, R> {
         answered(turn)
     }
 
+    /// As `deliver`, but that it waits for room where it is answered Full, as `send_when_room`
+    /// does. So Full is never why none was delivered.
+    pub fn deliver_when_room<W: Wait>(&mut self, wait: &W) -> Result<Delivered, NotDelivered>
+        ensures table { table_of self.new ≡ table_of self.old }
+        ensures delivered { IfOk result (λ done. SendsForRoom (process_by Q.Ratifier)
+            (tells_by Q.Ratifier) SaysYes self.old tt (delivered_turn done) self.new) }
+        ensures not_delivered { let P = process_by Q.Ratifier in let T = tells_by Q.Ratifier in
+            IfErr result (λ why. why ≢ NotDelivered.NeverFits
+            → DeliversNone P (λ turn. SendsForRoom P T SaysYes self.old tt turn self.new) self.old
+            why self.new) }
+        ensures full { IfErr result (λ why. why ≢ NotDelivered.Full) }
+        ensures same { result ≡ Err NotDelivered.NeverFits → self.new ≡ self.old }
+        ensures puts { let P = process_by Q.Ratifier in
+            puts (actions_of P self.new) ≡ puts (actions_of P self.old) }
+    {
+        let bus: &Bus<Q> = &self.bus;
+        let waiter = self.bell.waiter(wait);
+        match self
+            .sender
+            .send_when_room(&waiter, bus, &mut self.rng, || true)
+        {
+            Ok(Some(turn)) => answered(turn),
+            Ok(None) => unreachable!(),
+            Err(_) => Err(NotDelivered::NeverFits),
+        }
+    }
+
     /// Closes, and sends that as `send` does: Ok where the order has ended then, and else why the
-    /// close was not taken, or what sending it was answered.
+    /// close was not taken, or what sending it was answered. Of a ring that may be Full: its mark
+    /// waits then, and once the receivers have heard `send` goes on with it.
     pub fn end_order<W: Wait>(&mut self, wait: &W) -> Result<(), OrderNotEnded>
         ensures table { table_of self.new ≡ table_of self.old }
         ensures ended { OnOk result (ClosesAndSends (process_by Q.Ratifier)

@@ -2,7 +2,7 @@
 #![tactic(auto)]
 
 use anyhow::Context;
-use bus_handles::{Shape, ThreeWord, open};
+use bus_handles::{Shape, ThreeWord, open_ring};
 
 fn main(rt: HostRuntime) -> anyhow::Result<()> {
     let shape = Shape {
@@ -10,9 +10,9 @@ fn main(rt: HostRuntime) -> anyhow::Result<()> {
         receivers: 1,
         rounds: 2,
         rows: 2,
-        log_words: 16,
+        log_words: 4096,
     };
-    let (senders, receivers) = open::<ThreeWord>(rt.alloc(), shape)?;
+    let (senders, receivers) = open_ring::<ThreeWord>(rt.alloc(), shape, None)?;
     for mut sender in senders {
         sender.put(b"hello")?;
         sender.deliver(&rt)?;

@@ -31,6 +31,11 @@ impl Bell {
         }
     }
 
+    /// As `ring`, for drops: a waker's panic ends here, since another panic may drop the handle.
+    pub(crate) fn ring_in_drop(&self) {
+        let _ = panic::catch_unwind(AssertUnwindSafe(|| self.ring()));
+    }
+
     /// The next ring wakes this waker, for the handle of this place. Whoever listens looks at the
     /// bus once more before it sleeps: what was done before a ring that it missed is there then.
     pub(crate) fn listen(&self, place: usize, waker: &Waker) {

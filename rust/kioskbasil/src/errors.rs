@@ -48,7 +48,8 @@ faults! {
         NoMemory = 37: "memory was refused",
         /// The order of the bus before has not ended.
         NotEnded = 49: "the order of the bus before has not ended",
-        /// A next number of the bus before is 2^48 - 65,536 or more.
+        /// A next number of the bus before is 2^48 - 65,536 or more; of a ring 2^48 - 2^44 - 16 or
+        /// more.
         Numbers = 50: "the numbers of a sender are used up",
     }
 }
@@ -116,6 +117,60 @@ impl fmt::Display for OtherBus {
 
 impl Error for OtherBus {}
 
+/// The batch is longer than the log, so it never has room; nothing has changed.
+#[derive(Clone, Copy, Debug, PartialEq, Eq)]
+pub struct NeverFits;
+
+impl fmt::Display for NeverFits {
+    fn fmt(&self, f: &mut fmt::Formatter<'_>) -> fmt::Result {
+        f.write_str("the batch is longer than the log")
+    }
+}
+
+impl Error for NeverFits {}
+
+/// Why a batch is not known to be sent by now. It is kept, and a later call goes on with it. Only
+/// after `Behind` it may stand in the order already.
+#[derive(Clone, Copy, Debug, PartialEq, Eq)]
+pub enum TrySendError {
+    /// It has no room. Of a ring that is for now, and it can be tried again once the receivers have
+    /// heard; of another bus it is for good. Each such answer takes a tenure: so hear until
+    /// `Sender::has_room` says yes, or the order has ended.
+    Full,
+    /// Another sender has to go on first.
+    Waiting,
+    /// Another sender has to go on first, and this one holds the page, for which all others wait. Its
+    /// batch may stand in the order already, so it is sent by no other way. Hear, but do not wait,
+    /// and come back soon.
+    Behind,
+    /// It is longer than the log, so it never has room.
+    NeverFits,
+}
+
+impl fmt::Display for TrySendError {
+    fn fmt(&self, f: &mut fmt::Formatter<'_>) -> fmt::Result {
+        match self {
+            TrySendError::Full => f.write_str("the batch is kept: it has no room by now"),
+            TrySendError::Waiting => {
+                f.write_str("the batch is kept: another sender has to go on first")
+            }
+            TrySendError::Behind => f.write_str(
+                "the batch may be in the order already: this sender holds the page, and another one \
+                 has to go on first",
+            ),
+            TrySendError::NeverFits => NeverFits.fmt(f),
+        }
+    }
+}
+
+impl Error for TrySendError {}
+
+impl From<NeverFits> for TrySendError {
+    fn from(_: NeverFits) -> TrySendError {
+        TrySendError::NeverFits
+    }
+}
+
 /// Why a sender does not go on.
 #[derive(Clone, Copy, Debug, PartialEq, Eq)]
 pub enum SendError {
@@ -131,8 +186,8 @@ impl fmt::Display for SendError {
     fn fmt(&self, f: &mut fmt::Formatter<'_>) -> fmt::Result {
         match self {
             SendError::Turn(Turn::Full) => f.write_str(
-                "what waits is not sent: full; another sender with which nothing waits can end \
-                 the order",
+                "what waits is not sent: full; of a ring it can be tried again once the receivers \
+                 have heard, and else another sender with which nothing waits can end the order",
             ),
             SendError::Turn(turn) => write!(f, "what waits is not sent: {turn}"),
             SendError::Put(why) => why.fmt(f),

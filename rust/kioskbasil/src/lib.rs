@@ -7,6 +7,12 @@
 //! `next_item_while` can be told to stop. In async code `send_async`, `send_all_async`,
 //! `end_order_async` and `next_item_async` wait in any executor.
 //!
+//! **Who sends and hears a ring must hear while it is answered `Full`.** The log of a ring
+//! (`Bus::open_ring`) is used again, so it serves on when it is full: `Full` is to be tried again,
+//! and the batch is kept. `try_send` waits for nobody, and `send_when_room` is for threads that only
+//! send. A batch longer than the log is `Full` for good, and its sender then neither sends, closes
+//! nor leaves: give a ring 129 words or more, or count the words of a batch before each put.
+//!
 //! The election of the next sender is wait-free: each takes a stated number of its own turns. The
 //! append is not, since the sender that is elected holds the page as one holds a lock. If it stops
 //! there, all others wait for good.
@@ -45,7 +51,8 @@ mod waiting;
 
 pub use bell::Bell;
 pub use errors::{
-    CloseError, EndError, OpenError, OtherBus, PageError, PutError, SendError, Unsent,
+    CloseError, EndError, NeverFits, OpenError, OtherBus, PageError, PutError, SendError,
+    TrySendError, Unsent,
 };
 pub use receivers::{Heard, Item, Next, Receiver};
 pub use senders::{Sender, Turn};
@@ -79,11 +86,15 @@ pub struct Shape {
     /// Tenures of the sitting: 1 to 256; where rows are used again 2 to 8. A batch takes one, a
     /// close and a leave too.
     pub rows: u64,
-    /// Words of the whole order: 16 to 65,536. A batch takes 1, a message 1 and one for each 8
-    /// bytes begun, a close or a leave 2.
+    /// Words of the whole order, of a ring those that stand at once: 16 to 65,536. A batch takes 1,
+    /// a message 1 and one for each 8 bytes begun, a close or a leave 2. A full batch of 16 messages
+    /// of 56 bytes has 129.
     pub log_words: u64,
     /// Rows of words are used again, by up to 2^40 tenures.
     pub again: bool,
+    /// The log is a ring (`Bus::open_ring`): its words are used again, and so are its rows, whatever
+    /// `again` says.
+    pub ring: bool,
 }
 
 impl Shape {
@@ -96,6 +107,7 @@ impl Shape {
             rows: 8,
             log_words: 65_536,
             again: true,
+            ring: false,
         }
     }
 }
@@ -124,9 +136,11 @@ impl From<&Ended> for Page {
 #[derive(Clone, Debug, PartialEq, Eq)]
 #[non_exhaustive]
 pub struct Ended {
-    /// The words of its log.
+    /// The words of its log; of a ring those that stand, from `floor` on.
     pub log: Vec<u64>,
-    /// How many items of each sender the order has.
+    /// Of a ring: how many words of the order do not stand any more. 0 of another bus.
+    pub floor: u64,
+    /// How many items of each sender the whole order has.
     pub counts: [u64; MOST_SENDERS],
     /// The number of each sender's first item: 0 after `Bus::open`.
     pub bases: [u64; MOST_SENDERS],
@@ -154,6 +168,53 @@ impl Bus {
     /// ```
     pub fn open(shape: Shape) -> Result<(Vec<Sender>, Vec<Receiver>), OpenError> {
         Bus::opened(shape, None)
+    }
+
+    /// Opens a bus whose log is a ring: its words are used again once all receivers have passed
+    /// them, so it is not over when they are full. **Who sends and hears must hear while it is
+    /// answered `Full`**: that says that there is no room by now, and the batch is kept. A receiver
+    /// that is not needed any more is dropped: it leaves. One that neither hears nor is dropped
+    /// keeps all senders without room for good.
+    ///
+    /// A batch longer than the log is `Full` for good, and its sender then neither sends, closes nor
+    /// leaves. So give a ring 129 words or more, or count the words of a batch before each put: 1,
+    /// and of each message 1 and one for each 8 bytes begun. `has_room` tells it after the put.
+    ///
+    /// It is `open` with `ring` set in the shape; with that `open_after` opens one too.
+    ///
+    /// ```
+    /// use kioskbasil::{Bus, SendError, Shape, TrySendError, Turn};
+    ///
+    /// // A worker: it sends, and hears meanwhile.
+    /// let shape = Shape { log_words: 16, ..Shape::of(1, 1) };
+    /// let (mut senders, mut receivers) = Bus::open_ring(shape)?;
+    /// let (sender, receiver) = (&mut senders[0], &mut receivers[0]);
+    /// let mut heard = Vec::new();
+    /// for number in 0..1000u64 {
+    ///     sender.put(&number.to_le_bytes())?;
+    ///     loop {
+    ///         match sender.try_send() {
+    ///             Ok(Turn::Delivered { .. }) => break,
+    ///             Ok(other) => return Err(SendError::Turn(other).into()),
+    ///             // A turn for nothing takes a tenure: it looks for room while it hears.
+    ///             Err(TrySendError::Full) => while !sender.has_room()? && !receiver.has_ended() {
+    ///                 receiver.hear(&mut heard);
+    ///             },
+    ///             Err(TrySendError::NeverFits) => return Err(TrySendError::NeverFits.into()),
+    ///             Err(_) => { receiver.hear(&mut heard); }
+    ///         }
+    ///     }
+    /// }
+    /// receiver.hear(&mut heard);
+    /// assert_eq!(heard.len(), 1000);
+    /// assert!(heard.iter().all(|item| item[..] == item.number.to_le_bytes()));
+    /// # Ok::<(), Box<dyn std::error::Error>>(())
+    /// ```
+    pub fn open_ring(shape: Shape) -> Result<(Vec<Sender>, Vec<Receiver>), OpenError> {
+        Bus::open(Shape {
+            ring: true,
+            ..shape
+        })
     }
 
     /// Opens the next sitting: a bus whose senders go on with the next numbers of the bus that left
@@ -250,6 +311,7 @@ impl Bus {
             rows: shape.rows,
             log_words: shape.log_words,
             again: shape.again,
+            ring: shape.ring,
         };
         let mut senders = [raw::RawSender::NONE; MOST_SENDERS];
         let mut receivers = [raw::RawReceiver::NONE; MOST_RECEIVERS];
@@ -268,13 +330,12 @@ impl Bus {
         let (bell, let_go) = (Bell::default(), Arc::<LetGo>::default());
         let senders = senders.into_iter().take(many);
         let receivers = receivers.into_iter().take(ears).enumerate();
-        let log_words = shape.log_words as usize;
         Ok((
             senders
                 .map(|raw| Sender::of_raw(raw, &bell, &let_go))
                 .collect(),
             receivers
-                .map(|(number, raw)| Receiver::of_raw(raw, number, log_words, &bell, &let_go))
+                .map(|(number, raw)| Receiver::of_raw(raw, number, &shape, &bell, &let_go))
                 .collect(),
         ))
     }

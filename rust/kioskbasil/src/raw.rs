@@ -43,6 +43,7 @@ pub struct Sizes {
     pub rows: u64,
     pub log_words: u64,
     pub again: bool,
+    pub ring: bool,
 }
 
 #[repr(C)]
@@ -80,6 +81,7 @@ pub struct ReceiverShown {
     pub known: u64,
     pub place: u64,
     pub has_ended: bool,
+    pub passed: u64,
 }
 
 #[repr(C)]
@@ -92,6 +94,7 @@ pub struct Left {
     pub tenures: u64,
     pub ended: bool,
     pub gone: [bool; MOST_SENDERS],
+    pub floor: u64,
 }
 
 impl Left {
@@ -103,6 +106,7 @@ impl Left {
         tenures: 0,
         ended: false,
         gone: [false; MOST_SENDERS],
+        floor: 0,
     };
 }
 
@@ -143,6 +147,7 @@ extern "C" {
     pub fn bus_c_begin_page(sender: *mut RawSender, senders: u64, left: *mut Left) -> u32;
     pub fn bus_c_note_sender(sender: *mut RawSender, number: u64, left: *mut Left) -> u32;
     pub fn bus_c_finish(sender: *mut RawSender, answer: *mut TurnAnswer) -> u32;
+    pub fn bus_c_has_room(sender: *mut RawSender) -> u32;
     pub fn bus_c_free_sender(sender: *mut RawSender);
     pub fn bus_c_hear_once(receiver: *mut RawReceiver, answer: *mut HeardAnswer) -> u32;
     pub fn bus_c_hear(

@@ -4,7 +4,7 @@ use crate::errors::{EndError, OtherBus};
 use crate::let_go::LetGo;
 use crate::raw;
 use crate::waiting::{BackOff, Polled};
-use crate::{Bell, Ended, Sender, Waiting, MOST_BYTES, MOST_SENDERS};
+use crate::{Bell, Ended, Sender, Shape, Waiting, MOST_BYTES, MOST_SENDERS};
 use std::cmp::Ordering;
 use std::ops::Deref;
 use std::sync::Arc;
@@ -112,6 +112,8 @@ const BATCH: usize = 32;
 /// `next_items` and `try_items` lend them where they lie, which copies none of them once more. All
 /// pass over that a sender has left: whoever uses `turn` alone is told each at its place, and
 /// `Ended` has all.
+///
+/// One that is dropped leaves a ring for good, and rings: no sender waits for it any more.
 pub struct Receiver {
     raw: raw::RawReceiver,
     ready: [Item; BATCH],
@@ -120,6 +122,8 @@ pub struct Receiver {
     ended: bool,
     /// How many words its bus's log can have.
     log_words: usize,
+    /// Of a ring the last passed place that it rang for.
+    passed: Option<u64>,
     bell: Bell,
     /// Its place at the bell.
     place: usize,
@@ -137,6 +141,9 @@ impl Drop for Receiver {
     fn drop(&mut self) {
         // SAFETY: the handle is this value's own.
         unsafe { raw::bus_c_free_receiver(&mut self.raw) }
+        if self.passed.is_some() {
+            self.bell.ring_in_drop();
+        }
     }
 }
 
@@ -144,7 +151,7 @@ impl Receiver {
     pub(crate) fn of_raw(
         raw: raw::RawReceiver,
         number: usize,
-        log_words: usize,
+        shape: &Shape,
         bell: &Bell,
         let_go: &Arc<LetGo>,
     ) -> Receiver {
@@ -154,7 +161,8 @@ impl Receiver {
             given: 0,
             many: 0,
             ended: false,
-            log_words,
+            log_words: shape.log_words as usize,
+            passed: shape.ring.then_some(0),
             bell: bell.clone(),
             place: MOST_SENDERS + number,
             let_go: let_go.clone(),
@@ -177,6 +185,35 @@ impl Receiver {
     /// How many of them it has read, those of items that wait in its batch too.
     pub fn place(&mut self) -> u64 {
         self.shown().place
+    }
+
+    /// Of a ring: how many words it has passed, which may be used again as far as it is concerned;
+    /// 0 of another bus. It passes a frame once it asks the bus again behind the frame's last item.
+    /// So items that wait in its batch may be passed already, and where it has taken 32 at once, the
+    /// frame of the last of them is held until it takes more. It shows which receiver is behind.
+    ///
+    /// ```
+    /// # use kioskbasil::{Bus, Shape};
+    /// let (mut senders, mut receivers) = Bus::open_ring(Shape::of(1, 1))?;
+    /// senders[0].send_all(["8 bytes!"])?;
+    /// assert_eq!(receivers[0].passed(), 0);
+    /// assert!(receivers[0].try_item().is_some());
+    /// assert_eq!(receivers[0].passed(), 3);
+    /// # Ok::<(), Box<dyn std::error::Error>>(())
+    /// ```
+    pub fn passed(&mut self) -> u64 {
+        self.shown().passed
+    }
+
+    /// Rings where it has passed words of a ring: a sender may wait for their room.
+    fn ring_if_passed(&mut self) {
+        if let Some(before) = self.passed {
+            let passed = self.passed();
+            if passed != before {
+                self.passed = Some(passed);
+                self.bell.ring();
+            }
+        }
     }
 
     /// One item that it has at hand.
@@ -209,9 +246,11 @@ impl Receiver {
             )
         };
         self.ended = code == 14;
+        self.ring_if_passed();
     }
 
-    /// One turn: one load. Items that wait in its batch are given first.
+    /// One turn: one load, or of a ring, behind a whole frame, one store by which its words may be
+    /// used again. Items that wait in its batch are given first.
     pub fn turn(&mut self) -> Heard {
         if let Some(item) = self.at_hand() {
             return Heard::Item(item);
@@ -222,7 +261,9 @@ impl Receiver {
             item: Item::NONE,
         };
         // SAFETY: as in `shown`.
-        match unsafe { raw::bus_c_hear_once(&mut self.raw, &mut told) } {
+        let code = unsafe { raw::bus_c_hear_once(&mut self.raw, &mut told) };
+        self.ring_if_passed();
+        match code {
             3 => Heard::Going,
             11 => Heard::Empty,
             12 => Heard::Head {
@@ -495,7 +536,9 @@ impl Receiver {
     }
 
     /// Ends the bus by this handle, where it is the last one. It takes memory for the words of the
-    /// log, as many as that can have until it is known how many it has.
+    /// log, as many as that can have until it is known how many it has. Of a ring the log begins at
+    /// `floor`, which is not past what this receiver has passed. Where other handles have a ring
+    /// still, it leaves.
     pub fn end(mut self) -> Result<Ended, EndError> {
         self.let_go.finish();
         let mut log = vec![0; self.log_words];
@@ -503,10 +546,11 @@ impl Receiver {
         // SAFETY: as in `shown`; the log has room for the longest one.
         match unsafe { raw::bus_c_end(&mut self.raw, log.as_mut_ptr(), log.len(), &mut left) } {
             0 => {
-                log.truncate(left.words as usize);
+                log.truncate((left.words - left.floor) as usize);
                 log.shrink_to_fit();
                 Ok(Ended {
                     log,
+                    floor: left.floor,
                     counts: left.counts,
                     bases: left.bases,
                     next: left.next,

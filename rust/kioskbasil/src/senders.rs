@@ -1,9 +1,9 @@
 //! Senders.
 
-use crate::errors::{CloseError, PutError, SendError, Unsent};
+use crate::errors::{CloseError, NeverFits, PutError, SendError, TrySendError, Unsent};
 use crate::let_go::LetGo;
 use crate::raw;
-use crate::waiting::{nap, wake_after, BackOff, Polled, Words};
+use crate::waiting::{nap, wake_after, BackOff, Polled, Words, LEAST_LOOKS, MOST_LOOKS};
 use crate::{Bell, Waiting, MOST_MESSAGES};
 use std::sync::Arc;
 use std::task::{Context, Poll};
@@ -45,7 +45,9 @@ pub enum Turn {
         /// The tenure of that frame.
         tenure: u64,
     },
-    /// Its frame does not fit the log. The batch is kept.
+    /// Its frame does not fit the log. The batch is kept. Of a ring it is to be tried again, once
+    /// the receivers have heard; each `Full` takes a tenure, so look by `has_room` first. A batch
+    /// longer than the log is `Full` for good.
     Full,
     /// The order has ended, or this sender had left.
     Closed,
@@ -149,7 +151,7 @@ impl Drop for Sender {
     fn drop(&mut self) {
         let raw = mem::replace(&mut self.raw, raw::RawSender::NONE);
         self.let_go.give_up(raw);
-        self.bell.ring();
+        self.bell.ring_in_drop();
     }
 }
 
@@ -506,7 +508,9 @@ impl Sender {
             let word = self.random.next();
             match self.turns(word) {
                 Turn::Waiting | Turn::Behind { .. } if !go_on() => return None,
-                Turn::Waiting => back_off.wait(&self.bell, usize::from(self.number)),
+                Turn::Waiting => {
+                    back_off.wait(&self.bell, usize::from(self.number));
+                }
                 Turn::Behind { .. } => back_off.wait_behind(self.behind),
                 Turn::Going | Turn::Lost { .. } | Turn::Own { .. } => back_off.carry_on(),
                 last => return Some(last),
@@ -514,8 +518,146 @@ impl Sender {
         }
     }
 
+    /// As `send`, but it waits for nobody: where another sender has to go on first, or there is no
+    /// room, that is an error, the batch is kept, and a later call goes on with it. So a worker that
+    /// sends and hears goes by a loop of `try_send` and of what hears.
+    ///
+    /// After `Behind` this sender holds the page, for which all others wait, and its batch may stand
+    /// in the order already. So hear what there is, by a call that waits for nothing, and come back.
+    ///
+    /// ```
+    /// use kioskbasil::{Bus, Shape, TrySendError, Turn};
+    ///
+    /// let (mut senders, mut receivers) = Bus::open_ring(Shape {
+    ///     log_words: 16,
+    ///     ..Shape::of(1, 1)
+    /// })?;
+    /// for number in 0..100 {
+    ///     senders[0].put(&[0; 40])?;
+    ///     let turn = loop {
+    ///         match senders[0].try_send() {
+    ///             Ok(turn) => break turn,
+    ///             Err(TrySendError::Full) => while receivers[0].try_item().is_some() {},
+    ///             Err(why) => return Err(why.into()),
+    ///         }
+    ///     };
+    ///     assert!(matches!(turn, Turn::Delivered { last, .. } if last == number));
+    /// }
+    /// # Ok::<(), Box<dyn std::error::Error>>(())
+    /// ```
+    #[must_use = "an error sends nothing, and neither does Spent"]
+    pub fn try_send(&mut self) -> Result<Turn, TrySendError> {
+        match self.send_while(|| false) {
+            Some(Turn::Full) if self.has_room().is_err() => Err(TrySendError::NeverFits),
+            Some(Turn::Full) => Err(TrySendError::Full),
+            Some(last) => Ok(last),
+            None if self.behind > 0 => Err(TrySendError::Behind),
+            None => Err(TrySendError::Waiting),
+        }
+    }
+
+    /// Whether a batch that waits had room, by a look at the length of the log and, of a ring, at the
+    /// passed places of all receivers. It is no turn. True is no promise: another sender may take
+    /// that room first. Of a bus that is no ring false is for good. It says nothing of use where
+    /// nothing waits, or after `Behind`, and it does not see that the order has ended: a turn does.
+    ///
+    /// ```
+    /// use kioskbasil::{Bus, NeverFits, Shape, Turn};
+    ///
+    /// let shape = Shape { log_words: 16, ..Shape::of(1, 1) };
+    /// let (mut senders, mut receivers) = Bus::open_ring(shape)?;
+    /// senders[0].send_all([[0; 56]])?;
+    /// senders[0].put(&[1; 56])?;
+    /// assert_eq!((senders[0].has_room(), senders[0].send()), (Ok(false), Turn::Full));
+    /// while receivers[0].try_item().is_some() {}
+    /// assert_eq!(senders[0].has_room(), Ok(true));
+    /// senders[0].put(&[2; 56])?;
+    /// assert_eq!(senders[0].has_room(), Err(NeverFits));
+    /// # Ok::<(), Box<dyn std::error::Error>>(())
+    /// ```
+    pub fn has_room(&mut self) -> Result<bool, NeverFits> {
+        // SAFETY: as in `shown`.
+        match unsafe { raw::bus_c_has_room(&mut self.raw) } {
+            0 => Ok(true),
+            7 => Ok(false),
+            53 => Err(NeverFits),
+            code => unreachable!("the archive answered {code}"),
+        }
+    }
+
+    /// As `send_while`, but that it goes on after `Full`: it waits for room, and sends again. Before
+    /// each look for room it asks `go_on` too. So it never gives `Full`. Now and then it takes a turn
+    /// all the same, since the order may have ended: after 64 looks, then 128, and so on up to 4,096,
+    /// and after it has slept for as long as it may. A batch that is longer than the log is an error
+    /// before the first turn. Of a bus that is no ring there is no more room after `Full`, and the
+    /// call goes on until it is told to stop, or another sender ends the order.
+    ///
+    /// It is for threads that only send: one that has to hear too hears while there is no room, as
+    /// with `try_send`.
+    ///
+    /// ```
+    /// use kioskbasil::{Bus, Shape, Turn};
+    ///
+    /// let shape = Shape { log_words: 16, ..Shape::of(1, 1) };
+    /// let (mut senders, mut receivers) = Bus::open_ring(shape)?;
+    /// let (mut sender, mut receiver) = (senders.remove(0), receivers.remove(0));
+    /// let hears = std::thread::spawn(move || receiver.by_ref().count());
+    /// for _ in 0..1000 {
+    ///     sender.put(b"8 bytes!")?;
+    ///     assert!(matches!(sender.send_when_room(|| true)?, Some(Turn::Delivered { .. })));
+    /// }
+    /// sender.close()?;
+    /// assert_eq!(sender.send_when_room(|| true), Ok(Some(Turn::Closed)));
+    /// assert_eq!(hears.join().unwrap(), 1000);
+    /// # Ok::<(), Box<dyn std::error::Error>>(())
+    /// ```
+    #[must_use = "None says that it was told to stop; Spent sends nothing"]
+    pub fn send_when_room(
+        &mut self,
+        mut go_on: impl FnMut() -> bool,
+    ) -> Result<Option<Turn>, NeverFits> {
+        self.has_room()?;
+        let mut back_off = BackOff::new(self.waiting);
+        let mut most = LEAST_LOOKS;
+        loop {
+            match self.send_while(&mut go_on) {
+                Some(Turn::Full) => {}
+                last => return Ok(last),
+            }
+            if !self.wait_for_room(&mut back_off, most, &mut go_on)? {
+                return Ok(None);
+            }
+            most = (2 * most).min(MOST_LOOKS);
+        }
+    }
+
+    /// Looks until there is room, or for so many times, or until it has slept for as long as it may.
+    /// False where it is told to stop.
+    fn wait_for_room(
+        &mut self,
+        back_off: &mut BackOff,
+        most: u32,
+        mut go_on: impl FnMut() -> bool,
+    ) -> Result<bool, NeverFits> {
+        for _ in 0..most {
+            if !go_on() {
+                return Ok(false);
+            }
+            if self.has_room()? {
+                back_off.carry_on();
+                break;
+            }
+            if back_off.wait(&self.bell, usize::from(self.number)) {
+                break;
+            }
+        }
+        Ok(true)
+    }
+
     /// As `send`, for tasks: where another sender has to go on first, the task is woken once it may
-    /// have done so.
+    /// have done so. Nothing wakes a task that waits for room: `Full` is an answer. So a task that
+    /// hears a ring too tries again after an item that it heard, and one that only sends goes by
+    /// `send_when_room` on a thread that may block.
     pub fn poll_send(&mut self, context: &mut Context<'_>) -> Poll<Turn> {
         let mut listens = false;
         loop {
@@ -538,7 +680,8 @@ impl Sender {
     }
 
     /// As `send`, for tasks. Where the future is dropped the batch is kept, and any later turn goes
-    /// on with it. It keeps nobody waiting meanwhile, but where the last turn answered `Behind`.
+    /// on with it. It keeps nobody waiting meanwhile, but where the last turn answered `Behind`. It
+    /// does not wait for room: see `poll_send`.
     #[allow(unused_attributes)] // before Rust 1.67 the next one said nothing of an async function
     #[must_use = "Full and Spent send nothing"]
     pub async fn send_async(&mut self) -> Turn {
@@ -565,7 +708,8 @@ impl Sender {
     }
 
     /// Sends what waits, a close or a leave too, and then these, in their order, in batches of at
-    /// most 16. Ok says that nothing waits any more.
+    /// most 16. Ok says that nothing waits any more. It does not wait for room: of a ring, after
+    /// `Full`, hear and go on with the messages behind `put`.
     ///
     /// ```
     /// use kioskbasil::{Bus, SendError, Shape, Turn};

@@ -6,7 +6,7 @@ use std::future::Future;
 use std::hash::{BuildHasher, Hasher};
 use std::pin::Pin;
 use std::task::{Context, Poll, Waker};
-use std::time::Duration;
+use std::time::{Duration, Instant};
 use std::{hint, thread};
 
 /// How a thread waits in the calls of a handle that wait.
@@ -24,6 +24,11 @@ pub enum Waiting {
 /// After how many looks a thread yields, and after how many it sleeps.
 const SPINS: u32 = 6;
 const YIELDS: u32 = 64;
+
+/// How many looks for room there are between two turns, at the least and at the most. A look does not
+/// see that the order has ended, and a turn does.
+pub(crate) const LEAST_LOOKS: u32 = 64;
+pub(crate) const MOST_LOOKS: u32 = 4096;
 
 /// A thread sleeps so long at most: who is to ring may be stopped before it does, and what the
 /// program asks between two looks may take the wake-up for its own.
@@ -46,16 +51,20 @@ impl BackOff {
     }
 
     /// Waits for the bell: spins, then yields, then listens, so that the caller looks once more,
-    /// and then sleeps.
-    pub(crate) fn wait(&mut self, bell: &Bell, place: usize) {
+    /// and then sleeps. True says that it has slept for as long as it may.
+    pub(crate) fn wait(&mut self, bell: &Bell, place: usize) -> bool {
         if self.backs_off() {
-            return;
+            return false;
         }
+        let mut is_long = false;
         if self.listens {
+            let begin = Instant::now();
             thread::park_timeout(LONGEST_SLEEP);
+            is_long = begin.elapsed() >= LONGEST_SLEEP;
         }
         bell.listen_here(place);
         self.listens = true;
+        is_long
     }
 
     /// Waits for a sender that is in the middle of its turns, which no ring follows.

@@ -19,6 +19,7 @@ fn eight_threads_hear_one_order() {
             rows: if again { 8 } else { 256 },
             log_words: 65_536,
             again,
+            ring: false,
         };
         let (senders, receivers) = Bus::open(shape).unwrap();
         let sending: Vec<_> = senders

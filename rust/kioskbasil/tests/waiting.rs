@@ -313,6 +313,28 @@ fn a_waker_that_panics_leaves_nobody_asleep() {
     assert!(receivers.iter_mut().all(|r| r.try_item().is_some()));
 }
 
+/// Handles are dropped by a panic while such a waker listens: that ends no process.
+#[test]
+fn a_waker_that_panics_in_a_drop() {
+    let (mut senders, mut receivers) = Bus::open_ring(Shape::of(1, 3)).unwrap();
+    let waker = Waker::from(Arc::new(Fault));
+    let (sender, dropped) = (senders.remove(0), receivers.remove(0));
+    let mut drop_by_panic = |held: Box<dyn std::any::Any>| {
+        let polled = receivers[0].poll_item(&mut Context::from_waker(&waker));
+        assert_eq!(polled, Poll::Pending);
+        let fault = panic::catch_unwind(AssertUnwindSafe(|| {
+            let _held = held;
+            panic!("another fault, which is to be seen");
+        }));
+        assert_eq!(
+            fault.unwrap_err().downcast_ref(),
+            Some(&"another fault, which is to be seen")
+        );
+    };
+    drop_by_panic(Box::new(dropped));
+    drop_by_panic(Box::new(sender));
+}
+
 /// Who waits for the page of a sender that was dropped is woken once the other has gone on.
 #[test]
 fn a_task_waits_for_a_page_that_was_let_go() {

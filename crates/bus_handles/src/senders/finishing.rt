@@ -32,8 +32,8 @@ impl<Q: Ratifier + Drop, R: Rng + Drop> SenderHandle<Q, R> {
     /// Else it gives the answer of the last of these turns, with which the tenure has ended for
     /// it: Delivered, Left, Lost, Full, Closed, or, where rows are used again and it came too late
     /// for the tenure, Waiting. A batch that is not in the order is kept, and another `send` goes
-    /// on with it. Or it is Behind, where another sender's pin is in the way: then it holds the
-    /// page still, and may be asked again.
+    /// on with it; after Full of a ring, once the receivers have heard. Or it is Behind, where
+    /// another sender's pin is in the way: then it holds the page still, and may be asked again.
     ///
     /// It waits for nobody: it takes at most the words of a frame, of a row and of its election,
     /// the presences, and a few turns more. Each vote takes one word of its generator.

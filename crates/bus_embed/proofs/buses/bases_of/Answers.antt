@@ -1,4 +1,4 @@
-use Rattle.std.proofs.Common.{slice_index, ◌∙◌, arith}
+use Rattle.std.proofs.Common.{◌≡◌, slice_index, ◌∙◌, arith}
 use Rattle.std.proofs.lemmas.List.{length-set}
 use Rattle.bus_embed.proofs.FillLaws.{one_place_more}
 use Rattle.bus_embed.proofs.buses.bases_of.Goals as goal
@@ -11,6 +11,6 @@ loop-place-preserved c =
     let bases = c.loop-place.bases in
     let place = c.loop-place.place in (
       length-set bases place c.base.result ∙ long,
-      one_place_more firsts bases place c.base.result (omega (arith, long, test))
+      one_place_more (λ s n. n ≡ firsts s) bases place c.base.result (omega (arith, long, test))
           c.loop-place.invariant.1 c.base.ensures.base,
     )
