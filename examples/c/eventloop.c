@@ -1,6 +1,6 @@
 /* An event loop of poll(2) with a bus among what it waits for: it sends the lines that come over a
    pipe, and prints the messages of the order, while another thread sends too. Once it has heard all
-   of them it closes. The loop waits in poll alone. */
+   of them it closes. The loop waits in poll alone. The log is a ring of 16 words. */
 #include "kioskbasil.h"
 #include "waiting.h"
 #include <poll.h>
@@ -18,14 +18,15 @@ static void pause_a_little(void) {
     nanosleep(&pause, NULL);
 }
 
-/* A thread that sends by calls that wait. */
+/* A thread that only sends, by calls that wait, for room too. */
 static void *tick(void *given) {
     kioskbasil_sender *sender = given;
     uint64_t seed = 2;
     for (int i = 0; i < TICKS; i++) {
         pause_a_little();
-        kioskbasil_put(sender, "tick", 4, NULL);
-        if (send_batch(sender, &seed, NULL, &bell) != KIOSKBASIL_DELIVERED) return sender;
+        if (kioskbasil_put(sender, "tick", 4, NULL) != KIOSKBASIL_OK) return sender;
+        if (send_when_room(sender, &seed, NULL, &bell, NULL, NULL) != KIOSKBASIL_DELIVERED)
+            return sender;
     }
     return NULL;
 }
@@ -39,13 +40,14 @@ static void *write_lines(void *given) {
     return NULL;
 }
 
-/* Prints what is there, and counts it; the last code. */
+/* Prints what is there, and counts it; the last code. Of a ring it rings: a sender may wait for the
+   room, also that of this loop. */
 static uint32_t print_items(kioskbasil_receiver *receiver, size_t *heard) {
     kioskbasil_item items[16];
     size_t many;
     uint32_t code;
     do {
-        code = kioskbasil_hear(receiver, items, 16, &many);
+        code = hear_now(receiver, items, 16, &many, &bell);
         for (size_t i = 0; i < many; i++)
             printf("%d: %.*s\n", items[i].sender, items[i].length, (char *)items[i].bytes);
         *heard += many;
@@ -53,32 +55,47 @@ static uint32_t print_items(kioskbasil_receiver *receiver, size_t *heard) {
     return code;
 }
 
-/* Waits in poll for the bell and for lines, until the order has ended. */
+/* Sends what waits, and waits for nothing. After FULL it takes no turn before a look has found room,
+   since each FULL takes a tenure. That the order has ended meanwhile is heard. */
+static uint32_t send_if_room(kioskbasil_sender *sender, uint64_t *seed, uint32_t sent) {
+    if (sent == KIOSKBASIL_FULL && kioskbasil_has_room(sender) == KIOSKBASIL_FULL) return sent;
+    return send_now(sender, seed, NULL, &bell);
+}
+
+/* Takes a line and puts it. The code; EMPTY where there is none. */
+static uint32_t take_line(kioskbasil_sender *sender, int lines) {
+    char line[4];
+    if (read(lines, line, sizeof line) != sizeof line) return KIOSKBASIL_EMPTY;
+    return kioskbasil_put(sender, line, sizeof line, NULL);
+}
+
+/* Waits in poll for the bell and for lines, until the order has ended: END. */
 static uint32_t loop(kioskbasil_sender *sender, kioskbasil_receiver *receiver, int lines) {
     struct pollfd polled[2] = {{bell_descriptor(&bell), POLLIN, 0}, {lines, POLLIN, 0}};
+    uint32_t sent = KIOSKBASIL_IDLE, code = KIOSKBASIL_EMPTY;
     uint64_t seed = 1;
     size_t heard = 0;
-    if (polled[0].fd < 0) return KIOSKBASIL_EMPTY;
-    for (;;) {
-        char line[4];
+    while (polled[0].fd >= 0) {
         bell_hush(&bell, polled[0].fd);
-        uint32_t sent = send_now(sender, &seed, NULL, &bell);
-        uint32_t code = print_items(receiver, &heard);
-        if (code != KIOSKBASIL_EMPTY || kioskbasil_refused(sent)) {
-            close(polled[0].fd);
-            return code;
-        }
-        if (heard == LINES + TICKS && kioskbasil_close(sender) == KIOSKBASIL_OK) continue;
-        /* A line is taken once the one before is sent. Behind another sender there is no ring. */
-        polled[1].fd = sent == KIOSKBASIL_WAITING || sent == KIOSKBASIL_BEHIND ? -1 : lines;
-        if (poll(polled, 2, sent == KIOSKBASIL_BEHIND ? 1 : -1) < 0) return KIOSKBASIL_EMPTY;
-        if (polled[1].revents & POLLIN && read(lines, line, sizeof line) == sizeof line)
-            kioskbasil_put(sender, line, sizeof line, NULL);
+        code = print_items(receiver, &heard);
+        if (code != KIOSKBASIL_EMPTY) break;
+        if (heard == LINES + TICKS) kioskbasil_close(sender); /* refused where it waits already */
+        sent = send_if_room(sender, &seed, sent);
+        if (kioskbasil_refused(code = sent)) break;
+        /* A line is taken once the one before is sent, so that its put is not refused. Behind another
+           sender there is no ring. */
+        polled[1].fd = sent == KIOSKBASIL_IDLE || sent == KIOSKBASIL_DELIVERED ? lines : -1;
+        if (poll(polled, 2, sent == KIOSKBASIL_BEHIND ? 1 : -1) < 0) break;
+        if (polled[1].fd >= 0 && polled[1].revents & POLLIN &&
+            (code = take_line(sender, lines)) != KIOSKBASIL_OK)
+            break;
     }
+    if (polled[0].fd >= 0) close(polled[0].fd);
+    return code;
 }
 
 int main(void) {
-    kioskbasil_sizes sizes = {.rounds = 2, .rows = 8, .log_words = 4096, .again = true};
+    kioskbasil_sizes sizes = {.rounds = 2, .rows = 8, .log_words = 16, .ring = true};
     kioskbasil_sender senders[2] = {KIOSKBASIL_NONE};
     kioskbasil_receiver receivers[1] = {KIOSKBASIL_NONE};
     kioskbasil_left left;

@@ -3,7 +3,7 @@
    -std=gnu11.
 
    Each bus has a bell, which its threads share: a thread that waits sleeps until it rings. The calls
-   below that send ring it. So all threads of a bus give them the same bell, or all give NULL: then
+   below ring it. So all threads of a bus give them the same bell, or all give NULL: then
    who waits looks again every 0.1 ms. No thread is cancelled (pthread_cancel) in any of these. */
 #ifndef KIOSKBASIL_WAITING_H
 #define KIOSKBASIL_WAITING_H
@@ -38,9 +38,10 @@ struct bell {
 
 #define BELL_NEW {0, PTHREAD_MUTEX_INITIALIZER, PTHREAD_COND_INITIALIZER, -1}
 
-/* Rings: whoever listens looks at the bus again. Only two need it: who takes turns by hand, once
-   one was answered DELIVERED, LEFT, CLOSED, FULL or BEHIND; and who makes a go_on say no. It is not
-   for signal handlers. */
+/* Rings: whoever listens looks at the bus again. Only these need it: who takes turns by hand, once
+   one was answered DELIVERED, LEFT, CLOSED, FULL or BEHIND; who hears a ring by kioskbasil_hear or
+   kioskbasil_hear_once; who gives a receiver of a ring up by kioskbasil_free_receiver, or is
+   answered IN_USE by kioskbasil_end; and who makes a go_on say no. It is not for signal handlers. */
 static inline void bell_ring(struct bell *bell) {
     int event;
     if (!(__atomic_fetch_add(&bell->rings, 2, __ATOMIC_SEQ_CST) & 1)) return;
@@ -110,6 +111,9 @@ static inline void bell_free(struct bell *bell) {
 
 enum { WAITING_SPINS = 6, WAITING_YIELDS = 64, WAITING_NAP = 100000, WAITING_DOUBLED = 7 };
 
+/* How many looks for room there are between two turns, at the least and at the most. */
+enum { LEAST_LOOKS = 64, MOST_LOOKS = 4096 };
+
 /* It starts as zeros. */
 struct waiter {
     unsigned step;
@@ -137,15 +141,18 @@ static inline bool back_off(unsigned *step) {
     return true;
 }
 
-/* Waits for the bell: backs off, then listens, so that the caller looks once more, then sleeps. */
-static inline void wait_for(struct bell *bell, struct waiter *waiter) {
-    if (back_off(&waiter->step)) return;
+/* Waits for the bell: backs off, then listens, so that the caller looks once more, then sleeps. True
+   says that it has slept and no ring came. */
+static inline bool wait_for(struct bell *bell, struct waiter *waiter) {
+    uint64_t before = waiter->heard;
+    if (back_off(&waiter->step)) return false;
     if (!bell) {
         take_nap(0);
-        return;
+        return false;
     }
-    if (waiter->heard) bell_sleep(bell, waiter->heard);
+    if (before) bell_sleep(bell, before);
     waiter->heard = bell_listen(bell);
+    return waiter->heard == before;
 }
 
 /* Waits for a sender that is in the middle of its turns, behind which no ring comes: backs off, and
@@ -227,13 +234,55 @@ static inline bool no_waiting(void *given) {
 }
 
 /* As send_batch, but it waits for nothing, as an event loop wants it: also WAITING, and then the
-   bell will ring; or BEHIND, after which it is to be called again within a millisecond or so. */
+   bell will ring; or BEHIND, after which it is to be called again within a millisecond or so. After
+   FULL of a ring the bell rings once a receiver has passed words or is given up, if all hear by
+   hear_now or one of the calls over it: so hear, and call again once kioskbasil_has_room says OK.
+   After FULL of another bus nothing follows. */
 static inline uint32_t send_now(kioskbasil_sender *sender, uint64_t *seed,
                                 kioskbasil_turn_answer *answer, struct bell *bell) {
     return send_while(sender, seed, answer, bell, no_waiting, NULL);
 }
 
-/* Closes, and sends that: KIOSKBASIL_CLOSED where the order has ended then; else why not. */
+/* Waits for room, after FULL: KIOSKBASIL_OK, or FULL where go_on(given) says no. A look does not
+   see that the order has ended, so it is OK also after `most` looks, and after a sleep in which no
+   ring came: the next turn sees it. */
+static inline uint32_t wait_for_room(kioskbasil_sender *sender, struct bell *bell,
+                                     struct waiter *waiter, unsigned most,
+                                     bool (*go_on)(void *given), void *given) {
+    for (unsigned looks = 0;; looks++) {
+        if (go_on && !go_on(given)) return KIOSKBASIL_FULL;
+        if (kioskbasil_has_room(sender) == KIOSKBASIL_OK) {
+            carry_on(waiter);
+            return KIOSKBASIL_OK;
+        }
+        if (looks == most || wait_for(bell, waiter)) return KIOSKBASIL_OK;
+    }
+}
+
+/* As send_while, but of a ring it goes on after FULL: it waits for room, and sends again. It asks
+   go_on(given) then too, before each look for room, and answers FULL where that says no. Now and
+   then it takes a turn all the same, since the order may have ended: after 64 looks, then 128, and
+   so on up to 4,096, and after a sleep in which no ring came. A batch that is longer than the log is
+   answered KIOSKBASIL_NEVER_FITS before the first turn. Of a bus that is no ring there is no more
+   room after FULL: it goes on until go_on says no, or another sender ends the order.
+
+   It is for threads that only send: who has to hear too goes by send_now, and hears while that
+   answers FULL. */
+static inline uint32_t send_when_room(kioskbasil_sender *sender, uint64_t *seed,
+                                      kioskbasil_turn_answer *answer, struct bell *bell,
+                                      bool (*go_on)(void *given), void *given) {
+    struct waiter waiter = {0, 0, 0};
+    uint32_t code = kioskbasil_has_room(sender);
+    if (kioskbasil_refused(code)) return code;
+    for (unsigned most = LEAST_LOOKS;; most = most < MOST_LOOKS ? 2 * most : most) {
+        code = send_while(sender, seed, answer, bell, go_on, given);
+        if (code != KIOSKBASIL_FULL) return code;
+        if (wait_for_room(sender, bell, &waiter, most, go_on, given) != KIOSKBASIL_OK) return code;
+    }
+}
+
+/* Closes, and sends that: KIOSKBASIL_CLOSED where the order has ended then; else why not. Where that
+   is FULL of a ring, hear, and send what waits; who only sends goes by send_when_room. */
 static inline uint32_t end_order(kioskbasil_sender *sender, uint64_t *seed, struct bell *bell) {
     uint32_t code = kioskbasil_close(sender);
     return code == KIOSKBASIL_OK ? send_batch(sender, seed, NULL, bell) : code;
@@ -262,6 +311,25 @@ static inline uint32_t free_sender(kioskbasil_sender *sender, struct bell *bell)
 
 /* ---- receivers */
 
+/* As kioskbasil_hear, and rings where the receiver has passed words of a ring: a sender may wait for
+   their room. */
+static inline uint32_t hear_now(kioskbasil_receiver *receiver, kioskbasil_item *items, size_t room,
+                                size_t *many, struct bell *bell) {
+    kioskbasil_receiver_shown before = {0, 0, false, 0}, after = before;
+    uint32_t code;
+    if (bell) kioskbasil_show_receiver(receiver, &before);
+    code = kioskbasil_hear(receiver, items, room, many);
+    if (bell) kioskbasil_show_receiver(receiver, &after);
+    if (after.passed != before.passed) bell_ring(bell);
+    return code;
+}
+
+/* As kioskbasil_free_receiver, and rings: of a ring it leaves, and others may have room. */
+static inline void free_receiver(kioskbasil_receiver *receiver, struct bell *bell) {
+    kioskbasil_free_receiver(receiver);
+    if (bell) bell_ring(bell);
+}
+
 /* As hear_some, but it can be told to stop: each time nothing is there it asks go_on(given), and
    answers KIOSKBASIL_EMPTY, with *many 0, where that says no. Whoever makes it do so rings the
    bell. */
@@ -270,7 +338,7 @@ static inline uint32_t hear_while(kioskbasil_receiver *receiver, kioskbasil_item
                                   bool (*go_on)(void *given), void *given) {
     struct waiter waiter = {0, 0, 0};
     for (;;) {
-        uint32_t code = kioskbasil_hear(receiver, items, room, many);
+        uint32_t code = hear_now(receiver, items, room, many, bell);
         if (code != KIOSKBASIL_EMPTY || *many > 0) return code;
         if (go_on && !go_on(given)) return code;
         wait_for(bell, &waiter);
@@ -279,7 +347,7 @@ static inline uint32_t hear_while(kioskbasil_receiver *receiver, kioskbasil_item
 
 /* Hears until there is an item or the end: KIOSKBASIL_GOING or EMPTY with *many above 0, or END,
    with *many items before it. There is room for one item at least: with none it answers GOING, with
-   *many 0, for good. */
+   *many 0, for good. After GOING the frame of the last item may be held: the next call passes it. */
 static inline uint32_t hear_some(kioskbasil_receiver *receiver, kioskbasil_item *items, size_t room,
                                  size_t *many, struct bell *bell) {
     return hear_while(receiver, items, room, many, bell, NULL, NULL);
