@@ -26,7 +26,7 @@ static void expect(int line, const char *what, uint64_t is, uint64_t wanted) {
 static void bad_shapes(void) {
     kioskbasil_sender s[65] = {KIOSKBASIL_NONE};
     kioskbasil_receiver r[9] = {KIOSKBASIL_NONE};
-    kioskbasil_sizes good = {1, 2, 16, false}, bad = good;
+    kioskbasil_sizes good = {1, 2, 16, false, false}, bad = good;
     EXPECT(kioskbasil_open(&good, s, 0, r, 1), KIOSKBASIL_BAD_SENDERS);
     EXPECT(kioskbasil_open(&good, s, 65, r, 9), KIOSKBASIL_BAD_SENDERS);
     EXPECT(kioskbasil_open(&good, s, 1, r, 0), KIOSKBASIL_BAD_RECEIVERS);
@@ -37,12 +37,19 @@ static void bad_shapes(void) {
     EXPECT(kioskbasil_open(&bad, s, 1, r, 1), KIOSKBASIL_BAD_ROWS);
     bad.again = true, bad.rows = 9;
     EXPECT(kioskbasil_open(&bad, s, 1, r, 1), KIOSKBASIL_BAD_ROWS);
+    bad.again = false;
+    EXPECT(kioskbasil_open_ring(&bad, s, 1, r, 1), KIOSKBASIL_BAD_ROWS);
+    bad.rows = 1;
+    EXPECT(kioskbasil_open_ring(&bad, s, 1, r, 1), KIOSKBASIL_BAD_ROWS);
     bad = good, bad.log_words = 15;
     EXPECT(kioskbasil_open(&bad, s, 1, r, 1), KIOSKBASIL_BAD_LOG_WORDS);
     bad.log_words = 65537;
     EXPECT(kioskbasil_open(&bad, s, 1, r, 1), KIOSKBASIL_BAD_LOG_WORDS);
     for (int i = 0; i < 9; i++) EXPECT(s[i].live + r[i].live, 0);
 }
+
+/* Random words for kioskbasil_try_send, of a seed. */
+static uint32_t word_of(void *seed) { return next_word(seed); }
 
 /* Every call of an empty handle, and with NULL. */
 static void no_handles(void) {
@@ -54,7 +61,7 @@ static void no_handles(void) {
     kioskbasil_heard heard;
     kioskbasil_item item;
     kioskbasil_left left;
-    kioskbasil_sizes sizes = {1, 2, 16, false};
+    kioskbasil_sizes sizes = {1, 2, 16, false, false};
     kioskbasil_sender other = KIOSKBASIL_NONE;
     kioskbasil_receiver ear = KIOSKBASIL_NONE;
     int32_t order = 7;
@@ -89,6 +96,13 @@ static void no_handles(void) {
     EXPECT(kioskbasil_open(NULL, &s, 1, &r, 1), KIOSKBASIL_NULL);
     EXPECT(kioskbasil_open(&sizes, NULL, 1, &r, 1), KIOSKBASIL_NULL);
     EXPECT(kioskbasil_open(&sizes, &s, 1, NULL, 1), KIOSKBASIL_NULL);
+    EXPECT(kioskbasil_open_ring(NULL, &s, 1, &r, 1), KIOSKBASIL_NULL);
+    EXPECT(kioskbasil_open_ring(&sizes, &s, 1, NULL, 1), KIOSKBASIL_NULL);
+    EXPECT(kioskbasil_has_room(&s), KIOSKBASIL_EMPTY_HANDLE);
+    EXPECT(kioskbasil_has_room(NULL), KIOSKBASIL_NULL);
+    EXPECT(kioskbasil_try_send(&s, word_of, &number, &turn), KIOSKBASIL_EMPTY_HANDLE);
+    EXPECT(kioskbasil_try_send(&s, NULL, &number, &turn), KIOSKBASIL_NULL);
+    EXPECT(kioskbasil_try_send(NULL, word_of, &number, &turn), KIOSKBASIL_NULL);
     EXPECT(kioskbasil_put(NULL, "x", 1, &number), KIOSKBASIL_NULL);
     EXPECT(kioskbasil_put(&s, NULL, 1, &number), KIOSKBASIL_NULL);
     EXPECT(kioskbasil_close(NULL), KIOSKBASIL_NULL);
@@ -111,9 +125,9 @@ static void no_handles(void) {
     EXPECT(kioskbasil_senders_page(NULL, 1, &left), KIOSKBASIL_NULL);
     EXPECT(kioskbasil_senders_page(&s, 0, &left), KIOSKBASIL_NULL);
     EXPECT(kioskbasil_senders_page(&s, 1, NULL), KIOSKBASIL_NULL);
-    for (uint32_t code = 0; code <= KIOSKBASIL_UNANSWERED + 1; code++) {
+    for (uint32_t code = 0; code <= KIOSKBASIL_NEVER_FITS + 1; code++) {
         int named = code <= KIOSKBASIL_LEAVE ||
-                    (code >= KIOSKBASIL_BAD_SENDERS && code <= KIOSKBASIL_UNANSWERED);
+                    (code >= KIOSKBASIL_BAD_SENDERS && code <= KIOSKBASIL_NEVER_FITS);
         EXPECT(strcmp(kioskbasil_text(code), "no code of this version") != 0, named);
         EXPECT(kioskbasil_refused(code), code >= 32);
     }
@@ -123,7 +137,7 @@ static void no_handles(void) {
 static void one_sender(bool again) {
     kioskbasil_sender s[1] = {KIOSKBASIL_NONE};
     kioskbasil_receiver r[2] = {KIOSKBASIL_NONE};
-    kioskbasil_sizes sizes = {1, again ? 2 : 3, 64, again};
+    kioskbasil_sizes sizes = {1, again ? 2 : 3, 64, again, false};
     kioskbasil_turn_answer turn;
     kioskbasil_sender_shown sender;
     kioskbasil_receiver_shown receiver;
@@ -206,7 +220,7 @@ static void one_sender(bool again) {
 static void ends(void) {
     kioskbasil_sender s[1] = {KIOSKBASIL_NONE};
     kioskbasil_receiver r[1] = {KIOSKBASIL_NONE};
-    kioskbasil_sizes sizes = {1, 1, 16, false};
+    kioskbasil_sizes sizes = {1, 1, 16, false, false};
     kioskbasil_left left;
     uint64_t seed = 5;
     uint8_t big[56] = {0};
@@ -226,7 +240,7 @@ static void ends(void) {
 static void last_sender(void) {
     kioskbasil_sender s[KIOSKBASIL_MOST_SENDERS] = {KIOSKBASIL_NONE};
     kioskbasil_receiver r[1] = {KIOSKBASIL_NONE};
-    kioskbasil_sizes sizes = {1, 1, 64, false};
+    kioskbasil_sizes sizes = {1, 1, 64, false, false};
     kioskbasil_left left;
     uint64_t seed = 3, log[3] = {0};
     EXPECT(kioskbasil_open(&sizes, s, KIOSKBASIL_MOST_SENDERS, r, 1), KIOSKBASIL_OK);
@@ -251,7 +265,7 @@ static void send_one(kioskbasil_sender *s, uint64_t wanted, uint64_t *seed) {
 static void two_sittings(bool again, bool then) {
     kioskbasil_sender s[2] = {KIOSKBASIL_NONE};
     kioskbasil_receiver r[1] = {KIOSKBASIL_NONE};
-    kioskbasil_sizes sizes = {1, 4, 64, again};
+    kioskbasil_sizes sizes = {1, 4, 64, again, false};
     kioskbasil_left left, high;
     kioskbasil_item items[4];
     uint64_t seed = 11;
@@ -292,7 +306,7 @@ static void two_sittings(bool again, bool then) {
 
 /* How many words of the log the receiver knows, and how many it has read. */
 static void expect_known(int line, kioskbasil_receiver *r, uint64_t known, uint64_t place) {
-    kioskbasil_receiver_shown shown = {0, 0, false};
+    kioskbasil_receiver_shown shown = {0, 0, false, 0};
     expect(line, "show_receiver", kioskbasil_show_receiver(r, &shown), KIOSKBASIL_OK);
     expect(line, "known", shown.known, known);
     expect(line, "place", shown.place, place);
@@ -311,7 +325,7 @@ static uint64_t pending(kioskbasil_sender *s) {
 static void several_turns(bool again) {
     kioskbasil_sender s[2] = {KIOSKBASIL_NONE};
     kioskbasil_receiver r[1] = {KIOSKBASIL_NONE};
-    kioskbasil_sizes sizes = {4, 8, 256, again};
+    kioskbasil_sizes sizes = {4, 8, 256, again, false};
     kioskbasil_turn_answer turn = {7, 7, 7, 7};
     EXPECT(kioskbasil_open(&sizes, s, 2, r, 1), KIOSKBASIL_OK);
     EXPECT(kioskbasil_turns(s, 0, &turn), KIOSKBASIL_IDLE);
@@ -333,7 +347,7 @@ static void several_turns(bool again) {
 /* They stop before each turn that uses a random word, and nowhere else with GOING. Two senders take
    some single turns each, so that they have to vote in some of these sittings. */
 static void turns_that_vote(bool again) {
-    kioskbasil_sizes sizes = {4, 8, 256, again};
+    kioskbasil_sizes sizes = {4, 8, 256, again, false};
     kioskbasil_sender_shown shown;
     uint64_t seed = 37, votes = 0;
     for (int sitting = 0; sitting < 300; sitting++) {
@@ -363,7 +377,7 @@ static void turns_that_vote(bool again) {
 static void telling(bool again) {
     kioskbasil_sender s[2] = {KIOSKBASIL_NONE};
     kioskbasil_receiver r[2] = {KIOSKBASIL_NONE};
-    kioskbasil_sizes sizes = {1, 8, 64, again};
+    kioskbasil_sizes sizes = {1, 8, 64, again, false};
     kioskbasil_item items[4];
     uint64_t seed = 23;
     int32_t order = 7;
@@ -409,7 +423,7 @@ static void telling(bool again) {
 static void apart(bool again) {
     kioskbasil_sender s[2] = {KIOSKBASIL_NONE}, none = KIOSKBASIL_NONE;
     kioskbasil_receiver r[2] = {KIOSKBASIL_NONE}, deaf = KIOSKBASIL_NONE;
-    kioskbasil_sizes sizes = {1, 8, 64, again};
+    kioskbasil_sizes sizes = {1, 8, 64, again, false};
     uint64_t seed = 29;
     int32_t order = 7;
     for (int i = 0; i < 2; i++) EXPECT(kioskbasil_open(&sizes, &s[i], 1, &r[i], 1), KIOSKBASIL_OK);
@@ -441,7 +455,7 @@ static void apart(bool again) {
 static void carrying(bool again) {
     kioskbasil_sender s[3] = {KIOSKBASIL_NONE}, new[2] = {KIOSKBASIL_NONE};
     kioskbasil_receiver r[1] = {KIOSKBASIL_NONE}, ear[1] = {KIOSKBASIL_NONE};
-    kioskbasil_sizes sizes = {1, 8, 64, again};
+    kioskbasil_sizes sizes = {1, 8, 64, again, false};
     kioskbasil_item items[4];
     kioskbasil_left left, over;
     uint64_t seed = 31, number = 0;
@@ -501,7 +515,7 @@ static void carrying_later(bool again) {
     kioskbasil_sender s[3] = {KIOSKBASIL_NONE}, t[2] = {KIOSKBASIL_NONE}, u[3] = {KIOSKBASIL_NONE};
     kioskbasil_receiver r[1] = {KIOSKBASIL_NONE}, q[1] = {KIOSKBASIL_NONE};
     kioskbasil_receiver v[1] = {KIOSKBASIL_NONE};
-    kioskbasil_sizes sizes = {1, 8, 64, again};
+    kioskbasil_sizes sizes = {1, 8, 64, again, false};
     kioskbasil_item items[4];
     kioskbasil_left left, over;
     uint64_t seed = 43, number = 0;
@@ -544,7 +558,7 @@ static void carrying_later(bool again) {
 static void no_page(bool again) {
     kioskbasil_sender s[2] = {KIOSKBASIL_NONE};
     kioskbasil_receiver r[2] = {KIOSKBASIL_NONE};
-    kioskbasil_sizes sizes = {1, 8, 64, again};
+    kioskbasil_sizes sizes = {1, 8, 64, again, false};
     kioskbasil_left left;
     uint64_t seed = 47;
     EXPECT(kioskbasil_open(&sizes, s, 2, r, 1), KIOSKBASIL_OK);
@@ -575,7 +589,7 @@ static void no_page(bool again) {
 static void carrying_within_a_tenure(bool again) {
     kioskbasil_sender s[1] = {KIOSKBASIL_NONE}, full[1] = {KIOSKBASIL_NONE};
     kioskbasil_receiver r[1] = {KIOSKBASIL_NONE}, ear[1] = {KIOSKBASIL_NONE};
-    kioskbasil_sizes sizes = {1, 8, 64, again};
+    kioskbasil_sizes sizes = {1, 8, 64, again, false};
     kioskbasil_item items[4];
     size_t many = 0;
     int out = 0, heard_while_out = 0;
@@ -606,7 +620,7 @@ static void carried_once(bool again) {
     for (int turns = 1; turns < 6; turns++) {
         kioskbasil_sender s[1] = {KIOSKBASIL_NONE}, t[1] = {KIOSKBASIL_NONE};
         kioskbasil_receiver r[1] = {KIOSKBASIL_NONE}, q[1] = {KIOSKBASIL_NONE};
-        kioskbasil_sizes sizes = {1, 8, 64, again};
+        kioskbasil_sizes sizes = {1, 8, 64, again, false};
         kioskbasil_item items[4];
         size_t many = 0;
         uint64_t seed = 1;
@@ -628,7 +642,7 @@ static void carried_once(bool again) {
 /* A sender that lets go after each of its turns, alone and where the other one has begun too: that
    one sends, and ends the order. */
 static void letting_go(bool again) {
-    kioskbasil_sizes sizes = {1, again ? 2 : 8, 64, again};
+    kioskbasil_sizes sizes = {1, again ? 2 : 8, 64, again, false};
     for (int turns = 0; turns < 400; turns++) {
         kioskbasil_sender s[2] = {KIOSKBASIL_NONE};
         kioskbasil_receiver r[1] = {KIOSKBASIL_NONE};
@@ -660,7 +674,7 @@ static void letting_go(bool again) {
 static void letting_go_behind(bool given_up) {
     kioskbasil_sender s[2] = {KIOSKBASIL_NONE};
     kioskbasil_receiver r[1] = {KIOSKBASIL_NONE};
-    kioskbasil_sizes sizes = {1, 2, 64, true};
+    kioskbasil_sizes sizes = {1, 2, 64, true, false};
     kioskbasil_turn_answer answer;
     kioskbasil_left left;
     uint64_t seed = 59;
@@ -688,7 +702,7 @@ static void letting_go_behind(bool given_up) {
 static void behind(void) {
     kioskbasil_sender s[2] = {KIOSKBASIL_NONE}, t[2] = {KIOSKBASIL_NONE};
     kioskbasil_receiver r[1] = {KIOSKBASIL_NONE}, q[1] = {KIOSKBASIL_NONE};
-    kioskbasil_sizes sizes = {1, 2, 4096, true};
+    kioskbasil_sizes sizes = {1, 2, 4096, true, false};
     kioskbasil_sender_shown before, after;
     kioskbasil_item items[16];
     uint64_t seed = 5;
@@ -730,7 +744,7 @@ static void behind(void) {
 static void reopening(void) {
     kioskbasil_sender s[2] = {KIOSKBASIL_NONE};
     kioskbasil_receiver r[2] = {KIOSKBASIL_NONE};
-    kioskbasil_sizes good = {1, 2, 16, true}, bad = {0, 2, 16, true};
+    kioskbasil_sizes good = {1, 2, 16, true, false}, bad = {0, 2, 16, true, false};
     kioskbasil_sender_shown shown;
     kioskbasil_left left;
     uint64_t seed = 3;
@@ -764,10 +778,9 @@ void *__wrap_realloc(void *old, size_t size) {
 /* Each growth of memory for a bus, or for one after this sitting, is refused in turn: then none is
    made, and all handles stay empty. One that is refused may be made good by a smaller one: then
    the bus is there. */
-static void no_memory(bool again, const kioskbasil_left *left) {
+static void no_memory(kioskbasil_sizes sizes, const kioskbasil_left *left) {
     kioskbasil_sender s[3] = {KIOSKBASIL_NONE};
     kioskbasil_receiver r[2] = {KIOSKBASIL_NONE};
-    kioskbasil_sizes sizes = {1, 4, 64, again};
     kioskbasil_left over;
     uint32_t code = KIOSKBASIL_NO_MEMORY;
     long many = 0, none = 0;
@@ -794,7 +807,7 @@ static void no_memory(bool again, const kioskbasil_left *left) {
 static void leaving(bool again) {
     kioskbasil_sender s[2] = {KIOSKBASIL_NONE};
     kioskbasil_receiver r[2] = {KIOSKBASIL_NONE};
-    kioskbasil_sizes sizes = {1, 8, 64, again};
+    kioskbasil_sizes sizes = {1, 8, 64, again, false};
     kioskbasil_turn_answer turn;
     kioskbasil_heard heard;
     kioskbasil_item items[4];
@@ -850,8 +863,104 @@ static void leaving(bool again) {
     EXPECT(left.gone[1], true);
 }
 
+/* Puts a message of 56 bytes, which takes 8 words, and a frame of it 9. */
+static void put_long(kioskbasil_sender *s) {
+    uint8_t big[56] = {1};
+    EXPECT(kioskbasil_put(s, big, 56, NULL), KIOSKBASIL_OK);
+}
+
+/* A ring of 16 words is full, is heard, and has room again, many times over. */
+static void ring_again(void) {
+    kioskbasil_sender s[2] = {KIOSKBASIL_NONE};
+    kioskbasil_receiver r[2] = {KIOSKBASIL_NONE};
+    kioskbasil_sizes sizes = {1, 2, 16, false, false};
+    kioskbasil_receiver_shown shown;
+    kioskbasil_turn_answer turn;
+    kioskbasil_item items[4];
+    kioskbasil_left left;
+    uint64_t seed = 61, log[16] = {0};
+    size_t many = 0;
+    EXPECT(kioskbasil_open_ring(&sizes, s, 2, r, 2), KIOSKBASIL_OK);
+    EXPECT(kioskbasil_try_send(s, word_of, &seed, &turn), KIOSKBASIL_IDLE);
+    for (uint64_t round = 0; round < 300; round++) {
+        kioskbasil_sender *who = &s[round % 2];
+        put_long(who);
+        EXPECT(kioskbasil_has_room(who), KIOSKBASIL_OK);
+        EXPECT(kioskbasil_try_send(who, word_of, &seed, &turn), KIOSKBASIL_DELIVERED);
+        EXPECT(turn.tenure, 3 * round);
+        EXPECT(turn.last, round - round % 2);
+        put_long(who);
+        for (int i = 0; i < 2; i++) {
+            EXPECT(kioskbasil_has_room(who), KIOSKBASIL_FULL);
+            if (i == 0) EXPECT(kioskbasil_try_send(who, word_of, &seed, NULL), KIOSKBASIL_FULL);
+            EXPECT(kioskbasil_show_receiver(&r[i], &shown), KIOSKBASIL_OK);
+            EXPECT(shown.passed, 18 * round);
+            EXPECT(kioskbasil_hear(&r[i], items, 4, &many), KIOSKBASIL_EMPTY);
+            EXPECT(many, 1);
+            kioskbasil_show_receiver(&r[i], &shown);
+            EXPECT(shown.passed, 18 * round + 9);
+        }
+        EXPECT(kioskbasil_has_room(who), KIOSKBASIL_OK);
+        EXPECT(send_now(who, &seed, NULL, NULL), KIOSKBASIL_DELIVERED);
+        for (int i = 0; i < 2 && round < 299; i++)
+            EXPECT(kioskbasil_hear(&r[i], items, 4, &many), KIOSKBASIL_EMPTY);
+    }
+    EXPECT(end_order(s, &seed, NULL), KIOSKBASIL_CLOSED);
+    kioskbasil_free_sender(&s[0]), kioskbasil_free_sender(&s[1]), kioskbasil_free_receiver(&r[1]);
+    EXPECT(kioskbasil_end(NULL, 0, r, 1, log, 16, &left), KIOSKBASIL_OK);
+    EXPECT(left.words, 300 * 18 + 2);
+    EXPECT(left.floor, 299 * 18 + 9);
+    EXPECT(left.counts[0] + left.counts[1], 600);
+    EXPECT(left.ended, true);
+    EXPECT(log[0] != 0 && log[10] != 0 && log[11] == 0, 1);
+    EXPECT(kioskbasil_open_after(&sizes, &left, s, 1, r, 1), KIOSKBASIL_OK);
+    send_one(s, left.next[0], &seed);
+    sizes.ring = true;
+    EXPECT(kioskbasil_open_after(&sizes, &left, s, 1, r, 1), KIOSKBASIL_OK);
+    for (uint64_t i = 0; i < 40; i++) {
+        send_one(s, left.next[0] + i, &seed);
+        EXPECT(kioskbasil_hear(r, items, 4, &many), KIOSKBASIL_EMPTY);
+    }
+    left.next[63] = (UINT64_C(1) << 48) - (UINT64_C(1) << 44) - 16;
+    EXPECT(kioskbasil_open_after(&sizes, &left, s, 1, r, 1), KIOSKBASIL_NUMBERS_USED);
+    kioskbasil_free_sender(s), kioskbasil_free_receiver(r);
+}
+
+/* A receiver that is given up lets the others go on, and so does one by which a bus was not ended. */
+static void ring_left(bool by_end) {
+    kioskbasil_sender s[1] = {KIOSKBASIL_NONE};
+    kioskbasil_receiver r[2] = {KIOSKBASIL_NONE};
+    kioskbasil_sizes sizes = {1, 8, 16, true, true};
+    kioskbasil_item items[4];
+    kioskbasil_left left;
+    uint64_t seed = 67;
+    size_t many = 0;
+    EXPECT(kioskbasil_open(&sizes, s, 1, r, 2), KIOSKBASIL_OK);
+    put_long(s);
+    EXPECT(send_batch(s, &seed, NULL, NULL), KIOSKBASIL_DELIVERED);
+    put_long(s);
+    EXPECT(kioskbasil_hear(&r[0], items, 4, &many), KIOSKBASIL_EMPTY);
+    EXPECT(send_batch(s, &seed, NULL, NULL), KIOSKBASIL_FULL);
+    EXPECT(kioskbasil_has_room(s), KIOSKBASIL_FULL);
+    if (by_end) EXPECT(kioskbasil_end(NULL, 0, &r[1], 1, NULL, 0, &left), KIOSKBASIL_IN_USE);
+    else kioskbasil_free_receiver(&r[1]);
+    EXPECT(kioskbasil_has_room(s), KIOSKBASIL_OK);
+    EXPECT(send_batch(s, &seed, NULL, NULL), KIOSKBASIL_DELIVERED);
+    for (int i = 0; i < 2; i++) put_long(s);
+    EXPECT(kioskbasil_has_room(s), KIOSKBASIL_NEVER_FITS);
+    EXPECT(send_when_room(s, &seed, NULL, NULL, NULL, NULL), KIOSKBASIL_NEVER_FITS);
+    EXPECT(kioskbasil_hear(&r[0], items, 4, &many), KIOSKBASIL_EMPTY);
+    EXPECT(send_batch(s, &seed, NULL, NULL), KIOSKBASIL_FULL);
+    EXPECT(pending(s), 2);
+    EXPECT(kioskbasil_end(s, 1, r, 1, NULL, 0, &left), KIOSKBASIL_OK);
+    EXPECT(left.words, 18);
+    EXPECT(left.floor, 18);
+    EXPECT(left.counts[0], 2);
+}
+
 /* ---- many short runs of four senders and four receivers, each in a thread of its own; in some the
-   first sender that is done leaves, and in some there is no bell */
+   first sender that is done leaves, in some there is no bell, and in some the log is a ring of 64 to
+   127 words, which is used again many times */
 enum { SIDES = 4, MESSAGES = 24 };
 
 struct side {
@@ -876,11 +985,13 @@ static void *send_side(void *given) {
         memset(message, shown.number * 64 + i, sizeof message);
         if (kioskbasil_put(me->sender, message, length, NULL) == KIOSKBASIL_OK) i++;
         if (i % 5 == 0 || i == MESSAGES)
-            me->last = send_batch(me->sender, &me->seed, NULL, me->bell);
+            me->last = send_when_room(me->sender, &me->seed, NULL, me->bell, NULL, NULL);
     }
     int still = atomic_fetch_sub(me->left, 1);
     if (still == 1) me->last = end_order(me->sender, &me->seed, me->bell);
     else if (still == SIDES && me->leaves) me->last = leave_order(me->sender, &me->seed, me->bell);
+    if (me->last == KIOSKBASIL_FULL)
+        me->last = send_when_room(me->sender, &me->seed, NULL, me->bell, NULL, NULL);
     return NULL;
 }
 
@@ -899,7 +1010,9 @@ static void *hear_side(void *given) {
 static int storm(unsigned run) {
     kioskbasil_sender s[SIDES] = {KIOSKBASIL_NONE};
     kioskbasil_receiver r[SIDES] = {KIOSKBASIL_NONE};
-    kioskbasil_sizes sizes = {1 + run % 4, run % 2 ? 2 + run % 7 : 64, 1024, run % 2};
+    bool ring = run % 3 == 1, again = run % 2;
+    uint64_t rows = again || ring ? 2 + run % 7 : 64, words = ring ? 64 + run % 64 : 1024;
+    kioskbasil_sizes sizes = {1 + run % 4, rows, words, again, ring};
     static struct side sides[2 * SIDES];
     struct bell bell = BELL_NEW;
     atomic_int left = SIDES;
@@ -929,6 +1042,7 @@ static int storm(unsigned run) {
         for (int b = 0; b < 56; b++) bad |= item->bytes[b] != (b < item->length ? byte : 0);
     }
     bad |= kioskbasil_end(s, SIDES, r, SIDES, NULL, 0, &ended) != KIOSKBASIL_OK;
+    bad |= ended.words - ended.floor > words || (ended.floor > 0) != ring;
     for (int i = 0; i < SIDES; i++) {
         bad |= ended.counts[i] != MESSAGES;
         bad |= ended.gone[i] != (sides[i].last == KIOSKBASIL_LEFT);
@@ -985,7 +1099,8 @@ static void *hear_life(void *given) {
 static int lives(unsigned run) {
     kioskbasil_sender s[LIVES] = {KIOSKBASIL_NONE};
     kioskbasil_receiver r[EARS] = {KIOSKBASIL_NONE};
-    kioskbasil_sizes sizes = {1 + run % 4, 2 + run % 7, 512, run % 2};
+    bool ring = run % 3 == 1;
+    kioskbasil_sizes sizes = {1 + run % 4, 2 + run % 7, ring ? 16 + run % 256 : 512, run % 2, ring};
     static struct life all[LIVES + EARS];
     pthread_t threads[LIVES + EARS];
     int bad = kioskbasil_open(&sizes, s, LIVES, r, EARS) != KIOSKBASIL_OK, last = 0;
@@ -1003,7 +1118,8 @@ static int lives(unsigned run) {
         bad |= code != KIOSKBASIL_OK && code != KIOSKBASIL_PAGE_OUT && code != KIOSKBASIL_IN_USE &&
                code != FREED;
         for (int n = 0; n < LIVES && code == KIOSKBASIL_OK; n++)
-            bad |= all[i].left.next[n] != all[i].left.counts[n] || all[i].left.words > 512;
+            bad |= all[i].left.next[n] != all[i].left.counts[n] ||
+                   all[i].left.words - all[i].left.floor > sizes.log_words;
     }
     return bad || last > 1;
 }
@@ -1020,7 +1136,7 @@ static void *hear_shared(void *given) {
 
 static void control(void) {
     kioskbasil_sender s[1] = {KIOSKBASIL_NONE};
-    kioskbasil_sizes sizes = {1, 2, 64, true};
+    kioskbasil_sizes sizes = {1, 2, 64, true, false};
     pthread_t threads[2];
     if (kioskbasil_open(&sizes, s, 1, shared, 1)) exit(2);
     for (int i = 0; i < 2; i++) pthread_create(&threads[i], NULL, hear_shared, NULL);
@@ -1041,7 +1157,7 @@ static void timing(void) {
     for (int sitting = 0; sitting < 200; sitting++) {
         kioskbasil_sender s[1] = {KIOSKBASIL_NONE};
         kioskbasil_receiver r[1] = {KIOSKBASIL_NONE};
-        kioskbasil_sizes sizes = {1, 8, 65536, true};
+        kioskbasil_sizes sizes = {1, 8, 65536, true, false};
         if (kioskbasil_open(&sizes, s, 1, r, 1)) exit(2);
         double begun = now();
         for (int batch = 0; batch < 1900; batch++) {
@@ -1168,7 +1284,7 @@ static double race(size_t senders, size_t receivers, uint64_t messages, size_t b
                    uint64_t rounds) {
     kioskbasil_sender s[KIOSKBASIL_MOST_SENDERS] = {KIOSKBASIL_NONE};
     kioskbasil_receiver r[KIOSKBASIL_MOST_RECEIVERS] = {KIOSKBASIL_NONE};
-    kioskbasil_sizes sizes = {rounds, 8, 65536, true};
+    kioskbasil_sizes sizes = {rounds, 8, 65536, true, false};
     struct race race = {.messages = messages, .items = messages * senders, .bytes = bytes};
     static struct racer racers[KIOSKBASIL_MOST_SENDERS + KIOSKBASIL_MOST_RECEIVERS];
     pthread_t threads[KIOSKBASIL_MOST_SENDERS + KIOSKBASIL_MOST_RECEIVERS];
@@ -1244,10 +1360,15 @@ int main(int count, char **words) {
             carrying_within_a_tenure(again), carried_once(again);
         }
         behind();
+        ring_again(), ring_left(false), ring_left(true);
         for (int i = 0; i < 2; i++) letting_go(i == 1), letting_go_behind(i == 1);
         reopening();
         kioskbasil_left ended = {.ended = true};
-        for (int again = 0; again < 2; again++) no_memory(again, NULL), no_memory(again, &ended);
+        no_memory((kioskbasil_sizes){1, 4, 64, true, true}, NULL);
+        for (int again = 0; again < 2; again++) {
+            kioskbasil_sizes sizes = {1, 4, 64, again, false};
+            no_memory(sizes, NULL), no_memory(sizes, &ended);
+        }
     }
     printf("%s: %ld passed, %ld failed\n", what, passed, failed);
     return failed != 0;

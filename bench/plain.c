@@ -1,6 +1,6 @@
 // A plain interpreter of `replay` scripts, for comparison: written from docs/PROTOCOL.md and docs/FORMATS.md. It reads standard
 // input and writes standard output, and its status is 1 where the script is refused. With the word `pass` it passes over each
-// line that would be refused, and names it on standard error.
+// line that would be refused, and names it on standard error. With the word `tell` it names there what comes to pass of a ring.
 #include <stdint.h>
 #include <stdio.h>
 #include <stdlib.h>
@@ -21,7 +21,7 @@ struct sender {
 } S[64];
 struct receiver { u64 place, known, left, tenure, owner, number, bytes, got, count, fresh, passed; int ended, gone; unsigned char data[64]; } M[9]; // the ninth hears the whole log in the end
 static u64 n, m, R, T, L, B, stage, length, *word_of_log, *published, owners[256], owner_count;
-static struct row *rows; static int cyclic, ringed;
+static struct row *rows; static int cyclic, ringed, tells;
 static char *out; static size_t used, room;
 static void say(const char *format, u64 a, u64 b, u64 c, u64 d) {
     if (room - used < 256) out = realloc(out, room = 2 * room + 4096);
@@ -30,6 +30,16 @@ static void say(const char *format, u64 a, u64 b, u64 c, u64 d) {
 static void say_hex(const unsigned char *bytes, u64 len) {
     if (!len) say(" -", 0, 0, 0, 0); else say(" ", 0, 0, 0, 0);
     for (u64 i = 0; i < len; i++) say("%02lx", bytes[i], 0, 0, 0);
+}
+static void tell(const char *what) { if (tells && ringed) fprintf(stderr, "%s\n", what); }
+static u64 all_passed(u64 place) { // the least of this place and of all passed places
+    for (u64 i = 0; i < m; i++) if (M[i].passed < place) place = M[i].passed;
+    return place;
+}
+static void tell_length(u64 before) { // how often the log's last cell was passed over, and whether somebody may hear the frame
+    int alone = 1; for (u64 i = 0; i < m; i++) alone &= M[i].gone;
+    for (u64 i = before / L; i < length / L; i++) tell("over");
+    if (alone) tell("alone");
 }
 static void start_bit(struct sender *s) { s->round = 0; s->value = s->candidate >> s->bit & 1; s->at = BRING; }
 static int fits(struct sender *s, u64 i) { return i < n && (int)(i >> (s->bit + 1)) == s->spelled; }
@@ -114,7 +124,7 @@ static int turn(u64 me, uint32_t random) { // true where it is going; else its a
         if (s->stored < s->words) {
             word_of_log[(s->page.words + s->stored) % L] = s->frame[s->stored]; s->stored++; return 1;
         }
-        length = s->page.words + s->words; s->published = 1;
+        length = s->page.words + s->words; s->published = 1; tell_length(s->page.words);
         published = realloc(published, 8 * length); memcpy(published + s->page.words, s->frame, 8 * s->words);
         return 1;
     }
@@ -126,6 +136,7 @@ static int turn(u64 me, uint32_t random) { // true where it is going; else its a
     if (cyclic && next >= T) { // the row of the next tenure was used T tenures before that
         u64 before = next - T, width = n + B * (6 * R - 2);
         if (s->asked < n && S[s->asked].presence == 1 + before) {
+            if (!s->page.ended && !s->published) tell("between");
             say("behind %lu %lu\n", before, s->asked, 0, 0); return 0;
         }
         if (s->asked < n) { s->asked++; return 1; }
@@ -141,6 +152,7 @@ static int turn(u64 me, uint32_t random) { // true where it is going; else its a
         say("delivered %lu %lu %lu\n", s->tenure, s->first, s->first + s->count - 1, 0); s->first += s->count; s->count = 0; return 0;
     }
     if (s->page.ended) { give_back(s); s->closed = 1; say("closed\n", 0, 0, 0, 0); return 0; }
+    tell("full"); if (s->page.words + s->words <= L + all_passed(s->page.words)) tell("late");
     give_back(s); say("full\n", 0, 0, 0, 0); return 0;
 }
 static int recv(u64 me) { // true where it goes on
@@ -198,6 +210,7 @@ static int refused(int passes, u64 number, const char *why) { // true where the 
 }
 int main(int argc, char **argv) {
     static char text[(1 << 20) + 2]; size_t size = fread(text, 1, 1 << 20, stdin); int passes = argc > 1 && !strcmp(argv[1], "pass"), shaped = 0, status = 1; char *line = text; u64 s, w, k, number = 0;
+    tells = argc > 1 && !strcmp(argv[1], "tell");
     for (char *end; line < text + size; line = end + 1) {
         end = memchr(line, '\n', text + size - line); if (!end) end = text + size; number++; *end = 0;
         if (line == end || *line == '#') continue;
@@ -232,6 +245,7 @@ int main(int argc, char **argv) {
         } else {
             int leaves = *line == 'g'; s = strtoul(line + 5, &line, 10); k = strtoul(line, 0, 10);
             if (s >= m || M[s].gone) { if (refused(passes, number, s >= m ? "NoSuchReceiver" : "Gone")) goto stop; continue; }
+            if (leaves && M[s].left) tell("within");
             if (leaves) { M[s].gone = 1; M[s].passed = UINT64_MAX; say("gone %lu: gone\n", s, 0, 0, 0); continue; }
             say("recv %lu: ", s, 0, 0, 0); M[s].fresh = used; while (k-- && recv(s)) {}
         }

@@ -60,19 +60,24 @@ def cyclic_script(dice): # senders go through tenures one after another; some fa
         lines += last_lines(dice, n, m)
     return "\n".join(lines).encode() + b"\n"
 
-def ring_script(dice): # receivers hear often or seldom, and some leave; now and then of another kind of bus
-    n, m, rows = dice.randint(1, 8), dice.randint(1, 8), dice.randint(2, 8)
+def ring_script(dice): # receivers hear often or seldom, and some leave; senders fall asleep in a tenure; now and then of another kind of bus
+    n, m, rows = dice.randint(1, 8), dice.randint(1, 8), dice.choice((2, 2, 2, 3, 5, 8))
     kind = dice.choice(8 * ["ring"] + ["shape", "cycle"])
-    lines = [f"{kind} {n} {m} {dice.choice((1, 1, 2))} {rows} {dice.choice((16, 17, 24, 64, 140, 300))}"]
-    slow, naps, leaves = dice.choice((0.2, 0.5, 0.9)), dice.choice((0, 0.1, 0.3)), dice.choice((0, 0.01, 0.05))
+    lines = [f"{kind} {n} {m} {dice.choice((1, 1, 2))} {rows} {dice.choice((16, 16, 17, 24, 64, 140, 300))}"]
+    slow, naps, leaves = dice.choice((0, 0.2, 0.5, 0.9)), dice.choice((0, 0.1, 0.3)), dice.choice((0, 0.01, 0.05))
     closes, lengths = dice.choice((0, 0, 0.01)), dice.choice(((0, 1, 8), (20, 40, 56), (0, 8, 56)))
-    for _ in range(dice.choice((30, 100, 300))):
-        s, r = dice.randrange(n), dice.randrange(m)
+    hears, asleep = dice.choice(((1, 5, 9999), (9999,))), [0] * n
+    for number in range(dice.choice((30, 100, 300))):
+        s, r = dice.choice([s for s in range(n) if asleep[s] <= number] or [*range(n)]), dice.randrange(m)
         if dice.random() < 0.6:
             lines.append(f"put {s} {bytes(dice.randrange(256) for _ in range(dice.choice(lengths))).hex() or '-'}")
-        lines += [f"turn {s} {dice.getrandbits(32)} {dice.randint(1, 20) if dice.random() < naps else 2000}"] * dice.choice((1, 2, 2))
+        if dice.random() < naps:
+            lines += [f"turn {s} {dice.getrandbits(32)} {turns}" for turns in dice.choice(([], [2000])) + [dice.randint(1, 20)]]
+            asleep[s] = number + dice.choice((0, 5, 20))
+        else:
+            lines += [f"turn {s} {dice.getrandbits(32)} 2000"] * 2
         if dice.random() > slow:
-            lines += [f"recv {each} {dice.choice((1, 5, 9999))}" for each in range(m)]
+            lines += [f"recv {each} {dice.choice(hears)}" for each in range(m)]
         if dice.random() < 0.3:
             lines.append(f"recv {r} {dice.choice((1, 2, 9, 9999))}")
         if dice.random() < leaves:
