@@ -20,6 +20,7 @@ use Rattle.bus_core.specs.Seen.{tenure_begun}
 use Rattle.bus_core.specs.Telling.{FeedTells, RestTells}
 use Rattle.bus_world.specs.Headline.{HasPut, HasMarked, puts}
 use Rattle.bus_pageslot.specs.Listening.{Hears, GoesOnTo}
+use Rattle.bus_pageslot.specs.Looks.{HasLooked, batch_len}
 use Rattle.bus_pageslot.specs.Rule.{Sat, receiver_view_in, known_in}
 use Rattle.bus_pageslot.specs.Seats.{SenderSeat, TookAndTold, table_of, first_number_of}
 use Rattle.bus_pageslot.specs.Seats.{actions_of, stored_of}
@@ -35,7 +36,8 @@ use Rattle.bus_embed.specs.declared.senders.SenderShown.{SenderShown}
 use Rattle.bus_embed.specs.declared.receivers.ReceiverShown.{ReceiverShown}
 use Rattle.bus_embed.specs.Answers.{turn_code, heard_code, put_code, close_code, one_bus_code}
 use Rattle.bus_embed.specs.Answers.{order_number, written, turn_answer, heard_answer, item_told}
-use Rattle.bus_automaton.specs.ThreeWordBuses.{Held, process, election}
+use Rattle.bus_automaton.specs.ThreeWordBuses.{Held, process, automaton, election}
+use Rattle.bus_automaton.specs.declared.plans.Plan.{Plan}
 
 -- ---- a sender: what the calls of its handle promise, each in one
 -- a put of these bytes came to this number, or to this fault
@@ -122,10 +124,17 @@ pub record TurnsAnswered (old : SenderSeat Held) (word more answer : ℕ) (told 
   pub code : answer ≡ turn_code turn
   pub says : told ≡ turn_answer turn
 
--- a look whether its batch has room changed nothing of it, and was answered by one of these
+-- a look whether its batch has room: by what was found on tables of a bus of which the rule held,
+-- it has some, or none
+abbrev pub HasLookedAs : SenderSeat Held → Bool → Type 0
+HasLookedAs s fits = (plan : Plan)
+    × HasLooked process (automaton plan) s.seat.me.0 (batch_len process s.core) fits
+
+-- It changed nothing of the sender, and was answered so. NEVER_FITS takes no step.
 pub record RoomAnswered (old : SenderSeat Held) (answer : ℕ) (new : SenderSeat Held) : Type 0 where
   pub seat : new ≡ old
-  pub answers : (answer ≡ code.OK) ⊎ ((answer ≡ code.FULL) ⊎ (answer ≡ code.NEVER_FITS))
+  pub answers : ((answer ≡ code.OK) × HasLookedAs old true)
+      ⊎ (((answer ≡ code.FULL) × HasLookedAs old false) ⊎ (answer ≡ code.NEVER_FITS))
 
 -- what it shows
 pub record ShowsSender (s : SenderSeat Held) (shown : SenderShown) : Type 0 where

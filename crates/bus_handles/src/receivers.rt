@@ -258,16 +258,20 @@ impl<Q: Ratifier + Drop> ReceiverHandle<Q> {
     }
 
     /// Leaves for good: no cell of a ring waits for this receiver any more, and those that wait for
-    /// room wake. Each handle that is let go leaves too, and so does `end` where it is answered
-    /// InUse; but these wake nobody. Of another bus it is no step.
-    pub fn leave(self) {
+    /// room wake. What it gives is the seat that has left; nobody has to keep it. Each handle that
+    /// is let go leaves too, and so does `end` where it is answered InUse; but these wake nobody.
+    /// Of another bus it is no step.
+    pub fn leave(self) -> Left<Q>
+        ensures { HasLeftBy self.me result.me }
+    {
         let ReceiverHandle {
             bus,
             bell,
             receiver,
         } = self;
-        let _ = leave(&bus, receiver);
+        let left = leave(&bus, receiver);
         bell.ring();
+        left
     }
 
     /// Ends the bus by this handle, where it is the last one: what stands of its log and its page,

@@ -15,7 +15,8 @@ ghost use Rattle.bus_core.specs.Seen.{tenure_begun};
 ghost use Rattle.bus_core.specs.Telling.{FeedTells};
 ghost use Rattle.bus_core.specs.Telling.{RestTells};
 ghost use Rattle.bus_tenure.specs.Elections.{election_of};
-ghost use Rattle.bus_automaton.specs.Buses.{process_by};
+ghost use Rattle.bus_automaton.specs.Buses.{automaton_by, process_by};
+ghost use Rattle.bus_automaton.specs.declared.plans.Plan.{Plan};
 ghost use Rattle.bus_tenure.specs.Classes.{is_refusal};
 ghost use Rattle.bus_pageslot.specs.Seats.{TookAndTold, table_of};
 ghost use Rattle.bus_pageslot.specs.Seats.{first_number_of, actions_of, stored_of};
@@ -24,6 +25,7 @@ ghost use Rattle.bus_pageslot.specs.Sendings.{waiting_of, HasSent, HasSentPart, 
 ghost use Rattle.bus_pageslot.specs.Sendings.{Carries, CarryRefused};
 ghost use Rattle.bus_handles.specs.Answers.{delivered_turn, DeliversNone};
 ghost use Rattle.bus_handles.specs.Asking.{SaysNo, SaysYes};
+ghost use Rattle.bus_pageslot.specs.Looks.{HasLooked, batch_len};
 ghost use Rattle.bus_pageslot.specs.Room.{SendsForRoom, StopsForRoom};
 ghost use Rattle.bus_pageslot.specs.Sendings.{ClosesAndSends};
 ghost use Rattle.bus_handles.specs.Closings.{NotEndedFor};
@@ -427,7 +429,10 @@ impl<Q: Ratifier + Drop, R: Rng + Drop> SenderHandle<Q, R> {
     /// another sender may take the room first; no may be yes by now.
     #[must_use]
     pub fn has_room(&mut self) -> bool
-        ensures { self.new ≡ self.old }
+        ensures seat { self.new ≡ self.old }
+        ensures looked { let P = process_by Q.Ratifier in (plan : Plan)
+            × HasLooked P (automaton_by Q.Ratifier plan) self.old.seat.me.0
+            (batch_len P self.old.core) result }
     {
         let bus: &Bus<Q> = &self.bus;
         self.sender.has_room(bus)

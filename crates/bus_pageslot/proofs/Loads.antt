@@ -25,7 +25,9 @@ use Rattle.bus_pageslot.specs.Rule.{Sat, Seats, IsListening, KnowsLog, IsTrueOf,
 use Rattle.bus_pageslot.specs.Rule.{receiver_view_in, known_in, with_receiver_view, senders_in}
 use Rattle.bus_pageslot.specs.Rule.{table_layout_in, log_word_in, FitsLog, MayRead}
 use Rattle.bus_pageslot.specs.Steps.{Learns, Reads}
+use Rattle.bus_automaton.specs.declared.plans.Plan.{Plan}
 use Rattle.bus_pageslot.specs.Listening.{FindsLength, FindsWord}
+use Rattle.bus_pageslot.specs.Looks.{IsFoundBy}
 use Rattle.bus_pageslot.proofs.AllSeats.{still_seen}
 use Rattle.bus_pageslot.proofs.Hearing.{heard_loaded, heard_learnt, heard_quiet, heard_good}
 
@@ -55,14 +57,20 @@ reloaded {C} P A s r i id v w at still fits = record {
 }
 
 -- a look, after which the seat shows what it showed
-pub look_allowed : {C : Type 0} (P : Process C) (A : Automaton C) (slots id : ℕ) (me : Sat C)
-    (at : ℕ) → Allows (TableInvariant P A) slots id me at (λ n. n) (λ _ m'. m' ≡ me)
-look_allowed P A slots id me at s r many here few = (
+pub look_allowed : {C : Type 0} (P : Process C) (A : Plan → Automaton C) (k : Option Plan)
+    (plan : Plan) → k ≡ Some plan → (slots id : ℕ) (me : Sat C) (at : ℕ)
+    → Allows (TableInvariant P (A plan)) slots id me at (λ n. n)
+    (λ got m'. (m' ≡ me) × IsFoundBy P A k me.0 at got)
+look_allowed P A k plan is slots id me at s r many here few = (
   me.0,
   keeps,
   tt,
-  reloaded P A s r at id me.0 me.0 here (λ p h. h) (r.views id me.0 here),
-  refl,
+  reloaded P (A plan) s r at id me.0 me.0 here (λ p h. h) (r.views id me.0 here),
+  (
+    refl,
+    subst (λ q. IsFoundBy P A q me.0 at (slice_index s.words at)) (sym is)
+        record { table = s; rule = r; here = (id, here); stood = refl },
+  ),
 )
 
 -- a receiver that has gone on, and has passed what it had passed

@@ -131,10 +131,11 @@ abbrev pub WritesOrPlain : RecvTurn → Item → Option ItemTurn → Item → Ty
 WritesOrPlain answer before None after = (answer ≡ turn.Going) × (after ≡ before)
 WritesOrPlain answer before (Some told) after = Writes answer before told after
 
--- turns that took words which say nothing by themselves led from one seat to another
+-- Turns that took words which say nothing by themselves led from one seat to another. None of them
+-- was due to store its place.
 pub data GoesOnTo {C : Type 0} (first : Sat C) : Sat C → Type 0 where
   At : GoesOnTo first first
-  Onward : (old new : Sat C) → GoesOnTo first old
+  Onward : (old new : Sat C) → GoesOnTo first old → ¬ PassesNext old.0
       → (receiver_view_in old.0).place < length (known_in old.0) → Hears old turn.Going new
       → GoesOnTo first new
 

@@ -13,8 +13,7 @@ ghost use Rattle.bus_automaton.specs.Buses.{ring_plan};
 ghost use Rattle.bus_pageslot.specs.Buses.{AreNewSeats, AreNewTaps};
 ghost use Rattle.bus_pageslot.specs.Seats.{table_of};
 ghost use Rattle.bus_pageslot.specs.Endings.{IsLeft};
-ghost use Rattle.bus_pageslot.specs.Looks.{HasLooked};
-ghost use Rattle.bus_world.specs.Log.{floor_shown};
+ghost use Rattle.bus_pageslot.specs.Looks.{FloorSeen, HasLooked};
 
 use crate::outcomes::{EndFault, Ended, Places, leave, lesser};
 use crate::rule::BusSeat;
@@ -32,7 +31,7 @@ use bus_register::limits::MOST_SENDERS;
 use bus_tenure::Page;
 use bus_world::{MakeFault, Shape};
 use std::alloc::Global;
-use std::marker::Model;
+use std::marker::{Brand, Model};
 
 /// A bus with its senders and its receivers.
 type Made<Q> = (Bus<Q>, Vec<Sender<Q>>, Vec<Tap<Q>>);
@@ -242,11 +241,11 @@ impl<Q: Ratifier + Drop> Bus<Q> {
     pub(crate) fn has_room(&self, seat: &mut BusSeat<Q>, many: u64) -> bool
         requires { seat.old.table_id ≡ self.now.table }
         ensures seat { seat.new ≡ seat.old }
-        ensures looked { HasLooked (automaton_by Q.Ratifier self.now.plan).table_layout many
-            result }
+        ensures looked { HasLooked (process_by Q.Ratifier)
+            (automaton_by Q.Ratifier self.now.plan) seat.old.me.0 many result }
     {
         threads_may_go_by::<Q>();
-        let length = self.words.look(seat, 0);
+        let length = self.words.look::<Brand>(seat, 0);
         let floor = self.floor_seen(seat, length);
         fits(many, length, floor, self.places.log_words)
     }
@@ -257,9 +256,8 @@ impl<Q: Ratifier + Drop> Bus<Q> {
         requires { seat.old.table_id ≡ self.now.table }
         ensures seat { seat.new ≡ seat.old }
         ensures low { result ≤ length }
-        ensures floor { let x = (automaton_by Q.Ratifier self.now.plan).table_layout in
-            (found : ℕ → ℕ) × (found 0 ≡ length)
-            × (result ≡ floor_shown found x.passed x.passers length) }
+        ensures floor { FloorSeen (process_by Q.Ratifier)
+            (automaton_by Q.Ratifier self.now.plan) seat.old.me.0 length result }
     {
         threads_may_go_by::<Q>();
         let Places {
@@ -273,7 +271,7 @@ impl<Q: Ratifier + Drop> Bus<Q> {
         let mut least = length;
         for r in 0..passers {
             let at = passed + PASSED_APART * r;
-            least = lesser(self.words.look(seat, at as usize), least);
+            least = lesser(self.words.look::<Brand>(seat, at as usize), least);
         }
         least
     }

@@ -1,6 +1,7 @@
-//! What finishing does not allow, nor waiting for room, a receiver's turn, or the table's rule.
+//! What finishing does not allow, nor waiting for room, a look, a receiver's turn, or the table's
+//! rule.
 
-ghost use Rattle.std.specs.Prelude.{◌≡◌, ◌<◌, Option, false};
+ghost use Rattle.std.specs.Prelude.{◌≡◌, ℕ, ◌<◌, Option, false};
 ghost use Rattle.atomic_table.specs.Table.{State};
 ghost use Rattle.bus_automaton.specs.Buses.{automaton_by, process_by};
 ghost use Rattle.bus_automaton.specs.Processes.{TableLayout};
@@ -8,6 +9,7 @@ ghost use Rattle.bus_automaton.specs.declared.plans.Plan.{Plan};
 ghost use Rattle.bus_core.specs.Senders.{Sender};
 ghost use Rattle.bus_pageslot.specs.Finishing.{FinishingRefuses};
 ghost use Rattle.bus_pageslot.specs.Listening.{HearingRefuses};
+ghost use Rattle.bus_pageslot.specs.Looks.{LookingRefuses};
 ghost use Rattle.bus_pageslot.specs.ReceiverViews.{ReceiverView};
 ghost use Rattle.bus_pageslot.specs.Rings.{RuleRefuses};
 ghost use Rattle.bus_pageslot.specs.Room.{RoomRefuses};
@@ -36,6 +38,13 @@ pub fn finishing_refuses<Q: Ratifier>()
 pub fn room_refuses<Q: Ratifier, F: FnMut() -> bool>()
     ensures { (first new : SenderSeat (Sender (Elector Q))) (given f : F)
         → RoomRefuses (process_by Q.Ratifier) (tells_by Q.Ratifier) F.step first new given f }
+{}
+
+/// No look says yes of a frame that is longer than the log, nor, of a log that is no ring, of one
+/// that ends behind it even after what the sender itself has stored.
+pub fn looking_refuses<Q: Ratifier>()
+    ensures { (plan : Plan) (shown : View (Sender (Elector Q))) (many : ℕ)
+        → LookingRefuses (process_by Q.Ratifier) (automaton_by Q.Ratifier plan) shown many }
 {}
 
 /// No turn of a receiver that has not ended loads where its passed place is due, nor stores the

@@ -130,4 +130,18 @@ impl<C> Seated<C> for Brand {
     ghost first = { 0 };
 }
 
+/// The plan of the bus that a look is at, which the call picks.
+pub trait Planned {
+    ghost use Rattle.std.specs.Prelude.{Option};
+    ghost use Rattle.bus_automaton.specs.declared.plans.Plan.{Plan};
+
+    ghost plan: { Option Plan };
+}
+
+impl Planned for Brand {
+    ghost use Rattle.std.specs.Prelude.{None};
+
+    ghost plan = { None };
+}
+
 pub(crate) type BusSeat<Q> = Seat<Option<OwnedPage>, View<SenderCore<Q>>>;

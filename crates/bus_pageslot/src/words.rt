@@ -16,6 +16,7 @@ ghost use Rattle.bus_automaton.specs.Processes.{TableLayout, base_in, log_cell, 
 ghost use Rattle.bus_batch.specs.Frames.{IsLog};
 ghost use Rattle.bus_pageslot.specs.declared.rule.View.TheVariants.{Maker, Tap};
 ghost use Rattle.bus_pageslot.specs.Listening.{FindsLength, FindsWord, PassIsDue};
+ghost use Rattle.bus_pageslot.specs.Looks.{IsFoundOn};
 ghost use Rattle.bus_pageslot.specs.ReceiverViews.{ReceiverView};
 ghost use Rattle.bus_pageslot.specs.Rule.{IsFirst, MayRead, TableInvariant, cut_left, cut_right};
 ghost use Rattle.bus_pageslot.specs.Rule.{tap_left, tap_right};
@@ -23,7 +24,7 @@ ghost use Rattle.bus_pageslot.specs.Steps.{Due, GoesOn, Learns, Reads, Met, HasP
 ghost use Rattle.bus_pageslot.specs.StepsShown.{steps_shown};
 ghost use Rattle.bus_tenure.specs.declared.pages.Page.{Page};
 
-use crate::rule::{BusRule, BusSeat, Seated, Told, View};
+use crate::rule::{BusRule, BusSeat, Planned, Seated, Told, View};
 use crate::words::plays::{
     Cut, CutTap, Goes, Leaves, LoadsJoined, LoadsLength, LoadsLengthInTurn, LoadsWord,
     LoadsWordInTurn, Looks, Meet, Part, StoresPassed,
@@ -248,13 +249,17 @@ impl<Q: Ratifier> Words<Q> {
         self.table.shared.store::<Leaves<Q>>(seat, at, PASSED_ALL);
     }
 
-    /// One load, of any word, of which its seat shows nothing: a look beside the turns.
+    /// One load, of any word, of which its seat shows nothing: a look beside the turns. What it
+    /// finds stood there, on a table of which the rule held.
     #[inline(always)]
-    pub(crate) fn look(&self, seat: &mut BusSeat<Q>, at: usize) -> u64
-        requires { (seat.old.table_id ≡ self.now.table) × (at < self.now.table.words) }
-        ensures { seat.new ≡ seat.old }
+    pub(crate) fn look<K: Planned>(&self, seat: &mut BusSeat<Q>, at: usize) -> u64
+        requires table { (seat.old.table_id ≡ self.now.table) × (at < self.now.table.words) }
+        requires plan { K.plan ≡ Some self.now.plan }
+        ensures seat { seat.new ≡ seat.old }
+        ensures found { IsFoundOn (process_by Q.Ratifier)
+            (automaton_by Q.Ratifier self.now.plan) seat.old.me.0 at result }
     {
-        self.table.shared.load::<Looks<Q>>(seat, at)
+        self.table.shared.load::<Looks<Q, K>>(seat, at)
     }
 
     /// A receiver's seat goes into another seat, which loads the length, and comes out of it again.

@@ -39,7 +39,7 @@ pub asks_on_to : {C F : Type 0} (Tells : F → Bool → F → Type 0) (first : S
     (old : Sat C) (f : F) (new : Sat C)
     → AsksOn Tells first given old f → GoesOnTo old new → AsksOn Tells first given new f
 asks_on_to Tells first given old f _ before At = before
-asks_on_to Tells first given old f _ before (Onward middle new going below hears) =
+asks_on_to Tells first given old f _ before (Onward middle new going not_due below hears) =
     Goes middle f turn.Going new (asks_on_to Tells first given old f middle before going) hears refl
     (λ empty. absurd (let no : turn.Going ≡ turn.Empty = empty in cc))
 

@@ -27,8 +27,9 @@ impl<Q: Ratifier + Drop> Sender<Q> {
         ensures seat { self.new ≡ self.old }
         ensures never { (automaton_by Q.Ratifier bus.now.plan).table_layout.capacity
             < batch_len (process_by Q.Ratifier) self.old.core → result ≡ false }
-        ensures looked { HasLooked (automaton_by Q.Ratifier bus.now.plan).table_layout
-            (batch_len (process_by Q.Ratifier) self.old.core) result }
+        ensures looked { let P = process_by Q.Ratifier in
+            HasLooked P (automaton_by Q.Ratifier bus.now.plan) self.old.seat.me.0
+            (batch_len P self.old.core) result }
     {
         let many = self.batch_len();
         bus.has_room(&mut self.seat, many)

@@ -2,7 +2,7 @@
 //! says here of which word it is, and each store what was stored: `step.word` is the word that the
 //! step was on, and `step.first` the number that a store stored there.
 
-use crate::rule::{Seated, Told, View};
+use crate::rule::{Planned, Seated, Told, View};
 use atomic_table::{Join, Play, Split};
 use bus_adoptcommit::Ratifier;
 use bus_core::SenderCore;
@@ -129,15 +129,19 @@ impl<Q: Ratifier> Play<Option<OwnedPage>, View<SenderCore<Q>>> for Leaves<Q> {
         × HasLeft m m' };
 }
 
-/// A seat loaded a word and shows nothing of it.
-pub(super) struct Looks<Q> {
-    of: PhantomData<Q>,
+/// A seat loaded a word, of the bus of the plan that was picked, and shows nothing of it.
+pub(super) struct Looks<Q, K> {
+    of: PhantomData<(Q, K)>,
 }
 
-impl<Q: Ratifier> Play<Option<OwnedPage>, View<SenderCore<Q>>> for Looks<Q> {
+impl<Q: Ratifier, K: Planned> Play<Option<OwnedPage>, View<SenderCore<Q>>> for Looks<Q, K> {
     ghost use Rattle.std.specs.Prelude.{◌≡◌};
+    ghost use Rattle.bus_automaton.specs.Buses.{process_with, automaton_with};
+    ghost use Rattle.bus_pageslot.specs.Looks.{IsFoundBy};
 
-    ghost then = { λ _ m _ m'. m' ≡ m };
+    ghost then = { λ step m got m'. (m' ≡ m)
+        × IsFoundBy (process_with Q.kind_of Q.op Q.fed Q.protocol)
+        (automaton_with Q.kind_of Q.op Q.fed Q.protocol) K.plan m.0 step.word got };
 }
 
 /// A receiver's seat goes into another seat.

@@ -29,7 +29,7 @@ loop-turn-preserved g c =
       taken.ensures.receiver_view,
       (taken.ensures.plain none).1,
       plain.1 ∙ before.invariant.3,
-      Onward before.seat.me taken.new.seat.me before.invariant.4
+      Onward before.seat.me taken.new.seat.me before.invariant.4 before.invariant.5
           (unread before.invariant.1 (omega (arith, less)))
           (subst (λ a. Hears before.seat.me a taken.new.seat.me) plain.0 h.3),
       taken.ensures.passed none,
