@@ -1,6 +1,6 @@
 -- Joined seats: how seats are joined, what they learn, and how they are cut apart again.
-use Rattle.std.proofs.Common.{◌≡◌, ◌≢◌, inl, inr, ℕ, Option, List, [], ◌∷◌, ◌++◌, length, map, set}
-use Rattle.std.proofs.Common.{length-set}
+use Rattle.std.proofs.Common.{◌≡◌, ◌≢◌, ◌⊎◌, inl, inr, ℕ, Option, List, [], ◌∷◌, ◌++◌, length}
+use Rattle.std.proofs.Common.{length-set, map, set}
 use Rattle.std.proofs.Common.{slice_index, arith, refl, sym, ◌∙◌, ap, subst, ⊎_elim}
 use mathlib.Core.Option.{some}
 use lib.ListN.{get_elem?}
@@ -20,13 +20,13 @@ use Rattle.bus_pageslot.specs.declared.rule.View.TheVariants.{Maker, Sender, Tap
 use Rattle.bus_pageslot.specs.declared.rule.View.TheVariants.{Spent}
 use Rattle.bus_automaton.specs.Processes.{TableLayout, Process, Automaton, log_in}
 use Rattle.bus_automaton.specs.Lawful.{AutomatonLaws}
-use Rattle.bus_pageslot.specs.Rule.{Sat, Seats, IsSeated, KnowsLog, IsTrueOf, TableInvariant}
+use Rattle.bus_pageslot.specs.Rule.{Sat, Seats, SeatsReceiver, IsSeated, KnowsLog, IsTrueOf}
 use Rattle.bus_pageslot.specs.Rule.{views_joined, first_of, second_of, all_knowing}
 use Rattle.bus_pageslot.specs.Rule.{receiver_view_in, known_in}
-use Rattle.bus_pageslot.specs.Rule.{IsFirst}
+use Rattle.bus_pageslot.specs.Rule.{IsFirst, TableInvariant}
 use Rattle.bus_pageslot.specs.Steps.{Accepts, Meets, Met, Learns, KnowsSent}
 use Rattle.bus_automaton.specs.SenderTrails.{SenderTrail}
-use Rattle.bus_pageslot.proofs.AllSeats.{still_seen, seen_longer}
+use Rattle.bus_pageslot.proofs.AllSeats.{seen_joined, seen_parted}
 use Rattle.bus_pageslot.proofs.Hearing.{agree}
 use Rattle.bus_pageslot.proofs.Ears.{GoesTo, goes_to, two_of}
 use Rattle.bus_pageslot.proofs.Loads.{reloaded, whole, size, fits}
@@ -47,7 +47,8 @@ module _ {C : Type 0} (P : Process C) (A : Automaton C) where
       (v w : View C)
       → get_elem? s.views id ≡ some v → id ≢ other → (y : TableLayout) (l : ReceiverView)
       → get_elem? (set s.views id w) other ≡ some (Tap y l)
-      → ((p : ℕ) → Seats P p v → Seats P p w) → (ear' : ℕ → ℕ)
+      → ((p : ℕ) → Seats P p v → Seats P p w)
+      → ((q : ℕ) → SeatsReceiver q v ⊎ (l.me ≡ q) → SeatsReceiver q w) → (ear' : ℕ → ℕ)
       → ((j : ℕ) → j ≢ other → (u : View C) → IsTrueOf P A r.state r.seat r.ear j u
       → IsTrueOf P A r.state r.seat ear' j u)
       → IsTrueOf P A r.state r.seat ear' id w
@@ -56,7 +57,7 @@ module _ {C : Type 0} (P : Process C) (A : Automaton C) where
         homes = s.homes;
         views = set (set s.views id w) other Spent;
       }
-  joined s r id other v w at apart y l there still ear' others fits = record {
+  joined s r id other v w at apart y l there still heard ear' others fits = record {
     state = r.state;
     reached = r.reached;
     words = r.words;
@@ -74,8 +75,10 @@ module _ {C : Type 0} (P : Process C) (A : Automaton C) where
         others j k.0 u (r.views j u n.1))
         (at_set s.views id j w u k.1))
         (at_set (set s.views id w) other j Spent u e);
-    all = λ p below. still_seen P (set s.views id w) other (Tap y l) Spent there p (λ is. is)
-        (still_seen P s.views id v w at p (still p) (r.all p below));
+    all = λ p below. seen_joined (Seats P p) s.views id other v w (Tap y l) Spent at apart there
+        (λ is. ⊎_elim (still p) (λ (none : ⊥). absurd none) is) (r.all p below);
+    all_heard = λ q below. seen_joined (SeatsReceiver q) s.views id other v w (Tap y l) Spent at
+        apart there (heard q) (r.all_heard q below);
   }
 
   -- a receiver's seat goes into another
@@ -89,6 +92,7 @@ module _ {C : Type 0} (P : Process C) (A : Automaton C) where
       r.views other (Tap y l) (sym (set_else s.views id other w apart) ∙ there) in
       let g = goes_to P A r.state r.seat r.ear other id y l k in
       joined s r id other (Sender c t stored) w at (λ e. apart (sym e)) y l there (λ p is. is)
+      (λ q is. ⊎_elim (λ (none : ⊥). absurd none) (λ (k : l.me ≡ q). k) is)
       g.ear' g.others (h, g.here)
   joins_allowed (Tap x e) is y l id other = λ s r at apart there.
       let w : View C = Meeting x e y l in
@@ -96,7 +100,7 @@ module _ {C : Type 0} (P : Process C) (A : Automaton C) where
       let k : KnowsLog A r.state r.ear other y l =
       r.views other (Tap y l) (sym (set_else s.views id other w apart) ∙ there) in
       let g = goes_to P A r.state r.seat r.ear other id y l k in
-      joined s r id other (Tap x e) w at (λ e. apart (sym e)) y l there (λ p is. is)
+      joined s r id other (Tap x e) w at (λ e. apart (sym e)) y l there (λ p is. is) (λ q is. is)
       g.ear' g.others (
         g.others id (λ e. apart (sym e)) (Tap x e) h,
         g.here,
@@ -110,6 +114,7 @@ module _ {C : Type 0} (P : Process C) (A : Automaton C) where
   parted : (s : State (Option Page) (View C)) (r : TableInvariant P A s) (id : ℕ) (v w : View C)
       → get_elem? s.views id ≡ some v → ((p : ℕ) → Seats P p v → Seats P p w)
       → (y : TableLayout) (l : ReceiverView)
+      → ((q : ℕ) → SeatsReceiver q v → SeatsReceiver q w ⊎ (l.me ≡ q))
       → (g : GoesTo P A r.state r.seat r.ear id (length s.views) y l)
       → IsTrueOf P A r.state r.seat g.ear' id w
       → TableInvariant P A record {
@@ -117,7 +122,7 @@ module _ {C : Type 0} (P : Process C) (A : Automaton C) where
         homes = s.homes;
         views = set s.views id w ++ Tap y l ∷ [];
       }
-  parted s r id v w at still y l g fits =
+  parted s r id v w at still y l heard g fits =
       record {
         state = r.state;
         reached = r.reached;
@@ -136,8 +141,10 @@ module _ {C : Type 0} (P : Process C) (A : Automaton C) where
           | inr k ↦ subst (λ (y : ℕ × View C). IsTrueOf P A r.state r.seat g.ear' y.0 y.1)
               (λ i. (sym (k.0 ∙ length-set s.views id w) i, k.1 i)) g.here
         ];
-        all = λ p below. seen_longer P (set s.views id w) (Tap y l) p
-            (still_seen P s.views id v w at p (still p) (r.all p below));
+        all = λ p below. seen_parted (Seats P p) s.views id v w (Tap y l) at
+            (λ is. inl (still p is)) (r.all p below);
+        all_heard = λ q below. seen_parted (SeatsReceiver q) s.views id v w (Tap y l) at (heard q)
+            (r.all_heard q below);
       }
 
   -- joined seats are cut apart
@@ -149,11 +156,13 @@ module _ {C : Type 0} (P : Process C) (A : Automaton C) where
   parts_allowed (Meeting x k y l) is id = λ s r at.
       let h = r.views id (Meeting x k y l) at in
       let g = goes_to P A r.state r.seat r.ear id (length s.views) y l h.1 in
-      parted s r id (Meeting x k y l) (Tap x k) at (λ p is. is) y l g (g.beside x k h.0 h.2)
+      parted s r id (Meeting x k y l) (Tap x k) at (λ p is. is) y l (λ q is. is) g
+      (g.beside x k h.0 h.2)
   parts_allowed (Telling c t stored y l) is id = λ s r at.
       let h = r.views id (Telling c t stored y l) at in
       let g = goes_to P A r.state r.seat r.ear id (length s.views) y l h.1 in
-      parted s r id (Telling c t stored y l) (Sender c t stored) at (λ p is. is) y l g h.0
+      parted s r id (Telling c t stored y l) (Sender c t stored) at (λ p is. is) y l
+      (λ q is. inr is) g h.0
   parts_allowed Spent is id = absurd is
 
   pub pairs : (v : View C) → IsFirst v → (y : TableLayout) (l : ReceiverView)

@@ -21,20 +21,22 @@ use Rattle.bus_pageslot.specs.declared.rule.View.{View}
 use Rattle.bus_pageslot.specs.declared.rule.View.TheVariants.{Tap}
 use Rattle.bus_automaton.specs.Processes.{TableLayout, Process, Automaton, log_cell, log_in}
 use Rattle.bus_automaton.specs.Lawful.{AutomatonLaws, MayAsk}
-use Rattle.bus_pageslot.specs.Rule.{Sat, Seats, IsListening, KnowsLog, IsTrueOf, TableInvariant}
+use Rattle.bus_pageslot.specs.Rule.{Sat, Seats, SeatsReceiver, IsListening, KnowsLog, IsTrueOf}
 use Rattle.bus_pageslot.specs.Rule.{receiver_view_in, known_in, with_receiver_view, senders_in}
 use Rattle.bus_pageslot.specs.Rule.{table_layout_in, log_word_in, FitsLog, MayRead}
+use Rattle.bus_pageslot.specs.Rule.{TableInvariant}
 use Rattle.bus_pageslot.specs.Steps.{Learns, Reads}
 use Rattle.bus_automaton.specs.declared.plans.Plan.{Plan}
 use Rattle.bus_pageslot.specs.Listening.{FindsLength, FindsWord}
 use Rattle.bus_pageslot.specs.Looks.{IsFoundBy}
-use Rattle.bus_pageslot.proofs.AllSeats.{still_seen}
+use Rattle.bus_pageslot.proofs.AllSeats.{SeatsEither, still_seen}
 use Rattle.bus_pageslot.proofs.Hearing.{heard_loaded, heard_learnt, heard_quiet, heard_good}
 
 -- one view replaced, after a load
 pub reloaded : {C : Type 0} (P : Process C) (A : Automaton C) (s : State (Option Page) (View C))
     (r : TableInvariant P A s) (i id : ℕ) (v w : View C) → get_elem? s.views id ≡ some v
-    → ((p : ℕ) → Seats P p v → Seats P p w) → IsTrueOf P A r.state r.seat r.ear id w
+    → ((who : ℕ ⊎ ℕ) → SeatsEither P who v → SeatsEither P who w)
+    → IsTrueOf P A r.state r.seat r.ear id w
     → TableInvariant P A record {
       words = slice_set s.words i (slice_index s.words i);
       homes = s.homes;
@@ -53,7 +55,9 @@ reloaded {C} P A s r i id v w at still fits = record {
       (λ i. (sym u.0 i, u.1 i)) fits)
       (λ (u : (j ≢ id) × (get_elem? s.views j ≡ some v)). r.views j v u.1)
       (at_set s.views id j w v e);
-  all = λ p below. still_seen P s.views id v w at p (still p) (r.all p below);
+  all = λ p below. still_seen (Seats P p) s.views id v w at (still (inl p)) (r.all p below);
+  all_heard = λ q below. still_seen (SeatsReceiver q) s.views id v w at (still (inr q))
+      (r.all_heard q below);
 }
 
 -- a look, after which the seat shows what it showed

@@ -11,7 +11,7 @@ use Rattle.std.proofs.lemmas.Option.{same_Some, slice_get_within, slice_get-get_
 use Rattle.std.specs.Prelude.{All}
 use Rattle.atomic_table.specs.declared.shared.Seat.{Seat}
 use Rattle.atomic_table.specs.Table.{State, Splits, opening}
-use Rattle.atomic_table.proofs.Lists.{at_set, at_last}
+use Rattle.atomic_table.proofs.Lists.{at_set}
 use Rattle.bus_register.specs.Tables.{put}
 use Rattle.bus_register.specs.Proved.TableLaws.{put_here, put_beside, push_here, push_beside}
 use Rattle.bus_batch.specs.Frames.{Frame, AreFrames, log_words}
@@ -26,13 +26,13 @@ use Rattle.bus_automaton.specs.Processes.{log_in}
 use Rattle.bus_automaton.specs.Lawful.{AutomatonLaws, Opens}
 use Rattle.bus_pageslot.specs.Rule.{slot_of, Sat, tap_left, tap_right, sender_trail_in, stored_in}
 use Rattle.bus_pageslot.specs.Rule.{cut_left, cut_right, IsUnheard, KnowsLog, IsTrueOf}
-use Rattle.bus_pageslot.specs.Rule.{TableInvariant}
+use Rattle.bus_pageslot.specs.Rule.{Seats, SeatsReceiver, TableInvariant}
 use Rattle.bus_pageslot.specs.Steps.{Numbers, carried_of}
 use Rattle.bus_pageslot.specs.Steps.Accepts.{Nothing}
 use Rattle.bus_pageslot.specs.Seats.{SenderSeat, ReceiverSeat, Shows, table_of}
 use Rattle.bus_pageslot.specs.Buses.{IsNewSeat, AreNewSeats, IsNewTap, AreNewTaps}
 use Rattle.bus_automaton.specs.SenderTrails.{SenderTrail, new_sender_trail}
-use Rattle.bus_pageslot.proofs.AllSeats.{still_seen, seen_longer}
+use Rattle.bus_pageslot.proofs.AllSeats.{seen_parted}
 use Rattle.bus_pageslot.proofs.Ears.{views_still}
 use Rattle.bus_pageslot.proofs.Loads.{Listens}
 use Rattle.bus_pageslot.proofs.Hearing.{heard_new}
@@ -92,6 +92,7 @@ module _ {C : Type 0} (P : Process C) (A : Automaton C) (L : AutomatonLaws P A) 
       ear = λ r. 0;
       views = only;
       all = λ p below. (0, first, refl, omega arith);
+      all_heard = λ q below. (0, first, refl, omega arith);
     }
 
   module _ (z : A.State) (seat ear : ℕ → ℕ) (k id count : ℕ) (mine : seat k ≡ id) (j : ℕ)
@@ -151,17 +152,16 @@ module _ {C : Type 0} (P : Process C) (A : Automaton C) (L : AutomatonLaws P A) 
         slot = r.slot;
         seat = seat;
         ear = r.ear;
-        all = λ p in_range. elim (cases_eq p made) [
-          | inl e ↦ (
-            count,
-            right,
-            at_last (set s.views id left) right count (length-set s.views id left),
-            me ∙ sym e,
-          )
-          | inr n ↦ seen_longer P (set s.views id left) right p
-              (still_seen P s.views id (Maker x made) left at p (λ is. omega (arith, n))
-              (r.all p in_range))
-        ];
+        all = λ p in_range. seen_parted (Seats P p) s.views id (Maker x made) left right at
+            (λ is. elim (cases_eq p made) [
+              | inl e ↦ inr (me ∙ sym e)
+              | inr n ↦ inl (omega (arith, n))
+            ])
+            (r.all p in_range);
+        all_heard = λ q in_range.
+            let same = ap (λ (y : TableLayout). y.senders) old.0 in
+            seen_parted (SeatsReceiver q) s.views id (Maker x made) left right at
+            (λ is. inl (omega arith)) (r.all_heard q in_range);
         views = λ j v e. elim (at_end (set s.views id left) right v j e) [
           | inl u ↦ ⊎_elim
               (λ (y : (j ≡ id) × (left ≡ v)). subst
@@ -230,9 +230,14 @@ module _ {C : Type 0} (P : Process C) (A : Automaton C) (L : AutomatonLaws P A) 
           slot = r.slot;
           seat = r.seat;
           ear = ear';
-          all = λ p below. seen_longer P (set s.views id left) tap p
-              (still_seen P s.views id (Maker x made) left at p
-              (λ is. absurd (omega arith)) (r.all p below));
+          all = λ p below. seen_parted (Seats P p) s.views id (Maker x made) left tap at
+              (λ is. absurd (omega arith)) (r.all p below);
+          all_heard = λ q below. seen_parted (SeatsReceiver q) s.views id (Maker x made) left tap at
+              (λ is. elim (cases_eq number q) [
+                | inl e ↦ inr e
+                | inr n ↦ inl (omega (arith, n))
+              ])
+              (r.all_heard q below);
           views = λ j v e. elim (at_end (set s.views id left) tap v j e) [
             | inl u ↦ ⊎_elim
                 (λ (y : (j ≡ id) × (left ≡ v)). subst

@@ -1,7 +1,7 @@
 -- A receiver's stores in its passed place are allowed: of its place, where a frame begins, and of
 -- the number past all places.
 use Rattle.std.proofs.Common.{◌≡◌, ◌≢◌, inl, inr, ℕ, ◌<◌, true, false, Option, Some, None}
-use Rattle.std.proofs.Common.{[], ◌∷◌, ◌++◌, drop, length, set, slice_index, slice_set}
+use Rattle.std.proofs.Common.{[], ◌∷◌, ◌++◌, drop, length, slice_index, slice_set}
 use Rattle.std.proofs.Common.{take, arith, refl, sym, ◌∙◌, ap, subst, ⊎_elim, append_assoc}
 use mathlib.Core.Option.{some}
 use lib.ListN.{get_elem?}
@@ -19,7 +19,7 @@ use Rattle.bus_automaton.specs.Processes.{TableLayout, Process, Automaton, passe
 use Rattle.bus_automaton.specs.SenderTrails.{SenderTrail}
 use Rattle.bus_pageslot.specs.ReceiverViews.{ReceiverView, HasHeard, passed_on, left_for_good}
 use Rattle.bus_pageslot.specs.Rule.{Sat, slot_of, receiver_view_in, with_receiver_view}
-use Rattle.bus_pageslot.specs.Rule.{passed_word_in, IsSeated}
+use Rattle.bus_pageslot.specs.Rule.{passed_word_in, IsSeated, Seats, SeatsReceiver}
 use Rattle.bus_pageslot.specs.Rule.{IsListening, KnowsLog, IsTrueOf, TableInvariant}
 use Rattle.bus_pageslot.specs.Rings.{LeavesAll}
 use Rattle.bus_pageslot.specs.Steps.{HasPassed, HasLeft}
@@ -112,9 +112,10 @@ module _ {C : Type 0} (P : Process C) (A : Automaton C) (L : AutomatonLaws P A)
 
   -- ---- so the rule holds
   pub stored : (x : TableLayout) (e e' : ReceiverView) → get_elem? s.views id ≡ some (Tap x e)
-      → (word : ℕ) → word ≡ passed_word A.table_layout me → KnowsLog A p.state r.ear id x e'
+      → e'.me ≡ e.me → (word : ℕ) → word ≡ passed_word A.table_layout me
+      → KnowsLog A p.state r.ear id x e'
       → LeavesAll P A s r id word number (Tap x e')
-  stored x e e' at word is knows = record {
+  stored x e e' at same word is knows = record {
     rule = record {
       state = p.state;
       reached = p.reached;
@@ -130,7 +131,10 @@ module _ {C : Type 0} (P : Process C) (A : Automaton C) (L : AutomatonLaws P A)
           (λ (u : (j ≢ id) × (get_elem? s.views j ≡ some v)).
           others_true j u.0 v (r.views j v u.1))
           (at_set s.views id j (Tap x e') v i);
-      all = λ q below. still_seen P s.views id (Tap x e) (Tap x e') at q (λ k. k) (r.all q below);
+      all = λ q below. still_seen (Seats P q) s.views id (Tap x e) (Tap x e') at (λ k. k)
+          (r.all q below);
+      all_heard = λ q below. still_seen (SeatsReceiver q) s.views id (Tap x e) (Tap x e') at
+          (λ k. same ∙ k) (r.all_heard q below);
     };
     log = p.log;
   }
@@ -198,7 +202,7 @@ module _ {C : Type 0} (P : Process C) (A : Automaton C) (L : AutomatonLaws P A)
   pass_leaves going log =
       let p = L.passes r.state e.me e.passed e.place r.reached (l.shown stays) l.past
       (may_pass A r.state r.ear id x e h going log) in
-      stored P A L s r id e.place (Some e.place) e.me l.here p x e (passed_on e word) here word
+      stored P A L s r id e.place (Some e.place) e.me l.here p x e (passed_on e word) here refl word
       is_word
       (knows_with P A L s r id e.place (Some e.place) e.me l.here p id x e (passed_on e word) h refl
       refl (heard_passed h.frames e h.heard word going)
@@ -213,7 +217,8 @@ module _ {C : Type 0} (P : Process C) (A : Automaton C) (L : AutomatonLaws P A)
   pub leave_leaves : LeavesAll P A s r id word PASSED_ALL (Tap x (left_for_good e word))
   leave_leaves =
       let p = L.leaves r.state e.me e.passed r.reached (l.shown stays) in
-      stored P A L s r id PASSED_ALL None e.me l.here p x e (left_for_good e word) here word is_word
+      stored P A L s r id PASSED_ALL None e.me l.here p x e (left_for_good e word) here refl word
+      is_word
       (knows_with P A L s r id PASSED_ALL None e.me l.here p id x e (left_for_good e word) h refl
       refl (heard_left h.frames e h.heard word)
       (inr record {

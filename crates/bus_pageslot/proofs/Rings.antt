@@ -1,6 +1,6 @@
 -- A receiver of a ring finds, from what it has passed on, each word that was published there.
-use Rattle.std.proofs.Common.{◌≡◌, ◌⊎◌, inl, inr, ℕ, ◌+◌, ◌%◌, ◌<◌, ◌≤◌, Bool, true, false, List}
-use Rattle.std.proofs.Common.{Option, ◌++◌, length, slice_index, take, cond, arith, refl, sym}
+use Rattle.std.proofs.Common.{◌≡◌, inl, inr, ℕ, ◌+◌, ◌%◌, ◌<◌, ◌≤◌, Bool, true, false}
+use Rattle.std.proofs.Common.{Option, ◌++◌, slice_index, take, cond, arith, refl, sym}
 use Rattle.std.proofs.Common.{◌∙◌, ap, subst}
 use mathlib.Core.Option.{some}
 use lib.ListN.{get_elem?}
@@ -18,8 +18,9 @@ use Rattle.bus_automaton.specs.Processes.{TableLayout, Process, Automaton, log_c
 use Rattle.bus_automaton.specs.Processes.{passed_word}
 use Rattle.bus_pageslot.proofs.Passes.{its_own}
 use Rattle.bus_pageslot.specs.ReceiverViews.{ReceiverView}
-use Rattle.bus_pageslot.specs.Rings.{ShowsReceiver, RingKeeps, RingShows, RuleRefuses, StoresApart}
-use Rattle.bus_pageslot.specs.Rule.{IsListening, KnowsLog, IsTrueOf, TableInvariant}
+use Rattle.bus_pageslot.specs.Rings.{ShowsReceiver, HasSeat, RingKeeps, RingShows, RuleRefuses}
+use Rattle.bus_pageslot.specs.Rings.{StoresApart}
+use Rattle.bus_pageslot.specs.Rule.{IsListening, KnowsLog, IsTrueOf, SeatsReceiver, TableInvariant}
 use Rattle.bus_pageslot.specs.declared.rule.View.{View}
 use Rattle.bus_pageslot.specs.declared.rule.View.TheVariants.{Maker, Sender, Tap, Meeting, Telling}
 use Rattle.bus_pageslot.specs.declared.rule.View.TheVariants.{Spent}
@@ -142,6 +143,24 @@ module _ {C : Type 0} (P : Process C) (A : Automaton C) (L : AutomatonLaws P A)
               (λ i. absurd (apart (passed_word x e.me) x.log (place % x.capacity) high (sym i)));
         }
 
+-- a receiver that shows in a view, or that the maker of seats has yet to seat
+has_seat : {C : Type 0} (me : ℕ) (v : View C) → SeatsReceiver me v → HasSeat me v
+has_seat me (Maker y made) is = inr (y, made, refl, is)
+has_seat me (Sender c t stored) none = absurd none
+has_seat me (Tap y e) is = inl (e, is, refl)
+has_seat me (Meeting y e z f) (inl is) = inl (e, is, inl refl)
+has_seat me (Meeting y e z f) (inr is) = inl (f, is, inr refl)
+has_seat me (Telling c t stored y e) is = inl (e, is, refl)
+has_seat me Spent none = absurd none
+
+-- of a ring each has a seat
+pub all_have_seats : {C : Type 0} (P : Process C) (A : Automaton C)
+    (s : State (Option Page) (View C)) → TableInvariant P A s → (me : ℕ)
+    → me < A.table_layout.passers
+    → (j : ℕ) × (v : View C) × (get_elem? s.views j ≡ some v) × HasSeat me v
+all_have_seats P A s r me below =
+    let h = r.all_heard me below in (h.0, h.1, h.2, has_seat me h.1 h.3)
+
 pub rule_refuses : {C : Type 0} (P : Process C) (A : Automaton C) (L : AutomatonLaws P A)
     (s : State (Option Page) (View C)) → 0 < A.table_layout.passers → RuleRefuses P A s
 rule_refuses P A L s any = record {
@@ -158,4 +177,5 @@ rule_refuses P A L s any = record {
   one_number = λ i j v w e f apart at is here shown same r.
       apart (sym (listens_here P A L s r i v e at is any).here ∙ ap r.ear same
       ∙ (listens_here P A L s r j w f here shown any).here);
+  unseen = λ me below none r. let h = all_have_seats P A s r me below in none h.0 h.1 h.2 h.3;
 }

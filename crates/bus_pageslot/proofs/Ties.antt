@@ -31,7 +31,7 @@ use Rattle.bus_automaton.specs.Processes.{TableLayout, Process, Automaton, log_i
 use Rattle.bus_automaton.specs.Lawful.{ProcessLaws, AutomatonLaws, ChangesTo, AcceptsIn, StepsIn}
 use Rattle.bus_automaton.specs.Lawful.{LogGrows, IsSender}
 use Rattle.bus_pageslot.specs.Rule.{slot_of, Sat, sender_trail_in, stored_in, IsSeated, IsUnseated}
-use Rattle.bus_pageslot.specs.Rule.{KnowsLog, IsTrueOf, TableInvariant}
+use Rattle.bus_pageslot.specs.Rule.{KnowsLog, IsTrueOf, Seats, SeatsReceiver, TableInvariant}
 use Rattle.bus_pageslot.proofs.Loads.{Listens}
 use Rattle.bus_pageslot.specs.Steps.{all_in, since_in, stored_by, Told, Gone, IsDue}
 use Rattle.bus_automaton.specs.SenderTrails.{SenderTrail, with_actions, with_sender_trail}
@@ -173,8 +173,10 @@ tie {C} P A s r id c d t t' stored stored' words homes z' on grows long at same 
             others_know P A r.state z' r.seat r.ear
             (P.me c) id d t' on grows k.here j u.0 v (r.views j v u.1))
             (at_set s.views id j (Sender d t' stored') v e);
-        all = λ p below. still_seen P s.views id (Sender c t stored) (Sender d t' stored') at p
-            (λ is. same ∙ is) (r.all p below);
+        all = λ p below. still_seen (Seats P p) s.views id (Sender c t stored)
+            (Sender d t' stored') at (λ is. same ∙ is) (r.all p below);
+        all_heard = λ q below. still_seen (SeatsReceiver q) s.views id (Sender c t stored)
+            (Sender d t' stored') at (λ is. is) (r.all_heard q below);
       };
       log = refl;
     }

@@ -25,6 +25,13 @@ ShowsReceiver e (Meeting x f y g) = (f ≡ e) ⊎ (g ≡ e)
 ShowsReceiver e (Telling c sender_trail stored x f) = f ≡ e
 ShowsReceiver e Spent = ⊥
 
+-- a view shows the receiver of this number, or it is that of the maker of seats, which has yet to
+-- make the seat of this receiver
+abbrev pub HasSeat : {C : Type 0} → ℕ → View C → Type 0
+HasSeat me v =
+    ((e : ReceiverView) × (e.me ≡ me) × ShowsReceiver e v)
+    ⊎ ((x : TableLayout) × (made : ℕ) × (v ≡ Maker x made) × (made ≤ x.senders + me))
+
 -- Of a receiver that has not left, on a table with these words, where this is all that was
 -- published.
 pub record RingKeeps (x : TableLayout) (words log : List ℕ) (e : ReceiverView) : Type 0 where
@@ -87,3 +94,7 @@ pub record RuleRefuses {C : Type 0} (P : Process C) (A : Automaton C)
   pub one_number : (i j : ℕ) (v w : View C) (e f : ReceiverView) → i ≢ j
       → get_elem? s.views i ≡ some v → ShowsReceiver e v → get_elem? s.views j ≡ some w
       → ShowsReceiver f w → e.me ≡ f.me → ¬ TableInvariant P A s
+  -- a receiver that shows in no view, and whose seat is not yet to be made
+  pub unseen : (me : ℕ) → me < A.table_layout.passers
+      → ((j : ℕ) (v : View C) → get_elem? s.views j ≡ some v → ¬ HasSeat me v)
+      → ¬ TableInvariant P A s

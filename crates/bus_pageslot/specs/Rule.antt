@@ -259,8 +259,19 @@ Seats P p (Meeting x e y f) = ⊥
 Seats P p (Telling c sender_trail stored x e) = P.me c ≡ p
 Seats P p Spent = ⊥
 
+-- the receiver r of a ring shows in this view: in its own, or joined to another, or in that of the
+-- maker of seats while it has none of its own
+abbrev pub SeatsReceiver : {C : Type 0} → ℕ → View C → Type 0
+SeatsReceiver r (Maker x made) = made ≤ x.senders + r
+SeatsReceiver r (Sender c sender_trail stored) = ⊥
+SeatsReceiver r (Tap x e) = e.me ≡ r
+SeatsReceiver r (Meeting x e y f) = (e.me ≡ r) ⊎ (f.me ≡ r)
+SeatsReceiver r (Telling c sender_trail stored x e) = e.me ≡ r
+SeatsReceiver r Spent = ⊥
+
 -- Executions of the bus lead to a state with these words, and with its page in the slot where that
--- is at home; the views of the seats are true of it; and each of its senders shows in one of them.
+-- is at home; the views of the seats are true of it; and each of its senders shows in one of them,
+-- and so does each receiver of a ring.
 pub record TableInvariant {C : Type 0} (P : Process C) (A : Automaton C)
     (s : State (Option Page) (View C)) : Type 0 where
   pub state : A.State
@@ -275,3 +286,6 @@ pub record TableInvariant {C : Type 0} (P : Process C) (A : Automaton C)
       → IsTrueOf P A state seat ear j v
   pub all : (p : ℕ) → p < A.table_layout.senders
       → (j : ℕ) × (v : View C) × (get_elem? s.views j ≡ some v) × Seats P p v
+  -- and so does each receiver of a ring
+  pub all_heard : (r : ℕ) → r < A.table_layout.passers
+      → (j : ℕ) × (v : View C) × (get_elem? s.views j ≡ some v) × SeatsReceiver r v

@@ -35,7 +35,8 @@ ghost use Rattle.bus_automaton.specs.SenderTrails.{SenderTrail, with_sender_trai
 ghost use Rattle.bus_automaton.specs.declared.plans.Plan.{Plan};
 ghost use Rattle.bus_pageslot.specs.ReceiverViews.{ReceiverView, receiver_view_after_load};
 ghost use Rattle.bus_pageslot.specs.ReceiverViews.{left_for_good, passed_on};
-ghost use Rattle.bus_pageslot.specs.Rings.{LeavesAll, RingShows, ShowsReceiver, StoresApart};
+ghost use Rattle.bus_pageslot.specs.Rings.{HasSeat, LeavesAll, RingShows, ShowsReceiver};
+ghost use Rattle.bus_pageslot.specs.Rings.{StoresApart};
 ghost use Rattle.bus_pageslot.specs.declared.rule.View.{View};
 ghost use Rattle.bus_pageslot.specs.declared.rule.View.TheVariants as view;
 ghost use Rattle.bus_pageslot.specs.Buses.{IsNewSeat};
@@ -116,15 +117,21 @@ pub fn no_page_without_each_sender<Q: Ratifier>()
 
 /// Of a ring, between any two steps, no word is lost that a receiver has not passed. The passed
 /// place of each receiver shows what that has passed, or that it has left. What one that has not
-/// left has passed are whole frames that it has read; and from there on each word that was
-/// published stands in its cell.
+/// left has passed are whole frames that it has read. From there on each word that was published
+/// stands in its cell. And each receiver shows in some seat, or the maker of seats has yet to make
+/// it one.
 pub fn rings_are_safe<Q: Ratifier>()
-    ensures { let P = process_by Q.Ratifier in let A = automaton_by Q.Ratifier in
+    ensures receiver { let P = process_by Q.Ratifier in let A = automaton_by Q.Ratifier in
         (plan : Plan) (s : State (Option Page) (View (Sender (Elector Q)))) (seat : ℕ)
         (v : View (Sender (Elector Q))) (e : ReceiverView) (r : TableInvariant P (A plan) s)
         → get_elem? s.views seat ≡ some v → ShowsReceiver e v
         → 0 < (A plan).table_layout.passers
         → RingShows (A plan).table_layout s.words (log_in (A plan) r.state) e }
+    ensures all { let P = process_by Q.Ratifier in let A = automaton_by Q.Ratifier in
+        (plan : Plan) (s : State (Option Page) (View (Sender (Elector Q)))) (me : ℕ)
+        → TableInvariant P (A plan) s → me < (A plan).table_layout.passers
+        → (seat : ℕ) × (v : View (Sender (Elector Q))) × (get_elem? s.views seat ≡ some v)
+        × HasSeat me v }
 {
     threads_may_go_by::<Q>();
 }

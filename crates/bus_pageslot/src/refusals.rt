@@ -55,9 +55,10 @@ pub fn hearing_refuses<Q: Ratifier>()
         → HearingRefuses (Sender (Elector Q)) x e }
 {}
 
-/// The rule holds of no table of a ring where a passed place does not show what its receiver has
-/// passed, or that it has left; where a receiver has passed what it has not read, or a place within
-/// a frame; or where two seats show one receiver.
+/// The rule holds of no table of a ring with one of these faults. A passed place does not show what
+/// its receiver has passed, or that it has left. A receiver has passed what it has not read, or a
+/// place within a frame. Two seats show one receiver. A receiver shows in no seat, and none is yet
+/// to be made for it.
 pub fn rule_refuses<Q: Ratifier>()
     ensures { let A = automaton_by Q.Ratifier in
         (plan : Plan) (s : State (Option Page) (View (Sender (Elector Q))))
