@@ -25,7 +25,7 @@ use Rattle.bus_pageslot.specs.declared.rule.View.TheVariants.{Tap}
 use Rattle.bus_automaton.specs.Processes.{TableLayout, Process, Automaton, base_in, log_below}
 use Rattle.bus_automaton.specs.Processes.{log_in}
 use Rattle.bus_automaton.specs.Lawful.{AutomatonLaws, HasLog, floor_in, log_from_floor}
-use Rattle.bus_pageslot.specs.Rule.{slot_of, known_in, KnowsLog, TableInvariant}
+use Rattle.bus_pageslot.specs.Rule.{slot_of, receiver_view_in, known_in, KnowsLog, TableInvariant}
 use Rattle.bus_pageslot.specs.Endings.{IsLeft}
 use Rattle.bus_pageslot.specs.Outcomes.{IsOutcome, KnowsWhole}
 use Rattle.bus_pageslot.specs.Places.{AreIn}
@@ -33,6 +33,7 @@ use Rattle.bus_pageslot.specs.declared.outcomes.Places.{Places}
 use Rattle.bus_pageslot.proofs.LastFrames.{floor_within, last_spell, before, counted}
 use Rattle.bus_pageslot.proofs.LastFrames.{item_behind, has_left, has_ended}
 use Rattle.bus_pageslot.proofs.Promising.{seats_promised}
+use Rattle.bus_pageslot.proofs.Rings.{all_served}
 
 -- a word of a list
 pub word_at : (ws : List ℕ) (i w : ℕ) → get_elem? ws i ≡ some w → slice_index ws i ≡ w
@@ -206,15 +207,23 @@ module _ {C : Type 0} (P : Process C) (A : Automaton C) (L : AutomatonLaws P A) 
     stage_is : (stage : ℕ) → slice_index ws 1 ≡ stage → slice_index (A.words shown.state) 1 ≡ stage
     stage_is stage at = ap (λ l. slice_index l 1) words_are ∙ at
 
+    at_tap : get_elem? f.0.views id ≡ some (Tap x e)
+    at_tap = f.1.1 ∙ ap (λ (u : View C). some u) is
+
+    -- the floor is not past what this receiver has passed, which has not left
+    floor_passed : e.gone ≡ false → 0 < A.table_layout.passers
+        → floor_in A.table_layout ws ≤ e.passed
+    floor_passed stays any = subst (λ l. floor_in A.table_layout l ≤ e.passed) f.2
+        ((all_served P A L f.0 shown id (Tap x e) e at_tap refl any).stays stays).floor
+
     -- what is left, with what is home
-    left : (home : Option Page) → A.home shown.state ≡ home → (floor : ℕ)
+    left : e.gone ≡ false → (home : Option Page) → A.home shown.state ≡ home → (floor : ℕ)
         → floor ≡ floor_in A.table_layout ws → (log : List ℕ)
         → log ≡ log_from_floor A.table_layout ws
         → IsLeft P A v log floor home
-    left home at floor floor_is log log_is =
+    left stays home at floor floor_is log log_is =
         let z = shown.state in
-        let k : KnowsLog A z shown.ear id x e =
-        shown.views id (Tap x e) (f.1.1 ∙ ap (λ (u : View C). some u) is) in
+        let k : KnowsLog A z shown.ear id x e = shown.views id (Tap x e) at_tap in
         let hl = has_log in
         let promised = seats_promised P A L f.0 shown in
         let floor_at : floor_in A.table_layout (A.words z) ≡ floor =
@@ -230,6 +239,8 @@ module _ {C : Type 0} (P : Process C) (A : Automaton C) (L : AutomatonLaws P A) 
           log_is = ap (log_from_floor A.table_layout) f.2 ∙ sym log_is;
           published = published;
           within = subst (λ k. k ≤ length (log_in A z)) floor_at floor_low;
+          passed = λ any. subst (λ (u : View C). floor ≤ (receiver_view_in u).passed) (sym is)
+              (subst (λ k. k ≤ e.passed) (sym floor_is) (floor_passed stays any));
           flat = λ none.
               let first : floor ≡ 0 =
               floor_is
@@ -251,22 +262,23 @@ module _ {C : Type 0} (P : Process C) (A : Automaton C) (L : AutomatonLaws P A) 
               promised.owners promised.spelled;
         }
 
-    pub left_out : (stage : ℕ) → slice_index ws 1 ≡ stage → stage % 2 ≡ 1
+    pub left_out : e.gone ≡ false → (stage : ℕ) → slice_index ws 1 ≡ stage → stage % 2 ≡ 1
         → (log : List ℕ) × (floor : ℕ) × IsLeft P A v log floor None
-    left_out stage at odd =
+    left_out stays stage at odd =
         let away =
         L.odd_away shown.state shown.reached (ap (λ n. n % 2) (stage_is stage at) ∙ odd) in (
           _,
           _,
-          left None (nothing_there (A.home shown.state) away) (floor_in A.table_layout ws) refl
-              (log_from_floor A.table_layout ws) refl,
+          left stays None (nothing_there (A.home shown.state) away) (floor_in A.table_layout ws)
+              refl (log_from_floor A.table_layout ws) refl,
         )
 
-    pub left_home : (stage : ℕ) → slice_index ws 1 ≡ stage → stage % 2 ≢ 1 → (slot : Option Page)
+    pub left_home : e.gone ≡ false → (stage : ℕ) → slice_index ws 1 ≡ stage → stage % 2 ≢ 1
+        → (slot : Option Page)
         → get_elem? xs 0 ≡ some slot → (floor : ℕ) → floor ≡ floor_in A.table_layout ws
         → (log : List ℕ) → log ≡ log_from_floor A.table_layout ws
         → (page : Page) × (slot ≡ Some page) × IsLeft P A v log floor (Some page)
-    left_home stage at even slot in_slot floor floor_is log log_is =
+    left_home stays stage at even slot in_slot floor floor_is log log_is =
         let there = L.even_at_home shown.state shown.reached
         (λ odd. even (ap (λ n. n % 2) (sym (stage_is stage at)) ∙ odd)) in
         let h = some_is (A.home shown.state) there in
@@ -275,4 +287,4 @@ module _ {C : Type 0} (P : Process C) (A : Automaton C) (L : AutomatonLaws P A) 
         (shown.slot ∙ ap (λ (u : Option Page). slot_of u ∷ []) h.1) in
         let same : slot ≡ Some h.0 =
         some-injective slot (Some h.0) (sym in_slot ∙ f.4 0 (Some h.0) there) in
-        (h.0, same, left (Some h.0) h.1 floor floor_is log log_is)
+        (h.0, same, left stays (Some h.0) h.1 floor floor_is log log_is)

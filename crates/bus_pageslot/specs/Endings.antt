@@ -1,5 +1,5 @@
 -- What a bus leaves behind.
-use Rattle.std.specs.Prelude.{◌≡◌, ℕ, ◌≤◌, List, [], ◌∷◌, Option, Some, drop, length}
+use Rattle.std.specs.Prelude.{◌≡◌, ℕ, ◌<◌, ◌≤◌, List, [], ◌∷◌, Option, Some, drop, length}
 use mathlib.Core.Option.{some}
 use lib.ListN.{get_elem?}
 use Rattle.atomic_table.specs.Table.{State}
@@ -7,7 +7,7 @@ use Rattle.bus_tenure.specs.declared.pages.Page.{Page}
 use Rattle.bus_world.specs.Headline.{IsPrefix}
 use Rattle.bus_world.specs.Log.{KeepsFloor}
 use Rattle.bus_pageslot.specs.declared.rule.View.{View}
-use Rattle.bus_pageslot.specs.Rule.{slot_of, known_in, TableInvariant}
+use Rattle.bus_pageslot.specs.Rule.{slot_of, receiver_view_in, known_in, TableInvariant}
 use Rattle.bus_automaton.specs.Lawful.{floor_in, log_from_floor}
 use Rattle.bus_automaton.specs.Processes.{Process, Automaton, base_in, log_below, log_in}
 use Rattle.bus_pageslot.specs.Outcomes.{KnowsWhole}
@@ -34,6 +34,8 @@ pub record IsLeft {C : Type 0} (P : Process C) (A : Automaton C) (seen : View C)
   pub log_is : log_from_floor A.table_layout table.words ≡ log
   pub published : drop floor (log_in A shown.state) ≡ log
   pub within : floor ≤ length (log_in A shown.state)
+  -- of a ring the floor is not past what the receiver has passed that ended the bus
+  pub passed : 0 < A.table_layout.passers → floor ≤ (receiver_view_in seen).passed
   pub flat : A.table_layout.passers ≡ 0 → IsFlat A table.words log floor home
   pub home_is : table.homes ≡ slot_of home ∷ []
   pub promised : IsPromised P A.table_layout (base_in A) (log_in A shown.state) table

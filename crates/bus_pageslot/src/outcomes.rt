@@ -1,7 +1,7 @@
 //! What a bus leaves behind.
 
 ghost use Rattle.std.specs.Prelude.{◌≡◌, ℕ, ◌+◌, ◌*◌, ◌-◌, ◌<◌, ◌≤◌, ◌^◌, List, [], Some};
-ghost use Rattle.std.specs.Prelude.{None, true};
+ghost use Rattle.std.specs.Prelude.{None, false, true};
 ghost use Rattle.std.specs.Prelude.{codes, length, slice_get, slice_index, IfOk, OnErr};
 ghost use Rattle.std.specs.Vec.{vec_len, vec_capacity};
 ghost use Rattle.std.specs.Slots.{slots_items, slots_len, IsFull};
@@ -208,7 +208,7 @@ pub(crate) fn leave<Q: Ratifier + Drop>(
     room: Vec<u64>,
 ) -> Result<Ended, EndFault>
     requires table { seat.table_id ≡ words.table }
-    requires tap { (d : _) × (e : ReceiverView) × (seat.me ≡ (Tap d e, [])) }
+    requires tap { (d : _) × (e : ReceiverView) × (seat.me ≡ (Tap d e, [])) × (e.gone ≡ false) }
     requires empty { (room.items ≡ []) × (vec_len room ≡ 0) }
     requires some { 0 < places.log_words }
     requires few { (automaton_by Q.Ratifier words.plan).table_layout.words ≤ 2 ^ 63 }

@@ -1,6 +1,6 @@
 //! A receiver's seat, its loads, and what it stores in its passed place.
 
-ghost use Rattle.std.specs.Prelude.{◌≡◌, ◌<◌, ◌≤◌, [], length, slice_index};
+ghost use Rattle.std.specs.Prelude.{◌≡◌, ◌<◌, ◌≤◌, [], false, length, slice_index};
 ghost use Rattle.bus_automaton.specs.Buses.{process_by};
 ghost use Rattle.bus_pageslot.specs.ReceiverViews.{ReceiverView, Agree, receiver_view_after_load};
 ghost use Rattle.bus_pageslot.specs.declared.rule.View.TheVariants as View;
@@ -79,7 +79,8 @@ impl<Q: Ratifier + Drop> Tap<Q> {
     /// Its seat.
     pub(crate) fn into_seat(self) -> BusSeat<Q>
         ensures receiver_seat { receiver_seat result ≡ self }
-        ensures tap { (d : _) × (e : ReceiverView) × (result.me ≡ (View.Tap d e, [])) }
+        ensures tap { (d : _) × (e : ReceiverView) × (result.me ≡ (View.Tap d e, []))
+            × (e.gone ≡ false) }
     {
         let Tap { seat, .. } = self;
         seat.unwrap()

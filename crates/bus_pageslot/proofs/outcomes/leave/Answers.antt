@@ -159,7 +159,7 @@ returns-then-stage-eq1-clause-out g c =
     let xs = slots_items c.close-closed.result.slots in
     let f = c.close-closed.ensures.last in
     let is = ap (λ m. m.0) n.2 in
-    left_out P A L seat.id seat.me.0 n.0 n.1 is ws xs f c.word-stage.result
+    left_out P A L seat.id seat.me.0 n.0 n.1 is ws xs f n.3 c.word-stage.result
     (word_at ws 1 c.word-stage.result c.word-stage.ensures) c.if-stage-eq1.true
 
 pub unwrap-requires : goal.unwrap-requires
@@ -182,7 +182,7 @@ unwrap-requires g c =
     c.words_left-log.ensures
     ∙ read_at A.table_layout c.args.places c.requires.places ws c.word-length.result length_is
     c.floor_left-floor.result floor_is in
-    let home = left_home P A L seat.id seat.me.0 n.0 n.1 is ws xs f c.word-stage.result
+    let home = left_home P A L seat.id seat.me.0 n.0 n.1 is ws xs f n.3 c.word-stage.result
     (word_at ws 1 c.word-stage.result c.word-stage.ensures) c.if-stage-eq1.false c.take-page.result
     c.take-page.ensures.value c.floor_left-floor.result floor_is c.words_left-log.result.items
     read_is in
@@ -208,7 +208,7 @@ returns-clause-ended g c =
     c.words_left-log.ensures
     ∙ read_at A.table_layout c.args.places c.requires.places ws c.word-length.result length_is
     c.floor_left-floor.result floor_is in
-    let home = left_home P A L seat.id seat.me.0 n.0 n.1 is ws xs f c.word-stage.result
+    let home = left_home P A L seat.id seat.me.0 n.0 n.1 is ws xs f n.3 c.word-stage.result
     (word_at ws 1 c.word-stage.result c.word-stage.ensures) c.if-stage-eq1.false c.take-page.result
     c.take-page.ensures.value c.floor_left-floor.result floor_is c.words_left-log.result.items
     read_is in
@@ -236,7 +236,7 @@ invariant_of-result g c =
     c.words_left-log.ensures
     ∙ read_at A.table_layout c.args.places c.requires.places ws c.word-length.result length_is
     c.floor_left-floor.result floor_is in
-    let home = left_home P A L seat.id seat.me.0 n.0 n.1 is ws xs f c.word-stage.result
+    let home = left_home P A L seat.id seat.me.0 n.0 n.1 is ws xs f n.3 c.word-stage.result
     (word_at ws 1 c.word-stage.result c.word-stage.ensures) c.if-stage-eq1.false c.take-page.result
     c.take-page.ensures.value c.floor_left-floor.result floor_is c.words_left-log.result.items
     read_is in
