@@ -10,6 +10,7 @@ use Rattle.bus_machine.proofs.Framed.{framed, history, history_below, reuses}
 use Rattle.bus_machine.proofs.Gone.{event_stays}
 use Rattle.bus_machine.proofs.Joining.{joins, grows}
 use Rattle.bus_machine.proofs.Leading.{Sits, sits_after}
+use Rattle.bus_machine.proofs.PassedRising.{passed_rise}
 use Rattle.bus_machine.proofs.Promised.{promised}
 use Rattle.bus_machine.proofs.Rising.{rises}
 use Rattle.bus_machine.proofs.Staying.{promise_stays, grown_longer}
@@ -49,6 +50,7 @@ module _ {E : Type 0} (X : Election E) (P : Protocol E (Unit {0}) ℕ) (m : Mach
         (Then m m' T e a r h));
     rises = rises X P m m' T₀ e a s r₀ h;
     floors = floors_rise X P m m' T₀ e a s r₀ h;
+    passed = passed_rise X P m m' T₀ e a s r₀ h;
     reached = λ T r. Then m m' T e a r h;
     promised = λ T r. promise_stays X m m' T (trails_grown X m e a T)
         (ap (λ x. x.senders) (event_reuse X m m' e a h).0)

@@ -15,6 +15,7 @@ pub mod Clearing
 pub mod Taking
 pub mod Knowing
 pub mod Rising
+pub mod PassedRising
 pub mod Bounding
 pub mod Staying
 pub mod Gone

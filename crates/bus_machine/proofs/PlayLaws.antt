@@ -1,6 +1,6 @@
 -- Events that are played one after another, and what is said of all of them.
 use Rattle.std.proofs.Common.{Bool, ◌≡◌, ℕ, ◌≤◌, Option, Some, None, List, [], ◌∷◌, ◌++◌, arith}
-use Rattle.std.proofs.Common.{refl, sym, ◌∙◌, ap, subst, append_assoc}
+use Rattle.std.proofs.Common.{refl, sym, ◌∙◌, ap, slice_index, subst, append_assoc}
 use Rattle.std.proofs.lemmas.List.{append-nil}
 use Rattle.bus_register.specs.Protocol.{Protocol}
 use Rattle.bus_adoptcommit.specs.declared.verdicts.Verdict.{Verdict}
@@ -17,9 +17,10 @@ use Rattle.bus_machine.proofs.Leading.{Sits, sits_after}
 use Rattle.bus_machine.proofs.Promised.{promised}
 use Rattle.bus_machine.proofs.Staying.{Longer, stays_long, grown_longer, promise_stays}
 use Rattle.bus_machine.specs.Machine.{Machine, Trails, Reached, ShowsLog, StandsBelow}
-use Rattle.bus_machine.specs.Machine.{trails_grown, stage_of}
+use Rattle.bus_machine.specs.Machine.{trails_grown, stage_of, passed_by}
 use Rattle.bus_machine.specs.Playing.{Answers, AllAnswered, trails_after, words_after, Played}
-use Rattle.bus_machine.specs.Promise.{FloorsRise, HasGoneOn, IsPageOf, actions_in, words_joined}
+use Rattle.bus_machine.specs.Promise.{FloorsRise, HasGoneOn, IsPageOf, PassedRise, actions_in}
+use Rattle.bus_machine.specs.Promise.{words_joined}
 
 -- one event more
 pub answered_more : {S : Type 0} (X : Election (Elector S)) (P : Protocol S Bool Verdict)
@@ -116,6 +117,17 @@ module _ {S : Type 0} (X : Election (Elector S)) (Q : Protocol S Bool Verdict) w
       one.1 has' in
       let higher = one.2 in omega arith
 
+  run_passed : (events : List Event) (old new : Machine (Elector S))
+      → AllAnswered X Q old events new → PassedRise old new
+  run_passed [] old new run r at is =
+      let same = ap (λ (y : Machine (Elector S)). slice_index y.words at) run in omega arith
+  run_passed (e ∷ events) old new run r at is =
+      let same = event_reuse X old run.0 e run.1 run.2.happens in
+      let one = run.2.follows.passed r at is in
+      let rest = run_passed events run.0 new run.3 r at
+      (ap (λ x. passed_by x run.0.reuse r) same.0 ∙ ap (λ o. passed_by old.layout o r) same.1 ∙ is)
+      in omega arith
+
   sits_on :
       (P : Protocol (Elector S) (Unit {0}) ℕ) (events : List Event) (old new : Machine (Elector S))
       → AllAnswered X Q old events new → Sits X P old → Sits X P new
@@ -139,6 +151,7 @@ module _ {S : Type 0} (X : Election (Elector S)) (Q : Protocol S Bool Verdict) w
           (sits_on P events old new run s) (run_reached events old new run T r));
       rises = run_rises events old new run;
       floors = run_floors P events old new run T₀ s r₀;
+      passed = run_passed events old new run;
       reached = λ T r. run_reached events old new run T r;
       promised = λ T r. promise_stays X old new T (trails_after X Q old events new run T)
           (ap (λ (x : Layout). x.senders) (run_same events old new run).0) (promised X P old T s r)

@@ -358,6 +358,7 @@ follows_refused X old e a new = record {
       let after : stage_of new ≡ 1 = ap (λ l. slice_index l 1) now in omega arith;
   floor_falls = λ page next has has' falls f.
       let rises = f.floors page next has has' in omega arith;
+  passed_falls = λ r at is falls f. let rises = f.passed r at is in omega arith;
   led_by_nothing = λ nothing f. nothing f.led.0 f.led.1;
   grows_unpublished = λ T led none other f.
       other (subst (ShowsLog new)
@@ -407,6 +408,7 @@ pages_refused {E} X m T = record {
   out_while_open = λ t home opened p.
       let k = subst (IsPagedBy (stage_of m) _ _) home p.by.paged in let a = k.1 in omega arith;
   other_tenure = λ page home apart p. apart (subst (IsPagedBy (stage_of m) _ _) home p.by.paged).0;
+  other_words = λ page home apart p. apart (subst (IsPagedBy (stage_of m) _ _) home p.by.paged).1;
   floor_past_length = λ page home past p.
       let k = subst (IsPagedBy (stage_of m) _ _) home p.by.paged in
       let words_are = k.1 in

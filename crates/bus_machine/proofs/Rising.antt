@@ -50,7 +50,7 @@ use Rattle.bus_machine.specs.Remembering.{rows_in}
 use Rattle.bus_machine.specs.Promise.{ReusesRows, ReusesSafely, reclamation_of}
 
 -- a load leaves all words
-loads_same : (xs : List ℕ) (r q : ℕ) → r < length xs
+pub loads_same : (xs : List ℕ) (r q : ℕ) → r < length xs
     → slice_index (slice_set xs r (slice_index xs r)) q ≡ slice_index xs q
 loads_same xs r q l = elim (cases_eq q r) [
   | inl i ↦

@@ -177,6 +177,13 @@ abbrev pub FloorsRise : {E : Type 0} → Machine E → Machine E → Type 0
 FloorsRise old new =
     (page next : Page) → IsPageOf old page → IsPageOf new next → page.floor ≤ next.floor
 
+-- no passed place falls, be it one that no receiver has; a receiver that leaves stores 2^64 - 1 in
+-- its own, so it rises with that as well
+abbrev pub PassedRise : {E : Type 0} → Machine E → Machine E → Type 0
+PassedRise old new =
+    (r at : ℕ) → passed_by old.layout old.reuse r ≡ Some at
+    → slice_index old.words at ≤ slice_index new.words at
+
 -- ---- the log
 -- a step is on the cell of the word that is so many past the length; and no word that stands has
 -- that cell
@@ -301,9 +308,9 @@ words_joined X m e = words_of_frame (frame_published X m e)
 -- that was published by them, with these words behind it, and its cells show that from its floor
 -- on, and no other: so what was published is extended and never otherwise changed. Where no word of
 -- the log is used again it is just the words below the length. The stage never falls, nor does the
--- floor of the page. With these ones those trails lead to the new machine, and the promise stays;
--- and of a tenure whose row had gone on before, no sender has an action more: no step of its
--- election, and none of who holds its page. So what was elected there stays as it is.
+-- floor of the page, nor a passed place. With these ones those trails lead to the new machine, and
+-- the promise stays; and of a tenure whose row had gone on before, no sender has an action more: no
+-- step of its election, and none of who holds its page. So what was elected there stays as it is.
 pub record Extends {E : Type 0} (X : Election E) (old new : Machine E) (joined : List ℕ)
     (grown : Trails → Trails) : Type 0 where
   pub led : (T : Trails) × Reached X old T
@@ -311,6 +318,7 @@ pub record Extends {E : Type 0} (X : Election E) (old new : Machine E) (joined :
   pub below : (T : Trails) → Reached X old T → StandsBelow new (T.log ++ joined)
   pub rises : stage_of old ≤ stage_of new
   pub floors : FloorsRise old new
+  pub passed : PassedRise old new
   pub reached : (T : Trails) → Reached X old T → Reached X new (grown T)
   pub promised : (T : Trails) → Reached X old T → StaysPromised X old T new (grown T)
   pub stays : (T : Trails) → Reached X old T → (t s : ℕ) → HasGoneOn old old.reuse t

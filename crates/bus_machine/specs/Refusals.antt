@@ -41,7 +41,7 @@ use Rattle.bus_world.specs.declared.events.Answer.{Answer}
 use Rattle.bus_world.specs.declared.events.Answer.TheVariants as answer
 use Rattle.bus_machine.specs.Bounding.{named_by, AreBounded, PinsAreBounded}
 use Rattle.bus_machine.specs.Machine.{Machine, Trails, Reached, Happens, base_of, log_place}
-use Rattle.bus_machine.specs.Machine.{ShowsLog, stage_of, floor_of, log_of}
+use Rattle.bus_machine.specs.Machine.{ShowsLog, stage_of, floor_of, log_of, passed_by}
 use Rattle.bus_machine.specs.Promise.{IsPageOf, IsPromised, Follows, actions_in, pin_of}
 use Rattle.bus_machine.specs.Promise.{frame_published}
 use Rattle.bus_machine.specs.Telling.{TurnTells, PutTells, LossesAreSeen, IsLeast, places_found}
@@ -204,6 +204,9 @@ pub record FollowsRefuse {E : Type 0} (X : Election E) (old : Machine E) (e : Ev
   -- the floor of the page falls
   pub floor_falls : (page next : Page) → IsPageOf old page → IsPageOf new next
       → next.floor < page.floor → ¬ Follows X old e a new
+  -- a passed place falls
+  pub passed_falls : (r at : ℕ) → passed_by old.layout old.reuse r ≡ Some at
+      → slice_index new.words at < slice_index old.words at → ¬ Follows X old e a new
   -- nothing led to the old machine
   pub led_by_nothing : ((T : Trails) → ¬ Reached X old T) → ¬ Follows X old e a new
   -- the cells show other words than were published, and no length was stored: so more or fewer
@@ -236,6 +239,9 @@ pub record PagesRefuse {E : Type 0} (X : Election E) (m : Machine E) (T : Trails
       → ¬ IsPromised X m T
   pub out_while_open : (t : ℕ) → m.home ≡ None → stage_of m ≡ 2 * t → ¬ IsPromised X m T
   pub other_tenure : (page : Page) → m.home ≡ Some page → stage_of m ≢ 2 * page.tenures
+      → ¬ IsPromised X m T
+  -- or that knows another length than the log has
+  pub other_words : (page : Page) → m.home ≡ Some page → page.words ≢ slice_index m.words 0
       → ¬ IsPromised X m T
   -- or whose floor is past the length, or past what a receiver has passed
   pub floor_past_length : (page : Page) → m.home ≡ Some page → slice_index m.words 0 < page.floor

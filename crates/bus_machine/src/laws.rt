@@ -179,21 +179,21 @@ pub fn same_actions_say_no_more()
 {}
 
 /// No close is answered Leaving and no leave Closing, and neither lets the mark of the other wait.
-/// No machine follows another to which nothing led; or by an event with which the stage or the
-/// floor of the page falls; or with which the cells of the log show other words than were
-/// published though no length was stored, or what they showed though one was, or another frame
+/// No machine follows another to which nothing led; or by an event with which the stage, the floor
+/// of the page or a passed place falls; or with which the cells of the log show other words than
+/// were published though no length was stored, or what they showed though one was, or another frame
 /// than that of who stored it, or other words before that frame, or a log of which no word is used
 /// again has wrapped. None is promised whose page is at home while the stage is odd, or out while
-/// it is even, or knows another number of tenures or of items, or others that have left, or is out
-/// while nobody holds it, or counts a tenure that nobody took, or that two senders hold, or one
-/// that did not take it, or whose floor is past the length or what a receiver has passed; nor one
-/// of which a sender goes by another number, layout or count of rows, is to put its second message
-/// first, is closed while the order goes on in which it has not left, has left in it and is open or
-/// at rest with its mark, has asked for a mark and is open, passes over a tenure that is open, has
-/// begun one that is not opened yet, or has its batch on its way at rest, or not in a tenure; nor
-/// one of which a sender stores a word of the log next in the cell of one that stands, or clears a
-/// word of a row in which somebody stands. None is bounded of which a sender took more steps
-/// towards a page, or has no turn left while its election runs.
+/// it is even, or knows another number of tenures, of words of the log or of items, or others that
+/// have left, or is out while nobody holds it, or counts a tenure that nobody took, or that two
+/// senders hold, or one that did not take it, or whose floor is past the length or what a receiver
+/// has passed; nor one of which a sender goes by another number, layout or count of rows, is to put
+/// its second message first, is closed while the order goes on in which it has not left, has left
+/// in it and is open or at rest with its mark, has asked for a mark and is open, passes over a
+/// tenure that is open, has begun one that is not opened yet, or has its batch on its way at rest,
+/// or not in a tenure; nor one of which a sender stores a word of the log next in the cell of one
+/// that stands, or clears a word of a row in which somebody stands. None is bounded of which a
+/// sender took more steps towards a page, or has no turn left while its election runs.
 pub fn machines_refuse<Q: Ratifier>()
     ensures follows { let X = election_of Q.Ratifier in
         (old : Machine (Elector Q)) (event : Event) (given : Answer) (new : Machine (Elector Q))
