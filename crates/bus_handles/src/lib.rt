@@ -36,7 +36,7 @@ mod senders;
 
 pub use answers::{BusNotEnded, Delivered, NotDelivered, OrderNotEnded, answered};
 pub use bus_receiver::{
-    CloseFault, Ended, Found, Heard, Item, ItemTurn, Kind, LEAST_LOG_WORDS, LEAST_ROWS_AGAIN,
+    CloseFault, Ended, Found, Heard, Item, ItemTurn, Kind, LEAST_LOG_WORDS, LEAST_ROWS_AGAIN, Left,
     LogFault, LogRead, MOST_BYTES, MOST_LOG_WORDS, MOST_MESSAGES, MOST_RECEIVERS, MOST_ROUNDS,
     MOST_ROWS, MOST_ROWS_AGAIN, MOST_SENDERS, MakeFault, Message, NeverFits, Next, Order, Page,
     PutFault, RecvTurn, SendFault, SenderNo, Shape, ThreeWord, Turn, TwoCollect, Unsent, read_log,

@@ -258,8 +258,9 @@ pub fn only_owners_leave_the_stage<Q: Ratifier>()
 /// names the owner with which the sender saw that election end, and which is another sender. Own is
 /// of a tenure whose election chose the sender, and whose page it took. What is Delivered stands in
 /// the order, with these numbers, and is its last frame. Where a sender has Left, the last frame of
-/// the order is its leave mark. The log is Full where the sender's frame does not fit behind it.
-/// Behind is answered only where rows of words are used again.
+/// the order is its leave mark. It is Full where the sender's frame does not fit behind the log,
+/// counted from the floor of the page that it holds. Behind is answered only where rows of words
+/// are used again.
 pub fn answers_are_true<Q: Ratifier>()
     ensures { let P = process_by Q.Ratifier in
         (plan : Plan) (s : State (Option Page) (View (Sender (Elector Q)))) (seat : ℕ)
