@@ -21,7 +21,7 @@ use Rattle.bus_core.specs.Telling.{FeedTells, RestTells}
 use Rattle.bus_world.specs.Headline.{HasPut, HasMarked, puts}
 use Rattle.bus_pageslot.specs.Listening.{Hears, GoesOnTo}
 use Rattle.bus_pageslot.specs.Looks.{HasLooked, batch_len}
-use Rattle.bus_pageslot.specs.Rule.{Sat, receiver_view_in, known_in}
+use Rattle.bus_pageslot.specs.Rule.{Sat, receiver_view_in, known_in, table_layout_in}
 use Rattle.bus_pageslot.specs.Seats.{SenderSeat, TookAndTold, table_of, first_number_of}
 use Rattle.bus_pageslot.specs.Seats.{actions_of, stored_of}
 use Rattle.bus_pageslot.specs.Sendings.{waiting_of, Carries, CarryRefused}
@@ -190,6 +190,8 @@ pub record ShowsReceiver (m : Sat Held) (shown : ReceiverShown) : Type 0 where
   pub place : shown.place ≡ (receiver_view_in m.0).place
   pub ended : shown.has_ended ≡ (receiver_view_in m.0).ended
   pub passed : shown.passed ≡ (receiver_view_in m.0).passed
+  -- 0 of a bus that is no ring
+  pub never : (table_layout_in m.0).passers ≡ 0 → shown.passed ≡ 0
 
 -- ---- two handles, of one bus or not
 -- a receiver was told by a sender, which stayed as it was

@@ -262,7 +262,8 @@ impl<Q: Ratifier + Drop> ReceiverHandle<Q> {
     /// is let go leaves too, and so does `end` where it is answered InUse; but these wake nobody.
     /// Of another bus it is no step.
     pub fn leave(self) -> Left<Q>
-        ensures { HasLeftBy self.me result.me }
+        ensures table { result.table_id ≡ self.bus.table }
+        ensures left { HasLeftBy self.me result.me }
     {
         let ReceiverHandle {
             bus,
@@ -322,7 +323,8 @@ impl<Q: Ratifier + Drop> Drop for ReceiverHandle<Q> {
 /// The receiver leaves for good.
 fn leave<Q: Ratifier + Drop>(bus: &Bus<Q>, receiver: Receiver<Q>) -> Left<Q>
     requires { bus_of receiver ≡ bus.now.table }
-    ensures { HasLeftBy receiver.me result.me }
+    ensures table { result.table_id ≡ bus.now.table }
+    ensures left { HasLeftBy receiver.me result.me }
 {
     receiver.leave(bus)
 }

@@ -1,16 +1,18 @@
 -- A receiver of a ring finds, from what it has passed on, each word that was published there.
 use Rattle.std.proofs.Common.{◌≡◌, inl, inr, ℕ, ◌+◌, ◌%◌, ◌<◌, ◌≤◌, Bool, true, false}
-use Rattle.std.proofs.Common.{Option, ◌++◌, slice_index, take, cond, arith, refl, sym}
+use Rattle.std.proofs.Common.{Option, ◌++◌, length, slice_index, take, cond, arith, refl, sym}
 use Rattle.std.proofs.Common.{◌∙◌, ap, subst}
 use mathlib.Core.Option.{some}
 use lib.ListN.{get_elem?}
 use Rattle.std.proofs.Math.Seq.{take-append_seam}
 use Rattle.std.proofs.lemmas.Grind.{flat_map-append}
-use Rattle.std.proofs.lemmas.List.{get_or-set_other, take-append-le}
+use Rattle.std.proofs.lemmas.List.{get_or-set_other, get_or_append_left, length-append}
+use Rattle.std.proofs.lemmas.List.{take-append-le}
 use Rattle.atomic_table.specs.Table.{State}
 use Rattle.bus_register.specs.declared.limits.TheConstants.{PASSED_ALL}
 use Rattle.bus_batch.specs.Frames.{AreFrames, IsLog, frame_words, log_words}
 use Rattle.bus_tenure.specs.declared.pages.Page.{Page}
+use Rattle.bus_world.specs.Headline.{IsPrefix}
 use Rattle.bus_automaton.proofs.Fitting.{shown_below}
 use Rattle.bus_automaton.proofs.Walking.{front_lawful}
 use Rattle.bus_automaton.specs.Lawful.{AutomatonLaws, MayPass, floor_in}
@@ -122,6 +124,10 @@ module _ {C : Type 0} (P : Process C) (A : Automaton C) (L : AutomatonLaws P A)
     all_served =
         let k = known_of j e v (r.views j v at) is in served j k.0 e k.1 some
 
+    -- what it knows is a beginning of all that was published
+    pub knows_here : IsPrefix e.known (log_in A r.state)
+    knows_here = (known_of j e v (r.views j v at) is).1.front
+
     pub listens_here : IsListening A r.state r.ear j e
     listens_here =
         let k = known_of j e v (r.views j v at) is in
@@ -164,6 +170,20 @@ all_have_seats P A s r me below =
 pub rule_refuses : {C : Type 0} (P : Process C) (A : Automaton C) (L : AutomatonLaws P A)
     (s : State (Option Page) (View C)) → 0 < A.table_layout.passers → RuleRefuses P A s
 rule_refuses P A L s any = record {
+  overwritten = λ j v e place at is stays past below wrong r.
+      let keeps = (all_served P A L s r j v e at is any).stays stays in
+      let front = knows_here P A L s r j v e at is any in
+      let same : slice_index (log_in A r.state) place ≡ slice_index e.known place =
+      ap (λ log. slice_index log place) (sym front.together)
+      ∙ get_or_append_left e.known front.rest 0 place below in
+      let all = ap length (sym front.together) ∙ length-append e.known front.rest in
+      wrong (keeps.stands place past (omega arith) ∙ same);
+  overrun = λ j v e at is stays over r.
+      let keeps = (all_served P A L s r j v e at is any).stays stays in
+      let room = keeps.room in
+      let long = (L.log r.state r.reached).long in
+      let same : slice_index s.words 0 ≡ slice_index (A.words r.state) 0 =
+      ap (λ ws. slice_index ws 0) r.words in absurd (omega arith);
   not_shown = λ j v e at is stays wrong r.
       wrong ((all_served P A L s r j v e at is any).word
       ∙ ap (λ b. cond {A = ℕ} b PASSED_ALL e.passed) stays);

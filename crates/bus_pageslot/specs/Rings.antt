@@ -75,6 +75,16 @@ pub record LeavesAll {C : Type 0} (P : Process C) (A : Automaton C)
 -- ---- what the rule refuses, of the table of a ring
 pub record RuleRefuses {C : Type 0} (P : Process C) (A : Automaton C)
     (s : State (Option Page) (View C)) : Type 0 where
+  -- a word was overwritten that a receiver knows and has not passed
+  pub overwritten : (j : ℕ) (v : View C) (e : ReceiverView) (place : ℕ)
+      → get_elem? s.views j ≡ some v → ShowsReceiver e v → e.gone ≡ false → e.passed ≤ place
+      → place < length e.known
+      → slice_index s.words (log_cell A.table_layout place) ≢ slice_index e.known place
+      → ¬ TableInvariant P A s
+  -- more than a whole log lies behind what a receiver has passed
+  pub overrun : (j : ℕ) (v : View C) (e : ReceiverView) → get_elem? s.views j ≡ some v
+      → ShowsReceiver e v → e.gone ≡ false
+      → A.table_layout.capacity + e.passed < slice_index s.words 0 → ¬ TableInvariant P A s
   -- a passed place with another number than its receiver has passed
   pub not_shown : (j : ℕ) (v : View C) (e : ReceiverView) → get_elem? s.views j ≡ some v
       → ShowsReceiver e v → e.gone ≡ false

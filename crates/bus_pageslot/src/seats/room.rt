@@ -43,6 +43,7 @@ impl fmt::Display for NeverFits {
 impl<Q: Ratifier + Drop> Sender<Q> {
     /// The frame of its batch is no longer than the log. Else it is Full for good. Takes no step.
     pub fn fits(&self, bus: &Bus<Q>) -> bool
+        requires table { table_of self.now ≡ bus.now.table }
         ensures { IsTrue result ↔ Fits (process_by Q.Ratifier)
             (automaton_by Q.Ratifier bus.now.plan) self.now.core }
     {
