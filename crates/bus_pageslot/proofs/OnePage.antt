@@ -7,6 +7,7 @@ use Rattle.std.proofs.Common.{
   zero,
   suc,
   ◌<◌,
+  ◌≤◌,
   Option,
   List,
   [],
@@ -16,19 +17,22 @@ use Rattle.std.proofs.Common.{
   arith,
   sym,
 }
-use Rattle.std.proofs.Common.{◌∙◌, ap, drop, length, slice_index, subst}
+use Rattle.std.proofs.Common.{◌∙◌, ◌++◌, ap, drop, length, slice_index, subst, take}
 use mathlib.Core.Option.{some, some-injective, some-ne-none}
 use lib.ListN.{get_elem?}
 use Rattle.std.proofs.lemmas.Bool.{cases_lt}
+use Rattle.std.proofs.lemmas.List.{take-append-drop, take-append-le}
 use Rattle.atomic_table.specs.Table.{State}
 use Rattle.bus_batch.proofs.FrameLaws.{spells_one}
 use Rattle.bus_batch.specs.Frames.{Spells}
 use Rattle.bus_tenure.specs.declared.pages.Page.{Page}
-use Rattle.bus_world.specs.Headline.{Action}
+use Rattle.bus_world.specs.Headline.{Action, IsPrefix}
 use Rattle.bus_automaton.specs.SenderTrails.{SenderTrail}
 use Rattle.bus_pageslot.specs.declared.rule.View.{View}
 use Rattle.bus_pageslot.specs.declared.rule.View.TheVariants.{Maker, Sender, Tap, Meeting, Telling}
 use Rattle.bus_pageslot.specs.declared.rule.View.TheVariants.{Spent}
+use Rattle.bus_pageslot.specs.ReceiverViews.{ReceiverView}
+use Rattle.bus_pageslot.specs.Rings.{ShowsReceiver}
 use Rattle.bus_pageslot.specs.Rule.{Seats, TableInvariant}
 use Rattle.bus_automaton.specs.Lawful.{floor_in}
 use Rattle.bus_automaton.specs.Processes.{TableLayout, Process, Automaton}
@@ -43,6 +47,32 @@ same_at P actions actions' log p (Tap x e) h f = absurd h
 same_at P actions actions' log p (Meeting x e y k) h f = absurd h
 same_at P actions actions' log p (Telling c t stored x e) h f = h.1 ∙ sym f.0 ∙ ap actions' h.0
 same_at P actions actions' log p Spent h f = absurd h
+
+-- what a receiver knows that a view shows is a beginning of the log that the view is true of
+known_front : {C : Type 0} (P : Process C) (actions : ℕ → List Action) (log : List ℕ)
+    (e : ReceiverView) (v : View C) → ShowsReceiver e v → Fits P actions log v
+    → IsPrefix e.known log
+known_front P actions log e (Maker x made) none f = absurd none
+known_front P actions log e (Sender c t stored) none f = absurd none
+known_front P actions log e (Tap x g) same f =
+    subst (λ (u : ReceiverView). IsPrefix u.known log) same f
+known_front P actions log e (Meeting x g y k) (inl same) f =
+    subst (λ (u : ReceiverView). IsPrefix u.known log) same f.0
+known_front P actions log e (Meeting x g y k) (inr same) f =
+    subst (λ (u : ReceiverView). IsPrefix u.known log) same f.1
+known_front P actions log e (Telling c t stored x g) same f =
+    subst (λ (u : ReceiverView). IsPrefix u.known log) same f.1
+known_front P actions log e Spent none f = absurd none
+
+-- two lists begin with what is known, and from a place in it on they are the same
+one_behind : (known xs ys : List ℕ) (n : ℕ) → n ≤ length known → IsPrefix known xs
+    → IsPrefix known ys → drop n xs ≡ drop n ys → xs ≡ ys
+one_behind known xs ys n low a b same =
+    let front : take n xs ≡ take n ys =
+    ap (take n) (sym a.together) ∙ take-append-le n known a.rest low
+    ∙ sym (take-append-le n known b.rest low) ∙ ap (take n) b.together in
+    sym (take-append-drop n xs) ∙ ap (λ l. l ++ drop n xs) front
+    ∙ ap (λ l. take n ys ++ l) same ∙ take-append-drop n ys
 
 the_one : {A : Type 0} (a b : A) (j : ℕ) → get_elem? (a ∷ []) j ≡ some b → a ≡ b
 the_one a b zero e = some-injective a b e
@@ -65,13 +95,27 @@ module _ {C : Type 0} (P : Process C) (x : TableLayout) (base : ℕ → ℕ) (lo
         × (drop (floor_in x s.words) log ≡ drop (floor_in x s.words) log')
     logs_alike = (h.long ∙ sym k.long, sym h.shows ∙ k.shows)
 
-    -- and the same order, where they have one log: as where no word of it is used again
-    pub orders_same : (x.passers ≡ 0) ⊎ (log ≡ log') → (h.order ≡ k.order) × (h.owners ≡ k.owners)
+    -- a view shows a receiver that knows the log as far as the floor
+    abbrev KnowsBelow : Type 0
+    KnowsBelow =
+        (j : ℕ) × (v : View C) × (e : ReceiverView) × (get_elem? s.views j ≡ some v)
+        × ShowsReceiver e v × (floor_in x s.words ≤ length e.known)
+
+    -- they have one log, where no word of it is used again, or where that is so
+    one_log : (x.passers ≡ 0) ⊎ ((log ≡ log') ⊎ KnowsBelow) → log ≡ log'
+    one_log (inl flat) = sym (h.stands flat) ∙ k.stands flat
+    one_log (inr (inl is)) = is
+    one_log (inr (inr (j, v, e, at, is, low))) = one_behind e.known log log'
+        (floor_in x s.words) low
+        (known_front P h.actions log e v is (h.views j v at))
+        (known_front P k.actions log' e v is (k.views j v at))
+        logs_alike.1
+
+    -- and then the same order
+    pub orders_same : (x.passers ≡ 0) ⊎ ((log ≡ log') ⊎ KnowsBelow)
+        → (h.order ≡ k.order) × (h.owners ≡ k.owners)
     orders_same one =
-        let same : log ≡ log' = elim one [
-          | inl flat ↦ sym (h.stands flat) ∙ k.stands flat
-          | inr is ↦ is
-        ] in
+        let same = one_log one in
         spells_one x.senders log h.order k.order h.owners k.owners h.spelled
         (subst (λ (l : List ℕ). Spells x.senders l k.order k.owners) (sym same) k.spelled)
 

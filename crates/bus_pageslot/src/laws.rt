@@ -74,7 +74,9 @@ pub fn seats_keep_promises<Q: Ratifier>()
 
 /// Two pages of one table have the same actions of each sender, which its seat shows. What was
 /// published is as long in both, and from the floor on it is the same. Where it is the same
-/// altogether, as where no word of the log is used again, so are the order and the owners.
+/// altogether, so are the order and the owners: as where no word of the log is used again, or where
+/// a receiver shows that knows the log as far as the floor. What stays open is a ring of which no
+/// receiver that knows so far shows, as it may be once all have left.
 pub fn seats_show_one_page<Q: Ratifier>()
     ensures actions { let P = process_by Q.Ratifier in
         (x : TableLayout) (base : ℕ → ℕ) (log other : List ℕ)
@@ -91,7 +93,10 @@ pub fn seats_show_one_page<Q: Ratifier>()
         (x : TableLayout) (base : ℕ → ℕ) (log other : List ℕ)
         (s : State (Option Page) (View (Sender (Elector Q))))
         (h : IsPromised P x base log s) (k : IsPromised P x base other s)
-        → (x.passers ≡ 0) ⊎ (log ≡ other) → (h.order ≡ k.order) × (h.owners ≡ k.owners) }
+        → (x.passers ≡ 0) ⊎ ((log ≡ other) ⊎ ((j : ℕ) × (v : View (Sender (Elector Q)))
+        × (e : ReceiverView) × (get_elem? s.views j ≡ some v) × ShowsReceiver e v
+        × (floor_in x s.words ≤ length e.known)))
+        → (h.order ≡ k.order) × (h.owners ≡ k.owners) }
 {}
 
 /// Each sender shows in some seat: a table with the seat of sender 0 alone, of two or more, is no
