@@ -1,7 +1,7 @@
 -- What the close of a table tells of the bus that it was.
 use Rattle.std.proofs.Common.{◌≡◌, ◌≢◌, ℕ, zero, suc, ◌+◌, ◌-◌, ◌%◌, ◌<◌, ◌≤◌, false}
 use Rattle.std.proofs.Common.{Option, Some, None, is_some, List, [], ◌∷◌, ◌++◌, length, map, drop}
-use Rattle.std.proofs.Common.{slice_get, slice_index, inl, arith, refl, sym, ◌∙◌, ap, subst}
+use Rattle.std.proofs.Common.{slice_get, slice_index, take, inl, arith, refl, sym, ◌∙◌, ap, subst}
 use mathlib.Core.Option.{some, none, some-injective, some-ne-none}
 use mathlib.Core.Option as maybe
 use lib.ListN.{get_elem?}
@@ -10,7 +10,7 @@ use Rattle.std.proofs.lemmas.List.{length-drop}
 use Rattle.atomic_table.specs.Table.{Final, Seen}
 use Rattle.bus_register.specs.declared.limits.TheConstants.{MOST_SENDERS}
 use Rattle.bus_register.specs.declared.registers.SenderNo.{SenderNo}
-use Rattle.bus_batch.specs.Frames.{Order, Spells, has_gone, order_of}
+use Rattle.bus_batch.specs.Frames.{IsLog, Order, Spells, has_gone, order_of}
 use Rattle.bus_batch.specs.Frames.{tenure_and_owner}
 use Rattle.bus_batch.proofs.FrameLaws.{same_log, spells_one}
 use Rattle.bus_deliverylog.specs.Orders.{of_sender}
@@ -30,7 +30,7 @@ use Rattle.bus_pageslot.specs.Endings.{IsLeft}
 use Rattle.bus_pageslot.specs.Outcomes.{IsOutcome, KnowsWhole}
 use Rattle.bus_pageslot.specs.Places.{AreIn}
 use Rattle.bus_pageslot.specs.declared.outcomes.Places.{Places}
-use Rattle.bus_pageslot.proofs.LastFrames.{floor_within, last_spell, before, counted}
+use Rattle.bus_pageslot.proofs.LastFrames.{floor_within, first_log, last_spell, before, counted}
 use Rattle.bus_pageslot.proofs.LastFrames.{item_behind, has_left, has_ended}
 use Rattle.bus_pageslot.proofs.Promising.{seats_promised}
 use Rattle.bus_pageslot.proofs.Rings.{all_served}
@@ -239,6 +239,9 @@ module _ {C : Type 0} (P : Process C) (A : Automaton C) (L : AutomatonLaws P A) 
           log_is = ap (log_from_floor A.table_layout) f.2 ∙ sym log_is;
           published = published;
           within = subst (λ k. k ≤ length (log_in A z)) floor_at floor_low;
+          edge = subst (λ k. IsLog A.table_layout.senders (take k (log_in A z))) floor_at
+              (first_log A.table_layout.senders hl.frames
+              (floor_in A.table_layout (A.words z)) hl.edge (log_in A z) hl.words_are hl.lawful);
           passed = λ any. subst (λ (u : View C). floor ≤ (receiver_view_in u).passed) (sym is)
               (subst (λ k. k ≤ e.passed) (sym floor_is) (floor_passed stays any));
           flat = λ none.

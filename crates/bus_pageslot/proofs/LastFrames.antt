@@ -1,8 +1,9 @@
 -- What the frames of a log from one of them on say of the whole of it.
 use Rattle.std.proofs.Common.{◌≡◌, ℕ, suc, ◌+◌, ◌≤◌, ◌||◌, ◌==◌, Bool, true, false, List, []}
-use Rattle.std.proofs.Common.{◌∷◌, ◌++◌, length, map, drop, slice_get, filter, arith, refl, sym}
-use Rattle.std.proofs.Common.{◌∙◌, ap, subst}
+use Rattle.std.proofs.Common.{◌∷◌, ◌++◌, length, map, drop, take, slice_get, filter, arith, refl}
+use Rattle.std.proofs.Common.{◌∙◌, ap, subst, sym}
 use Rattle.std.specs.List.{list_any}
+use Rattle.std.proofs.Math.Seq.{take-append_seam}
 use Rattle.std.proofs.lemmas.Grind.{flat_map-append}
 use Rattle.std.proofs.lemmas.List.{length-append, length-map, map-append}
 use Rattle.std.proofs.lemmas.List.Elements.{filter-append}
@@ -10,10 +11,11 @@ use Rattle.std.proofs.lemmas.List.Folds.{list_any-append}
 use Rattle.bus_batch.specs.declared.messages.Item.{Item}
 use Rattle.bus_batch.specs.Frames.{Frame, AreFrames, Spells, order_of, has_gone, has_end, ends}
 use Rattle.bus_batch.specs.Frames.{entries_of, items_in, item_in, is_leave_of, frame_words}
-use Rattle.bus_batch.specs.Frames.{log_words, tenure_and_owner}
+use Rattle.bus_batch.specs.Frames.{IsLog, log_words, tenure_and_owner}
 use Rattle.bus_deliverylog.specs.Orders.{of_sender}
 use Rattle.bus_world.proofs.Standing.{stands_as_log}
 use Rattle.bus_world.specs.Proved.Floors.{IsBoundary}
+use Rattle.bus_automaton.proofs.Walking.{front_lawful}
 
 -- of two lists, one behind the other, the second
 pub get_behind : {A : Type 0} (xs ys : List A) (k : ℕ)
@@ -58,6 +60,19 @@ module _ (n : ℕ) (frames : List Frame) (floor : ℕ) (b : IsBoundary frames fl
       ∙ ap length (flat_map-append frame_words b.front b.rest)
       ∙ length-append (log_words b.front) (log_words b.rest) in
       let at = b.place_is in omega arith
+
+  -- those before it are a log
+  pub first_log : (log : List ℕ) → log_words frames ≡ log → AreFrames n frames
+      → IsLog n (take floor log)
+  first_log log is lawful = record {
+    frames = b.front;
+    lawful = front_lawful n 0 b.front b.rest (subst (AreFrames n) b.frames_are lawful);
+    words_are =
+        sym (take-append_seam (log_words b.front) (log_words b.rest))
+        ∙ ap (λ k. take k (log_words b.front ++ log_words b.rest)) (sym b.place_is)
+        ∙ ap (take floor)
+        (sym (flat_map-append frame_words b.front b.rest) ∙ sym (ap log_words b.frames_are) ∙ is);
+  }
 
   -- their words spell what they say
   pub last_spell : AreFrames n frames

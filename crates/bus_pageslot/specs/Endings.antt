@@ -1,8 +1,9 @@
 -- What a bus leaves behind.
-use Rattle.std.specs.Prelude.{◌≡◌, ℕ, ◌<◌, ◌≤◌, List, [], ◌∷◌, Option, Some, drop, length}
+use Rattle.std.specs.Prelude.{◌≡◌, ℕ, ◌<◌, ◌≤◌, List, [], ◌∷◌, Option, Some, drop, length, take}
 use mathlib.Core.Option.{some}
 use lib.ListN.{get_elem?}
 use Rattle.atomic_table.specs.Table.{State}
+use Rattle.bus_batch.specs.Frames.{IsLog}
 use Rattle.bus_tenure.specs.declared.pages.Page.{Page}
 use Rattle.bus_world.specs.Headline.{IsPrefix}
 use Rattle.bus_world.specs.Log.{KeepsFloor}
@@ -34,6 +35,9 @@ pub record IsLeft {C : Type 0} (P : Process C) (A : Automaton C) (seen : View C)
   pub log_is : log_from_floor A.table_layout table.words ≡ log
   pub published : drop floor (log_in A shown.state) ≡ log
   pub within : floor ≤ length (log_in A shown.state)
+  -- a frame begins at the floor, or the last ends there: what stands are the last frames of all
+  -- that was published
+  pub edge : IsLog A.table_layout.senders (take floor (log_in A shown.state))
   -- of a ring the floor is not past what the receiver has passed that ended the bus
   pub passed : 0 < A.table_layout.passers → floor ≤ (receiver_view_in seen).passed
   pub flat : A.table_layout.passers ≡ 0 → IsFlat A table.words log floor home
