@@ -1,11 +1,9 @@
 use Rattle.std.proofs.Common.{◌≡◌, ◌+◌, ◌*◌, refl, arith, sym, ◌∙◌, ap, subst}
 use Rattle.bus_automaton.specs.Buses.{process_with, automaton_with}
-use Rattle.bus_automaton.specs.Processes.{TableLayout}
 use Rattle.bus_core.specs.declared.limits.TheConstants.{PASSED_APART}
-use Rattle.bus_world.specs.Log.{floor_shown}
 use Rattle.bus_pageslot.specs.Buses.{BusId}
 use Rattle.bus_pageslot.specs.Looks.{IsFoundOn}
-use Rattle.bus_pageslot.proofs.Looking.{Found, found_none, found_more, floor_some, lesser_low}
+use Rattle.bus_pageslot.proofs.Looking.{Found, found_none, found_more, lesser_low}
 use Rattle.bus_pageslot.proofs.Looking.{seen_at, seen_none, seen_some}
 use Rattle.bus_pageslot.proofs.buses.Bus.floor_seen.Goals as goal
 
