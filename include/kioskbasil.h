@@ -17,8 +17,8 @@
  * KIOSKBASIL_FULL is for now: the batch is kept, and is to be tried again by a later call. So a
  * receiver goes on hearing, or is given up by kioskbasil_free_receiver: then it leaves, and nothing
  * waits for it. One that does neither keeps all senders without room for good. A worker goes by a
- * loop of kioskbasil_try_send and kioskbasil_hear (examples/c/counters.c). Each FULL takes a
- * tenure, so after it ask kioskbasil_has_room while you hear, until that is OK.
+ * loop of send_while and hear_while of examples/c/waiting.h, as in examples/c/counters.c. Each FULL
+ * takes a tenure, so after it ask kioskbasil_has_room while you hear, until that is OK.
  *
  * A batch longer than the log is FULL for good, and its sender then neither sends, closes nor
  * leaves: give a ring 129 words or more, or count the words of a batch before each put: 1, and of
@@ -311,7 +311,7 @@ static inline uint64_t kioskbasil_words_needed(uint64_t senders, uint64_t messag
  * leave, so that the end mark still fits, whatever the others do; 0 where there is no such number.
  * So each sender looks at its own `words` (kioskbasil_show_sender) right before it puts or leaves,
  * and begins nothing above this number. Of a ring there is no such number, and none is needed: its
- * end mark fits once the receivers have heard. */
+ * end mark fits once the receivers have passed. */
 static inline uint64_t kioskbasil_room_to_close(uint64_t log_words, uint64_t senders) {
   uint64_t kept = kioskbasil_plus(2, kioskbasil_times(senders, 129));
   return log_words > kept ? log_words - kept : 0;

@@ -27,8 +27,8 @@ pub enum NotDelivered {
     Idle,
     /// Its leave mark stands in the order, by its frame of this tenure: it has left for good.
     Left { tenure: u64 },
-    /// The frame does not fit the log. The batch is kept. Of a ring there is no room for it as yet:
-    /// some receiver has still to hear.
+    /// The frame does not fit the log. The batch is kept. Of a ring some receiver has still to pass
+    /// words, or the batch is longer than the log. `deliver` never says NeverFits.
     Full,
     /// The order has ended, by this sender or another, or this sender had left before.
     Closed,

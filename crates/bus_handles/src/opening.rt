@@ -83,8 +83,9 @@ pub fn open_cyclic<Q: Ratifier + Drop>(
     Ok(handles)
 }
 
-/// As `open_cyclic`, of a bus whose log is a ring: its words are used again too, so that it serves
-/// without end. With a page it is the next sitting, as `open_after`.
+/// As `open_cyclic`, of a bus whose log is a ring: its words are used again too. So it serves for
+/// as long as it has tenures, which are 2^40, and then senders are answered Spent. With a page it
+/// is the next sitting, as `open_after`.
 pub fn open_ring<Q: Ratifier + Drop>(
     alloc: Global,
     shape: Shape,

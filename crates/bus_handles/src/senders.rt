@@ -442,8 +442,9 @@ impl<Q: Ratifier + Drop, R: Rng + Drop> SenderHandle<Q, R> {
     /// once before each look too, and takes turns again. So Full is never its answer. A batch that
     /// is longer than the log is told before the first turn, and nothing changes then.
     ///
-    /// Of a ring there is room once each receiver has heard. Who hears in the same thread calls
-    /// `send` and hears where it is answered Full: nobody hears while this call waits.
+    /// Of a ring there is room once each receiver has passed enough, or has left. A frame that was
+    /// heard is passed by the next turn of its receiver. Who hears in the same thread calls `send`
+    /// and hears where it is answered Full: nobody hears while this call waits.
     pub fn send_when_room<W: Wait, F: FnMut() -> bool>(
         &mut self,
         wait: &W,
@@ -534,7 +535,7 @@ impl<Q: Ratifier + Drop, R: Rng + Drop> SenderHandle<Q, R> {
 
     /// Closes, and sends that as `send` does: Ok where the order has ended then, and else why the
     /// close was not taken, or what sending it was answered. Of a ring that may be Full: its mark
-    /// waits then, and once the receivers have heard `send` goes on with it.
+    /// waits then, and once the receivers have passed enough `send` goes on with it.
     pub fn end_order<W: Wait>(&mut self, wait: &W) -> Result<(), OrderNotEnded>
         ensures table { table_of self.new ≡ table_of self.old }
         ensures ended { OnOk result (ClosesAndSends (process_by Q.Ratifier)

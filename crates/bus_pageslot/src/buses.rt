@@ -160,10 +160,11 @@ impl<Q: Ratifier + Drop> Bus<Q> {
         make(alloc, Plan::cyclic(shape), page)
     }
 
-    /// As `cyclic`, with a log whose words are used again too: a bus that serves without end, for
-    /// as long as it has tenures. Each receiver stores how far it has heard in its passed place,
-    /// and a frame fits as far as the slowest has come: behind that the answer is Full, for now.
-    /// A receiver that stops without leaving stops whoever needs its room.
+    /// As `cyclic`, with a log whose words are used again too. It serves for as long as it has
+    /// tenures. Each receiver stores how far it has heard in its passed place. A frame fits as far
+    /// as the slowest has passed. Behind that the answer is Full: for now, or for good where the
+    /// frame is longer than the log. A receiver that stops without leaving stops whoever needs its
+    /// room.
     pub fn ring(
         alloc: Global,
         shape: Shape,

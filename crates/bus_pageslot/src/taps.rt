@@ -28,9 +28,9 @@ use std::marker::Model;
 /// the stores in its passed place. A meeting, which is three loads of the length, counts as one.
 /// Only a step on the table adds to either.
 ///
-/// Where the log is a ring, a turn after each whole frame stores its place there, and from then on
-/// the cells of the words before it may be used again. One that takes no turns holds the ring up.
-/// One that is dropped and has not left holds a ring up for good.
+/// Of a ring a turn after each whole frame, but that of the end, stores its place there. From then
+/// on the cells of the words before it may be used again. One that takes no turns holds the ring
+/// up. One that is dropped and has not left holds a ring up for good.
 #[derive(Drop)]
 pub struct Tap<Q: Ratifier = ThreeWord> {
     seat: Option<BusSeat<Q>>,

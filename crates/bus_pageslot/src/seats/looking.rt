@@ -21,7 +21,11 @@ impl<Q: Ratifier + Drop> Sender<Q> {
     /// each turn towards a page that ends with Full costs a tenure. Yes is no promise, since
     /// another sender may take the room first; and no may be yes by now. Of a frame that is longer
     /// than the log it is never yes. Where no word of the log is used again the passed places are
-    /// none, and no stays no.
+    /// none. There `looking_refuses` refuses a yes of a frame that ends behind the log even after
+    /// what this sender has stored. No law says more.
+    ///
+    /// The words that it goes by stood on tables of which the rule holds, and where its seat shows
+    /// what it shows. No clause says that these are tables of this bus, of any moment.
     pub fn has_room(&mut self, bus: &Bus<Q>) -> bool
         requires table { table_of self.old ≡ bus.now.table }
         ensures seat { self.new ≡ self.old }
