@@ -212,10 +212,12 @@ impl<B: OfBus, W: Wait> SendRound<'_, B, W> {
         Ok(())
     }
 
-    /// Sends what waits in its batch. None where the round was given up before.
+    /// Sends what waits in its batch. Of a ring without room it waits for some. None where the
+    /// round was given up before.
     fn send_batch(&self, send_worker: &mut RoundSender<B>) -> Option<Turn> {
-        if self.load.ring.is_none() {
-            return Some(send_worker.send(self.wait, self.the));
+        let turn = send_worker.send(self.wait, self.the);
+        if turn != Turn::Full || self.load.ring.is_none() {
+            return Some(turn);
         }
         let gate = self.gate;
         send_worker.send_when_room(self.wait, self.the, || !gate.is_given_up())
