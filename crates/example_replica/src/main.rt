@@ -38,15 +38,15 @@ struct Worker {
 }
 
 impl Worker {
-    /// Sends and hears up to the end of the order. If it fails, the others are to stop.
-    fn work<R: Wait + Clock>(mut self, rt: &R, shared: &Shared) -> anyhow::Result<Replica> {
-        let worked = self.send_and_hear(rt, shared);
-        if worked.is_err() {
-            shared.failed.store(true, Ordering::SeqCst);
-            self.sender.finish();
-        }
-        worked?;
-        Ok(self.replica)
+    /// Sends and hears up to the end of the order. If it fails, the others are to stop. Who stops
+    /// since another has failed gives no replica: the cause is told by that one.
+    fn work<R: Wait + Clock>(mut self, rt: &R, shared: &Shared) -> anyhow::Result<Option<Replica>> {
+        let Err(fault) = self.send_and_hear(rt, shared) else {
+            return Ok(Some(self.replica));
+        };
+        let is_cause = !shared.failed.swap(true, Ordering::SeqCst);
+        self.sender.finish();
+        if is_cause { Err(fault) } else { Ok(None) }
     }
 
     /// A batch is sent where there is room, and what is there is heard, so that there is room: who
@@ -165,7 +165,9 @@ fn main(rt: HostRuntime) -> anyhow::Result<()> {
     }
     let mut replicas = Vec::new(rt.alloc());
     for replica in thread::map_vec(&rt, workers, &|worker| worker.work(&rt, &shared))? {
-        replicas.push(replica?)?;
+        if let Some(replica) = replica? {
+            replicas.push(replica)?;
+        }
     }
     let last = replicas.pop().context("no worker")?;
     ensure!(replicas.iter().all(|it| *it == last), "two replicas differ");
