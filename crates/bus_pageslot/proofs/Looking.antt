@@ -1,15 +1,13 @@
 -- What a look finds, and how many words the frame of a batch has.
 use Rattle.std.proofs.Common.{◌≡◌, ◌≢◌, ℕ, zero, suc, ◌+◌, ◌*◌, ◌<◌, ◌≤◌, ◌==◌, Bool, true}
-use Rattle.std.proofs.Common.{false, List, [], ◌∷◌, ◌++◌, length, arith}
+use Rattle.std.proofs.Common.{false, List, [], ◌∷◌, length, arith}
 use Rattle.std.proofs.Common.{Option, refl, sym, ◌∙◌, ap, subst, inl, inr, ◌⊎◌}
 use Rattle.std.proofs.Common.{slice_index, if◌then◌else◌}
-use Rattle.std.specs.Prelude.{IsTrue, ◌↔◌, flat_map}
+use Rattle.std.specs.Prelude.{IsTrue, ◌↔◌}
 use Rattle.std.proofs.lemmas.Bool.{cases_eq, eq-eqb, ne_eqb, true≢false}
-use Rattle.std.proofs.lemmas.List.{length-append}
 use Rattle.bus_adoptcommit.specs.declared.verdicts.Verdict.{Verdict}
 use Rattle.bus_batch.specs.Batches.{Pending, frame_of}
-use Rattle.bus_batch.specs.Frames.{data_len, frame_words, message_words, words_of_bytes}
-use Rattle.bus_batch.specs.Messages.{numbered_messages}
+use Rattle.bus_batch.specs.Frames.{frame_words}
 use Rattle.bus_batch.specs.declared.batches.Phase.{Phase}
 use Rattle.bus_batch.specs.declared.batches.Phase.TheVariants as phase
 use Rattle.bus_batch.specs.declared.messages.Mark.TheVariants as mark
@@ -27,7 +25,7 @@ use Rattle.bus_automaton.specs.Processes.{Process, Automaton}
 use Rattle.bus_automaton.proofs.Turns.{queue_is}
 use Rattle.bus_automaton.specs.Buses.{process_with}
 use Rattle.bus_pageslot.specs.Looks.{IsFoundOn, HasLooked, FloorSeen, LookingRefuses}
-use Rattle.bus_pageslot.specs.Looks.{batch_len, messages_len}
+use Rattle.bus_pageslot.specs.Looks.{batch_len}
 use Rattle.atomic_table.specs.declared.shared.Seat.{Seat}
 use Rattle.bus_automaton.specs.declared.plans.Plan.{Plan}
 use Rattle.bus_tenure.specs.declared.pages.Page.{Page}
@@ -163,24 +161,6 @@ seen_some P A shown at n len least some at_is many f = record {
 }
 
 -- ---- the frame of a batch
-words_of_bytes_len : (n : ℕ) (bytes : List ℕ) → length (words_of_bytes n bytes) ≡ n
-words_of_bytes_len zero bytes = refl
-words_of_bytes_len (suc n) bytes = ap suc (words_of_bytes_len n _)
-
-pub body_len : (first : ℕ) (messages : List (List ℕ))
-    → length (flat_map message_words (numbered_messages first messages)) ≡ messages_len messages
-body_len first [] = refl
-body_len first (bytes ∷ messages) =
-    let all = length-append (message_words record { number = first; message = bytes })
-    (flat_map message_words (numbered_messages (first + 1) messages)) in
-    let mine = words_of_bytes_len (data_len (length bytes)) bytes in
-    let more = body_len (first + 1) messages in omega arith
-
-pub messages_more : (messages : List (List ℕ)) (bytes : List ℕ)
-    → messages_len (messages ++ bytes ∷ []) ≡ messages_len messages + (1 + data_len (length bytes))
-messages_more [] bytes = omega arith
-messages_more (m ∷ messages) bytes = let more = messages_more messages bytes in omega arith
-
 -- it is a mark and its head, where a mark waits
 pub frame_marked : (q : Pending) → (is_closing q.phase ≡ true) ⊎ (is_leaving q.phase ≡ true)
     → 2 ≡ length (frame_words (frame_of q 0))
@@ -193,16 +173,21 @@ frame_marked q some = by q.phase some where
   by phase.Closed (inl e) = absurd (true≢false (sym e))
   by phase.Closed (inr e) = absurd (true≢false (sym e))
 
--- and else its messages
-pub frame_filled : (q : Pending) → is_closing q.phase ≡ false → is_leaving q.phase ≡ false
-    → 1 + messages_len q.messages ≡ length (frame_words (frame_of q 0))
-frame_filled q closing leaving = by q.phase closing leaving where
-  by : (ph : Phase) → is_closing ph ≡ false → is_leaving ph ≡ false
-      → 1 + messages_len q.messages ≡ length (frame_words (frame_of (record q { phase = ph }) 0))
-  by phase.Open c l = let all = body_len q.first q.messages in omega arith
-  by (phase.Marking mark.End) c l = absurd (true≢false c)
-  by (phase.Marking mark.Leave) c l = absurd (true≢false l)
-  by phase.Closed c l = let all = body_len q.first q.messages in omega arith
+-- and a head alone, where nothing waits
+pub frame_bare : (q : Pending) → is_closing q.phase ≡ false → is_leaving q.phase ≡ false
+    → length q.messages ≡ 0 → 1 ≡ length (frame_words (frame_of q 0))
+frame_bare q closing leaving none = by q.phase closing leaving q.messages none where
+  by : (ph : Phase) → is_closing ph ≡ false → is_leaving ph ≡ false → (m : List (List ℕ))
+      → length m ≡ 0 → 1 ≡ length (frame_words (frame_of (record q {
+        phase = ph;
+        messages = m;
+      }) 0))
+  by phase.Open c l [] none = refl
+  by phase.Open c l (x ∷ m) none = absurd (omega arith)
+  by (phase.Marking mark.End) c l m none = absurd (true≢false c)
+  by (phase.Marking mark.Leave) c l m none = absurd (true≢false l)
+  by phase.Closed c l [] none = refl
+  by phase.Closed c l (x ∷ m) none = absurd (omega arith)
 
 -- whether its contents are on their way or not
 pub batch_is : {S : Type 0} (kind_of : S → Option Kind) (op : S → ℕ → Option Op)

@@ -1,11 +1,11 @@
 -- What a sender's look at the log tells: whether the frame of its batch fits.
-use Rattle.std.specs.Prelude.{◌≡◌, ◌↔◌, ℕ, ◌+◌, ◌<◌, ◌≤◌, Bool, true, IsTrue, List, [], ◌∷◌}
-use Rattle.std.specs.Prelude.{Option, Some, None, length, slice_index}
+use Rattle.std.specs.Prelude.{◌≡◌, ◌↔◌, ℕ, ◌+◌, ◌<◌, ◌≤◌, Bool, true, IsTrue, Option, Some}
+use Rattle.std.specs.Prelude.{None, length, slice_index}
 use mathlib.Core.Option.{some}
 use lib.ListN.{get_elem?}
 use Rattle.atomic_table.specs.Table.{State}
 use Rattle.bus_batch.specs.Batches.{frame_of}
-use Rattle.bus_batch.specs.Frames.{data_len, frame_words}
+use Rattle.bus_batch.specs.Frames.{frame_words}
 use Rattle.bus_tenure.specs.Core.{length_at}
 use Rattle.bus_tenure.specs.declared.pages.Page.{Page}
 use Rattle.bus_world.specs.Log.{floor_shown}
@@ -68,8 +68,3 @@ pub record LookingRefuses {C : Type 0} (P : Process C) (A : Automaton C) (shown 
   -- and, of a log that is no ring, where it ends behind that even after what this sender has stored
   pub filled : A.table_layout.passers ≡ 0 → A.table_layout.capacity < stored_in shown + many
       → ¬ HasLooked P A shown many true
-
--- how many words these messages have in a frame: a message word each, and their bytes
-abbrev pub messages_len : List (List ℕ) → ℕ
-messages_len [] = 0
-messages_len (bytes ∷ messages) = 1 + data_len (length bytes) + messages_len messages

@@ -222,8 +222,8 @@ impl<Q: Ratifier + Drop> Turns<Q> {
         }
     }
 
-    /// How many words its frame has.
-    fn frame_len(&self) -> u64
+    /// How many words its frame has, the head included: 2 to 129.
+    pub fn frame_len(&self) -> u64
         requires { HasSomething self.now.queue }
         ensures len { result ≡ frame_len self.now }
         ensures most { result ≤ 1 + MOST_BODY_WORDS }

@@ -1,19 +1,19 @@
 //! The batch of a sender: what it takes while no tenure is pinned, and what waits in it.
 
-ghost use Rattle.std.specs.Prelude.{◌≡◌, ◌<◌, [], ◌∷◌, ◌++◌, length, IfOk, IfErr, OnOk, OnErr};
-ghost use Rattle.std.specs.Prelude.{IsTrue, ◌↔◌};
+ghost use Rattle.std.specs.Prelude.{◌≡◌, ◌+◌, ◌<◌, ◌≤◌, [], ◌∷◌, ◌++◌, length, IfOk, IfErr};
+ghost use Rattle.std.specs.Prelude.{IsTrue, ◌↔◌, OnOk, OnErr};
 ghost use Rattle.bus_batch.specs.Batches.{next_of, CanPut, IsPutFault, CanClose, IsCloseFault};
-ghost use Rattle.bus_batch.specs.Batches.{IsShut};
+ghost use Rattle.bus_batch.specs.Batches.{HasSomething, IsShut};
 ghost use Rattle.bus_batch.specs.declared.batches.Phase.TheVariants as queue_phase;
 ghost use Rattle.bus_batch.specs.declared.messages.Mark.TheVariants as mark;
-ghost use Rattle.bus_tenure.specs.Core.{is_closing, is_leaving, is_closed};
+ghost use Rattle.bus_tenure.specs.Core.{frame_len, is_closing, is_leaving, is_closed};
 ghost use Rattle.bus_core.specs.Keeping.{IsAway, queue_of};
 
 use crate::cores::SenderCore;
 use arrayvec::ArrayVec;
 use bus_adoptcommit::Ratifier;
 use bus_batch::{CloseFault, Message, PutFault};
-use bus_register::limits::{MOST_MESSAGES, NUMBERS};
+use bus_register::limits::{MOST_BODY_WORDS, MOST_MESSAGES, NUMBERS};
 
 impl<Q: Ratifier + Drop> SenderCore<Q> {
     /// How many messages wait.
@@ -28,6 +28,15 @@ impl<Q: Ratifier + Drop> SenderCore<Q> {
         ensures { result.items ≡ self.now.core.queue.messages }
     {
         self.turns.waiting()
+    }
+
+    /// How many words the frame of what waits has, the head included: 2 to 129.
+    pub fn frame_len(&self) -> u64
+        requires { HasSomething self.now.core.queue }
+        ensures len { result ≡ frame_len self.now.core }
+        ensures most { result ≤ 1 + MOST_BODY_WORDS }
+    {
+        self.turns.frame_len()
     }
 
     /// The number that the next message gets.

@@ -1,17 +1,14 @@
 //! A sender that looks whether there is room, beside its turns.
 
-ghost use Rattle.std.specs.Prelude.{◌≡◌, ◌<◌, ◌≤◌, ◌*◌, false, length};
+ghost use Rattle.std.specs.Prelude.{◌≡◌, ◌<◌, false};
 ghost use Rattle.bus_automaton.specs.Buses.{process_by, automaton_by};
-ghost use Rattle.bus_pageslot.specs.Looks.{HasLooked, batch_len, messages_len};
+ghost use Rattle.bus_pageslot.specs.Looks.{HasLooked, batch_len};
 ghost use Rattle.bus_pageslot.specs.Seats.{table_of};
-ghost use Rattle.bus_register.specs.declared.limits.TheConstants.{MOST_MESSAGE_WORDS};
-ghost use Rattle.bus_register.specs.declared.limits.TheConstants.{MOST_MESSAGES};
 
 use crate::buses::Bus;
 use crate::seats::Sender;
 use bus_adoptcommit::Ratifier;
 use bus_automaton::laws::threads_may_go_by;
-use bus_batch::Message;
 
 impl<Q: Ratifier + Drop> Sender<Q> {
     /// A look whether the frame of its batch fits the log: one load of the length, and then one of
@@ -39,7 +36,7 @@ impl<Q: Ratifier + Drop> Sender<Q> {
         bus.has_room(&mut self.seat, many)
     }
 
-    /// How many words the frame of its batch has.
+    /// How many words the frame of its batch has; 1 where nothing waits.
     pub(super) fn batch_len(&self) -> u64
         ensures { result ≡ batch_len (process_by Q.Ratifier) self.now.core }
     {
@@ -47,20 +44,9 @@ impl<Q: Ratifier + Drop> Sender<Q> {
         if self.core.is_closing() || self.core.is_leaving() {
             return 2;
         }
-        let messages = self.core.waiting();
-        1 + messages_len(messages.as_slice())
+        if self.core.pending() == 0 {
+            return 1;
+        }
+        self.core.frame_len()
     }
-}
-
-/// How many words these messages have in a frame.
-fn messages_len(messages: &[Message]) -> u64
-    requires few { length messages.now ≤ MOST_MESSAGES }
-    ensures len { result ≡ messages_len messages.now }
-    ensures few { result ≤ MOST_MESSAGE_WORDS * length messages.now }
-{
-    let mut len = 0;
-    for message in messages {
-        len += 1 + (message.len() as u64 + 7) / 8;
-    }
-    len
 }

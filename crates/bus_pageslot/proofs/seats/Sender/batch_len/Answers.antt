@@ -1,7 +1,7 @@
-use Rattle.std.proofs.Common.{◌+◌, sym, ◌∙◌, ap, inl, inr}
+use Rattle.std.proofs.Common.{sym, ◌∙◌, ap, inl, inr, arith}
 use Rattle.bus_automaton.specs.Buses.{process_with}
-use Rattle.bus_pageslot.specs.Looks.{batch_len, messages_len}
-use Rattle.bus_pageslot.proofs.Looking.{frame_marked, frame_filled, batch_is}
+use Rattle.bus_pageslot.specs.Looks.{batch_len}
+use Rattle.bus_pageslot.proofs.Looking.{frame_marked, frame_bare, batch_is}
 use Rattle.bus_pageslot.proofs.seats.Sender.batch_len.Goals as goal
 use Rattle.bus_pageslot.proofs.seats.Sender.batch_len.Goals.{then-is_closing-via-then-is_closing}
 use Rattle.bus_pageslot.proofs.seats.Sender.batch_len.Goals.{
@@ -21,15 +21,27 @@ returns-then-is_closing g c =
     c.self.inside.core
     ∙ ap (λ s. batch_len P s.core) c.self.view_is
 
+pub returns-then-pending-eq0 : goal.returns-then-pending-eq0
+returns-then-pending-eq0 g c =
+    let P = process_with g.Q.Machine.kind_of g.Q.Machine.op g.Q.Machine.fed g.Q.Ratifier.protocol in
+    frame_bare c.self.inside.core.core.queue
+    (sym c.is_closing.ensures ∙ c.if-is_closing.false)
+    (sym c.is_leaving.ensures ∙ c.if-is_leaving.false)
+    (sym c.pending.ensures ∙ c.if-pending-eq0.true)
+    ∙ batch_is g.Q.Machine.kind_of g.Q.Machine.op g.Q.Machine.fed g.Q.Ratifier.protocol
+    c.self.inside.core
+    ∙ ap (λ s. batch_len P s.core) c.self.view_is
+
+pub frame_len-requires : goal.frame_len-requires
+frame_len-requires g c =
+    let some = c.if-pending-eq0.false in
+    let many = c.pending.ensures in
+    inl (omega arith)
+
 pub returns : goal.returns
 returns g c =
     let P = process_with g.Q.Machine.kind_of g.Q.Machine.op g.Q.Machine.fed g.Q.Ratifier.protocol in
-    ap (λ n. 1 + n)
-    (c.messages_len.ensures.len
-    ∙ ap messages_len (c.as_slice.ensures.value ∙ c.waiting-messages.ensures))
-    ∙ frame_filled c.self.inside.core.core.queue
-    (sym c.is_closing.ensures ∙ c.if-is_closing.false)
-    (sym c.is_leaving.ensures ∙ c.if-is_leaving.false)
+    c.frame_len.ensures.len
     ∙ batch_is g.Q.Machine.kind_of g.Q.Machine.op g.Q.Machine.fed g.Q.Ratifier.protocol
     c.self.inside.core
     ∙ ap (λ s. batch_len P s.core) c.self.view_is
