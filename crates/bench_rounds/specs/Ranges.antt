@@ -1,7 +1,7 @@
 -- Which numbers a measurement can have.
 use Rattle.std.specs.Prelude.{◌≢◌, ◌<◌, ◌⊎◌, ℕ}
-use Rattle.bus_register.specs.declared.limits.TheConstants.{MOST_RECEIVERS, MOST_ROUNDS}
-use Rattle.bus_run.specs.declared.limits.TheConstants.{MOST_SEND_WORKERS}
+use Rattle.bus_register.specs.declared.limits.TheConstants.{MOST_ROUNDS}
+use Rattle.bus_run.specs.declared.limits.TheConstants.{MOST_RECEIVE_WORKERS, MOST_SEND_WORKERS}
 use Rattle.bench_rounds.specs.declared.request.TheConstants.{MOST_REPETITIONS}
 use Rattle.bench_rounds.specs.declared.request.Field.{Field}
 use Rattle.bench_rounds.specs.declared.request.Field.TheVariants as field
@@ -13,7 +13,7 @@ abbrev pub IsOut : ℕ → ℕ → ℕ → ℕ → ℕ → ℕ → Field → Typ
 IsOut senders receivers messages bytes repetitions rounds field.Senders =
     (senders < 1) ⊎ (MOST_SEND_WORKERS < senders)
 IsOut senders receivers messages bytes repetitions rounds field.Receivers =
-    (receivers < 1) ⊎ (MOST_RECEIVERS < receivers)
+    (receivers < 1) ⊎ (MOST_RECEIVE_WORKERS < receivers)
 IsOut senders receivers messages bytes repetitions rounds field.Messages = messages < 1
 IsOut senders receivers messages bytes repetitions rounds field.Bytes = (bytes ≢ 8) × (bytes ≢ 56)
 IsOut senders receivers messages bytes repetitions rounds field.Repetitions =

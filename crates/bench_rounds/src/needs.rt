@@ -3,8 +3,8 @@
 ghost use Rattle.std.specs.Prelude.{◌≡◌, ◌-◌, ◌*◌, ◌<◌, ◌≤◌, ◌⊎◌, IfOk, IfErr};
 ghost use Rattle.std.specs.Prelude.{None, OnOk, OnErr};
 ghost use Rattle.bus_receiver.specs.Sizes.{batches_of, tenures_of, words_of};
-ghost use Rattle.bus_register.specs.declared.limits.TheConstants.{MOST_RECEIVERS};
 ghost use Rattle.bus_register.specs.declared.limits.TheConstants.{MOST_MESSAGES, MOST_ROUNDS};
+ghost use Rattle.bus_run.specs.declared.limits.TheConstants.{MOST_RECEIVE_WORKERS};
 ghost use Rattle.bus_run.specs.declared.limits.TheConstants.{MOST_SEND_WORKERS};
 ghost use Rattle.bench_rounds.specs.declared.needs.TheConstants.{MOST_TENURES};
 ghost use Rattle.bench_rounds.specs.declared.request.TheConstants.{MOST_REPETITIONS};
@@ -62,7 +62,7 @@ pub struct Load {
     /// So many words of the log, where they are used again.
     pub ring: Option<u64>,
     ghost few_senders: { senders ≤ MOST_SEND_WORKERS },
-    ghost few_receivers: { receivers ≤ MOST_RECEIVERS },
+    ghost few_receivers: { receivers ≤ MOST_RECEIVE_WORKERS },
     ghost few_items: { senders * messages ≤ (MOST_TENURES - 1) * MOST_MESSAGES },
     ghost few_repetitions: { repetitions ≤ MOST_REPETITIONS },
     ghost some_rounds: { (1 ≤ rounds) × (rounds ≤ MOST_ROUNDS) },

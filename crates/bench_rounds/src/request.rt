@@ -4,15 +4,15 @@ ghost use Rattle.std.specs.Prelude.{◌≡◌, ◌≢◌, ◌<◌, ◌≤◌, �
 ghost use Rattle.std.specs.Prelude.{None, IfSome, IfOk, IfErr, OnOk};
 ghost use Rattle.std.specs.Option.{SomeIff};
 ghost use Rattle.std.specs.Str.Parse.{IsNumeral, digits_value};
-ghost use Rattle.bus_register.specs.declared.limits.TheConstants.{MOST_RECEIVERS, MOST_ROUNDS};
-ghost use Rattle.bus_register.specs.declared.limits.TheConstants.{MOST_LOG_WORDS};
+ghost use Rattle.bus_register.specs.declared.limits.TheConstants.{MOST_LOG_WORDS, MOST_ROUNDS};
+ghost use Rattle.bus_run.specs.declared.limits.TheConstants.{MOST_RECEIVE_WORKERS};
 ghost use Rattle.bus_run.specs.declared.limits.TheConstants.{MOST_SEND_WORKERS};
 ghost use Rattle.bench_rounds.specs.declared.request.TheConstants.{MOST_REPETITIONS};
 ghost use Rattle.bench_rounds.specs.declared.request.TheConstants.{LEAST_RING_WORDS};
 ghost use Rattle.bench_rounds.specs.Sizes.{bytes_of};
 
-use bus_register::limits::{MOST_FRAME_WORDS, MOST_LOG_WORDS, MOST_RECEIVERS, MOST_ROUNDS};
-use bus_run::limits::{MOST_SEND_WORKERS, ROUNDS};
+use bus_register::limits::{MOST_FRAME_WORDS, MOST_LOG_WORDS, MOST_ROUNDS};
+use bus_run::limits::{MOST_RECEIVE_WORKERS, MOST_SEND_WORKERS, ROUNDS};
 use std::fmt;
 
 /// How the program is called.
@@ -128,7 +128,7 @@ pub struct Request {
     /// Of each binary decision.
     pub rounds: u64,
     ghost some_senders: { (1 ≤ senders) × (senders ≤ MOST_SEND_WORKERS) },
-    ghost some_receivers: { (1 ≤ receivers) × (receivers ≤ MOST_RECEIVERS) },
+    ghost some_receivers: { (1 ≤ receivers) × (receivers ≤ MOST_RECEIVE_WORKERS) },
     ghost some_messages: { 1 ≤ messages },
     ghost few_repetitions: { repetitions ≤ MOST_REPETITIONS },
     ghost some_rounds: { (1 ≤ rounds) × (rounds ≤ MOST_ROUNDS) },
@@ -159,7 +159,7 @@ impl Request {
         if senders < 1 || senders > MOST_SEND_WORKERS {
             return Err(Refusal::OutOfRange(Field::Senders));
         }
-        if receivers < 1 || receivers > MOST_RECEIVERS {
+        if receivers < 1 || receivers > MOST_RECEIVE_WORKERS {
             return Err(Refusal::OutOfRange(Field::Receivers));
         }
         if messages < 1 {

@@ -20,7 +20,7 @@ use std::thread::Threads;
 use std::time::{Clock, Duration};
 
 /// Runs in a row that have all shapes: 1 to 8 senders with 1 to 8 receivers, and 9, 16, 17, 33 and
-/// 64 senders.
+/// 64 senders, each with another number of receivers.
 pub const SHAPES: u64 = 69;
 
 /// What is asked of a sitting.
@@ -147,10 +147,13 @@ pub fn senders_of(seed: u64) -> u64 {
     }
 }
 
-/// The receivers of the run under this seed.
+/// The receivers of the run under this seed. Of many senders they are 12, 25, 38, 51 and 64 in the
+/// first runs of all shapes, and one fewer in the next.
 pub fn receivers_of(seed: u64) -> u64 {
     match seed % SHAPES {
-        64.. => 1 + seed / SHAPES % MOST_RECEIVERS,
+        shape @ 64.. => {
+            MOST_RECEIVERS - (13 * (SHAPES - 1 - shape) + seed / SHAPES) % MOST_RECEIVERS
+        }
         shape => 1 + shape / 8,
     }
 }

@@ -232,7 +232,8 @@ pub extern "C" fn bus_c_begin_page(
 ) -> u32
     ensures none { IfNone sender.old.held ((result ≡ no_handle) × (sender.new.held ≡ None)
         × (left.new ≡ left.old)) }
-    ensures begins { IfSome sender.old.held (λ _. BeginsPage result left.old left.new
+    ensures begins { IfSome sender.old.held (λ old.
+        BeginsPage old.handle senders result left.old left.new
         × (sender.new.held ≡ sender.old.held)) }
 {
     match sender.take(alloc) {

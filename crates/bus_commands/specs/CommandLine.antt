@@ -13,8 +13,9 @@ use Rattle.bus_commands.specs.declared.printing.Request.{Request}
 use Rattle.bus_commands.specs.declared.command_line.Task.{Task}
 use Rattle.bus_commands.specs.declared.command_line.Task.TheVariants as task
 use Rattle.bus_webpage.specs.declared.webpages.Purpose.TheVariants as purpose
-use Rattle.bus_register.specs.declared.limits.TheConstants.{MOST_SENDERS, MOST_RECEIVERS}
-use Rattle.bus_run.specs.declared.limits.TheConstants.{MOST_MESSAGES_EACH, MOST_SEND_WORKERS}
+use Rattle.bus_register.specs.declared.limits.TheConstants.{MOST_SENDERS}
+use Rattle.bus_run.specs.declared.limits.TheConstants.{MOST_MESSAGES_EACH}
+use Rattle.bus_run.specs.declared.limits.TheConstants.{MOST_RECEIVE_WORKERS, MOST_SEND_WORKERS}
 
 -- ---- commands and options
 -- an option that is there or not
@@ -49,7 +50,7 @@ run_command =
     (with_rule
     (with_rule (with_rule (new_app (codes "run"))
     (number (codes "senders") (codes "3") (Unsigned 1 MOST_SEND_WORKERS)))
-    (number (codes "receivers") (codes "2") (Unsigned 1 MOST_RECEIVERS)))
+    (number (codes "receivers") (codes "2") (Unsigned 1 MOST_RECEIVE_WORKERS)))
     (number (codes "messages") (codes "100") (Unsigned 0 MOST_MESSAGES_EACH)))
     (number (codes "seed") (codes "7") (Unsigned 0 (2 ^ 64 - 1))))
     (flag (codes "log"))

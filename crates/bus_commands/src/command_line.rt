@@ -8,8 +8,8 @@ ghost use Rattle.bus_commands.specs.CommandLine.{NamesTask};
 
 use crate::help;
 use crate::printing::Request;
-use bus_register::limits::{MOST_RECEIVERS, MOST_SENDERS};
-use bus_run::limits::{MOST_MESSAGES_EACH, MOST_SEND_WORKERS};
+use bus_register::limits::MOST_SENDERS;
+use bus_run::limits::{MOST_MESSAGES_EACH, MOST_RECEIVE_WORKERS, MOST_SEND_WORKERS};
 use bus_webpage::Purpose;
 use clap::builder::ValueParser;
 use clap::{Arg, ArgAction, ArgMatches, Command, Error, value_parser};
@@ -107,7 +107,7 @@ fn run_command<'a>(alloc: Global) -> Result<Command<'a>, Error>
     ensures local { IfOk result (λ c. (out-Command c).has_globals ≡ false) }
 {
     let senders = value_parser!(u64).range(1..MOST_SEND_WORKERS as i64 + 1);
-    let receivers = value_parser!(u64).range(1..MOST_RECEIVERS as i64 + 1);
+    let receivers = value_parser!(u64).range(1..MOST_RECEIVE_WORKERS as i64 + 1);
     let messages = value_parser!(u64).range(0..MOST_MESSAGES_EACH as i64 + 1);
     let seed = number(alloc, "seed", "7", value_parser!(u64)).help(
         "Seed of random words, 0 to 18446744073709551615",

@@ -42,7 +42,7 @@ The format stands in docs/FORMATS.md, under 'ratify'.";
 
 /// Behind the options of `replay`.
 pub const REPLAY: &str =
-    "The first line of a script is 'shape N M R T L': N senders (1 to 64), M receivers (1 to 8),
+    "The first line of a script is 'shape N M R T L': N senders (1 to 64), M receivers (1 to 64),
 R rounds for each bit (1 to 8), T tenures (1 to 256) and L log words (16 to 65536).
 With 'cycle' in the place of 'shape' there are T rows (2 to 8), which are used again, for up to
 2^40 tenures. With 'ring' the L log words are used again too.

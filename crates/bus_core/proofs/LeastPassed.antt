@@ -116,6 +116,7 @@ module _ {E : Type 0} where
         behind = behind_lower (lesser (lesser least page.words) NUMBERS) least (place ∷ places)
             (omega arith) k.below;
         within = omega arith;
+        few = outer.second;
         furthest = λ n words few each.
             outer.most n (inner.most n (k.greatest n (few_begun n few) each) words) few;
         rises = λ kept each. outer.most page.floor (inner.most page.floor

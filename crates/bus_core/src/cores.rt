@@ -154,6 +154,20 @@ impl<Q: Ratifier + Drop> SenderCore<Q> {
         self.turns.number()
     }
 
+    /// How many words the log of its bus has, by its own layout.
+    pub fn log_words(&self) -> u64
+        ensures { result ≡ self.now.core.layout.capacity }
+    {
+        self.turns.capacity()
+    }
+
+    /// How many senders its bus has, by its own layout.
+    pub fn senders(&self) -> u64
+        ensures { result ≡ self.now.core.layout.senders }
+    {
+        self.turns.senders()
+    }
+
     /// How far its pin of a tenure has come; none where each tenure has a row of its own.
     pub fn pin(&self) -> Option<Pin>
         ensures { result ≡ pin_of self.now.reuse }

@@ -20,7 +20,8 @@ use Rattle.bus_core.specs.Seen.{tenure_begun}
 use Rattle.bus_core.specs.Telling.{FeedTells, RestTells}
 use Rattle.bus_world.specs.Headline.{HasPut, HasMarked, puts}
 use Rattle.bus_pageslot.specs.Listening.{Hears, GoesOnTo}
-use Rattle.bus_pageslot.specs.Looks.{HasLooked, batch_len}
+use Rattle.bus_pageslot.specs.Looks.{LooksForRoom}
+use Rattle.bus_pageslot.specs.Room.{Fits}
 use Rattle.bus_pageslot.specs.Rule.{Sat, receiver_view_in, known_in, table_layout_in}
 use Rattle.bus_pageslot.specs.Seats.{SenderSeat, TookAndTold, table_of, first_number_of}
 use Rattle.bus_pageslot.specs.Seats.{actions_of, stored_of}
@@ -125,16 +126,17 @@ pub record TurnsAnswered (old : SenderSeat Held) (word more answer : ℕ) (told 
   pub says : told ≡ turn_answer turn
 
 -- a look whether its batch has room: by what was found on tables of a bus of which the rule held,
--- it has some, or none
-abbrev pub HasLookedAs : SenderSeat Held → Bool → Type 0
-HasLookedAs s fits = (plan : Plan)
-    × HasLooked process (automaton plan) s.seat.me.0 (batch_len process s.core) fits
+-- it has some, or none; its seat shows what it looked at
+abbrev pub HasLookedAs : SenderSeat Held → Bool → SenderSeat Held → Type 0
+HasLookedAs old fits new = (plan : Plan) × LooksForRoom process (automaton plan) old fits new
 
--- It changed nothing of the sender, and was answered so. NEVER_FITS takes no step.
+-- Its answer: NEVER_FITS where the frame of its batch is longer than the log, and then nothing has
+-- changed; and by a look where it is not.
 pub record RoomAnswered (old : SenderSeat Held) (answer : ℕ) (new : SenderSeat Held) : Type 0 where
-  pub seat : new ≡ old
-  pub answers : ((answer ≡ code.OK) × HasLookedAs old true)
-      ⊎ (((answer ≡ code.FULL) × HasLookedAs old false) ⊎ (answer ≡ code.NEVER_FITS))
+  pub table : table_of new ≡ table_of old
+  pub fits : Fits process old.core → ((answer ≡ code.OK) × HasLookedAs old true new)
+      ⊎ ((answer ≡ code.FULL) × HasLookedAs old false new)
+  pub never : ¬ Fits process old.core → (answer ≡ code.NEVER_FITS) × (new ≡ old)
 
 -- what it shows
 pub record ShowsSender (s : SenderSeat Held) (shown : SenderShown) : Type 0 where

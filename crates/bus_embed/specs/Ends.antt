@@ -1,6 +1,6 @@
 -- What the end of a bus leaves, as numbers.
-use Rattle.std.specs.Prelude.{◌≡◌, ℕ, ◌+◌, ◌<◌, ◌≤◌, ◌⊎◌, true, false, List, length, slice_get}
-use Rattle.std.specs.Prelude.{slice_index, slice_set, Some, None, Result, Ok, Err}
+use Rattle.std.specs.Prelude.{◌≡◌, ◌≢◌, ℕ, ◌+◌, ◌<◌, ◌≤◌, ◌⊎◌, true, false, List, length}
+use Rattle.std.specs.Prelude.{slice_get, slice_index, slice_set, Some, None, Result, Ok, Err}
 use Rattle.bus_register.specs.declared.limits.TheConstants.{MOST_SENDERS}
 use Rattle.bus_register.specs.declared.registers.SenderNo.{SenderNo}
 use Rattle.bus_batch.specs.Frames.{Order, Spells, has_gone}
@@ -69,10 +69,12 @@ pub record EndAnswered (r : SeatOfBus Held) (log : List ℕ) (left : Left) (answ
   pub code : answer ≡ end_code given
 
 -- ---- the page of a sitting whose order has ended, by its senders
--- each sender would go on with its first number, and the order has not ended; or nothing was
--- written
-pub record BeginsPage (answer : ℕ) (left left' : Left) : Type 0 where
+-- By this sender's own count the bus has so many senders: each would go on with its first number,
+-- and the order has not ended. Or it has another number of them, and nothing was written.
+pub record BeginsPage (s : SenderSeat Held) (senders answer : ℕ) (left left' : Left) : Type 0 where
   pub answers : (answer ≡ code.OK) ⊎ ((answer ≡ code.UNANSWERED) × (left' ≡ left))
+  pub counted : answer ≡ code.OK → (process.table_layout s.core).senders ≡ senders
+  pub refused : answer ≡ code.UNANSWERED → (process.table_layout s.core).senders ≢ senders
   pub next : answer ≡ code.OK → left'.next ≡ left'.bases
   pub ended : answer ≡ code.OK → left'.ended ≡ false
 

@@ -199,9 +199,10 @@ impl Left {
 }
 
 /// What a bus has left before any of its senders sent: of this bus the numbers that its sitting
-/// began with, and nothing else. UNANSWERED where it has another number of senders.
+/// began with, and nothing else. UNANSWERED where, by this sender's count, it has another number of
+/// senders, and nothing changes.
 pub fn begin_page(sender: &SenderHandle<ThreeWord>, senders: u64, left: &mut Left) -> u32
-    ensures { BeginsPage result left.old left.new }
+    ensures { BeginsPage sender.now senders result left.old left.new }
 {
     if sender.senders() != senders {
         return codes::UNANSWERED;

@@ -40,7 +40,7 @@ pub const LEAVE: u32 = 16;
 
 /// No bus: senders are not 1 to 64.
 pub const BAD_SENDERS: u32 = 32;
-/// No bus: receivers are not 1 to 8.
+/// No bus: receivers are not 1 to 64.
 pub const BAD_RECEIVERS: u32 = 33;
 /// No bus: rounds are not 1 to 8.
 pub const BAD_ROUNDS: u32 = 34;

@@ -16,6 +16,10 @@ differ a b r is ne same = grind arith
 pub equal : (a b : ℕ) (r : Bool) → r ≡ not (nat_eq a b) → r ≡ false → a ≡ b
 equal a b r is eq = grind arith
 
+-- a list that is not empty has a first one
+pub some_there : (n : ℕ) (r : Bool) → r ≡ nat_eq n 0 → r ≡ false → 0 < n
+some_there n r is some = grind arith
+
 module _ {C : Type 0} (P : Process C) (senders : List (SenderSeat C)) where
   pub none_noted : (numbers : List ℕ) → AreNoted P senders 0 numbers
   none_noted numbers = record {

@@ -1,10 +1,12 @@
 -- What the last answer of a sending says as a Result; and turns between which a function is asked
 -- that always says the same.
 use Rattle.std.proofs.Common.{◌≡◌, ◌≢◌, Bool, true, false, Result, Ok, Err, IfOk, IfErr}
+use Rattle.std.proofs.Common.{OnOk, ◌↔◌}
 use Rattle.std.proofs.Common.{Option, Some, None, IfSome, IfNone, refl, subst}
 use Rattle.bus_tenure.specs.Classes.{is_refusal}
 use Rattle.bus_tenure.specs.declared.turns.Turn.{Turn}
-use Rattle.bus_automaton.specs.Processes.{Process}
+use Rattle.bus_automaton.specs.Processes.{Process, Automaton}
+use Rattle.bus_automaton.specs.declared.plans.Plan.{Plan}
 use Rattle.bus_pageslot.specs.Room.{Coming, GoesForRoom, SendsForRoom}
 use Rattle.bus_pageslot.specs.Room as room
 use Rattle.bus_pageslot.specs.Seats.{SenderSeat}
@@ -44,6 +46,33 @@ pub of_answer : {E : Type 0} (B : Turn → Type 0) (r : Result (Option Turn) E) 
 of_answer B r o t is some h =
     let at : IfSome o B = subst (λ z. IfOk z (λ answered. IfSome answered B)) is h in
     subst (λ z. IfSome z B) some at
+
+-- what is said of the bus of one plan is said of the bus of some plan
+pub of_plan : {E : Type 0} (B : Plan → Turn → Type 0) (plan : Plan) (r : Result (Option Turn) E)
+    → IfOk r (λ answered. IfSome answered (B plan))
+    → IfOk r (λ answered. IfSome answered (λ t. (p : Plan) × B p t))
+of_plan B plan (Ok (Some t)) h = (plan, h)
+of_plan B plan (Ok None) h = h
+of_plan B plan (Err e) h = h
+
+pub none_of_plan : {E : Type 0} (B : Plan → Type 0) (plan : Plan) (r : Result (Option Turn) E)
+    → IfOk r (λ answered. IfNone answered (B plan))
+    → IfOk r (λ answered. IfNone answered ((p : Plan) × B p))
+none_of_plan B plan (Ok (Some t)) h = h
+none_of_plan B plan (Ok None) h = (plan, h)
+none_of_plan B plan (Err e) h = h
+
+-- what is said where a call gave something
+pub gave : {A E : Type 0} (F : Type 0) (r : Result A E) (a : A) → r ≡ Ok a → OnOk r F → F
+gave F r a is h = subst (λ z. OnOk z F) is h
+
+-- what a turn answered is never that the batch is longer than the log
+pub never_of : (F : Type 0) (answer : Turn) (r : Result Delivered NotDelivered) → F
+    → IfErr r (λ w. IsWhy answer w) → r ≡ Err why.NeverFits ↔ (F → ⊥)
+never_of F answer r fits is = (
+  λ never. absurd (let no : ⊥ = subst (λ z. IfErr z (λ w. IsWhy answer w)) never is in no),
+  λ no. absurd (no fits),
+)
 
 -- ---- a function that always says the same
 -- turns in which nobody was told to go on
@@ -102,10 +131,10 @@ stops_asking_no P T Tells first given new None h never =
     stops_no P T Tells never first given new h
 
 -- turns and looks in which nobody was told to stop
-module _ {C F : Type 0} (P : Process C) (T : Tellings C) (Tells : F → Bool → F → Type 0)
-    (first : SenderSeat C) (given : F) where
-  goes_yes : (next : Coming) (s : SenderSeat C) (f : F) → GoesForRoom P T Tells first given next s f
-      → GoesForRoom P T SaysYes first tt next s tt
+module _ {C F : Type 0} (P : Process C) (A : Automaton C) (T : Tellings C)
+    (Tells : F → Bool → F → Type 0) (first : SenderSeat C) (given : F) where
+  goes_yes : (next : Coming) (s : SenderSeat C) (f : F)
+      → GoesForRoom P A T Tells first given next s f → GoesForRoom P A T SaysYes first tt next s tt
   goes_yes _ _ _ room.Begins = room.Begins
   goes_yes _ _ _ (room.Goes old f word answer new before turned goes waits) =
       room.Goes old tt word answer new (goes_yes room.Turning old f before) turned goes waits
@@ -113,12 +142,16 @@ module _ {C F : Type 0} (P : Process C) (T : Tellings C) (Tells : F → Bool →
       room.Asks old tt word answer new tt (goes_yes room.Turning old f before) turned waits refl
   goes_yes _ _ _ (room.Fills old f word new before turned) =
       room.Fills old tt word new (goes_yes room.Turning old f before) turned
-  goes_yes _ _ _ (room.Looks old f f' next before told) =
-      room.Looks old tt tt next (goes_yes room.Looking old f before) refl
+  goes_yes _ _ _ (room.FindsNone looks old f f' new before few told look) =
+      room.FindsNone looks old tt tt new (goes_yes (room.Looking looks) old f before) few refl look
+  goes_yes _ _ _ (room.FindsRoom looks old f f' new before few told look) =
+      room.FindsRoom looks old tt tt new (goes_yes (room.Looking looks) old f before) few refl look
+  goes_yes _ _ _ (room.Tries old f before) =
+      room.Tries old tt (goes_yes (room.Looking room.most_looks) old f before)
 
   pub sends_yes : (answer : Turn) (new : SenderSeat C)
-      → SendsForRoom P T Tells first given answer new
-      → SendsForRoom P T SaysYes first tt answer new
+      → SendsForRoom P A T Tells first given answer new
+      → SendsForRoom P A T SaysYes first tt answer new
   sends_yes answer new h = record {
     old = h.old;
     asked = tt;

@@ -42,7 +42,7 @@ pub use bus_receiver::{
     PutFault, RecvTurn, SendFault, SenderNo, Shape, ThreeWord, Turn, TwoCollect, Unsent, read_log,
     room_to_close, tenures_needed, words_needed,
 };
-pub use bus_waiting::Waiting;
+pub use bus_waiting::{SharedBell, Waiter, Waiting};
 pub use opening::{open, open_after, open_cyclic, open_ring};
 pub use pages::{NoPage, senders_page};
 pub use receivers::ReceiverHandle;

@@ -50,9 +50,10 @@ pub fn senders_page<Q: Ratifier + Drop, R: Rng + Drop>(
     ensures page { IfOk result (IsPageOf (process_by Q.Ratifier) senders.now) }
     ensures fault { IfErr result (NoPageOf (process_by Q.Ratifier) senders.now) }
 {
-    let Some(first) = senders.first() else {
+    if senders.is_empty() {
         return Err(NoPage::NotEnded);
-    };
+    }
+    let first = &senders[0];
     let many = senders.len().min(MOST_SENDERS);
     let mut next = first.bases();
     for place in 0..many {
@@ -63,7 +64,8 @@ pub fn senders_page<Q: Ratifier + Drop, R: Rng + Drop>(
         }
         next[place] = sender.goes_on_from();
     }
-    if senders.len() < MOST_SENDERS && (many as u64) < first.senders() {
+    let due = first.senders().min(MOST_SENDERS as u64);
+    if (many as u64) < due {
         return Err(NoPage::Unanswered(SenderNo(many as u8)));
     }
     if !one_has_closed(senders) {

@@ -6,8 +6,8 @@ ghost use Rattle.std.specs.Arc.{arc_value};
 ghost use Rattle.bus_automaton.specs.Buses.{process_by, automaton_by, plan_passers};
 ghost use Rattle.bus_pageslot.specs.Endings.{IsLeft};
 ghost use Rattle.bus_pageslot.specs.Rule.{receiver_view_in, known_in, table_layout_in};
-ghost use Rattle.bus_pageslot.specs.Listening.{Hears, HearsAfter};
-ghost use Rattle.bus_pageslot.specs.Steps.{HasLeftBy};
+ghost use Rattle.bus_pageslot.specs.Listening.{Hears, HearsAfter, HearsSigned};
+ghost use Rattle.bus_pageslot.specs.Steps.{HasLeftBy, Learns};
 ghost use Rattle.bus_pageslot.specs.Seats.{table_of, actions_of, stored_of};
 ghost use Rattle.bus_receiver.specs.Listening.{bus_of, Takes, HaveMet, IsTold};
 ghost use Rattle.bus_receiver.specs.Listening.{PassesTo, PassesWhile, item_or_end, written_or_end};
@@ -21,6 +21,7 @@ use bus_deliverylog::RecvTurn;
 use bus_pageslot::{Bus, Ended};
 use bus_receiver::{Found, ItemTurn, Left, Next, Receiver};
 use bus_waiting::{SharedBell, Waiting};
+use std::alloc::AllocError;
 use std::cmp::Ordering;
 use std::marker::Model;
 use std::sync::{Arc, Wait};
@@ -146,11 +147,30 @@ impl<Q: Ratifier + Drop> ReceiverHandle<Q> {
         self.receiver.item_turns(bus, item)
     }
 
+    /// As `item_turns`, and a head or a leave mark of the last turn is written as the sign. Any
+    /// other answer leaves that as it was.
+    #[inline(always)]
+    pub fn signed_turns(&mut self, item: &mut Item, sign: &mut RecvTurn) -> ItemTurn
+        ensures bus { self.new.bus ≡ self.old.bus }
+        ensures hears { HearsSigned self.old.me item.old sign.old result item.new sign.new
+            self.new.me }
+    {
+        let bus: &Bus<Q> = &self.bus;
+        self.receiver.signed_turns(bus, item, sign)
+    }
+
     /// Wakes those that sleep at handles of this bus. The calls that wait ring by themselves, and
     /// so does `leave`. After `turn` or `item_turns` of a ring has stored its place (`passed`) it
     /// wakes those that wait for room, which else look again within 0.1 s.
     pub fn ring(&self) {
         self.bell.ring();
+    }
+
+    /// A share of the bell of its bus, for who waits for two things: a waiter of it rests until a
+    /// call at another handle of the bus has got somewhere. It waits as this handle does. It takes
+    /// no memory; an error says that the bell has too many shares.
+    pub fn bell(&self) -> Result<SharedBell, AllocError> {
+        self.bell.again()
     }
 
     /// Turns, until one finds a head, an item, a leave mark or the end. That it ends is not
@@ -225,6 +245,16 @@ impl<Q: Ratifier + Drop> ReceiverHandle<Q> {
         let waiter = self.bell.asked(wait);
         self.receiver
             .next_item_in_place_while(&waiter, bus, go_on, item)
+    }
+
+    /// Looks how long the log is, beside its turns: how many words were published by then. It knows
+    /// all of them from then on. One load of the length.
+    pub fn look(&mut self) -> u64
+        ensures bus { self.new.bus ≡ self.old.bus }
+        ensures learns { Learns self.old.me result self.new.me }
+    {
+        let bus: &Bus<Q> = &self.bus;
+        self.receiver.look(bus)
     }
 
     /// A sender of the same bus tells it of the log: it knows from then on all that the sender has

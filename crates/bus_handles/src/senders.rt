@@ -1,6 +1,6 @@
 //! A sender with its bus, and with the random words that it votes by.
 
-ghost use Rattle.std.specs.Prelude.{◌≡◌, ℕ, ◌+◌, List, [], ◌∷◌, ◌++◌, length};
+ghost use Rattle.std.specs.Prelude.{◌≡◌, ◌≤◌, ℕ, ◌+◌, List, [], ◌∷◌, ◌++◌, length};
 ghost use Rattle.std.specs.Prelude.{Some, None, IfSome, IfNone, IfOk, IfErr, OnOk, OnErr, true};
 ghost use Rattle.std.specs.Prelude.{IsTrue, ◌↔◌, Err, IsSome, ◌≢◌};
 ghost use Rattle.std.specs.Arc.{arc_value};
@@ -18,6 +18,7 @@ ghost use Rattle.bus_tenure.specs.Elections.{election_of};
 ghost use Rattle.bus_automaton.specs.Buses.{automaton_by, process_by};
 ghost use Rattle.bus_automaton.specs.declared.plans.Plan.{Plan};
 ghost use Rattle.bus_tenure.specs.Classes.{is_refusal};
+ghost use Rattle.bus_tenure.specs.Seen.{HasElection};
 ghost use Rattle.bus_pageslot.specs.Seats.{TookAndTold, table_of};
 ghost use Rattle.bus_pageslot.specs.Seats.{first_number_of, actions_of, stored_of};
 ghost use Rattle.bus_pageslot.specs.Turns.{tells_by, TakesUpTo, Sends, SendsAsking, StopsWaiting};
@@ -25,8 +26,8 @@ ghost use Rattle.bus_pageslot.specs.Sendings.{waiting_of, HasSent, HasSentPart, 
 ghost use Rattle.bus_pageslot.specs.Sendings.{Carries, CarryRefused};
 ghost use Rattle.bus_handles.specs.Answers.{delivered_turn, DeliversNone};
 ghost use Rattle.bus_handles.specs.Asking.{SaysNo, SaysYes};
-ghost use Rattle.bus_pageslot.specs.Looks.{HasLooked, batch_len};
-ghost use Rattle.bus_pageslot.specs.Room.{SendsForRoom, StopsForRoom};
+ghost use Rattle.bus_pageslot.specs.Looks.{LooksForRoom};
+ghost use Rattle.bus_pageslot.specs.Room.{Fits, SendsForRoom, StopsForRoom};
 ghost use Rattle.bus_pageslot.specs.Sendings.{ClosesAndSends};
 ghost use Rattle.bus_handles.specs.Closings.{NotEndedFor};
 
@@ -185,10 +186,11 @@ impl<Q: Ratifier + Drop, R: Rng + Drop> SenderHandle<Q, R> {
         bus.bases()
     }
 
-    /// How many senders its bus has.
-    pub fn senders(&self) -> u64 {
-        let bus: &Bus<Q> = &self.bus;
-        bus.senders()
+    /// How many senders its bus has, by the sender's own count.
+    pub fn senders(&self) -> u64
+        ensures { result ≡ ((process_by Q.Ratifier).table_layout self.now.core).senders }
+    {
+        self.sender.senders()
     }
 
     /// It sends nothing more: it has closed the order, has left it, or has learned that the order
@@ -233,7 +235,8 @@ impl<Q: Ratifier + Drop, R: Rng + Drop> SenderHandle<Q, R> {
     /// How many turns its election takes at most, with the one that takes the page; 0 where none
     /// is begun.
     pub fn turns_left(&self) -> u64
-        ensures { result ≡ (process_by Q.Ratifier).turns_left self.now.core }
+        ensures turns { result ≡ (process_by Q.Ratifier).turns_left self.now.core }
+        ensures running { HasElection self.now.core.core.phase → 1 ≤ result }
     {
         self.sender.turns_left()
     }
@@ -355,8 +358,8 @@ impl<Q: Ratifier + Drop, R: Rng + Drop> SenderHandle<Q, R> {
     }
 
     /// Turns, until there is nothing more to do, or nothing more that can be done: Idle, Delivered,
-    /// Left, Full, Closed or Spent. Each vote takes one word of its generator. It waits for nothing
-    /// but its own next turn, and that it ends is not promised.
+    /// Left, Full, Closed or Spent. It waits for nothing but its own next turn, and that it ends is
+    /// not promised.
     #[must_use]
     pub fn send<W: Wait>(&mut self, wait: &W) -> Turn
         ensures table { table_of self.new ≡ table_of self.old }
@@ -398,8 +401,7 @@ impl<Q: Ratifier + Drop, R: Rng + Drop> SenderHandle<Q, R> {
     }
 
     /// As `send`, but that it waits for nobody: None where a turn answers Waiting or Behind, since
-    /// another sender is at work. The batch is kept then, and any later turn goes on with it. Each
-    /// vote takes one word of its generator.
+    /// another sender is at work. The batch is kept then, and any later turn goes on with it.
     #[must_use]
     pub fn try_send<W: Wait>(&mut self, wait: &W) -> Option<Turn>
         ensures table { table_of self.new ≡ table_of self.old }
@@ -417,22 +419,24 @@ impl<Q: Ratifier + Drop, R: Rng + Drop> SenderHandle<Q, R> {
         self.send_while(wait, || false)
     }
 
-    /// The frame of its batch is no longer than the log. Where it is longer, it is Full for good.
-    /// Takes no step.
-    pub fn fits(&self) -> bool {
-        let bus: &Bus<Q> = &self.bus;
-        self.sender.fits(bus)
+    /// The frame of its batch is no longer than the log of its bus. Where it is longer, it is Full
+    /// for good. Takes no step.
+    pub fn fits(&self) -> bool
+        ensures { IsTrue result ↔ Fits (process_by Q.Ratifier) self.now.core }
+    {
+        self.sender.fits()
     }
 
     /// There is room for its batch: a look at the length, and at the places that the receivers of a
-    /// ring have passed. It is no turn, and changes nothing of the sender. Yes is no promise, since
-    /// another sender may take the room first; no may be yes by now.
+    /// ring have passed. It is no turn, and changes nothing of the sender but the looks that its
+    /// seat shows. Yes is no promise, since another sender may take the room first; no may be yes
+    /// by now.
     #[must_use]
     pub fn has_room(&mut self) -> bool
-        ensures seat { self.new ≡ self.old }
-        ensures looked { let P = process_by Q.Ratifier in (plan : Plan)
-            × HasLooked P (automaton_by Q.Ratifier plan) self.old.seat.me.0
-            (batch_len P self.old.core) result }
+        ensures table { table_of self.new ≡ table_of self.old }
+        ensures looked { (plan : Plan) × LooksForRoom (process_by Q.Ratifier)
+            (automaton_by Q.Ratifier plan) self.old result self.new }
+        ensures fits { IsTrue result → Fits (process_by Q.Ratifier) self.old.core }
     {
         let bus: &Bus<Q> = &self.bus;
         self.sender.has_room(bus)
@@ -452,13 +456,15 @@ impl<Q: Ratifier + Drop, R: Rng + Drop> SenderHandle<Q, R> {
     ) -> Result<Option<Turn>, NeverFits>
         requires { F.IsAlwaysCallable go_on }
         ensures table { table_of self.new ≡ table_of self.old }
+        ensures fits { OnOk result (Fits (process_by Q.Ratifier) self.old.core) }
+        ensures never { OnErr result (¬ Fits (process_by Q.Ratifier) self.old.core) }
         ensures same { OnErr result (self.new ≡ self.old) }
-        ensures sends { IfOk result (λ answered. IfSome answered
-            (λ turn. SendsForRoom (process_by Q.Ratifier) (tells_by Q.Ratifier) F.step self.old
-            go_on turn self.new)) }
-        ensures stops { IfOk result (λ answered. IfNone answered
-            (StopsForRoom (process_by Q.Ratifier) (tells_by Q.Ratifier) F.step self.old go_on
-            self.new)) }
+        ensures sends { IfOk result (λ answered. IfSome answered (λ turn. (plan : Plan)
+            × SendsForRoom (process_by Q.Ratifier) (automaton_by Q.Ratifier plan)
+            (tells_by Q.Ratifier) F.step self.old go_on turn self.new)) }
+        ensures stops { IfOk result (λ answered. IfNone answered ((plan : Plan)
+            × StopsForRoom (process_by Q.Ratifier) (automaton_by Q.Ratifier plan)
+            (tells_by Q.Ratifier) F.step self.old go_on self.new)) }
         ensures keeps { let P = process_by Q.Ratifier in IfOk result (λ answered. IfSome answered
             (λ turn. is_refusal turn ≡ true → KeptAfter P self.old turn self.new)) }
         ensures waits { let P = process_by Q.Ratifier in IfOk result (λ answered. IfNone answered
@@ -507,16 +513,21 @@ impl<Q: Ratifier + Drop, R: Rng + Drop> SenderHandle<Q, R> {
     }
 
     /// As `deliver`, but that it waits for room where it is answered Full, as `send_when_room`
-    /// does. So Full is never why none was delivered.
+    /// does. So Full is never why none was delivered. NeverFits is, where its batch is longer than
+    /// the log and nowhere else, and nothing changes then.
     pub fn deliver_when_room<W: Wait>(&mut self, wait: &W) -> Result<Delivered, NotDelivered>
         ensures table { table_of self.new ≡ table_of self.old }
-        ensures delivered { IfOk result (λ done. SendsForRoom (process_by Q.Ratifier)
+        ensures delivered { IfOk result (λ done. (plan : Plan)
+            × SendsForRoom (process_by Q.Ratifier) (automaton_by Q.Ratifier plan)
             (tells_by Q.Ratifier) SaysYes self.old tt (delivered_turn done) self.new) }
-        ensures not_delivered { let P = process_by Q.Ratifier in let T = tells_by Q.Ratifier in
+        ensures not_delivered { let P = process_by Q.Ratifier in
+            let A = automaton_by Q.Ratifier in let T = tells_by Q.Ratifier in
             IfErr result (λ why. why ≢ NotDelivered.NeverFits
-            → DeliversNone P (λ turn. SendsForRoom P T SaysYes self.old tt turn self.new) self.old
-            why self.new) }
+            → DeliversNone P (λ turn. (plan : Plan)
+            × SendsForRoom P (A plan) T SaysYes self.old tt turn self.new) self.old why self.new) }
         ensures full { IfErr result (λ why. why ≢ NotDelivered.Full) }
+        ensures never { result ≡ Err NotDelivered.NeverFits
+            ↔ ¬ Fits (process_by Q.Ratifier) self.old.core }
         ensures same { result ≡ Err NotDelivered.NeverFits → self.new ≡ self.old }
         ensures puts { let P = process_by Q.Ratifier in
             puts (actions_of P self.new) ≡ puts (actions_of P self.old) }

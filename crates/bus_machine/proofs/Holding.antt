@@ -11,7 +11,7 @@ use Rattle.std.proofs.lemmas.Grind.{flat_map-append}
 use Rattle.std.proofs.lemmas.List.{length-append, length-drop}
 use Rattle.std.proofs.lemmas.Nat.{mod_below}
 use Rattle.std.proofs.lemmas.Option.{same_Some}
-use Rattle.bus_register.specs.declared.limits.TheConstants.{MOST_SENDERS}
+use Rattle.bus_register.specs.declared.limits.TheConstants.{MOST_RECEIVERS, MOST_SENDERS}
 use Rattle.bus_register.specs.Tables.{of_some}
 use Rattle.bus_batch.specs.Batches.{next_of}
 use Rattle.bus_batch.specs.Frames.{Frame, Order, AreFrames, frame_words, log_words}
@@ -87,7 +87,7 @@ module _ {E : Type 0} (X : Election E) where
             subst (λ x. AreRows x m'.reuse) (sym i.0) (subst (AreRows m.layout) (sym i.1) h.rows);
         capacity_some = subst (λ x. 0 < x.capacity) (sym i.0) h.capacity_some;
         capacity_few = subst (λ x. x.capacity ≤ 65536) (sym i.0) h.capacity_few;
-        passers_few = subst (λ x. x.passers ≤ 8) (sym i.0) h.passers_few;
+        passers_few = subst (λ x. x.passers ≤ MOST_RECEIVERS) (sym i.0) h.passers_few;
         senders = many_after m m' e a d ∙ h.senders ∙ sym (ap (λ x. x.senders) i.0);
         trails = trails_grown X m e a h.trails;
         reached = Then m m' h.trails e a h.reached d;
@@ -176,7 +176,7 @@ module _ {E : Type 0} (X : Election E) (P : Protocol E (Unit {0}) ℕ) (m : Mach
 module _ {E : Type 0} (X : Election E) (P : Protocol E (Unit {0}) ℕ) where
   -- ---- its sizes are served
   layout_ok : (x : Layout) (o : Option ℕ) → x.senders ≤ MOST_SENDERS → x.capacity ≤ 65536
-      → x.passers ≤ 8 → AreRows x o → IsLayout x
+      → x.passers ≤ MOST_RECEIVERS → AreRows x o → IsLayout x
   layout_ok x None few small passed r = record {
     senders = few;
     rows = omega arith;

@@ -9,6 +9,7 @@ pub mod AtSome
 pub mod Leading
 pub mod Paging
 pub mod Framed
+pub mod FloorWords
 pub mod Cells
 pub mod Publishing
 pub mod Clearing
@@ -25,6 +26,8 @@ pub mod Entering
 pub mod Remembering
 pub mod Losing
 pub mod Loaded
+pub mod LoadsInTurn
+pub mod ShownPlaces
 pub mod Telling
 pub mod Promised
 pub mod Floors

@@ -47,7 +47,8 @@ use Rattle.bus_machine.proofs.Framed.{IsFramed, framed}
 use Rattle.bus_machine.proofs.Leading.{Sits}
 use Rattle.bus_machine.specs.Machine.{base_of, Machine, Trails, Reached, IsNew, found, moved}
 use Rattle.bus_machine.specs.Machine.{turn_answer}
-use Rattle.bus_machine.specs.Telling.{found_more, found_since, places_found, IsLeast}
+use Rattle.bus_machine.specs.Finding.{found_more, found_since, places_found}
+use Rattle.bus_machine.specs.Telling.{IsLeast}
 
 -- ---- what was found
 -- with more actions
@@ -89,11 +90,11 @@ none_loaded passers page = record {
 }
 
 -- who holds no page
-abbrev IsAway : {E : Type 0} → Phase E → Type 0
+abbrev pub IsAway : {E : Type 0} → Phase E → Type 0
 IsAway ph = (t : ℕ) (page : Page) (stored : ℕ) (published : Bool)
     → ph ≡ phase.Holding t page stored published → ⊥
 
-rests : {E : Type 0} (ph : Phase E) → ph ≡ phase.Resting → IsAway ph
+pub rests : {E : Type 0} (ph : Phase E) → ph ≡ phase.Resting → IsAway ph
 rests ph is t page stored published held =
     let bad : phase.Resting ≡ phase.Holding t page stored published = sym is ∙ held in cc
 
@@ -132,7 +133,7 @@ floored_is least (phase.Giving u reason) t page stored published held =
     absurd (let bad = held in cc)
 
 -- and who has it has had it before
-floored_from : {E : Type 0} (least : ℕ) (ph : Phase E) (t : ℕ) (page : Page) (stored : ℕ)
+pub floored_from : {E : Type 0} (least : ℕ) (ph : Phase E) (t : ℕ) (page : Page) (stored : ℕ)
     (published : Bool) → phase_floored least ph ≡ phase.Holding t page stored published
     → (other : Page) × (ph ≡ phase.Holding t other stored published)
 floored_from least phase.Resting t page stored published held = absurd (let bad = held in cc)
@@ -142,6 +143,46 @@ floored_from least (phase.Taken u) t page stored published held = absurd (let ba
 floored_from least (phase.Holding u other k b) t page stored published held = (other, cc)
 floored_from least (phase.Giving u reason) t page stored published held =
     absurd (let bad = held in cc)
+
+-- ---- what a sender does that holds no page afterwards
+module _ {E : Type 0} (X : Election E) (v : Sender E) where
+  -- ---- a look at the stage
+  looked : (n : ℕ) (b d : Bool) → v.core.phase ≡ phase.Resting
+      → IsAway (cond b v.core (cond d (record v.core { least = n }) (core_begun X v.core n))).phase
+  looked n true d is = rests v.core.phase is
+  looked n false true is = rests v.core.phase is
+  looked n false false is = λ t page stored published held. cc
+
+  looked_again : (n : ℕ) (b d : Bool) → v.core.phase ≡ phase.Resting
+      → IsAway (cond b v.core (cond d (record v.core { least = n }) v.core)).phase
+  looked_again n true d is = rests v.core.phase is
+  looked_again n false true is = rests v.core.phase is
+  looked_again n false false is = rests v.core.phase is
+
+  pub looks : (o : Option Reuse) (n : ℕ) → v.core.phase ≡ phase.Resting
+      → IsAway (seen X v.core o n).core.phase
+  looks None n is = looked (n / 2) (waits v.core n) (nat_le v.core.layout.rows (n / 2)) is
+  looks (Some q) n is =
+      looked_again (n / 2) (waits v.core n) (nat_le v.core.layout.rows (n / 2)) is
+
+  pub validated : (t : ℕ) (b : Bool) → v.core.phase ≡ phase.Resting
+      → IsAway (cond b (core_begun X v.core t) v.core).phase
+  validated t true is = λ u page stored published held. cc
+  validated t false is = rests v.core.phase is
+
+  -- ---- a step of its election
+  decided : (t : ℕ) (e : E) (b : Bool)
+      → IsAway (cond b (record v.core { phase = phase.Electing t e }) (record v.core {
+        queue = record v.core.queue { busy = false };
+        least = t + 1;
+        phase = phase.Resting;
+      })).phase
+  decided t e true u page stored published held = cc
+  decided t e false u page stored published held = cc
+
+  pub elected : (t : ℕ) (e : E) (o : Option ℕ) → IsAway (core_elected v.core t e o).phase
+  elected t e None = λ u page stored published held. cc
+  elected t e (Some o) = decided t e (o == v.core.me)
 
 -- ---- a turn of sender s
 module _ {E : Type 0} (X : Election E) (P : Protocol E (Unit {0}) ℕ) (m : Machine E) (T : Trails)
@@ -199,44 +240,6 @@ module _ {E : Type 0} (X : Election E) (P : Protocol E (Unit {0}) ℕ) (m : Mach
       (subst (HasLoaded v.core.layout.passers page p) (sym none ∙ sym (found_on [] D ds))
       (subst (λ g. HasLoaded v.core.layout.passers g p (places_found D)) same
       (k u other j b p was (sym reuse ∙ has))))
-
-  -- ---- a look at the stage
-  looked : (n : ℕ) (b d : Bool) → v.core.phase ≡ phase.Resting
-      → IsAway (cond b v.core (cond d (record v.core { least = n }) (core_begun X v.core n))).phase
-  looked n true d is = rests v.core.phase is
-  looked n false true is = rests v.core.phase is
-  looked n false false is = λ t page stored published held. cc
-
-  looked_again : (n : ℕ) (b d : Bool) → v.core.phase ≡ phase.Resting
-      → IsAway (cond b v.core (cond d (record v.core { least = n }) v.core)).phase
-  looked_again n true d is = rests v.core.phase is
-  looked_again n false true is = rests v.core.phase is
-  looked_again n false false is = rests v.core.phase is
-
-  looks : (o : Option Reuse) (n : ℕ) → v.core.phase ≡ phase.Resting
-      → IsAway (seen X v.core o n).core.phase
-  looks None n is = looked (n / 2) (waits v.core n) (nat_le v.core.layout.rows (n / 2)) is
-  looks (Some q) n is =
-      looked_again (n / 2) (waits v.core n) (nat_le v.core.layout.rows (n / 2)) is
-
-  validated : (t : ℕ) (b : Bool) → v.core.phase ≡ phase.Resting
-      → IsAway (cond b (core_begun X v.core t) v.core).phase
-  validated t true is = λ u page stored published held. cc
-  validated t false is = rests v.core.phase is
-
-  -- ---- a step of its election
-  decided : (t : ℕ) (e : E) (b : Bool)
-      → IsAway (cond b (record v.core { phase = phase.Electing t e }) (record v.core {
-        queue = record v.core.queue { busy = false };
-        least = t + 1;
-        phase = phase.Resting;
-      })).phase
-  decided t e true u page stored published held = cc
-  decided t e false u page stored published held = cc
-
-  elected : (t : ℕ) (e : E) (o : Option ℕ) → IsAway (core_elected v.core t e o).phase
-  elected t e None = λ u page stored published held. cc
-  elected t e (Some o) = decided t e (o == v.core.me)
 
   -- ---- a load of a passed place
   module _ (u : ℕ) (q : Passing) (i : situation X v ≡ ReadsPassed u q) where
@@ -304,11 +307,11 @@ module _ {E : Type 0} (X : Election E) (P : Protocol E (Unit {0}) ℕ) (m : Mach
   by_turn (Does IsSpent) i = keeps v [] refl refl refl refl
   by_turn (Does LooksAtStage) i =
       away (seen X v.core v.reuse (got (Does LooksAtStage))) (D ++ did (Does LooksAtStage))
-      (looks v.reuse (got (Does LooksAtStage)) (phase_tells X v LooksAtStage i))
+      (looks X v v.reuse (got (Does LooksAtStage)) (phase_tells X v LooksAtStage i))
   by_turn (Does (Elects t e)) i =
       let z = Does (Elects t e) in
       away ((line X v z).fed (got z) word) (D ++ did z)
-      (elected t (X.fed e (got z) word) (X.owner (X.fed e (got z) word)))
+      (elected X v t (X.fed e (got z) word) (X.owner (X.fed e (got z) word)))
   by_turn (Does (TakesPage t)) i =
       let z = Does (TakesPage t) in
       takes (moved (after_step (line X v z).move) m.home ((line X v z).fed (got z) word))
@@ -338,7 +341,7 @@ module _ {E : Type 0} (X : Election E) (P : Protocol E (Unit {0}) ℕ) (m : Mach
   by_turn (Validates t) i =
       let z = Validates t in
       away ((line X v z).fed (got z) word) (D ++ did z)
-      (validated t (got z / 2 == t) (enters X P m T sits reached s v at t i).0)
+      (validated X v t (got z / 2 == t) (enters X P m T sits reached s v at t i).0)
   by_turn (Unpins t) i =
       let z = Unpins t in
       keeps ((line X v z).fed (got z) word) (did z) refl refl (pinning_same v.reuse _) refl
@@ -367,7 +370,7 @@ module _ {E : Type 0} (X : Election E) (P : Protocol E (Unit {0}) ℕ) where
         (ap (λ (w : Sender E). w.core.phase) (new.senders q v at).1) t page stored published held)
 
   -- a put or a mark loads nothing
-  puts : (D : List Action) (bytes : List ℕ) (a : Answer)
+  pub puts : (D : List Action) (bytes : List ℕ) (a : Answer)
       → places_found (D ++ put_actions bytes a) ≡ places_found D
   puts D bytes (answer.Number n) = found_on [] D (put_actions bytes (answer.Number n))
   puts D bytes answer.Closing = found_on [] D []
@@ -377,7 +380,7 @@ module _ {E : Type 0} (X : Election E) (P : Protocol E (Unit {0}) ℕ) where
   puts D bytes answer.Stopped = found_on [] D []
   puts D bytes answer.Gone = found_on [] D []
 
-  marks : (D : List Action) (a : Answer) → places_found (D ++ mark_actions a) ≡ places_found D
+  pub marks : (D : List Action) (a : Answer) → places_found (D ++ mark_actions a) ≡ places_found D
   marks D (answer.Number n) = found_on [] D []
   marks D answer.Closing = found_on [] D (mark_actions answer.Closing)
   marks D answer.Leaving = found_on [] D (mark_actions answer.Leaving)
@@ -451,7 +454,7 @@ least_above n a b low under = elim (lesser_is a b) [
   | inr two ↦ (let e = two.0 in omega arith)
 ]
 
-gives_least : (p : Passing) (places : List ℕ) → GivesLeast p places
+pub gives_least : (p : Passing) (places : List ℕ) → GivesLeast p places
 gives_least p [] =
     record { loaded = omega arith; within = omega arith; below = tt; greatest = λ m x y. x }
 gives_least p (place ∷ places) =

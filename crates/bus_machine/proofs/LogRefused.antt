@@ -115,6 +115,8 @@ published_refused m before f =
 pub logs_refused : {E : Type 0} (X : Election E) (m : Machine E) (T : Trails) → LogsRefuse X m T
 logs_refused {E} X m T = record {
   other_words = λ other kept. other kept.by.stands;
+  lost_behind_a_floor = λ page place has past low other kept.
+      other (kept.by.lasts page has place past low);
   wrapped = λ place flat low other kept.
       let long = kept.by.stands.0 in
       let below : place < slice_index m.words 0 = omega arith in

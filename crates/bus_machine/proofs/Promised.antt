@@ -4,11 +4,14 @@ use Rattle.std.proofs.Common.{ℕ, map, refl}
 use Rattle.bus_batch.specs.Frames.{Spells, order_of, tenure_and_owner}
 use Rattle.bus_register.specs.Protocol.{Protocol}
 use Rattle.bus_tenure.specs.Core.{Election}
+use Rattle.bus_machine.proofs.FloorWords.{page_lasts}
 use Rattle.bus_machine.proofs.Framed.{IsFramed, framed, read_below, reuses, floors_low}
 use Rattle.bus_machine.proofs.Knowing.{knows, out, past, owns, counts}
 use Rattle.bus_machine.proofs.Leading.{Sits}
+use Rattle.bus_machine.proofs.LoadsInTurn.{loads_in_turn}
 use Rattle.bus_machine.proofs.Paging.{paged_it, takes_it, holds_it}
 use Rattle.bus_machine.proofs.Remembering.{remembered}
+use Rattle.bus_machine.proofs.ShownPlaces.{all_shown}
 use Rattle.bus_machine.proofs.Taking.{takers_told}
 use Rattle.bus_machine.specs.Machine.{Machine, Trails, Reached}
 use Rattle.bus_machine.specs.Promise.{IsPromised, TakersTold}
@@ -56,6 +59,10 @@ module _ {E : Type 0} (X : Election E) (P : Protocol E (Unit {0}) ℕ) (m : Mach
       knows = knows X P m T f (order_of f.frames) (map tenure_and_owner f.frames) spelled;
       out = out X P m T f told;
       floors = λ page has. floors_low P m T f page has;
+      lasts = λ page has. page_lasts P m T f page has;
+      loads = λ p v t word l at i. loads_in_turn X P m T s r p v t word l at i;
+      shown = λ p v t page stored published q n at held found.
+          all_shown X P m T s r p v t page stored published q n at held found;
       past = λ p v t page stored word o at. past X P m T f p v at t page stored word o;
       sent = f.puts;
       remembers = remembered X P m T s r;

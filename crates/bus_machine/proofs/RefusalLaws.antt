@@ -1,6 +1,6 @@
 -- Answers, memories and machines that the definitions refuse.
-use Rattle.std.proofs.Common.{◌+◌, ◌≡◌, ◌⊎◌, inl, inr, ℕ, ◌<◌, ◌≤◌, Bool, true, false, cond}
-use Rattle.std.proofs.Common.{Option}
+use Rattle.std.proofs.Common.{◌+◌, ◌*◌, ◌≡◌, ◌⊎◌, inl, inr, ℕ, ◌<◌, ◌≤◌, Bool, true, false, cond}
+use Rattle.std.proofs.Common.{Option, nat_lt}
 use Rattle.std.proofs.Common.{Some, None, IsSome, List, [], ◌∷◌, ◌++◌, drop, length, map}
 use Rattle.std.proofs.Common.{slice_get, slice_index, arith, refl, sym, ◌∙◌, ap, subst}
 use Rattle.std.proofs.Math.Nat.{mod-eq_of_lt}
@@ -15,6 +15,8 @@ use Rattle.bus_batch.specs.declared.batches.Phase.TheVariants as batch
 use Rattle.bus_batch.specs.declared.messages.Mark.TheVariants as mark
 use Rattle.bus_batch.specs.declared.messages.Item.{Item}
 use Rattle.bus_core.specs.Senders.{Sender}
+use Rattle.bus_core.specs.declared.limits.TheConstants.{PASSED_APART}
+use Rattle.bus_register.specs.Words.{register}
 use Rattle.bus_deliverylog.specs.Orders.{of_sender}
 use Rattle.bus_core.specs.Reusing.Keeping.{held_of}
 use Rattle.bus_presence.proofs.ReclamationKept.{one_of_row}
@@ -24,7 +26,7 @@ use Rattle.bus_register.specs.declared.registers.SenderNo.{SenderNo}
 use Rattle.bus_batch.specs.Batches.{frame_of}
 use Rattle.bus_core.specs.Reusing.Telling.{HasPublished, Published, HandsOnSent}
 use Rattle.bus_tenure.specs.Seen.{tenure_of}
-use Rattle.bus_tenure.specs.Core.{Election, is_leaving}
+use Rattle.bus_tenure.specs.Core.{Election, Layout, is_leaving}
 use Rattle.bus_tenure.specs.declared.pages.Page.{Page}
 use Rattle.bus_tenure.specs.declared.phases.Phase.{Phase}
 use Rattle.bus_tenure.specs.declared.phases.Phase.TheVariants as phase
@@ -42,14 +44,16 @@ use Rattle.bus_machine.proofs.SameActions.{says_no_more}
 use Rattle.bus_register.specs.Proved.TableLaws.{get_set_same}
 use Rattle.bus_machine.specs.Bounding.{steps_towards, steps_of_pin, IsNamedFirst}
 use Rattle.bus_machine.specs.Machine.{base_of, Machine, Trails, TakesMark, has_stopped, mark_in}
-use Rattle.bus_machine.specs.Machine.{ShowsLog, floor_of, log_place, stage_of}
+use Rattle.bus_machine.specs.Finding.{places_found}
+use Rattle.bus_machine.specs.Machine.{ShowsLog, floor_of, log_place, passed_by, passers_place}
+use Rattle.bus_machine.specs.Machine.{stage_of}
 use Rattle.bus_machine.specs.Promise.{IsPagedBy, ReusesSafely, words_joined}
 use Rattle.bus_machine.specs.Machine.{words_of_frame}
 use Rattle.bus_machine.specs.Refusals.{LossesRefuse, AnswersRefuse, SaysMore, NumbersRefuse}
 use Rattle.bus_machine.specs.Refusals.{BoundsRefuse, FollowsRefuse, PagesRefuse, MemoriesRefuse}
 use Rattle.bus_machine.specs.Refusals.{WordsRefuse, MarksRefuse}
 use Rattle.bus_machine.specs.Remembering.{HasEnded, HasLeftIt, rows_in}
-use Rattle.bus_machine.specs.Telling.{ClosedTells, IsLeast, places_found}
+use Rattle.bus_machine.specs.Telling.{ClosedTells, IsLeast}
 use Rattle.bus_world.proofs.CyclicProtocolKept.{held_page_is}
 use Rattle.bus_world.proofs.Framing.{not_nil}
 use Rattle.bus_world.proofs.LogLaws.{index-read}
@@ -538,6 +542,19 @@ memories_refused X m T = record {
 }
 
 -- words of the log stored below the length, and words cleared of rows in which somebody stands
+-- no two receivers have one passed place
+one_place : (x : Layout) (o : Option ℕ) (r q at : ℕ) → passed_by x o r ≡ Some at
+    → passed_by x o q ≡ Some at → r ≡ q
+one_place x o r q at one two =
+    let a = place_is r (nat_lt r x.passers) one in
+    let b = place_is q (nat_lt q x.passers) two in omega arith
+  where
+    place_is : (r : ℕ) (b : Bool)
+        → cond {A = Option ℕ} b (Some (passers_place x o + PASSED_APART * r)) None ≡ Some at
+        → passers_place x o + PASSED_APART * r ≡ at
+    place_is r true is = same_Some _ _ is
+    place_is r false is = absurd cc
+
 pub words_refused : {E : Type 0} (X : Election E) (m : Machine E) (T : Trails) → WordsRefuse X m T
 words_refused X m T = record {
   below_the_length = λ s v t page stored word o at i next flat below p.
@@ -553,6 +570,11 @@ words_refused X m T = record {
       let cell = is.cell in
       let same = one_of_row m.layout.capacity place (slice_index m.words 0 + stored)
       (omega arith) (omega arith) (omega arith) in omega arith;
+  loads_another_place = λ s v t word r p o at i next here other k.
+      let l = k.by.loads s v t word p at i in
+      let same = ap register (same_Some _ _ (sym l.is ∙ next)) in
+      other (one_place m.layout m.reuse r (length (places_found (T.actions s))) (register o) here
+      (l.place ∙ ap Some same));
   clears_under_a_stander = λ rows p q t place word v s o used at i next stands low same k.
       (subst (ReusesSafely X m T) used k.by.reuse).spares p q t place word v s o at i next stands
       low same;

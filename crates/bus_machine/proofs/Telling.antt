@@ -73,7 +73,8 @@ use Rattle.bus_machine.specs.Machine.{trails_grown, turn_answer}
 use Rattle.bus_machine.specs.Promise.{pin_of}
 use Rattle.bus_machine.specs.Remembering.{NoneIsLeft, Remembers, rows_in}
 use Rattle.bus_machine.specs.Telling.{TurnTells, ClosedTells, PutTells, SenderTells, EventTells}
-use Rattle.bus_machine.specs.Telling.{IsLeast, places_found}
+use Rattle.bus_machine.specs.Finding.{places_found}
+use Rattle.bus_machine.specs.Telling.{IsLeast}
 
 -- whose frame is no mark has messages to send
 some_messages : (ph : BatchPhase) (n : ℕ) → (0 < n) ⊎ ((m : Mark) × (ph ≡ batch.Marking m))

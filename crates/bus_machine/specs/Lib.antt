@@ -1,5 +1,6 @@
 pub mod Proved
 pub mod Machine
+pub mod Finding
 pub mod Remembering
 pub mod Promise
 pub mod Telling

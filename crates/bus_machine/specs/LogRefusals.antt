@@ -1,6 +1,6 @@
 -- What is promised of no machine by what was published and what its cells show; and with which
 -- cells a frame does not stand that has just been published.
-use Rattle.std.specs.Prelude.{◌≡◌, ◌≢◌, ℕ, ◌+◌, ◌%◌, ◌<◌, true, false, Some, List, ◌∷◌, ◌++◌}
+use Rattle.std.specs.Prelude.{◌≡◌, ◌≢◌, ℕ, ◌+◌, ◌%◌, ◌<◌, ◌≤◌, true, false, Some, List, ◌∷◌, ◌++◌}
 use Rattle.std.specs.Prelude.{length, map, slice_get, slice_index}
 use Rattle.bus_batch.specs.Frames.{Frame, Order, Spells, AreFrames, frame_words, log_words}
 use Rattle.bus_core.specs.Senders.{Sender}
@@ -9,15 +9,23 @@ use Rattle.bus_deliverylog.specs.Receiving.{Receiving}
 use Rattle.bus_register.specs.declared.limits.TheConstants.{PASSED_ALL}
 use Rattle.bus_register.specs.declared.registers.SenderNo.{SenderNo}
 use Rattle.bus_tenure.specs.Core.{Election}
+use Rattle.bus_tenure.specs.declared.pages.Page.{Page}
 use Rattle.bus_world.specs.Headline.{puts}
 use Rattle.bus_world.specs.Waiting.{waiting_at}
 use Rattle.bus_machine.specs.Machine.{Machine, Trails, ShowsLog, ShowsPublished, floor_of, log_of}
 use Rattle.bus_machine.specs.Machine.{log_place, passed_by}
-use Rattle.bus_machine.specs.Promise.{IsPromised}
+use Rattle.bus_machine.specs.Promise.{IsPageOf, IsPromised}
 
 pub record LogsRefuse {E : Type 0} (X : Election E) (m : Machine E) (T : Trails) : Type 0 where
   -- the cells show other words than were published
   pub other_words : ¬ ShowsLog m T.log → ¬ IsPromised X m T
+  -- a word is lost from the floor of a page on, at home or held, be it before the least passed
+  -- place
+  pub lost_behind_a_floor : (page : Page) (place : ℕ) → IsPageOf m page → page.floor ≤ place
+      → place < length T.log
+      → slice_index m.words (log_place m.layout m.reuse + place % m.layout.capacity)
+      ≢ slice_index T.log place
+      → ¬ IsPromised X m T
   -- a log of which no word is used again has wrapped: a word below the length, read straight, is
   -- not the one that was published there
   pub wrapped : (place : ℕ) → m.layout.passers ≡ 0 → place < length T.log

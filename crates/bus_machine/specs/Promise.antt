@@ -9,8 +9,9 @@ use Rattle.bus_register.specs.Words.{register}
 use Rattle.bus_batch.specs.Batches.{frame_of}
 use Rattle.bus_batch.specs.Frames.{Frame, Order, Spells, frame_words, has_gone}
 use Rattle.bus_core.specs.Keeping.{reclaimer_in}
-use Rattle.bus_core.specs.Senders.{Sender, Does, Clears, situation}
+use Rattle.bus_core.specs.Senders.{Sender, Does, Clears, ReadsPassed, situation}
 use Rattle.bus_core.specs.Table.{line_now}
+use Rattle.bus_core.specs.declared.reuses.Passing.{Passing}
 use Rattle.bus_core.specs.declared.reuses.Reuse.{Reuse}
 use Rattle.bus_deliverylog.specs.Orders.{of_sender, IsPrefixOfOrder}
 use Rattle.bus_deliverylog.specs.Receiving.{Receiving}
@@ -34,6 +35,7 @@ use Rattle.bus_world.specs.Trails.{Takers}
 use Rattle.bus_world.specs.Waiting.{waiting_at}
 use Rattle.bus_world.specs.World.{Event, Put, Ask, Turn, Recv, Stop, Gone}
 use Rattle.bus_world.specs.declared.events.Answer.{Answer}
+use Rattle.bus_machine.specs.Finding.{LoadsPassed, WasShown, places_found}
 use Rattle.bus_machine.specs.Machine.{Machine, Trails, base_of, Reached, trails_grown, owners_told}
 use Rattle.bus_machine.specs.Machine.{floor_of, log_place, ShowsLog, ShowsPassed, StandsBelow}
 use Rattle.bus_machine.specs.Machine.{stage_of, going, passed_by}
@@ -192,6 +194,13 @@ pub record IsPastLength {E : Type 0} (m : Machine E) (stored : ℕ) (o : Op) : T
       ≡ log_place m.layout m.reuse + (slice_index m.words 0 + stored) % m.layout.capacity
   pub room : slice_index m.words 0 + stored < m.layout.capacity + floor_of m
 
+-- each word that was published from this place on stands in its cell
+abbrev pub StandsFrom : {E : Type 0} → Machine E → List ℕ → ℕ → Type 0
+StandsFrom m log floor =
+    (place : ℕ) → floor ≤ place → place < length log
+    → slice_index m.words (log_place m.layout m.reuse + place % m.layout.capacity)
+    ≡ slice_index log place
+
 -- ---- the promise
 -- of these trails, with the order and the owners of frames that all that was published spells; and
 -- the cells of the log show that from its floor on, which is all of it where no word of the log is
@@ -234,8 +243,19 @@ pub record IsPromisedBy {E : Type 0} (X : Election E) (m : Machine E) (T : Trail
   pub knows : (page : Page) → m.home ≡ Some page
       → KnowsOrder (base_of m) m.layout.passers page order
   pub out : m.home ≡ None → IsWithOwner m T takers.all
-  -- the floor of a page, at home or held, is not past that of the log: all words from it on stand
+  -- the floor of a page, at home or held, is not past that of the log; and from it on all words
+  -- stand, also those before the least passed place
   pub floors : (page : Page) → IsPageOf m page → page.floor ≤ floor_of m
+  pub lasts : (page : Page) → IsPageOf m page → StandsFrom m T.log page.floor
+  -- who loads a passed place with its next step loads that of the receiver whose number is how many
+  -- it has found in the tenure; so what it has found in them, number by number, is what the places
+  -- of receivers showed
+  pub loads : (s : ℕ) (v : Sender E) (t word : ℕ) (p : Passing) → slice_get m.senders s ≡ Some v
+      → situation X v ≡ ReadsPassed t p
+      → LoadsPassed X m v word (length (places_found (T.actions s)))
+  pub shown : (s : ℕ) (v : Sender E) (t : ℕ) (page : Page) (stored : ℕ) (published : Bool)
+      (r n : ℕ) → slice_get m.senders s ≡ Some v → v.core.phase ≡ Holding t page stored published
+      → slice_get (places_found (T.actions s)) r ≡ Some n → WasShown X m s (T.actions s) t r n
   -- a word of the log is stored past its length, behind those of the same frame that are stored
   pub past : (s : ℕ) (v : Sender E) (t : ℕ) (page : Page) (stored word : ℕ) (o : Op)
       → slice_get m.senders s ≡ Some v

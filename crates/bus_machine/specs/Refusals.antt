@@ -13,8 +13,9 @@ use Rattle.bus_batch.specs.declared.batches.PutFault.TheVariants as put
 use Rattle.bus_batch.specs.declared.batches.CloseFault.TheVariants as close
 use Rattle.bus_core.specs.Keeping.{queue_of}
 use Rattle.bus_core.specs.Seen.{tenure_begun}
-use Rattle.bus_core.specs.Senders.{Sender, Does, Clears, situation}
+use Rattle.bus_core.specs.Senders.{Sender, Does, Clears, ReadsPassed, situation}
 use Rattle.bus_core.specs.Table.{lost_of, line_now}
+use Rattle.bus_core.specs.declared.reuses.Passing.{Passing}
 use Rattle.bus_core.specs.declared.reuses.Reuse.{Reuse}
 use Rattle.bus_deliverylog.specs.Orders.{of_sender}
 use Rattle.bus_core.specs.Reusing.Participants.{sizes_with}
@@ -40,11 +41,12 @@ use Rattle.bus_world.specs.World.{Event, Ask}
 use Rattle.bus_world.specs.declared.events.Answer.{Answer}
 use Rattle.bus_world.specs.declared.events.Answer.TheVariants as answer
 use Rattle.bus_machine.specs.Bounding.{named_by, AreBounded, PinsAreBounded}
+use Rattle.bus_machine.specs.Finding.{places_found}
 use Rattle.bus_machine.specs.Machine.{Machine, Trails, Reached, Happens, base_of, log_place}
 use Rattle.bus_machine.specs.Machine.{ShowsLog, stage_of, floor_of, log_of, passed_by}
 use Rattle.bus_machine.specs.Promise.{IsPageOf, IsPromised, Follows, actions_in, pin_of}
 use Rattle.bus_machine.specs.Promise.{frame_published}
-use Rattle.bus_machine.specs.Telling.{TurnTells, PutTells, LossesAreSeen, IsLeast, places_found}
+use Rattle.bus_machine.specs.Telling.{TurnTells, PutTells, LossesAreSeen, IsLeast}
 
 pub record LossesRefuse {E : Type 0} (m : Machine E) : Type 0 where
   -- a sender remembers an owner, and has done nothing
@@ -368,6 +370,11 @@ pub record WordsRefuse {E : Type 0} (X : Election E) (m : Machine E) (T : Trails
       → situation X v ≡ Does (StoresWord t page stored) → (line_now X v).op word ≡ Some o
       → floor_of m ≤ place → place < slice_index m.words 0
       → register o ≡ log_place m.layout m.reuse + place % m.layout.capacity → ¬ IsPromised X m T
+  -- a load of the passed place of another receiver than the next one, as of the first one again
+  pub loads_another_place : (s : ℕ) (v : Sender E) (t word r : ℕ) (p : Passing) (o : Op)
+      → slice_get m.senders s ≡ Some v → situation X v ≡ ReadsPassed t p
+      → (line_now X v).op word ≡ Some o → passed_by m.layout m.reuse r ≡ Some (register o)
+      → r ≢ length (places_found (T.actions s)) → ¬ IsPromised X m T
   -- a step that clears a word of a row in which somebody stands
   pub clears_under_a_stander : (rows p q t place word : ℕ) (v : Sender E) (s : Reclaiming) (o : Op)
       → m.reuse ≡ Some rows

@@ -1,11 +1,10 @@
 -- What the answer of a sender's turn tells: of the sender, of what its step found, and of what
 -- happened by whatever trails led to the machine.
 use Rattle.std.specs.Prelude.{◌≡◌, ◌≢◌, ◌⊎◌, ℕ, ◌+◌, ◌*◌, ◌<◌, Bool, Option, Some, None, IsSome}
-use Rattle.std.specs.Prelude.{◌≤◌, List, [], ◌∷◌, ◌++◌, length, slice_get, slice_index}
+use Rattle.std.specs.Prelude.{◌≤◌, List, length, slice_get, slice_index}
 use Rattle.bus_adoptcommit.specs.declared.verdicts.Verdict.{Verdict}
 use Rattle.bus_register.specs.Protocol.{Protocol}
 use Rattle.bus_register.specs.Words.{register}
-use Rattle.bus_register.specs.declared.kinds.Kind.TheVariants as kind
 use Rattle.bus_register.specs.declared.registers.Op.{Op}
 use Rattle.bus_register.specs.declared.registers.SenderNo.{SenderNo}
 use Rattle.bus_batch.specs.declared.batches.Phase.TheVariants as batch
@@ -22,12 +21,13 @@ use Rattle.bus_tenure.specs.declared.pages.Page.{Page}
 use Rattle.bus_tenure.specs.declared.phases.Phase.TheVariants.{Holding}
 use Rattle.bus_tenure.specs.declared.turns.Turn.{Turn as Answered}
 use Rattle.bus_tenure.specs.declared.turns.Turn.TheVariants as turn
-use Rattle.bus_world.specs.Headline.{Action, HasPut, HasMarked, Stepped, Elected, Took, puts}
+use Rattle.bus_world.specs.Headline.{Action, Elected, Took, puts}
 use Rattle.bus_world.specs.Log.{KeepsFloor}
 use Rattle.bus_world.specs.Telling.{HasDelivered, HasLeft}
 use Rattle.bus_world.specs.World.{Event, Put, Ask, Turn, Recv, Stop, Gone}
 use Rattle.bus_world.specs.declared.events.Answer.{Answer}
 use Rattle.bus_world.specs.declared.events.Answer.TheVariants as answer
+use Rattle.bus_machine.specs.Finding.{places_found}
 use Rattle.bus_machine.specs.Machine.{Machine, Trails, Reached, base_of, trails_grown, going}
 use Rattle.bus_machine.specs.Machine.{stage_of}
 use Rattle.bus_machine.specs.Promise.{pin_of}
@@ -88,23 +88,6 @@ Causes X P m (Gone r) = Unit {0}
 abbrev pub ClosedTells : {E : Type 0} → Machine E → List ℕ → ℕ → Sender E → Type 0
 ClosedTells m log s v = HasEnded m log ⊎ ((v.core.queue.phase ≡ batch.Closed) × HasLeftIt m log s)
 
--- what a sender has found in passed places since it took a page last, by these actions behind those
--- that found these
-abbrev pub found_more : List ℕ → Action → List ℕ
-found_more places (HasPut number bytes) = places
-found_more places (HasMarked mark) = places
-found_more places (Stepped t kind.TakePage found chose answer) = []
-found_more places (Stepped t kind.ReadPassed found chose answer) = places ++ found ∷ []
-found_more places (Stepped t k found chose answer) = places
-
-abbrev pub found_since : List ℕ → List Action → List ℕ
-found_since places [] = places
-found_since places (d ∷ actions) = found_since (found_more places d) actions
-
--- so, of who holds a page, in its tenure
-abbrev pub places_found : List Action → List ℕ
-places_found actions = found_since [] actions
-
 -- the least of so many words and of these places: it is no further than each of them, and no number
 -- that is so is further
 pub record IsLeast (floor words : ℕ) (places : List ℕ) : Type 0 where
@@ -115,7 +98,8 @@ pub record IsLeast (floor words : ℕ) (places : List ℕ) : Type 0 where
 -- The frame of the sender, which holds a page, does not fit the log behind what was published,
 -- counted from the floor of that page. Where no word of the log is used again that is the first
 -- place. Else it has loaded all passed places in that tenure, and the floor is the least of what
--- they showed, and of what was published.
+-- they showed, and of what was published. What it found in them is in the order of receivers, each
+-- in the place of its own, as is promised of each machine (`shown`).
 pub record FindsFull {E : Type 0} (x : Layout) (log : List ℕ) (c : Core E) (actions : List Action) :
     Type 0 where
   pub tenure : ℕ

@@ -192,8 +192,9 @@ pub fn same_actions_say_no_more()
 /// in it and is open or at rest with its mark, has asked for a mark and is open, passes over a
 /// tenure that is open, has begun one that is not opened yet, or has its batch on its way at rest,
 /// or not in a tenure; nor one of which a sender stores a word of the log next in the cell of one
-/// that stands, or clears a word of a row in which somebody stands. None is bounded of which a
-/// sender took more steps towards a page, or has no turn left while its election runs.
+/// that stands, loads the passed place of another receiver than the next one, or clears a word of a
+/// row in which somebody stands. None is bounded of which a sender took more steps towards a page,
+/// or has no turn left while its election runs.
 pub fn machines_refuse<Q: Ratifier>()
     ensures follows { let X = election_of Q.Ratifier in
         (old : Machine (Elector Q)) (event : Event) (given : Answer) (new : Machine (Elector Q))
@@ -211,15 +212,15 @@ pub fn machines_refuse<Q: Ratifier>()
         → BoundsRefuse X bound machine trails }
 {}
 
-/// Of no machine the promise holds whose cells show another log than was published, or, where no
-/// word of the log is used again, another word below the length than was published there, or one
-/// whose first word that stands is zero, or whose floor is within a frame, or past the place of a
-/// receiver that has not left; or in which the passed place of such a receiver shows another number
-/// than the place that it has passed, a place that it has not come to, or one within a frame, or
-/// that of one that has left another than 2^64 - 1. Nor of one in which what a sender has put is
-/// not what was published of it and then what waits. No frame stands in its cells behind what was
-/// published before where one of these holds another word than the frame has there, or the length
-/// lacks a word of it or counts one more, or what was published before has changed; nor does
+/// Of no machine the promise holds whose cells show another log than was published, or another word
+/// from the floor of a page on, or, where no word of the log is used again, below the length; or
+/// one whose first word that stands is zero, or whose floor is within a frame, or past the place of
+/// a receiver that has not left; or in which the passed place of such a receiver shows another
+/// number than the place that it has passed, a place that it has not come to, or one within a
+/// frame, or that of one that has left another than 2^64 - 1. Nor of one in which what a sender has
+/// put is not what was published of it and then what waits. No frame stands in its cells behind
+/// what was published before where one of these holds another word than the frame has there, or the
+/// length lacks a word of it or counts one more, or what was published before has changed; nor does
 /// nothing with a length that counts more, or one that counts less.
 pub fn logs_refuse<Q: Ratifier>()
     ensures logs { let X = election_of Q.Ratifier in

@@ -6,9 +6,9 @@
 //!
 //! Where a script or a log was refused, standard error says why, as a hint.
 //!
-//! Exit status: 0 where the script was played, the log was told or the bus was run; 1 where a
-//! script or a log was refused, or the program could not do its work, which standard error then
-//! says; 2 where the command line was refused, or asked for help or the version.
+//! Exit status: 0 where the script was played, the log was told, the bus was run or the version was
+//! asked for; 1 where a script or a log was refused, or the program could not do its work, which
+//! standard error then says; 2 where the command line was refused, or asked for help.
 #![tactic(auto)]
 
 ghost use Rattle.std.specs.Prelude.{◌≤◌, ◌^◌};
@@ -49,6 +49,10 @@ fn bus<R: AllocGlobal + Env + Input + Print + Eprint + Threads + Wait + Sync>(rt
     match parse(rt.alloc(), words.as_slice()) {
         Ok(task) => do_task(rt, task),
         Err(error) if error.kind() == ErrorKind::OutOfMemory => end(rt, Err(RunFault::NoMemory)),
+        Err(error) if error.kind() == ErrorKind::DisplayVersion => {
+            let _ = rt.print(&error);
+            ExitCode::SUCCESS
+        }
         Err(error) => {
             let _ = rt.eprint(&error);
             ExitCode::from(2)

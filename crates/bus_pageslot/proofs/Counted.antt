@@ -68,10 +68,10 @@ accepted_are_none before now =
 
 since_is_none : {C : Type 0} (P : Process C) (v : View C) (d : C) → steps_among (since_in P v d) ≡ 0
 since_is_none P (Maker x made) d = refl
-since_is_none P (Sender c sender_trail stored) d = accepted_are_none (P.queue c) (P.queue d)
+since_is_none P (Sender c sender_trail notes) d = accepted_are_none (P.queue c) (P.queue d)
 since_is_none P (Tap x e) d = refl
 since_is_none P (Meeting x e y f) d = refl
-since_is_none P (Telling c sender_trail stored x e) d = refl
+since_is_none P (Telling c sender_trail notes x e) d = refl
 since_is_none P Spent d = refl
 
 all_counted : {C : Type 0} (P : Process C) (v : View C) (d : C)

@@ -79,11 +79,11 @@ module _ {C : Type 0} (P : Process C) (A : Automaton C) (z : A.State) (seat ear 
       passed = (h.2 r low high).passed;
     },
   )
-  views_still j other (Sender c t stored) h = h
+  views_still j other (Sender c t notes) h = h
   views_still j other (Tap x e) h = knows_still j other x e h
   views_still j other (Meeting x e y f) h =
       (knows_still j other x e h.0, knows_still j other y f h.1, h.2)
-  views_still j other (Telling c t stored x e) h = (h.0, knows_still j other x e h.1)
+  views_still j other (Telling c t notes x e) h = (h.0, knows_still j other x e h.1)
   views_still j other Spent h = tt
 
 -- a receiver's seat goes to another: with it its number, where it has one of its own

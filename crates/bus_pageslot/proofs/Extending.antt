@@ -16,7 +16,8 @@ use Rattle.bus_pageslot.specs.declared.rule.View.TheVariants.{Sender}
 use Rattle.bus_automaton.specs.Processes.{TableLayout, Process, Automaton, log_below, log_in}
 use Rattle.bus_automaton.specs.Lawful.{AutomatonLaws, ProcessLaws}
 use Rattle.bus_pageslot.specs.Histories.{LeavesLog, LeavesRule}
-use Rattle.bus_pageslot.specs.Rule.{Sat, sender_trail_in, stored_in, IsSeated, TableInvariant}
+use Rattle.bus_pageslot.specs.Rule.{Sat, sender_trail_in, notes_in, stored_in, IsSeated}
+use Rattle.bus_pageslot.specs.Rule.{TableInvariant}
 use Rattle.bus_pageslot.specs.Steps.{IsDue, Told}
 use Rattle.bus_pageslot.proofs.Reaching.{accepted}
 use Rattle.bus_pageslot.proofs.Ties.{goes_on, no_shorter, front}
@@ -50,7 +51,7 @@ module _ {C : Type 0} (P : Process C) (A : Automaton C) (L : AutomatonLaws P A)
   extends o due =
       let c = due.shown in
       let seated : IsSeated P A r.state r.seat id c (sender_trail_in m.0) (stored_in m.0) =
-      r.views id (Sender c (sender_trail_in m.0) (stored_in m.0))
+      r.views id (Sender c (sender_trail_in m.0) (notes_in m.0))
       (at ∙ ap (λ (y : Sat C). some y.0) due.me) in
       let grown = accepted P A L r.state r.reached c seated.core d due.actions due.accepts in
       let z = grown.state in

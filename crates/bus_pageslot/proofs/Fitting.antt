@@ -27,7 +27,7 @@ use Rattle.bus_pageslot.specs.Rule.{TableInvariant}
 use Rattle.bus_pageslot.specs.declared.rule.View.{View}
 
 -- what is past neither the length nor any passed place is not past the least of them
-least_above : (words : ℕ → ℕ) (at n len low : ℕ) → low ≤ len
+pub least_above : (words : ℕ → ℕ) (at n len low : ℕ) → low ≤ len
     → ((r : ℕ) → r < n → low ≤ words (at + PASSED_APART * r)) → low ≤ least_passed words at n len
 least_above words at zero len low below behind = below
 least_above words at (suc k) len low below behind =
@@ -39,7 +39,7 @@ least_above words at (suc k) len low below behind =
     ]
 
 -- nor past the floor
-shown_above : (words : ℕ → ℕ) (at n len low : ℕ) → low ≤ len → (n ≡ 0 → low ≡ 0)
+pub shown_above : (words : ℕ → ℕ) (at n len low : ℕ) → low ≤ len → (n ≡ 0 → low ≡ 0)
     → ((r : ℕ) → r < n → low ≤ words (at + PASSED_APART * r)) → low ≤ floor_shown words at n len
 shown_above words at zero len low below none behind = (let first = none refl in omega arith)
 shown_above words at (suc k) len low below none behind =

@@ -25,6 +25,7 @@ use Rattle.bus_automaton.specs.OneProcess.{process_of, table_layout_by}
 use Rattle.bus_automaton.specs.Processes.{log_below}
 use Rattle.bus_automaton.specs.SenderTrails.{SenderTrail, new_sender_trail}
 use Rattle.bus_automaton.specs.declared.plans.Plan.{Plan}
+use Rattle.bus_pageslot.specs.Notes.{Notes}
 use Rattle.bus_pageslot.specs.Histories.{Shown, IsShown, HasHistory}
 use Rattle.bus_pageslot.specs.Rule.{IsSeated, Seats, TableInvariant}
 use Rattle.bus_pageslot.specs.declared.rule.View.{View}
@@ -72,8 +73,9 @@ module _ {E : Type 0} (X : Election E) (x : Layout) (reuse : Option ℕ) (bases 
     (s : State (Option Page) (View (Sender E)))
     (r : TableInvariant (process_of X) (bus_of X x reuse bases) s) where
   pub seated : (j : ℕ) (v : Sender E) (sender_trail : SenderTrail) → Shown s j v sender_trail
-      → (stored : ℕ)
-      × IsSeated (process_of X) (bus_of X x reuse bases) r.state r.seat j v sender_trail stored
+      → (notes : Notes)
+      × IsSeated (process_of X) (bus_of X x reuse bases) r.state r.seat j v sender_trail
+      notes.stored
   seated j v sender_trail (inl h) = (h.0, r.views j (view.Sender v sender_trail h.0) h.1)
   seated j v sender_trail (inr h) = (
     h.0,
@@ -86,23 +88,23 @@ module _ {E : Type 0} (X : Election E) (x : Layout) (reuse : Option ℕ) (bases 
       → IsShown s p ⊎ (trail_of bases r.state.trails p ≡ new_sender_trail (slice_index bases p))
   shows p j (view.Maker y made) at me below =
       inr ((r.views j (view.Maker y made) at).1 p me below).sender_trail_is
-  shows p j (view.Sender c sender_trail stored) at me below =
+  shows p j (view.Sender c sender_trail notes) at me below =
       inl (record {
         seat = j;
         sender = c;
         sender_trail = sender_trail;
         me = me;
-        shown = inl (stored, at);
+        shown = inl (notes, at);
       })
   shows p j (view.Tap y e) at me below = absurd me
   shows p j (view.Meeting y e y' e') at me below = absurd me
-  shows p j (view.Telling c sender_trail stored y e) at me below =
+  shows p j (view.Telling c sender_trail notes y e) at me below =
       inl (record {
         seat = j;
         sender = c;
         sender_trail = sender_trail;
         me = me;
-        shown = inr (stored, y, e, at);
+        shown = inr (notes, y, e, at);
       })
   shows p j view.Spent at me below = absurd me
 

@@ -6,6 +6,7 @@ use mathlib.Core.Option.{some}
 use lib.ListN.{get_elem?}
 use Rattle.atomic_table.specs.Table.{State, keeps, Allows, Splits, Joins}
 use Rattle.atomic_table.proofs.Lists.{at_set, set_else}
+use Rattle.bus_pageslot.specs.Notes.{Notes}
 use Rattle.bus_pageslot.proofs.Openings.{at_end}
 use Rattle.bus_batch.specs.declared.messages.Item.{Item}
 use Rattle.bus_batch.specs.Frames.{AreFrames, order_of, tenure_and_owner}
@@ -24,6 +25,7 @@ use Rattle.bus_pageslot.specs.Rule.{Sat, Seats, SeatsReceiver, IsSeated, KnowsLo
 use Rattle.bus_pageslot.specs.Rule.{views_joined, first_of, second_of, all_knowing}
 use Rattle.bus_pageslot.specs.Rule.{receiver_view_in, known_in}
 use Rattle.bus_pageslot.specs.Rule.{IsFirst, TableInvariant}
+use Rattle.bus_pageslot.specs.Lasting.{LeavesViews}
 use Rattle.bus_pageslot.specs.Steps.{Accepts, Meets, Met, Learns, KnowsSent}
 use Rattle.bus_automaton.specs.SenderTrails.{SenderTrail}
 use Rattle.bus_pageslot.proofs.AllSeats.{seen_joined, seen_parted}
@@ -35,10 +37,10 @@ use Rattle.bus_pageslot.proofs.Reaching.{accepted}
 -- two seats that were joined
 abbrev pub IsPair : {C : Type 0} → View C → Type 0
 IsPair (Maker x made) = ⊥
-IsPair (Sender c sender_trail stored) = ⊥
+IsPair (Sender c sender_trail notes) = ⊥
 IsPair (Tap x e) = ⊥
 IsPair (Meeting x e y f) = Unit {0}
-IsPair (Telling c sender_trail stored x e) = Unit {0}
+IsPair (Telling c sender_trail notes x e) = Unit {0}
 IsPair Spent = ⊥
 
 module _ {C : Type 0} (P : Process C) (A : Automaton C) where
@@ -52,49 +54,51 @@ module _ {C : Type 0} (P : Process C) (A : Automaton C) where
       → ((j : ℕ) → j ≢ other → (u : View C) → IsTrueOf P A r.state r.seat r.ear j u
       → IsTrueOf P A r.state r.seat ear' j u)
       → IsTrueOf P A r.state r.seat ear' id w
-      → TableInvariant P A record {
-        words = s.words;
-        homes = s.homes;
-        views = set (set s.views id w) other Spent;
-      }
+      → LeavesViews P A s r (set (set s.views id w) other Spent)
   joined s r id other v w at apart y l there still heard ear' others fits = record {
-    state = r.state;
-    reached = r.reached;
-    words = r.words;
-    slot = r.slot;
-    seat = r.seat;
-    ear = ear';
-    views = λ j u e. ⊎_elim
-        (λ (k : (j ≡ other) × (Spent ≡ u)).
-        subst (IsTrueOf P A r.state r.seat ear' j) k.1 tt)
-        (λ (k : (j ≢ other) × (get_elem? (set s.views id w) j ≡ some u)). ⊎_elim
-        (λ (n : (j ≡ id) × (w ≡ u)).
-        subst (λ (y : ℕ × View C). IsTrueOf P A r.state r.seat ear' y.0 y.1)
-        (λ i. (sym n.0 i, n.1 i)) fits)
-        (λ (n : (j ≢ id) × (get_elem? s.views j ≡ some u)).
-        others j k.0 u (r.views j u n.1))
-        (at_set s.views id j w u k.1))
-        (at_set (set s.views id w) other j Spent u e);
-    all = λ p below. seen_joined (Seats P p) s.views id other v w (Tap y l) Spent at apart there
-        (λ is. ⊎_elim (still p) (λ (none : ⊥). absurd none) is) (r.all p below);
-    all_heard = λ q below. seen_joined (SeatsReceiver q) s.views id other v w (Tap y l) Spent at
-        apart there (heard q) (r.all_heard q below);
+    rule = record {
+      state = r.state;
+      reached = r.reached;
+      words = r.words;
+      slot = r.slot;
+      seat = r.seat;
+      ear = ear';
+      views = λ j u e. ⊎_elim
+          (λ (k : (j ≡ other) × (Spent ≡ u)).
+          subst (IsTrueOf P A r.state r.seat ear' j) k.1 tt)
+          (λ (k : (j ≢ other) × (get_elem? (set s.views id w) j ≡ some u)). ⊎_elim
+          (λ (n : (j ≡ id) × (w ≡ u)).
+          subst (λ (y : ℕ × View C). IsTrueOf P A r.state r.seat ear' y.0 y.1)
+          (λ i. (sym n.0 i, n.1 i)) fits)
+          (λ (n : (j ≢ id) × (get_elem? s.views j ≡ some u)).
+          others j k.0 u (r.views j u n.1))
+          (at_set s.views id j w u k.1))
+          (at_set (set s.views id w) other j Spent u e);
+      all = λ p below. seen_joined (Seats P p) s.views id other v w (Tap y l) Spent at apart there
+          (λ is. ⊎_elim (still p) (λ (none : ⊥). absurd none) is) (r.all p below);
+      all_heard = λ q below. seen_joined (SeatsReceiver q) s.views id other v w (Tap y l) Spent at
+          apart there (heard q) (r.all_heard q below);
+    };
+    log = refl;
   }
 
   -- a receiver's seat goes into another
-  pub joins_allowed : (v : View C) → IsFirst v → (y : TableLayout) (l : ReceiverView) (id other : ℕ)
-      → Joins (TableInvariant P A) id v other (Tap y l) (views_joined v (Tap y l)) Spent
-  joins_allowed (Maker x made) is y l id other = absurd is
-  joins_allowed (Sender c t stored) is y l id other = λ s r at apart there.
-      let w : View C = Telling c t stored y l in
-      let h = r.views id (Sender c t stored) at in
+  pub join_leaves : (v : View C) → IsFirst v → (y : TableLayout) (l : ReceiverView) (id other : ℕ)
+      (s : State (Option Page) (View C)) (r : TableInvariant P A s)
+      → get_elem? s.views id ≡ some v → other ≢ id
+      → get_elem? (set s.views id (views_joined v (Tap y l))) other ≡ some (Tap y l)
+      → LeavesViews P A s r (set (set s.views id (views_joined v (Tap y l))) other Spent)
+  join_leaves (Maker x made) is y l id other = absurd is
+  join_leaves (Sender c t notes) is y l id other = λ s r at apart there.
+      let w : View C = Telling c t notes y l in
+      let h = r.views id (Sender c t notes) at in
       let k : KnowsLog A r.state r.ear other y l =
       r.views other (Tap y l) (sym (set_else s.views id other w apart) ∙ there) in
       let g = goes_to P A r.state r.seat r.ear other id y l k in
-      joined s r id other (Sender c t stored) w at (λ e. apart (sym e)) y l there (λ p is. is)
+      joined s r id other (Sender c t notes) w at (λ e. apart (sym e)) y l there (λ p is. is)
       (λ q is. ⊎_elim (λ (none : ⊥). absurd none) (λ (k : l.me ≡ q). k) is)
       g.ear' g.others (h, g.here)
-  joins_allowed (Tap x e) is y l id other = λ s r at apart there.
+  join_leaves (Tap x e) is y l id other = λ s r at apart there.
       let w : View C = Meeting x e y l in
       let h : KnowsLog A r.state r.ear id x e = r.views id (Tap x e) at in
       let k : KnowsLog A r.state r.ear other y l =
@@ -106,9 +110,14 @@ module _ {C : Type 0} (P : Process C) (A : Automaton C) where
         g.here,
         two_of A r.state r.ear id other (λ e. apart (sym e)) x e y l h k,
       )
-  joins_allowed (Meeting x k z m) is y l id other = absurd is
-  joins_allowed (Telling c t stored z m) is y l id other = absurd is
-  joins_allowed Spent is y l id other = absurd is
+  join_leaves (Meeting x k z m) is y l id other = absurd is
+  join_leaves (Telling c t stored z m) is y l id other = absurd is
+  join_leaves Spent is y l id other = absurd is
+
+  pub joins_allowed : (v : View C) → IsFirst v → (y : TableLayout) (l : ReceiverView) (id other : ℕ)
+      → Joins (TableInvariant P A) id v other (Tap y l) (views_joined v (Tap y l)) Spent
+  joins_allowed v is y l id other s r at apart there =
+      (join_leaves v is y l id other s r at apart there).rule
 
   -- one view replaced, and a receiver's added
   parted : (s : State (Option Page) (View C)) (r : TableInvariant P A s) (id : ℕ) (v w : View C)
@@ -117,73 +126,77 @@ module _ {C : Type 0} (P : Process C) (A : Automaton C) where
       → ((q : ℕ) → SeatsReceiver q v → SeatsReceiver q w ⊎ (l.me ≡ q))
       → (g : GoesTo P A r.state r.seat r.ear id (length s.views) y l)
       → IsTrueOf P A r.state r.seat g.ear' id w
-      → TableInvariant P A record {
-        words = s.words;
-        homes = s.homes;
-        views = set s.views id w ++ Tap y l ∷ [];
-      }
+      → LeavesViews P A s r (set s.views id w ++ Tap y l ∷ [])
   parted s r id v w at still y l heard g fits =
       record {
-        state = r.state;
-        reached = r.reached;
-        words = r.words;
-        slot = r.slot;
-        seat = r.seat;
-        ear = g.ear';
-        views = λ j u e. elim (at_end (set s.views id w) (Tap y l) u j e) [
-          | inl k ↦ ⊎_elim
-              (λ (n : (j ≡ id) × (w ≡ u)).
-              subst (λ (y : ℕ × View C). IsTrueOf P A r.state r.seat g.ear' y.0 y.1)
-              (λ i. (sym n.0 i, n.1 i)) fits)
-              (λ (n : (j ≢ id) × (get_elem? s.views j ≡ some u)).
-              g.others j n.0 u (r.views j u n.1))
-              (at_set s.views id j w u k)
-          | inr k ↦ subst (λ (y : ℕ × View C). IsTrueOf P A r.state r.seat g.ear' y.0 y.1)
-              (λ i. (sym (k.0 ∙ length-set s.views id w) i, k.1 i)) g.here
-        ];
-        all = λ p below. seen_parted (Seats P p) s.views id v w (Tap y l) at
-            (λ is. inl (still p is)) (r.all p below);
-        all_heard = λ q below. seen_parted (SeatsReceiver q) s.views id v w (Tap y l) at (heard q)
-            (r.all_heard q below);
+        rule = record {
+          state = r.state;
+          reached = r.reached;
+          words = r.words;
+          slot = r.slot;
+          seat = r.seat;
+          ear = g.ear';
+          views = λ j u e. elim (at_end (set s.views id w) (Tap y l) u j e) [
+            | inl k ↦ ⊎_elim
+                (λ (n : (j ≡ id) × (w ≡ u)).
+                subst (λ (y : ℕ × View C). IsTrueOf P A r.state r.seat g.ear' y.0 y.1)
+                (λ i. (sym n.0 i, n.1 i)) fits)
+                (λ (n : (j ≢ id) × (get_elem? s.views j ≡ some u)).
+                g.others j n.0 u (r.views j u n.1))
+                (at_set s.views id j w u k)
+            | inr k ↦ subst (λ (y : ℕ × View C). IsTrueOf P A r.state r.seat g.ear' y.0 y.1)
+                (λ i. (sym (k.0 ∙ length-set s.views id w) i, k.1 i)) g.here
+          ];
+          all = λ p below. seen_parted (Seats P p) s.views id v w (Tap y l) at
+              (λ is. inl (still p is)) (r.all p below);
+          all_heard = λ q below. seen_parted (SeatsReceiver q) s.views id v w (Tap y l) at (heard q)
+              (r.all_heard q below);
+        };
+        log = refl;
       }
 
   -- joined seats are cut apart
-  pub parts_allowed : (v : View C) → IsPair v → (id : ℕ)
-      → Splits (TableInvariant P A) id v (first_of v) (second_of v)
-  parts_allowed (Maker x made) is id = absurd is
-  parts_allowed (Sender c t stored) is id = absurd is
-  parts_allowed (Tap x k) is id = absurd is
-  parts_allowed (Meeting x k y l) is id = λ s r at.
+  pub part_leaves : (v : View C) → IsPair v → (id : ℕ) (s : State (Option Page) (View C))
+      (r : TableInvariant P A s) → get_elem? s.views id ≡ some v
+      → LeavesViews P A s r (set s.views id (first_of v) ++ second_of v ∷ [])
+  part_leaves (Maker x made) is id = absurd is
+  part_leaves (Sender c t stored) is id = absurd is
+  part_leaves (Tap x k) is id = absurd is
+  part_leaves (Meeting x k y l) is id = λ s r at.
       let h = r.views id (Meeting x k y l) at in
       let g = goes_to P A r.state r.seat r.ear id (length s.views) y l h.1 in
       parted s r id (Meeting x k y l) (Tap x k) at (λ p is. is) y l (λ q is. is) g
       (g.beside x k h.0 h.2)
-  parts_allowed (Telling c t stored y l) is id = λ s r at.
-      let h = r.views id (Telling c t stored y l) at in
+  part_leaves (Telling c t notes y l) is id = λ s r at.
+      let h = r.views id (Telling c t notes y l) at in
       let g = goes_to P A r.state r.seat r.ear id (length s.views) y l h.1 in
-      parted s r id (Telling c t stored y l) (Sender c t stored) at (λ p is. is) y l
+      parted s r id (Telling c t notes y l) (Sender c t notes) at (λ p is. is) y l
       (λ q is. inr is) g h.0
-  parts_allowed Spent is id = absurd is
+  part_leaves Spent is id = absurd is
+
+  pub parts_allowed : (v : View C) → IsPair v → (id : ℕ)
+      → Splits (TableInvariant P A) id v (first_of v) (second_of v)
+  parts_allowed v is id s r at = (part_leaves v is id s r at).rule
 
   pub pairs : (v : View C) → IsFirst v → (y : TableLayout) (l : ReceiverView)
       → IsPair (views_joined v (Tap y l))
   pairs (Maker x made) is y l = absurd is
-  pairs (Sender c t stored) is y l = tt
+  pairs (Sender c t notes) is y l = tt
   pairs (Tap x k) is y l = tt
   pairs (Meeting x k z m) is y l = absurd is
-  pairs (Telling c t stored z m) is y l = absurd is
+  pairs (Telling c t notes z m) is y l = absurd is
   pairs Spent is y l = absurd is
 
   pub still_pair : (v : View C) (known : List ℕ) → IsPair v → IsPair (all_knowing v known)
   still_pair (Maker x made) known is = absurd is
-  still_pair (Sender c t stored) known is = absurd is
+  still_pair (Sender c t notes) known is = absurd is
   still_pair (Tap x k) known is = absurd is
   still_pair (Meeting x k y l) known is = tt
-  still_pair (Telling c t stored y l) known is = tt
+  still_pair (Telling c t notes y l) known is = tt
   still_pair Spent known is = absurd is
 
 -- two receivers of one bus agree
-both_agree : {C : Type 0} (A : Automaton C) (z : A.State) (ear : ℕ → ℕ) (j : ℕ)
+pub both_agree : {C : Type 0} (A : Automaton C) (z : A.State) (ear : ℕ → ℕ) (j : ℕ)
     (x y : TableLayout) (e f : ReceiverView)
     → KnowsLog A z ear j x e → KnowsLog A z ear j y f → Agree e f
 both_agree A z ear j x y e f h k =
@@ -194,7 +207,7 @@ both_agree A z ear j x y e f h k =
 
 module _ {C : Type 0} (P : Process C) (A : Automaton C) (L : AutomatonLaws P A) where
   -- what the log holds of a sender, with all that it has accepted
-  knows_sent : (s : State (Option Page) (View C)) (r : TableInvariant P A s) (id : ℕ) (c : C)
+  pub knows_sent : (s : State (Option Page) (View C)) (r : TableInvariant P A s) (id : ℕ) (c : C)
       (sender_trail : SenderTrail) (stored : ℕ)
       → IsSeated P A r.state r.seat id c sender_trail stored
       → (e : C) (actions : List Action) → Accepts P c e actions
@@ -233,7 +246,7 @@ module _ {C : Type 0} (P : Process C) (A : Automaton C) (L : AutomatonLaws P A) 
       → Allows (TableInvariant P A) slots id (v, carried) 0 (λ n. n)
       (λ n m'. (0 ≡ length_at) × Meets P (v, carried) n m')
   meets_allowed (Maker x made) carried is slots id = absurd is
-  meets_allowed (Sender c t stored) carried is slots id = absurd is
+  meets_allowed (Sender c t notes) carried is slots id = absurd is
   meets_allowed (Tap x k) carried is slots id = absurd is
   meets_allowed (Meeting x k y l) carried is slots id = λ s r count at range.
       let h = r.views id (Meeting x k y l) at in
@@ -261,14 +274,14 @@ module _ {C : Type 0} (P : Process C) (A : Automaton C) (L : AutomatonLaws P A) 
           },
         ),
       )
-  meets_allowed (Telling c t stored y l) carried is slots id = λ s r count at range.
-      let h = r.views id (Telling c t stored y l) at in
+  meets_allowed (Telling c t notes y l) carried is slots id = λ s r count at range.
+      let h = r.views id (Telling c t notes y l) at in
       let all : List ℕ = log_in A r.state in (
-        Telling c t stored y (receiver_view_knowing l all),
+        Telling c t notes y (receiver_view_knowing l all),
         keeps,
         tt,
-        reloaded P A s r 0 id (Telling c t stored y l)
-            (Telling c t stored y (receiver_view_knowing l all)) at (λ p is. is)
+        reloaded P A s r 0 id (Telling c t notes y l)
+            (Telling c t notes y (receiver_view_knowing l all)) at (λ p is. is)
             (h.0, whole A r.state r.ear id y l h.1),
         (
           refl,
@@ -279,7 +292,7 @@ module _ {C : Type 0} (P : Process C) (A : Automaton C) (L : AutomatonLaws P A) 
             grows = (
               h.1.front,
               fits P A L s r y h.1.table_layout,
-              knows_sent s r id c t stored h.0,
+              knows_sent s r id c t notes.stored h.0,
             );
           },
         ),
@@ -288,13 +301,13 @@ module _ {C : Type 0} (P : Process C) (A : Automaton C) (L : AutomatonLaws P A) 
 
 -- what a receiver is told, and what two that meet learn
 module _ {C : Type 0} (P : Process C) where
-  told_at : (c : C) (t : SenderTrail) (stored : ℕ) (carried : List (ℕ × Option Page))
+  told_at : (c : C) (t : SenderTrail) (notes : Notes) (carried : List (ℕ × Option Page))
       (y : TableLayout) (l : ReceiverView) (got : ℕ) (m' n' : Sat C)
-      → Met P (Sender c t stored, carried) (Tap y l, []) got m' n'
-      → (m' ≡ (Sender c t stored, carried)) × Learns (Tap y l, []) got n'
+      → Met P (Sender c t notes, carried) (Tap y l, []) got m' n'
+      → (m' ≡ (Sender c t notes, carried)) × Learns (Tap y l, []) got n'
       × ((e : C) (actions : List Action) → Accepts P c e actions
-      → KnowsSent P e (t.actions ++ actions) stored (known_in n'.0))
-  told_at c t stored carried y l got m' n' h = (
+      → KnowsSent P e (t.actions ++ actions) notes.stored (known_in n'.0))
+  told_at c t notes carried y l got m' n' h = (
     h.first,
     record {
       known = h.known;
@@ -305,21 +318,23 @@ module _ {C : Type 0} (P : Process C) where
     },
     subst (λ (y : Sat C).
         (e : C) (actions : List Action) → Accepts P c e actions
-        → KnowsSent P e (t.actions ++ actions) stored (known_in y.0)) (sym h.second) h.grows.2,
+        → KnowsSent P e (t.actions ++ actions) notes.stored (known_in y.0)) (sym h.second)
+        h.grows.2,
   )
 
-  pub told_of : (c : C) (t : SenderTrail) (stored : ℕ) (carried : List (ℕ × Option Page))
+  pub told_of : (c : C) (t : SenderTrail) (notes : Notes) (carried : List (ℕ × Option Page))
       (y : TableLayout) (l : ReceiverView) (m n : Sat C) (got : ℕ) (m' n' : Sat C)
-      → m ≡ (Sender c t stored, carried) → n ≡ (Tap y l, []) → Met P m n got m' n'
+      → m ≡ (Sender c t notes, carried) → n ≡ (Tap y l, []) → Met P m n got m' n'
       → (m' ≡ m) × Learns n got n'
       × ((e : C) (actions : List Action) → Accepts P c e actions
-      → KnowsSent P e (t.actions ++ actions) stored (known_in n'.0))
-  told_of c t stored carried y l m n got m' n' em en h =
+      → KnowsSent P e (t.actions ++ actions) notes.stored (known_in n'.0))
+  told_of c t notes carried y l m n got m' n' em en h =
       subst (λ (y : Sat C × Sat C).
       (m' ≡ y.0) × Learns y.1 got n'
       × ((e : C) (actions : List Action) → Accepts P c e actions
-      → KnowsSent P e (t.actions ++ actions) stored (known_in n'.0))) (λ i. (sym em i, sym en i))
-      (told_at c t stored carried y l got m' n'
+      → KnowsSent P e (t.actions ++ actions) notes.stored (known_in n'.0)))
+      (λ i. (sym em i, sym en i))
+      (told_at c t notes carried y l got m' n'
       (subst (λ (y : Sat C × Sat C). Met P y.0 y.1 got m' n') (λ i. (em i, en i)) h))
 
   met_at : (x : TableLayout) (k : ReceiverView) (y : TableLayout) (l : ReceiverView) (got : ℕ)

@@ -35,8 +35,11 @@ pub mod SafeSeats
 pub mod BehindShown
 pub mod PastTenures
 pub mod OnePage
+pub mod OneList
+pub mod OwnLayouts
 pub mod LastFrames
 pub mod Looking
+pub mod Noes
 pub mod Fitting
 pub mod Endings
 pub mod Staging
@@ -49,3 +52,6 @@ pub mod Passes
 pub mod Rings
 pub mod Passing
 pub mod Silent
+pub mod OneAnswer
+pub mod Lasting
+pub mod Staying

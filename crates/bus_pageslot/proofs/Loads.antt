@@ -18,17 +18,19 @@ use Rattle.bus_pageslot.specs.ReceiverViews.{ReceiverView, receiver_view_after_l
 use Rattle.bus_pageslot.specs.ReceiverViews.{receiver_view_knowing, heard_length, heard_word}
 use Rattle.bus_pageslot.specs.ReceiverViews.{length_turn, HasHeard}
 use Rattle.bus_pageslot.specs.declared.rule.View.{View}
-use Rattle.bus_pageslot.specs.declared.rule.View.TheVariants.{Tap}
+use Rattle.bus_pageslot.specs.declared.rule.View.TheVariants.{Maker, Sender, Tap, Meeting, Telling}
+use Rattle.bus_pageslot.specs.declared.rule.View.TheVariants.{Spent}
 use Rattle.bus_automaton.specs.Processes.{TableLayout, Process, Automaton, log_cell, log_in}
 use Rattle.bus_automaton.specs.Lawful.{AutomatonLaws, MayAsk}
 use Rattle.bus_pageslot.specs.Rule.{Sat, Seats, SeatsReceiver, IsListening, KnowsLog, IsTrueOf}
 use Rattle.bus_pageslot.specs.Rule.{receiver_view_in, known_in, with_receiver_view, senders_in}
-use Rattle.bus_pageslot.specs.Rule.{table_layout_in, log_word_in, FitsLog, MayRead}
+use Rattle.bus_pageslot.specs.Rule.{table_layout_in, log_word_in, FitsLog, MayRead, with_look}
 use Rattle.bus_pageslot.specs.Rule.{TableInvariant}
 use Rattle.bus_pageslot.specs.Steps.{Learns, Reads}
 use Rattle.bus_automaton.specs.declared.plans.Plan.{Plan}
 use Rattle.bus_pageslot.specs.Listening.{FindsLength, FindsWord}
 use Rattle.bus_pageslot.specs.Looks.{IsFoundBy}
+use Rattle.bus_pageslot.specs.Notes.{Look}
 use Rattle.bus_pageslot.proofs.AllSeats.{SeatsEither, still_seen}
 use Rattle.bus_pageslot.proofs.Hearing.{heard_loaded, heard_learnt, heard_quiet, heard_good}
 
@@ -60,22 +62,47 @@ reloaded {C} P A s r i id v w at still fits = record {
       (r.all_heard q below);
 }
 
--- a look, after which the seat shows what it showed
+-- what a seat shows stays true where it shows a look more, and who shows in it
+pub look_true : {C : Type 0} (P : Process C) (A : Automaton C) (z : A.State) (seat ear : ℕ → ℕ)
+    (j : ℕ) (look : Look) (v : View C) → IsTrueOf P A z seat ear j v
+    → IsTrueOf P A z seat ear j (with_look v look)
+look_true P A z seat ear j look (Maker x made) h = h
+look_true P A z seat ear j look (Sender c t notes) h = h
+look_true P A z seat ear j look (Tap x e) h = h
+look_true P A z seat ear j look (Meeting x e y f) h = h
+look_true P A z seat ear j look (Telling c t notes x e) h = h
+look_true P A z seat ear j look Spent h = h
+
+pub look_seen : {C : Type 0} (P : Process C) (look : Look) (v : View C) (who : ℕ ⊎ ℕ)
+    → SeatsEither P who v → SeatsEither P who (with_look v look)
+look_seen P look (Maker x made) who h = h
+look_seen P look (Sender c t notes) (inl p) h = h
+look_seen P look (Sender c t notes) (inr r) h = h
+look_seen P look (Tap x e) who h = h
+look_seen P look (Meeting x e y f) who h = h
+look_seen P look (Telling c t notes x e) who h = h
+look_seen P look Spent who h = h
+
+-- a look, which the seat shows
 pub look_allowed : {C : Type 0} (P : Process C) (A : Plan → Automaton C) (k : Option Plan)
     (plan : Plan) → k ≡ Some plan → (slots id : ℕ) (me : Sat C) (at : ℕ)
     → Allows (TableInvariant P (A plan)) slots id me at (λ n. n)
-    (λ got m'. (m' ≡ me) × IsFoundBy P A k me.0 at got)
-look_allowed P A k plan is slots id me at s r many here few = (
-  me.0,
-  keeps,
-  tt,
-  reloaded P (A plan) s r at id me.0 me.0 here (λ p h. h) (r.views id me.0 here),
-  (
-    refl,
-    subst (λ q. IsFoundBy P A q me.0 at (slice_index s.words at)) (sym is)
-        record { table = s; rule = r; here = (id, here); stood = refl },
-  ),
-)
+    (λ got m'. (m' ≡ (with_look me.0 (record { word = at; found = got }), me.1))
+    × IsFoundBy P A k me.0 at got)
+look_allowed P A k plan is slots id me at s r many here few =
+    let look : Look = record { word = at; found = slice_index s.words at } in (
+      with_look me.0 look,
+      keeps,
+      tt,
+      reloaded P (A plan) s r at id me.0 (with_look me.0 look) here
+          (λ who h. look_seen P look me.0 who h)
+          (look_true P (A plan) r.state r.seat r.ear id look me.0 (r.views id me.0 here)),
+      (
+        refl,
+        subst (λ q. IsFoundBy P A q me.0 at (slice_index s.words at)) (sym is)
+            record { table = s; rule = r; here = (id, here); stood = refl },
+      ),
+    )
 
 -- a receiver that has gone on, and has passed what it had passed
 abbrev pub Listens : {C : Type 0} → (A : Automaton C) → A.State → (ℕ → ℕ) → ℕ → ReceiverView
@@ -96,7 +123,7 @@ listens_on A z ear j e e' me passed gone on (inr l) = inr record {
 }
 
 -- a receiver that knows the whole log, and has read what it had read
-knows_all : {C : Type 0} (A : Automaton C) (z : A.State) (ear : ℕ → ℕ) (j : ℕ) (x : TableLayout)
+pub knows_all : {C : Type 0} (A : Automaton C) (z : A.State) (ear : ℕ → ℕ) (j : ℕ) (x : TableLayout)
     (e e' : ReceiverView)
     → (h : KnowsLog A z ear j x e) → e'.known ≡ log_in A z → e'.place ≡ e.place
     → HasHeard h.frames e' → e'.me ≡ e.me → e'.passed ≡ e.passed → e'.gone ≡ e.gone
@@ -213,7 +240,7 @@ may_ask A z ear j x e h place (inr has) = elim h.listens [
 ]
 
 -- the word that it knows at a place stands in its cell
-known_word : {C : Type 0} (P : Process C) (A : Automaton C) (L : AutomatonLaws P A)
+pub known_word : {C : Type 0} (P : Process C) (A : Automaton C) (L : AutomatonLaws P A)
     (s : State (Option Page) (View C)) (r : TableInvariant P A s) (id : ℕ) (x : TableLayout)
     (e : ReceiverView) → KnowsLog A r.state r.ear id x e → (place : ℕ) → MayRead x e place
     → place < length e.known
@@ -263,15 +290,21 @@ word_allowed {C} P A L slots id m x e place is may below s r count at range =
       },
     )
 
--- by a turn: the word gives what it gives in the log
-pub word_heard_allowed : {C : Type 0} (P : Process C) (A : Automaton C) (L : AutomatonLaws P A)
-    (slots id : ℕ) (m : Sat C) (x : TableLayout) (e : ReceiverView) → m.0 ≡ Tap x e
-    → e.ended ≡ false → MayRead x e e.place → e.place < length e.known
-    → Allows (TableInvariant P A) slots id m (log_cell x e.place) (λ n. n)
-    (λ n m'.
-    (log_cell x e.place ≡ log_word_in m.0 (receiver_view_in m.0).place) × FindsWord m n m')
-word_heard_allowed {C} P A L slots id m x e is going may below s r count at range =
-    let here : get_elem? s.views id ≡ some (Tap x e) = at ∙ ap (λ (v : View C). some v) is in
+-- by a turn: the word gives what it gives in the log, and the seat shows that
+pub record WordFound {C : Type 0} (P : Process C) (A : Automaton C)
+    (s : State (Option Page) (View C)) (r : TableInvariant P A s) (id : ℕ) (m : Sat C)
+    (x : TableLayout) (e : ReceiverView) : Type 0 where
+  pub view : View C
+  pub still : (who : ℕ ⊎ ℕ) → SeatsEither P who (Tap x e) → SeatsEither P who view
+  pub true_of : IsTrueOf P A r.state r.seat r.ear id view
+  pub finds : FindsWord m (slice_index s.words (log_cell x e.place)) (view, m.1)
+
+pub word_found : {C : Type 0} (P : Process C) (A : Automaton C) (L : AutomatonLaws P A) (id : ℕ)
+    (m : Sat C) (x : TableLayout) (e : ReceiverView) → m.0 ≡ Tap x e → e.ended ≡ false
+    → MayRead x e e.place → e.place < length e.known → (s : State (Option Page) (View C))
+    (r : TableInvariant P A s) → get_elem? s.views id ≡ some (Tap x e)
+    → WordFound P A s r id m x e
+word_found {C} P A L id m x e is going may below s r here =
     let h : KnowsLog A r.state r.ear id x e = r.views id (Tap x e) here in
     let more = ap length h.front.together in
     let parts = length-append e.known h.front.rest in
@@ -280,49 +313,61 @@ word_heard_allowed {C} P A L slots id m x e is going may below s r count at rang
     elim (some_or_none (slice_get (log_pieces h.frames) e.place)) [
       | inl nobody ↦ absurd (here_not (log_pieces h.frames) e.place there nobody)
       | inr found ↦
-          let e' : ReceiverView = heard_word e (log_cell x e.place) found.0 (turn_of found.0) in (
-            Tap x e',
-            keeps,
-            tt,
-            reloaded P A s r (log_cell x e.place) id (Tap x e) (Tap x e') here (λ p is. is)
-                (record {
-                  table_layout = h.table_layout;
-                  front = h.front;
-                  below = (omega arith);
-                  frames = h.frames;
-                  lawful = h.lawful;
-                  words_are = h.words_are;
-                  heard = heard_good h.frames e h.heard (log_cell x e.place) found.0 going found.1;
-                  listens = listens_on A r.state r.ear id e e' refl refl refl (omega arith)
-                      h.listens;
-                }),
-            (
-              ap (λ (v : View C). log_word_in v (receiver_view_in v).place) (sym is),
-              record {
-                got_is =
-                    known_word P A L s r id x e h e.place may below
-                    ∙ ap (λ (v : View C). slice_index (known_in v) (receiver_view_in v).place)
-                    (sym is);
-                found = found.0;
-                frames = h.frames;
-                rest = h.front.rest;
-                lawful = subst (λ (n : ℕ). AreFrames n h.frames)
-                    (ap (λ (z : TableLayout). z.senders) (sym h.table_layout)
-                    ∙ ap (λ (v : View C). senders_in v) (sym is)) h.lawful;
-                words_are =
-                    h.words_are ∙ sym h.front.together
-                    ∙ ap (λ (v : View C). known_in v ++ h.front.rest) (sym is);
-                at =
-                    ap (λ (v : View C). slice_get (log_pieces h.frames) (receiver_view_in v).place)
-                    is
-                    ∙ found.1;
-                now = λ i. (
-                  with_receiver_view (sym is i) (heard_word (receiver_view_in (sym is i))
-                      (log_word_in (sym is i) (receiver_view_in (sym is i)).place) found.0
-                      (turn_of found.0)),
-                  m.1,
-                );
-              },
-            ),
-          )
+          let e' : ReceiverView = heard_word e (log_cell x e.place) found.0 (turn_of found.0) in
+          record {
+            view = Tap x e';
+            still = λ p is. is;
+            true_of = record {
+              table_layout = h.table_layout;
+              front = h.front;
+              below = (omega arith);
+              frames = h.frames;
+              lawful = h.lawful;
+              words_are = h.words_are;
+              heard = heard_good h.frames e h.heard (log_cell x e.place) found.0 going found.1;
+              listens = listens_on A r.state r.ear id e e' refl refl refl (omega arith) h.listens;
+            };
+            finds = record {
+              got_is =
+                  known_word P A L s r id x e h e.place may below
+                  ∙ ap (λ (v : View C). slice_index (known_in v) (receiver_view_in v).place)
+                  (sym is);
+              found = found.0;
+              frames = h.frames;
+              rest = h.front.rest;
+              lawful = subst (λ (n : ℕ). AreFrames n h.frames)
+                  (ap (λ (z : TableLayout). z.senders) (sym h.table_layout)
+                  ∙ ap (λ (v : View C). senders_in v) (sym is)) h.lawful;
+              words_are =
+                  h.words_are ∙ sym h.front.together
+                  ∙ ap (λ (v : View C). known_in v ++ h.front.rest) (sym is);
+              at =
+                  ap (λ (v : View C). slice_get (log_pieces h.frames) (receiver_view_in v).place)
+                  is
+                  ∙ found.1;
+              now = λ i. (
+                with_receiver_view (sym is i) (heard_word (receiver_view_in (sym is i))
+                    (log_word_in (sym is i) (receiver_view_in (sym is i)).place) found.0
+                    (turn_of found.0)),
+                m.1,
+              );
+            };
+          }
     ]
+
+-- it is allowed
+pub word_heard_allowed : {C : Type 0} (P : Process C) (A : Automaton C) (L : AutomatonLaws P A)
+    (slots id : ℕ) (m : Sat C) (x : TableLayout) (e : ReceiverView) → m.0 ≡ Tap x e
+    → e.ended ≡ false → MayRead x e e.place → e.place < length e.known
+    → Allows (TableInvariant P A) slots id m (log_cell x e.place) (λ n. n)
+    (λ n m'.
+    (log_cell x e.place ≡ log_word_in m.0 (receiver_view_in m.0).place) × FindsWord m n m')
+word_heard_allowed {C} P A L slots id m x e is going may below s r count at range =
+    let here : get_elem? s.views id ≡ some (Tap x e) = at ∙ ap (λ (v : View C). some v) is in
+    let w = word_found P A L id m x e is going may below s r here in (
+      w.view,
+      keeps,
+      tt,
+      reloaded P A s r (log_cell x e.place) id (Tap x e) w.view here w.still w.true_of,
+      (ap (λ (v : View C). log_word_in v (receiver_view_in v).place) (sym is), w.finds),
+    )

@@ -1,10 +1,14 @@
 -- What a look finds, and how many words the frame of a batch has.
 use Rattle.std.proofs.Common.{◌≡◌, ◌≢◌, ℕ, zero, suc, ◌+◌, ◌*◌, ◌<◌, ◌≤◌, ◌==◌, Bool, true}
-use Rattle.std.proofs.Common.{false, List, [], ◌∷◌, length, arith}
+use Rattle.std.proofs.Common.{false, List, [], ◌∷◌, ◌++◌, length, arith, All, append_assoc}
 use Rattle.std.proofs.Common.{Option, refl, sym, ◌∙◌, ap, subst, inl, inr, ◌⊎◌}
 use Rattle.std.proofs.Common.{slice_index, if◌then◌else◌}
-use Rattle.std.specs.Prelude.{IsTrue, ◌↔◌}
+use Rattle.std.specs.Prelude.{IsTrue, ◌↔◌, get_or}
 use Rattle.std.proofs.lemmas.Bool.{cases_eq, eq-eqb, ne_eqb, true≢false}
+use Rattle.std.proofs.lemmas.List.{append-nil, append_cancel_left, get_or_append_left}
+use Rattle.std.proofs.lemmas.List.{get_or_push, length-append}
+use Rattle.atomic_table.specs.Seated.{TableId}
+use Rattle.atomic_table.specs.declared.shared.Seat.{Seat}
 use Rattle.bus_adoptcommit.specs.declared.verdicts.Verdict.{Verdict}
 use Rattle.bus_batch.specs.Batches.{Pending, frame_of}
 use Rattle.bus_batch.specs.Frames.{frame_words}
@@ -19,17 +23,19 @@ use Rattle.bus_register.specs.declared.registers.Op.{Op}
 use Rattle.bus_tenure.specs.Core.{is_closing, is_leaving, length_at}
 use Rattle.bus_tenure.specs.Elections.{Elector}
 use Rattle.bus_tenure.specs.Situations.{lesser}
+use Rattle.bus_tenure.specs.declared.pages.Page.{Page}
 use Rattle.bus_world.proofs.FloorLaws.{lesser_is}
 use Rattle.bus_world.specs.Log.{least_passed, floor_shown}
-use Rattle.bus_automaton.specs.Processes.{Process, Automaton}
+use Rattle.bus_automaton.specs.Processes.{TableLayout, Process, Automaton, passed_word}
+use Rattle.bus_automaton.specs.SenderTrails.{SenderTrail}
 use Rattle.bus_automaton.proofs.Turns.{queue_is}
 use Rattle.bus_automaton.specs.Buses.{process_with}
-use Rattle.bus_pageslot.specs.Looks.{IsFoundOn, HasLooked, FloorSeen, LookingRefuses}
-use Rattle.bus_pageslot.specs.Looks.{batch_len}
-use Rattle.atomic_table.specs.declared.shared.Seat.{Seat}
-use Rattle.bus_automaton.specs.declared.plans.Plan.{Plan}
-use Rattle.bus_tenure.specs.declared.pages.Page.{Page}
-use Rattle.bus_pageslot.specs.Rule.{IsTrueOf, stored_in}
+use Rattle.bus_pageslot.specs.Looks.{IsFoundOn, LooksOn, HasLooked, FloorSeen, LookingRefuses}
+use Rattle.bus_pageslot.specs.Looks.{IsSenders, batch_len, look_at, passed_looks, room_looks}
+use Rattle.bus_pageslot.specs.Notes.{Look, Notes, noting}
+use Rattle.bus_pageslot.specs.Rule.{Sat, sender_trail_in, notes_in, stored_in, looks_in, with_look}
+use Rattle.bus_pageslot.specs.Seats.{Shows}
+use Rattle.bus_pageslot.specs.Steps.{Numbers, all_in, carried_of}
 use Rattle.bus_pageslot.specs.declared.rule.View.{View}
 use Rattle.bus_pageslot.specs.declared.rule.View.TheVariants.{Maker, Sender as Seated, Tap}
 use Rattle.bus_pageslot.specs.declared.rule.View.TheVariants.{Meeting, Telling, Spent}
@@ -74,91 +80,160 @@ same_least words more at (suc k) len same =
     ∙ ap (lesser (more (at + PASSED_APART * k)))
     (same_least words more at k len (λ r l. same r (omega arith)))
 
--- some words were found so, of which these passed places and the length give this
-pub record Found (IsSo : ℕ → ℕ → Type 0) (at n len least : ℕ) : Type 0 where
-  pub found : ℕ → ℕ
-  pub first : found 0 ≡ len
-  pub least_is : least ≡ least_passed found at n len
-  pub each : (r : ℕ) → r < n → IsSo (at + PASSED_APART * r) (found (at + PASSED_APART * r))
+-- and so do the looks at them
+same_looks : (x : TableLayout) (words more : ℕ → ℕ) (n : ℕ)
+    → ((r : ℕ) → r < n → words (passed_word x r) ≡ more (passed_word x r))
+    → passed_looks x words n ≡ passed_looks x more n
+same_looks x words more zero same = refl
+same_looks x words more (suc k) same =
+    let before = same_looks x words more k (λ r l. same r (omega arith)) in
+    let here = same k (omega arith) in
+    λ i. before i ++ record { word = passed_word x k; found = here i } ∷ []
 
-pub found_none : (IsSo : ℕ → ℕ → Type 0) (at len : ℕ) → Found IsSo at 0 len len
-found_none IsSo at len = record {
-  found = λ _. len;
-  first = refl;
-  least_is = refl;
-  each = λ r below. absurd (omega arith);
-}
+length_looks : (x : TableLayout) (found : ℕ → ℕ) (n : ℕ) → length (passed_looks x found n) ≡ n
+length_looks x found zero = refl
+length_looks x found (suc k) =
+    let before = length_looks x found k in
+    let more = length-append (passed_looks x found k) (look_at found (passed_word x k) ∷ []) in
+    omega arith
 
--- and one more
-pub found_more : (IsSo : ℕ → ℕ → Type 0) (at n len least got : ℕ) → 2 ≤ at
-    → Found IsSo at n len least → IsSo (at + PASSED_APART * n) got
-    → Found IsSo at (n + 1) len (lesser got least)
-found_more IsSo at n len least got behind f so =
-    let here = at + PASSED_APART * n in
-    let found : ℕ → ℕ = λ k. if k == here then got else f.found k in
-    let other : (k : ℕ) → k ≢ here → f.found k ≡ found k =
-    λ k ne. ap (λ (b : Bool). if b then got else f.found k) (sym (ne_eqb k here ne)) in
-    let mine : got ≡ found here =
-    ap (λ (b : Bool). if b then got else f.found here) (sym (eq-eqb here here refl)) in
-    let apart : (r : ℕ) → r < n
-    → f.found (at + PASSED_APART * r) ≡ found (at + PASSED_APART * r) =
-    λ r l. other (at + PASSED_APART * r) (λ e. absurd (omega arith)) in
-    record {
-      found = found;
-      first = sym (other 0 (λ e. absurd (omega arith))) ∙ f.first;
-      least_is =
-          ap (lesser got) f.least_is
-          ∙ ap (lesser got) (same_least f.found found at n len apart)
-          ∙ ap (λ w. lesser w (least_passed found at n len)) mine
-          ∙ one_more found at n len;
-      each = λ r below. elim (cases_eq r n) [
-        | inl last ↦ subst (λ q. IsSo (at + PASSED_APART * q) (found (at + PASSED_APART * q)))
-            (sym last) (subst (IsSo here) mine so)
-        | inr before ↦ (let less : r < n = omega arith in
-            subst (IsSo (at + PASSED_APART * r)) (apart r less) (f.each r less))
-      ];
-    }
+-- each passed place is looked at in its turn
+at_passed : (x : TableLayout) (found : ℕ → ℕ) (n r : ℕ) (d : Look) → r < n
+    → get_or (passed_looks x found n) r d ≡ look_at found (passed_word x r)
+at_passed x found zero r d below = absurd (omega arith)
+at_passed x found (suc k) r d below =
+    let size = length_looks x found k in
+    elim (cases_eq r k) [
+      | inl last ↦
+          get_or_push (passed_looks x found k) (look_at found (passed_word x k)) d r
+          (size ∙ sym last) ∙ ap (λ q. look_at found (passed_word x q)) (sym last)
+      | inr before ↦
+          let less : r < k = omega arith in
+          get_or_append_left (passed_looks x found k) (look_at found (passed_word x k) ∷ []) d r
+          (omega arith) ∙ at_passed x found k r d less
+    ]
 
--- ---- the floor that was seen
--- what was found by a seat as it is now, of a bus of this plan
-pub seen_at : {C : Type 0} (P : Process C) (B : Plan → Automaton C) {plan now : Plan}
-    → plan ≡ now → {s first : Seat (Option Page) (View C)} → s ≡ first → (at got : ℕ)
-    → IsFoundOn P (B plan) s.me.0 at got → IsFoundOn P (B now) first.me.0 at got
-seen_at P B is same at got = subst (λ z. z) (λ i. IsFoundOn P (B (is i)) (same i).me.0 at got)
+-- ---- looks, one after another
+-- a sender's view stays one
+pub senders_look : {C : Type 0} (look : Look) (v : View C) → IsSenders v
+    → IsSenders (with_look v look)
+senders_look look (Maker x made) h = h
+senders_look look (Seated c trail notes) h = tt
+senders_look look (Tap x e) h = h
+senders_look look (Meeting x e y f) h = h
+senders_look look (Telling c trail notes x e) h = h
+senders_look look Spent h = h
 
--- and the floor
-pub floor_at : {C : Type 0} (P : Process C) (A : Automaton C)
-    {s first : Seat (Option Page) (View C)}
-    → s ≡ first → (long floor : ℕ) → FloorSeen P A s.me.0 long floor
-    → FloorSeen P A first.me.0 long floor
-floor_at P A same long floor = subst (λ z. z) (λ i. FloorSeen P A (same i).me.0 long floor)
+module _ {C : Type 0} (P : Process C) (A : Automaton C) where
+  abbrev x : TableLayout
+  x = A.table_layout
 
--- where there are no passed places
-pub seen_none : {C : Type 0} (P : Process C) (A : Automaton C) (shown : View C) (len : ℕ)
-    → A.table_layout.passers ≡ 0 → FloorSeen P A shown len 0
-seen_none P A shown len none = record {
-  found = λ _. len;
-  first = refl;
-  passed = λ r below. absurd (omega arith);
-  floor_is =
-      ap (λ n. floor_shown (λ (_ : ℕ). len) A.table_layout.passed n len) (sym none);
-}
+  -- one more
+  looks_more : (looks : List Look) (old mid new : View C) (look : Look) → LooksOn P A old looks mid
+      → IsFoundOn P A mid look.word look.found → new ≡ with_look mid look
+      → LooksOn P A old (looks ++ look ∷ []) new
+  looks_more [] old mid new look is found now = (
+    subst (λ v. IsFoundOn P A v look.word look.found) is found,
+    now ∙ ap (λ v. with_look v look) is,
+  )
+  looks_more (first ∷ more) old mid new look h found now =
+      (h.0, looks_more more (with_look old first) mid new look h.1 found now)
 
--- and where some were found
-pub seen_some : {C : Type 0} (P : Process C) (A : Automaton C) (shown : View C)
-    (at n len least : ℕ) → n ≢ 0 → at ≡ A.table_layout.passed → n ≡ A.table_layout.passers
-    → Found (IsFoundOn P A shown) at n len least → FloorSeen P A shown len least
-seen_some P A shown at n len least some at_is many f = record {
-  found = f.found;
-  first = f.first;
-  passed = λ r below.
-      let mine = f.each r (omega arith) in
-      subst (λ q. IsFoundOn P A shown (q + PASSED_APART * r) (f.found (q + PASSED_APART * r)))
-      at_is mine;
-  floor_is =
-      f.least_is ∙ floor_some f.found at n len some
-      ∙ (λ i. floor_shown f.found (at_is i) (many i) len);
-}
+  -- they leave what the seat shows of all that was done
+  look_keeps : (look : Look) (v : View C) (d : C) → all_in P (with_look v look) d ≡ all_in P v d
+  look_keeps look (Maker y made) d = refl
+  look_keeps look (Seated c t notes) d = refl
+  look_keeps look (Tap y e) d = refl
+  look_keeps look (Meeting y e z f) d = refl
+  look_keeps look (Telling c t notes y e) d = refl
+  look_keeps look Spent d = refl
+
+  pub looks_keep : (looks : List Look) (old new : View C) (d : C) → LooksOn P A old looks new
+      → all_in P new d ≡ all_in P old d
+  looks_keep [] old new d is = ap (λ v. all_in P v d) is
+  looks_keep (look ∷ more) old new d h =
+      looks_keep more (with_look old look) new d h.1 ∙ look_keeps look old d
+
+  -- a sender's view shows them behind those before
+  pub looks_end : (c : C) (trail : SenderTrail) (notes : Notes) (looks : List Look) (new : View C)
+      → LooksOn P A (Seated c trail notes) looks new
+      → new ≡ Seated c trail (record notes { looks = notes.looks ++ looks })
+  looks_end c trail notes [] new is =
+      is ∙ ap (λ l. Seated c trail (record notes { looks = l })) (sym (append-nil notes.looks))
+  looks_end c trail notes (look ∷ more) new h =
+      looks_end c trail (noting notes look) more new h.1
+      ∙ ap (λ l. Seated c trail (record notes { looks = l }))
+      (append_assoc notes.looks (look ∷ []) more)
+
+  -- so many passed places were found so by looks, of which these and the length give this
+  pub record Found (old : View C) (n len least : ℕ) (new : View C) : Type 0 where
+    pub found : ℕ → ℕ
+    pub first : found length_at ≡ len
+    pub least_is : least ≡ least_passed found x.passed n len
+    pub looks : LooksOn P A old (passed_looks x found n) new
+
+  pub found_none : (old new : View C) (len : ℕ) → new ≡ old → Found old 0 len len new
+  found_none old new len same = record {
+    found = λ _. len;
+    first = refl;
+    least_is = refl;
+    looks = same;
+  }
+
+  -- and one more
+  pub found_more : (old mid new : View C) (n len least got : ℕ) → 2 ≤ x.passed
+      → Found old n len least mid → IsFoundOn P A mid (passed_word x n) got
+      → new ≡ with_look mid (record { word = passed_word x n; found = got })
+      → Found old (n + 1) len (lesser got least) new
+  found_more old mid new n len least got behind f so now =
+      let here = passed_word x n in
+      let found : ℕ → ℕ = λ k. if k == here then got else f.found k in
+      let other : (k : ℕ) → k ≢ here → f.found k ≡ found k =
+      λ k ne. ap (λ (b : Bool). if b then got else f.found k) (sym (ne_eqb k here ne)) in
+      let mine : got ≡ found here =
+      ap (λ (b : Bool). if b then got else f.found here) (sym (eq-eqb here here refl)) in
+      let apart : (r : ℕ) → r < n → f.found (passed_word x r) ≡ found (passed_word x r) =
+      λ r l. other (passed_word x r) (λ e. absurd (omega arith)) in
+      let next : suc n ≡ n + 1 = omega arith in
+      let before = same_looks x f.found found n apart in
+      let all : passed_looks x f.found n ++ record { word = here; found = got } ∷ []
+      ≡ passed_looks x found (suc n) =
+      λ i. before i ++ record { word = here; found = mine i } ∷ [] in
+      record {
+        found = found;
+        first = sym (other 0 (λ e. absurd (omega arith))) ∙ f.first;
+        least_is =
+            ap (lesser got) f.least_is
+            ∙ ap (lesser got) (same_least f.found found x.passed n len apart)
+            ∙ ap (λ w. lesser w (least_passed found x.passed n len)) mine
+            ∙ one_more found x.passed n len;
+        looks = subst (λ l. LooksOn P A old l new) (all ∙ ap (passed_looks x found) next)
+            (looks_more (passed_looks x f.found n) old mid new
+            (record { word = here; found = got }) f.looks so now);
+      }
+
+  -- ---- the floor that was seen
+  -- where there are no passed places
+  pub seen_none : (old new : View C) (len : ℕ) → x.passers ≡ 0 → new ≡ old
+      → FloorSeen P A old len 0 new
+  seen_none old new len none same = record {
+    found = λ _. len;
+    first = refl;
+    looked = subst (λ n. LooksOn P A old (passed_looks x (λ (_ : ℕ). len) n) new) (sym none) same;
+    floor_is = ap (λ n. floor_shown (λ (_ : ℕ). len) x.passed n len) (sym none);
+  }
+
+  -- and where some were found
+  pub seen_some : (old new : View C) (n len least : ℕ) → n ≢ 0 → n ≡ x.passers
+      → Found old n len least new → FloorSeen P A old len least new
+  seen_some old new n len least some many f = record {
+    found = f.found;
+    first = f.first;
+    looked = subst (λ k. LooksOn P A old (passed_looks x f.found k) new) many f.looks;
+    floor_is =
+        f.least_is ∙ floor_some f.found x.passed n len some
+        ∙ ap (λ k. floor_shown f.found x.passed k len) many;
+  }
 
 -- ---- the frame of a batch
 -- it is a mark and its head, where a mark waits
@@ -200,60 +275,137 @@ batch_is kind_of op fed Q v =
 
 -- ---- room
 -- by what was found a frame fits the log or does not
-pub looked : {C : Type 0} (P : Process C) (A : Automaton C) (shown : View C)
-    (many len floor capacity : ℕ) (fits : Bool) → IsFoundOn P A shown length_at len
-    → FloorSeen P A shown len floor → capacity ≡ A.table_layout.capacity
-    → (IsTrue fits ↔ (len + many ≤ capacity + floor)) → HasLooked P A shown many fits
-looked P A shown many len floor capacity fits long f same says =
+pub looked : {C : Type 0} (P : Process C) (A : Automaton C) (old mid new : View C)
+    (many len floor capacity : ℕ) (fits : Bool) → IsFoundOn P A old length_at len
+    → mid ≡ with_look old (record { word = length_at; found = len })
+    → FloorSeen P A mid len floor new → capacity ≡ A.table_layout.capacity
+    → (IsTrue fits ↔ (len + many ≤ capacity + floor)) → HasLooked P A old many fits new
+looked P A old mid new many len floor capacity fits long now f same says =
     let x = A.table_layout in
     let at : floor ≡ floor_shown f.found x.passed x.passers (f.found length_at) =
     f.floor_is ∙ ap (floor_shown f.found x.passed x.passers) (sym f.first) in
     let first : f.found length_at ≡ len = f.first in
     record {
       found = f.found;
-      long = subst (IsFoundOn P A shown length_at) (sym first) long;
-      passed = f.passed;
+      looked = (
+        subst (IsFoundOn P A old length_at) (sym first) long,
+        subst (λ v. LooksOn P A v (passed_looks x f.found x.passers) new)
+            (now
+            ∙ ap (λ k. with_look old (record { word = length_at; found = k })) (sym first))
+            f.looked,
+      );
       says = ((λ yes. let a = says.0 yes in omega arith), (λ fit. says.1 (omega arith)));
     }
 
 -- one that is longer than the log does not
-shown_low : (words : ℕ → ℕ) (at n len : ℕ) → floor_shown words at n len ≤ len
+pub shown_low : (words : ℕ → ℕ) (at n len : ℕ) → floor_shown words at n len ≤ len
 shown_low words at zero len = omega arith
 shown_low words at (suc n) len = least_low words at (suc n) len
 
-pub never_fits : {C : Type 0} (P : Process C) (A : Automaton C) (shown : View C) (many : ℕ)
-    (fits : Bool) → HasLooked P A shown many fits → A.table_layout.capacity < many → fits ≡ false
-never_fits P A shown many false h long = refl
-never_fits P A shown many true h long =
+pub never_fits : {C : Type 0} (P : Process C) (A : Automaton C) (old new : View C) (many : ℕ)
+    (fits : Bool) → HasLooked P A old many fits new → A.table_layout.capacity < many
+    → fits ≡ false
+never_fits P A old new many false h long = refl
+never_fits P A old new many true h long =
     let x = A.table_layout in
     let fit = h.says.0 refl in
     let low = shown_low h.found x.passed x.passers (h.found length_at) in absurd (omega arith)
 
 -- a length that a seat has stored is no longer than one that was found then
-pub stored_reached : {C : Type 0} (P : Process C) (A : Automaton C) (shown : View C) (got : ℕ)
-    → IsFoundOn P A shown length_at got → stored_in shown ≤ got
-stored_reached {C} P A shown got f =
+pub stored_reached : {C : Type 0} (P : Process C) (A : Automaton C) (c : C) (trail : SenderTrail)
+    (notes : Notes) (got : ℕ) → IsFoundOn P A (Seated c trail notes) length_at got
+    → notes.stored ≤ got
+stored_reached P A c trail notes got f =
     let r = f.rule in
     let stood : slice_index (A.words r.state) 0 ≡ got =
     ap (λ w. slice_index w 0) (sym r.words) ∙ f.stood in
-    by shown stood (r.views f.here.0 shown f.here.1) where
-      by : (v : View C) → slice_index (A.words f.rule.state) 0 ≡ got
-          → IsTrueOf P A f.rule.state f.rule.seat f.rule.ear f.here.0 v → stored_in v ≤ got
-      by (Maker x made) stood h = omega arith
-      by (Seated c trail stored) stood h = let reached = h.reached in omega arith
-      by (Tap x e) stood h = omega arith
-      by (Meeting x e y g) stood h = omega arith
-      by (Telling c trail stored x e) stood h = let reached = h.0.reached in omega arith
-      by Spent stood h = omega arith
+    let reached = (r.views f.here.0 (Seated c trail notes) f.here.1).reached in omega arith
 
-pub looking_refuses : {C : Type 0} (P : Process C) (A : Automaton C) (shown : View C) (many : ℕ)
-    → LookingRefuses P A shown many
-looking_refuses P A shown many = record {
-  longer = λ long h. absurd (true≢false (never_fits P A shown many true h long));
-  filled = λ flat full h.
+module _ {C : Type 0} (P : Process C) (A : Automaton C) (c : C) (trail : SenderTrail)
+    (notes : Notes) (many : ℕ) where
+  abbrev old : View C
+  old = Seated c trail notes
+
+  abbrev shows : List Look → View C
+  shows more = Seated c trail (record notes { looks = notes.looks ++ more })
+
+  -- these looks are all
+  all_looks : (more : List Look) (fits : Bool) (h : HasLooked P A old many fits (shows more))
+      → room_looks A.table_layout h.found ≡ more
+  all_looks more fits h = append_cancel_left notes.looks (room_looks A.table_layout h.found) more
+      (sym (ap (λ (v : View C). looks_in v)
+      (looks_end P A c trail notes (room_looks A.table_layout h.found) (shows more) h.looked)))
+
+  pub looking_refuses : LookingRefuses P A c trail notes many
+  looking_refuses = record {
+    longer = λ new long h. absurd (true≢false (never_fits P A old new many true h long));
+    filled = λ new flat full h.
+        let x = A.table_layout in
+        let fit = h.says.0 refl in
+        let none : floor_shown h.found x.passed x.passers (h.found length_at) ≡ 0 =
+        ap (λ n. floor_shown h.found x.passed n (h.found length_at)) flat in
+        let reached = stored_reached P A c trail notes (h.found length_at) h.looked.0 in
+        absurd (omega arith);
+    no_length = λ more fits none h.
+        subst (All (λ (look : Look). look.word ≢ length_at)) (sym (all_looks more fits h)) none 0
+        (look_at h.found 0) (omega arith) refl;
+    left_out = λ more fits r below none h.
+        let x = A.table_layout in
+        let d : Look = look_at h.found 0 in
+        let size = length_looks x h.found x.passers in
+        subst (All (λ (look : Look). look.word ≢ passed_word x r)) (sym (all_looks more fits h))
+        none (suc r) d (omega arith)
+        (ap (λ (look : Look). look.word) (at_passed x h.found x.passers r d below));
+    counted = λ more fits other h.
+        let x = A.table_layout in
+        let many = length_looks x h.found x.passers in
+        let all = ap length (all_looks more fits h) in other (omega arith);
+  }
+
+-- ---- a sender that looked
+module _ {C : Type 0} (P : Process C) (A : Automaton C) where
+  -- its looks are behind those before
+  pub looks_shown : (d : C) (s : Seat (Option Page) (View C)) (new : View C) (many : ℕ)
+      (fits : Bool) → Shows P d s → (looked : HasLooked P A s.me.0 many fits new)
+      → looks_in new ≡ looks_in s.me.0 ++ room_looks A.table_layout looked.found
+  looks_shown d s new many fits h looked =
+      let looks = room_looks A.table_layout looked.found in
+      let view : s.me.0 ≡ Seated h.shown (sender_trail_in s.me.0) (notes_in s.me.0) =
+      ap (λ (m : Sat C). m.0) h.me in
+      ap (λ (v : View C). looks_in v)
+      (looks_end P A h.shown (sender_trail_in s.me.0) (notes_in s.me.0) looks new
+      (subst (λ v. LooksOn P A v looks new) view looked.looked))
+
+  -- its seat shows it still
+  pub shows_looked : (d : C) (s s' : Seat (Option Page) (View C)) (many : ℕ) (fits : Bool)
+      → Shows P d s → s'.table_id ≡ s.table_id → s'.me.1 ≡ s.me.1
+      → HasLooked P A s.me.0 many fits s'.me.0
+      → Shows P d s' × (stored_in s'.me.0 ≡ stored_in s.me.0)
+  shows_looked d s s' many fits h table slots looked =
       let x = A.table_layout in
-      let fit = h.says.0 refl in
-      let none : floor_shown h.found x.passed x.passers (h.found length_at) ≡ 0 =
-      ap (λ n. floor_shown h.found x.passed n (h.found length_at)) flat in
-      let reached = stored_reached P A shown (h.found length_at) h.long in absurd (omega arith);
-}
+      let view : s.me.0 ≡ Seated h.shown (sender_trail_in s.me.0) (notes_in s.me.0) =
+      ap (λ (m : Sat C). m.0) h.me in
+      let now : s'.me.0 ≡ Seated h.shown (sender_trail_in s.me.0) (record (notes_in s.me.0) {
+        looks = looks_in s.me.0 ++ room_looks x looked.found;
+      }) =
+      looks_end P A h.shown (sender_trail_in s.me.0) (notes_in s.me.0) (room_looks x looked.found)
+      s'.me.0
+      (subst (λ v. LooksOn P A v (room_looks x looked.found) s'.me.0) view looked.looked) in
+      let trail : sender_trail_in s'.me.0 ≡ sender_trail_in s.me.0 =
+      ap (λ (v : View C). sender_trail_in v) now in
+      let mine : s'.me.0 ≡ Seated h.shown (sender_trail_in s'.me.0) (notes_in s'.me.0) =
+      now ∙ (λ i. Seated h.shown (sender_trail_in (sym now i)) (notes_in (sym now i))) in
+      let out : s'.me.1 ≡ carried_of (P.holds d) = slots ∙ ap (λ (m : Sat C). m.1) h.me in (
+        record {
+          shown = h.shown;
+          actions = h.actions;
+          accepts = h.accepts;
+          counted = h.counted;
+          laid = h.laid;
+          numbered = subst (Numbers P h.shown) (sym trail) h.numbered;
+          me = λ i. (mine i, out i);
+          words = ap (λ (z : TableId). z.words) table ∙ h.words;
+          slots = ap (λ (z : TableId). z.slots) table ∙ h.slots;
+        },
+        ap (λ (v : View C). stored_in v) now,
+      )

@@ -28,6 +28,7 @@ use Rattle.bus_batch.specs.Frames.{Spells}
 use Rattle.bus_tenure.specs.declared.pages.Page.{Page}
 use Rattle.bus_world.specs.Headline.{Action, IsPrefix}
 use Rattle.bus_automaton.specs.SenderTrails.{SenderTrail}
+use Rattle.bus_pageslot.specs.Notes.{Notes}
 use Rattle.bus_pageslot.specs.declared.rule.View.{View}
 use Rattle.bus_pageslot.specs.declared.rule.View.TheVariants.{Maker, Sender, Tap, Meeting, Telling}
 use Rattle.bus_pageslot.specs.declared.rule.View.TheVariants.{Spent}
@@ -42,10 +43,10 @@ use Rattle.bus_pageslot.specs.Promised.{Fits, ShowsActions, IsPromised}
 same_at : {C : Type 0} (P : Process C) (actions actions' : ℕ → List Action) (log : List ℕ) (p : ℕ)
     (v : View C) → ShowsActions P p (actions p) v → Fits P actions' log v → actions p ≡ actions' p
 same_at P actions actions' log p (Maker x made) h f = h.1 ∙ sym (f p h.0)
-same_at P actions actions' log p (Sender c t stored) h f = h.1 ∙ sym f ∙ ap actions' h.0
+same_at P actions actions' log p (Sender c t notes) h f = h.1 ∙ sym f ∙ ap actions' h.0
 same_at P actions actions' log p (Tap x e) h f = absurd h
 same_at P actions actions' log p (Meeting x e y k) h f = absurd h
-same_at P actions actions' log p (Telling c t stored x e) h f = h.1 ∙ sym f.0 ∙ ap actions' h.0
+same_at P actions actions' log p (Telling c t notes x e) h f = h.1 ∙ sym f.0 ∙ ap actions' h.0
 same_at P actions actions' log p Spent h f = absurd h
 
 -- what a receiver knows that a view shows is a beginning of the log that the view is true of
@@ -53,14 +54,14 @@ known_front : {C : Type 0} (P : Process C) (actions : ℕ → List Action) (log 
     (e : ReceiverView) (v : View C) → ShowsReceiver e v → Fits P actions log v
     → IsPrefix e.known log
 known_front P actions log e (Maker x made) none f = absurd none
-known_front P actions log e (Sender c t stored) none f = absurd none
+known_front P actions log e (Sender c t notes) none f = absurd none
 known_front P actions log e (Tap x g) same f =
     subst (λ (u : ReceiverView). IsPrefix u.known log) same f
 known_front P actions log e (Meeting x g y k) (inl same) f =
     subst (λ (u : ReceiverView). IsPrefix u.known log) same f.0
 known_front P actions log e (Meeting x g y k) (inr same) f =
     subst (λ (u : ReceiverView). IsPrefix u.known log) same f.1
-known_front P actions log e (Telling c t stored x g) same f =
+known_front P actions log e (Telling c t notes x g) same f =
     subst (λ (u : ReceiverView). IsPrefix u.known log) same f.1
 known_front P actions log e Spent none f = absurd none
 
@@ -102,7 +103,7 @@ module _ {C : Type 0} (P : Process C) (x : TableLayout) (base : ℕ → ℕ) (lo
         × ShowsReceiver e v × (floor_in x s.words ≤ length e.known)
 
     -- they have one log, where no word of it is used again, or where that is so
-    one_log : (x.passers ≡ 0) ⊎ ((log ≡ log') ⊎ KnowsBelow) → log ≡ log'
+    pub one_log : (x.passers ≡ 0) ⊎ ((log ≡ log') ⊎ KnowsBelow) → log ≡ log'
     one_log (inl flat) = sym (h.stands flat) ∙ k.stands flat
     one_log (inr (inl is)) = is
     one_log (inr (inr (j, v, e, at, is, low))) = one_behind e.known log log'
@@ -124,10 +125,10 @@ module _ {C : Type 0} (P : Process C) (x : TableLayout) (base : ℕ → ℕ) (lo
   no_empty any none h = let long = h.long in let size = ap length none in omega arith
 
   -- the seat of sender 0 alone, of two or more
-  module _ (many : 1 < x.senders) (c : C) (sender_trail : SenderTrail) (stored : ℕ)
-      (me : P.me c ≡ 0) (is : s.views ≡ Sender c sender_trail stored ∷ []) where
-    only : (j : ℕ) (v : View C) → get_elem? s.views j ≡ some v → Sender c sender_trail stored ≡ v
-    only j v at = the_one (Sender c sender_trail stored) v j
+  module _ (many : 1 < x.senders) (c : C) (sender_trail : SenderTrail) (notes : Notes)
+      (me : P.me c ≡ 0) (is : s.views ≡ Sender c sender_trail notes ∷ []) where
+    only : (j : ℕ) (v : View C) → get_elem? s.views j ≡ some v → Sender c sender_trail notes ≡ v
+    only j v at = the_one (Sender c sender_trail notes) v j
         (subst (λ (vs : List (View C)). get_elem? vs j ≡ some v) is at)
 
     pub no_page : ¬ IsPromised P x base log s
@@ -138,10 +139,10 @@ module _ {C : Type 0} (P : Process C) (x : TableLayout) (base : ℕ → ℕ) (lo
         let wrong = one.0 in omega arith
 
 pub no_bus : {C : Type 0} (P : Process C) (A : Automaton C) (s : State (Option Page) (View C))
-    → 1 < A.table_layout.senders → (c : C) (sender_trail : SenderTrail) (stored : ℕ) → P.me c ≡ 0
-    → s.views ≡ Sender c sender_trail stored ∷ [] → ¬ TableInvariant P A s
-no_bus {C} P A s many c sender_trail stored me is r =
+    → 1 < A.table_layout.senders → (c : C) (sender_trail : SenderTrail) (notes : Notes) → P.me c ≡ 0
+    → s.views ≡ Sender c sender_trail notes ∷ [] → ¬ TableInvariant P A s
+no_bus {C} P A s many c sender_trail notes me is r =
     let h = r.all 1 many in
-    let only : Sender c sender_trail stored ≡ h.1 = the_one (Sender c sender_trail stored) h.1 h.0
+    let only : Sender c sender_trail notes ≡ h.1 = the_one (Sender c sender_trail notes) h.1 h.0
     (subst (λ (vs : List (View C)). get_elem? vs h.0 ≡ some h.1) is h.2) in
     let one : P.me c ≡ 1 = subst (Seats P 1) (sym only) h.3 in omega arith

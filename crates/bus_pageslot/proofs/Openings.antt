@@ -17,6 +17,7 @@ use Rattle.bus_register.specs.Proved.TableLaws.{put_here, put_beside, push_here,
 use Rattle.bus_batch.specs.Frames.{Frame, AreFrames, log_words}
 use Rattle.bus_tenure.specs.declared.pages.Page.{Page}
 use Rattle.bus_world.specs.World.{first_page}
+use Rattle.bus_pageslot.specs.Notes.{no_notes}
 use Rattle.bus_pageslot.specs.ReceiverViews.{new_receiver_view}
 use Rattle.bus_pageslot.specs.declared.rule.View.{View}
 use Rattle.bus_pageslot.specs.declared.rule.View.TheVariants.{Maker, Sender, Tap, Meeting, Telling}
@@ -24,9 +25,10 @@ use Rattle.bus_pageslot.specs.declared.rule.View.TheVariants.{Spent}
 use Rattle.bus_automaton.specs.Processes.{TableLayout, Process, Automaton, IsCounted, base_in}
 use Rattle.bus_automaton.specs.Processes.{log_in}
 use Rattle.bus_automaton.specs.Lawful.{AutomatonLaws, Opens}
-use Rattle.bus_pageslot.specs.Rule.{slot_of, Sat, tap_left, tap_right, sender_trail_in, stored_in}
+use Rattle.bus_pageslot.specs.Rule.{slot_of, Sat, tap_left, tap_right, sender_trail_in, notes_in}
 use Rattle.bus_pageslot.specs.Rule.{cut_left, cut_right, IsUnheard, KnowsLog, IsTrueOf}
 use Rattle.bus_pageslot.specs.Rule.{Seats, SeatsReceiver, TableInvariant}
+use Rattle.bus_pageslot.specs.Lasting.{LeavesViews}
 use Rattle.bus_pageslot.specs.Steps.{Numbers, carried_of}
 use Rattle.bus_pageslot.specs.Steps.Accepts.{Nothing}
 use Rattle.bus_pageslot.specs.Seats.{SenderSeat, ReceiverSeat, Shows, table_of}
@@ -113,7 +115,7 @@ module _ {C : Type 0} (P : Process C) (A : Automaton C) (L : AutomatonLaws P A) 
           },
       h.2,
     )
-    cut_others (Sender c t stored) h = record {
+    cut_others (Sender c t notes) h = record {
       here = seats_still (P.me c) h.here;
       core = h.core;
       sender_trail_is = h.sender_trail_is;
@@ -121,7 +123,7 @@ module _ {C : Type 0} (P : Process C) (A : Automaton C) (L : AutomatonLaws P A) 
     }
     cut_others (Tap x e) h = h
     cut_others (Meeting x e y f) h = h
-    cut_others (Telling c t stored x e) h = (
+    cut_others (Telling c t notes x e) h = (
       record {
         here = seats_still (P.me c) h.0.here;
         core = h.0.core;
@@ -133,10 +135,12 @@ module _ {C : Type 0} (P : Process C) (A : Automaton C) (L : AutomatonLaws P A) 
     cut_others Spent h = tt
 
   -- a seat for one more sender
-  pub cut_allowed : (id : ℕ) (x : TableLayout) (made : ℕ) → made < A.table_layout.senders
-      → Splits (TableInvariant P A) id (Maker x made) (cut_left (Maker x made))
-      (cut_right (Some (A.started made)) (base_in A made))
-  cut_allowed id x made below s r at =
+  pub cut_leaves : (id : ℕ) (x : TableLayout) (made : ℕ) → made < A.table_layout.senders
+      → (s : State (Option Page) (View C)) (r : TableInvariant P A s)
+      → get_elem? s.views id ≡ some (Maker x made)
+      → LeavesViews P A s r (set s.views id (cut_left (Maker x made))
+      ++ cut_right (Some (A.started made)) (base_in A made) ∷ [])
+  cut_leaves id x made below s r at =
       let old = r.views id (Maker x made) at in
       let c : C = A.started made in
       let me : P.me c ≡ made = L.started_me made in
@@ -144,52 +148,60 @@ module _ {C : Type 0} (P : Process C) (A : Automaton C) (L : AutomatonLaws P A) 
       let count : ℕ = length s.views in
       let seat : ℕ → ℕ = put made count r.seat in
       let left : View C = Maker x (made + 1) in
-      let right : View C = Sender c (new_sender_trail (base_in A made)) 0 in
+      let right : View C = Sender c (new_sender_trail (base_in A made)) no_notes in
       record {
-        state = r.state;
-        reached = r.reached;
-        words = r.words;
-        slot = r.slot;
-        seat = seat;
-        ear = r.ear;
-        all = λ p in_range. seen_parted (Seats P p) s.views id (Maker x made) left right at
-            (λ is. elim (cases_eq p made) [
-              | inl e ↦ inr (me ∙ sym e)
-              | inr n ↦ inl (omega (arith, n))
-            ])
-            (r.all p in_range);
-        all_heard = λ q in_range.
-            let same = ap (λ (y : TableLayout). y.senders) old.0 in
-            seen_parted (SeatsReceiver q) s.views id (Maker x made) left right at
-            (λ is. inl (omega arith)) (r.all_heard q in_range);
-        views = λ j v e. elim (at_end (set s.views id left) right v j e) [
-          | inl u ↦ ⊎_elim
-              (λ (y : (j ≡ id) × (left ≡ v)). subst
-              (λ (z : ℕ × View C). IsTrueOf P A r.state seat r.ear z.0 z.1)
-              (λ i. (sym y.0 i, y.1 i)) (
-                old.0,
-                λ q low high.
-                    let w = old.1 q (omega arith) high in
-                    record {
-                      here = put_beside made count r.seat q (λ y. omega (arith, y)) ∙ w.here;
-                      core = w.core;
-                      sender_trail_is = w.sender_trail_is;
-                    },
-                λ q low high. old.2 q (omega arith) high,
-              ))
-              (λ (y : (j ≢ id) × (get_elem? s.views j ≡ some v)).
-              cut_others r.state r.seat r.ear made id count mine.here j y.0 v (r.views j v y.1))
-              (at_set s.views id j left v u)
-          | inr u ↦ subst (λ (z : ℕ × View C). IsTrueOf P A r.state seat r.ear z.0 z.1)
-              (λ i. (sym (u.0 ∙ length-set s.views id left) i, u.1 i))
-              (record {
-                here = ap seat me ∙ put_here made count r.seat;
-                core = ap (A.sender r.state) me ∙ mine.core;
-                sender_trail_is = ap (A.sender_trail r.state) me ∙ mine.sender_trail_is;
-                reached = omega arith;
-              })
-        ];
+        rule = record {
+          state = r.state;
+          reached = r.reached;
+          words = r.words;
+          slot = r.slot;
+          seat = seat;
+          ear = r.ear;
+          all = λ p in_range. seen_parted (Seats P p) s.views id (Maker x made) left right at
+              (λ is. elim (cases_eq p made) [
+                | inl e ↦ inr (me ∙ sym e)
+                | inr n ↦ inl (omega (arith, n))
+              ])
+              (r.all p in_range);
+          all_heard = λ q in_range.
+              let same = ap (λ (y : TableLayout). y.senders) old.0 in
+              seen_parted (SeatsReceiver q) s.views id (Maker x made) left right at
+              (λ is. inl (omega arith)) (r.all_heard q in_range);
+          views = λ j v e. elim (at_end (set s.views id left) right v j e) [
+            | inl u ↦ ⊎_elim
+                (λ (y : (j ≡ id) × (left ≡ v)). subst
+                (λ (z : ℕ × View C). IsTrueOf P A r.state seat r.ear z.0 z.1)
+                (λ i. (sym y.0 i, y.1 i)) (
+                  old.0,
+                  λ q low high.
+                      let w = old.1 q (omega arith) high in
+                      record {
+                        here = put_beside made count r.seat q (λ y. omega (arith, y)) ∙ w.here;
+                        core = w.core;
+                        sender_trail_is = w.sender_trail_is;
+                      },
+                  λ q low high. old.2 q (omega arith) high,
+                ))
+                (λ (y : (j ≢ id) × (get_elem? s.views j ≡ some v)).
+                cut_others r.state r.seat r.ear made id count mine.here j y.0 v (r.views j v y.1))
+                (at_set s.views id j left v u)
+            | inr u ↦ subst (λ (z : ℕ × View C). IsTrueOf P A r.state seat r.ear z.0 z.1)
+                (λ i. (sym (u.0 ∙ length-set s.views id left) i, u.1 i))
+                (record {
+                  here = ap seat me ∙ put_here made count r.seat;
+                  core = ap (A.sender r.state) me ∙ mine.core;
+                  sender_trail_is = ap (A.sender_trail r.state) me ∙ mine.sender_trail_is;
+                  reached = omega arith;
+                })
+          ];
+        };
+        log = refl;
       }
+
+  pub cut_allowed : (id : ℕ) (x : TableLayout) (made : ℕ) → made < A.table_layout.senders
+      → Splits (TableInvariant P A) id (Maker x made) (cut_left (Maker x made))
+      (cut_right (Some (A.started made)) (base_in A made))
+  cut_allowed id x made below s r at = (cut_leaves id x made below s r at).rule
 
   -- a seat for one more receiver, behind those of all senders
   module _ (id : ℕ) (x : TableLayout) (made : ℕ) (behind : x.senders ≤ made)
@@ -208,11 +220,7 @@ module _ {C : Type 0} (P : Process C) (A : Automaton C) (L : AutomatonLaws P A) 
     old = r.views id (Maker x made) at
 
     abbrev Tapped : Type 0
-    Tapped = TableInvariant P A record {
-      words = s.words;
-      homes = s.homes;
-      views = set s.views id left ++ tap ∷ [];
-    }
+    Tapped = LeavesViews P A s r (set s.views id left ++ tap ∷ [])
 
     -- with these seats of receivers
     tapped : (ear' : ℕ → ℕ)
@@ -224,37 +232,40 @@ module _ {C : Type 0} (P : Process C) (A : Automaton C) (L : AutomatonLaws P A) 
     tapped ear' others unheard listens =
         let log = L.log r.state r.reached in
         let same = ap (λ (y : TableLayout). y.senders) old.0 in record {
-          state = r.state;
-          reached = r.reached;
-          words = r.words;
-          slot = r.slot;
-          seat = r.seat;
-          ear = ear';
-          all = λ p below. seen_parted (Seats P p) s.views id (Maker x made) left tap at
-              (λ is. absurd (omega arith)) (r.all p below);
-          all_heard = λ q below. seen_parted (SeatsReceiver q) s.views id (Maker x made) left tap at
-              (λ is. elim (cases_eq number q) [
-                | inl e ↦ inr e
-                | inr n ↦ inl (omega (arith, n))
-              ])
-              (r.all_heard q below);
-          views = λ j v e. elim (at_end (set s.views id left) tap v j e) [
-            | inl u ↦ ⊎_elim
-                (λ (y : (j ≡ id) × (left ≡ v)). subst
-                (λ (z : ℕ × View C). IsTrueOf P A r.state r.seat ear' z.0 z.1)
-                (λ i. (sym y.0 i, y.1 i))
-                (old.0, (λ q low high. old.1 q (omega arith) high), unheard))
-                (λ (y : (j ≢ id) × (get_elem? s.views j ≡ some v)).
-                others j y.0 v (r.views j v y.1))
-                (at_set s.views id j left v u)
-            | inr u ↦ subst (λ (z : ℕ × View C). IsTrueOf P A r.state r.seat ear' z.0 z.1)
-                (λ i. (sym (u.0 ∙ length-set s.views id left) i, u.1 i))
-                (knows_new A r.state ear' (length s.views) number x old.0 log.frames log.lawful
-                log.words_are listens)
-          ];
+          rule = record {
+            state = r.state;
+            reached = r.reached;
+            words = r.words;
+            slot = r.slot;
+            seat = r.seat;
+            ear = ear';
+            all = λ p below. seen_parted (Seats P p) s.views id (Maker x made) left tap at
+                (λ is. absurd (omega arith)) (r.all p below);
+            all_heard = λ q below. seen_parted (SeatsReceiver q) s.views id (Maker x made) left tap
+                at (λ is. elim (cases_eq number q) [
+                  | inl e ↦ inr e
+                  | inr n ↦ inl (omega (arith, n))
+                ])
+                (r.all_heard q below);
+            views = λ j v e. elim (at_end (set s.views id left) tap v j e) [
+              | inl u ↦ ⊎_elim
+                  (λ (y : (j ≡ id) × (left ≡ v)). subst
+                  (λ (z : ℕ × View C). IsTrueOf P A r.state r.seat ear' z.0 z.1)
+                  (λ i. (sym y.0 i, y.1 i))
+                  (old.0, (λ q low high. old.1 q (omega arith) high), unheard))
+                  (λ (y : (j ≢ id) × (get_elem? s.views j ≡ some v)).
+                  others j y.0 v (r.views j v y.1))
+                  (at_set s.views id j left v u)
+              | inr u ↦ subst (λ (z : ℕ × View C). IsTrueOf P A r.state r.seat ear' z.0 z.1)
+                  (λ i. (sym (u.0 ∙ length-set s.views id left) i, u.1 i))
+                  (knows_new A r.state ear' (length s.views) number x old.0 log.frames log.lawful
+                  log.words_are listens)
+            ];
+          };
+          log = refl;
         }
 
-    tapped_by : (x.passers ≡ 0) ⊎ (made < x.senders + x.passers) → Tapped
+    pub tapped_by : (x.passers ≡ 0) ⊎ (made < x.senders + x.passers) → Tapped
     tapped_by (inl none) =
         let flat : A.table_layout.passers ≡ 0 =
         sym (ap (λ (y : TableLayout). y.passers) old.0) ∙ none in
@@ -284,7 +295,7 @@ module _ {C : Type 0} (P : Process C) (A : Automaton C) (L : AutomatonLaws P A) 
       → (x.passers ≡ 0) ⊎ (made < x.senders + x.passers)
       → Splits (TableInvariant P A) id (Maker x made) (tap_left (Maker x made))
       (tap_right (Maker x made))
-  tap_allowed id x made behind within s r at = tapped_by id x made behind s r at within
+  tap_allowed id x made behind within s r at = (tapped_by id x made behind s r at within).rule
 
 -- a sender shows the seat that was made for it
 pub shows_new : {C : Type 0} (P : Process C) (A : Automaton C) → AutomatonLaws P A → Opens P A
@@ -292,8 +303,8 @@ pub shows_new : {C : Type 0} (P : Process C) (A : Automaton C) → AutomatonLaws
     → c ≡ A.started k → s.me ≡ (cut_right (Some (A.started k)) (base_in A k), [])
     → s.table_id.words ≡ A.table_layout.words → s.table_id.slots ≡ 1 → Shows P c s
 shows_new {C} P A L o k below c s is me words slots =
-    let now : s.me ≡ (Sender c (new_sender_trail (base_in A k)) 0, []) =
-    me ∙ ap (λ (y : C). (Sender y (new_sender_trail (base_in A k)) 0, [])) (sym is) in
+    let now : s.me ≡ (Sender c (new_sender_trail (base_in A k)) no_notes, []) =
+    me ∙ ap (λ (y : C). (Sender y (new_sender_trail (base_in A k)) no_notes, [])) (sym is) in
     let away : P.holds c ≡ false = ap P.holds is ∙ L.started_away k in
     record {
       shown = c;
@@ -308,7 +319,7 @@ shows_new {C} P A L o k below c s is me words slots =
       me =
           now
           ∙ (λ i. (
-            Sender c (sender_trail_in (sym now i).0) (stored_in (sym now i).0),
+            Sender c (sender_trail_in (sym now i).0) (notes_in (sym now i).0),
             carried_of (sym away i),
           ));
       words =

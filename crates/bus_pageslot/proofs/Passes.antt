@@ -102,12 +102,12 @@ module _ {C : Type 0} (P : Process C) (A : Automaton C) (L : AutomatonLaws P A)
       passed = p.others q (apart j other q (h.2 q low high).here) ∙ (h.2 q low high).passed;
     },
   )
-  others_true j other (Sender c t stored) h = seated_still j c t stored h
+  others_true j other (Sender c t notes) h = seated_still j c t notes.stored h
   others_true j other (Tap x e) h = knows_still j other x e h
   others_true j other (Meeting x e y f) h =
       (knows_still j other x e h.0, knows_still j other y f h.1, h.2)
-  others_true j other (Telling c t stored x e) h =
-      (seated_still j c t stored h.0, knows_still j other x e h.1)
+  others_true j other (Telling c t notes x e) h =
+      (seated_still j c t notes.stored h.0, knows_still j other x e h.1)
   others_true j other Spent h = tt
 
   -- ---- so the rule holds

@@ -17,7 +17,7 @@ use Rattle.rand_core.specs.Stream.{Stream}
 use Rattle.bus_automaton.specs.Lawful.{ProcessLaws}
 use Rattle.bus_automaton.specs.Processes.{Process, EndsBy}
 use Rattle.atomic_table.specs.Seated.{TableId}
-use Rattle.bus_pageslot.specs.Rule.{sender_trail_in, stored_in}
+use Rattle.bus_pageslot.specs.Rule.{sender_trail_in, notes_in}
 use Rattle.bus_pageslot.specs.declared.rule.View.TheVariants.{Sender}
 use Rattle.bus_pageslot.specs.Seats.{SenderSeat, Shows, TookAndTold, actions_of}
 use Rattle.bus_pageslot.specs.Steps.{stored_by, Gone, IsDue, carried_of, out_with, laid_at}
@@ -27,7 +27,7 @@ use Rattle.bus_pageslot.specs.declared.rule.View.{View}
 use Rattle.bus_pageslot.specs.Turns.{Tellings, TurnsPlainly, GoesPlainly, NoneYet, Next, AsksOn}
 use Rattle.bus_pageslot.specs.Turns.{Goes, DrawsOn, word_drawn, TakesOn, Again}
 use Rattle.bus_pageslot.proofs.Sending.{turned_puts, drawn_on}
-use Rattle.bus_pageslot.proofs.Walks.{core_is, stored_now, laid_now, numbered_now, me_now, all_now}
+use Rattle.bus_pageslot.proofs.Walks.{core_is, notes_now, laid_now, numbered_now, me_now, all_now}
 use Rattle.bus_pageslot.proofs.Walks.{counted_now, wide_now}
 
 module _ {C : Type 0} (P : Process C) (d : C) (stays : P.move d ≡ Stays) where
@@ -42,7 +42,7 @@ module _ {C : Type 0} (P : Process C) (d : C) (stays : P.move d ≡ Stays) where
     me =
         shows.me
         ∙ (λ i. (
-          Sender shows.shown (sender_trail_in s.me.0) (stored_in s.me.0),
+          Sender shows.shown (sender_trail_in s.me.0) (notes_in s.me.0),
           out_with (sym stays i) (carried_of (P.holds d)),
         ));
     due = due;
@@ -110,7 +110,7 @@ module _ {C : Type 0} (P : Process C) (d : C) (stays : P.move d ≡ Stays) where
         answer = answer;
         sender_trail = all_now P K d s.me s.me s'.me word got carried d d' handed out gone fed s'.me
             d' laid emptied;
-        stored = stored_now P K d s.me s.me s'.me word got carried d d' handed out gone fed s'.me d'
+        notes = notes_now P K d s.me s.me s'.me word got carried d d' handed out gone fed s'.me d'
             laid emptied;
       };
       tells = tells;

@@ -68,7 +68,7 @@ module _ {S : Type 0} (kind_of : S → Option Kind) (op : S → ℕ → Option O
       → stored_of new ≡ stored_of old
   unfolding process_with
   length_stays old new at value stores took =
-      took.took.stored ∙ ap (λ o. stored_by o (stored_of old)) (stores.step 0)
+      ap (λ n. n.stored) took.took.notes ∙ ap (λ o. stored_by o (stored_of old)) (stores.step 0)
       ∙ stored_behind at value (stored_of old) stores.behind
 
 -- some of them and then more are all these

@@ -34,10 +34,10 @@ module _ {C : Type 0} (P : Process C) (A : Automaton C) (z : A.State) (seat ear 
       | inl below ↦ ap (λ t. t.actions) (h.1 p past below).sender_trail_is
       | inr none ↦ nobody p none
     ]
-    view_fits nobody (Sender c t stored) h = ap (λ t. t.actions) h.sender_trail_is
+    view_fits nobody (Sender c t notes) h = ap (λ t. t.actions) h.sender_trail_is
     view_fits nobody (Tap x e) h = h.front
     view_fits nobody (Meeting x e y f) h = (h.0.front, h.1.front)
-    view_fits nobody (Telling c t stored x e) h =
+    view_fits nobody (Telling c t notes x e) h =
         (ap (λ t. t.actions) h.0.sender_trail_is, h.1.front)
     view_fits nobody Spent h = tt
 
@@ -45,13 +45,13 @@ module _ {C : Type 0} (P : Process C) (A : Automaton C) (z : A.State) (seat ear 
         → Seats P p v → ShowsActions P p (actions_at A z p) v
     view_shows (Maker x made) h p below is =
         (is, ap (λ t. t.actions) (h.1 p is below).sender_trail_is)
-    view_shows (Sender c t stored) h p below is = (
+    view_shows (Sender c t notes) h p below is = (
       is,
       ap (actions_at A z) (sym is) ∙ ap (λ t. t.actions) h.sender_trail_is,
     )
     view_shows (Tap x e) h p below is = is
     view_shows (Meeting x e y f) h p below is = is
-    view_shows (Telling c t stored x e) h p below is = (
+    view_shows (Telling c t notes x e) h p below is = (
       is,
       ap (actions_at A z) (sym is) ∙ ap (λ t. t.actions) h.0.sender_trail_is,
     )
@@ -99,12 +99,12 @@ module _ {C : Type 0} (P : Process C) (A : Automaton C) (z : A.State) (order : O
   view_good : (seat ear : ℕ → ℕ) (j : ℕ) (v : View C) → IsTrueOf P A z seat ear j v
       → (trail : List RecvTurn) → ShowsTrail trail v → IsGood order owners trail
   view_good seat ear j (Maker x made) h trail is = absurd is
-  view_good seat ear j (Sender c t stored) h trail is = absurd is
+  view_good seat ear j (Sender c t notes) h trail is = absurd is
   view_good seat ear j (Tap x e) h trail is = same_good ear j x e h trail is
   view_good seat ear j (Meeting x e y f) h trail is = ⊎_elim
       (λ (i : trail ≡ e.answers). same_good ear j x e h.0 trail i)
       (λ (i : trail ≡ f.answers). same_good ear j y f h.1 trail i) is
-  view_good seat ear j (Telling c t stored x e) h trail is = same_good ear j x e h.1 trail is
+  view_good seat ear j (Telling c t notes x e) h trail is = same_good ear j x e h.1 trail is
   view_good seat ear j Spent h trail is = absurd is
 
   -- a receiver that was answered nothing

@@ -16,7 +16,7 @@ use Rattle.bus_pageslot.specs.declared.rule.View.{View}
 use Rattle.bus_pageslot.specs.declared.rule.View.TheVariants.{Sender}
 use Rattle.bus_automaton.specs.Processes.{TableLayout, Process}
 use Rattle.bus_automaton.specs.Lawful.{ProcessLaws, Keeps}
-use Rattle.bus_pageslot.specs.Rule.{Sat, sender_trail_in, stored_in}
+use Rattle.bus_pageslot.specs.Rule.{Sat, sender_trail_in, notes_in}
 use Rattle.bus_pageslot.specs.Steps.{Accepts, Numbers, carried_of, since_in, all_in}
 use Rattle.bus_pageslot.specs.Steps.Accepts.{Message, Marks}
 use Rattle.bus_pageslot.specs.Seats.{Shows}
@@ -56,7 +56,7 @@ module _ {C : Type 0} (P : Process C) (L : ProcessLaws P) (d : C) (s : Seat (Opt
     numbered = h.numbered;
     me =
         h.me
-        ∙ ap (λ b. (Sender h.shown (sender_trail_in s.me.0) (stored_in s.me.0), carried_of b))
+        ∙ ap (λ b. (Sender h.shown (sender_trail_in s.me.0) (notes_in s.me.0), carried_of b))
         (sym keeps.holds);
     words = h.words ∙ ap (λ (z : TableLayout). z.words) (sym keeps.table_layout);
     slots = h.slots;
@@ -102,7 +102,7 @@ module _ {C : Type 0} (P : Process C) (L : ProcessLaws P) (d : C) (s : Seat (Opt
     me =
         same ∙ h.me
         ∙ (λ i. (
-          Sender h.shown (sender_trail_in (sym same i).0) (stored_in (sym same i).0),
+          Sender h.shown (sender_trail_in (sym same i).0) (notes_in (sym same i).0),
           carried_of (P.holds d),
         ));
     words = ap (λ (z : TableId). z.words) table ∙ h.words;

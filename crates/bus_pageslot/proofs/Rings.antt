@@ -108,13 +108,13 @@ module _ {C : Type 0} (P : Process C) (A : Automaton C) (L : AutomatonLaws P A)
   known_of : (j : ℕ) (e : ReceiverView) (v : View C) → IsTrueOf P A r.state r.seat r.ear j v
       → ShowsReceiver e v → (y : TableLayout) × KnowsLog A r.state r.ear j y e
   known_of j e (Maker y made) h none = absurd none
-  known_of j e (Sender c t stored) h none = absurd none
+  known_of j e (Sender c t notes) h none = absurd none
   known_of j e (Tap y f) h same = (y, subst (KnowsLog A r.state r.ear j y) same h)
   known_of j e (Meeting y f z g) h (inl same) =
       (y, subst (KnowsLog A r.state r.ear j y) same h.0)
   known_of j e (Meeting y f z g) h (inr same) =
       (z, subst (KnowsLog A r.state r.ear j z) same h.1)
-  known_of j e (Telling c t stored y f) h same =
+  known_of j e (Telling c t notes y f) h same =
       (y, subst (KnowsLog A r.state r.ear j y) same h.1)
   known_of j e Spent h none = absurd none
 
@@ -127,6 +127,10 @@ module _ {C : Type 0} (P : Process C) (A : Automaton C) (L : AutomatonLaws P A)
     -- what it knows is a beginning of all that was published
     pub knows_here : IsPrefix e.known (log_in A r.state)
     knows_here = (known_of j e v (r.views j v at) is).1.front
+
+    -- and it has read no more than that
+    pub below_here : e.place ≤ length e.known
+    below_here = (known_of j e v (r.views j v at) is).1.below
 
     pub listens_here : IsListening A r.state r.ear j e
     listens_here =
@@ -152,11 +156,11 @@ module _ {C : Type 0} (P : Process C) (A : Automaton C) (L : AutomatonLaws P A)
 -- a receiver that shows in a view, or that the maker of seats has yet to seat
 has_seat : {C : Type 0} (me : ℕ) (v : View C) → SeatsReceiver me v → HasSeat me v
 has_seat me (Maker y made) is = inr (y, made, refl, is)
-has_seat me (Sender c t stored) none = absurd none
+has_seat me (Sender c t notes) none = absurd none
 has_seat me (Tap y e) is = inl (e, is, refl)
 has_seat me (Meeting y e z f) (inl is) = inl (e, is, inl refl)
 has_seat me (Meeting y e z f) (inr is) = inl (f, is, inr refl)
-has_seat me (Telling c t stored y e) is = inl (e, is, refl)
+has_seat me (Telling c t notes y e) is = inl (e, is, refl)
 has_seat me Spent none = absurd none
 
 -- of a ring each has a seat

@@ -21,7 +21,8 @@ use Rattle.bus_automaton.specs.OneAutomaton.{MachineHistory, IsMachineHistory, b
 use Rattle.bus_automaton.specs.OneProcess.{process_of}
 use Rattle.bus_automaton.specs.Processes.{TableLayout}
 use Rattle.bus_automaton.proofs.Leading.{takes_turn}
-use Rattle.bus_pageslot.specs.Rule.{Sat, sender_trail_in, stored_in, IsSeated, TableInvariant}
+use Rattle.bus_pageslot.specs.Rule.{Sat, sender_trail_in, notes_in, stored_in, IsSeated}
+use Rattle.bus_pageslot.specs.Rule.{TableInvariant}
 use Rattle.bus_pageslot.specs.Steps.{IsDue}
 use Rattle.bus_pageslot.specs.declared.rule.View.{View}
 use Rattle.bus_pageslot.specs.declared.rule.View.TheVariants as view
@@ -50,7 +51,7 @@ module _ {E : Type 0} (X : Election E) (x : Layout) (reuse : Option ℕ) (bases 
 
   pub seated : IsSeated (process_of X) (bus_of X x reuse bases) r.state r.seat id c
       (sender_trail_in m.0) (stored_in m.0)
-  seated = r.views id (view.Sender c (sender_trail_in m.0) (stored_in m.0))
+  seated = r.views id (view.Sender c (sender_trail_in m.0) (notes_in m.0))
       (at ∙ ap (λ (y : Sat (Sender E)). some y.0) is_due.me)
 
   -- with what it has accepted since its last step

@@ -23,6 +23,7 @@ use Rattle.bus_tenure.specs.declared.pages.Page.{Page}
 use Rattle.bus_world.specs.Headline.{IsPrefix}
 use Rattle.bus_world.specs.Turning.{words_after, home_moved}
 use Rattle.bus_world.proofs.Growing.{prefix_after}
+use Rattle.bus_pageslot.specs.Notes.{Notes}
 use Rattle.bus_pageslot.specs.ReceiverViews.{ReceiverView, HasHeard}
 use Rattle.bus_pageslot.specs.declared.rule.View.{View}
 use Rattle.bus_pageslot.specs.declared.rule.View.TheVariants.{Maker, Sender, Tap, Meeting, Telling}
@@ -30,10 +31,10 @@ use Rattle.bus_pageslot.specs.declared.rule.View.TheVariants.{Spent}
 use Rattle.bus_automaton.specs.Processes.{TableLayout, Process, Automaton, log_in}
 use Rattle.bus_automaton.specs.Lawful.{ProcessLaws, AutomatonLaws, ChangesTo, AcceptsIn, StepsIn}
 use Rattle.bus_automaton.specs.Lawful.{LogGrows, IsSender}
-use Rattle.bus_pageslot.specs.Rule.{slot_of, Sat, sender_trail_in, stored_in, IsSeated, IsUnseated}
+use Rattle.bus_pageslot.specs.Rule.{slot_of, Sat, sender_trail_in, notes_in, IsSeated, IsUnseated}
 use Rattle.bus_pageslot.specs.Rule.{KnowsLog, IsTrueOf, Seats, SeatsReceiver, TableInvariant}
 use Rattle.bus_pageslot.proofs.Loads.{Listens}
-use Rattle.bus_pageslot.specs.Steps.{all_in, since_in, stored_by, Told, Gone, IsDue}
+use Rattle.bus_pageslot.specs.Steps.{all_in, since_in, stored_by, noted_by, Told, Gone, IsDue}
 use Rattle.bus_automaton.specs.SenderTrails.{SenderTrail, with_actions, with_sender_trail}
 use Rattle.bus_pageslot.proofs.Accepting.{since_is}
 use Rattle.bus_pageslot.proofs.AllSeats.{still_seen}
@@ -124,10 +125,10 @@ module _ {C : Type 0} (P : Process C) (A : Automaton C) (z z' : A.State) (seat e
       passed = on.passed q ∙ (h.2 q low high).passed;
     },
   )
-  others_know (Sender c t stored) h = seated_still c t stored h
+  others_know (Sender c t notes) h = seated_still c t notes.stored h
   others_know (Tap x e) h = log_still x e h
   others_know (Meeting x e y f) h = (log_still x e h.0, log_still y f h.1, h.2)
-  others_know (Telling c t stored x e) h = (seated_still c t stored h.0, log_still x e h.1)
+  others_know (Telling c t notes x e) h = (seated_still c t notes.stored h.0, log_still x e h.1)
   others_know Spent h = tt
 
 -- the rule holds of a table, and what was published is that of this state
@@ -139,19 +140,19 @@ record Tied {C : Type 0} (P : Process C) (A : Automaton C) (s : State (Option Pa
 -- The tie: where a state with the new words, page and sender goes on from the old one, the rule
 -- holds of the new table
 tie : {C : Type 0} (P : Process C) (A : Automaton C) (s : State (Option Page) (View C))
-    (r : TableInvariant P A s) (id : ℕ) (c d : C) (t t' : SenderTrail) (stored stored' : ℕ)
+    (r : TableInvariant P A s) (id : ℕ) (c d : C) (t t' : SenderTrail) (notes notes' : Notes)
     (words : List ℕ) (homes : List (maybe.Option (Option Page))) (z' : A.State)
     → ChangesTo A r.state (P.me c) d t' z' → LogGrows A r.state z'
-    → stored' ≤ slice_index (A.words z') 0
-    → get_elem? s.views id ≡ some (Sender c t stored) → P.me d ≡ P.me c → words ≡ A.words z'
+    → notes'.stored ≤ slice_index (A.words z') 0
+    → get_elem? s.views id ≡ some (Sender c t notes) → P.me d ≡ P.me c → words ≡ A.words z'
     → homes ≡ slot_of (A.home z') ∷ []
     → Tied P A (record {
       words = words;
       homes = homes;
-      views = set s.views id (Sender d t' stored');
+      views = set s.views id (Sender d t' notes');
     }) z'
-tie {C} P A s r id c d t t' stored stored' words homes z' on grows long at same words_are slot =
-    let k = r.views id (Sender c t stored) at in record {
+tie {C} P A s r id c d t t' notes notes' words homes z' on grows long at same words_are slot =
+    let k = r.views id (Sender c t notes) at in record {
       rule = record {
         state = z';
         reached = on.reached;
@@ -160,7 +161,7 @@ tie {C} P A s r id c d t t' stored stored' words homes z' on grows long at same 
         seat = r.seat;
         ear = r.ear;
         views = λ j v e. ⊎_elim
-            (λ (u : (j ≡ id) × (Sender d t' stored' ≡ v)).
+            (λ (u : (j ≡ id) × (Sender d t' notes' ≡ v)).
             subst (λ (y : ℕ × View C). IsTrueOf P A z' r.seat r.ear y.0 y.1)
             (λ i. (sym u.0 i, u.1 i))
             (record {
@@ -172,11 +173,11 @@ tie {C} P A s r id c d t t' stored stored' words homes z' on grows long at same 
             (λ (u : (j ≢ id) × (get_elem? s.views j ≡ some v)).
             others_know P A r.state z' r.seat r.ear
             (P.me c) id d t' on grows k.here j u.0 v (r.views j v u.1))
-            (at_set s.views id j (Sender d t' stored') v e);
-        all = λ p below. still_seen (Seats P p) s.views id (Sender c t stored)
-            (Sender d t' stored') at (λ is. same ∙ is) (r.all p below);
-        all_heard = λ q below. still_seen (SeatsReceiver q) s.views id (Sender c t stored)
-            (Sender d t' stored') at (λ is. is) (r.all_heard q below);
+            (at_set s.views id j (Sender d t' notes') v e);
+        all = λ p below. still_seen (Seats P p) s.views id (Sender c t notes)
+            (Sender d t' notes') at (λ is. same ∙ is) (r.all p below);
+        all_heard = λ q below. still_seen (SeatsReceiver q) s.views id (Sender c t notes)
+            (Sender d t' notes') at (λ is. is) (r.all_heard q below);
       };
       log = refl;
     }
@@ -223,13 +224,13 @@ module _ {C : Type 0} (P : Process C) (A : Automaton C) (K : ProcessLaws P)
     abbrev p : ℕ
     p = P.me c
 
-    abbrev before : ℕ
-    before = stored_in m.0
+    abbrev before : Notes
+    before = notes_in m.0
 
     at_view : get_elem? s.views id ≡ some (Sender c (sender_trail_in m.0) before)
     at_view = at ∙ ap (λ (y : Sat C). some y.0) due.me
 
-    seated : IsSeated P A r.state r.seat id c (sender_trail_in m.0) before
+    seated : IsSeated P A r.state r.seat id c (sender_trail_in m.0) before.stored
     seated = r.views id (Sender c (sender_trail_in m.0) before) at_view
 
     -- with what it accepted
@@ -324,24 +325,24 @@ module _ {C : Type 0} (P : Process C) (A : Automaton C) (K : ProcessLaws P)
     moved = moves (A.home r.state) s.homes m.1 _ r.slot (P.move d) (ap (λ (y : Sat C). y.1) due.me)
         taken
 
-    abbrev stored : ℕ
-    stored = stored_by (P.op d word) before
+    abbrev notes : Notes
+    notes = noted_by (P.op d word) before
 
-    stored_now : stored ≤ slice_index (A.words done.state) 0
+    stored_now : notes.stored ≤ slice_index (A.words done.state) 0
     stored_now =
         let wide = L.wide z grown.changes.reached in
-        let long : before ≤ slice_index (A.words done.state) 0 =
+        let long : before.stored ≤ slice_index (A.words done.state) 0 =
         (let a = seated.reached in let l = longer A r.state done.state grows in omega arith) in
-        subst (λ u. stored_by u before ≤ slice_index (A.words done.state) 0) (sym due.due)
-        (stored_long o (A.words z) before (slice_index (A.words done.state) 0)
+        subst (λ u. stored_by u before.stored ≤ slice_index (A.words done.state) 0) (sym due.due)
+        (stored_long o (A.words z) before.stored (slice_index (A.words done.state) 0)
         (let w = within in omega arith) (ap (λ w. slice_index w 0) done.words) long)
 
     tied : Tied P A (record {
       words = slice_set s.words (register o) (f n);
       homes = homes_after s.homes m.1 moved.act;
-      views = set s.views id (Sender d_now sender_trail stored);
+      views = set s.views id (Sender d_now sender_trail notes);
     }) done.state
-    tied = tie P A s r id c d_now (sender_trail_in m.0) sender_trail before stored
+    tied = tie P A s r id c d_now (sender_trail_in m.0) sender_trail before notes
         (slice_set s.words (register o) (f n)) (homes_after s.homes m.1 moved.act) done.state
         changes grows stored_now at_view is_now.me words_now
         (moved.homes_now
@@ -357,7 +358,7 @@ module _ {C : Type 0} (P : Process C) (A : Automaton C) (K : ProcessLaws P)
         }) × Gone P d word m (g n) (w, carried_after m.1 a)
         × IsPrefix (log_in A r.state) (log_in A k.state)
     goes_on = (
-      Sender d_now sender_trail stored,
+      Sender d_now sender_trail notes,
       moved.act,
       moved.valid,
       tied.rule,
@@ -374,7 +375,7 @@ module _ {C : Type 0} (P : Process C) (A : Automaton C) (K : ProcessLaws P)
             sender_trail did;
         ends = L.ends z p d word o grown.changes.reached grown.changes.here due.due (A.home r.state)
             (g n);
-        now = λ i. (Sender d_now sender_trail stored, moved.carried_now i);
+        now = λ i. (Sender d_now sender_trail notes, moved.carried_now i);
       },
       subst (IsPrefix (log_in A r.state)) (sym tied.log) (front A r.state done.state grows),
     )

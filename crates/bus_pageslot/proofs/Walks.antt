@@ -12,9 +12,9 @@ use Rattle.bus_tenure.specs.declared.pages.Page.{Page}
 use Rattle.bus_pageslot.specs.declared.rule.View.TheVariants.{Sender}
 use Rattle.bus_automaton.specs.Processes.{TableLayout, Process, Automaton, IsCounted, EndsBy}
 use Rattle.bus_automaton.specs.Lawful.{ProcessLaws, AutomatonLaws}
-use Rattle.bus_pageslot.specs.Rule.{Sat, sender_trail_in, stored_in, TableInvariant}
+use Rattle.bus_pageslot.specs.Rule.{Sat, sender_trail_in, notes_in, TableInvariant}
 use Rattle.bus_pageslot.specs.Steps.{laid_from, laid_at, carried_of, out_with, carried_by, slot_in}
-use Rattle.bus_pageslot.specs.Steps.{slots_emptied, since_in, all_in, stored_by, Told, Numbers}
+use Rattle.bus_pageslot.specs.Steps.{slots_emptied, since_in, all_in, noted_by, Told, Numbers}
 use Rattle.bus_pageslot.specs.Steps.{Gone, GoesOn, Due}
 use Rattle.bus_pageslot.specs.Steps.Accepts.{Nothing}
 use Rattle.bus_automaton.specs.SenderTrails.{SenderTrail, with_actions, with_sender_trail}
@@ -127,25 +127,25 @@ module _ {C : Type 0} (P : Process C) (K : ProcessLaws P) (d : C) where
       numbered_now = subst (λ (y : C × SenderTrail). Numbers P y.0 y.1)
           (λ i. (sym core_is i, same_trail i)) gone.numbered
 
-      pub stored_now : stored_in m3.0 ≡ stored_by (P.op d word) (stored_in m.0)
-      stored_now =
-          ap (λ (y : Sat C). stored_in y.0) me_is ∙ ap (λ (y : Sat C). stored_in y.0) gone.now
-          ∙ ap (λ (y : Sat C). stored_by (P.op d word) (stored_in y.0)) put_me
+      pub notes_now : notes_in m3.0 ≡ noted_by (P.op d word) (notes_in m.0)
+      notes_now =
+          ap (λ (y : Sat C). notes_in y.0) me_is ∙ ap (λ (y : Sat C). notes_in y.0) gone.now
+          ∙ ap (λ (y : Sat C). noted_by (P.op d word) (notes_in y.0)) put_me
 
-      pub me_now : m3 ≡ (Sender d3 (sender_trail_in m3.0) (stored_in m3.0), carried_of (P.holds d3))
+      pub me_now : m3 ≡ (Sender d3 (sender_trail_in m3.0) (notes_in m3.0), carried_of (P.holds d3))
       me_now = me_is
           ∙ (λ i. ((gone.now i).0, ended.slot i))
           ∙ (λ i. (
             Sender (sym core_is i) (with_sender_trail (all_in P m1.0 d) (P.adds d gone.found word))
-                (stored_by (P.op d word) (stored_in m1.0)),
+                (noted_by (P.op d word) (notes_in m1.0)),
             carried_of (P.holds (sym core_is i)),
           ))
-          ∙ (λ i. (Sender d3 (same_trail i) (same_stored i), carried_of (P.holds d3)))
+          ∙ (λ i. (Sender d3 (same_trail i) (same_notes i), carried_of (P.holds d3)))
         where
-          same_stored : stored_by (P.op d word) (stored_in m1.0) ≡ stored_in m3.0
-          same_stored =
-              sym (ap (λ (y : Sat C). stored_in y.0) gone.now)
-              ∙ sym (ap (λ (y : Sat C). stored_in y.0) me_is)
+          same_notes : noted_by (P.op d word) (notes_in m1.0) ≡ notes_in m3.0
+          same_notes =
+              sym (ap (λ (y : Sat C). notes_in y.0) gone.now)
+              ∙ sym (ap (λ (y : Sat C). notes_in y.0) me_is)
 
       -- nothing was accepted since
       pub all_now : all_in P m3.0 d3 ≡ with_sender_trail (all_in P m.0 d) (P.adds d gone.found word)

@@ -4,8 +4,9 @@ use Rattle.atomic_table.specs.declared.shared.Seat.{Seat}
 use Rattle.atomic_table.specs.Seated.{TableId}
 use Rattle.bus_tenure.specs.declared.pages.Page.{Page}
 use Rattle.bus_pageslot.specs.declared.rule.View.{View}
-use Rattle.bus_pageslot.specs.declared.rule.View.TheVariants.{Maker}
-use Rattle.bus_pageslot.specs.Seats.{SenderSeat, ReceiverSeat, table_of, sender_trail_of, stored_of}
+use Rattle.bus_pageslot.specs.declared.rule.View.TheVariants.{Maker, Tap}
+use Rattle.bus_pageslot.specs.Notes.{no_notes}
+use Rattle.bus_pageslot.specs.Seats.{SenderSeat, ReceiverSeat, table_of, sender_trail_of, notes_of}
 use Rattle.bus_pageslot.specs.ReceiverViews.{new_receiver_view}
 use Rattle.bus_automaton.specs.Processes.{TableLayout, Process, Automaton, base_in}
 use Rattle.bus_automaton.specs.declared.plans.Plan.{Plan}
@@ -32,7 +33,7 @@ pub record IsNewSeat {C : Type 0} (P : Process C) (A : Automaton C) (table : Tab
   pub core : s.core ≡ A.started p
   pub table_is : table_of s ≡ table
   pub sender_trail : sender_trail_of P s ≡ new_sender_trail (base_in A p)
-  pub stored : stored_of s ≡ 0
+  pub notes : notes_of s ≡ no_notes
 
 -- so many of them, in order
 pub record AreNewSeats {C : Type 0} (P : Process C) (A : Automaton C) (table : TableId) (many : ℕ)
@@ -44,6 +45,8 @@ pub record AreNewSeats {C : Type 0} (P : Process C) (A : Automaton C) (table : T
 pub record IsNewTap {C : Type 0} (x : TableLayout) (table : TableId) (r : ℕ)
     (t : ReceiverSeat C) : Type 0 where
   pub table_is : t.table_id ≡ table
+  -- it shows itself alone, and carries nothing
+  pub me : t.me ≡ (Tap x (new_receiver_view r), [])
   pub receiver_view : receiver_view_in t.me.0 ≡ new_receiver_view r
   pub table_layout : table_layout_in t.me.0 ≡ x
 

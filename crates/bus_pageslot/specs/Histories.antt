@@ -18,6 +18,7 @@ use Rattle.bus_automaton.specs.Lawful.{floor_in, log_from_floor}
 use Rattle.bus_automaton.specs.OneProcess.{table_layout_by}
 use Rattle.bus_automaton.specs.Processes.{TableLayout, Process, Automaton, log_below, log_in}
 use Rattle.bus_automaton.specs.SenderTrails.{SenderTrail, new_sender_trail}
+use Rattle.bus_pageslot.specs.Notes.{Notes}
 use Rattle.bus_pageslot.specs.ReceiverViews.{ReceiverView}
 use Rattle.bus_pageslot.specs.Rule.{Sat, TableInvariant, slot_of}
 use Rattle.bus_pageslot.specs.Steps.{Gone}
@@ -28,9 +29,9 @@ use Rattle.bus_pageslot.specs.declared.rule.View.TheVariants as view
 abbrev pub Shown : {E : Type 0} → State (Option Page) (View (Sender E)) → ℕ → Sender E → SenderTrail
     → Type 0
 Shown s j v sender_trail =
-    ((stored : ℕ) × (get_elem? s.views j ≡ some (view.Sender v sender_trail stored)))
-    ⊎ ((stored : ℕ) × (y : TableLayout) × (e : ReceiverView)
-    × (get_elem? s.views j ≡ some (view.Telling v sender_trail stored y e)))
+    ((notes : Notes) × (get_elem? s.views j ≡ some (view.Sender v sender_trail notes)))
+    ⊎ ((notes : Notes) × (y : TableLayout) × (e : ReceiverView)
+    × (get_elem? s.views j ≡ some (view.Telling v sender_trail notes y e)))
 
 -- the sender p shows in a seat
 pub record IsShown {E : Type 0} (s : State (Option Page) (View (Sender E))) (p : ℕ) : Type 0 where

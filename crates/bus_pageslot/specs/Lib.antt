@@ -1,15 +1,18 @@
 pub mod ReceiverViews
+pub mod Notes
 pub mod Rule
 pub mod Steps
 pub mod StepsShown
 pub mod Stages
 pub mod Rounds
 pub mod Listening
+pub mod OneAnswer
 pub mod Seats
 pub mod Turns
 pub mod Sendings
 pub mod SendFaults
 pub mod Finishing
+pub mod Staying
 pub mod Room
 pub mod Buses
 pub mod Endings
@@ -20,5 +23,6 @@ pub mod Promised
 pub mod Histories
 pub mod SafeSeats
 pub mod Rings
+pub mod Lasting
 pub mod Truths
 pub mod Carried

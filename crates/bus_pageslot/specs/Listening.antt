@@ -148,6 +148,13 @@ pub record HearsAfter {C : Type 0} (first : Sat C) (before : Item) (told : ItemT
   pub hears : Hears old answer new
   pub writes : Writes answer before told after
 
+-- The same, and a head or a leave mark of the last one is written as the sign; any other answer of
+-- it leaves the sign as it was.
+pub record HearsSigned {C : Type 0} (first : Sat C) (before : Item) (sign : RecvTurn)
+    (told : ItemTurn) (after : Item) (signed : RecvTurn) (new : Sat C) : Type 0 where
+  pub heard : HearsAfter first before told after new
+  pub signs : signed ≡ sign_after heard.answer sign
+
 -- ---- what these refuse, of a receiver that has not ended
 pub record HearingRefuses (C : Type 0) (x : TableLayout) (e : ReceiverView) : Type 0 where
   -- a load, where its passed place is due

@@ -17,10 +17,10 @@ use Rattle.bus_pageslot.specs.declared.rule.View.TheVariants.{Spent}
 -- a view is true of these actions of senders, and shows a beginning of this log of its receivers
 abbrev pub Fits : {C : Type 0} → Process C → (ℕ → List Action) → List ℕ → View C → Type 0
 Fits P actions log (Maker x made) = (p : ℕ) → made ≤ p → actions p ≡ []
-Fits P actions log (Sender c sender_trail stored) = actions (P.me c) ≡ sender_trail.actions
+Fits P actions log (Sender c sender_trail notes) = actions (P.me c) ≡ sender_trail.actions
 Fits P actions log (Tap x e) = IsPrefix e.known log
 Fits P actions log (Meeting x e y f) = IsPrefix e.known log × IsPrefix f.known log
-Fits P actions log (Telling c sender_trail stored x e) =
+Fits P actions log (Telling c sender_trail notes x e) =
     (actions (P.me c) ≡ sender_trail.actions) × IsPrefix e.known log
 Fits P actions log Spent = Unit {0}
 
@@ -28,21 +28,21 @@ Fits P actions log Spent = Unit {0}
 -- no seat of its own
 abbrev pub ShowsActions : {C : Type 0} → Process C → ℕ → List Action → View C → Type 0
 ShowsActions P p actions (Maker x made) = (made ≤ p) × (actions ≡ [])
-ShowsActions P p actions (Sender c sender_trail stored) =
+ShowsActions P p actions (Sender c sender_trail notes) =
     (P.me c ≡ p) × (actions ≡ sender_trail.actions)
 ShowsActions P p actions (Tap x e) = ⊥
 ShowsActions P p actions (Meeting x e y f) = ⊥
-ShowsActions P p actions (Telling c sender_trail stored x e) =
+ShowsActions P p actions (Telling c sender_trail notes x e) =
     (P.me c ≡ p) × (actions ≡ sender_trail.actions)
 ShowsActions P p actions Spent = ⊥
 
 -- a view shows this trail of a receiver of its
 abbrev pub ShowsTrail : {C : Type 0} → List RecvTurn → View C → Type 0
 ShowsTrail trail (Maker x made) = ⊥
-ShowsTrail trail (Sender c actions stored) = ⊥
+ShowsTrail trail (Sender c actions notes) = ⊥
 ShowsTrail trail (Tap x e) = trail ≡ e.answers
 ShowsTrail trail (Meeting x e y f) = (trail ≡ e.answers) ⊎ (trail ≡ f.answers)
-ShowsTrail trail (Telling c actions stored x e) = trail ≡ e.answers
+ShowsTrail trail (Telling c actions notes x e) = trail ≡ e.answers
 ShowsTrail trail Spent = ⊥
 
 -- what a receiver was answered: nothing, or what some seat shows

@@ -19,10 +19,10 @@ use Rattle.bus_pageslot.specs.declared.rule.View.TheVariants.{Spent}
 -- a view shows this receiver: by itself, or joined to another seat
 abbrev pub ShowsReceiver : {C : Type 0} → ReceiverView → View C → Type 0
 ShowsReceiver e (Maker x made) = ⊥
-ShowsReceiver e (Sender c sender_trail stored) = ⊥
+ShowsReceiver e (Sender c sender_trail notes) = ⊥
 ShowsReceiver e (Tap x f) = f ≡ e
 ShowsReceiver e (Meeting x f y g) = (f ≡ e) ⊎ (g ≡ e)
-ShowsReceiver e (Telling c sender_trail stored x f) = f ≡ e
+ShowsReceiver e (Telling c sender_trail notes x f) = f ≡ e
 ShowsReceiver e Spent = ⊥
 
 -- a view shows the receiver of this number, or it is that of the maker of seats, which has yet to

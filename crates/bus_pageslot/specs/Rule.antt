@@ -10,6 +10,7 @@ use Rattle.atomic_table.specs.Table.{State, Me}
 use Rattle.bus_batch.specs.Frames.{Frame, AreFrames, log_words}
 use Rattle.bus_tenure.specs.declared.pages.Page.{Page}
 use Rattle.bus_world.specs.Headline.{IsPrefix}
+use Rattle.bus_pageslot.specs.Notes.{Look, Notes, no_notes, noting}
 use Rattle.bus_pageslot.specs.ReceiverViews.{ReceiverView, new_receiver_view}
 use Rattle.bus_pageslot.specs.ReceiverViews.{receiver_view_knowing, HasHeard}
 use Rattle.bus_automaton.specs.Processes.{TableLayout, no_table_layout, Process, Automaton}
@@ -29,35 +30,52 @@ Sat C = Me (Option Page) (View C)
 
 abbrev pub sender_trail_in : {C : Type 0} → View C → SenderTrail
 sender_trail_in (Maker x made) = no_sender_trail
-sender_trail_in (Sender c sender_trail stored) = sender_trail
+sender_trail_in (Sender c sender_trail notes) = sender_trail
 sender_trail_in (Tap x e) = no_sender_trail
 sender_trail_in (Meeting x e y f) = no_sender_trail
-sender_trail_in (Telling c sender_trail stored x e) = sender_trail
+sender_trail_in (Telling c sender_trail notes x e) = sender_trail
 sender_trail_in Spent = no_sender_trail
+
+-- what its sender shows beside that
+abbrev pub notes_in : {C : Type 0} → View C → Notes
+notes_in (Maker x made) = no_notes
+notes_in (Sender c sender_trail notes) = notes
+notes_in (Tap x e) = no_notes
+notes_in (Meeting x e y f) = no_notes
+notes_in (Telling c sender_trail notes x e) = notes
+notes_in Spent = no_notes
 
 -- the last length that its sender has stored; 0 before the first
 abbrev pub stored_in : {C : Type 0} → View C → ℕ
-stored_in (Maker x made) = 0
-stored_in (Sender c sender_trail stored) = stored
-stored_in (Tap x e) = 0
-stored_in (Meeting x e y f) = 0
-stored_in (Telling c sender_trail stored x e) = stored
-stored_in Spent = 0
+stored_in v = (notes_in v).stored
+
+-- all its looks
+abbrev pub looks_in : {C : Type 0} → View C → List Look
+looks_in v = (notes_in v).looks
+
+-- the view of a sender that has looked once more; of others no look is shown
+abbrev pub with_look : {C : Type 0} → View C → Look → View C
+with_look (Maker x made) look = Maker x made
+with_look (Sender c sender_trail notes) look = Sender c sender_trail (noting notes look)
+with_look (Tap x e) look = Tap x e
+with_look (Meeting x e y f) look = Meeting x e y f
+with_look (Telling c sender_trail notes x e) look = Telling c sender_trail notes x e
+with_look Spent look = Spent
 
 -- the view of the maker of seats, before and after a seat is made
 abbrev pub cut_left : {C : Type 0} → View C → View C
 cut_left (Maker x made) = Maker x (made + 1)
-cut_left (Sender c sender_trail stored) = Sender c sender_trail stored
+cut_left (Sender c sender_trail notes) = Sender c sender_trail notes
 cut_left (Tap x e) = Tap x e
 cut_left (Meeting x e y f) = Meeting x e y f
-cut_left (Telling c sender_trail stored x e) = Telling c sender_trail stored x e
+cut_left (Telling c sender_trail notes x e) = Telling c sender_trail notes x e
 cut_left Spent = Spent
 
 -- and the view of the new seat: of the sender that the call picks, whose first message has this
 -- number
 abbrev pub cut_right : {C : Type 0} → Option C → ℕ → View C
 cut_right None first = Spent
-cut_right (Some c) first = Sender c (new_sender_trail first) 0
+cut_right (Some c) first = Sender c (new_sender_trail first) no_notes
 
 -- the view of the maker of seats, before and after a receiver's seat is made: these come behind
 -- those of all senders
@@ -66,19 +84,19 @@ tap_left v = cut_left v
 
 abbrev pub tap_right : {C : Type 0} → View C → View C
 tap_right (Maker x made) = Tap x (new_receiver_view (made - x.senders))
-tap_right (Sender c sender_trail stored) = Spent
+tap_right (Sender c sender_trail notes) = Spent
 tap_right (Tap x e) = Spent
 tap_right (Meeting x e y f) = Spent
-tap_right (Telling c sender_trail stored x e) = Spent
+tap_right (Telling c sender_trail notes x e) = Spent
 tap_right Spent = Spent
 
 -- what a receiver's seat knows, has read and was answered
 abbrev pub receiver_view_in : {C : Type 0} → View C → ReceiverView
 receiver_view_in (Maker x made) = new_receiver_view 0
-receiver_view_in (Sender c sender_trail stored) = new_receiver_view 0
+receiver_view_in (Sender c sender_trail notes) = new_receiver_view 0
 receiver_view_in (Tap x e) = e
 receiver_view_in (Meeting x e y f) = e
-receiver_view_in (Telling c sender_trail stored x e) = e
+receiver_view_in (Telling c sender_trail notes x e) = e
 receiver_view_in Spent = new_receiver_view 0
 
 abbrev pub known_in : {C : Type 0} → View C → List ℕ
@@ -86,19 +104,19 @@ known_in v = (receiver_view_in v).known
 
 abbrev pub with_receiver_view : {C : Type 0} → View C → ReceiverView → View C
 with_receiver_view (Maker x made) e = Maker x made
-with_receiver_view (Sender c sender_trail stored) e = Sender c sender_trail stored
+with_receiver_view (Sender c sender_trail notes) e = Sender c sender_trail notes
 with_receiver_view (Tap x old) e = Tap x e
 with_receiver_view (Meeting x old y f) e = Meeting x e y f
-with_receiver_view (Telling c sender_trail stored x old) e = Telling c sender_trail stored x e
+with_receiver_view (Telling c sender_trail notes x old) e = Telling c sender_trail notes x e
 with_receiver_view Spent e = Spent
 
 -- how large a receiver's bus is
 abbrev pub table_layout_in : {C : Type 0} → View C → TableLayout
 table_layout_in (Maker x made) = no_table_layout
-table_layout_in (Sender c sender_trail stored) = no_table_layout
+table_layout_in (Sender c sender_trail notes) = no_table_layout
 table_layout_in (Tap x e) = x
 table_layout_in (Meeting x e y f) = x
-table_layout_in (Telling c sender_trail stored x e) = x
+table_layout_in (Telling c sender_trail notes x e) = x
 table_layout_in Spent = no_table_layout
 
 abbrev pub senders_in : {C : Type 0} → View C → ℕ
@@ -127,57 +145,57 @@ FitsLog x known = x.passers ≡ 0 → length known ≤ x.capacity
 -- two seats joined: of two receivers, or of a sender and a receiver
 abbrev pub views_joined : {C : Type 0} → View C → View C → View C
 views_joined (Tap x e) (Tap y f) = Meeting x e y f
-views_joined (Sender c sender_trail stored) (Tap x e) = Telling c sender_trail stored x e
+views_joined (Sender c sender_trail notes) (Tap x e) = Telling c sender_trail notes x e
 views_joined (Maker x made) w = Spent
-views_joined (Sender c sender_trail stored) (Maker x made) = Spent
-views_joined (Sender c sender_trail stored) (Sender d other length) = Spent
-views_joined (Sender c sender_trail stored) (Meeting x e y f) = Spent
-views_joined (Sender c sender_trail stored) (Telling d other length x e) = Spent
-views_joined (Sender c sender_trail stored) Spent = Spent
+views_joined (Sender c sender_trail notes) (Maker x made) = Spent
+views_joined (Sender c sender_trail notes) (Sender d other more) = Spent
+views_joined (Sender c sender_trail notes) (Meeting x e y f) = Spent
+views_joined (Sender c sender_trail notes) (Telling d other more x e) = Spent
+views_joined (Sender c sender_trail notes) Spent = Spent
 views_joined (Tap x e) (Maker y made) = Spent
-views_joined (Tap x e) (Sender d sender_trail stored) = Spent
+views_joined (Tap x e) (Sender d sender_trail notes) = Spent
 views_joined (Tap x e) (Meeting y f z g) = Spent
-views_joined (Tap x e) (Telling d sender_trail length y f) = Spent
+views_joined (Tap x e) (Telling d sender_trail notes y f) = Spent
 views_joined (Tap x e) Spent = Spent
 views_joined (Meeting x e y f) w = Spent
-views_joined (Telling c sender_trail stored x e) w = Spent
+views_joined (Telling c sender_trail notes x e) w = Spent
 views_joined Spent w = Spent
 
 -- a seat that another may go into
 abbrev pub IsFirst : {C : Type 0} → View C → Type 0
 IsFirst (Maker x made) = ⊥
-IsFirst (Sender c sender_trail stored) = Unit {0}
+IsFirst (Sender c sender_trail notes) = Unit {0}
 IsFirst (Tap x e) = Unit {0}
 IsFirst (Meeting x e y f) = ⊥
-IsFirst (Telling c sender_trail stored x e) = ⊥
+IsFirst (Telling c sender_trail notes x e) = ⊥
 IsFirst Spent = ⊥
 
 -- and cut apart again
 abbrev pub first_of : {C : Type 0} → View C → View C
 first_of (Maker x made) = Maker x made
-first_of (Sender c sender_trail stored) = Sender c sender_trail stored
+first_of (Sender c sender_trail notes) = Sender c sender_trail notes
 first_of (Tap x e) = Tap x e
 first_of (Meeting x e y f) = Tap x e
-first_of (Telling c sender_trail stored x e) = Sender c sender_trail stored
+first_of (Telling c sender_trail notes x e) = Sender c sender_trail notes
 first_of Spent = Spent
 
 abbrev pub second_of : {C : Type 0} → View C → View C
 second_of (Maker x made) = Spent
-second_of (Sender c sender_trail stored) = Spent
+second_of (Sender c sender_trail notes) = Spent
 second_of (Tap x e) = Spent
 second_of (Meeting x e y f) = Tap y f
-second_of (Telling c sender_trail stored x e) = Tap x e
+second_of (Telling c sender_trail notes x e) = Tap x e
 second_of Spent = Spent
 
 -- the receivers that are joined have loaded the length, and know this
 abbrev pub all_knowing : {C : Type 0} → View C → List ℕ → View C
 all_knowing (Maker x made) known = Maker x made
-all_knowing (Sender c sender_trail stored) known = Sender c sender_trail stored
+all_knowing (Sender c sender_trail notes) known = Sender c sender_trail notes
 all_knowing (Tap x e) known = Tap x (receiver_view_knowing e known)
 all_knowing (Meeting x e y f) known =
     Meeting x (receiver_view_knowing e known) y (receiver_view_knowing f known)
-all_knowing (Telling c sender_trail stored x e) known =
-    Telling c sender_trail stored x (receiver_view_knowing e known)
+all_knowing (Telling c sender_trail notes x e) known =
+    Telling c sender_trail notes x (receiver_view_knowing e known)
 all_knowing Spent known = Spent
 
 -- ---- what the views say of a bus
@@ -240,33 +258,33 @@ IsTrueOf P A z seat ear j (Maker x made) =
     × ((p : ℕ) → made ≤ p → p < A.table_layout.senders → IsUnseated A z seat j p)
     × ((r : ℕ) → made ≤ A.table_layout.senders + r → r < A.table_layout.passers
     → IsUnheard A z ear j r)
-IsTrueOf P A z seat ear j (Sender c sender_trail stored) =
-    IsSeated P A z seat j c sender_trail stored
+IsTrueOf P A z seat ear j (Sender c sender_trail notes) =
+    IsSeated P A z seat j c sender_trail notes.stored
 IsTrueOf P A z seat ear j (Tap x e) = KnowsLog A z ear j x e
 IsTrueOf P A z seat ear j (Meeting x e y f) =
     KnowsLog A z ear j x e × KnowsLog A z ear j y f × AreTwo A e f
-IsTrueOf P A z seat ear j (Telling c sender_trail stored x e) =
-    IsSeated P A z seat j c sender_trail stored × KnowsLog A z ear j x e
+IsTrueOf P A z seat ear j (Telling c sender_trail notes x e) =
+    IsSeated P A z seat j c sender_trail notes.stored × KnowsLog A z ear j x e
 IsTrueOf P A z seat ear j Spent = Unit {0}
 
 -- the sender p shows in this view: in its own, or in that of the maker of seats while it has none
 -- of its own
 abbrev pub Seats : {C : Type 0} → Process C → ℕ → View C → Type 0
 Seats P p (Maker x made) = made ≤ p
-Seats P p (Sender c sender_trail stored) = P.me c ≡ p
+Seats P p (Sender c sender_trail notes) = P.me c ≡ p
 Seats P p (Tap x e) = ⊥
 Seats P p (Meeting x e y f) = ⊥
-Seats P p (Telling c sender_trail stored x e) = P.me c ≡ p
+Seats P p (Telling c sender_trail notes x e) = P.me c ≡ p
 Seats P p Spent = ⊥
 
 -- the receiver r of a ring shows in this view: in its own, or joined to another, or in that of the
 -- maker of seats while it has none of its own
 abbrev pub SeatsReceiver : {C : Type 0} → ℕ → View C → Type 0
 SeatsReceiver r (Maker x made) = made ≤ x.senders + r
-SeatsReceiver r (Sender c sender_trail stored) = ⊥
+SeatsReceiver r (Sender c sender_trail notes) = ⊥
 SeatsReceiver r (Tap x e) = e.me ≡ r
 SeatsReceiver r (Meeting x e y f) = (e.me ≡ r) ⊎ (f.me ≡ r)
-SeatsReceiver r (Telling c sender_trail stored x e) = e.me ≡ r
+SeatsReceiver r (Telling c sender_trail notes x e) = e.me ≡ r
 SeatsReceiver r Spent = ⊥
 
 -- Executions of the bus lead to a state with these words, and with its page in the slot where that

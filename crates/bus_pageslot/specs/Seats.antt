@@ -19,8 +19,9 @@ use Rattle.bus_automaton.specs.Processes.{TableLayout, Process, IsCounted, passe
 use Rattle.bus_pageslot.specs.declared.listeners.Listener.{Listener}
 use Rattle.bus_pageslot.specs.declared.listeners.LogCells.{LogCells}
 use Rattle.bus_pageslot.specs.Rounds.{GoesRound}
-use Rattle.bus_pageslot.specs.Rule.{Sat, sender_trail_in, stored_in, FitsLog}
-use Rattle.bus_pageslot.specs.Steps.{Accepts, Numbers, carried_of, all_in, stored_by, Told}
+use Rattle.bus_pageslot.specs.Notes.{Look, Notes}
+use Rattle.bus_pageslot.specs.Rule.{Sat, sender_trail_in, notes_in, stored_in, looks_in, FitsLog}
+use Rattle.bus_pageslot.specs.Steps.{Accepts, Numbers, carried_of, all_in, noted_by, Told}
 use Rattle.bus_automaton.specs.SenderTrails.{SenderTrail, with_sender_trail}
 
 -- a sender: what it holds, and its seat
@@ -47,6 +48,13 @@ actions_of P s = (sender_trail_of P s).actions
 abbrev pub stored_of : {C : Type 0} → SenderSeat C → ℕ
 stored_of s = stored_in s.seat.me.0
 
+-- what its seat shows beside its trail, and all its looks
+abbrev pub notes_of : {C : Type 0} → SenderSeat C → Notes
+notes_of s = notes_in s.seat.me.0
+
+abbrev pub looks_of : {C : Type 0} → SenderSeat C → List Look
+looks_of s = looks_in s.seat.me.0
+
 -- its seat shows it as it was after its last step
 pub record Shows {C : Type 0} (P : Process C) (d : C) (s : Seat (Option Page) (View C)) :
     Type 0 where
@@ -57,7 +65,7 @@ pub record Shows {C : Type 0} (P : Process C) (d : C) (s : Seat (Option Page) (V
   -- no page is under way to it
   pub laid : P.awaits d ≡ false
   pub numbered : Numbers P shown (sender_trail_in s.me.0)
-  pub me : s.me ≡ (Sender shown (sender_trail_in s.me.0) (stored_in s.me.0), carried_of (P.holds d))
+  pub me : s.me ≡ (Sender shown (sender_trail_in s.me.0) (notes_in s.me.0), carried_of (P.holds d))
   pub words : s.table_id.words ≡ (P.table_layout d).words
   pub slots : s.table_id.slots ≡ 1
 
@@ -79,7 +87,8 @@ pub record Took {C : Type 0} (P : Process C) (old : SenderSeat C) (word : ℕ) (
   pub same_answer : P.answer old.core got word ≡ P.answer old.core found word
   pub sender_trail : sender_trail_of P new
       ≡ with_sender_trail (sender_trail_of P old) (P.adds old.core found word)
-  pub stored : stored_of new ≡ stored_by (P.op old.core word) (stored_of old)
+  -- the length that it stores is the last one then, and its looks are those before
+  pub notes : notes_of new ≡ noted_by (P.op old.core word) (notes_of old)
 
 -- the same, and what its answer tells of what the sender held and of the number that the step found
 pub record TookAndTold {C : Type 0} (P : Process C) (Tells : C → ℕ → ℕ → Turn → Type 0)

@@ -24,7 +24,8 @@ use Rattle.bus_pageslot.specs.declared.rule.View.{View}
 use Rattle.bus_pageslot.specs.declared.rule.View.TheVariants.{Maker, Sender, Tap, Meeting, Telling}
 use Rattle.bus_pageslot.specs.declared.rule.View.TheVariants.{Spent}
 use Rattle.bus_automaton.specs.Processes.{Process, IsCounted, EndsBy}
-use Rattle.bus_pageslot.specs.Rule.{Sat, sender_trail_in, stored_in, receiver_view_in, known_in}
+use Rattle.bus_pageslot.specs.Notes.{Notes}
+use Rattle.bus_pageslot.specs.Rule.{Sat, sender_trail_in, notes_in, receiver_view_in, known_in}
 use Rattle.bus_pageslot.specs.Rule.{with_receiver_view, views_joined, first_of, second_of}
 use Rattle.bus_pageslot.specs.Rule.{all_knowing, table_layout_in, log_word_in, passed_word_in}
 use Rattle.bus_pageslot.specs.Rule.{FitsLog, MayRead}
@@ -67,10 +68,10 @@ accepted_since before now =
 -- since the last step of a seat with this view its sender, which is now d, has accepted this
 abbrev pub since_in : {C : Type 0} → Process C → View C → C → List Action
 since_in P (Maker x made) d = []
-since_in P (Sender c sender_trail stored) d = accepted_since (P.queue c) (P.queue d)
+since_in P (Sender c sender_trail notes) d = accepted_since (P.queue c) (P.queue d)
 since_in P (Tap x e) d = []
 since_in P (Meeting x e y f) d = []
-since_in P (Telling c sender_trail stored x e) d = []
+since_in P (Telling c sender_trail notes x e) d = []
 since_in P Spent d = []
 
 -- all that a sender d with this view did
@@ -122,6 +123,10 @@ stored_by (Some (Store at value)) before = if at.0 == length_at then value else 
 stored_by (Some (Add at value)) before = before
 stored_by (Some (Cas at expected value)) before = before
 
+-- what its seat shows beside its trail: that, and the looks before
+abbrev pub noted_by : Option Op → Notes → Notes
+noted_by o before = record before { stored = stored_by o before.stored }
+
 -- a step tells its caller the number that its word had; a store tells none
 abbrev pub Told : Op → ℕ → ℕ → Type 0
 Told (Load at) found got = got ≡ found
@@ -147,7 +152,7 @@ pub record Gone {C : Type 0} (P : Process C) (d : C) (word : ℕ) (m : Sat C) (g
   pub ends : EndsBy P d (P.fed d got word) (P.after d home got word) home (P.move d)
   pub now : m' ≡ (
     Sender (P.after d home got word) (with_sender_trail (all_in P m.0 d) (P.adds d found word))
-        (stored_by (P.op d word) (stored_in m.0)),
+        (noted_by (P.op d word) (notes_in m.0)),
     carried_by (P.move d) home m.1,
   )
 
@@ -163,7 +168,7 @@ pub record IsDue {C : Type 0} (P : Process C) (d : C) (word : ℕ) (m : Sat C) (
   pub actions : List Action
   pub accepts : Accepts P shown d actions
   pub me : m ≡ (
-    Sender shown (sender_trail_in m.0) (stored_in m.0),
+    Sender shown (sender_trail_in m.0) (notes_in m.0),
     out_with (P.move d) (carried_of (P.holds d)),
   )
   pub due : P.op d word ≡ Some o
@@ -197,15 +202,15 @@ pub record KnowsSent {C : Type 0} (P : Process C) (c : C) (actions : List Action
 -- last step; and two receivers agree
 abbrev pub GrowsTo : {C : Type 0} → Process C → View C → List ℕ → Type 0
 GrowsTo P (Maker x made) known = Unit {0}
-GrowsTo P (Sender c sender_trail stored) known = Unit {0}
+GrowsTo P (Sender c sender_trail notes) known = Unit {0}
 GrowsTo P (Tap x e) known = Unit {0}
 GrowsTo P (Meeting x e y f) known =
     IsPrefix e.known known × IsPrefix f.known known × FitsLog x known × FitsLog y known
     × Agree e f
-GrowsTo {C} P (Telling c sender_trail stored x e) known =
+GrowsTo {C} P (Telling c sender_trail notes x e) known =
     IsPrefix e.known known × FitsLog x known
     × ((a : C) (actions : List Action) → Accepts P c a actions
-    → KnowsSent P a (sender_trail.actions ++ actions) stored known)
+    → KnowsSent P a (sender_trail.actions ++ actions) notes.stored known)
 GrowsTo P Spent known = Unit {0}
 
 -- of the length, by two joined seats

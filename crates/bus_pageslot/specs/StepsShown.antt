@@ -17,12 +17,12 @@ steps_among (Stepped tenure k found chose answer ∷ more) = steps_among more + 
 abbrev pub steps_in : SenderTrail → ℕ
 steps_in t = steps_among t.actions + length t.pins + length t.reclaims
 
--- those of a view: of a sender its steps, and of a receiver its loads and its stores; a seat that
--- makes others has none
+-- those of a view: of a sender its steps, but for its looks, and of a receiver its loads and its
+-- stores; a seat that makes others has none
 abbrev pub steps_shown : {C : Type 0} → View C → ℕ
 steps_shown (Maker x made) = 0
-steps_shown (Sender c sender_trail stored) = steps_in sender_trail
+steps_shown (Sender c sender_trail notes) = steps_in sender_trail
 steps_shown (Tap x e) = length e.loads
 steps_shown (Meeting x e y f) = length e.loads + length f.loads
-steps_shown (Telling c sender_trail stored x e) = steps_in sender_trail + length e.loads
+steps_shown (Telling c sender_trail notes x e) = steps_in sender_trail + length e.loads
 steps_shown Spent = 0

@@ -97,9 +97,11 @@ pub record TakesUpTo {C : Type 0} (P : Process C) (T : Tellings C) (first : Send
   pub stops : still_goes answer ≡ true → (P.wants_word new.core ≡ true) ⊎ (n ≡ more)
 
 -- ---- turns between which a function is asked whether to go on; Tells f told f' where a call of f
--- may tell that, and leaves f' Turns, none of them a last one, led from one sender to another. For
--- each that answered Waiting or Behind, and for no other, there is a call of the function that told
--- to go on; each call found it as the call before had left it. When it was made is not said.
+-- may tell that, and leaves f'
+
+-- Turns, none of them a last one, led from one sender to another. For each that answered Waiting or
+-- Behind, and for no other, there is a call of the function that told to go on; each call found it
+-- as the call before had left it. When it was made is not said.
 pub data AsksOn {C F : Type 0} (P : Process C) (T : Tellings C) (Tells : F → Bool → F → Type 0)
     (first : SenderSeat C) (given : F) : SenderSeat C → F → Type 0 where
   Begins : AsksOn P T Tells first given first given

@@ -13,7 +13,7 @@ ghost use Rattle.bus_automaton.specs.Buses.{ring_plan};
 ghost use Rattle.bus_pageslot.specs.Buses.{AreNewSeats, AreNewTaps};
 ghost use Rattle.bus_pageslot.specs.Seats.{table_of};
 ghost use Rattle.bus_pageslot.specs.Endings.{IsLeft};
-ghost use Rattle.bus_pageslot.specs.Looks.{FloorSeen, HasLooked};
+ghost use Rattle.bus_pageslot.specs.Looks.{FloorSeen, HasLooked, IsSenders};
 
 use crate::outcomes::{EndFault, Ended, Places, leave, lesser};
 use crate::rule::BusSeat;
@@ -197,13 +197,6 @@ impl<Q: Ratifier + Drop> Bus<Q> {
         self.senders
     }
 
-    /// How many words its log has.
-    pub(crate) fn log_words(&self) -> u64
-        ensures { result ≡ (automaton_by Q.Ratifier self.now.plan).table_layout.capacity }
-    {
-        self.places.log_words
-    }
-
     /// The number of each sender's first message.
     pub fn bases(&self) -> [u64; MOST_SENDERS]
         ensures { result ≡ self.now.plan.bases }
@@ -238,12 +231,14 @@ impl<Q: Ratifier + Drop> Bus<Q> {
     }
 
     /// Whether a frame of so many words fits the log, by one load of the length and one of each
-    /// passed place, in rising order.
+    /// passed place, in rising order. The sender's seat shows these looks.
     pub(crate) fn has_room(&self, seat: &mut BusSeat<Q>, many: u64) -> bool
-        requires { seat.old.table_id ≡ self.now.table }
-        ensures seat { seat.new ≡ seat.old }
+        requires table { seat.old.table_id ≡ self.now.table }
+        requires sender { IsSenders seat.old.me.0 }
+        ensures table { (seat.new.table_id ≡ seat.old.table_id) × (seat.new.id ≡ seat.old.id) }
+        ensures slots { seat.new.me.1 ≡ seat.old.me.1 }
         ensures looked { HasLooked (process_by Q.Ratifier)
-            (automaton_by Q.Ratifier self.now.plan) seat.old.me.0 many result }
+            (automaton_by Q.Ratifier self.now.plan) seat.old.me.0 many result seat.new.me.0 }
     {
         threads_may_go_by::<Q>();
         let length = self.words.look::<Brand>(seat, 0);
@@ -254,11 +249,13 @@ impl<Q: Ratifier + Drop> Bus<Q> {
     /// The least of this length and of the passed places, each of which it loads once; 0 where
     /// there are none.
     fn floor_seen(&self, seat: &mut BusSeat<Q>, length: u64) -> u64
-        requires { seat.old.table_id ≡ self.now.table }
-        ensures seat { seat.new ≡ seat.old }
+        requires table { seat.old.table_id ≡ self.now.table }
+        requires sender { IsSenders seat.old.me.0 }
+        ensures table { (seat.new.table_id ≡ seat.old.table_id) × (seat.new.id ≡ seat.old.id) }
+        ensures slots { seat.new.me.1 ≡ seat.old.me.1 }
         ensures low { result ≤ length }
         ensures floor { FloorSeen (process_by Q.Ratifier)
-            (automaton_by Q.Ratifier self.now.plan) seat.old.me.0 length result }
+            (automaton_by Q.Ratifier self.now.plan) seat.old.me.0 length result seat.new.me.0 }
     {
         threads_may_go_by::<Q>();
         let Places {

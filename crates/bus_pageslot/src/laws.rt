@@ -33,6 +33,7 @@ ghost use Rattle.bus_automaton.specs.Lawful.{floor_in};
 ghost use Rattle.bus_automaton.specs.Processes.{TableLayout, base_in, log_in, passed_word};
 ghost use Rattle.bus_automaton.specs.SenderTrails.{SenderTrail, with_sender_trail};
 ghost use Rattle.bus_automaton.specs.declared.plans.Plan.{Plan};
+ghost use Rattle.bus_pageslot.specs.Notes.{Notes};
 ghost use Rattle.bus_pageslot.specs.ReceiverViews.{ReceiverView, receiver_view_after_load};
 ghost use Rattle.bus_pageslot.specs.ReceiverViews.{left_for_good, passed_on};
 ghost use Rattle.bus_pageslot.specs.Rings.{HasSeat, LeavesAll, RingShows, ShowsReceiver};
@@ -43,6 +44,7 @@ ghost use Rattle.bus_pageslot.specs.Buses.{IsNewSeat};
 ghost use Rattle.bus_pageslot.specs.Carried.{WereAnswered};
 ghost use Rattle.bus_pageslot.specs.Histories.{HasHistory, LeavesLog, LeavesRule, Shown};
 ghost use Rattle.bus_pageslot.specs.Listening.{Hears, PassIsDue, due_load};
+ghost use Rattle.bus_pageslot.specs.Looks.{FitsBy};
 ghost use Rattle.bus_pageslot.specs.Promised.{IsPromised};
 ghost use Rattle.bus_pageslot.specs.Rule.{Sat, TableInvariant, slot_of, receiver_view_in};
 ghost use Rattle.bus_pageslot.specs.SafeSeats.{AreSafe, LeavesPast};
@@ -105,15 +107,15 @@ pub fn seats_show_one_page<Q: Ratifier>()
 pub fn no_page_without_each_sender<Q: Ratifier>()
     ensures shown { let P = process_by Q.Ratifier in let A = automaton_by Q.Ratifier in
         (plan : Plan) (s : State (Option Page) (View (Sender (Elector Q))))
-        (v : Sender (Elector Q)) (sender_trail : SenderTrail) (stored : ℕ)
+        (v : Sender (Elector Q)) (sender_trail : SenderTrail) (notes : Notes)
         → 1 < (A plan).table_layout.senders
-        → P.me v ≡ 0 → s.views ≡ view.Sender v sender_trail stored ∷ []
+        → P.me v ≡ 0 → s.views ≡ view.Sender v sender_trail notes ∷ []
         → ¬ TableInvariant P (A plan) s }
     ensures promised { let P = process_by Q.Ratifier in
         (x : TableLayout) (base : ℕ → ℕ) (log : List ℕ)
         (s : State (Option Page) (View (Sender (Elector Q))))
-        (v : Sender (Elector Q)) (sender_trail : SenderTrail) (stored : ℕ) → 1 < x.senders
-        → P.me v ≡ 0 → s.views ≡ view.Sender v sender_trail stored ∷ []
+        (v : Sender (Elector Q)) (sender_trail : SenderTrail) (notes : Notes) → 1 < x.senders
+        → P.me v ≡ 0 → s.views ≡ view.Sender v sender_trail notes ∷ []
         → ¬ IsPromised P x base log s }
     ensures empty { let P = process_by Q.Ratifier in
         (x : TableLayout) (base : ℕ → ℕ) (s : State (Option Page) (View (Sender (Elector Q))))
@@ -141,10 +143,10 @@ pub fn rings_are_safe<Q: Ratifier>()
     threads_may_go_by::<Q>();
 }
 
-/// A receiver of a ring stores in its passed place alone: a store there leaves the length, the
-/// stage and each cell of the log. The rule holds after it, with the same page and with all that
-/// was published until then. So it is where it has read whole frames and stores its place, and
-/// where it leaves.
+/// A store in a receiver's passed place leaves the length, the stage and each cell of a ring. Where
+/// a receiver that has not heard the end has read whole frames and stores its place, or where it
+/// leaves for good, the rule holds after it, with the same page and with all that was published
+/// until then.
 pub fn receivers_store_apart<Q: Ratifier>()
     ensures apart { let A = automaton_by Q.Ratifier in
         (plan : Plan) (s : State (Option Page) (View (Sender (Elector Q)))) (seat : ℕ)
@@ -170,10 +172,10 @@ pub fn receivers_store_apart<Q: Ratifier>()
 }
 
 /// With a sender's step all that was published begins with all that was before it, whatever the
-/// step is for; and no step stores a smaller length. No other step changes the length or a cell: a
-/// receiver stores in its passed place alone, and seats that are made, joined or cut apart leave
-/// all words as they are. The rule holds of the table after such a step, with what was published by
-/// then. So what was published begins what is published after any number of steps.
+/// step is for; and no sender stores a smaller length. The rule holds of the table after such a
+/// step, with what was published by then. What a receiver's stores leave of it is in
+/// `receivers_store_apart`. What its loads leave, and seats that are made, joined or cut apart, is
+/// in `receiving_laws`, which has any number of all these steps too (`what_was_published_stays`).
 pub fn steps_only_extend_the_log<Q: Ratifier>()
     ensures extends { let P = process_by Q.Ratifier in let A = automaton_by Q.Ratifier in
         (plan : Plan) (s : State (Option Page) (View (Sender (Elector Q)))) (seat : ℕ)
@@ -216,6 +218,19 @@ pub fn tables_are_machines<Q: Ratifier>()
     threads_may_go_by::<Q>();
 }
 
+/// Whichever seat shows a sender, alone or joined to a receiver's, the sender has the layout of the
+/// table that the seat is of, also once it has accepted more. So what a sender tells by its own,
+/// as how many words its log has and how many senders its bus has, is so of that table.
+pub fn senders_go_by_their_table<Q: Ratifier>()
+    ensures { let P = process_by Q.Ratifier in let A = automaton_by Q.Ratifier in
+        (plan : Plan) (s : State (Option Page) (View (Sender (Elector Q)))) (seat : ℕ)
+        (v d : Sender (Elector Q)) (sender_trail : SenderTrail) (actions : List Action)
+        → TableInvariant P (A plan) s → Shown s seat v sender_trail → Accepts P v d actions
+        → P.table_layout d ≡ (A plan).table_layout }
+{
+    threads_may_go_by::<Q>();
+}
+
 /// The words of the log that stand fit it: the length is no further behind the floor than the log
 /// has words. So who copies them from the floor up to the length copies each cell once at most.
 pub fn what_stands_fits<Q: Ratifier>()
@@ -226,6 +241,26 @@ pub fn what_stands_fits<Q: Ratifier>()
 {
     election_is_lawful::<Q>();
 }
+
+/// What the numbers of a look whether there is room say for longer than the look. By them a frame
+/// that is no longer than the log does not fit. Then it does not fit by other numbers either, of
+/// which the length is no less and the place that was least is the same: as those of the table on
+/// which that place was loaded. Of a log that is no ring it does not fit by any greater length. A
+/// frame that fits by them fits while the length is the same and no passed place has less.
+pub fn a_no_was_right()
+    ensures ring { (x : TableLayout) (found now : ℕ → ℕ) (many me : ℕ)
+        → found length_at ≤ now length_at → many ≤ x.capacity → me < x.passers
+        → ((q : ℕ) → q < x.passers → found (passed_word x me) ≤ found (passed_word x q))
+        → found (passed_word x me) ≡ now (passed_word x me)
+        → ¬ FitsBy x found many → ¬ FitsBy x now many }
+    ensures flat { (x : TableLayout) (found now : ℕ → ℕ) (many : ℕ)
+        → found length_at ≤ now length_at → x.passers ≡ 0
+        → ¬ FitsBy x found many → ¬ FitsBy x now many }
+    ensures yes { (x : TableLayout) (found now : ℕ → ℕ) (many : ℕ)
+        → now length_at ≡ found length_at
+        → ((q : ℕ) → q < x.passers → found (passed_word x q) ≤ now (passed_word x q))
+        → FitsBy x found many → FitsBy x now many }
+{}
 
 /// What was published grows with no step of a sender but the one that stores the length, and with
 /// that by the frame of this sender and no other word.

@@ -9,7 +9,7 @@ ghost use Rattle.bus_deliverylog.specs.declared.receiving.RecvTurn.{RecvTurn};
 ghost use Rattle.bus_deliverylog.specs.Receiving.{TakesNext};
 ghost use Rattle.bus_pageslot.specs.Listening.{Hears, HearsLength, HearsWord, PassesNext};
 ghost use Rattle.bus_pageslot.specs.Listening.{item_turn_of};
-ghost use Rattle.bus_pageslot.specs.Listening.{Writes, WritesOrPlain, HearsAfter, sign_after};
+ghost use Rattle.bus_pageslot.specs.Listening.{Writes, WritesOrPlain, HearsSigned, sign_after};
 
 use crate::listeners::Listener;
 use crate::rule::BusSeat;
@@ -264,28 +264,29 @@ pub(crate) fn hear<Q: Ratifier + Drop>(
 }
 
 /// Turns of a receiver that has not ended: some that take words which say nothing by themselves,
-/// and a last one. An item is written in place.
+/// and a last one. An item is written in place, and a head or a leave mark as the sign.
 #[inline(always)]
 pub(crate) fn hear_on<Q: Ratifier + Drop>(
     words: &Words<Q>,
     seat: &mut BusSeat<Q>,
     listener: &mut Listener,
     item: &mut Item,
+    sign: &mut RecvTurn,
 ) -> ItemTurn
     requires table { seat.old.table_id ≡ words.now.table }
     requires receiver_view { IsReceiverView seat.old.me seat.old.table_id.words listener.old }
     requires going { listener.old.reader.ended ≡ false }
     ensures table { seat.new.table_id ≡ seat.old.table_id }
     ensures receiver_view { IsReceiverView seat.new.me seat.new.table_id.words listener.new }
-    ensures hears { HearsAfter seat.old.me item.old result item.new seat.new.me }
+    ensures hears { HearsSigned seat.old.me item.old sign.old result item.new sign.new
+        seat.new.me }
 {
     if let Some(at) = listener.pass_due() {
         pass(words, seat, listener, at);
         return ItemTurn::Going;
     }
-    let mut sign = RecvTurn::Going;
     loop {
-        if let Some(turn) = hear_next(words, seat, listener, item, &mut sign) {
+        if let Some(turn) = hear_next(words, seat, listener, item, sign) {
             return turn;
         }
     }

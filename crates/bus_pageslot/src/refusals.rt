@@ -9,7 +9,9 @@ ghost use Rattle.bus_automaton.specs.declared.plans.Plan.{Plan};
 ghost use Rattle.bus_core.specs.Senders.{Sender};
 ghost use Rattle.bus_pageslot.specs.Finishing.{FinishingRefuses};
 ghost use Rattle.bus_pageslot.specs.Listening.{HearingRefuses};
+ghost use Rattle.bus_automaton.specs.SenderTrails.{SenderTrail};
 ghost use Rattle.bus_pageslot.specs.Looks.{LookingRefuses};
+ghost use Rattle.bus_pageslot.specs.Notes.{Notes};
 ghost use Rattle.bus_pageslot.specs.ReceiverViews.{ReceiverView};
 ghost use Rattle.bus_pageslot.specs.Rings.{RuleRefuses};
 ghost use Rattle.bus_pageslot.specs.Room.{RoomRefuses};
@@ -36,15 +38,19 @@ pub fn finishing_refuses<Q: Ratifier>()
 /// told to stop, be it called behind a turn or before a look. And the batch that waits is the same
 /// all the while, and where it stops.
 pub fn room_refuses<Q: Ratifier, F: FnMut() -> bool>()
-    ensures { (first new : SenderSeat (Sender (Elector Q))) (given f : F)
-        → RoomRefuses (process_by Q.Ratifier) (tells_by Q.Ratifier) F.step first new given f }
+    ensures { (plan : Plan) (first new : SenderSeat (Sender (Elector Q))) (given f : F)
+        → RoomRefuses (process_by Q.Ratifier) (automaton_by Q.Ratifier plan) (tells_by Q.Ratifier)
+        F.step first new given f }
 {}
 
 /// No look says yes of a frame that is longer than the log, nor, of a log that is no ring, of one
-/// that ends behind it even after what the sender itself has stored.
+/// that ends behind it even after what the sender itself has stored. None answers by loads that
+/// leave out the length or the passed place of a receiver, or by more loads than one of each.
 pub fn looking_refuses<Q: Ratifier>()
-    ensures { (plan : Plan) (shown : View (Sender (Elector Q))) (many : ℕ)
-        → LookingRefuses (process_by Q.Ratifier) (automaton_by Q.Ratifier plan) shown many }
+    ensures { (plan : Plan) (v : Sender (Elector Q)) (sender_trail : SenderTrail) (notes : Notes)
+        (many : ℕ)
+        → LookingRefuses (process_by Q.Ratifier) (automaton_by Q.Ratifier plan) v sender_trail
+        notes many }
 {}
 
 /// No turn of a receiver that has not ended loads where its passed place is due, nor stores the

@@ -20,6 +20,20 @@ impl Model for SenderTrail {
     ghost view = { λ _. no_sender_trail };
 }
 
+/// What a sender's seat shows beside that: the last length that it has stored, and its looks. No
+/// value of it is made.
+pub struct Notes {
+    of: PhantomData<()>,
+}
+
+impl Model for Notes {
+    ghost use Rattle.bus_pageslot.specs.Notes.{Notes, no_notes};
+
+    ghost Value = { Notes };
+
+    ghost view = { λ _. no_notes };
+}
+
 /// How large a bus is. No value of it is made.
 pub struct TableLayout {
     of: PhantomData<()>,
@@ -53,14 +67,14 @@ pub enum View<C> {
     /// order, and then those of receivers.
     Maker(TableLayout, u64),
     /// A sender as it was after its last step, all that it did until then, and the last length
-    /// that it has stored.
-    Sender(C, SenderTrail, u64),
+    /// that it has stored, with all its looks.
+    Sender(C, SenderTrail, Notes),
     /// A receiver as it was after its last step, on a bus that is so large.
     Tap(TableLayout, ReceiverView),
     /// Two receivers, joined while they meet.
     Meeting(TableLayout, ReceiverView, TableLayout, ReceiverView),
     /// A sender and a receiver, joined while the one tells the other.
-    Telling(C, SenderTrail, u64, TableLayout, ReceiverView),
+    Telling(C, SenderTrail, Notes, TableLayout, ReceiverView),
     /// A seat that went into another.
     Spent,
 }

@@ -152,6 +152,13 @@ impl<Q: Ratifier + Drop> Sender<Q> {
         self.core.number()
     }
 
+    /// How many senders its bus has.
+    pub fn senders(&self) -> u64
+        ensures { result ≡ ((process_by Q.Ratifier).table_layout self.now.core).senders }
+    {
+        self.core.senders()
+    }
+
     /// How many messages wait in its batch, at most 16.
     pub fn pending(&self) -> u64
         ensures { result ≡ length (waiting_of (process_by Q.Ratifier) self.now) }

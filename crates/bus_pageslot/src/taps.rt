@@ -8,7 +8,7 @@ ghost use Rattle.bus_pageslot.specs.Rule.{receiver_view_in, known_in, with_recei
 ghost use Rattle.bus_pageslot.specs.Rule.{log_word_in, table_layout_in};
 ghost use Rattle.bus_pageslot.specs.Steps.{HasLeftBy, Learns, KnowsSent};
 ghost use Rattle.bus_pageslot.specs.Seats.{IsFresh, receiver_seat, table_of, actions_of, stored_of};
-ghost use Rattle.bus_pageslot.specs.Listening.{Hears, HearsAfter};
+ghost use Rattle.bus_pageslot.specs.Listening.{Hears, HearsAfter, HearsSigned};
 
 use crate::buses::Bus;
 use crate::listeners::{Listener, LogCells};
@@ -156,8 +156,27 @@ impl<Q: Ratifier + Drop> Tap<Q> {
         if self.listener.reader.has_ended() {
             return ItemTurn::End;
         }
+        let mut sign = RecvTurn::Going;
         let mut seat = self.seat.take().unwrap();
-        let turn = hear_on(&bus.words, &mut seat, &mut self.listener, item);
+        let turn = hear_on(&bus.words, &mut seat, &mut self.listener, item, &mut sign);
+        self.seat = Some(seat);
+        turn
+    }
+
+    /// As `item_turns`, and a head or a leave mark of the last turn is written as the sign. Any
+    /// other answer leaves that as it was.
+    #[inline(always)]
+    pub fn signed_turns(&mut self, bus: &Bus<Q>, item: &mut Item, sign: &mut RecvTurn) -> ItemTurn
+        requires { self.old.table_id ≡ bus.now.table }
+        ensures table { self.new.table_id ≡ self.old.table_id }
+        ensures hears { HearsSigned self.old.me item.old sign.old result item.new sign.new
+            self.new.me }
+    {
+        if self.listener.reader.has_ended() {
+            return ItemTurn::End;
+        }
+        let mut seat = self.seat.take().unwrap();
+        let turn = hear_on(&bus.words, &mut seat, &mut self.listener, item, sign);
         self.seat = Some(seat);
         turn
     }

@@ -1,6 +1,6 @@
 //! All steps on the table's words are here. Each function takes one step, or says how many, and its
 //! seat shows it: a receiver's list of the words that its steps were on, or a sender's list of
-//! steps, grows by it. A look alone is a load that no seat shows.
+//! steps or of looks, grows by it.
 //!
 //! No other module has the table, so no other function takes a step. What stands in `shown` is
 //! proved. That a body calls the table no second time is for the reader to see: each has one call,
@@ -16,10 +16,10 @@ ghost use Rattle.bus_automaton.specs.Processes.{TableLayout, base_in, log_cell, 
 ghost use Rattle.bus_batch.specs.Frames.{IsLog};
 ghost use Rattle.bus_pageslot.specs.declared.rule.View.TheVariants.{Maker, Tap};
 ghost use Rattle.bus_pageslot.specs.Listening.{FindsLength, FindsWord, PassIsDue};
-ghost use Rattle.bus_pageslot.specs.Looks.{IsFoundOn};
+ghost use Rattle.bus_pageslot.specs.Looks.{IsFoundOn, IsSenders};
 ghost use Rattle.bus_pageslot.specs.ReceiverViews.{ReceiverView};
 ghost use Rattle.bus_pageslot.specs.Rule.{IsFirst, MayRead, TableInvariant, cut_left, cut_right};
-ghost use Rattle.bus_pageslot.specs.Rule.{tap_left, tap_right};
+ghost use Rattle.bus_pageslot.specs.Rule.{tap_left, tap_right, with_look};
 ghost use Rattle.bus_pageslot.specs.Steps.{Due, GoesOn, Learns, Reads, Met, HasPassed, HasLeft};
 ghost use Rattle.bus_pageslot.specs.StepsShown.{steps_shown};
 ghost use Rattle.bus_tenure.specs.declared.pages.Page.{Page};
@@ -249,13 +249,22 @@ impl<Q: Ratifier> Words<Q> {
         self.table.shared.store::<Leaves<Q>>(seat, at, PASSED_ALL);
     }
 
-    /// One load, of any word, of which its seat shows nothing: a look beside the turns. What it
-    /// finds stood there, on a table of which the rule held.
+    /// One load by a sender's seat, of any word, beside its turns: a look, which the seat shows
+    /// with the word and with the number that it found. That stood there, on a table of which the
+    /// rule held and where the seat shows what it had shown before.
     #[inline(always)]
     pub(crate) fn look<K: Planned>(&self, seat: &mut BusSeat<Q>, at: usize) -> u64
         requires table { (seat.old.table_id ≡ self.now.table) × (at < self.now.table.words) }
+        requires sender { IsSenders seat.old.me.0 }
         requires plan { K.plan ≡ Some self.now.plan }
-        ensures seat { seat.new ≡ seat.old }
+        ensures table { (seat.new.table_id ≡ seat.old.table_id) × (seat.new.id ≡ seat.old.id) }
+        ensures looks { seat.new.me ≡ (
+          with_look seat.old.me.0 (record {
+            word = at;
+            found = result;
+          }),
+          seat.old.me.1,
+        ) }
         ensures found { IsFoundOn (process_by Q.Ratifier)
             (automaton_by Q.Ratifier self.now.plan) seat.old.me.0 at result }
     {

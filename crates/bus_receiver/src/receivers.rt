@@ -6,8 +6,8 @@ ghost use Rattle.std.specs.Ordering.{nat_cmp};
 ghost use Rattle.bus_automaton.specs.Buses.{process_by, automaton_by, plan_passers};
 ghost use Rattle.bus_pageslot.specs.Endings.{IsLeft};
 ghost use Rattle.bus_pageslot.specs.Rule.{receiver_view_in, known_in, table_layout_in};
-ghost use Rattle.bus_pageslot.specs.Listening.{Hears, HearsAfter};
-ghost use Rattle.bus_pageslot.specs.Steps.{HasLeftBy};
+ghost use Rattle.bus_pageslot.specs.Listening.{Hears, HearsAfter, HearsSigned};
+ghost use Rattle.bus_pageslot.specs.Steps.{HasLeftBy, Learns};
 ghost use Rattle.bus_pageslot.specs.Seats.{table_of, actions_of, stored_of};
 ghost use Rattle.bus_receiver.specs.Listening.{bus_of, is_found, Takes, HaveMet, IsTold};
 ghost use Rattle.bus_receiver.specs.Listening.{PassesTo, PassesWhile, item_or_end, written_or_end};
@@ -119,6 +119,18 @@ impl<Q: Ratifier + Drop> Receiver<Q> {
         ensures hears { HearsAfter self.old.me item.old result item.new self.new.me }
     {
         self.tap.item_turns(bus, item)
+    }
+
+    /// As `item_turns`, and a head or a leave mark of the last turn is written as the sign. Any
+    /// other answer leaves that as it was.
+    #[inline(always)]
+    pub fn signed_turns(&mut self, bus: &Bus<Q>, item: &mut Item, sign: &mut RecvTurn) -> ItemTurn
+        requires { bus_of self.old ≡ bus.now.table }
+        ensures table { bus_of self.new ≡ bus_of self.old }
+        ensures hears { HearsSigned self.old.me item.old sign.old result item.new sign.new
+            self.new.me }
+    {
+        self.tap.signed_turns(bus, item, sign)
     }
 
     /// Tells those that wait for room, where it has stored another place since it had stored this
@@ -272,6 +284,16 @@ impl<Q: Ratifier + Drop> Receiver<Q> {
         ensures { result ≡ length (known_in self.now.me.0) }
     {
         self.tap.known()
+    }
+
+    /// Looks how long the log is, beside its turns: how many words were published by then. It knows
+    /// all of them from then on. One load of the length.
+    pub fn look(&mut self, bus: &Bus<Q>) -> u64
+        requires { bus_of self.old ≡ bus.now.table }
+        ensures table { bus_of self.new ≡ bus_of self.old }
+        ensures learns { Learns self.old.me result self.new.me }
+    {
+        self.tap.load_length(bus)
     }
 
     /// A sender tells it of the log: it knows from then on all that the sender has published.

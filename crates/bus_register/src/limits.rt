@@ -6,8 +6,8 @@ pub const MOST_PROCESSES: u64 = 64;
 /// Senders of a bus: 1 to 64.
 pub const MOST_SENDERS: usize = 64;
 
-/// Receivers of a bus: 1 to 8.
-pub const MOST_RECEIVERS: u64 = 8;
+/// Receivers of a bus: 1 to 64.
+pub const MOST_RECEIVERS: u64 = 64;
 
 /// Rounds of one binary decision: 1 to 8.
 pub const MOST_ROUNDS: u64 = 8;

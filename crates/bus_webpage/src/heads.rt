@@ -13,21 +13,29 @@ content="default-src 'none'; img-src data:; style-src 'unsafe-inline'; script-sr
 "#;
 
 /// The title of a page that steps.
-pub const TITLE: &str = r#"<title>Steps of a bus</title>
+pub const TITLE: &str = r#"<title>Kioskbasil: steps of a bus</title>
 "#;
 
 /// What stands between the styles and the ways to go through the steps.
 pub const BODY: &str = r#"</style>
 </head>
 <body>
+<div id="top">
+<h1>Kioskbasil: the steps of a bus</h1>
+<p id="watch"></p>
+<p class="faint">A <dfn>tenure</dfn> is one turn at appending to the log, whose owner the senders
+elect. A <dfn>row</dfn> is the words over which they elect it. A step is on one word.</p>
+</div>
 <header>
-<h1 class="hidden">Steps of a bus</h1>
-<div class="bar" role="toolbar" aria-label="Go through the steps">
+<div class="bar" id="go" role="toolbar" aria-label="Go through the steps">
 <button id="first" aria-label="First" title="First: Home">|&#9664;</button>
-<button id="back" title="Left arrow">&#9664; Back</button>
-<button id="forward" title="Right arrow">Forward &#9654;</button>
+<button id="back" aria-label="Back" title="Left arrow">&#9664;<span> Back</span></button>
+<button id="forward" aria-label="Forward" title="Right arrow"><span>Forward </span>&#9654;</button>
 <button id="last" aria-label="Last" title="Last: End">&#9654;|</button>
 <button id="play" title="Space" aria-pressed="false">Play</button>
+<span id="place"></span>
+</div>
+<div class="bar" id="settings" role="group" aria-label="Speed, place and looks">
 <select id="speed" aria-label="Speed">
 <option value="2000">0.5 a second</option>
 <option value="1000" selected>1 a second</option>
@@ -36,7 +44,6 @@ pub const BODY: &str = r#"</style>
 <option value="50">20 a second</option>
 </select>
 <input id="slider" type="range" min="0" step="1" value="0" aria-label="Step">
-<span id="place"></span>
 <label>step <input id="jump" type="number" min="0" step="1"></label>
 <button id="smaller" aria-label="Smaller text" title="-">A-</button>
 <button id="larger" aria-label="Larger text" title="+">A+</button>

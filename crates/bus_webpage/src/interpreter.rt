@@ -533,7 +533,7 @@ function hasForm(word, rest) {
 // Which size of a bus is refused, or the empty text.
 function sizeRefused(isCyclic, sizes) {
     const limits = [
-        ['Senders', 1, 64], ['Receivers', 1, 8], ['Rounds', 1, 8],
+        ['Senders', 1, 64], ['Receivers', 1, 64], ['Rounds', 1, 8],
         isCyclic ? ['Rows', 2, 8] : ['Rows', 1, 256], ['LogWords', 16, 65536],
     ];
     const bad = limits.find(([, least, most], at) => sizes[at] < least || sizes[at] > most);

@@ -4,12 +4,19 @@
 pub const MOVING: &str = r#"// ---- Going from step to step.
 
 let parts = null;
-const KIND = document.title.toLowerCase();
+const [NAME, KIND] = document.title.split(': ');
 
-// A page is named by the comment that its script begins with; where one plays the script changes.
+// What to watch in a page is the comment that its script begins with; where one plays the script
+// changes, and the page says what one does.
+function watched() {
+    const comment = !extra.isGrowing && /^#+ *(.*[^ ])/.exec(page.lines[0] || '');
+    return comment ? comment[1] : extra.watched;
+}
+
+// A page is named by the first sentence of that.
 function pageName() {
-    const comment = !extra.isGrowing && /^#+ *(.*[^ .:])/.exec(page.lines[0] || '');
-    return comment ? comment[1] : KIND;
+    const text = watched();
+    return text === extra.watched ? KIND : text.split('. ')[0].replace(/[.:]$/, '');
 }
 
 function show() {
@@ -96,7 +103,7 @@ function showControls() {
     write(at('place'), view.step + ' of ' + total);
     at('first').disabled = at('back').disabled = view.step === 0;
     at('forward').disabled = at('last').disabled = view.step === total;
-    document.title = 'Step ' + view.step + ' of ' + total + ', ' + pageName();
+    document.title = 'Step ' + view.step + ' of ' + total + ', ' + pageName() + ', ' + NAME;
 }
 
 // Goes to a step. A link leaves the step behind it in the browser's history.
@@ -281,6 +288,7 @@ function begin() {
     view.step = fromFragment();
     listen();
     nameTheme();
+    write(at('watch'), watched());
     show();
 }
 "#;

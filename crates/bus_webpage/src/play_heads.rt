@@ -2,11 +2,15 @@
 //! plays.
 
 /// The title of a page on which one plays.
-pub const PLAY_TITLE: &str = r#"<title>Play a bus</title>
+pub const PLAY_TITLE: &str = r#"<title>Kioskbasil: play a bus</title>
 "#;
 
-/// The styles of these parts.
-pub const PLAY_STYLES: &str = r#"#playing { margin-top: .35em; }
+/// The styles of these parts. Where there is little room, one row of buttons stays in sight at the
+/// lower edge, and the page goes on so far that it hides nothing.
+pub const PLAY_STYLES: &str = r#"#playing {
+    flex: 1 1 100%; display: flex; flex-wrap: wrap; gap: .3em .5em; align-items: center;
+}
+#next { flex: 1 1 30em; }
 #turns {
     display: flex; flex-wrap: wrap; gap: .3em; flex: 1 1 16em; max-height: 6.4em; overflow: auto;
     padding: .15em;
@@ -22,7 +26,7 @@ pub const PLAY_STYLES: &str = r#"#playing { margin-top: .35em; }
     text-overflow: ellipsis;
 }
 #times, .small { width: 5.2em; }
-#says { min-height: 1.35em; margin-top: .2em; }
+#says { min-height: 1.35em; flex: 1 1 100%; }
 #game > * + * { margin-top: .35em; }
 #game input[type=text] { flex: 1 1 5em; min-width: 4em; width: 5em; }
 #game label { min-width: 0; }
@@ -35,27 +39,36 @@ pub const PLAY_STYLES: &str = r#"#playing { margin-top: .35em; }
     #game { flex: none; }
 }
 @media (max-width: 61.99em) {
-    header { position: static; }
-    main > .column { display: contents; }
-    #middle > section { order: -1; }
+    html { scroll-padding-bottom: 7em; }
+    body { gap: .5em; padding-bottom: 7em; }
+    main, main > .column, #playing { display: contents; }
+    section, #says, #votes-due { margin: 0 .7em; }
+    #top, #go { order: -6; }
+    #middle > #step { order: -5; }
+    #says { order: -4; flex: none; min-height: 0; }
+    #votes-due { order: -3; }
     #game { order: -2; }
-    #playing {
+    #middle > section { order: -1; }
+    #next {
         position: fixed; left: 0; right: 0; bottom: 0; z-index: 3; background: var(--back);
-        border-top: 1px solid var(--edge); padding: .4em .6em; max-height: 50vh; overflow: auto;
+        border-top: 1px solid var(--edge); padding: .3em .6em;
     }
-    #turns { flex-basis: 100%; }
-    #turns .both { width: calc(50% - .2em); }
+    #turns { flex-basis: 100%; flex-wrap: nowrap; max-height: none; }
+    #turns .both { flex: none; width: calc((100% - .6em) / 3); height: 3.4em; }
+    #turns button { font-size: .85em; padding: .1em .3em; }
+    #turns .on { white-space: normal; line-height: 1.1; }
     #turns [data-vote] .badge { display: none; }
-    body { padding-bottom: 17em; }
     #thread { display: none; }
 }
 "#;
 
 /// Whose step is next, at the end of the header.
 pub const TURNS: &str = r#"<div id="playing">
-<div class="bar">
+<div class="bar" id="next">
 <strong id="turns-title">Whose step is next?</strong>
 <div id="turns" role="group" aria-labelledby="turns-title"></div>
+</div>
+<div class="bar" id="votes-due">
 <label>turns a click <input id="times" type="number" min="1" max="10000" value="1"></label>
 <label>votes in these turns <select id="votes"><option value="0">tails</option>
 <option value="1">heads</option></select></label>
@@ -87,7 +100,7 @@ pub const GAME: &str = r#"<section id="game" aria-labelledby="game-title">
 <option value="cycle">rows used again</option>
 <option value="ring">a ring: log words too</option></select>
 <label>senders <input id="size-0" class="small" type="number" min="1" max="64" value="2"></label>
-<label>receivers <input id="size-1" class="small" type="number" min="1" max="8" value="1"></label>
+<label>receivers <input id="size-1" class="small" type="number" min="1" max="64" value="1"></label>
 <label>rounds <input id="size-2" class="small" type="number" min="1" max="8" value="2"></label>
 <label>rows <input id="size-3" class="small" type="number" min="1" max="256" value="4"></label>
 <label>log words <input id="size-4" class="small" type="number" min="16" max="65536"

@@ -27,7 +27,7 @@ const FORBIDS = {
     NoSuchSender: 'There is no such sender.',
     NoSuchReceiver: 'There is no such receiver.',
     Senders: 'A bus has 1 to 64 senders.',
-    Receivers: 'A bus has 1 to 8 receivers.',
+    Receivers: 'A bus has 1 to 64 receivers.',
     Rounds: 'A bus has 1 to 8 rounds for each bit.',
     Rows: 'A bus has 1 to 256 rows, or 2 to 8 that are used again.',
     LogWords: 'A log has 16 to 65,536 words.',
@@ -429,5 +429,7 @@ function openPlay() {
 Object.assign(extra, {
     isGrowing: true, carried, follows: followAddress, opens: openPlay, start: () => total,
     shows: showTurns,
+    watched: 'You are the adversary: choose whose step is next, and try to make two owners of ' +
+        'one tenure.',
 });
 "#;

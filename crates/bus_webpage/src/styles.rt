@@ -42,15 +42,24 @@ button:disabled { opacity: .45; cursor: default; }
 .link {
     border: 0; padding: 0; background: none; color: var(--link); text-decoration: underline;
 }
+#top {
+    display: flex; flex-wrap: wrap; gap: 0 1em; align-items: baseline; padding: .4em .7em 0;
+}
+#top h1 { font-size: 1.15em; }
+#watch { font-weight: 600; }
+#top .faint { font-size: .9em; }
+dfn { font-style: normal; font-weight: 600; }
+a { color: var(--link); }
 header {
-    position: sticky; top: 0; z-index: 2; background: var(--back);
+    display: flex; flex-wrap: wrap; gap: .3em .5em; background: var(--back);
     border-bottom: 1px solid var(--edge); padding: .4em .7em;
 }
+#settings { flex: 1 1 28em; }
 .bar { display: flex; flex-wrap: wrap; gap: .3em .5em; align-items: center; }
 .bar label { display: flex; gap: .3em; align-items: center; }
 #slider { flex: 1 1 12em; min-width: 8em; padding: 0; }
 #jump { width: 6em; }
-#place { min-width: 8.5em; font-variant-numeric: tabular-nums; font-weight: bold; }
+#place { font-variant-numeric: tabular-nums; font-weight: bold; }
 section {
     contain: layout style; background: var(--panel); border-radius: .4em; padding: .45em .6em;
     min-width: 0;
@@ -59,9 +68,21 @@ main { display: grid; gap: .5em; padding: .5em .7em; }
 .column { display: flex; flex-direction: column; gap: .5em; min-width: 0; min-height: 0; }
 .scroll { overflow: auto; position: relative; }
 #script, #steps, #log { height: 22em; contain: strict; }
-@media (max-width: 61.99em) { #middle { order: -1; } }
+@media (max-width: 61.99em) {
+    html { scroll-padding-top: 3.2em; }
+    body { display: flex; flex-direction: column; }
+    header { display: contents; }
+    #go {
+        position: sticky; top: 0; z-index: 2; background: var(--back); padding: .3em .7em;
+        border-bottom: 1px solid var(--edge);
+    }
+    #go button > span { display: none; }
+    #settings { order: 1; flex: none; padding: .4em .7em; }
+    #middle { order: -1; }
+}
 @media (min-width: 62em) {
-    body { height: 100vh; display: grid; grid-template-rows: auto minmax(0, 1fr); }
+    body { height: 100vh; display: grid; grid-template-rows: auto auto minmax(0, 1fr); }
+    #place { min-width: 8.5em; }
     main {
         grid-template-columns: minmax(14em, 22%) minmax(0, 1fr) minmax(14em, 23%); min-height: 0;
     }

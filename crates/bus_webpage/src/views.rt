@@ -8,9 +8,10 @@ let total = page.rows.length;
 const view = {step: 0, from: 0, playing: 0, due: 0, written: 0, scale: 1, marked: null};
 // What a page on which one plays does besides: what its address has behind the step, what it does
 // before it follows another address, how it opens and at which step, and what it shows besides.
-// Its script grows.
+// Its script grows. What to watch, where no comment of the script says it.
 const extra = {
     isGrowing: false, carried: () => '', follows() {}, opens: build, start: () => 0, shows() {},
+    watched: 'Watch which word each step is on, what it finds there, and what it leaves.',
 };
 const HUES = [210, 28, 135, 290, 52, 180, 340, 95];
 
@@ -258,7 +259,7 @@ function showStep() {
         ' of the script' : 'Before the first of ' + total + ' steps');
     write(at('told'), row ? told(page, row) : 'Nothing has happened yet: all words are 0.');
     write(at('means'), row ? follows(page, row) || spelled(row) : '');
-    const first = total ? 'The right arrow takes the first step.' : '';
+    const first = total ? 'Forward, or the right arrow, takes the first step.' : '';
     write(at('why'), !row ? first :
         saidKind(row) + ': ' + (KINDS[row.kind] || UNKNOWN).why);
     write(at('answer'), row ? 'Answer: ' + row.answer + ' \u2013 ' + saidAnswer(row.answer) : '');

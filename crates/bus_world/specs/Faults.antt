@@ -8,7 +8,7 @@ use Rattle.bus_world.specs.declared.shapes.MakeFault.TheVariants as make
 
 abbrev pub make_fault_text : MakeFault → List ℕ
 make_fault_text make.Senders = codes "not 1 to 64 senders"
-make_fault_text make.Receivers = codes "not 1 to 8 receivers"
+make_fault_text make.Receivers = codes "not 1 to 64 receivers"
 make_fault_text make.Rounds = codes "not 1 to 8 rounds"
 make_fault_text make.Rows = codes "not 1 to 256 rows, or 2 to 8 used again"
 make_fault_text make.LogWords = codes "not 16 to 65536 log words"

@@ -16,7 +16,7 @@ impl fmt::Display for MakeFault {
     fn fmt<W: fmt::Write>(&self, f: &mut fmt::Formatter<W>) -> fmt::Result {
         f.write_str(match self {
             MakeFault::Senders => "not 1 to 64 senders",
-            MakeFault::Receivers => "not 1 to 8 receivers",
+            MakeFault::Receivers => "not 1 to 64 receivers",
             MakeFault::Rounds => "not 1 to 8 rounds",
             MakeFault::Rows => "not 1 to 256 rows, or 2 to 8 used again",
             MakeFault::LogWords => "not 16 to 65536 log words",

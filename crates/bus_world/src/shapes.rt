@@ -9,7 +9,7 @@ use bus_register::NoMemory;
 pub struct Shape {
     /// 1 to 64.
     pub senders: u64,
-    /// 1 to 8.
+    /// 1 to 64.
     pub receivers: u64,
     /// The rounds of one binary decision: 1 to 8.
     pub rounds: u64,

@@ -116,6 +116,6 @@ fn what_is_refused(rt: HostRuntime) {
     assert!(rt; game.world().sender(SenderNo(1)).is_some());
     assert!(rt; game.world().sender(SenderNo(2)).is_none());
     plays_until_no_receiver(&rt, &mut game);
-    let crowd = World::<ThreeWord>::new(rt.alloc(), shape(65, 9, 0, 0)).err();
+    let crowd = World::<ThreeWord>::new(rt.alloc(), shape(65, 65, 0, 0)).err();
     same(&rt, &crowd, &Some(MakeFault::Senders));
 }

@@ -119,12 +119,12 @@ fn is_drawn<R: Abort + AllocGlobal>(rt: &R, who: &str) -> bool {
 
 #[test]
 fn who_is_drawn(rt: HostRuntime) {
-    for who in ["sender 0", "sender 63", "receiver 7"] {
+    for who in ["sender 0", "sender 63", "receiver 63"] {
         assert!(rt; is_drawn(&rt, who), "{who}");
     }
     let others = [
         "sender 64",
-        "receiver 8",
+        "receiver 64",
         "sender 07",
         "sender  7",
         "sender 7 ",

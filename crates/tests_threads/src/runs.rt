@@ -87,7 +87,7 @@ fn who_arrives_at_a_gate(rt: HostRuntime) {
     for (sizes, arrive, fault) in [
         ((1, 1, 0), 0, None),
         ((2, 1, 16), 2, Some(RunFault::Gate)),
-        ((1, 9, 16), 0, Some(RunFault::Make(MakeFault::Receivers))),
+        ((1, 65, 16), 0, Some(RunFault::Make(MakeFault::Receivers))),
     ] {
         let gate = FirstOnly {
             arrived: AtomicU64::new(0),

@@ -57,9 +57,9 @@ core_over c p (place ∷ places) =
     core_over (core_passed c (passing_fed p place)) (passing_fed p place) places
 
 -- With the last of as many as there are, and no earlier one, the page that a holder has gets this
--- floor, and nothing else changes: it is no further than each of these places and than the words of
--- the page, and the furthest that is so, of the numbers that there are. So it does not fall where
--- none of these places lies before the floor that the page had.
+-- floor, and nothing else changes: it is no further than each of these places, than the words of
+-- the page and than the last of the numbers that there are, and the furthest that is so. So it does
+-- not fall where none of these places lies before the floor that the page had.
 pub record GivesFloor {E : Type 0} (c : Core E) (t : ℕ) (page : Page) (stored : ℕ)
     (published : Bool) (places : List ℕ) : Type 0 where
   pub before : (some : List ℕ) → length some < c.layout.passers
@@ -69,5 +69,6 @@ pub record GivesFloor {E : Type 0} (c : Core E) (t : ℕ) (page : Page) (stored 
       ≡ record c { phase = Holding t (record page { floor = floor }) stored published }
   pub behind : AreBehind floor places
   pub within : floor ≤ page.words
+  pub few : floor ≤ NUMBERS
   pub furthest : (n : ℕ) → n ≤ page.words → n ≤ NUMBERS → AreBehind n places → n ≤ floor
   pub rises : PageKeeps page → AreBehind page.floor places → page.floor ≤ floor

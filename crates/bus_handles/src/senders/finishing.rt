@@ -36,7 +36,7 @@ impl<Q: Ratifier + Drop, R: Rng + Drop> SenderHandle<Q, R> {
     /// another sender's pin is in the way: then it holds the page still, and may be asked again.
     ///
     /// It waits for nobody: it takes at most the words of a frame, of a row and of its election,
-    /// the presences, and a few turns more. Each vote takes one word of its generator.
+    /// the presences, the passed places of a ring, and a few turns more.
     pub fn finish(&mut self) -> Option<Turn>
         ensures table { table_of self.new ≡ table_of self.old }
         ensures none { IfNone result

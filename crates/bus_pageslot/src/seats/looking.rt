@@ -1,8 +1,9 @@
 //! A sender that looks whether there is room, beside its turns.
 
-ghost use Rattle.std.specs.Prelude.{◌≡◌, ◌<◌, false};
+ghost use Rattle.std.specs.Prelude.{◌≡◌, ◌<◌, false, IsTrue};
 ghost use Rattle.bus_automaton.specs.Buses.{process_by, automaton_by};
-ghost use Rattle.bus_pageslot.specs.Looks.{HasLooked, batch_len};
+ghost use Rattle.bus_pageslot.specs.Looks.{LooksForRoom, batch_len};
+ghost use Rattle.bus_pageslot.specs.Room.{Fits};
 ghost use Rattle.bus_pageslot.specs.Seats.{table_of};
 
 use crate::buses::Bus;
@@ -12,26 +13,26 @@ use bus_automaton::laws::threads_may_go_by;
 
 impl<Q: Ratifier + Drop> Sender<Q> {
     /// A look whether the frame of its batch fits the log: one load of the length, and then one of
-    /// each passed place. It is no turn, and the sender is as it was.
+    /// each passed place, in rising order of receivers. It is no turn. The sender is as it was, but
+    /// that its seat shows these looks, each with the word that it was on and the number found. The
+    /// answer goes by just these numbers.
     ///
     /// A sender that was answered Full may look until this says yes, and only then take turns:
-    /// each turn towards a page that ends with Full costs a tenure. Yes is no promise, since
-    /// another sender may take the room first; and no may be yes by now. Of a frame that is longer
-    /// than the log it is never yes. Where no word of the log is used again the passed places are
-    /// none. There `looking_refuses` refuses a yes of a frame that ends behind the log even after
-    /// what this sender has stored. No law says more.
-    ///
-    /// The words that it goes by stood on tables of which the rule holds, and where its seat shows
-    /// what it shows. No clause says that these are tables of this bus, of any moment.
+    /// each turn towards a page that ends with Full costs a tenure. A no was right when the least
+    /// of the passed places was loaded, if the length was no less by then (`a_no_was_right`), and
+    /// may be a yes by now. A yes is no promise, since another sender may take the room first. Of a
+    /// frame that is longer than the log it is never yes. Where no word of the log is used again
+    /// the passed places are none.
     pub fn has_room(&mut self, bus: &Bus<Q>) -> bool
         requires table { table_of self.old ≡ bus.now.table }
-        ensures seat { self.new ≡ self.old }
+        ensures table { table_of self.new ≡ table_of self.old }
+        ensures looked { LooksForRoom (process_by Q.Ratifier)
+            (automaton_by Q.Ratifier bus.now.plan) self.old result self.new }
+        ensures fits { IsTrue result → Fits (process_by Q.Ratifier) self.old.core }
         ensures never { (automaton_by Q.Ratifier bus.now.plan).table_layout.capacity
             < batch_len (process_by Q.Ratifier) self.old.core → result ≡ false }
-        ensures looked { let P = process_by Q.Ratifier in
-            HasLooked P (automaton_by Q.Ratifier bus.now.plan) self.old.seat.me.0
-            (batch_len P self.old.core) result }
     {
+        threads_may_go_by::<Q>();
         let many = self.batch_len();
         bus.has_room(&mut self.seat, many)
     }

@@ -4,12 +4,14 @@ ghost use Rattle.std.specs.Prelude.{◌≡◌, ◌≢◌, ◌↔◌, true, false
 ghost use Rattle.std.specs.Prelude.{OnOk, OnErr, Some, codes};
 ghost use Rattle.bus_automaton.specs.Buses.{process_by, automaton_by};
 ghost use Rattle.bus_pageslot.specs.Room.{Fits, GoesForRoom, SendsForRoom, StopsForRoom};
+ghost use Rattle.bus_pageslot.specs.Room.{DrawsForRoom};
 ghost use Rattle.bus_pageslot.specs.Room.{StopsLooking, Turning, Looking};
 ghost use Rattle.bus_pageslot.specs.Seats.{table_of, actions_of};
 ghost use Rattle.bus_pageslot.specs.Sendings.{waiting_of, KeptAfter};
-ghost use Rattle.bus_pageslot.specs.Turns.{tells_by, DrawsOn};
+ghost use Rattle.bus_pageslot.specs.Turns.{tells_by};
 ghost use Rattle.bus_tenure.specs.Classes.{is_refusal};
 ghost use Rattle.bus_world.specs.Headline.{puts};
+ghost use Rattle.rand_core.specs.Stream.{Stream};
 
 use crate::buses::Bus;
 use crate::seats::{MOST_PLAIN_TURNS, Sender, ends_sending, is_waiting, rest_after};
@@ -41,13 +43,19 @@ impl fmt::Display for NeverFits {
 }
 
 impl<Q: Ratifier + Drop> Sender<Q> {
-    /// The frame of its batch is no longer than the log. Else it is Full for good. Takes no step.
-    pub fn fits(&self, bus: &Bus<Q>) -> bool
-        requires table { table_of self.now ≡ bus.now.table }
-        ensures { IsTrue result ↔ Fits (process_by Q.Ratifier)
-            (automaton_by Q.Ratifier bus.now.plan) self.now.core }
+    /// The frame of its batch is no longer than the log of its bus. Else it is Full for good. Takes
+    /// no step.
+    pub fn fits(&self) -> bool
+        ensures { IsTrue result ↔ Fits (process_by Q.Ratifier) self.now.core }
     {
-        self.batch_len() <= bus.log_words()
+        self.batch_len() <= self.log_words()
+    }
+
+    /// How many words the log of its bus has.
+    fn log_words(&self) -> u64
+        ensures { result ≡ ((process_by Q.Ratifier).table_layout self.now.core).capacity }
+    {
+        self.core.log_words()
     }
 
     /// As `send_while`, but that it goes on after Full, once there is room. A batch that is longer
@@ -70,17 +78,17 @@ impl<Q: Ratifier + Drop> Sender<Q> {
         requires table { table_of self.old ≡ bus.now.table }
         requires callable { F.IsAlwaysCallable go_on }
         ensures table { table_of self.new ≡ table_of self.old }
-        ensures fits { OnOk result (Fits (process_by Q.Ratifier)
-            (automaton_by Q.Ratifier bus.now.plan) self.old.core) }
-        ensures never { OnErr result (¬ Fits (process_by Q.Ratifier)
-            (automaton_by Q.Ratifier bus.now.plan) self.old.core) }
+        ensures fits { OnOk result (Fits (process_by Q.Ratifier) self.old.core) }
+        ensures never { OnErr result (¬ Fits (process_by Q.Ratifier) self.old.core) }
         ensures same { OnErr result
             ((self.new ≡ self.old) × (R.stream rng.new ≡ R.stream rng.old)) }
-        ensures sends { IfOk result (λ answered. IfSome answered
-            (λ turn. SendsForRoom (process_by Q.Ratifier) (tells_by Q.Ratifier) F.step self.old
+        ensures sends { let A = automaton_by Q.Ratifier bus.now.plan in
+            IfOk result (λ answered. IfSome answered
+            (λ turn. SendsForRoom (process_by Q.Ratifier) A (tells_by Q.Ratifier) F.step self.old
             go_on turn self.new)) }
-        ensures stops { IfOk result (λ answered. IfNone answered
-            (StopsForRoom (process_by Q.Ratifier) (tells_by Q.Ratifier) F.step self.old go_on
+        ensures stops { let A = automaton_by Q.Ratifier bus.now.plan in
+            IfOk result (λ answered. IfNone answered
+            (StopsForRoom (process_by Q.Ratifier) A (tells_by Q.Ratifier) F.step self.old go_on
             self.new)) }
         ensures keeps { let P = process_by Q.Ratifier in IfOk result (λ answered. IfSome answered
             (λ turn. is_refusal turn ≡ true → KeptAfter P self.old turn self.new)) }
@@ -88,11 +96,12 @@ impl<Q: Ratifier + Drop> Sender<Q> {
             (waiting_of P self.new ≡ waiting_of P self.old)) }
         ensures puts { let P = process_by Q.Ratifier in
             puts (actions_of P self.new) ≡ puts (actions_of P self.old) }
-        ensures draws { DrawsOn (process_by Q.Ratifier) (tells_by Q.Ratifier) self.old
+        ensures draws { DrawsForRoom (process_by Q.Ratifier)
+            (automaton_by Q.Ratifier bus.now.plan) (tells_by Q.Ratifier) self.old
             (R.stream rng.old) self.new (R.stream rng.new) }
     {
         threads_may_go_by::<Q>();
-        if !self.fits(bus) {
+        if !self.fits() {
             return Err(NeverFits);
         }
         waiter.reset();
@@ -136,15 +145,22 @@ impl<Q: Ratifier + Drop> Sender<Q> {
         requires table { table_of self.old ≡ bus.now.table }
         requires callable { F.IsAlwaysCallable go_on.old }
         ensures callable { F.IsAlwaysCallable go_on.new }
-        ensures same { self.new ≡ self.old }
-        ensures finds { let P = process_by Q.Ratifier in let T = tells_by Q.Ratifier in
+        ensures table { table_of self.new ≡ table_of self.old }
+        ensures finds { let P = process_by Q.Ratifier in
+            let A = automaton_by Q.Ratifier bus.now.plan in let T = tells_by Q.Ratifier in
             IsTrue result → (first : _) (given : F)
-            → GoesForRoom P T F.step first given Looking self.old go_on.old
-            → GoesForRoom P T F.step first given Turning self.new go_on.new }
-        ensures stops { let P = process_by Q.Ratifier in let T = tells_by Q.Ratifier in
+            → GoesForRoom P A T F.step first given (Looking 0) self.old go_on.old
+            → GoesForRoom P A T F.step first given Turning self.new go_on.new }
+        ensures stops { let P = process_by Q.Ratifier in
+            let A = automaton_by Q.Ratifier bus.now.plan in let T = tells_by Q.Ratifier in
             result ≡ false → (first : _) (given : F)
-            → GoesForRoom P T F.step first given Looking self.old go_on.old
-            → StopsLooking P T F.step first given self.new }
+            → GoesForRoom P A T F.step first given (Looking 0) self.old go_on.old
+            → StopsLooking P A T F.step first given self.new }
+        ensures draws { let P = process_by Q.Ratifier in
+            let A = automaton_by Q.Ratifier bus.now.plan in let T = tells_by Q.Ratifier in
+            (first : _) (given words : Stream)
+            → DrawsForRoom P A T first given self.old words
+            → DrawsForRoom P A T first given self.new words }
     {
         waiter.ring();
         waiter.reset();

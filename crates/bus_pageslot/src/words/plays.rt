@@ -1,6 +1,7 @@
 //! What each step on a word makes its seat show. Only `words` can pick one. Each step of a receiver
-//! says here of which word it is, and each store what was stored: `step.word` is the word that the
-//! step was on, and `step.first` the number that a store stored there.
+//! says here of which word it is, and so does each look of a sender. Each store of a receiver says
+//! what was stored: `step.word` is the word that the step was on, and `step.first` the number that
+//! a store stored there.
 
 use crate::rule::{Planned, Seated, Told, View};
 use atomic_table::{Join, Play, Split};
@@ -129,7 +130,8 @@ impl<Q: Ratifier> Play<Option<OwnedPage>, View<SenderCore<Q>>> for Leaves<Q> {
         × HasLeft m m' };
 }
 
-/// A seat loaded a word, of the bus of the plan that was picked, and shows nothing of it.
+/// A sender's seat loaded a word, of the bus of the plan that was picked, and shows this look more:
+/// the word, and the number that it found there.
 pub(super) struct Looks<Q, K> {
     of: PhantomData<(Q, K)>,
 }
@@ -138,8 +140,10 @@ impl<Q: Ratifier, K: Planned> Play<Option<OwnedPage>, View<SenderCore<Q>>> for L
     ghost use Rattle.std.specs.Prelude.{◌≡◌};
     ghost use Rattle.bus_automaton.specs.Buses.{process_with, automaton_with};
     ghost use Rattle.bus_pageslot.specs.Looks.{IsFoundBy};
+    ghost use Rattle.bus_pageslot.specs.Rule.{with_look};
 
-    ghost then = { λ step m got m'. (m' ≡ m)
+    ghost then = { λ step m got m'.
+        (m' ≡ (with_look m.0 (record { word = step.word; found = got }), m.1))
         × IsFoundBy (process_with Q.kind_of Q.op Q.fed Q.protocol)
         (automaton_with Q.kind_of Q.op Q.fed Q.protocol) K.plan m.0 step.word got };
 }

@@ -113,7 +113,7 @@ fn cut_and_replaced_bytes(rt: HostRuntime) {
             replays(&rt, script.as_slice(), &mut answered);
         }
     }
-    same(&rt, &answered.done, &170);
-    same(&rt, &answered.refused, &1769);
-    same(&rt, &answered.sum, &0x357d_0852_3117_2d18);
+    same(&rt, &answered.done, &171);
+    same(&rt, &answered.refused, &1768);
+    same(&rt, &answered.sum, &0x5d2b_70fb_aaa6_fc22);
 }

@@ -5,6 +5,7 @@ use crate::dice::Dice;
 use crate::games::Game;
 use bus_adoptcommit::ThreeWord;
 use bus_deliverylog::RecvTurn;
+use bus_register::limits::MOST_RECEIVERS;
 use bus_replay::answer_to;
 use bus_script::{Lines, Outcome, Words, number_of};
 use bus_tenure::Turn;
@@ -20,11 +21,21 @@ struct Sheet {
     leaves: [bool; 8],
 }
 
+/// So many receivers: 1 to 8, and at one time in eight up to as many as there can be.
+fn receivers(dice: &mut Dice) -> u64 {
+    let most = if dice.below(8) == 0 {
+        MOST_RECEIVERS
+    } else {
+        8
+    };
+    dice.below(most).wrapping_add(1)
+}
+
 /// A shape of few tenures and a log that may fill up.
 fn shape(dice: &mut Dice) -> Shape {
     Shape {
         senders: dice.below(8).wrapping_add(1),
-        receivers: dice.below(8).wrapping_add(1),
+        receivers: receivers(dice),
         rounds: dice.below(8).wrapping_add(1),
         rows: dice.below(12).wrapping_add(1),
         log_words: dice.below(200).wrapping_add(16),

@@ -34,7 +34,7 @@ fn as_many_as_the_shape_says_unless_memory_is_refused(rt: HostRuntime) {
 #[test]
 fn shapes_that_are_refused(rt: HostRuntime) {
     let receivers = Shape {
-        receivers: 9,
+        receivers: 65,
         ..TWO
     };
     let senders = Shape { senders: 65, ..TWO };

@@ -5,6 +5,7 @@ use Rattle.std.proofs.lemmas.List.{length-set}
 use Rattle.std.proofs.lemmas.Option.{slice_get_read}
 use Rattle.bus_automaton.specs.Buses.{process_with}
 use Rattle.bus_handles.proofs.PageLaws.{differ, equal, none_noted, one_noted, all_noted}
+use Rattle.bus_handles.proofs.PageLaws.{some_there}
 use Rattle.bus_handles.proofs.pages.senders_page.Goals.{then-ne-via-then-ne}
 use Rattle.bus_handles.proofs.pages.senders_page.Goals.{then-ne-via-else-ne+then-not-is_closed}
 use Rattle.bus_handles.proofs.pages.senders_page.Goals as goal
@@ -61,15 +62,23 @@ loop-place-preserved g c =
           }) c.goes_on_from.ensures,
     )
 
-pub returns-then-many-senders-clause-fault : goal.returns-then-many-senders-clause-fault
-returns-then-many-senders-clause-fault g c =
+pub returns-then-many-due-clause-fault : goal.returns-then-many-due-clause-fault
+returns-then-many-due-clause-fault g c =
     let over = c.loop-place-test.false in let many = c.min-many.ensures in
-    let few = c.if-senders-lt-MOST_SENDERS.true in (
+    let due = c.min-due.ensures in let few = c.if-many-due.true in
+    let count = c.senders.ensures in
+    let inside = some_there _ _ c.is_empty.ensures c.if-is_empty.false in (
       (
           λ place s below at.
           c.loop-place.invariant.1.parted place s (omega (arith, over, many, below)) at
           ),
-      inl (omega (arith, many, few)),
+      inl (record {
+        ends = omega (arith, many, due, few);
+        first = c.index-senders-0.result;
+        begins = slice_get_read c.args.senders.now (length c.args.senders.now) 0
+            c.index-senders-0.result refl inside c.index-senders-0.is;
+        counted = omega (arith, many, due, few, count);
+      }),
     )
 
 pub returns-then-not-one_has_closed-clause-fault :
@@ -83,7 +92,16 @@ returns-then-not-one_has_closed-clause-fault g c =
 pub returns-clause-page : goal.returns-clause-page
 returns-clause-page g c =
     let P = process_with g.Q.Machine.kind_of g.Q.Machine.op g.Q.Machine.fed g.Q.Ratifier.protocol in
-    let over = c.loop-place-test.false in let many = c.min-many.ensures in record {
+    let over = c.loop-place-test.false in let many = c.min-many.ensures in
+    let due = c.min-due.ensures in let few = c.if-many-due.false in
+    let count = c.senders.ensures in
+    let inside = some_there _ _ c.is_empty.ensures c.if-is_empty.false in record {
+      all = record {
+        first = c.index-senders-0.result;
+        begins = slice_get_read c.args.senders.now (length c.args.senders.now) 0
+            c.index-senders-0.result refl inside c.index-senders-0.is;
+        all = omega (arith, many, due, few, count);
+      };
       noted = all_noted P c.args.senders.now c.loop-place.place 64 c.loop-place.next
           c.loop-place.invariant.1 (λ k below inside. omega (arith, over, many, below, inside));
       ended = refl;

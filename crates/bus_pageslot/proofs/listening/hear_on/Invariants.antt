@@ -8,7 +8,8 @@ invariant-loop-turn g l =
     (l.seat.table_id ≡ l.fn.seat.table_id)
     × IsReceiverView l.seat.me l.seat.table_id.words l.listener
     × (l.listener.reader.ended ≡ false)
-    × (l.item ≡ l.fn.item) × GoesOnTo l.fn.seat.me l.seat.me × (PassesNext l.seat.me.0 → ⊥)
+    × (l.item ≡ l.fn.item) × (l.sign ≡ l.fn.sign) × GoesOnTo l.fn.seat.me l.seat.me
+    × (PassesNext l.seat.me.0 → ⊥)
 
 abbrev pub decreases-loop-turn : goal.decreases-loop-turn
 decreases-loop-turn g l = l.listener.reader.known - l.listener.reader.place

@@ -3,11 +3,12 @@ use Rattle.atomic_table.specs.Seated.{TableId}
 use Rattle.bus_automaton.specs.Buses.{process_with, automaton_with}
 use Rattle.bus_automaton.specs.Processes.{base_in}
 use Rattle.bus_automaton.specs.declared.plans.Plan.{Plan}
+use Rattle.bus_pageslot.specs.Notes.{no_notes}
 use Rattle.bus_pageslot.specs.declared.rule.View.TheVariants.{Maker, Sender}
-use Rattle.bus_pageslot.specs.Rule.{Sat, stored_in, cut_left, cut_right}
+use Rattle.bus_pageslot.specs.Rule.{Sat, stored_in, notes_in, cut_left, cut_right}
 use Rattle.bus_pageslot.specs.Steps.{all_in}
 use Rattle.bus_pageslot.specs.Steps.Accepts.{Nothing}
-use Rattle.bus_pageslot.specs.Seats.{sender_trail_of, stored_of}
+use Rattle.bus_pageslot.specs.Seats.{sender_trail_of, notes_of}
 use Rattle.bus_automaton.specs.SenderTrails.{new_sender_trail, with_actions}
 use Rattle.bus_pageslot.proofs.Accepting.{since_is}
 use Rattle.bus_pageslot.proofs.Openings.{shows_new}
@@ -90,10 +91,11 @@ returns-clause-seat g c =
       sender_trail =
           ap (sender_trail_of P) c.seated.ensures ∙ ap (λ m. all_in P m.0 c.start-core.result) me
           ∙ ap (λ d.
-          all_in P (Sender (A.started c.args.me) (new_sender_trail (base_in A c.args.me)) 0) d)
+          all_in P
+          (Sender (A.started c.args.me) (new_sender_trail (base_in A c.args.me)) no_notes) d)
           c.start-core.ensures
           ∙ ap (with_actions (new_sender_trail (base_in A c.args.me)))
           (since_is P c.threads_may_go_by.ensures.process (A.started c.args.me)
           (A.started c.args.me) [] Nothing);
-      stored = ap stored_of c.seated.ensures ∙ ap (λ m. stored_in m.0) me;
+      notes = ap notes_of c.seated.ensures ∙ ap (λ m. notes_in m.0) me;
     }

@@ -59,6 +59,13 @@ returns-clause-tap g c =
     let cut = c.cut_tap-seat.ensures in
     record {
       table_is = ap (λ s. s.table_id) c.seated.ensures ∙ cut.table.1;
+      me =
+          ap (λ s. s.me) c.seated.ensures ∙ cut.seat
+          ∙ ap (λ m. (tap_right m.0, [])) c.requires.maker
+          ∙ ap (λ k. (Tap A.table_layout (new_receiver_view k), []))
+          (let same = c.requires.senders in
+          let is : c.args.plan.shape.senders + c.args.index - A.table_layout.senders
+          ≡ c.args.index = omega arith in is);
       receiver_view =
           ap (λ s. receiver_view_in s.me.0) c.seated.ensures
           ∙ ap (λ m. receiver_view_in m.0) cut.seat

@@ -7,7 +7,7 @@ use Rattle.bus_automaton.specs.Buses.{process_with}
 use Rattle.bus_pageslot.specs.Steps.Accepts.{Nothing}
 use Rattle.bus_pageslot.specs.Seats.{Took}
 use Rattle.bus_pageslot.specs.Steps.{Gone, GoesOn}
-use Rattle.bus_pageslot.proofs.Walks.{ended, core_is, stored_now, laid_now, numbered_now, me_now}
+use Rattle.bus_pageslot.proofs.Walks.{ended, core_is, notes_now, laid_now, numbered_now, me_now}
 use Rattle.bus_pageslot.proofs.Walks.{all_now, counted_now, wide_now}
 use Rattle.bus_pageslot.proofs.steps.walk.Goals as goal
 
@@ -114,7 +114,7 @@ returns-clause-took g c =
           c.feed_of-turn.new.self c.put_out.ensures.core c.put_out.ensures.me gone
           c.feed_of-turn.ensures.state
           c.take_in.new.seat.me c.take_in.new.core c.take_in.ensures.core c.take_in.ensures.me;
-      stored = stored_now P K d c.args.seat.now.me c.put_out.new.seat.me c.step-got.new.seat.me
+      notes = notes_now P K d c.args.seat.now.me c.put_out.new.seat.me c.step-got.new.seat.me
           c.args.word c.step-got.result (ap (λ x. x.1) c.requires.shows.me) c.put_out.new.core
           c.feed_of-turn.new.self c.put_out.ensures.core c.put_out.ensures.me gone
           c.feed_of-turn.ensures.state

@@ -1,12 +1,11 @@
-use Rattle.std.proofs.Common.{of_calls, refl, sym, ◌∙◌, ap, subst, inl, inr}
+use Rattle.std.proofs.Common.{of_calls, refl, sym, ◌∙◌, inl, inr}
 use Rattle.std.proofs.lemmas.Bool.{true≢false}
-use Rattle.bus_automaton.specs.Buses.{process_with}
-use Rattle.bus_pageslot.specs.Seats.{table_of}
-use Rattle.bus_pageslot.specs.Turns.{tells_with, DrawsOn, Undrawn}
-use Rattle.bus_pageslot.specs.Room.{Begins, Goes, Asks}
+use Rattle.bus_automaton.specs.Buses.{process_with, automaton_with}
+use Rattle.bus_pageslot.specs.Turns.{tells_with}
+use Rattle.bus_pageslot.specs.Room.{Begins, Goes, Asks, Undrawn}
 use Rattle.bus_pageslot.proofs.Keeping.{leaves_batch}
-use Rattle.bus_pageslot.proofs.Plain.{goes_drawing}
-use Rattle.bus_pageslot.proofs.Room.{goes_in_row, rows_last, sends_puts, for_room_keeps}
+use Rattle.bus_pageslot.proofs.Room.{goes_in_row, plain_for_room, rows_last, sends_puts}
+use Rattle.bus_pageslot.proofs.Room.{for_room_keeps}
 use Rattle.bus_pageslot.proofs.Room.{stopped_puts, stopped_waits, fills}
 use Rattle.bus_pageslot.proofs.seats.Sender.send_when_room.Goals as goal
 
@@ -26,13 +25,17 @@ pub loop-preserved-then-plain_turns-gt0 : goal.loop-preserved-then-plain_turns-g
 unfolding tells_with
 loop-preserved-then-plain_turns-gt0 g c =
     let P = process_with g.Q.Machine.kind_of g.Q.Machine.op g.Q.Machine.fed g.Q.Ratifier.protocol in
+    let A =
+    automaton_with g.Q.Machine.kind_of g.Q.Machine.op g.Q.Machine.fed g.Q.Ratifier.protocol
+    c.args.bus.now.plan in
     let T = tells_with g.Q.Machine.kind_of g.Q.Machine.op g.Q.Machine.fed g.Q.Ratifier.protocol in
     let goes = c.plain_turns.ensures.goes in (
       c.loop.invariant.0,
       goes_in_row c.plain_turns.result c.plain_turns.new.self c.loop.invariant.1 goes,
       c.plain_turns.ensures.table ∙ c.loop.invariant.2,
-      goes_drawing P T c.args.self.now (g.R.Rng.stream c.args.rng.now) (g.R.Rng.stream c.loop.rng)
-          c.loop.self c.plain_turns.result c.plain_turns.new.self c.loop.invariant.3 goes,
+      plain_for_room P A T c.args.self.now (g.R.Rng.stream c.args.rng.now)
+          (g.R.Rng.stream c.loop.rng) c.loop.self c.plain_turns.result c.plain_turns.new.self
+          c.loop.invariant.3 goes,
     )
 
 -- there was no room; now there is
@@ -40,18 +43,20 @@ pub loop-preserved-then-is_full : goal.loop-preserved-then-is_full
 unfolding tells_with
 loop-preserved-then-is_full g c =
     let P = process_with g.Q.Machine.kind_of g.Q.Machine.op g.Q.Machine.fed g.Q.Ratifier.protocol in
+    let A =
+    automaton_with g.Q.Machine.kind_of g.Q.Machine.op g.Q.Machine.fed g.Q.Ratifier.protocol
+    c.args.bus.now.plan in
     let T = tells_with g.Q.Machine.kind_of g.Q.Machine.op g.Q.Machine.fed g.Q.Ratifier.protocol in
     let row = rows_last c.next_turns-turn.result c.next_turns-turn.new.self
     (g.R.Rng.stream c.next_turns-turn.new.rng) c.loop.invariant.1 c.loop.invariant.3
     c.plain_turns.ensures.goes c.next_turns-turn.ensures.some in
-    let full = fills row.before (c.is_full.ensures.full c.if-is_full.true) row.turned in
-    let same = c.finds_room.ensures.same in (
+    let full = fills row.before (c.is_full.ensures.full c.if-is_full.true) row.turned in (
       c.finds_room.ensures.callable,
       c.finds_room.ensures.finds c.if-not-finds_room.false c.args.self.now c.args.go_on full,
-      ap table_of same ∙ c.next_turns-turn.ensures.table ∙ c.plain_turns.ensures.table
+      c.finds_room.ensures.table ∙ c.next_turns-turn.ensures.table ∙ c.plain_turns.ensures.table
           ∙ c.loop.invariant.2,
-      subst (λ s. DrawsOn P T c.args.self.now (g.R.Rng.stream c.args.rng.now) s
-          (g.R.Rng.stream c.next_turns-turn.new.rng)) (sym same) row.draws,
+      c.finds_room.ensures.draws c.args.self.now (g.R.Rng.stream c.args.rng.now)
+          (g.R.Rng.stream c.next_turns-turn.new.rng) row.draws,
     )
 
 -- it was told to stop before a look
@@ -73,6 +78,9 @@ pub returns-then-not-finds_room-clause-waits : goal.returns-then-not-finds_room-
 unfolding tells_with
 returns-then-not-finds_room-clause-waits g c =
     let P = process_with g.Q.Machine.kind_of g.Q.Machine.op g.Q.Machine.fed g.Q.Ratifier.protocol in
+    let A =
+    automaton_with g.Q.Machine.kind_of g.Q.Machine.op g.Q.Machine.fed g.Q.Ratifier.protocol
+    c.args.bus.now.plan in
     let T = tells_with g.Q.Machine.kind_of g.Q.Machine.op g.Q.Machine.fed g.Q.Ratifier.protocol in
     let row = rows_last c.next_turns-turn.result c.next_turns-turn.new.self
     (g.R.Rng.stream c.next_turns-turn.new.rng) c.loop.invariant.1 c.loop.invariant.3
@@ -80,7 +88,7 @@ returns-then-not-finds_room-clause-waits g c =
     let full = fills row.before (c.is_full.ensures.full c.if-is_full.true) row.turned in
     let stops = c.finds_room.ensures.stops c.if-not-finds_room.true c.args.self.now c.args.go_on
     full in
-    stopped_waits P T (goal.F-step g) c.args.self.now c.args.go_on
+    stopped_waits P A T (goal.F-step g) c.args.self.now c.args.go_on
     (leaves_batch g.Q.Machine.kind_of g.Q.Machine.op g.Q.Machine.fed g.Q.Ratifier.protocol)
     c.finds_room.new.self (inr stops)
 
@@ -88,6 +96,9 @@ pub returns-then-not-finds_room-clause-puts : goal.returns-then-not-finds_room-c
 unfolding tells_with
 returns-then-not-finds_room-clause-puts g c =
     let P = process_with g.Q.Machine.kind_of g.Q.Machine.op g.Q.Machine.fed g.Q.Ratifier.protocol in
+    let A =
+    automaton_with g.Q.Machine.kind_of g.Q.Machine.op g.Q.Machine.fed g.Q.Ratifier.protocol
+    c.args.bus.now.plan in
     let T = tells_with g.Q.Machine.kind_of g.Q.Machine.op g.Q.Machine.fed g.Q.Ratifier.protocol in
     let row = rows_last c.next_turns-turn.result c.next_turns-turn.new.self
     (g.R.Rng.stream c.next_turns-turn.new.rng) c.loop.invariant.1 c.loop.invariant.3
@@ -95,7 +106,7 @@ returns-then-not-finds_room-clause-puts g c =
     let full = fills row.before (c.is_full.ensures.full c.if-is_full.true) row.turned in
     let stops = c.finds_room.ensures.stops c.if-not-finds_room.true c.args.self.now c.args.go_on
     full in
-    stopped_puts P T (goal.F-step g) c.args.self.now c.args.go_on
+    stopped_puts P A T (goal.F-step g) c.args.self.now c.args.go_on
     c.threads_may_go_by.ensures.process
     c.finds_room.new.self (inr stops)
 
@@ -103,12 +114,15 @@ pub returns-then-not-finds_room-clause-draws : goal.returns-then-not-finds_room-
 unfolding tells_with
 returns-then-not-finds_room-clause-draws g c =
     let P = process_with g.Q.Machine.kind_of g.Q.Machine.op g.Q.Machine.fed g.Q.Ratifier.protocol in
+    let A =
+    automaton_with g.Q.Machine.kind_of g.Q.Machine.op g.Q.Machine.fed g.Q.Ratifier.protocol
+    c.args.bus.now.plan in
     let T = tells_with g.Q.Machine.kind_of g.Q.Machine.op g.Q.Machine.fed g.Q.Ratifier.protocol in
     let row = rows_last c.next_turns-turn.result c.next_turns-turn.new.self
     (g.R.Rng.stream c.next_turns-turn.new.rng) c.loop.invariant.1 c.loop.invariant.3
     c.plain_turns.ensures.goes c.next_turns-turn.ensures.some in
-    subst (λ s. DrawsOn P T c.args.self.now (g.R.Rng.stream c.args.rng.now) s
-    (g.R.Rng.stream c.next_turns-turn.new.rng)) (sym c.finds_room.ensures.same) row.draws
+    c.finds_room.ensures.draws c.args.self.now (g.R.Rng.stream c.args.rng.now)
+    (g.R.Rng.stream c.next_turns-turn.new.rng) row.draws
 
 -- a last answer
 pub returns-then-ends_sending-clause-fits : goal.returns-then-ends_sending-clause-fits
@@ -134,11 +148,14 @@ pub returns-then-ends_sending-clause-keeps : goal.returns-then-ends_sending-clau
 unfolding tells_with
 returns-then-ends_sending-clause-keeps g c =
     let P = process_with g.Q.Machine.kind_of g.Q.Machine.op g.Q.Machine.fed g.Q.Ratifier.protocol in
+    let A =
+    automaton_with g.Q.Machine.kind_of g.Q.Machine.op g.Q.Machine.fed g.Q.Ratifier.protocol
+    c.args.bus.now.plan in
     let T = tells_with g.Q.Machine.kind_of g.Q.Machine.op g.Q.Machine.fed g.Q.Ratifier.protocol in
     let row = rows_last c.next_turns-turn.result c.next_turns-turn.new.self
     (g.R.Rng.stream c.next_turns-turn.new.rng) c.loop.invariant.1 c.loop.invariant.3
     c.plain_turns.ensures.goes c.next_turns-turn.ensures.some in
-    for_room_keeps P T (goal.F-step g) c.args.self.now c.args.go_on
+    for_room_keeps P A T (goal.F-step g) c.args.self.now c.args.go_on
     (leaves_batch g.Q.Machine.kind_of g.Q.Machine.op g.Q.Machine.fed g.Q.Ratifier.protocol)
     c.next_turns-turn.result c.next_turns-turn.new.self (record {
       old = row.old;
@@ -154,11 +171,15 @@ pub returns-then-ends_sending-clause-puts : goal.returns-then-ends_sending-claus
 unfolding tells_with
 returns-then-ends_sending-clause-puts g c =
     let P = process_with g.Q.Machine.kind_of g.Q.Machine.op g.Q.Machine.fed g.Q.Ratifier.protocol in
+    let A =
+    automaton_with g.Q.Machine.kind_of g.Q.Machine.op g.Q.Machine.fed g.Q.Ratifier.protocol
+    c.args.bus.now.plan in
     let T = tells_with g.Q.Machine.kind_of g.Q.Machine.op g.Q.Machine.fed g.Q.Ratifier.protocol in
     let row = rows_last c.next_turns-turn.result c.next_turns-turn.new.self
     (g.R.Rng.stream c.next_turns-turn.new.rng) c.loop.invariant.1 c.loop.invariant.3
     c.plain_turns.ensures.goes c.next_turns-turn.ensures.some in
-    sends_puts P T (goal.F-step g) c.args.self.now c.args.go_on c.threads_may_go_by.ensures.process
+    sends_puts P A T (goal.F-step g) c.args.self.now c.args.go_on
+    c.threads_may_go_by.ensures.process
     c.next_turns-turn.result c.next_turns-turn.new.self (record {
       old = row.old;
       asked = c.loop.go_on;
@@ -218,11 +239,14 @@ pub returns-then-not-go_on-clause-waits : goal.returns-then-not-go_on-clause-wai
 unfolding tells_with
 returns-then-not-go_on-clause-waits g c =
     let P = process_with g.Q.Machine.kind_of g.Q.Machine.op g.Q.Machine.fed g.Q.Ratifier.protocol in
+    let A =
+    automaton_with g.Q.Machine.kind_of g.Q.Machine.op g.Q.Machine.fed g.Q.Ratifier.protocol
+    c.args.bus.now.plan in
     let T = tells_with g.Q.Machine.kind_of g.Q.Machine.op g.Q.Machine.fed g.Q.Ratifier.protocol in
     let row = rows_last c.next_turns-turn.result c.next_turns-turn.new.self
     (g.R.Rng.stream c.next_turns-turn.new.rng) c.loop.invariant.1 c.loop.invariant.3
     c.plain_turns.ensures.goes c.next_turns-turn.ensures.some in
-    stopped_waits P T (goal.F-step g) c.args.self.now c.args.go_on
+    stopped_waits P A T (goal.F-step g) c.args.self.now c.args.go_on
     (leaves_batch g.Q.Machine.kind_of g.Q.Machine.op g.Q.Machine.fed g.Q.Ratifier.protocol)
     c.next_turns-turn.new.self (inl (record {
       old = row.old;
@@ -240,11 +264,14 @@ pub returns-then-not-go_on-clause-puts : goal.returns-then-not-go_on-clause-puts
 unfolding tells_with
 returns-then-not-go_on-clause-puts g c =
     let P = process_with g.Q.Machine.kind_of g.Q.Machine.op g.Q.Machine.fed g.Q.Ratifier.protocol in
+    let A =
+    automaton_with g.Q.Machine.kind_of g.Q.Machine.op g.Q.Machine.fed g.Q.Ratifier.protocol
+    c.args.bus.now.plan in
     let T = tells_with g.Q.Machine.kind_of g.Q.Machine.op g.Q.Machine.fed g.Q.Ratifier.protocol in
     let row = rows_last c.next_turns-turn.result c.next_turns-turn.new.self
     (g.R.Rng.stream c.next_turns-turn.new.rng) c.loop.invariant.1 c.loop.invariant.3
     c.plain_turns.ensures.goes c.next_turns-turn.ensures.some in
-    stopped_puts P T (goal.F-step g) c.args.self.now c.args.go_on
+    stopped_puts P A T (goal.F-step g) c.args.self.now c.args.go_on
     c.threads_may_go_by.ensures.process
     c.next_turns-turn.new.self (inl (record {
       old = row.old;

@@ -25,5 +25,5 @@ invariant_of-self g c =
       c.store_plain.ensures.shows,
       c.self.invariant.1 ∙ sym (stored_behind c.args.at.now c.args.value.now before stores.behind)
           ∙ ap (λ o. stored_by o before) (sym (stores.step c.args.word))
-          ∙ sym c.store_plain.ensures.took.took.stored,
+          ∙ sym (ap (λ n. n.stored) c.store_plain.ensures.took.took.notes),
     )

@@ -4,7 +4,7 @@ use Rattle.bus_core.specs.Senders.{Sender}
 use Rattle.bus_tenure.specs.Elections.{Elector}
 use Rattle.bus_automaton.specs.Buses.{process_with}
 use Rattle.bus_pageslot.specs.Buses.{BusId}
-use Rattle.bus_pageslot.specs.Rule.{sender_trail_in, stored_in, known_in}
+use Rattle.bus_pageslot.specs.Rule.{sender_trail_in, notes_in, stored_in, known_in}
 use Rattle.bus_pageslot.specs.Steps.{KnowsSent}
 use Rattle.bus_pageslot.specs.Seats.{SenderSeat, table_of, actions_of, stored_of}
 use Rattle.bus_pageslot.proofs.Puts.{actions_are, shows_same}
@@ -29,7 +29,7 @@ invariant_of-self g c =
     let h = c.self.invariant.0 in
     let n = c.requires.tap in
     let seat = c.self.inside.seat in
-    let told = told_of P h.shown (sender_trail_in seat.me.0) (stored_in seat.me.0) _ n.0 n.1 seat.me
+    let told = told_of P h.shown (sender_trail_in seat.me.0) (notes_in seat.me.0) _ n.0 n.1 seat.me
     c.args.tap.me c.meet.result.0 c.meet.new.seat.me c.meet.result.1.me h.me n.2
     c.meet.ensures.met in (
       shows_same P c.threads_may_go_by.ensures.process c.self.inside.core seat h c.meet.new.seat
@@ -45,7 +45,7 @@ returns-clause-sent g c =
     let seat = c.self.inside.seat in
     let core = c.self.inside.core in
     let known = known_in c.meet.result.1.me.0 in
-    let told = told_of P h.shown (sender_trail_in seat.me.0) (stored_in seat.me.0) _ n.0 n.1 seat.me
+    let told = told_of P h.shown (sender_trail_in seat.me.0) (notes_in seat.me.0) _ n.0 n.1 seat.me
     c.args.tap.me c.meet.result.0 c.meet.new.seat.me c.meet.result.1.me h.me n.2
     c.meet.ensures.met in
     subst (λ (s : SenderSeat (Sender (Elector g.row.Q.Denot))).

@@ -56,7 +56,7 @@ invariant_of-self g c = (
   c.length_after-self-inside.ensures ∙ ap (stored_by (Some c.in-Some.op)) c.self.invariant.1
       ∙ ap (λ o. stored_by o (stored_in c.self.inside.seat.me.0))
       (sym (sym c.next_of.ensures.step ∙ c.in-Some.is))
-      ∙ sym c.walk.ensures.took.took.stored,
+      ∙ sym (ap (λ n. n.stored) c.walk.ensures.took.took.notes),
 )
 
 pub returns-clause-rests : goal.returns-clause-rests

@@ -21,15 +21,6 @@ load-requires g c =
           c.args.seat.now.id c.args.seat.now.me c.args.at,
     )
 
-pub returns-clause-seat : goal.returns-clause-seat
-returns-clause-seat g c =
-    let same = c.load.ensures in λ i. record {
-      marker = c.args.seat.now.marker;
-      table_id = same.0 i;
-      id = same.1 i;
-      me = same.2.0 i;
-    }
-
 pub returns-clause-found : goal.returns-clause-found
 returns-clause-found g c =
     let P = process_with g.Q.Machine.kind_of g.Q.Machine.op g.Q.Machine.fed g.Q.Ratifier.protocol in
