@@ -1,0 +1,15 @@
+pub mod CauseLaws
+pub mod EndLaws
+pub mod FoldLaws
+pub mod FunctionLaws
+pub mod GoingLaws
+pub mod HearingLaws
+pub mod LaterLaws
+pub mod LeavingLaws
+pub mod LinearLaws
+pub mod OpeningLaws
+pub mod OrderLaws
+pub mod OwnLaws
+pub mod ReadLaws
+pub mod SendingLaws
+pub mod TimeLaws

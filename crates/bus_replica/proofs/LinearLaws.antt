@@ -1,0 +1,231 @@
+-- What a call executed stands behind all that was in the order when it began.
+use Rattle.std.proofs.Common.{◌≡◌, ℕ, ◌≤◌, true, inr, Option, List, [], ◌∷◌}
+use Rattle.std.proofs.Common.{◌++◌, length, slice_get, refl, sym, ◌∙◌, ap, subst, append_assoc}
+use Rattle.std.proofs.Common.{arith}
+use Rattle.std.proofs.lemmas.Grind.{flat_map-append}
+use Rattle.std.proofs.lemmas.List.{length-append}
+use mathlib.Core.Option.{some}
+use lib.ListN.{get_elem?}
+use Rattle.atomic_table.specs.Table.{State}
+use Rattle.bus_batch.specs.declared.messages.Item.{Item}
+use Rattle.bus_batch.specs.Frames.{Order, items_in, order_of}
+use Rattle.bus_tenure.specs.declared.pages.Page.{Page}
+use Rattle.bus_world.specs.Headline.{Action, IsPrefix, puts, put_of}
+use Rattle.bus_automaton.specs.Lawful.{ProcessLaws, AutomatonLaws}
+use Rattle.bus_automaton.specs.Processes.{Process, Automaton, TableLayout, base_in}
+use Rattle.bus_automaton.specs.SenderTrails.{SenderTrail}
+use Rattle.bus_pageslot.specs.Lasting.{RuledTable, published}
+use Rattle.bus_pageslot.specs.Notes.{Notes}
+use Rattle.bus_pageslot.specs.Promised.{IsPromised, Fits}
+use Rattle.bus_pageslot.specs.Rule.{Sat, TableInvariant, IsTrueOf, receiver_view_in}
+use Rattle.bus_pageslot.specs.Rule.{sender_trail_in, notes_in, IsSeated as IsSeatedIn}
+use Rattle.bus_pageslot.specs.Seats.{SenderSeat, first_number_of, actions_of}
+use Rattle.bus_pageslot.specs.Steps.{Accepts, Nothing, Message, Marks, since_in}
+use Rattle.bus_pageslot.specs.Turns.{Tellings}
+use Rattle.bus_pageslot.specs.declared.rule.View.{View}
+use Rattle.bus_pageslot.specs.declared.rule.View.TheVariants.{Maker, Sender, Tap, Meeting, Telling}
+use Rattle.bus_pageslot.specs.declared.rule.View.TheVariants.{Spent}
+use Rattle.bus_replica.specs.Replicas.{Operations, StandsLast, PutsMore, Replicated, has_view}
+use Rattle.bus_replica.specs.Replicas.{items_heard}
+use Rattle.bus_replica.specs.Linearized.{PageOf, SitsAt, IsLinearized}
+use Rattle.bus_replica.proofs.LaterLaws.{stands_behind, items_of_more}
+use Rattle.bus_replica.proofs.OrderLaws.{items_begin, shows_own}
+use Rattle.bus_replica.proofs.OwnLaws.{own_operation, at_place}
+use Rattle.bus_replica.proofs.TimeLaws.{front_frames}
+
+-- A seat of the table shows this sender: the worker of this number, whose first message has the
+-- number with which the sitting begins for it.
+pub record IsSeated {C : Type 0} (P : Process C) (base : ℕ → ℕ) (s : State (Option Page) (View C))
+    (seat : SenderSeat C) (worker : ℕ) : Type 0 where
+  pub place : ℕ
+  pub at : get_elem? s.views place ≡ some seat.seat.me.0
+  pub core : C
+  pub trail : SenderTrail
+  pub notes : Notes
+  pub shows : seat.seat.me.0 ≡ Sender core trail notes
+  pub me : P.me core ≡ worker
+  pub first : first_number_of P seat ≡ base worker
+
+-- of two beginnings of one list the shorter one begins the other
+begins_front : {A : Type 0} (xs ys us vs : List A) → xs ++ ys ≡ us ++ vs → length xs ≤ length us
+    → IsPrefix xs us
+begins_front [] ys us vs e l = record { rest = us; together = refl }
+begins_front (x ∷ xs) ys [] vs e l = absurd (omega (arith, l))
+begins_front (x ∷ xs) ys (u ∷ us) vs e l =
+    let rest = begins_front xs ys us vs (cc) (omega (arith, l)) in
+    let same : x ≡ u = cc in
+    record {
+      rest = rest.rest;
+      together = ap (λ z. z ∷ xs ++ rest.rest) same ∙ ap (λ z. u ∷ z) rest.together;
+    }
+
+-- the items of an order begin those of a later one
+pub items_on : {C : Type 0} (P : Process C) (x : TableLayout) (base : ℕ → ℕ) (log later : List ℕ)
+    (s t : State (Option Page) (View C)) (h : IsPromised P x base log s)
+    (k : IsPromised P x base later t) → IsPrefix log later
+    → IsPrefix (items_in h.order.entries) (items_in k.order.entries)
+items_on P x base log later s t h k on =
+    let a = h.spelled in
+    let b = k.spelled in
+    let split = front_frames x.senders 0 0 a.frames b.frames on.rest a.lawful b.lawful
+    (ap (λ z. z ++ on.rest) a.words_are ∙ on.together ∙ sym b.words_are) in
+    let more = items_in (order_of split.0).entries in
+    record {
+      rest = more;
+      together = sym (ap (λ (o : Order). items_in o.entries) (sym b.order_is)
+          ∙ ap (λ z. items_in (order_of z).entries) split.1 ∙ items_of_more a.frames split.0
+          ∙ ap (λ (o : Order). items_in o.entries ++ more) a.order_is);
+    }
+
+-- at a moment a sender has put at least what the page of promises has of it
+has_put_all : {C : Type 0} (P : Process C) (x : TableLayout) (base : ℕ → ℕ) (log : List ℕ)
+    (s : State (Option Page) (View C)) (h : IsPromised P x base log s) (seat : SenderSeat C)
+    (worker : ℕ) → IsSeated P base s seat worker
+    → length (puts (h.actions worker)) ≤ length (puts (actions_of P seat))
+has_put_all {C} P x base log s h seat worker sits =
+    let shown : h.actions (P.me sits.core) ≡ sits.trail.actions =
+    subst (Fits P h.actions log) sits.shows (h.views sits.place seat.seat.me.0 sits.at) in
+    let since = since_in P seat.seat.me.0 seat.core in
+    let all : actions_of P seat ≡ h.actions worker ++ since =
+    ap (λ (z : View C). (sender_trail_in z).actions ++ since) sits.shows
+    ∙ ap (λ z. z ++ since) (sym shown)
+    ∙ ap (λ p. h.actions p ++ since) sits.me in
+    let both = ap (λ z. length (puts z)) all
+    ∙ ap length (flat_map-append put_of (h.actions worker) since) in
+    let long = length-append (puts (h.actions worker)) (puts since) in
+    omega (arith, both, long)
+
+pub linearized : {C S A : Type 0} (IsFirst : S → Type 0) (Applies : Operations S A) (P : Process C)
+    (T : Tellings C) (x : TableLayout) (base : ℕ → ℕ) (log later : List ℕ)
+    (s t : State (Option Page) (View C))
+    (h : IsPromised P x base log s) (k : IsPromised P x base later t) → IsPrefix log later
+    → (old new : SenderSeat C) (worker number : ℕ) (bytes : List ℕ)
+    → IsSeated P base s old worker → IsSeated P base t new worker
+    → PutsMore P T old new number bytes → (j : ℕ) (w : View C) (state : S) (answer : A)
+    → get_elem? t.views j ≡ some w → has_view w ≡ true
+    → StandsLast IsFirst Applies w state worker number answer
+    → IsLinearized IsFirst Applies h.order k.order worker number bytes answer state
+linearized {C} {S} {A} IsFirst Applies P T x base log later s t h k on old new worker number bytes
+    sits sits' put j w state answer at has last =
+    let answers = (receiver_view_in w).answers in
+    let page = k.promises (λ r. answers) (λ r. inr (j, w, at, shows_own w has)) in
+    let front = items_begin answers answers k.order (page.delivered 0) in
+    let stands : items_in k.order.entries ≡ last.before ++ last.item ∷ front.rest =
+    sym front.together ∙ ap (λ z. z ++ front.rest) last.items_are
+    ∙ append_assoc last.before (last.item ∷ []) front.rest in
+    let last' : StandsLast IsFirst Applies w state (P.me sits'.core) number answer = record {
+      first = last.first;
+      begins = last.begins;
+      before = last.before;
+      item = last.item;
+      items_are = last.items_are;
+      worker_is = last.worker_is ∙ sym sits'.me;
+      number_is = last.number_is;
+      at = last.at;
+      folds = last.folds;
+      applied = last.applied;
+    } in
+    let first' : first_number_of P new ≡ base (P.me sits'.core) =
+    sits'.first ∙ ap base (sym sits'.me) in
+    let bytes_are : last.item.message ≡ bytes =
+    own_operation IsFirst Applies P T x base later t k j sits'.place w old new sits'.core
+    sits'.trail
+    sits'.notes state number bytes answer at has sits'.at sits'.shows first' put last' in
+    let all = has_put_all P x base log s h old worker sits in
+    let counted = put.number_is in
+    let first = sits.first in
+    let numbered = last.number_is in
+    let place = stands_behind P x base log later s t h k on worker (length last.before) last.item
+    (ap (λ z. slice_get z (length last.before)) stands ∙ at_place last.before front.rest last.item)
+    last.worker_is (omega (arith, all, counted, first, numbered)) in
+    let begun = items_on P x base log later s t h k on in
+    record {
+      before = last.before;
+      item = last.item;
+      after = front.rest;
+      stands = stands;
+      worker_is = last.worker_is;
+      number_is = last.number_is;
+      bytes_are = bytes_are;
+      behind = begins_front (items_in h.order.entries) begun.rest last.before
+          (last.item ∷ front.rest) (begun.together ∙ stands) place;
+      first = last.first;
+      begins = last.begins;
+      at = last.at;
+      folds = last.folds;
+      applied = subst (λ z. Applies last.at z bytes answer state) last.worker_is
+          (subst (λ z. Applies last.at last.item.sender.0 z answer state) bytes_are last.applied);
+    }
+
+-- ---- of two moments
+-- what a sender accepts leaves its number
+accepts_me : {C : Type 0} (P : Process C) → ProcessLaws P → (c d : C) (actions : List Action)
+    → Accepts P c d actions → P.me d ≡ P.me c
+accepts_me P laws c _ _ Nothing = refl
+accepts_me P laws c _ _ (Message d actions bytes before can small) =
+    (laws.message d bytes).me ∙ accepts_me P laws c d actions before
+accepts_me P laws c _ _ (Marks d actions mark before can) =
+    (laws.marked d mark).me ∙ accepts_me P laws c d actions before
+
+-- whoever sits at a table of which the rule holds begins with the number of the sitting
+seated : {C : Type 0} (P : Process C) (A : Automaton C) → ProcessLaws P → AutomatonLaws P A
+    → (s : State (Option Page) (View C)) → TableInvariant P A s → (seat : SenderSeat C)
+    → SitsAt P s seat → IsSeated P (base_in A) s seat (P.me seat.core)
+seated {C} P A laws lawful s r seat sits =
+    let c = sits.shows.shown in
+    let trail = sender_trail_in seat.seat.me.0 in
+    let notes = notes_in seat.seat.me.0 in
+    let shows : seat.seat.me.0 ≡ Sender c trail notes =
+    ap (λ (m : Sat C). m.0) sits.shows.me in
+    let me : P.me seat.core ≡ P.me c =
+    accepts_me P laws c seat.core sits.shows.actions sits.shows.accepts in
+    let here : IsSeatedIn P A r.state r.seat sits.place c trail notes.stored =
+    subst (IsTrueOf P A r.state r.seat r.ear sits.place) shows
+    (r.views sits.place seat.seat.me.0 sits.at) in
+    record {
+      place = sits.place;
+      at = sits.at;
+      core = c;
+      trail = trail;
+      notes = notes;
+      shows = shows;
+      me = sym me;
+      first =
+          ap (λ (t : SenderTrail). t.first) (sym here.sender_trail_is)
+          ∙ lawful.first r.state (P.me c) r.reached ∙ ap (base_in A) (sym me);
+    }
+
+-- who was given an item is a receiver
+none_given : (before : List Item) (item : Item) → ◌≡◌ {A = List Item} [] (before ++ item ∷ []) → ⊥
+none_given [] item e = let no : ◌≡◌ {A = List Item} [] (item ∷ []) = e in cc
+none_given (x ∷ before) item e =
+    let no : ◌≡◌ {A = List Item} [] (x ∷ (before ++ item ∷ [])) = e in cc
+
+given_some : {C : Type 0} (v : View C) (before : List Item) (item : Item)
+    → items_heard v ≡ before ++ item ∷ [] → has_view v ≡ true
+given_some (Maker x made) before item e = absurd (none_given before item e)
+given_some (Sender c trail notes) before item e = absurd (none_given before item e)
+given_some (Tap x e) before item h = refl
+given_some (Meeting x e y f) before item h = refl
+given_some (Telling c trail notes x e) before item h = refl
+given_some Spent before item e = absurd (none_given before item e)
+
+pub executed : {C S A : Type 0} (IsFirst : S → Type 0) (Applies : Operations S A) (P : Process C)
+    (T : Tellings C) (Bus : Automaton C) → ProcessLaws P → AutomatonLaws P Bus
+    → (s t : RuledTable P Bus) (h : PageOf s) (k : PageOf t) → IsPrefix (published s) (published t)
+    → (old new : Replicated C S) (number : ℕ) (bytes : List ℕ) (answer : A) (j : ℕ)
+    → SitsAt P s.table old.sender → SitsAt P t.table new.sender
+    → get_elem? t.table.views j ≡ some new.me.0
+    → PutsMore P T old.sender new.sender number bytes
+    → StandsLast IsFirst Applies new.me.0 new.state (P.me old.sender.core) number answer
+    → IsLinearized IsFirst Applies h.order k.order (P.me old.sender.core) number bytes answer
+    new.state
+executed {C} IsFirst Applies P T Bus laws lawful s t h k on old new number bytes answer j sits sits'
+    at put last =
+    linearized IsFirst Applies P T Bus.table_layout (base_in Bus) (published s) (published t)
+    s.table t.table h k on old.sender new.sender (P.me old.sender.core) number bytes
+    (seated P Bus laws lawful s.table s.rule old.sender sits)
+    (subst (λ w. IsSeated P (base_in Bus) t.table new.sender w) put.me_is
+    (seated P Bus laws lawful t.table t.rule new.sender sits'))
+    put j new.me.0 new.state answer at
+    (given_some new.me.0 last.before last.item last.items_are) last

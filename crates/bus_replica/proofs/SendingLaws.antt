@@ -1,0 +1,301 @@
+-- What a sender has put stays what it has put, by the same numbers, whatever else it does.
+use Rattle.std.proofs.Common.{◌≡◌, ℕ, ◌+◌, Bool, true, false, List, [], ◌∷◌, ◌++◌, length, Option}
+use Rattle.std.proofs.Common.{Some, None, refl, sym, ◌∙◌, ap, subst}
+use Rattle.std.specs.Prelude.{IfSome, IfNone, IfOk, IfErr, Result, Ok, Err, OnErr, OnOk, is_ok}
+use Rattle.atomic_table.specs.declared.shared.Seat.{Seat}
+use Rattle.bus_batch.specs.Batches.{CanPut, IsCloseFault, next_of}
+use Rattle.bus_batch.specs.declared.batches.CloseFault.{CloseFault}
+use Rattle.bus_batch.specs.declared.messages.Mark.{Mark}
+use Rattle.bus_core.specs.Senders.{Sender as Held}
+use Rattle.bus_tenure.specs.Core.{Election}
+use Rattle.bus_tenure.specs.declared.pages.Page.{Page}
+use Rattle.bus_tenure.specs.declared.turns.Turn.{Turn}
+use Rattle.bus_world.specs.Headline.{HasPut, puts, put_of}
+use Rattle.std.proofs.lemmas.Grind.{flat_map-append}
+use Rattle.bus_automaton.specs.Processes.{Process, Automaton}
+use Rattle.bus_automaton.specs.SenderTrails.{SenderTrail}
+use Rattle.bus_automaton.specs.declared.plans.Plan.{Plan}
+use Rattle.bus_pageslot.specs.Finishing.{GoesThrough, Begun, Through, HasFinished, Finishes}
+use Rattle.bus_pageslot.specs.Looks.{LooksForRoom}
+use Rattle.bus_pageslot.specs.Rule.{Sat}
+use Rattle.bus_pageslot.specs.Seats.{SenderSeat, first_number_of, actions_of, sender_trail_of}
+use Rattle.bus_pageslot.specs.Staying.{IsSameSender}
+use Rattle.bus_pageslot.specs.Steps.{all_in}
+use Rattle.bus_pageslot.specs.Turns.{Tellings, Turned, AsksOn, Begins, Goes, Asks, SendsAsking}
+use Rattle.bus_pageslot.specs.Turns.{StopsWaiting}
+use Rattle.bus_pageslot.specs.declared.rule.View.{View}
+use Rattle.bus_replica.specs.Causes.{WasAnswered, WasRefused, RefusesLeave}
+use Rattle.bus_replica.specs.Replicas.{PutsMore, PutsStay, WorksOn, Rests, Turns, Puts, Marks}
+use Rattle.bus_replica.specs.Replicas.{Looks, Operations, Replicated, StandsLast}
+
+-- ---- what a sender does, one after another
+pub works_trans : {C : Type 0} (P : Process C) (T : Tellings C) (a b c : SenderSeat C)
+    → WorksOn P T a b → WorksOn P T b c → WorksOn P T a c
+works_trans P T a b _ before Rests = before
+works_trans P T a b _ before (Turns old word answer new later turned) =
+    Turns old word answer new (works_trans P T a b old before later) turned
+works_trans P T a b _ before (Puts old bytes new later takes) =
+    Puts old bytes new (works_trans P T a b old before later) takes
+works_trans P T a b _ before (Marks old mark new later core seat) =
+    Marks old mark new (works_trans P T a b old before later) core seat
+works_trans P T a b _ before (Looks old new later core did) =
+    Looks old new (works_trans P T a b old before later) core did
+
+same_on : {C : Type 0} (P : Process C) (a b c : SenderSeat C) → IsSameSender P a b
+    → IsSameSender P b c → IsSameSender P a c
+same_on P a b c h k = record { me = k.me ∙ h.me; first = k.first ∙ h.first }
+
+same_here : {C : Type 0} (P : Process C) (a : SenderSeat C) → IsSameSender P a a
+same_here P a = record { me = refl; first = refl }
+
+-- turns, of which each leaves the sender who it is
+module _ {C : Type 0} (P : Process C) (T : Tellings C)
+    (turned_same : (old new : SenderSeat C) (word : ℕ) (answer : Turn)
+    → Turned P T old word answer new → IsSameSender P old new) where
+  asks_same : {F : Type 0} (Tells : F → Bool → F → Type 0) (first : SenderSeat C) (given : F)
+      (new : SenderSeat C) (f : F) → AsksOn P T Tells first given new f → IsSameSender P first new
+  asks_same Tells first given _ _ Begins = same_here P first
+  asks_same Tells first given _ _ (Goes old f word answer new before turned last goes) =
+      same_on P first old new (asks_same Tells first given old f before)
+      (turned_same old new word answer turned)
+  asks_same Tells first given _ _ (Asks old f word answer new f' before turned waits told) =
+      same_on P first old new (asks_same Tells first given old f before)
+      (turned_same old new word answer turned)
+
+  asks_work : {F : Type 0} (Tells : F → Bool → F → Type 0) (first : SenderSeat C) (given : F)
+      (new : SenderSeat C) (f : F) → AsksOn P T Tells first given new f → WorksOn P T first new
+  asks_work Tells first given _ _ Begins = Rests
+  asks_work Tells first given _ _ (Goes old f word answer new before turned last goes) =
+      Turns old word answer new (asks_work Tells first given old f before) turned
+  asks_work Tells first given _ _ (Asks old f word answer new f' before turned waits told) =
+      Turns old word answer new (asks_work Tells first given old f before) turned
+
+  pub tried_same : {F : Type 0} (Tells : F → Bool → F → Type 0) (first : SenderSeat C) (given : F)
+      (result : Option Turn) (new : SenderSeat C)
+      → IfSome result (λ turn. SendsAsking P T Tells first given turn new)
+      → IfNone result (StopsWaiting P T Tells first given new) → IsSameSender P first new
+  tried_same Tells first given None new some none =
+      same_on P first none.old new (asks_same Tells first given none.old none.asked none.before)
+      (turned_same none.old new none.word none.answer none.turned)
+  tried_same Tells first given (Some answer) new some none =
+      same_on P first some.old new (asks_same Tells first given some.old some.asked some.before)
+      (turned_same some.old new some.word answer some.turned)
+
+  pub tried_works : {F : Type 0} (Tells : F → Bool → F → Type 0) (first : SenderSeat C) (given : F)
+      (result : Option Turn) (new : SenderSeat C)
+      → IfSome result (λ turn. SendsAsking P T Tells first given turn new)
+      → IfNone result (StopsWaiting P T Tells first given new) → WorksOn P T first new
+  tried_works Tells first given None new some none =
+      Turns none.old none.word none.answer new
+      (asks_work Tells first given none.old none.asked none.before) none.turned
+  tried_works Tells first given (Some answer) new some none =
+      Turns some.old some.word answer new
+      (asks_work Tells first given some.old some.asked some.before) some.turned
+
+  pub tried_answered : {F : Type 0} (Tells : F → Bool → F → Type 0) (first : SenderSeat C)
+      (given : F) (result : Option Turn) (new : SenderSeat C)
+      → IfSome result (λ turn. SendsAsking P T Tells first given turn new)
+      → IfSome result (λ turn. WasAnswered P T first turn new)
+  tried_answered Tells first given None new some = tt
+  tried_answered Tells first given (Some answer) new some = record {
+    at = some.old;
+    word = some.word;
+    after = new;
+    before = asks_work Tells first given some.old some.asked some.before;
+    turned = some.turned;
+    behind = Rests;
+  }
+
+-- the turns that are left of a tenure
+module _ {E : Type 0} (X : Election E) (P : Process (Held E)) (T : Tellings (Held E)) where
+  through_works : (tenure : ℕ) (first : SenderSeat (Held E)) (count : ℕ)
+      (new : SenderSeat (Held E)) → GoesThrough P T tenure first count new
+      → WorksOn P T first new
+  through_works tenure first _ _ (Begun begun) = Rests
+  through_works tenure first _ _ (Through count old word answer new before turned last behind
+      begun) =
+      Turns old word answer new (through_works tenure first count old before) turned
+
+  pub finished_stays : (first : SenderSeat (Held E)) (result : Option Turn)
+      (new : SenderSeat (Held E)) → puts (actions_of P new) ≡ puts (actions_of P first)
+      → IfNone result ((new ≡ first) × HasFinished P first)
+      → IfSome result (λ turn. Finishes X P T first turn new)
+      → ((old new : SenderSeat (Held E)) (answer : Turn) → Finishes X P T old answer new
+      → IsSameSender P old new) → PutsStay P T first new
+  finished_stays first None new puts none some same = record {
+    puts_are = puts;
+    first_is = ap (first_number_of P) none.0;
+    me_is = ap (λ (s : SenderSeat (Held E)). P.me s.core) none.0;
+    works = subst (λ z. WorksOn P T first z) (sym none.0) Rests;
+  }
+  finished_stays first (Some answer) new puts none some same =
+      let one = same first new answer some in
+      record {
+        puts_are = puts;
+        first_is = one.first;
+        me_is = one.me;
+        works = Turns some.old some.word answer new
+            (through_works some.tenure first some.count some.old some.before) some.turned;
+      }
+
+-- ---- puts that stay
+pub stay : {C : Type 0} (P : Process C) (T : Tellings C) (s : SenderSeat C) → PutsStay P T s s
+stay P T s = record { puts_are = refl; first_is = refl; me_is = refl; works = Rests }
+
+pub stay_on : {C : Type 0} (P : Process C) (T : Tellings C) (a b c : SenderSeat C)
+    → PutsStay P T a b → PutsStay P T b c → PutsStay P T a c
+stay_on P T a b c h k = record {
+  puts_are = k.puts_are ∙ h.puts_are;
+  first_is = k.first_is ∙ h.first_is;
+  me_is = k.me_is ∙ h.me_is;
+  works = works_trans P T a b c h.works k.works;
+}
+
+-- what changes neither the sender nor what it did
+did_nothing : {C : Type 0} (P : Process C) (T : Tellings C) (old new : SenderSeat C)
+    → new.core ≡ old.core → sender_trail_of P new ≡ sender_trail_of P old → PutsStay P T old new
+did_nothing P T old new core did = record {
+  puts_are = ap (λ (t : SenderTrail). puts t.actions) did;
+  first_is = ap (λ (t : SenderTrail). t.first) did;
+  me_is = ap P.me core;
+  works = Looks old new Rests core did;
+}
+
+-- a look whether there is room
+pub look_stays : {C : Type 0} (P : Process C) (T : Tellings C) (A : Plan → Automaton C)
+    (old new : SenderSeat C) (fits : Bool)
+    → (plan : Plan) × LooksForRoom P (A plan) old fits new → PutsStay P T old new
+look_stays P T A old new fits h = did_nothing P T old new h.1.core h.1.did
+
+-- a receiver that is told
+pub told_stays : {C : Type 0} (P : Process C) (T : Tellings C) (old new : SenderSeat C)
+    → new.core ≡ old.core → new.seat.me ≡ old.seat.me → PutsStay P T old new
+told_stays {C} P T old new core me =
+    did_nothing P T old new core
+    (ap (λ (m : Sat C). all_in P m.0 new.core) me ∙ ap (all_in P old.seat.me.0) core)
+
+-- ---- puts
+-- a put by its contract
+pub puts_one : {C : Type 0} (P : Process C) (T : Tellings C) (old new : SenderSeat C)
+    (number : ℕ) (bytes : List ℕ) → CanPut (P.queue old.core) (length bytes)
+    → new.core ≡ P.with_message old.core bytes → new.seat ≡ old.seat
+    → number ≡ next_of (P.queue old.core)
+    → actions_of P new ≡ actions_of P old ++ HasPut number bytes ∷ []
+    → number ≡ first_number_of P old + length (puts (actions_of P old))
+    → IsSameSender P old new → PutsMore P T old new number bytes
+puts_one P T old new number bytes can core seat next action counts same = record {
+  puts_are =
+      ap puts action ∙ flat_map-append put_of (actions_of P old) (HasPut number bytes ∷ []);
+  first_is = same.first;
+  number_is = counts;
+  me_is = same.me;
+  works = Puts old bytes new Rests (record {
+    could = can;
+    core = core;
+    seat = seat;
+    action = action ∙ ap (λ n. actions_of P old ++ HasPut n bytes ∷ []) next;
+  });
+}
+
+pub put_more : {C E : Type 0} (P : Process C) (T : Tellings C) (result : Result ℕ E)
+    (old new : SenderSeat C) (bytes : List ℕ)
+    → OnOk result (CanPut (P.queue old.core) (length bytes))
+    → OnOk result (new.core ≡ P.with_message old.core bytes) → new.seat ≡ old.seat
+    → IfOk result (λ number. number ≡ next_of (P.queue old.core))
+    → IfOk result (λ number. actions_of P new ≡ actions_of P old ++ HasPut number bytes ∷ [])
+    → IfOk result (λ number. number ≡ first_number_of P old + length (puts (actions_of P old)))
+    → ((old new : SenderSeat C) (bytes : List ℕ) → new.core ≡ P.with_message old.core bytes
+    → new.seat ≡ old.seat → IsSameSender P old new)
+    → IfOk result (λ number. PutsMore P T old new number bytes)
+put_more P T (Ok number) old new bytes can core seat next action counts same =
+    puts_one P T old new number bytes can core seat next action counts
+    (same old new bytes core seat)
+put_more P T (Err e) old new bytes can core seat next action counts same = tt
+
+-- behind what was done before, and before what is done behind it
+pub stays_more : {C : Type 0} (P : Process C) (T : Tellings C) (first old new : SenderSeat C)
+    (number : ℕ) (bytes : List ℕ) → PutsStay P T first old → PutsMore P T old new number bytes
+    → PutsMore P T first new number bytes
+stays_more P T first old new number bytes stays more = record {
+  puts_are = more.puts_are ∙ ap (λ z. z ++ bytes ∷ []) stays.puts_are;
+  first_is = more.first_is ∙ stays.first_is;
+  number_is =
+      more.number_is ∙ ap (λ z. z + length (puts (actions_of P old))) stays.first_is
+      ∙ ap (λ z. first_number_of P first + length z) stays.puts_are;
+  me_is = more.me_is ∙ stays.me_is;
+  works = works_trans P T first old new stays.works more.works;
+}
+
+pub more_stays : {C : Type 0} (P : Process C) (T : Tellings C) (first old new : SenderSeat C)
+    (number : ℕ) (bytes : List ℕ) → PutsMore P T first old number bytes → PutsStay P T old new
+    → PutsMore P T first new number bytes
+more_stays P T first old new number bytes more stays = record {
+  puts_are = stays.puts_are ∙ more.puts_are;
+  first_is = stays.first_is ∙ more.first_is;
+  number_is = more.number_is;
+  me_is = stays.me_is ∙ more.me_is;
+  works = works_trans P T first old new more.works stays.works;
+}
+
+-- what a refused put or mark leaves
+same_seat : {C : Type 0} (old new : SenderSeat C) → new.core ≡ old.core → new.seat ≡ old.seat
+    → new ≡ old
+same_seat {C} old new core seat =
+    let made : C → Seat (Option Page) (View C) → SenderSeat C = λ c s.
+    record { core = c; seat = s } in
+    ap (λ c. made c new.seat) core ∙ ap (made old.core) seat
+
+pub put_stays : {C V E : Type 0} (P : Process C) (T : Tellings C) (result : Result V E)
+    (old new : SenderSeat C) → OnErr result (new.core ≡ old.core) → new.seat ≡ old.seat
+    → OnErr result (PutsStay P T old new)
+put_stays P T (Ok x) old new core seat = tt
+put_stays {C} P T (Err e) old new core seat =
+    subst (λ (z : SenderSeat C). PutsStay P T old z) (sym (same_seat old new core seat))
+    (stay P T old)
+
+-- ---- a leave by its contract
+pub mark_works : {C : Type 0} (P : Process C) (T : Tellings C)
+    (result : Result (Unit {0}) CloseFault) (old new : SenderSeat C) (mark : Mark)
+    → OnOk result (new.core ≡ P.with_mark old.core mark) → OnErr result (new.core ≡ old.core)
+    → new.seat ≡ old.seat → WorksOn P T old new
+mark_works P T (Ok x) old new mark core same seat = Marks old mark new Rests core seat
+mark_works {C} P T (Err e) old new mark core same seat =
+    subst (λ (z : SenderSeat C). WorksOn P T old z) (sym (same_seat old new same seat)) Rests
+
+pub mark_refused : {C : Type 0} (P : Process C) (T : Tellings C)
+    (result : Result (Unit {0}) CloseFault) (old new : SenderSeat C)
+    → IfErr result (IsCloseFault (P.queue old.core)) → OnErr result (new.core ≡ old.core)
+    → new.seat ≡ old.seat → is_ok result ≡ false → WasRefused P T RefusesLeave old new
+mark_refused P T (Ok x) old new fault same seat left = absurd (let bad : true ≡ false = left in cc)
+mark_refused {C} P T (Err e) old new fault same seat left = record {
+  at = old;
+  before = Rests;
+  so = (e, fault);
+  behind =
+      subst (λ (z : SenderSeat C). WorksOn P T old z) (sym (same_seat old new same seat)) Rests;
+}
+
+-- a put, with what follows it
+pub put_settled : {C E : Type 0} (P : Process C) (T : Tellings C) (first old new : SenderSeat C)
+    (bytes : List ℕ) (result : Result ℕ E) → PutsStay P T old new
+    → IfOk result (λ number. PutsMore P T first old number bytes)
+    → IfOk result (λ number. PutsMore P T first new number bytes)
+put_settled P T first old new bytes (Ok number) stays more =
+    more_stays P T first old new number bytes more stays
+put_settled P T first old new bytes (Err e) stays more = tt
+
+-- an execution, with what follows it
+pub executed_settled : {C S A E : Type 0} (IsFirst : S → Type 0) (Applies : Operations S A)
+    (P : Process C) (T : Tellings C) (a c d : Replicated C S) (bytes : List ℕ) (worker : ℕ)
+    (result : Result A E) → PutsStay P T c.sender d.sender → d.me ≡ c.me → d.state ≡ c.state
+    → IfOk result (λ answer. (x : ℕ) × PutsMore P T a.sender c.sender x bytes
+    × StandsLast IsFirst Applies c.me.0 c.state worker x answer)
+    → IfOk result (λ answer. (x : ℕ) × PutsMore P T a.sender d.sender x bytes
+    × StandsLast IsFirst Applies d.me.0 d.state worker x answer)
+executed_settled {C} IsFirst Applies P T a c d bytes worker (Ok answer) stays me state h = (
+  h.0,
+  more_stays P T a.sender c.sender d.sender h.0 bytes h.1 stays,
+  subst (λ (m : Sat C). StandsLast IsFirst Applies m.0 d.state worker h.0 answer) (sym me)
+      (subst (λ z. StandsLast IsFirst Applies c.me.0 z worker h.0 answer) (sym state) h.2),
+)
+executed_settled IsFirst Applies P T a c d bytes worker (Err e) stays me state h = tt

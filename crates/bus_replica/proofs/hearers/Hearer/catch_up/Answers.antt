@@ -1,0 +1,27 @@
+use Rattle.std.proofs.Common.{◌∙◌, rules}
+use Rattle.bus_replica.specs.Replicas.{Here, On}
+use Rattle.bus_replica.proofs.LeavingLaws.{hearing_told}
+use Rattle.bus_replica.proofs.hearers.Hearer.catch_up.Goals as goal
+
+pub invariant_of-self : goal.invariant_of-self
+invariant_of-self g c =
+    hearing_told g.S.State.is_first g.S.State.applies c.self.inside.receiver.me c.told.new.self.me
+    c.self.inside.state c.self.inside.left.items c.self.invariant c.told.ensures.told.got
+    c.told.ensures.told.learns
+
+pub loop-init : goal.loop-init
+loop-init g c = (search rules, Here)
+
+pub loop-preserved-else-place-length : goal.loop-preserved-else-place-length
+loop-preserved-else-place-length g c = (
+  c.turn.ensures.bus ∙ c.loop.invariant.0,
+  On c.loop.self.me c.turn.ensures.takes.answer c.turn.new.self.me c.loop.invariant.1
+      c.turn.ensures.takes.hears,
+)
+
+pub loop-preserved : goal.loop-preserved
+loop-preserved g c = (
+  c.turn.ensures.bus ∙ c.loop.invariant.0,
+  On c.loop.self.me c.turn.ensures.takes.answer c.turn.new.self.me c.loop.invariant.1
+      c.turn.ensures.takes.hears,
+)

@@ -1,0 +1,7 @@
+use Rattle.bus_automaton.specs.ThreeWordBuses.{process}
+use Rattle.bus_replica.specs.Causes.{tells}
+use Rattle.bus_replica.proofs.OwnLaws.{own_operation}
+use Rattle.bus_replica.proofs.laws.own_operation_is_what_was_put.Goals as goal
+
+pub returns : goal.returns
+returns g c = own_operation g.S.State.is_first g.S.State.applies process tells

@@ -1,0 +1,6 @@
+use Rattle.bus_automaton.specs.ThreeWordBuses.{process}
+use Rattle.bus_replica.proofs.OrderLaws.{follows}
+use Rattle.bus_replica.proofs.laws.replicas_follow_one_order.Goals as goal
+
+pub returns : goal.returns
+returns g c = follows g.S.State.is_first g.S.State.applies process

@@ -1,0 +1,6 @@
+pub mod Replicas
+pub mod Turns
+pub mod Causes
+pub mod OneOrder
+pub mod Linearized
+pub mod Openings

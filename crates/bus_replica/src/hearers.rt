@@ -1,0 +1,211 @@
+//! A receiver, and the state that it applies to all that it hears.
+
+ghost use Rattle.std.specs.Prelude.{◌≡◌, ℕ, ◌<◌, IfOk, IfErr, IfSome, IfNone, IsTrue, true};
+ghost use Rattle.bus_pageslot.specs.Seats.{table_of, actions_of, stored_of};
+ghost use Rattle.bus_automaton.specs.ThreeWordBuses.{process};
+ghost use Rattle.bus_replica.specs.Causes.{HearsEnd};
+ghost use Rattle.bus_replica.specs.Replicas.{IsFold, StandsLast, GoesOn, HasCaughtUp, HearsOut};
+ghost use Rattle.bus_replica.specs.Replicas.{HaveAllLeft, has_heard_leave};
+
+use crate::faults::Fault;
+use crate::states::State;
+use arrayvec::ArrayVec;
+use bus_handles::{ReceiverHandle, RecvTurn, SenderHandle, ThreeWord};
+use bus_register::SenderNo;
+use bus_register::limits::MOST_SENDERS;
+use std::marker::Model;
+use std::sync::Wait;
+
+/// What a turn of a hearer came to.
+#[derive(Drop)]
+pub enum Applied<A> {
+    /// It says nothing by itself.
+    Going,
+    /// Nothing more is there.
+    Empty,
+    /// The operation of this number, of this worker, was applied, and answered so.
+    Op {
+        sender: SenderNo,
+        number: u64,
+        answer: A,
+    },
+    /// The order has ended.
+    End,
+}
+
+/// A receiver, and the state that it applies to all that it hears.
+#[derive(Drop)]
+pub struct Hearer<S: State> {
+    receiver: ReceiverHandle<ThreeWord>,
+    state: S,
+    /// The workers that were heard to have left.
+    left: ArrayVec<SenderNo, MOST_SENDERS>,
+}
+
+impl<S: State> Model for Hearer<S> {
+    ghost use Rattle.bus_automaton.specs.ThreeWordBuses.{Held};
+    ghost use Rattle.bus_replica.specs.Replicas.{Hearing};
+    ghost use Rattle.bus_replica.specs.Turns.{IsHearing};
+
+    ghost Value = { Hearing Held S };
+
+    ghost view = { λ h. record { bus = h.receiver.bus; me = h.receiver.me; state = h.state } };
+
+    ghost invariant = { λ h. IsHearing S.is_first S.applies h.receiver.me.0 h.state h.left.items };
+}
+
+impl<S: State> Hearer<S> {
+    ghost use Rattle.bus_replica.specs.Turns.{TakesIn, StandsIfTold};
+
+    /// A hearer by this receiver, of a state that all that it has heard leads to.
+    pub fn new(receiver: ReceiverHandle<ThreeWord>, state: S) -> Hearer<S>
+        requires { IsFold S.is_first S.applies receiver.me.0 state }
+        ensures bus { result.bus ≡ receiver.bus }
+        ensures me { result.me ≡ receiver.me }
+        ensures state { result.state ≡ state }
+    {
+        Hearer {
+            receiver,
+            state,
+            left: ArrayVec::new(),
+        }
+    }
+
+    /// The state as it is.
+    pub fn state(&self) -> &S
+        ensures state { result.now ≡ self.now.state }
+        ensures fold { IsFold S.is_first S.applies self.now.me.0 self.now.state }
+    {
+        &self.state
+    }
+
+    /// The state, without the receiver, which leaves.
+    pub fn into_state(self) -> S
+        ensures state { result ≡ self.state }
+        ensures fold { IsFold S.is_first S.applies self.me.0 self.state }
+    {
+        let Hearer { state, .. } = self;
+        state
+    }
+
+    /// The first of so many workers of which it was not heard that it has left.
+    pub fn missing(&self, workers: u8) -> Option<SenderNo>
+        ensures none { IfNone result (HaveAllLeft self.now.me.0 workers) }
+        ensures first { IfSome result
+            (λ worker. (worker.0 < workers) × HaveAllLeft self.now.me.0 worker.0) }
+    {
+        for worker in 0..workers {
+            if !self.has_left(SenderNo(worker)) {
+                return Some(SenderNo(worker));
+            }
+        }
+        None
+    }
+
+    /// It was heard that this worker has left.
+    fn has_left(&self, worker: SenderNo) -> bool
+        ensures { IsTrue result → has_heard_leave self.now.me.0 worker.0 ≡ true }
+    {
+        for sender in self.left.as_slice() {
+            if sender.0 == worker.0 {
+                return true;
+            }
+        }
+        false
+    }
+
+    /// One turn of the receiver: an operation that is heard is applied.
+    pub fn turn(&mut self) -> Applied<S::Answer>
+        ensures bus { self.new.bus ≡ self.old.bus }
+        ensures takes { TakesIn S.applies self.old result self.new }
+        ensures stands { StandsIfTold S.is_first S.applies self.new result }
+    {
+        match self.receiver.turn() {
+            RecvTurn::Item(item) => {
+                let answer = self.state.apply(item.sender, item.message.as_slice());
+                Applied::Op {
+                    sender: item.sender,
+                    number: item.number,
+                    answer,
+                }
+            }
+            RecvTurn::Leave(sender) => {
+                let _ = self.left.try_push(sender);
+                Applied::Going
+            }
+            RecvTurn::End => Applied::End,
+            RecvTurn::Empty => Applied::Empty,
+            RecvTurn::Head { .. } => Applied::Going,
+            RecvTurn::Going => Applied::Going,
+        }
+    }
+
+    /// Applies what is there, up to the operation of this number of this worker, if that is there:
+    /// then it gives its answer.
+    pub fn hear_own<W: Wait>(
+        &mut self,
+        wait: &W,
+        worker: SenderNo,
+        number: u64,
+    ) -> Result<Option<S::Answer>, Fault>
+        ensures bus { self.new.bus ≡ self.old.bus }
+        ensures on { GoesOn self.old.me self.new.me }
+        ensures stands { IfOk result (λ found. IfSome found (λ answer.
+            StandsLast S.is_first S.applies self.new.me.0 self.new.state worker.0 number answer)) }
+        ensures ended { IfErr result
+            (λ why. (why ≡ Fault.Ended) × HearsEnd self.old.me self.new.me) }
+    {
+        for _ in wait.forever() {
+            match self.turn() {
+                Applied::Op {
+                    sender,
+                    number: told,
+                    answer,
+                } => {
+                    if sender == worker && told == number {
+                        return Ok(Some(answer));
+                    }
+                }
+                Applied::Empty => return Ok(None),
+                Applied::End => return Err(Fault::Ended),
+                Applied::Going => {}
+            }
+        }
+        unreachable!()
+    }
+
+    /// Applies what is there. Says whether the order has ended.
+    pub fn hear<W: Wait>(&mut self, wait: &W) -> bool
+        ensures bus { self.new.bus ≡ self.old.bus }
+        ensures out { HearsOut self.old.me result self.new.me }
+    {
+        for _ in wait.forever() {
+            match self.turn() {
+                Applied::Empty => return false,
+                Applied::End => return true,
+                Applied::Op { .. } | Applied::Going => {}
+            }
+        }
+        unreachable!()
+    }
+
+    /// A sender of its bus tells it how long the log is, by a load; and it applies all up to there.
+    pub fn catch_up<W: Wait>(&mut self, wait: &W, sender: &mut SenderHandle<ThreeWord>)
+        requires { table_of sender.old ≡ self.old.bus.table }
+        ensures bus { (self.new.bus ≡ self.old.bus)
+            × (table_of sender.new ≡ table_of sender.old) }
+        ensures sender { (sender.new.core ≡ sender.old.core)
+            × (sender.new.seat.me ≡ sender.old.seat.me) }
+        ensures caught { HasCaughtUp self.old.me self.new.me }
+    {
+        self.receiver.told(sender);
+        let length = self.receiver.known();
+        for _ in wait.forever() {
+            if self.receiver.place() >= length {
+                return;
+            }
+            let _ = self.turn();
+        }
+        unreachable!()
+    }
+}

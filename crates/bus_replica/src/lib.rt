@@ -1,0 +1,28 @@
+//! A state that workers replicate over a bus. One call opens a bus for so many workers and gives
+//! each of them a replica; a worker's operations go to all replicas in one order.
+//!
+//!     let replicas = open_replicas::<Counters>(rt.alloc(), 3)?;
+//!
+//! Each worker takes one:
+//!
+//!     replica.submit(&rt, &op)?;
+//!     let answer = replica.execute(&rt, &op)?;
+//!     replica.catch_up(&rt);
+//!     let count = replica.state().count(7);
+//!     let state = replica.finish(&rt)?;
+//!
+//! The crate `example_counters` is a whole program of that form.
+#![tactic(auto)]
+
+mod faults;
+mod hearers;
+pub mod laws;
+mod opening;
+mod replicas;
+mod states;
+
+pub use bus_handles::{MakeFault, SenderNo};
+pub use faults::Fault;
+pub use opening::open_replicas;
+pub use replicas::Replica;
+pub use states::State;
