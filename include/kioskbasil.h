@@ -1,6 +1,6 @@
 /* kioskbasil.h: the broadcast bus of Kioskbasil for C and C++.
  *
- * A bus puts the messages of up to 64 senders into one order, which up to 8 receivers hear, each
+ * A bus puts the messages of up to 64 senders into one order, which up to 64 receivers hear, each
  * all of it. No call waits or starts a thread. Only kioskbasil_open, kioskbasil_open_ring and
  * kioskbasil_open_after take memory. A call that is to wait is a loop of the caller's:
  * examples/c/waiting.h, in a release kioskbasil_waiting.h, has the usual ones. There each bus has a
@@ -24,9 +24,10 @@
  * leaves: give a ring 129 words or more, or count the words of a batch before each put: 1, and of
  * each message 1 and one for each 8 bytes begun. kioskbasil_has_room tells it after the put.
  *
- * The functions bus_c_.. are those of the archive (crates/bus_c), which are proved against their
- * contracts. The functions kioskbasil_.. stand in this header: they look for NULL and call those. A
- * program calls kioskbasil_.. alone.
+ * The functions bus_c_.. are those of the archive (crates/bus_c), whose contracts say what each
+ * does. kioskbasil_version() tells whether this archive is proved against them. The functions
+ * kioskbasil_.. stand in this header: they look for NULL and call those. A program calls
+ * kioskbasil_.. alone.
  *
  * HANDLES. A kioskbasil_sender or kioskbasil_receiver is the caller's. It starts as
  * KIOSKBASIL_NONE, which is all zeros, and kioskbasil_open, kioskbasil_open_ring or
@@ -82,9 +83,20 @@
 extern "C" {
 #endif
 
+/* The version, and what is known of the proof of the archive that this header came with. In a
+ * release KIOSKBASIL_PROOF begins with `proved` or with `NOT PROVED`, and names the kit; dist/pack
+ * writes it. A clone does not know: `rt lib` proves what it builds, and ./quick does not. */
+#define KIOSKBASIL_VERSION "0.1.0"
+#define KIOSKBASIL_PROOF "of a clone: whether the archive is proved is not known"
+
+/* Both, as one text: "0.1.0, proved, ..". */
+static inline const char *kioskbasil_version(void) {
+  return KIOSKBASIL_VERSION ", " KIOSKBASIL_PROOF;
+}
+
 enum {
   KIOSKBASIL_MOST_SENDERS = 64,
-  KIOSKBASIL_MOST_RECEIVERS = 8,
+  KIOSKBASIL_MOST_RECEIVERS = 64,
   KIOSKBASIL_MOST_BYTES = 56,
   KIOSKBASIL_MOST_MESSAGES = 16
 };
@@ -121,7 +133,7 @@ enum kioskbasil_code {
   KIOSKBASIL_LEAVE = 16,    /* of a receiver: .owner has left, and nothing of it follows */
   /* refusals */
   KIOSKBASIL_BAD_SENDERS = 32,    /* open: not 1 to 64 senders */
-  KIOSKBASIL_BAD_RECEIVERS = 33,  /* open: not 1 to 8 receivers */
+  KIOSKBASIL_BAD_RECEIVERS = 33,  /* open: not 1 to 64 receivers */
   KIOSKBASIL_BAD_ROUNDS = 34,     /* open: not 1 to 8 rounds */
   KIOSKBASIL_BAD_ROWS = 35,       /* open: not 1 to 256 rows; used again, not 2 to 8 */
   KIOSKBASIL_BAD_LOG_WORDS = 36,  /* open: not 16 to 65,536 words */
@@ -363,7 +375,9 @@ static inline uint32_t kioskbasil_open_after(const kioskbasil_sizes *sizes,
   return bus_c_open_after(sizes, left, senders, sender_count, receivers, receiver_count);
 }
 
-/* Appends a message of at most 56 bytes to the sender's batch of at most 16. Takes no step.
+/* Appends a message of at most 56 bytes to the sender's batch of at most 16. Takes no step. A batch
+ * comes into the order as one frame, with nothing of another sender in between. So what is longer
+ * goes as pieces in one batch.
  * KIOSKBASIL_OK, and its number among the messages of this sender, from its base on, in *number
  * (which may be NULL); or PUT_CLOSED, PUT_BUSY, PUT_TOO_LONG or PUT_BATCH_FULL, the first whose
  * cause holds, and then nothing is changed. `bytes` may be NULL where `length` is 0. */
@@ -638,7 +652,7 @@ static inline const char *kioskbasil_text(uint32_t code) {
   case KIOSKBASIL_LEFT: return "left";
   case KIOSKBASIL_LEAVE: return "leave";
   case KIOSKBASIL_BAD_SENDERS: return "a bus has 1 to 64 senders";
-  case KIOSKBASIL_BAD_RECEIVERS: return "a bus has 1 to 8 receivers";
+  case KIOSKBASIL_BAD_RECEIVERS: return "a bus has 1 to 64 receivers";
   case KIOSKBASIL_BAD_ROUNDS: return "a bus has 1 to 8 rounds";
   case KIOSKBASIL_BAD_ROWS: return "a bus has 1 to 256 rows, used again 2 to 8";
   case KIOSKBASIL_BAD_LOG_WORDS: return "a log has 16 to 65,536 words";

@@ -3,6 +3,7 @@
    of them it closes. The loop waits in poll alone. The log is a ring of 16 words. */
 #include "kioskbasil.h"
 #include "waiting.h"
+#include <errno.h>
 #include <poll.h>
 #include <pthread.h>
 #include <stdio.h>
@@ -62,14 +63,18 @@ static uint32_t send_if_room(kioskbasil_sender *sender, uint64_t *seed, uint32_t
     return send_now(sender, seed, NULL, &bell);
 }
 
-/* Takes a line and puts it. The code; EMPTY where there is none. */
+/* Takes a line and puts it. The code: OK also where a signal came first, since the line is there
+   still; EMPTY where there is none. */
 static uint32_t take_line(kioskbasil_sender *sender, int lines) {
     char line[4];
-    if (read(lines, line, sizeof line) != sizeof line) return KIOSKBASIL_EMPTY;
+    ssize_t many = read(lines, line, sizeof line);
+    if (many < 0 && errno == EINTR) return KIOSKBASIL_OK;
+    if (many != sizeof line) return KIOSKBASIL_EMPTY;
     return kioskbasil_put(sender, line, sizeof line, NULL);
 }
 
-/* Waits in poll for the bell and for lines, until the order has ended: END. */
+/* Waits in poll for the bell and for lines, until the order has ended: END. A signal that comes
+   meanwhile has it look once more. */
 static uint32_t loop(kioskbasil_sender *sender, kioskbasil_receiver *receiver, int lines) {
     struct pollfd polled[2] = {{bell_descriptor(&bell), POLLIN, 0}, {lines, POLLIN, 0}};
     uint32_t sent = KIOSKBASIL_IDLE, code = KIOSKBASIL_EMPTY;
@@ -85,13 +90,23 @@ static uint32_t loop(kioskbasil_sender *sender, kioskbasil_receiver *receiver, i
         /* A line is taken once the one before is sent, so that its put is not refused. Behind another
            sender there is no ring. */
         polled[1].fd = sent == KIOSKBASIL_IDLE || sent == KIOSKBASIL_DELIVERED ? lines : -1;
-        if (poll(polled, 2, sent == KIOSKBASIL_BEHIND ? 1 : -1) < 0) break;
+        if (poll(polled, 2, sent == KIOSKBASIL_BEHIND ? 1 : -1) < 0) {
+            if (errno == EINTR) continue;
+            break;
+        }
         if (polled[1].fd >= 0 && polled[1].revents & POLLIN &&
             (code = take_line(sender, lines)) != KIOSKBASIL_OK)
             break;
     }
     if (polled[0].fd >= 0) close(polled[0].fd);
     return code;
+}
+
+/* What a loop does that has failed: else the other thread would wait for its page, or for room that
+   its receiver keeps, and main for that thread. */
+static void give_up(kioskbasil_sender *sender, kioskbasil_receiver *receiver) {
+    free_receiver(receiver, &bell);
+    while (finish_sender(sender, NULL, &bell) == KIOSKBASIL_BEHIND) pause_a_little();
 }
 
 int main(void) {
@@ -108,6 +123,7 @@ int main(void) {
         pthread_create(&writing, NULL, write_lines, &ends[1]))
         return fprintf(stderr, "eventloop: no pipe, or no thread\n"), 1;
     code = loop(&senders[0], receivers, ends[0]);
+    if (code != KIOSKBASIL_END) give_up(&senders[0], receivers);
     pthread_join(ticking, &failed);
     pthread_join(writing, NULL);
     if (failed || code != KIOSKBASIL_END) return fprintf(stderr, "eventloop: no end\n"), 1;

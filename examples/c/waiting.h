@@ -34,14 +34,17 @@ struct bell {
     pthread_mutex_t lock;
     pthread_cond_t rang;
     int event; /* what the descriptors watch; -1 where there is none */
+    uint64_t told;                   /* its rings with that by which a sender told of its BEHIND */
+    const kioskbasil_sender *teller; /* that sender */
 };
 
-#define BELL_NEW {0, PTHREAD_MUTEX_INITIALIZER, PTHREAD_COND_INITIALIZER, -1}
+#define BELL_NEW {0, PTHREAD_MUTEX_INITIALIZER, PTHREAD_COND_INITIALIZER, -1, 0, NULL}
 
 /* Rings: whoever listens looks at the bus again. Only these need it: who takes turns by hand, once
    one was answered DELIVERED, LEFT, CLOSED, FULL or BEHIND; who hears a ring by kioskbasil_hear or
    kioskbasil_hear_once; who gives a receiver of a ring up by kioskbasil_free_receiver, or is
-   answered IN_USE by kioskbasil_end; and who makes a go_on say no. It is not for signal handlers. */
+   answered IN_USE by kioskbasil_end; and who makes a go_on say no. Where a call of this file goes on
+   with turns that were taken by hand, it rings. It is not for signal handlers. */
 static inline void bell_ring(struct bell *bell) {
     int event;
     if (!(__atomic_fetch_add(&bell->rings, 2, __ATOMIC_SEQ_CST) & 1)) return;
@@ -58,12 +61,15 @@ static inline uint64_t bell_listen(struct bell *bell) {
     return __atomic_or_fetch(&bell->rings, 1, __ATOMIC_SEQ_CST);
 }
 
-/* Sleeps until the bell has rung since bell_listen gave `heard`, for BELL_LONGEST_SLEEP at most. */
-static inline void bell_sleep(struct bell *bell, uint64_t heard) {
+/* Sleeps until the bell has rung since bell_listen gave `heard`, for so many nanoseconds at most, and
+   no longer than for BELL_LONGEST_SLEEP. */
+static inline void bell_sleep_for(struct bell *bell, uint64_t heard, int64_t most) {
+    const int64_t longest = INT64_C(1000000) * BELL_LONGEST_SLEEP;
     struct timespec end;
     int status = clock_gettime(CLOCK_REALTIME, &end);
-    end.tv_sec += BELL_LONGEST_SLEEP / 1000;
-    end.tv_nsec += BELL_LONGEST_SLEEP % 1000 * 1000000;
+    most = most < 0 ? 0 : most < longest ? most : longest;
+    end.tv_sec += (time_t)(most / 1000000000);
+    end.tv_nsec += (long)(most % 1000000000);
     if (end.tv_nsec >= 1000000000) {
         end.tv_nsec -= 1000000000;
         end.tv_sec++;
@@ -72,6 +78,11 @@ static inline void bell_sleep(struct bell *bell, uint64_t heard) {
     while (!status && bell_listen(bell) == heard)
         status = pthread_cond_timedwait(&bell->rang, &bell->lock, &end);
     pthread_mutex_unlock(&bell->lock);
+}
+
+/* Sleeps until the bell has rung since bell_listen gave `heard`, for BELL_LONGEST_SLEEP at most. */
+static inline void bell_sleep(struct bell *bell, uint64_t heard) {
+    bell_sleep_for(bell, heard, INT64_MAX);
 }
 
 /* A descriptor for an event loop, each of which wants its own: poll says POLLIN of it once the bell
@@ -141,18 +152,23 @@ static inline bool back_off(unsigned *step) {
     return true;
 }
 
-/* Waits for the bell: backs off, then listens, so that the caller looks once more, then sleeps. True
-   says that it has slept and no ring came. */
-static inline bool wait_for(struct bell *bell, struct waiter *waiter) {
+/* Waits for the bell: backs off, then listens, so that the caller looks once more, then sleeps, for
+   so many nanoseconds at most. True says that it has slept and no ring came. */
+static inline bool wait_up_to(struct bell *bell, struct waiter *waiter, int64_t most) {
     uint64_t before = waiter->heard;
     if (back_off(&waiter->step)) return false;
     if (!bell) {
         take_nap(0);
         return false;
     }
-    if (before) bell_sleep(bell, before);
+    if (before) bell_sleep_for(bell, before, most);
     waiter->heard = bell_listen(bell);
     return waiter->heard == before;
+}
+
+/* As wait_up_to, for BELL_LONGEST_SLEEP at most. */
+static inline bool wait_for(struct bell *bell, struct waiter *waiter) {
+    return wait_up_to(bell, waiter, INT64_MAX);
 }
 
 /* Waits for a sender that is in the middle of its turns, behind which no ring comes: backs off, and
@@ -186,6 +202,23 @@ static inline bool is_news(uint32_t code) {
            code == KIOSKBASIL_FULL || code == KIOSKBASIL_BEHIND;
 }
 
+/* Rings for an answer of a sender, where others may find something. At BEHIND its message may stand in
+   the order: that is told once, and again only where another ring came between. So it is told of
+   a tenure that was begun by hand too, and a loop that asks again and again wakes nobody. */
+static inline void ring_for(struct bell *bell, const kioskbasil_sender *sender, uint32_t code) {
+    uint64_t rings;
+    if (!bell || !is_news(code)) return;
+    if (code == KIOSKBASIL_BEHIND) {
+        rings = __atomic_load_n(&bell->rings, __ATOMIC_SEQ_CST) | 1;
+        if (__atomic_load_n(&bell->told, __ATOMIC_RELAXED) == rings &&
+            __atomic_load_n(&bell->teller, __ATOMIC_RELAXED) == sender)
+            return;
+        __atomic_store_n(&bell->teller, sender, __ATOMIC_RELAXED);
+        __atomic_store_n(&bell->told, rings + 2, __ATOMIC_RELAXED);
+    }
+    bell_ring(bell);
+}
+
 /* As send_batch, but it can be told to stop: each time a turn answers WAITING or BEHIND it asks
    go_on(given), and answers so where that says no. The batch is kept, and a later call goes on with
    it. After BEHIND this sender holds the page, for which all others wait: so call again soon.
@@ -194,13 +227,9 @@ static inline uint32_t send_while(kioskbasil_sender *sender, uint64_t *seed,
                                   kioskbasil_turn_answer *answer, struct bell *bell,
                                   bool (*go_on)(void *given), void *given) {
     struct waiter waiter = {0, 0, 0};
-    uint32_t code = KIOSKBASIL_GOING, before;
     for (;;) {
-        before = code;
-        code = kioskbasil_turns(sender, next_word(seed), answer);
-        /* BEHIND is news right after OWN alone: a call that goes on with it does not ring again. */
-        if (bell && is_news(code) && (code != KIOSKBASIL_BEHIND || before == KIOSKBASIL_OWN))
-            bell_ring(bell);
+        uint32_t code = kioskbasil_turns(sender, next_word(seed), answer);
+        ring_for(bell, sender, code);
         switch (code) {
         case KIOSKBASIL_WAITING:
         case KIOSKBASIL_BEHIND:
@@ -282,7 +311,10 @@ static inline uint32_t send_when_room(kioskbasil_sender *sender, uint64_t *seed,
 }
 
 /* Closes, and sends that: KIOSKBASIL_CLOSED where the order has ended then; else why not. Where that
-   is FULL of a ring, hear, and send what waits; who only sends goes by send_when_room. */
+   is FULL of a ring, hear, and send what waits; who only sends goes by send_when_room. CLOSE_CLOSED
+   says that a close or a leave was accepted before, or that this sender knows already that another
+   has ended the order: send_batch goes on with what waits, and answers CLOSED then. A sender that
+   does not know of the end yet is answered CLOSED here. */
 static inline uint32_t end_order(kioskbasil_sender *sender, uint64_t *seed, struct bell *bell) {
     uint32_t code = kioskbasil_close(sender);
     return code == KIOSKBASIL_OK ? send_batch(sender, seed, NULL, bell) : code;
@@ -298,14 +330,14 @@ static inline uint32_t leave_order(kioskbasil_sender *sender, uint64_t *seed, st
 static inline uint32_t finish_sender(kioskbasil_sender *sender, kioskbasil_turn_answer *answer,
                                      struct bell *bell) {
     uint32_t code = kioskbasil_finish(sender, answer);
-    if (bell && is_news(code)) bell_ring(bell);
+    ring_for(bell, sender, code);
     return code;
 }
 
 /* As kioskbasil_free_sender, and rings. */
 static inline uint32_t free_sender(kioskbasil_sender *sender, struct bell *bell) {
     uint32_t code = kioskbasil_free_sender(sender);
-    if (bell && is_news(code)) bell_ring(bell);
+    ring_for(bell, sender, code);
     return code;
 }
 

@@ -1,10 +1,15 @@
-//! Tasks of tokio over a bus: four send, and two hear all as a stream. They run by one thread, and
-//! then by four. `cargo run` in this folder runs it. By Debian's packages librust-tokio-dev and
+//! Tasks of tokio over a bus: four send, and two hear all as a stream. Then three that each send and
+//! hear share a small ring, and wait for its room. They run by one thread, and then by four.
+//! `cargo run` in this folder runs it. By Debian's packages librust-tokio-dev and
 //! librust-futures-util-dev it needs no network, as `bench/embed` calls it.
 
+use futures_util::future::poll_fn;
 use futures_util::stream::{self, StreamExt};
-use kioskbasil::{Bus, Item, Receiver, Sender, Shape};
+use kioskbasil::{Bus, Item, NeverFits, Receiver, Sender, Shape, Turn};
 use std::error::Error;
+use std::sync::atomic::{AtomicUsize, Ordering};
+use std::sync::Arc;
+use std::task::Poll;
 use std::time::Duration;
 use tokio::runtime::Builder;
 use tokio::time::timeout;
@@ -13,6 +18,10 @@ type Fault = Box<dyn Error + Send + Sync>;
 
 const SENDERS: usize = 4;
 const MESSAGES: u8 = 200;
+const WORKERS: usize = 3;
+
+/// Where a worker fails the others would wait for the end for good.
+const LONGEST: Duration = Duration::from_secs(60);
 
 /// Sends all, and gives the sender back.
 async fn send(mut sender: Sender) -> Result<Sender, Fault> {
@@ -63,6 +72,67 @@ async fn sitting() -> Result<usize, Fault> {
     Ok(heard[0].len())
 }
 
+/// Sends what waits, and hears meanwhile: each poll first hears all that there is.
+async fn send_and_hear(
+    sender: &mut Sender,
+    receiver: &mut Receiver,
+    heard: &mut Vec<Item>,
+) -> Result<Turn, NeverFits> {
+    poll_fn(|context| {
+        while let Poll::Ready(Some(item)) = receiver.poll_item(context) {
+            heard.push(item);
+        }
+        sender.poll_send_when_room(context)
+    })
+    .await
+}
+
+/// A worker: it sends and hears up to the end, which the last one that has sent all makes.
+async fn work(
+    mut sender: Sender,
+    mut receiver: Receiver,
+    sending: Arc<AtomicUsize>,
+) -> Result<Vec<Item>, Fault> {
+    let mut heard = Vec::new();
+    for message in 0..MESSAGES {
+        sender.put(&[sender.number(), message])?;
+        match send_and_hear(&mut sender, &mut receiver, &mut heard).await? {
+            Turn::Delivered { .. } => {}
+            turn => return Err(turn.to_string().into()),
+        }
+    }
+    if sending.fetch_sub(1, Ordering::SeqCst) == 1 {
+        sender.close()?;
+        send_and_hear(&mut sender, &mut receiver, &mut heard).await?;
+    }
+    while let Some(item) = receiver.next_item_async().await {
+        heard.push(item);
+    }
+    Ok(heard)
+}
+
+/// Workers over a ring; how many items each heard.
+async fn workers() -> Result<usize, Fault> {
+    let (senders, receivers) = Bus::open_ring(Shape {
+        log_words: 16,
+        ..Shape::of(WORKERS, WORKERS)
+    })?;
+    let sending = Arc::new(AtomicUsize::new(WORKERS));
+    let working: Vec<_> = senders
+        .into_iter()
+        .zip(receivers)
+        .map(|(sender, receiver)| tokio::spawn(work(sender, receiver, sending.clone())))
+        .collect();
+    let mut heard = Vec::new();
+    for task in working {
+        heard.push(task.await??);
+    }
+    if heard.iter().any(|items| *items != heard[0]) {
+        return Err("two workers heard two orders".into());
+    }
+    Ok(heard[0].len())
+}
+
 fn main() -> Result<(), Fault> {
     let one = Builder::new_current_thread().enable_time().build()?;
     let four = Builder::new_multi_thread()
@@ -75,6 +145,11 @@ fn main() -> Result<(), Fault> {
             return Err("items are lost".into());
         }
         println!("{SENDERS} tasks sent, and 2 heard {heard} items in one order");
+        let heard = runtime.block_on(async { timeout(LONGEST, workers()).await })??;
+        if heard != WORKERS * usize::from(MESSAGES) {
+            return Err("items are lost".into());
+        }
+        println!("{WORKERS} tasks sent and heard {heard} items over a ring of 16 words");
     }
     Ok(())
 }

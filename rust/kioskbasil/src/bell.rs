@@ -1,5 +1,6 @@
 //! The bell of a bus, for which threads and tasks wait.
 
+use std::any::Any;
 use std::collections::BTreeMap;
 use std::mem;
 use std::panic::{self, AssertUnwindSafe};
@@ -33,7 +34,7 @@ impl Bell {
 
     /// As `ring`, for drops: a waker's panic ends here, since another panic may drop the handle.
     pub(crate) fn ring_in_drop(&self) {
-        let _ = panic::catch_unwind(AssertUnwindSafe(|| self.ring()));
+        quietly(|| self.ring());
     }
 
     /// The next ring wakes this waker, for the handle of this place. Whoever listens looks at the
@@ -59,15 +60,33 @@ impl Bell {
     }
 }
 
-/// Wakes each, also behind one that panics. That panic goes on then.
+/// Wakes each, also behind one that panics. The first panic goes on then, and others end here.
 fn wake_all(wakers: impl Iterator<Item = Waker>) {
     let mut fault = None;
     for waker in wakers {
-        let woken = panic::catch_unwind(AssertUnwindSafe(|| waker.wake()));
-        fault = fault.or(woken.err());
+        match panic::catch_unwind(AssertUnwindSafe(|| waker.wake())) {
+            Err(first) if fault.is_none() => fault = Some(first),
+            Err(other) => drop_fault(other),
+            Ok(()) => {}
+        }
     }
     if let Some(fault) = fault {
         panic::resume_unwind(fault);
+    }
+}
+
+/// Does this. A panic of it ends here.
+pub(crate) fn quietly(does: impl FnOnce()) {
+    if let Err(fault) = panic::catch_unwind(AssertUnwindSafe(does)) {
+        drop_fault(fault);
+    }
+}
+
+/// Drops what a panic was given. Its drop may panic too: what that gives stays in memory for good,
+/// since its own drop might panic again.
+fn drop_fault(fault: Box<dyn Any + Send>) {
+    if let Err(again) = panic::catch_unwind(AssertUnwindSafe(|| drop(fault))) {
+        mem::forget(again);
     }
 }
 

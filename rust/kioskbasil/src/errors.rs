@@ -36,8 +36,8 @@ faults! {
     OpenError {
         /// Senders are not 1 to 64.
         Senders = 32: "a bus has 1 to 64 senders",
-        /// Receivers are not 1 to 8.
-        Receivers = 33: "a bus has 1 to 8 receivers",
+        /// Receivers are not 1 to 64.
+        Receivers = 33: "a bus has 1 to 64 receivers",
         /// Rounds are not 1 to 8.
         Rounds = 34: "a bus has 1 to 8 rounds",
         /// Rows are not 1 to 256; used again, not 2 to 8.
@@ -104,6 +104,26 @@ faults! {
         Unanswered = 52: "a sender was not answered that the order has ended",
     }
 }
+
+/// Why numbers make no page.
+#[derive(Clone, Copy, Debug, PartialEq, Eq)]
+pub enum NumbersError {
+    /// They are not of 1 to 64 senders.
+    Senders,
+    /// One of them is 2^48 - 65,536 or more.
+    Numbers,
+}
+
+impl fmt::Display for NumbersError {
+    fn fmt(&self, f: &mut fmt::Formatter<'_>) -> fmt::Result {
+        f.write_str(match self {
+            NumbersError::Senders => "a page has the numbers of 1 to 64 senders",
+            NumbersError::Numbers => "the numbers of a sender are used up",
+        })
+    }
+}
+
+impl Error for NumbersError {}
 
 /// Two handles are of two buses, and tell one another nothing; nothing has changed.
 #[derive(Clone, Copy, Debug, PartialEq, Eq)]

@@ -1,17 +1,25 @@
-//! A broadcast bus between threads, over the proved archive of `crates/bus_c`.
+//! A broadcast bus between threads, over the archive of `crates/bus_c`. `VERSION` says whether the
+//! archive that is linked is proved.
 //!
 //! Up to 64 senders put messages of up to 56 bytes. All of them stand in one order, and each of up
-//! to 8 receivers hears all of it. The calls that take a turn wait for no other sender or receiver. `send`, `send_all`,
-//! `end_order` and `next_item` go on as long as it takes; that they end is not promised. A thread
-//! that waits sleeps until the `Bell` of its bus rings (`Waiting`). `send_while` and
-//! `next_item_while` can be told to stop. In async code `send_async`, `send_all_async`,
-//! `end_order_async` and `next_item_async` wait in any executor.
+//! to 64 receivers hears all of it. A call that takes turns, as `try_send` and `try_item`, waits for
+//! no turn of another sender or receiver. `send`, `send_all`, `end_order` and `next_item` go on as
+//! long as it takes; that they end is not promised. A thread that waits sleeps until the `Bell` of
+//! its bus rings (`Waiting`). `send_while` and `next_item_while` can be told to stop. In async code
+//! `send_async`, `send_all_async`, `end_order_async` and `next_item_async` wait in any executor, and
+//! `send_when_room_async` waits for room too.
+//!
+//! Behind a turn that is news to others its call rings. Where somebody listens it takes the mutex of
+//! the bell, and then calls the wakers. Another handle notes its waker under that mutex, and may take
+//! memory meanwhile. So a thread that is stopped there stops those that ring. The turns that are left
+//! of a sender that was dropped behind another one are taken under a mutex too.
 //!
 //! **Who sends and hears a ring must hear while it is answered `Full`.** The log of a ring
 //! (`Bus::open_ring`) is used again, so it serves on when it is full: `Full` is to be tried again,
 //! and the batch is kept. `try_send` waits for nobody, and `send_when_room` is for threads that only
-//! send. A batch longer than the log is `Full` for good, and its sender then neither sends, closes
-//! nor leaves: give a ring 129 words or more, or count the words of a batch before each put.
+//! send. What a task does that sends and hears stands at `Sender::poll_send_when_room`. A batch
+//! longer than the log is `Full` for good, and its sender then neither sends, closes nor leaves:
+//! give a ring 129 words or more, or count the words of a batch before each put.
 //!
 //! The election of the next sender is wait-free: each takes a stated number of its own turns. The
 //! append is not, since the sender that is elected holds the page as one holds a lock. If it stops
@@ -37,36 +45,45 @@
 //! # Ok::<(), Box<dyn std::error::Error>>(())
 //! ```
 //!
+//! Who replicates a state between workers takes `replica`, whose calls do all of that: `execute` puts
+//! an operation, and gives what it answers at its place in the order.
+//!
 //! What is proved is said of the archive's functions (`crates/bus_c`). Trusted besides are this
 //! crate, which has the `unsafe` code so that its users need none, the compilers and the C library.
 
 mod bell;
 mod errors;
-mod let_go;
+
 mod raw;
 mod receivers;
+pub mod replica;
 mod senders;
+mod shared;
 mod sizes;
 mod waiting;
 
 pub use bell::Bell;
 pub use errors::{
-    CloseError, EndError, NeverFits, OpenError, OtherBus, PageError, PutError, SendError,
-    TrySendError, Unsent,
+    CloseError, EndError, NeverFits, NumbersError, OpenError, OtherBus, PageError, PutError,
+    SendError, TrySendError, Unsent,
 };
 pub use receivers::{Heard, Item, Next, Receiver};
 pub use senders::{Sender, Turn};
 pub use sizes::{room_to_close, tenures_needed, words_needed};
 pub use waiting::Waiting;
 
-use let_go::LetGo;
+use shared::Shared;
 use std::sync::Arc;
+
+/// The version, and whether the archive that is linked is proved: `0.1.0, proved, ..` or `0.1.0, NOT
+/// PROVED, ..`. Of the archive that the variable KIOSKBASIL_ARCHIVE names it is not known.
+pub const VERSION: &str = concat!(env!("CARGO_PKG_VERSION"), ", ", env!("KIOSKBASIL_PROOF"));
 
 /// Senders of a bus: at most 64.
 pub const MOST_SENDERS: usize = 64;
 
-/// Receivers of a bus: at most 8.
-pub const MOST_RECEIVERS: usize = 8;
+/// Receivers of a bus: at most 64.
+pub const MOST_RECEIVERS: usize = 64;
 
 /// Bytes of a message: at most 56.
 pub const MOST_BYTES: usize = 56;
@@ -74,12 +91,15 @@ pub const MOST_BYTES: usize = 56;
 /// Messages that wait in a batch: at most 16.
 pub const MOST_MESSAGES: usize = 16;
 
+/// From this number on no next sitting goes on: 65,536 words of a log may take as many numbers.
+const END_OF_NUMBERS: u64 = (1 << 48) - 65_536;
+
 /// The sizes of a bus.
 #[derive(Clone, Copy, Debug, PartialEq, Eq)]
 pub struct Shape {
     /// 1 to 64 (`MOST_SENDERS`).
     pub senders: usize,
-    /// 1 to 8 (`MOST_RECEIVERS`).
+    /// 1 to 64 (`MOST_RECEIVERS`).
     pub receivers: usize,
     /// Rounds of one binary decision: 1 to 8. Any number is safe, and 2 are usual.
     pub rounds: u64,
@@ -112,27 +132,75 @@ impl Shape {
     }
 }
 
-/// With which numbers the next sitting goes on, and whether the order has ended. `Ended` has it, or
-/// `Bus::senders_page` gives it while the senders are kept. No program makes one by hand.
+/// With which numbers the next sitting goes on, and whether the order before it has ended. It is
+/// made of what a bus left behind, by `Bus::senders_page` while the senders are kept, or of numbers
+/// that a program has kept in a way of its own.
 #[derive(Clone, Copy, Debug, PartialEq, Eq)]
-#[non_exhaustive]
 pub struct Page {
-    /// The number that the next item of each sender would have.
-    pub next: [u64; MOST_SENDERS],
-    /// The order has ended.
-    pub ended: bool,
+    next: [u64; MOST_SENDERS],
+    has_ended: bool,
 }
 
-impl From<&Ended> for Page {
-    fn from(ended: &Ended) -> Page {
+impl Page {
+    /// The page of what a bus left behind. So `Bus::open_after` takes an `Ended` too.
+    pub fn after(ended: &Ended) -> Page {
         Page {
             next: ended.next,
-            ended: ended.ended,
+            has_ended: ended.ended,
         }
+    }
+
+    /// A page of the number that the next item of each sender would have, from sender 0 on; those
+    /// that are not named begin with 0. So a program goes on that has kept the numbers in a file.
+    /// That they are those of an order that has ended is the caller's word: where another number is
+    /// given, two items may have one number.
+    ///
+    /// Each number is below 2^48 - 65,536. A ring goes on below 2^48 - 2^44 - 16 alone, which
+    /// `Bus::open_after` tells.
+    ///
+    /// ```
+    /// use kioskbasil::{Bus, NumbersError, Page, Shape};
+    ///
+    /// let page = Page::from_numbers(&[7, 0])?;
+    /// let (mut senders, _receivers) = Bus::open_after(Shape::of(2, 1), page)?;
+    /// assert_eq!(senders[0].put(b"goes on"), Ok(7));
+    /// assert_eq!(Page::from_numbers(&[1 << 48]), Err(NumbersError::Numbers));
+    /// # Ok::<(), Box<dyn std::error::Error>>(())
+    /// ```
+    pub fn from_numbers(next: &[u64]) -> Result<Page, NumbersError> {
+        if next.is_empty() || next.len() > MOST_SENDERS {
+            return Err(NumbersError::Senders);
+        }
+        if next.iter().any(|&number| number >= END_OF_NUMBERS) {
+            return Err(NumbersError::Numbers);
+        }
+        let mut page = Page {
+            next: [0; MOST_SENDERS],
+            has_ended: true,
+        };
+        page.next[..next.len()].copy_from_slice(next);
+        Ok(page)
+    }
+
+    /// The number that the next item of each sender would have.
+    pub fn next_numbers(&self) -> &[u64; MOST_SENDERS] {
+        &self.next
+    }
+
+    /// The order before has ended. No bus goes on from a page that says no.
+    pub fn has_ended(&self) -> bool {
+        self.has_ended
     }
 }
 
-/// What a bus leaves behind. No program makes one by hand.
+impl From<&Ended> for Page {
+    /// As `Page::after`.
+    fn from(ended: &Ended) -> Page {
+        Page::after(ended)
+    }
+}
+
+/// What a bus leaves behind, for reading. Who goes on with numbers of its own makes a `Page`.
 #[derive(Clone, Debug, PartialEq, Eq)]
 #[non_exhaustive]
 pub struct Ended {
@@ -198,10 +266,10 @@ impl Bus {
     ///             Ok(other) => return Err(SendError::Turn(other).into()),
     ///             // A turn for nothing takes a tenure: it looks for room while it hears.
     ///             Err(TrySendError::Full) => while !sender.has_room()? && !receiver.has_ended() {
-    ///                 receiver.hear(&mut heard);
+    ///                 if receiver.hear(&mut heard) == 0 { std::thread::yield_now(); }
     ///             },
     ///             Err(TrySendError::NeverFits) => return Err(TrySendError::NeverFits.into()),
-    ///             Err(_) => { receiver.hear(&mut heard); }
+    ///             Err(_) => if receiver.hear(&mut heard) == 0 { std::thread::yield_now(); },
     ///         }
     ///     }
     /// }
@@ -239,7 +307,7 @@ impl Bus {
         let page = before.into();
         let left = raw::Left {
             next: page.next,
-            ended: page.ended,
+            ended: page.has_ended,
             ..raw::Left::NONE
         };
         Bus::opened(shape, Some(&left))
@@ -292,7 +360,7 @@ impl Bus {
         }
         Ok(Page {
             next: left.next,
-            ended: left.ended,
+            has_ended: left.ended,
         })
     }
 
@@ -327,15 +395,15 @@ impl Bus {
         if code != 0 {
             return Err(OpenError::of_code(code));
         }
-        let (bell, let_go) = (Bell::default(), Arc::<LetGo>::default());
+        let (bell, shared) = (Bell::default(), Arc::<Shared>::default());
         let senders = senders.into_iter().take(many);
         let receivers = receivers.into_iter().take(ears).enumerate();
         Ok((
             senders
-                .map(|raw| Sender::of_raw(raw, &bell, &let_go))
+                .map(|raw| Sender::of_raw(raw, &bell, &shared))
                 .collect(),
             receivers
-                .map(|(number, raw)| Receiver::of_raw(raw, number, &shape, &bell, &let_go))
+                .map(|(number, raw)| Receiver::of_raw(raw, number, &shape, &bell, &shared))
                 .collect(),
         ))
     }

@@ -1,8 +1,8 @@
 //! Receivers.
 
 use crate::errors::{EndError, OtherBus};
-use crate::let_go::LetGo;
 use crate::raw;
+use crate::shared::Shared;
 use crate::waiting::{BackOff, Polled};
 use crate::{Bell, Ended, Sender, Shape, Waiting, MOST_BYTES, MOST_SENDERS};
 use std::cmp::Ordering;
@@ -124,10 +124,12 @@ pub struct Receiver {
     log_words: usize,
     /// Of a ring the last passed place that it rang for.
     passed: Option<u64>,
+    /// Of a ring: how many words it had read when it last asked the bus.
+    read: u64,
     bell: Bell,
     /// Its place at the bell.
     place: usize,
-    let_go: Arc<LetGo>,
+    shared: Arc<Shared>,
     waiting: Waiting,
 }
 
@@ -153,7 +155,7 @@ impl Receiver {
         number: usize,
         shape: &Shape,
         bell: &Bell,
-        let_go: &Arc<LetGo>,
+        shared: &Arc<Shared>,
     ) -> Receiver {
         Receiver {
             raw,
@@ -163,9 +165,10 @@ impl Receiver {
             ended: false,
             log_words: shape.log_words as usize,
             passed: shape.ring.then_some(0),
+            read: 0,
             bell: bell.clone(),
             place: MOST_SENDERS + number,
-            let_go: let_go.clone(),
+            shared: shared.clone(),
             waiting: Waiting::default(),
         }
     }
@@ -208,12 +211,33 @@ impl Receiver {
     /// Rings where it has passed words of a ring: a sender may wait for their room.
     fn ring_if_passed(&mut self) {
         if let Some(before) = self.passed {
-            let passed = self.passed();
-            if passed != before {
-                self.passed = Some(passed);
+            let shown = self.shown();
+            self.read = shown.place;
+            if shown.passed != before {
+                self.passed = Some(shown.passed);
                 self.bell.ring();
             }
         }
+    }
+
+    /// It has items at hand.
+    #[inline]
+    pub(crate) fn has_at_hand(&self) -> bool {
+        self.given < self.many
+    }
+
+    /// How many words of a ring it had read when it last asked the bus.
+    #[inline]
+    pub(crate) fn read(&self) -> u64 {
+        self.read
+    }
+
+    /// One item that it has at hand, where it lies.
+    #[inline]
+    pub(crate) fn lend_at_hand(&mut self) -> Option<&Item> {
+        let item = self.ready[..self.many].get(self.given)?;
+        self.given += 1;
+        Some(item)
     }
 
     /// One item that it has at hand.
@@ -309,7 +333,7 @@ impl Receiver {
 
     /// Takes items out of the bus where it has none at hand.
     #[inline]
-    fn look(&mut self) {
+    pub(crate) fn look(&mut self) {
         if self.given == self.many && !self.ended {
             self.fill();
         }
@@ -540,7 +564,9 @@ impl Receiver {
     /// `floor`, which is not past what this receiver has passed. Where other handles have a ring
     /// still, it leaves.
     pub fn end(mut self) -> Result<Ended, EndError> {
-        self.let_go.finish();
+        if self.shared.finish() {
+            self.bell.ring();
+        }
         let mut log = vec![0; self.log_words];
         let mut left = raw::Left::NONE;
         // SAFETY: as in `shown`; the log has room for the longest one.

@@ -1,9 +1,9 @@
 //! Senders.
 
 use crate::errors::{CloseError, NeverFits, PutError, SendError, TrySendError, Unsent};
-use crate::let_go::LetGo;
 use crate::raw;
-use crate::waiting::{nap, wake_after, BackOff, Polled, Words, LEAST_LOOKS, MOST_LOOKS};
+use crate::shared::Shared;
+use crate::waiting::{nap, BackOff, Polled, Sleeper, Words, LEAST_LOOKS, MOST_LOOKS};
 use crate::{Bell, Waiting, MOST_MESSAGES};
 use std::sync::Arc;
 use std::task::{Context, Poll};
@@ -132,11 +132,16 @@ pub struct Sender {
     closes: bool,
     /// A leave of it was taken.
     leaves: bool,
+    /// It was answered `Left`.
+    has_left: bool,
+    /// Its last turn was one of a tenure that goes on.
+    is_within: bool,
     /// How many of its last turns answered `Behind`.
     behind: u32,
     bell: Bell,
-    let_go: Arc<LetGo>,
+    shared: Arc<Shared>,
     waiting: Waiting,
+    sleeper: Sleeper,
 }
 
 impl fmt::Debug for Sender {
@@ -150,23 +155,26 @@ impl fmt::Debug for Sender {
 impl Drop for Sender {
     fn drop(&mut self) {
         let raw = mem::replace(&mut self.raw, raw::RawSender::NONE);
-        self.let_go.give_up(raw);
+        self.shared.give_up(raw);
         self.bell.ring_in_drop();
     }
 }
 
 impl Sender {
-    pub(crate) fn of_raw(raw: raw::RawSender, bell: &Bell, let_go: &Arc<LetGo>) -> Sender {
+    pub(crate) fn of_raw(raw: raw::RawSender, bell: &Bell, shared: &Arc<Shared>) -> Sender {
         let mut sender = Sender {
             raw,
             random: Words::new(),
             number: 0,
             closes: false,
             leaves: false,
+            has_left: false,
+            is_within: false,
             behind: 0,
             bell: bell.clone(),
-            let_go: let_go.clone(),
+            shared: shared.clone(),
             waiting: Waiting::default(),
+            sleeper: Sleeper::default(),
         };
         sender.number = sender.shown().number;
         sender
@@ -276,7 +284,8 @@ impl Sender {
     }
 
     /// Appends a message of at most 56 bytes to its batch of at most 16, and gives its number.
-    /// Takes no step.
+    /// Takes no step. A batch comes into the order as one frame, with nothing of another sender in
+    /// between. So what is longer goes as pieces in one batch.
     ///
     /// ```
     /// # use kioskbasil::{Bus, PutError, Shape};
@@ -409,13 +418,18 @@ impl Sender {
             Turn::Behind { .. } => self.behind.saturating_add(1),
             _ => 0,
         };
+        self.is_within = matches!(turn, Turn::Going | Turn::Own { .. } | Turn::Behind { .. });
+        self.has_left |= matches!(turn, Turn::Left { .. });
+        if turn == Turn::Closed && !self.has_left {
+            self.shared.note_end();
+        }
         let is_news = match turn {
             Turn::Delivered { .. } | Turn::Left { .. } | Turn::Full | Turn::Closed => true,
             Turn::Behind { .. } => self.behind == 1,
             _ => false,
         };
         // Behind this one another may have been dropped.
-        let is_back = self.let_go.finish();
+        let is_back = self.shared.finish();
         if is_news || is_back {
             self.bell.ring();
         }
@@ -467,6 +481,23 @@ impl Sender {
         match unsafe { raw::bus_c_finish(&mut self.raw, &mut told) } {
             0 => None,
             code => Some(self.answered(Turn::of(code, told))),
+        }
+    }
+
+    /// Its last turn answered `Behind`.
+    pub(crate) fn is_behind(&self) -> bool {
+        self.behind > 0
+    }
+
+    /// As `finish`, but that it waits while another sender's pin is in the way: no tenure is begun
+    /// when it returns.
+    pub(crate) fn settle(&mut self) -> Option<Turn> {
+        let mut back_off = BackOff::new(self.waiting);
+        loop {
+            match self.finish() {
+                Some(Turn::Behind { .. }) => back_off.wait_behind(self.behind),
+                last => return last,
+            }
         }
     }
 
@@ -586,11 +617,12 @@ impl Sender {
     }
 
     /// As `send_while`, but that it goes on after `Full`: it waits for room, and sends again. Before
-    /// each look for room it asks `go_on` too. So it never gives `Full`. Now and then it takes a turn
-    /// all the same, since the order may have ended: after 64 looks, then 128, and so on up to 4,096,
-    /// and after it has slept for as long as it may. A batch that is longer than the log is an error
-    /// before the first turn. Of a bus that is no ring there is no more room after `Full`, and the
-    /// call goes on until it is told to stop, or another sender ends the order.
+    /// each look for room it asks `go_on` too. So it never gives `Full`. Where the order ends
+    /// meanwhile it takes a turn, which says so. Now and then it takes one all the same: after 64
+    /// looks, then 128, and so on up to 4,096, and after it has slept for as long as it may. A batch
+    /// that is longer than the log is an error before the first turn. Of a bus that is no ring there
+    /// is no more room after `Full`, and the call goes on until it is told to stop, or another sender
+    /// ends the order.
     ///
     /// It is for threads that only send: one that has to hear too hears while there is no room, as
     /// with `try_send`.
@@ -631,8 +663,8 @@ impl Sender {
         }
     }
 
-    /// Looks until there is room, or for so many times, or until it has slept for as long as it may.
-    /// False where it is told to stop.
+    /// Looks until there is room, or the order is known to have ended, or for so many times, or until
+    /// it has slept for as long as it may. False where it is told to stop.
     fn wait_for_room(
         &mut self,
         back_off: &mut BackOff,
@@ -643,7 +675,7 @@ impl Sender {
             if !go_on() {
                 return Ok(false);
             }
-            if self.has_room()? {
+            if self.has_room()? || self.shared.has_ended() {
                 back_off.carry_on();
                 break;
             }
@@ -655,9 +687,13 @@ impl Sender {
     }
 
     /// As `send`, for tasks: where another sender has to go on first, the task is woken once it may
-    /// have done so. Nothing wakes a task that waits for room: `Full` is an answer. So a task that
-    /// hears a ring too tries again after an item that it heard, and one that only sends goes by
-    /// `send_when_room` on a thread that may block.
+    /// have done so. `Full` is an answer, and no ring need follow it: a task that waits for room goes
+    /// by `poll_send_when_room`. Do not poll this again at once, since each `Full` takes a tenure.
+    ///
+    /// No ring follows where a turn answers `Behind`. Then the task is woken at once, the first 63
+    /// times. From then on a thread of the operating system is started, which sleeps in its place
+    /// for 0.1 ms, 0.2 ms and so on up to 12.8 ms, and wakes it. A sender has one such thread at
+    /// most, however often it is polled, and the waker of the last poll is woken.
     pub fn poll_send(&mut self, context: &mut Context<'_>) -> Poll<Turn> {
         let mut listens = false;
         loop {
@@ -670,7 +706,8 @@ impl Sender {
                     listens = true;
                 }
                 Turn::Behind { .. } => {
-                    wake_after(nap(self.behind), context.waker());
+                    let nap = nap(self.behind);
+                    self.sleeper.wake_after(nap, context.waker());
                     return Poll::Pending;
                 }
                 Turn::Going | Turn::Lost { .. } | Turn::Own { .. } => {}
@@ -679,13 +716,155 @@ impl Sender {
         }
     }
 
-    /// As `send`, for tasks. Where the future is dropped the batch is kept, and any later turn goes
-    /// on with it. It keeps nobody waiting meanwhile, but where the last turn answered `Behind`. It
-    /// does not wait for room: see `poll_send`.
+    /// As `send`, for tasks. `Full` is an answer: `send_when_room_async` waits for room.
+    ///
+    /// Where the future is dropped the batch is kept, and any later turn goes on with it. It keeps
+    /// nobody waiting meanwhile, but where the last turn answered `Behind`. Which it was `finish`
+    /// tells: None after `Waiting`, where the batch does not stand in the order, and Some after
+    /// `Behind`. So whoever drops the future and does not soon go on calls `finish`, until it gives
+    /// something else than `Behind`.
+    ///
+    /// ```
+    /// use kioskbasil::{Bus, Shape, Turn};
+    /// use std::future::Future;
+    /// use std::task::Context;
+    /// # use std::sync::Arc;
+    /// # struct Nobody;
+    /// # impl std::task::Wake for Nobody {
+    /// #     fn wake(self: Arc<Self>) {}
+    /// # }
+    /// # let waker = std::task::Waker::from(Arc::new(Nobody));
+    ///
+    /// let (mut senders, _receivers) = Bus::open(Shape::of(2, 1))?;
+    /// let (anna, bert) = senders.split_at_mut(1);
+    /// bert[0].put(b"b")?;
+    /// while bert[0].turn(0) != (Turn::Own { tenure: 0 }) {}
+    /// anna[0].put(b"a")?;
+    /// let mut sends = Box::pin(anna[0].send_async());
+    /// assert!(sends.as_mut().poll(&mut Context::from_waker(&waker)).is_pending());
+    /// drop(sends);
+    /// assert_eq!((anna[0].finish(), anna[0].pending()), (None, 1));
+    /// # Ok::<(), Box<dyn std::error::Error>>(())
+    /// ```
     #[allow(unused_attributes)] // before Rust 1.67 the next one said nothing of an async function
     #[must_use = "Full and Spent send nothing"]
     pub async fn send_async(&mut self) -> Turn {
         Polled(|context: &mut Context<'_>| self.poll_send(context)).await
+    }
+
+    /// Ready once what waits has room, by a look (`has_room`), or once a turn has something else to
+    /// do or to tell: the order has ended, or nothing waits, or a tenure that was begun goes on.
+    /// It takes no turn. Else the task is woken where a receiver passes words or is dropped, and
+    /// where the order ends. Of a bus that is no ring there is no more room once there was none.
+    ///
+    /// It is no promise that the next turn finds room: another sender may take that first.
+    pub fn poll_room(&mut self, context: &mut Context<'_>) -> Poll<Result<(), NeverFits>> {
+        for listens in [false, true] {
+            if self.is_turn_due()? {
+                return Poll::Ready(Ok(()));
+            }
+            if !listens {
+                let place = usize::from(self.number);
+                self.bell.listen(place, context.waker());
+            }
+        }
+        Poll::Pending
+    }
+
+    /// A turn is not known to be answered `Full`.
+    fn is_turn_due(&mut self) -> Result<bool, NeverFits> {
+        let shown = self.shown();
+        let mark_waits = (self.closes || self.leaves) && !shown.is_closed;
+        let waits = shown.pending > 0 || mark_waits;
+        if self.is_within || !waits {
+            return Ok(true);
+        }
+        Ok(self.has_room()? || self.shared.has_ended())
+    }
+
+    /// Waits for room, for tasks, as `poll_room` says. Nothing is lost where the future is dropped.
+    ///
+    /// ```
+    /// # use kioskbasil::{NeverFits, Sender, Turn};
+    /// async fn send_in_order(sender: &mut Sender) -> Result<Turn, NeverFits> {
+    ///     loop {
+    ///         sender.room_async().await?;
+    ///         match sender.send_async().await {
+    ///             Turn::Full => {}
+    ///             last => return Ok(last),
+    ///         }
+    ///     }
+    /// }
+    /// ```
+    pub async fn room_async(&mut self) -> Result<(), NeverFits> {
+        Polled(|context: &mut Context<'_>| self.poll_room(context)).await
+    }
+
+    /// As `poll_send`, but that it waits for room too, so it never gives `Full`. It looks for room
+    /// before each tenure, and takes none while there is none. So `Closed` comes also where the order
+    /// ends while it waits. A batch that is longer than the log is an error before the first turn.
+    ///
+    /// **A task that hears a ring too does both in one poll**: it hears all that there is, until
+    /// `poll_item` is pending, and then polls this. That ends, and no wake-up is missed: what the
+    /// task has heard keeps no room from it, and where another receiver does, that one wakes the task
+    /// as soon as it has heard or is dropped. So the two calls may also stand in two futures of one
+    /// task that are polled in turn, as `join` does. A task that awaits room and does not hear
+    /// meanwhile may wait for itself for good.
+    ///
+    /// ```
+    /// # use kioskbasil::{Item, NeverFits, Receiver, Sender, Turn};
+    /// use std::task::{Context, Poll};
+    ///
+    /// /// Sends what waits, and hears meanwhile.
+    /// fn poll_work(
+    ///     sender: &mut Sender,
+    ///     receiver: &mut Receiver,
+    ///     heard: &mut Vec<Item>,
+    ///     context: &mut Context<'_>,
+    /// ) -> Poll<Result<Turn, NeverFits>> {
+    ///     while let Poll::Ready(Some(item)) = receiver.poll_item(context) {
+    ///         heard.push(item);
+    ///     }
+    ///     sender.poll_send_when_room(context)
+    /// }
+    /// ```
+    ///
+    /// `std::future::poll_fn`, which Rust has since 1.64, makes a future of it.
+    ///
+    /// Of a sink it is what flushes: `put` is what takes a message, and `BatchFull` says that one is
+    /// to flush first.
+    pub fn poll_send_when_room(
+        &mut self,
+        context: &mut Context<'_>,
+    ) -> Poll<Result<Turn, NeverFits>> {
+        while self.poll_room(context)?.is_ready() {
+            match self.poll_send(context) {
+                Poll::Ready(Turn::Full) => {}
+                other => return other.map(Ok),
+            }
+        }
+        Poll::Pending
+    }
+
+    /// As `send_when_room`, for tasks that only send: it waits for room by `poll_send_when_room`,
+    /// where a task that hears too finds its way. Where the future is dropped it is as with
+    /// `send_async`.
+    ///
+    /// ```
+    /// # async fn send(mut sender: kioskbasil::Sender) -> Result<(), Box<dyn std::error::Error>> {
+    /// for number in 0..1000u64 {
+    ///     sender.put(&number.to_le_bytes())?;
+    ///     sender.send_when_room_async().await?;
+    /// }
+    /// sender.close()?;
+    /// sender.send_when_room_async().await?;
+    /// # Ok(())
+    /// # }
+    /// ```
+    #[allow(unused_attributes)] // as at `send_async`
+    #[must_use = "Spent sends nothing"]
+    pub async fn send_when_room_async(&mut self) -> Result<Turn, NeverFits> {
+        Polled(|context: &mut Context<'_>| self.poll_send_when_room(context)).await
     }
 
     /// What the last answer says of what waited, be it messages or a mark.
@@ -765,9 +944,11 @@ impl Sender {
             .map_err(|why| Unsent { put, why })
     }
 
-    /// Closes, and sends that: Ok where the order has ended then. After an error `Close` nothing has
-    /// changed. After `Turn` the close waits, and another call goes on with it; so it does where
-    /// `close` was called before.
+    /// Closes, and sends that: Ok where the order has ended then, also by another sender, and nothing
+    /// waits with this one. After an error `Close` nothing has changed. After `Turn` the close waits,
+    /// and another call goes on with it; so it does where `close` was called before. But after
+    /// `Turn(Turn::Closed)` another sender has ended the order, and messages wait that are not sent
+    /// any more: `carry_to` takes them along.
     ///
     /// ```
     /// use kioskbasil::{Bus, SendError, Shape, Turn};
@@ -784,7 +965,7 @@ impl Sender {
     pub fn end_order(&mut self) -> Result<(), SendError> {
         self.begin_to_end()?;
         let last = self.send();
-        ended_by(last)
+        self.ended_by(last)
     }
 
     /// As `end_order`, for tasks. Where the future is dropped the close waits, and another call
@@ -792,13 +973,25 @@ impl Sender {
     pub async fn end_order_async(&mut self) -> Result<(), SendError> {
         self.begin_to_end()?;
         let last = self.send_async().await;
-        ended_by(last)
+        self.ended_by(last)
     }
 
+    /// Lets a close wait. Where the order has ended, as some sender was told, turns tell this one
+    /// so, whatever it waits for and knows.
     fn begin_to_end(&mut self) -> Result<(), SendError> {
-        match self.closes {
-            true => Ok(()),
-            false => self.close().map_err(SendError::Close),
+        if self.closes {
+            return Ok(());
+        }
+        match self.close() {
+            Err(why) if !self.shared.has_ended() => Err(SendError::Close(why)),
+            _ => Ok(()),
+        }
+    }
+
+    fn ended_by(&mut self, last: Turn) -> Result<(), SendError> {
+        match last {
+            Turn::Closed if self.pending() == 0 => Ok(()),
+            other => Err(SendError::Turn(other)),
         }
     }
 }
@@ -806,11 +999,4 @@ impl Sender {
 /// After so many messages, put one by one and sent off where the batch was full, it is full again.
 fn is_full(put: usize) -> bool {
     put > 0 && put % MOST_MESSAGES == 0
-}
-
-fn ended_by(last: Turn) -> Result<(), SendError> {
-    match last {
-        Turn::Closed => Ok(()),
-        other => Err(SendError::Turn(other)),
-    }
 }

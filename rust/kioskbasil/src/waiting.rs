@@ -1,10 +1,13 @@
 //! Waiting and random words, of which the archive has none.
 
+use crate::bell::quietly;
 use crate::Bell;
 use std::collections::hash_map::RandomState;
 use std::future::Future;
 use std::hash::{BuildHasher, Hasher};
+use std::mem;
 use std::pin::Pin;
+use std::sync::{Arc, Mutex, MutexGuard, PoisonError};
 use std::task::{Context, Poll, Waker};
 use std::time::{Duration, Instant};
 use std::{hint, thread};
@@ -53,14 +56,21 @@ impl BackOff {
     /// Waits for the bell: spins, then yields, then listens, so that the caller looks once more,
     /// and then sleeps. True says that it has slept for as long as it may.
     pub(crate) fn wait(&mut self, bell: &Bell, place: usize) -> bool {
+        self.wait_up_to(bell, place, None)
+    }
+
+    /// As `wait`, but that it sleeps up to this time at most.
+    pub(crate) fn wait_up_to(&mut self, bell: &Bell, place: usize, end: Option<Instant>) -> bool {
         if self.backs_off() {
             return false;
         }
         let mut is_long = false;
         if self.listens {
             let begin = Instant::now();
-            thread::park_timeout(LONGEST_SLEEP);
-            is_long = begin.elapsed() >= LONGEST_SLEEP;
+            let left = end.map_or(LONGEST_SLEEP, |end| end.saturating_duration_since(begin));
+            let most = left.min(LONGEST_SLEEP);
+            thread::park_timeout(most);
+            is_long = begin.elapsed() >= most;
         }
         bell.listen_here(place);
         self.listens = true;
@@ -103,17 +113,73 @@ pub(crate) fn nap(looks: u32) -> Option<Duration> {
     Some(Duration::from_micros(100 << naps.min(7)))
 }
 
-/// Wakes a task after a nap, which a thread takes in its place, or at once where there is none.
-pub(crate) fn wake_after(nap: Option<Duration>, waker: &Waker) {
-    let sleeper = waker.clone();
-    let started = nap.map(|nap| {
-        thread::Builder::new().spawn(move || {
+/// Wakes the task of a sender after naps. A thread takes them in its place, one at most.
+#[derive(Clone, Default)]
+pub(crate) struct Sleeper(Arc<Mutex<Asleep>>);
+
+#[derive(Default)]
+struct Asleep {
+    /// The thread is there. It takes `next` before it goes.
+    is_there: bool,
+    /// Whom it wakes after the next nap, and how long that is.
+    next: Option<(Duration, Waker)>,
+}
+
+impl Sleeper {
+    /// Wakes this task after a nap, or at once where there is none, or no thread is to be had. Of
+    /// several wakers the last one is woken.
+    pub(crate) fn wake_after(&self, nap: Option<Duration>, waker: &Waker) {
+        let nap = match nap {
+            Some(nap) => nap,
+            None => return waker.wake_by_ref(),
+        };
+        let next = Some((nap, waker.clone()));
+        let mut asleep = self.asleep();
+        let was_there = mem::replace(&mut asleep.is_there, true);
+        let old = mem::replace(&mut asleep.next, next);
+        drop(asleep);
+        // The old one may have a handle in it, whose drop rings.
+        drop(old);
+        if !was_there {
+            self.start();
+        }
+    }
+
+    fn start(&self) {
+        let sleeper = self.clone();
+        let started = thread::Builder::new().spawn(move || sleeper.sleep());
+        if started.is_err() {
+            let mut asleep = self.asleep();
+            asleep.is_there = false;
+            let next = asleep.next.take();
+            drop(asleep);
+            if let Some((_, waker)) = next {
+                waker.wake();
+            }
+        }
+    }
+
+    /// What the thread does: naps, one after another, as long as there is somebody to wake.
+    fn sleep(self) {
+        while let Some(nap) = self.next_nap() {
             thread::sleep(nap);
-            sleeper.wake();
-        })
-    });
-    if !matches!(started, Some(Ok(_))) {
-        waker.wake_by_ref();
+            let next = self.asleep().next.take();
+            if let Some((_, waker)) = next {
+                quietly(|| waker.wake());
+            }
+        }
+    }
+
+    /// How long the next nap is. None says that the thread goes, since nobody is to be woken.
+    fn next_nap(&self) -> Option<Duration> {
+        let mut asleep = self.asleep();
+        let nap = asleep.next.as_ref().map(|(nap, _)| *nap);
+        asleep.is_there = nap.is_some();
+        nap
+    }
+
+    fn asleep(&self) -> MutexGuard<'_, Asleep> {
+        self.0.lock().unwrap_or_else(PoisonError::into_inner)
     }
 }
 

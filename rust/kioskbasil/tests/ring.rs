@@ -2,7 +2,7 @@
 
 use kioskbasil::{
     Bus, EndError, Item, NeverFits, OpenError, Receiver, SendError, Sender, Shape, TrySendError,
-    Turn, Waiting, MOST_MESSAGES,
+    Turn, Waiting, MOST_MESSAGES, MOST_RECEIVERS,
 };
 use std::sync::atomic::{AtomicBool, AtomicUsize, Ordering};
 use std::thread;
@@ -174,6 +174,24 @@ fn full_then_heard_then_sent() {
             assert_eq!(receiver.next_items().len(), 1);
         }
     }
+}
+
+/// Of as many receivers as there can be the last one alone holds a frame up, until it has heard.
+#[test]
+fn the_last_of_most_receivers() {
+    let (mut senders, mut receivers) = ring(1, MOST_RECEIVERS, 16);
+    let sender = &mut senders[0];
+    sender.send_all([[1; 56]]).unwrap();
+    sender.put(&[2; 56]).unwrap();
+    for receiver in &mut receivers {
+        assert_eq!(sender.send(), Turn::Full);
+        assert_eq!(receiver.try_items().len(), 1);
+    }
+    assert!(matches!(sender.send(), Turn::Delivered { .. }));
+    let last = receivers.last_mut().unwrap().try_items();
+    assert_eq!((last.len(), &last[0][..]), (1, &[2; 56][..]));
+    let ended = Bus::end(senders, receivers).unwrap();
+    assert_eq!((ended.floor, ended.log.len()), (9, 9));
 }
 
 /// Of a bus that is no ring nothing is passed, and Full is for good.
@@ -451,4 +469,6 @@ fn rings_that_are_refused() {
         ..good
     };
     assert_eq!(Bus::open_ring(short).unwrap_err(), OpenError::LogWords);
+    let many = Shape::of(1, MOST_RECEIVERS + 1);
+    assert_eq!(Bus::open_ring(many).unwrap_err(), OpenError::Receivers);
 }

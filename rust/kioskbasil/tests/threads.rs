@@ -2,8 +2,8 @@
 //! order.
 
 use kioskbasil::{
-    Bus, EndError, Item, OpenError, OtherBus, Page, PageError, PutError, SendError, Shape, Turn,
-    MOST_BYTES, MOST_MESSAGES,
+    Bus, CloseError, EndError, Item, NumbersError, OpenError, OtherBus, Page, PageError, PutError,
+    SendError, Shape, Turn, MOST_BYTES, MOST_MESSAGES,
 };
 use std::cmp::Ordering;
 use std::error::Error;
@@ -80,7 +80,7 @@ fn shapes_that_are_refused() {
     );
     assert_eq!(
         Bus::open(Shape {
-            receivers: 9,
+            receivers: 65,
             ..good
         })
         .unwrap_err(),
@@ -385,11 +385,95 @@ fn numbers_of_a_later_sitting() {
     second[0].end_order().unwrap();
     assert_eq!(second[1].send(), Turn::Closed);
     let page = Bus::senders_page(&mut second).unwrap();
-    assert_eq!(page.next[..3], [2, 1, 0]);
+    assert_eq!(page.next_numbers()[..3], [2, 1, 0]);
+    assert_eq!(Page::from_numbers(&[2, 1]), Ok(page));
     let (mut third, mut ears) = Bus::open_after(shape, page).unwrap();
     second[1].carry_to(&mut third[1]).unwrap();
     third[1].send_all(["c"]).unwrap();
     assert_eq!(ears[0].next_item().map(|item| item.number), Some(1));
+}
+
+/// An order that has ended is told alike to each that would end it, whether it knows that or not.
+#[test]
+fn an_end_by_another_is_told_alike() {
+    for knows in [false, true] {
+        let (mut senders, _receivers) = Bus::open(Shape::of(5, 1)).unwrap();
+        senders[1].leave().unwrap();
+        assert!(matches!(senders[1].send(), Turn::Left { .. }));
+        // Before the end a close of one that has left, or has something to send, is refused.
+        let closed = Err(SendError::Close(CloseError::Closed));
+        assert_eq!(senders[1].end_order(), closed);
+        senders[2].leave().unwrap();
+        assert_eq!(senders[2].end_order(), closed);
+        senders[3].put(b"late").unwrap();
+        let pending = Err(SendError::Close(CloseError::Pending));
+        assert_eq!(senders[3].end_order(), pending);
+        senders[4].end_order().unwrap();
+        if knows {
+            senders[0].put(b"never sent").unwrap();
+            assert_eq!(senders[0].send(), Turn::Closed);
+            assert_eq!([senders[2].send(), senders[3].send()], [Turn::Closed; 2]);
+        }
+        for _ in 0..2 {
+            let late = Err(SendError::Turn(Turn::Closed));
+            let first = if knows { late } else { Ok(()) };
+            assert_eq!(senders[0].end_order(), first);
+            assert_eq!(senders[1].end_order(), Ok(()));
+            assert_eq!(senders[2].end_order(), Ok(()));
+            assert_eq!(senders[3].end_order(), late);
+            assert_eq!(senders[4].end_order(), Ok(()));
+        }
+        // Each was told by a turn, so they tell the page of the next sitting.
+        assert!(Bus::senders_page(&mut senders).unwrap().has_ended());
+    }
+}
+
+/// One that knows that another has ended the order, and with which nothing waits.
+#[test]
+fn an_end_that_is_known_is_told_alike() {
+    let (mut senders, _receivers) = Bus::open(Shape::of(2, 1)).unwrap();
+    senders[0].end_order().unwrap();
+    senders[1].leave().unwrap();
+    assert_eq!(senders[1].send(), Turn::Closed);
+    assert_eq!(senders[1].close(), Err(CloseError::Closed));
+    assert_eq!(senders[1].end_order(), Ok(()));
+}
+
+#[test]
+fn pages_of_numbers() {
+    assert_eq!(Page::from_numbers(&[]), Err(NumbersError::Senders));
+    assert_eq!(Page::from_numbers(&[0; 65]), Err(NumbersError::Senders));
+    let most = (1 << 48) - 65_537;
+    assert_eq!(
+        Page::from_numbers(&[0, most + 1]),
+        Err(NumbersError::Numbers)
+    );
+    assert_eq!(
+        NumbersError::Numbers.to_string(),
+        OpenError::Numbers.to_string()
+    );
+    let page = Page::from_numbers(&[0, most]).unwrap();
+    assert!(page.has_ended() && page.next_numbers()[..3] == [0, most, 0]);
+    let shape = Shape::of(2, 1);
+    let (mut senders, mut receivers) = Bus::open_after(shape, page).unwrap();
+    senders[1].send_all(["a"]).unwrap();
+    assert_eq!(receivers[0].next_item().map(|item| item.number), Some(most));
+    assert_eq!(
+        Bus::open_after(
+            Shape {
+                ring: true,
+                ..shape
+            },
+            page
+        )
+        .unwrap_err(),
+        OpenError::Numbers
+    );
+    let (senders, receivers) = Bus::open(shape).unwrap();
+    let open = Bus::end(senders, receivers).unwrap();
+    assert!(!Page::after(&open).has_ended());
+    let why = Bus::open_after(shape, Page::after(&open)).unwrap_err();
+    assert_eq!(why, OpenError::NotEnded);
 }
 
 #[test]

@@ -313,6 +313,72 @@ fn a_waker_that_panics_leaves_nobody_asleep() {
     assert!(receivers.iter_mut().all(|r| r.try_item().is_some()));
 }
 
+/// What a panic gives, and its drop panics.
+struct FaultAgain;
+
+impl Drop for FaultAgain {
+    fn drop(&mut self) {
+        if !thread::panicking() {
+            panic!("a fault in a fault's drop, which is to be seen");
+        }
+    }
+}
+
+/// A waker that panics with that.
+struct DoubleFault;
+
+impl Wake for DoubleFault {
+    fn wake(self: Arc<Self>) {
+        panic::panic_any(FaultAgain);
+    }
+}
+
+/// Two wakers panic, and the drop of what the second one gives panics too: the third one is woken.
+#[test]
+fn a_fault_whose_drop_panics_leaves_nobody_asleep() {
+    let (mut senders, mut receivers) = open(1, 3, 8);
+    let count: Arc<Count> = Arc::default();
+    let wakers = [
+        Waker::from(Arc::new(Fault)),
+        Waker::from(Arc::new(DoubleFault)),
+        Waker::from(count.clone()),
+    ];
+    for (receiver, waker) in receivers.iter_mut().zip(&wakers) {
+        let polled = receiver.poll_item(&mut Context::from_waker(waker));
+        assert_eq!(polled, Poll::Pending);
+    }
+    senders[0].put(b"x").unwrap();
+    let sends = panic::catch_unwind(AssertUnwindSafe(|| senders[0].send()));
+    assert!(sends.unwrap_err().is::<&str>());
+    assert_eq!(count.0.load(Ordering::SeqCst), 1);
+}
+
+/// The same where a ring of drops wakes them: no panic leaves the drop.
+#[test]
+fn a_fault_whose_drop_panics_leaves_no_drop() {
+    for with_panic in [false, true] {
+        let (mut senders, mut receivers) = open(1, 2, 8);
+        let count: Arc<Count> = Arc::default();
+        let wakers = [
+            Waker::from(Arc::new(DoubleFault)),
+            Waker::from(count.clone()),
+        ];
+        for (receiver, waker) in receivers.iter_mut().zip(&wakers) {
+            let polled = receiver.poll_item(&mut Context::from_waker(waker));
+            assert_eq!(polled, Poll::Pending);
+        }
+        let sender = senders.remove(0);
+        let dropped = panic::catch_unwind(AssertUnwindSafe(|| {
+            let _sender = sender;
+            if with_panic {
+                panic!("another fault, which is to be seen");
+            }
+        }));
+        assert_eq!(dropped.is_err(), with_panic);
+        assert_eq!(count.0.load(Ordering::SeqCst), 1);
+    }
+}
+
 /// Handles are dropped by a panic while such a waker listens: that ends no process.
 #[test]
 fn a_waker_that_panics_in_a_drop() {

@@ -1,0 +1,170 @@
+//! A state that workers replicate: one call for each operation.
+//!
+//! Each worker has a `Replica`, which is a state with a sender and a receiver of one bus.
+//! Operations of all workers go to all replicas in one order, and each applies all of them. So a
+//! worker reads memory of its own. `execute` gives what an operation answers, `state` what is
+//! applied by now, and `latest` all that any worker was answered before.
+//!
+//! ```
+//! use kioskbasil::replica::{Replica, ReplicaError, Replicas, State};
+//! use kioskbasil::Shape;
+//! use std::thread;
+//!
+//! /// A counter: an operation adds its bytes to it, and answers what it is then.
+//! #[derive(PartialEq, Debug)]
+//! struct Counter(u64);
+//!
+//! impl State for Counter {
+//!     type Answer = u64;
+//!     fn apply(&mut self, _from: u32, operation: &[u8]) -> u64 {
+//!         self.0 += operation.iter().map(|byte| u64::from(*byte)).sum::<u64>();
+//!         self.0
+//!     }
+//! }
+//!
+//! fn work(mut replica: Replica<Counter>) -> Result<Counter, ReplicaError> {
+//!     for _ in 0..100 {
+//!         replica.submit(&[1])?;
+//!         let then = replica.execute(&[2])?;
+//!         assert!(replica.latest()?.0 >= then);
+//!     }
+//!     replica.finish()
+//! }
+//!
+//! let replicas = Replicas::open(Shape::of(3, 3), || Counter(0))?;
+//! let workers: Vec<_> = replicas.into_iter().map(|it| thread::spawn(|| work(it))).collect();
+//! for worker in workers {
+//!     assert_eq!(worker.join().unwrap(), Ok(Counter(900)));
+//! }
+//! # Ok::<(), Box<dyn std::error::Error>>(())
+//! ```
+//!
+//! **A worker that is kept and not asked** holds the others up once the ring is full: so it calls
+//! `hear` now and then, or `hear_timeout` where it has nothing else to do. One that is dropped
+//! holds up nobody.
+//!
+//! **Panics.** Where `apply` panics the replica is poisoned: it leaves the bus at once, its state
+//! stays as the panic left it, and each later call but `state` answers `Poisoned`. The operation
+//! stands in the order, so each replica comes to it: where it panics in one for what it is, it
+//! does in all. The others go on, and for their `finish` the poisoned one has left.
+
+mod calls;
+mod errors;
+mod seat;
+mod tasks;
+#[cfg(test)]
+mod tests;
+mod told;
+
+pub use errors::ReplicaError;
+
+use crate::{Bell, Bus, OpenError, Shape, Waiting};
+use seat::Seat;
+use std::fmt;
+use std::sync::Arc;
+use told::Told;
+
+/// What is replicated. Replicas are equal where `apply` gives the same on equal states: it may
+/// look at nothing but its arguments.
+pub trait State {
+    /// What an operation answers.
+    type Answer;
+
+    /// Applies the operation of these bytes, at most 56, of the worker of this number.
+    fn apply(&mut self, from: u32, operation: &[u8]) -> Self::Answer;
+}
+
+/// How replicas are opened.
+#[derive(Debug)]
+pub enum Replicas {}
+
+impl Replicas {
+    /// Opens a bus with a replica for each of its senders, in the order of their numbers. Its log
+    /// is a ring, and it has as many receivers as senders, whatever `shape` says of these. All
+    /// first states are to be equal.
+    pub fn open<S: State>(
+        shape: Shape,
+        mut first: impl FnMut() -> S,
+    ) -> Result<Vec<Replica<S>>, OpenError> {
+        let (senders, receivers) = Bus::open_ring(Shape {
+            receivers: shape.senders,
+            ..shape
+        })?;
+        let told = Arc::new(Told::of(shape.senders));
+        let pairs = senders.into_iter().zip(receivers);
+        let seats = pairs.map(|(sender, receiver)| Replica {
+            number: u32::from(sender.number()),
+            bell: sender.bell().clone(),
+            waiting: Waiting::default(),
+            seat: Some(Seat::new(sender, receiver, &told, shape.log_words)),
+            state: first(),
+        });
+        Ok(seats.collect())
+    }
+}
+
+/// A worker's replica of a state, with the sender and the receiver by which it takes part. It may
+/// go to another thread, and one thread at a time has it.
+///
+/// Between two calls it keeps nobody waiting, and so it is behind one that panics: no tenure stays
+/// begun. One that is dropped leaves: what it had not sent is lost, and `finish` of the others
+/// waits for it no more.
+pub struct Replica<S: State> {
+    number: u32,
+    bell: Bell,
+    waiting: Waiting,
+    /// None where it is poisoned.
+    seat: Option<Seat>,
+    state: S,
+}
+
+impl<S: State> fmt::Debug for Replica<S> {
+    fn fmt(&self, f: &mut fmt::Formatter<'_>) -> fmt::Result {
+        f.debug_struct("Replica")
+            .field("number", &self.number)
+            .finish_non_exhaustive()
+    }
+}
+
+/// An operation that a replica has applied.
+#[derive(Clone, Copy, Debug, PartialEq, Eq)]
+pub struct Applied<A> {
+    /// The worker whose operation it was.
+    pub from: u32,
+    /// Its number among the operations of that worker, as `submit` gave it.
+    pub number: u64,
+    /// What it answered in this replica.
+    pub answer: A,
+}
+
+impl<S: State> Replica<S> {
+    /// The number of its worker, from 0 on.
+    pub fn number(&self) -> u32 {
+        self.number
+    }
+
+    /// The state by all that it has applied so far. In a poisoned replica it is as the panic left
+    /// it.
+    #[inline]
+    pub fn state(&self) -> &S {
+        &self.state
+    }
+
+    /// The bell of its bus. Whoever makes a closure say no rings it, so that who sleeps asks.
+    pub fn bell(&self) -> &Bell {
+        &self.bell
+    }
+
+    /// Sets how its calls wait; at first by `Waiting::Sleep`.
+    pub fn set_waiting(&mut self, waiting: Waiting) {
+        self.waiting = waiting;
+        if let Some(seat) = &mut self.seat {
+            seat.sender.set_waiting(waiting);
+            seat.receiver.set_waiting(waiting);
+        }
+    }
+
+    fn seat(&mut self) -> Result<&mut Seat, ReplicaError> {
+        self.seat.as_mut().ok_or(ReplicaError::Poisoned)
+    }
+}

@@ -1,0 +1,36 @@
+//! Why a replica did not do what it was asked for.
+
+use std::error::Error;
+use std::fmt;
+
+/// Why an operation was not executed, or a replica not finished.
+#[derive(Clone, Copy, Debug, PartialEq, Eq)]
+pub enum ReplicaError {
+    /// An operation has more than 56 bytes. Nothing has changed.
+    TooLong,
+    /// The order has ended, or this worker has left it.
+    Ended,
+    /// The bus has no tenure left.
+    Spent,
+    /// It was told to stop, or its time is over. What was put and not sent waits still.
+    Stopped,
+    /// It was told to stop, or its time is over, before this worker has left: the first such.
+    MissingWorker(u32),
+    /// An `apply` has panicked before, in a call of this replica.
+    Poisoned,
+}
+
+impl fmt::Display for ReplicaError {
+    fn fmt(&self, f: &mut fmt::Formatter<'_>) -> fmt::Result {
+        match self {
+            ReplicaError::TooLong => f.write_str("an operation of more than 56 bytes"),
+            ReplicaError::Ended => f.write_str("the order has ended"),
+            ReplicaError::Spent => f.write_str("all tenures are spent"),
+            ReplicaError::Stopped => f.write_str("told to stop"),
+            ReplicaError::MissingWorker(worker) => write!(f, "worker {worker} has not left"),
+            ReplicaError::Poisoned => f.write_str("an operation panicked in this replica before"),
+        }
+    }
+}
+
+impl Error for ReplicaError {}

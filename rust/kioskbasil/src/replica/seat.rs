@@ -1,0 +1,182 @@
+//! A replica's place at its bus: a sender and a receiver.
+
+use super::told::Told;
+use super::ReplicaError;
+use crate::bell::quietly;
+use crate::{Item, PutError, Receiver, Sender, TrySendError, Turn, MOST_MESSAGES};
+use std::sync::Arc;
+use std::task::{Context, Poll};
+
+/// A sender and a receiver of one bus, which leave together. No call of it but `poll_send` returns
+/// with a tenure begun.
+pub(crate) struct Seat {
+    pub(crate) sender: Sender,
+    pub(crate) receiver: Receiver,
+    pub(crate) told: Arc<Told>,
+    worker: u32,
+    log_words: u64,
+    /// How many operations wait, and how many words of a frame they take.
+    waits: usize,
+    words: u64,
+    /// A leave mark waits.
+    leaves: bool,
+    /// Its last turn found no room.
+    is_full: bool,
+}
+
+impl Seat {
+    pub(crate) fn new(
+        sender: Sender,
+        receiver: Receiver,
+        told: &Arc<Told>,
+        log_words: u64,
+    ) -> Seat {
+        Seat {
+            worker: u32::from(sender.number()),
+            sender,
+            receiver,
+            told: told.clone(),
+            log_words,
+            waits: 0,
+            words: 1,
+            leaves: false,
+            is_full: false,
+        }
+    }
+
+    /// Nothing waits to be sent.
+    pub(crate) fn has_sent(&self) -> bool {
+        self.waits == 0 && !self.leaves
+    }
+
+    /// Puts an operation into the batch, and gives its number. None where the batch is to be sent
+    /// first: it is full, or the frame would be longer than the log.
+    pub(crate) fn put(&mut self, operation: &[u8]) -> Result<Option<u64>, ReplicaError> {
+        let length = operation.len() as u64;
+        let words = self.words + 1 + length / 8 + u64::from(length % 8 != 0);
+        if self.waits > 0 && (words > self.log_words || self.waits == MOST_MESSAGES) {
+            return Ok(None);
+        }
+        match self.sender.put(operation) {
+            Ok(number) => {
+                self.waits += 1;
+                self.words = words;
+                Ok(Some(number))
+            }
+            Err(PutError::TooLong) => Err(ReplicaError::TooLong),
+            Err(PutError::Closed) => Err(ReplicaError::Ended),
+            Err(PutError::Busy | PutError::BatchFull) => Ok(None),
+        }
+    }
+
+    /// Lets a leave mark wait.
+    pub(crate) fn leave(&mut self) -> Result<(), ReplicaError> {
+        self.sender.leave().map_err(|_| ReplicaError::Ended)?;
+        self.leaves = true;
+        Ok(())
+    }
+
+    /// Takes turns towards sending what waits, as many as wait for nobody; but that it takes the
+    /// rest of a tenure that it has begun. Says whether something was sent.
+    pub(crate) fn send(&mut self) -> Result<bool, ReplicaError> {
+        if !self.is_turn_due() {
+            return Ok(false);
+        }
+        match self.sender.try_send() {
+            Ok(turn) => self.answered(turn),
+            Err(TrySendError::Behind) => self.settle(),
+            Err(TrySendError::Full | TrySendError::NeverFits) => self.answered(Turn::Full),
+            Err(TrySendError::Waiting) => Ok(false),
+        }
+    }
+
+    /// As `send`, for tasks: it is pending where another sender has to go on first, and a tenure
+    /// is begun then where the sender is behind.
+    pub(crate) fn poll_send(
+        &mut self,
+        context: &mut Context<'_>,
+    ) -> Poll<Result<bool, ReplicaError>> {
+        if !self.is_turn_due() {
+            return Poll::Ready(Ok(false));
+        }
+        self.sender
+            .poll_send(context)
+            .map(|turn| self.answered(turn))
+    }
+
+    /// Takes the turns that are left of a tenure that it has begun. Says whether something was
+    /// sent.
+    pub(crate) fn settle(&mut self) -> Result<bool, ReplicaError> {
+        match self.sender.settle() {
+            Some(turn) => self.answered(turn),
+            None => Ok(false),
+        }
+    }
+
+    /// Something waits, and its last turn found room, or a look finds some since: each `Full`
+    /// takes a tenure.
+    fn is_turn_due(&mut self) -> bool {
+        if self.has_sent() {
+            return false;
+        }
+        self.is_full = self.is_full && self.sender.has_room() == Ok(false);
+        !self.is_full
+    }
+
+    fn answered(&mut self, turn: Turn) -> Result<bool, ReplicaError> {
+        match turn {
+            // Idle where the answer before was lost, in a panic of a waker.
+            Turn::Delivered { .. } | Turn::Idle => {
+                self.waits = 0;
+                self.words = 1;
+                self.told.publish(self.sender.words());
+                Ok(true)
+            }
+            Turn::Left { .. } => {
+                self.leaves = false;
+                self.note_left();
+                self.sender.bell().ring();
+                Ok(true)
+            }
+            Turn::Full => {
+                self.is_full = true;
+                Ok(false)
+            }
+            Turn::Closed => Err(ReplicaError::Ended),
+            Turn::Spent => Err(ReplicaError::Spent),
+            _ => Ok(false),
+        }
+    }
+
+    fn note_left(&mut self) {
+        let words = self.sender.words();
+        self.told.note_left(self.worker, words);
+    }
+
+    /// The next item that is there, where it lies.
+    #[inline]
+    pub(crate) fn lend_item(&mut self) -> Option<&Item> {
+        if !self.receiver.has_at_hand() {
+            self.receiver.look();
+            self.told.publish(self.receiver.read());
+        }
+        self.receiver.lend_at_hand()
+    }
+
+    /// It has given all items of so many words of the log.
+    #[inline]
+    pub(crate) fn has_given(&self, words: u64) -> bool {
+        !self.receiver.has_at_hand() && self.receiver.read() >= words
+    }
+}
+
+impl Drop for Seat {
+    /// Its sender sends nothing more: the others are told so, and need not wait for its leave
+    /// mark. The drop of its receiver rings.
+    fn drop(&mut self) {
+        quietly(|| {
+            let _ = self.settle();
+        });
+        self.note_left();
+    }
+}
