@@ -68,6 +68,27 @@ void bridge_pause(struct bridge *bridge, const char *link, const struct bridge_f
     pthread_mutex_unlock(&bridge->lock);
 }
 
+bool bridge_look(struct bridge *bridge, struct engine_link *link, struct engine_stream *stream,
+                 struct bridge_fault *fault) {
+    struct engine_entry first;
+    bool there;
+    pthread_mutex_lock(&bridge->lock);
+    uint64_t heard = bridge->place;
+    pthread_mutex_unlock(&bridge->lock);
+    /* One that was removed under its nodes they do not make anew, to go on in it as they did. */
+    if (!engine_stream(link, bridge->make && !heard, stream, fault)) return false;
+    if (!stream->last) return true;
+    if (!engine_get(link, 1, &first, &there, fault)) return false;
+    bool older = there && entry_is_of_version_1(first.bytes, first.length);
+    engine_release(&first);
+    if (!older) return true;
+    fault_set(fault, BRIDGE_OLDER_VERSION,
+              "the stream %s is of version 1 of the bridge, and this is version %d: it stays as it "
+              "is; give all nodes another stream, and no file of this one",
+              bridge->options.stream, ENTRY_VERSION);
+    return false;
+}
+
 /* A name for this process that no other has, as far as the system's dice go. */
 static uint64_t process_name(void) {
     uint64_t name = 0;
@@ -141,20 +162,9 @@ static enum bridge_code begin_at(struct bridge *bridge, const struct bridge_plac
     if (from) *bridge->here = *from;
     bridge->make = bridge->options.create && !bridge->here->place;
     bridge->place = bridge->here->place;
+    bridge->check = bridge->here->check;
     bridge->own = bridge->here->nodes[bridge->options.node];
     return BRIDGE_OK;
-}
-
-/* Opens the bus that the workers hear. */
-static enum bridge_code open_down(struct bridge *bridge, struct bridge_fault *fault) {
-    const struct sittings_shape shape = {.senders = 1,
-                                         .receivers = bridge->options.workers,
-                                         .log_words = bridge->options.log_words,
-                                         .most = bridge->options.sittings};
-    uint32_t code = sittings_open(&bridge->down, &shape, NULL);
-    if (code == KIOSKBASIL_OK) return BRIDGE_OK;
-    return fault_set(fault, BRIDGE_BUS_REFUSES, "the bus of the workers: %s",
-                     kioskbasil_text(code));
 }
 
 enum bridge_code bridge_open(struct bridge **to, const struct bridge_options *options,
@@ -167,57 +177,88 @@ enum bridge_code bridge_open(struct bridge **to, const struct bridge_options *op
     bridge->options = checked;
     bridge->process = process_name();
     make_locks(bridge);
+    for (size_t i = 0; i < BRIDGE_MOST_WORKERS; i++) bridge->fetched[i].seed = i + 1;
     code = begin_at(bridge, from, fault);
-    if (code == BRIDGE_OK) code = open_down(bridge, fault);
+    if (code == BRIDGE_OK) {
+        code = ring_open(checked.log_words, NULL, &bridge->gives, 1, bridge->receivers,
+                         checked.workers, "the workers", fault);
+    }
     if (code == BRIDGE_OK) code = start(bridge, fault);
     if (code != BRIDGE_OK) return bridge_close(bridge), code;
     *to = bridge;
     return BRIDGE_OK;
 }
 
+/* The number of the next message of a worker, whose bus is open. */
+static uint64_t next_number(struct bridge *bridge, size_t worker) {
+    kioskbasil_sender_shown shown = {.next_number = 0};
+    kioskbasil_show_sender(&bridge->senders[worker], &shown);
+    return shown.next_number;
+}
+
 bool bridge_next_number(struct bridge *bridge, size_t worker, uint64_t *number) {
-    struct sittings *up = atomic_load(&bridge->up);
-    if (!up || bridge_stops(bridge)) return false;
-    *number = sittings_next_number(up, worker);
+    if (!atomic_load(&bridge->is_open) || bridge_stops(bridge)) return false;
+    *number = next_number(bridge, worker);
     return true;
 }
 
+/* Sends what waits with a worker's sender. FULL: it waits on. */
+static enum bridge_sent send_waiting(struct bridge *bridge, size_t worker) {
+    struct fetched *own = &bridge->fetched[worker];
+    struct bridge_fault fault;
+    uint32_t code = ring_send(&bridge->senders[worker], &own->seed, &bridge->stop);
+    own->waits = code == KIOSKBASIL_FULL;
+    if (code == KIOSKBASIL_DELIVERED) return BRIDGE_SENT;
+    if (own->waits) return BRIDGE_FULL;
+    if (ring_ends(code, "the uplink", &fault)) bridge_fail(bridge, &fault);
+    return code == KIOSKBASIL_BEHIND ? BRIDGE_MAYBE_SENT : BRIDGE_STOPPED;
+}
+
 /* Whether this worker may send so many messages now. */
-static enum bridge_sent may_send(struct bridge *bridge, struct fetched *own, struct sittings *up,
-                                 size_t worker, const struct bridge_message *messages,
-                                 size_t many) {
+static enum bridge_sent may_send(struct bridge *bridge, size_t worker,
+                                 const struct bridge_message *messages, size_t many) {
+    struct fetched *own = &bridge->fetched[worker];
+    if (!many || many > KIOSKBASIL_MOST_MESSAGES) return BRIDGE_TOO_MANY;
     if (bridge_stops(bridge)) return BRIDGE_STOPPED;
-    if (!up) return BRIDGE_NOT_YET;
+    if (!atomic_load(&bridge->is_open)) return BRIDGE_NOT_YET;
     for (size_t i = 0; i < many; i++) {
         if (messages[i].length > BRIDGE_MOST_BYTES) return BRIDGE_TOO_LONG;
     }
-    own->sent = sittings_next_number(up, worker);
+    own->sent = next_number(bridge, worker);
     if (!own->told) own->heard = own->sent;
     own->told = true;
-    return own->sent - own->heard + many > bridge->options.ahead ? BRIDGE_FULL : BRIDGE_SENT;
+    if (own->sent - own->heard + many > bridge->options.ahead) return BRIDGE_FULL;
+    return own->waits ? BRIDGE_FULL : BRIDGE_SENT;
+}
+
+/* Sends what waits of a worker, once there is room. */
+static void go_on(struct bridge *bridge, size_t worker) {
+    if (!bridge->fetched[worker].waits) return;
+    if (kioskbasil_has_room(&bridge->senders[worker]) == KIOSKBASIL_OK)
+        send_waiting(bridge, worker);
 }
 
 enum bridge_sent bridge_send(struct bridge *bridge, size_t worker,
                              const struct bridge_message *messages, size_t many, uint64_t *number) {
-    struct sittings *up = atomic_load(&bridge->up);
-    struct bridge_fault fault;
-    enum bridge_sent may = may_send(bridge, &bridge->fetched[worker], up, worker, messages, many);
+    uint64_t own;
+    go_on(bridge, worker);
+    enum bridge_sent may = may_send(bridge, worker, messages, many);
     if (may != BRIDGE_SENT) return may;
-    uint32_t code = sittings_send(up, worker, messages, many, number);
-    if (code == KIOSKBASIL_DELIVERED) return BRIDGE_SENT;
-    if (code != SITTINGS_STOPPED) {
-        fault_set(&fault, BRIDGE_BUS_REFUSES, "the bus of the uplink: %s", kioskbasil_text(code));
-        bridge_fail(bridge, &fault);
+    for (size_t i = 0; i < many; i++) {
+        kioskbasil_put(&bridge->senders[worker], messages[i].bytes, messages[i].length,
+                       i || !number ? &own : number);
     }
-    return BRIDGE_STOPPED;
+    may = send_waiting(bridge, worker);
+    return may == BRIDGE_FULL ? BRIDGE_SENT : may;
 }
 
 enum bridge_heard bridge_hear(struct bridge *bridge, size_t worker, struct bridge_item *item) {
     struct fetched *fetched = &bridge->fetched[worker];
     if (bridge_stops(bridge)) return BRIDGE_ENDED;
+    go_on(bridge, worker);
     if (fetched->at == fetched->many) {
         fetched->at = 0;
-        sittings_hear(bridge->down, worker, fetched->items, HEARD_ROOM, &fetched->many);
+        kioskbasil_hear(&bridge->receivers[worker], fetched->items, HEARD_ROOM, &fetched->many);
         if (!fetched->many) return BRIDGE_NOTHING;
     }
     const kioskbasil_item *from = &fetched->items[fetched->at++];
@@ -266,8 +307,7 @@ void bridge_show(struct bridge *bridge, struct bridge_shown *shown) {
                                    .behind = atomic_load(&bridge->behind),
                                    .items = atomic_load(&bridge->items),
                                    .passed = atomic_load(&bridge->passed),
-                                   .slowest = slowest,
-                                   .sittings = sittings_opened(bridge->down)};
+                                   .slowest = slowest};
     pthread_mutex_lock(&bridge->lock);
     shown->place = bridge->place;
     shown->epoch = bridge->own.epoch;
@@ -277,19 +317,20 @@ void bridge_show(struct bridge *bridge, struct bridge_shown *shown) {
 void bridge_stop(struct bridge *bridge) {
     pthread_mutex_lock(&bridge->lock);
     atomic_store(&bridge->stop, true);
-    struct sittings *up = atomic_load(&bridge->up);
     pthread_cond_broadcast(&bridge->told);
     pthread_cond_broadcast(&bridge->ends);
     pthread_mutex_unlock(&bridge->lock);
-    if (up) sittings_stop(up);
-    if (bridge->down) sittings_stop(bridge->down);
 }
 
 void bridge_close(struct bridge *bridge) {
     bridge_stop(bridge);
     for (int i = 0; i < bridge->started; i++) pthread_join(bridge->threads[i], NULL);
-    sittings_free(atomic_load(&bridge->up));
-    sittings_free(bridge->down);
+    for (size_t i = 0; i < BRIDGE_MOST_WORKERS; i++) {
+        kioskbasil_free_sender(&bridge->senders[i]);
+        kioskbasil_free_receiver(&bridge->receivers[i]);
+    }
+    kioskbasil_free_receiver(&bridge->sent);
+    kioskbasil_free_sender(&bridge->gives);
     pthread_cond_destroy(&bridge->told);
     pthread_cond_destroy(&bridge->ends);
     pthread_mutex_destroy(&bridge->lock);

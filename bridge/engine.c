@@ -20,6 +20,7 @@ struct engine_link {
     int64_t heard;    /* when there was a sign of life, in milliseconds */
     uint64_t stored;
     uint64_t place;
+    uint64_t given; /* the last place that came to it, of those that are read */
 };
 
 /* Milliseconds of a clock that does not go back. */
@@ -126,7 +127,8 @@ static bool note_answer(struct engine_link *link, const natsMsg *answer,
         return false;
     }
     link->stored++;
-    link->place = told_place(text);
+    uint64_t place = told_place(text);
+    if (place > link->place) link->place = place;
     return true;
 }
 
@@ -177,8 +179,24 @@ static bool keeps_all(const jsStreamConfig *has, struct bridge_fault *fault) {
     if (has->Discard != js_DiscardNew) wrong = "it removes old entries when it is full";
     if (has->MaxAge > 0) wrong = "it removes entries by their age";
     if (has->MaxMsgsPerSubject > 0) wrong = "it has a limit for each node";
+    if (has->NoAck) wrong = "it answers no entry, and no_ack has to be off";
+    if (!has->DenyDelete) wrong = "it lets entries be removed, and has to deny_delete";
+    if (!has->DenyPurge) wrong = "it lets all entries be removed, and has to deny_purge";
     if (wrong) fault_set(fault, BRIDGE_WRONG_STREAM, "the stream %s: %s", has->Name, wrong);
     return !wrong;
+}
+
+/* The longest entry that the engine and this stream of it take. */
+static bool has_room(struct engine_link *link, const jsStreamConfig *has, uint64_t *room,
+                     struct bridge_fault *fault) {
+    int64_t engine = natsConnection_GetMaxPayload(link->connection);
+    *room = engine > 0 ? (uint64_t)engine : UINT64_MAX;
+    if (has->MaxMsgSize > 0 && (uint64_t)has->MaxMsgSize < *room) *room = (uint64_t)has->MaxMsgSize;
+    if (*room >= ENGINE_LEAST) return true;
+    fault_set(fault, BRIDGE_WRONG_STREAM,
+              "the stream %s: it takes no entry of more than %llu bytes, and one has up to %d",
+              has->Name, (unsigned long long)*room, ENGINE_LEAST);
+    return false;
 }
 
 static natsStatus make_stream(struct engine_link *link, jsStreamInfo **info) {
@@ -216,11 +234,30 @@ bool engine_stream(struct engine_link *link, bool make, struct engine_stream *st
         status = make_stream(link, &info);
     }
     if (!went(link, status, "to look at the stream", fault)) return false;
-    bool good = keeps_all(info->Config, fault);
+    bool good =
+        keeps_all(info->Config, fault) && has_room(link, info->Config, &stream->room, fault);
     stream->first = info->State.FirstSeq;
     stream->last = info->State.LastSeq;
     jsStreamInfo_Destroy(info);
     return good;
+}
+
+/* The engine answers in text, and so in other bytes than those of an entry that is read. */
+bool engine_get(struct engine_link *link, uint64_t place, struct engine_entry *entry, bool *there,
+                struct bridge_fault *fault) {
+    natsMsg *message = NULL;
+    jsErrCode error = 0;
+    memset(entry, 0, sizeof *entry);
+    entry->place = place;
+    natsStatus status =
+        js_GetMsg(&message, link->jetstream, link->options->stream, place, NULL, &error);
+    *there = status != NATS_NOT_FOUND && error != JSNoMessageFoundErr;
+    if (!*there) return true;
+    if (!went(link, status, "to ask for an entry", fault)) return false;
+    entry->held = message;
+    entry->bytes = (const uint8_t *)natsMsg_GetData(message);
+    entry->length = (size_t)natsMsg_GetDataLength(message);
+    return true;
 }
 
 /* A stream without entries is not asked: nats-server 2.9.10 ends by a fault of its own where it is
@@ -254,6 +291,11 @@ bool engine_append_after(struct engine_link *link, uint64_t after, const uint8_t
     if (status == NATS_OK) status = js_PublishMsg(&stored, link->jetstream, entry, NULL, &error);
     bool good = went(link, status, "to begin", fault);
     if (good) *place = stored->Sequence;
+    if (good && strcmp(stored->Stream, link->options->stream)) {
+        fault_set(fault, BRIDGE_WRONG_STREAM, "the stream %s: the engine keeps %s in the stream %s",
+                  link->options->stream, link->subject, stored->Stream);
+        good = false;
+    }
     jsPubAck_Destroy(stored);
     natsMsg_Destroy(entry);
     return good;
@@ -306,6 +348,7 @@ bool engine_read_from(struct engine_link *link, uint64_t place, struct bridge_fa
     jsConsumerInfo_Destroy(info);
     natsInbox_Destroy(inbox);
     link->heard = now();
+    link->given = place - 1;
     return went(link, status, "to read the stream", fault);
 }
 
@@ -344,21 +387,37 @@ static enum engine_read nothing(struct engine_link *link, struct bridge_fault *f
     return ENGINE_BROKEN;
 }
 
+/* Whether a sign of life tells of entries that were given and did not come. */
+static bool is_lacking(struct engine_link *link, natsMsg *sign, struct bridge_fault *fault) {
+    const char *text = NULL;
+    if (natsMsgHeader_Get(sign, "Nats-Last-Stream", &text) != NATS_OK || !text) return false;
+    unsigned long long last = strtoull(text, NULL, 10), given = link->given;
+    if (last <= given) return false;
+    fault_set(fault, BRIDGE_ENGINE_SILENT,
+              "it has given entries up to %llu, and those up to %llu came", last, given);
+    return true;
+}
+
+/* The client keeps an entry without bytes to itself whose header is that of an answer of nobody,
+   and says so alone. */
 enum engine_read engine_next(struct engine_link *link, int64_t milliseconds,
                              struct engine_entry *entry, struct bridge_fault *fault) {
     natsMsg *message = NULL;
     natsStatus status = natsSubscription_NextMsg(&message, link->reading, milliseconds);
     if (status == NATS_TIMEOUT) return nothing(link, fault);
-    if (!went(link, status, "to hear the next entry", fault)) return ENGINE_BROKEN;
+    if (status != NATS_NO_RESPONDERS && !went(link, status, "to hear the next entry", fault))
+        return ENGINE_BROKEN;
     link->heard = now();
+    if (status == NATS_NO_RESPONDERS) return link->given++, ENGINE_UNSEEN;
     const char *reply = natsMsg_GetReply(message);
     entry->held = message;
     entry->bytes = (const uint8_t *)natsMsg_GetData(message);
     entry->length = (size_t)natsMsg_GetDataLength(message);
-    if (reply && read_place(reply, entry)) return ENGINE_ENTRY;
-    answer_sign(link, message);
+    if (reply && read_place(reply, entry)) return link->given = entry->place, ENGINE_ENTRY;
+    bool lacks = is_lacking(link, message, fault);
+    if (!lacks) answer_sign(link, message);
     natsMsg_Destroy(message);
-    return ENGINE_NOTHING;
+    return lacks ? ENGINE_BROKEN : ENGINE_NOTHING;
 }
 
 void engine_release(struct engine_entry *entry) {
@@ -366,8 +425,8 @@ void engine_release(struct engine_entry *entry) {
     entry->held = NULL;
 }
 
-/* The connection is closed first, which ends the client's thread that reads: libnats 3.4.1 follows a
-   subscription that was destroyed while an entry of it came in. */
+/* The connection is closed first, which ends the client's thread that reads: libnats 3.4.1 follows
+   a subscription that was destroyed while an entry of it came in. */
 void engine_close(struct engine_link *link) {
     if (!link) return;
     if (link->connection) natsConnection_Close(link->connection);

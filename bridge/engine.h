@@ -16,7 +16,11 @@ struct engine_link;
 struct engine_stream {
     uint64_t first; /* the lowest place that it still has */
     uint64_t last;  /* the highest place; 0: nothing was appended yet */
+    uint64_t room;  /* bytes of the longest entry that it takes, of which ENGINE_LEAST are sure */
 };
+
+/* An entry of one item fits in so many bytes, and so does a begin with what goes before it. */
+enum { ENGINE_LEAST = 128 };
 
 struct engine_entry {
     uint64_t place;
@@ -26,7 +30,7 @@ struct engine_entry {
     void *held; /* the engine's */
 };
 
-enum engine_read { ENGINE_ENTRY, ENGINE_NOTHING, ENGINE_BROKEN };
+enum engine_read { ENGINE_ENTRY, ENGINE_UNSEEN, ENGINE_NOTHING, ENGINE_BROKEN };
 
 /* Connects. False: ENGINE_ABSENT or NO_MEMORY. */
 bool engine_connect(struct engine_link **to, const struct bridge_options *options, const char *name,
@@ -36,6 +40,12 @@ bool engine_connect(struct engine_link **to, const struct bridge_options *option
    for, or WRONG_STREAM where it does not keep all entries. */
 bool engine_stream(struct engine_link *link, bool make, struct engine_stream *stream,
                    struct bridge_fault *fault);
+
+/* Asks for the entry of one place by itself, of a stream that has entries, on another way than that
+   on which they are read. *there is false where the stream has none of this place. It is given back
+   by engine_release. */
+bool engine_get(struct engine_link *link, uint64_t place, struct engine_entry *entry, bool *there,
+                struct bridge_fault *fault);
 
 /* The place of the last entry of this node, in a stream that was just looked at; 0 where there is
    none. */
@@ -59,7 +69,8 @@ bool engine_stored(struct engine_link *link, uint64_t *many, uint64_t *place,
 /* Begins to read at this place, from 1 on. */
 bool engine_read_from(struct engine_link *link, uint64_t place, struct bridge_fault *fault);
 
-/* The next entry, if it comes within so many milliseconds. It is given back by engine_release. */
+/* The next entry, if it comes within so many milliseconds. It is given back by engine_release.
+   UNSEEN: there is one, and the engine's client has kept it to itself: engine_get asks for it. */
 enum engine_read engine_next(struct engine_link *link, int64_t milliseconds,
                              struct engine_entry *entry, struct bridge_fault *fault);
 void engine_release(struct engine_entry *entry);

@@ -19,10 +19,23 @@ uint64_t number_read(const uint8_t *bytes) {
     return read_low(bytes, 6);
 }
 
+static uint64_t word_of(const uint8_t *bytes) {
+    return (uint64_t)bytes[0] | (uint64_t)bytes[1] << 8 | (uint64_t)bytes[2] << 16 |
+           (uint64_t)bytes[3] << 24 | (uint64_t)bytes[4] << 32 | (uint64_t)bytes[5] << 40 |
+           (uint64_t)bytes[6] << 48 | (uint64_t)bytes[7] << 56;
+}
+
+static uint64_t check_more(uint64_t check, uint64_t word) {
+    check = (check ^ word) * 1099511628211u;
+    return check ^ check >> 32;
+}
+
 uint64_t entry_check(const uint8_t *bytes, size_t length) {
     uint64_t check = 14695981039346656037u;
-    for (size_t i = 0; i < length; i++) check = (check ^ bytes[i]) * 1099511628211u;
-    return check;
+    size_t at = 0;
+    for (; length - at >= 8; at += 8) check = check_more(check, word_of(bytes + at));
+    if (at < length) check = check_more(check, read_low(bytes + at, (int)(length - at)));
+    return check_more(check, length);
 }
 
 /* Whether `count` items fill these bytes, each of a worker that can be and of a length that is
@@ -38,23 +51,36 @@ static bool are_items(const uint8_t *bytes, size_t length, size_t count) {
     return at == length;
 }
 
-enum entry_kind entry_read(struct entry *entry, const uint8_t *bytes, size_t length) {
-    if (length < 2 || bytes[0] != 'K') return ENTRY_BAD;
-    if (bytes[1] > ENTRY_VERSION) return ENTRY_NEWER;
-    if (length < ENTRY_HEAD || bytes[1] != ENTRY_VERSION) return ENTRY_BAD;
-    entry->begins = bytes[2] == 'b';
-    entry->node = bytes[3];
-    entry->epoch = read_low(bytes + 4, 8);
-    entry->number = read_low(bytes + 12, 8);
-    entry->count = (uint16_t)read_low(bytes + 20, 2);
+/* Reads an entry of this version whose checksum holds. */
+static bool read_rest(struct entry *entry, const uint8_t *bytes, size_t length) {
+    if (length < ENTRY_HEAD || bytes[16] != ENTRY_VERSION) return false;
+    entry->begins = bytes[17] == 'b';
+    entry->node = bytes[18];
+    entry->epoch = read_low(bytes + 19, 8);
+    entry->number = read_low(bytes + 27, 8);
+    entry->count = (uint16_t)read_low(bytes + 35, 2);
     entry->bytes = bytes + ENTRY_HEAD;
     entry->length = length - ENTRY_HEAD;
-    if (entry->node >= BRIDGE_MOST_NODES || entry->count == 0) return ENTRY_BAD;
-    if (entry->begins) {
-        return entry->length == 0 && entry->count <= BRIDGE_MOST_WORKERS ? ENTRY_GOOD : ENTRY_BAD;
+    if (entry->node >= BRIDGE_MOST_NODES || entry->count == 0) return false;
+    if (entry->begins) return entry->length == 0 && entry->count <= BRIDGE_MOST_WORKERS;
+    if (bytes[17] != 'i' || entry->count > BRIDGE_MOST_BATCH) return false;
+    return are_items(entry->bytes, entry->length, entry->count);
+}
+
+enum entry_kind entry_read(struct entry *entry, const uint8_t *bytes, size_t length) {
+    if (length < 8 || memcmp(bytes, ENTRY_MAGIC, 8)) return ENTRY_NONE;
+    if (length <= ENTRY_CHECKED) return ENTRY_DAMAGED;
+    entry->check = word_of(bytes + 8);
+    if (entry->check != entry_check(bytes + ENTRY_CHECKED, length - ENTRY_CHECKED)) {
+        return ENTRY_DAMAGED;
     }
-    if (bytes[2] != 'i' || entry->count > BRIDGE_MOST_BATCH) return ENTRY_BAD;
-    return are_items(entry->bytes, entry->length, entry->count) ? ENTRY_GOOD : ENTRY_BAD;
+    if (bytes[16] > ENTRY_VERSION) return ENTRY_NEWER;
+    return read_rest(entry, bytes, length) ? ENTRY_GOOD : ENTRY_BAD;
+}
+
+bool entry_is_of_version_1(const uint8_t *bytes, size_t length) {
+    return length == 22 && !memcmp(bytes, "K\1b", 3) && bytes[3] < BRIDGE_MOST_NODES &&
+           bytes[20] >= 1 && bytes[20] <= BRIDGE_MOST_WORKERS && bytes[21] == 0;
 }
 
 size_t entry_item(const struct entry *entry, size_t at, struct entry_item *item) {
@@ -67,18 +93,23 @@ size_t entry_item(const struct entry *entry, size_t at, struct entry_item *item)
 }
 
 void entry_head(uint8_t *bytes, uint8_t node, uint64_t epoch, uint64_t number, uint16_t count) {
-    bytes[0] = 'K';
-    bytes[1] = ENTRY_VERSION;
-    bytes[2] = 'i';
-    bytes[3] = node;
-    write_low(bytes + 4, epoch, 8);
-    write_low(bytes + 12, number, 8);
-    write_low(bytes + 20, count, 2);
+    memcpy(bytes, ENTRY_MAGIC, 8);
+    bytes[16] = ENTRY_VERSION;
+    bytes[17] = 'i';
+    bytes[18] = node;
+    write_low(bytes + 19, epoch, 8);
+    write_low(bytes + 27, number, 8);
+    write_low(bytes + 35, count, 2);
+}
+
+void entry_seal(uint8_t *bytes, size_t length) {
+    write_low(bytes + 8, entry_check(bytes + ENTRY_CHECKED, length - ENTRY_CHECKED), 8);
 }
 
 void entry_begin(uint8_t *bytes, uint8_t node, uint64_t process, uint16_t workers) {
     entry_head(bytes, node, process, 0, workers);
-    bytes[2] = 'b';
+    bytes[17] = 'b';
+    entry_seal(bytes, ENTRY_HEAD);
 }
 
 size_t entry_put(uint8_t *bytes, const struct entry_item *item) {
@@ -112,9 +143,11 @@ enum entry_fate place_take(struct bridge_place *place, const struct entry *entry
         if (entry->count > node->workers) node->workers = entry->count;
         return FATE_BEGINS;
     }
+    if (!entry->epoch) return FATE_BAD;
+    if (entry->epoch > node->epoch) return FATE_STRANGE;
     if (entry->epoch != node->epoch) return FATE_OLD;
     if (entry->number != node->entries) return FATE_GAP;
-    if (!numbers_follow(node, entry)) return FATE_BAD;
+    if (!numbers_follow(node, entry)) return FATE_STRANGE;
     node->entries++;
     return FATE_COUNTS;
 }

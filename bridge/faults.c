@@ -29,10 +29,12 @@ const char *fault_name(enum bridge_code code) {
     case BRIDGE_ENGINE_SILENT: return "EngineSilent";
     case BRIDGE_ENGINE_REFUSES: return "EngineRefuses";
     case BRIDGE_STREAM_ABSENT: return "StreamAbsent";
+    case BRIDGE_DAMAGED_ENTRY: return "DamagedEntry";
     case BRIDGE_WRONG_STREAM: return "WrongStream";
     case BRIDGE_STREAM_CHANGED: return "StreamChanged";
     case BRIDGE_TAKEN_OVER: return "TakenOver";
     case BRIDGE_NEWER_VERSION: return "NewerVersion";
+    case BRIDGE_OLDER_VERSION: return "OlderVersion";
     case BRIDGE_BUS_REFUSES: return "BusRefuses";
     case BRIDGE_NO_MEMORY: return "NoMemory";
     case BRIDGE_NO_THREAD: return "NoThread";

@@ -21,11 +21,14 @@ enum bridge_code {
     BRIDGE_ENGINE_SILENT,
     BRIDGE_ENGINE_REFUSES,
     BRIDGE_STREAM_ABSENT,
+    /* of one entry: the bridge says it, and passes it over */
+    BRIDGE_DAMAGED_ENTRY,
     /* for good: the bridge ends */
     BRIDGE_WRONG_STREAM,
     BRIDGE_STREAM_CHANGED,
     BRIDGE_TAKEN_OVER,
     BRIDGE_NEWER_VERSION,
+    BRIDGE_OLDER_VERSION,
     BRIDGE_BUS_REFUSES,
     BRIDGE_NO_MEMORY,
     BRIDGE_NO_THREAD,

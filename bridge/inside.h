@@ -4,13 +4,15 @@
 
 #include "bridge.h"
 #include "engine.h"
+#include "rings.h"
 #include <pthread.h>
-#include <stdatomic.h>
 
 enum { CHECKPOINTS = 16, CHECKPOINT_NODE = 255, HEARD_ROOM = 32 };
 
 /* What a worker has fetched from its bus and not yet been given, and how far it is. Its own. */
 struct fetched {
+    uint64_t seed; /* of its votes */
+    bool waits;    /* a batch of it waits for room */
     kioskbasil_item items[HEARD_ROOM];
     size_t many;
     size_t at;
@@ -25,14 +27,18 @@ struct bridge {
     uint64_t process; /* the name of this process in its begins */
     bool make;        /* the stream may be made */
     atomic_bool stop;
-    _Atomic(struct sittings *) up; /* NULL before the stream has told the numbers */
-    struct sittings *down;
+    atomic_bool is_open; /* the bus of what workers send is: the stream has told their numbers */
+    kioskbasil_sender senders[BRIDGE_MOST_WORKERS]; /* of it, each its worker's */
+    kioskbasil_receiver sent;                       /* the uplink's */
+    kioskbasil_sender gives;                        /* the downlink's */
+    kioskbasil_receiver receivers[BRIDGE_MOST_WORKERS]; /* of what it gives, each its worker's */
     struct fetched fetched[BRIDGE_MOST_WORKERS];
     pthread_mutex_t lock;
     pthread_cond_t told;    /* that an entry was heard */
     pthread_cond_t ends;    /* that the bridge stops */
     struct bridge_node own; /* these under `lock`: of this node, as far as the stream was heard, */
-    uint64_t place;         /* which is up to here */
+    uint64_t place;         /* which is up to here, */
+    uint64_t check;         /* and what is kept of the entry of that place */
     bool failed;
     struct bridge_fault fault;
     struct bridge_place *checkpoints; /* the last CHECKPOINTS */
@@ -58,8 +64,18 @@ void bridge_fail(struct bridge *bridge, const struct bridge_fault *fault);
 void bridge_pause(struct bridge *bridge, const char *link, const struct bridge_fault *fault,
                   const char *kept, uint64_t *pause);
 
+/* Looks at the stream, and whether it is one of this version: by its first entry. */
+bool bridge_look(struct bridge *bridge, struct engine_link *link, struct engine_stream *stream,
+                 struct bridge_fault *fault);
+
 /* Waits for one of the two for at most so many milliseconds. Under `lock`. */
 void bridge_await(struct bridge *bridge, pthread_cond_t *what, int64_t milliseconds);
+
+/* What is kept of an entry, to know it again. */
+static inline uint64_t check_of(enum entry_kind kind, const struct entry *entry,
+                                const struct engine_entry *read) {
+    return kind == ENTRY_GOOD ? entry->check : entry_check(read->bytes, read->length);
+}
 
 void *uplink_run(void *bridge);
 void *downlink_run(void *bridge);

@@ -37,13 +37,15 @@ static bool may_have(const struct option *option, char sign) {
     return isalnum((unsigned char)sign) || (sign && strchr(option->signs, sign));
 }
 
-static enum bridge_code set_text(struct option *option, const char *value, const char *where,
-                                 struct bridge_fault *fault) {
-    size_t length = strlen(value);
+/* Whether an option may be this text, of which `most` + 1 characters are looked at. */
+static enum bridge_code check_text(const struct option *option, const char *value,
+                                   const char *where, struct bridge_fault *fault) {
+    size_t length = strnlen(value, option->most + 1);
     if (length < option->least || length > option->most) {
         return fault_set(fault, BRIDGE_OUT_OF_RANGE,
-                         "%s has %llu to %llu characters, and not %zu (%s)", option->name,
-                         (number)option->least, (number)option->most, length, where);
+                         "%s has %llu to %llu characters, and here %s (%s)", option->name,
+                         (number)option->least, (number)option->most,
+                         length < option->least ? "fewer" : "more", where);
     }
     for (size_t i = 0; i < length; i++) {
         if (may_have(option, value[i])) continue;
@@ -51,8 +53,14 @@ static enum bridge_code set_text(struct option *option, const char *value, const
                          "%s has letters, digits and '%s', and not '%.40s' (%s)", option->name,
                          option->signs ? option->signs : "any sign", value, where);
     }
-    memcpy(option->to, value, length + 1);
     return BRIDGE_OK;
+}
+
+static enum bridge_code set_text(struct option *option, const char *value, const char *where,
+                                 struct bridge_fault *fault) {
+    enum bridge_code code = check_text(option, value, where, fault);
+    if (code == BRIDGE_OK) strcpy(option->to, value);
+    return code;
 }
 
 static enum bridge_code set_yes(struct option *option, const char *value, const char *where,
@@ -193,7 +201,6 @@ void bridge_options_usual(struct bridge_options *options) {
                                        .batch = 64,
                                        .ahead = 4096,
                                        .log_words = 65536,
-                                       .sittings = 4,
                                        .checkpoint = 1000,
                                        .pause = 2000,
                                        .wait = 5000,
@@ -222,8 +229,7 @@ void bridge_options_list(struct bridge_options *options, struct option list[BRID
         A_NUMBER(window, 1, BRIDGE_MOST_WINDOW, "entries sent and not heard back, at most"),
         A_NUMBER(batch, 1, BRIDGE_MOST_BATCH, "items in an entry, at most"),
         A_NUMBER(ahead, 16, 8192, "messages that a worker may have sent and not heard, at most"),
-        A_NUMBER(log_words, 4096, 65536, "words of the log of one sitting"),
-        A_NUMBER(sittings, 2, 64, "sittings that the slowest worker may be behind"),
+        A_NUMBER(log_words, 4096, 65536, "words of the ring of each of the two buses"),
         A_NUMBER(checkpoint, 1, 100000000, "entries from one place that can be kept to the next"),
         A_NUMBER(pause, 10, 600000, "the longest pause between two tries, in milliseconds"),
         A_NUMBER(wait, 100, 600000, "how long a silent engine is waited for, in milliseconds"),
@@ -241,12 +247,15 @@ void bridge_options_list(struct bridge_options *options, struct option list[BRID
 enum bridge_code bridge_options_check(struct bridge_options *options, struct bridge_fault *fault) {
     struct option list[BRIDGE_OPTIONS];
     bridge_options_list(options, list);
-    for (size_t i = 0; i < BRIDGE_OPTIONS; i++) {
+    enum bridge_code code = BRIDGE_OK;
+    for (size_t i = 0; i < BRIDGE_OPTIONS && code == BRIDGE_OK; i++) {
+        if (list[i].kind == OPTION_TEXT)
+            code = check_text(&list[i], list[i].to, "a program", fault);
         if (list[i].kind != OPTION_NUMBER) continue;
         uint64_t is = *(const uint64_t *)list[i].to;
         if (is >= list[i].least && is <= list[i].most) continue;
-        return fault_set(fault, BRIDGE_OUT_OF_RANGE, "%s is %llu to %llu, and not %llu",
+        code = fault_set(fault, BRIDGE_OUT_OF_RANGE, "%s is %llu to %llu, and not %llu (a program)",
                          list[i].name, (number)list[i].least, (number)list[i].most, (number)is);
     }
-    return BRIDGE_OK;
+    return code;
 }

@@ -40,8 +40,7 @@ struct bridge_options {
     uint64_t window;     /* entries sent and not heard back, at most */
     uint64_t batch;      /* items in an entry, at most */
     uint64_t ahead;      /* messages that a worker may have sent and not heard */
-    uint64_t log_words;  /* words of the log of one sitting */
-    uint64_t sittings;   /* sittings that a slow worker may be behind */
+    uint64_t log_words;  /* words of the ring of each of its two buses */
     uint64_t checkpoint; /* entries from checkpoint to checkpoint */
     uint64_t pause;      /* the longest pause between two tries, in milliseconds */
     uint64_t wait;       /* how long a silent engine is waited for, in milliseconds */
@@ -51,13 +50,14 @@ struct bridge_options {
     bool create;         /* make the stream where there is none */
 };
 
-enum { BRIDGE_OPTIONS = 16 };
+enum { BRIDGE_OPTIONS = 15 };
 
 /* The usual values, and the list of these options. */
 void bridge_options_usual(struct bridge_options *options);
 void bridge_options_list(struct bridge_options *options, struct option list[BRIDGE_OPTIONS]);
 
-/* Whether each number is in its range, of options that no command line gave too. */
+/* Whether each number is in its range and each text is one that may be, of options that no command
+   line gave too. BRIDGE_OK, BRIDGE_OUT_OF_RANGE or BRIDGE_BAD_TEXT. */
 enum bridge_code bridge_options_check(struct bridge_options *options, struct bridge_fault *fault);
 
 #endif

@@ -1,12 +1,12 @@
 /* What the bridge costs beside the engine alone: the same client, entries of the same bytes, as
    many of them under way, heard by as many threads of one process.
 
-   `engine` appends ready entries by one thread, and reads them by as many as there are workers, each
-   with a connection of its own. `bridge` is a node whose workers send and hear: each item goes
+   `engine` appends ready entries by one thread, and reads them by as many as there are workers,
+   each with a connection of its own. `bridge` is a node whose workers send and hear: each item goes
    through both of its buses too. Each prints a line: items, items of an entry, bytes of an item,
    seconds, items a second, and from sending an item to hearing it the time of half of them and that
-   of all but a hundredth, in microseconds. With `--pace` each thread that sends begins a batch in so
-   many milliseconds. */
+   of all but a hundredth, in microseconds. With `--pace` each thread that sends begins a batch in
+   so many milliseconds. */
 #include "bridge.h"
 #include "engine.h"
 #include <inttypes.h>

@@ -27,9 +27,10 @@ struct uplink {
     uint64_t many;
     uint64_t base;
     uint64_t epoch;
+    uint64_t batch;   /* items of an entry, as many as the engine takes in any case */
     uint64_t stored;  /* entries of this link that the engine has stored */
     uint64_t sent;    /* entries of this epoch */
-    int64_t progress; /* when an entry was last stored or heard */
+    int64_t progress; /* when an entry was last stored or heard, or the first one was kept */
     int64_t began;    /* when this epoch began */
     uint64_t pause;
 };
@@ -85,32 +86,14 @@ static bool await(struct uplink *up, uint64_t place, struct bridge_fault *fault)
     return good && !bridge_stops(bridge);
 }
 
-/* How many sittings hold all that all workers may have sent and not heard, in frames of one message
-   each: so many that who sends never waits for the uplink. */
-static uint64_t most_sittings(const struct bridge_options *options) {
-    uint64_t words = 8 * options->workers * options->ahead;
-    uint64_t room = options->log_words - 2 - 129 * options->workers;
-    return 2 + words / room;
-}
-
 /* Opens the bus of what workers send, with the numbers that the stream has told. */
 static bool open_bus(struct uplink *up, const struct bridge_node *node,
                      struct bridge_fault *fault) {
     struct bridge *bridge = up->bridge;
-    struct sittings *made = NULL;
-    const struct sittings_shape shape = {.senders = bridge->options.workers,
-                                         .receivers = 1,
-                                         .log_words = bridge->options.log_words,
-                                         .most = most_sittings(&bridge->options)};
-    uint32_t code = sittings_open(&made, &shape, node->next);
-    if (code != KIOSKBASIL_OK) {
-        fault_set(fault, BRIDGE_BUS_REFUSES, "the bus of the uplink: %s", kioskbasil_text(code));
+    if (ring_open(bridge->options.log_words, node->next, bridge->senders, bridge->options.workers,
+                  &bridge->sent, 1, "the uplink", fault) != BRIDGE_OK)
         return false;
-    }
-    pthread_mutex_lock(&bridge->lock);
-    atomic_store(&bridge->up, made);
-    if (bridge_stops(bridge)) sittings_stop(made);
-    pthread_mutex_unlock(&bridge->lock);
+    atomic_store(&bridge->is_open, true);
     return true;
 }
 
@@ -118,11 +101,62 @@ static bool append(struct uplink *up, uint64_t i, struct bridge_fault *fault) {
     struct bridge *bridge = up->bridge;
     struct kept *kept = kept_at(up, i);
     entry_head(kept->bytes, (uint8_t)bridge->options.node, up->epoch, up->base + i, kept->count);
-    if (!up->sent || up->stored == up->sent) up->progress = bridge_now();
+    entry_seal(kept->bytes, kept->length);
+    if (!i || up->stored == up->sent) up->progress = bridge_now();
     up->sent++;
     atomic_fetch_add_explicit(&bridge->entries_sent, 1, memory_order_relaxed);
     atomic_fetch_add_explicit(&bridge->items_sent, kept->count, memory_order_relaxed);
     return engine_append(up->link, kept->bytes, kept->length, fault);
+}
+
+/* Sets how many items an entry has. False: one that is kept is longer than the engine takes. So no
+   epoch begins in which nothing could follow but what is refused. */
+static bool fits(struct uplink *up, uint64_t room, struct bridge_fault *fault) {
+    uint64_t most = (room - ENTRY_HEAD) / (ENTRY_ITEM_HEAD + BRIDGE_MOST_BYTES);
+    uint64_t batch = up->bridge->options.batch;
+    if (most < batch && up->batch != most) {
+        say("node %llu: uplink: the engine takes entries of %llu bytes: they have %llu items, and "
+            "not %llu",
+            (unsigned long long)up->bridge->options.node, (unsigned long long)room,
+            (unsigned long long)most, (unsigned long long)batch);
+    }
+    up->batch = most < batch ? most : batch;
+    for (uint64_t i = 0; i < up->many; i++) {
+        if (kept_at(up, i)->length <= room) continue;
+        fault_set(fault, BRIDGE_ENGINE_REFUSES, "an entry has %zu bytes, and it takes %llu",
+                  kept_at(up, i)->length, (unsigned long long)room);
+        return false;
+    }
+    return true;
+}
+
+/* Looks at the stream, and whether it has the last entry that was heard before. If not it is
+   another one, in which nothing is begun, or it will be whole: which of both, the downlink finds.
+   That hears on meanwhile, so its place is read first. */
+static bool look_at_known(struct uplink *up, struct engine_stream *stream,
+                          struct bridge_fault *fault) {
+    struct engine_entry read;
+    struct entry entry;
+    bool there;
+    pthread_mutex_lock(&up->bridge->lock);
+    unsigned long long place = up->bridge->place;
+    uint64_t check = up->bridge->check;
+    pthread_mutex_unlock(&up->bridge->lock);
+    if (!bridge_look(up->bridge, up->link, stream, fault)) return false;
+    if (stream->last < place) {
+        fault_set(fault, BRIDGE_ENGINE_REFUSES,
+                  "the stream has entries up to %llu, and those up to %llu were heard",
+                  (unsigned long long)stream->last, place);
+        return false;
+    }
+    if (!place) return true;
+    if (!engine_get(up->link, place, &read, &there, fault)) return false;
+    enum entry_kind kind = there ? entry_read(&entry, read.bytes, read.length) : ENTRY_NONE;
+    bool same = there && check_of(kind, &entry, &read) == check;
+    engine_release(&read);
+    if (same) return true;
+    fault_set(fault, BRIDGE_ENGINE_REFUSES, "entry %llu is not the one that was heard", place);
+    return false;
 }
 
 /* Begins an epoch: an entry of its own, once all entries of this node before it were heard. */
@@ -132,7 +166,8 @@ static bool begin_epoch(struct uplink *up, struct bridge_fault *fault) {
     uint8_t begins[ENTRY_HEAD];
     uint64_t last;
     if (!engine_connect(&up->link, &bridge->options, "uplink", fault)) return false;
-    if (!engine_stream(up->link, bridge->make, &stream, fault)) return false;
+    if (!look_at_known(up, &stream, fault)) return false;
+    if (!fits(up, stream.room, fault)) return false;
     if (!engine_last_own(up->link, &stream, &last, fault) || !await(up, last, fault)) return false;
     entry_begin(begins, (uint8_t)bridge->options.node, bridge->process,
                 (uint16_t)bridge->options.workers);
@@ -145,12 +180,19 @@ static bool begin_epoch(struct uplink *up, struct bridge_fault *fault) {
 static bool go_on(struct uplink *up, struct bridge_fault *fault) {
     uint64_t place;
     struct bridge_node node = own(up, &place);
+    if (node.epoch < up->epoch) {
+        fault_set(fault, BRIDGE_ENGINE_REFUSES, "the begin at entry %llu came to it damaged",
+                  (unsigned long long)up->epoch);
+        return false;
+    }
     if (node.epoch != up->epoch) {
-        fault_set(fault, BRIDGE_TAKEN_OVER, "another process has begun as this node, at entry %llu",
+        bool own = node.process == up->bridge->process;
+        fault_set(fault, own ? BRIDGE_ENGINE_REFUSES : BRIDGE_TAKEN_OVER, "%s, at entry %llu",
+                  own ? "a begin of it came again" : "another process has begun as this node",
                   (unsigned long long)node.epoch);
         return false;
     }
-    if (!atomic_load(&up->bridge->up) && !open_bus(up, &node, fault)) return false;
+    if (!atomic_load(&up->bridge->is_open) && !open_bus(up, &node, fault)) return false;
     while (up->many && kept_at(up, 0)->number < node.next[kept_at(up, 0)->sender]) drop_first(up);
     up->base = 0;
     up->sent = up->stored = 0;
@@ -166,7 +208,7 @@ static bool gather(struct uplink *up) {
     kioskbasil_item items[BRIDGE_MOST_BATCH];
     struct kept *kept = kept_at(up, up->many);
     size_t many = 0, at = ENTRY_HEAD;
-    sittings_hear(atomic_load(&bridge->up), 0, items, bridge->options.batch, &many);
+    kioskbasil_hear(&bridge->sent, items, up->batch, &many);
     for (size_t i = 0; i < many; i++) {
         struct entry_item item = {items[i].number, items[i].sender, items[i].length,
                                   items[i].bytes};
@@ -191,15 +233,17 @@ static bool look(struct uplink *up, struct bridge_fault *fault) {
     while (node.epoch == up->epoch && up->many && up->base < node.entries) drop_first(up);
     atomic_store_explicit(&up->bridge->in_flight, up->many, memory_order_relaxed);
     if (bridge_now() - up->began > (int64_t)options->pause) up->pause = 0;
-    if (!good || !up->many || bridge_now() - up->progress <= (int64_t)options->wait) return good;
-    if (up->stored < up->sent) {
-        fault_set(fault, BRIDGE_ENGINE_SILENT, "%llu entries are not answered",
-                  (unsigned long long)(up->sent - up->stored));
+    uint64_t counted = node.epoch == up->epoch ? node.entries : 0;
+    if (good && place >= last && counted < up->stored) {
+        fault_set(fault, BRIDGE_ENGINE_REFUSES,
+                  "entry %llu was stored, and one of this node up to it does not count",
+                  (unsigned long long)last);
         return false;
     }
-    if (place < last) return true; /* the downlink is slow, which is no fault */
-    fault_set(fault, BRIDGE_ENGINE_SILENT, "entry %llu was stored and not heard",
-              (unsigned long long)last);
+    if (!good || !up->many || bridge_now() - up->progress <= (int64_t)options->wait) return good;
+    if (up->stored == up->sent) return true; /* the downlink is slow, which is no fault */
+    fault_set(fault, BRIDGE_ENGINE_SILENT, "%llu entries are not answered",
+              (unsigned long long)(up->sent - up->stored));
     return false;
 }
 
