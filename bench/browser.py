@@ -3,6 +3,33 @@
 import json, os, subprocess, sys, tempfile, time
 
 
+# What stays in sight while one scrolls takes at most a fifth of the height, and covers no control and no text that one scrolls to.
+CROWDING = """
+(() => {
+    const wrong = [];
+    const stays = [...document.body.querySelectorAll('*')].filter((node) =>
+        ['fixed', 'sticky'].includes(getComputedStyle(node).position) && node.id !== 'thread' &&
+        node.getBoundingClientRect().height > 0);
+    const heights = stays.map((node) => node.getBoundingClientRect().height);
+    const sum = heights.reduce((one, other) => one + other, 0);
+    if (!stays.length) wrong.push('no control stays in sight');
+    if (sum > innerHeight / 5) wrong.push(stays.map((node) => node.id) + ' take ' + sum + ' of ' + innerHeight);
+    if (document.documentElement.scrollWidth > innerWidth) wrong.push('the page is ' + document.documentElement.scrollWidth + ' wide');
+    document.querySelectorAll('details').forEach((part) => { part.open = true; });
+    for (const node of document.querySelectorAll('button, select, input, textarea, summary, h1, h2, p')) {
+        const isEmpty = /^[HP]/.test(node.tagName) && node.textContent === '';
+        if (isEmpty || node.closest('[hidden], noscript')) continue;
+        node.scrollIntoView({block: 'nearest', inline: 'nearest'});
+        const box = node.getBoundingClientRect();
+        const over = document.elementFromPoint(box.x + box.width / 2, box.y + Math.min(box.height, innerHeight / 2) / 2);
+        const isSeen = over && (node.contains(over) || over.contains(node));
+        if (!isSeen) wrong.push('what covers ' + (node.id || node.textContent.slice(0, 20)) + ': ' + (over ? over.id || over.tagName : 'nothing'));
+    }
+    return wrong;
+})()
+"""
+
+
 class Browser:
     """A browser that is told what to do by messages over two pipes."""
 
@@ -27,7 +54,7 @@ class Browser:
         self.session = self.call("Target.attachToTarget", targetId=tab, flatten=True)["sessionId"]
         for part in ("Page", "Runtime", "Log", "Network"):
             self.call(part + ".enable")
-        self.call("Emulation.setDeviceMetricsOverride", width=1600, height=900, deviceScaleFactor=1, mobile=False)
+        self.size(1600, 900)
 
     def read(self):
         while b"\0" not in self.buffer:
@@ -95,6 +122,11 @@ class Browser:
             what = {"x": place[0], "y": place[1], "button": "left", "clickCount": 1}
             self.call("Input.dispatchMouseEvent", type=kind, **what)
 
+    def size(self, width, height):
+        """Another size of the window, as of a phone where it is narrow. What it lays out anew is there when this returns."""
+        self.call("Emulation.setDeviceMetricsOverride", width=width, height=height, deviceScaleFactor=1, mobile=width < 500)
+        self.do("new Promise((done) => requestAnimationFrame(() => requestAnimationFrame(done)))")
+
     def complaints(self):
         """What the console says, and what is asked for that is no file of ours."""
         self.do("0")
@@ -108,6 +140,10 @@ class Browser:
                 if not url.startswith((f"file://{self.folder}/", "data:", "about:")):
                     said.append("asks for " + url)
         return said
+
+    def crowding(self):
+        """What is wrong with how much room the controls of a narrow page take, as one line each."""
+        return self.do(CROWDING)
 
     def end(self):
         self.call("Browser.close")

@@ -25,12 +25,13 @@ static void expect(int line, const char *what, uint64_t is, uint64_t wanted) {
 /* One wrong size at a time. */
 static void bad_shapes(void) {
     kioskbasil_sender s[65] = {KIOSKBASIL_NONE};
-    kioskbasil_receiver r[9] = {KIOSKBASIL_NONE};
+    kioskbasil_receiver r[65] = {KIOSKBASIL_NONE};
     kioskbasil_sizes good = {1, 2, 16, false, false}, bad = good;
     EXPECT(kioskbasil_open(&good, s, 0, r, 1), KIOSKBASIL_BAD_SENDERS);
-    EXPECT(kioskbasil_open(&good, s, 65, r, 9), KIOSKBASIL_BAD_SENDERS);
+    EXPECT(kioskbasil_open(&good, s, 65, r, 65), KIOSKBASIL_BAD_SENDERS);
     EXPECT(kioskbasil_open(&good, s, 1, r, 0), KIOSKBASIL_BAD_RECEIVERS);
-    EXPECT(kioskbasil_open(&good, s, 1, r, 9), KIOSKBASIL_BAD_RECEIVERS);
+    EXPECT(kioskbasil_open(&good, s, 1, r, 65), KIOSKBASIL_BAD_RECEIVERS);
+    EXPECT(kioskbasil_open_ring(&good, s, 1, r, 65), KIOSKBASIL_BAD_RECEIVERS);
     bad.rounds = 9;
     EXPECT(kioskbasil_open(&bad, s, 1, r, 1), KIOSKBASIL_BAD_ROUNDS);
     bad = good, bad.rows = 257;
@@ -45,7 +46,7 @@ static void bad_shapes(void) {
     EXPECT(kioskbasil_open(&bad, s, 1, r, 1), KIOSKBASIL_BAD_LOG_WORDS);
     bad.log_words = 65537;
     EXPECT(kioskbasil_open(&bad, s, 1, r, 1), KIOSKBASIL_BAD_LOG_WORDS);
-    for (int i = 0; i < 9; i++) EXPECT(s[i].live + r[i].live, 0);
+    for (int i = 0; i < 65; i++) EXPECT(s[i].live + r[i].live, 0);
 }
 
 /* Random words for kioskbasil_try_send, of a seed. */
@@ -926,6 +927,36 @@ static void ring_again(void) {
     kioskbasil_free_sender(s), kioskbasil_free_receiver(r);
 }
 
+/* As many receivers as there can be: the last one alone holds a frame up, until it has heard. */
+static void ring_of_most(void) {
+    enum { LAST = KIOSKBASIL_MOST_RECEIVERS - 1 };
+    kioskbasil_sender s[1] = {KIOSKBASIL_NONE};
+    kioskbasil_receiver r[LAST + 1] = {KIOSKBASIL_NONE};
+    kioskbasil_sizes sizes = {1, 2, 16, false, false};
+    kioskbasil_item items[4];
+    kioskbasil_left left;
+    uint64_t seed = 71;
+    size_t many = 0;
+    EXPECT(kioskbasil_open_ring(&sizes, s, 1, r, LAST + 1), KIOSKBASIL_OK);
+    put_long(s);
+    EXPECT(send_batch(s, &seed, NULL, NULL), KIOSKBASIL_DELIVERED);
+    put_long(s);
+    for (int i = 0; i <= LAST; i++) {
+        EXPECT(kioskbasil_has_room(s), KIOSKBASIL_FULL);
+        if (i == LAST) EXPECT(send_batch(s, &seed, NULL, NULL), KIOSKBASIL_FULL);
+        EXPECT(kioskbasil_hear(&r[i], items, 4, &many), KIOSKBASIL_EMPTY);
+        EXPECT(many, 1);
+    }
+    EXPECT(kioskbasil_has_room(s), KIOSKBASIL_OK);
+    EXPECT(send_batch(s, &seed, NULL, NULL), KIOSKBASIL_DELIVERED);
+    EXPECT(kioskbasil_hear(&r[LAST], items, 4, &many), KIOSKBASIL_EMPTY);
+    EXPECT(items[0].number, 1);
+    EXPECT(kioskbasil_end(s, 1, r, LAST + 1, NULL, 0, &left), KIOSKBASIL_OK);
+    EXPECT(left.words, 18);
+    EXPECT(left.floor, 9);
+    for (int i = 0; i <= LAST; i++) EXPECT(r[i].live, 0);
+}
+
 /* A receiver that is given up lets the others go on, and so does one by which a bus was not ended. */
 static void ring_left(bool by_end) {
     kioskbasil_sender s[1] = {KIOSKBASIL_NONE};
@@ -1360,7 +1391,7 @@ int main(int count, char **words) {
             carrying_within_a_tenure(again), carried_once(again);
         }
         behind();
-        ring_again(), ring_left(false), ring_left(true);
+        ring_again(), ring_of_most(), ring_left(false), ring_left(true);
         for (int i = 0; i < 2; i++) letting_go(i == 1), letting_go_behind(i == 1);
         reopening();
         kioskbasil_left ended = {.ended = true};

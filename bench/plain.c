@@ -6,6 +6,7 @@
 #include <stdlib.h>
 #include <string.h>
 typedef uint64_t u64;
+enum { RECEIVERS = 64 };
 // ENTER, LOOK and WITHDRAW only where rows are used again
 enum { REST, ENTER, LOOK, WITHDRAW, ELECT, HOLD };
 enum { ANNOUNCE, BRING, READ_PROPOSAL, PROPOSE, READ_OTHER, MARK, OTHER_MARK, VOTE, READ_VOTES, FALLBACK, SEARCH, WON };
@@ -19,7 +20,7 @@ struct sender {
     int own_votes, published, lost, withdrawn;
     struct page page; u64 frame[129], presence, asked, cleared, loaded, lowest;
 } S[64];
-struct receiver { u64 place, known, left, tenure, owner, number, bytes, got, count, fresh, passed; int ended, gone; unsigned char data[64]; } M[9]; // the ninth hears the whole log in the end
+struct receiver { u64 place, known, left, tenure, owner, number, bytes, got, count, fresh, passed; int ended, gone; unsigned char data[64]; } M[RECEIVERS + 1]; // the last hears the whole log in the end
 static u64 n, m, R, T, L, B, stage, length, *word_of_log, *published, owners[256], owner_count;
 static struct row *rows; static int cyclic, ringed, tells;
 static char *out; static size_t used, room;
@@ -158,9 +159,9 @@ static int turn(u64 me, uint32_t random) { // true where it is going; else its a
 static int recv(u64 me) { // true where it goes on
     struct receiver *r = &M[me]; u64 w;
     if (r->ended) { used = r->fresh; say("end\n", 0, 0, 0, 0); return 0; }
-    if (ringed && me < 8 && !r->left && r->place > r->passed) { r->passed = r->place; used = r->fresh; say("going\n", 0, 0, 0, 0); return 1; }
+    if (ringed && me < RECEIVERS && !r->left && r->place > r->passed) { r->passed = r->place; used = r->fresh; say("going\n", 0, 0, 0, 0); return 1; }
     if (r->place == r->known) { if (length == r->known) { used = r->fresh; say("empty\n", 0, 0, 0, 0); return 0; } r->known = length; used = r->fresh; say("going\n", 0, 0, 0, 0); return 1; }
-    w = me == 8 ? published[r->place] : word_of_log[r->place % L]; r->place++; used = r->fresh;
+    w = me == RECEIVERS ? published[r->place] : word_of_log[r->place % L]; r->place++; used = r->fresh;
     if (!r->left) { r->left = w >> 40 & 0x3fff; r->owner = w >> 54 & 0xff; say("head %lu %lu\n", w & 0xffffffffff, r->owner, 0, 0); return 1; }
     r->left--;
     if (r->got >= r->bytes) {
@@ -218,7 +219,7 @@ int main(int argc, char **argv) {
         if (!shaped) {
             ringed = *line == 'r'; cyclic = ringed || *line == 'c'; sscanf(line + (ringed ? 5 : 6), "%lu %lu %lu %lu %lu", &n, &m, &R, &T, &L);
             B = 0; while (1u << B < n && n <= 64) B++;
-            const char *why = n < 1 || n > 64 ? "Senders" : m < 1 || m > 8 ? "Receivers"
+            const char *why = n < 1 || n > 64 ? "Senders" : m < 1 || m > RECEIVERS ? "Receivers"
                 : R < 1 || R > 8 ? "Rounds" : T < (cyclic ? 2 : 1) || T > (cyclic ? 8 : 256) ? "Rows"
                 : L < 16 || L > 65536 ? "LogWords" : 0;
             if (why) { m = 0; if (refused(passes, number, why)) goto stop; continue; }
@@ -256,10 +257,10 @@ int main(int argc, char **argv) {
         say(" %lu", owners[i % T], 0, 0, 0);
     say("\n", 0, 0, 0, 0);
     for (;;) { // the order is what a receiver would be given of the whole log
-        size_t before = used; M[8].fresh = used; int more = recv(8);
+        size_t before = used; M[RECEIVERS].fresh = used; int more = recv(RECEIVERS);
         if (!strncmp(out + before, "item", 4)) { memmove(out + before + 5, out + before + 4, used - before - 4); memcpy(out + before, "order", 5); used++; }
         else if (!strncmp(out + before, "leave", 5)) { memmove(out + before + 6, out + before, used - before); memcpy(out + before, "order ", 6); used += 6; }
-        else if (M[8].ended) { used = before; say("order end\n", 0, 0, 0, 0); } else used = before;
+        else if (M[RECEIVERS].ended) { used = before; say("order end\n", 0, 0, 0, 0); } else used = before;
         if (!more) break;
     }
     for (u64 i = 0; i < m; i++) { say("given %lu %lu", i, M[i].count, 0, 0); say(M[i].ended ? " end\n" : "\n", 0, 0, 0, 0); }

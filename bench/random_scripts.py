@@ -3,8 +3,11 @@
 def senders_of(dice): # 1 to 8, and at times more
     return dice.randint(1, 8) if dice.random() < 0.85 else dice.choice((9, 16, 17, 33, 64))
 
+def receivers_of(dice): # 1 to 8, and at times more
+    return dice.randint(1, 8) if dice.random() < 0.9 else dice.choice((9, 16, 33, 64))
+
 def shaped_script(dice):
-    n, m = senders_of(dice), dice.randint(1, 8)
+    n, m = senders_of(dice), receivers_of(dice)
     lines = [f"shape {n} {m} {dice.randint(1, 8)} {dice.randint(1, 12)} {dice.choice((16, 24, 64, 300))}"]
     for _ in range(dice.randint(1, 120)):
         s = dice.randrange(n)
@@ -31,7 +34,7 @@ def last_lines(dice, n, m): # what waits is sent, one sender closes, and all rec
     return lines + [f"close {s}"] + [f"turn {s} 1 2000"] * 2 + [f"recv {each} 9999" for each in range(m)]
 
 def cyclic_script(dice): # senders go through tenures one after another; some fall asleep in one, and wake up later or stop
-    n, m, rows = senders_of(dice), dice.randint(1, 8), dice.randint(2, 8)
+    n, m, rows = senders_of(dice), receivers_of(dice), dice.randint(2, 8)
     lines = [f"cycle {n} {m} {dice.choice((1, 1, 2, 3, 8))} {rows} {dice.choice((16, 24, 64, 300, 3000, 65536))}"]
     naps, stops, closes = dice.choice((0.05, 0.1, 0.3, 0.9)), dice.choice((0, 0, 0.01)), dice.choice((0, 0, 0.005))
     leaves = dice.choice((0, 0.02, 0.1))
@@ -61,13 +64,13 @@ def cyclic_script(dice): # senders go through tenures one after another; some fa
     return "\n".join(lines).encode() + b"\n"
 
 def ring_script(dice): # receivers hear often or seldom, and some leave; senders fall asleep in a tenure; now and then of another kind of bus
-    n, m, rows = dice.randint(1, 8), dice.randint(1, 8), dice.choice((2, 2, 2, 3, 5, 8))
+    n, m, rows = dice.randint(1, 8), receivers_of(dice), dice.choice((2, 2, 2, 3, 5, 8))
     kind = dice.choice(8 * ["ring"] + ["shape", "cycle"])
     lines = [f"{kind} {n} {m} {dice.choice((1, 1, 2))} {rows} {dice.choice((16, 16, 17, 24, 64, 140, 300))}"]
     slow, naps, leaves = dice.choice((0, 0.2, 0.5, 0.9)), dice.choice((0, 0.1, 0.3)), dice.choice((0, 0.01, 0.05))
     closes, lengths = dice.choice((0, 0, 0.01)), dice.choice(((0, 1, 8), (20, 40, 56), (0, 8, 56)))
     hears, asleep = dice.choice(((1, 5, 9999), (9999,))), [0] * n
-    for number in range(dice.choice((30, 100, 300))):
+    for number in range(dice.choice((30, 100, 300)) if m <= 8 else 30): # (many receivers make long scripts)
         s, r = dice.choice([s for s in range(n) if asleep[s] <= number] or [*range(n)]), dice.randrange(m)
         if dice.random() < 0.6:
             lines.append(f"put {s} {bytes(dice.randrange(256) for _ in range(dice.choice(lengths))).hex() or '-'}")

@@ -315,6 +315,40 @@ static void loop_behind(void) {
     free_bus(&bus);
 }
 
+/* A sender takes turns by hand up to its page, which wants no ring, and goes on by a call: behind
+   another one its message stands in the order, and that call tells so, once, whichever it is. */
+static void behind_by_hand(bool lets_go) {
+    struct bus bus;
+    uint64_t seed = 1;
+    size_t many = 0;
+    kioskbasil_item items[4];
+    open_bus(&bus, 2);
+    int descriptor = bell_descriptor(&bus.bell);
+    EXPECT(kioskbasil_put(&bus.s[1], "late", 4, NULL), KIOSKBASIL_OK);
+    for (int i = 0; i < 3; i++) EXPECT(kioskbasil_turn(&bus.s[1], 0, NULL), KIOSKBASIL_GOING);
+    EXPECT(kioskbasil_put(&bus.s[0], "a", 1, NULL), KIOSKBASIL_OK);
+    EXPECT(send_batch(&bus.s[0], &seed, NULL, &bus.bell), KIOSKBASIL_DELIVERED);
+    bell_hush(&bus.bell, descriptor);
+    EXPECT(hear_now(&bus.r[0], items, 4, &many, &bus.bell), KIOSKBASIL_EMPTY);
+    EXPECT(kioskbasil_put(&bus.s[0], "b", 1, NULL), KIOSKBASIL_OK);
+    turn_to(&bus.s[0], KIOSKBASIL_OWN);
+    EXPECT(is_readable(descriptor, 0), false);
+    for (int call = 0; call < 3; call++) {
+        uint32_t code = lets_go ? finish_sender(&bus.s[0], NULL, &bus.bell)
+                                : send_now(&bus.s[0], &seed, NULL, &bus.bell);
+        EXPECT(code, KIOSKBASIL_BEHIND);
+        EXPECT(is_readable(descriptor, 0), call == 0);
+        bell_hush(&bus.bell, descriptor);
+    }
+    EXPECT(hear_now(&bus.r[0], items, 4, &many, &bus.bell), KIOSKBASIL_EMPTY);
+    EXPECT(many, 1);
+    while (kioskbasil_turns(&bus.s[1], next_word(&seed), NULL) == KIOSKBASIL_GOING) {}
+    EXPECT(send_now(&bus.s[0], &seed, NULL, &bus.bell), KIOSKBASIL_DELIVERED);
+    EXPECT(is_readable(descriptor, 0), true);
+    close(descriptor);
+    free_bus(&bus);
+}
+
 /* Where there is one descriptor too few, errno says so, and a later call gives one. */
 static void no_descriptor(void) {
     struct bell bell = BELL_NEW;
@@ -402,6 +436,8 @@ int main(void) {
     descriptors();
     loop_that_sends();
     loop_behind();
+    behind_by_hand(false);
+    behind_by_hand(true);
     no_descriptor();
     ball_games();
     sums();

@@ -1,0 +1,298 @@
+/* Tests of replicas in C, examples/c/replica.h. bench/embed builds and runs it. Prints what failed,
+   and `N passed, M failed` last. Whoever lost a wake-up sleeps for 200 s here, and 100 s are too
+   long for any of its parts.
+
+   usage: replica [TURNS]      A worker stops at each of so many turns, 20 if left out. */
+#define BELL_LONGEST_SLEEP 200000
+#include "replica.h"
+#include <stdatomic.h>
+#include <stdio.h>
+#include <stdlib.h>
+
+enum { MOST = 8, OPERATIONS = 4096, TOO_LONG = 100 };
+
+static long passed, failed;
+
+static void expect(int line, const char *what, uint64_t is, uint64_t wanted) {
+    if (is == wanted) {
+        passed++;
+    } else {
+        failed++;
+        fprintf(stderr, "replica.c:%d: %s: %llu, and not %llu\n", line, what,
+                (unsigned long long)is, (unsigned long long)wanted);
+    }
+}
+#define EXPECT(call, wanted) expect(__LINE__, #call, (uint64_t)(call), (uint64_t)(wanted))
+
+/* An operation: what it says, and bytes behind that which go by it. */
+struct operation {
+    uint32_t count;
+    uint8_t bytes[52];
+};
+
+/* What a replica has applied: whose operation stands at each place, and what it says. */
+struct book {
+    uint32_t many;
+    uint32_t from[OPERATIONS], count[OPERATIONS];
+    uint32_t faults;
+};
+
+static struct kioskbasil_replicas shared;
+static struct kioskbasil_replica replicas[MOST];
+static struct book books[MOST];
+
+static size_t length_of(uint32_t count) {
+    return sizeof(uint32_t) + count % 53;
+}
+
+static struct operation operation_of(uint32_t count) {
+    struct operation operation = {.count = count};
+    for (size_t i = 0; i < sizeof operation.bytes; i++) operation.bytes[i] = (uint8_t)(count + i);
+    return operation;
+}
+
+/* It answers its place. */
+static void apply(void *state, uint32_t from, const uint8_t *bytes, size_t length, void *answer) {
+    struct book *book = state;
+    struct operation operation;
+    uint32_t count;
+    memcpy(&count, bytes, sizeof count);
+    operation = operation_of(count);
+    if (length != length_of(count) || memcmp(&operation, bytes, length)) book->faults++;
+    book->from[book->many] = from;
+    book->count[book->many] = count;
+    if (answer) *(uint32_t *)answer = book->many;
+    book->many++;
+}
+
+static uint32_t open_all(size_t workers, uint64_t log_words) {
+    kioskbasil_sizes sizes = {.rounds = 1, .rows = 8, .log_words = log_words};
+    uint32_t code = replicas_open(&shared, &sizes, replicas, workers, apply);
+    memset(books, 0, sizeof books);
+    for (size_t i = 0; i < workers && code == KIOSKBASIL_OK; i++) replicas[i].state = &books[i];
+    return code;
+}
+
+static void free_all(size_t workers) {
+    for (size_t i = 0; i < workers; i++) replica_free(&replicas[i]);
+    bell_free(&shared.bell);
+}
+
+static double now(void) {
+    return (double)replica_clock() / 1e9;
+}
+
+static uint32_t execute(struct kioskbasil_replica *r, uint32_t count, uint32_t *place) {
+    struct operation operation = operation_of(count);
+    return replica_execute(r, &operation, length_of(count), place);
+}
+
+/* How the first worker of a run ends: it finishes; it is stopped at this ask and goes on; it is
+   stopped there and given up; or it is given up after so many calls. */
+enum ending { FINISHES, GOES_ON, STOPS, LEAVES };
+static enum ending ending;
+static unsigned turn, turns = 20;
+
+static bool so_often(void *given) {
+    unsigned *asked = given;
+    return ++*asked <= turn;
+}
+
+struct done {
+    uint32_t code, faults;
+};
+
+/* Executes 30 operations, each of which has to be the last one applied. */
+static struct done execute_all(struct kioskbasil_replica *r) {
+    const struct book *book = r->state;
+    struct done done = {KIOSKBASIL_OK, 0};
+    for (uint32_t count = 0; count < 30 && done.code == KIOSKBASIL_OK; count++) {
+        uint32_t place = UINT32_MAX;
+        done.code = execute(r, count, &place);
+        if (place + 1 != book->many || book->from[place] != r->number) done.faults++;
+        if (book->count[place] != count) done.faults++;
+    }
+    return done;
+}
+
+/* The first worker, which is told to stop at one of its turns. */
+static struct done work_first(struct kioskbasil_replica *r) {
+    struct done done = {KIOSKBASIL_OK, 0};
+    unsigned asked = 0;
+    for (uint32_t count = 0; count < 30 && done.code == KIOSKBASIL_OK; count++) {
+        struct operation operation = operation_of(count);
+        size_t length = length_of(count);
+        if (ending == LEAVES && count == turn) break;
+        if (count % 3 == 2)
+            done.code = replica_submit_while(r, &operation, length, NULL, so_often, &asked);
+        else
+            done.code = replica_execute_while(r, &operation, length, NULL, so_often, &asked);
+    }
+    if (done.code == REPLICA_STOPPED) done.code = KIOSKBASIL_OK;
+    if (ending == STOPS || ending == LEAVES) replica_free(r);
+    return done;
+}
+
+static void *work(void *given) {
+    struct kioskbasil_replica *r = given;
+    bool is_first = ending != FINISHES && r->number == 0;
+    struct done *done = calloc(1, sizeof *done);
+    if (!done) abort();
+    *done = is_first ? work_first(r) : execute_all(r);
+    if (r->sender.live && done->code == KIOSKBASIL_OK) done->code = replica_finish(r);
+    return done;
+}
+
+/* All execute at once over a ring: none hangs, and who has finished has the same book. */
+static void run(size_t workers, uint64_t log_words) {
+    pthread_t threads[MOST];
+    struct book *last = &books[workers - 1];
+    double begin = now();
+    EXPECT(open_all(workers, log_words), KIOSKBASIL_OK);
+    for (size_t i = 0; i < workers; i++) pthread_create(&threads[i], NULL, work, &replicas[i]);
+    for (size_t i = 0; i < workers; i++) {
+        void *given = NULL;
+        struct done *done;
+        pthread_join(threads[i], &given);
+        done = given;
+        EXPECT(done->code, KIOSKBASIL_OK);
+        EXPECT(done->faults + books[i].faults, 0);
+        free(done);
+    }
+    for (size_t i = ending == STOPS || ending == LEAVES; i < workers; i++)
+        EXPECT(memcmp(&books[i], last, sizeof *last), 0);
+    if (ending == FINISHES) EXPECT(last->many, 30 * workers);
+    EXPECT(now() - begin < TOO_LONG, true);
+    free_all(workers);
+}
+
+static void runs(void) {
+    ending = FINISHES;
+    run(1, 16);
+    run(3, 129);
+    run(8, 129);
+    run(8, 16);
+    for (ending = GOES_ON; ending <= LEAVES; ending++) {
+        for (turn = 0; turn < turns; turn++) {
+            run(3, 129);
+            run(8, 16);
+        }
+    }
+}
+
+static void codes(void) {
+    struct operation operation = operation_of(0);
+    uint8_t long_one[57] = {0};
+    uint64_t number = 9;
+    size_t many = 9;
+    EXPECT(open_all(0, 129), KIOSKBASIL_BAD_SENDERS);
+    EXPECT(open_all(KIOSKBASIL_MOST_RECEIVERS + 1, 129), KIOSKBASIL_BAD_RECEIVERS);
+    EXPECT(open_all(2, 15), KIOSKBASIL_BAD_LOG_WORDS);
+    EXPECT(open_all(2, 129), KIOSKBASIL_OK);
+    EXPECT(replica_submit(&replicas[0], long_one, 57, &number), KIOSKBASIL_PUT_TOO_LONG);
+    EXPECT(replica_execute(&replicas[0], long_one, 57, NULL), KIOSKBASIL_PUT_TOO_LONG);
+    EXPECT(replica_submit(&replicas[0], &operation, length_of(0), &number), KIOSKBASIL_OK);
+    EXPECT(number, 0);
+    EXPECT(replica_latest(&replicas[1]), KIOSKBASIL_OK);
+    EXPECT(books[1].many, 0);
+    EXPECT(replica_flush(&replicas[0]), KIOSKBASIL_OK);
+    EXPECT(books[1].many, 0);
+    EXPECT(replica_latest(&replicas[1]), KIOSKBASIL_OK);
+    EXPECT(books[1].many, 1);
+    EXPECT(replica_hear(&replicas[1], &many), KIOSKBASIL_OK);
+    EXPECT(many, 0);
+    replica_free(&replicas[1]);
+    EXPECT(replica_hear(&replicas[1], &many), KIOSKBASIL_EMPTY_HANDLE);
+    EXPECT(replica_latest(&replicas[1]), KIOSKBASIL_EMPTY_HANDLE);
+    EXPECT(execute(&replicas[1], 0, NULL), KIOSKBASIL_EMPTY_HANDLE);
+    EXPECT(replica_finish(&replicas[1]), KIOSKBASIL_EMPTY_HANDLE);
+    EXPECT(replica_finish(&replicas[0]), KIOSKBASIL_OK);
+    EXPECT(execute(&replicas[0], 0, NULL), KIOSKBASIL_EMPTY_HANDLE);
+    EXPECT(strcmp(replica_text(REPLICA_MISSING), "a worker has not left"), 0);
+    EXPECT(strcmp(replica_text(KIOSKBASIL_SPENT), "spent"), 0);
+    free_all(2);
+}
+
+/* A replica that is kept and not asked fills the ring: a call with a time ends by that time, and
+   what it has put is sent later, once. */
+static void times(void) {
+    double begin, least = TOO_LONG;
+    uint32_t count = 0, many;
+    size_t heard = 0;
+    bool early = false;
+    EXPECT(open_all(2, 16), KIOSKBASIL_OK);
+    for (;; count++) {
+        struct operation operation = operation_of(count);
+        if (replica_execute_timeout(&replicas[0], &operation, length_of(count), NULL, 30)) break;
+    }
+    many = books[0].many;
+    EXPECT(many, count);
+    /* On a busy machine some of them take longer. */
+    for (int i = 0; i < 50 && least >= 0.09; i++) {
+        double took;
+        begin = now();
+        EXPECT(replica_flush_timeout(&replicas[0], 30), REPLICA_STOPPED);
+        took = now() - begin;
+        early = early || took < 0.03;
+        if (took < least) least = took;
+    }
+    EXPECT(early, false);
+    EXPECT(least < 0.09, true);
+    EXPECT(books[0].many, many);
+    EXPECT(replica_hear_timeout(&replicas[1], &heard, 30), KIOSKBASIL_OK);
+    EXPECT(heard, many);
+    EXPECT(replica_hear_timeout(&replicas[1], &heard, 30), KIOSKBASIL_OK);
+    EXPECT(heard, 0);
+    EXPECT(replica_flush(&replicas[0]), KIOSKBASIL_OK);
+    EXPECT(replica_hear_timeout(&replicas[1], &heard, 8000), KIOSKBASIL_OK);
+    EXPECT(heard, 1);
+    EXPECT(replica_finish_timeout(&replicas[0], 30), REPLICA_MISSING);
+    EXPECT(replicas[0].missing, 1);
+    EXPECT(replica_finish(&replicas[1]), KIOSKBASIL_OK);
+    EXPECT(books[1].many, count + 1);
+    free_all(2);
+}
+
+static atomic_bool stop;
+
+static bool goes_on(void *none) {
+    (void)none;
+    return !atomic_load(&stop);
+}
+
+/* Sleeps until there is an operation, and then until it is told to stop. */
+static void *wait_twice(void *given) {
+    struct kioskbasil_replica *r = given;
+    size_t first = 0, second = 9;
+    uint32_t code = replica_hear_while(r, &first, NULL, NULL);
+    if (code == KIOSKBASIL_OK) code = replica_hear_while(r, &second, goes_on, NULL);
+    return code == KIOSKBASIL_OK && first == 1 && second == 0 ? given : NULL;
+}
+
+static void woken(void) {
+    struct timespec pause = {0, 30000000};
+    double begin = now();
+    pthread_t thread;
+    void *done = NULL;
+    EXPECT(open_all(2, 129), KIOSKBASIL_OK);
+    pthread_create(&thread, NULL, wait_twice, &replicas[1]);
+    nanosleep(&pause, NULL);
+    EXPECT(execute(&replicas[0], 0, NULL), KIOSKBASIL_OK);
+    nanosleep(&pause, NULL);
+    atomic_store(&stop, true);
+    bell_ring(&shared.bell);
+    pthread_join(thread, &done);
+    EXPECT(done != NULL, true);
+    EXPECT(now() - begin < TOO_LONG, true);
+    free_all(2);
+}
+
+int main(int argc, char **argv) {
+    if (argc > 1) turns = (unsigned)atoi(argv[1]);
+    codes();
+    times();
+    woken();
+    runs();
+    printf("replica: %ld passed, %ld failed\n", passed, failed);
+    return failed != 0;
+}
