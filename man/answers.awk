@@ -1,6 +1,6 @@
-# What `bus` answers to a command line that asks for help or the version, or is wrong: the text on standard error, and status 2, as
-# the program does, without a build. Else it says nothing, and the status is 0 where that command reads standard input, 3 where it
-# does not, and 4 where the program must be asked.
+# What `bus` answers to a command line that asks for help, or is wrong: the text on standard error, and status 2, as the program does,
+# without a build. The version goes to standard output, with status 5, where the program has 0. Else it says nothing, and the status
+# is 0 where that command reads standard input, 3 where it does not, and 4 where the program must be asked.
 #
 #     awk -v help=man/help -f man/answers.awk -- WORDS
 #
@@ -15,7 +15,10 @@ BEGIN {
     first = ARGV[1]
     if (first in is_command) exit answer_to(first)
     if (first == "--help" || first ~ /^-h/) answer(text)
-    if (first == "--version" || first ~ /^-V/) answer(substr(text, 1, index(text, "\n")))
+    if (first == "--version" || first ~ /^-V/) {
+        printf "%s", substr(text, 1, index(text, "\n"))
+        exit 5
+    }
     if (first !~ /^-/) refuse("unrecognized subcommand '" first "'", tip_of_command(first), usage)
     if (is_short(first)) refuse("unexpected argument '" first "' found", "", usage)
     near = nearest_option(long_name(first))
