@@ -20,7 +20,7 @@ use Rattle.bus_world.specs.World.{Turn}
 use Rattle.bus_world.specs.declared.events.Answer.TheVariants as answer
 use Rattle.bus_automaton.proofs.Leading.{takes_message, takes_mark, takes_turn, next, next_reached}
 use Rattle.bus_automaton.proofs.Leading.{takes_step}
-use Rattle.bus_automaton.proofs.Passing.{finds, shows, passed_whole, left, passes, leaves}
+use Rattle.bus_automaton.proofs.Passing.{finds, shows, passed_whole, left, passes, leaves, forks}
 use Rattle.bus_automaton.proofs.States.{sits, framing, wide, nobody, lawful, has_log, long, at_home}
 use Rattle.bus_automaton.proofs.States.{page_knows, promised_of, laid, is_sender, sent, rests}
 use Rattle.bus_automaton.proofs.States.{finds_home, page_fits}
@@ -115,6 +115,7 @@ automaton_laws X P x y reuse bases apart = record {
   left = λ z r h below none. left X P x y reuse bases z h r below none;
   passes = λ z r p place h is before may. passes X P x y reuse bases z h r p is place before may;
   leaves = λ z r p h is. leaves X P x y reuse bases z h r p is;
+  forks = λ z r p q h is up room free. forks X P x y reuse bases z h r p is q up room free;
   sent = λ z p v frames h at law words. sent X P x y reuse bases z h p v at frames law words;
   promised = λ z h. promised_of X P x y reuse bases z h;
   first = λ z p h. refl;

@@ -1,10 +1,10 @@
 -- What a receiver between threads goes by: it finds each word that it may ask for, its passed place
 -- shows what it has passed, and it may pass more or leave for good.
 use Rattle.std.proofs.Common.{◌≡◌, inl, inr, ℕ, ◌<◌, ◌≤◌, Bool, true, false, cond}
-use Rattle.std.proofs.Common.{Option, Some, None, List, length, slice_get, slice_index}
+use Rattle.std.proofs.Common.{Option, Some, None, List, [], length, slice_get, slice_index}
 use Rattle.std.proofs.Common.{slice_set, take, arith, refl, sym, ◌∙◌, ap, subst}
 use Rattle.std.specs.List.{list_any}
-use Rattle.std.proofs.lemmas.Bool.{cases_eq, true≢false}
+use Rattle.std.proofs.lemmas.Bool.{cases_eq, cases_Bool, true≢false}
 use Rattle.std.proofs.lemmas.List.{length-append, length-set, set-get_or}
 use Rattle.std.proofs.lemmas.Option.{same_Some, slice_get_within}
 use Rattle.bus_register.specs.Protocol.{Protocol}
@@ -20,18 +20,21 @@ use Rattle.bus_deliverylog.specs.Receiving.{Receiving, leaving_by, leaving_op, w
 use Rattle.bus_presence.proofs.ReclamationKept.{lt_tells}
 use Rattle.bus_core.specs.Senders.{Sender}
 use Rattle.bus_tenure.specs.Core.{Election, Layout, log_at}
+use Rattle.bus_world.proofs.Bounds.{words_low}
 use Rattle.bus_world.proofs.FloorLaws.{place_begins}
 use Rattle.bus_world.proofs.LogLaws.{index-read, length-logged}
 use Rattle.bus_world.proofs.Serving.{Serves}
 use Rattle.bus_world.specs.Proved.Floors.{IsPasser, passed_place}
+use Rattle.bus_world.specs.Trails.{answers_joined}
 use Rattle.bus_world.specs.Turning.{words_after}
 use Rattle.bus_world.specs.World.{Gone}
 use Rattle.bus_world.specs.declared.events.Answer.TheVariants as answer
-use Rattle.bus_machine.proofs.AtNone.{flat_at_none}
+use Rattle.bus_machine.proofs.AtNone.{flat_at_none, passes_by}
 use Rattle.bus_machine.proofs.CyclicTurns.{protocol_kept}
 use Rattle.bus_machine.proofs.Framed.{IsFramed}
 use Rattle.bus_machine.proofs.Leading.{Sits, two_rows, led_some}
-use Rattle.bus_machine.specs.Machine.{Machine, Trails, Reached, Then}
+use Rattle.bus_machine.proofs.Nobody.{some_nobody}
+use Rattle.bus_machine.specs.Machine.{Machine, Trails, Reached, Then, Joins, passed_by}
 use Rattle.bus_automaton.proofs.Leading.{on_word}
 use Rattle.bus_automaton.proofs.Readings.{IsNamed, is_over}
 use Rattle.bus_automaton.proofs.States.{sits, framing, sizes_are, long}
@@ -376,6 +379,135 @@ module _ {E : Type 0} (X : Election E) (P : Protocol E (Unit {0}) ℕ) (x : Layo
       at_low =
           let first = (f.reads r v it.there).2 (passed_place m.layout again.rows r) passed_at in
           let size = f.room in omega arith
+
+    -- ---- it forks to a higher number, whose passed place shows that nobody waits there
+    module _ (q : ℕ) (up : r < q) (room : q < x.passers)
+        (free : slice_index m.words (passed_word (table_layout_by x reuse) q) ≡ PASSED_ALL) where
+      -- its receiver has left: one that has not shows a place of the log
+      record HasLast : Type 0 where
+        last : Receiving
+        was : slice_get m.receivers q ≡ Some last
+        gone : last.gone ≡ true
+
+      low_q : q < m.layout.passers
+      low_q = subst (λ (l : Layout). q < l.passers) (sym h.layout) room
+
+      stays_not : (w : Receiving) → slice_get m.receivers q ≡ Some w → w.gone ≡ false → ⊥
+      stays_not w at stays =
+          let s = (shows_at q again.rows w again.used at).passer in
+          let shown = s.shows stays low_q in
+          let all = ap (slice_index m.words) (place_at q again.rows again.used) ∙ free in
+          let past = s.past in
+          let own = (f.reads q w at).1.receives in
+          let known = own.place_below in
+          let less = own.known_below in
+          let size = length-logged f.sending.log in
+          let few = words_low m.layout.senders f.frames f.sending.log.lawful in omega arith
+
+      has_last : HasLast
+      has_last = by (slice_get m.receivers q) refl where
+        by : (o : Option Receiving) → slice_get m.receivers q ≡ o → HasLast
+        by None at = absurd (here_not m.receivers q (let many = h.many in omega arith) at)
+        by (Some w) at = record {
+          last = w;
+          was = at;
+          gone = elim (cases_Bool w.gone) [
+            | inl left ↦ left
+            | inr stays ↦ absurd (stays_not w at stays)
+          ];
+        }
+
+      abbrev place_q : ℕ
+      place_q = passed_place m.layout again.rows q
+
+      at_q : passed_by m.layout m.reuse q ≡ Some place_q
+      at_q = subst (λ o. passed_by m.layout o q ≡ Some place_q) (sym again.used)
+          (elim (lt_tells q m.layout.passers) [
+            | inl i ↦ ap (λ b. cond {A = Option ℕ} b (Some place_q) None) i.0
+            | inr past ↦ absurd (let over = past.1 in let some = low_q in omega arith)
+          ])
+
+      last_at : has_last.last.passed_at ≡ Some place_q
+      last_at =
+          passes_by X m T h.reached q has_last.last has_last.was ∙ at_q
+
+      low_place : place_q < length m.words
+      low_place =
+          let first = (f.reads q has_last.last has_last.was).2 place_q last_at in
+          let size = f.room in omega arith
+
+      abbrev next : Receiving
+      next = record v { passed_at = Some place_q }
+
+      abbrev receivers_now : List Receiving
+      receivers_now = slice_set m.receivers q next
+
+      there_now : slice_get receivers_now q ≡ Some next
+      there_now = get_set_same m.receivers q next
+          (slice_get_within m.receivers q has_last.last has_last.was)
+
+      abbrev nobody : (n : ℕ) × (slice_get m.receivers n ≡ None) × (T.heard n ≡ [])
+      nobody = some_nobody X m T h.reached
+
+      abbrev words_now : List ℕ
+      words_now = words_after m.words (Some (Store record { 0 = place_q } v.passed))
+
+      pub forks : PassesIn bus z q p (Some p)
+      forks = record {
+        state = record {
+          machine = record m { words = words_now; receivers = receivers_now };
+          trails = record T { heard = answers_joined (T.heard r) q nobody.0 T.heard };
+        };
+        reached = record {
+          served = h.served;
+          has_rows = h.has_rows;
+          layout = h.layout;
+          rows_are = h.rows_are;
+          bases_are = h.bases_are;
+          reached = Joins m (record m { words = words_now; receivers = receivers_now }) T q
+              nobody.0 next (T.heard r) h.reached (record {
+                last = has_last.last;
+                was = has_last.was;
+                left = has_last.gone;
+                place = place_q;
+                at = at_q;
+                own = refl;
+                within = low_place;
+                maker = r;
+                receiver = v;
+                there = it.there;
+                stays = it.stays;
+                up = up;
+                is = refl;
+                told = refl;
+                after = refl;
+              }) nobody.1 nobody.2;
+          many = length-set m.receivers q next ∙ h.many;
+          rest = λ k w at stays. elim (cases_eq k q) [
+            | inl e ↦ subst IsResting
+                (same_Some next w (sym there_now ∙ ap (slice_get receivers_now) (sym e) ∙ at))
+                (record {
+                  going = rests.going;
+                  passed = rests.passed;
+                  between = rests.between;
+                  nothing = rests.nothing;
+                })
+            | inr ne ↦ h.rest k w (sym (get_set_other m.receivers q next k ne) ∙ at) stays
+          ];
+          running = h.running;
+        };
+        words =
+            ap (λ i. slice_set m.words i v.passed) (place_at q again.rows again.used)
+            ∙ ap (slice_set m.words (passed_word (table_layout_by x reuse) q)) it.passed;
+        home = refl;
+        senders = λ k. refl;
+        trails = λ k. refl;
+        log = refl;
+        here =
+            ap passed_of there_now ∙ ap (λ b. cond {A = Option ℕ} b None (Some v.passed)) it.stays
+            ∙ ap Some it.passed;
+        others = λ k ne. ap passed_of (get_set_other m.receivers q next k ne);
+      }
 
   -- what it may ask for it finds
   pub finds : (r place : ℕ) → MayAsk (bus_of X x reuse bases) z r place → place < length T.log

@@ -3,12 +3,13 @@ use Rattle.std.proofs.Common.{◌≡◌, ℕ, ◌<◌, ◌≤◌, Some, [], slic
 use Rattle.std.proofs.Common.{arith, refl, ◌∙◌, ap, subst}
 use Rattle.bus_core.specs.Senders.{Sender, situation}
 use Rattle.bus_core.specs.Table.{line_now}
-use Rattle.bus_machine.proofs.AtNone.{event_reuse}
+use Rattle.bus_machine.proofs.AtNone.{event_reuse, forks_reuse}
 use Rattle.bus_machine.proofs.EachSender.{added, added_is, actions_of_other}
 use Rattle.bus_machine.proofs.Framed.{framed}
 use Rattle.bus_machine.proofs.Knowing.{its_part}
-use Rattle.bus_machine.proofs.Leading.{Sits, sits_before}
-use Rattle.bus_machine.specs.Machine.{Machine, Trails, Reached, New, Then, Happens, going}
+use Rattle.bus_machine.proofs.Leading.{Sits, sits_before, sits_unforked}
+use Rattle.bus_machine.specs.Machine.{Machine, Trails, Reached, New, Then, Joins}
+use Rattle.bus_machine.specs.Machine.{Happens, going}
 use Rattle.bus_machine.specs.Machine.{has_stopped, found, turn_answer, trails_grown, turn_grown}
 use Rattle.bus_register.specs.Protocol.{Protocol}
 use Rattle.bus_tenure.specs.Core.{Election, Layout}
@@ -59,3 +60,6 @@ nobody_did X P m T s (Then w v U e a r h) q past =
     let before = sits_before X P w v e a h s in
     let many = subst (λ (x : Layout). x.senders ≤ q) (event_reuse X w v e a h).0 past in
     adds_none X P w U before r q many e a v h ∙ nobody_did X P w U before r q many
+nobody_did X P m T s (Joins w v U j n next told r h nobody silent) q past =
+    nobody_did X P w U (sits_unforked X P w v U.heard j next told h s) r q
+    (subst (λ (x : Layout). x.senders ≤ q) (forks_reuse X w v U.heard j next told h).0 past)

@@ -285,6 +285,11 @@ pub record AutomatonLaws {C : Type 0} (P : Process C) (A : Automaton C) : Type 0
       → MayPass A z place → PassesIn A z r place (Some place)
   pub leaves : (z : A.State) (r p : ℕ) → A.IsReached z → A.passed z r ≡ Some p
       → PassesIn A z r PASSED_ALL None
+  -- or give its place to a higher number, whose receiver has left: what stood there is 2^64 - 1
+  pub forks : (z : A.State) (r p q : ℕ) → A.IsReached z → A.passed z r ≡ Some p → r < q
+      → q < A.table_layout.passers
+      → slice_index (A.words z) (passed_word A.table_layout q) ≡ PASSED_ALL
+      → PassesIn A z q p (Some p)
   -- of each sender it has what that put, but for what waits
   pub sent : (z : A.State) (p : ℕ) (c : C) (frames : List Frame) → A.IsReached z
       → A.sender z p ≡ Some c → AreFrames A.table_layout.senders frames

@@ -32,9 +32,9 @@ abbrev pub passed_of : Option Receiving → Option ℕ
 passed_of None = None
 passed_of (Some v) = if v.gone then None else Some v.passed
 
--- Some events lead to it, of whichever senders and in any order. It has a receiver for each passed
--- place and no others; of each that has not left, what it did was to go on to where it has passed
--- all. No event was a stop.
+-- Some events lead to it, of whichever senders and in any order, and receivers that join. It has a
+-- receiver for each passed place and no others; of each that has not left, what it did was to go on
+-- to where it has passed all. No event was a stop.
 pub record IsMachineHistory {E : Type 0} (X : Election E) (x : Layout) (reuse : Option ℕ)
     (bases : List ℕ) (z : MachineHistory E) : Type 0 where
   pub served : IsLayout x

@@ -6,7 +6,7 @@ use Rattle.std.proofs.Common.{true, false, cond, map, slice_get, slice_set, slic
 use Rattle.std.proofs.Common.{◌∙◌, ap, subst}
 use Rattle.std.specs.Prelude.{replicate, length, ◌<◌, ◌==◌, option_map, ◌&&◌}
 use Rattle.std.proofs.Math.Path.{fun_ext}
-use Rattle.std.proofs.lemmas.List.{append-nil, map-set}
+use Rattle.std.proofs.lemmas.List.{append-nil, map-set, get_or-set_other}
 use Rattle.std.proofs.lemmas.Bool.{cases_eq}
 use Rattle.std.proofs.lemmas.Option.{slice_get-map, same_Some, slice_get_within}
 use Rattle.bus_register.specs.Proved.TableLaws.{get_set_same, get_set_other}
@@ -22,7 +22,7 @@ use Rattle.bus_core.specs.declared.limits.TheConstants.{PASSED_APART}
 use Rattle.bus_deliverylog.specs.Receiving.{Receiving, with_leave}
 use Rattle.bus_presence.proofs.ReclamationKept.{lt_tells}
 use Rattle.bus_deliverylog.specs.declared.receiving.RecvTurn.{RecvTurn}
-use Rattle.bus_tenure.specs.Core.{Core, Election, Layout, is_empty, log_at}
+use Rattle.bus_tenure.specs.Core.{Core, Election, Layout, is_empty, log_at, stage_at}
 use Rattle.bus_tenure.specs.Situations.{situation_of, line_of, op_at, answer_at}
 use Rattle.bus_tenure.specs.declared.turns.Turn.{Turn as Answered}
 use Rattle.bus_world.proofs.EventTrails.{put_taken}
@@ -49,11 +49,12 @@ use Rattle.bus_world.specs.declared.events.Answer.TheVariants as answer
 use Rattle.bus_machine.specs.Proved.Bridge.{of_bus, plain_trails, IsPlainEvent, HappensAtNone}
 use Rattle.bus_machine.specs.Proved.Bridge.{IsPlain, NonePasses}
 use Rattle.bus_machine.specs.Machine.{base_of, Machine, Trails, Reached, New as Start}
-use Rattle.bus_machine.specs.Machine.{Then as Next, TakesTurn, TakesPut, TakesMark, StopsNow}
-use Rattle.bus_machine.specs.Machine.{Hears, LeavesForGood, Happens, IsNew, no_machine_trails}
-use Rattle.bus_machine.specs.Machine.{trails_grown, turn_grown, turn_trails, log_place, going}
-use Rattle.bus_machine.specs.Machine.{passed_by, passers_place, with_sender}
-use Rattle.bus_machine.specs.Machine.{put_in, mark_in, machine_after, found, turn_answer}
+use Rattle.bus_machine.specs.Machine.{Then as Next, Joins, JoinsAs, TakesTurn, TakesPut, TakesMark}
+use Rattle.bus_machine.specs.Machine.{StopsNow, Hears, LeavesForGood, Happens, IsNew}
+use Rattle.bus_machine.specs.Machine.{no_machine_trails, trails_grown, turn_grown, turn_trails}
+use Rattle.bus_machine.specs.Machine.{log_place, going, passed_by, passers_place, stage_of}
+use Rattle.bus_machine.specs.Machine.{with_sender, put_in, mark_in, machine_after, found}
+use Rattle.bus_machine.specs.Machine.{turn_answer}
 
 closed_by : {A : Type 0} (o b : Bool) (xs : List A) → o ≡ true → b ≡ false → xs ≡ []
     → o && ((cond b false true) && is_empty xs) ≡ true
@@ -357,6 +358,16 @@ passed_past x o r place e = by (nat_lt r x.passers) e where
       let same : passers_place x o + PASSED_APART * r ≡ place = same_Some _ _ i in
       let past = passers_behind x o in omega arith
 
+-- a fork leaves the stage
+pub fork_rises : {E : Type 0} (X : Election E) (m m' : Machine E) (H : ℕ → List RecvTurn)
+    (j : ℕ) (next : Receiving) (before : List RecvTurn) → JoinsAs m H j next before m'
+    → stage_of m ≤ stage_of m'
+fork_rises {E} X m m' H j next before h =
+    let past = passed_past m.layout m.reuse j h.place h.at in
+    let now = ap (λ (y : Machine E). stage_of y) h.after
+    ∙ get_or-set_other m.words h.place stage_at next.passed 0 (λ same. omega arith) in
+    omega arith
+
 -- ---- what is reached
 module _ {E : Type 0} (X : Election E) where
   new_plain : (w : Machine E) → IsNew w → w.reuse ≡ None → IsPlain X w no_machine_trails
@@ -457,6 +468,14 @@ module _ {E : Type 0} (X : Election E) where
     ap (λ (y : Machine E). y.reuse) h.after,
   )
 
+  pub forks_reuse : (w m : Machine E) (H : ℕ → List RecvTurn) (j : ℕ)
+      (next : Receiving) (before : List RecvTurn) → JoinsAs w H j next before m
+      → (m.layout ≡ w.layout) × (m.reuse ≡ w.reuse)
+  forks_reuse w m H j next before h = (
+    ap (λ (y : Machine E). y.layout) h.after,
+    ap (λ (y : Machine E). y.reuse) h.after,
+  )
+
   -- ---- passed places
   -- where each tenure has a row there are none
   pub flat_at_none : (m : Machine E) (T : Trails) → Reached X m T → m.reuse ≡ None
@@ -465,6 +484,9 @@ module _ {E : Type 0} (X : Election E) where
   flat_at_none m T (Next w v U f a before h) e =
       let i = event_reuse w v f a h in
       ap (λ (x : Layout). x.passers) i.0 ∙ flat_at_none w U before (sym i.1 ∙ e)
+  flat_at_none m T (Joins w v U j n next told before h nobody silent) e =
+      let same = forks_reuse w v U.heard j next told h in
+      ap (λ (x : Layout). x.passers) same.0 ∙ flat_at_none w U before (sym same.1 ∙ e)
 
   -- what a receiver does leaves its passed place where it is
   read_there : (words : ℕ → ℕ) (v next : Receiving) (told : RecvTurn)
@@ -529,6 +551,10 @@ module _ {E : Type 0} (X : Election E) where
   passes_by m T (Start w new) r v at = (new.receivers r v at).passed_is
   passes_by m T (Next w v U f a before h) r u at =
       event_passes w v f a h (passes_by w U before) r u at
+  passes_by m T (Joins w v U j n next told before h nobody silent) r u at =
+      one_passes w v j h.last next (forks_reuse w v U.heard j next told h) h.was
+      (h.own ∙ sym h.at ∙ sym (passes_by w U before j h.last h.was))
+      (ap (λ (y : Machine E). y.receivers) h.after) (passes_by w U before) r u at
 
   -- whatever leads to it, leads to the bus with a row for each tenure
   pub reached_at_none : (m : Machine E) (T : Trails) → Reached X m T → m.reuse ≡ None
@@ -540,3 +566,9 @@ module _ {E : Type 0} (X : Election E) where
       (λ r u at. passes_by w U before r u at ∙ passed_first w.layout w.reuse r
       (flat_at_none w U before was))
       (reached_at_none w U before was)
+  -- there is nowhere to fork to
+  reached_at_none m T (Joins w v U j n next told before h nobody silent) e =
+      let was = sym (forks_reuse w v U.heard j next told h).1 ∙ e in
+      absurd (let bad : None ≡ Some h.place =
+      sym (passed_first w.layout w.reuse j (flat_at_none w U before was)) ∙ h.at in
+      cc)

@@ -61,7 +61,11 @@ use Rattle.bus_world.specs.Trails.{step_action, put_actions, mark_actions, actio
 use Rattle.bus_world.specs.Turning.{owners_by, words_after, number_found, home_moved, after_step}
 use Rattle.bus_world.specs.Proved.Machines.{new_core}
 use Rattle.bus_world.specs.Proved.CyclicProtocols.{CyclicProtocol, Led, NewProtocol, PutIn}
-use Rattle.bus_world.specs.Proved.CyclicProtocols.{MarkedIn, Heard, LeftFor, word_found}
+use Rattle.bus_world.specs.Proved.Floors.{passed_place, passed_of}
+use Rattle.bus_world.specs.Trails.{answers_joined}
+use Rattle.std.proofs.lemmas.Bool.{ltb-true}
+use Rattle.bus_world.specs.Proved.CyclicProtocols.{MarkedIn, Heard, LeftFor, Forked}
+use Rattle.bus_world.specs.Proved.CyclicProtocols.{word_found, fork_of}
 use Rattle.bus_world.specs.Proved.CyclicProtocols.{due_actions, trails_with, protocol_heard}
 use Rattle.bus_world.specs.Proved.CyclicProtocols.{words_stepped}
 use Rattle.bus_world.specs.declared.events.Answer.{Answer}
@@ -72,6 +76,9 @@ use Rattle.bus_machine.proofs.CyclicTurns.{words_many}
 use Rattle.bus_machine.proofs.ProtocolParts.{list_put, away_puts, away_closes, stepped_words}
 use Rattle.bus_machine.proofs.Joining.{turn_log}
 use Rattle.bus_machine.specs.Proved.Bridge.{core_in, passing_in, protocol_of, IsLed}
+use Rattle.bus_deliverylog.specs.declared.receiving.RecvTurn.{RecvTurn}
+use Rattle.bus_tenure.specs.declared.phases.Phase.TheVariants as phase
+use Rattle.bus_machine.specs.Machine.{JoinsAs}
 use Rattle.bus_machine.specs.Machine.{base_of, Machine, Trails, Happens, TakesTurn, TakesPut}
 use Rattle.bus_machine.specs.Machine.{TakesMark, StopsNow, Hears, LeavesForGood, IsNew, IsOnWord}
 use Rattle.bus_machine.specs.Machine.{no_machine_trails, log_place, owners_told, has_stopped}
@@ -426,6 +433,54 @@ module _ {E : Type 0} (X : Election E) (P : Protocol E (Unit {0}) ℕ) (rows : �
   leaves r a m' h = subst (λ n. IsLed X rows n T) (sym h.after)
       (heard_led r h.receiver (with_leave h.receiver) (leaving_op h.receiver) T h.there h.within
       (LeftFor its_protocol T.pins T.actions T.heard T.log r h.receiver l.led h.there h.stays))
+
+  -- a receiver joins
+  pub forks : (m' : Machine E) (j n : ℕ) (next : Receiving) (before : List RecvTurn)
+      → JoinsAs m T.heard j next before m' → slice_get m.receivers n ≡ None → T.heard n ≡ []
+      → IsLed X rows m' (record T { heard = answers_joined before j n T.heard })
+  forks m' j n next before h nobody silent = subst (λ y. IsLed X rows y T') (sym h.after)
+      (heard_led j h.last next (Some (Store record { 0 = h.place } next.passed)) T' h.was h.within
+      led)
+    where
+      T' : Trails
+      T' = record T { heard = answers_joined before j n T.heard }
+
+      -- by this step, of one that is this
+      Now : ℕ → Receiving → List RecvTurn → Type 0
+      Now place v told = Led X m.layout rows (record its_protocol {
+        reclamation = record its_protocol.reclamation {
+          words = put place v.passed its_protocol.reclamation.words;
+        };
+        receivers = put j (Some v) its_protocol.receivers;
+      }) T.pins T.actions (answers_joined told j n T.heard) T.log
+
+      at_some : passed_of m.layout rows j ≡ Some h.place
+      at_some = subst (λ o. passed_by m.layout o j ≡ Some h.place) l.reuse h.at
+
+      -- there is such a passed place
+      Place : Type 0
+      Place = (j < m.layout.passers) × (passed_place m.layout rows j ≡ h.place)
+
+      there : Place
+      there = by (nat_lt j m.layout.passers) refl at_some where
+        by : (b : Bool) → nat_lt j m.layout.passers ≡ b
+            → cond {A = Option ℕ} b (Some (passed_place m.layout rows j)) None ≡ Some h.place
+            → Place
+        by false past is = absurd cc
+        by true low is = (ltb-true j m.layout.passers low, same_Some _ _ is)
+
+      forked : Now (passed_place m.layout rows j) next before
+      forked =
+          let is : fork_of m.layout rows j h.receiver ≡ next =
+          ap (λ o. record h.receiver { passed_at = o }) (at_some ∙ sym h.own) ∙ sym h.is in
+          subst (Now (passed_place m.layout rows j) next) (sym h.told)
+          (subst (λ v. Now (passed_place m.layout rows j) v (T.heard h.maker)) is
+          (Forked its_protocol T.pins T.actions T.heard T.log h.maker j n h.receiver h.last l.led
+          h.there h.stays h.was h.left h.up there.0 nobody silent))
+
+      led : Now h.place next before
+      led = subst (λ place. Now place next before) there.1
+          forked
 
   pub event_led : (m' : Machine E) (e : Event) (a : Answer) → Happens X m e a m'
       → IsLed X rows m' (trails_grown X m e a T)

@@ -35,7 +35,7 @@ use Rattle.bus_world.specs.Turning.{after_step, core_moved, core_with_page}
 use Rattle.bus_world.specs.declared.events.Answer.{Answer}
 use Rattle.bus_world.specs.declared.events.Answer.TheVariants as answer
 use Rattle.bus_machine.proofs.Knowing.{HasPage, passes_held}
-use Rattle.bus_machine.proofs.AtNone.{event_reuse}
+use Rattle.bus_machine.proofs.AtNone.{event_reuse, forks_reuse}
 use Rattle.bus_machine.proofs.EachSender.{added, OfEach, each}
 use Rattle.bus_machine.proofs.Entering.{entry, entry_from, entry_in, may_enter, phase_tells, enters}
 use Rattle.bus_machine.proofs.Framed.{IsFramed, framed}
@@ -328,6 +328,8 @@ module _ {E : Type 0} (X : Election E) (P : Protocol E (Unit {0}) ℕ) where
   counted : (m : Machine E) (T : Trails) → Sits X P m → Reached X m T → OfEach K m m.senders T
   counted = each X P K starts
       (λ m m' T e a t r h q o D es k. subst (λ x. At x o D) (sym (event_reuse X m m' e a h).0) k)
+      (λ m m' T j next told r h q o D es k.
+      subst (λ x. At x o D) (sym (forks_reuse X m m' T.heard j next told h).0) k)
       (λ m q v D es bytes a k. falls_within P.left (P.steps m.layout.senders + 1) v (put_in v bytes)
       D (put_actions bytes a)
       (record { less = λ s. let none = put_adds s bytes a in omega arith }) k)

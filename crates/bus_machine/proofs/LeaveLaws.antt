@@ -21,7 +21,8 @@ use Rattle.bus_adoptcommit.specs.declared.verdicts.Verdict.{Verdict}
 use Rattle.bus_tenure.specs.Core.{Election, Layout}
 use Rattle.bus_tenure.specs.Elections.{Elector}
 use Rattle.bus_tenure.specs.declared.turns.Turn.{Turn as Answered}
-use Rattle.bus_machine.proofs.AtNone.{event_reuse, flat_at_none, passed_first, passes_by}
+use Rattle.bus_machine.proofs.AtNone.{event_reuse, forks_reuse, flat_at_none, passed_first}
+use Rattle.bus_machine.proofs.AtNone.{passes_by}
 use Rattle.bus_machine.proofs.CyclicTurns.{words_many}
 use Rattle.bus_machine.proofs.EachSender.{cond_beside}
 use Rattle.bus_world.specs.Playing.{RecvRefused}
@@ -34,7 +35,8 @@ use Rattle.bus_world.specs.declared.events.StepFault.TheVariants as fault
 use Rattle.bus_machine.specs.Machine.{Machine, Trails, Happens, IsOnWord, LeavesForGood}
 use Rattle.bus_machine.specs.Machine.{trails_grown, turn_grown, turn_trails, going, found}
 use Rattle.bus_machine.specs.Machine.{heard_grown, log_place, passed_by, passers_place, Reached}
-use Rattle.bus_machine.specs.Machine.{New, Then}
+use Rattle.bus_machine.specs.Machine.{New, Then, Joins}
+use Rattle.bus_register.specs.declared.registers.Op.TheVariants.{Store}
 use Rattle.bus_machine.specs.Playing.{AllAnswered, trails_after}
 use Rattle.bus_machine.specs.Leaves.{is_gone, has_left, JustLeft, StaysGone}
 use Rattle.bus_machine.specs.Leaves.{LeavesAreForGood, LeaveRefuses}
@@ -112,7 +114,7 @@ module _ {E : Type 0} (X : Election E) (m : Machine E) (T : Trails) (r : ℕ) wh
   turn_heard (Clears u) l s got word t = refl
   turn_heard (ReadsPassed u p) l s got word t = refl
 
-  sender_heard : (s word : ℕ) (o : Option (Sender E)) (a : Answer)
+  pub sender_heard : (s word : ℕ) (o : Option (Sender E)) (a : Answer)
       → (turn_grown X m s o word a T).heard r ≡ T.heard r
   sender_heard s word None a = refl
   sender_heard s word (Some v) (answer.Number n) = refl
@@ -235,6 +237,12 @@ module _ {E : Type 0} (X : Election E) where
       event_words w v e a h ∙ many_words w U before
       ∙ ap (λ (x : Layout). log_place x w.reuse + x.capacity) (sym i.0)
       ∙ ap (λ o. log_place v.layout o + v.layout.capacity) (sym i.1)
+  many_words m T (Joins w v U j n next told before h nobody silent) =
+      let same = forks_reuse X w v U.heard j next told h in
+      ap (λ (y : Machine E). length y.words) h.after
+      ∙ words_many w.words (Some (Store record { 0 = h.place } next.passed))
+      ∙ many_words w U before ∙ ap (λ (x : Layout). log_place x w.reuse + x.capacity) (sym same.0)
+      ∙ ap (λ o. log_place v.layout o + v.layout.capacity) (sym same.1)
 
   -- a passed place is one of them
   passed_low : (x : Layout) (o : Option ℕ) (r place : ℕ) → (o ≡ None → x.passers ≡ 0)

@@ -47,5 +47,6 @@ pub mod Calls
 pub mod SameActions
 pub mod RefusalLaws
 mod PromiseRefused
-mod LeaveLaws
+pub mod LeaveLaws
+pub mod Nobody
 mod LogRefused

@@ -31,10 +31,11 @@ use Rattle.bus_world.specs.declared.events.Answer.{Answer}
 use Rattle.bus_machine.proofs.Ending.{elected_more}
 use Rattle.bus_machine.proofs.Framed.{framed}
 use Rattle.bus_machine.proofs.Knowing.{its_part}
-use Rattle.bus_machine.proofs.Leading.{Sits, sits_before}
+use Rattle.bus_machine.proofs.Leading.{Sits, sits_before, sits_unforked}
 use Rattle.bus_machine.proofs.Remembering.{all_recall, saw}
 use Rattle.bus_machine.proofs.Staying.{grown_longer}
 use Rattle.bus_machine.specs.Machine.{Machine, Trails, Reached, New as Start, Then as Next}
+use Rattle.bus_machine.specs.Machine.{Joins}
 use Rattle.bus_machine.specs.Machine.{Happens, IsNew, TakesTurn, found, has_stopped, mark_in}
 use Rattle.bus_machine.specs.Machine.{moved, put_in, stage_of, trails_grown}
 use Rattle.bus_machine.specs.Promise.{pin_of}
@@ -271,3 +272,7 @@ module _ {E : Type 0} (X : Election E) (P : Protocol E (Unit {0}) ℕ) where
   losses m T sits (Next n m' B e a before h) =
       let t = sits_before X P n m' e a h sits in
       event_losses n m' B e a t before h (losses n B t before)
+  losses m T sits (Joins w v U j n next told before h nobody silent) =
+      let l = losses w U (sits_unforked X P w v U.heard j next told h sits) before in
+      λ q y o here lost. l q y o
+      (ap (λ s. slice_get s q) (sym (ap (λ (z : Machine E). z.senders) h.after)) ∙ here) lost

@@ -34,6 +34,7 @@ use Rattle.bus_tenure.specs.declared.phases.Phase.TheVariants as phase
 use Rattle.bus_world.specs.Headline.{Action}
 use Rattle.bus_world.specs.Turning.{after_step, core_moved, core_with_page}
 use Rattle.bus_world.specs.World.{Turn}
+use Rattle.bus_machine.proofs.AtNone.{fork_rises}
 use Rattle.bus_machine.proofs.EachSender.{OfEach, pins_added, each}
 use Rattle.bus_machine.proofs.Entering.{entry, entry_from, entry_in, may_enter, pin_is}
 use Rattle.bus_machine.proofs.Entering.{phase_tells, stands_in, enters}
@@ -495,6 +496,8 @@ module _ {E : Type 0} (X : Election E) (P : Protocol E (Unit {0}) ℕ) where
   pins_kept = each X P K starts
       (λ m m' T e a t r h q o D es k. keeps_later (stage_of m) (stage_of m') o es
       (rises X P m m' T e a t r h) k)
+      (λ m m' T j next told r h q o D es k.
+      keeps_later (stage_of m) (stage_of m') o es (fork_rises X m m' T.heard j next told h) k)
       (λ m q v D es bytes a k. k) (λ m q v D es mark a k. k)
       (λ m m' T s word a t r h at k.
       let v = h.sender in

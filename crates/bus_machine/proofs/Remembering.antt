@@ -6,7 +6,7 @@ use Rattle.std.proofs.Common.{◌++◌, length, map, slice_get, slice_index, sli
 use Rattle.std.proofs.Common.{sym, ◌∙◌, ap, subst}
 use Rattle.std.proofs.lemmas.Bool.{cases_eq, cases_lt, true≢false}
 use Rattle.std.proofs.lemmas.Bool.Decides.{eqb_tells}
-use Rattle.std.proofs.lemmas.List.{get_or-set_same, length-append, length-map}
+use Rattle.std.proofs.lemmas.List.{append-nil, get_or-set_same, length-append, length-map}
 use Rattle.std.proofs.lemmas.Option.{same_Some, slice_get_within}
 use Rattle.bus_batch.specs.Batches.{next_of, frame_of, phase_sent, IsShut}
 use Rattle.bus_batch.specs.Frames.{has_end, has_gone, order_of}
@@ -46,6 +46,9 @@ use Rattle.bus_tenure.specs.declared.phases.Phase.TheVariants as phase
 use Rattle.bus_tenure.specs.declared.phases.Reason.{Reason}
 use Rattle.bus_tenure.specs.declared.phases.Reason.TheVariants.{Sent, FoundEnd, NoRoom}
 use Rattle.bus_world.specs.Proved.Sending.{Part, Fits, standing_of, stands_at}
+use Rattle.bus_deliverylog.specs.Receiving.{Receiving}
+use Rattle.bus_deliverylog.specs.declared.receiving.RecvTurn.{RecvTurn}
+use Rattle.bus_world.specs.Headline.{IsPrefix}
 use Rattle.bus_world.specs.Headline.{Action, HasPut, HasMarked, Stepped, Asked, Elected, puts}
 use Rattle.bus_world.specs.Log.{next_number, sent_count}
 use Rattle.bus_world.specs.Waiting.{waiting_at}
@@ -55,13 +58,14 @@ use Rattle.bus_world.specs.Proved.Tenures.Stage.{Open, Held}
 use Rattle.bus_world.specs.Proved.Tenures.Standing.{Holds}
 use Rattle.bus_world.proofs.Places.{got_split}
 use Rattle.bus_world.proofs.Stopping.{shown_there}
+use Rattle.bus_world.specs.Trails.{answers_joined}
 use Rattle.bus_world.specs.Trails.{step_action, put_actions, mark_actions, actions_with}
 use Rattle.bus_world.specs.Turning.{after_step, core_with_page, words_after}
 use Rattle.bus_tenure.specs.declared.turns.Turn.{Turn as Answered}
 use Rattle.bus_world.specs.World.{Event, Put, Ask, Turn, Recv, Stop, Gone}
 use Rattle.bus_world.specs.declared.events.Answer.{Answer}
 use Rattle.bus_world.specs.declared.events.Answer.TheVariants as answer
-use Rattle.bus_machine.proofs.AtNone.{event_reuse}
+use Rattle.bus_machine.proofs.AtNone.{event_reuse, forks_reuse, fork_rises}
 use Rattle.bus_machine.proofs.EachSender.{actions_of_it, actions_of_other, added, added_is}
 use Rattle.bus_machine.proofs.Ending.{published_ends, published_leaves, left_by, found_ends}
 use Rattle.bus_machine.proofs.Ending.{ended_of, left_of, still_ended, still_left, past_more}
@@ -69,11 +73,12 @@ use Rattle.bus_machine.proofs.Entering.{entry, entry_from}
 use Rattle.bus_machine.proofs.Framed.{IsFramed, framed}
 use Rattle.bus_machine.proofs.Joining.{grows}
 use Rattle.bus_machine.proofs.Knowing.{order_same}
-use Rattle.bus_machine.proofs.Leading.{Sits, sits_before, sits_after}
+use Rattle.bus_machine.proofs.Leading.{Sits, sits_before, sits_after, sits_forked, sits_unforked}
 use Rattle.bus_machine.proofs.PinBounds.{PinFits, kept_of}
 use Rattle.bus_machine.proofs.Rising.{rises}
 use Rattle.bus_machine.proofs.Staying.{grown_longer}
 use Rattle.bus_machine.specs.Machine.{base_of, Machine, Trails, Reached, New as Start}
+use Rattle.bus_machine.specs.Machine.{Joins, JoinsAs}
 use Rattle.bus_machine.specs.Machine.{Then as Next, Happens, TakesTurn, IsNew, IsOnWord}
 use Rattle.bus_machine.specs.Machine.{trails_grown, turn_grown, turn_answer, found, has_stopped}
 use Rattle.bus_machine.specs.Machine.{moved, put_in, mark_in, no_machine_trails, stage_of}
@@ -404,6 +409,41 @@ module _ {E : Type 0} (X : Election E) (P : Protocol E (Unit {0}) ℕ) (m m' : M
       (λ asked j.
       before.asked asked (subst (Asked asked) (ap (λ (D : ℕ → List Action). D q) did) j)) refl
 
+-- a fork: no sender is another
+module _ {E : Type 0} (X : Election E) (P : Protocol E (Unit {0}) ℕ) (m m' : Machine E) (T : Trails)
+    (j n : ℕ) (next : Receiving) (before : List RecvTurn) (sits : Sits X P m) (r : Reached X m T)
+    (h : JoinsAs m T.heard j next before m')
+    (nobody : slice_get m.receivers n ≡ None) (silent : T.heard n ≡ []) (k : AllRecall m T) where
+  abbrev U' : Trails
+  U' = record T { heard = answers_joined before j n T.heard }
+
+  g' : IsFramed P m' U'
+  g' = framed X P m' U' (sits_forked X P m m' T.heard j next before h sits)
+      (Joins m m' T j n next before r h nobody silent)
+
+  same_log : IsPrefix T.log U'.log
+  same_log = record { rest = []; together = append-nil T.log }
+
+  closed_too : (s : ℕ) → HasEnded m T.log ⊎ HasLeftIt m T.log s
+      → HasEnded m' U'.log ⊎ HasLeftIt m' U'.log s
+  closed_too s (inl ended) = inl
+      (still_ended P m m' T U' (forks_reuse X m m' T.heard j next before h).0 g' same_log
+      ended)
+  closed_too s (inr left) = inr
+      (still_left P m m' T U' s (forks_reuse X m m' T.heard j next before h).0 g' same_log
+      left)
+
+  fork_recalls : AllRecall m' U'
+  fork_recalls q w here =
+      let old = k q w (ap (λ l. slice_get l q) (sym (ap (λ (y : Machine E). y.senders) h.after))
+      ∙ here) in record {
+        closed = λ shut. closed_too q (old.closed shut);
+        asked = old.asked;
+        past = λ t low. past_more (stage_of m) (stage_of m') q (T.actions q) (T.actions q) t
+            (fork_rises X m m' T.heard j next before h)
+            (record { rest = []; together = append-nil (T.actions q) }) (old.past t low);
+      }
+
 -- a turn
 module _ {E : Type 0} (X : Election E) (P : Protocol E (Unit {0}) ℕ) (m m' : Machine E) (T : Trails)
     (s word : ℕ) (a : Answer) (sits : Sits X P m)
@@ -730,6 +770,9 @@ module _ {E : Type 0} (X : Election E) (P : Protocol E (Unit {0}) ℕ) where
   all_recall m T sits (Next n m' U e a before h) =
       let t = sits_before X P n m' e a h sits in
       event_recalls n m' U e a t before h (all_recall n U t before)
+  all_recall m T sits (Joins w v U j n next told before h nobody silent) =
+      let t = sits_unforked X P w v U.heard j next told h sits in
+      fork_recalls X P w v U j n next told t before h nobody silent (all_recall w U t before)
 
   pub remembered : (m : Machine E) (T : Trails) → Sits X P m → Reached X m T
       → (s : ℕ) (v : Sender E) → slice_get m.senders s ≡ Some v

@@ -28,7 +28,7 @@ use Rattle.bus_world.specs.Headline.{Action, Stepped}
 use Rattle.bus_world.specs.Proved.Sending.{Part, Fits}
 use Rattle.bus_world.specs.Trails.{put_actions, mark_actions}
 use Rattle.bus_world.specs.Turning.{after_step, number_found}
-use Rattle.bus_world.specs.World.{Event, Turn}
+use Rattle.bus_world.specs.World.{Turn}
 use Rattle.bus_world.specs.declared.events.Answer.{Answer}
 use Rattle.bus_machine.proofs.EachSender.{OfEach, added, each}
 use Rattle.bus_machine.proofs.Entering.{enters, phase_tells}
@@ -37,8 +37,9 @@ use Rattle.bus_machine.proofs.Leading.{Sits}
 use Rattle.bus_machine.proofs.Loaded.{IsAway, elected, floored_from, found_on, looks, marks, puts}
 use Rattle.bus_machine.proofs.Loaded.{validated}
 use Rattle.bus_machine.proofs.LoadsInTurn.{loads_in_turn}
-use Rattle.bus_machine.specs.Finding.{After, Here, LoadsPassed, WasShown, found_since, places_found}
-use Rattle.bus_machine.specs.Machine.{base_of, Machine, Trails, Reached, IsNew, Happens, TakesTurn}
+use Rattle.bus_machine.specs.Finding.{LeadsOn, After, AfterJoin, Here, LoadsPassed, WasShown}
+use Rattle.bus_machine.specs.Finding.{found_since, places_found}
+use Rattle.bus_machine.specs.Machine.{base_of, Machine, Trails, Reached, IsNew, TakesTurn}
 use Rattle.bus_machine.specs.Machine.{found, moved, turn_answer}
 
 -- what stands in a list with one number more
@@ -82,14 +83,14 @@ module _ {E : Type 0} (X : Election E) where
         (Stepped (Some t) kind.ReadPassed n None turn.Going ∷ w.rest) ds;
   }
 
-  -- after one event more
-  later : (m m' : Machine E) (e : Event) (a : Answer) → Happens X m e a m' → (q : ℕ)
+  -- in a machine to which the run leads from there
+  later : (m m' : Machine E) → ((b : Machine E) → LeadsOn X b m → LeadsOn X b m') → (q : ℕ)
       (D : List Action) (t r n : ℕ) → WasShown X m q D t r n → WasShown X m' q D t r n
-  later m m' e a h q D t r n w = record {
+  later m m' on q D t r n w = record {
     before = w.before;
     trails = w.trails;
     led = w.led;
-    leads = After m m' e a w.leads h;
+    leads = on w.before w.leads;
     sender = w.sender;
     there = w.there;
     word = w.word;
@@ -151,7 +152,8 @@ module _ {E : Type 0} (X : Election E) (P : Protocol E (Unit {0}) ℕ) (m m' : M
       → (r n : ℕ) → slice_get (places_found D) r ≡ Some n → WasShown X m' s (D ++ ds) t r n
   still ds t page stored published held r n has =
       more X m' s D ds t r n
-      (later X m m' (Turn s word) a h s D t r n (k t page stored published held r n has))
+      (later X m m' (λ b on. After m m' (Turn s word) a on h) s D t r n
+      (k t page stored published held r n has))
 
   -- nothing more is loaded
   keeps : (w : Sender E) (ds : List Action) → Held w.core.phase
@@ -301,11 +303,11 @@ module _ {E : Type 0} (X : Election E) (P : Protocol E (Unit {0}) ℕ) where
     by (Some v) = λ t page stored published held r n has.
         absurd (let bad : None ≡ Some n = has in cc)
 
-  stays : (m m' : Machine E) (e : Event) (a : Answer) → Happens X m e a m' → (q : ℕ)
+  stays : (m m' : Machine E) → ((b : Machine E) → LeadsOn X b m → LeadsOn X b m') → (q : ℕ)
       (o : Option (Sender E)) (D : List Action) → Shows X m q o D → Shows X m' q o D
-  stays m m' e a h q None D k = tt
-  stays m m' e a h q (Some v) D k = λ t page stored published held r n has.
-      later X m m' e a h q D t r n (k t page stored published held r n has)
+  stays m m' on q None D k = tt
+  stays m m' on q (Some v) D k = λ t page stored published held r n has.
+      later X m m' on q D t r n (k t page stored published held r n has)
 
   -- with actions that load nothing
   joined : (m : Machine E) (q : ℕ) (v : Sender E) (D ds : List Action)
@@ -316,7 +318,10 @@ module _ {E : Type 0} (X : Election E) (P : Protocol E (Unit {0}) ℕ) where
       (subst (λ l. slice_get l r ≡ Some n) same has))
 
   shown : (m : Machine E) (T : Trails) → Sits X P m → Reached X m T → OfEach K m m.senders T
-  shown = each X P K starts (λ m m' T e a t r h q o D es k. stays m m' e a h q o D k)
+  shown = each X P K starts
+      (λ m m' T e a t r h q o D es k. stays m m' (λ b on. After m m' e a on h) q o D k)
+      (λ m m' T j next told r h q o D es k.
+      stays m m' (λ b on. AfterJoin m m' T j next told on r h) q o D k)
       (λ m q v D es bytes a k. joined m q v D (put_actions bytes a) (puts X P D bytes a) k)
       (λ m q v D es mark a k. joined m q v D (mark_actions a) (marks X P D a) k)
       (λ m m' T s word a t r h at k.

@@ -30,13 +30,14 @@ use Rattle.bus_world.specs.Proved.Tenures.Stage.{Open, Held}
 use Rattle.bus_world.specs.World.{Event, Put, Ask, Turn, Recv, Stop, Gone}
 use Rattle.bus_world.specs.declared.events.Answer.{Answer}
 use Rattle.bus_world.specs.declared.events.Answer.TheVariants as answer
-use Rattle.bus_machine.proofs.AtNone.{event_reuse}
+use Rattle.bus_machine.proofs.AtNone.{event_reuse, forks_reuse}
 use Rattle.bus_machine.proofs.EachSender.{actions_of_it, added, added_is}
 use Rattle.bus_machine.proofs.Framed.{IsFramed, framed}
-use Rattle.bus_machine.proofs.Leading.{Sits, sits_before}
+use Rattle.bus_machine.proofs.Leading.{Sits, sits_before, sits_unforked}
 use Rattle.bus_machine.proofs.Paging.{takes_it}
 use Rattle.bus_machine.proofs.Takes.{takes_told}
 use Rattle.bus_machine.specs.Machine.{Machine, Trails, Reached, New as Start, Then as Next}
+use Rattle.bus_machine.specs.Machine.{Joins}
 use Rattle.bus_machine.specs.Machine.{Happens, IsNew, found, has_stopped, last_of, owners_told}
 use Rattle.bus_machine.specs.Machine.{stage_of, trails_grown, turn_answer, turn_grown}
 use Rattle.bus_machine.specs.Promise.{TakersTold}
@@ -401,3 +402,12 @@ module _ {E : Type 0} (X : Election E) (P : Protocol E (Unit {0}) ℕ) where
   takers_told m T sits (Next n m' U e a before h) =
       let t = sits_before X P n m' e a h sits in
       event_told n m' U e a t before h (takers_told n U t before)
+  takers_told m T sits (Joins w v U j n next told before h nobody silent) =
+      let k = takers_told w U (sits_unforked X P w v U.heard j next told h sits) before in
+      record {
+        all = k.all;
+        takers = k.takers;
+        told =
+            ap (λ (y : Machine E). y.owners) h.after ∙ k.told
+            ∙ ap (λ o. owners_told o k.all) (sym (forks_reuse X w v U.heard j next told h).1);
+      }

@@ -7,6 +7,7 @@ use Rattle.std.specs.Prelude.{[], ◌∷◌, ◌++◌, All, drop, length, slice_
 use Rattle.std.specs.Prelude.{replicate, if◌then◌else◌}
 use Rattle.bus_register.specs.declared.limits.TheConstants.{PASSED_ALL}
 use Rattle.bus_register.specs.declared.registers.Op.{Op}
+use Rattle.bus_register.specs.declared.registers.Op.TheVariants.{Store}
 use Rattle.bus_register.specs.Words.{register}
 use Rattle.bus_batch.specs.Batches.{next_of, CanPut, CanClose}
 use Rattle.bus_batch.specs.declared.batches.Phase.TheVariants.{Marking}
@@ -29,7 +30,7 @@ use Rattle.bus_world.specs.Log.{words_read_from, words_in_ring, floor_shown}
 pub use Rattle.bus_world.specs.Log.{words_of_frame}
 use Rattle.bus_world.specs.Playing.{asked_answer}
 use Rattle.bus_world.specs.Trails.{step_action, put_actions, mark_actions, no_actions, no_answers}
-use Rattle.bus_world.specs.Trails.{actions_with, answers_with}
+use Rattle.bus_world.specs.Trails.{actions_with, answers_with, answers_joined}
 use Rattle.bus_world.specs.Turning.{words_after, number_found, home_moved, core_moved, after_step}
 use Rattle.bus_world.specs.Turning.{owners_by}
 use Rattle.bus_world.specs.Starting.{IsNewReceiver}
@@ -255,6 +256,32 @@ pub record LeavesForGood {E : Type 0} (old : Machine E) (r : ℕ) (a : Answer) (
     receivers = slice_set old.receivers r (with_leave receiver);
   }
 
+-- ---- a receiver joins
+-- One that has not left forks to a higher number, whose receiver has left: by one step on the
+-- passed place of that number, which shows from then on what the maker has passed. The new one is
+-- what its maker is, but for its passed place, and counts as given to it what was given to its
+-- maker.
+pub record JoinsAs {E : Type 0} (old : Machine E) (heard : ℕ → List RecvTurn) (j : ℕ)
+    (next : Receiving) (before : List RecvTurn) (new : Machine E) : Type 0 where
+  pub maker : ℕ
+  pub receiver : Receiving
+  pub there : slice_get old.receivers maker ≡ Some receiver
+  pub stays : receiver.gone ≡ false
+  pub up : maker < j
+  pub last : Receiving
+  pub was : slice_get old.receivers j ≡ Some last
+  pub left : last.gone ≡ true
+  pub place : ℕ
+  pub at : passed_by old.layout old.reuse j ≡ Some place
+  pub own : next.passed_at ≡ Some place
+  pub is : next ≡ record receiver { passed_at = next.passed_at }
+  pub told : before ≡ heard maker
+  pub within : IsOnWord old (Some (Store record { 0 = place } next.passed))
+  pub after : new ≡ record old {
+    words = words_after old.words (Some (Store record { 0 = place } next.passed));
+    receivers = slice_set old.receivers j next;
+  }
+
 -- Event e happens, a is its answer, and new is what is left. Nothing is assumed of who is
 -- scheduled, of the random words, or of who stops or leaves.
 abbrev pub Happens : {E : Type 0} → Election E → Machine E → Event → Answer → Machine E → Type 0
@@ -387,8 +414,13 @@ pub record IsNew {E : Type 0} (b : Machine E) : Type 0 where
   pub stopped : b.stopped ≡ no_stops
   pub owners : b.owners ≡ []
 
--- These trails lead to this machine, from a new one, by one event after another.
+-- These trails lead to this machine, from a new one, by one event after another, and by receivers
+-- that join. What the one before it was given stands then with a number n of nobody.
 pub data Reached {E : Type 0} (X : Election E) : Machine E → Trails → Type 0 where
   New : (b : Machine E) → IsNew b → Reached X b no_machine_trails
   Then : (b b' : Machine E) (T : Trails) (e : Event) (a : Answer) → Reached X b T
       → Happens X b e a b' → Reached X b' (trails_grown X b e a T)
+  Joins : (b b' : Machine E) (T : Trails) (j n : ℕ) (next : Receiving) (before : List RecvTurn)
+      → Reached X b T → JoinsAs b T.heard j next before b'
+      → slice_get b.receivers n ≡ None → T.heard n ≡ []
+      → Reached X b' (record T { heard = answers_joined before j n T.heard })

@@ -1,15 +1,17 @@
 -- Receivers of a bus whose rows are used again are as those of one that has a row for each tenure,
 -- whose log lies elsewhere.
-use Rattle.std.proofs.Common.{◌≡◌, ℕ, ◌+◌, ◌%◌, ◌<◌, cond, Option, Some, None, inl}
+use Rattle.std.proofs.Common.{◌≡◌, ◌⊎◌, ℕ, ◌+◌, ◌%◌, ◌<◌, ◌==◌, cond, Option, Some, None, inl}
+use Rattle.std.proofs.Common.{false}
 use Rattle.std.proofs.Common.{inr, List, [], ◌∷◌, ◌++◌, length, take, slice_index, arith, refl, sym}
 use Rattle.std.proofs.Common.{◌∙◌, ap, subst}
 use Rattle.std.proofs.lemmas.Bool.{true≢false}
 use Rattle.std.proofs.lemmas.Bool.Decides.{eqb_tells}
 use Rattle.std.proofs.lemmas.List.{append-nil, length-append}
 use Rattle.std.proofs.lemmas.Option.{same_Some}
-use Rattle.bus_register.specs.Tables.{put, of_some}
+use Rattle.bus_register.specs.Tables.{put}
 use Rattle.bus_register.specs.Proved.TableLaws.{put_here, put_beside}
-use Rattle.bus_batch.specs.Frames.{Frame, log_words, frame_words, order_in, owners_in}
+use Rattle.bus_batch.specs.Frames.{Frame, log_words, frame_words}
+use Rattle.bus_batch.specs.Frames.{order_in, owners_in}
 use Rattle.bus_batch.specs.Reading.{HasRead}
 use Rattle.bus_deliverylog.specs.Receiving.{Receiving, with_leave}
 use Rattle.bus_deliverylog.specs.declared.receiving.RecvTurn.{RecvTurn}
@@ -18,9 +20,10 @@ use Rattle.bus_core.specs.Reusing.Participants.{log_from}
 use Rattle.bus_world.specs.Proved.Sending.{Logged}
 use Rattle.bus_world.specs.Proved.Receiving.{IsReceiver, IsFoundIn}
 use Rattle.bus_world.specs.Proved.Floors.{passed_of}
+use Rattle.bus_world.specs.Proved.CyclicProtocols.{fork_of}
 use Rattle.bus_world.specs.Starting.{IsNewReceiver}
 use Rattle.bus_world.specs.World.{RecvDoes, recv_found}
-use Rattle.bus_world.specs.Trails.{answers_with, no_answers}
+use Rattle.bus_world.specs.Trails.{answers_with, answers_joined, no_answers}
 use Rattle.bus_world.proofs.HearTrails.{IsTold, hears_later, hears_more, hears_left}
 use Rattle.bus_world.proofs.LogLaws.{length-logged, log_words-append, index-read}
 use Rattle.bus_world.proofs.ReceivingLaws.{Receives-append}
@@ -38,11 +41,16 @@ pub record HearsCyclic (x : Layout) (rows : ℕ) (frames : List Frame) (v : Rece
   pub own : IsReceiver x frames (length (log_words frames)) (placed x v)
   pub hears : Hears frames (placed x v) trail
 
--- as does each receiver; who is none was answered nothing
+-- answers of nobody: none, or those of a receiver whose number another has taken since
+abbrev pub WasTold : Layout → ℕ → List Frame → List RecvTurn → Type 0
+WasTold x rows frames trail =
+    (trail ≡ []) ⊎ ((v : Receiving) × HearsCyclic x rows frames v trail)
+
+-- each receiver has read, and was told; and who is none was told so once
 pub record AllHear (x : Layout) (rows : ℕ) (receivers : ℕ → Option Receiving) (frames : List Frame)
     (H : ℕ → List RecvTurn) : Type 0 where
   pub each : (r : ℕ) (v : Receiving) → receivers r ≡ Some v → HearsCyclic x rows frames v (H r)
-  pub silent : (r : ℕ) → receivers r ≡ None → H r ≡ []
+  pub silent : (r : ℕ) → receivers r ≡ None → WasTold x rows frames (H r)
 
 -- ---- a receiver that has read nothing
 new_hears : (x : Layout) (rows : ℕ) (passed_at : Option ℕ) (v : Receiving)
@@ -76,7 +84,7 @@ pub all_new : (x : Layout) (rows : ℕ) (receivers : ℕ → Option Receiving)
     → AllHear x rows receivers [] no_answers
 all_new x rows receivers new = record {
   each = λ r v e. new_hears x rows (passed_of x rows r) v (new r v e);
-  silent = λ r e. refl;
+  silent = λ r e. inl refl;
 }
 
 -- ---- a log that has grown
@@ -107,7 +115,10 @@ pub all_after : (x : Layout) (rows : ℕ) (receivers : ℕ → Option Receiving)
     → AllHear x rows receivers (frames ++ f ∷ []) H
 all_after x rows receivers frames f H h = record {
   each = λ r v e. hears_after x rows frames f v (H r) (h.each r v e);
-  silent = h.silent;
+  silent = λ r e. elim (h.silent r e) [
+    | inl none ↦ inl none
+    | inr was ↦ inr (was.0, hears_after x rows frames f was.0 (H r) was.1)
+  ];
 }
 
 -- ---- a turn
@@ -197,9 +208,9 @@ one_hears x rows frames receivers H h r v next answer at turns = record {
     | inl y ↦ absurd (let bad : None ≡ Some next =
         sym e ∙ ap (put r (Some next) receivers) y.1 ∙ put_here r (Some next) receivers in
         cc)
-    | inr y ↦
-        ap (λ t. H q ++ cond t (answer ∷ []) []) y.0 ∙ append-nil (H q)
-        ∙ h.silent q (sym (put_beside r (Some next) receivers q y.1) ∙ e)
+    | inr y ↦ subst (WasTold x rows frames)
+        (sym (ap (λ t. H q ++ cond t (answer ∷ []) []) y.0 ∙ append-nil (H q)))
+        (h.silent q (sym (put_beside r (Some next) receivers q y.1) ∙ e))
   ];
 }
 
@@ -236,13 +247,82 @@ one_leaves x rows frames receivers H h r v at = record {
   left : ℕ → Option Receiving
   left = put r (Some (with_leave v)) receivers
 
+-- ---- a receiver joins with the number j
+-- as one that has read this and was told this, and what the one before it was told goes to n
+pub one_joins : (x : Layout) (rows : ℕ) (frames : List Frame) (receivers : ℕ → Option Receiving)
+    (H : ℕ → List RecvTurn) → AllHear x rows receivers frames H
+    → (j n : ℕ) (next w : Receiving) (before : List RecvTurn) → receivers j ≡ Some w
+    → receivers n ≡ None → HearsCyclic x rows frames next before
+    → AllHear x rows (put j (Some next) receivers) frames (answers_joined before j n H)
+one_joins x rows frames receivers H h j n next w before was nobody joins = record {
+  each = λ q u e. elim (eqb_tells q j) [
+    | inl y ↦
+        let u_is : next ≡ u = same_Some _ _
+        (sym (ap (put j (Some next) receivers) y.1 ∙ put_here j (Some next) receivers) ∙ e) in
+        subst (HearsCyclic x rows frames u)
+        (sym (ap (λ b. cond b before (cond (q == n) (H j) (H q))) y.0))
+        (subst (λ s. HearsCyclic x rows frames s before) u_is joins)
+    | inr y ↦
+        let old = sym (put_beside j (Some next) receivers q y.1) ∙ e in
+        subst (HearsCyclic x rows frames u) (sym (ap (λ b. cond b before
+        (cond (q == n) (H j) (H q))) y.0 ∙ apart q u old)) (h.each q u old)
+  ];
+  silent = λ q e. elim (eqb_tells q j) [
+    | inl y ↦ absurd (let bad : None ≡ Some next =
+        sym e ∙ ap (put j (Some next) receivers) y.1 ∙ put_here j (Some next) receivers in
+        cc)
+    | inr y ↦ subst (WasTold x rows frames)
+        (sym (ap (λ b. cond b before (cond (q == n) (H j) (H q))) y.0))
+        (kept q (sym (put_beside j (Some next) receivers q y.1) ∙ e))
+  ];
+} where
+  -- who is there is not the nobody
+  apart : (q : ℕ) (u : Receiving) → receivers q ≡ Some u → cond (q == n) (H j) (H q) ≡ H q
+  apart q u there = elim (eqb_tells q n) [
+    | inl y ↦ absurd (let bad : None ≡ Some u = sym nobody ∙ ap receivers (sym y.1) ∙ there in cc)
+    | inr y ↦ ap (λ b. cond b (H j) (H q)) y.0
+  ]
+
+  kept : (q : ℕ) → receivers q ≡ None → WasTold x rows frames (cond (q == n) (H j) (H q))
+  kept q none = elim (eqb_tells q n) [
+    | inl y ↦ subst (WasTold x rows frames) (sym (ap (λ b. cond b (H j) (H q)) y.0))
+        (inr (w, h.each j w was))
+    | inr y ↦ subst (WasTold x rows frames) (sym (ap (λ b. cond b (H j) (H q)) y.0))
+        (h.silent q none)
+  ]
+
+-- by a fork it was told what that receiver was told
+pub forked_hears : (x : Layout) (rows : ℕ) (frames : List Frame) (j : ℕ) (v : Receiving)
+    (trail : List RecvTurn) → HearsCyclic x rows frames v trail
+    → HearsCyclic x rows frames (fork_of x rows j v) trail
+forked_hears x rows frames j v trail h = record {
+  log = h.log;
+  own = record {
+    senders = h.own.senders;
+    log = refl;
+    len_at = h.own.len_at;
+    log_words = h.own.log_words;
+    receives = h.own.receives;
+  };
+  hears = record {
+    given_is = h.hears.given_is;
+    heads_are = h.hears.heads_are;
+    ended = h.hears.ended;
+    going = h.hears.going;
+    silent = h.hears.silent;
+  };
+}
+
 -- ---- as it is told of each
 pub told_in : (x : Layout) (rows : ℕ) (receivers : ℕ → Option Receiving) (frames : List Frame)
     (H : ℕ → List RecvTurn) → AllHear x rows receivers frames H → (r : ℕ)
-    → IsTold frames (of_some (λ v. Some (placed x v)) (receivers r)) (H r)
+    → (o : Option Receiving) × IsTold frames o (H r)
 told_in x rows receivers frames H h r = by_some (receivers r) refl
   where
     by_some : (o : Option Receiving) → receivers r ≡ o
-        → IsTold frames (of_some (λ v. Some (placed x v)) o) (H r)
-    by_some None e = h.silent r e
-    by_some (Some v) e = (h.each r v e).hears
+        → (o : Option Receiving) × IsTold frames o (H r)
+    by_some None e = elim (h.silent r e) [
+      | inl none ↦ (None, none)
+      | inr was ↦ (Some (placed x was.0), was.1.hears)
+    ]
+    by_some (Some v) e = (Some (placed x v), (h.each r v e).hears)

@@ -49,6 +49,7 @@ use Rattle.bus_core.specs.declared.reuses.Passing.{Passing}
 use Rattle.bus_world.specs.Proved.Machines.{can_put, can_close}
 use Rattle.bus_world.specs.Proved.CyclicProtocols.{CyclicProtocol, IsNewProtocol, Led, NewProtocol}
 use Rattle.bus_world.specs.Proved.CyclicProtocols.{Turned, PutIn, MarkedIn, Heard, LeftFor}
+use Rattle.bus_world.specs.Proved.CyclicProtocols.{Forked}
 use Rattle.bus_world.specs.Proved.CyclicProtocols.{going_actions, due_actions, due_in}
 use Rattle.bus_world.specs.Proved.CyclicProtocols.{protocol_reclaimed}
 use Rattle.bus_world.specs.Proved.CyclicProtocols.{protocol_after_going, protocol_after}
@@ -94,6 +95,7 @@ use Rattle.bus_world.proofs.CyclicProtocolHolders.{lacks_unpublished}
 use Rattle.bus_world.proofs.CyclicProtocolHolders.{reclaimer_kept, stores_kept, tells_kept}
 use Rattle.bus_world.proofs.CyclicProtocolHolders.{gives_kept}
 use Rattle.bus_world.proofs.CyclicProtocolReads.{reads_kept}
+use Rattle.bus_world.proofs.CyclicProtocolJoins as joins
 use Rattle.bus_world.proofs.CyclicProtocolPasses as receivers
 
 owner_of : (o : Option ℕ) → is_some o ≡ true → (u : ℕ) × (o ≡ Some u)
@@ -514,6 +516,10 @@ module _ {E : Type 0} (X : Election E) (P : Protocol E (Unit {0}) ℕ)
       heard_kept J w U F M (led_kept J w U F M before) r v next answer at stays does
   led_kept H y T D L (LeftFor w U F J M r v before at stays) =
       left_kept J w U F M (led_kept J w U F M before) r v at
+  led_kept H y T D L (Forked w U F J M i j n v u before at stays was gone up room nobody silent) =
+      let k = led_kept J w U F M before in
+      joins.fork_kept X P laws x ok width starts owner_is named announces apart rows two J w U F M
+      k.V k.frames k.kept j n u was room nobody i v at stays up
 
   -- ---- what is promised
   above_it : (a k w : ℕ) → k < w → (a ≤ a + k) × (a + k < a + w)
@@ -642,8 +648,8 @@ module _ {E : Type 0} (X : Election E) (P : Protocol E (Unit {0}) ℕ)
                 λ j t o e. takers.took t o.0 (owner_took y.owners k.frames h.sending.owned j t o e);
             rising = λ i j t u o p e g l. rise x.senders 0 k.frames lawful i j t u o p e g l;
             framed = framed x.senders 0 k.frames lawful;
-            delivered = λ r. delivered_to x.senders k.frames lawful _ (H r) (told r);
-            told = λ r. heads_to k.frames _ (H r) (told r);
+            delivered = λ r. delivered_to x.senders k.frames lawful (told r).0 (H r) (told r).1;
+            told = λ r. heads_to k.frames (told r).0 (H r) (told r).1;
             faithful = record {
               numbered = λ s q i e. counted_at (slice_index y.bases s)
                   (of_sender s (order_of k.frames)) q i (h.sending.log.counted s) e;
@@ -651,7 +657,7 @@ module _ {E : Type 0} (X : Election E) (P : Protocol E (Unit {0}) ℕ)
                   (record { rest = waiting_of (y.senders s); together = refl });
             };
             numbered = h.notes.counted;
-            silent = λ r. silent_to k.frames _ (H r) (told r);
+            silent = λ r. silent_to k.frames (told r).0 (H r) (told r).1;
             closed = λ e.
                 let l = last_frame x.senders 0 k.frames lawful e in
                 record {

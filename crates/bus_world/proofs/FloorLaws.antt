@@ -394,6 +394,91 @@ module _ (x : Layout) (rows : ℕ) where
             ];
           }
 
+    -- ---- a receiver joins
+    -- with the number j, whose passed place shows n from then on, whatever it showed
+    module _ (j n : ℕ) (next : Receiving) where
+      abbrev joined : ℕ → ℕ
+      joined = put (passed_place x rows j) n words
+
+      joined_here : shown joined j ≡ n
+      joined_here = put_here (passed_place x rows j) n words
+
+      joined_beside : (q : ℕ) → q ≢ j → shown joined q ≡ shown words q
+      joined_beside q ne = put_beside (passed_place x rows j) n words (passed_place x rows q)
+          (places_apart x rows q j ne)
+
+      -- no word before the floor is asked for, nor, if the holder has loaded that passed place, one
+      -- before the least that it has seen
+      module _ (past : floor ≤ n) (seen : j < passing.loaded → passing.least ≤ n)
+          (edge : IsBoundary frames n ⊎ (n ≡ PASSED_ALL))
+          (own : IsPasser x rows joined floor j next) where
+        pub floors_joined : AreFloors x rows joined passing (put j (Some next) receivers) frames
+            len floor
+        floors_joined = record {
+          low = h.low;
+          none = h.none;
+          behind = λ q l. elim (cases_eq q j) [
+            | inl i ↦ subst (λ k. floor ≤ shown joined k) (sym i)
+                (subst (λ m. floor ≤ m) (sym joined_here) past)
+            | inr ne ↦ subst (λ m. floor ≤ m) (sym (joined_beside q ne)) (h.behind q l)
+          ];
+          least = h.least;
+          loaded = λ q l m. elim (cases_eq q j) [
+            | inl i ↦ subst (λ k. passing.least ≤ shown joined k) (sym i)
+                (subst (λ k. passing.least ≤ k) (sym joined_here)
+                (seen (subst (λ k. k < passing.loaded) i l)))
+            | inr ne ↦ subst (λ k. passing.least ≤ k) (sym (joined_beside q ne)) (h.loaded q l m)
+          ];
+          begins = h.begins;
+          edges = λ q l. elim (cases_eq q j) [
+            | inl i ↦ subst (λ k.
+                IsBoundary frames (shown joined k) ⊎ (shown joined k ≡ PASSED_ALL)) (sym i)
+                (subst (λ m. IsBoundary frames m ⊎ (m ≡ PASSED_ALL)) (sym joined_here) edge)
+            | inr ne ↦ subst (λ m. IsBoundary frames m ⊎ (m ≡ PASSED_ALL))
+                (sym (joined_beside q ne)) (h.edges q l)
+          ];
+          edge = h.edge;
+          each = λ q w e. elim (cases_eq q j) [
+            | inl i ↦
+                let w_is : next ≡ w = same_Some _ _
+                (sym (ap (put j (Some next) receivers) i ∙ put_here j (Some next) receivers) ∙ e) in
+                subst (λ k. IsPasser x rows joined floor k w) (sym i)
+                (subst (IsPasser x rows joined floor j) w_is own)
+            | inr ne ↦
+                let p = h.each q w (sym (put_beside j (Some next) receivers q ne) ∙ e) in record {
+                  at = p.at;
+                  many = p.many;
+                  past = p.past;
+                  behind = p.behind;
+                  shows = λ stays l. joined_beside q ne ∙ p.shows stays l;
+                  left = λ gone l. joined_beside q ne ∙ p.left gone l;
+                }
+          ];
+        }
+
+    -- A receiver i that has not left gives a place of its own to a higher number. Passed places are
+    -- loaded in rising order: a holder that has loaded that of j has loaded that of i, which has
+    -- only risen since.
+    module _ (i j : ℕ) (v : Receiving) (there : receivers i ≡ Some v) (stays : v.gone ≡ false)
+        (up : i < j) (room : j < x.passers) where
+      pub floors_forked : AreFloors x rows (put (passed_place x rows j) v.passed words) passing
+          (put j (Some (record v { passed_at = passed_of x rows j })) receivers) frames len floor
+      floors_forked =
+          let p = h.each i v there in
+          let behind = p.behind stays in
+          let shows = p.shows stays (omega arith) in
+          floors_joined j v.passed (record v { passed_at = passed_of x rows j }) behind
+          (λ before. (let a = h.loaded i (omega arith) (omega arith) in omega arith))
+          (subst (λ n. IsBoundary frames n ⊎ (n ≡ PASSED_ALL)) shows (h.edges i (omega arith)))
+          record {
+            at = refl;
+            many = inr room;
+            past = p.past;
+            behind = λ s. behind;
+            shows = λ s l. put_here (passed_place x rows j) v.passed words;
+            left = λ gone l. absurd (true≢false (sym gone ∙ stays));
+          }
+
     -- what a passed place shows is at most the number that stands for all words
     pub shown_low : length (log_words frames) ≡ len → len < NUMBERS → (r : ℕ) → r < x.passers
         → shown words r ≤ PASSED_ALL

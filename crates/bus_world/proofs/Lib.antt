@@ -42,6 +42,7 @@ pub mod CyclicProtocolHolders
 pub mod ReceiverSteps
 pub mod CyclicProtocolReads
 pub mod CyclicProtocolPasses
+pub mod CyclicProtocolJoins
 pub mod CyclicProtocolLaws
 pub mod RingRefused
 pub mod PlacedSteps

@@ -43,6 +43,12 @@ actions_with p ds D q = D q ++ (if q == p then ds else [])
 abbrev pub answers_with : ℕ → RecvTurn → (ℕ → List RecvTurn) → ℕ → List RecvTurn
 answers_with r answer H q = H q ++ (if q == r then answer ∷ [] else [])
 
+-- A receiver joins with the number j. What was published before its place counts as given to it, by
+-- these answers, and it goes on from there. What was answered to the one that had the number j
+-- before stands with a number n of nobody.
+abbrev pub answers_joined : List RecvTurn → (j n : ℕ) → (ℕ → List RecvTurn) → ℕ → List RecvTurn
+answers_joined before j n H q = if q == j then before else (if q == n then H j else H q)
+
 -- nothing has happened
 abbrev pub no_actions : ℕ → List Action
 no_actions q = []

@@ -3,7 +3,7 @@
 -- the holder has loaded, the page, the senders, the receivers and who took the pages. Tenure t uses
 -- row t mod rows.
 use Rattle.std.specs.Prelude.{◌≡◌, ◌⊎◌, ℕ, ◌<◌, Option, Some, None, List, [], ◌∷◌, ◌++◌, All}
-use Rattle.std.specs.Prelude.{false, length, slice_index, if◌then◌else◌}
+use Rattle.std.specs.Prelude.{true, false, length, slice_index, if◌then◌else◌}
 use Rattle.bus_register.specs.declared.kinds.Kind.TheVariants as kind
 use Rattle.bus_register.specs.declared.registers.Op.{Op}
 use Rattle.bus_register.specs.Words.{register, after}
@@ -22,6 +22,7 @@ use Rattle.bus_tenure.specs.Core.{Core, Election, Layout}
 use Rattle.bus_tenure.specs.Situations.{Situation, line_of, op_at, kind_at}
 use Rattle.bus_tenure.specs.Proved.LineParts.{tenure_at, chosen_at}
 use Rattle.bus_tenure.specs.declared.pages.Page.{Page}
+use Rattle.bus_tenure.specs.declared.phases.Phase.TheVariants as phase
 use Rattle.bus_tenure.specs.declared.turns.Turn.{Turn as Answered}
 use Rattle.bus_tenure.specs.declared.turns.Turn.TheVariants as turn
 use Rattle.bus_core.specs.Proved.Bridge.{publishes_of}
@@ -38,10 +39,11 @@ use Rattle.bus_world.specs.Proved.Machines.{put_in, mark_in}
 use Rattle.bus_world.specs.Headline.{Action, HasPut, HasMarked}
 use Rattle.bus_world.specs.Log.{words_of_frame}
 use Rattle.bus_world.specs.Trails.{step_action, no_actions, no_answers, actions_with, answers_with}
+use Rattle.bus_world.specs.Trails.{answers_joined}
 use Rattle.bus_world.specs.Starting.{IsNewReceiver}
 use Rattle.bus_world.specs.World.{AreBases, first_page, RecvDoes}
 use Rattle.bus_world.specs.declared.limits.TheConstants.{FIRST_RING_NUMBERS}
-use Rattle.bus_world.specs.Proved.Floors.{passed_of}
+use Rattle.bus_world.specs.Proved.Floors.{passed_of, passed_place}
 
 pub record CyclicProtocol (E : Type 0) : Type 0 where
   -- the number of each sender's first message
@@ -130,6 +132,21 @@ protocol_heard y r o next = record y {
   receivers = put r (Some next) y.receivers;
 }
 
+-- ---- a receiver joins
+-- with the number j, whose passed place shows from then on what it has passed
+abbrev pub protocol_joined : {E : Type 0} → Layout → ℕ → CyclicProtocol E → ℕ → Receiving
+    → CyclicProtocol E
+protocol_joined x rows y j next = record y {
+  reclamation = record y.reclamation {
+    words = put (passed_place x rows j) next.passed y.reclamation.words;
+  };
+  receivers = put j (Some next) y.receivers;
+}
+
+-- by a fork it is what this receiver is, but for where its passed place stands
+abbrev pub fork_of : Layout → ℕ → ℕ → Receiving → Receiving
+fork_of x rows j v = record v { passed_at = passed_of x rows j }
+
 -- the step of a pin joins the trail of its sender
 abbrev pub trails_with : {E : Type 0} → CyclicProtocol E → ℕ → Due E → Trails → Trails
 trails_with y p (Pins o) T =
@@ -193,7 +210,9 @@ due_in X x rows y p c =
 -- These trails, actions, answers and published words lead to a protocol: from a new one, by one
 -- thing after another, of anybody and in any order. A sender takes a turn with any random word; or
 -- one that pins no tenure puts a message, closes or leaves; or a receiver takes a turn, or leaves
--- for good, each with the step that it takes if any, and takes none after it has left.
+-- for good, each with the step that it takes if any, and takes none after it has left. Or a
+-- receiver joins, with a number whose receiver has left: one that has not left forks, and gives its
+-- place to a higher number.
 pub data Led {E : Type 0} (X : Election E) (x : Layout) (rows : ℕ) : CyclicProtocol E → Trails
     → (ℕ → List Action) → (ℕ → List RecvTurn) → List ℕ → Type 0 where
   NewProtocol : (y : CyclicProtocol E) → IsNewProtocol x rows y
@@ -224,3 +243,9 @@ pub data Led {E : Type 0} (X : Election E) (x : Layout) (rows : ℕ) : CyclicPro
       (L : List ℕ) (r : ℕ) (v : Receiving) → Led X x rows y T D H L
       → y.receivers r ≡ Some v → v.gone ≡ false
       → Led X x rows (protocol_heard y r (leaving_op v) (with_leave v)) T D H L
+  Forked : (y : CyclicProtocol E) (T : Trails) (D : ℕ → List Action) (H : ℕ → List RecvTurn)
+      (L : List ℕ) (i j n : ℕ) (v w : Receiving) → Led X x rows y T D H L
+      → y.receivers i ≡ Some v → v.gone ≡ false → y.receivers j ≡ Some w → w.gone ≡ true
+      → i < j → j < x.passers → y.receivers n ≡ None → H n ≡ []
+      → Led X x rows (protocol_joined x rows y j (fork_of x rows j v)) T D
+      (answers_joined (H i) j n H) L
