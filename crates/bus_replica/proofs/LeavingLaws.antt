@@ -13,12 +13,13 @@ use Rattle.bus_batch.specs.Frames.{Entry, Leaves, items_in, is_leave_of}
 use Rattle.bus_deliverylog.specs.declared.receiving.RecvTurn.{RecvTurn}
 use Rattle.bus_deliverylog.specs.declared.receiving.RecvTurn.TheVariants as turn
 use Rattle.bus_world.specs.Headline.{entry_heard}
+use Rattle.bus_pageslot.specs.Buses.{BusId}
 use Rattle.bus_pageslot.specs.Listening.{Hears}
 use Rattle.bus_pageslot.specs.Rule.{Sat}
 use Rattle.bus_pageslot.specs.Steps.{Learns}
 use Rattle.bus_pageslot.specs.declared.rule.View.{View}
 use Rattle.bus_replica.specs.Replicas.{Operations, has_heard_leave, HaveAllLeft, HasHeardAll}
-use Rattle.bus_replica.specs.Replicas.{GoesOn, IsFold}
+use Rattle.bus_replica.specs.Replicas.{GoesOn, IsFold, Replicated}
 use Rattle.bus_replica.specs.Turns.{IsHearing}
 use Rattle.bus_replica.proofs.GoingLaws.{goes_same}
 use Rattle.bus_replica.proofs.FoldLaws.{fold_more, fold_stays, fold_told}
@@ -129,3 +130,13 @@ heard_all {C} IsFirst Applies workers counted old left last state on same fold g
   left = subst (λ (z : Sat C). HaveAllLeft z.0 workers) (sym same)
       (subst (λ n. HaveAllLeft left.0 n) is gone);
 }
+
+-- who has left, behind what changes nothing that was heard
+pub left_settled : {C S V E : Type 0} (old new : Replicated C S) (result : Result V E)
+    → new.bus ≡ old.bus → new.me ≡ old.me
+    → OnOk result (HaveAllLeft old.me.0 old.bus.plan.shape.senders)
+    → OnOk result (HaveAllLeft new.me.0 new.bus.plan.shape.senders)
+left_settled {C} old new (Ok x) bus me left =
+    subst (λ (b : BusId). HaveAllLeft new.me.0 b.plan.shape.senders) (sym bus)
+    (subst (λ (m : Sat C). HaveAllLeft m.0 old.bus.plan.shape.senders) (sym me) left)
+left_settled old new (Err e) bus me left = tt

@@ -1,29 +1,35 @@
 -- The replicas of a bus that is new, paired off one by one.
-use Rattle.std.proofs.Common.{◌≡◌, ℕ, zero, suc, ◌+◌, inl, inr, List, [], ◌∷◌, ◌++◌}
-use Rattle.std.proofs.Common.{Some, length, slice_get, refl, sym, ◌∙◌, ap, subst}
+use Rattle.std.proofs.Common.{◌≡◌, ℕ, zero, suc, ◌+◌, ◌≤◌, true, inl, inr, List, [], ◌∷◌, ◌++◌}
+use Rattle.std.proofs.Common.{Some, None, length, slice_get, refl, sym, ◌∙◌, ap, subst}
 use Rattle.std.proofs.Common.{arith, ◌⊎◌}
 use Rattle.std.specs.Prelude.{All, option_map}
 use Rattle.std.proofs.lemmas.List.{length-append, length-map}
 use Rattle.std.proofs.lemmas.Option.{same_Some, slice_get-map, slice_get_within}
 use Rattle.std.proofs.lemmas.Option.{get_or_from_slice_get}
-use Rattle.bus_machine.specs.Playing.{MakeRefused}
+use Rattle.bus_register.specs.declared.limits.TheConstants.{MOST_SENDERS}
 use Rattle.bus_world.proofs.Places.{none_in}
-use Rattle.bus_world.specs.declared.shapes.MakeFault.{MakeFault}
-use Rattle.bus_world.specs.declared.shapes.MakeFault.TheVariants as make
 use Rattle.bus_world.specs.declared.shapes.Shape.{Shape}
+use Rattle.bus_automaton.specs.Buses.{ring_plan}
 use Rattle.bus_automaton.specs.Processes.{TableLayout, Process, Automaton}
 use Rattle.bus_automaton.specs.declared.plans.Plan.{Plan}
 use Rattle.bus_pageslot.specs.Buses.{IsNewSeat}
 use Rattle.bus_pageslot.specs.ReceiverViews.{new_receiver_view}
-use Rattle.bus_pageslot.specs.Rule.{Sat}
+use Rattle.bus_pageslot.specs.Rule.{Sat, receiver_view_in, known_in}
 use Rattle.bus_pageslot.specs.Seats.{SenderSeat}
+use Rattle.bus_pageslot.specs.declared.rule.View.{View}
 use Rattle.bus_pageslot.specs.declared.rule.View.TheVariants.{Tap}
 use Rattle.bus_handles.specs.Handles.{SeatOfBus, IsOpened, seat_of}
 use Rattle.bus_replica.specs.Replicas.{Operations, Folds, Begins, IsFold, Replicated}
-use Rattle.bus_replica.specs.Openings.{HasHeardNothing, IsNewReplica, AreNewReplicas, IsPairing}
-use Rattle.bus_replica.specs.Openings.{IsOpenFault}
+use Rattle.bus_replica.specs.Replicas.{items_heard, has_view}
+use Rattle.bus_replica.specs.Openings.{IsNewReplica, AreNewReplicas, IsPairing, replica_shape}
 
 -- ---- a receiver before its first turn
+-- it was given nothing yet
+record HasHeardNothing {C : Type 0} (v : View C) : Type 0 where
+  heard : has_view v ≡ true
+  none : items_heard v ≡ []
+  within : (receiver_view_in v).place ≤ length (known_in v)
+
 new_hears : {C : Type 0} (m : Sat C) (x : TableLayout) (r : ℕ)
     → m ≡ (Tap x (new_receiver_view r), []) → HasHeardNothing m.0
 new_hears {C} m x r is = subst (λ (z : Sat C). HasHeardNothing z.0) (sym is)
@@ -59,16 +65,21 @@ all_at So xs all k x at = subst (λ z. So z) (get_or_from_slice_get xs k x x at)
     (all k x (slice_get_within xs k x at))
 
 module _ {C S : Type 0} (P : Process C) (A : Plan → Automaton C) (IsFirst : S → Type 0)
-    (workers : ℕ) where
+    (shape : Shape) where
   -- the handles of a bus that was opened
-  pub none_made : (plan : Plan) (senders : List (SenderSeat C)) (receivers : List (SeatOfBus C))
-      → IsOpened P (A plan) plan senders receivers → plan.shape.senders ≡ workers
-      → plan.shape.receivers ≡ workers → IsPairing P A IsFirst workers [] senders receivers
-  none_made plan senders receivers h many as_many =
+  pub none_made : (senders : List (SenderSeat C)) (receivers : List (SeatOfBus C))
+      → IsOpened P (A (ring_plan shape None)) (ring_plan shape None) senders receivers
+      → shape ≡ replica_shape shape.senders shape.log_words → shape.senders ≤ MOST_SENDERS
+      → IsPairing P A IsFirst shape [] senders receivers
+  none_made senders receivers h is few =
+      let plan = ring_plan shape None in
       let same : h.bus.plan ≡ plan = h.plan_is in
+      let as_many : shape.receivers ≡ shape.senders = ap (λ (x : Shape). x.receivers) is in
       record {
         bus = h.bus;
-        workers_are = ap (λ (p : Plan). p.shape.senders) same ∙ many;
+        shape_is = is;
+        plan_is = same;
+        few = few;
         each = λ k r at. absurd (none_in k r at);
         senders_are = λ k number s at is.
             let k_is : k ≡ number = omega (arith, is) in
@@ -83,18 +94,18 @@ module _ {C S : Type 0} (P : Process C) (A : Plan → Automaton C) (IsFirst : S 
               (slice_get-map (λ (z : SeatOfBus C). seat_of z) receivers k
               ∙ ap (option_map (λ (z : SeatOfBus C). seat_of z)) at)).me),
         );
-        many = (let l = h.senders_are.many_are in omega (arith, l, many));
+        many = (let l = h.senders_are.many_are in omega (arith, l));
         as_many =
             (let l = h.senders_are.many_are in let r = h.receivers_are.many_are in
             let m = length-map receivers (λ (z : SeatOfBus C). seat_of z) in
-            omega (arith, l, r, m, many, as_many));
+            omega (arith, l, r, m, as_many));
       }
 
   -- the next two
   module _ (made : List (Replicated C S)) (s : SenderSeat C) (r : SeatOfBus C)
       (senders senders' : List (SenderSeat C)) (receivers receivers' : List (SeatOfBus C))
       (e : senders ≡ s ∷ senders') (f : receivers ≡ r ∷ receivers')
-      (h : IsPairing P A IsFirst workers made senders receivers) where
+      (h : IsPairing P A IsFirst shape made senders receivers) where
     here : length made ≡ length made + 0
     here = omega arith
 
@@ -108,7 +119,7 @@ module _ {C S : Type 0} (P : Process C) (A : Plan → Automaton C) (IsFirst : S 
     pub one_more : (new : Replicated C S) (made' : List (Replicated C S))
         → made' ≡ made ++ new ∷ [] → new.sender ≡ s → new.bus ≡ r.bus → new.me ≡ r.me
         → IsFirst new.state → ((plan : Plan) (p : ℕ) → P.me ((A plan).started p) ≡ p)
-        → IsPairing P A IsFirst workers made' senders' receivers'
+        → IsPairing P A IsFirst shape made' senders' receivers'
     one_more new made' g sender bus me first started =
         let seat = subst (λ z. IsNewSeat P (A h.bus.plan) h.bus.table (length made) z) (sym sender)
         next_sender in
@@ -127,7 +138,9 @@ module _ {C S : Type 0} (P : Process C) (A : Plan → Automaton C) (IsFirst : S 
         let as_many = h.as_many in
         record {
           bus = h.bus;
-          workers_are = h.workers_are;
+          shape_is = h.shape_is;
+          plan_is = h.plan_is;
+          few = h.few;
           each = λ k x at. elim (push_at made new x k (ap (λ z. slice_get z k) (sym g) ∙ at)) [
             | inl l ↦ h.each k x l
             | inr i ↦
@@ -146,47 +159,14 @@ module _ {C S : Type 0} (P : Process C) (A : Plan → Automaton C) (IsFirst : S 
         }
 
   pub all_made : (made : List (Replicated C S)) (senders : List (SenderSeat C))
-      (receivers : List (SeatOfBus C)) → IsPairing P A IsFirst workers made senders receivers
-      → length receivers ≡ 0 → AreNewReplicas P A IsFirst workers made
+      (receivers : List (SeatOfBus C)) → IsPairing P A IsFirst shape made senders receivers
+      → length receivers ≡ 0 → AreNewReplicas P A IsFirst shape.senders shape.log_words made
   all_made made senders receivers h none =
       let many = h.many in
       let as_many = h.as_many in
       record {
         bus = h.bus;
-        workers_are = h.workers_are;
+        plan_is = h.plan_is ∙ ap (λ (x : Shape). ring_plan x None) h.shape_is;
         many = omega (arith, none, many, as_many);
         each = h.each;
       }
-
--- ---- faults
-pub open_fault : (workers : ℕ) (shape : Shape) → shape.senders ≡ workers
-    → shape.receivers ≡ workers → shape.rounds ≡ 1 → shape.rows ≡ 8 → shape.log_words ≡ 32768
-    → (why : MakeFault) → MakeRefused shape (Some 8) why → IsOpenFault workers why
-open_fault workers shape s r n w l make.Senders h = elim h [
-  | inl low ↦ inl (omega (arith, low, s))
-  | inr high ↦ inr (omega (arith, high, s))
-]
-open_fault workers shape s r n w l make.Receivers h =
-    let low = h.0.0 in
-    let high = h.0.1 in
-    elim h.1 [
-      | inl i ↦ absurd (omega (arith, i, low, high, s, r))
-      | inr i ↦ absurd (omega (arith, i, low, high, s, r))
-    ]
-open_fault workers shape s r n w l make.Rounds h = elim h.2 [
-  | inl i ↦ absurd (omega (arith, i, n))
-  | inr i ↦ absurd (omega (arith, i, n))
-]
-open_fault workers shape s r n w l make.Rows h = elim h.3 [
-  | inl i ↦ absurd (omega (arith, i, w))
-  | inr i ↦ absurd (omega (arith, i, w))
-]
-open_fault workers shape s r n w l make.LogWords h = elim h.4 [
-  | inl i ↦ absurd (omega (arith, i, l))
-  | inr i ↦ absurd (omega (arith, i, l))
-]
-open_fault workers shape s r n w l make.NotEnded h = h
-open_fault workers shape s r n w l make.Numbers h = h
-open_fault workers shape s r n w l make.NoMemory h =
-    let low = h.senders.0 in
-    let high = h.senders.1 in (omega (arith, low, s), omega (arith, high, s))

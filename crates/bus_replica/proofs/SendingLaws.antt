@@ -1,11 +1,11 @@
 -- What a sender has put stays what it has put, by the same numbers, whatever else it does.
 use Rattle.std.proofs.Common.{◌≡◌, ℕ, ◌+◌, Bool, true, false, List, [], ◌∷◌, ◌++◌, length, Option}
-use Rattle.std.proofs.Common.{Some, None, refl, sym, ◌∙◌, ap, subst}
-use Rattle.std.specs.Prelude.{IfSome, IfNone, IfOk, IfErr, Result, Ok, Err, OnErr, OnOk, is_ok}
+use Rattle.std.proofs.Common.{Some, None, inl, inr, refl, sym, ◌∙◌, ap, subst}
+use Rattle.std.specs.Prelude.{IfSome, IfNone, IfOk, Result, Ok, Err, OnErr, OnOk}
 use Rattle.atomic_table.specs.declared.shared.Seat.{Seat}
-use Rattle.bus_batch.specs.Batches.{CanPut, IsCloseFault, next_of}
+use Rattle.bus_batch.specs.Batches.{CanPut, next_of}
 use Rattle.bus_batch.specs.declared.batches.CloseFault.{CloseFault}
-use Rattle.bus_batch.specs.declared.messages.Mark.{Mark}
+use Rattle.bus_batch.specs.declared.messages.Mark.TheVariants as mark
 use Rattle.bus_core.specs.Senders.{Sender as Held}
 use Rattle.bus_tenure.specs.Core.{Election}
 use Rattle.bus_tenure.specs.declared.pages.Page.{Page}
@@ -19,27 +19,43 @@ use Rattle.bus_pageslot.specs.Finishing.{GoesThrough, Begun, Through, HasFinishe
 use Rattle.bus_pageslot.specs.Looks.{LooksForRoom}
 use Rattle.bus_pageslot.specs.Rule.{Sat}
 use Rattle.bus_pageslot.specs.Seats.{SenderSeat, first_number_of, actions_of, sender_trail_of}
+use Rattle.bus_pageslot.specs.Seats.{table_of}
 use Rattle.bus_pageslot.specs.Staying.{IsSameSender}
 use Rattle.bus_pageslot.specs.Steps.{all_in}
 use Rattle.bus_pageslot.specs.Turns.{Tellings, Turned, AsksOn, Begins, Goes, Asks, SendsAsking}
 use Rattle.bus_pageslot.specs.Turns.{StopsWaiting}
 use Rattle.bus_pageslot.specs.declared.rule.View.{View}
-use Rattle.bus_replica.specs.Causes.{WasAnswered, WasRefused, RefusesLeave}
-use Rattle.bus_replica.specs.Replicas.{PutsMore, PutsStay, WorksOn, Rests, Turns, Puts, Marks}
-use Rattle.bus_replica.specs.Replicas.{Looks, Operations, Replicated, StandsLast}
+use Rattle.bus_replica.specs.Causes.{WasAnswered}
+use Rattle.bus_replica.specs.Replicas.{PutsMore, PutsStay, PutsOnce, WorksOn, Rests, Turns, Puts}
+use Rattle.bus_replica.specs.Replicas.{Leaves, Looks, TakesLeave, Operations, Replicated}
+use Rattle.bus_replica.specs.Replicas.{StandsLast}
 
 -- ---- what a sender does, one after another
-pub works_trans : {C : Type 0} (P : Process C) (T : Tellings C) (a b c : SenderSeat C)
-    → WorksOn P T a b → WorksOn P T b c → WorksOn P T a c
-works_trans P T a b _ before Rests = before
-works_trans P T a b _ before (Turns old word answer new later turned) =
-    Turns old word answer new (works_trans P T a b old before later) turned
-works_trans P T a b _ before (Puts old bytes new later takes) =
-    Puts old bytes new (works_trans P T a b old before later) takes
-works_trans P T a b _ before (Marks old mark new later core seat) =
-    Marks old mark new (works_trans P T a b old before later) core seat
-works_trans P T a b _ before (Looks old new later core did) =
-    Looks old new (works_trans P T a b old before later) core did
+pub works_trans : {C : Type 0} (P : Process C) (T : Tellings C) (leaves : Bool)
+    (a b c : SenderSeat C) → WorksOn P T leaves a b → WorksOn P T leaves b c
+    → WorksOn P T leaves a c
+works_trans P T leaves a b _ before Rests = before
+works_trans P T leaves a b _ before (Turns old word answer new later turned) =
+    Turns old word answer new (works_trans P T leaves a b old before later) turned
+works_trans P T leaves a b _ before (Puts old bytes new later takes) =
+    Puts old bytes new (works_trans P T leaves a b old before later) takes
+works_trans P T leaves a b _ before (Leaves old new may later takes) =
+    Leaves old new may (works_trans P T leaves a b old before later) takes
+works_trans P T leaves a b _ before (Looks old new later core did table) =
+    Looks old new (works_trans P T leaves a b old before later) core did table
+
+-- of who does not leave, as of who does
+pub works_also : {C : Type 0} (P : Process C) (T : Tellings C) (leaves : Bool) (a b : SenderSeat C)
+    → WorksOn P T false a b → WorksOn P T leaves a b
+works_also P T leaves a _ Rests = Rests
+works_also P T leaves a _ (Turns old word answer new before turned) =
+    Turns old word answer new (works_also P T leaves a old before) turned
+works_also P T leaves a _ (Puts old bytes new before takes) =
+    Puts old bytes new (works_also P T leaves a old before) takes
+works_also P T leaves a _ (Leaves old new may before takes) =
+    absurd (let bad : false ≡ true = may in cc)
+works_also P T leaves a _ (Looks old new before core did table) =
+    Looks old new (works_also P T leaves a old before) core did table
 
 same_on : {C : Type 0} (P : Process C) (a b c : SenderSeat C) → IsSameSender P a b
     → IsSameSender P b c → IsSameSender P a c
@@ -63,7 +79,8 @@ module _ {C : Type 0} (P : Process C) (T : Tellings C)
       (turned_same old new word answer turned)
 
   asks_work : {F : Type 0} (Tells : F → Bool → F → Type 0) (first : SenderSeat C) (given : F)
-      (new : SenderSeat C) (f : F) → AsksOn P T Tells first given new f → WorksOn P T first new
+      (new : SenderSeat C) (f : F) → AsksOn P T Tells first given new f
+      → WorksOn P T false first new
   asks_work Tells first given _ _ Begins = Rests
   asks_work Tells first given _ _ (Goes old f word answer new before turned last goes) =
       Turns old word answer new (asks_work Tells first given old f before) turned
@@ -84,7 +101,7 @@ module _ {C : Type 0} (P : Process C) (T : Tellings C)
   pub tried_works : {F : Type 0} (Tells : F → Bool → F → Type 0) (first : SenderSeat C) (given : F)
       (result : Option Turn) (new : SenderSeat C)
       → IfSome result (λ turn. SendsAsking P T Tells first given turn new)
-      → IfNone result (StopsWaiting P T Tells first given new) → WorksOn P T first new
+      → IfNone result (StopsWaiting P T Tells first given new) → WorksOn P T false first new
   tried_works Tells first given None new some none =
       Turns none.old none.word none.answer new
       (asks_work Tells first given none.old none.asked none.before) none.turned
@@ -95,7 +112,7 @@ module _ {C : Type 0} (P : Process C) (T : Tellings C)
   pub tried_answered : {F : Type 0} (Tells : F → Bool → F → Type 0) (first : SenderSeat C)
       (given : F) (result : Option Turn) (new : SenderSeat C)
       → IfSome result (λ turn. SendsAsking P T Tells first given turn new)
-      → IfSome result (λ turn. WasAnswered P T first turn new)
+      → IfSome result (λ turn. WasAnswered P T false first turn new)
   tried_answered Tells first given None new some = tt
   tried_answered Tells first given (Some answer) new some = record {
     at = some.old;
@@ -110,7 +127,7 @@ module _ {C : Type 0} (P : Process C) (T : Tellings C)
 module _ {E : Type 0} (X : Election E) (P : Process (Held E)) (T : Tellings (Held E)) where
   through_works : (tenure : ℕ) (first : SenderSeat (Held E)) (count : ℕ)
       (new : SenderSeat (Held E)) → GoesThrough P T tenure first count new
-      → WorksOn P T first new
+      → WorksOn P T false first new
   through_works tenure first _ _ (Begun begun) = Rests
   through_works tenure first _ _ (Through count old word answer new before turned last behind
       begun) =
@@ -126,7 +143,7 @@ module _ {E : Type 0} (X : Election E) (P : Process (Held E)) (T : Tellings (Hel
     puts_are = puts;
     first_is = ap (first_number_of P) none.0;
     me_is = ap (λ (s : SenderSeat (Held E)). P.me s.core) none.0;
-    works = subst (λ z. WorksOn P T first z) (sym none.0) Rests;
+    works = subst (λ z. WorksOn P T false first z) (sym none.0) Rests;
   }
   finished_stays first (Some answer) new puts none some same =
       let one = same first new answer some in
@@ -148,31 +165,34 @@ stay_on P T a b c h k = record {
   puts_are = k.puts_are ∙ h.puts_are;
   first_is = k.first_is ∙ h.first_is;
   me_is = k.me_is ∙ h.me_is;
-  works = works_trans P T a b c h.works k.works;
+  works = works_trans P T false a b c h.works k.works;
 }
 
--- what changes neither the sender nor what it did
+-- what changes neither the sender nor what it did nor its table
 did_nothing : {C : Type 0} (P : Process C) (T : Tellings C) (old new : SenderSeat C)
-    → new.core ≡ old.core → sender_trail_of P new ≡ sender_trail_of P old → PutsStay P T old new
-did_nothing P T old new core did = record {
+    → new.core ≡ old.core → sender_trail_of P new ≡ sender_trail_of P old
+    → table_of new ≡ table_of old → PutsStay P T old new
+did_nothing P T old new core did table = record {
   puts_are = ap (λ (t : SenderTrail). puts t.actions) did;
   first_is = ap (λ (t : SenderTrail). t.first) did;
   me_is = ap P.me core;
-  works = Looks old new Rests core did;
+  works = Looks old new Rests core did table;
 }
 
 -- a look whether there is room
 pub look_stays : {C : Type 0} (P : Process C) (T : Tellings C) (A : Plan → Automaton C)
     (old new : SenderSeat C) (fits : Bool)
-    → (plan : Plan) × LooksForRoom P (A plan) old fits new → PutsStay P T old new
-look_stays P T A old new fits h = did_nothing P T old new h.1.core h.1.did
+    → (plan : Plan) × LooksForRoom P (A plan) old fits new → table_of new ≡ table_of old
+    → PutsStay P T old new
+look_stays P T A old new fits h table = did_nothing P T old new h.1.core h.1.did table
 
 -- a receiver that is told
 pub told_stays : {C : Type 0} (P : Process C) (T : Tellings C) (old new : SenderSeat C)
-    → new.core ≡ old.core → new.seat.me ≡ old.seat.me → PutsStay P T old new
-told_stays {C} P T old new core me =
+    → new.core ≡ old.core → new.seat.me ≡ old.seat.me → table_of new ≡ table_of old
+    → PutsStay P T old new
+told_stays {C} P T old new core me table =
     did_nothing P T old new core
-    (ap (λ (m : Sat C). all_in P m.0 new.core) me ∙ ap (all_in P old.seat.me.0) core)
+    (ap (λ (m : Sat C). all_in P m.0 new.core) me ∙ ap (all_in P old.seat.me.0) core) table
 
 -- ---- puts
 -- a put by its contract
@@ -223,7 +243,7 @@ stays_more P T first old new number bytes stays more = record {
       more.number_is ∙ ap (λ z. z + length (puts (actions_of P old))) stays.first_is
       ∙ ap (λ z. first_number_of P first + length z) stays.puts_are;
   me_is = more.me_is ∙ stays.me_is;
-  works = works_trans P T first old new stays.works more.works;
+  works = works_trans P T false first old new stays.works more.works;
 }
 
 pub more_stays : {C : Type 0} (P : Process C) (T : Tellings C) (first old new : SenderSeat C)
@@ -234,7 +254,7 @@ more_stays P T first old new number bytes more stays = record {
   first_is = stays.first_is ∙ more.first_is;
   number_is = more.number_is;
   me_is = stays.me_is ∙ more.me_is;
-  works = works_trans P T first old new more.works stays.works;
+  works = works_trans P T false first old new more.works stays.works;
 }
 
 -- what a refused put or mark leaves
@@ -254,26 +274,38 @@ put_stays {C} P T (Err e) old new core seat =
     (stay P T old)
 
 -- ---- a leave by its contract
-pub mark_works : {C : Type 0} (P : Process C) (T : Tellings C)
-    (result : Result (Unit {0}) CloseFault) (old new : SenderSeat C) (mark : Mark)
-    → OnOk result (new.core ≡ P.with_mark old.core mark) → OnErr result (new.core ≡ old.core)
-    → new.seat ≡ old.seat → WorksOn P T old new
-mark_works P T (Ok x) old new mark core same seat = Marks old mark new Rests core seat
-mark_works {C} P T (Err e) old new mark core same seat =
-    subst (λ (z : SenderSeat C). WorksOn P T old z) (sym (same_seat old new same seat)) Rests
+pub leave_taken : {C : Type 0} (P : Process C) (result : Result (Unit {0}) CloseFault)
+    (old new : SenderSeat C) → OnOk result (new.core ≡ P.with_mark old.core mark.Leave)
+    → new.seat ≡ old.seat → OnOk result (TakesLeave P old new)
+leave_taken P (Ok x) old new core seat = record { core = core; seat = seat }
+leave_taken P (Err e) old new core seat = tt
 
-pub mark_refused : {C : Type 0} (P : Process C) (T : Tellings C)
-    (result : Result (Unit {0}) CloseFault) (old new : SenderSeat C)
-    → IfErr result (IsCloseFault (P.queue old.core)) → OnErr result (new.core ≡ old.core)
-    → new.seat ≡ old.seat → is_ok result ≡ false → WasRefused P T RefusesLeave old new
-mark_refused P T (Ok x) old new fault same seat left = absurd (let bad : true ≡ false = left in cc)
-mark_refused {C} P T (Err e) old new fault same seat left = record {
-  at = old;
-  before = Rests;
-  so = (e, fault);
-  behind =
-      subst (λ (z : SenderSeat C). WorksOn P T old z) (sym (same_seat old new same seat)) Rests;
-}
+pub leave_refused : {C : Type 0} (result : Result (Unit {0}) CloseFault) (old new : SenderSeat C)
+    → OnErr result (new.core ≡ old.core) → new.seat ≡ old.seat → OnErr result (new ≡ old)
+leave_refused (Ok x) old new core seat = tt
+leave_refused (Err e) old new core seat = same_seat old new core seat
+
+-- a put that was refused, with what follows it
+pub refused_settled : {C V E : Type 0} (P : Process C) (T : Tellings C)
+    (first old new : SenderSeat C) (result : Result V E) → PutsStay P T old new
+    → OnErr result (PutsStay P T first old) → OnErr result (PutsStay P T first new)
+refused_settled P T first old new (Ok x) behind stays = tt
+refused_settled P T first old new (Err e) behind stays = stay_on P T first old new stays behind
+
+-- an operation that was put or not, with what follows it
+once_stays : {C : Type 0} (P : Process C) (T : Tellings C) (first old new : SenderSeat C)
+    (bytes : List ℕ) → PutsOnce P T first old bytes → PutsStay P T old new
+    → PutsOnce P T first new bytes
+once_stays P T first old new bytes (inl stays) behind = inl (stay_on P T first old new stays behind)
+once_stays P T first old new bytes (inr more) behind =
+    inr (more.0, more_stays P T first old new more.0 bytes more.1 behind)
+
+pub once_settled : {C V E : Type 0} (P : Process C) (T : Tellings C) (first old new : SenderSeat C)
+    (bytes : List ℕ) (result : Result V E) → PutsStay P T old new
+    → OnErr result (PutsOnce P T first old bytes) → OnErr result (PutsOnce P T first new bytes)
+once_settled P T first old new bytes (Ok x) behind once = tt
+once_settled P T first old new bytes (Err e) behind once =
+    once_stays P T first old new bytes once behind
 
 -- a put, with what follows it
 pub put_settled : {C E : Type 0} (P : Process C) (T : Tellings C) (first old new : SenderSeat C)

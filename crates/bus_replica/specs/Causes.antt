@@ -2,8 +2,7 @@
 use Rattle.std.specs.Prelude.{◌≡◌, ◌⊎◌, ℕ, ◌<◌, Bool, true, false, Result, Err}
 use Rattle.bus_adoptcommit.specs.ThreeWord.{kind_at, op_of, fed_of}
 use Rattle.bus_adoptcommit.specs.ThreeWordKeeps.{three_word}
-use Rattle.bus_batch.specs.Batches.{Pending, IsCloseFault, IsShut}
-use Rattle.bus_batch.specs.declared.batches.CloseFault.{CloseFault}
+use Rattle.bus_batch.specs.Batches.{IsShut}
 use Rattle.bus_deliverylog.specs.declared.receiving.RecvTurn.TheVariants as recv
 use Rattle.bus_tenure.specs.declared.turns.Turn.{Turn}
 use Rattle.bus_tenure.specs.declared.turns.Turn.TheVariants as turn
@@ -30,36 +29,32 @@ pub record HearsEnd {C : Type 0} (old new : Sat C) : Type 0 where
   pub last : Hears before recv.End new
 
 -- a turn of the sender was answered so
-pub record WasAnswered {C : Type 0} (P : Process C) (T : Tellings C) (old : SenderSeat C)
-    (answer : Turn) (new : SenderSeat C) : Type 0 where
+pub record WasAnswered {C : Type 0} (P : Process C) (T : Tellings C) (leaves : Bool)
+    (old : SenderSeat C) (answer : Turn) (new : SenderSeat C) : Type 0 where
   pub at : SenderSeat C
   pub word : ℕ
   pub after : SenderSeat C
-  pub before : WorksOn P T old at
+  pub before : WorksOn P T leaves old at
   pub turned : Turned P T at word answer after
-  pub behind : WorksOn P T after new
+  pub behind : WorksOn P T leaves after new
 
--- the sender was to take a message or a mark, and its batch refused that, since it was so
-pub record WasRefused {C : Type 0} (P : Process C) (T : Tellings C) (IsSo : Pending → Type 0)
+-- the sender was to take a message or a mark, and its batch refused that, since it is shut
+pub record WasShut {C : Type 0} (P : Process C) (T : Tellings C) (leaves : Bool)
     (old new : SenderSeat C) : Type 0 where
   pub at : SenderSeat C
-  pub before : WorksOn P T old at
-  pub so : IsSo (P.queue at.core)
-  pub behind : WorksOn P T at new
-
--- a leave is refused for some cause
-abbrev pub RefusesLeave : Pending → Type 0
-RefusesLeave b = (why : CloseFault) × IsCloseFault b why
+  pub before : WorksOn P T leaves old at
+  pub shut : IsShut (P.queue at.core)
+  pub behind : WorksOn P T leaves at new
 
 -- The order has ended, or this worker has left it: its receiver was answered the end; its sender
 -- was answered that the order has ended or that it has left; or its sender was refused.
-abbrev pub HasEnded : {C S : Type 0} → Process C → Tellings C → (Pending → Type 0)
+abbrev pub HasEnded : {C S : Type 0} → Process C → Tellings C → (leaves : Bool)
     → Replicated C S → Replicated C S → Type 0
-HasEnded P T IsSo old new =
+HasEnded P T leaves old new =
     HearsEnd old.me new.me
-    ⊎ (WasAnswered P T old.sender turn.Closed new.sender
-    ⊎ (((tenure : ℕ) × WasAnswered P T old.sender (turn.Left tenure) new.sender)
-    ⊎ WasRefused P T IsSo old.sender new.sender))
+    ⊎ (WasAnswered P T leaves old.sender turn.Closed new.sender
+    ⊎ (((tenure : ℕ) × WasAnswered P T leaves old.sender (turn.Left tenure) new.sender)
+    ⊎ WasShut P T leaves old.sender new.sender))
 
 -- ---- a function that is asked whether to go on; Tells f told f' where a call of f may tell that,
 -- and leaves f'
@@ -81,9 +76,9 @@ pub record SaysStop {F : Type 0} (Tells : F → Bool → F → Type 0) (first : 
 abbrev pub IsCause : {C S : Type 0} → Process C → Tellings C → (Long Stops : Type 0)
     → Replicated C S → Replicated C S → Fault → Type 0
 IsCause P T Long Stops old new fault.TooLong = Long
-IsCause P T Long Stops old new fault.Ended = HasEnded P T IsShut old new
+IsCause P T Long Stops old new fault.Ended = HasEnded P T false old new
 IsCause P T Long Stops old new fault.Spent =
-    WasAnswered P T old.sender turn.Spent new.sender
+    WasAnswered P T false old.sender turn.Spent new.sender
 IsCause P T Long Stops old new fault.Stopped = Stops
 IsCause P T Long Stops old new (fault.MissingWorker worker) = ⊥
 
@@ -97,9 +92,9 @@ pub record IsFirstMissing {C S : Type 0} (workers : ℕ) (new : Replicated C S) 
 abbrev pub IsEndCause : {C S : Type 0} → Process C → Tellings C → (Stops : Type 0)
     → (workers : ℕ) → Replicated C S → Replicated C S → Fault → Type 0
 IsEndCause P T Stops workers old new fault.TooLong = ⊥
-IsEndCause P T Stops workers old new fault.Ended = HasEnded P T RefusesLeave old new
+IsEndCause P T Stops workers old new fault.Ended = HasEnded P T true old new
 IsEndCause P T Stops workers old new fault.Spent =
-    WasAnswered P T old.sender turn.Spent new.sender
+    WasAnswered P T true old.sender turn.Spent new.sender
 IsEndCause P T Stops workers old new fault.Stopped = Stops
 IsEndCause P T Stops workers old new (fault.MissingWorker worker) =
     Stops × IsFirstMissing workers new worker.0

@@ -1,25 +1,20 @@
 -- The replicas of a bus that is new.
-use Rattle.std.specs.Prelude.{◌≡◌, ℕ, ◌+◌, ◌≤◌, true, List, [], length, slice_get, Some}
-use Rattle.bus_register.specs.declared.limits.TheConstants.{MOST_SENDERS}
+use Rattle.std.specs.Prelude.{◌≡◌, ℕ, ◌+◌, ◌≤◌, List, [], length, slice_get, Some, None}
+use Rattle.bus_register.specs.declared.limits.TheConstants.{MOST_SENDERS, MOST_FRAME_WORDS}
+use Rattle.bus_register.specs.declared.limits.TheConstants.{MOST_LOG_WORDS}
 use Rattle.bus_world.specs.Playing.{Within, Beyond}
-use Rattle.bus_world.specs.declared.shapes.MakeFault.{MakeFault}
-use Rattle.bus_world.specs.declared.shapes.MakeFault.TheVariants as make
+use Rattle.bus_world.specs.declared.shapes.Shape.{Shape}
+use Rattle.bus_automaton.specs.Buses.{ring_plan}
 use Rattle.bus_automaton.specs.Processes.{Process, Automaton}
 use Rattle.bus_automaton.specs.declared.plans.Plan.{Plan}
 use Rattle.bus_pageslot.specs.Buses.{BusId, IsNewSeat}
 use Rattle.bus_pageslot.specs.ReceiverViews.{new_receiver_view}
-use Rattle.bus_pageslot.specs.Rule.{receiver_view_in, known_in}
 use Rattle.bus_pageslot.specs.Seats.{SenderSeat}
-use Rattle.bus_pageslot.specs.declared.rule.View.{View}
 use Rattle.bus_pageslot.specs.declared.rule.View.TheVariants.{Tap}
 use Rattle.bus_handles.specs.Handles.{SeatOfBus}
-use Rattle.bus_replica.specs.Replicas.{Replicated, items_heard, has_view}
-
--- a receiver that was given nothing yet
-pub record HasHeardNothing {C : Type 0} (v : View C) : Type 0 where
-  pub heard : has_view v ≡ true
-  pub none : items_heard v ≡ []
-  pub within : (receiver_view_in v).place ≤ length (known_in v)
+use Rattle.bus_replica.specs.Replicas.{Replicated}
+use Rattle.bus_replica.specs.declared.faults.OpenFault.{OpenFault}
+use Rattle.bus_replica.specs.declared.faults.OpenFault.TheVariants as opening
 
 -- A replica of this bus before its first call: of the worker of this number, which has put nothing;
 -- its receiver has taken no turn, and its state is a first one.
@@ -31,33 +26,43 @@ pub record IsNewReplica {C S : Type 0} (P : Process C) (A : Automaton C) (IsFirs
   pub receiver : r.me ≡ (Tap A.table_layout (new_receiver_view worker), [])
   pub first : IsFirst r.state
 
--- one for each of so many workers, in order; and the bus is for so many
+-- the sizes of the bus of so many workers, over a ring of so many words
+abbrev pub replica_shape : (workers words : ℕ) → Shape
+replica_shape workers words = record {
+  senders = workers;
+  receivers = workers;
+  rounds = 1;
+  rows = 8;
+  log_words = words;
+}
+
+-- one for each of so many workers, in order, of one bus that is made for these, over such a ring
 pub record AreNewReplicas {C S : Type 0} (P : Process C) (A : Plan → Automaton C)
-    (IsFirst : S → Type 0) (workers : ℕ) (made : List (Replicated C S)) : Type 0 where
+    (IsFirst : S → Type 0) (workers words : ℕ) (made : List (Replicated C S)) : Type 0 where
   pub bus : BusId
-  pub workers_are : bus.plan.shape.senders ≡ workers
+  pub plan_is : bus.plan ≡ ring_plan (replica_shape workers words) None
   pub many : length made ≡ workers
   pub each : (k : ℕ) (r : Replicated C S) → slice_get made k ≡ Some r
       → IsNewReplica P (A bus.plan) IsFirst bus k r
 
--- why there are none: no bus has so many workers, or memory was refused
-abbrev pub IsOpenFault : (workers : ℕ) → MakeFault → Type 0
-IsOpenFault workers make.Senders = Beyond 1 MOST_SENDERS workers
-IsOpenFault workers make.Receivers = ⊥
-IsOpenFault workers make.Rounds = ⊥
-IsOpenFault workers make.Rows = ⊥
-IsOpenFault workers make.LogWords = ⊥
-IsOpenFault workers make.NotEnded = ⊥
-IsOpenFault workers make.Numbers = ⊥
-IsOpenFault workers make.NoMemory = Within 1 MOST_SENDERS workers
+-- why there are none, of several the first: no bus has so many workers, or no ring of replicas has
+-- so many words; or memory was refused
+abbrev pub IsOpenFault : (workers words : ℕ) → OpenFault → Type 0
+IsOpenFault workers words opening.Workers = Beyond 1 MOST_SENDERS workers
+IsOpenFault workers words opening.LogWords =
+    Within 1 MOST_SENDERS workers × Beyond MOST_FRAME_WORDS MOST_LOG_WORDS words
+IsOpenFault workers words opening.NoMemory =
+    Within 1 MOST_SENDERS workers × Within MOST_FRAME_WORDS MOST_LOG_WORDS words
 
--- The first replicas of a bus of so many workers are made, and these senders and receivers are left
--- for the others, before their first turns.
+-- The first replicas of a bus of this shape are made, and these senders and receivers are left for
+-- the others, before their first turns.
 pub record IsPairing {C S : Type 0} (P : Process C) (A : Plan → Automaton C)
-    (IsFirst : S → Type 0) (workers : ℕ) (made : List (Replicated C S))
+    (IsFirst : S → Type 0) (shape : Shape) (made : List (Replicated C S))
     (senders : List (SenderSeat C)) (receivers : List (SeatOfBus C)) : Type 0 where
   pub bus : BusId
-  pub workers_are : bus.plan.shape.senders ≡ workers
+  pub shape_is : shape ≡ replica_shape shape.senders shape.log_words
+  pub plan_is : bus.plan ≡ ring_plan shape None
+  pub few : shape.senders ≤ MOST_SENDERS
   pub each : (k : ℕ) (r : Replicated C S) → slice_get made k ≡ Some r
       → IsNewReplica P (A bus.plan) IsFirst bus k r
   pub senders_are : (k number : ℕ) (s : SenderSeat C) → slice_get senders k ≡ Some s
@@ -65,5 +70,5 @@ pub record IsPairing {C S : Type 0} (P : Process C) (A : Plan → Automaton C)
   pub receivers_are : (k number : ℕ) (r : SeatOfBus C) → slice_get receivers k ≡ Some r
       → number ≡ length made + k
       → (r.bus ≡ bus) × (r.me ≡ (Tap (A bus.plan).table_layout (new_receiver_view number), []))
-  pub many : length made + length senders ≡ workers
+  pub many : length made + length senders ≡ shape.senders
   pub as_many : length receivers ≡ length senders

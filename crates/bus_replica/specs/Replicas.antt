@@ -1,6 +1,6 @@
 -- A replica: a state that operations of a receiver's trail led to.
-use Rattle.std.specs.Prelude.{◌≡◌, ℕ, ◌+◌, ◌<◌, ◌≤◌, Bool, true, false, List, [], ◌∷◌, ◌++◌}
-use Rattle.std.specs.Prelude.{length, flat_map}
+use Rattle.std.specs.Prelude.{◌≡◌, ◌⊎◌, ℕ, ◌+◌, ◌<◌, ◌≤◌, Bool, true, false, List, []}
+use Rattle.std.specs.Prelude.{◌∷◌, ◌++◌, length, flat_map}
 use Rattle.bus_batch.specs.declared.messages.Item.{Item}
 use Rattle.bus_batch.specs.Frames.{has_gone}
 use Rattle.bus_pageslot.specs.Buses.{BusId}
@@ -13,11 +13,12 @@ use Rattle.bus_pageslot.specs.Listening.{Hears}
 use Rattle.bus_pageslot.specs.Steps.{Learns}
 use Rattle.bus_receiver.specs.HearingRuns.{item_in}
 use Rattle.bus_deliverylog.specs.declared.receiving.RecvTurn.TheVariants as turn
-use Rattle.bus_batch.specs.declared.messages.Mark.{Mark}
+use Rattle.bus_batch.specs.declared.messages.Mark.TheVariants as mark
 use Rattle.bus_tenure.specs.declared.turns.Turn.{Turn}
 use Rattle.bus_world.specs.Headline.{puts, order_given}
 use Rattle.bus_automaton.specs.Processes.{Process}
 use Rattle.bus_pageslot.specs.Seats.{SenderSeat, first_number_of, actions_of, sender_trail_of}
+use Rattle.bus_pageslot.specs.Seats.{table_of}
 use Rattle.bus_pageslot.specs.Sendings.{Takes}
 use Rattle.bus_pageslot.specs.Turns.{Tellings, Turned}
 
@@ -140,19 +141,27 @@ pub record Replicated (C S : Type 0) : Type 0 where
   pub me : Sat C
   pub state : S
 
--- What a replica did with its sender led from one sender to another: turns; messages and marks that
--- it took; and what changes neither the sender nor what it did, as looks whether there is room.
-pub data WorksOn {C : Type 0} (P : Process C) (T : Tellings C) (first : SenderSeat C) :
-    SenderSeat C → Type 0 where
-  Rests : WorksOn P T first first
+-- a sender took a leave mark into its batch, with no step
+pub record TakesLeave {C : Type 0} (P : Process C) (old new : SenderSeat C) : Type 0 where
+  pub core : new.core ≡ P.with_mark old.core mark.Leave
+  pub seat : new.seat ≡ old.seat
+
+-- What a replica did with its sender led from one sender to another: turns; messages that it took;
+-- where it leaves, leave marks; and what changes neither the sender nor what it did nor its table,
+-- as looks whether there is room.
+pub data WorksOn {C : Type 0} (P : Process C) (T : Tellings C) (leaves : Bool)
+    (first : SenderSeat C) : SenderSeat C → Type 0 where
+  Rests : WorksOn P T leaves first first
   Turns : (old : SenderSeat C) (word : ℕ) (answer : Turn) (new : SenderSeat C)
-      → WorksOn P T first old → Turned P T old word answer new → WorksOn P T first new
-  Puts : (old : SenderSeat C) (bytes : List ℕ) (new : SenderSeat C) → WorksOn P T first old
-      → Takes P old bytes new → WorksOn P T first new
-  Marks : (old : SenderSeat C) (mark : Mark) (new : SenderSeat C) → WorksOn P T first old
-      → new.core ≡ P.with_mark old.core mark → new.seat ≡ old.seat → WorksOn P T first new
-  Looks : (old new : SenderSeat C) → WorksOn P T first old → new.core ≡ old.core
-      → sender_trail_of P new ≡ sender_trail_of P old → WorksOn P T first new
+      → WorksOn P T leaves first old → Turned P T old word answer new
+      → WorksOn P T leaves first new
+  Puts : (old : SenderSeat C) (bytes : List ℕ) (new : SenderSeat C)
+      → WorksOn P T leaves first old → Takes P old bytes new → WorksOn P T leaves first new
+  Leaves : (old new : SenderSeat C) → leaves ≡ true → WorksOn P T leaves first old
+      → TakesLeave P old new → WorksOn P T leaves first new
+  Looks : (old new : SenderSeat C) → WorksOn P T leaves first old → new.core ≡ old.core
+      → sender_trail_of P new ≡ sender_trail_of P old → table_of new ≡ table_of old
+      → WorksOn P T leaves first new
 
 -- so it has put these bytes behind all that it had put before, by this number; it is the same
 -- worker's sender
@@ -162,7 +171,7 @@ pub record PutsMore {C : Type 0} (P : Process C) (T : Tellings C) (old new : Sen
   pub first_is : first_number_of P new ≡ first_number_of P old
   pub number_is : number ≡ first_number_of P old + length (puts (actions_of P old))
   pub me_is : P.me new.core ≡ P.me old.core
-  pub works : WorksOn P T old new
+  pub works : WorksOn P T false old new
 
 -- or its puts are the same as before, and so is the number of its first message
 pub record PutsStay {C : Type 0} (P : Process C) (T : Tellings C) (old new : SenderSeat C) :
@@ -170,4 +179,10 @@ pub record PutsStay {C : Type 0} (P : Process C) (T : Tellings C) (old new : Sen
   pub puts_are : puts (actions_of P new) ≡ puts (actions_of P old)
   pub first_is : first_number_of P new ≡ first_number_of P old
   pub me_is : P.me new.core ≡ P.me old.core
-  pub works : WorksOn P T old new
+  pub works : WorksOn P T false old new
+
+-- or it has put these bytes, or nothing
+abbrev pub PutsOnce : {C : Type 0} → Process C → Tellings C → SenderSeat C → SenderSeat C → List ℕ
+    → Type 0
+PutsOnce P T old new bytes =
+    PutsStay P T old new ⊎ ((number : ℕ) × PutsMore P T old new number bytes)

@@ -1,4 +1,4 @@
-//! Why an operation was not executed.
+//! Why an operation was not executed, or replicas not opened.
 
 use bus_register::SenderNo;
 use std::error::Error;
@@ -15,7 +15,8 @@ pub enum Fault {
     Spent,
     /// The closure said to stop. What was put and not sent waits still.
     Stopped,
-    /// The closure of `finish_while` said to stop before this worker has left: the first such.
+    /// The closure of `leave_while` or `finish_while` said to stop before this worker has left, and
+    /// those before it have.
     MissingWorker(SenderNo),
 }
 
@@ -29,6 +30,29 @@ impl fmt::Display for Fault {
             Fault::Spent => f.write_str("all tenures are spent"),
             Fault::Stopped => f.write_str("told to stop"),
             Fault::MissingWorker(worker) => write!(f, "worker {} has not left", worker.0),
+        }
+    }
+}
+
+/// Why no replicas were opened: the first of these that holds.
+#[derive(Clone, Copy, Debug, PartialEq, Eq)]
+pub enum OpenFault {
+    /// There are 1 to 64 workers.
+    Workers,
+    /// The log has 129 to 65,536 words.
+    LogWords,
+    /// There is no memory for it.
+    NoMemory,
+}
+
+impl Error for OpenFault {}
+
+impl fmt::Display for OpenFault {
+    fn fmt<W: fmt::Write>(&self, f: &mut fmt::Formatter<W>) -> fmt::Result {
+        match self {
+            OpenFault::Workers => f.write_str("not 1 to 64 workers"),
+            OpenFault::LogWords => f.write_str("not a log of 129 to 65,536 words"),
+            OpenFault::NoMemory => f.write_str("no memory"),
         }
     }
 }

@@ -1,7 +1,8 @@
 //! A receiver, and the state that it applies to all that it hears.
 
 ghost use Rattle.std.specs.Prelude.{◌≡◌, ℕ, ◌<◌, IfOk, IfErr, IfSome, IfNone, IsTrue, true};
-ghost use Rattle.bus_pageslot.specs.Seats.{table_of, actions_of, stored_of};
+ghost use Rattle.bus_pageslot.specs.Rule.{receiver_view_in};
+ghost use Rattle.bus_pageslot.specs.Seats.{table_of};
 ghost use Rattle.bus_automaton.specs.ThreeWordBuses.{process};
 ghost use Rattle.bus_replica.specs.Causes.{HearsEnd};
 ghost use Rattle.bus_replica.specs.Replicas.{IsFold, StandsLast, GoesOn, HasCaughtUp, HearsOut};
@@ -77,6 +78,13 @@ impl<S: State> Hearer<S> {
         ensures fold { IsFold S.is_first S.applies self.now.me.0 self.now.state }
     {
         &self.state
+    }
+
+    /// How many words the receiver has read.
+    pub fn place(&self) -> u64
+        ensures { result ≡ (receiver_view_in self.now.me.0).place }
+    {
+        self.receiver.place()
     }
 
     /// The state, without the receiver, which leaves.

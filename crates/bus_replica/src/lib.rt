@@ -20,9 +20,10 @@ pub mod laws;
 mod opening;
 mod replicas;
 mod states;
+mod workers;
 
-pub use bus_handles::{MakeFault, SenderNo};
-pub use faults::Fault;
-pub use opening::open_replicas;
+pub use bus_handles::SenderNo;
+pub use faults::{Fault, OpenFault};
+pub use opening::{LOG_WORDS, open_replicas, open_replicas_in};
 pub use replicas::Replica;
 pub use states::State;

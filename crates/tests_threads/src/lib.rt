@@ -1,6 +1,6 @@
-//! Tests of the bus for threads: its turns beside a machine's, its seats, its receivers and whole
-//! runs. They stand above the crates that they test, so that none of those is proved once more for
-//! its tests.
+//! Tests of the bus for threads: its turns beside a machine's, its seats, its receivers, its
+//! replicas and whole runs. They stand above the crates that they test, so that none of those is
+//! proved once more for its tests.
 #![tactic(auto)]
 
 #[cfg(test)]
@@ -9,6 +9,8 @@ mod both;
 mod games;
 #[cfg(test)]
 mod receivers;
+#[cfg(test)]
+mod replicas;
 #[cfg(test)]
 mod runs;
 #[cfg(test)]

@@ -1,5 +1,6 @@
-use Rattle.std.proofs.Common.{ap, subst, sym, ◌∙◌, length}
+use Rattle.std.proofs.Common.{ap, subst, sym, ◌∙◌, length, arith}
 use Rattle.bus_automaton.specs.ThreeWordBuses.{automaton, process}
+use Rattle.bus_automaton.specs.declared.plans.Plan.{Plan}
 use Rattle.bus_pageslot.specs.Buses.{BusId}
 use Rattle.bus_replica.proofs.OpeningLaws.{next_sender, next_receiver, one_more, fold_of_none}
 use Rattle.bus_replica.proofs.OpeningLaws.{all_made}
@@ -7,13 +8,13 @@ use Rattle.bus_replica.proofs.opening.pair.Goals as goal
 
 pub new-requires-clause-table : goal.new-requires-clause-table
 new-requires-clause-table g c =
-    (next_sender process automaton g.S.State.is_first c.args.workers c.loop-receiver.replicas.items
+    (next_sender process automaton g.S.State.is_first c.args.shape c.loop-receiver.replicas.items
     c.in-Some-next.sender c.in-Some.receiver c.loop-receiver.senders.rest.items
     c.next-in-loop-receiver.new.self.rest.items c.loop-receiver.receiver-iterator.rest.items
     c.next.new.self.rest.items c.in-Some-next.ensures.items c.in-Some.ensures.steps.0
     c.loop-receiver.invariant).table_is
     ∙ sym (ap (λ (b : BusId). b.table)
-    (next_receiver process automaton g.S.State.is_first c.args.workers
+    (next_receiver process automaton g.S.State.is_first c.args.shape
     c.loop-receiver.replicas.items c.in-Some-next.sender c.in-Some.receiver
     c.loop-receiver.senders.rest.items c.next-in-loop-receiver.new.self.rest.items
     c.loop-receiver.receiver-iterator.rest.items c.next.new.self.rest.items
@@ -21,19 +22,22 @@ new-requires-clause-table g c =
 
 pub new-requires-clause-workers : goal.new-requires-clause-workers
 new-requires-clause-workers g c =
-    sym c.loop-receiver.invariant.workers_are ∙ sym (ap (λ (b : BusId). b.plan.shape.senders)
-    (next_receiver process automaton g.S.State.is_first c.args.workers
+    let same = ap (λ (p : Plan). p.shape.senders) c.loop-receiver.invariant.plan_is in
+    let few = c.loop-receiver.invariant.few in
+    let here = ap (λ (b : BusId). b.plan.shape.senders)
+    (next_receiver process automaton g.S.State.is_first c.args.shape
     c.loop-receiver.replicas.items c.in-Some-next.sender c.in-Some.receiver
     c.loop-receiver.senders.rest.items c.next-in-loop-receiver.new.self.rest.items
     c.loop-receiver.receiver-iterator.rest.items c.next.new.self.rest.items
-    c.in-Some-next.ensures.items c.in-Some.ensures.steps.0 c.loop-receiver.invariant).0)
+    c.in-Some-next.ensures.items c.in-Some.ensures.steps.0 c.loop-receiver.invariant).0 in
+    omega (arith, same, few, here)
 
 pub new-requires-clause-fold : goal.new-requires-clause-fold
 new-requires-clause-fold g c =
     fold_of_none g.S.State.is_first g.S.State.applies c.in-Some.receiver.me
     (automaton c.loop-receiver.invariant.bus.plan).table_layout
     (length c.loop-receiver.replicas.items) c.in_ok-state.state
-    (next_receiver process automaton g.S.State.is_first c.args.workers
+    (next_receiver process automaton g.S.State.is_first c.args.shape
     c.loop-receiver.replicas.items c.in-Some-next.sender c.in-Some.receiver
     c.loop-receiver.senders.rest.items c.next-in-loop-receiver.new.self.rest.items
     c.loop-receiver.receiver-iterator.rest.items c.next.new.self.rest.items
@@ -42,7 +46,7 @@ new-requires-clause-fold g c =
 
 pub loop-receiver-preserved : goal.loop-receiver-preserved
 loop-receiver-preserved g c =
-    one_more process automaton g.S.State.is_first c.args.workers c.loop-receiver.replicas.items
+    one_more process automaton g.S.State.is_first c.args.shape c.loop-receiver.replicas.items
     c.in-Some-next.sender c.in-Some.receiver c.loop-receiver.senders.rest.items
     c.next-in-loop-receiver.new.self.rest.items c.loop-receiver.receiver-iterator.rest.items
     c.next.new.self.rest.items c.in-Some-next.ensures.items c.in-Some.ensures.steps.0
@@ -55,7 +59,7 @@ pub returns : goal.returns
 returns g c =
     let rest = c.loop-receiver.receiver-iterator.rest in
     record {
-      opened = all_made process automaton g.S.State.is_first c.args.workers
+      opened = all_made process automaton g.S.State.is_first c.args.shape
           c.loop-receiver.replicas.items c.loop-receiver.senders.rest.items rest.items
           c.loop-receiver.invariant (sym rest.ok.0 ∙ c.in-None.ensures.steps.0);
     }

@@ -1,0 +1,15 @@
+use Rattle.std.proofs.Common.{◌≡◌, refl, sym, ap, subst, arith}
+use Rattle.bus_world.specs.declared.shapes.Shape.{Shape}
+use Rattle.bus_automaton.specs.ThreeWordBuses.{automaton, process}
+use Rattle.bus_replica.specs.Openings.{replica_shape}
+use Rattle.bus_replica.proofs.OpeningLaws.{none_made}
+use Rattle.bus_replica.proofs.opening.open_replicas_in.Goals as goal
+
+pub pair-requires : goal.pair-requires
+pair-requires g c =
+    let is = c.shape_of-shape.ensures in
+    none_made process automaton g.S.State.is_first c.shape_of-shape.result
+    c.in-Ok.senders.items c.in-Ok.receivers.items c.in-Ok.ensures.opened
+    (subst (λ (x : Shape). x ≡ replica_shape x.senders x.log_words) (sym is) refl)
+    (let same = ap (λ (x : Shape). x.senders) is in
+    let few = c.if-workers.false in omega (arith, same, few))
