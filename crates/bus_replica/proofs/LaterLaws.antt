@@ -1,13 +1,14 @@
 -- What is put after a moment stands in the order behind all that stood there then.
 use Rattle.std.proofs.Common.{◌≡◌, ℕ, zero, suc, ◌+◌, ◌≤◌, ◌⊎◌, inl, inr, Bool, ◌==◌, Some, Option}
 use Rattle.std.proofs.Common.{List, [], ◌∷◌, ◌++◌, length, map, filter, flat_map, slice_get, refl}
-use Rattle.std.proofs.Common.{sym, ◌∙◌, ap, arith}
+use Rattle.std.proofs.Common.{sym, ◌∙◌, ap, append_assoc, arith}
 use Rattle.std.proofs.lemmas.Grind.{flat_map-append}
 use Rattle.std.proofs.lemmas.List.{length-append, length-map}
 use Rattle.std.proofs.lemmas.Option.{same_Some}
 use Rattle.atomic_table.specs.Table.{State}
 use Rattle.bus_batch.specs.declared.messages.Item.{Item}
-use Rattle.bus_batch.specs.Frames.{Frame, Order, items_in, entries_of, order_of}
+use Rattle.bus_register.specs.declared.registers.SenderNo.{SenderNo}
+use Rattle.bus_batch.specs.Frames.{Frame, Order, Spells, items_in, entries_of, order_of}
 use Rattle.bus_batch.specs.Frames.{item_in as item_of_entry}
 use Rattle.bus_deliverylog.specs.Orders.{of_sender}
 use Rattle.bus_tenure.specs.declared.pages.Page.{Page}
@@ -36,6 +37,58 @@ items_of_more fs more =
     ap items_in (flat_map-append entries_of fs more)
     ∙ flat_map-append item_of_entry (flat_map entries_of fs) (flat_map entries_of more)
 
+-- the order that a log spells begins that of a longer one
+pub orders_on : (senders : ℕ) (log log' : List ℕ) (order later : Order)
+    (owners owners' : List (ℕ × SenderNo)) → Spells senders log order owners
+    → Spells senders log' later owners' → IsPrefix log log'
+    → IsPrefix (items_in order.entries) (items_in later.entries)
+orders_on senders log log' order later owners owners' a b on =
+    let split = front_frames senders 0 0 a.frames b.frames on.rest a.lawful b.lawful
+    (ap (λ z. z ++ on.rest) a.words_are ∙ on.together ∙ sym b.words_are) in
+    let more = items_in (order_of split.0).entries in
+    record {
+      rest = more;
+      together = sym (ap (λ (o : Order). items_in o.entries) (sym b.order_is)
+          ∙ ap (λ z. items_in (order_of z).entries) split.1 ∙ items_of_more a.frames split.0
+          ∙ ap (λ (o : Order). items_in o.entries ++ more) a.order_is);
+    }
+
+-- An item of a sender that had fewer in the one order stands in a later one behind all of that,
+-- where the items of each are numbered.
+pub stands_after : (order later : Order)
+    → IsPrefix (items_in order.entries) (items_in later.entries)
+    → (p first place : ℕ) (item : Item)
+    → ((k : ℕ) (i : Item) → slice_get (of_sender p later) k ≡ Some i → i.number ≡ first + k)
+    → slice_get (items_in later.entries) place ≡ Some item → item.sender.0 ≡ p
+    → first + length (of_sender p order) ≤ item.number → length (items_in order.entries) ≤ place
+stands_after order later on p first place item numbers at own put =
+    elim (front_at (items_in order.entries) on.rest place item
+    (ap (λ z. slice_get z place) on.together ∙ at)) [
+      | inl l ↦ l
+      | inr i ↦ absurd (
+          let q : Item → Bool = λ i. i.sender.0 == p in
+          let mine = own_items p order i.0 i.1 item i.2 own in
+          let all : items_in later.entries ≡ i.0 ++ item ∷ (i.1 ++ on.rest) =
+          sym on.together ∙ ap (λ z. z ++ on.rest) i.2
+          ∙ append_assoc i.0 (item ∷ i.1) on.rest in
+          let also = own_items p later i.0 (i.1 ++ on.rest) item all own in
+          let numbered = numbers (length (filter q i.0)) item
+          (ap (λ z. slice_get z (length (filter q i.0))) also
+          ∙ at_place (filter q i.0) (filter q (i.1 ++ on.rest)) item) in
+          let long = ap length mine ∙ length-append (filter q i.0) (item ∷ filter q i.1) in
+          let last : length (item ∷ filter q i.1) ≡ suc (length (filter q i.1)) = refl in
+          omega (arith, numbered, long, last, put))
+    ]
+
+-- a sender has put at least what an order has of it that begins with its puts
+pub puts_cover : (items : List Item) (puts_are : List (List ℕ))
+    → IsPrefix (map (λ (i : Item). i.message) items) puts_are → length items ≤ length puts_are
+puts_cover items puts_are h =
+    let some = length-map items (λ (i : Item). i.message) in
+    let whole = length-append (map (λ (i : Item). i.message) items) h.rest in
+    let same = ap length h.together in
+    omega (arith, some, whole, same)
+
 pub stands_behind : {C : Type 0} (P : Process C) (x : TableLayout) (base : ℕ → ℕ)
     (log log' : List ℕ)
     (s t : State (Option Page) (View C)) (h : IsPromised P x base log s)
@@ -44,31 +97,9 @@ pub stands_behind : {C : Type 0} (P : Process C) (x : TableLayout) (base : ℕ �
     → base p + length (puts (h.actions p)) ≤ item.number
     → length (items_in h.order.entries) ≤ place
 stands_behind P x base log log' s t h k later p place item at own put =
-    let a = h.spelled in
-    let b = k.spelled in
-    let split = front_frames x.senders 0 0 a.frames b.frames later.rest a.lawful b.lawful
-    (ap (λ z. z ++ later.rest) a.words_are ∙ later.together ∙ sym b.words_are) in
-    let more = items_in (order_of split.0).entries in
-    let all : items_in k.order.entries ≡ items_in h.order.entries ++ more =
-    ap (λ (o : Order). items_in o.entries) (sym b.order_is)
-    ∙ ap (λ z. items_in (order_of z).entries) split.1 ∙ items_of_more a.frames split.0
-    ∙ ap (λ (o : Order). items_in o.entries ++ more) a.order_is in
     let page = h.promises (λ r. []) (λ r. inl refl) in
-    elim (front_at (items_in h.order.entries) more place item
-    (ap (λ z. slice_get z place) (sym all) ∙ at)) [
-      | inl l ↦ l
-      | inr i ↦ absurd (
-          let q : Item → Bool = λ i. i.sender.0 == p in
-          let mine = own_items p h.order i.0 i.1 item i.2 own in
-          let numbered = page.faithful.numbered p (length (filter q i.0)) item
-          (ap (λ z. slice_get z (length (filter q i.0))) mine
-          ∙ at_place (filter q i.0) (filter q i.1) item) in
-          let long = ap length mine ∙ length-append (filter q i.0) (item ∷ filter q i.1) in
-          let messages = page.faithful.messages p in
-          let some = length-map (of_sender p h.order) (λ (i : Item). i.message) in
-          let whole =
-          length-append (map (λ (i : Item). i.message) (of_sender p h.order)) messages.rest in
-          let same = ap length messages.together in
-          let last : length (item ∷ filter q i.1) ≡ suc (length (filter q i.1)) = refl in
-          omega (arith, numbered, long, some, whole, same, last, put))
-    ]
+    let page' = k.promises (λ r. []) (λ r. inl refl) in
+    let few = puts_cover (of_sender p h.order) (puts (h.actions p)) (page.faithful.messages p) in
+    stands_after h.order k.order
+    (orders_on x.senders log log' h.order k.order h.owners k.owners h.spelled k.spelled later) p
+    (base p) place item (page'.faithful.numbered p) at own (omega (arith, few, put))

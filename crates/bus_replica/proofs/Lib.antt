@@ -4,12 +4,16 @@ pub mod FoldLaws
 pub mod FunctionLaws
 pub mod GoingLaws
 pub mod HearingLaws
+pub mod HistoryLaws
 pub mod LaterLaws
 pub mod LeavingLaws
 pub mod LinearLaws
+pub mod MachineLaws
 pub mod OpeningLaws
 pub mod OrderLaws
 pub mod OwnLaws
 pub mod ReadLaws
+pub mod RefusedHistories
 pub mod SendingLaws
+pub mod TableLaws
 pub mod TimeLaws

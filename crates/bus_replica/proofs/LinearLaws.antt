@@ -1,6 +1,6 @@
 -- What a call executed stands behind all that was in the order when it began.
-use Rattle.std.proofs.Common.{◌≡◌, ℕ, ◌≤◌, true, inr, Option, List, [], ◌∷◌}
-use Rattle.std.proofs.Common.{◌++◌, length, slice_get, refl, sym, ◌∙◌, ap, subst, append_assoc}
+use Rattle.std.proofs.Common.{◌≡◌, ℕ, ◌+◌, ◌≤◌, true, inl, inr, Option, Some, List, [], ◌∷◌}
+use Rattle.std.proofs.Common.{◌++◌, length, map, slice_get, refl, sym, ◌∙◌, ap, subst, append_assoc}
 use Rattle.std.proofs.Common.{arith}
 use Rattle.std.proofs.lemmas.Grind.{flat_map-append}
 use Rattle.std.proofs.lemmas.List.{length-append}
@@ -8,7 +8,8 @@ use mathlib.Core.Option.{some}
 use lib.ListN.{get_elem?}
 use Rattle.atomic_table.specs.Table.{State}
 use Rattle.bus_batch.specs.declared.messages.Item.{Item}
-use Rattle.bus_batch.specs.Frames.{Order, items_in, order_of}
+use Rattle.bus_batch.specs.Frames.{Order, items_in}
+use Rattle.bus_deliverylog.specs.Orders.{of_sender}
 use Rattle.bus_tenure.specs.declared.pages.Page.{Page}
 use Rattle.bus_world.specs.Headline.{Action, IsPrefix, puts, put_of}
 use Rattle.bus_automaton.specs.Lawful.{ProcessLaws, AutomatonLaws}
@@ -28,10 +29,10 @@ use Rattle.bus_pageslot.specs.declared.rule.View.TheVariants.{Spent}
 use Rattle.bus_replica.specs.Replicas.{Operations, StandsLast, PutsMore, Replicated, has_view}
 use Rattle.bus_replica.specs.Replicas.{items_heard}
 use Rattle.bus_replica.specs.Linearized.{PageOf, SitsAt, IsLinearized}
-use Rattle.bus_replica.proofs.LaterLaws.{stands_behind, items_of_more}
+use Rattle.bus_replica.specs.Moments.{EndsWith}
+use Rattle.bus_replica.proofs.LaterLaws.{orders_on, puts_cover, stands_after}
 use Rattle.bus_replica.proofs.OrderLaws.{items_begin, shows_own}
-use Rattle.bus_replica.proofs.OwnLaws.{own_operation, at_place}
-use Rattle.bus_replica.proofs.TimeLaws.{front_frames}
+use Rattle.bus_replica.proofs.OwnLaws.{at_place, own_bytes, puts_on}
 
 -- A seat of the table shows this sender: the worker of this number, whose first message has the
 -- number with which the sitting begins for it.
@@ -47,7 +48,7 @@ pub record IsSeated {C : Type 0} (P : Process C) (base : ℕ → ℕ) (s : State
   pub first : first_number_of P seat ≡ base worker
 
 -- of two beginnings of one list the shorter one begins the other
-begins_front : {A : Type 0} (xs ys us vs : List A) → xs ++ ys ≡ us ++ vs → length xs ≤ length us
+pub begins_front : {A : Type 0} (xs ys us vs : List A) → xs ++ ys ≡ us ++ vs → length xs ≤ length us
     → IsPrefix xs us
 begins_front [] ys us vs e l = record { rest = us; together = refl }
 begins_front (x ∷ xs) ys [] vs e l = absurd (omega (arith, l))
@@ -65,17 +66,7 @@ pub items_on : {C : Type 0} (P : Process C) (x : TableLayout) (base : ℕ → �
     (k : IsPromised P x base later t) → IsPrefix log later
     → IsPrefix (items_in h.order.entries) (items_in k.order.entries)
 items_on P x base log later s t h k on =
-    let a = h.spelled in
-    let b = k.spelled in
-    let split = front_frames x.senders 0 0 a.frames b.frames on.rest a.lawful b.lawful
-    (ap (λ z. z ++ on.rest) a.words_are ∙ on.together ∙ sym b.words_are) in
-    let more = items_in (order_of split.0).entries in
-    record {
-      rest = more;
-      together = sym (ap (λ (o : Order). items_in o.entries) (sym b.order_is)
-          ∙ ap (λ z. items_in (order_of z).entries) split.1 ∙ items_of_more a.frames split.0
-          ∙ ap (λ (o : Order). items_in o.entries ++ more) a.order_is);
-    }
+    orders_on x.senders log later h.order k.order h.owners k.owners h.spelled k.spelled on
 
 -- at a moment a sender has put at least what the page of promises has of it
 has_put_all : {C : Type 0} (P : Process C) (x : TableLayout) (base : ℕ → ℕ) (log : List ℕ)
@@ -95,6 +86,53 @@ has_put_all {C} P x base log s h seat worker sits =
     let long = length-append (puts (h.actions worker)) (puts since) in
     omega (arith, both, long)
 
+-- ---- of two orders, the one of which begins the other
+-- Of one sender the items of the later order are numbered, and their messages are the first of its
+-- puts. It puts bytes behind as many as it has in the earlier order, or more. Where the last
+-- operation of a beginning of the later order has the number of that put, it is executed between
+-- the two.
+pub performed : {S A : Type 0} (IsFirst : S → Type 0) (Applies : Operations S A)
+    (order later : Order) → IsPrefix (items_in order.entries) (items_in later.entries)
+    → (worker first : ℕ)
+    → ((k : ℕ) (i : Item) → slice_get (of_sender worker later) k ≡ Some i → i.number ≡ first + k)
+    → (all pre post : List (List ℕ)) (number : ℕ) (bytes : List ℕ)
+    → IsPrefix (map (λ (i : Item). i.message) (of_sender worker later)) all
+    → all ≡ pre ++ bytes ∷ post → number ≡ first + length pre
+    → length (of_sender worker order) ≤ length pre
+    → (items : List Item) (state : S) (answer : A) → IsPrefix items (items_in later.entries)
+    → EndsWith IsFirst Applies items state worker number answer
+    → IsLinearized IsFirst Applies order later worker number bytes answer state
+performed IsFirst Applies order later on worker first numbers all pre post number bytes messages
+    puts_are counted few items state answer front last =
+    let numbered = last.number_is in
+    let stands : items_in later.entries ≡ last.before ++ last.item ∷ front.rest =
+    sym front.together ∙ ap (λ z. z ++ front.rest) last.items_are
+    ∙ append_assoc last.before (last.item ∷ []) front.rest in
+    let bytes_are : last.item.message ≡ bytes =
+    own_bytes first later all worker numbers messages last.before front.rest last.item stands
+    last.worker_is pre post bytes puts_are (omega (arith, numbered, counted)) in
+    let place = stands_after order later on worker first (length last.before) last.item numbers
+    (ap (λ z. slice_get z (length last.before)) stands ∙ at_place last.before front.rest last.item)
+    last.worker_is (omega (arith, few, counted, numbered)) in
+    record {
+      before = last.before;
+      item = last.item;
+      after = front.rest;
+      stands = stands;
+      worker_is = last.worker_is;
+      number_is = last.number_is;
+      bytes_are = bytes_are;
+      behind = begins_front (items_in order.entries) on.rest last.before (last.item ∷ front.rest)
+          (on.together ∙ stands) place;
+      first = last.first;
+      begins = last.begins;
+      at = last.at;
+      folds = last.folds;
+      applied = subst (λ z. Applies last.at z bytes answer state) last.worker_is
+          (subst (λ z. Applies last.at last.item.sender.0 z answer state) bytes_are last.applied);
+    }
+
+-- ---- of two tables
 pub linearized : {C S A : Type 0} (IsFirst : S → Type 0) (Applies : Operations S A) (P : Process C)
     (T : Tellings C) (x : TableLayout) (base : ℕ → ℕ) (log later : List ℕ)
     (s t : State (Option Page) (View C))
@@ -105,57 +143,37 @@ pub linearized : {C S A : Type 0} (IsFirst : S → Type 0) (Applies : Operations
     → get_elem? t.views j ≡ some w → has_view w ≡ true
     → StandsLast IsFirst Applies w state worker number answer
     → IsLinearized IsFirst Applies h.order k.order worker number bytes answer state
-linearized {C} {S} {A} IsFirst Applies P T x base log later s t h k on old new worker number bytes
-    sits sits' put j w state answer at has last =
+linearized IsFirst Applies P T x base log later s t h k on old new worker number bytes sits sits'
+    put j w state answer at has last =
     let answers = (receiver_view_in w).answers in
-    let page = k.promises (λ r. answers) (λ r. inr (j, w, at, shows_own w has)) in
-    let front = items_begin answers answers k.order (page.delivered 0) in
-    let stands : items_in k.order.entries ≡ last.before ++ last.item ∷ front.rest =
-    sym front.together ∙ ap (λ z. z ++ front.rest) last.items_are
-    ∙ append_assoc last.before (last.item ∷ []) front.rest in
-    let last' : StandsLast IsFirst Applies w state (P.me sits'.core) number answer = record {
+    let page = h.promises (λ r. []) (λ r. inl refl) in
+    let page' = k.promises (λ r. answers) (λ r. inr (j, w, at, shows_own w has)) in
+    let few = puts_cover (of_sender worker h.order) (puts (h.actions worker))
+    (page.faithful.messages worker) in
+    let more = has_put_all P x base log s h old worker sits in
+    let counted = put.number_is in
+    let first = sits.first in
+    performed IsFirst Applies h.order k.order (items_on P x base log later s t h k on) worker
+    (base worker) (page'.faithful.numbered worker) (puts (actions_of P new))
+    (puts (actions_of P old)) [] number bytes
+    (subst (λ p. IsPrefix (map (λ (i : Item). i.message) (of_sender p k.order))
+    (puts (actions_of P new))) sits'.me
+    (puts_on P x base later t k sits'.place new sits'.core sits'.trail sits'.notes sits'.at
+    sits'.shows))
+    put.puts_are (omega (arith, counted, first)) (omega (arith, few, more)) (items_heard w) state
+    answer (items_begin answers answers k.order (page'.delivered 0))
+    (record {
       first = last.first;
       begins = last.begins;
       before = last.before;
       item = last.item;
       items_are = last.items_are;
-      worker_is = last.worker_is ∙ sym sits'.me;
+      worker_is = last.worker_is;
       number_is = last.number_is;
       at = last.at;
       folds = last.folds;
       applied = last.applied;
-    } in
-    let first' : first_number_of P new ≡ base (P.me sits'.core) =
-    sits'.first ∙ ap base (sym sits'.me) in
-    let bytes_are : last.item.message ≡ bytes =
-    own_operation IsFirst Applies P T x base later t k j sits'.place w old new sits'.core
-    sits'.trail
-    sits'.notes state number bytes answer at has sits'.at sits'.shows first' put last' in
-    let all = has_put_all P x base log s h old worker sits in
-    let counted = put.number_is in
-    let first = sits.first in
-    let numbered = last.number_is in
-    let place = stands_behind P x base log later s t h k on worker (length last.before) last.item
-    (ap (λ z. slice_get z (length last.before)) stands ∙ at_place last.before front.rest last.item)
-    last.worker_is (omega (arith, all, counted, first, numbered)) in
-    let begun = items_on P x base log later s t h k on in
-    record {
-      before = last.before;
-      item = last.item;
-      after = front.rest;
-      stands = stands;
-      worker_is = last.worker_is;
-      number_is = last.number_is;
-      bytes_are = bytes_are;
-      behind = begins_front (items_in h.order.entries) begun.rest last.before
-          (last.item ∷ front.rest) (begun.together ∙ stands) place;
-      first = last.first;
-      begins = last.begins;
-      at = last.at;
-      folds = last.folds;
-      applied = subst (λ z. Applies last.at z bytes answer state) last.worker_is
-          (subst (λ z. Applies last.at last.item.sender.0 z answer state) bytes_are last.applied);
-    }
+    })
 
 -- ---- of two moments
 -- what a sender accepts leaves its number

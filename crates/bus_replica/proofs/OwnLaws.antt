@@ -8,7 +8,7 @@ use Rattle.std.proofs.lemmas.Bool.{eq-eqb}
 use Rattle.bus_batch.specs.declared.messages.Item.{Item}
 use Rattle.bus_batch.specs.Frames.{Order, items_in}
 use Rattle.bus_deliverylog.specs.Orders.{of_sender}
-use Rattle.std.proofs.Common.{inr, Option}
+use Rattle.std.proofs.Common.{inl, inr, Option}
 use Rattle.std.proofs.lemmas.Grind.{flat_map-append}
 use mathlib.Core.Option.{some}
 use lib.ListN.{get_elem?}
@@ -51,7 +51,7 @@ own_items s order before later item all own =
     ∙ ap (λ b. filter p before ++ cond b (item ∷ filter p later) (filter p later))
     (eq-eqb item.sender.0 s own)
 
-own_bytes : (first : ℕ) (order : Order) (puts_are : List (List ℕ)) (s : ℕ)
+pub own_bytes : (first : ℕ) (order : Order) (puts_are : List (List ℕ)) (s : ℕ)
     → ((k : ℕ) (i : Item) → slice_get (of_sender s order) k ≡ Some i → i.number ≡ first + k)
     → IsPrefix (map (λ (i : Item). i.message) (of_sender s order)) puts_are
     → (before later : List Item) (item : Item)
@@ -78,6 +78,31 @@ own_bytes first order all_puts s numbers messages before later item all own pre 
     ∙ messages.together ∙ puts_are)
 
 -- ---- of a table
+-- the messages of a sender in the order are the first that its seat shows as put
+pub puts_on : {C : Type 0} (P : Process C) (x : TableLayout) (base : ℕ → ℕ) (log : List ℕ)
+    (s : State (Option Page) (View C)) (h : IsPromised P x base log s) (j : ℕ)
+    (seat : SenderSeat C) (c : C) (trail : SenderTrail) (notes : Notes)
+    → get_elem? s.views j ≡ some seat.seat.me.0 → seat.seat.me.0 ≡ Sender c trail notes
+    → IsPrefix (map (λ (i : Item). i.message) (of_sender (P.me c) h.order))
+    (puts (actions_of P seat))
+puts_on {C} P x base log s h j seat c trail notes at' view =
+    let page = h.promises (λ r. []) (λ r. inl refl) in
+    let shown : h.actions (P.me c) ≡ trail.actions =
+    subst (Fits P h.actions log) view (h.views j seat.seat.me.0 at') in
+    let since = since_in P seat.seat.me.0 seat.core in
+    let all : actions_of P seat ≡ trail.actions ++ since =
+    ap (λ (z : View C). (sender_trail_in z).actions ++ since) view in
+    let begun = page.faithful.messages (P.me c) in
+    record {
+      rest = begun.rest ++ puts since;
+      together =
+          sym (append_assoc (map (λ (i : Item). i.message) (of_sender (P.me c) h.order)) begun.rest
+          (puts since))
+          ∙ ap (λ z. z ++ puts since) begun.together
+          ∙ ap (λ z. puts z ++ puts since) shown
+          ∙ sym (flat_map-append put_of trail.actions since) ∙ ap puts (sym all);
+    }
+
 pub own_operation : {C S A : Type 0} (IsFirst : S → Type 0) (Applies : Operations S A)
     (P : Process C) (T : Tellings C) (x : TableLayout) (base : ℕ → ℕ) (log : List ℕ)
     (s : State (Option Page) (View C))
@@ -88,31 +113,16 @@ pub own_operation : {C S A : Type 0} (IsFirst : S → Type 0) (Applies : Operati
     → first_number_of P seat ≡ base (P.me c) → PutsMore P T old seat number bytes
     → (last : StandsLast IsFirst Applies v state (P.me c) number answer)
     → last.item.message ≡ bytes
-own_operation {C} IsFirst Applies P T x base log s h i j v old seat c trail notes state number bytes
+own_operation IsFirst Applies P T x base log s h i j v old seat c trail notes state number bytes
     answer at has at' view first put last =
     let answers = (receiver_view_in v).answers in
     let page = h.promises (λ r. answers) (λ r. inr (i, v, at, shows_own v has)) in
     let front = items_begin answers answers h.order (page.delivered 0) in
-    let shown : h.actions (P.me c) ≡ trail.actions =
-    subst (Fits P h.actions log) view (h.views j seat.seat.me.0 at') in
-    let since = since_in P seat.seat.me.0 seat.core in
-    let all : actions_of P seat ≡ trail.actions ++ since =
-    ap (λ (z : View C). (sender_trail_in z).actions ++ since) view in
-    let begun = page.faithful.messages (P.me c) in
     let put_number = put.number_is in
     let put_first = put.first_is in
     let item_number = last.number_is in
     own_bytes (base (P.me c)) h.order (puts (actions_of P seat)) (P.me c)
-    (page.faithful.numbered (P.me c))
-    (record {
-      rest = begun.rest ++ puts since;
-      together =
-          sym (append_assoc (map (λ (i : Item). i.message) (of_sender (P.me c) h.order)) begun.rest
-          (puts since))
-          ∙ ap (λ z. z ++ puts since) begun.together
-          ∙ ap (λ z. puts z ++ puts since) shown
-          ∙ sym (flat_map-append put_of trail.actions since) ∙ ap puts (sym all);
-    })
+    (page.faithful.numbered (P.me c)) (puts_on P x base log s h j seat c trail notes at' view)
     last.before front.rest last.item
     (sym front.together ∙ ap (λ z. z ++ front.rest) last.items_are
     ∙ append_assoc last.before (last.item ∷ []) front.rest)

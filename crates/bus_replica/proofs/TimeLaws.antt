@@ -44,7 +44,7 @@ knows P A z seat ear j (Meeting x e y f) has h = (x, h.0)
 knows P A z seat ear j (Telling c t notes x e) has h = (x, h.1)
 knows P A z seat ear j Spent has h = absurd (let no : false ≡ true = has in cc)
 
-pub prefix_long : (xs ys : List ℕ) → IsPrefix xs ys → length xs ≤ length ys
+pub prefix_long : {A : Type 0} (xs ys : List A) → IsPrefix xs ys → length xs ≤ length ys
 prefix_long xs ys h =
     let all = length-append xs h.rest in let same = ap length h.together in omega arith
 

@@ -16,6 +16,7 @@
 
 mod faults;
 mod hearers;
+pub mod histories;
 pub mod laws;
 mod opening;
 mod replicas;
