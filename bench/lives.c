@@ -9,6 +9,7 @@
 
    usage: lives LIVES [SEED [SECONDS]]      bench/lives builds it. Last line: N passed, M failed. */
 #define BELL_LONGEST_SLEEP 100000000 /* 28 hours */
+#define BELL_LONGEST_ASKED_SLEEP BELL_LONGEST_SLEEP
 #include "kioskbasil.h"
 #include "waiting.h"
 #include <poll.h>

@@ -4,6 +4,7 @@
 
    usage: replica [TURNS]      A worker stops at each of so many turns, 20 if left out. */
 #define BELL_LONGEST_SLEEP 200000
+#define BELL_LONGEST_ASKED_SLEEP BELL_LONGEST_SLEEP
 #include "replica.h"
 #include <stdatomic.h>
 #include <stdio.h>

@@ -7,8 +7,8 @@
 mod replica_lives;
 
 use kioskbasil::{
-    Bus, Ended, Heard, Item, NeverFits, Next, PutError, Receiver, Sender, Shape, TrySendError,
-    Turn, Waiting, MOST_RECEIVERS, MOST_SENDERS,
+    Bus, Ended, Heard, Item, NeverFits, Next, NextItems, PutError, Receiver, Sender, Shape,
+    TrySendError, Turn, Waiting, MOST_RECEIVERS, MOST_SENDERS,
 };
 use std::collections::VecDeque;
 use std::future::Future;
@@ -299,7 +299,8 @@ impl Mouth {
         let sender = &mut self.sender;
         let asks = if may_wait { 1 + dice.below(5) } else { 1 };
         let looks = 1 + dice.below(200);
-        match dice.below(12) {
+        let time = Duration::from_micros(dice.below(2_000));
+        match dice.below(14) {
             0 => self.by_hand(shared, dice, 1),
             1 => self.by_hand(shared, dice, 40),
             2 => {
@@ -326,6 +327,14 @@ impl Mouth {
             8 if may_wait && hears_none => {
                 let turn = survived(|| sender.send_when_room(then_panics(looks)).unwrap());
                 self.came_to(shared, turn.flatten());
+            }
+            9 if may_wait => {
+                let turn = sender.send_timeout(time);
+                self.came_to(shared, turn);
+            }
+            10 if may_wait && hears_none => {
+                let turn = sender.send_when_room_timeout(time).unwrap();
+                self.came_to(shared, turn);
             }
             _ => self.try_send(shared),
         }
@@ -357,7 +366,8 @@ impl Ear {
         // Only where it asks often does it sleep.
         let most = if dice.one_in(200) { 70 } else { 4 };
         let asks = if may_wait { 1 + dice.below(most) } else { 1 };
-        match dice.below(8) {
+        let time = Duration::from_micros(if may_wait { dice.below(500) } else { 0 });
+        match dice.below(11) {
             0 => self.by_hand(dice.below(100)),
             1 => {
                 let most = 1 + dice.below(40);
@@ -389,6 +399,20 @@ impl Ear {
                 let next = survived(|| receiver.next_item_while(then_panics(asks)));
                 self.came_to(next);
             }
+            7 => {
+                let next = self.receiver.next_item_timeout(time);
+                self.came_to(Some(next));
+            }
+            8 => {
+                let next = self.receiver.next_items_while(so_often(asks));
+                let items = items_of(next);
+                self.note_all(&items);
+            }
+            9 => {
+                let next = self.receiver.next_items_timeout(time);
+                let items = items_of(next);
+                self.note_all(&items);
+            }
             _ => self.hear_rest(),
         }
         self.is_done = self.receiver.has_ended();
@@ -416,6 +440,14 @@ impl Ear {
                 Heard::Going | Heard::Head { .. } => {}
             }
         }
+    }
+}
+
+/// The items that were lent.
+fn items_of(next: NextItems<'_>) -> Vec<Item> {
+    match next {
+        NextItems::Items(items) => items.to_vec(),
+        NextItems::End | NextItems::Stopped => Vec::new(),
     }
 }
 

@@ -1,6 +1,7 @@
 /* Tests of the calls that wait, examples/c/waiting.h, and of the sums of include/kioskbasil.h.
    bench/embed builds and runs it. Prints what failed, and `N passed, M failed` last. Whoever lost a
-   wake-up sleeps for 20 s here, and 10 s are too long for any wait. */
+   wake-up sleeps for 20 s here, but in a call that asks a function, and 10 s are too long for any
+   wait. */
 #define BELL_LONGEST_SLEEP 20000
 #include "kioskbasil.h"
 #include "waiting.h"
@@ -170,12 +171,12 @@ static void woken_sender(void) {
     pthread_t thread = start(sends_while, &sending);
     while (atomic_load(&bus.asked) < WAITING_YIELDS + 2) pause_for(1); /* it sleeps from there on */
     int asked = atomic_load(&bus.asked);
+    double begun = now();
     pause_for(30);
-    EXPECT(atomic_load(&bus.asked), asked);
+    EXPECT(atomic_load(&bus.asked) <= asked + 3 + (now() - begun) * 100, true);
     tell_to_stop(&bus);
     join(thread);
     EXPECT(sending.code, KIOSKBASIL_WAITING);
-    EXPECT(atomic_load(&bus.asked), asked + 1);
     thread = start(sends, &sending);
     turn_to(&bus.s[1], KIOSKBASIL_DELIVERED);
     bell_ring(&bus.bell);
@@ -235,6 +236,135 @@ static void behind_another(void) {
     while (code == KIOSKBASIL_GOING);
     join(thread);
     EXPECT(sending.code, KIOSKBASIL_DELIVERED);
+    free_bus(&bus);
+}
+
+/* ---- calls that wait for so long at most, and calls that ask a function */
+
+enum calls { HEAR, SEND, SEND_WHEN_ROOM, CALLS };
+
+/* Until when a function says yes. */
+static bool is_before(void *given) { return now() < *(const double *)given; }
+
+/* What the call of this kind answers that waits for so long, by its time or by a function. */
+static uint32_t wait_so_long(struct bus *bus, enum calls call, bool asks, unsigned milliseconds) {
+    struct bell *bell = &bus->bell;
+    kioskbasil_item items[4];
+    uint64_t seed = 5;
+    size_t many = 0;
+    double end = now() + milliseconds / 1e3;
+    switch (call) {
+    case HEAR:
+        return asks ? hear_while(&bus->r[1], items, 4, &many, bell, is_before, &end)
+                    : hear_timeout(&bus->r[1], items, 4, &many, bell, milliseconds);
+    case SEND:
+        return asks ? send_while(&bus->s[0], &seed, NULL, bell, is_before, &end)
+                    : send_timeout(&bus->s[0], &seed, NULL, bell, milliseconds);
+    default:
+        return asks ? send_when_room(&bus->s[0], &seed, NULL, bell, is_before, &end)
+                    : send_when_room_timeout(&bus->s[0], &seed, NULL, bell, milliseconds);
+    }
+}
+
+/* It answers so, never before its time, and at one of 20 tries soon behind that: a sleep of 0.1 s in
+   place of 1 or 20 ms is too late, and one of 0.2 s in place of 150 ms. */
+static void ends_in_time(struct bus *bus, enum calls call, uint32_t wanted) {
+    static const unsigned times[] = {1, 20, 150};
+    for (int kind = 0; kind < 6; kind++) {
+        unsigned time = times[kind / 2];
+        double took = TOO_LONG;
+        for (int tries = 0; tries < 20 && took >= time / 1e3 + 0.04; tries++) {
+            double begun = now();
+            EXPECT(wait_so_long(bus, call, kind % 2, time), wanted);
+            took = now() - begun;
+            EXPECT(took >= time / 1e3, true);
+        }
+        EXPECT(took < time / 1e3 + 0.04, true);
+    }
+}
+
+/* A receiver to which nothing comes, and a sender that waits for the page, which loses nothing. */
+static void bounded_waits(void) {
+    struct bus bus;
+    struct waits hearing = {.bus = &bus, .number = 0};
+    uint64_t seed = 1;
+    open_bus(&bus, 8);
+    for (int i = 0; i < 2; i++) EXPECT(kioskbasil_put(&bus.s[i], "x", 1, NULL), KIOSKBASIL_OK);
+    turn_to(&bus.s[1], KIOSKBASIL_OWN);
+    ends_in_time(&bus, HEAR, KIOSKBASIL_EMPTY);
+    ends_in_time(&bus, SEND, KIOSKBASIL_WAITING);
+    EXPECT(finish_sender(&bus.s[0], NULL, &bus.bell), KIOSKBASIL_OK);
+    turn_to(&bus.s[1], KIOSKBASIL_DELIVERED);
+    EXPECT(send_timeout(&bus.s[0], &seed, NULL, &bus.bell, 10000), KIOSKBASIL_DELIVERED);
+    hears(&hearing);
+    EXPECT(hearing.many, 2);
+    free_bus(&bus);
+}
+
+/* A sender that is behind another one, whose time is over there: it keeps nobody once it has let
+   go. */
+static void bounded_behind(void) {
+    struct bus bus;
+    struct waits hearing = {.bus = &bus, .number = 0};
+    uint64_t seed = 1;
+    open_bus(&bus, 2);
+    EXPECT(kioskbasil_put(&bus.s[1], "late", 4, NULL), KIOSKBASIL_OK);
+    for (int i = 0; i < 3; i++) EXPECT(kioskbasil_turn(&bus.s[1], 0, NULL), KIOSKBASIL_GOING);
+    EXPECT(kioskbasil_put(&bus.s[0], "x", 1, NULL), KIOSKBASIL_OK);
+    EXPECT(send_now(&bus.s[0], &seed, NULL, &bus.bell), KIOSKBASIL_DELIVERED);
+    EXPECT(kioskbasil_put(&bus.s[0], "y", 1, NULL), KIOSKBASIL_OK);
+    ends_in_time(&bus, SEND, KIOSKBASIL_BEHIND);
+    while (kioskbasil_turns(&bus.s[1], next_word(&seed), NULL) == KIOSKBASIL_GOING) {}
+    EXPECT(finish_sender(&bus.s[0], NULL, &bus.bell), KIOSKBASIL_DELIVERED);
+    EXPECT(send_timeout(&bus.s[1], &seed, NULL, &bus.bell, 10000), KIOSKBASIL_DELIVERED);
+    hears(&hearing);
+    EXPECT(hearing.many, 3);
+    free_bus(&bus);
+}
+
+/* A sender that waits for the room of a ring, which comes within its time at last. */
+static void bounded_room(void) {
+    struct bus bus;
+    kioskbasil_item items[4];
+    kioskbasil_sizes sizes = {.rounds = 1, .rows = 8, .log_words = 17, .ring = true};
+    uint64_t seed = 1;
+    size_t many;
+    uint8_t long_one[56] = {0};
+    open_bus(&bus, 8);
+    free_bus(&bus);
+    bus.bell = (struct bell)BELL_NEW;
+    EXPECT(kioskbasil_open(&sizes, bus.s, 2, bus.r, 1), KIOSKBASIL_OK);
+    EXPECT(kioskbasil_put(&bus.s[0], long_one, 56, NULL), KIOSKBASIL_OK);
+    EXPECT(send_now(&bus.s[0], &seed, NULL, &bus.bell), KIOSKBASIL_DELIVERED);
+    EXPECT(kioskbasil_put(&bus.s[0], long_one, 56, NULL), KIOSKBASIL_OK);
+    ends_in_time(&bus, SEND_WHEN_ROOM, KIOSKBASIL_FULL);
+    EXPECT(hear_timeout(&bus.r[0], items, 4, &many, &bus.bell, 10000), KIOSKBASIL_EMPTY);
+    EXPECT(many, 1);
+    EXPECT(send_when_room_timeout(&bus.s[0], &seed, NULL, &bus.bell, 10000), KIOSKBASIL_DELIVERED);
+    free_bus(&bus);
+}
+
+/* What comes before the time is over is given, and so is the end. */
+static void *hears_in_time(void *given) {
+    struct waits *me = given;
+    me->code = hear_timeout(&me->bus->r[me->number], me->items, 4, &me->many, &me->bus->bell, 20000);
+    return NULL;
+}
+
+static void what_comes_in_time(void) {
+    struct bus bus;
+    struct waits hearing = {.bus = &bus, .number = 0};
+    uint64_t seed = 1;
+    open_bus(&bus, 8);
+    pthread_t thread = start(hears_in_time, &hearing);
+    EXPECT(kioskbasil_put(&bus.s[0], "x", 1, NULL), KIOSKBASIL_OK);
+    EXPECT(send_batch(&bus.s[0], &seed, NULL, &bus.bell), KIOSKBASIL_DELIVERED);
+    join(thread);
+    EXPECT(hearing.many, 1);
+    thread = start(hears_in_time, &hearing);
+    EXPECT(end_order(&bus.s[0], &seed, &bus.bell), KIOSKBASIL_CLOSED);
+    join(thread);
+    EXPECT(hearing.code, KIOSKBASIL_END);
     free_bus(&bus);
 }
 
@@ -433,6 +563,10 @@ int main(void) {
     woken_sender();
     stopped_receiver();
     behind_another();
+    bounded_waits();
+    bounded_behind();
+    bounded_room();
+    what_comes_in_time();
     descriptors();
     loop_that_sends();
     loop_behind();

@@ -100,7 +100,7 @@ static inline struct replica_patience replica_up_to(unsigned milliseconds) {
    time is over. Else it rests, where the round did nothing. */
 static inline bool replica_goes_on(struct kioskbasil_replica *r, struct replica_patience *patience,
                                    bool moved) {
-    int64_t most = INT64_MAX;
+    int64_t most = patience->go_on ? INT64_C(1000000) * BELL_LONGEST_ASKED_SLEEP : INT64_MAX;
     if (patience->end != INT64_MAX) {
         most = patience->end - replica_clock();
         if (most <= 0) return false;

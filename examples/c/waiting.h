@@ -28,6 +28,11 @@
 #define BELL_LONGEST_SLEEP 100
 #endif
 
+/* The same of a call that asks a go_on between its sleeps. */
+#ifndef BELL_LONGEST_ASKED_SLEEP
+#define BELL_LONGEST_ASKED_SLEEP 10
+#endif
+
 /* It starts as BELL_NEW, and its place stays the same. Its fields are of these functions alone. */
 struct bell {
     uint64_t rings; /* twice as many as it rang, and 1 more where somebody listens */
@@ -172,18 +177,61 @@ static inline bool wait_for(struct bell *bell, struct waiter *waiter) {
 }
 
 /* Waits for a sender that is in the middle of its turns, behind which no ring comes: backs off, and
-   then sleeps for 0.1 ms, 0.2 ms and so on up to 12.8 ms. */
-static inline void wait_behind(struct waiter *waiter) {
+   then sleeps for 0.1 ms, 0.2 ms and so on up to 12.8 ms, for so many nanoseconds at most. */
+static inline void wait_behind_up_to(struct waiter *waiter, int64_t most) {
+    struct timespec pause = {0, (long)WAITING_NAP << waiter->naps};
     if (back_off(&waiter->step)) return;
-    take_nap(waiter->naps);
+    if (pause.tv_nsec > most) pause.tv_nsec = most < 0 ? 0 : (long)most;
+    nanosleep(&pause, NULL);
     if (waiter->naps < WAITING_DOUBLED) waiter->naps++;
 }
+
+/* As wait_behind_up_to, for 12.8 ms at most. */
+static inline void wait_behind(struct waiter *waiter) { wait_behind_up_to(waiter, INT64_MAX); }
 
 /* A turn got somewhere, and the call waits on for the same thing: it spins no more than it has spun,
    and counts its yields anew. */
 static inline void carry_on(struct waiter *waiter) {
     if (waiter->step > WAITING_SPINS) waiter->step = WAITING_SPINS;
     waiter->heard = 0;
+}
+
+/* ---- whom a call asks whether to go on, and until when it waits */
+
+struct patience {
+    bool (*go_on)(void *given); /* or NULL */
+    void *given;
+    int64_t end; /* by waiting_clock; INT64_MAX where it waits for good */
+};
+
+/* Nanoseconds of the clock that is not set. */
+static inline int64_t waiting_clock(void) {
+    struct timespec now = {0, 0};
+    clock_gettime(CLOCK_MONOTONIC, &now);
+    return (int64_t)now.tv_sec * 1000000000 + now.tv_nsec;
+}
+
+/* It goes on as long as the function says yes, or for good without one. */
+static inline struct patience patience_asking(bool (*go_on)(void *given), void *given) {
+    struct patience patience = {go_on, given, INT64_MAX};
+    return patience;
+}
+
+/* It goes on for so long. */
+static inline struct patience patience_up_to(unsigned milliseconds) {
+    struct patience patience = {NULL, NULL, waiting_clock() + (int64_t)milliseconds * 1000000};
+    return patience;
+}
+
+/* How many nanoseconds the call may sleep now. 0 says that it is told to stop, or that its time is
+   over. */
+static inline int64_t patience_left(const struct patience *patience) {
+    int64_t left = INT64_MAX;
+    if (patience->end != INT64_MAX) left = patience->end - waiting_clock();
+    if (left <= 0 || (patience->go_on && !patience->go_on(patience->given))) return 0;
+    if (patience->go_on && left > INT64_C(1000000) * BELL_LONGEST_ASKED_SLEEP)
+        left = INT64_C(1000000) * BELL_LONGEST_ASKED_SLEEP;
+    return left;
 }
 
 /* ---- senders */
@@ -219,23 +267,22 @@ static inline void ring_for(struct bell *bell, const kioskbasil_sender *sender, 
     bell_ring(bell);
 }
 
-/* As send_batch, but it can be told to stop: each time a turn answers WAITING or BEHIND it asks
-   go_on(given), and answers so where that says no. The batch is kept, and a later call goes on with
-   it. After BEHIND this sender holds the page, for which all others wait: so call again soon.
-   A sleeping call asks once the bell rings, so whoever makes go_on say no rings it. */
-static inline uint32_t send_while(kioskbasil_sender *sender, uint64_t *seed,
-                                  kioskbasil_turn_answer *answer, struct bell *bell,
-                                  bool (*go_on)(void *given), void *given) {
+/* What send_while and send_timeout do. */
+static inline uint32_t send_by(kioskbasil_sender *sender, uint64_t *seed,
+                               kioskbasil_turn_answer *answer, struct bell *bell,
+                               const struct patience *patience) {
     struct waiter waiter = {0, 0, 0};
     for (;;) {
         uint32_t code = kioskbasil_turns(sender, next_word(seed), answer);
+        int64_t most;
         ring_for(bell, sender, code);
         switch (code) {
         case KIOSKBASIL_WAITING:
         case KIOSKBASIL_BEHIND:
-            if (go_on && !go_on(given)) return code;
-            if (code == KIOSKBASIL_WAITING) wait_for(bell, &waiter);
-            else wait_behind(&waiter);
+            most = patience_left(patience);
+            if (!most) return code;
+            if (code == KIOSKBASIL_WAITING) wait_up_to(bell, &waiter, most);
+            else wait_behind_up_to(&waiter, most);
             break;
         case KIOSKBASIL_GOING:
         case KIOSKBASIL_LOST:
@@ -246,6 +293,27 @@ static inline uint32_t send_while(kioskbasil_sender *sender, uint64_t *seed,
             return code;
         }
     }
+}
+
+/* As send_batch, but it can be told to stop: each time a turn answers WAITING or BEHIND it asks
+   go_on(given), and answers so where that says no. The batch is kept, and a later call goes on with
+   it. After BEHIND this sender holds the page, for which all others wait: so call again soon, or
+   call finish_sender. A sleeping call asks every 10 ms, and once the bell rings: so whoever makes
+   go_on say no rings it, and need not wait. */
+static inline uint32_t send_while(kioskbasil_sender *sender, uint64_t *seed,
+                                  kioskbasil_turn_answer *answer, struct bell *bell,
+                                  bool (*go_on)(void *given), void *given) {
+    struct patience patience = patience_asking(go_on, given);
+    return send_by(sender, seed, answer, bell, &patience);
+}
+
+/* As send_batch, but it waits for so long at most: WAITING or BEHIND say that its time is over. It
+   leaves what send_while leaves that is told to stop. */
+static inline uint32_t send_timeout(kioskbasil_sender *sender, uint64_t *seed,
+                                    kioskbasil_turn_answer *answer, struct bell *bell,
+                                    unsigned milliseconds) {
+    struct patience patience = patience_up_to(milliseconds);
+    return send_by(sender, seed, answer, bell, &patience);
 }
 
 /* Turns, until there is nothing more to do, or nothing more that can be done: KIOSKBASIL_DELIVERED,
@@ -272,42 +340,64 @@ static inline uint32_t send_now(kioskbasil_sender *sender, uint64_t *seed,
     return send_while(sender, seed, answer, bell, no_waiting, NULL);
 }
 
-/* Waits for room, after FULL: KIOSKBASIL_OK, or FULL where go_on(given) says no. A look does not
-   see that the order has ended, so it is OK also after `most` looks, and after a sleep in which no
-   ring came: the next turn sees it. */
+/* Waits for room, after FULL: KIOSKBASIL_OK, or FULL where it is told to stop, or its time is over.
+   A look does not see that the order has ended, so it is OK also after `most` looks, and after
+   BELL_LONGEST_SLEEP in which no ring came: the next turn sees it. */
 static inline uint32_t wait_for_room(kioskbasil_sender *sender, struct bell *bell,
                                      struct waiter *waiter, unsigned most,
-                                     bool (*go_on)(void *given), void *given) {
+                                     const struct patience *patience) {
+    const int64_t longest = INT64_C(1000000) * BELL_LONGEST_SLEEP;
+    int64_t slept = 0;
     for (unsigned looks = 0;; looks++) {
-        if (go_on && !go_on(given)) return KIOSKBASIL_FULL;
+        int64_t left = patience_left(patience);
+        if (!left) return KIOSKBASIL_FULL;
         if (kioskbasil_has_room(sender) == KIOSKBASIL_OK) {
             carry_on(waiter);
             return KIOSKBASIL_OK;
         }
-        if (looks == most || wait_for(bell, waiter)) return KIOSKBASIL_OK;
+        if (left > longest) left = longest;
+        slept = wait_up_to(bell, waiter, left) ? slept + left : 0;
+        if (looks == most || slept >= longest) return KIOSKBASIL_OK;
+    }
+}
+
+/* What send_when_room and send_when_room_timeout do. */
+static inline uint32_t send_when_room_by(kioskbasil_sender *sender, uint64_t *seed,
+                                         kioskbasil_turn_answer *answer, struct bell *bell,
+                                         const struct patience *patience) {
+    struct waiter waiter = {0, 0, 0};
+    uint32_t code = kioskbasil_has_room(sender);
+    if (kioskbasil_refused(code)) return code;
+    for (unsigned most = LEAST_LOOKS;; most = most < MOST_LOOKS ? 2 * most : most) {
+        code = send_by(sender, seed, answer, bell, patience);
+        if (code != KIOSKBASIL_FULL) return code;
+        if (wait_for_room(sender, bell, &waiter, most, patience) != KIOSKBASIL_OK) return code;
     }
 }
 
 /* As send_while, but of a ring it goes on after FULL: it waits for room, and sends again. It asks
    go_on(given) then too, before each look for room, and answers FULL where that says no. Now and
    then it takes a turn all the same, since the order may have ended: after 64 looks, then 128, and
-   so on up to 4,096, and after a sleep in which no ring came. A batch that is longer than the log is
-   answered KIOSKBASIL_NEVER_FITS before the first turn. Of a bus that is no ring there is no more
-   room after FULL: it goes on until go_on says no, or another sender ends the order.
+   so on up to 4,096, and after 0.1 s of sleep in which no ring came. A batch that is longer than
+   the log is answered KIOSKBASIL_NEVER_FITS before the first turn. Of a bus that is no ring there
+   is no more room after FULL: it goes on until go_on says no, or another sender ends the order.
 
    It is for threads that only send: who has to hear too goes by send_now, and hears while that
    answers FULL. */
 static inline uint32_t send_when_room(kioskbasil_sender *sender, uint64_t *seed,
                                       kioskbasil_turn_answer *answer, struct bell *bell,
                                       bool (*go_on)(void *given), void *given) {
-    struct waiter waiter = {0, 0, 0};
-    uint32_t code = kioskbasil_has_room(sender);
-    if (kioskbasil_refused(code)) return code;
-    for (unsigned most = LEAST_LOOKS;; most = most < MOST_LOOKS ? 2 * most : most) {
-        code = send_while(sender, seed, answer, bell, go_on, given);
-        if (code != KIOSKBASIL_FULL) return code;
-        if (wait_for_room(sender, bell, &waiter, most, go_on, given) != KIOSKBASIL_OK) return code;
-    }
+    struct patience patience = patience_asking(go_on, given);
+    return send_when_room_by(sender, seed, answer, bell, &patience);
+}
+
+/* As send_when_room, but it waits for so long at most: WAITING, BEHIND or FULL say that its time is
+   over. */
+static inline uint32_t send_when_room_timeout(kioskbasil_sender *sender, uint64_t *seed,
+                                              kioskbasil_turn_answer *answer, struct bell *bell,
+                                              unsigned milliseconds) {
+    struct patience patience = patience_up_to(milliseconds);
+    return send_when_room_by(sender, seed, answer, bell, &patience);
 }
 
 /* Closes, and sends that: KIOSKBASIL_CLOSED where the order has ended then; else why not. Where that
@@ -362,19 +452,36 @@ static inline void free_receiver(kioskbasil_receiver *receiver, struct bell *bel
     if (bell) bell_ring(bell);
 }
 
-/* As hear_some, but it can be told to stop: each time nothing is there it asks go_on(given), and
-   answers KIOSKBASIL_EMPTY, with *many 0, where that says no. Whoever makes it do so rings the
-   bell. */
-static inline uint32_t hear_while(kioskbasil_receiver *receiver, kioskbasil_item *items,
-                                  size_t room, size_t *many, struct bell *bell,
-                                  bool (*go_on)(void *given), void *given) {
+/* What hear_while and hear_timeout do. */
+static inline uint32_t hear_by(kioskbasil_receiver *receiver, kioskbasil_item *items, size_t room,
+                               size_t *many, struct bell *bell, const struct patience *patience) {
     struct waiter waiter = {0, 0, 0};
     for (;;) {
         uint32_t code = hear_now(receiver, items, room, many, bell);
+        int64_t most;
         if (code != KIOSKBASIL_EMPTY || *many > 0) return code;
-        if (go_on && !go_on(given)) return code;
-        wait_for(bell, &waiter);
+        most = patience_left(patience);
+        if (!most) return code;
+        wait_up_to(bell, &waiter, most);
     }
+}
+
+/* As hear_some, but it can be told to stop: each time nothing is there it asks go_on(given), and
+   answers KIOSKBASIL_EMPTY, with *many 0, where that says no. It asks as send_while does. */
+static inline uint32_t hear_while(kioskbasil_receiver *receiver, kioskbasil_item *items,
+                                  size_t room, size_t *many, struct bell *bell,
+                                  bool (*go_on)(void *given), void *given) {
+    struct patience patience = patience_asking(go_on, given);
+    return hear_by(receiver, items, room, many, bell, &patience);
+}
+
+/* As hear_some, but it waits for so long at most: then it answers KIOSKBASIL_EMPTY, with *many
+   0. */
+static inline uint32_t hear_timeout(kioskbasil_receiver *receiver, kioskbasil_item *items,
+                                    size_t room, size_t *many, struct bell *bell,
+                                    unsigned milliseconds) {
+    struct patience patience = patience_up_to(milliseconds);
+    return hear_by(receiver, items, room, many, bell, &patience);
 }
 
 /* Hears until there is an item or the end: KIOSKBASIL_GOING or EMPTY with *many above 0, or END,

@@ -9,6 +9,7 @@ use std::cmp::Ordering;
 use std::ops::Deref;
 use std::sync::Arc;
 use std::task::{Context, Poll};
+use std::time::Duration;
 use std::{fmt, mem, ptr};
 
 /// A message of the order. It is its bytes.
@@ -92,14 +93,25 @@ pub enum Heard {
     End,
 }
 
-/// What `Receiver::next_item_while` came to.
+/// What `Receiver::next_item_while` or `Receiver::next_item_timeout` came to.
 #[derive(Clone, Copy, Debug, PartialEq, Eq)]
 pub enum Next {
     /// The next item.
     Item(Item),
     /// The order has ended, and all of it was given.
     End,
-    /// There is nothing more by now, and it was told not to go on.
+    /// There is nothing more by now, and it was told not to go on, or its time is over.
+    Stopped,
+}
+
+/// What `Receiver::next_items_while` or `Receiver::next_items_timeout` came to.
+#[derive(Clone, Copy, Debug, PartialEq, Eq)]
+pub enum NextItems<'a> {
+    /// The next items, one at least and at most 32, where they lie.
+    Items(&'a [Item]),
+    /// The order has ended, and all of it was given.
+    End,
+    /// There is nothing more by now, and it was told not to go on, or its time is over.
     Stopped,
 }
 
@@ -372,7 +384,7 @@ impl Receiver {
         &self.bell
     }
 
-    /// Sets how `next_item`, `next_items` and `next_item_while` wait; at first by `Waiting::Sleep`.
+    /// Sets how its calls wait; at first by `Waiting::Sleep`.
     pub fn set_waiting(&mut self, waiting: Waiting) {
         self.waiting = waiting;
     }
@@ -380,7 +392,7 @@ impl Receiver {
     /// The next item, and None at the end and ever after. It waits while there is none.
     #[inline]
     pub fn next_item(&mut self) -> Option<Item> {
-        self.wait_while(|| true);
+        self.wait_while(BackOff::new, || true);
         self.at_hand()
     }
 
@@ -406,13 +418,13 @@ impl Receiver {
     /// ```
     #[inline]
     pub fn next_items(&mut self) -> &[Item] {
-        self.wait_while(|| true);
+        self.wait_while(BackOff::new, || true);
         self.all_at_hand()
     }
 
     /// As `next_item`, but that it can be told to stop: each time nothing is there it asks
-    /// `go_on`, and gives `Stopped` where that says no. A call that sleeps asks once the bell
-    /// rings, so whoever makes `go_on` say no rings it.
+    /// `go_on`, and gives `Stopped` where that says no. A call that sleeps asks every 10 ms, and
+    /// once the bell rings: so whoever makes `go_on` say no rings it, and need not wait.
     ///
     /// ```
     /// use kioskbasil::{Bus, Next, Shape};
@@ -432,34 +444,105 @@ impl Receiver {
     /// ```
     #[inline]
     pub fn next_item_while(&mut self, go_on: impl FnMut() -> bool) -> Next {
-        if !self.wait_while(go_on) {
-            return Next::Stopped;
-        }
+        let is_there = self.wait_while(BackOff::asked, go_on);
+        self.next_of(is_there)
+    }
+
+    /// As `next_item`, but that it waits for so long at most, and then gives `Stopped`. With no time
+    /// it gives what is there.
+    ///
+    /// ```
+    /// use kioskbasil::{Bus, Next, Shape};
+    /// use std::time::Duration;
+    ///
+    /// let (mut senders, mut receivers) = Bus::open(Shape::of(1, 1))?;
+    /// let time = Duration::from_millis(5);
+    /// assert_eq!(receivers[0].next_item_timeout(time), Next::Stopped);
+    /// senders[0].send_all(["here"])?;
+    /// assert!(matches!(receivers[0].next_item_timeout(time), Next::Item(_)));
+    /// senders[0].end_order()?;
+    /// assert_eq!(receivers[0].next_item_timeout(time), Next::End);
+    /// # Ok::<(), Box<dyn std::error::Error>>(())
+    /// ```
+    #[inline]
+    pub fn next_item_timeout(&mut self, time: Duration) -> Next {
+        let is_there = self.wait_while(|waiting| BackOff::up_to(waiting, time), || true);
+        self.next_of(is_there)
+    }
+
+    #[inline]
+    fn next_of(&mut self, is_there: bool) -> Next {
         match self.at_hand() {
             Some(item) => Next::Item(item),
-            None => Next::End,
+            None if is_there => Next::End,
+            None => Next::Stopped,
         }
     }
 
-    /// Waits until it has items at hand, or the order has ended and all of it was given. False
-    /// where it is told to stop.
+    /// As `next_items`, but that it can be told to stop, as `next_item_while`.
+    ///
+    /// ```
+    /// use kioskbasil::{Bus, NextItems, Shape};
+    ///
+    /// let (mut senders, mut receivers) = Bus::open(Shape::of(1, 1))?;
+    /// assert_eq!(receivers[0].next_items_while(|| false), NextItems::Stopped);
+    /// senders[0].send_all(["one", "two"])?;
+    /// senders[0].end_order()?;
+    /// match receivers[0].next_items_while(|| false) {
+    ///     NextItems::Items(items) => assert_eq!(items.len(), 2),
+    ///     other => panic!("{other:?}"),
+    /// }
+    /// assert_eq!(receivers[0].next_items_while(|| false), NextItems::End);
+    /// # Ok::<(), Box<dyn std::error::Error>>(())
+    /// ```
     #[inline]
-    fn wait_while(&mut self, mut go_on: impl FnMut() -> bool) -> bool {
-        self.look();
-        if self.given < self.many {
-            return true;
+    pub fn next_items_while(&mut self, go_on: impl FnMut() -> bool) -> NextItems<'_> {
+        let is_there = self.wait_while(BackOff::asked, go_on);
+        self.next_items_of(is_there)
+    }
+
+    /// As `next_items`, but that it waits for so long at most, as `next_item_timeout`.
+    #[inline]
+    pub fn next_items_timeout(&mut self, time: Duration) -> NextItems<'_> {
+        let is_there = self.wait_while(|waiting| BackOff::up_to(waiting, time), || true);
+        self.next_items_of(is_there)
+    }
+
+    #[inline]
+    fn next_items_of(&mut self, is_there: bool) -> NextItems<'_> {
+        match self.all_at_hand() {
+            [] if is_there => NextItems::End,
+            [] => NextItems::Stopped,
+            items => NextItems::Items(items),
         }
-        let mut back_off = BackOff::new(self.waiting);
+    }
+
+    /// It has items at hand, or the order has ended.
+    #[inline]
+    fn is_ready(&self) -> bool {
+        self.given < self.many || self.ended
+    }
+
+    /// Waits until it has items at hand, or the order has ended and all of it was given. False
+    /// where it is told to stop, or its time is over.
+    #[inline]
+    fn wait_while(
+        &mut self,
+        back_off: impl FnOnce(Waiting) -> BackOff,
+        go_on: impl FnMut() -> bool,
+    ) -> bool {
+        self.look();
+        self.is_ready() || self.wait_by(back_off(self.waiting), go_on)
+    }
+
+    fn wait_by(&mut self, mut back_off: BackOff, mut go_on: impl FnMut() -> bool) -> bool {
         loop {
-            if self.ended {
-                return true;
-            }
-            if !go_on() {
+            if back_off.is_over() || !go_on() {
                 return false;
             }
             back_off.wait(&self.bell, self.place);
             self.look();
-            if self.given < self.many {
+            if self.is_ready() {
                 return true;
             }
         }

@@ -7,6 +7,7 @@ use crate::waiting::{nap, BackOff, Polled, Sleeper, Words, LEAST_LOOKS, MOST_LOO
 use crate::{Bell, Waiting, MOST_MESSAGES};
 use std::sync::Arc;
 use std::task::{Context, Poll};
+use std::time::Duration;
 use std::{fmt, mem, ptr};
 
 /// The answer to a turn of a sender.
@@ -506,7 +507,8 @@ impl Sender {
     #[must_use = "Full and Spent send nothing"]
     pub fn send(&mut self) -> Turn {
         loop {
-            if let Some(last) = self.send_while(|| true) {
+            let back_off = BackOff::new(self.waiting);
+            if let Some(last) = self.send_by(back_off, || true) {
                 return last;
             }
         }
@@ -515,8 +517,8 @@ impl Sender {
     /// As `send`, but that it can be told to stop: each time a turn answers `Waiting` or `Behind`
     /// it asks `go_on`, and gives None where that says no. The batch is kept, and any later turn
     /// goes on with it. After `Behind` this sender holds the page, for which all others wait: so go
-    /// on soon. A call that sleeps asks once the bell rings, so whoever makes `go_on` say no rings
-    /// it.
+    /// on soon, or call `finish`, which also tells which it was. A call that sleeps asks every 10
+    /// ms, and once the bell rings: so whoever makes `go_on` say no rings it, and need not wait.
     ///
     /// ```
     /// use kioskbasil::{Bus, Shape, Turn};
@@ -533,12 +535,40 @@ impl Sender {
     /// # Ok::<(), Box<dyn std::error::Error>>(())
     /// ```
     #[must_use = "None says that it was told to stop; Full and Spent send nothing"]
-    pub fn send_while(&mut self, mut go_on: impl FnMut() -> bool) -> Option<Turn> {
-        let mut back_off = BackOff::new(self.waiting);
+    pub fn send_while(&mut self, go_on: impl FnMut() -> bool) -> Option<Turn> {
+        self.send_by(BackOff::asked(self.waiting), go_on)
+    }
+
+    /// As `send`, but that it waits for so long at most, and then gives None. It leaves what
+    /// `send_while` leaves that is told to stop: the batch is kept, and any later turn goes on with
+    /// it. Whoever does not soon go on calls `finish`: after a `Behind` this sender holds the page,
+    /// for which all others wait. `finish` gives None where it does not.
+    ///
+    /// ```
+    /// use kioskbasil::{Bus, Shape, Turn};
+    /// use std::time::Duration;
+    ///
+    /// let (mut senders, _receivers) = Bus::open(Shape::of(2, 1))?;
+    /// let (anna, bert) = senders.split_at_mut(1);
+    /// bert[0].put(b"b")?;
+    /// while bert[0].turn(0) != (Turn::Own { tenure: 0 }) {}
+    /// anna[0].put(b"a")?;
+    /// assert_eq!(anna[0].send_timeout(Duration::from_millis(5)), None);
+    /// assert_eq!((anna[0].finish(), anna[0].pending()), (None, 1));
+    /// # Ok::<(), Box<dyn std::error::Error>>(())
+    /// ```
+    #[must_use = "None says that its time is over; Full and Spent send nothing"]
+    pub fn send_timeout(&mut self, time: Duration) -> Option<Turn> {
+        self.send_by(BackOff::up_to(self.waiting, time), || true)
+    }
+
+    fn send_by(&mut self, mut back_off: BackOff, mut go_on: impl FnMut() -> bool) -> Option<Turn> {
         loop {
             let word = self.random.next();
             match self.turns(word) {
-                Turn::Waiting | Turn::Behind { .. } if !go_on() => return None,
+                Turn::Waiting | Turn::Behind { .. } if back_off.is_over() || !go_on() => {
+                    return None;
+                }
                 Turn::Waiting => {
                     back_off.wait(&self.bell, usize::from(self.number));
                 }
@@ -619,7 +649,7 @@ impl Sender {
     /// As `send_while`, but that it goes on after `Full`: it waits for room, and sends again. Before
     /// each look for room it asks `go_on` too. So it never gives `Full`. Where the order ends
     /// meanwhile it takes a turn, which says so. Now and then it takes one all the same: after 64
-    /// looks, then 128, and so on up to 4,096, and after it has slept for as long as it may. A batch
+    /// looks, then 128, and so on up to 4,096, and after it has slept for 0.1 s. A batch
     /// that is longer than the log is an error before the first turn. Of a bus that is no ring there
     /// is no more room after `Full`, and the call goes on until it is told to stop, or another sender
     /// ends the order.
@@ -646,13 +676,42 @@ impl Sender {
     #[must_use = "None says that it was told to stop; Spent sends nothing"]
     pub fn send_when_room(
         &mut self,
+        go_on: impl FnMut() -> bool,
+    ) -> Result<Option<Turn>, NeverFits> {
+        self.send_when_room_by(BackOff::asked(self.waiting), go_on)
+    }
+
+    /// As `send_when_room`, but that it waits for so long at most, and then gives None. It leaves
+    /// what `send_timeout` leaves.
+    ///
+    /// ```
+    /// use kioskbasil::{Bus, Shape};
+    /// use std::time::Duration;
+    ///
+    /// let shape = Shape { log_words: 16, ..Shape::of(1, 1) };
+    /// let (mut senders, mut receivers) = Bus::open_ring(shape)?;
+    /// senders[0].send_all([[0; 56]])?;
+    /// senders[0].put(&[1; 56])?;
+    /// let time = Duration::from_millis(5);
+    /// assert_eq!(senders[0].send_when_room_timeout(time), Ok(None));
+    /// while receivers[0].try_item().is_some() {}
+    /// assert!(matches!(senders[0].send_when_room_timeout(time), Ok(Some(_))));
+    /// # Ok::<(), Box<dyn std::error::Error>>(())
+    /// ```
+    #[must_use = "None says that its time is over; Spent sends nothing"]
+    pub fn send_when_room_timeout(&mut self, time: Duration) -> Result<Option<Turn>, NeverFits> {
+        self.send_when_room_by(BackOff::up_to(self.waiting, time), || true)
+    }
+
+    fn send_when_room_by(
+        &mut self,
+        mut back_off: BackOff,
         mut go_on: impl FnMut() -> bool,
     ) -> Result<Option<Turn>, NeverFits> {
         self.has_room()?;
-        let mut back_off = BackOff::new(self.waiting);
         let mut most = LEAST_LOOKS;
         loop {
-            match self.send_while(&mut go_on) {
+            match self.send_by(back_off.afresh(), &mut go_on) {
                 Some(Turn::Full) => {}
                 last => return Ok(last),
             }
@@ -664,7 +723,7 @@ impl Sender {
     }
 
     /// Looks until there is room, or the order is known to have ended, or for so many times, or until
-    /// it has slept for as long as it may. False where it is told to stop.
+    /// it has slept for 0.1 s. False where it is told to stop, or its time is over.
     fn wait_for_room(
         &mut self,
         back_off: &mut BackOff,
@@ -672,7 +731,7 @@ impl Sender {
         mut go_on: impl FnMut() -> bool,
     ) -> Result<bool, NeverFits> {
         for _ in 0..most {
-            if !go_on() {
+            if back_off.is_over() || !go_on() {
                 return Ok(false);
             }
             if self.has_room()? || self.shared.has_ended() {

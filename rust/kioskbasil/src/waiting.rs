@@ -37,26 +37,68 @@ pub(crate) const MOST_LOOKS: u32 = 4096;
 /// program asks between two looks may take the wake-up for its own.
 const LONGEST_SLEEP: Duration = Duration::from_millis(100);
 
+/// A thread sleeps so long at most in a call that asks a closure whether to go on.
+const LONGEST_ASKED_SLEEP: Duration = Duration::from_millis(10);
+
 /// Waits longer and longer from call to call.
 pub(crate) struct BackOff {
     waiting: Waiting,
     step: u32,
     listens: bool,
+    /// How long it has slept since the last ring.
+    slept: Duration,
+    longest: Duration,
+    /// Until when it waits. None where that is for good.
+    end: Option<Instant>,
 }
 
 impl BackOff {
+    /// Of a call that asks nobody.
     pub(crate) fn new(waiting: Waiting) -> BackOff {
         BackOff {
             waiting,
             step: 0,
             listens: false,
+            slept: Duration::ZERO,
+            longest: LONGEST_SLEEP,
+            end: None,
         }
     }
 
+    /// Of a call that asks a closure whether to go on.
+    pub(crate) fn asked(waiting: Waiting) -> BackOff {
+        BackOff {
+            longest: LONGEST_ASKED_SLEEP,
+            ..BackOff::new(waiting)
+        }
+    }
+
+    /// Of a call that waits for so long at most.
+    pub(crate) fn up_to(waiting: Waiting, time: Duration) -> BackOff {
+        BackOff {
+            end: Instant::now().checked_add(time),
+            ..BackOff::new(waiting)
+        }
+    }
+
+    /// One for another thing that the same call waits for.
+    pub(crate) fn afresh(&self) -> BackOff {
+        BackOff {
+            longest: self.longest,
+            end: self.end,
+            ..BackOff::new(self.waiting)
+        }
+    }
+
+    /// The time of its call is over.
+    pub(crate) fn is_over(&self) -> bool {
+        self.end.map_or(false, |end| Instant::now() >= end)
+    }
+
     /// Waits for the bell: spins, then yields, then listens, so that the caller looks once more,
-    /// and then sleeps. True says that it has slept for as long as it may.
+    /// and then sleeps. True says that it has slept for 0.1 s in all while no ring came.
     pub(crate) fn wait(&mut self, bell: &Bell, place: usize) -> bool {
-        self.wait_up_to(bell, place, None)
+        self.wait_up_to(bell, place, self.end)
     }
 
     /// As `wait`, but that it sleeps up to this time at most.
@@ -64,23 +106,31 @@ impl BackOff {
         if self.backs_off() {
             return false;
         }
-        let mut is_long = false;
         if self.listens {
             let begin = Instant::now();
-            let left = end.map_or(LONGEST_SLEEP, |end| end.saturating_duration_since(begin));
-            let most = left.min(LONGEST_SLEEP);
+            let most = self.longest.min(left(end));
             thread::park_timeout(most);
-            is_long = begin.elapsed() >= most;
+            let slept = begin.elapsed();
+            self.slept = if slept < most {
+                Duration::ZERO
+            } else {
+                self.slept + slept
+            };
         }
         bell.listen_here(place);
         self.listens = true;
+        let is_long = self.slept >= LONGEST_SLEEP;
+        if is_long {
+            self.slept = Duration::ZERO;
+        }
         is_long
     }
 
     /// Waits for a sender that is in the middle of its turns, which no ring follows.
     pub(crate) fn wait_behind(&mut self, looks: u32) {
         if !self.backs_off() {
-            thread::sleep(nap(looks).unwrap_or_default());
+            let most = self.longest.min(left(self.end));
+            thread::sleep(nap(looks).unwrap_or_default().min(most));
         }
     }
 
@@ -103,7 +153,15 @@ impl BackOff {
     pub(crate) fn carry_on(&mut self) {
         self.step = self.step.min(SPINS);
         self.listens = false;
+        self.slept = Duration::ZERO;
     }
+}
+
+/// How long it is until then; for good where that is None.
+fn left(end: Option<Instant>) -> Duration {
+    end.map_or(Duration::MAX, |end| {
+        end.saturating_duration_since(Instant::now())
+    })
 }
 
 /// For how long a sender that was behind at so many looks sleeps: for 0.1 ms, 0.2 ms and so on up

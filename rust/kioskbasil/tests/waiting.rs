@@ -110,8 +110,8 @@ fn those_that_sleep_are_told_to_stop() {
         thread::sleep(A_WHILE);
         let (before, begin) = (asked.load(Ordering::SeqCst), Instant::now());
         thread::sleep(A_WHILE);
-        // Each looks again every 0.1 s. Awake they would look some thousand times.
-        let looks = 50 + begin.elapsed().as_millis() as usize / 10;
+        // Each looks again every 10 ms. Awake they would look some thousand times.
+        let looks = 50 + begin.elapsed().as_millis() as usize / 5;
         assert!(asked.load(Ordering::SeqCst) <= before + looks);
         stop.store(true, Ordering::SeqCst);
         bell.ring();

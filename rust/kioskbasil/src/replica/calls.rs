@@ -18,7 +18,7 @@ impl<F: FnMut() -> bool> Patience<F> {
         Patience {
             go_on,
             end: None,
-            back_off: BackOff::new(waiting),
+            back_off: BackOff::asked(waiting),
         }
     }
 
