@@ -532,7 +532,8 @@ static inline uint32_t kioskbasil_finish(kioskbasil_sender *sender,
 }
 
 /* Gives the handle up, after the turns of kioskbasil_finish; it is empty then. What did not come
- * into the order goes with it. That ends no order: a receiver goes on answering EMPTY.
+ * into the order goes with it. That ends no order, also not of the last one: a receiver goes on
+ * answering EMPTY. kioskbasil_close and the turns behind it end the order.
  * What kioskbasil_finish answers, or KIOSKBASIL_OK for an empty handle or NULL. After BEHIND the
  * page is out: all others are answered WAITING or BEHIND for good, and kioskbasil_end answers
  * PAGE_OUT. So where rows are used again, ask kioskbasil_finish as long as it answers that, while

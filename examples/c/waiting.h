@@ -424,7 +424,7 @@ static inline uint32_t finish_sender(kioskbasil_sender *sender, kioskbasil_turn_
     return code;
 }
 
-/* As kioskbasil_free_sender, and rings. */
+/* As kioskbasil_free_sender, and rings. It ends no order: end_order does. */
 static inline uint32_t free_sender(kioskbasil_sender *sender, struct bell *bell) {
     uint32_t code = kioskbasil_free_sender(sender);
     ring_for(bell, sender, code);

@@ -22,6 +22,9 @@
 //! longer than the log is `Full` for good, and its sender then neither sends, closes nor leaves:
 //! give a ring 129 words or more, or count the words of a batch before each put.
 //!
+//! Dropping senders ends no order: `Sender::end_order` does, or the last drop after
+//! `Sender::end_with_senders`.
+//!
 //! The election of the next sender is wait-free: each takes a stated number of its own turns. The
 //! append is not, since the sender that is elected holds the page as one holds a lock. If it stops
 //! there, all others wait for good.
@@ -217,7 +220,7 @@ pub struct Ended {
     pub next: [u64; MOST_SENDERS],
     /// How many tenures have ended.
     pub tenures: u64,
-    /// The order has ended.
+    /// The order has ended: the end mark stands in it.
     pub ended: bool,
     /// Which senders have left.
     pub left: [bool; MOST_SENDERS],
@@ -396,7 +399,7 @@ impl Bus {
         if code != 0 {
             return Err(OpenError::of_code(code));
         }
-        let (bell, shared) = (Bell::default(), Arc::<Shared>::default());
+        let (bell, shared) = (Bell::default(), Arc::new(Shared::of(many)));
         let senders = senders.into_iter().take(many);
         let receivers = receivers.into_iter().take(ears).enumerate();
         Ok((

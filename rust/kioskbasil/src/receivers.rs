@@ -271,6 +271,7 @@ impl Receiver {
     fn fill(&mut self) {
         self.given = 0;
         self.many = 0;
+        let is_over = self.shared.is_over();
         // SAFETY: as in `shown`; there is room for so many items.
         let code = unsafe {
             raw::bus_c_hear(
@@ -281,7 +282,7 @@ impl Receiver {
                 &mut self.many,
             )
         };
-        self.ended = code == 14;
+        self.ended = code == 14 || (code == 11 && is_over);
         self.ring_if_passed();
     }
 
@@ -296,19 +297,20 @@ impl Receiver {
             owner: 0,
             item: Item::NONE,
         };
+        let is_over = self.shared.is_over();
         // SAFETY: as in `shown`.
         let code = unsafe { raw::bus_c_hear_once(&mut self.raw, &mut told) };
         self.ring_if_passed();
         match code {
             3 => Heard::Going,
-            11 => Heard::Empty,
+            11 if !is_over => Heard::Empty,
             12 => Heard::Head {
                 tenure: told.tenure,
                 owner: told.owner,
             },
             13 => Heard::Item(told.item),
             16 => Heard::Leave(told.owner),
-            14 => {
+            11 | 14 => {
                 self.ended = true;
                 Heard::End
             }

@@ -125,6 +125,8 @@ impl fmt::Display for Turn {
 /// kept: the other handles of the bus take them, at the first of their turns that finds that other
 /// one gone on or dropped. If that one never comes back, all others wait for good, as they do where
 /// a thread is killed within a tenure.
+///
+/// Dropping senders ends no order, also of the last one, but after `end_with_senders`.
 pub struct Sender {
     raw: raw::RawSender,
     random: Words,
@@ -156,7 +158,7 @@ impl fmt::Debug for Sender {
 impl Drop for Sender {
     fn drop(&mut self) {
         let raw = mem::replace(&mut self.raw, raw::RawSender::NONE);
-        self.shared.give_up(raw);
+        self.shared.give_up(raw, self.has_left, &mut self.random);
         self.bell.ring_in_drop();
     }
 }
@@ -277,6 +279,32 @@ impl Sender {
     /// Sets how the calls wait that send; at first by `Waiting::Sleep`.
     pub fn set_waiting(&mut self, waiting: Waiting) {
         self.waiting = waiting;
+    }
+
+    /// Has the order of its bus end with its senders, whichever of them this is called of: once
+    /// each was dropped or has left, each receiver is told the end behind the last item, as it is
+    /// behind a close. Else dropping senders ends no order.
+    ///
+    /// The drop of the last one waits for nobody. It puts the end mark into the log if nothing waits
+    /// in its batch, there is room for two words, and a tenure is left; `Ended::ended` says whether
+    /// it stands there, so that a next sitting can go on. Messages that were put and not sent are
+    /// lost, as with each drop. A sender that is kept, or forgotten (`mem::forget`), or whose thread
+    /// never comes back, keeps the order open.
+    ///
+    /// ```
+    /// use kioskbasil::{Bus, Shape};
+    ///
+    /// let (senders, mut receivers) = Bus::open_ring(Shape::of(3, 1))?;
+    /// senders[0].end_with_senders();
+    /// for mut sender in senders {
+    ///     std::thread::spawn(move || sender.send_all(["hello"]));
+    /// }
+    /// assert_eq!(receivers[0].by_ref().count(), 3);
+    /// # Ok::<(), kioskbasil::OpenError>(())
+    /// ```
+    pub fn end_with_senders(&self) {
+        self.shared.end_with_senders();
+        self.bell.ring();
     }
 
     /// Its next turn uses its random word.
@@ -420,7 +448,10 @@ impl Sender {
             _ => 0,
         };
         self.is_within = matches!(turn, Turn::Going | Turn::Own { .. } | Turn::Behind { .. });
-        self.has_left |= matches!(turn, Turn::Left { .. });
+        if matches!(turn, Turn::Left { .. }) && !self.has_left {
+            self.has_left = true;
+            self.shared.note_left();
+        }
         if turn == Turn::Closed && !self.has_left {
             self.shared.note_end();
         }
