@@ -11,6 +11,7 @@ use Rattle.bus_replica.specs.Causes.{WasAnswered, WasShut, HasEnded}
 use Rattle.bus_replica.specs.Causes.{IsCause, IsEndCause, SaysOn, SaysStop, SaidYes}
 use Rattle.bus_replica.specs.Causes.{Unasked}
 use Rattle.bus_replica.specs.Replicas.{Replicated, GoesOn, Here, WorksOn, Rests, HaveAllLeft}
+use Rattle.bus_replica.specs.Replicas.{PutsStayLeaving}
 use Rattle.bus_replica.specs.declared.faults.Fault.{Fault}
 use Rattle.bus_replica.specs.declared.faults.Fault.TheVariants as fault
 use Rattle.bus_replica.proofs.GoingLaws.{ends_behind, ends_same}
@@ -81,31 +82,16 @@ module _ {C : Type 0} (P : Process C) (T : Tellings C) (a b : SenderSeat C) wher
     behind = works_also P T true h.after b h.behind;
   }
 
-  shut_also : WasShut P T false a b → WasShut P T true a b
-  shut_also h = record {
-    at = h.at;
-    before = works_also P T true a h.at h.before;
-    shut = h.shut;
-    behind = works_also P T true h.at b h.behind;
-  }
-
-module _ {C S : Type 0} (P : Process C) (T : Tellings C) (a b : Replicated C S) where
-  ended_also : HasEnded P T false a b → HasEnded P T true a b
-  ended_also (inl end) = inl end
-  ended_also (inr (inl closed)) = inr (inl (answered_also P T a.sender b.sender turn.Closed closed))
-  ended_also (inr (inr (inl left))) =
-      inr (inr (inl (left.0, answered_also P T a.sender b.sender (turn.Left left.0) left.1)))
-  ended_also (inr (inr (inr shut))) = inr (inr (inr (shut_also P T a.sender b.sender shut)))
-
-  -- the cause of a part that sends, of the call that leaves
-  pub sending_ends : (Stops : Type 0) (workers : ℕ) (why : Fault)
-      → IsCause P T ⊥ Stops a b why → IsEndCause P T Stops workers a b why
-  sending_ends Stops workers fault.TooLong h = h
-  sending_ends Stops workers fault.Ended h = ended_also h
-  sending_ends Stops workers fault.Spent h =
-      answered_also P T a.sender b.sender turn.Spent h
-  sending_ends Stops workers fault.Stopped h = h
-  sending_ends Stops workers (fault.MissingWorker worker) h = absurd h
+-- the cause of a part that sends, of the call that leaves
+pub sending_ends : {C S : Type 0} (P : Process C) (T : Tellings C) (a b : Replicated C S)
+    (Stops : Type 0) (workers : ℕ) (why : Fault) → IsCause P T ⊥ Stops a b why
+    → IsEndCause P T Stops workers a b why
+sending_ends P T a b Stops workers fault.TooLong h = h
+sending_ends P T a b Stops workers fault.Ended h = h
+sending_ends P T a b Stops workers fault.Spent h =
+    answered_also P T a.sender b.sender turn.Spent h
+sending_ends P T a b Stops workers fault.Stopped h = h
+sending_ends P T a b Stops workers (fault.MissingWorker worker) h = absurd h
 
 module _ {C S : Type 0} (P : Process C) (T : Tellings C) (leaves : Bool) (a b c d : Replicated C S)
     (before : WorksOn P T leaves a.sender b.sender) (heard : GoesOn a.me b.me)
@@ -138,14 +124,16 @@ module _ {C S : Type 0} (P : Process C) (T : Tellings C) (a b c d : Replicated C
   cause_within before behind Long Stops Long' Stops' long stops fault.Stopped h = stops h
   cause_within before behind Long Stops Long' Stops' long stops (fault.MissingWorker worker) h = h
 
-  pub end_within : WorksOn P T true a.sender b.sender → WorksOn P T true c.sender d.sender
+  pub end_within : WorksOn P T false a.sender b.sender → WorksOn P T false c.sender d.sender
       → (Stops Stops' : Type 0) → (Stops → Stops') → (workers : ℕ) (why : Fault)
       → IsEndCause P T Stops workers b c why → IsEndCause P T Stops' workers a d why
   end_within before behind Stops Stops' stops workers fault.TooLong h = h
   end_within before behind Stops Stops' stops workers fault.Ended h =
-      ended_within P T true a b c d before heard behind same h
+      ended_within P T false a b c d before heard behind same h
   end_within before behind Stops Stops' stops workers fault.Spent h =
-      answered_within P T true a.sender b.sender c.sender d.sender before behind _ h
+      answered_within P T true a.sender b.sender c.sender d.sender
+      (works_also P T true a.sender b.sender before) (works_also P T true c.sender d.sender behind)
+      _ h
   end_within before behind Stops Stops' stops workers fault.Stopped h = stops h
   end_within before behind Stops Stops' stops workers (fault.MissingWorker worker) h = (
     stops h.0,
@@ -200,8 +188,7 @@ pub end_settled : {C S V : Type 0} (P : Process C) (T : Tellings C) (a c d : Rep
     → IfErr result (IsEndCause P T Stops workers a d)
 end_settled P T a c d Stops workers (Ok x) behind same h = tt
 end_settled P T a c d Stops workers (Err why) behind same h =
-    end_within P T a a c d Here same Rests (works_also P T true c.sender d.sender behind) Stops
-    Stops (λ s. s) workers why h
+    end_within P T a a c d Here same Rests behind Stops Stops (λ s. s) workers why h
 
 -- before it, more that sent and heard
 pub cause_after : {C S V : Type 0} (P : Process C) (T : Tellings C) (a b c : Replicated C S)
@@ -223,12 +210,16 @@ end_yes P T old new workers Tells first result h always =
 -- of the call that takes the replica
 pub finish_yes : {C S V F : Type 0} (P : Process C) (T : Tellings C) (old : Replicated C S)
     (workers : ℕ) (Tells : F → Bool → F → Type 0) (first : F) (result : Result V Fault)
-    → IfErr result (λ why. (last : Replicated C S)
+    → IfErr result (λ why. (last : Replicated C S) × GoesOn old.me last.me
+    × PutsStayLeaving P T old.sender last.sender
     × IsEndCause P T (SaysStop Tells first) workers old last why)
     → ((f : F) (told : Bool) (f' : F) → Tells f told f' → told ≡ true)
-    → IfErr result (λ why. (last : Replicated C S) × IsEndCause P T ⊥ workers old last why)
+    → IfErr result (λ why. (last : Replicated C S) × GoesOn old.me last.me
+    × PutsStayLeaving P T old.sender last.sender × IsEndCause P T ⊥ workers old last why)
 finish_yes P T old workers Tells first (Ok x) h always = tt
 finish_yes {C} {S} {V} P T old workers Tells first (Err why) h always = (
   h.0,
-  end_yes {V = V} P T old h.0 workers Tells first (Err why) h.1 always,
+  h.1,
+  h.2,
+  end_yes {V = V} P T old h.0 workers Tells first (Err why) h.3 always,
 )

@@ -106,11 +106,14 @@ module _ {C : Type 0} (P : Process C) (x : TableLayout) (base : ℕ → ℕ) whe
       (h : IsPromised P x base log s) (k : IsPromised P x base later t) → IsPrefix log later
       → (i j : ℕ) (v w : View C) → get_elem? s.views i ≡ some v → get_elem? t.views j ≡ some w
       → has_view v ≡ true → has_view w ≡ true → HaveAllLeft v x.senders
-      → HaveAllLeft w x.senders → items_heard v ≡ items_heard w
+      → HaveAllLeft w x.senders
+      → (items_heard v ≡ items_heard w) × (items_heard v ≡ items_in h.order.entries)
   equal_ends log later s t h k on i j v w at at' has has' left left' =
+      let none : (l : List ℕ) → IsPrefix l l = λ l. record { rest = []; together = append-nil l } in
       let same : entries_heard v ≡ entries_heard w =
       whole log later s t h k on i v at has left
-      ∙ sym (whole later later t t k k (record { rest = []; together = append-nil later }) j w at'
-      has' left') in
-      items_given (receiver_view_in v).answers ∙ ap items_in same
-      ∙ sym (items_given (receiver_view_in w).answers)
+      ∙ sym (whole later later t t k k (none later) j w at' has' left') in
+      let given_v = items_given (receiver_view_in v).answers in (
+        given_v ∙ ap items_in same ∙ sym (items_given (receiver_view_in w).answers),
+        given_v ∙ ap items_in (whole log log s s h h (none log) i v at has left),
+      )

@@ -3,15 +3,17 @@ use Rattle.std.proofs.Common.{◌≡◌, ℕ, ◌+◌, Bool, true, false, List, 
 use Rattle.std.proofs.Common.{Some, None, inl, inr, refl, sym, ◌∙◌, ap, subst}
 use Rattle.std.specs.Prelude.{IfSome, IfNone, IfOk, Result, Ok, Err, OnErr, OnOk}
 use Rattle.atomic_table.specs.declared.shared.Seat.{Seat}
-use Rattle.bus_batch.specs.Batches.{CanPut, next_of}
+use Rattle.bus_batch.specs.Batches.{CanPut, CanClose, next_of}
 use Rattle.bus_batch.specs.declared.batches.CloseFault.{CloseFault}
+use Rattle.bus_batch.specs.declared.messages.Mark.{Mark}
 use Rattle.bus_batch.specs.declared.messages.Mark.TheVariants as mark
 use Rattle.bus_core.specs.Senders.{Sender as Held}
 use Rattle.bus_tenure.specs.Core.{Election}
 use Rattle.bus_tenure.specs.declared.pages.Page.{Page}
 use Rattle.bus_tenure.specs.declared.turns.Turn.{Turn}
-use Rattle.bus_world.specs.Headline.{HasPut, puts, put_of}
+use Rattle.bus_world.specs.Headline.{HasPut, HasMarked, puts, put_of}
 use Rattle.std.proofs.lemmas.Grind.{flat_map-append}
+use Rattle.std.proofs.lemmas.List.{append-nil}
 use Rattle.bus_automaton.specs.Processes.{Process, Automaton}
 use Rattle.bus_automaton.specs.SenderTrails.{SenderTrail}
 use Rattle.bus_automaton.specs.declared.plans.Plan.{Plan}
@@ -26,8 +28,8 @@ use Rattle.bus_pageslot.specs.Turns.{Tellings, Turned, AsksOn, Begins, Goes, Ask
 use Rattle.bus_pageslot.specs.Turns.{StopsWaiting}
 use Rattle.bus_pageslot.specs.declared.rule.View.{View}
 use Rattle.bus_replica.specs.Causes.{WasAnswered}
-use Rattle.bus_replica.specs.Replicas.{PutsMore, PutsStay, PutsOnce, WorksOn, Rests, Turns, Puts}
-use Rattle.bus_replica.specs.Replicas.{Leaves, Looks, TakesLeave, Operations, Replicated}
+use Rattle.bus_replica.specs.Replicas.{PutsMore, PutsStay, PutsAtMostOnce, WorksOn, Rests, Turns}
+use Rattle.bus_replica.specs.Replicas.{Puts, PutsStayLeaving, Leaves, Looks, Operations, Replicated}
 use Rattle.bus_replica.specs.Replicas.{StandsLast}
 
 -- ---- what a sender does, one after another
@@ -273,12 +275,50 @@ put_stays {C} P T (Err e) old new core seat =
     subst (λ (z : SenderSeat C). PutsStay P T old z) (sym (same_seat old new core seat))
     (stay P T old)
 
--- ---- a leave by its contract
-pub leave_taken : {C : Type 0} (P : Process C) (result : Result (Unit {0}) CloseFault)
-    (old new : SenderSeat C) → OnOk result (new.core ≡ P.with_mark old.core mark.Leave)
-    → new.seat ≡ old.seat → OnOk result (TakesLeave P old new)
-leave_taken P (Ok x) old new core seat = record { core = core; seat = seat }
-leave_taken P (Err e) old new core seat = tt
+-- ---- who leaves
+pub leaving : {C : Type 0} (P : Process C) (T : Tellings C) (a b : SenderSeat C)
+    → PutsStay P T a b → PutsStayLeaving P T a b
+leaving P T a b h = record {
+  puts_are = h.puts_are;
+  first_is = h.first_is;
+  me_is = h.me_is;
+  works = works_also P T true a b h.works;
+}
+
+pub leaving_trans : {C : Type 0} (P : Process C) (T : Tellings C) (a b c : SenderSeat C)
+    → PutsStayLeaving P T a b → PutsStayLeaving P T b c → PutsStayLeaving P T a c
+leaving_trans P T a b c h k = record {
+  puts_are = k.puts_are ∙ h.puts_are;
+  first_is = k.first_is ∙ h.first_is;
+  me_is = k.me_is ∙ h.me_is;
+  works = works_trans P T true a b c h.works k.works;
+}
+
+pub leaving_on : {C : Type 0} (P : Process C) (T : Tellings C) (a b c : SenderSeat C)
+    → PutsStayLeaving P T a b → PutsStay P T b c → PutsStayLeaving P T a c
+leaving_on P T a b c h k = leaving_trans P T a b c h (leaving P T b c k)
+
+-- a leave by its contract
+pub leave_taken : {C : Type 0} (P : Process C) (T : Tellings C)
+    (result : Result (Unit {0}) CloseFault) (old new : SenderSeat C)
+    → OnOk result (new.core ≡ P.with_mark old.core mark.Leave)
+    → OnOk result (actions_of P new ≡ actions_of P old ++ HasMarked mark.Leave ∷ [])
+    → OnOk result (CanClose (P.queue old.core)) → new.seat ≡ old.seat
+    → ((old new : SenderSeat C) (mark : Mark) → new.core ≡ P.with_mark old.core mark
+    → new.seat ≡ old.seat → IsSameSender P old new)
+    → OnOk result (PutsStayLeaving P T old new)
+leave_taken P T (Ok x) old new core action could seat same =
+    let one = same old new mark.Leave core seat in
+    record {
+      puts_are =
+          ap puts action ∙ flat_map-append put_of (actions_of P old) (HasMarked mark.Leave ∷ [])
+          ∙ append-nil (puts (actions_of P old));
+      first_is = one.first;
+      me_is = one.me;
+      works = Leaves old new refl Rests
+          (record { could = could; action = action; core = core; seat = seat });
+    }
+leave_taken P T (Err e) old new core action could seat same = tt
 
 pub leave_refused : {C : Type 0} (result : Result (Unit {0}) CloseFault) (old new : SenderSeat C)
     → OnErr result (new.core ≡ old.core) → new.seat ≡ old.seat → OnErr result (new ≡ old)
@@ -294,15 +334,16 @@ refused_settled P T first old new (Err e) behind stays = stay_on P T first old n
 
 -- an operation that was put or not, with what follows it
 once_stays : {C : Type 0} (P : Process C) (T : Tellings C) (first old new : SenderSeat C)
-    (bytes : List ℕ) → PutsOnce P T first old bytes → PutsStay P T old new
-    → PutsOnce P T first new bytes
+    (bytes : List ℕ) → PutsAtMostOnce P T first old bytes → PutsStay P T old new
+    → PutsAtMostOnce P T first new bytes
 once_stays P T first old new bytes (inl stays) behind = inl (stay_on P T first old new stays behind)
 once_stays P T first old new bytes (inr more) behind =
     inr (more.0, more_stays P T first old new more.0 bytes more.1 behind)
 
 pub once_settled : {C V E : Type 0} (P : Process C) (T : Tellings C) (first old new : SenderSeat C)
     (bytes : List ℕ) (result : Result V E) → PutsStay P T old new
-    → OnErr result (PutsOnce P T first old bytes) → OnErr result (PutsOnce P T first new bytes)
+    → OnErr result (PutsAtMostOnce P T first old bytes)
+    → OnErr result (PutsAtMostOnce P T first new bytes)
 once_settled P T first old new bytes (Ok x) behind once = tt
 once_settled P T first old new bytes (Err e) behind once =
     once_stays P T first old new bytes once behind

@@ -1,11 +1,12 @@
 -- Why a call of a replica is answered a fault.
-use Rattle.std.specs.Prelude.{◌≡◌, ◌⊎◌, ℕ, ◌<◌, Bool, true, false, Result, Err}
+use Rattle.std.specs.Prelude.{◌≡◌, ◌⊎◌, ℕ, ◌<◌, Bool, true, false, None, Result, Err}
 use Rattle.bus_adoptcommit.specs.ThreeWord.{kind_at, op_of, fed_of}
 use Rattle.bus_adoptcommit.specs.ThreeWordKeeps.{three_word}
 use Rattle.bus_batch.specs.Batches.{IsShut}
 use Rattle.bus_deliverylog.specs.declared.receiving.RecvTurn.TheVariants as recv
 use Rattle.bus_tenure.specs.declared.turns.Turn.{Turn}
 use Rattle.bus_tenure.specs.declared.turns.Turn.TheVariants as turn
+use Rattle.bus_core.specs.Seen.{tenure_begun}
 use Rattle.bus_automaton.specs.Processes.{Process}
 use Rattle.bus_automaton.specs.ThreeWordBuses.{Held}
 use Rattle.bus_pageslot.specs.Listening.{Hears}
@@ -92,7 +93,7 @@ pub record IsFirstMissing {C S : Type 0} (workers : ℕ) (new : Replicated C S) 
 abbrev pub IsEndCause : {C S : Type 0} → Process C → Tellings C → (Stops : Type 0)
     → (workers : ℕ) → Replicated C S → Replicated C S → Fault → Type 0
 IsEndCause P T Stops workers old new fault.TooLong = ⊥
-IsEndCause P T Stops workers old new fault.Ended = HasEnded P T true old new
+IsEndCause P T Stops workers old new fault.Ended = HasEnded P T false old new
 IsEndCause P T Stops workers old new fault.Spent =
     WasAnswered P T true old.sender turn.Spent new.sender
 IsEndCause P T Stops workers old new fault.Stopped = Stops
@@ -100,9 +101,11 @@ IsEndCause P T Stops workers old new (fault.MissingWorker worker) =
     Stops × IsFirstMissing workers new worker.0
 
 -- It was told that the operation is too long, and is as it was: given, applied and put nothing.
-pub record RefusesLong {C S V : Type 0} (P : Process C) (T : Tellings C) (old : Replicated C S)
-    (result : Result V Fault) (new : Replicated C S) : Type 0 where
+pub record RefusesLong {S V : Type 0} (P : Process Held) (T : Tellings Held)
+    (old : Replicated Held S) (result : Result V Fault) (new : Replicated Held S) : Type 0 where
   pub told : result ≡ Err fault.TooLong
   pub me : new.me ≡ old.me
   pub state : new.state ≡ old.state
   pub puts : PutsStay P T old.sender new.sender
+  -- and where no tenure was begun it did nothing at all
+  pub still : tenure_begun old.sender.core ≡ None → new.sender ≡ old.sender

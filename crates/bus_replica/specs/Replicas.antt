@@ -2,6 +2,7 @@
 use Rattle.std.specs.Prelude.{◌≡◌, ◌⊎◌, ℕ, ◌+◌, ◌<◌, ◌≤◌, Bool, true, false, List, []}
 use Rattle.std.specs.Prelude.{◌∷◌, ◌++◌, length, flat_map}
 use Rattle.bus_batch.specs.declared.messages.Item.{Item}
+use Rattle.bus_batch.specs.Batches.{CanClose}
 use Rattle.bus_batch.specs.Frames.{has_gone}
 use Rattle.bus_pageslot.specs.Buses.{BusId}
 use Rattle.bus_pageslot.specs.Rule.{Sat, receiver_view_in, known_in}
@@ -15,7 +16,7 @@ use Rattle.bus_receiver.specs.HearingRuns.{item_in}
 use Rattle.bus_deliverylog.specs.declared.receiving.RecvTurn.TheVariants as turn
 use Rattle.bus_batch.specs.declared.messages.Mark.TheVariants as mark
 use Rattle.bus_tenure.specs.declared.turns.Turn.{Turn}
-use Rattle.bus_world.specs.Headline.{puts, order_given}
+use Rattle.bus_world.specs.Headline.{HasMarked, puts, order_given}
 use Rattle.bus_automaton.specs.Processes.{Process}
 use Rattle.bus_pageslot.specs.Seats.{SenderSeat, first_number_of, actions_of, sender_trail_of}
 use Rattle.bus_pageslot.specs.Seats.{table_of}
@@ -143,6 +144,8 @@ pub record Replicated (C S : Type 0) : Type 0 where
 
 -- a sender took a leave mark into its batch, with no step
 pub record TakesLeave {C : Type 0} (P : Process C) (old new : SenderSeat C) : Type 0 where
+  pub could : CanClose (P.queue old.core)
+  pub action : actions_of P new ≡ actions_of P old ++ HasMarked mark.Leave ∷ []
   pub core : new.core ≡ P.with_mark old.core mark.Leave
   pub seat : new.seat ≡ old.seat
 
@@ -181,8 +184,16 @@ pub record PutsStay {C : Type 0} (P : Process C) (T : Tellings C) (old new : Sen
   pub me_is : P.me new.core ≡ P.me old.core
   pub works : WorksOn P T false old new
 
+-- the same of who leaves, and may have taken leave marks
+pub record PutsStayLeaving {C : Type 0} (P : Process C) (T : Tellings C) (old new : SenderSeat C) :
+    Type 0 where
+  pub puts_are : puts (actions_of P new) ≡ puts (actions_of P old)
+  pub first_is : first_number_of P new ≡ first_number_of P old
+  pub me_is : P.me new.core ≡ P.me old.core
+  pub works : WorksOn P T true old new
+
 -- or it has put these bytes, or nothing
-abbrev pub PutsOnce : {C : Type 0} → Process C → Tellings C → SenderSeat C → SenderSeat C → List ℕ
-    → Type 0
-PutsOnce P T old new bytes =
+abbrev pub PutsAtMostOnce : {C : Type 0} → Process C → Tellings C → SenderSeat C → SenderSeat C
+    → List ℕ → Type 0
+PutsAtMostOnce P T old new bytes =
     PutsStay P T old new ⊎ ((number : ℕ) × PutsMore P T old new number bytes)

@@ -103,7 +103,7 @@ pub fn finished_replicas_are_equal()
         (k : IsPromised process x base later t) → IsPrefix log later → (i j : ℕ) (v w : View Held)
         → get_elem? s.views i ≡ some v → get_elem? t.views j ≡ some w → has_view v ≡ true
         → has_view w ≡ true → HaveAllLeft v x.senders → HaveAllLeft w x.senders
-        → items_heard v ≡ items_heard w }
+        → (items_heard v ≡ items_heard w) × (items_heard v ≡ items_in h.order.entries) }
 {}
 
 /// Replicas are linearizable (Herlihy and Wing 1990). A moment is a table on which the rule of the

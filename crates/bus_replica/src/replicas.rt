@@ -7,9 +7,10 @@ ghost use Rattle.bus_core.specs.Seen.{tenure_begun};
 ghost use Rattle.bus_pageslot.specs.Seats.{table_of};
 ghost use Rattle.bus_pageslot.specs.Sendings.{waiting_of};
 ghost use Rattle.bus_replica.specs.Causes.{tells, IsCause, IsEndCause, RefusesLong, SaysStop};
-ghost use Rattle.bus_replica.specs.Replicas.{IsFold, StandsLast, PutsMore, PutsStay, PutsOnce};
+ghost use Rattle.bus_replica.specs.Replicas.{IsFold, StandsLast, PutsMore, PutsStay};
+ghost use Rattle.bus_replica.specs.Replicas.{PutsAtMostOnce};
 ghost use Rattle.bus_replica.specs.Replicas.{GoesOn, HasCaughtUp, HaveAllLeft, HasHeardAll};
-ghost use Rattle.bus_replica.specs.Replicas.{HearsOut, Replicated};
+ghost use Rattle.bus_replica.specs.Replicas.{HearsOut, PutsStayLeaving, Replicated};
 
 use crate::faults::Fault;
 use crate::states::State;
@@ -199,7 +200,7 @@ impl<S: State> Replica<S> {
             × StandsLast S.is_first S.applies self.new.me.0 self.new.state
             (process.me self.old.sender.core) number answer) }
         ensures refused { OnErr result
-            (PutsOnce process tells self.old.sender self.new.sender op.now) }
+            (PutsAtMostOnce process tells self.old.sender self.new.sender op.now) }
         ensures long { MOST_BYTES < length op.now
             → RefusesLong process tells self.old result self.new }
         ensures cause { IfErr result (IsCause process tells (MOST_BYTES < length op.now) ⊥
@@ -227,7 +228,7 @@ impl<S: State> Replica<S> {
             × StandsLast S.is_first S.applies self.new.me.0 self.new.state
             (process.me self.old.sender.core) number answer) }
         ensures refused { OnErr result
-            (PutsOnce process tells self.old.sender self.new.sender op.now) }
+            (PutsAtMostOnce process tells self.old.sender self.new.sender op.now) }
         ensures long { MOST_BYTES < length op.now
             → RefusesLong process tells self.old result self.new }
         ensures cause { IfErr result (IsCause process tells (MOST_BYTES < length op.now)
@@ -250,6 +251,7 @@ impl<S: State> Replica<S> {
     pub fn leave<W: Wait>(&mut self, wait: &W) -> Result<(), Fault>
         ensures bus { self.new.bus ≡ self.old.bus }
         ensures on { GoesOn self.old.me self.new.me }
+        ensures puts { PutsStayLeaving process tells self.old.sender self.new.sender }
         ensures left { OnOk result
             (HaveAllLeft self.new.me.0 self.new.bus.plan.shape.senders) }
         ensures cause { IfErr result (IsEndCause process tells ⊥
@@ -271,6 +273,7 @@ impl<S: State> Replica<S> {
         requires callable { F.IsAlwaysCallable go_on }
         ensures bus { self.new.bus ≡ self.old.bus }
         ensures on { GoesOn self.old.me self.new.me }
+        ensures puts { PutsStayLeaving process tells self.old.sender self.new.sender }
         ensures left { OnOk result
             (HaveAllLeft self.new.me.0 self.new.bus.plan.shape.senders) }
         ensures cause { IfErr result (IsEndCause process tells (SaysStop F.step go_on)
@@ -287,8 +290,9 @@ impl<S: State> Replica<S> {
     pub fn finish<W: Wait>(self, wait: &W) -> Result<S, Fault>
         ensures heard { IfOk result (λ state.
             HasHeardAll S.is_first S.applies self.bus.plan.shape.senders self.me state) }
-        ensures cause { IfErr result (λ why. (last : Replicated Held S) × IsEndCause process tells
-            ⊥ self.bus.plan.shape.senders self last why) }
+        ensures cause { IfErr result (λ why. (last : Replicated Held S) × GoesOn self.me last.me
+            × PutsStayLeaving process tells self.sender last.sender
+            × IsEndCause process tells ⊥ self.bus.plan.shape.senders self last why) }
     {
         self.finish_while(wait, || true)
     }
@@ -299,7 +303,8 @@ impl<S: State> Replica<S> {
         requires callable { F.IsAlwaysCallable go_on }
         ensures heard { IfOk result (λ state.
             HasHeardAll S.is_first S.applies self.bus.plan.shape.senders self.me state) }
-        ensures cause { IfErr result (λ why. (last : Replicated Held S) × IsEndCause process tells
+        ensures cause { IfErr result (λ why. (last : Replicated Held S) × GoesOn self.me last.me
+            × PutsStayLeaving process tells self.sender last.sender × IsEndCause process tells
             (SaysStop F.step go_on) self.bus.plan.shape.senders self last why) }
     {
         let mut replica = self;
@@ -307,8 +312,9 @@ impl<S: State> Replica<S> {
         Ok(replica.into_state())
     }
 
-    /// The state, without the sender and the receiver, which leaves.
-    fn into_state(self) -> S
+    /// The state by what this worker has applied, without the replica: so `leave` and this are
+    /// `finish`. Its receiver leaves.
+    pub fn into_state(self) -> S
         ensures state { result ≡ self.state }
         ensures fold { IsFold S.is_first S.applies self.me.0 self.state }
     {

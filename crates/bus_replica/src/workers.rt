@@ -11,9 +11,10 @@ ghost use Rattle.bus_pageslot.specs.Seats.{table_of};
 ghost use Rattle.bus_pageslot.specs.Sendings.{waiting_of};
 ghost use Rattle.bus_replica.specs.Causes.{tells, HearsEnd, IsCause, IsEndCause};
 ghost use Rattle.bus_replica.specs.Causes.{SaysOn, SaysStop, WasAnswered};
-ghost use Rattle.bus_replica.specs.Replicas.{IsFold, StandsLast, PutsMore, PutsStay, PutsOnce};
+ghost use Rattle.bus_replica.specs.Replicas.{IsFold, StandsLast, PutsMore, PutsStay};
+ghost use Rattle.bus_replica.specs.Replicas.{PutsAtMostOnce};
 ghost use Rattle.bus_replica.specs.Replicas.{GoesOn, HasCaughtUp, HaveAllLeft, HearsOut};
-ghost use Rattle.bus_replica.specs.Replicas.{TakesLeave, WorksOn, Replicated};
+ghost use Rattle.bus_replica.specs.Replicas.{PutsStayLeaving, Replicated};
 ghost use Rattle.bus_automaton.specs.ThreeWordBuses.{Held};
 
 use crate::faults::Fault;
@@ -150,7 +151,7 @@ impl<S: State> Worker<S> {
             × StandsLast S.is_first S.applies self.new.me.0 self.new.state
             (process.me self.old.sender.core) number answer) }
         ensures refused { OnErr result
-            (PutsOnce process tells self.old.sender self.new.sender op.now) }
+            (PutsAtMostOnce process tells self.old.sender self.new.sender op.now) }
         ensures cause { IfErr result
             (IsCause process tells ⊥ (SaysStop F.step go_on.old) self.old self.new) }
     {
@@ -251,8 +252,8 @@ impl<S: State> Worker<S> {
         unreachable!()
     }
 
-    /// Nothing waits to be sent; or the closure says to go on, and it has rested. It had read so far
-    /// before its last round.
+    /// Nothing waits to be sent; or the closure says to go on, and it has rested. Before its last
+    /// round it had read so far.
     fn may_go_on<W: Wait, F: FnMut() -> bool>(
         &self,
         waiter: &Waiter<'_, W>,
@@ -440,6 +441,7 @@ impl<S: State> Worker<S> {
         requires callable { F.IsAlwaysCallable go_on.old }
         ensures bus { self.new.bus ≡ self.old.bus }
         ensures on { GoesOn self.old.me self.new.me }
+        ensures puts { PutsStayLeaving process tells self.old.sender self.new.sender }
         ensures left { OnOk result
             (HaveAllLeft self.new.me.0 self.new.bus.plan.shape.senders) }
         ensures cause { IfErr result (IsEndCause process tells (SaysStop F.step go_on.old)
@@ -477,7 +479,7 @@ impl<S: State> Worker<S> {
         ensures says { OnOk result (SaysOn F.step go_on.old go_on.new) }
         ensures bus { self.new.bus ≡ self.old.bus }
         ensures on { GoesOn self.old.me self.new.me }
-        ensures works { WorksOn process tells true self.old.sender self.new.sender }
+        ensures puts { PutsStayLeaving process tells self.old.sender self.new.sender }
         ensures cause { IfErr result (IsEndCause process tells (SaysStop F.step go_on.old)
             self.old.bus.plan.shape.senders self.old self.new) }
     {
@@ -500,10 +502,12 @@ impl<S: State> Worker<S> {
     fn take_leave(&mut self) -> Result<(), CloseFault>
         ensures bus { self.new.bus ≡ self.old.bus }
         ensures me { (self.new.me ≡ self.old.me) × (self.new.state ≡ self.old.state) }
-        ensures taken { OnOk result (TakesLeave process self.old.sender self.new.sender) }
+        ensures taken { OnOk result
+            (PutsStayLeaving process tells self.old.sender self.new.sender) }
         ensures refused { OnErr result (self.new.sender ≡ self.old.sender) }
         ensures fault { IfErr result (IsCloseFault (process.queue self.old.sender.core)) }
     {
+        senders_stay_who_they_are::<ThreeWord, fn() -> bool>();
         let taken = self.sender.leave();
         self.is_leaving = taken.is_ok();
         taken

@@ -3,7 +3,7 @@ use Rattle.bus_world.proofs.PlayingLaws.{passed_up}
 use Rattle.bus_automaton.specs.ThreeWordBuses.{Held, process}
 use Rattle.bus_pageslot.specs.Buses.{BusId}
 use Rattle.bus_replica.specs.Causes.{tells, IsEndCause, SaysStop}
-use Rattle.bus_replica.specs.Replicas.{IsFold, Replicated}
+use Rattle.bus_replica.specs.Replicas.{GoesOn, IsFold, PutsStayLeaving, Replicated}
 use Rattle.bus_replica.proofs.LeavingLaws.{heard_all}
 use Rattle.bus_replica.proofs.replicas.Replica.finish_while.Goals as goal
 
@@ -19,6 +19,12 @@ returns-clause-heard g c =
 
 pub returns-in_err-leave_while-clause-cause : goal.returns-in_err-leave_while-clause-cause
 returns-in_err-leave_while-clause-cause g c =
-    passed_up _ _ (λ w. (last : Replicated Held g.row.S.Denot) × IsEndCause process tells
+    passed_up _ _ (λ w. (last : Replicated Held g.row.S.Denot) × GoesOn c.args.self.me last.me
+    × PutsStayLeaving process tells c.args.self.sender last.sender × IsEndCause process tells
     (SaysStop (goal.F-step g) c.args.go_on) c.args.self.bus.plan.shape.senders c.args.self last w)
-    c.from_residual.ensures (c.leave_while.new.self, c.in_err-leave_while.ensures.cause)
+    c.from_residual.ensures (
+      c.leave_while.new.self,
+      c.leave_while.ensures.on,
+      c.leave_while.ensures.puts,
+      c.in_err-leave_while.ensures.cause,
+    )

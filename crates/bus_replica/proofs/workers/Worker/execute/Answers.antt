@@ -2,7 +2,7 @@ use Rattle.std.proofs.Common.{of_calls, rules, inl, inr, refl, ◌∙◌, sym, s
 use Rattle.bus_world.proofs.PlayingLaws.{passed_up}
 use Rattle.bus_automaton.specs.ThreeWordBuses.{process}
 use Rattle.bus_replica.specs.Causes.{tells, IsCause, SaysStop, SaidYes}
-use Rattle.bus_replica.specs.Replicas.{PutsMore, PutsStay, PutsOnce, Rests}
+use Rattle.bus_replica.specs.Replicas.{PutsMore, PutsStay, PutsAtMostOnce, Rests}
 use Rattle.bus_replica.proofs.CauseLaws.{cause_within}
 use Rattle.bus_replica.proofs.GoingLaws.{goes_trans, goes_same, ends_behind}
 use Rattle.bus_replica.proofs.SendingLaws.{more_stays}
@@ -53,13 +53,13 @@ returns-in_err-found-clause-cause g c =
 
 pub returns-in_err-number-clause-refused : goal.returns-in_err-number-clause-refused
 returns-in_err-number-clause-refused g c =
-    passed_up _ _ (λ w. PutsOnce process tells c.args.self.now.sender c.put.new.self.sender
+    passed_up _ _ (λ w. PutsAtMostOnce process tells c.args.self.now.sender c.put.new.self.sender
     c.args.op.now)
     c.from_residual.ensures (inl c.in_err-number.ensures.refused)
 
 pub returns-in_err-send-clause-refused : goal.returns-in_err-send-clause-refused
 returns-in_err-send-clause-refused g c =
-    passed_up _ _ (λ w. PutsOnce process tells c.args.self.now.sender c.send.new.self.sender
+    passed_up _ _ (λ w. PutsAtMostOnce process tells c.args.self.now.sender c.send.new.self.sender
     c.args.op.now)
     c.from_residual-in_err-send.ensures
     (inr (
@@ -70,7 +70,8 @@ returns-in_err-send-clause-refused g c =
 
 pub returns-in_err-found-clause-refused : goal.returns-in_err-found-clause-refused
 returns-in_err-found-clause-refused g c =
-    passed_up _ _ (λ w. PutsOnce process tells c.args.self.now.sender c.hear_own.new.self.sender
+    passed_up _ _
+    (λ w. PutsAtMostOnce process tells c.args.self.now.sender c.hear_own.new.self.sender
     c.args.op.now)
     c.from_residual-in_err-found.ensures
     (inr (

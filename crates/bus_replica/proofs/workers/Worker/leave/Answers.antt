@@ -1,10 +1,10 @@
 use Rattle.std.proofs.Common.{of_calls, inl, true, sym, ◌∙◌, subst}
 use Rattle.bus_automaton.specs.ThreeWordBuses.{process}
 use Rattle.bus_replica.specs.Causes.{tells, IsCause, SaidYes}
-use Rattle.bus_replica.specs.Replicas.{HearsOut, WorksOn, Rests}
+use Rattle.bus_replica.specs.Replicas.{HearsOut, PutsStayLeaving, Rests}
 use Rattle.bus_replica.proofs.CauseLaws.{answered_within, answered_also}
 use Rattle.bus_replica.proofs.GoingLaws.{goes_trans, goes_same, out_goes, out_ends}
-use Rattle.bus_replica.proofs.SendingLaws.{works_trans, works_also}
+use Rattle.bus_replica.proofs.SendingLaws.{leaving_on}
 use Rattle.bus_replica.proofs.workers.Worker.leave.Goals as goal
 
 pub loop-init : goal.loop-init
@@ -12,14 +12,14 @@ loop-init g c = (
   c.begin_leave.ensures.callable,
   c.begin_leave.ensures.bus,
   c.begin_leave.ensures.on,
-  c.begin_leave.ensures.works,
+  c.begin_leave.ensures.puts,
   c.in_ok-begin_leave.ensures.says,
 )
 
 pub returns-in-Err-Spent-clause-cause : goal.returns-in-Err-Spent-clause-cause
 returns-in-Err-Spent-clause-cause g c =
     answered_within process tells true c.args.self.now.sender c.loop.self.sender
-    c.send.new.self.sender c.send.new.self.sender c.loop.invariant.3 Rests _
+    c.send.new.self.sender c.send.new.self.sender c.loop.invariant.3.works Rests _
     (answered_also process tells c.loop.self.sender c.send.new.self.sender _
     (subst (λ w. IsCause process tells ⊥ ⊥ c.loop.self c.send.new.self w)
     c.in-Err-Spent.field-0-is c.in-Err-Spent.ensures.cause))
@@ -53,6 +53,29 @@ returns-then-not-go_on-clause-on g c =
     c.send.ensures.me.0)
     (out_goes c.send.new.self.me c.hear.result c.hear.new.self.me c.hear.ensures.out)
 
+pub returns-in-Err-Spent-clause-puts : goal.returns-in-Err-Spent-clause-puts
+returns-in-Err-Spent-clause-puts g c =
+    leaving_on process tells c.args.self.now.sender c.loop.self.sender c.send.new.self.sender
+    c.loop.invariant.3 c.send.ensures.puts
+
+pub returns-then-hear-clause-puts : goal.returns-then-hear-clause-puts
+returns-then-hear-clause-puts g c =
+    subst (λ s. PutsStayLeaving process tells c.args.self.now.sender s) (sym c.hear.ensures.sender)
+    (leaving_on process tells c.args.self.now.sender c.loop.self.sender c.send.new.self.sender
+    c.loop.invariant.3 c.send.ensures.puts)
+
+pub returns-in_default-missing-clause-puts : goal.returns-in_default-missing-clause-puts
+returns-in_default-missing-clause-puts g c =
+    subst (λ s. PutsStayLeaving process tells c.args.self.now.sender s) (sym c.hear.ensures.sender)
+    (leaving_on process tells c.args.self.now.sender c.loop.self.sender c.send.new.self.sender
+    c.loop.invariant.3 c.send.ensures.puts)
+
+pub returns-then-not-go_on-clause-puts : goal.returns-then-not-go_on-clause-puts
+returns-then-not-go_on-clause-puts g c =
+    subst (λ s. PutsStayLeaving process tells c.args.self.now.sender s) (sym c.hear.ensures.sender)
+    (leaving_on process tells c.args.self.now.sender c.loop.self.sender c.send.new.self.sender
+    c.loop.invariant.3 c.send.ensures.puts)
+
 pub loop-preserved : goal.loop-preserved
 loop-preserved g c = (
   search of_calls,
@@ -61,10 +84,8 @@ loop-preserved g c = (
       (goes_same c.args.self.now.me c.loop.self.me c.send.new.self.me c.loop.invariant.2
       c.send.ensures.me.0)
       (out_goes c.send.new.self.me c.hear.result c.hear.new.self.me c.hear.ensures.out),
-  subst (λ s. WorksOn process tells true c.args.self.now.sender s) (sym c.hear.ensures.sender)
-      (works_trans process tells true c.args.self.now.sender c.loop.self.sender
-      c.send.new.self.sender c.loop.invariant.3
-      (works_also process tells true c.loop.self.sender c.send.new.self.sender
-      c.send.ensures.puts.works)),
+  subst (λ s. PutsStayLeaving process tells c.args.self.now.sender s) (sym c.hear.ensures.sender)
+      (leaving_on process tells c.args.self.now.sender c.loop.self.sender c.send.new.self.sender
+      c.loop.invariant.3 c.send.ensures.puts),
   SaidYes c.loop.go_on c.go_on.new.self c.loop.invariant.4 c.if-not-go_on.ensures,
 )

@@ -1,11 +1,11 @@
-use Rattle.std.proofs.Common.{true, ◌≡◌}
+use Rattle.std.proofs.Common.{◌≡◌}
 use Rattle.bus_automaton.specs.ThreeWordBuses.{process}
 use Rattle.bus_replica.specs.Causes.{tells, SaysOn}
-use Rattle.bus_replica.specs.Replicas.{GoesOn, WorksOn}
+use Rattle.bus_replica.specs.Replicas.{GoesOn, PutsStayLeaving}
 use Rattle.bus_replica.proofs.workers.Worker.leave.Given as goal
 
 abbrev pub invariant-loop : goal.invariant-loop
 invariant-loop g l =
     goal.F-IsAlwaysCallable g l.go_on × (l.self.bus ≡ l.fn.self.bus)
-    × GoesOn l.fn.self.me l.self.me × WorksOn process tells true l.fn.self.sender l.self.sender
+    × GoesOn l.fn.self.me l.self.me × PutsStayLeaving process tells l.fn.self.sender l.self.sender
     × SaysOn (goal.F-step g) l.fn.go_on l.go_on
