@@ -1,6 +1,7 @@
 /* Tests of the archive through include/kioskbasil.h, and the time of a message through it.
    bench/embed builds and runs it: `codes`, `storm RUNS`, `lives RUNS`, `control`, `time`, `lines`.
    The first three print what failed, and `N passed, M failed` last. */
+#include "expect.h"
 #include "kioskbasil.h"
 #include "waiting.h"
 #include <pthread.h>
@@ -8,19 +9,6 @@
 #include <stdio.h>
 #include <stdlib.h>
 #include <string.h>
-
-static long passed, failed;
-
-static void expect(int line, const char *what, uint64_t is, uint64_t wanted) {
-    if (is == wanted) {
-        passed++;
-    } else {
-        failed++;
-        fprintf(stderr, "embed.c:%d: %s: %llu, and not %llu\n", line, what,
-                (unsigned long long)is, (unsigned long long)wanted);
-    }
-}
-#define EXPECT(call, wanted) expect(__LINE__, #call, (uint64_t)(call), (uint64_t)(wanted))
 
 /* One wrong size at a time. */
 static void bad_shapes(void) {
@@ -127,7 +115,7 @@ static void no_handles(void) {
     EXPECT(kioskbasil_senders_page(&s, 0, &left), KIOSKBASIL_NULL);
     EXPECT(kioskbasil_senders_page(&s, 1, NULL), KIOSKBASIL_NULL);
     for (uint32_t code = 0; code <= KIOSKBASIL_NEVER_FITS + 1; code++) {
-        int named = code <= KIOSKBASIL_LEAVE ||
+        int named = code <= KIOSKBASIL_NOT_LONG ||
                     (code >= KIOSKBASIL_BAD_SENDERS && code <= KIOSKBASIL_NEVER_FITS);
         EXPECT(strcmp(kioskbasil_text(code), "no code of this version") != 0, named);
         EXPECT(kioskbasil_refused(code), code >= 32);

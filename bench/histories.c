@@ -4,7 +4,7 @@
 #include <stdio.h>
 #include <stdlib.h>
 
-enum { KEYS = 4, WORKERS = KIOSKBASIL_MOST_RECEIVERS };
+enum { KEYS = 4, WORKERS = KIOSKBASIL_MOST_RECEIVERS, LONGEST = 120 };
 enum mode { RIGHT, STALE, ELSEWHERE, LOST };
 
 /* A call of a worker. What it puts is 0 of a read. */
@@ -24,26 +24,38 @@ struct worker {
     struct call *calls;
 };
 
+/* The swap of the value of a key: 9 to 120 bytes, of which those behind the value go by it. Gives
+   how many. */
+static size_t operation_of(uint8_t *operation, unsigned key, uint64_t value) {
+    size_t length = 9 + (value * UINT64_C(0x9e3779b97f4a7c15) >> 32) % (LONGEST - 8);
+    operation[0] = (uint8_t)key;
+    memcpy(operation + 1, &value, sizeof value);
+    for (size_t at = 9; at < length; at++) operation[at] = (uint8_t)(value + at);
+    return length;
+}
+
 /* Swaps the value of a key for another one, and answers the value before. */
 static void apply(void *state, uint32_t from, const uint8_t *operation, size_t length,
                   void *answer) {
     uint64_t *registers = state, *value = &registers[operation[0]], before = *value;
+    uint8_t wanted[LONGEST];
     (void)from;
-    if (length != 9) abort();
     memcpy(value, operation + 1, sizeof *value);
+    if (length != operation_of(wanted, operation[0], *value)) abort();
+    if (memcmp(operation, wanted, length)) abort();
     if (answer) memcpy(answer, &before, sizeof before);
 }
 
 static uint32_t swap_value(struct worker *w, struct call *call) {
     uint64_t before = w->answers[call->key];
-    uint8_t operation[9] = {(uint8_t)call->key};
+    uint8_t operation[LONGEST];
+    size_t length = operation_of(operation, call->key, call->put);
     uint32_t code;
-    memcpy(operation + 1, &call->put, sizeof call->put);
     if (w->mode == LOST && next_word(&w->dice) % 50 == 0) {
         call->answer = w->registers[call->key];
         return KIOSKBASIL_OK;
     }
-    code = replica_execute(w->replica, operation, sizeof operation, &call->answer);
+    code = replica_execute(w->replica, operation, length, &call->answer);
     w->answers[call->key] = call->answer;
     if (w->mode == ELSEWHERE && next_word(&w->dice) % 50 == 0) call->answer = before;
     return code;

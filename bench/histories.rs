@@ -15,15 +15,24 @@ const KEYS: usize = 4;
 /// A value for each key.
 struct Registers([u64; KEYS]);
 
+/// The swap of the value of a key: 9 to 120 bytes, of which those behind the value go by it.
+fn operation(key: u8, value: u64) -> Vec<u8> {
+    let length = 9 + (value.wrapping_mul(0x9e37_79b9_7f4a_7c15) >> 32) % 112;
+    let filler = (9..length).map(|at| (value + at) as u8);
+    let begin = [key].into_iter().chain(value.to_le_bytes());
+    begin.chain(filler).collect()
+}
+
 impl State for Registers {
     /// The value before.
     type Answer = u64;
 
     /// Swaps the value of a key for another one.
-    fn apply(&mut self, _from: u32, operation: &[u8]) -> u64 {
-        let value = operation[1..].try_into().map(u64::from_le_bytes);
-        let value = value.expect("a swap has nine bytes");
-        std::mem::replace(&mut self.0[usize::from(operation[0])], value)
+    fn apply(&mut self, _from: u32, bytes: &[u8]) -> u64 {
+        let value = bytes[1..9].try_into().map(u64::from_le_bytes);
+        let (key, value) = (bytes[0], value.expect("a value of eight bytes"));
+        assert_eq!(bytes, operation(key, value), "the bytes of a swap");
+        std::mem::replace(&mut self.0[usize::from(key)], value)
     }
 }
 
@@ -67,12 +76,10 @@ struct Worker {
 
 impl Worker {
     fn swap(&mut self, key: usize, value: u64) -> Result<u64, ReplicaError> {
-        let mut operation = [key as u8; 9];
-        operation[1..].copy_from_slice(&value.to_le_bytes());
         if self.mode == Mode::Lost && self.dice.below(50) == 0 {
             return Ok(self.replica.state().0[key]);
         }
-        let answer = self.replica.execute(&operation)?;
+        let answer = self.replica.execute(&operation(key as u8, value))?;
         let before = std::mem::replace(&mut self.answers[key], answer);
         let is_wrong = self.mode == Mode::Elsewhere && self.dice.below(50) == 0;
         Ok(if is_wrong { before } else { answer })

@@ -5,6 +5,7 @@
    usage: replica [TURNS]      A worker stops at each of so many turns, 20 if left out. */
 #define BELL_LONGEST_SLEEP 200000
 #define BELL_LONGEST_ASKED_SLEEP BELL_LONGEST_SLEEP
+#include "expect.h"
 #include "replica.h"
 #include <stdatomic.h>
 #include <stdio.h>
@@ -12,29 +13,22 @@
 
 enum { MOST = 8, OPERATIONS = 4096, TOO_LONG = 100 };
 
-static long passed, failed;
+/* How long operations are. A ring of 16 words has room for the first of them. */
+static const size_t lengths[] = {0, 1, 55, 56, 102, 110, 879, 880, 30, 440};
+enum { LENGTHS = sizeof lengths / sizeof *lengths, SHORT = 5 };
+static size_t many_lengths = LENGTHS, longest = KIOSKBASIL_MOST_LONG_BYTES;
 
-static void expect(int line, const char *what, uint64_t is, uint64_t wanted) {
-    if (is == wanted) {
-        passed++;
-    } else {
-        failed++;
-        fprintf(stderr, "replica.c:%d: %s: %llu, and not %llu\n", line, what,
-                (unsigned long long)is, (unsigned long long)wanted);
-    }
-}
-#define EXPECT(call, wanted) expect(__LINE__, #call, (uint64_t)(call), (uint64_t)(wanted))
-
-/* An operation: what it says, and bytes behind that which go by it. */
+/* An operation: of a worker and of a number among its own ones. */
 struct operation {
-    uint32_t count;
-    uint8_t bytes[52];
+    size_t length;
+    uint8_t bytes[KIOSKBASIL_MOST_LONG_BYTES];
 };
 
-/* What a replica has applied: whose operation stands at each place, and what it says. */
+/* What a replica has applied: whose operation stands at each place, and how many each has. */
 struct book {
     uint32_t many;
-    uint32_t from[OPERATIONS], count[OPERATIONS];
+    uint32_t from[OPERATIONS];
+    uint32_t next[MOST];
     uint32_t faults;
 };
 
@@ -42,26 +36,21 @@ static struct kioskbasil_replicas shared;
 static struct kioskbasil_replica replicas[MOST];
 static struct book books[MOST];
 
-static size_t length_of(uint32_t count) {
-    return sizeof(uint32_t) + count % 53;
-}
-
-static struct operation operation_of(uint32_t count) {
-    struct operation operation = {.count = count};
-    for (size_t i = 0; i < sizeof operation.bytes; i++) operation.bytes[i] = (uint8_t)(count + i);
+/* Every second one has one of the lengths above, and the others any. */
+static struct operation operation_of(uint32_t worker, uint32_t count) {
+    struct operation operation = {.length = lengths[(count / 2 * 7 + worker) % many_lengths]};
+    if (count % 2) operation.length = (count * 367 + worker * 101) % (longest + 1);
+    for (size_t i = 0; i < operation.length; i++)
+        operation.bytes[i] = (uint8_t)(count + worker + i);
     return operation;
 }
 
 /* It answers its place. */
 static void apply(void *state, uint32_t from, const uint8_t *bytes, size_t length, void *answer) {
     struct book *book = state;
-    struct operation operation;
-    uint32_t count;
-    memcpy(&count, bytes, sizeof count);
-    operation = operation_of(count);
-    if (length != length_of(count) || memcmp(&operation, bytes, length)) book->faults++;
+    struct operation operation = operation_of(from, book->next[from]++);
+    if (length != operation.length || memcmp(operation.bytes, bytes, length)) book->faults++;
     book->from[book->many] = from;
-    book->count[book->many] = count;
     if (answer) *(uint32_t *)answer = book->many;
     book->many++;
 }
@@ -70,6 +59,8 @@ static uint32_t open_all(size_t workers, uint64_t log_words) {
     kioskbasil_sizes sizes = {.rounds = 1, .rows = 8, .log_words = log_words};
     uint32_t code = replicas_open(&shared, &sizes, replicas, workers, apply);
     memset(books, 0, sizeof books);
+    many_lengths = log_words < 129 ? SHORT : LENGTHS;
+    longest = log_words < 129 ? lengths[SHORT - 1] : (size_t)KIOSKBASIL_MOST_LONG_BYTES;
     for (size_t i = 0; i < workers && code == KIOSKBASIL_OK; i++) replicas[i].state = &books[i];
     return code;
 }
@@ -84,8 +75,8 @@ static double now(void) {
 }
 
 static uint32_t execute(struct kioskbasil_replica *r, uint32_t count, uint32_t *place) {
-    struct operation operation = operation_of(count);
-    return replica_execute(r, &operation, length_of(count), place);
+    struct operation operation = operation_of(r->number, count);
+    return replica_execute(r, operation.bytes, operation.length, place);
 }
 
 /* How the first worker of a run ends: it finishes; it is stopped at this ask and goes on; it is
@@ -111,7 +102,7 @@ static struct done execute_all(struct kioskbasil_replica *r) {
         uint32_t place = UINT32_MAX;
         done.code = execute(r, count, &place);
         if (place + 1 != book->many || book->from[place] != r->number) done.faults++;
-        if (book->count[place] != count) done.faults++;
+        if (book->next[r->number] != count + 1) done.faults++;
     }
     return done;
 }
@@ -121,13 +112,12 @@ static struct done work_first(struct kioskbasil_replica *r) {
     struct done done = {KIOSKBASIL_OK, 0};
     unsigned asked = 0;
     for (uint32_t count = 0; count < 30 && done.code == KIOSKBASIL_OK; count++) {
-        struct operation operation = operation_of(count);
-        size_t length = length_of(count);
+        struct operation it = operation_of(0, count);
         if (ending == LEAVES && count == turn) break;
         if (count % 3 == 2)
-            done.code = replica_submit_while(r, &operation, length, NULL, so_often, &asked);
+            done.code = replica_submit_while(r, it.bytes, it.length, NULL, so_often, &asked);
         else
-            done.code = replica_execute_while(r, &operation, length, NULL, so_often, &asked);
+            done.code = replica_execute_while(r, it.bytes, it.length, NULL, so_often, &asked);
     }
     if (done.code == REPLICA_STOPPED) done.code = KIOSKBASIL_OK;
     if (ending == STOPS || ending == LEAVES) replica_free(r);
@@ -181,18 +171,49 @@ static void runs(void) {
     }
 }
 
+/* Of each length one, after each number of messages that wait: it is whole, answers its place, and
+   has the number of its last piece. */
+static void of_each_length(void) {
+    static struct operation it;
+    uint64_t number = 0, next = 0;
+    EXPECT(open_all(1, 129), KIOSKBASIL_OK);
+    for (uint32_t count = 0; count < 16 * LENGTHS; count++) {
+        uint32_t place = UINT32_MAX;
+        it = operation_of(0, count);
+        next += long_pieces(it.length);
+        if (count % 17 < count / LENGTHS) {
+            EXPECT(replica_submit(&replicas[0], it.bytes, it.length, &number), KIOSKBASIL_OK);
+            EXPECT(number, next - 1);
+            continue;
+        }
+        EXPECT(replica_execute(&replicas[0], it.bytes, it.length, &place), KIOSKBASIL_OK);
+        EXPECT(place, count);
+        EXPECT(books[0].many, count + 1);
+    }
+    EXPECT(replica_finish(&replicas[0]), KIOSKBASIL_OK);
+    EXPECT(books[0].many, 16 * LENGTHS);
+    EXPECT(books[0].faults, 0);
+    free_all(1);
+}
+
 static void codes(void) {
-    struct operation operation = operation_of(0);
-    uint8_t long_one[57] = {0};
+    static const uint8_t long_one[881] = {0};
     uint64_t number = 9;
     size_t many = 9;
     EXPECT(open_all(0, 129), KIOSKBASIL_BAD_SENDERS);
     EXPECT(open_all(KIOSKBASIL_MOST_RECEIVERS + 1, 129), KIOSKBASIL_BAD_RECEIVERS);
     EXPECT(open_all(2, 15), KIOSKBASIL_BAD_LOG_WORDS);
+    EXPECT(open_all(1, 16), KIOSKBASIL_OK);
+    EXPECT(replica_submit(&replicas[0], long_one, 103, &number), KIOSKBASIL_NEVER_FITS);
+    EXPECT(replica_execute(&replicas[0], long_one, 880, NULL), KIOSKBASIL_NEVER_FITS);
+    EXPECT(execute(&replicas[0], 0, NULL), KIOSKBASIL_OK);
+    free_all(1);
     EXPECT(open_all(2, 129), KIOSKBASIL_OK);
-    EXPECT(replica_submit(&replicas[0], long_one, 57, &number), KIOSKBASIL_PUT_TOO_LONG);
-    EXPECT(replica_execute(&replicas[0], long_one, 57, NULL), KIOSKBASIL_PUT_TOO_LONG);
-    EXPECT(replica_submit(&replicas[0], &operation, length_of(0), &number), KIOSKBASIL_OK);
+    EXPECT(replica_submit(&replicas[0], long_one, 881, &number), KIOSKBASIL_PUT_TOO_LONG);
+    EXPECT(replica_execute(&replicas[0], long_one, 881, NULL), KIOSKBASIL_PUT_TOO_LONG);
+    EXPECT(replica_submit(&replicas[0], NULL, 1, &number), KIOSKBASIL_NULL);
+    EXPECT(number, 9);
+    EXPECT(replica_submit(&replicas[0], NULL, 0, &number), KIOSKBASIL_OK);
     EXPECT(number, 0);
     EXPECT(replica_latest(&replicas[1]), KIOSKBASIL_OK);
     EXPECT(books[1].many, 0);
@@ -211,6 +232,7 @@ static void codes(void) {
     EXPECT(execute(&replicas[0], 0, NULL), KIOSKBASIL_EMPTY_HANDLE);
     EXPECT(strcmp(replica_text(REPLICA_MISSING), "a worker has not left"), 0);
     EXPECT(strcmp(replica_text(KIOSKBASIL_SPENT), "spent"), 0);
+    EXPECT(books[1].faults + books[0].faults, 0);
     free_all(2);
 }
 
@@ -223,8 +245,8 @@ static void times(void) {
     bool early = false;
     EXPECT(open_all(2, 16), KIOSKBASIL_OK);
     for (;; count++) {
-        struct operation operation = operation_of(count);
-        if (replica_execute_timeout(&replicas[0], &operation, length_of(count), NULL, 30)) break;
+        struct operation it = operation_of(0, count);
+        if (replica_execute_timeout(&replicas[0], it.bytes, it.length, NULL, 30)) break;
     }
     many = books[0].many;
     EXPECT(many, count);
@@ -291,6 +313,7 @@ static void woken(void) {
 int main(int argc, char **argv) {
     if (argc > 1) turns = (unsigned)atoi(argv[1]);
     codes();
+    of_each_length();
     times();
     woken();
     runs();

@@ -2,7 +2,7 @@
 
 use crate::{locked, say, so_often, survived, then_panics, Dice, Survived};
 use kioskbasil::replica::{Replica, ReplicaError, Replicas, State};
-use kioskbasil::{Shape, Waiting};
+use kioskbasil::{Shape, Waiting, MOST_LONG_BYTES};
 use std::future::Future;
 use std::panic;
 use std::pin::Pin;
@@ -31,10 +31,22 @@ struct Book {
     panics_at: Option<usize>,
 }
 
+/// How many bits of a tag say how long its operation is.
+const LENGTH_BITS: u32 = 10;
+
 /// An operation: a tag, and bytes that go by it.
 fn operation(worker: u32, tag: u64) -> Vec<u8> {
-    let filler = (0..tag % 49).map(|at| (tag + at) as u8 ^ worker as u8);
+    let length = tag % (1 << LENGTH_BITS);
+    let filler = (8..length).map(|at| (tag + at) as u8 ^ worker as u8);
     tag.to_le_bytes().into_iter().chain(filler).collect()
+}
+
+/// How many bytes an operation has at most that fits a log of so many words: behind a head each
+/// piece has a word, and one for each 8 bytes begun.
+fn longest(log_words: u64) -> u64 {
+    let (full, rest) = ((log_words - 1) / 8, (log_words - 1) % 8);
+    let last = if rest > 1 { 8 * (rest - 1) - 1 } else { 0 };
+    (55 * full + last).min(MOST_LONG_BYTES as u64)
 }
 
 impl State for Book {
@@ -89,7 +101,11 @@ struct Worker {
     replica: Replica<Book>,
     shared: Arc<Shared>,
     dice: Dice,
+    /// How many bytes an operation has at most.
+    longest: u64,
     tag: u64,
+    /// The number of what it has submitted last.
+    number: Option<u64>,
     /// Tags that are put for sure and not sent for sure, and those that are sent.
     put: Vec<u64>,
     sent: Vec<u64>,
@@ -97,8 +113,23 @@ struct Worker {
 
 impl Worker {
     fn next(&mut self) -> (u64, Vec<u8>) {
-        self.tag += 1;
+        let most = self.dice.of_these(&[9, 55, 120, self.longest]);
+        let length = 8 + self.dice.below(most.min(self.longest) - 7);
+        self.tag = ((self.tag >> LENGTH_BITS) + 1) << LENGTH_BITS | length;
         (self.tag, operation(self.replica.number(), self.tag))
+    }
+
+    /// One that is longer than any may be is refused, and changes nothing.
+    fn put_too_long(&mut self) {
+        let bytes = vec![0; self.longest as usize + 1];
+        let is_most = bytes.len() > MOST_LONG_BYTES;
+        let why = if is_most {
+            ReplicaError::TooLong
+        } else {
+            ReplicaError::NeverFits
+        };
+        assert_eq!(self.replica.submit(&bytes), Err(why));
+        assert_eq!(self.replica.execute(&bytes), Err(why));
     }
 
     fn pause(&mut self) -> Duration {
@@ -134,7 +165,11 @@ impl Worker {
 
     fn submitted(&mut self, tag: u64, told: Option<Result<u64, ReplicaError>>) {
         match told {
-            Some(Ok(_)) => self.put.push(tag),
+            Some(Ok(number)) => {
+                assert!(Some(number) > self.number, "a number twice");
+                self.number = Some(number);
+                self.put.push(tag);
+            }
             Some(Err(why)) => assert_eq!(why, ReplicaError::Stopped),
             None => self.is_poisoned_or_goes_on(),
         }
@@ -206,6 +241,7 @@ impl Worker {
                 4..=6 => self.submit(),
                 7 => self.flush(),
                 8 => self.read(),
+                _ if self.dice.one_in(4) => self.put_too_long(),
                 _ => {
                     let all = [
                         Waiting::Spin,
@@ -286,7 +322,9 @@ pub fn life(dice: &mut Dice) -> usize {
             replica,
             shared: shared.clone(),
             dice: dice.other(),
+            longest: longest(shape.log_words),
             tag: 0,
+            number: None,
             put: Vec::new(),
             sent: Vec::new(),
         };

@@ -3,6 +3,7 @@
    wake-up sleeps for 20 s here, but in a call that asks a function, and 10 s are too long for any
    wait. */
 #define BELL_LONGEST_SLEEP 20000
+#include "expect.h"
 #include "kioskbasil.h"
 #include "waiting.h"
 #include <errno.h>
@@ -14,19 +15,6 @@
 #include <sys/resource.h>
 
 enum { TOO_LONG = 10 };
-
-static long passed, failed;
-
-static void expect(int line, const char *what, uint64_t is, uint64_t wanted) {
-    if (is == wanted) {
-        passed++;
-    } else {
-        failed++;
-        fprintf(stderr, "waiting.c:%d: %s: %llu, and not %llu\n", line, what,
-                (unsigned long long)is, (unsigned long long)wanted);
-    }
-}
-#define EXPECT(call, wanted) expect(__LINE__, #call, (uint64_t)(call), (uint64_t)(wanted))
 
 /* A bus of two senders and two receivers, with its bell. */
 struct bus {

@@ -131,6 +131,8 @@ enum kioskbasil_code {
   /* of leaving */
   KIOSKBASIL_LEFT = 15,     /* of a sender: it has left, by its frame of .tenure */
   KIOSKBASIL_LEAVE = 16,    /* of a receiver: .owner has left, and nothing of it follows */
+  /* of long messages, in examples/c/long.h alone */
+  KIOSKBASIL_NOT_LONG = 17, /* the next item is no long message */
   /* refusals */
   KIOSKBASIL_BAD_SENDERS = 32,    /* open: not 1 to 64 senders */
   KIOSKBASIL_BAD_RECEIVERS = 33,  /* open: not 1 to 64 receivers */
@@ -142,7 +144,7 @@ enum kioskbasil_code {
                                      known to have ended */
   KIOSKBASIL_PUT_BUSY = 39,       /* put, carry: the batch is on its way; carry: the sender that is
                                      carried from has begun a tenure */
-  KIOSKBASIL_PUT_TOO_LONG = 40,   /* put: more than 56 bytes */
+  KIOSKBASIL_PUT_TOO_LONG = 40,   /* put: more than 56 bytes; kioskbasil_put_long: more than 880 */
   KIOSKBASIL_PUT_BATCH_FULL = 41, /* put, carry: more than 16 messages would wait */
   KIOSKBASIL_CLOSE_CLOSED = 42,   /* close, leave: one was accepted, or the order is known to have
                                      ended */
@@ -376,8 +378,8 @@ static inline uint32_t kioskbasil_open_after(const kioskbasil_sizes *sizes,
 }
 
 /* Appends a message of at most 56 bytes to the sender's batch of at most 16. Takes no step. A batch
- * comes into the order as one frame, with nothing of another sender in between. So what is longer
- * goes as pieces in one batch.
+ * comes into the order as one frame, with nothing of another sender in between. What is longer goes
+ * by kioskbasil_put_long of examples/c/long.h, in a release kioskbasil_long.h.
  * KIOSKBASIL_OK, and its number among the messages of this sender, from its base on, in *number
  * (which may be NULL); or PUT_CLOSED, PUT_BUSY, PUT_TOO_LONG or PUT_BATCH_FULL, the first whose
  * cause holds, and then nothing is changed. `bytes` may be NULL where `length` is 0. */
@@ -652,6 +654,7 @@ static inline const char *kioskbasil_text(uint32_t code) {
   case KIOSKBASIL_END: return "end";
   case KIOSKBASIL_LEFT: return "left";
   case KIOSKBASIL_LEAVE: return "leave";
+  case KIOSKBASIL_NOT_LONG: return "no long message";
   case KIOSKBASIL_BAD_SENDERS: return "a bus has 1 to 64 senders";
   case KIOSKBASIL_BAD_RECEIVERS: return "a bus has 1 to 64 receivers";
   case KIOSKBASIL_BAD_ROUNDS: return "a bus has 1 to 8 rounds";
@@ -660,8 +663,8 @@ static inline const char *kioskbasil_text(uint32_t code) {
   case KIOSKBASIL_NO_MEMORY: return "memory was refused";
   case KIOSKBASIL_PUT_CLOSED: return "no message is taken: closed";
   case KIOSKBASIL_PUT_BUSY: return "no message is taken: the batch is on its way";
-  case KIOSKBASIL_PUT_TOO_LONG: return "no message is taken: more than 56 bytes";
-  case KIOSKBASIL_PUT_BATCH_FULL: return "no message is taken: 16 messages wait";
+  case KIOSKBASIL_PUT_TOO_LONG: return "no message is taken: more than 56 bytes, of a long one 880";
+  case KIOSKBASIL_PUT_BATCH_FULL: return "no message is taken: more than 16 would wait";
   case KIOSKBASIL_CLOSE_CLOSED: return "no close or leave is taken: closed";
   case KIOSKBASIL_CLOSE_BUSY: return "no close or leave is taken: the batch is on its way";
   case KIOSKBASIL_CLOSE_PENDING: return "no close or leave is taken: messages wait";

@@ -1,5 +1,5 @@
-/* Replicas: a state that workers replicate, with a call for each operation. It stands on waiting.h,
-   beside which it is to be copied, and builds as that does.
+/* Replicas: a state that workers replicate, with a call for each operation. It stands on long.h and
+   waiting.h, beside which it is to be copied, and builds as these do.
 
    Each worker has a replica: a sender, a receiver, a state of the caller's, and a callback that
    applies an operation to it. Operations of all workers go to all replicas in one order, and each
@@ -15,20 +15,19 @@
 #ifndef KIOSKBASIL_REPLICA_H
 #define KIOSKBASIL_REPLICA_H
 
-#include "waiting.h"
+#include "long.h"
 
 /* What a call answers beside KIOSKBASIL_OK, KIOSKBASIL_CLOSED (the order has ended, or this worker
-   has left), KIOSKBASIL_SPENT, KIOSKBASIL_PUT_TOO_LONG and KIOSKBASIL_EMPTY_HANDLE. */
+   has left), KIOSKBASIL_SPENT, KIOSKBASIL_PUT_TOO_LONG (more than 880 bytes), KIOSKBASIL_NEVER_FITS
+   (the operation is longer than the log; one of 129 words has room for each) and
+   KIOSKBASIL_EMPTY_HANDLE. */
 enum {
     REPLICA_STOPPED = 96, /* told to stop, or its time is over; what was put waits still */
     REPLICA_MISSING = 97  /* the same of finish, before the worker `missing` has left */
 };
 
-/* How many items cross the border at once. */
-enum { REPLICA_ITEMS = 32 };
-
-/* Applies the operation of these bytes, at most 56, of the worker of this number. `answer` is NULL,
-   or what the call of replica_execute was given. */
+/* Applies the operation of these bytes, at most 880, of the worker of this number. `answer` is
+   NULL, or what the call of replica_execute was given. */
 typedef void replica_apply(void *state, uint32_t from, const uint8_t *operation, size_t length,
                            void *answer);
 
@@ -51,17 +50,15 @@ struct kioskbasil_replica {
     replica_apply *apply;
     void *state;
     struct kioskbasil_replicas *shared;
-    kioskbasil_item items[REPLICA_ITEMS];
-    size_t given, many;
+    struct kioskbasil_long heard; /* the operation that was applied last, and what is at hand */
     uint64_t read, passed; /* words that it had read, and passed, when it last asked the bus */
     uint64_t seed;
     uint64_t words; /* of the frame that waits */
     uint32_t number;
-    uint32_t waits;   /* how many operations wait */
+    uint32_t waits;   /* how many messages wait */
     uint32_t missing; /* after REPLICA_MISSING: the first worker that has not left */
     bool leaves;      /* a leave mark waits */
     bool is_full;     /* its last turn found no room */
-    bool has_ended;
 };
 
 /* ---- how a call waits */
@@ -159,18 +156,28 @@ static inline bool replica_has_sent(const struct kioskbasil_replica *r) {
     return !r->waits && !r->leaves;
 }
 
-/* Puts an operation into the batch: OK, or IDLE where that is to be sent first, since it is full or
-   its frame would be longer than the log. */
+/* Puts an operation into the batch: OK, or IDLE where that is to be sent first, since it has not so
+   many messages left, or its frame would be longer than the log.
+
+   No worker fails or leaves between two pieces: a put takes no turn, and the batch is one frame of
+   the order. All pieces stand in it, or none does. */
 static inline uint32_t replica_put(struct kioskbasil_replica *r, const void *operation,
                                    size_t length, uint64_t *number) {
-    uint64_t words = r->words + 1 + length / 8 + (length % 8 != 0);
-    uint32_t code;
-    if (r->waits == KIOSKBASIL_MOST_MESSAGES || (r->waits && words > r->shared->log_words))
+    uint32_t code, pieces;
+    uint64_t words;
+    if (!r->sender.live) return KIOSKBASIL_EMPTY_HANDLE;
+    if (!operation && length) return KIOSKBASIL_NULL;
+    if (length > KIOSKBASIL_MOST_LONG_BYTES) return KIOSKBASIL_PUT_TOO_LONG;
+    pieces = (uint32_t)long_pieces(length);
+    words = long_words(length);
+    if (1 + words > r->shared->log_words) return KIOSKBASIL_NEVER_FITS;
+    if (r->waits && (r->waits + pieces > KIOSKBASIL_MOST_MESSAGES ||
+                     r->words + words > r->shared->log_words))
         return KIOSKBASIL_IDLE;
-    code = kioskbasil_put(&r->sender, operation, length, number);
+    code = long_put_pieces(&r->sender, operation, length, number);
     if (code == KIOSKBASIL_OK) {
-        r->waits++;
-        r->words = words;
+        r->waits += pieces;
+        r->words += words;
     }
     return code == KIOSKBASIL_PUT_CLOSED ? (uint32_t)KIOSKBASIL_CLOSED : code;
 }
@@ -216,53 +223,55 @@ static inline uint32_t replica_send(struct kioskbasil_replica *r, bool *moved) {
 
 /* It has applied all of so many words of the log. */
 static inline bool replica_has_applied(const struct kioskbasil_replica *r, uint64_t words) {
-    return r->given == r->many && r->read >= words;
+    return r->heard.given == r->heard.many && r->read >= words;
 }
 
-/* The next item that is there, or NULL. */
-static inline const kioskbasil_item *replica_next(struct kioskbasil_replica *r) {
+/* Takes the next operation that is there. */
+static inline bool replica_next(struct kioskbasil_replica *r) {
     kioskbasil_receiver_shown shown;
-    if (r->given == r->many && !r->has_ended) {
-        r->given = r->many = 0;
-        r->has_ended = kioskbasil_hear(&r->receiver, r->items, REPLICA_ITEMS, &r->many) ==
-                       KIOSKBASIL_END;
-        if (kioskbasil_show_receiver(&r->receiver, &shown) != KIOSKBASIL_OK) return NULL;
+    if (long_is_due(&r->heard)) {
+        long_fill(&r->receiver, &r->heard, NULL);
+        if (kioskbasil_show_receiver(&r->receiver, &shown) != KIOSKBASIL_OK) return false;
         r->read = shown.place;
         replica_publish(r->shared, r->read);
         if (shown.passed != r->passed) bell_ring(&r->shared->bell);
         r->passed = shown.passed;
     }
-    return r->given < r->many ? &r->items[r->given++] : NULL;
+    return long_take(&r->heard) == KIOSKBASIL_ITEM;
 }
 
-static inline void replica_apply_item(struct kioskbasil_replica *r, const kioskbasil_item *item,
-                                      void *answer) {
-    r->apply(r->state, item->sender, item->bytes, item->length, answer);
+/* The order has ended, and all of it was applied. */
+static inline bool replica_has_ended(const struct kioskbasil_replica *r) {
+    return r->heard.has_ended && r->heard.given == r->heard.many;
+}
+
+/* Applies the operation that was taken last. */
+static inline void replica_apply_it(struct kioskbasil_replica *r, void *answer) {
+    const struct kioskbasil_long *it = &r->heard;
+    r->apply(r->state, it->sender, it->bytes, it->length, answer);
 }
 
 /* Applies what has come; *many (which may be NULL) says how many operations that were. It waits for
    nobody. OK, CLOSED or EMPTY_HANDLE. */
 static inline uint32_t replica_hear(struct kioskbasil_replica *r, size_t *many) {
-    const kioskbasil_item *item;
     size_t heard = 0;
     if (many) *many = 0;
     if (!r->receiver.live) return KIOSKBASIL_EMPTY_HANDLE;
-    for (; (item = replica_next(r)); heard++) replica_apply_item(r, item, NULL);
+    for (; replica_next(r); heard++) replica_apply_it(r, NULL);
     if (many) *many = heard;
-    return r->has_ended ? KIOSKBASIL_CLOSED : KIOSKBASIL_OK;
+    return replica_has_ended(r) ? KIOSKBASIL_CLOSED : KIOSKBASIL_OK;
 }
 
 /* Applies what is there up to its own operation of this number: *found where that was there. */
 static inline uint32_t replica_hear_own(struct kioskbasil_replica *r, uint64_t number, void *answer,
                                         bool *found, bool *moved) {
-    const kioskbasil_item *item;
-    while ((item = replica_next(r))) {
+    while (replica_next(r)) {
         *moved = true;
-        *found = item->sender == r->number && item->number == number;
-        replica_apply_item(r, item, *found ? answer : NULL);
+        *found = r->heard.sender == r->number && r->heard.number == number;
+        replica_apply_it(r, *found ? answer : NULL);
         if (*found) return KIOSKBASIL_OK;
     }
-    return r->has_ended ? KIOSKBASIL_CLOSED : KIOSKBASIL_OK;
+    return replica_has_ended(r) ? KIOSKBASIL_CLOSED : KIOSKBASIL_OK;
 }
 
 /* Has `state` show all that any worker was answered or has seen before this call: each operation
@@ -273,9 +282,8 @@ static inline uint32_t replica_latest(struct kioskbasil_replica *r) {
     if (!r->receiver.live) return KIOSKBASIL_EMPTY_HANDLE;
     words = __atomic_load_n(&r->shared->published, __ATOMIC_SEQ_CST);
     while (!replica_has_applied(r, words)) {
-        const kioskbasil_item *item = replica_next(r);
-        if (item) replica_apply_item(r, item, NULL);
-        else if (r->has_ended) break;
+        if (replica_next(r)) replica_apply_it(r, NULL);
+        else if (replica_has_ended(r)) break;
     }
     return KIOSKBASIL_OK;
 }
@@ -336,9 +344,12 @@ static inline uint32_t replica_submit_by(struct kioskbasil_replica *r, const voi
     }
 }
 
-/* Puts an operation of at most 56 bytes into the batch, and gives its number in *number (which may
-   be NULL). It is sent with what comes later: by flush, execute, finish, or where 16 operations
-   wait. What it answers nobody is told. After REPLICA_STOPPED it is not put. */
+/* Puts an operation of at most 880 bytes into the batch, and gives its number in *number (which may
+   be NULL). It is sent with what comes later: by flush, execute, finish, or where the batch has no
+   room for the next one. What it answers nobody is told. After REPLICA_STOPPED it is not put.
+
+   A batch has room for 16 operations of up to 55 bytes; a longer one counts for each 55 bytes
+   begun. Numbers rise by as much: an operation has that of its last piece. */
 static inline uint32_t replica_submit_while(struct kioskbasil_replica *r, const void *operation,
                                             size_t length, uint64_t *number,
                                             bool (*go_on)(void *given), void *given) {
@@ -389,7 +400,7 @@ static inline uint32_t replica_execute_by(struct kioskbasil_replica *r, const vo
     return code;
 }
 
-/* Executes an operation of at most 56 bytes: it is OK once this replica has applied it, by a
+/* Executes an operation of at most 880 bytes: it is OK once this replica has applied it, by a
    callback that was given `answer`, at its place in the order. It is the last one applied then.
    After REPLICA_STOPPED it may be put, and may stand in the order already: it is sent with whatever
    is sent next, and its callback is given NULL. */
@@ -501,6 +512,8 @@ static inline const char *replica_text(uint32_t code) {
     if (code == REPLICA_STOPPED) return "told to stop";
     if (code == REPLICA_MISSING) return "a worker has not left";
     if (code == KIOSKBASIL_CLOSED) return "the order has ended";
+    if (code == KIOSKBASIL_PUT_TOO_LONG) return "an operation of more than 880 bytes";
+    if (code == KIOSKBASIL_NEVER_FITS) return "an operation that is longer than the log";
     return kioskbasil_text(code);
 }
 #endif

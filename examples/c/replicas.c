@@ -1,40 +1,52 @@
-/* Three threads replicate 1,000 counters: each adds by 66,670 operations, and reads its replica. */
+/* Three threads replicate 50 counters, which have names of up to 100 bytes: each adds to them, and
+   reads its replica, until a flag stops all. Two of them begin late. */
 #include "replica.h"
+#include <stdatomic.h>
 #include <stdio.h>
 #include <stdlib.h>
 
-enum { WORKERS = 3, COUNTERS = 1000, ADDS = 66670 };
+enum { WORKERS = 3, COUNTERS = 50, NAME = 100 };
 
-struct counters { uint64_t at[COUNTERS], made; };
-struct add { uint32_t at, amount; };
+struct counters { uint64_t at[COUNTERS]; char names[COUNTERS][NAME + 4]; };
+struct add { uint64_t amount; char name[NAME + 4]; }; /* with zeros behind the name */
+static atomic_bool stop;
+
+/* The counter of this name, 0 where it is new; the last one has all further names. */
+static uint64_t *counter(struct counters *counters, const char *name) {
+    int at = 0;
+    while (at < COUNTERS - 1 && counters->names[at][0] && strcmp(counters->names[at], name)) at++;
+    strcpy(counters->names[at], name);
+    return &counters->at[at];
+}
 
 /* It adds to three times a counter, so that adds in another order leave other counters. */
 static void apply(void *state, uint32_t from, const uint8_t *operation, size_t length, void *sum) {
-    struct counters *counters = state;
     struct add add;
+    uint64_t *at;
     (void)from;
     if (length != sizeof add) return;
     memcpy(&add, operation, sizeof add);
-    counters->at[add.at] = 3 * counters->at[add.at] + add.amount;
-    counters->made++;
-    if (sum) *(uint64_t *)sum = counters->at[add.at];
+    at = counter(state, add.name);
+    *at = 3 * *at + add.amount;
+    if (sum) *(uint64_t *)sum = *at;
 }
 
 static void *work(void *given) {
     struct kioskbasil_replica *replica = given;
-    const struct counters *counters = replica->state;
+    int64_t begin = replica_clock() + replica->number * INT64_C(250000000);
     uint64_t dice = replica->number + 1, sum = 0;
     uint32_t code = KIOSKBASIL_OK;
-    for (int i = 0; i < ADDS && code == KIOSKBASIL_OK; i++) {
-        struct add add = {next_word(&dice) % COUNTERS, i};
-        if (i % 100) {
-            code = replica_submit(replica, &add, sizeof add, NULL);
-            continue;
-        }
-        code = replica_execute(replica, &add, sizeof add, &sum); /* it is the last one applied */
-        if (!code && sum != counters->at[add.at]) abort();
+    /* Who begins late hears until then. */
+    while (!code && replica_clock() < begin) code = replica_hear_timeout(replica, NULL, 10);
+    for (uint64_t i = 0; !code && !atomic_load(&stop); i++) {
+        struct add add = {i, ""};
+        sprintf(add.name, "%0*u", NAME, next_word(&dice) % COUNTERS);
+        if (i % 100) code = replica_submit(replica, &add, sizeof add, NULL);
+        else code = replica_execute(replica, &add, sizeof add, &sum);
+        /* What is executed is the last one applied. */
+        if (!code && i % 100 == 0 && sum != *counter(replica->state, add.name)) abort();
     }
-    if (code == KIOSKBASIL_OK) code = replica_finish(replica);
+    if (!code) code = replica_finish(replica);
     if (code) fprintf(stderr, "worker %u: %s\n", replica->number, replica_text(code));
     replica_free(replica);
     return code ? NULL : replica;
@@ -49,10 +61,12 @@ int main(void) {
     if (replicas_open(&shared, &sizes, replicas, WORKERS, apply)) return 1;
     for (int i = 0; i < WORKERS; i++) replicas[i].state = &counters[i];
     for (int i = 0; i < WORKERS; i++) pthread_create(&threads[i], NULL, work, &replicas[i]);
+    sleep(1);
+    atomic_store(&stop, true);
     for (int i = 0; i < WORKERS; i++) {
         void *done;
         pthread_join(threads[i], &done);
         if (!done || memcmp(&counters[i], counters, sizeof *counters)) return 1;
     }
-    printf("%d replicas: all equal, after %.0f adds\n", WORKERS, (double)counters->made);
+    printf("%d replicas of %d counters: all equal\n", WORKERS, COUNTERS);
 }

@@ -1,14 +1,14 @@
 //! A broadcast bus between threads, over the archive of `crates/bus_c`. `VERSION` says whether the
 //! archive that is linked is proved.
 //!
-//! Up to 64 senders put messages of up to 56 bytes. All of them stand in one order, and each of up
-//! to 64 receivers hears all of it. A call that takes turns, as `try_send` and `try_item`, waits for
-//! no turn of another sender or receiver. `send`, `send_all`, `end_order` and `next_item` go on as
-//! long as it takes; that they end is not promised. A thread that waits sleeps until the `Bell` of
-//! its bus rings (`Waiting`). `send_while` and `next_item_while` can be told to stop, and
-//! `send_timeout` and `next_item_timeout` wait for so long at most. In async code `send_async`,
-//! `send_all_async`, `end_order_async` and `next_item_async` wait in any executor, and
-//! `send_when_room_async` waits for room too.
+//! Up to 64 senders put messages of up to 56 bytes, or of up to 880 by `put_long`. All of them stand
+//! in one order, and each of up to 64 receivers hears all of it. A call that takes turns, as
+//! `try_send` and `try_item`, waits for no turn of another sender or receiver. `send`, `send_all`,
+//! `end_order` and `next_item` go on as long as it takes; that they end is not promised. A thread
+//! that waits sleeps until the `Bell` of its bus rings (`Waiting`). `send_while` and
+//! `next_item_while` can be told to stop, and `send_timeout` and `next_item_timeout` wait for so
+//! long at most. In async code `send_async`, `send_all_async`, `end_order_async` and
+//! `next_item_async` wait in any executor, and `send_when_room_async` waits for room too.
 //!
 //! Behind a turn that is news to others its call rings. Where somebody listens it takes the mutex of
 //! the bell, and then calls the wakers. Another handle notes its waker under that mutex, and may take
@@ -57,7 +57,7 @@
 
 mod bell;
 mod errors;
-
+mod long;
 mod raw;
 mod receivers;
 pub mod replica;
@@ -71,6 +71,7 @@ pub use errors::{
     CloseError, EndError, NeverFits, NumbersError, OpenError, OtherBus, PageError, PutError,
     SendError, TrySendError, Unsent,
 };
+pub use long::{LongItem, NextLong, NotLong, PutLongError, MOST_LONG_BYTES};
 pub use receivers::{Heard, Item, Next, NextItems, Receiver};
 pub use senders::{Sender, Turn};
 pub use sizes::{room_to_close, tenures_needed, words_needed};

@@ -1,5 +1,7 @@
 //! Receivers.
 
+mod long;
+
 use crate::errors::{EndError, OtherBus};
 use crate::raw;
 use crate::shared::Shared;
@@ -244,14 +246,6 @@ impl Receiver {
         self.read
     }
 
-    /// One item that it has at hand, where it lies.
-    #[inline]
-    pub(crate) fn lend_at_hand(&mut self) -> Option<&Item> {
-        let item = self.ready[..self.many].get(self.given)?;
-        self.given += 1;
-        Some(item)
-    }
-
     /// One item that it has at hand.
     #[inline]
     fn at_hand(&mut self) -> Option<Item> {
@@ -267,21 +261,17 @@ impl Receiver {
         &self.ready[given..self.many]
     }
 
-    /// Takes what there is out of the bus, at most 32 items.
+    /// Takes what there is out of the bus, behind what it has at hand, up to 32 items with these.
     fn fill(&mut self) {
+        self.ready.copy_within(self.given..self.many, 0);
+        self.many -= self.given;
         self.given = 0;
-        self.many = 0;
         let is_over = self.shared.is_over();
+        let (free, mut more) = (&mut self.ready[self.many..], 0);
+        let (place, room) = (free.as_mut_ptr(), free.len());
         // SAFETY: as in `shown`; there is room for so many items.
-        let code = unsafe {
-            raw::bus_c_hear(
-                &mut self.raw,
-                self.ready.as_mut_ptr(),
-                BATCH,
-                u64::MAX,
-                &mut self.many,
-            )
-        };
+        let code = unsafe { raw::bus_c_hear(&mut self.raw, place, room, u64::MAX, &mut more) };
+        self.many += more;
         self.ended = code == 14 || (code == 11 && is_over);
         self.ring_if_passed();
     }

@@ -1,9 +1,9 @@
 //! A state that workers replicate: one call for each operation.
 //!
 //! Each worker has a `Replica`, which is a state with a sender and a receiver of one bus.
-//! Operations of all workers go to all replicas in one order, and each applies all of them. So a
-//! worker reads memory of its own. `execute` gives what an operation answers, `state` what is
-//! applied by now, and `latest` all that any worker was answered before.
+//! Operations of all workers, each of 0 to 880 bytes, go to all replicas in one order, and each
+//! applies all of them. So a worker reads memory of its own. `execute` gives what an operation
+//! answers, `state` what is applied by now, and `latest` all that any worker was answered before.
 //!
 //! ```
 //! use kioskbasil::replica::{Replica, ReplicaError, Replicas, State};
@@ -70,7 +70,7 @@ pub trait State {
     /// What an operation answers.
     type Answer;
 
-    /// Applies the operation of these bytes, at most 56, of the worker of this number.
+    /// Applies the operation of these bytes, at most 880, of the worker of this number.
     fn apply(&mut self, from: u32, operation: &[u8]) -> Self::Answer;
 }
 

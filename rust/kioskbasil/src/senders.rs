@@ -314,7 +314,7 @@ impl Sender {
 
     /// Appends a message of at most 56 bytes to its batch of at most 16, and gives its number.
     /// Takes no step. A batch comes into the order as one frame, with nothing of another sender in
-    /// between. So what is longer goes as pieces in one batch.
+    /// between. What is longer goes by `put_long`.
     ///
     /// ```
     /// # use kioskbasil::{Bus, PutError, Shape};

@@ -1,10 +1,13 @@
 //! Replicas: equal at the end, whatever their workers do, and none of them hangs.
 
+mod common;
+
+use common::{in_time, open, pieces};
 use kioskbasil::replica::{Applied, Replica, ReplicaError, Replicas, State};
 use kioskbasil::{OpenError, Shape};
 use std::panic::{self, AssertUnwindSafe};
 use std::sync::atomic::{AtomicBool, AtomicU64, Ordering::SeqCst};
-use std::sync::{mpsc, Arc};
+use std::sync::Arc;
 use std::thread;
 use std::time::{Duration, Instant};
 
@@ -29,14 +32,6 @@ impl State for Log {
     }
 }
 
-fn open(workers: usize, log_words: u64) -> Vec<Replica<Log>> {
-    let shape = Shape {
-        log_words,
-        ..Shape::of(workers, 1)
-    };
-    Replicas::open(shape, Log::default).unwrap()
-}
-
 /// As `open`, but that the first replica panics at this place of the order.
 fn open_to_panic(workers: usize, log_words: u64, place: usize) -> Vec<Replica<Log>> {
     let shape = Shape {
@@ -49,19 +44,6 @@ fn open_to_panic(workers: usize, log_words: u64, place: usize) -> Vec<Replica<Lo
         ..Log::default()
     };
     Replicas::open(shape, first).unwrap()
-}
-
-/// Does this in another thread: where that hangs, the test fails.
-fn in_time<T: Send + 'static>(does: impl FnOnce() -> T + Send + 'static) -> T {
-    let (told, done) = mpsc::channel();
-    let worker = thread::spawn(move || told.send(does()).unwrap());
-    match done.recv_timeout(Duration::from_secs(300)) {
-        Err(mpsc::RecvTimeoutError::Timeout) => panic!("it hangs"),
-        done => {
-            worker.join().unwrap();
-            done.unwrap()
-        }
-    }
 }
 
 /// Has each replica do this in a thread of its own.
@@ -77,15 +59,42 @@ fn each<T: Send>(
     })
 }
 
+/// How long operations are. A ring of 16 words has room for the first of them.
+const LENGTHS: [usize; 12] = [0, 1, 55, 56, 30, 102, 110, 111, 879, 880, 7, 440];
+const SHORT: usize = 6;
+
 /// The operation of this number of a worker.
+type Operation = fn(worker: u32, number: u64) -> Vec<u8>;
+
 fn operation(worker: u32, number: u64) -> Vec<u8> {
-    let length = (number * 7 + u64::from(worker)) % 57;
-    let bytes = (0..length).map(|at| (at + number) as u8);
-    bytes.collect()
+    bytes(worker, number, &LENGTHS)
+}
+
+fn short(worker: u32, number: u64) -> Vec<u8> {
+    bytes(worker, number, &LENGTHS[..SHORT])
+}
+
+fn length_of(worker: u32, number: u64, lengths: &[usize]) -> usize {
+    lengths[(number as usize * 5 + worker as usize) % lengths.len()]
+}
+
+fn bytes(worker: u32, number: u64, lengths: &[usize]) -> Vec<u8> {
+    let length = length_of(worker, number, lengths) as u64;
+    (0..length).map(|at| (at + number) as u8).collect()
+}
+
+/// The number of that operation, as `submit` gives it.
+fn number_of(worker: u32, number: u64) -> u64 {
+    let all = (0..=number).map(|it| pieces(length_of(worker, it, &LENGTHS)));
+    all.sum::<u64>() - 1
 }
 
 /// Each worker's operations stand in the log in their order, from the first on, so many of each.
 fn check(log: &Log, many: &[u64]) {
+    check_by(log, many, operation);
+}
+
+fn check_by(log: &Log, many: &[u64], operation: Operation) {
     let mut next = vec![0; many.len()];
     for (from, bytes) in &log.operations {
         let number = &mut next[*from as usize];
@@ -102,7 +111,11 @@ fn are_equal(logs: &[Log]) {
 }
 
 /// A worker that executes so many operations, each of which answers its place.
-fn execute_all(mut replica: Replica<Log>, many: u64) -> Log {
+fn execute_all(replica: Replica<Log>, many: u64) -> Log {
+    execute_each(replica, many, operation)
+}
+
+fn execute_each(mut replica: Replica<Log>, many: u64, operation: Operation) -> Log {
     let (number, mut last) = (replica.number(), None);
     for count in 0..many {
         let place = replica.execute(&operation(number, count)).unwrap();
@@ -116,22 +129,26 @@ fn execute_all(mut replica: Replica<Log>, many: u64) -> Log {
 
 #[test]
 fn all_execute_at_once_over_a_full_ring() {
-    for (workers, words) in [(3, 129), (8, 129), (8, 16), (1, 16)] {
-        let logs = in_time(move || each(open(workers, words), |it| execute_all(it, 300)));
-        are_equal(&logs);
-        check(&logs[0], &vec![300; workers]);
+    let rings: [(Operation, _); 2] = [(operation, 129), (short, 16)];
+    for (operation, words) in rings {
+        for workers in [1, 3, 8] {
+            let work = move |replica| execute_each(replica, 300, operation);
+            let logs = in_time(move || each(open(workers, words), work));
+            are_equal(&logs);
+            check_by(&logs[0], &vec![300; workers], operation);
+        }
     }
 }
 
 #[test]
 fn what_is_submitted_goes_in_batches_and_keeps_its_order() {
-    for words in [16, 129, 4096] {
+    for words in [129, 200, 4096] {
         let logs = in_time(move || {
             each(open(3, words), |mut replica| {
                 let number = replica.number();
                 for count in 0..500 {
                     let put = replica.submit(&operation(number, count));
-                    assert_eq!(put, Ok(count));
+                    assert_eq!(put, Ok(number_of(number, count)));
                     if count % 50 == 49 {
                         replica.flush().unwrap();
                         let own =
@@ -208,7 +225,7 @@ fn latest_has_all_that_anybody_was_answered() {
 /// `hear`, `state` and `latest` of one that is flushed, and not executed.
 #[test]
 fn latest_has_what_a_flush_has_sent() {
-    let mut replicas = open(3, 1024);
+    let mut replicas = open::<Log>(3, 1024);
     let (mut anna, mut bert) = (replicas.remove(0), replicas.remove(0));
     anna.submit(b"x").unwrap();
     assert_eq!(bert.latest().unwrap().operations.len(), 0);
@@ -220,12 +237,52 @@ fn latest_has_what_a_flush_has_sent() {
 
 #[test]
 fn an_operation_that_is_too_long_changes_nothing() {
-    let mut replica = open(1, 129).remove(0);
-    assert_eq!(replica.submit(&[0; 57]), Err(ReplicaError::TooLong));
-    assert_eq!(replica.execute(&[0; 57]), Err(ReplicaError::TooLong));
-    assert_eq!(replica.execute(&[0; 56]), Ok(0));
-    assert_eq!(replica.submit(b""), Ok(1));
+    let mut replica = open::<Log>(1, 129).remove(0);
+    assert_eq!(replica.submit(&[0; 881]), Err(ReplicaError::TooLong));
+    assert_eq!(replica.execute(&[0; 881]), Err(ReplicaError::TooLong));
+    assert_eq!(replica.execute(&[0; 880]), Ok(0));
+    assert_eq!(replica.submit(b""), Ok(16));
+    assert_eq!(replica.submit(&[0; 56]), Ok(18));
+    assert_eq!(replica.finish().unwrap().operations.len(), 3);
+}
+
+/// Nothing waits that keeps the worker from going on.
+#[test]
+fn an_operation_that_is_longer_than_the_log_changes_nothing() {
+    let mut replica = open::<Log>(1, 16).remove(0);
+    for length in [103, 110, 880] {
+        let never = Err(ReplicaError::NeverFits);
+        assert_eq!(replica.submit(&vec![0; length]), never);
+        assert_eq!(replica.execute(&vec![0; length]).map(|it| it as u64), never);
+    }
+    assert_eq!(replica.submit(&[1; 102]), Ok(1));
+    assert_eq!(replica.execute(&[1; 102]), Ok(1));
     assert_eq!(replica.finish().unwrap().operations.len(), 2);
+}
+
+/// Whatever waits before it, an operation of each length is applied whole, and answers its place.
+#[test]
+fn operations_of_all_lengths() {
+    let logs = in_time(|| {
+        each(open::<Log>(2, 4096), |mut replica| {
+            let mut put = 0;
+            for length in (replica.number()..=880).step_by(2) {
+                let bytes: Vec<u8> = (0..length).map(|at| (at + length) as u8).collect();
+                put += pieces(length as usize);
+                if length % 3 == 0 {
+                    assert_eq!(replica.submit(&bytes), Ok(put - 1));
+                    continue;
+                }
+                let place = replica.execute(&bytes).unwrap();
+                let last = replica.state().operations.last().unwrap();
+                assert_eq!((replica.number(), &bytes), (last.0, &last.1));
+                assert_eq!(place + 1, replica.state().operations.len());
+            }
+            replica.finish().unwrap()
+        })
+    });
+    are_equal(&logs);
+    assert_eq!(logs[0].operations.len(), 881);
 }
 
 #[test]
@@ -260,10 +317,9 @@ fn stops_at_any_turn_lose_nothing_and_hang_nobody() {
                             Ok(place) => assert_eq!(replica.state().operations.len(), place + 1),
                             Err(why) => {
                                 assert_eq!(why, ReplicaError::Stopped);
-                                // It is put already, or it is not: the next number tells.
-                                while replica.submit(&operation(0, count + 1)) != Ok(count + 1) {
-                                    panic!("a stopped execute had not put its operation");
-                                }
+                                // It is put already: the next number tells.
+                                let next = replica.submit(&operation(0, count + 1));
+                                assert_eq!(next, Ok(number_of(0, count + 1)));
                                 return finish_from(replica, count + 2);
                             }
                         }
@@ -391,7 +447,7 @@ fn one_that_panics_in_apply_is_poisoned_and_the_others_go_on() {
 #[test]
 fn a_poisoned_replica_that_is_kept_stops_nobody() {
     in_time(|| {
-        let mut replicas = open_to_panic(2, 16, 0);
+        let mut replicas = open_to_panic(2, 129, 0);
         let (mut kept, mut anna) = (replicas.remove(0), replicas.remove(0));
         anna.execute(&operation(1, 0)).unwrap();
         assert!(panic::catch_unwind(AssertUnwindSafe(|| kept.hear())).is_err());
@@ -408,7 +464,7 @@ fn a_flag_and_a_ring_stop_a_worker_at_any_time() {
     for pause in 0..30 {
         let logs = in_time(move || {
             let stop = Arc::new(AtomicBool::new(false));
-            let replicas = open(3, 129);
+            let replicas = open::<Log>(3, 129);
             let bell = replicas[0].bell().clone();
             let stopped = stop.clone();
             let stops = thread::spawn(move || {
@@ -440,7 +496,7 @@ fn a_flag_and_a_ring_stop_a_worker_at_any_time() {
 #[test]
 fn a_time_ends_a_call_and_loses_nothing() {
     in_time(|| {
-        let mut replicas = open(2, 16);
+        let mut replicas = open::<Log>(2, 129);
         let (mut anna, mut bert) = (replicas.remove(0), replicas.remove(0));
         let time = Duration::from_millis(30);
         let mut count = 0;
@@ -474,7 +530,7 @@ fn a_time_ends_a_call_and_loses_nothing() {
 #[test]
 fn a_batch_that_is_full_waits_for_room_and_can_be_told_to_stop() {
     in_time(|| {
-        let mut replicas = open(2, 16);
+        let mut replicas = open::<Log>(2, 129);
         let mut anna = replicas.remove(0);
         let mut count = 0;
         let time = Duration::from_millis(5);
@@ -504,7 +560,7 @@ fn a_batch_that_is_full_waits_for_room_and_can_be_told_to_stop() {
 #[test]
 fn those_that_wait_are_woken() {
     in_time(|| {
-        let mut replicas = open(2, 129);
+        let mut replicas = open::<Log>(2, 129);
         let (mut anna, mut bert) = (replicas.remove(0), replicas.remove(0));
         let bell = anna.bell().clone();
         let stop = AtomicBool::new(false);
@@ -526,7 +582,7 @@ fn those_that_wait_are_woken() {
 #[test]
 fn a_replica_goes_to_another_thread() {
     fn is_send<T: Send>(_: &T) {}
-    let mut replicas = open(1, 129);
+    let mut replicas = open::<Log>(1, 129);
     is_send(&replicas[0]);
     is_send(&replicas[0].execute_async(b"x"));
     let applied = Applied {

@@ -1,17 +1,18 @@
 //! Replicas in async code, by an executor that sleeps without a bound: a wake-up that is missed is
 //! a hang.
 
-use kioskbasil::replica::{Replica, Replicas, State};
-use kioskbasil::Shape;
+mod common;
+
+use common::{in_time, open};
+use kioskbasil::replica::{Replica, State};
 use std::future::Future;
 use std::pin::Pin;
 use std::sync::atomic::{AtomicBool, Ordering::SeqCst};
-use std::sync::{mpsc, Arc};
+use std::sync::Arc;
 use std::task::{Context, Poll, Wake, Waker};
 use std::thread::{self, Thread};
-use std::time::Duration;
 
-/// The workers and first bytes of all operations, in their order.
+/// The workers and first bytes of all operations, in their order. Each is as long as it says.
 #[derive(Clone, Debug, Default, PartialEq, Eq)]
 struct Log(Vec<(u32, u8)>);
 
@@ -19,30 +20,15 @@ impl State for Log {
     type Answer = usize;
 
     fn apply(&mut self, from: u32, operation: &[u8]) -> usize {
+        assert_eq!(operation, self::operation(operation[0]));
         self.0.push((from, operation[0]));
         self.0.len() - 1
     }
 }
 
-fn open(workers: usize, log_words: u64) -> Vec<Replica<Log>> {
-    let shape = Shape {
-        log_words,
-        ..Shape::of(workers, 1)
-    };
-    Replicas::open(shape, Log::default).unwrap()
-}
-
-/// Does this in another thread: where that hangs, the test fails.
-fn in_time<T: Send + 'static>(does: impl FnOnce() -> T + Send + 'static) -> T {
-    let (told, done) = mpsc::channel();
-    let worker = thread::spawn(move || told.send(does()).unwrap());
-    match done.recv_timeout(Duration::from_secs(300)) {
-        Err(mpsc::RecvTimeoutError::Timeout) => panic!("it hangs"),
-        done => {
-            worker.join().unwrap();
-            done.unwrap()
-        }
-    }
+/// The operation of this number, of 1 to 130 bytes: of several pieces, or of one.
+fn operation(count: u8) -> Vec<u8> {
+    vec![count; 1 + usize::from(count) * 37 % 130]
 }
 
 struct Unparks {
@@ -94,7 +80,7 @@ fn run<T>(future: impl Future<Output = T>) -> T {
 async fn execute_all(replica: &mut Replica<Log>, many: u8) {
     let mut last = None;
     for count in 0..many {
-        let place = replica.execute_async(&[count]).await.unwrap();
+        let place = replica.execute_async(&operation(count)).await.unwrap();
         assert_eq!(replica.state().0.len(), place + 1);
         assert!(Some(place) > last);
         last = Some(place);
@@ -122,7 +108,7 @@ fn finish(replicas: Vec<Replica<Log>>, many: usize) {
 #[test]
 fn tasks_of_one_thread_execute_over_a_full_ring() {
     in_time(|| {
-        let mut replicas = open(3, 16);
+        let mut replicas = open::<Log>(3, 32);
         let tasks = replicas
             .iter_mut()
             .map(|it| -> Pin<Box<dyn Future<Output = ()>>> {
@@ -142,7 +128,7 @@ fn tasks_of_one_thread_execute_over_a_full_ring() {
 #[test]
 fn tasks_of_threads_execute_over_a_full_ring() {
     in_time(|| {
-        let mut replicas = open(4, 129);
+        let mut replicas = open::<Log>(4, 129);
         thread::scope(|scope| {
             for replica in &mut replicas {
                 scope.spawn(move || {
@@ -178,13 +164,14 @@ fn poll_times<T>(mut future: Pin<Box<dyn Future<Output = T> + '_>>, times: usize
 fn drop_futures(replica: &mut Replica<Log>) -> Vec<u8> {
     let (mut put, mut next) = (Vec::new(), 0);
     for count in 0..200 {
-        let operation = [count];
+        let operation = operation(count);
         let future = Box::pin(replica.execute_async(&operation));
         let _ = poll_times(future, 1 + usize::from(count) % 4);
         // The next number tells whether the future had put its operation.
         let number = replica.submit(&operation).unwrap();
-        assert!(number - next <= 1);
-        put.extend((next..=number).map(|_| count));
+        let times = (number + 1 - next) / common::pieces(operation.len());
+        assert!(times == 1 || times == 2);
+        put.extend((0..times).map(|_| count));
         next = number + 1;
     }
     put
@@ -212,7 +199,7 @@ fn futures_that_are_dropped_lose_nothing_and_keep_nobody_waiting() {
 #[test]
 fn a_stream_has_all_that_is_applied_and_its_answers() {
     in_time(|| {
-        let mut replicas = open(2, 129);
+        let mut replicas = open::<Log>(2, 129);
         let (mut anna, mut bert) = (replicas.remove(0), replicas.remove(0));
         let hears = thread::spawn(move || {
             let mut heard = Vec::new();
@@ -223,15 +210,18 @@ fn a_stream_has_all_that_is_applied_and_its_answers() {
             (bert, heard)
         });
         for count in 0..250u64 {
-            let place = run(anna.execute_async(&[count as u8])).unwrap();
+            let place = run(anna.execute_async(&operation(count as u8))).unwrap();
             assert_eq!(place as u64, 2 * count);
-            anna.submit(&[7]).unwrap();
+            anna.submit(&operation(7)).unwrap();
         }
         run(anna.flush_async()).unwrap();
         let (bert, heard) = hears.join().unwrap();
+        let mut next = 0;
         for (at, applied) in heard.iter().enumerate() {
+            let count = if at % 2 == 0 { (at / 2) as u8 } else { 7 };
+            next += common::pieces(operation(count).len());
             assert_eq!((applied.from, applied.answer), (0, at));
-            assert_eq!(applied.number, at as u64);
+            assert_eq!(applied.number, next - 1);
         }
         assert_eq!(bert.state().0.len(), 500);
     });

@@ -1,18 +1,18 @@
-//! Three workers replicate a map. Each sets keys to values, and reads its own replica, until a flag
-//! stops all. `cargo run --bin map` in this folder goes on for a second.
+//! Three workers replicate a map. Each sets keys to values of up to 100 bytes, and reads its own
+//! replica, until a flag stops all. Two of them begin late. `cargo run --bin map` in this folder
+//! goes on for a second.
 
 use kioskbasil::replica::{Replica, ReplicaError, Replicas, State};
 use kioskbasil::Shape;
-use std::collections::BTreeMap;
 use std::sync::atomic::{AtomicBool, Ordering};
-use std::{error::Error, thread, time::Duration};
+use std::time::{Duration, Instant};
+use std::{collections::BTreeMap, error::Error, thread};
 
 #[derive(Default, PartialEq)]
 struct Map(BTreeMap<Vec<u8>, Vec<u8>>);
 
 impl State for Map {
-    /// The value before.
-    type Answer = Option<Vec<u8>>;
+    type Answer = Option<Vec<u8>>; // the value before
 
     /// Sets a key to a value: a byte says how long the key is, and both follow.
     fn apply(&mut self, _from: u32, operation: &[u8]) -> Option<Vec<u8>> {
@@ -28,13 +28,13 @@ fn set(key: &str, value: &str) -> Vec<u8> {
 
 /// What a worker does: it counts its rounds by a key of its own, and sets one that all share.
 fn work(mut replica: Replica<Map>, stop: &AtomicBool) -> Result<Map, ReplicaError> {
-    let own = format!("rounds of {}", replica.number());
-    let mut last = None;
-    for round in 0.. {
-        if stop.load(Ordering::SeqCst) {
-            break;
-        }
-        let value = round.to_string();
+    let begin = Instant::now() + Duration::from_millis(250) * replica.number();
+    while Instant::now() < begin {
+        replica.hear_timeout(Duration::from_millis(10))?; // who begins late hears until then
+    }
+    let (own, mut last) = (format!("{:_>100}", replica.number()), None);
+    for round in (0..).take_while(|_| !stop.load(Ordering::SeqCst)) {
+        let value = format!("{round:_>100}");
         replica.submit(&set("last", &own))?;
         assert_eq!(replica.execute(&set(&own, &value))?, last);
         assert!(replica.latest()?.0.contains_key("last".as_bytes()));

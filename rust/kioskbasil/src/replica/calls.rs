@@ -63,10 +63,10 @@ impl<S: State> Replica<S> {
             seat: &mut self.seat,
             applies: false,
         };
-        let item = poisons.seat.as_mut()?.lend_item()?;
+        let operation = poisons.seat.as_mut()?.lend_operation()?;
         poisons.applies = true;
-        let (from, number) = (u32::from(item.sender), item.number);
-        let answer = self.state.apply(from, item);
+        let (from, number) = (operation.from, operation.number);
+        let answer = self.state.apply(from, operation.bytes);
         poisons.applies = false;
         Some(Applied {
             from,
@@ -137,9 +137,12 @@ impl<S: State> Replica<S> {
         Ok(())
     }
 
-    /// Puts an operation of at most 56 bytes into the batch, and gives its number. It is sent with
-    /// what comes later: by `flush`, `execute`, `finish`, or where 16 operations wait. What it
-    /// answers nobody is told.
+    /// Puts an operation of at most 880 bytes into the batch, and gives its number. It is sent with
+    /// what comes later: by `flush`, `execute`, `finish`, or where the batch has no room for the
+    /// next one. What it answers nobody is told.
+    ///
+    /// A batch has room for 16 operations of up to 55 bytes; a longer one counts for each 55 bytes
+    /// begun. Numbers rise by as much: an operation has that of its last piece.
     pub fn submit(&mut self, operation: &[u8]) -> Result<u64, ReplicaError> {
         self.submit_while(operation, always)
     }
@@ -242,7 +245,7 @@ impl<S: State> Replica<S> {
         Ok(self.hear()? > 0 || has_sent)
     }
 
-    /// Executes an operation of at most 56 bytes: it returns once this replica has applied it,
+    /// Executes an operation of at most 880 bytes: it returns once this replica has applied it,
     /// with the answer that it had at its place in the order. It is the last one applied then.
     pub fn execute(&mut self, operation: &[u8]) -> Result<S::Answer, ReplicaError> {
         self.execute_while(operation, always)

@@ -6,8 +6,11 @@ use std::fmt;
 /// Why an operation was not executed, or a replica not finished.
 #[derive(Clone, Copy, Debug, PartialEq, Eq)]
 pub enum ReplicaError {
-    /// An operation has more than 56 bytes. Nothing has changed.
+    /// An operation has more than 880 bytes. Nothing has changed.
     TooLong,
+    /// An operation is longer than the log, so it never has room. Nothing has changed. A log of 129
+    /// words has room for each.
+    NeverFits,
     /// The order has ended, or this worker has left it.
     Ended,
     /// The bus has no tenure left.
@@ -23,7 +26,8 @@ pub enum ReplicaError {
 impl fmt::Display for ReplicaError {
     fn fmt(&self, f: &mut fmt::Formatter<'_>) -> fmt::Result {
         match self {
-            ReplicaError::TooLong => f.write_str("an operation of more than 56 bytes"),
+            ReplicaError::TooLong => f.write_str("an operation of more than 880 bytes"),
+            ReplicaError::NeverFits => f.write_str("an operation that is longer than the log"),
             ReplicaError::Ended => f.write_str("the order has ended"),
             ReplicaError::Spent => f.write_str("all tenures are spent"),
             ReplicaError::Stopped => f.write_str("told to stop"),

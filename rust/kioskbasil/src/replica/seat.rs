@@ -3,9 +3,18 @@
 use super::told::Told;
 use super::ReplicaError;
 use crate::bell::quietly;
-use crate::{Item, PutError, Receiver, Sender, TrySendError, Turn, MOST_MESSAGES};
+use crate::long::{join, pieces_of, words_of, Begun};
+use crate::{PutError, Receiver, Sender, TrySendError, Turn};
+use crate::{MOST_LONG_BYTES, MOST_MESSAGES};
 use std::sync::Arc;
 use std::task::{Context, Poll};
+
+/// An operation of the order, where it lies.
+pub(crate) struct Operation<'a> {
+    pub(crate) from: u32,
+    pub(crate) number: u64,
+    pub(crate) bytes: &'a [u8],
+}
 
 /// A sender and a receiver of one bus, which leave together. No call of it but `poll_send` returns
 /// with a tenure begun.
@@ -15,9 +24,11 @@ pub(crate) struct Seat {
     pub(crate) told: Arc<Told>,
     worker: u32,
     log_words: u64,
-    /// How many operations wait, and how many words of a frame they take.
+    /// How many messages wait, and how many words of a frame they take.
     waits: usize,
     words: u64,
+    /// An operation of several pieces.
+    joined: [u8; MOST_LONG_BYTES],
     /// A leave mark waits.
     leaves: bool,
     /// Its last turn found no room.
@@ -39,6 +50,7 @@ impl Seat {
             log_words,
             waits: 0,
             words: 1,
+            joined: [0; MOST_LONG_BYTES],
             leaves: false,
             is_full: false,
         }
@@ -49,23 +61,32 @@ impl Seat {
         self.waits == 0 && !self.leaves
     }
 
-    /// Puts an operation into the batch, and gives its number. None where the batch is to be sent
-    /// first: it is full, or the frame would be longer than the log.
+    /// Puts an operation into the batch, and gives the number of its last piece. None where the
+    /// batch is to be sent first: it has not so many messages left, or the frame would be longer
+    /// than the log.
+    ///
+    /// No worker fails or leaves between two pieces. A put takes no turn and calls nothing of the
+    /// user's, and the batch is one frame of the order: all pieces stand in it, or none does.
     pub(crate) fn put(&mut self, operation: &[u8]) -> Result<Option<u64>, ReplicaError> {
-        let length = operation.len() as u64;
-        let words = self.words + 1 + length / 8 + u64::from(length % 8 != 0);
-        if self.waits > 0 && (words > self.log_words || self.waits == MOST_MESSAGES) {
+        if operation.len() > MOST_LONG_BYTES {
+            return Err(ReplicaError::TooLong);
+        }
+        let (pieces, words) = (pieces_of(operation.len()), words_of(operation.len()));
+        if 1 + words > self.log_words {
+            return Err(ReplicaError::NeverFits);
+        }
+        let is_full = self.waits + pieces > MOST_MESSAGES;
+        if self.waits > 0 && (is_full || self.words + words > self.log_words) {
             return Ok(None);
         }
-        match self.sender.put(operation) {
+        match self.sender.put_pieces(operation) {
             Ok(number) => {
-                self.waits += 1;
-                self.words = words;
+                self.waits += pieces;
+                self.words += words;
                 Ok(Some(number))
             }
-            Err(PutError::TooLong) => Err(ReplicaError::TooLong),
             Err(PutError::Closed) => Err(ReplicaError::Ended),
-            Err(PutError::Busy | PutError::BatchFull) => Ok(None),
+            Err(PutError::TooLong | PutError::Busy | PutError::BatchFull) => Ok(None),
         }
     }
 
@@ -153,17 +174,27 @@ impl Seat {
         self.told.note_left(self.worker, words);
     }
 
-    /// The next item that is there, where it lies.
+    /// The next operation that is there.
     #[inline]
-    pub(crate) fn lend_item(&mut self) -> Option<&Item> {
-        if !self.receiver.has_at_hand() {
-            self.receiver.look();
+    pub(crate) fn lend_operation(&mut self) -> Option<Operation<'_>> {
+        let mut begun = self.receiver.begun();
+        if begun == Begun::Part {
+            begun = self.receiver.look_for_long();
             self.told.publish(self.receiver.read());
         }
-        self.receiver.lend_at_hand()
+        let (last, bytes) = match self.receiver.take_pieces(begun)? {
+            Ok([one]) => (one, &one[1..]),
+            Ok(pieces) => (&pieces[pieces.len() - 1], join(pieces, &mut self.joined)),
+            Err(_) => unreachable!("nobody else puts into this bus"),
+        };
+        Some(Operation {
+            from: u32::from(last.sender),
+            number: last.number,
+            bytes,
+        })
     }
 
-    /// It has given all items of so many words of the log.
+    /// It has given all operations of so many words of the log.
     #[inline]
     pub(crate) fn has_given(&self, words: u64) -> bool {
         !self.receiver.has_at_hand() && self.receiver.read() >= words

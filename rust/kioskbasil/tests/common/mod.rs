@@ -1,0 +1,35 @@
+//! What tests share.
+#![allow(dead_code)] // not each of them uses all of it
+
+use kioskbasil::replica::{Replica, Replicas, State};
+use kioskbasil::Shape;
+use std::sync::mpsc;
+use std::thread;
+use std::time::Duration;
+
+/// Replicas of as many workers, over a ring of so many words.
+pub fn open<S: State + Default>(workers: usize, log_words: u64) -> Vec<Replica<S>> {
+    let shape = Shape {
+        log_words,
+        ..Shape::of(workers, 1)
+    };
+    Replicas::open(shape, S::default).unwrap()
+}
+
+/// Does this in another thread: where that hangs, the test fails.
+pub fn in_time<T: Send + 'static>(does: impl FnOnce() -> T + Send + 'static) -> T {
+    let (told, done) = mpsc::channel();
+    let worker = thread::spawn(move || told.send(does()).unwrap());
+    match done.recv_timeout(Duration::from_secs(300)) {
+        Err(mpsc::RecvTimeoutError::Timeout) => panic!("it hangs"),
+        done => {
+            worker.join().unwrap();
+            done.unwrap()
+        }
+    }
+}
+
+/// How many messages of the bus a long one of so many bytes is: pieces of 55 bytes, one at least.
+pub fn pieces(length: usize) -> u64 {
+    ((length + 54) / 55).max(1) as u64
+}
