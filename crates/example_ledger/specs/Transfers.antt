@@ -1,6 +1,7 @@
 -- The transfers: their messages, and what they do.
-use Rattle.std.specs.Prelude.{◌≡◌, ℕ, ◌+◌, ◌-◌, ◌<◌, ◌≤◌, List, [], ◌∷◌, length, slice_index}
-use Rattle.std.specs.Prelude.{slice_set}
+use Rattle.std.specs.Prelude.{◌≡◌, ◌↔◌, ℕ, ◌+◌, ◌-◌, ◌<◌, ◌≤◌, List, [], ◌∷◌, length, slice_index}
+use Rattle.std.specs.Prelude.{slice_set, sum, Bool, IsTrue}
+use Rattle.std.specs.Bool.{OnFalse}
 use Rattle.example_ledger.specs.declared.Transfer.{Transfer}
 
 -- `>`, the account that pays, the account that is paid, and the amount
@@ -35,3 +36,16 @@ after_transfer transfer balances = after_giving transfer (after_taking transfer 
 -- all the money that there is: four accounts begin with 60 each
 abbrev pub money : ℕ
 money = 240
+
+abbrev pub IsFirst : List ℕ → Type 0
+IsFirst balances = balances ≡ 60 ∷ 60 ∷ 60 ∷ 60 ∷ []
+
+-- What an operation does to the balances, whoever sent it, and whether it was carried out: as
+-- `apply` promises.
+pub record Applies (old : List ℕ) (from : ℕ) (message : List ℕ) (paid : Bool) (new : List ℕ) :
+    Type 0 where
+  pub conserved : sum new ≡ sum old
+  pub exact : IsTrue paid ↔ CanBePaid message old
+  pub applied : (transfer : Transfer) → message ≡ message_of transfer → IsTrue paid
+      → new ≡ after_transfer transfer old
+  pub refused : OnFalse paid (new ≡ old)

@@ -1,181 +1,115 @@
-//! Three workers replicate 1,000 counters over a bus without end: each draws changes of its own,
-//! sends them, and makes those that it hears, its own too. All hear one order, so all replicas go
-//! through the same states. The log is a ring, so a run may last as long as one likes.
+//! Three workers replicate 1,000 counters for as long as one likes: each draws changes of its own
+//! and submits them. All replicas go through the same states.
 #![tactic(auto)]
 
-mod replicas;
-
-use anyhow::{Context, bail, ensure};
-use bus_handles::{Item, Next, ReceiverHandle, SenderHandle, Shape, ThreeWord, Turn, open_ring};
-use replicas::{Dice, Replica};
+use anyhow::{Context, ensure};
+use bus_replica::{Replica, SenderNo, State, open_replicas};
+use std::alloc::{AllocError, AllocGlobal, Global};
 use std::sync::Wait;
-use std::sync::atomic::{AtomicBool, AtomicU64, Ordering};
+use std::sync::atomic::{AtomicBool, Ordering};
 use std::time::{Clock, Duration, Instant};
 use std::{env, thread};
 
-/// How many changes each worker sends where no time is given: 200,010 in all.
+/// How many changes each worker submits where no time is given: 200,010 in all.
 const CHANGES: u64 = 66_670;
 
-/// What the workers share: until when they send, how many still do, and whether one has failed.
+/// A thousand counters, and how many changes were made of them. Changes in another order leave
+/// other counters.
+#[derive(Drop, PartialEq, Eq)]
+struct Counters {
+    counts: Vec<u64>,
+    made: u64,
+}
+
+impl State for Counters {
+    /// The counter after the change, if there is one.
+    type Answer = Option<u64>;
+
+    fn first(alloc: Global) -> Result<Counters, AllocError> {
+        let counts = vec![in alloc; 0u64; 1_000]?;
+        Ok(Counters { counts, made: 0 })
+    }
+
+    /// Adds to three times a counter: four bytes say which, and four how much.
+    fn apply(&mut self, _from: SenderNo, op: &[u8]) -> Option<u64> {
+        let (words, _) = op.as_chunks::<4>();
+        let [at, add] = words else { return None };
+        let count = self.counts.get_mut(u32::from_be_bytes(*at) as usize)?;
+        let add = u64::from(u32::from_be_bytes(*add));
+        *count = count.wrapping_mul(3).wrapping_add(add);
+        self.made = self.made.wrapping_add(1);
+        Some(*count)
+    }
+}
+
+/// The next change, by Marsaglia's xorshift of 64 bits.
+fn draw(state: &mut u64) -> [u8; 8] {
+    *state ^= *state << 13;
+    *state ^= *state >> 7;
+    *state ^= *state << 17;
+    let (at, add) = ((*state >> 32) % 1_000, *state & 0xffff_ffff);
+    ((at << 32) | add).to_be_bytes()
+}
+
+/// Until when changes are submitted, and whether a worker has failed.
 #[derive(Drop)]
 struct Shared {
     until: Option<Instant>,
-    sending: AtomicU64,
     failed: AtomicBool,
 }
 
-/// A worker: a sender, a receiver, its changes and its replica.
-#[derive(Drop)]
-struct Worker {
-    sender: SenderHandle<ThreeWord>,
-    receiver: ReceiverHandle<ThreeWord>,
-    dice: Dice,
-    replica: Replica,
-    /// It has changes to send still.
-    sends: bool,
-    /// Its last turn found no room.
-    is_full: bool,
+/// Submits changes, and gives the counters once all have. Who is told to stop since another has
+/// failed gives none: the cause is told by that one.
+fn work<R: Wait + Clock>(
+    rt: &R,
+    replica: Replica<Counters>,
+    shared: &Shared,
+) -> anyhow::Result<Option<Counters>> {
+    match change(rt, replica, shared) {
+        Ok(state) => Ok(Some(state)),
+        Err(_) if shared.failed.swap(true, Ordering::SeqCst) => Ok(None),
+        Err(cause) => Err(cause),
+    }
 }
 
-impl Worker {
-    /// Sends and hears up to the end of the order. If it fails, the others are to stop. Who stops
-    /// since another has failed gives no replica: the cause is told by that one.
-    fn work<R: Wait + Clock>(mut self, rt: &R, shared: &Shared) -> anyhow::Result<Option<Replica>> {
-        let Err(fault) = self.send_and_hear(rt, shared) else {
-            return Ok(Some(self.replica));
-        };
-        let is_cause = !shared.failed.swap(true, Ordering::SeqCst);
-        self.sender.finish();
-        if is_cause { Err(fault) } else { Ok(None) }
-    }
-
-    /// A batch is sent where there is room, and what is there is heard, so that there is room: who
-    /// is answered Full waits for receivers, and its own may be the slowest. The end is heard too,
-    /// which a look for room does not see.
-    fn send_and_hear<R: Wait + Clock>(&mut self, rt: &R, shared: &Shared) -> anyhow::Result<()> {
-        for _ in rt.forever() {
-            self.fill(rt, shared)?;
-            self.send(rt, shared)?;
-            if self.hear(rt, shared)? {
-                return Ok(());
-            }
-        }
-        unreachable!()
-    }
-
-    /// Fills the batch, if there are changes left and it is empty. The last worker that has none
-    /// lets an end mark wait.
-    fn fill<R: Clock>(&mut self, rt: &R, shared: &Shared) -> anyhow::Result<()> {
-        if !self.sends || self.sender.pending() > 0 {
-            return Ok(());
-        }
-        self.sends = match shared.until {
+fn change<R: Wait + Clock>(
+    rt: &R,
+    mut replica: Replica<Counters>,
+    shared: &Shared,
+) -> anyhow::Result<Counters> {
+    let mut dice = u64::from(replica.number().0).wrapping_add(0x9e37_79b9_7f4a_7c15);
+    for made in 0..u64::MAX {
+        let goes_on = match shared.until {
             Some(until) => Instant::now(rt)? < until,
-            None => self.sender.next_number() < CHANGES,
+            None => made < CHANGES,
         };
-        if self.sends {
-            return self.put_changes();
+        if !goes_on {
+            break;
         }
-        if shared.sending.fetch_sub(1, Ordering::SeqCst) == 1 {
-            self.sender.close()?;
-        }
-        Ok(())
-    }
-
-    /// Puts a batch of changes.
-    fn put_changes(&mut self) -> anyhow::Result<()> {
-        for _ in 0..10 {
-            let change = self.dice.change();
-            self.sender.put(&change)?;
-        }
-        Ok(())
-    }
-
-    /// Sends what waits, if there is room. Each Full takes a tenure, so after it no turn is taken
-    /// before a look has found room.
-    fn send<R: Wait>(&mut self, rt: &R, shared: &Shared) -> anyhow::Result<()> {
-        if self.is_full && !self.sender.has_room() {
-            thread::yield_now();
-            return Ok(());
-        }
-        self.is_full = false;
         let go_on = || !shared.failed.load(Ordering::SeqCst);
-        match self.sender.send_while(rt, go_on) {
-            Some(Turn::Delivered { .. } | Turn::Idle | Turn::Closed) => Ok(()),
-            Some(Turn::Full) => {
-                self.is_full = true;
-                Ok(())
-            }
-            Some(turn) => bail!("a change is not sent: {turn}"),
-            None => bail!("another worker has failed"),
-        }
+        replica.submit_while(rt, go_on, &draw(&mut dice))?;
     }
-
-    /// Makes the changes that are there. Where it sends nothing more, a close included, it waits
-    /// for those to come. Says whether the order has ended.
-    fn hear<R: Wait>(&mut self, rt: &R, shared: &Shared) -> anyhow::Result<bool> {
-        let waits = !self.sends && self.sender.pending() == 0 && !self.is_full;
-        for _ in rt.forever() {
-            let go_on = || waits && !shared.failed.load(Ordering::SeqCst);
-            match self.receiver.next_item_while(rt, go_on) {
-                Next::Item(item) => self.make(&item)?,
-                Next::End => return Ok(true),
-                Next::Stopped => {
-                    ensure!(!shared.failed.load(Ordering::SeqCst), "another has failed");
-                    return Ok(false);
-                }
-            }
-        }
-        unreachable!()
-    }
-
-    /// Makes a change of its replica.
-    fn make(&mut self, item: &Item) -> anyhow::Result<()> {
-        let made = self.replica.make(item.message.as_slice());
-        ensure!(made, "a change that is none");
-        Ok(())
-    }
+    Ok(replica.finish_while(rt, || !shared.failed.load(Ordering::SeqCst))?)
 }
 
 fn main(rt: HostRuntime) -> anyhow::Result<()> {
     let shared = Shared {
         until: until(&rt)?,
-        sending: AtomicU64::new(3),
         failed: AtomicBool::new(false),
     };
-    let shape = Shape {
-        senders: 3,
-        receivers: 3,
-        rounds: 1,
-        rows: 8,
-        log_words: 32_768,
-    };
-    let (senders, receivers) = open_ring::<ThreeWord>(rt.alloc(), shape, None)?;
-    let mut workers = Vec::new(rt.alloc());
-    for (sender, receiver) in senders.into_iter().zip(receivers) {
-        let dice = Dice::new(u64::from(sender.number().0));
-        workers.push(Worker {
-            sender,
-            receiver,
-            dice,
-            replica: Replica::new(rt.alloc())?,
-            sends: true,
-            is_full: false,
-        })?;
-    }
-    let mut replicas = Vec::new(rt.alloc());
-    for replica in thread::map_vec(&rt, workers, &|worker| worker.work(&rt, &shared))? {
-        if let Some(replica) = replica? {
-            replicas.push(replica)?;
+    let replicas = open_replicas::<Counters>(rt.alloc(), 3)?;
+    let mut states = Vec::new(rt.alloc());
+    for state in thread::map_vec(&rt, replicas, &|replica| work(&rt, replica, &shared))? {
+        if let Some(state) = state? {
+            states.push(state)?;
         }
     }
-    let last = replicas.pop().context("no worker")?;
-    ensure!(replicas.iter().all(|it| *it == last), "two replicas differ");
-    let made = last.made();
-    println!(&rt; "3 replicas: all equal, after {made} changes").context("no output")
+    let last = states.pop().context("no worker")?;
+    ensure!(states.iter().all(|state| *state == last), "two differ");
+    println!(&rt; "3 replicas: all equal, after {} changes", last.made).context("no output")
 }
 
-/// Until when changes are sent, where the command line says for how many seconds.
+/// Until when changes are submitted, where the command line says for how many seconds.
 fn until<R: AllocGlobal + env::Env + Clock>(rt: &R) -> anyhow::Result<Option<Instant>> {
     let mut words = env::args(rt)?.skip(1);
     let Some(word) = words.next() else {
