@@ -1,5 +1,7 @@
 //! An order that ends with its senders: receivers are told so, whatever the last one left behind.
 
+mod common;
+
 use kioskbasil::{Bus, Heard, Item, Next, Receiver, Sender, Shape, Turn};
 use std::collections::hash_map::RandomState;
 use std::future::Future;
@@ -13,13 +15,9 @@ use std::time::Duration;
 const A_WHILE: Duration = Duration::from_millis(30);
 const LONG: Duration = Duration::from_secs(20);
 
+/// A ring whose order ends with its senders.
 fn ring(senders: usize, receivers: usize, log_words: u64) -> (Vec<Sender>, Vec<Receiver>) {
-    let shape = Shape {
-        rounds: 1,
-        log_words,
-        ..Shape::of(senders, receivers)
-    };
-    let opened = Bus::open_ring(shape).unwrap();
+    let opened = common::ring(senders, receivers, log_words);
     opened.0[0].end_with_senders();
     opened
 }

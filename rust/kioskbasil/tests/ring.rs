@@ -1,5 +1,8 @@
 //! Buses whose log is a ring: it is used again, and each receiver hears all of one order.
 
+mod common;
+
+use common::ring;
 use kioskbasil::{
     Bus, EndError, Item, NeverFits, OpenError, Receiver, SendError, Sender, Shape, TrySendError,
     Turn, Waiting, MOST_MESSAGES, MOST_RECEIVERS,
@@ -9,15 +12,6 @@ use std::thread;
 use std::time::{Duration, Instant};
 
 const A_WHILE: Duration = Duration::from_millis(30);
-
-fn ring(senders: usize, receivers: usize, log_words: u64) -> (Vec<Sender>, Vec<Receiver>) {
-    let shape = Shape {
-        rounds: 1,
-        log_words,
-        ..Shape::of(senders, receivers)
-    };
-    Bus::open_ring(shape).unwrap()
-}
 
 /// The message of this number: up to 40 bytes.
 fn message(sender: u8, number: u64) -> Vec<u8> {

@@ -1,6 +1,9 @@
 //! Tasks that wait for the room of a ring: each is woken, and none sleeps for good. A task that is
 //! not woken for some seconds is a failure here.
 
+mod common;
+
+use common::ring;
 use kioskbasil::{Bus, Item, NeverFits, Receiver, Sender, Shape, Turn};
 use std::future::Future;
 use std::pin::Pin;
@@ -12,15 +15,6 @@ use std::time::{Duration, Instant};
 
 const A_WHILE: Duration = Duration::from_millis(30);
 const LONGEST: Duration = Duration::from_secs(5);
-
-fn ring(senders: usize, receivers: usize, log_words: u64) -> (Vec<Sender>, Vec<Receiver>) {
-    let shape = Shape {
-        rounds: 1,
-        log_words,
-        ..Shape::of(senders, receivers)
-    };
-    Bus::open_ring(shape).unwrap()
-}
 
 /// A thread that a task runs on, and how often the task was woken.
 struct Runs(Thread, AtomicUsize);

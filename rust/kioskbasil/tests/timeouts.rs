@@ -2,6 +2,9 @@
 //! nothing comes, and loses nothing. A machine with other work may be late, so the best of several
 //! tries counts.
 
+mod common;
+
+use common::bus;
 use kioskbasil::replica::{Replicas, State};
 use kioskbasil::{Bus, Next, NextItems, Receiver, Sender, Shape, Turn, Waiting};
 use std::thread;
@@ -12,15 +15,6 @@ const TRIES: u32 = 20;
 /// A sleep of 0.1 s in place of 1 or 20 ms is too late, and one of 0.2 s in place of 150 ms.
 const LATE: Duration = Duration::from_millis(40);
 const LONG: Duration = Duration::from_secs(20);
-
-fn open(senders: usize, receivers: usize, rows: u64) -> (Vec<Sender>, Vec<Receiver>) {
-    let shape = Shape {
-        rounds: 1,
-        rows,
-        ..Shape::of(senders, receivers)
-    };
-    Bus::open(shape).unwrap()
-}
 
 /// Takes turns by hand until the page is taken.
 fn take_page(sender: &mut Sender) {
@@ -52,7 +46,7 @@ fn up_to(time: Duration) -> impl FnMut() -> bool {
 
 #[test]
 fn receivers_wait_for_so_long() {
-    let (_senders, mut receivers) = open(1, 1, 8);
+    let (_senders, mut receivers) = bus(1, 1, 8);
     let receiver = &mut receivers[0];
     for waiting in [Waiting::Sleep, Waiting::Yield] {
         receiver.set_waiting(waiting);
@@ -74,7 +68,7 @@ fn receivers_wait_for_so_long() {
 
 #[test]
 fn senders_wait_for_so_long_and_keep_their_batch() {
-    let (mut senders, mut receivers) = open(2, 1, 8);
+    let (mut senders, mut receivers) = bus(2, 1, 8);
     let (anna, bert) = senders.split_at_mut(1);
     take_page(&mut bert[0]);
     anna[0].put(b"a").unwrap();
@@ -143,7 +137,7 @@ fn replicas_wait_for_so_long() {
 /// What comes before the time is over is given, and so is the end.
 #[test]
 fn what_comes_in_time_is_given() {
-    let (mut senders, mut receivers) = open(1, 3, 8);
+    let (mut senders, mut receivers) = bus(1, 3, 8);
     let (first, rest) = receivers.split_at_mut(1);
     let (second, third) = rest.split_at_mut(1);
     let begin = Instant::now();
@@ -176,7 +170,7 @@ fn what_comes_in_time_is_given() {
 /// With no time a call gives what is there, and waits for nothing.
 #[test]
 fn no_time_is_one_look() {
-    let (mut senders, mut receivers) = open(1, 1, 8);
+    let (mut senders, mut receivers) = bus(1, 1, 8);
     senders[0].put(b"x").unwrap();
     let sent = senders[0].send_timeout(Duration::ZERO);
     assert!(matches!(sent, Some(Turn::Delivered { .. })));
@@ -189,7 +183,7 @@ fn no_time_is_one_look() {
 /// Three senders over two rows. The last one has shown its presence in tenure 0 and stopped, and
 /// the first one is behind it, where its time is over.
 fn behind() -> (Vec<Sender>, Vec<Receiver>) {
-    let (mut senders, receivers) = open(3, 1, 2);
+    let (mut senders, receivers) = bus(3, 1, 2);
     senders[2].put(b"late").unwrap();
     for _ in 0..3 {
         assert_eq!(senders[2].turn(0), Turn::Going);

@@ -1,5 +1,8 @@
 //! Threads and tasks that wait: they are woken, told to stop, and miss nothing.
 
+mod common;
+
+use common::bus;
 use kioskbasil::{Bus, Item, Next, Receiver, Sender, Shape, Turn, Waiting};
 use std::future::Future;
 use std::panic::{self, AssertUnwindSafe};
@@ -12,15 +15,6 @@ use std::time::{Duration, Instant};
 
 const A_WHILE: Duration = Duration::from_millis(30);
 
-fn open(senders: usize, receivers: usize, rows: u64) -> (Vec<Sender>, Vec<Receiver>) {
-    let shape = Shape {
-        rounds: 1,
-        rows,
-        ..Shape::of(senders, receivers)
-    };
-    Bus::open(shape).unwrap()
-}
-
 /// Takes turns by hand until the page is taken.
 fn take_page(sender: &mut Sender) {
     while !matches!(sender.turn(0), Turn::Own { .. }) {}
@@ -29,7 +23,7 @@ fn take_page(sender: &mut Sender) {
 #[test]
 fn each_policy_hears_all() {
     for waiting in [Waiting::Spin, Waiting::Yield, Waiting::Sleep] {
-        let (mut senders, mut receivers) = open(2, 2, 8);
+        let (mut senders, mut receivers) = bus(2, 2, 8);
         senders.iter_mut().for_each(|s| s.set_waiting(waiting));
         receivers.iter_mut().for_each(|r| r.set_waiting(waiting));
         let heard: Vec<Vec<Item>> = thread::scope(|scope| {
@@ -55,7 +49,7 @@ fn each_policy_hears_all() {
 
 #[test]
 fn a_message_and_the_end_wake_receivers() {
-    let (mut senders, mut receivers) = open(1, 2, 8);
+    let (mut senders, mut receivers) = bus(1, 2, 8);
     thread::scope(|scope| {
         let hearing: Vec<_> = receivers
             .iter_mut()
@@ -76,7 +70,7 @@ fn a_message_and_the_end_wake_receivers() {
 
 #[test]
 fn the_page_that_is_back_wakes_a_sender() {
-    let (mut senders, _receivers) = open(2, 1, 8);
+    let (mut senders, _receivers) = bus(2, 1, 8);
     let (anna, bert) = senders.split_at_mut(1);
     bert[0].put(b"b").unwrap();
     take_page(&mut bert[0]);
@@ -90,7 +84,7 @@ fn the_page_that_is_back_wakes_a_sender() {
 
 #[test]
 fn those_that_sleep_are_told_to_stop() {
-    let (mut senders, mut receivers) = open(2, 1, 8);
+    let (mut senders, mut receivers) = bus(2, 1, 8);
     let (anna, bert) = senders.split_at_mut(1);
     bert[0].put(b"b").unwrap();
     take_page(&mut bert[0]);
@@ -130,7 +124,7 @@ fn those_that_sleep_are_told_to_stop() {
 
 /// Two senders over two rows. The second has shown its presence in tenure 0 and stopped.
 fn with_a_late_sender() -> (Vec<Sender>, Vec<Receiver>) {
-    let (mut senders, receivers) = open(2, 1, 2);
+    let (mut senders, receivers) = bus(2, 1, 2);
     senders[1].put(b"late").unwrap();
     for _ in 0..3 {
         assert_eq!(senders[1].turn(0), Turn::Going);
@@ -207,7 +201,7 @@ fn run(tasks: Vec<Work>) -> usize {
 
 #[test]
 fn tasks_of_one_thread_hear_one_order() {
-    let (senders, receivers) = open(3, 2, 8);
+    let (senders, receivers) = bus(3, 2, 8);
     let done = Arc::new(AtomicUsize::new(0));
     let mut tasks: Vec<Work> = Vec::new();
     for mut receiver in receivers {
@@ -236,7 +230,7 @@ fn tasks_of_one_thread_hear_one_order() {
 #[test]
 fn tasks_of_several_threads_play_a_ball() {
     const MOVES: u64 = 2000;
-    let (senders, receivers) = open(2, 2, 8);
+    let (senders, receivers) = bus(2, 2, 8);
     thread::scope(|scope| {
         for (mut sender, mut receiver) in senders.into_iter().zip(receivers) {
             scope.spawn(move || {
@@ -268,7 +262,7 @@ impl Wake for Count {
 
 #[test]
 fn the_last_task_of_a_handle_is_woken_once() {
-    let (mut senders, mut receivers) = open(1, 1, 8);
+    let (mut senders, mut receivers) = bus(1, 1, 8);
     let counts: Vec<Arc<Count>> = (0..3).map(|_| Arc::default()).collect();
     for count in &counts {
         let waker = Waker::from(count.clone());
@@ -294,7 +288,7 @@ impl Wake for Fault {
 
 #[test]
 fn a_waker_that_panics_leaves_nobody_asleep() {
-    let (mut senders, mut receivers) = open(1, 3, 8);
+    let (mut senders, mut receivers) = bus(1, 3, 8);
     let counts: [Arc<Count>; 2] = Default::default();
     let wakers = [
         Waker::from(counts[0].clone()),
@@ -336,7 +330,7 @@ impl Wake for DoubleFault {
 /// Two wakers panic, and the drop of what the second one gives panics too: the third one is woken.
 #[test]
 fn a_fault_whose_drop_panics_leaves_nobody_asleep() {
-    let (mut senders, mut receivers) = open(1, 3, 8);
+    let (mut senders, mut receivers) = bus(1, 3, 8);
     let count: Arc<Count> = Arc::default();
     let wakers = [
         Waker::from(Arc::new(Fault)),
@@ -357,7 +351,7 @@ fn a_fault_whose_drop_panics_leaves_nobody_asleep() {
 #[test]
 fn a_fault_whose_drop_panics_leaves_no_drop() {
     for with_panic in [false, true] {
-        let (mut senders, mut receivers) = open(1, 2, 8);
+        let (mut senders, mut receivers) = bus(1, 2, 8);
         let count: Arc<Count> = Arc::default();
         let wakers = [
             Waker::from(Arc::new(DoubleFault)),
@@ -404,7 +398,7 @@ fn a_waker_that_panics_in_a_drop() {
 /// Who waits for the page of a sender that was dropped is woken once the other has gone on.
 #[test]
 fn a_task_waits_for_a_page_that_was_let_go() {
-    let (mut senders, _receivers) = open(3, 1, 2);
+    let (mut senders, _receivers) = bus(3, 1, 2);
     senders[1].put(b"late").unwrap();
     for _ in 0..3 {
         assert_eq!(senders[1].turn(0), Turn::Going);
@@ -430,7 +424,7 @@ fn a_task_waits_for_a_page_that_was_let_go() {
 
 #[test]
 fn a_task_waits_for_the_page_and_one_that_is_dropped_keeps_nobody() {
-    let (mut senders, _receivers) = open(3, 1, 8);
+    let (mut senders, _receivers) = bus(3, 1, 8);
     for sender in &mut senders {
         sender.put(b"x").unwrap();
     }

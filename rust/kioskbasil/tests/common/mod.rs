@@ -2,10 +2,30 @@
 #![allow(dead_code)] // not each of them uses all of it
 
 use kioskbasil::replica::{Replica, Replicas, State};
-use kioskbasil::Shape;
+use kioskbasil::{Bus, Receiver, Sender, Shape};
 use std::sync::mpsc;
 use std::thread;
 use std::time::Duration;
+
+/// A bus with so many rows, each for one tenure.
+pub fn bus(senders: usize, receivers: usize, rows: u64) -> (Vec<Sender>, Vec<Receiver>) {
+    let shape = Shape {
+        rounds: 1,
+        rows,
+        ..Shape::of(senders, receivers)
+    };
+    Bus::open(shape).unwrap()
+}
+
+/// A ring of so many words.
+pub fn ring(senders: usize, receivers: usize, log_words: u64) -> (Vec<Sender>, Vec<Receiver>) {
+    let shape = Shape {
+        rounds: 1,
+        log_words,
+        ..Shape::of(senders, receivers)
+    };
+    Bus::open_ring(shape).unwrap()
+}
 
 /// Replicas of as many workers, over a ring of so many words.
 pub fn open<S: State + Default>(workers: usize, log_words: u64) -> Vec<Replica<S>> {
