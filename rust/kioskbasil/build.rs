@@ -16,14 +16,20 @@ fn released(path: PathBuf) -> Archive {
         Ok(text) => text.trim(),
         Err(_) => "whether the archive is proved is not known",
     };
-    Archive { proof: proof.to_string(), path }
+    Archive {
+        proof: proof.to_string(),
+        path,
+    }
 }
 
 /// Where the archive may be, the first that is there: in the file that KIOSKBASIL_ARCHIVE names, in
 /// `lib/` of this crate, as a release has it, or where `rt lib` or `./quick` of the repository
 /// leaves it.
 fn archive(here: &Path) -> Result<Archive, String> {
-    let of = |path: PathBuf, proof: &str| Archive { path, proof: proof.to_string() };
+    let of = |path: PathBuf, proof: &str| Archive {
+        path,
+        proof: proof.to_string(),
+    };
     if let Some(path) = env::var_os("KIOSKBASIL_ARCHIVE") {
         let unknown = "of KIOSKBASIL_ARCHIVE: whether the archive is proved is not known";
         return Ok(of(PathBuf::from(path), unknown));
