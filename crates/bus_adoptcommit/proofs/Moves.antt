@@ -11,7 +11,7 @@ use Rattle.std.proofs.lemmas.Option.{same_Some, slice_get_past, slice_get-map}
 use Rattle.bus_register.specs.declared.registers.Op.{Op}
 use Rattle.bus_register.specs.Protocol.{Protocol}
 use Rattle.bus_register.specs.Tables.{Beside, put}
-use Rattle.bus_register.specs.Proved.TableLaws.{some_or_none, here_not, put_here, put_beside}
+use Rattle.bus_register.specs.Private.TableLaws.{some_or_none, here_not, put_here, put_beside}
 use Rattle.bus_register.specs.Words.{register, after}
 use Rattle.bus_adoptcommit.specs.declared.verdicts.Verdict.{Verdict}
 use Rattle.bus_adoptcommit.specs.Plays.{Moment, moment, IsStep, IsMove, Plays, at_starts, AtStarts}

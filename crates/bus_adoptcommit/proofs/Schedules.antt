@@ -14,7 +14,7 @@ use Rattle.std.proofs.lemmas.Option.{same_Some, slice_get_past, slice_get_within
 use Rattle.bus_register.specs.declared.registers.Op.{Op}
 use Rattle.bus_register.specs.Protocol.{Protocol, Laws, counted_input, inputs, outputs}
 use Rattle.bus_register.specs.Tables.{of_some}
-use Rattle.bus_register.specs.Proved.TableLaws.{some_or_none, here_not}
+use Rattle.bus_register.specs.Private.TableLaws.{some_or_none, here_not}
 use Rattle.bus_adoptcommit.specs.declared.verdicts.Verdict.{Verdict}
 use Rattle.bus_adoptcommit.specs.Agreement.{Legal}
 use Rattle.bus_adoptcommit.proofs.AgreementLaws.{Legal-fewer}

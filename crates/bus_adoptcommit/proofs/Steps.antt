@@ -6,7 +6,7 @@ use Rattle.std.proofs.lemmas.Option.{same_Some, slice_get_within}
 use Rattle.std.proofs.Math.ListN.{length-set}
 use Rattle.bus_register.specs.declared.registers.Op.{Op}
 use Rattle.bus_register.specs.Protocol.{Protocol, Laws}
-use Rattle.bus_register.specs.Proved.TableLaws.{get_set_same, get_set_other, Stepped-list}
+use Rattle.bus_register.specs.Private.TableLaws.{get_set_same, get_set_other, Stepped-list}
 use Rattle.bus_register.specs.Words.{register, after}
 use Rattle.bus_adoptcommit.specs.declared.verdicts.Verdict.{Verdict}
 use Rattle.bus_adoptcommit.specs.Agreement.{Legal}

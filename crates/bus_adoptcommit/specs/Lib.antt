@@ -8,4 +8,4 @@ pub mod ThreeWord
 pub mod ThreeWordKeeps
 pub mod Checks
 pub mod Refused
-pub mod Proved
+pub mod Private

@@ -4,10 +4,11 @@ ghost use Rattle.std.specs.Prelude.{◌≡◌, ℕ, ◌+◌, ◌≤◌, ◌^◌}
 ghost use Rattle.bus_register.specs.Protocol.{Protocol};
 ghost use Rattle.bus_adoptcommit.specs.ThreeWord.{Local, kind_at, op_of, fed_of};
 ghost use Rattle.bus_adoptcommit.specs.ThreeWordKeeps.{three_word};
-ghost use Rattle.bus_adoptcommit.specs.Proved.ThreeWordLaws.{three_word_legal, wordless};
-ghost use Rattle.bus_adoptcommit.specs.Proved.ThreeWordLaws.{quick, narrow};
-ghost use Rattle.bus_adoptcommit.specs.Proved.ThreeWordStepLaws.{named_at, own_kinds, named_for_at};
-ghost use Rattle.bus_adoptcommit.specs.Proved.ThreeWordStepLaws.{in_order_at};
+ghost use Rattle.bus_adoptcommit.specs.Private.ThreeWordLaws.{three_word_legal, wordless};
+ghost use Rattle.bus_adoptcommit.specs.Private.ThreeWordLaws.{quick, narrow};
+ghost use Rattle.bus_adoptcommit.specs.Private.ThreeWordStepLaws.{named_at, own_kinds};
+ghost use Rattle.bus_adoptcommit.specs.Private.ThreeWordStepLaws.{named_for_at};
+ghost use Rattle.bus_adoptcommit.specs.Private.ThreeWordStepLaws.{in_order_at};
 
 use super::progress::Progress;
 use super::ratifiers::Ratifier;

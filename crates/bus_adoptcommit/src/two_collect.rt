@@ -6,11 +6,12 @@ ghost use Rattle.bus_adoptcommit.specs.Plays.{IsExact};
 ghost use Rattle.bus_adoptcommit.specs.TwoCollect.{Local, Sized, proposal_code, verdict_code};
 ghost use Rattle.bus_adoptcommit.specs.TwoCollect.{verdict_in, kind_at, op_of, fed_of};
 ghost use Rattle.bus_adoptcommit.specs.TwoCollectKeeps.{two_collect};
-ghost use Rattle.bus_adoptcommit.specs.Proved.TwoCollectLaws.{two_collect_legal, two_collect_exact};
-ghost use Rattle.bus_adoptcommit.specs.Proved.TwoCollectLaws.{named_at, own_kinds, named_for_at};
-ghost use Rattle.bus_adoptcommit.specs.Proved.TwoCollectLaws.{in_order_at};
-ghost use Rattle.bus_adoptcommit.specs.Proved.TwoCollectLaws.{wordless};
-ghost use Rattle.bus_adoptcommit.specs.Proved.TwoCollectLaws.{quick, narrow};
+ghost use Rattle.bus_adoptcommit.specs.Private.TwoCollectLaws.{two_collect_legal};
+ghost use Rattle.bus_adoptcommit.specs.Private.TwoCollectLaws.{two_collect_exact};
+ghost use Rattle.bus_adoptcommit.specs.Private.TwoCollectLaws.{named_at, own_kinds, named_for_at};
+ghost use Rattle.bus_adoptcommit.specs.Private.TwoCollectLaws.{in_order_at};
+ghost use Rattle.bus_adoptcommit.specs.Private.TwoCollectLaws.{wordless};
+ghost use Rattle.bus_adoptcommit.specs.Private.TwoCollectLaws.{quick, narrow};
 
 use super::phases::Phase;
 use super::ratifiers::Ratifier;

@@ -17,13 +17,13 @@ use Rattle.std.proofs.Common.{
 use Rattle.std.proofs.Common.{subst}
 use Rattle.bus_core.specs.Keeping.{new_sender}
 use Rattle.bus_core.specs.Senders.{Sender}
-use Rattle.bus_machine.proofs.NewSenders.{no_senders, one_more_sender}
+use Rattle.bus_machine.proofs.Bases.NewSenders.{no_senders, one_more_sender}
 use Rattle.bus_machine.specs.Machine.{Machine, New, log_place, no_machine_trails}
 use Rattle.bus_machine.specs.Promise.{HasRows}
 use Rattle.bus_machine.specs.Turning.{AreNewSenders}
 use Rattle.bus_automaton.specs.Lawful.{Opens}
 use Rattle.bus_automaton.specs.Processes.{IsCounted}
-use Rattle.bus_register.specs.Proved.TableLaws.{some_or_none, here_not}
+use Rattle.bus_register.specs.Private.TableLaws.{some_or_none, here_not}
 use Rattle.bus_tenure.specs.Core.{Election, Layout}
 use Rattle.std.proofs.lemmas.Bool.{cases_lt}
 use Rattle.std.proofs.lemmas.List.{length-append}

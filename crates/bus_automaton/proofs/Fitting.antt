@@ -10,10 +10,10 @@ use Rattle.bus_tenure.specs.declared.pages.Page.{Page}
 use Rattle.bus_world.proofs.FloorLaws.{lesser_is}
 use Rattle.bus_world.proofs.LogLaws.{length-logged}
 use Rattle.bus_world.specs.Log.{floor_shown, least_passed}
-use Rattle.bus_machine.proofs.AtNone.{flat_at_none}
-use Rattle.bus_machine.proofs.CyclicTurns.{protocol_kept}
-use Rattle.bus_machine.proofs.Framed.{IsFramed, framed}
-use Rattle.bus_machine.proofs.Leading.{Sits, two_rows, led_some}
+use Rattle.bus_machine.proofs.Bases.AtNone.{flat_at_none}
+use Rattle.bus_machine.proofs.Bases.CyclicTurns.{protocol_kept}
+use Rattle.bus_machine.proofs.Frames.Framed.{IsFramed, framed}
+use Rattle.bus_machine.proofs.Bases.Leading.{Sits, two_rows, led_some}
 use Rattle.bus_machine.specs.Machine.{Machine, Trails, Reached, floor_of, passers_place}
 
 -- what is past no passed place, and not past the length, is not past the least of them

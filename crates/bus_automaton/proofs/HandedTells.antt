@@ -4,8 +4,8 @@ use Rattle.std.proofs.Common.{◌≡◌, ℕ, ◌+◌, ◌*◌, Some, None, List
 use Rattle.bus_core.specs.Senders.{Sender, Situation, Does, situation}
 use Rattle.bus_core.specs.Table.{line, line_now}
 use Rattle.bus_core.specs.Telling.{FeedTells}
-use Rattle.bus_machine.proofs.HandTells.{tells_before}
-use Rattle.bus_machine.proofs.TurnLaws.{handed_by}
+use Rattle.bus_machine.proofs.Memory.HandTells.{tells_before}
+use Rattle.bus_machine.proofs.Calls.TurnLaws.{handed_by}
 use Rattle.bus_machine.specs.Machine.{moved}
 use Rattle.bus_machine.specs.Telling.{StepTells}
 use Rattle.bus_register.specs.declared.registers.Op.{Op}

@@ -15,9 +15,9 @@ use Rattle.bus_core.specs.Senders.{Sender, Situation, Does, Announces, Validates
 use Rattle.bus_core.specs.Senders.{Withdraws, Scans, Clears, ReadsPassed, situation}
 use Rattle.bus_core.specs.Table.{Line, line_now}
 use Rattle.bus_core.specs.declared.reuses.Reuse.{Reuse}
-use Rattle.bus_machine.proofs.EachSender.{actions_of_it, actions_of_other, entered_beside}
+use Rattle.bus_machine.proofs.Memory.EachSender.{actions_of_it, actions_of_other, entered_beside}
 use Rattle.bus_presence.specs.Reclamation.{Entry, Trails as Entries}
-use Rattle.bus_register.specs.Proved.TableLaws.{get_set_same, get_set_other}
+use Rattle.bus_register.specs.Private.TableLaws.{get_set_same, get_set_other}
 use Rattle.bus_register.specs.Words.{register}
 use Rattle.bus_register.specs.declared.registers.Op.{Op}
 use Rattle.bus_tenure.specs.Core.{Election, Layout}

@@ -5,9 +5,9 @@ use Rattle.bus_batch.specs.Frames.{AreFrames, log_words}
 use Rattle.bus_core.specs.Keeping.{new_reuse}
 use Rattle.bus_core.specs.Senders.{Sender, situation}
 use Rattle.bus_core.specs.Table.{line_now}
-use Rattle.bus_machine.proofs.Joining.{grows}
-use Rattle.bus_machine.proofs.Holding.{sums_fit}
-use Rattle.bus_machine.proofs.Rising.{log_behind}
+use Rattle.bus_machine.proofs.Frames.Joining.{grows}
+use Rattle.bus_machine.proofs.Calls.Holding.{sums_fit}
+use Rattle.bus_machine.proofs.Onward.StageRises.{log_behind}
 use Rattle.bus_machine.specs.Machine.{passers_place, turn_answer}
 use Rattle.bus_machine.specs.Remembering.{rows_in}
 use Rattle.bus_register.specs.Protocol.{Protocol}

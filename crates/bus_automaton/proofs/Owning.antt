@@ -5,7 +5,7 @@ use Rattle.std.proofs.Common.{ap}
 use Rattle.std.proofs.lemmas.Bool.{true≢false}
 use Rattle.bus_core.specs.Senders.{Sender}
 use Rattle.bus_register.specs.Protocol.{Protocol}
-use Rattle.bus_register.specs.Proved.TableLaws.{some_or_none}
+use Rattle.bus_register.specs.Private.TableLaws.{some_or_none}
 use Rattle.bus_tenure.proofs.Situated.{tells}
 use Rattle.bus_tenure.specs.Core.{Core, Election, Layout}
 use Rattle.bus_tenure.specs.Situations.{TakesPage, situation_of}

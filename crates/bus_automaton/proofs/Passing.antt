@@ -11,7 +11,7 @@ use Rattle.bus_register.specs.Protocol.{Protocol}
 use Rattle.bus_register.specs.declared.limits.TheConstants.{PASSED_ALL}
 use Rattle.bus_register.specs.declared.registers.Op.{Op}
 use Rattle.bus_register.specs.declared.registers.Op.TheVariants.{Store}
-use Rattle.bus_register.specs.Proved.TableLaws.{get_set_same, get_set_other, here_not}
+use Rattle.bus_register.specs.Private.TableLaws.{get_set_same, get_set_other, here_not}
 use Rattle.bus_batch.specs.Frames.{AreFrames, frame_words, log_pieces, log_words, is_end}
 use Rattle.std.proofs.lemmas.Grind.{flat_map-append}
 use Rattle.bus_batch.proofs.Standing.{stands_between}
@@ -24,16 +24,16 @@ use Rattle.bus_world.proofs.Bounds.{words_low}
 use Rattle.bus_world.proofs.FloorLaws.{place_begins}
 use Rattle.bus_world.proofs.LogLaws.{index-read, length-logged}
 use Rattle.bus_world.proofs.Serving.{Serves}
-use Rattle.bus_world.specs.Proved.Floors.{IsPasser, passed_place}
+use Rattle.bus_world.specs.Floors.{IsPasser, passed_place}
 use Rattle.bus_world.specs.Trails.{answers_joined}
 use Rattle.bus_world.specs.Turning.{words_after}
 use Rattle.bus_world.specs.World.{Gone}
 use Rattle.bus_world.specs.declared.events.Answer.TheVariants as answer
-use Rattle.bus_machine.proofs.AtNone.{flat_at_none, passes_by}
-use Rattle.bus_machine.proofs.CyclicTurns.{protocol_kept}
-use Rattle.bus_machine.proofs.Framed.{IsFramed}
-use Rattle.bus_machine.proofs.Leading.{Sits, two_rows, led_some}
-use Rattle.bus_machine.proofs.Nobody.{some_nobody}
+use Rattle.bus_machine.proofs.Bases.AtNone.{flat_at_none, passes_by}
+use Rattle.bus_machine.proofs.Bases.CyclicTurns.{protocol_kept}
+use Rattle.bus_machine.proofs.Frames.Framed.{IsFramed}
+use Rattle.bus_machine.proofs.Bases.Leading.{Sits, two_rows, led_some}
+use Rattle.bus_machine.proofs.Tenures.Nobody.{some_nobody}
 use Rattle.bus_machine.specs.Machine.{Machine, Trails, Reached, Then, Joins, passed_by}
 use Rattle.bus_automaton.proofs.Leading.{on_word}
 use Rattle.bus_automaton.proofs.Readings.{IsNamed, is_over}

@@ -3,11 +3,11 @@ use Rattle.std.proofs.Common.{◌≡◌, ℕ, ◌<◌, ◌≤◌, Some, [], slic
 use Rattle.std.proofs.Common.{arith, refl, ◌∙◌, ap, subst}
 use Rattle.bus_core.specs.Senders.{Sender, situation}
 use Rattle.bus_core.specs.Table.{line_now}
-use Rattle.bus_machine.proofs.AtNone.{event_reuse, forks_reuse}
-use Rattle.bus_machine.proofs.EachSender.{added, added_is, actions_of_other}
-use Rattle.bus_machine.proofs.Framed.{framed}
-use Rattle.bus_machine.proofs.Knowing.{its_part}
-use Rattle.bus_machine.proofs.Leading.{Sits, sits_before, sits_unforked}
+use Rattle.bus_machine.proofs.Bases.AtNone.{event_reuse, forks_reuse}
+use Rattle.bus_machine.proofs.Memory.EachSender.{added, added_is, actions_of_other}
+use Rattle.bus_machine.proofs.Frames.Framed.{framed}
+use Rattle.bus_machine.proofs.Frames.Knowing.{its_part}
+use Rattle.bus_machine.proofs.Bases.Leading.{Sits, sits_before, sits_unforked}
 use Rattle.bus_machine.specs.Machine.{Machine, Trails, Reached, New, Then, Joins}
 use Rattle.bus_machine.specs.Machine.{Happens, going}
 use Rattle.bus_machine.specs.Machine.{has_stopped, found, turn_answer, trails_grown, turn_grown}

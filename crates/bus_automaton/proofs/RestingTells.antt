@@ -5,7 +5,7 @@ use Rattle.std.specs.Prelude.{IsSome}
 use Rattle.std.proofs.lemmas.Bool.{true≢false}
 use Rattle.bus_core.specs.Senders.{Sender}
 use Rattle.bus_core.specs.Table.{line_now, rest_at}
-use Rattle.bus_machine.proofs.TurnLaws.{idle_tells}
+use Rattle.bus_machine.proofs.Calls.TurnLaws.{idle_tells}
 use Rattle.bus_core.specs.Telling.{RestTells}
 use Rattle.bus_machine.specs.Telling.{StepTells}
 use Rattle.bus_tenure.specs.declared.turns.Turn.TheVariants as turn

@@ -14,10 +14,10 @@ use Rattle.bus_core.specs.Table.{line_now}
 use Rattle.bus_deliverylog.specs.Orders.{of_sender}
 use Rattle.bus_deliverylog.specs.declared.receiving.RecvTurn.{RecvTurn}
 use Rattle.bus_deliverylog.specs.declared.receiving.RecvTurn.TheVariants as recv
-use Rattle.bus_machine.proofs.Entering.{enters}
-use Rattle.bus_machine.proofs.Framed.{IsFramed, framed, floor_first, log_straight}
-use Rattle.bus_machine.proofs.Knowing.{its_part}
-use Rattle.bus_machine.proofs.Leading.{Sits}
+use Rattle.bus_machine.proofs.Tenures.Entering.{enters}
+use Rattle.bus_machine.proofs.Frames.Framed.{IsFramed, framed, floor_first, log_straight}
+use Rattle.bus_machine.proofs.Frames.Knowing.{its_part}
+use Rattle.bus_machine.proofs.Bases.Leading.{Sits}
 use Rattle.bus_machine.proofs.Promised.{promised}
 use Rattle.bus_machine.specs.Machine.{Machine, Trails, base_of}
 use Rattle.bus_machine.specs.Promise.{HasRows, IsPagedBy, IsPromised}
@@ -33,16 +33,16 @@ use Rattle.bus_world.proofs.Accepting.{first_fits}
 use Rattle.bus_world.proofs.LogLaws.{length-logged}
 use Rattle.bus_world.proofs.Serving.{Serves}
 use Rattle.bus_world.specs.World.{IsLayout}
-use Rattle.bus_world.specs.Proved.Sending.{Fits, Part}
+use Rattle.bus_world.specs.Private.Sending.{Fits, Part}
 use Rattle.bus_world.specs.Headline.{Action, Promises, puts}
 use Rattle.bus_world.specs.Log.{KeepsFloor, Knows}
 use Rattle.bus_world.specs.Trails.{no_answers}
-use Rattle.bus_world.specs.Proved.Tenures.Stage.{Open, Held}
+use Rattle.bus_world.specs.Private.Tenures.Stage.{Open, Held}
 use Rattle.bus_world.specs.Waiting.{waiting_at}
 use Rattle.bus_automaton.proofs.Fitting.{HasRoom, has_room}
 use Rattle.bus_automaton.proofs.ReachedMachines.{nobody_did}
 use Rattle.bus_automaton.proofs.Turns.{queue_is, messages_are, comes}
-use Rattle.bus_world.specs.Proved.Floors.{IsBoundary}
+use Rattle.bus_world.specs.Floors.{IsBoundary}
 use Rattle.bus_automaton.specs.Lawful.{IsSender, HasLog, IsPromisedOf, floor_in, log_from_floor}
 use Rattle.bus_automaton.specs.OneAutomaton.{MachineHistory, IsMachineHistory, bus_of}
 use Rattle.bus_automaton.specs.OneProcess.{is_taken, table_layout_by, process_of}

@@ -16,9 +16,9 @@ use Rattle.bus_tenure.specs.Situations.{core_floored, phase_floored}
 use Rattle.bus_core.specs.Table.{line, line_now, rest_at, in_row, seen, answer_elected}
 use Rattle.bus_core.specs.Table.{reuse_elected, reuse_reclaiming, lost_of}
 use Rattle.bus_core.specs.declared.reuses.Reuse.{Reuse}
-use Rattle.bus_machine.proofs.Clearing.{clearing}
-use Rattle.bus_machine.proofs.TurnLaws.{handed_by}
-use Rattle.bus_machine.proofs.Rising.{log_behind}
+use Rattle.bus_machine.proofs.Tenures.Clearing.{clearing}
+use Rattle.bus_machine.proofs.Calls.TurnLaws.{handed_by}
+use Rattle.bus_machine.proofs.Onward.StageRises.{log_behind}
 use Rattle.bus_machine.specs.Machine.{moved}
 use Rattle.bus_machine.specs.Remembering.{rows_in}
 use Rattle.bus_ownerbits.specs.OneOwner.{OneOwner}

@@ -29,7 +29,7 @@ use Rattle.std.proofs.lemmas.Grind.{flat_map-append}
 use Rattle.bus_register.specs.declared.registers.Op.{Op}
 use Rattle.bus_register.specs.declared.registers.Op.TheVariants.{Load, Store}
 use Rattle.bus_register.specs.Protocol.{Protocol}
-use Rattle.bus_register.specs.Proved.TableLaws.{get_set_same, get_set_other}
+use Rattle.bus_register.specs.Private.TableLaws.{get_set_same, get_set_other}
 use Rattle.bus_batch.proofs.Feeding.{has_read, gives_piece, torn_in_body, torn_in_data}
 use Rattle.bus_batch.proofs.FrameLaws.{same_log}
 use Rattle.bus_batch.specs.declared.messages.Piece.{Piece}
@@ -55,17 +55,17 @@ use Rattle.bus_deliverylog.specs.declared.receiving.RecvTurn.TheVariants.{Going}
 use Rattle.bus_presence.proofs.ReclamationKept.{lt_tells}
 use Rattle.bus_tenure.specs.Core.{Election}
 use Rattle.bus_world.proofs.ReceivingLaws.{next_word}
-use Rattle.bus_world.specs.Proved.Floors.{IsBoundary, IsPasser, passed_place}
-use Rattle.bus_world.specs.Proved.Receiving.{Receives}
+use Rattle.bus_world.specs.Floors.{IsBoundary, IsPasser, passed_place}
+use Rattle.bus_world.specs.Private.Receiving.{Receives}
 use Rattle.bus_world.specs.Trails.{answers_with}
 use Rattle.bus_world.specs.Turning.{words_after}
 use Rattle.bus_world.specs.World.{Recv, RecvDoes, recv_found}
 use Rattle.bus_world.specs.declared.events.Answer.TheVariants as answer
 use Rattle.bus_world.proofs.CyclicProtocolKept.{HasKept}
-use Rattle.bus_machine.proofs.CyclicTurns.{protocol_kept}
-use Rattle.bus_machine.proofs.Framed.{IsFramed, framed, finds_words}
-use Rattle.bus_machine.proofs.Leading.{Sits, two_rows, led_some}
-use Rattle.bus_machine.specs.Proved.Bridge.{IsLed}
+use Rattle.bus_machine.proofs.Bases.CyclicTurns.{protocol_kept}
+use Rattle.bus_machine.proofs.Frames.Framed.{IsFramed, framed, finds_words}
+use Rattle.bus_machine.proofs.Bases.Leading.{Sits, two_rows, led_some}
+use Rattle.bus_machine.specs.Private.Bridge.{IsLed}
 use Rattle.bus_machine.specs.Machine.{Machine, Trails, Reached, Then, IsOnWord}
 use Rattle.bus_automaton.proofs.Readings.{GoesOn, IsReady, goes_on, is_over}
 use Rattle.bus_automaton.proofs.Leading.{on_word}
@@ -199,7 +199,7 @@ module _ {E : Type 0} (X : Election E) (P : Protocol E (Unit {0}) ℕ) (old : Ma
     kept : HasKept X P sits.serves.laws m.layout sits.ok sits.serves.width sits.serves.starts
         sits.serves.owner_is sits.serves.named sits.serves.announces sits.serves.apart rows two
         U.heard
-        (Rattle.bus_machine.specs.Proved.Bridge.protocol_of m led.reclaimer led.passing led.owners)
+        (Rattle.bus_machine.specs.Private.Bridge.protocol_of m led.reclaimer led.passing led.owners)
         U.pins U.actions U.log
     kept = protocol_kept X P rows m U sits.serves sits.ok two led
 

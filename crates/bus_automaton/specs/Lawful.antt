@@ -21,7 +21,7 @@ use Rattle.bus_tenure.specs.declared.turns.Turn.{Turn}
 use Rattle.bus_core.specs.Keeping.{page_out}
 use Rattle.bus_world.specs.Headline.{Action, HasPut, HasMarked, Stepped, puts, Promises}
 use Rattle.bus_world.specs.Log.{KeepsFloor, Knows, floor_shown, words_in_ring}
-use Rattle.bus_world.specs.Proved.Floors.{IsBoundary}
+use Rattle.bus_world.specs.Floors.{IsBoundary}
 use Rattle.bus_world.specs.Trails.{no_answers}
 use Rattle.bus_world.specs.Turning.{words_after, home_moved}
 use Rattle.bus_world.specs.World.{first_page}

@@ -4,4 +4,4 @@ pub mod Reading
 pub mod Steps
 pub mod Batches
 pub mod Faults
-pub mod Proved
+pub mod Private

@@ -22,7 +22,7 @@ pub struct Message {
 impl Model for Message {
     ghost use Rattle.std.specs.Prelude.{◌≡◌, ℕ, ◌-◌, ◌≤◌, List, ◌++◌, length, take, drop};
     ghost use Rattle.std.specs.Prelude.{replicate};
-    ghost use Rattle.bus_batch.specs.Proved.Padded.{padded_again};
+    ghost use Rattle.bus_batch.specs.Private.Padded.{padded_again};
 
     ghost Value = { List ℕ };
 

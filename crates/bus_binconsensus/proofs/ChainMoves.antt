@@ -7,7 +7,7 @@ use Rattle.std.proofs.lemmas.Option.{same_Some}
 use Rattle.bus_register.specs.declared.registers.Op.{Op}
 use Rattle.bus_register.specs.Words.{register}
 use Rattle.bus_register.specs.Tables.{Beside, Stepped, put}
-use Rattle.bus_register.specs.Proved.TableLaws.{put_here, put_beside}
+use Rattle.bus_register.specs.Private.TableLaws.{put_here, put_beside}
 use Rattle.bus_register.specs.Protocol.{Laws, Goes}
 use Rattle.bus_adoptcommit.specs.declared.verdicts.Verdict.{Verdict}
 use Rattle.bus_adoptcommit.specs.declared.verdicts.Verdict.TheVariants.{Commit, Adopt}

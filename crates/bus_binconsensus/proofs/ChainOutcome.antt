@@ -5,7 +5,7 @@ use Rattle.std.proofs.lemmas.Bool.{cases_eq, cases_lt}
 use Rattle.std.proofs.lemmas.Option.{cond_some, same_Some}
 use Rattle.bus_register.specs.declared.registers.Op.{Op}
 use Rattle.bus_register.specs.Tables.{of_some}
-use Rattle.bus_register.specs.Proved.TableLaws.{some_of}
+use Rattle.bus_register.specs.Private.TableLaws.{some_of}
 use Rattle.bus_register.specs.Protocol.{Protocol, Laws, counted_input, inputs, outputs}
 use Rattle.bus_adoptcommit.specs.declared.verdicts.Verdict.{Verdict}
 use Rattle.bus_adoptcommit.specs.declared.verdicts.Verdict.TheVariants.{Commit, Adopt}

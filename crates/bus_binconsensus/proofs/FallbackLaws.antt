@@ -8,7 +8,7 @@ use Rattle.bus_register.specs.declared.registers.Op.{Op}
 use Rattle.bus_register.specs.declared.registers.Op.TheVariants.{Cas}
 use Rattle.bus_register.specs.Words.{register, after, SumFits}
 use Rattle.bus_register.specs.Tables.{Beside, Stepped, of_some}
-use Rattle.bus_register.specs.Proved.TableLaws.{some_of}
+use Rattle.bus_register.specs.Private.TableLaws.{some_of}
 use Rattle.bus_register.specs.Protocol.{Laws, Goes, inputs, outputs}
 use Rattle.bus_register.specs.Digits.{digit}
 use Rattle.bus_register.proofs.DigitLaws.{digit_same}

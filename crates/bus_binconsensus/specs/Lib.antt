@@ -6,4 +6,4 @@ pub mod Objects
 pub mod Decisions
 pub mod DecideLaw
 pub mod DecideRefuses
-pub mod Proved
+pub mod Private

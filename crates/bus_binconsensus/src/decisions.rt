@@ -3,13 +3,13 @@
 ghost use Rattle.std.specs.Prelude.{◌≡◌, ◌≢◌, ℕ, ◌+◌, ◌*◌, ◌-◌, ◌<◌};
 ghost use Rattle.std.specs.Prelude.{◌≤◌, ◌^◌};
 ghost use Rattle.bus_binconsensus.specs.Chain.{span, link_entered};
-ghost use Rattle.bus_binconsensus.specs.Proved.ObjectNames.{objects_named};
+ghost use Rattle.bus_binconsensus.specs.Private.ObjectNames.{objects_named};
 ghost use Rattle.bus_binconsensus.specs.Objects.{objects_of, object_kind, object_calls, decide_op};
 ghost use Rattle.bus_binconsensus.specs.Objects.{decide_fed};
 ghost use Rattle.bus_binconsensus.specs.Decisions.{decisions};
 ghost use Rattle.bus_coinconc.specs.Conciliator.{conciliator_kind, conciliator_op, conciliator_fed};
 ghost use Rattle.bus_coinconc.specs.ConciliatorProtocol.{conciliator_protocol};
-ghost use Rattle.bus_coinconc.specs.Proved.ConciliatorSteps.{conciliator_names_each_step};
+ghost use Rattle.bus_coinconc.specs.Private.ConciliatorSteps.{conciliator_names_each_step};
 
 use super::objects::Object;
 use bus_adoptcommit::{Ratifier, Verdict};

@@ -3,10 +3,10 @@
 ghost use Rattle.std.specs.Prelude.{◌≡◌, ℕ, ◌+◌, ◌<◌, ◌≤◌, ◌^◌};
 ghost use Rattle.bus_binconsensus.specs.Objects.{objects_of, object_kind, object_op, object_fed};
 ghost use Rattle.bus_binconsensus.specs.Objects.{object_output, object_calls};
-ghost use Rattle.bus_binconsensus.specs.Proved.ObjectNames.{objects_named};
+ghost use Rattle.bus_binconsensus.specs.Private.ObjectNames.{objects_named};
 ghost use Rattle.bus_coinconc.specs.Conciliator.{conciliator_kind, conciliator_op, conciliator_fed};
 ghost use Rattle.bus_coinconc.specs.ConciliatorProtocol.{conciliator_protocol};
-ghost use Rattle.bus_coinconc.specs.Proved.ConciliatorSteps.{conciliator_names_each_step};
+ghost use Rattle.bus_coinconc.specs.Private.ConciliatorSteps.{conciliator_names_each_step};
 
 use super::fallbacks::Fallback;
 use bus_adoptcommit::{Ratifier, Verdict};

@@ -5,7 +5,7 @@ use Rattle.std.proofs.lemmas.Option.{same_Some}
 use Rattle.bus_register.specs.declared.registers.Op.{Op}
 use Rattle.bus_register.specs.Words.{register, SumFits}
 use Rattle.bus_register.specs.Tables.{of_some}
-use Rattle.bus_register.specs.Proved.TableLaws.{some_of}
+use Rattle.bus_register.specs.Private.TableLaws.{some_of}
 use Rattle.bus_register.specs.Protocol.{Goes, IsStore}
 use Rattle.bus_walkcoin.specs.Coin.{CoinState, coin_started, coin_op, coin_fed}
 use Rattle.bus_walkcoin.proofs.CoinProtocolLaws.{coin_laws}

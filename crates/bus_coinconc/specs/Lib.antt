@@ -4,4 +4,4 @@ pub mod ConciliatorAnswer
 pub mod ConciliatorKinds
 pub mod ConciliatorRefused
 pub mod ConciliatorProtocol
-pub mod Proved
+pub mod Private

@@ -102,7 +102,7 @@ impl Conciliator {
 impl Machine for Conciliator {
     ghost use Rattle.bus_coinconc.specs.Conciliator.{conciliator_kind, conciliator_op};
     ghost use Rattle.bus_coinconc.specs.Conciliator.{conciliator_fed};
-    ghost use Rattle.bus_coinconc.specs.Proved.ConciliatorSteps.{conciliator_names_each_step};
+    ghost use Rattle.bus_coinconc.specs.Private.ConciliatorSteps.{conciliator_names_each_step};
 
     ghost kind_of = { conciliator_kind };
 

@@ -22,14 +22,15 @@ use Rattle.bus_tenure.specs.Situations.{situation_of as own_situation}
 use Rattle.bus_core.specs.Senders.{Does, Scans, Clears, ReadsPassed, reclaiming, passing, at_home}
 use Rattle.bus_core.specs.Senders.{pinning}
 use Rattle.bus_core.specs.Reusing.Participants.{log_from}
-use Rattle.bus_core.specs.Proved.ParticipantTable.{due_reclaimed, due_home, due_beside, reclaim_due}
-use Rattle.bus_core.specs.Proved.ParticipantTable.{due_passed, passed_due, lacking, Reads}
+use Rattle.bus_core.specs.Private.ParticipantTable.{due_reclaimed, due_home, due_beside}
+use Rattle.bus_core.specs.Private.ParticipantTable.{reclaim_due}
+use Rattle.bus_core.specs.Private.ParticipantTable.{due_passed, passed_due, lacking, Reads}
 use Rattle.bus_core.specs.Reusing.Passing.{passing_left}
 use Rattle.bus_core.specs.declared.reuses.Passing.{Passing}
 use Rattle.bus_core.specs.Reusing.Turns.{Participant, sizes_of}
 use Rattle.bus_core.specs.Table.{line}
-use Rattle.bus_core.specs.Proved.Bridge.{line_with_a_row_each, AtNone, AtSome, IsLineOf}
-use Rattle.bus_core.specs.Proved.Bridge.{with_a_row_each, with_rows_again}
+use Rattle.bus_core.specs.Private.Bridge.{line_with_a_row_each, AtNone, AtSome, IsLineOf}
+use Rattle.bus_core.specs.Private.Bridge.{with_a_row_each, with_rows_again}
 
 -- with a row for each tenure each line is that of the table of a sender in its tenures
 line_at_none : {E : Type 0} (X : Election E) (c : Core E) (z : Own E)

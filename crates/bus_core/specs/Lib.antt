@@ -12,4 +12,4 @@ pub mod TenureRows
 pub mod Telling
 pub mod Loading
 pub mod Refused
-pub mod Proved
+pub mod Private

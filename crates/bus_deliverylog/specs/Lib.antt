@@ -4,4 +4,4 @@ pub mod Writing
 pub mod Receiving
 pub mod Faults
 pub mod Text
-pub mod Proved
+pub mod Private

@@ -81,7 +81,7 @@ impl Writer {
 
 impl Machine for Writer {
     ghost use Rattle.bus_deliverylog.specs.Writing.{writing_kind, writing_op, writing_fed};
-    ghost use Rattle.bus_deliverylog.specs.Proved.WritingLaws.{writing_named};
+    ghost use Rattle.bus_deliverylog.specs.Private.WritingLaws.{writing_named};
 
     ghost kind_of = { writing_kind };
 

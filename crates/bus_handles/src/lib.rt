@@ -11,7 +11,7 @@
 //!         let first = receiver.next_item(&rt).context("the end")?;
 //!     }
 //!
-//! The crates `example_hello` and `example_map` are whole programs of that form.
+//! The crates `example_hello` and `example_carry` are whole programs of that form.
 //!
 //! A bus that `open` makes is over once its log is full; a *ring*, which `open_ring` makes, uses
 //! the cells of its log again. Each receiver of a ring stores its place after each frame that it

@@ -1,52 +1,22 @@
-pub mod Takes
-pub mod Own
-pub mod Joining
-pub mod AtNone
-pub mod AtHome
-pub mod ProtocolParts
-pub mod CyclicTurns
-pub mod AtSome
-pub mod Leading
-pub mod Paging
-pub mod Framed
-pub mod FloorWords
-pub mod Cells
-pub mod Publishing
-pub mod Clearing
-pub mod Taking
-pub mod Knowing
-pub mod Rising
-pub mod PassedRising
-pub mod Bounding
-pub mod Staying
-pub mod Gone
-pub mod EachSender
-pub mod Ending
-pub mod Entering
-pub mod Remembering
-pub mod Losing
-pub mod Loaded
-pub mod LoadsInTurn
-pub mod ShownPlaces
-pub mod Telling
+-- Whatever leads to a machine, the promise holds of it: of both kinds of rows, by the frames of its
+-- log.
 pub mod Promised
-pub mod Floors
-pub mod Following
-pub mod PinBounds
-pub mod Leaving
-pub mod StopLaws
-pub mod Giving
-pub mod Holding
-pub mod TurnLaws
-pub mod HandTells
-pub mod Events
-pub mod Served
-pub mod NewSenders
-pub mod PlayLaws
+-- What leads to a machine, as one of two bases: with a row for each tenure, or with rows that are
+-- used again.
+pub mod Bases
+-- What words, page and senders keep, by the frames of the log.
+pub mod Frames
+-- Who enters a tenure, takes its page, clears the row of the next, and in how many steps.
+pub mod Tenures
+-- What senders remember, and what their answers tell.
+pub mod Memory
+-- What floors and passed places keep.
+pub mod Ring
+-- What never falls.
+pub mod Onward
+-- Stops and leaves are for good.
+pub mod Stops
+-- From these laws to the contracts of a machine's calls.
 pub mod Calls
-pub mod SameActions
-pub mod RefusalLaws
-mod PromiseRefused
-pub mod LeaveLaws
-pub mod Nobody
-mod LogRefused
+-- What the definitions refuse.
+pub mod Refused

@@ -4,15 +4,15 @@ use Rattle.std.proofs.Common.{ℕ, map, refl}
 use Rattle.bus_batch.specs.Frames.{Spells, order_of, tenure_and_owner}
 use Rattle.bus_register.specs.Protocol.{Protocol}
 use Rattle.bus_tenure.specs.Core.{Election}
-use Rattle.bus_machine.proofs.FloorWords.{page_lasts}
-use Rattle.bus_machine.proofs.Framed.{IsFramed, framed, read_below, reuses, floors_low}
-use Rattle.bus_machine.proofs.Knowing.{knows, out, past, owns, counts}
-use Rattle.bus_machine.proofs.Leading.{Sits}
-use Rattle.bus_machine.proofs.LoadsInTurn.{loads_in_turn}
-use Rattle.bus_machine.proofs.Paging.{paged_it, takes_it, holds_it}
-use Rattle.bus_machine.proofs.Remembering.{remembered}
-use Rattle.bus_machine.proofs.ShownPlaces.{all_shown}
-use Rattle.bus_machine.proofs.Taking.{takers_told}
+use Rattle.bus_machine.proofs.Frames.FloorWords.{page_lasts}
+use Rattle.bus_machine.proofs.Frames.Framed.{IsFramed, framed, read_below, reuses, floors_low}
+use Rattle.bus_machine.proofs.Frames.Knowing.{knows, out, past, owns, counts}
+use Rattle.bus_machine.proofs.Bases.Leading.{Sits}
+use Rattle.bus_machine.proofs.Ring.LoadsInTurn.{loads_in_turn}
+use Rattle.bus_machine.proofs.Frames.Paging.{paged_it, takes_it, holds_it}
+use Rattle.bus_machine.proofs.Memory.Remembering.{remembered}
+use Rattle.bus_machine.proofs.Ring.ShownPlaces.{all_shown}
+use Rattle.bus_machine.proofs.Tenures.PagesTaken.{takers_told}
 use Rattle.bus_machine.specs.Machine.{Machine, Trails, Reached}
 use Rattle.bus_machine.specs.Promise.{IsPromised, TakersTold}
 

@@ -1,4 +1,4 @@
-pub mod Proved
+pub mod Private
 pub mod Machine
 pub mod Finding
 pub mod Remembering

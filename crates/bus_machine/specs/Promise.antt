@@ -30,7 +30,7 @@ use Rattle.bus_tenure.specs.declared.phases.Phase.TheVariants.{Electing, Holding
 use Rattle.bus_world.specs.Headline.{Action, HasPut, HasMarked, Stepped, Took, puts, order_given}
 use Rattle.bus_world.specs.Headline.{IsPrefix, Promises}
 use Rattle.bus_world.specs.Log.{KeepsFloor}
-use Rattle.bus_world.specs.Proved.Floors.{IsBoundary}
+use Rattle.bus_world.specs.Floors.{IsBoundary}
 use Rattle.bus_world.specs.Trails.{Takers}
 use Rattle.bus_world.specs.Waiting.{waiting_at}
 use Rattle.bus_world.specs.World.{Event, Put, Ask, Turn, Recv, Stop, Gone}

@@ -7,7 +7,7 @@ use Rattle.std.proofs.lemmas.Option.{same_Some}
 use Rattle.bus_register.specs.declared.registers.Op.{Op}
 use Rattle.bus_register.specs.Words.{register, SumFits}
 use Rattle.bus_register.specs.Tables.{of_some, Beside, Agree}
-use Rattle.bus_register.specs.Proved.TableLaws.{some_of}
+use Rattle.bus_register.specs.Private.TableLaws.{some_of}
 use Rattle.bus_register.specs.Protocol.{Protocol, Laws, Starts, IsStore, counted_input, inputs}
 use Rattle.bus_register.specs.Protocol.{outputs}
 use Rattle.bus_binconsensus.specs.Deciding.{Decides}

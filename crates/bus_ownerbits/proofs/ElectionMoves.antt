@@ -8,7 +8,7 @@ use Rattle.bus_register.specs.declared.registers.Op.{Op}
 use Rattle.bus_register.specs.declared.registers.Op.TheVariants.{Load, Store}
 use Rattle.bus_register.specs.Words.{register, after}
 use Rattle.bus_register.specs.Tables.{of_some, Beside, Stepped}
-use Rattle.bus_register.specs.Proved.TableLaws.{some_of}
+use Rattle.bus_register.specs.Private.TableLaws.{some_of}
 use Rattle.bus_register.specs.Protocol.{Laws, Goes, counted_input, inputs, outputs}
 use Rattle.bus_binconsensus.specs.Deciding.{Decides}
 use Rattle.bus_binconsensus.proofs.ChainMoves.{put_at, put_at_here, put_at_object, put_at_process}

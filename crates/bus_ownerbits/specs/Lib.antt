@@ -7,4 +7,4 @@ pub mod OneOwner
 pub mod ElectionKeeps
 pub mod Electors
 pub mod ElectionLaw
-pub mod Proved
+pub mod Private

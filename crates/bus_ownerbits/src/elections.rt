@@ -11,10 +11,10 @@ ghost use Rattle.bus_ownerbits.specs.Election.{election_kind, election_op, elect
 ghost use Rattle.bus_ownerbits.specs.Election.{going, seeking, with_bit, fits_bits};
 ghost use Rattle.bus_ownerbits.specs.ElectionKeeps.{election_protocol};
 ghost use Rattle.bus_ownerbits.specs.ElectionNames.{sender, calls_of};
-ghost use Rattle.bus_ownerbits.specs.Proved.ElectionNamed.{election_named};
+ghost use Rattle.bus_ownerbits.specs.Private.ElectionNamed.{election_named};
 ghost use Rattle.bus_ownerbits.specs.Sizes.{bits_of, decision_cost};
-ghost use Rattle.bus_binconsensus.specs.Proved.ObjectNames.{objects_named};
-ghost use Rattle.bus_coinconc.specs.Proved.ConciliatorSteps.{conciliator_names_each_step};
+ghost use Rattle.bus_binconsensus.specs.Private.ObjectNames.{objects_named};
+ghost use Rattle.bus_coinconc.specs.Private.ConciliatorSteps.{conciliator_names_each_step};
 
 use super::sizes::{bits, bound};
 use super::stages::Stage;

@@ -1,57 +1,10 @@
-pub mod AllSeats
-pub mod Sending
-pub mod Batching
-pub mod Keeping
-pub mod Carrying
-pub mod Carried
-pub mod Accepting
-pub mod Reaching
-pub mod Numbering
-pub mod Slots
-pub mod Hearing
-pub mod Ties
-pub mod Extending
-pub mod Walks
-pub mod Counted
-pub mod Plain
-pub mod PlainRows
-pub mod ElectionRows
-pub mod TurnsLeft
-pub mod HoldingTurns
-pub mod Rows
-pub mod Finishing
-pub mod Room
-pub mod Openings
-pub mod Puts
-pub mod Loads
-pub mod Rounds
-pub mod ReaderLaws
-pub mod Joining
-pub mod Promising
-pub mod Processes
-pub mod Histories
-pub mod Stepping
-pub mod SafeSeats
-pub mod BehindShown
-pub mod PastTenures
-pub mod OnePage
-pub mod OneList
-pub mod OwnLayouts
-pub mod LastFrames
-pub mod Looking
-pub mod Noes
-pub mod Fitting
-pub mod Endings
-pub mod Staging
-pub mod Truths
-pub mod Resting
-pub mod Publishing
-pub mod AboveFrames
-pub mod Ears
-pub mod Passes
-pub mod Rings
-pub mod Passing
-pub mod Silent
-pub mod OneAnswer
-pub mod Lasting
-pub mod Staying
+-- What the table's rule keeps, from its start on.
+pub mod Rule
+-- One step of a seat.
+pub mod Steps
+-- Calls of a sender.
+pub mod Sends
+-- Calls of a receiver.
+pub mod Hears
+-- What the seats of a table show of the bus behind it.
+pub mod Said

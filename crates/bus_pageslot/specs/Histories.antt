@@ -41,7 +41,7 @@ pub record IsShown {E : Type 0} (s : State (Option Page) (View (Sender E))) (p :
   pub me : sender.core.me ≡ p
   pub shown : Shown s seat sender sender_trail
 
--- Some events led to a machine of these sizes, with the words and the page of this table; its
+-- Events and joins led to a machine of these sizes, with the words and the page of this table; its
 -- senders are those that the seats show, and did what these show. The machine's promise holds of
 -- it, and whoever lost a tenure saw that.
 pub record HasHistory {E : Type 0} (X : Election E) (x : Layout) (reuse : Option ℕ) (bases : List ℕ)

@@ -11,7 +11,7 @@ use Rattle.bus_adoptcommit.specs.Plays.{Verdicts}
 use Rattle.bus_adoptcommit.specs.Schedule.{table_of, entries}
 use Rattle.bus_adoptcommit.specs.TwoCollect.{op_of, fed_of}
 use Rattle.bus_adoptcommit.specs.TwoCollectKeeps.{two_collect}
-use Rattle.bus_adoptcommit.specs.Proved.TwoCollectLaws.{two_collect_exact}
+use Rattle.bus_adoptcommit.specs.Private.TwoCollectLaws.{two_collect_exact}
 use Rattle.bus_ratify.specs.declared.refusals.Refusal.{Refusal}
 use Rattle.bus_script.specs.Grammar.{script_lines}
 use Rattle.bus_ratify.specs.Scripts.{RatifyScript, steps_among, then_steps, schedule_of}

@@ -4,7 +4,7 @@ use Rattle.std.proofs.Common.{arith, refl, sym, ◌∙◌, ap, subst}
 use Rattle.std.proofs.lemmas.Bool.{cases_lt}
 use Rattle.std.proofs.lemmas.List.{length-append}
 use Rattle.std.proofs.lemmas.Option.{same_Some, slice_get_within}
-use Rattle.bus_register.specs.Proved.TableLaws.{push_here, push_beside}
+use Rattle.bus_register.specs.Private.TableLaws.{push_here, push_beside}
 
 -- what holds of each element holds of one more
 pub each_more : {A : Type 0} (P : ℕ → A → Type 0) (xs : List A) (x : A)

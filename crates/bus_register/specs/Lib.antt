@@ -3,4 +3,4 @@ pub mod Names
 pub mod Tables
 pub mod Protocol
 pub mod Digits
-pub mod Proved
+pub mod Private

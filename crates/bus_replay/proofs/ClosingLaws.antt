@@ -5,8 +5,8 @@ use Rattle.std.specs.List.{range_with_len}
 use Rattle.bus_adoptcommit.specs.declared.verdicts.Verdict.{Verdict}
 use Rattle.bus_batch.proofs.FrameLaws.{same_log}
 use Rattle.bus_batch.specs.Frames.{Order, Spells}
-use Rattle.bus_machine.proofs.Framed.{IsFramed, framed, read_below}
-use Rattle.bus_machine.proofs.Leading.{Sits}
+use Rattle.bus_machine.proofs.Frames.Framed.{IsFramed, framed, read_below}
+use Rattle.bus_machine.proofs.Bases.Leading.{Sits}
 use Rattle.bus_machine.proofs.Promised.{promised}
 use Rattle.bus_machine.specs.Machine.{Machine, Trails, Reached, ShowsLog}
 use Rattle.bus_register.specs.Protocol.{Protocol}
@@ -14,7 +14,7 @@ use Rattle.bus_tenure.specs.Core.{Election}
 use Rattle.bus_tenure.specs.Elections.{Elector}
 use Rattle.bus_world.proofs.PlayingLaws.{one_there}
 use Rattle.bus_world.specs.Headline.{order_given}
-use Rattle.bus_world.specs.Proved.Invariants.{given_at}
+use Rattle.bus_world.specs.Private.Invariants.{given_at}
 use Rattle.bus_replay.specs.Answers.{Closes, given_by}
 use Rattle.bus_replay.specs.Text.{order_text, given_text, owners_line}
 

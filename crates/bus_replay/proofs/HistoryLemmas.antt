@@ -15,7 +15,7 @@ use Rattle.std.proofs.lemmas.List.{append-nil, length-append}
 use Rattle.std.proofs.lemmas.List.Folds.{list_any-append}
 use Rattle.std.proofs.lemmas.Option.{get_or_from_slice_get, slice_get_within}
 use Rattle.bus_register.specs.Protocol.{Protocol}
-use Rattle.bus_register.specs.Proved.TableLaws.{get_set_same, get_set_other}
+use Rattle.bus_register.specs.Private.TableLaws.{get_set_same, get_set_other}
 use Rattle.bus_adoptcommit.specs.declared.verdicts.Verdict.{Verdict}
 use Rattle.bus_batch.specs.Frames.{Entry, item_in, items_in}
 use Rattle.bus_core.specs.Senders.{Sender, Situation, Does, Announces, Validates, Unpins}
@@ -33,9 +33,9 @@ use Rattle.bus_world.specs.Trails.{answers_with}
 use Rattle.bus_world.specs.World.{Event, Put, Ask, Turn, Recv, Stop, Gone, IsLayout}
 use Rattle.bus_world.specs.declared.events.Answer.{Answer}
 use Rattle.bus_world.specs.declared.events.Answer.TheVariants as answer
-use Rattle.bus_machine.proofs.AtNone.{event_reuse}
-use Rattle.bus_machine.proofs.CyclicTurns.{words_many}
-use Rattle.bus_machine.proofs.Rising.{log_behind}
+use Rattle.bus_machine.proofs.Bases.AtNone.{event_reuse}
+use Rattle.bus_machine.proofs.Bases.CyclicTurns.{words_many}
+use Rattle.bus_machine.proofs.Onward.StageRises.{log_behind}
 use Rattle.bus_machine.specs.Machine.{Machine, Trails, Reached, Then, Happens, log_place, found}
 use Rattle.bus_machine.specs.Machine.{ShowsPublished, going, trails_grown, turn_grown}
 use Rattle.bus_machine.specs.Machine.{turn_trails}

@@ -7,7 +7,7 @@ use Rattle.std.specs.Prelude.{Result, Ok, Err, IfOk, IfErr}
 use Rattle.std.proofs.lemmas.Bool.{true≢false}
 use Rattle.std.proofs.lemmas.Option.{slice_get_within}
 use Rattle.bus_register.specs.Protocol.{Protocol}
-use Rattle.bus_register.specs.Proved.TableLaws.{get_set_same}
+use Rattle.bus_register.specs.Private.TableLaws.{get_set_same}
 use Rattle.bus_adoptcommit.specs.declared.verdicts.Verdict.{Verdict}
 use Rattle.bus_batch.specs.declared.messages.Mark.TheVariants as mark
 use Rattle.bus_core.specs.Senders.{Sender}

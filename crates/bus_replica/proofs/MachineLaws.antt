@@ -21,9 +21,9 @@ use Rattle.bus_world.proofs.Growing.{prefix_after}
 use Rattle.bus_world.proofs.ReceivingLaws.{length-log_pieces}
 use Rattle.bus_world.specs.Headline.{Action, HasPut, IsPrefix, Promises, order_given, put_of, puts}
 use Rattle.bus_world.specs.World.{Event}
-use Rattle.bus_machine.proofs.AtNone.{event_reuse}
-use Rattle.bus_machine.proofs.Joining.{joins}
-use Rattle.bus_machine.proofs.Staying.{grown_longer}
+use Rattle.bus_machine.proofs.Bases.AtNone.{event_reuse}
+use Rattle.bus_machine.proofs.Frames.Joining.{joins}
+use Rattle.bus_machine.proofs.Frames.Staying.{grown_longer}
 use Rattle.bus_machine.specs.Machine.{Machine, Trails, base_of, trails_grown}
 use Rattle.bus_machine.specs.Playing.{AllAnswered, Played, trails_after}
 use Rattle.bus_machine.specs.Promise.{words_joined}

@@ -15,7 +15,7 @@ use Rattle.bus_pageslot.specs.Rule.{TableInvariant, IsTrueOf, KnowsLog, receiver
 use Rattle.bus_pageslot.specs.declared.rule.View.{View}
 use Rattle.bus_pageslot.specs.declared.rule.View.TheVariants.{Maker, Sender, Tap, Meeting, Telling}
 use Rattle.bus_pageslot.specs.declared.rule.View.TheVariants.{Spent}
-use Rattle.bus_pageslot.proofs.Hearing.{heard_later, agree}
+use Rattle.bus_pageslot.proofs.Hears.Hearing.{heard_later, agree}
 use Rattle.bus_replica.specs.Replicas.{items_heard, has_view}
 use Rattle.bus_replica.specs.OneOrder.{IsLater}
 use Rattle.bus_replica.proofs.OrderLaws.{items_given, items_begin}

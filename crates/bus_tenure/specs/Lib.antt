@@ -10,4 +10,4 @@ pub mod Text
 pub mod Classes
 pub mod Doings
 pub mod Publishing
-pub mod Proved
+pub mod Private

@@ -16,7 +16,7 @@ use Rattle.bus_walkcoin.specs.declared.coins.Phase.TheVariants.{Vote, ReadVotes,
 use Rattle.bus_walkcoin.specs.Coin.{CoinState, after_settled, after_load, coin_started, answer_at}
 use Rattle.bus_walkcoin.specs.Coin.{wants_at, coin_op, coin_fed, op_at, fed_at, PhaseFits}
 use Rattle.bus_walkcoin.specs.CoinRule.{settled_bit, is_head}
-use Rattle.bus_walkcoin.specs.Proved.CoinLaws.{load_fits}
+use Rattle.bus_walkcoin.specs.Private.CoinLaws.{load_fits}
 use Rattle.bus_walkcoin.specs.CoinProtocol.{left_at, begun_at, Belongs, tally_at, tallies, Keeps}
 use Rattle.bus_walkcoin.specs.CoinProtocol.{coin_protocol, AnyAnswers}
 use Rattle.bus_walkcoin.proofs.VoteSums.{summed_same, summed_beside, summed_most}

@@ -3,4 +3,4 @@ pub mod CoinRule
 pub mod Coin
 pub mod CoinProtocol
 pub mod CoinAnswer
-pub mod Proved
+pub mod Private

@@ -118,7 +118,7 @@ impl WalkCoin {
 
 impl Machine for WalkCoin {
     ghost use Rattle.bus_walkcoin.specs.Coin.{coin_kind, coin_op, coin_fed};
-    ghost use Rattle.bus_walkcoin.specs.Proved.CoinLaws.{coin_names_each_step};
+    ghost use Rattle.bus_walkcoin.specs.Private.CoinLaws.{coin_names_each_step};
 
     ghost kind_of = { coin_kind };
 

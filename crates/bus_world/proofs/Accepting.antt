@@ -11,7 +11,7 @@ use Rattle.std.proofs.lemmas.List.Elements.{All-append, All-from_recursion}
 use Rattle.bus_register.specs.declared.registers.SenderNo.{SenderNo}
 use Rattle.bus_register.specs.Protocol.{Protocol, Laws}
 use Rattle.bus_register.specs.Tables.{put, Beside}
-use Rattle.bus_register.specs.Proved.TableLaws.{put_here, put_beside}
+use Rattle.bus_register.specs.Private.TableLaws.{put_here, put_beside}
 use Rattle.bus_batch.specs.declared.batches.Phase.{Phase}
 use Rattle.bus_batch.specs.declared.batches.Phase.TheVariants.{Open, Marking, Closed}
 use Rattle.bus_batch.specs.declared.messages.Mark.{Mark}
@@ -28,11 +28,11 @@ use Rattle.bus_world.specs.Log.{first_numbers, next_number, sent_count}
 use Rattle.bus_world.specs.declared.limits.TheConstants.{FIRST_NUMBERS, FIRST_RING_NUMBERS}
 use Rattle.bus_world.proofs.LogLaws.{length-logged, log_words-append}
 use Rattle.bus_world.specs.World.{IsLayout}
-use Rattle.bus_world.specs.Proved.Sending.{Part, Fits, Sending}
+use Rattle.bus_world.specs.Private.Sending.{Part, Fits, Sending}
 use Rattle.bus_world.proofs.BusLaws as bus
 use Rattle.bus_world.proofs.Framing.{front_lawful}
 use Rattle.bus_world.proofs.Bounds.{items_few, items_low}
-use Rattle.bus_world.specs.Proved.Machines.{is_open, can_put, can_close, put_in, mark_in}
+use Rattle.bus_world.specs.Private.Machines.{is_open, can_put, can_close, put_in, mark_in}
 use Rattle.bus_world.proofs.TurningLaws.{open_apart}
 
 -- ---- what a sender accepts

@@ -9,18 +9,18 @@ use Rattle.std.proofs.lemmas.List.Elements.{All-from_recursion}
 use Rattle.std.proofs.lemmas.Option.{same_Some}
 use Rattle.bus_register.specs.declared.limits.TheConstants.{MOST_SENDERS}
 use Rattle.bus_register.specs.Tables.{of_some}
-use Rattle.bus_register.specs.Proved.TableLaws.{some_of}
+use Rattle.bus_register.specs.Private.TableLaws.{some_of}
 use Rattle.bus_register.specs.Protocol.{Protocol, Laws}
 use Rattle.bus_batch.specs.Messages.{IsMessage}
 use Rattle.bus_ownerbits.specs.OneOwner.{OneOwner}
 use Rattle.bus_tenure.specs.Core.{Core, Election, Layout, words_of}
 use Rattle.bus_world.specs.World.{IsLayout, AreBases, no_bases, first_page}
-use Rattle.bus_world.specs.Proved.Sending.{Part, Sending, standing_of, stands_at, least_of, Logged}
+use Rattle.bus_world.specs.Private.Sending.{Part, Sending, standing_of, stands_at, least_of, Logged}
 use Rattle.bus_world.specs.Log.{first_numbers, KeepsFloor, Knows}
 use Rattle.bus_world.specs.declared.limits.TheConstants.{FIRST_RING_NUMBERS}
-use Rattle.bus_world.specs.Proved.Tenures.{Standing}
-use Rattle.bus_world.specs.Proved.Tenures.Standing.{Rests}
-use Rattle.bus_world.specs.Proved.Machines.{Bus, IsNew, new_core}
+use Rattle.bus_world.specs.Private.Tenures.{Standing}
+use Rattle.bus_world.specs.Private.Tenures.Standing.{Rests}
+use Rattle.bus_world.specs.Private.Machines.{Bus, IsNew, new_core}
 use Rattle.bus_world.proofs.BusLaws as bus
 use Rattle.bus_world.proofs.TenuresLaws as tenures
 

@@ -14,14 +14,14 @@ use Rattle.bus_tenure.specs.Situations.{core_at_rest}
 use Rattle.bus_tenure.specs.declared.pages.Page.{Page}
 use Rattle.bus_tenure.specs.declared.phases.Phase.TheVariants as phase
 use Rattle.bus_world.specs.Log.{AgreeFrom, Knows}
-use Rattle.bus_world.specs.Proved.Sending.{AreEarlier, Logged, stands_at, standing_of, least_of}
-use Rattle.bus_world.specs.Proved.Sending.{IsWriting, HasBegun, Fits, Part, Sending}
-use Rattle.bus_register.specs.Proved.TableLaws.{put_here, put_beside, some_or_none}
+use Rattle.bus_world.specs.Private.Sending.{AreEarlier, Logged, stands_at, standing_of, least_of}
+use Rattle.bus_world.specs.Private.Sending.{IsWriting, HasBegun, Fits, Part, Sending}
+use Rattle.bus_register.specs.Private.TableLaws.{put_here, put_beside, some_or_none}
 use Rattle.bus_world.proofs.LogLaws.{Logged-agree, SaySame}
 use Rattle.bus_ownerbits.specs.OneOwner.{OneOwner}
 use Rattle.bus_ownerbits.proofs.ElectionSteps.{row_within}
-use Rattle.bus_world.specs.Proved.Tenures.{Standing}
-use Rattle.bus_world.specs.Proved.Tenures.Standing.{Runs, Holds}
+use Rattle.bus_world.specs.Private.Tenures.{Standing}
+use Rattle.bus_world.specs.Private.Tenures.Standing.{Runs, Holds}
 use Rattle.bus_world.proofs.TenuresLaws as tenures
 use Rattle.bus_world.specs.World.{IsLayout}
 use mathlib.Core.Path.{fun_ext}

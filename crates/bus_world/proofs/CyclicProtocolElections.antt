@@ -10,7 +10,7 @@ use Rattle.bus_register.specs.declared.registers.Op.{Op}
 use Rattle.bus_register.specs.declared.registers.Op.TheVariants.{Store}
 use Rattle.bus_register.specs.Words.{register, after}
 use Rattle.bus_register.specs.Tables.{put, of_some}
-use Rattle.bus_register.specs.Proved.TableLaws.{put_here, put_beside, some_or_none}
+use Rattle.bus_register.specs.Private.TableLaws.{put_here, put_beside, some_or_none}
 use Rattle.bus_register.specs.Protocol.{Protocol, Laws}
 use Rattle.bus_batch.specs.Frames.{Frame}
 use Rattle.bus_deliverylog.specs.declared.receiving.RecvTurn.{RecvTurn}
@@ -29,12 +29,12 @@ use Rattle.bus_tenure.specs.declared.pages.Page.{Page}
 use Rattle.bus_tenure.specs.declared.phases.Phase.TheVariants as phase
 use Rattle.bus_tenure.specs.declared.turns.Turn.{Turn as Answered}
 use Rattle.bus_world.specs.World.{IsLayout}
-use Rattle.bus_world.specs.Proved.Sending.{Sending, standing_of, least_of, stands_at}
+use Rattle.bus_world.specs.Private.Sending.{Sending, standing_of, least_of, stands_at}
 use Rattle.bus_core.specs.Reusing.Participants.{sizes_with, pin_elected}
-use Rattle.bus_core.specs.Proved.ParticipantTable.{place_for}
+use Rattle.bus_core.specs.Private.ParticipantTable.{place_for}
 use Rattle.bus_world.specs.Turning.{number_found, core_with_page}
-use Rattle.bus_world.specs.Proved.CyclicProtocols.{CyclicProtocol, going_actions, words_stepped}
-use Rattle.bus_world.specs.Proved.CyclicProtocols.{word_found, protocol_after_going}
+use Rattle.bus_world.specs.Private.CyclicProtocols.{CyclicProtocol, going_actions, words_stepped}
+use Rattle.bus_world.specs.Private.CyclicProtocols.{word_found, protocol_after_going}
 use Rattle.bus_world.specs.Trails.{actions_with, step_action}
 use Rattle.bus_world.proofs.BusLaws as bus
 use Rattle.bus_world.proofs.TenuresLaws as tenures
@@ -47,7 +47,7 @@ use Rattle.bus_world.proofs.PutLaws.{elected_waits, laid_waits}
 use Rattle.bus_world.proofs.CyclicProtocolNotes.{steps_put_nothing}
 use Rattle.bus_world.proofs.CyclicProtocolWords.{put_is, behind_rows}
 use Rattle.bus_world.proofs.RingWords.{laid_worked, laid_taken}
-use Rattle.bus_world.specs.Proved.Floors.{passed_place}
+use Rattle.bus_world.specs.Floors.{passed_place}
 use Rattle.bus_world.proofs.FloorLaws.{floors_begun}
 use Rattle.bus_world.proofs.CyclicProtocolKept as kept
 use Rattle.bus_world.proofs.CyclicProtocolKept.{stored_is, held_page_is, resting_no_holding}

@@ -9,7 +9,7 @@ use Rattle.std.proofs.lemmas.Bool.Decides.{eqb_tells}
 use Rattle.std.proofs.lemmas.List.{append-nil, length-append}
 use Rattle.std.proofs.lemmas.Option.{same_Some}
 use Rattle.bus_register.specs.Tables.{put}
-use Rattle.bus_register.specs.Proved.TableLaws.{put_here, put_beside}
+use Rattle.bus_register.specs.Private.TableLaws.{put_here, put_beside}
 use Rattle.bus_batch.specs.Frames.{Frame, log_words, frame_words}
 use Rattle.bus_batch.specs.Frames.{order_in, owners_in}
 use Rattle.bus_batch.specs.Reading.{HasRead}
@@ -17,10 +17,10 @@ use Rattle.bus_deliverylog.specs.Receiving.{Receiving, with_leave}
 use Rattle.bus_deliverylog.specs.declared.receiving.RecvTurn.{RecvTurn}
 use Rattle.bus_tenure.specs.Core.{Layout, log_at}
 use Rattle.bus_core.specs.Reusing.Participants.{log_from}
-use Rattle.bus_world.specs.Proved.Sending.{Logged}
-use Rattle.bus_world.specs.Proved.Receiving.{IsReceiver, IsFoundIn}
-use Rattle.bus_world.specs.Proved.Floors.{passed_of}
-use Rattle.bus_world.specs.Proved.CyclicProtocols.{fork_of}
+use Rattle.bus_world.specs.Private.Sending.{Logged}
+use Rattle.bus_world.specs.Private.Receiving.{IsReceiver, IsFoundIn}
+use Rattle.bus_world.specs.Floors.{passed_of}
+use Rattle.bus_world.specs.Private.CyclicProtocols.{fork_of}
 use Rattle.bus_world.specs.Starting.{IsNewReceiver}
 use Rattle.bus_world.specs.World.{RecvDoes, recv_found}
 use Rattle.bus_world.specs.Trails.{answers_with, answers_joined, no_answers}

@@ -9,7 +9,7 @@ use Rattle.bus_register.specs.declared.kinds.Kind.TheVariants as kind
 use Rattle.bus_register.specs.declared.registers.Op.{Op}
 use Rattle.bus_register.specs.declared.registers.Op.TheVariants.{Load, Store}
 use Rattle.bus_register.specs.Tables.{Agree, put, of_some}
-use Rattle.bus_register.specs.Proved.TableLaws.{put_here, put_beside}
+use Rattle.bus_register.specs.Private.TableLaws.{put_here, put_beside}
 use Rattle.bus_register.specs.Protocol.{Protocol, Laws}
 use Rattle.bus_batch.specs.Batches.{frame_of}
 use Rattle.bus_batch.specs.Frames.{Frame, frame_words}
@@ -34,11 +34,11 @@ use Rattle.bus_tenure.specs.declared.phases.Reason.TheVariants.{Sent, FoundEnd, 
 use Rattle.bus_tenure.specs.declared.phases.Phase.TheVariants as phase
 use Rattle.bus_tenure.specs.declared.turns.Turn.{Turn as Answered}
 use Rattle.bus_world.specs.World.{IsLayout}
-use Rattle.bus_world.specs.Proved.Tenures.Stage.{Open, Held}
-use Rattle.bus_world.specs.Proved.Sending.{Fits, IsWriting, standing_of, stands_at}
+use Rattle.bus_world.specs.Private.Tenures.Stage.{Open, Held}
+use Rattle.bus_world.specs.Private.Sending.{Fits, IsWriting, standing_of, stands_at}
 use Rattle.bus_core.specs.Reusing.Participants.{sizes_with, log_from}
-use Rattle.bus_world.specs.Proved.CyclicProtocols.{CyclicProtocol, going_actions}
-use Rattle.bus_world.specs.Proved.CyclicProtocols.{protocol_reclaimed, protocol_after_going}
+use Rattle.bus_world.specs.Private.CyclicProtocols.{CyclicProtocol, going_actions}
+use Rattle.bus_world.specs.Private.CyclicProtocols.{protocol_reclaimed, protocol_after_going}
 use Rattle.bus_world.specs.Trails.{actions_with}
 use Rattle.bus_world.proofs.BusLaws as bus
 use Rattle.bus_world.proofs.LogLaws.{log_words-append}
@@ -56,7 +56,7 @@ use Rattle.bus_world.proofs.CyclicProtocolKept as kept
 use Rattle.bus_world.proofs.CyclicProtocolKept.{stored_is, held_page_is, resting_no_holding}
 use Rattle.bus_world.proofs.FloorLaws.{floors_over, floors_later}
 use Rattle.bus_world.proofs.SenderParts.{floor_after}
-use Rattle.bus_world.specs.Proved.Floors.{passed_place}
+use Rattle.bus_world.specs.Floors.{passed_place}
 
 -- ---- what a holder's situation tells of its phase
 module _ {E : Type 0} (t : ℕ) (page : Page) (stored : ℕ) where

@@ -6,7 +6,7 @@ use Rattle.bus_presence.specs.Reclamation.{ReclamationSizes, Trails, Stores, The
 use Rattle.bus_register.specs.declared.kinds.Kind.TheVariants as kind
 use Rattle.bus_register.specs.Protocol.{Protocol, Laws}
 use Rattle.bus_register.specs.Tables.{put}
-use Rattle.bus_register.specs.Proved.TableLaws.{put_beside}
+use Rattle.bus_register.specs.Private.TableLaws.{put_beside}
 use Rattle.bus_batch.specs.Frames.{Frame}
 use Rattle.bus_deliverylog.specs.Receiving.{Receiving}
 use Rattle.bus_deliverylog.specs.declared.receiving.RecvTurn.{RecvTurn}
@@ -16,8 +16,8 @@ use Rattle.bus_core.specs.Reusing.Participants.{sizes_with}
 use Rattle.bus_world.specs.Headline.{Action}
 use Rattle.bus_world.specs.Trails.{answers_joined}
 use Rattle.bus_world.specs.World.{IsLayout}
-use Rattle.bus_world.specs.Proved.CyclicProtocols.{CyclicProtocol, protocol_joined, fork_of}
-use Rattle.bus_world.specs.Proved.Floors.{passed_place, AreFloors}
+use Rattle.bus_world.specs.Private.CyclicProtocols.{CyclicProtocol, protocol_joined, fork_of}
+use Rattle.bus_world.specs.Floors.{passed_place, AreFloors}
 use Rattle.bus_world.proofs.CyclicProtocolHears.{HearsCyclic, one_joins, forked_hears}
 use Rattle.bus_world.proofs.CyclicProtocolKept as kept
 use Rattle.bus_world.proofs.FloorLaws.{floors_forked}

@@ -9,7 +9,7 @@ use Rattle.bus_register.specs.declared.kinds.Kind.TheVariants as kind
 use Rattle.bus_register.specs.declared.registers.Op.{Op}
 use Rattle.bus_register.specs.Words.{register, after}
 use Rattle.bus_register.specs.Tables.{Beside, Agree, put}
-use Rattle.bus_register.specs.Proved.TableLaws.{put_here, put_beside}
+use Rattle.bus_register.specs.Private.TableLaws.{put_here, put_beside}
 use Rattle.bus_register.specs.Protocol.{Protocol, Laws}
 use Rattle.bus_batch.specs.declared.batches.Phase.TheVariants.{Marking}
 use Rattle.bus_batch.specs.declared.messages.Mark.{Mark}
@@ -26,21 +26,21 @@ use Rattle.bus_presence.proofs.ReclaimerLaws.{keeps}
 use Rattle.bus_tenure.specs.Core.{Core, Election, Layout}
 use Rattle.bus_tenure.specs.Situations.{Situation, LooksAtStage, situation_of, resting, op_at}
 use Rattle.bus_tenure.specs.Situations.{kind_at}
-use Rattle.bus_tenure.specs.Proved.LineParts.{tenure_at, chosen_at}
+use Rattle.bus_tenure.specs.Private.LineParts.{tenure_at, chosen_at}
 use Rattle.bus_tenure.specs.declared.pages.Page.{Page}
 use Rattle.bus_tenure.specs.declared.phases.Phase.{Phase}
 use Rattle.bus_tenure.specs.declared.phases.Phase.TheVariants as phase
 use Rattle.bus_tenure.specs.declared.turns.Turn.{Turn as Answered}
 use Rattle.bus_world.specs.World.{IsLayout}
-use Rattle.bus_world.specs.Proved.Sending.{Part, Sending}
+use Rattle.bus_world.specs.Private.Sending.{Part, Sending}
 use Rattle.bus_core.specs.Reusing.Participants.{sizes_with}
-use Rattle.bus_world.specs.Proved.Floors.{passed_place, AreFloors}
+use Rattle.bus_world.specs.Floors.{passed_place, AreFloors}
 use Rattle.bus_world.proofs.Bounds.{words_low}
 use Rattle.bus_world.proofs.FloorLaws.{floors_over}
 use Rattle.bus_world.proofs.LogLaws.{length-logged}
 use Rattle.bus_world.specs.Turning.{number_found}
-use Rattle.bus_world.specs.Proved.Machines.{core_after, home_after, owners_after}
-use Rattle.bus_world.specs.Proved.CyclicProtocols.{CyclicProtocol, word_found}
+use Rattle.bus_world.specs.Private.Machines.{core_after, home_after, owners_after}
+use Rattle.bus_world.specs.Private.CyclicProtocols.{CyclicProtocol, word_found}
 use Rattle.bus_world.specs.Trails.{actions_with, step_action}
 use Rattle.bus_world.proofs.BusLaws as bus
 use Rattle.bus_world.proofs.TurningLaws.{Steps, op_laid, turn_keeps}

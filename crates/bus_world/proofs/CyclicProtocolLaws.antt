@@ -9,7 +9,7 @@ use Rattle.bus_register.specs.declared.registers.Op.{Op}
 use Rattle.bus_register.specs.declared.registers.SenderNo.{SenderNo}
 use Rattle.bus_register.specs.Words.{register}
 use Rattle.bus_register.specs.Tables.{put, of_some}
-use Rattle.bus_register.specs.Proved.TableLaws.{put_here, put_beside}
+use Rattle.bus_register.specs.Private.TableLaws.{put_here, put_beside}
 use Rattle.bus_register.specs.Protocol.{Protocol, Laws, inputs, outputs}
 use Rattle.bus_batch.specs.Batches.{Pending, next_of}
 use Rattle.bus_batch.specs.declared.batches.Phase.TheVariants.{Marking}
@@ -38,23 +38,23 @@ use Rattle.bus_tenure.specs.declared.phases.Phase.TheVariants as phase
 use Rattle.bus_tenure.specs.declared.turns.Turn.{Turn as Answered}
 use Rattle.bus_tenure.proofs.Situated.{tells}
 use Rattle.bus_world.specs.World.{IsLayout, first_page, RecvDoes}
-use Rattle.bus_world.specs.Proved.Sending.{Fits, Sending, standing_of, least_of, stands_at}
-use Rattle.bus_core.specs.Proved.Bridge.{publishes_of}
+use Rattle.bus_world.specs.Private.Sending.{Fits, Sending, standing_of, least_of, stands_at}
+use Rattle.bus_core.specs.Private.Bridge.{publishes_of}
 use Rattle.bus_core.specs.Reusing.Participants.{sizes_with, log_from}
-use Rattle.bus_core.specs.Proved.ParticipantTable.{Due, Reads, reclaim_due, passed_due}
-use Rattle.bus_core.specs.Proved.ParticipantTable.{due_reclaimed}
-use Rattle.bus_core.specs.Proved.ParticipantTable.{due_home, due_passed, due_beside}
+use Rattle.bus_core.specs.Private.ParticipantTable.{Due, Reads, reclaim_due, passed_due}
+use Rattle.bus_core.specs.Private.ParticipantTable.{due_reclaimed}
+use Rattle.bus_core.specs.Private.ParticipantTable.{due_home, due_passed, due_beside}
 use Rattle.bus_core.specs.Reusing.Passing.{passing_left}
 use Rattle.bus_core.specs.declared.reuses.Passing.{Passing}
-use Rattle.bus_world.specs.Proved.Machines.{can_put, can_close}
-use Rattle.bus_world.specs.Proved.CyclicProtocols.{CyclicProtocol, IsNewProtocol, Led, NewProtocol}
-use Rattle.bus_world.specs.Proved.CyclicProtocols.{Turned, PutIn, MarkedIn, Heard, LeftFor}
-use Rattle.bus_world.specs.Proved.CyclicProtocols.{Forked}
-use Rattle.bus_world.specs.Proved.CyclicProtocols.{going_actions, due_actions, due_in}
-use Rattle.bus_world.specs.Proved.CyclicProtocols.{protocol_reclaimed}
-use Rattle.bus_world.specs.Proved.CyclicProtocols.{protocol_after_going, protocol_after}
-use Rattle.bus_world.specs.Proved.CyclicProtocols.{protocol_heard}
-use Rattle.bus_world.specs.Proved.CyclicProtocols.{trails_with}
+use Rattle.bus_world.specs.Private.Machines.{can_put, can_close}
+use Rattle.bus_world.specs.Private.CyclicProtocols.{CyclicProtocol, IsNewProtocol, Led, NewProtocol}
+use Rattle.bus_world.specs.Private.CyclicProtocols.{Turned, PutIn, MarkedIn, Heard, LeftFor}
+use Rattle.bus_world.specs.Private.CyclicProtocols.{Forked}
+use Rattle.bus_world.specs.Private.CyclicProtocols.{going_actions, due_actions, due_in}
+use Rattle.bus_world.specs.Private.CyclicProtocols.{protocol_reclaimed}
+use Rattle.bus_world.specs.Private.CyclicProtocols.{protocol_after_going, protocol_after}
+use Rattle.bus_world.specs.Private.CyclicProtocols.{protocol_heard}
+use Rattle.bus_world.specs.Private.CyclicProtocols.{trails_with}
 use Rattle.bus_world.specs.Trails.{no_answers, answers_with, actions_with, no_actions}
 use Rattle.bus_world.proofs.Accepting.{Accepted, Puts, Asks, AreAccepted, accept, grows}
 use Rattle.bus_world.proofs.Beginning.{new_sending, bases_low}
@@ -65,14 +65,14 @@ use Rattle.bus_world.specs.Log.{words_read_from}
 use Rattle.bus_world.proofs.WorldLaws.{counted_at}
 use Rattle.bus_core.specs.Reusing.Passing.{passing_begun}
 use Rattle.bus_world.proofs.FloorLaws.{floors_new}
-use Rattle.bus_world.specs.Proved.Floors.{AreFloors}
+use Rattle.bus_world.specs.Floors.{AreFloors}
 use Rattle.bus_world.proofs.FrameOwners.{owner_took, rise}
 use Rattle.bus_world.proofs.Framing.{framed, entry_of, has_left, gone_for_good, last_frame}
 use Rattle.std.proofs.lemmas.List.{append-nil, map-append}
 use Rattle.bus_world.proofs.Tying.{Tables, PageTies}
 use Rattle.bus_world.proofs.TableTrails.{IsPlain, plain_none, plain_put, plain_mark}
 use Rattle.bus_world.proofs.TurnTrails.{TiesOf, batch_tied}
-use Rattle.bus_world.specs.Proved.KeptProtocols.{IsKeptProtocol}
+use Rattle.bus_world.specs.Private.KeptProtocols.{IsKeptProtocol}
 use Rattle.bus_world.proofs.Waiting.{log_with, log_more, waiting_of}
 use Rattle.bus_world.proofs.Asking.{open_no_marking}
 use Rattle.bus_world.proofs.PutLaws.{nothing_left}

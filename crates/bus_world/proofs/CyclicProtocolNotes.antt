@@ -8,7 +8,7 @@ use Rattle.std.proofs.lemmas.Bool.Decides.{eqb_tells}
 use Rattle.std.proofs.lemmas.Grind.{flat_map-append}
 use Rattle.std.proofs.lemmas.List.{append-nil, append_assoc, length-append}
 use Rattle.bus_register.specs.Tables.{Beside, put}
-use Rattle.bus_register.specs.Proved.TableLaws.{put_here, put_beside}
+use Rattle.bus_register.specs.Private.TableLaws.{put_here, put_beside}
 use Rattle.bus_batch.specs.declared.batches.Phase.TheVariants.{Marking}
 use Rattle.bus_batch.specs.declared.messages.Mark.{Mark}
 use Rattle.bus_batch.specs.declared.messages.Item.{Item}
@@ -17,11 +17,11 @@ use Rattle.bus_batch.specs.Frames.{Frame, Marked, order_of}
 use Rattle.bus_deliverylog.specs.Orders.{of_sender}
 use Rattle.bus_tenure.specs.Core.{Core, is_empty}
 use Rattle.bus_tenure.specs.declared.phases.Phase.TheVariants as phase
-use Rattle.bus_world.specs.Proved.Sending.{Fits}
+use Rattle.bus_world.specs.Private.Sending.{Fits}
 use Rattle.bus_world.specs.Headline.{Action, HasPut, HasMarked, Asked, put_of, puts}
 use Rattle.bus_world.specs.Log.{next_number}
 use Rattle.bus_world.proofs.Waiting.{waiting_at, waiting_of}
-use Rattle.bus_world.specs.Proved.Machines.{is_open, can_put, can_close}
+use Rattle.bus_world.specs.Private.Machines.{is_open, can_put, can_close}
 use Rattle.bus_world.specs.Trails.{actions_with, step_action}
 use Rattle.bus_world.proofs.Accepting.{idle_rests, not_busy}
 use Rattle.bus_world.proofs.Asking.{Askings, askings_on, one_waits, frames_later, own_asked}

@@ -16,7 +16,7 @@ use Rattle.bus_ownerbits.specs.OneOwner.{OneOwner}
 use Rattle.bus_tenure.specs.Core.{Election, Layout}
 use Rattle.bus_world.specs.World.{IsLayout, RecvStep, RecvDoes, recv_found}
 use Rattle.bus_core.specs.Reusing.Participants.{sizes_with}
-use Rattle.bus_world.specs.Proved.CyclicProtocols.{CyclicProtocol, protocol_heard}
+use Rattle.bus_world.specs.Private.CyclicProtocols.{CyclicProtocol, protocol_heard}
 use Rattle.bus_world.specs.Headline.{Action}
 use Rattle.bus_world.proofs.CyclicProtocolKept as kept
 use Rattle.bus_batch.specs.Reading.{is_between}
@@ -25,7 +25,7 @@ use Rattle.bus_deliverylog.specs.Receiving.{leaving_by, leaving_op, with_leave}
 use Rattle.bus_deliverylog.proofs.ReceiveLaws.{due_at}
 use Rattle.bus_register.specs.declared.limits.TheConstants.{NUMBERS, PASSED_ALL}
 use Rattle.bus_register.specs.Tables.{put}
-use Rattle.bus_register.specs.Proved.TableLaws.{put_here, put_beside}
+use Rattle.bus_register.specs.Private.TableLaws.{put_here, put_beside}
 use Rattle.bus_presence.specs.Reclamation.{Stores, Then}
 use Rattle.bus_world.proofs.CyclicProtocolHears.{AllHear}
 use Rattle.bus_world.proofs.Bounds.{words_low}
@@ -34,7 +34,7 @@ use Rattle.bus_world.proofs.LogLaws.{length-logged}
 use Rattle.bus_world.proofs.ReceiverSteps.{load_stays, due_between}
 use Rattle.bus_world.proofs.WorldLaws.{place_rises}
 use Rattle.bus_world.proofs.RingWords.{laid_passed}
-use Rattle.bus_world.specs.Proved.Floors.{IsBoundary, IsPasser, passed_place}
+use Rattle.bus_world.specs.Floors.{IsBoundary, IsPasser, passed_place}
 
 module _ {E : Type 0} (X : Election E) (P : Protocol E (Unit {0}) ℕ)
     (laws : Laws X.op X.fed P OneOwner) (x : Layout) (ok : IsLayout x)

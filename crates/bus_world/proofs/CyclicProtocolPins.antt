@@ -10,7 +10,7 @@ use Rattle.bus_register.specs.declared.kinds.Kind.TheVariants as kind
 use Rattle.bus_register.specs.declared.registers.Op.{Op}
 use Rattle.bus_register.specs.declared.registers.Op.TheVariants.{Load}
 use Rattle.bus_register.specs.Tables.{put}
-use Rattle.bus_register.specs.Proved.TableLaws.{put_here, put_beside}
+use Rattle.bus_register.specs.Private.TableLaws.{put_here, put_beside}
 use Rattle.bus_register.specs.Protocol.{Protocol, Laws}
 use Rattle.bus_batch.specs.Frames.{Frame}
 use Rattle.bus_deliverylog.specs.declared.receiving.RecvTurn.{RecvTurn}
@@ -28,11 +28,11 @@ use Rattle.bus_tenure.specs.Situations.{LooksAtStage, resting, waits, core_begun
 use Rattle.bus_tenure.specs.declared.phases.Phase.TheVariants as phase
 use Rattle.bus_tenure.specs.declared.turns.Turn.{Turn as Answered}
 use Rattle.bus_world.specs.World.{IsLayout}
-use Rattle.bus_world.specs.Proved.Sending.{Fits, Sending}
+use Rattle.bus_world.specs.Private.Sending.{Fits, Sending}
 use Rattle.bus_core.specs.Reusing.Participants.{sizes_with, core_seen, pin_seen}
-use Rattle.bus_core.specs.Proved.ParticipantTable.{core_looked}
-use Rattle.bus_world.specs.Proved.CyclicProtocols.{CyclicProtocol, protocol_pin_stepped}
-use Rattle.bus_world.specs.Proved.CyclicProtocols.{protocol_after_going}
+use Rattle.bus_core.specs.Private.ParticipantTable.{core_looked}
+use Rattle.bus_world.specs.Private.CyclicProtocols.{CyclicProtocol, protocol_pin_stepped}
+use Rattle.bus_world.specs.Private.CyclicProtocols.{protocol_after_going}
 use Rattle.bus_world.specs.Trails.{actions_with}
 use Rattle.bus_world.proofs.BusLaws as bus
 use Rattle.bus_world.proofs.TurningLaws.{open_stage, begins_opened}
@@ -43,7 +43,7 @@ use Rattle.bus_world.proofs.TurnTrails.{calm, begins}
 use Rattle.bus_world.proofs.Waiting.{waiting_at}
 use Rattle.bus_world.proofs.CyclicProtocolNotes.{PutsNothing, steps_put_nothing, nothing_put}
 use Rattle.bus_world.proofs.CyclicProtocolWords.{put_is, IsQuiet, quiet_same, quiet_pin}
-use Rattle.bus_world.specs.Proved.Floors.{AreFloors}
+use Rattle.bus_world.specs.Floors.{AreFloors}
 use Rattle.bus_world.proofs.RingWords.{Laid, laid_quiet}
 use Rattle.bus_world.proofs.CyclicProtocolKept as kept
 use Rattle.bus_world.proofs.CyclicProtocolKept.{resting_no_holding, pinned_is}

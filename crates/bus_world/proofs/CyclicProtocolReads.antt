@@ -7,7 +7,7 @@ use Rattle.std.proofs.lemmas.Bool.{cases_eq, true≢false}
 use Rattle.std.proofs.lemmas.Option.{same_Some}
 use Rattle.bus_register.specs.declared.kinds.Kind.TheVariants as kind
 use Rattle.bus_register.specs.Tables.{put}
-use Rattle.bus_register.specs.Proved.TableLaws.{put_here, put_beside}
+use Rattle.bus_register.specs.Private.TableLaws.{put_here, put_beside}
 use Rattle.bus_register.specs.Protocol.{Protocol, Laws}
 use Rattle.bus_batch.specs.Frames.{Frame}
 use Rattle.bus_deliverylog.specs.declared.receiving.RecvTurn.{RecvTurn}
@@ -21,14 +21,14 @@ use Rattle.bus_tenure.specs.declared.phases.Phase.TheVariants as phase
 use Rattle.bus_tenure.specs.declared.turns.Turn.{Turn as Answered}
 use Rattle.bus_world.specs.World.{IsLayout}
 use Rattle.bus_core.specs.Reusing.Participants.{sizes_with}
-use Rattle.bus_world.specs.Proved.CyclicProtocols.{CyclicProtocol}
+use Rattle.bus_world.specs.Private.CyclicProtocols.{CyclicProtocol}
 use Rattle.bus_world.specs.Trails.{actions_with}
 use Rattle.bus_core.specs.Reusing.Passing.{passing_fed, core_passed}
 use Rattle.bus_core.specs.declared.reuses.Passing.{Passing}
 use Rattle.bus_register.specs.declared.limits.TheConstants.{NUMBERS}
 use Rattle.std.proofs.lemmas.Bool.Decides.{eqb_tells}
 use Rattle.bus_tenure.specs.Situations.{lesser, core_floored, phase_floored}
-use Rattle.bus_world.specs.Proved.Sending.{Sending}
+use Rattle.bus_world.specs.Private.Sending.{Sending}
 use Rattle.bus_world.proofs.BusLaws as bus
 use Rattle.bus_world.proofs.HolderLaws as holders
 use Rattle.bus_world.proofs.LogLaws.{length-logged}
@@ -41,7 +41,7 @@ use Rattle.bus_world.proofs.CyclicProtocolKept as kept
 use Rattle.bus_world.proofs.CyclicProtocolHolders as holds_page
 use Rattle.bus_world.proofs.CyclicProtocolKept.{stored_is, held_page_is, resting_no_holding}
 use Rattle.bus_world.proofs.FloorLaws.{floors_read, floors_risen}
-use Rattle.bus_world.specs.Proved.Floors.{passed_place, AreFloors}
+use Rattle.bus_world.specs.Floors.{passed_place, AreFloors}
 
 module _ {E : Type 0} (X : Election E) (P : Protocol E (Unit {0}) ℕ)
     (laws : Laws X.op X.fed P OneOwner) (x : Layout) (ok : IsLayout x)

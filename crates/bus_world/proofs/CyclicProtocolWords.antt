@@ -9,7 +9,7 @@ use Rattle.std.proofs.lemmas.Option.{same_Some}
 use Rattle.bus_register.specs.declared.registers.Op.{Op}
 use Rattle.bus_register.specs.Words.{after}
 use Rattle.bus_register.specs.Tables.{put}
-use Rattle.bus_register.specs.Proved.TableLaws.{put_here, put_beside}
+use Rattle.bus_register.specs.Private.TableLaws.{put_here, put_beside}
 use Rattle.bus_presence.specs.declared.pins.Pin.{Pin}
 use Rattle.bus_presence.specs.Pins.{step_at}
 use Rattle.bus_presence.specs.Reclaimers.{Reclaiming, reclaim_op, reclaim_fed}
@@ -20,7 +20,7 @@ use Rattle.bus_presence.proofs.ReclaimerLaws.{reclaim_does, Scans}
 use Rattle.bus_presence.proofs.RowLaws.{IsLive, alive_same, pin_place, load_same}
 use Rattle.bus_tenure.specs.Core.{Layout}
 use Rattle.bus_core.specs.Reusing.Participants.{sizes_with, log_from}
-use Rattle.bus_world.specs.Proved.Floors.{passed_place}
+use Rattle.bus_world.specs.Floors.{passed_place}
 
 -- a table stays where what stands at a place is put there
 pub put_is : {A : Type 0} (p : ℕ) (v : A) (table : ℕ → A) → table p ≡ v → put p v table ≡ table

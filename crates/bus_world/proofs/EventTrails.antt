@@ -12,7 +12,7 @@ use Rattle.std.proofs.lemmas.Option.{same_Some, slice_get_within, none-some}
 use Rattle.bus_register.specs.declared.kinds.Kind.{Kind}
 use Rattle.bus_register.specs.declared.kinds.Kind.TheVariants as kind
 use Rattle.bus_register.specs.Protocol.{Protocol, Laws, inputs, outputs}
-use Rattle.bus_register.specs.Proved.TableLaws.{get_set_same, get_set_other}
+use Rattle.bus_register.specs.Private.TableLaws.{get_set_same, get_set_other}
 use Rattle.bus_register.specs.declared.registers.SenderNo.{SenderNo}
 use Rattle.bus_batch.specs.declared.messages.Item.{Item}
 use Rattle.bus_batch.specs.Batches.{next_of}
@@ -40,7 +40,7 @@ use Rattle.std.proofs.lemmas.List.{map-append}
 use Rattle.std.proofs.lemmas.Bool.Decides.{nat_tests}
 use Rattle.std.proofs.lemmas.Bool.{le-leb}
 use Rattle.bus_world.specs.World.{IsLayout, Event, Put, Ask, Turn, Recv, Stop, Gone}
-use Rattle.bus_world.specs.Proved.Sending.{Fits}
+use Rattle.bus_world.specs.Private.Sending.{Fits}
 use Rattle.bus_world.proofs.FrameOwners.{owner_took, rise}
 use Rattle.bus_world.proofs.Beginning.{words_zero}
 use Rattle.bus_world.proofs.BusLaws as bus
@@ -48,23 +48,23 @@ use Rattle.bus_world.specs.Headline.{Action, HasPut, HasMarked, Stepped, puts, T
 use Rattle.bus_world.specs.Headline.{IsPrefix, Promises}
 use Rattle.bus_world.specs.Log.{next_number, sent_count, words_of_frame}
 use Rattle.bus_world.proofs.LogLaws.{length-logged, log_words-append}
-use Rattle.bus_world.specs.Proved.Machines.{Side, side_after, core_after, Bus, going, IsEvent}
-use Rattle.bus_world.specs.Proved.Machines.{Happens, SenderDoes, with_sender, can_put, can_close}
-use Rattle.bus_world.specs.Proved.Machines.{put_in, mark_in, IsNew, is_open, LeaverDoes}
+use Rattle.bus_world.specs.Private.Machines.{Side, side_after, core_after, Bus, going, IsEvent}
+use Rattle.bus_world.specs.Private.Machines.{Happens, SenderDoes, with_sender, can_put, can_close}
+use Rattle.bus_world.specs.Private.Machines.{put_in, mark_in, IsNew, is_open, LeaverDoes}
 use Rattle.bus_world.specs.Turning.{number_found}
 use Rattle.bus_world.proofs.TurningLaws.{side_of}
 use Rattle.bus_world.proofs.WorldLaws.{counted_at, event_left, event_puts, new_is_lawful}
 use Rattle.bus_world.proofs.WorldLaws.{found_flat, set_each}
-use Rattle.bus_world.specs.Proved.Answers.{Answers, PutGives, CloseGives, TurnAnswers, RecvAnswers}
+use Rattle.bus_world.specs.Private.Answers.{Answers, PutGives, CloseGives, TurnAnswers, RecvAnswers}
 use Rattle.bus_world.specs.Playing.{asked_answer}
 use Rattle.bus_world.specs.declared.events.Answer.{Answer}
 use Rattle.bus_world.specs.declared.events.Answer.TheVariants as answer
-use Rattle.bus_world.specs.Proved.Trails.{Trails, no_trails, trails_grown, actions_of}
-use Rattle.bus_world.specs.Proved.Trails.{turning_actions, heard_of, answer_heard, IsPromisedBy}
-use Rattle.bus_world.specs.Proved.Trails.{Reached, log_by, event_log}
+use Rattle.bus_world.specs.Private.Trails.{Trails, no_trails, trails_grown, actions_of}
+use Rattle.bus_world.specs.Private.Trails.{turning_actions, heard_of, answer_heard, IsPromisedBy}
+use Rattle.bus_world.specs.Private.Trails.{Reached, log_by, event_log}
 use Rattle.bus_world.specs.Trails.{put_actions, mark_actions, step_action}
-use Rattle.bus_world.specs.Proved.Trails.Reached.{New, Then}
-use Rattle.bus_world.specs.Proved.Invariants.{LawfulBus}
+use Rattle.bus_world.specs.Private.Trails.Reached.{New, Then}
+use Rattle.bus_world.specs.Private.Invariants.{LawfulBus}
 use Rattle.bus_world.proofs.Stopping.{is_there}
 use Rattle.bus_world.proofs.Waiting.{with_frame, frames_after, put_by, waiting_of, waiting_at}
 use Rattle.bus_world.proofs.Waiting.{accepted, accepted_by, event_frames, frames_by}

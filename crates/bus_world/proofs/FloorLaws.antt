@@ -10,7 +10,7 @@ use Rattle.std.proofs.lemmas.List.Elements.{All-nil}
 use Rattle.std.proofs.lemmas.Option.{same_Some}
 use Rattle.bus_register.specs.declared.limits.TheConstants.{NUMBERS, PASSED_ALL}
 use Rattle.bus_register.specs.Tables.{put}
-use Rattle.bus_register.specs.Proved.TableLaws.{put_here, put_beside}
+use Rattle.bus_register.specs.Private.TableLaws.{put_here, put_beside}
 use Rattle.bus_batch.proofs.Feeding.{whole_log}
 use Rattle.bus_batch.specs.Frames.{Frame, AreFrames, log_words, log_pieces, frame_words}
 use Rattle.bus_batch.specs.Reading.{Reading, Awaits, is_between}
@@ -23,8 +23,8 @@ use Rattle.bus_presence.proofs.ReclamationKept.{lt_tells}
 use Rattle.bus_tenure.specs.Core.{Layout}
 use Rattle.bus_tenure.specs.Situations.{lesser}
 use Rattle.bus_world.proofs.Standing.{frames_begin}
-use Rattle.bus_world.specs.Proved.Floors.{IsBoundary, passed_place, passed_of, IsPasser, AreFloors}
-use Rattle.bus_world.specs.Proved.Receiving.{Receives}
+use Rattle.bus_world.specs.Floors.{IsBoundary, passed_place, passed_of, IsPasser, AreFloors}
+use Rattle.bus_world.specs.Private.Receiving.{Receives}
 
 -- ---- where frames begin
 pub boundary_first : (frames : List Frame) → IsBoundary frames 0

@@ -4,7 +4,7 @@ use Rattle.std.proofs.Common.{slice_get, arith, ap, subst}
 use Rattle.std.proofs.lemmas.Option.{same_Some}
 use Rattle.bus_register.specs.declared.registers.SenderNo.{SenderNo}
 use Rattle.bus_batch.specs.Frames.{Frame, AreFramesFrom, tenure_and_owner}
-use Rattle.bus_world.specs.Proved.Sending.{AreOwned}
+use Rattle.bus_world.specs.Private.Sending.{AreOwned}
 use Rattle.bus_world.proofs.Places.{none_in}
 
 pub owner_took : (owners : List ℕ) (fs : List Frame) → AreOwned owners fs → (j t : ℕ) (o : SenderNo)

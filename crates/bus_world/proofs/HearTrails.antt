@@ -27,8 +27,8 @@ use Rattle.bus_world.specs.Headline.{IsPrefix}
 use Rattle.bus_world.proofs.Places.{got_split, only_one}
 use Rattle.bus_world.proofs.Tying.{Hears, IsSilent}
 use Rattle.bus_world.specs.World.{RecvDoes, RecvStep, recv_found}
-use Rattle.bus_world.specs.Proved.Receiving.{Receives, IsFoundIn}
-use Rattle.bus_world.specs.Proved.Invariants.{given_at}
+use Rattle.bus_world.specs.Private.Receiving.{Receives, IsFoundIn}
+use Rattle.bus_world.specs.Private.Invariants.{given_at}
 use Rattle.bus_world.proofs.WorldLaws.{received}
 
 -- ---- what one answer adds

@@ -22,16 +22,16 @@ use Rattle.bus_tenure.specs.declared.phases.Reason.TheVariants.{Sent}
 use Rattle.bus_tenure.specs.declared.pages.Page.{Page}
 use Rattle.bus_tenure.specs.declared.phases.Phase.TheVariants as phase
 use Rattle.bus_world.specs.Log.{words_read_from, next_number, AreCounted, KeepsFloor, Knows}
-use Rattle.bus_world.specs.Proved.Sending.{AreEarlier, Logged, stands_at, standing_of, least_of}
-use Rattle.bus_world.specs.Proved.Sending.{GoesOn, IsWriting, HasBegun, Fits, Part, Sending}
+use Rattle.bus_world.specs.Private.Sending.{AreEarlier, Logged, stands_at, standing_of, least_of}
+use Rattle.bus_world.specs.Private.Sending.{GoesOn, IsWriting, HasBegun, Fits, Part, Sending}
 use Rattle.bus_world.proofs.LogLaws.{read-agree, Logged-agree, Logged-publish, next-append_other}
 use Rattle.bus_world.proofs.LogLaws.{next-append_owner, gone-append_owner, gone-append_other}
 use Rattle.bus_world.proofs.LogLaws.{say_same, has_end-append, AreEarlier-append, AreEarlier-later}
 use Rattle.bus_batch.proofs.BatchLaws.{is_frame}
 use Rattle.bus_world.proofs.FrameOfBatch.{counted_frame, length-items, ends-body, leaves-body}
 use Rattle.bus_ownerbits.specs.OneOwner.{OneOwner}
-use Rattle.bus_world.specs.Proved.Tenures.{Standing}
-use Rattle.bus_world.specs.Proved.Tenures.Standing.{Holds}
+use Rattle.bus_world.specs.Private.Tenures.{Standing}
+use Rattle.bus_world.specs.Private.Tenures.Standing.{Holds}
 use Rattle.bus_world.proofs.TenuresLaws as tenures
 use Rattle.bus_world.specs.World.{IsLayout}
 use Rattle.bus_world.proofs.SenderParts.{still_here, Knows-len, part_of, IsUnsent, left_shut}

@@ -22,7 +22,7 @@ use Rattle.bus_register.specs.declared.registers.SenderNo.{SenderNo}
 use Rattle.bus_deliverylog.specs.Orders.{of_sender}
 use Rattle.bus_world.specs.Log.{words_read_from, sent_count, next_number, AreCounted}
 use Rattle.bus_tenure.specs.Core.{Layout, log_at}
-use Rattle.bus_world.specs.Proved.Sending.{AreEarlier, Logged}
+use Rattle.bus_world.specs.Private.Sending.{AreEarlier, Logged}
 
 -- ---- words
 pub read-agree : (words words' : ℕ → ℕ) (at k : ℕ) → Agree at k words words'

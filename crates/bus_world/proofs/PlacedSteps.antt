@@ -5,8 +5,8 @@ use Rattle.bus_register.specs.declared.registers.Op.{Op}
 use Rattle.bus_register.specs.declared.registers.Op.TheVariants.{Load, Store, Add, Cas}
 use Rattle.bus_register.specs.Words.{register}
 use Rattle.bus_presence.specs.Reclaimers.{Reclaiming, reclaim_op}
-use Rattle.bus_core.specs.Proved.ParticipantTable.{Goes, Reads, due_beside, due_passed, due_home}
-use Rattle.bus_core.specs.Proved.ParticipantTable.{due_reclaimed, reclaim_due, passed_due}
+use Rattle.bus_core.specs.Private.ParticipantTable.{Goes, Reads, due_beside, due_passed, due_home}
+use Rattle.bus_core.specs.Private.ParticipantTable.{due_reclaimed, reclaim_due, passed_due}
 use Rattle.bus_core.specs.declared.reuses.Passing.{Passing}
 use Rattle.bus_core.specs.Reusing.Turns.{on_place, op_placed}
 use Rattle.bus_tenure.specs.Situations.{Situation, IsClosed, IsIdle, IsSpent, LooksAtStage, Elects}
@@ -15,7 +15,7 @@ use Rattle.bus_tenure.specs.Situations.{HasHanded}
 use Rattle.bus_tenure.specs.declared.pages.Page.{Page}
 use Rattle.bus_tenure.specs.declared.phases.Reason.TheVariants.{Sent, FoundEnd, NoRoom}
 use Rattle.bus_world.specs.Turning.{number_found}
-use Rattle.bus_world.specs.Proved.CyclicProtocols.{word_found}
+use Rattle.bus_world.specs.Private.CyclicProtocols.{word_found}
 
 pub same_register : (f : ℕ → ℕ) (o : Op) → register (on_place f o) ≡ f (register o)
 same_register f (Load at) = refl

@@ -17,7 +17,7 @@ use Rattle.bus_tenure.specs.Situations.{answer_sent}
 use Rattle.bus_tenure.specs.declared.phases.Reason.{Reason}
 use Rattle.bus_tenure.specs.declared.phases.Reason.TheVariants.{Sent, FoundEnd, NoRoom}
 use Rattle.bus_tenure.specs.declared.turns.Turn.TheVariants as turn
-use Rattle.bus_world.specs.Proved.Machines.{owners_after}
+use Rattle.bus_world.specs.Private.Machines.{owners_after}
 use Rattle.bus_world.specs.Turning.{owners_by}
 
 -- a list with the same element in its place

@@ -8,7 +8,7 @@ use Rattle.std.proofs.lemmas.List.{append-nil, map-append}
 use Rattle.std.proofs.lemmas.Option.{slice_get_within}
 use Rattle.bus_register.specs.declared.registers.SenderNo.{SenderNo}
 use Rattle.bus_register.specs.Tables.{Beside}
-use Rattle.bus_register.specs.Proved.TableLaws.{get_set_same, get_set_other}
+use Rattle.bus_register.specs.Private.TableLaws.{get_set_same, get_set_other}
 use Rattle.bus_batch.specs.declared.batches.Phase.{Phase as BatchPhase}
 use Rattle.bus_batch.specs.declared.batches.Phase.TheVariants.{Open, Marking, Closed}
 use Rattle.bus_batch.specs.declared.messages.Item.{Item}
@@ -29,8 +29,8 @@ use Rattle.bus_tenure.specs.declared.phases.Phase.{Phase}
 use Rattle.bus_tenure.specs.declared.phases.Phase.TheVariants as phase
 use Rattle.bus_deliverylog.specs.Orders.{of_sender}
 use Rattle.bus_world.proofs.LogLaws.{of_sender-append, owned_items, others_items}
-use Rattle.bus_world.specs.Proved.Sending.{Part, Fits}
-use Rattle.bus_world.specs.Proved.Machines.{Side, core_after, side_after}
+use Rattle.bus_world.specs.Private.Sending.{Part, Fits}
+use Rattle.bus_world.specs.Private.Machines.{Side, core_after, side_after}
 use Rattle.bus_world.specs.Turning.{number_found, core_with_page}
 use Rattle.bus_world.proofs.Waiting.{frames_after, waiting_at, waiting_of}
 

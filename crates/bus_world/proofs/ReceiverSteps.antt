@@ -11,7 +11,7 @@ use Rattle.bus_deliverylog.specs.Receiving.{leaving_by, leaving_op}
 use Rattle.bus_deliverylog.proofs.ReceiveLaws.{no_due}
 use Rattle.bus_world.specs.Turning.{words_after}
 use Rattle.bus_world.specs.World.{recv_found}
-use Rattle.bus_world.specs.Proved.CyclicProtocols.{words_stepped}
+use Rattle.bus_world.specs.Private.CyclicProtocols.{words_stepped}
 use Rattle.bus_world.proofs.CyclicProtocolWords.{put_is}
 
 -- ---- of words in a list

@@ -20,7 +20,7 @@ use Rattle.bus_deliverylog.specs.Orders.{IsPrefixOfOrder}
 use Rattle.bus_deliverylog.proofs.PrefixLaws.{order_in-prefix}
 use Rattle.bus_batch.specs.Frames.{order_in}
 use Rattle.bus_world.proofs.LogLaws.{log_words-append}
-use Rattle.bus_world.specs.Proved.Receiving.{Receives}
+use Rattle.bus_world.specs.Private.Receiving.{Receives}
 
 pub length-item_pieces : (n : ℕ) (item : Item) → length (item_pieces n item) ≡ suc n
 length-item_pieces zero item = refl

@@ -11,7 +11,7 @@ use Rattle.bus_batch.specs.Frames.{Frame, AreFrames, Spells, log_words, order_of
 use Rattle.bus_core.specs.Reusing.Participants.{passed_from, log_from}
 use Rattle.bus_tenure.specs.Core.{Layout}
 use Rattle.bus_world.specs.Log.{words_read_from, words_in_ring, least_passed, floor_shown}
-use Rattle.bus_world.specs.Proved.Floors.{IsBoundary, ShowsRing, passed_place}
+use Rattle.bus_world.specs.Floors.{IsBoundary, ShowsRing, passed_place}
 use Rattle.bus_world.proofs.FloorLaws.{boundary_first, boundary_last, lesser_is}
 use Rattle.bus_world.proofs.Standing.{stands_as_log}
 

@@ -11,10 +11,10 @@ use Rattle.bus_presence.specs.Reclamation.{Trails}
 use Rattle.bus_tenure.specs.Core.{Election, Layout}
 use Rattle.bus_world.specs.Headline.{Action}
 use Rattle.bus_world.specs.World.{IsLayout}
-use Rattle.bus_world.specs.Proved.CyclicProtocols.{CyclicProtocol, Led}
-use Rattle.bus_world.specs.Proved.Floors.{IsBoundary, passed_place}
-use Rattle.bus_world.specs.Proved.KeptProtocols.{IsKeptProtocol}
-use Rattle.bus_world.specs.Proved.RingRefusals.{RingRefuses}
+use Rattle.bus_world.specs.Private.CyclicProtocols.{CyclicProtocol, Led}
+use Rattle.bus_world.specs.Floors.{IsBoundary, passed_place}
+use Rattle.bus_world.specs.Private.KeptProtocols.{IsKeptProtocol}
+use Rattle.bus_world.specs.RingRefusals.{RingRefuses}
 use Rattle.bus_world.proofs.Bounds.{words_low}
 use Rattle.bus_world.proofs.CyclicProtocolLaws.{protocol_promised}
 use Rattle.bus_world.proofs.Serving.{Serves}

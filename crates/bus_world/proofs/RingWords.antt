@@ -6,7 +6,7 @@ use Rattle.std.proofs.Math.Nat.{mod-eq_of_lt}
 use Rattle.std.proofs.lemmas.Bool.{cases_eq}
 use Rattle.std.proofs.lemmas.Nat.{mod_below, row_fits}
 use Rattle.bus_register.specs.Tables.{Beside, put}
-use Rattle.bus_register.specs.Proved.TableLaws.{put_here, put_beside}
+use Rattle.bus_register.specs.Private.TableLaws.{put_here, put_beside}
 use Rattle.bus_presence.specs.declared.pins.Pin.{Pin}
 use Rattle.bus_presence.specs.Reclamation.{ReclamationSizes, Reclamation, Trails}
 use Rattle.bus_presence.specs.Reclamation.{row_of, tenure_of}
@@ -15,7 +15,7 @@ use Rattle.bus_presence.proofs.ReclamationKept.{Keeps, one_of_row}
 use Rattle.bus_presence.proofs.RowLaws.{IsLive, live_apart, alive_same}
 use Rattle.bus_tenure.specs.Core.{Layout, row_at, log_at}
 use Rattle.bus_world.proofs.CyclicProtocolWords.{IsQuiet, behind_rows, far_rows}
-use Rattle.bus_world.specs.Proved.Floors.{passed_place}
+use Rattle.bus_world.specs.Floors.{passed_place}
 use Rattle.bus_core.specs.Reusing.Participants.{sizes_with, log_from}
 
 -- Words of 0 to the log's end stand in a ring: of all that was stored so far the last, as many as

@@ -19,10 +19,10 @@ use Rattle.bus_tenure.specs.declared.pages.Page.{Page}
 use Rattle.bus_tenure.specs.declared.phases.Phase.{Phase}
 use Rattle.bus_tenure.specs.declared.phases.Phase.TheVariants as phase
 use Rattle.bus_world.specs.Log.{AgreeFrom, words_read_from, Knows}
-use Rattle.bus_world.specs.Proved.Sending.{stands_at, GoesOn, IsWriting, Fits, Part, AreOwned}
-use Rattle.bus_register.specs.Proved.TableLaws.{push_beside, get_set_same, get_set_other}
+use Rattle.bus_world.specs.Private.Sending.{stands_at, GoesOn, IsWriting, Fits, Part, AreOwned}
+use Rattle.bus_register.specs.Private.TableLaws.{push_beside, get_set_same, get_set_other}
 use Rattle.bus_world.proofs.LogLaws.{read-agree, SaySame}
-use Rattle.bus_world.specs.Proved.Tenures.Standing.{Holds}
+use Rattle.bus_world.specs.Private.Tenures.Standing.{Holds}
 
 -- ---- who has left
 -- a sender that is not closed has not left

@@ -13,15 +13,15 @@ use Rattle.bus_coinconc.specs.Conciliator.{ConciliatorState, conciliator_kind, c
 use Rattle.bus_coinconc.specs.Conciliator.{kind_at as concile_kind_at}
 use Rattle.bus_coinconc.specs.declared.conciliators.Stage.{Stage as ConcileStage}
 use Rattle.bus_coinconc.specs.declared.conciliators.Stage.TheVariants as concile
-use Rattle.bus_coinconc.specs.Proved.ConciliatorSteps.{conciliator_names_each_step}
+use Rattle.bus_coinconc.specs.Private.ConciliatorSteps.{conciliator_names_each_step}
 use Rattle.bus_binconsensus.specs.declared.objects.Object.{Object}
 use Rattle.bus_binconsensus.specs.declared.objects.Object.TheVariants.{Ratify, Concile, Fall}
 use Rattle.bus_binconsensus.specs.Fallback as fallback
-use Rattle.bus_binconsensus.specs.Proved.ObjectNames.{objects_named}
+use Rattle.bus_binconsensus.specs.Private.ObjectNames.{objects_named}
 use Rattle.bus_binconsensus.specs.Objects.{Decider, object_kind, decide_op}
 use Rattle.bus_ownerbits.specs.Election.{kind_at as election_kind_at}
 use Rattle.bus_ownerbits.specs.OneOwner.{OneOwner}
-use Rattle.bus_ownerbits.specs.Proved.ElectionNamed.{election_named}
+use Rattle.bus_ownerbits.specs.Private.ElectionNamed.{election_named}
 use Rattle.bus_ownerbits.specs.declared.stages.Stage.{Stage}
 use Rattle.bus_ownerbits.specs.declared.stages.Stage.TheVariants as stage
 use Rattle.bus_tenure.specs.Core.{Election, Layout}

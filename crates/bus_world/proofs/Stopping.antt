@@ -3,7 +3,7 @@ use Rattle.std.proofs.Common.{◌≡◌, ℕ, zero, suc, Bool, true, false, cond
 use Rattle.std.proofs.Common.{[], ◌∷◌, get_or, slice_get}
 use Rattle.std.proofs.lemmas.Option.{none-some}
 use Rattle.bus_tenure.specs.Core.{Core}
-use Rattle.bus_world.specs.Proved.Machines.{Bus, has_stopped, going}
+use Rattle.bus_world.specs.Private.Machines.{Bus, has_stopped, going}
 use Rattle.bus_world.specs.World.{is_set}
 
 pub shown_there : {A : Type 0} (t : Bool) (o : Option A) (v : A) → cond t None o ≡ Some v

@@ -7,7 +7,7 @@ use Rattle.std.proofs.lemmas.Option.{none-some, same_Some, slice_get_within}
 use Rattle.bus_register.specs.declared.kinds.Kind.{Kind}
 use Rattle.bus_register.specs.declared.kinds.Kind.TheVariants as kind
 use Rattle.bus_register.specs.Tables.{of_some, Beside, put, Agree}
-use Rattle.bus_register.specs.Proved.TableLaws.{put_here, put_beside, push_here, push_beside}
+use Rattle.bus_register.specs.Private.TableLaws.{put_here, put_beside, push_here, push_beside}
 use Rattle.bus_register.specs.Protocol.{Protocol, Laws, counted_input}
 use Rattle.bus_batch.specs.declared.messages.Mark.{Mark}
 use Rattle.bus_tenure.specs.Core.{Core, Election, Layout}

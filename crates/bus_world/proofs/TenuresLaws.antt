@@ -9,14 +9,14 @@ use Rattle.std.proofs.lemmas.Option.{same_Some, slice_get_past}
 use Rattle.bus_register.specs.declared.registers.Op.{Op}
 use Rattle.bus_register.specs.Words.{register}
 use Rattle.bus_register.specs.Tables.{of_some, Beside, put, Agree, Stepped}
-use Rattle.bus_register.specs.Proved.TableLaws.{put_here, put_beside, some_or_none, here_not}
-use Rattle.bus_register.specs.Proved.TableLaws.{push_here, push_beside}
+use Rattle.bus_register.specs.Private.TableLaws.{put_here, put_beside, some_or_none, here_not}
+use Rattle.bus_register.specs.Private.TableLaws.{push_here, push_beside}
 use Rattle.bus_register.specs.Protocol.{Protocol, Laws, inputs, outputs}
 use Rattle.bus_ownerbits.specs.OneOwner.{OneOwner}
 use Rattle.bus_ownerbits.proofs.ElectionSteps.{row_within}
-use Rattle.bus_world.specs.Proved.Tenures.{Standing, Tenures}
-use Rattle.bus_world.specs.Proved.Tenures.Standing.{Rests, Runs, Holds}
-use Rattle.bus_world.specs.Proved.Tenures.Stage.{Open, Held}
+use Rattle.bus_world.specs.Private.Tenures.{Standing, Tenures}
+use Rattle.bus_world.specs.Private.Tenures.Standing.{Rests, Runs, Holds}
+use Rattle.bus_world.specs.Private.Tenures.Stage.{Open, Held}
 
 same_Electing : {E : Type 0} (t u : ℕ) (e f : E) → Runs t e ≡ Runs u f → (t ≡ u) × (e ≡ f)
 same_Electing t u e f h = (cc, cc)

@@ -13,8 +13,8 @@ use Rattle.bus_register.specs.declared.registers.Op.{Op}
 use Rattle.bus_register.specs.declared.registers.Op.TheVariants.{Load, Store}
 use Rattle.bus_register.specs.Words.{register}
 use Rattle.bus_register.specs.Tables.{of_some, put, Agree, Beside}
-use Rattle.bus_register.specs.Proved.TableLaws.{put_here, put_beside, some_or_none, get_set_same}
-use Rattle.bus_register.specs.Proved.TableLaws.{get_set_other}
+use Rattle.bus_register.specs.Private.TableLaws.{put_here, put_beside, some_or_none, get_set_same}
+use Rattle.bus_register.specs.Private.TableLaws.{get_set_other}
 use Rattle.bus_register.specs.Protocol.{Protocol, Laws, Starts, counted_input}
 use Rattle.bus_tenure.specs.Core.{Core, Election, Layout, log_at, row_at, frame_len, has_room}
 use Rattle.bus_tenure.specs.Core.{cell_of, is_empty, is_marking, is_closed}
@@ -23,7 +23,7 @@ use Rattle.bus_tenure.specs.Situations.{TakesPage, StoresWord, StoresLength, Giv
 use Rattle.bus_tenure.specs.Situations.{situation_at, situation_of, resting, electing, holding}
 use Rattle.bus_tenure.specs.Situations.{core_begun, waits, core_elected, core_at_rest, answer_at}
 use Rattle.bus_tenure.specs.Situations.{op_at, kind_at}
-use Rattle.bus_tenure.specs.Proved.LineParts.{tenure_at, chosen_at}
+use Rattle.bus_tenure.specs.Private.LineParts.{tenure_at, chosen_at}
 use Rattle.bus_tenure.specs.declared.pages.Page.{Page}
 use Rattle.bus_tenure.specs.declared.phases.Reason.{Reason}
 use Rattle.bus_tenure.specs.declared.phases.Reason.TheVariants.{Sent, FoundEnd, NoRoom}
@@ -34,18 +34,18 @@ use Rattle.bus_batch.specs.Batches.{frame_of}
 use Rattle.bus_batch.specs.Frames.{Frame, frame_words}
 use Rattle.bus_ownerbits.specs.OneOwner.{OneOwner}
 use Rattle.bus_ownerbits.proofs.ElectionSteps.{row_within}
-use Rattle.bus_world.specs.Proved.Tenures.Standing.{Runs}
+use Rattle.bus_world.specs.Private.Tenures.Standing.{Runs}
 use Rattle.bus_world.proofs.TenuresLaws as tenures
 use Rattle.bus_world.specs.World.{IsLayout}
-use Rattle.bus_world.specs.Proved.Sending.{least_of, Part, Fits, Sending, stands_at}
-use Rattle.bus_world.specs.Proved.Machines.{Side, core_after, owners_after, side_after}
+use Rattle.bus_world.specs.Private.Sending.{least_of, Part, Fits, Sending, stands_at}
+use Rattle.bus_world.specs.Private.Machines.{Side, core_after, owners_after, side_after}
 use Rattle.bus_world.specs.Turning.{words_after, number_found, core_with_page}
 use Rattle.bus_world.proofs.BusLaws as bus
 use Rattle.bus_world.proofs.TurningLaws.{IsSide, Steps, stepped-steps, turn_within, open_stage}
 use Rattle.bus_world.specs.declared.events.Answer.TheVariants as answer
 use Rattle.bus_world.specs.Headline.{Action, Stepped, Announced, Elected}
 use Rattle.bus_world.specs.Trails.{step_action}
-use Rattle.bus_world.specs.Proved.Trails.{turn_actions}
+use Rattle.bus_world.specs.Private.Trails.{turn_actions}
 use Rattle.bus_world.proofs.Tying.{next_at, next_tenure, Tables, PageTies}
 use Rattle.bus_world.proofs.Places.{got_after}
 use Rattle.bus_world.proofs.TableTrails.{IsPlain, plain_none, plain_step, one_elected, one_took}

@@ -14,7 +14,7 @@ use Rattle.bus_register.specs.declared.registers.Op.{Op}
 use Rattle.bus_register.specs.declared.registers.Op.TheVariants.{Load, Store}
 use Rattle.bus_register.specs.Words.{register, after}
 use Rattle.bus_register.specs.Tables.{of_some, Beside}
-use Rattle.bus_register.specs.Proved.TableLaws.{some_or_none, get_set_same, get_set_other}
+use Rattle.bus_register.specs.Private.TableLaws.{some_or_none, get_set_same, get_set_other}
 use Rattle.bus_register.specs.Protocol.{Protocol, Laws}
 use Rattle.bus_batch.specs.Frames.{Frame, frame_words}
 use Rattle.bus_batch.specs.Batches.{HasSomething, frame_of}
@@ -35,18 +35,18 @@ use Rattle.bus_tenure.specs.declared.phases.Phase.{Phase}
 use Rattle.bus_tenure.specs.declared.phases.Phase.TheVariants as phase
 use Rattle.bus_ownerbits.specs.OneOwner.{OneOwner}
 use Rattle.bus_ownerbits.proofs.ElectionSteps.{row_within}
-use Rattle.bus_world.specs.Proved.Tenures.Standing.{Runs}
+use Rattle.bus_world.specs.Private.Tenures.Standing.{Runs}
 use Rattle.bus_world.proofs.TenuresLaws as tenures
 use Rattle.bus_world.specs.World.{IsLayout}
-use Rattle.bus_world.specs.Proved.Sending.{least_of, standing_of, Part, Fits, GoesOn, HasBegun}
-use Rattle.bus_world.specs.Proved.Sending.{Sending, stands_at}
+use Rattle.bus_world.specs.Private.Sending.{least_of, standing_of, Part, Fits, GoesOn, HasBegun}
+use Rattle.bus_world.specs.Private.Sending.{Sending, stands_at}
 use Rattle.bus_world.proofs.BusLaws as bus
 use Rattle.bus_world.proofs.HolderLaws as holders
 use Rattle.bus_world.proofs.SenderParts.{IsUnsent}
-use Rattle.bus_world.specs.Proved.Machines.{Side, home_after, core_after, owners_after, side_after}
-use Rattle.bus_world.specs.Proved.Machines.{Bus}
+use Rattle.bus_world.specs.Private.Machines.{Side, home_after, core_after, owners_after, side_after}
+use Rattle.bus_world.specs.Private.Machines.{Bus}
 use Rattle.bus_world.specs.Turning.{words_after, number_found, core_with_page}
-use Rattle.bus_world.specs.Proved.Invariants.{LawfulBus}
+use Rattle.bus_world.specs.Private.Invariants.{LawfulBus}
 use Rattle.bus_world.proofs.Waiting.{frames_after}
 
 pub open_apart : Open ≡ Closed → ⊥

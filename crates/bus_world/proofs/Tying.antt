@@ -11,9 +11,9 @@ use Rattle.bus_tenure.specs.declared.phases.Phase.{Phase}
 use Rattle.bus_tenure.specs.declared.phases.Phase.TheVariants as phase
 use Rattle.bus_world.specs.Headline.{Action, HasPut, puts, Announced, Elected, Took, order_given}
 use Rattle.bus_world.specs.Headline.{heads}
-use Rattle.bus_world.specs.Proved.Trails.{Trails}
-use Rattle.bus_world.specs.Proved.Machines.{Bus}
-use Rattle.bus_world.specs.Proved.Invariants.{given_at}
+use Rattle.bus_world.specs.Private.Trails.{Trails}
+use Rattle.bus_world.specs.Private.Machines.{Bus}
+use Rattle.bus_world.specs.Private.Invariants.{given_at}
 use Rattle.bus_world.proofs.Waiting.{put_by}
 use Rattle.bus_world.proofs.Asking.{Askings}
 

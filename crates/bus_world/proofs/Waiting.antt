@@ -8,7 +8,7 @@ use Rattle.bus_tenure.specs.Core.{Core, Election}
 use Rattle.bus_tenure.specs.Situations.{Situation, situation_of, line_of}
 use Rattle.bus_world.specs.Log.{words_of_frame}
 pub use Rattle.bus_world.specs.Waiting.{waiting_at}
-use Rattle.bus_world.specs.Proved.Machines.{Bus, going, can_put}
+use Rattle.bus_world.specs.Private.Machines.{Bus, going, can_put}
 use Rattle.bus_world.specs.World.{Event, Put, Ask, Turn, Recv, Stop, Gone}
 
 -- ---- the frames of the log

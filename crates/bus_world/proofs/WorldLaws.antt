@@ -22,11 +22,11 @@ use Rattle.bus_tenure.specs.declared.phases.Phase.{Phase as SenderPhase}
 use Rattle.bus_tenure.specs.declared.phases.Phase.TheVariants as phase
 use Rattle.bus_deliverylog.specs.Orders.{of_sender}
 use Rattle.bus_world.specs.Log.{AreCounted}
-use Rattle.bus_world.specs.Proved.Sending.{Logged, Part, Fits, Sending}
+use Rattle.bus_world.specs.Private.Sending.{Logged, Part, Fits, Sending}
 use Rattle.bus_world.proofs.Stopping.{is_there}
 use Rattle.bus_world.proofs.LogLaws.{length-logged, log_words-append, index-read}
 use Rattle.bus_world.proofs.ReceivingLaws.{goes_on, Receives-known, Receives-word, Receives-append}
-use Rattle.bus_world.specs.Proved.Receiving.{Receives, IsReceiver, IsFoundIn, NeverPasses}
+use Rattle.bus_world.specs.Private.Receiving.{Receives, IsReceiver, IsFoundIn, NeverPasses}
 use Rattle.bus_batch.specs.Reading.{HasRead}
 use Rattle.bus_deliverylog.specs.declared.receiving.RecvTurn.{RecvTurn}
 use Rattle.bus_deliverylog.specs.Receiving.{Receiving, LogReading, HasReceived, reading_of}
@@ -36,9 +36,9 @@ use Rattle.bus_ownerbits.specs.OneOwner.{OneOwner}
 use Rattle.bus_world.proofs.Beginning as beginning
 use Rattle.bus_world.specs.World.{IsLayout, Event, Put, Ask, Turn, Recv, Stop, Gone, recv_found}
 use Rattle.bus_world.specs.World.{RecvStep, RecvDoes, first_page}
-use Rattle.bus_world.specs.Proved.Machines.{Side, side_after, going, IsEvent, Happens, SenderDoes}
-use Rattle.bus_world.specs.Proved.Machines.{ReceiverDoes, LeaverDoes, Bus, is_open, can_put}
-use Rattle.bus_world.specs.Proved.Machines.{can_close, put_in, mark_in, with_sender, IsNew}
+use Rattle.bus_world.specs.Private.Machines.{Side, side_after, going, IsEvent, Happens, SenderDoes}
+use Rattle.bus_world.specs.Private.Machines.{ReceiverDoes, LeaverDoes, Bus, is_open, can_put}
+use Rattle.bus_world.specs.Private.Machines.{can_close, put_in, mark_in, with_sender, IsNew}
 use Rattle.bus_world.proofs.TurningLaws.{IsSide, side_of}
 use Rattle.bus_world.proofs.TurningLaws as turning
 use Rattle.bus_world.proofs.PutLaws as puts
@@ -46,8 +46,8 @@ use Rattle.bus_world.proofs.Accepting as accepting
 use Rattle.bus_world.proofs.Accepting.{Accepted, Puts, Asks, accept, AreAccepted, not_busy}
 use Rattle.bus_world.proofs.Accepting.{idle_rests}
 use Rattle.bus_tenure.specs.declared.phases.Reason.{Reason}
-use Rattle.bus_register.specs.Proved.TableLaws.{get_set_same, get_set_other}
-use Rattle.bus_world.specs.Proved.Invariants.{LawfulBus}
+use Rattle.bus_register.specs.Private.TableLaws.{get_set_same, get_set_other}
+use Rattle.bus_world.specs.Private.Invariants.{LawfulBus}
 use Rattle.bus_world.proofs.Waiting.{with_frame, frames_after, frames_by, event_frames}
 use Rattle.bus_world.proofs.Waiting.{accepted_by, accepted, waiting_at, put_by, waiting_of}
 

@@ -8,5 +8,7 @@ pub mod Faults
 pub mod Trails
 pub mod Telling
 pub mod Refusals
+pub mod Floors
+pub mod RingRefusals
 pub mod Waiting
-pub mod Proved
+pub mod Private

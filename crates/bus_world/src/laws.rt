@@ -9,8 +9,8 @@ ghost use Rattle.bus_presence.specs.Reclamation.{Trails};
 ghost use Rattle.bus_tenure.specs.Elections.{Elector, election_of, layout_with};
 ghost use Rattle.bus_world.specs.Refusals.{FromZero, ItemsAlone, PromiseRefuses};
 ghost use Rattle.bus_world.specs.World.{IsLayout};
-ghost use Rattle.bus_world.specs.Proved.CyclicProtocols.{CyclicProtocol};
-ghost use Rattle.bus_world.specs.Proved.RingRefusals.{RingRefuses};
+ghost use Rattle.bus_world.specs.Private.CyclicProtocols.{CyclicProtocol};
+ghost use Rattle.bus_world.specs.RingRefusals.{RingRefuses};
 
 use bus_adoptcommit::Ratifier;
 use bus_ownerbits::laws::election_is_lawful;

@@ -1,6 +1,6 @@
 use Rattle.std.proofs.Common.{◌<◌, Some, None, slice_index, refl, subst, sym}
 use Rattle.bus_world.specs.Log.{first_numbers}
-use Rattle.bus_machine.proofs.Served.{served}
+use Rattle.bus_machine.proofs.Bases.Served.{served}
 use Rattle.bus_tenure.specs.Elections.{elections, election_with}
 use Rattle.bus_world.proofs.Serving.{serves}
 use Rattle.bus_automaton.specs.Buses.{process_with, automaton_with, layout_by, plan_passers}

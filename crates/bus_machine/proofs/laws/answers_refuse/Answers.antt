@@ -1,4 +1,4 @@
-use Rattle.bus_machine.proofs.RefusalLaws.{answers_refused, numbers_refused}
+use Rattle.bus_machine.proofs.Refused.RefusalLaws.{answers_refused, numbers_refused}
 use Rattle.bus_machine.proofs.laws.answers_refuse.Goals as goal
 
 pub returns-clause-turns : goal.returns-clause-turns

@@ -2,11 +2,11 @@ use Rattle.std.proofs.Common.{sym, subst}
 use Rattle.bus_tenure.specs.Elections.{elections, election_with}
 use Rattle.bus_world.proofs.Serving.{Serves, serves}
 use Rattle.bus_world.specs.World.{IsLayout}
-use Rattle.bus_machine.proofs.Leading.{Sits, sits_after}
-use Rattle.bus_machine.proofs.Leaving.{opens_only}
+use Rattle.bus_machine.proofs.Bases.Leading.{Sits, sits_after}
+use Rattle.bus_machine.proofs.Onward.StageLeaves.{opens_only}
 use Rattle.bus_machine.proofs.Promised.{promised}
 use Rattle.bus_machine.specs.Machine.{Then, trails_grown}
-use Rattle.bus_machine.proofs.Following.{follows, tells}
+use Rattle.bus_machine.proofs.Onward.Following.{follows, tells}
 use Rattle.bus_machine.proofs.laws.events_keep_promise.Goals as goal
 
 pub returns : goal.returns

@@ -1,5 +1,5 @@
 use Rattle.bus_tenure.specs.Elections.{election_with}
-use Rattle.bus_machine.proofs.LeaveLaws.{leaves_for_good, leave_refuses}
+use Rattle.bus_machine.proofs.Stops.LeaveLaws.{leaves_for_good, leave_refuses}
 use Rattle.bus_machine.proofs.laws.leaves_are_for_good.Goals as goal
 
 pub returns : goal.returns

@@ -1,5 +1,5 @@
 use Rattle.bus_tenure.specs.Elections.{election_with}
-use Rattle.bus_machine.proofs.LogRefused.{logs_refused, published_refused}
+use Rattle.bus_machine.proofs.Refused.LogRefused.{logs_refused, published_refused}
 use Rattle.bus_machine.proofs.laws.logs_refuse.Goals as goal
 
 pub returns-clause-logs : goal.returns-clause-logs

@@ -1,4 +1,4 @@
-use Rattle.bus_machine.proofs.RefusalLaws.{losses_refused}
+use Rattle.bus_machine.proofs.Refused.RefusalLaws.{losses_refused}
 use Rattle.bus_machine.proofs.laws.losses_refuse.Goals as goal
 
 pub returns : goal.returns

@@ -1,6 +1,6 @@
 use Rattle.bus_tenure.specs.Elections.{election_with}
-use Rattle.bus_machine.proofs.RefusalLaws.{follows_refused, marks_refused, pages_refused}
-use Rattle.bus_machine.proofs.RefusalLaws.{memories_refused, words_refused, bounds_refused}
+use Rattle.bus_machine.proofs.Refused.RefusalLaws.{follows_refused, marks_refused, pages_refused}
+use Rattle.bus_machine.proofs.Refused.RefusalLaws.{memories_refused, words_refused, bounds_refused}
 use Rattle.bus_machine.proofs.laws.machines_refuse.Goals as goal
 
 pub returns-clause-follows : goal.returns-clause-follows

@@ -1,5 +1,5 @@
 use Rattle.bus_tenure.specs.Elections.{election_with}
-use Rattle.bus_machine.proofs.PromiseRefused.{refused}
+use Rattle.bus_machine.proofs.Refused.PromiseRefused.{refused}
 use Rattle.bus_machine.proofs.laws.promise_refuses.Goals as goal
 
 pub returns : goal.returns

@@ -2,8 +2,8 @@ use Rattle.std.proofs.Common.{sym, subst}
 use Rattle.bus_tenure.specs.Elections.{elections, election_with}
 use Rattle.bus_world.proofs.Serving.{Serves, serves}
 use Rattle.bus_world.specs.World.{IsLayout}
-use Rattle.bus_machine.proofs.Leading.{Sits}
-use Rattle.bus_machine.proofs.Publishing.{published_stands}
+use Rattle.bus_machine.proofs.Bases.Leading.{Sits}
+use Rattle.bus_machine.proofs.Frames.Publishing.{published_stands}
 use Rattle.bus_machine.proofs.laws.published_words_stand.Goals as goal
 
 pub returns : goal.returns

@@ -1,5 +1,5 @@
-use Rattle.bus_machine.proofs.RefusalLaws.{says_more}
-use Rattle.bus_machine.proofs.SameActions.{says_no_more}
+use Rattle.bus_machine.proofs.Refused.RefusalLaws.{says_more}
+use Rattle.bus_machine.proofs.Memory.SameActions.{says_no_more}
 use Rattle.bus_machine.proofs.laws.same_actions_say_no_more.Goals as goal
 
 pub returns-clause-same : goal.returns-clause-same

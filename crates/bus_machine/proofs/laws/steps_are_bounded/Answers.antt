@@ -4,9 +4,9 @@ use Rattle.bus_tenure.specs.Core.{Layout}
 use Rattle.bus_tenure.specs.Elections.{elections, election_with}
 use Rattle.bus_world.proofs.Serving.{Serves, serves}
 use Rattle.bus_world.specs.World.{IsLayout}
-use Rattle.bus_machine.proofs.Bounding.{bounded}
-use Rattle.bus_machine.proofs.Leading.{Sits}
-use Rattle.bus_machine.proofs.PinBounds.{pins_bounded}
+use Rattle.bus_machine.proofs.Tenures.ElectionBounds.{bounded}
+use Rattle.bus_machine.proofs.Bases.Leading.{Sits}
+use Rattle.bus_machine.proofs.Tenures.PinBounds.{pins_bounded}
 use Rattle.bus_machine.proofs.laws.steps_are_bounded.Goals as goal
 
 pub returns : goal.returns

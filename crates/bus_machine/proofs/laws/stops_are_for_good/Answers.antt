@@ -1,5 +1,5 @@
 use Rattle.bus_tenure.specs.Elections.{election_with}
-use Rattle.bus_machine.proofs.StopLaws.{for_good, refuses}
+use Rattle.bus_machine.proofs.Stops.StopLaws.{for_good, refuses}
 use Rattle.bus_machine.proofs.laws.stops_are_for_good.Goals as goal
 
 pub returns : goal.returns

@@ -1,6 +1,6 @@
 use Rattle.std.proofs.Common.{arith}
 use Rattle.bus_world.proofs.Beginning.{no_bases_are}
-use Rattle.bus_machine.proofs.NewSenders.{no_bases_low}
+use Rattle.bus_machine.proofs.Bases.NewSenders.{no_bases_low}
 use Rattle.bus_machine.proofs.shapes.first_numbers.Goals as goal
 
 pub returns-in_default-clause-are : goal.returns-in_default-clause-are

@@ -1,5 +1,5 @@
 use Rattle.std.proofs.Common.{◌≡◌, ◌+◌, arith, subst, sym}
-use Rattle.bus_machine.proofs.NewSenders.{no_senders, one_more_sender}
+use Rattle.bus_machine.proofs.Bases.NewSenders.{no_senders, one_more_sender}
 use Rattle.bus_machine.specs.Playing.{layout_passed}
 use Rattle.bus_machine.specs.Turning.{AreNewSenders}
 use Rattle.bus_machine.proofs.starts.new_senders.Goals as goal

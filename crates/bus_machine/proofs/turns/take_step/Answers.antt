@@ -1,6 +1,6 @@
 use Rattle.std.proofs.Common.{inl, inr, sym, ◌∙◌}
 use Rattle.bus_tenure.specs.Elections.{election_with}
-use Rattle.bus_machine.proofs.TurnLaws.{idle_step, idle_tells, step_tells}
+use Rattle.bus_machine.proofs.Calls.TurnLaws.{idle_step, idle_tells, step_tells}
 use Rattle.bus_machine.proofs.turns.take_step.Goals as goal
 
 pub returns-in_default-clause-tells : goal.returns-in_default-clause-tells

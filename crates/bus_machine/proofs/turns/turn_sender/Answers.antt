@@ -1,6 +1,6 @@
 use Rattle.bus_tenure.specs.Elections.{election_with}
-use Rattle.bus_machine.proofs.TurnLaws.{sums_so, turned_as}
-use Rattle.bus_machine.proofs.HandTells.{tells_so, still_laid}
+use Rattle.bus_machine.proofs.Calls.TurnLaws.{sums_so, turned_as}
+use Rattle.bus_machine.proofs.Memory.HandTells.{tells_so, still_laid}
 use Rattle.bus_machine.proofs.turns.turn_sender.Goals as goal
 
 pub take_step-turn-requires-clause-sums : goal.take_step-turn-requires-clause-sums

@@ -3,7 +3,7 @@ use Rattle.std.specs.Option.{option_copied}
 use Rattle.bus_automaton.specs.Buses.{process_with, automaton_with, plan_passers, AreBasesOf}
 use Rattle.bus_automaton.specs.Buses.{Serves}
 use Rattle.bus_automaton.specs.declared.plans.Plan.{Plan}
-use Rattle.bus_machine.proofs.NewSenders.{no_memory_after}
+use Rattle.bus_machine.proofs.Bases.NewSenders.{no_memory_after}
 use Rattle.bus_machine.specs.Playing.{RefusedWith}
 use Rattle.bus_pageslot.specs.Buses.{AreNewSeats, AreNewTaps}
 use Rattle.bus_world.proofs.PlayingLaws.{passed_up}

@@ -1,4 +1,4 @@
-use Rattle.bus_pageslot.proofs.Noes.{no_stays, no_was_right, yes_stays}
+use Rattle.bus_pageslot.proofs.Sends.Noes.{no_stays, no_was_right, yes_stays}
 use Rattle.bus_pageslot.proofs.laws.a_no_was_right.Goals as goal
 
 pub returns-clause-ring : goal.returns-clause-ring

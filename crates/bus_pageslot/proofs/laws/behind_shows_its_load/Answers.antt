@@ -1,6 +1,6 @@
 use Rattle.bus_tenure.specs.Elections.{election_with}
 use Rattle.bus_automaton.specs.Buses.{process_with}
-use Rattle.bus_pageslot.proofs.BehindShown.{behind_shown}
+use Rattle.bus_pageslot.proofs.Said.BehindShown.{behind_shown}
 use Rattle.bus_pageslot.proofs.laws.behind_shows_its_load.Goals as goal
 
 pub returns : goal.returns

@@ -4,8 +4,8 @@ use Rattle.bus_ownerbits.specs.Sizes.{election_bound}
 use Rattle.bus_automaton.specs.Buses.{process_with, automaton_with}
 use Rattle.bus_pageslot.specs.Steps.{puts_from}
 use Rattle.bus_pageslot.specs.Sendings.{waiting_of}
-use Rattle.bus_pageslot.proofs.Carried.{go_on, next_new}
-use Rattle.bus_pageslot.proofs.Histories.{elector, sizes, laws_are}
+use Rattle.bus_pageslot.proofs.Sends.FoundThere.{go_on, next_new}
+use Rattle.bus_pageslot.proofs.Said.Histories.{elector, sizes, laws_are}
 use Rattle.bus_pageslot.proofs.laws.carried_messages_keep_their_numbers.Goals as goal
 
 pub returns-clause-waited : goal.returns-clause-waited

@@ -1,4 +1,4 @@
-use Rattle.bus_pageslot.proofs.ReaderLaws.{no_still_turn, no_still_telling, no_other_telling}
+use Rattle.bus_pageslot.proofs.Hears.ReaderLaws.{no_still_turn, no_still_telling, no_other_telling}
 use Rattle.bus_pageslot.proofs.laws.no_turn_without_a_load.Goals as goal
 
 pub returns-clause-turns : goal.returns-clause-turns

@@ -1,6 +1,6 @@
 use Rattle.bus_automaton.specs.Buses.{process_with, automaton_with}
-use Rattle.bus_pageslot.proofs.Passes.{pass_leaves, leave_leaves}
-use Rattle.bus_pageslot.proofs.Rings.{stores_apart}
+use Rattle.bus_pageslot.proofs.Hears.PassSteps.{pass_leaves, leave_leaves}
+use Rattle.bus_pageslot.proofs.Said.Rings.{stores_apart}
 use Rattle.bus_pageslot.proofs.laws.receivers_store_apart.Goals as goal
 
 pub returns-clause-apart : goal.returns-clause-apart

@@ -1,5 +1,5 @@
 use Rattle.bus_automaton.specs.Buses.{process_with, automaton_with}
-use Rattle.bus_pageslot.proofs.Rings.{all_served, all_have_seats}
+use Rattle.bus_pageslot.proofs.Said.Rings.{all_served, all_have_seats}
 use Rattle.bus_pageslot.proofs.laws.rings_are_safe.Goals as goal
 
 pub returns-clause-receiver : goal.returns-clause-receiver

@@ -1,6 +1,6 @@
 use Rattle.bus_ownerbits.specs.Sizes.{election_bound}
-use Rattle.bus_pageslot.proofs.Histories.{elector, sizes}
-use Rattle.bus_pageslot.proofs.SafeSeats.{are_safe}
+use Rattle.bus_pageslot.proofs.Said.Histories.{elector, sizes}
+use Rattle.bus_pageslot.proofs.Said.SafeSeats.{are_safe}
 use Rattle.bus_pageslot.proofs.laws.rows_used_again_are_safe.Goals as goal
 
 pub returns : goal.returns

@@ -1,5 +1,5 @@
 use Rattle.bus_automaton.specs.Buses.{process_with, automaton_with}
-use Rattle.bus_pageslot.proofs.Promising.{seats_promised}
+use Rattle.bus_pageslot.proofs.Said.Promising.{seats_promised}
 use Rattle.bus_pageslot.proofs.laws.seats_keep_promises.Goals as goal
 
 pub returns : goal.returns

@@ -7,7 +7,7 @@ use Rattle.bus_machine.specs.Telling.{LossesAreSeen}
 use Rattle.bus_tenure.specs.Core.{Election}
 use Rattle.bus_tenure.specs.Elections.{Elector, election_with}
 use Rattle.bus_world.specs.World.{IsLayout}
-use Rattle.bus_pageslot.proofs.Histories.{rule_is, laws_are, sized, has_history}
+use Rattle.bus_pageslot.proofs.Said.Histories.{rule_is, laws_are, sized, has_history}
 use Rattle.bus_pageslot.proofs.laws.tables_are_machines.Goals as goal
 
 pub returns : goal.returns

@@ -1,7 +1,7 @@
 use Rattle.bus_automaton.specs.Buses.{process_with}
 use Rattle.bus_pageslot.specs.Turns.{tells_with}
-use Rattle.bus_pageslot.proofs.Counted.{counts_one, took_counted, hears_counted, hears_noted}
-use Rattle.bus_pageslot.proofs.Counted.{passes_noted}
+use Rattle.bus_pageslot.proofs.Sends.Counted.{counts_one, took_counted, hears_counted, hears_noted}
+use Rattle.bus_pageslot.proofs.Sends.Counted.{passes_noted}
 use Rattle.bus_pageslot.proofs.laws.turns_take_one_step.Goals as goal
 
 pub returns-clause-sender : goal.returns-clause-sender

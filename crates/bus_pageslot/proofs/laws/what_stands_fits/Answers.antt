@@ -1,7 +1,7 @@
 use Rattle.bus_automaton.specs.Buses.{process_with, automaton_with, layout_by, plan_passers}
-use Rattle.bus_machine.proofs.Served.{served}
+use Rattle.bus_machine.proofs.Bases.Served.{served}
 use Rattle.bus_tenure.specs.Elections.{elections, election_with}
-use Rattle.bus_pageslot.proofs.Fitting.{table_fits}
+use Rattle.bus_pageslot.proofs.Said.Fitting.{table_fits}
 use Rattle.bus_pageslot.proofs.laws.what_stands_fits.Goals as goal
 
 pub returns : goal.returns

@@ -1,6 +1,6 @@
 use Rattle.std.proofs.Common.{refl}
 use Rattle.bus_deliverylog.specs.declared.receiving.RecvTurn.TheVariants as turn
-use Rattle.bus_pageslot.proofs.Passing.{pass_is_due, pass_is_not_due, hears_passed}
+use Rattle.bus_pageslot.proofs.Hears.PassTurns.{pass_is_due, pass_is_not_due, hears_passed}
 use Rattle.bus_pageslot.proofs.listening.hear.Goals as goal
 
 pub pass-requires-clause-due : goal.pass-requires-clause-due

@@ -1,6 +1,6 @@
 use Rattle.std.proofs.Common.{◌<◌, arith, subst, sym, ◌∙◌}
 use Rattle.atomic_table.specs.Seated.{TableId}
-use Rattle.bus_pageslot.proofs.Passing.{of_its_own}
+use Rattle.bus_pageslot.proofs.Hears.PassTurns.{of_its_own}
 use Rattle.bus_pageslot.proofs.listening.hear_length.Goals as goal
 
 pub load_length_in_turn-length-requires-clause-table :

@@ -1,8 +1,8 @@
 use Rattle.std.proofs.Common.{◌≡◌, None, refl, subst, ◌∙◌, ap, arith}
 use Rattle.bus_deliverylog.specs.declared.receiving.RecvTurn.TheVariants as turn
 use Rattle.bus_pageslot.specs.Listening.{Hears, Writes, WritesOrPlain, At, Onward, sign_after}
-use Rattle.bus_pageslot.proofs.Passing.{pass_is_due, pass_is_not_due, hears_passed}
-use Rattle.bus_pageslot.proofs.ReaderLaws.{unread}
+use Rattle.bus_pageslot.proofs.Hears.PassTurns.{pass_is_due, pass_is_not_due, hears_passed}
+use Rattle.bus_pageslot.proofs.Hears.ReaderLaws.{unread}
 use Rattle.bus_pageslot.proofs.listening.hear_on.Goals as goal
 
 pub loop-turn-init : goal.loop-turn-init

@@ -2,9 +2,9 @@ use Rattle.std.proofs.Common.{◌≢◌, inr, ◌<◌, arith, refl, subst, sym, 
 use Rattle.atomic_table.specs.Seated.{TableId}
 use Rattle.bus_deliverylog.specs.Receiving.{LogReading}
 use Rattle.bus_deliverylog.specs.declared.receiving.RecvTurn.TheVariants as turn
-use Rattle.bus_pageslot.proofs.Passing.{cell_below, cell_here}
-use Rattle.bus_pageslot.proofs.Rounds.{not_known}
-use Rattle.bus_pageslot.proofs.ReaderLaws.{word_receiver_view, word_heard, goes_on_after}
+use Rattle.bus_pageslot.proofs.Hears.PassTurns.{cell_below, cell_here}
+use Rattle.bus_pageslot.proofs.Hears.Rounds.{not_known}
+use Rattle.bus_pageslot.proofs.Hears.ReaderLaws.{word_receiver_view, word_heard, goes_on_after}
 use Rattle.bus_pageslot.proofs.listening.hear_word.Goals as goal
 
 pub load_word_in_turn-word-requires-clause-table : goal.load_word_in_turn-word-requires-clause-table

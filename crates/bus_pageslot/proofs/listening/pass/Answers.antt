@@ -1,7 +1,7 @@
 use Rattle.std.proofs.Common.{◌<◌, arith, subst, sym, ◌∙◌, ap}
 use Rattle.atomic_table.specs.Seated.{TableId}
 use Rattle.bus_pageslot.specs.Seats.{IsReceiverView}
-use Rattle.bus_pageslot.proofs.Passing.{its_own, has_passed, has_passers}
+use Rattle.bus_pageslot.proofs.Hears.PassTurns.{its_own, has_passed, has_passers}
 use Rattle.bus_pageslot.proofs.listening.pass.Goals as goal
 
 pub store_passed-requires-clause-table : goal.store_passed-requires-clause-table

@@ -1,6 +1,6 @@
 use Rattle.std.proofs.Common.{refl}
 use Rattle.bus_deliverylog.specs.declared.receiving.RecvTurn.TheVariants as turn
-use Rattle.bus_pageslot.proofs.ReaderLaws.{still_to_take}
+use Rattle.bus_pageslot.proofs.Hears.ReaderLaws.{still_to_take}
 use Rattle.bus_pageslot.proofs.listening.take_word.Goals as goal
 
 pub returns-then-take_item-clause-word : goal.returns-then-take_item-clause-word

@@ -3,8 +3,8 @@ use Rattle.std.specs.Slots.{slots_items}
 use Rattle.bus_core.specs.declared.limits.TheConstants.{PASSED_APART}
 use Rattle.bus_tenure.specs.Situations.{lesser}
 use Rattle.bus_world.specs.Log.{least_passed}
-use Rattle.bus_pageslot.proofs.Endings.{word_at}
-use Rattle.bus_pageslot.proofs.Looking.{floor_some, one_more}
+use Rattle.bus_pageslot.proofs.Said.Endings.{word_at}
+use Rattle.bus_pageslot.proofs.Sends.Looking.{floor_some, one_more}
 use Rattle.bus_pageslot.proofs.outcomes.floor_left.Goals as goal
 
 pub loop-r-preserved : goal.loop-r-preserved

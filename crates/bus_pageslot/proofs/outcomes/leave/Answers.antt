@@ -6,10 +6,10 @@ use Rattle.bus_ownerbits.specs.Sizes.{election_bound}
 use Rattle.bus_automaton.specs.Buses.{process_with, automaton_with}
 use Rattle.bus_pageslot.specs.Endings.{IsLeft}
 use Rattle.bus_pageslot.specs.Outcomes.{IsOutcome}
-use Rattle.bus_pageslot.proofs.AboveFrames.{rises_above, stays_below}
-use Rattle.bus_pageslot.proofs.Endings.{word_at, wide, rising, fits, left_out, left_home}
-use Rattle.bus_pageslot.proofs.Endings.{outcome_of}
-use Rattle.bus_pageslot.proofs.Endings.{floor_at, read_at}
+use Rattle.bus_pageslot.proofs.Said.AboveFrames.{rises_above, stays_below}
+use Rattle.bus_pageslot.proofs.Said.Endings.{word_at, wide, rising, fits, left_out, left_home}
+use Rattle.bus_pageslot.proofs.Said.Endings.{outcome_of}
+use Rattle.bus_pageslot.proofs.Said.Endings.{floor_at, read_at}
 use Rattle.bus_pageslot.proofs.outcomes.leave.Goals as goal
 
 pub word-stage-requires : goal.word-stage-requires

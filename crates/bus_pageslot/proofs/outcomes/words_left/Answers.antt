@@ -1,7 +1,7 @@
 use Rattle.std.proofs.Common.{◌≡◌, ◌+◌, ◌-◌, ◌%◌, ◌++◌, [], ◌∷◌, slice_index, arith, sym, ◌∙◌, ap}
 use Rattle.std.specs.Slots.{slots_items}
 use Rattle.bus_world.specs.Log.{words_in_ring}
-use Rattle.bus_pageslot.proofs.Endings.{word_at, read-next}
+use Rattle.bus_pageslot.proofs.Said.Endings.{word_at, read-next}
 use Rattle.bus_pageslot.proofs.outcomes.words_left.Goals as goal
 
 pub loop-place-preserved : goal.loop-place-preserved

@@ -1,4 +1,4 @@
-use Rattle.bus_pageslot.proofs.OneAnswer.{hears_adds}
+use Rattle.bus_pageslot.proofs.Hears.OneAnswer.{hears_adds}
 use Rattle.bus_pageslot.proofs.receiving_laws.each_turn_adds_one_answer.Goals as goal
 
 pub returns-clause-adds : goal.returns-clause-adds

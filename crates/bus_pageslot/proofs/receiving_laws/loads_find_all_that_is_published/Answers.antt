@@ -1,6 +1,6 @@
 use Rattle.bus_automaton.specs.Buses.{process_with, automaton_with}
-use Rattle.bus_pageslot.proofs.Lasting.{hears_whole, knows_whole, learns_whole, length_leaves}
-use Rattle.bus_pageslot.proofs.Lasting.{turn_leaves}
+use Rattle.bus_pageslot.proofs.Said.Lasting.{hears_whole, knows_whole, learns_whole, length_leaves}
+use Rattle.bus_pageslot.proofs.Said.Lasting.{turn_leaves}
 use Rattle.bus_pageslot.proofs.receiving_laws.loads_find_all_that_is_published.Goals as goal
 
 pub returns-clause-finds : goal.returns-clause-finds

@@ -1,6 +1,7 @@
 use Rattle.std.proofs.Common.{slice_index}
 use Rattle.bus_automaton.specs.Buses.{process_with, automaton_with}
-use Rattle.bus_pageslot.proofs.Lasting.{joined_leaves, look_leaves, turn_word_leaves, word_leaves}
+use Rattle.bus_pageslot.proofs.Said.Lasting.{joined_leaves, look_leaves, turn_word_leaves}
+use Rattle.bus_pageslot.proofs.Said.Lasting.{word_leaves}
 use Rattle.bus_pageslot.proofs.receiving_laws.loads_leave_what_was_published.Goals as goal
 
 pub returns-clause-word : goal.returns-clause-word

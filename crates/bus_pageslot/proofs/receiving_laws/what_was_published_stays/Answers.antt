@@ -1,5 +1,5 @@
 use Rattle.bus_automaton.specs.Buses.{process_with, automaton_with}
-use Rattle.bus_pageslot.proofs.Lasting.{step_begins, step_same, steps_begin}
+use Rattle.bus_pageslot.proofs.Said.Lasting.{step_begins, step_same, steps_begin}
 use Rattle.bus_pageslot.proofs.receiving_laws.what_was_published_stays.Goals as goal
 
 pub returns-clause-steps : goal.returns-clause-steps

@@ -1,7 +1,7 @@
 use Rattle.bus_automaton.specs.Buses.{process_with}
 use Rattle.bus_tenure.specs.Elections.{election_with}
 use Rattle.bus_pageslot.specs.Turns.{tells_with}
-use Rattle.bus_pageslot.proofs.Finishing.{finishing_refuses}
+use Rattle.bus_pageslot.proofs.Sends.Finishing.{finishing_refuses}
 use Rattle.bus_pageslot.proofs.refusals.finishing_refuses.Goals as goal
 
 pub returns : goal.returns

@@ -1,4 +1,4 @@
-use Rattle.bus_pageslot.proofs.ReaderLaws.{turns_refuse}
+use Rattle.bus_pageslot.proofs.Hears.ReaderLaws.{turns_refuse}
 use Rattle.bus_pageslot.proofs.refusals.hearing_refuses.Goals as goal
 
 pub returns : goal.returns

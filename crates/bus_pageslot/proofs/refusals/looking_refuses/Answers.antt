@@ -1,5 +1,5 @@
 use Rattle.bus_automaton.specs.Buses.{process_with, automaton_with}
-use Rattle.bus_pageslot.proofs.Looking.{looking_refuses}
+use Rattle.bus_pageslot.proofs.Sends.Looking.{looking_refuses}
 use Rattle.bus_pageslot.proofs.refusals.looking_refuses.Goals as goal
 
 pub returns : goal.returns

@@ -1,5 +1,5 @@
 use Rattle.bus_automaton.specs.Buses.{process_with, automaton_with}
-use Rattle.bus_pageslot.proofs.Rings.{rule_refuses}
+use Rattle.bus_pageslot.proofs.Said.Rings.{rule_refuses}
 use Rattle.bus_pageslot.proofs.refusals.rule_refuses.Goals as goal
 
 pub returns : goal.returns

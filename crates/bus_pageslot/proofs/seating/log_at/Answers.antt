@@ -4,7 +4,7 @@ use Rattle.bus_adoptcommit.specs.declared.verdicts.Verdict.{Verdict}
 use Rattle.bus_automaton.proofs.ServedPlans.{as_planned}
 use Rattle.bus_automaton.specs.Buses.{automaton_with, layout_by, passers_in, plan_passers}
 use Rattle.bus_core.specs.declared.limits.TheConstants.{PASSED_APART}
-use Rattle.bus_machine.proofs.NewSenders.{with_width, senders_are, capacity_of}
+use Rattle.bus_machine.proofs.Bases.NewSenders.{with_width, senders_are, capacity_of}
 use Rattle.bus_machine.specs.Machine.{log_place, passers_place}
 use Rattle.bus_machine.specs.Playing.{layout_of, layout_passed}
 use Rattle.bus_register.specs.Protocol.{Protocol}

@@ -1,6 +1,6 @@
 use Rattle.std.proofs.Common.{◌<◌, arith, ◌∙◌}
 use Rattle.bus_automaton.specs.Buses.{automaton_with}
-use Rattle.bus_pageslot.proofs.Passing.{none_at_all}
+use Rattle.bus_pageslot.proofs.Hears.PassTurns.{none_at_all}
 use Rattle.bus_pageslot.proofs.seating.passed_place.Goals as goal
 
 pub returns-then-index-passers : goal.returns-then-index-passers

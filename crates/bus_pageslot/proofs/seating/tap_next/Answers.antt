@@ -4,7 +4,7 @@ use Rattle.bus_automaton.specs.Buses.{automaton_with}
 use Rattle.bus_pageslot.specs.ReceiverViews.{new_receiver_view}
 use Rattle.bus_pageslot.specs.Rule.{tap_left, tap_right, receiver_view_in, table_layout_in}
 use Rattle.bus_pageslot.specs.declared.rule.View.TheVariants.{Tap}
-use Rattle.bus_pageslot.proofs.Passing.{none_or_all}
+use Rattle.bus_pageslot.proofs.Hears.PassTurns.{none_or_all}
 use Rattle.bus_pageslot.proofs.seating.tap_next.Goals as goal
 
 pub cut_tap-seat-requires-clause-table : goal.cut_tap-seat-requires-clause-table

@@ -1,11 +1,12 @@
 use Rattle.bus_automaton.specs.Buses.{process_with}
 use Rattle.bus_tenure.specs.Elections.{election_with}
 use Rattle.bus_pageslot.specs.Turns.{tells_with}
-use Rattle.bus_pageslot.proofs.Staying.{asking_same, draws_same, finishes_same, leaves_number}
-use Rattle.bus_pageslot.proofs.Staying.{looked_same}
-use Rattle.bus_pageslot.proofs.Staying.{marked_same, put_same, sends_for_room_same, sends_same}
-use Rattle.bus_pageslot.proofs.Staying.{stops_for_room_same, stops_same, takes_up_to_same}
-use Rattle.bus_pageslot.proofs.Staying.{through_same, turned_same}
+use Rattle.bus_pageslot.proofs.Sends.Staying.{asking_same, draws_same, finishes_same, leaves_number}
+use Rattle.bus_pageslot.proofs.Sends.Staying.{looked_same}
+use Rattle.bus_pageslot.proofs.Sends.Staying.{marked_same, put_same, sends_for_room_same}
+use Rattle.bus_pageslot.proofs.Sends.Staying.{sends_same}
+use Rattle.bus_pageslot.proofs.Sends.Staying.{stops_for_room_same, stops_same, takes_up_to_same}
+use Rattle.bus_pageslot.proofs.Sends.Staying.{through_same, turned_same}
 use Rattle.bus_pageslot.proofs.sending_laws.senders_stay_who_they_are.Goals as goal
 
 pub returns-clause-turn : goal.returns-clause-turn

@@ -3,7 +3,7 @@ use Rattle.bus_tenure.specs.Core.{Layout}
 use Rattle.bus_tenure.specs.Elections.{elections, election_with}
 use Rattle.bus_world.proofs.Serving.{Serves, serves}
 use Rattle.bus_world.specs.World.{IsLayout}
-use Rattle.bus_machine.proofs.Leading.{Sits}
+use Rattle.bus_machine.proofs.Bases.Leading.{Sits}
 use Rattle.bus_replay.proofs.ClosingLaws.{closes_alike}
 use Rattle.bus_replay.proofs.laws.closing_lines_are_of_the_bus.Goals as goal
 

@@ -1,7 +1,7 @@
 use Rattle.std.proofs.Common.{◌≡◌, length, None, refl, sym, ◌∙◌, subst}
 use Rattle.std.proofs.lemmas.List.{take_all}
 use Rattle.std.proofs.lemmas.Option.{slice_get_read}
-use Rattle.bus_pageslot.proofs.Endings.{nothing_there}
+use Rattle.bus_pageslot.proofs.Said.Endings.{nothing_there}
 use Rattle.bus_run.specs.Stops.{AreUnstopped}
 use Rattle.bus_run.proofs.AuditLemmas.{one_more_fair}
 use Rattle.bus_run.proofs.StopLemmas.{stopped_at}

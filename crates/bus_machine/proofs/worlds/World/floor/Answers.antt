@@ -1,8 +1,8 @@
 use Rattle.std.proofs.Common.{◌≡◌, sym, ◌∙◌, subst, arith}
 use Rattle.bus_tenure.specs.Elections.{elections, election_with}
-use Rattle.bus_machine.proofs.Served.{served}
-use Rattle.bus_machine.proofs.Holding.{floor_is, passers_there, word_there}
-use Rattle.bus_machine.proofs.NewSenders.{capacity_of, passers_of}
+use Rattle.bus_machine.proofs.Bases.Served.{served}
+use Rattle.bus_machine.proofs.Calls.Holding.{floor_is, passers_there, word_there}
+use Rattle.bus_machine.proofs.Bases.NewSenders.{capacity_of, passers_of}
 use Rattle.bus_machine.specs.Machine.{floor_of}
 use Rattle.bus_machine.proofs.worlds.World.floor.Goals as goal
 

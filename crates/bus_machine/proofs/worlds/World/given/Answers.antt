@@ -5,13 +5,13 @@ use Rattle.std.proofs.lemmas.List.{length-take}
 use Rattle.std.proofs.lemmas.Option.{same_Some}
 use Rattle.bus_batch.specs.Frames.{AreFrames, log_pieces, order_in}
 use Rattle.bus_tenure.specs.Elections.{elections, election_with}
-use Rattle.bus_machine.proofs.Served.{served}
+use Rattle.bus_machine.proofs.Bases.Served.{served}
 use Rattle.bus_world.proofs.PlayingLaws.{there}
 use Rattle.bus_world.proofs.ViewingLaws.{front_given}
-use Rattle.bus_machine.proofs.Calls.{heard, stands}
-use Rattle.bus_machine.proofs.Framed.{floor_first}
-use Rattle.bus_machine.proofs.Holding.{until_within}
-use Rattle.bus_machine.proofs.NewSenders.{senders_are}
+use Rattle.bus_machine.proofs.Calls.Held.{heard, stands}
+use Rattle.bus_machine.proofs.Frames.Framed.{floor_first}
+use Rattle.bus_machine.proofs.Calls.Holding.{until_within}
+use Rattle.bus_machine.proofs.Bases.NewSenders.{senders_are}
 use Rattle.bus_machine.proofs.worlds.World.given.Goals as goal
 
 pub slice_bounds-read_front-end : goal.slice_bounds-read_front-end

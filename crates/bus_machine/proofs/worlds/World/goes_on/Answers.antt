@@ -1,5 +1,5 @@
 use Rattle.std.proofs.Common.{arith}
-use Rattle.bus_machine.proofs.Events.{stop_late, stop_unknown}
+use Rattle.bus_machine.proofs.Calls.Events.{stop_late, stop_unknown}
 use Rattle.bus_machine.proofs.worlds.World.goes_on.Goals as goal
 
 pub returns-then-sender-len-clause-fault : goal.returns-then-sender-len-clause-fault

@@ -1,8 +1,8 @@
 use Rattle.bus_tenure.specs.Elections.{elections, election_with}
-use Rattle.bus_machine.proofs.Served.{served}
+use Rattle.bus_machine.proofs.Bases.Served.{served}
 use Rattle.bus_world.proofs.PlayingLaws.{there}
-use Rattle.bus_machine.proofs.Events.{receivers_many, gone_happens, gone_sits}
-use Rattle.bus_machine.proofs.Holding.{leaves_within}
+use Rattle.bus_machine.proofs.Calls.Events.{receivers_many, gone_happens, gone_sits}
+use Rattle.bus_machine.proofs.Calls.Holding.{leaves_within}
 use Rattle.bus_machine.proofs.worlds.World.gone_at.Goals as goal
 
 pub leave_for_good-requires : goal.leave_for_good-requires

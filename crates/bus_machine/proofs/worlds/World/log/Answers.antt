@@ -1,9 +1,9 @@
 use Rattle.std.proofs.Common.{sym, ◌∙◌, arith}
 use Rattle.bus_tenure.specs.Elections.{elections, election_with}
-use Rattle.bus_machine.proofs.Served.{served}
-use Rattle.bus_machine.proofs.Events.{ok_more}
-use Rattle.bus_machine.proofs.Holding.{floor_within, log_shown, word_there}
-use Rattle.bus_machine.proofs.NewSenders.{capacity_of}
+use Rattle.bus_machine.proofs.Bases.Served.{served}
+use Rattle.bus_machine.proofs.Calls.Events.{ok_more}
+use Rattle.bus_machine.proofs.Calls.Holding.{floor_within, log_shown, word_there}
+use Rattle.bus_machine.proofs.Bases.NewSenders.{capacity_of}
 use Rattle.bus_machine.proofs.worlds.World.log.Goals as goal
 
 pub overflow_sub-log : goal.overflow_sub-log

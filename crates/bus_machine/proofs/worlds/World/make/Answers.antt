@@ -1,8 +1,8 @@
 use Rattle.std.proofs.Common.{Some, ◌+◌, ◌*◌, ◌≤◌, map, refl, sym, arith, ap, subst}
 use Rattle.bus_core.proofs.Reusing.Widths.{few_words}
-use Rattle.bus_machine.proofs.NewSenders.{made_new, made_held, no_memory_after, passed_apart}
-use Rattle.bus_machine.proofs.NewSenders.{with_width}
-use Rattle.bus_machine.proofs.Rising.{log_behind}
+use Rattle.bus_machine.proofs.Bases.NewSenders.{made_new, made_held, no_memory_after, passed_apart}
+use Rattle.bus_machine.proofs.Bases.NewSenders.{with_width}
+use Rattle.bus_machine.proofs.Onward.StageRises.{log_behind}
 use Rattle.bus_core.specs.declared.limits.TheConstants.{PASSED_APART}
 use Rattle.bus_machine.specs.Machine.{New}
 use Rattle.bus_world.specs.Starting.{AreNewReceivers}

@@ -1,8 +1,8 @@
 use Rattle.bus_tenure.specs.Elections.{election_with}
 use Rattle.bus_world.proofs.PlayingLaws.{there, passed_up}
 use Rattle.bus_world.specs.World.{Ask}
-use Rattle.bus_machine.proofs.Events.{senders_many, mark_happens, mark_refuses, mark_sits}
-use Rattle.bus_machine.proofs.Events.{mark_unknown}
+use Rattle.bus_machine.proofs.Calls.Events.{senders_many, mark_happens, mark_refuses, mark_sits}
+use Rattle.bus_machine.proofs.Calls.Events.{mark_unknown}
 use Rattle.bus_machine.specs.Playing.{Refuses}
 use Rattle.bus_machine.proofs.worlds.World.mark_at.Goals as goal
 

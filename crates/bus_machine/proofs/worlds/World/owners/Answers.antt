@@ -1,7 +1,7 @@
 use Rattle.std.proofs.Common.{map, ap, ◌∙◌, sym, subst}
 use Rattle.bus_tenure.specs.Elections.{elections, election_with}
-use Rattle.bus_machine.proofs.Served.{served}
-use Rattle.bus_machine.proofs.Calls.{took}
+use Rattle.bus_machine.proofs.Bases.Served.{served}
+use Rattle.bus_machine.proofs.Calls.Held.{took}
 use Rattle.bus_machine.specs.Promise.{TakersTold}
 use Rattle.bus_machine.proofs.worlds.World.owners.Goals as goal
 

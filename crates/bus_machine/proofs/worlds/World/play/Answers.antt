@@ -1,11 +1,11 @@
 use Rattle.std.proofs.Common.{take, map, sym, subst, arith}
 use Rattle.std.proofs.lemmas.List.{take-map}
 use Rattle.bus_tenure.specs.Elections.{elections, election_with}
-use Rattle.bus_machine.proofs.Served.{served}
+use Rattle.bus_machine.proofs.Bases.Served.{served}
 use Rattle.bus_world.proofs.Growing.{told_more, told_at, all_told}
 use Rattle.bus_world.specs.Playing.{event_told}
-use Rattle.bus_machine.proofs.Calls.{played}
-use Rattle.bus_machine.proofs.PlayLaws.{answered_more}
+use Rattle.bus_machine.proofs.Calls.Held.{played}
+use Rattle.bus_machine.proofs.Calls.PlayLaws.{answered_more}
 use Rattle.bus_machine.specs.Playing.{AllAnswered, Refused}
 use Rattle.bus_machine.proofs.worlds.World.play.Goals as goal
 

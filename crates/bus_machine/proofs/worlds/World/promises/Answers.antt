@@ -5,8 +5,8 @@ use Rattle.bus_ownerbits.specs.Sizes.{election_bound}
 use Rattle.bus_register.specs.Protocol.{Protocol}
 use Rattle.bus_tenure.specs.Elections.{elections, election_with}
 use Rattle.bus_world.specs.declared.shapes.Shape.{Shape}
-use Rattle.bus_machine.proofs.Served.{served}
-use Rattle.bus_machine.proofs.Calls.{happened, promised, losses_seen, steps_bounded}
+use Rattle.bus_machine.proofs.Bases.Served.{served}
+use Rattle.bus_machine.proofs.Calls.Held.{happened, promised, losses_seen, steps_bounded}
 use Rattle.bus_machine.proofs.worlds.World.promises.Goals as goal
 
 -- the bound of steps, by the sizes of the shape

@@ -1,12 +1,12 @@
 use Rattle.std.proofs.Common.{subst}
 use Rattle.std.specs.Prelude.{IfOk}
 use Rattle.bus_tenure.specs.Elections.{elections, election_with}
-use Rattle.bus_machine.proofs.Served.{served}
+use Rattle.bus_machine.proofs.Bases.Served.{served}
 use Rattle.bus_world.specs.World.{Put}
 use Rattle.bus_world.specs.declared.events.Answer.TheVariants as answer
-use Rattle.bus_machine.proofs.Calls.{answers}
+use Rattle.bus_machine.proofs.Calls.Held.{answers}
 use Rattle.bus_machine.specs.Playing.{Answers}
-use Rattle.bus_machine.proofs.Events.{ok_more}
+use Rattle.bus_machine.proofs.Calls.Events.{ok_more}
 use Rattle.bus_machine.proofs.worlds.World.put.Goals as goal
 
 pub returns-clause-answered : goal.returns-clause-answered

@@ -1,10 +1,11 @@
 use Rattle.std.proofs.Common.{arith}
 use Rattle.bus_tenure.specs.Elections.{elections, election_with}
-use Rattle.bus_machine.proofs.Served.{served}
+use Rattle.bus_machine.proofs.Bases.Served.{served}
 use Rattle.bus_world.proofs.PlayingLaws.{there, passed_up, small_bytes}
 use Rattle.bus_world.specs.World.{Put}
-use Rattle.bus_machine.proofs.Events.{senders_many, put_happens, put_refuses, put_sits, put_unknown}
-use Rattle.bus_machine.proofs.Holding.{numbers}
+use Rattle.bus_machine.proofs.Calls.Events.{senders_many, put_happens, put_refuses, put_sits}
+use Rattle.bus_machine.proofs.Calls.Events.{put_unknown}
+use Rattle.bus_machine.proofs.Calls.Holding.{numbers}
 use Rattle.bus_machine.specs.Playing.{Refuses}
 use Rattle.bus_machine.proofs.worlds.World.put_at.Goals as goal
 

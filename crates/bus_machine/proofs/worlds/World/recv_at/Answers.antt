@@ -1,9 +1,9 @@
 use Rattle.std.proofs.Common.{◌≡◌, Some, slice_get, subst}
 use Rattle.bus_tenure.specs.Elections.{elections, election_with}
-use Rattle.bus_machine.proofs.Served.{served}
+use Rattle.bus_machine.proofs.Bases.Served.{served}
 use Rattle.bus_world.proofs.PlayingLaws.{there}
-use Rattle.bus_machine.proofs.Events.{receivers_many, recv_happens, recv_sits}
-use Rattle.bus_machine.proofs.Holding.{loads_within}
+use Rattle.bus_machine.proofs.Calls.Events.{receivers_many, recv_happens, recv_sits}
+use Rattle.bus_machine.proofs.Calls.Holding.{loads_within}
 use Rattle.bus_machine.proofs.worlds.World.recv_at.Goals as goal
 
 pub turn_receiver-requires : goal.turn_receiver-requires

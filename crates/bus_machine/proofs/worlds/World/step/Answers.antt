@@ -1,6 +1,6 @@
 use Rattle.bus_tenure.specs.Elections.{elections, election_with}
-use Rattle.bus_machine.proofs.Served.{served}
-use Rattle.bus_machine.proofs.Calls.{all_answer}
+use Rattle.bus_machine.proofs.Bases.Served.{served}
+use Rattle.bus_machine.proofs.Calls.Held.{all_answer}
 use Rattle.bus_machine.proofs.worlds.World.step.Goals as goal
 
 pub returns-clause-answered : goal.returns-clause-answered

@@ -1,7 +1,7 @@
 use Rattle.bus_tenure.specs.Elections.{election_with}
 use Rattle.bus_world.proofs.PlayingLaws.{one_there, passed_up}
 use Rattle.bus_world.specs.World.{Stop}
-use Rattle.bus_machine.proofs.Events.{senders_many, stop_happens, stop_sits, stop_refused}
+use Rattle.bus_machine.proofs.Calls.Events.{senders_many, stop_happens, stop_sits, stop_refused}
 use Rattle.bus_machine.specs.Playing.{Refuses}
 use Rattle.bus_machine.proofs.worlds.World.stop_at.Goals as goal
 

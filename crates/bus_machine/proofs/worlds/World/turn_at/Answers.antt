@@ -1,12 +1,13 @@
 use Rattle.std.proofs.Common.{◌≤◌, ◌∙◌, sym, subst, arith}
 use Rattle.std.proofs.lemmas.List.{length-map}
 use Rattle.bus_tenure.specs.Elections.{elections, election_with}
-use Rattle.bus_machine.proofs.Served.{served}
+use Rattle.bus_machine.proofs.Bases.Served.{served}
 use Rattle.bus_world.proofs.PlayingLaws.{there, passed_up, numbers_many}
 use Rattle.bus_world.specs.World.{Turn}
-use Rattle.bus_machine.proofs.Events.{senders_many, goes, turn_happens, turn_sits, turn_unknown}
-use Rattle.bus_machine.proofs.Events.{turn_says, turn_causes}
-use Rattle.bus_machine.proofs.Holding.{room, sums, laid, owner_fits, owners_few, rows_within}
+use Rattle.bus_machine.proofs.Calls.Events.{senders_many, goes, turn_happens, turn_sits}
+use Rattle.bus_machine.proofs.Calls.Events.{turn_unknown}
+use Rattle.bus_machine.proofs.Calls.Events.{turn_says, turn_causes}
+use Rattle.bus_machine.proofs.Calls.Holding.{room, sums, laid, owner_fits, owners_few, rows_within}
 use Rattle.bus_machine.specs.Playing.{Refuses}
 use Rattle.bus_machine.proofs.worlds.World.turn_at.Goals as goal
 

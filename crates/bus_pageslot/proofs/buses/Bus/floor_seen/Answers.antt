@@ -5,8 +5,8 @@ use Rattle.bus_core.specs.declared.limits.TheConstants.{PASSED_APART}
 use Rattle.bus_pageslot.specs.Buses.{BusId}
 use Rattle.bus_pageslot.specs.Looks.{IsFoundOn, IsSenders}
 use Rattle.bus_pageslot.specs.Rule.{with_look}
-use Rattle.bus_pageslot.proofs.Looking.{Found, found_none, found_more, lesser_low}
-use Rattle.bus_pageslot.proofs.Looking.{seen_none, seen_some, senders_look}
+use Rattle.bus_pageslot.proofs.Sends.Looking.{Found, found_none, found_more, lesser_low}
+use Rattle.bus_pageslot.proofs.Sends.Looking.{seen_none, seen_some, senders_look}
 use Rattle.bus_pageslot.proofs.buses.Bus.floor_seen.Goals as goal
 
 pub returns-then-passers-eq0-clause-floor : goal.returns-then-passers-eq0-clause-floor

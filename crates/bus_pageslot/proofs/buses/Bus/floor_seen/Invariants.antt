@@ -1,7 +1,7 @@
 use Rattle.std.proofs.Common.{◌≡◌, ◌≤◌, Some}
 use Rattle.bus_automaton.specs.Buses.{process_with, automaton_with}
 use Rattle.bus_pageslot.specs.Looks.{IsSenders}
-use Rattle.bus_pageslot.proofs.Looking.{Found}
+use Rattle.bus_pageslot.proofs.Sends.Looking.{Found}
 use Rattle.bus_pageslot.proofs.buses.Bus.floor_seen.Given as goal
 
 abbrev pub ghosts-look : goal.ghosts-look

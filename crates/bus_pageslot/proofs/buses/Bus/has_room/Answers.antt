@@ -3,7 +3,7 @@ use Rattle.bus_automaton.specs.Buses.{process_with, automaton_with}
 use Rattle.bus_pageslot.specs.Buses.{BusId}
 use Rattle.bus_tenure.specs.Core.{length_at}
 use Rattle.bus_pageslot.specs.Looks.{IsFoundOn, IsSenders}
-use Rattle.bus_pageslot.proofs.Looking.{looked, senders_look}
+use Rattle.bus_pageslot.proofs.Sends.Looking.{looked, senders_look}
 use Rattle.bus_pageslot.proofs.buses.Bus.has_room.Goals as goal
 
 pub returns-clause-looked : goal.returns-clause-looked

@@ -1,5 +1,5 @@
 use Rattle.std.proofs.Common.{◌+◌, ◌%◌, ◌^◌, ◌∙◌, ap}
-use Rattle.bus_pageslot.proofs.Rounds.{cell_at}
+use Rattle.bus_pageslot.proofs.Hears.Rounds.{cell_at}
 use Rattle.bus_pageslot.proofs.listeners.Listener.at.Goals as goal
 
 pub returns : goal.returns

@@ -1,6 +1,6 @@
 use Rattle.std.proofs.Common.{◌≡◌, inl, inr, ℕ, ◌+◌, ◌-◌, ◌^◌, arith}
 use Rattle.std.proofs.lemmas.Bool.{cases_lt}
-use Rattle.bus_pageslot.proofs.Rounds.{shifted_back, next_begins, round_over}
+use Rattle.bus_pageslot.proofs.Hears.Rounds.{shifted_back, next_begins, round_over}
 use Rattle.bus_pageslot.proofs.listeners.Listener.next_round.Goals as goal
 
 pub returns-clause-round : goal.returns-clause-round

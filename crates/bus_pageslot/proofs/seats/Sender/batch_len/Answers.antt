@@ -1,7 +1,7 @@
 use Rattle.std.proofs.Common.{sym, ◌∙◌, ap, inl, inr, arith}
 use Rattle.bus_automaton.specs.Buses.{process_with}
 use Rattle.bus_pageslot.specs.Looks.{batch_len}
-use Rattle.bus_pageslot.proofs.Looking.{frame_marked, frame_bare, batch_is}
+use Rattle.bus_pageslot.proofs.Sends.Looking.{frame_marked, frame_bare, batch_is}
 use Rattle.bus_pageslot.proofs.seats.Sender.batch_len.Goals as goal
 use Rattle.bus_pageslot.proofs.seats.Sender.batch_len.Goals.{then-is_closing-via-then-is_closing}
 use Rattle.bus_pageslot.proofs.seats.Sender.batch_len.Goals.{

@@ -6,7 +6,7 @@ use Rattle.bus_world.specs.Headline.{HasPut}
 use Rattle.bus_automaton.specs.Buses.{process_with}
 use Rattle.bus_pageslot.specs.Seats.{actions_of}
 use Rattle.bus_pageslot.specs.Sendings.{TakesAll, TakesNone, TakesMore}
-use Rattle.bus_pageslot.proofs.Carrying.{carries, refused, takes_seat, split_at}
+use Rattle.bus_pageslot.proofs.Sends.Carries.{carries, refused, takes_seat, split_at}
 use Rattle.bus_pageslot.proofs.seats.Sender.carry_to.Goals as goal
 
 pub loop-message-init : goal.loop-message-init

@@ -5,7 +5,7 @@ use Rattle.bus_batch.specs.Batches.{CanClose, IsCloseFault}
 use Rattle.bus_batch.specs.declared.messages.Mark.TheVariants.{End}
 use Rattle.bus_world.specs.Headline.{HasMarked}
 use Rattle.bus_pageslot.specs.Seats.{actions_of}
-use Rattle.bus_pageslot.proofs.Puts.{shows_mark, mark_done}
+use Rattle.bus_pageslot.proofs.Sends.Puts.{shows_mark, mark_done}
 use Rattle.bus_pageslot.proofs.seats.Sender.close.Goals as goal
 
 pub invariant_of-self : goal.invariant_of-self

@@ -2,9 +2,10 @@ use Rattle.std.proofs.Common.{◌+◌, arith, refl, sym, ◌∙◌, ap, is_some}
 use Rattle.bus_automaton.specs.Buses.{process_with}
 use Rattle.bus_core.specs.Seen.{tenure_begun}
 use Rattle.bus_pageslot.specs.Turns.{tells_with, Undrawn}
-use Rattle.bus_pageslot.proofs.Finishing.{has_finished, finishes_as, finished_keeps, goes_through}
-use Rattle.bus_pageslot.proofs.Finishing.{through_begun, goes_at_first, not_some}
-use Rattle.bus_pageslot.proofs.Sending.{turned_puts, drawn_on}
+use Rattle.bus_pageslot.proofs.Sends.Finishing.{has_finished, finishes_as, finished_keeps}
+use Rattle.bus_pageslot.proofs.Sends.Finishing.{goes_through}
+use Rattle.bus_pageslot.proofs.Sends.Finishing.{through_begun, goes_at_first, not_some}
+use Rattle.bus_pageslot.proofs.Sends.Sending.{turned_puts, drawn_on}
 use Rattle.bus_pageslot.proofs.seats.Sender.finish.Goals as goal
 
 pub returns-then-not-has_begun-clause-none : goal.returns-then-not-has_begun-clause-none

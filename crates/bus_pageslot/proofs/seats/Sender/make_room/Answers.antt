@@ -1,7 +1,7 @@
 use Rattle.std.proofs.Common.{arith}
 use Rattle.bus_automaton.specs.Buses.{process_with}
 use Rattle.bus_pageslot.specs.Turns.{tells_with}
-use Rattle.bus_pageslot.proofs.Batching.{room_made}
+use Rattle.bus_pageslot.proofs.Sends.Batching.{room_made}
 use Rattle.bus_pageslot.proofs.seats.Sender.make_room.Goals as goal
 
 pub returns-clause-sends : goal.returns-clause-sends

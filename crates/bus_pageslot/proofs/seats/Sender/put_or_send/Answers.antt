@@ -5,8 +5,8 @@ use Rattle.bus_automaton.specs.Buses.{process_with}
 use Rattle.bus_pageslot.specs.Turns.{tells_with}
 use Rattle.bus_pageslot.specs.Seats.{actions_of}
 use Rattle.bus_pageslot.specs.Sendings.{FillsBatches, Put, waiting_of}
-use Rattle.bus_pageslot.proofs.Sending.{same_sender}
-use Rattle.bus_pageslot.proofs.Batching.{stops_full}
+use Rattle.bus_pageslot.proofs.Sends.Sending.{same_sender}
+use Rattle.bus_pageslot.proofs.Sends.Batching.{stops_full}
 use Rattle.bus_pageslot.proofs.seats.Sender.put_or_send.Goals as goal
 
 pub returns-in-Ok-clause-taken : goal.returns-in-Ok-clause-taken

@@ -3,7 +3,7 @@ use Rattle.std.specs.Prelude.{IfSome}
 use Rattle.bus_automaton.specs.Buses.{process_with}
 use Rattle.bus_tenure.specs.Classes.{is_refusal}
 use Rattle.bus_pageslot.specs.Sendings.{KeptAfter}
-use Rattle.bus_pageslot.proofs.Sending.{sends_if}
+use Rattle.bus_pageslot.proofs.Sends.Sending.{sends_if}
 use Rattle.bus_pageslot.proofs.seats.Sender.send.Goals as goal
 
 pub returns-clause-sends : goal.returns-clause-sends

@@ -5,7 +5,7 @@ use Rattle.std.proofs.lemmas.Option.{slice_get_read}
 use Rattle.bus_automaton.specs.Buses.{process_with}
 use Rattle.bus_pageslot.specs.Turns.{tells_with}
 use Rattle.bus_pageslot.specs.Sendings.{FillsBatches, SentBefore, StopsAt}
-use Rattle.bus_pageslot.proofs.Batching.{has_sent, has_sent_part, stops_last}
+use Rattle.bus_pageslot.proofs.Sends.Batching.{has_sent, has_sent_part, stops_last}
 use Rattle.bus_pageslot.proofs.seats.Sender.send_all.Goals as goal
 
 take_length : {A : Type 0} (xs : List A) → take (length xs) xs ≡ xs

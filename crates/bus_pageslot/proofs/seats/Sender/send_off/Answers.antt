@@ -1,7 +1,7 @@
 use Rattle.std.proofs.Common.{arith}
 use Rattle.bus_automaton.specs.Buses.{process_with}
 use Rattle.bus_pageslot.specs.Turns.{tells_with}
-use Rattle.bus_pageslot.proofs.Batching.{keeps}
+use Rattle.bus_pageslot.proofs.Sends.Batching.{keeps}
 use Rattle.bus_pageslot.proofs.seats.Sender.send_off.Goals as goal
 
 pub returns-then-pending-gt0-clause-keeps : goal.returns-then-pending-gt0-clause-keeps

@@ -7,8 +7,8 @@ use Rattle.bus_pageslot.specs.Buses.{BusId}
 use Rattle.bus_pageslot.specs.Rule.{sender_trail_in, notes_in, stored_in, known_in}
 use Rattle.bus_pageslot.specs.Steps.{KnowsSent}
 use Rattle.bus_pageslot.specs.Seats.{SenderSeat, table_of, actions_of, stored_of}
-use Rattle.bus_pageslot.proofs.Puts.{actions_are, shows_same}
-use Rattle.bus_pageslot.proofs.Joining.{told_of}
+use Rattle.bus_pageslot.proofs.Sends.Puts.{actions_are, shows_same}
+use Rattle.bus_pageslot.proofs.Hears.Joining.{told_of}
 use Rattle.bus_pageslot.proofs.seats.Sender.tell.Goals as goal
 
 pub meet-requires-clause-table : goal.meet-requires-clause-table

@@ -6,7 +6,7 @@ use Rattle.bus_ownerbits.specs.Sizes.{election_bound}
 use Rattle.bus_register.specs.Words.{register}
 use Rattle.bus_tenure.specs.Elections.{election_with}
 use Rattle.bus_pageslot.specs.Turns.{tells_with}
-use Rattle.bus_pageslot.proofs.Finishing.{turned_begun}
+use Rattle.bus_pageslot.proofs.Sends.Finishing.{turned_begun}
 use Rattle.bus_pageslot.proofs.seats.Sender.turn_begun.Goals as goal
 
 pub returns-clause-turned : goal.returns-clause-turned

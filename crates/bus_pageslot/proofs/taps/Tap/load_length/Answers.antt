@@ -4,7 +4,7 @@ use Rattle.bus_core.specs.Senders.{Sender}
 use Rattle.bus_tenure.specs.Elections.{Elector}
 use Rattle.bus_pageslot.specs.Buses.{BusId}
 use Rattle.bus_pageslot.specs.Seats.{ReceiverSeat, receiver_seat, receiver_seat_of, IsTap}
-use Rattle.bus_pageslot.proofs.ReaderLaws.{learned}
+use Rattle.bus_pageslot.proofs.Hears.ReaderLaws.{learned}
 use Rattle.bus_pageslot.proofs.taps.Tap.load_length.Goals as goal
 
 pub load_length-length-requires-clause-table : goal.load_length-length-requires-clause-table

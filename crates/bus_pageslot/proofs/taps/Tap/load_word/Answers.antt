@@ -8,7 +8,7 @@ use Rattle.bus_pageslot.specs.Rule.{known_in, log_word_in, receiver_view_in, tab
 use Rattle.bus_pageslot.specs.Rule.{with_receiver_view, MayRead}
 use Rattle.bus_pageslot.specs.Buses.{BusId}
 use Rattle.bus_pageslot.specs.Seats.{ReceiverSeat, receiver_seat, receiver_seat_of}
-use Rattle.bus_pageslot.proofs.Passing.{cell_within, cell_is}
+use Rattle.bus_pageslot.proofs.Hears.PassTurns.{cell_within, cell_is}
 use Rattle.bus_pageslot.proofs.taps.Tap.load_word.Goals as goal
 
 pub cell-requires : goal.cell-requires

@@ -6,8 +6,8 @@ use Rattle.bus_automaton.specs.Buses.{process_with}
 use Rattle.bus_pageslot.specs.ReceiverViews.{Agree}
 use Rattle.bus_pageslot.specs.Rule.{receiver_view_in}
 use Rattle.bus_pageslot.specs.Seats.{ReceiverSeat, receiver_seat, receiver_seat_of, IsTap}
-use Rattle.bus_pageslot.proofs.Joining.{met_of}
-use Rattle.bus_pageslot.proofs.ReaderLaws.{learned}
+use Rattle.bus_pageslot.proofs.Hears.Joining.{met_of}
+use Rattle.bus_pageslot.proofs.Hears.ReaderLaws.{learned}
 use Rattle.bus_pageslot.proofs.taps.Tap.meet.Goals as goal
 
 pub invariant_of-self : goal.invariant_of-self

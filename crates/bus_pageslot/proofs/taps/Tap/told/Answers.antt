@@ -3,7 +3,7 @@ use Rattle.atomic_table.specs.Seated.{TableId}
 use Rattle.bus_core.specs.Senders.{Sender}
 use Rattle.bus_tenure.specs.Elections.{Elector}
 use Rattle.bus_pageslot.specs.Seats.{ReceiverSeat, receiver_seat, receiver_seat_of, IsTap}
-use Rattle.bus_pageslot.proofs.ReaderLaws.{learned}
+use Rattle.bus_pageslot.proofs.Hears.ReaderLaws.{learned}
 use Rattle.bus_pageslot.proofs.taps.Tap.told.Goals as goal
 
 pub invariant_of-self : goal.invariant_of-self

@@ -6,7 +6,7 @@ use Rattle.bus_register.specs.declared.limits.TheConstants.{PASSED_ALL}
 use Rattle.bus_pageslot.specs.Buses.{BusId}
 use Rattle.bus_pageslot.specs.Rule.{TableInvariant, passed_word_in}
 use Rattle.bus_pageslot.specs.Steps.{HasLeft}
-use Rattle.bus_pageslot.proofs.Passes.{leave_allowed}
+use Rattle.bus_pageslot.proofs.Hears.PassSteps.{leave_allowed}
 use Rattle.bus_pageslot.proofs.words.Words.leave.Goals as goal
 
 pub store-requires : goal.store-requires

@@ -2,7 +2,7 @@ use Rattle.std.proofs.Common.{◌<◌, subst, sym, ◌∙◌, ap}
 use Rattle.atomic_table.specs.Seated.{TableId}
 use Rattle.bus_automaton.specs.Buses.{process_with, automaton_with}
 use Rattle.bus_pageslot.specs.Buses.{BusId}
-use Rattle.bus_pageslot.proofs.Loads.{length_heard_allowed}
+use Rattle.bus_pageslot.proofs.Hears.Loads.{length_heard_allowed}
 use Rattle.bus_pageslot.proofs.words.Words.load_length_in_turn.Goals as goal
 
 pub load-requires : goal.load-requires

@@ -5,7 +5,7 @@ use Rattle.bus_automaton.specs.Buses.{process_with, automaton_with}
 use Rattle.bus_pageslot.specs.Buses.{BusId}
 use Rattle.bus_pageslot.specs.Rule.{TableInvariant}
 use Rattle.bus_pageslot.specs.Steps.{Reads}
-use Rattle.bus_pageslot.proofs.Loads.{word_allowed}
+use Rattle.bus_pageslot.proofs.Hears.Loads.{word_allowed}
 use Rattle.bus_pageslot.proofs.words.Words.load_word.Goals as goal
 
 pub load-requires : goal.load-requires

@@ -5,7 +5,7 @@ use Rattle.bus_automaton.specs.Buses.{process_with, automaton_with}
 use Rattle.bus_pageslot.specs.Buses.{BusId}
 use Rattle.bus_pageslot.specs.Listening.{FindsWord}
 use Rattle.bus_pageslot.specs.Rule.{TableInvariant, receiver_view_in, log_word_in}
-use Rattle.bus_pageslot.proofs.Loads.{word_heard_allowed}
+use Rattle.bus_pageslot.proofs.Hears.Loads.{word_heard_allowed}
 use Rattle.bus_pageslot.proofs.words.Words.load_word_in_turn.Goals as goal
 
 pub load-requires : goal.load-requires

@@ -4,7 +4,7 @@ use Rattle.bus_automaton.specs.Buses.{process_with, automaton_with}
 use Rattle.bus_automaton.specs.declared.plans.Plan.{Plan}
 use Rattle.bus_pageslot.specs.Buses.{BusId}
 use Rattle.bus_pageslot.specs.Looks.{IsFoundBy}
-use Rattle.bus_pageslot.proofs.Loads.{look_allowed}
+use Rattle.bus_pageslot.proofs.Hears.Loads.{look_allowed}
 use Rattle.bus_pageslot.proofs.words.Words.look.Goals as goal
 
 pub load-requires : goal.load-requires

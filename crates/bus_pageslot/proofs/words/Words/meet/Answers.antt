@@ -8,8 +8,9 @@ use Rattle.bus_pageslot.specs.declared.rule.View.{View}
 use Rattle.bus_pageslot.specs.declared.rule.View.TheVariants.{Spent}
 use Rattle.bus_pageslot.specs.Buses.{BusId}
 use Rattle.bus_pageslot.specs.Rule.{TableInvariant, views_joined}
-use Rattle.bus_pageslot.proofs.Joining.{IsPair, joins_allowed, parts_allowed, meets_allowed, pairs}
-use Rattle.bus_pageslot.proofs.Joining.{still_pair}
+use Rattle.bus_pageslot.proofs.Hears.Joining.{IsPair, joins_allowed, parts_allowed, meets_allowed}
+use Rattle.bus_pageslot.proofs.Hears.Joining.{pairs}
+use Rattle.bus_pageslot.proofs.Hears.Joining.{still_pair}
 use Rattle.bus_pageslot.proofs.words.Words.meet.Goals as goal
 
 pub join_seat-requires : goal.join_seat-requires

@@ -6,7 +6,7 @@ use Rattle.bus_automaton.specs.Processes.{passed_word}
 use Rattle.bus_pageslot.specs.Buses.{BusId}
 use Rattle.bus_pageslot.specs.Rule.{TableInvariant, passed_word_in, receiver_view_in}
 use Rattle.bus_pageslot.specs.Steps.{HasPassed}
-use Rattle.bus_pageslot.proofs.Passes.{pass_allowed}
+use Rattle.bus_pageslot.proofs.Hears.PassSteps.{pass_allowed}
 use Rattle.bus_pageslot.proofs.words.Words.store_passed.Goals as goal
 
 pub store-requires : goal.store-requires

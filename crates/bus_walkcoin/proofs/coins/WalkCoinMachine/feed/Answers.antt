@@ -5,7 +5,7 @@ use Rattle.bus_walkcoin.specs.declared.coins.Phase.{Phase}
 use Rattle.bus_walkcoin.specs.Coin.{CoinState, PhaseFits, after_settled, after_load, coin_fed}
 use Rattle.bus_walkcoin.specs.Coin.{fed_at}
 use Rattle.bus_walkcoin.specs.CoinRule.{settled_bit}
-use Rattle.bus_walkcoin.specs.Proved.CoinLaws.{load_fits}
+use Rattle.bus_walkcoin.specs.Private.CoinLaws.{load_fits}
 use Rattle.bus_walkcoin.proofs.coins.WalkCoinMachine.feed.Goals as goal
 
 -- the new phase, by the number that was found

@@ -1,0 +1,80 @@
+-- What leads to a machine of sizes that are served, as each of the two kinds of rows has it.
+use Rattle.std.proofs.Common.{◌≡◌, ℕ, ◌≤◌, Some, sym, ◌∙◌, subst}
+use Rattle.bus_register.specs.Protocol.{Protocol}
+use Rattle.bus_tenure.specs.Core.{Election}
+use Rattle.std.proofs.Common.{List}
+use Rattle.bus_deliverylog.specs.Receiving.{Receiving}
+use Rattle.bus_deliverylog.specs.declared.receiving.RecvTurn.{RecvTurn}
+use Rattle.bus_world.proofs.Serving.{Serves}
+use Rattle.bus_world.specs.World.{IsLayout, Event}
+use Rattle.bus_world.specs.declared.events.Answer.{Answer}
+use Rattle.bus_machine.proofs.Bases.AtNone.{event_reuse, forks_reuse}
+use Rattle.bus_machine.proofs.Bases.AtSome.{event_led, forks, new_led}
+use Rattle.bus_machine.specs.Private.Bridge.{IsLed}
+use Rattle.bus_machine.specs.Machine.{Machine, Trails, Reached, New as Start, Then as Next, Happens}
+use Rattle.bus_machine.specs.Machine.{Joins, JoinsAs}
+use Rattle.bus_machine.specs.Promise.{HasRows}
+
+module _ {E : Type 0} (X : Election E) (P : Protocol E (Unit {0}) ℕ) where
+  -- its sizes are served
+  pub record Sits (m : Machine E) : Type 0 where
+    pub serves : Serves X P m.layout
+    pub ok : IsLayout m.layout
+    pub rows : HasRows m.reuse
+
+  pub sits_before : (w m : Machine E) (e : Event) (a : Answer) → Happens X w e a m → Sits m → Sits w
+  sits_before w m e a h s =
+      let i = event_reuse X w m e a h in
+      record {
+        serves = subst (Serves X P) i.0 s.serves;
+        ok = subst IsLayout i.0 s.ok;
+        rows = subst HasRows i.1 s.rows;
+      }
+
+  pub sits_after : (w m : Machine E) (e : Event) (a : Answer) → Happens X w e a m → Sits w → Sits m
+  sits_after w m e a h s =
+      let i = event_reuse X w m e a h in
+      record {
+        serves = subst (Serves X P) (sym i.0) s.serves;
+        ok = subst IsLayout (sym i.0) s.ok;
+        rows = subst HasRows (sym i.1) s.rows;
+      }
+
+  pub sits_unforked : (w m : Machine E) (H : ℕ → List RecvTurn) (j : ℕ)
+      (next : Receiving) (before : List RecvTurn) → JoinsAs w H j next before m → Sits m → Sits w
+  sits_unforked w m H j next before h s =
+      let same = forks_reuse X w m H j next before h in
+      record {
+        serves = subst (Serves X P) same.0 s.serves;
+        ok = subst IsLayout same.0 s.ok;
+        rows = subst HasRows same.1 s.rows;
+      }
+
+  pub sits_forked : (w m : Machine E) (H : ℕ → List RecvTurn) (j : ℕ)
+      (next : Receiving) (before : List RecvTurn) → JoinsAs w H j next before m → Sits w → Sits m
+  sits_forked w m H j next before h s =
+      let same = forks_reuse X w m H j next before h in
+      record {
+        serves = subst (Serves X P) (sym same.0) s.serves;
+        ok = subst IsLayout (sym same.0) s.ok;
+        rows = subst HasRows (sym same.1) s.rows;
+      }
+
+  -- ---- rows that are used again
+  pub two_rows : (m : Machine E) → Sits m → (rows : ℕ) → m.reuse ≡ Some rows → 2 ≤ rows
+  two_rows m s rows used = subst HasRows used s.rows
+
+  -- the trails lead to its protocol
+  pub led_some : (m : Machine E) (T : Trails) → Sits m → Reached X m T → (rows : ℕ)
+      → m.reuse ≡ Some rows → IsLed X rows m T
+  led_some m T s (Start w new) rows used = new_led X rows w new used
+  led_some m T s (Next w v U f a before h) rows used =
+      let t = sits_before w v f a h s in
+      let was = sym (event_reuse X w v f a h).1 ∙ used in
+      event_led X P rows w U t.serves t.ok (two_rows w t rows was) (led_some w U t before rows was)
+      v f a h
+  led_some m T s (Joins w v U j n next told before h nobody silent) rows used =
+      let t = sits_unforked w v U.heard j next told h s in
+      let was = sym (forks_reuse X w v U.heard j next told h).1 ∙ used in
+      forks X P rows w U t.serves t.ok (two_rows w t rows was) (led_some w U t before rows was)
+      v j n next told h nobody silent

@@ -1,0 +1,8 @@
+-- What the definitions refuse. Each file serves a few goals.
+
+-- Answers, memories and machines that the definitions refuse.
+pub mod RefusalLaws
+-- Each of the wrong behaviours is refused.
+mod PromiseRefused
+-- No promise holds of a log that lacks what was put, or has a word that was never stored.
+mod LogRefused

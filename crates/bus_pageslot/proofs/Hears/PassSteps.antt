@@ -1,0 +1,276 @@
+-- A receiver's stores in its passed place are allowed: of its place, where a frame begins, and of
+-- the number past all places.
+use Rattle.std.proofs.Common.{◌≡◌, ◌≢◌, inl, inr, ℕ, ◌<◌, true, false, Option, Some, None}
+use Rattle.std.proofs.Common.{[], ◌∷◌, ◌++◌, drop, length, slice_index, slice_set}
+use Rattle.std.proofs.Common.{take, arith, refl, sym, ◌∙◌, ap, subst, ⊎_elim, append_assoc}
+use mathlib.Core.Option.{some}
+use lib.ListN.{get_elem?}
+use Rattle.std.proofs.lemmas.Bool.{true≢false}
+use Rattle.std.proofs.lemmas.List.{get_or-set_other, length-take}
+use Rattle.std.proofs.lemmas.List.{take-append-drop}
+use Rattle.atomic_table.specs.Table.{State, keeps, Allows}
+use Rattle.atomic_table.proofs.Lists.{at_set}
+use Rattle.bus_register.specs.declared.limits.TheConstants.{PASSED_ALL}
+use Rattle.bus_batch.specs.Frames.{AreFrames, Order, IsLog, log_words}
+use Rattle.bus_tenure.specs.declared.pages.Page.{Page}
+use Rattle.bus_world.proofs.Standing.{frames_begin}
+use Rattle.bus_automaton.specs.Lawful.{AutomatonLaws, MayPass, PassesIn}
+use Rattle.bus_automaton.specs.Processes.{TableLayout, Process, Automaton, passed_word}
+use Rattle.bus_automaton.specs.SenderTrails.{SenderTrail}
+use Rattle.bus_pageslot.specs.ReceiverViews.{ReceiverView, HasHeard, passed_on, left_for_good}
+use Rattle.bus_pageslot.specs.Rule.{Sat, slot_of, receiver_view_in, with_receiver_view}
+use Rattle.bus_pageslot.specs.Rule.{passed_word_in, IsSeated, Seats, SeatsReceiver}
+use Rattle.bus_pageslot.specs.Rule.{IsListening, KnowsLog, IsTrueOf, TableInvariant}
+use Rattle.bus_pageslot.specs.Rings.{LeavesAll}
+use Rattle.bus_pageslot.specs.Steps.{HasPassed, HasLeft}
+use Rattle.bus_pageslot.specs.declared.rule.View.{View}
+use Rattle.bus_pageslot.specs.declared.rule.View.TheVariants.{Maker, Sender, Tap, Meeting, Telling}
+use Rattle.bus_pageslot.specs.declared.rule.View.TheVariants.{Spent}
+use Rattle.bus_pageslot.proofs.Rule.AllSeats.{still_seen}
+use Rattle.bus_pageslot.proofs.Hears.Hearing.{heard_left, heard_passed}
+use Rattle.bus_pageslot.proofs.Hears.Loads.{Listens}
+
+module _ {C : Type 0} (P : Process C) (A : Automaton C) (L : AutomatonLaws P A)
+    (s : State (Option Page) (View C)) (r : TableInvariant P A s) (id number : ℕ)
+    (passed : Option ℕ) (me : ℕ) (mine : r.ear me ≡ id)
+    (p : PassesIn A r.state me number passed) where
+  -- ---- the other views stay true
+  first_same : slice_index (A.words p.state) 0 ≡ slice_index (A.words r.state) 0
+  first_same =
+      ap (λ ws. slice_index ws 0) p.words
+      ∙ get_or-set_other (A.words r.state) (passed_word A.table_layout me) 0 number 0
+      (λ e. absurd (let low = L.passed_behind in omega arith))
+
+  apart : (j : ℕ) → j ≢ id → (q : ℕ) → r.ear q ≡ j → q ≢ me
+  apart j other q at same = other (sym at ∙ ap r.ear same ∙ mine)
+
+  seated_still : (j : ℕ) (c : C) (t : SenderTrail) (stored : ℕ)
+      → IsSeated P A r.state r.seat j c t stored → IsSeated P A p.state r.seat j c t stored
+  seated_still j c t stored h = record {
+    here = h.here;
+    core = p.senders (P.me c) ∙ h.core;
+    sender_trail_is = p.trails (P.me c) ∙ h.sender_trail_is;
+    reached = let a = h.reached in let same = first_same in omega arith;
+  }
+
+  listens_still : (j : ℕ) → j ≢ id → (e : ReceiverView) → Listens A r.state r.ear j e
+      → Listens A p.state r.ear j e
+  listens_still j other e (inl flat) = inl flat
+  listens_still j other e (inr l) = inr record {
+    here = l.here;
+    below = l.below;
+    shown = λ stays. p.others e.me (apart j other e.me l.here) ∙ l.shown stays;
+    left = λ gone. p.others e.me (apart j other e.me l.here) ∙ l.left gone;
+    past = l.past;
+  }
+
+  -- what a receiver knows, with what it shows then
+  pub knows_with : (j : ℕ) (x : TableLayout) (e e' : ReceiverView)
+      (h : KnowsLog A r.state r.ear j x e)
+      → e'.known ≡ e.known → e'.place ≡ e.place → HasHeard h.frames e'
+      → Listens A p.state r.ear j e' → KnowsLog A p.state r.ear j x e'
+  knows_with j x e e' h known place heard listens = record {
+    table_layout = h.table_layout;
+    front = record {
+      rest = h.front.rest;
+      together = ap (λ k. k ++ h.front.rest) known ∙ h.front.together ∙ sym p.log;
+    };
+    below = let a = h.below in let size = ap length known in omega arith;
+    frames = h.frames;
+    lawful = h.lawful;
+    words_are = h.words_are ∙ sym p.log;
+    heard = heard;
+    listens = listens;
+  }
+
+  knows_still : (j : ℕ) → j ≢ id → (x : TableLayout) (e : ReceiverView)
+      → KnowsLog A r.state r.ear j x e → KnowsLog A p.state r.ear j x e
+  knows_still j other x e h =
+      knows_with j x e e h refl refl h.heard (listens_still j other e h.listens)
+
+  others_true : (j : ℕ) → j ≢ id → (v : View C) → IsTrueOf P A r.state r.seat r.ear j v
+      → IsTrueOf P A p.state r.seat r.ear j v
+  others_true j other (Maker x made) h = (
+    h.0,
+    (λ q low high. record {
+      here = (h.1 q low high).here;
+      core = p.senders q ∙ (h.1 q low high).core;
+      sender_trail_is = p.trails q ∙ (h.1 q low high).sender_trail_is;
+    }),
+    λ q low high. record {
+      here = (h.2 q low high).here;
+      passed = p.others q (apart j other q (h.2 q low high).here) ∙ (h.2 q low high).passed;
+    },
+  )
+  others_true j other (Sender c t notes) h = seated_still j c t notes.stored h
+  others_true j other (Tap x e) h = knows_still j other x e h
+  others_true j other (Meeting x e y f) h =
+      (knows_still j other x e h.0, knows_still j other y f h.1, h.2)
+  others_true j other (Telling c t notes x e) h =
+      (seated_still j c t notes.stored h.0, knows_still j other x e h.1)
+  others_true j other Spent h = tt
+
+  -- ---- so the rule holds
+  pub stored : (x : TableLayout) (e e' : ReceiverView) → get_elem? s.views id ≡ some (Tap x e)
+      → e'.me ≡ e.me → (word : ℕ) → word ≡ passed_word A.table_layout me
+      → KnowsLog A p.state r.ear id x e'
+      → LeavesAll P A s r id word number (Tap x e')
+  stored x e e' at same word is knows = record {
+    rule = record {
+      state = p.state;
+      reached = p.reached;
+      words = ap (λ ws. slice_set ws word number) r.words
+          ∙ ap (λ i. slice_set (A.words r.state) i number) is ∙ sym p.words;
+      slot = r.slot ∙ ap (λ (h : Option Page). slot_of h ∷ []) (sym p.home);
+      seat = r.seat;
+      ear = r.ear;
+      views = λ j v i. ⊎_elim
+          (λ (u : (j ≡ id) × (Tap x e' ≡ v)).
+          subst (λ (y : ℕ × View C). IsTrueOf P A p.state r.seat r.ear y.0 y.1)
+          (λ k. (sym u.0 k, u.1 k)) knows)
+          (λ (u : (j ≢ id) × (get_elem? s.views j ≡ some v)).
+          others_true j u.0 v (r.views j v u.1))
+          (at_set s.views id j (Tap x e') v i);
+      all = λ q below. still_seen (Seats P q) s.views id (Tap x e) (Tap x e') at (λ k. k)
+          (r.all q below);
+      all_heard = λ q below. still_seen (SeatsReceiver q) s.views id (Tap x e) (Tap x e') at
+          (λ k. same ∙ k) (r.all_heard q below);
+    };
+    log = p.log;
+  }
+
+-- ---- a receiver that has a passed place is of its own number
+pub its_own : {C : Type 0} (A : Automaton C) (z : A.State) (ear : ℕ → ℕ) (j : ℕ) (x : TableLayout)
+    (e : ReceiverView) → KnowsLog A z ear j x e → 0 < x.passers → IsListening A z ear j e
+its_own A z ear j x e h any = by h.listens
+  where
+    by : Listens A z ear j e → IsListening A z ear j e
+    by (inl flat) =
+        absurd (let same = ap (λ (y : TableLayout). y.passers) h.table_layout in omega arith)
+    by (inr l) = l
+
+-- and may pass where the words that it has read are a log
+may_pass : {C : Type 0} (A : Automaton C) (z : A.State) (ear : ℕ → ℕ) (j : ℕ) (x : TableLayout)
+    (e : ReceiverView) → KnowsLog A z ear j x e → e.ended ≡ false
+    → IsLog x.senders (take e.place e.known) → MayPass A z e.place
+may_pass A z ear j x e h going log =
+    let senders = ap (λ (y : TableLayout). y.senders) h.table_layout in
+    let rest = drop e.place e.known ++ h.front.rest in
+    let whole : log_words log.frames ++ rest ≡ log_words h.frames =
+    ap (λ ws. ws ++ rest) log.words_are
+    ∙ sym (append_assoc (take e.place e.known) (drop e.place e.known) h.front.rest)
+    ∙ ap (λ ws. ws ++ h.front.rest) (take-append-drop e.place e.known) ∙ h.front.together
+    ∙ sym h.words_are in
+    let begun = frames_begin A.table_layout.senders 0 0 log.frames h.frames rest
+    (subst (λ n. AreFrames n log.frames) senders log.lawful) h.lawful
+    whole in
+    record {
+      frames = h.frames;
+      lawful = h.lawful;
+      words_are = h.words_are;
+      begins = record {
+        front = log.frames;
+        rest = begun.0;
+        frames_are = begun.1;
+        place_is =
+            let size = ap length log.words_are in
+            let read = length-take e.place e.known in
+            let within = h.below in omega arith;
+      };
+      no_end = ap (λ (o : Order). o.ended) (sym h.heard.given_is) ∙ sym h.heard.ended_is ∙ going;
+    }
+
+-- ---- its two stores
+module _ {C : Type 0} (P : Process C) (A : Automaton C) (L : AutomatonLaws P A)
+    (s : State (Option Page) (View C)) (r : TableInvariant P A s) (id : ℕ) (x : TableLayout)
+    (e : ReceiverView) (here : get_elem? s.views id ≡ some (Tap x e)) (stays : e.gone ≡ false)
+    (any : 0 < x.passers) where
+  abbrev h : KnowsLog A r.state r.ear id x e
+  h = r.views id (Tap x e) here
+
+  l : IsListening A r.state r.ear id e
+  l = its_own A r.state r.ear id x e h any
+
+  abbrev word : ℕ
+  word = passed_word x e.me
+
+  is_word : word ≡ passed_word A.table_layout e.me
+  is_word = ap (λ (y : TableLayout). passed_word y e.me) h.table_layout
+
+  pub pass_leaves : e.ended ≡ false → IsLog x.senders (take e.place e.known)
+      → LeavesAll P A s r id word e.place (Tap x (passed_on e word))
+  pass_leaves going log =
+      let p = L.passes r.state e.me e.passed e.place r.reached (l.shown stays) l.past
+      (may_pass A r.state r.ear id x e h going log) in
+      stored P A L s r id e.place (Some e.place) e.me l.here p x e (passed_on e word) here refl word
+      is_word
+      (knows_with P A L s r id e.place (Some e.place) e.me l.here p id x e (passed_on e word) h refl
+      refl (heard_passed h.frames e h.heard word going)
+      (inr record {
+        here = l.here;
+        below = l.below;
+        shown = λ k. p.here;
+        left = λ k. absurd (true≢false (sym k ∙ stays));
+        past = omega arith;
+      }))
+
+  pub leave_leaves : LeavesAll P A s r id word PASSED_ALL (Tap x (left_for_good e word))
+  leave_leaves =
+      let p = L.leaves r.state e.me e.passed r.reached (l.shown stays) in
+      stored P A L s r id PASSED_ALL None e.me l.here p x e (left_for_good e word) here refl word
+      is_word
+      (knows_with P A L s r id PASSED_ALL None e.me l.here p id x e (left_for_good e word) h refl
+      refl (heard_left h.frames e h.heard word)
+      (inr record {
+        here = l.here;
+        below = l.below;
+        shown = λ k. absurd (let bad : true ≡ false = k in cc);
+        left = λ k. p.here;
+        past = l.past;
+      }))
+
+-- are allowed
+module _ {C : Type 0} (P : Process C) (A : Automaton C) (L : AutomatonLaws P A) (slots id : ℕ)
+    (m : Sat C) (x : TableLayout) (e : ReceiverView) (is : m.0 ≡ Tap x e) where
+  pub pass_allowed : e.ended ≡ false → e.gone ≡ false → 0 < x.passers
+      → IsLog x.senders (take e.place e.known)
+      → Allows (TableInvariant P A) slots id m (passed_word x e.me) (λ _. e.place)
+      (λ _ m'. (passed_word x e.me ≡ passed_word_in m.0)
+      × (e.place ≡ (receiver_view_in m.0).place) × HasPassed m m')
+  pass_allowed going stays any log s r count at range =
+      let here : get_elem? s.views id ≡ some (Tap x e) = at ∙ ap (λ (v : View C). some v) is in (
+        Tap x (passed_on e (passed_word x e.me)),
+        keeps,
+        tt,
+        (pass_leaves P A L s r id x e here stays any going log).rule,
+        (
+          ap (λ (v : View C). passed_word_in v) (sym is),
+          ap (λ (v : View C). (receiver_view_in v).place) (sym is),
+          λ i. (
+            with_receiver_view (sym is i)
+                (passed_on (receiver_view_in (sym is i)) (passed_word_in (sym is i))),
+            m.1,
+          ),
+        ),
+      )
+
+  pub leave_allowed : e.gone ≡ false → 0 < x.passers
+      → Allows (TableInvariant P A) slots id m (passed_word x e.me) (λ _. PASSED_ALL)
+      (λ _ m'. (passed_word x e.me ≡ passed_word_in m.0) × (PASSED_ALL ≡ PASSED_ALL)
+      × HasLeft m m')
+  leave_allowed stays any s r count at range =
+      let here : get_elem? s.views id ≡ some (Tap x e) = at ∙ ap (λ (v : View C). some v) is in (
+        Tap x (left_for_good e (passed_word x e.me)),
+        keeps,
+        tt,
+        (leave_leaves P A L s r id x e here stays any).rule,
+        (
+          ap (λ (v : View C). passed_word_in v) (sym is),
+          refl,
+          λ i. (
+            with_receiver_view (sym is i)
+                (left_for_good (receiver_view_in (sym is i)) (passed_word_in (sym is i))),
+            m.1,
+          ),
+        ),
+      )

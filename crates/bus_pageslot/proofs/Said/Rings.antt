@@ -1,0 +1,205 @@
+-- A receiver of a ring finds, from what it has passed on, each word that was published there.
+use Rattle.std.proofs.Common.{◌≡◌, inl, inr, ℕ, ◌+◌, ◌%◌, ◌<◌, ◌≤◌, Bool, true, false}
+use Rattle.std.proofs.Common.{Option, ◌++◌, length, slice_index, take, cond, arith, refl, sym}
+use Rattle.std.proofs.Common.{◌∙◌, ap, subst}
+use mathlib.Core.Option.{some}
+use lib.ListN.{get_elem?}
+use Rattle.std.proofs.Math.Seq.{take-append_seam}
+use Rattle.std.proofs.lemmas.Grind.{flat_map-append}
+use Rattle.std.proofs.lemmas.List.{get_or-set_other, get_or_append_left, length-append}
+use Rattle.std.proofs.lemmas.List.{take-append-le}
+use Rattle.atomic_table.specs.Table.{State}
+use Rattle.bus_register.specs.declared.limits.TheConstants.{PASSED_ALL}
+use Rattle.bus_batch.specs.Frames.{AreFrames, IsLog, frame_words, log_words}
+use Rattle.bus_tenure.specs.declared.pages.Page.{Page}
+use Rattle.bus_world.specs.Headline.{IsPrefix}
+use Rattle.bus_automaton.proofs.Fitting.{shown_below}
+use Rattle.bus_automaton.proofs.Walking.{front_lawful}
+use Rattle.bus_automaton.specs.Lawful.{AutomatonLaws, MayPass, floor_in}
+use Rattle.bus_automaton.specs.Processes.{TableLayout, Process, Automaton, log_cell, log_in}
+use Rattle.bus_automaton.specs.Processes.{passed_word}
+use Rattle.bus_pageslot.proofs.Hears.PassSteps.{its_own}
+use Rattle.bus_pageslot.specs.ReceiverViews.{ReceiverView}
+use Rattle.bus_pageslot.specs.Rings.{ShowsReceiver, HasSeat, RingKeeps, RingShows, RuleRefuses}
+use Rattle.bus_pageslot.specs.Rings.{StoresApart}
+use Rattle.bus_pageslot.specs.Rule.{IsListening, KnowsLog, IsTrueOf, SeatsReceiver, TableInvariant}
+use Rattle.bus_pageslot.specs.declared.rule.View.{View}
+use Rattle.bus_pageslot.specs.declared.rule.View.TheVariants.{Maker, Sender, Tap, Meeting, Telling}
+use Rattle.bus_pageslot.specs.declared.rule.View.TheVariants.{Spent}
+
+apart : (word log k : ℕ) → word < log → word ≡ log + k → ⊥
+apart word log k low same = omega arith
+
+module _ {C : Type 0} (P : Process C) (A : Automaton C) (L : AutomatonLaws P A)
+    (s : State (Option Page) (View C)) (r : TableInvariant P A s) where
+  abbrev x : TableLayout
+  x = A.table_layout
+
+  module _ (j : ℕ) (y : TableLayout) (e : ReceiverView) (h : KnowsLog A r.state r.ear j y e)
+      (some : 0 < x.passers) where
+    l : IsListening A r.state r.ear j e
+    l = its_own A r.state r.ear j y e h
+        (let same = ap (λ (z : TableLayout). z.passers) h.table_layout in omega arith)
+
+    shown_at : (i : ℕ) → slice_index s.words i ≡ slice_index (A.words r.state) i
+    shown_at i = ap (λ ws. slice_index ws i) r.words
+
+    word : (b : Bool) → e.gone ≡ b
+        → slice_index s.words (passed_word x e.me) ≡ cond {A = ℕ} b PASSED_ALL e.passed
+    word true is = shown_at (passed_word x e.me) ∙ L.left r.state e.me r.reached l.below (l.left is)
+    word false is =
+        shown_at (passed_word x e.me) ∙ (L.shows r.state e.me e.passed r.reached (l.shown is)).2
+
+    module _ (stays : e.gone ≡ false) where
+      may : MayPass A r.state e.passed
+      may = L.passed_whole r.state e.me e.passed r.reached (l.shown stays)
+
+      -- the frames before what it has passed
+      front_words : log_words may.begins.front ≡ take e.passed e.known
+      front_words =
+          let all = may.words_are
+          ∙ sym h.front.together in
+          let parts = sym (flat_map-append frame_words may.begins.front may.begins.rest)
+          ∙ sym (ap log_words may.begins.frames_are) in
+          sym (take-append_seam (log_words may.begins.front) (log_words may.begins.rest))
+          ∙ ap (λ n. take n (log_words may.begins.front ++ log_words may.begins.rest))
+          (sym may.begins.place_is)
+          ∙ ap (take e.passed) (parts ∙ all)
+          ∙ take-append-le e.passed e.known h.front.rest
+          (let a = l.past in let b = h.below in omega arith)
+
+      whole : IsLog x.senders (take e.passed e.known)
+      whole = record {
+        frames = may.begins.front;
+        lawful = front_lawful x.senders 0 may.begins.front may.begins.rest
+            (subst (AreFrames x.senders) may.begins.frames_are may.lawful);
+        words_are = front_words;
+      }
+
+      floor : floor_in x s.words ≤ e.passed
+      floor =
+          let below = shown_below (slice_index s.words) x.passed (slice_index s.words 0) x.passers
+          e.me l.below in
+          let here : slice_index s.words (passed_word x e.me) ≡ e.passed = word false stays in
+          omega arith
+
+      kept : RingKeeps x s.words (log_in A r.state) e
+      kept = record {
+        whole = whole;
+        floor = floor;
+        room =
+            let fits = (L.log r.state r.reached).room in
+            let same = ap (floor_in x) r.words in
+            let low = floor in omega arith;
+        stands = λ place past below.
+            shown_at (log_cell x place)
+            ∙ L.finds r.state e.me place r.reached (inr (e.passed, l.shown stays, past)) below;
+      }
+
+    pub served : RingShows x s.words (log_in A r.state) e
+    served = record {
+      below = l.below;
+      word = word e.gone refl;
+      within = l.past;
+      stays = kept;
+    }
+
+  -- what is known of a receiver that a view shows
+  known_of : (j : ℕ) (e : ReceiverView) (v : View C) → IsTrueOf P A r.state r.seat r.ear j v
+      → ShowsReceiver e v → (y : TableLayout) × KnowsLog A r.state r.ear j y e
+  known_of j e (Maker y made) h none = absurd none
+  known_of j e (Sender c t notes) h none = absurd none
+  known_of j e (Tap y f) h same = (y, subst (KnowsLog A r.state r.ear j y) same h)
+  known_of j e (Meeting y f z g) h (inl same) =
+      (y, subst (KnowsLog A r.state r.ear j y) same h.0)
+  known_of j e (Meeting y f z g) h (inr same) =
+      (z, subst (KnowsLog A r.state r.ear j z) same h.1)
+  known_of j e (Telling c t notes y f) h same =
+      (y, subst (KnowsLog A r.state r.ear j y) same h.1)
+  known_of j e Spent h none = absurd none
+
+  module _ (j : ℕ) (v : View C) (e : ReceiverView) (at : get_elem? s.views j ≡ some v)
+      (is : ShowsReceiver e v) (some : 0 < x.passers) where
+    pub all_served : RingShows x s.words (log_in A r.state) e
+    all_served =
+        let k = known_of j e v (r.views j v at) is in served j k.0 e k.1 some
+
+    -- what it knows is a beginning of all that was published
+    pub knows_here : IsPrefix e.known (log_in A r.state)
+    knows_here = (known_of j e v (r.views j v at) is).1.front
+
+    -- and it has read no more than that
+    pub below_here : e.place ≤ length e.known
+    below_here = (known_of j e v (r.views j v at) is).1.below
+
+    pub listens_here : IsListening A r.state r.ear j e
+    listens_here =
+        let k = known_of j e v (r.views j v at) is in
+        its_own A r.state r.ear j k.0 e k.1
+        (let same = ap (λ (z : TableLayout). z.passers) k.1.table_layout in omega arith)
+
+    -- its passed place is none of the words of the log, nor the length or the stage
+    pub stores_apart : (number : ℕ) → StoresApart x s.words e.me number
+    stores_apart number =
+        let low = L.passed_behind in
+        let high = L.passed_room e.me listens_here.below in
+        record {
+          length_same = get_or-set_other s.words (passed_word x e.me) 0 number 0
+              (λ i. absurd (omega arith));
+          stage_same = get_or-set_other s.words (passed_word x e.me) 1 number 0
+              (λ i. absurd (omega arith));
+          cells_same = λ place. get_or-set_other s.words (passed_word x e.me) (log_cell x place)
+              number 0
+              (λ i. absurd (apart (passed_word x e.me) x.log (place % x.capacity) high (sym i)));
+        }
+
+-- a receiver that shows in a view, or that the maker of seats has yet to seat
+has_seat : {C : Type 0} (me : ℕ) (v : View C) → SeatsReceiver me v → HasSeat me v
+has_seat me (Maker y made) is = inr (y, made, refl, is)
+has_seat me (Sender c t notes) none = absurd none
+has_seat me (Tap y e) is = inl (e, is, refl)
+has_seat me (Meeting y e z f) (inl is) = inl (e, is, inl refl)
+has_seat me (Meeting y e z f) (inr is) = inl (f, is, inr refl)
+has_seat me (Telling c t notes y e) is = inl (e, is, refl)
+has_seat me Spent none = absurd none
+
+-- of a ring each has a seat
+pub all_have_seats : {C : Type 0} (P : Process C) (A : Automaton C)
+    (s : State (Option Page) (View C)) → TableInvariant P A s → (me : ℕ)
+    → me < A.table_layout.passers
+    → (j : ℕ) × (v : View C) × (get_elem? s.views j ≡ some v) × HasSeat me v
+all_have_seats P A s r me below =
+    let h = r.all_heard me below in (h.0, h.1, h.2, has_seat me h.1 h.3)
+
+pub rule_refuses : {C : Type 0} (P : Process C) (A : Automaton C) (L : AutomatonLaws P A)
+    (s : State (Option Page) (View C)) → 0 < A.table_layout.passers → RuleRefuses P A s
+rule_refuses P A L s any = record {
+  overwritten = λ j v e place at is stays past below wrong r.
+      let keeps = (all_served P A L s r j v e at is any).stays stays in
+      let front = knows_here P A L s r j v e at is any in
+      let same : slice_index (log_in A r.state) place ≡ slice_index e.known place =
+      ap (λ log. slice_index log place) (sym front.together)
+      ∙ get_or_append_left e.known front.rest 0 place below in
+      let all = ap length (sym front.together) ∙ length-append e.known front.rest in
+      wrong (keeps.stands place past (omega arith) ∙ same);
+  overrun = λ j v e at is stays over r.
+      let keeps = (all_served P A L s r j v e at is any).stays stays in
+      let room = keeps.room in
+      let long = (L.log r.state r.reached).long in
+      let same : slice_index s.words 0 ≡ slice_index (A.words r.state) 0 =
+      ap (λ ws. slice_index ws 0) r.words in absurd (omega arith);
+  not_shown = λ j v e at is stays wrong r.
+      wrong ((all_served P A L s r j v e at is any).word
+      ∙ ap (λ b. cond {A = ℕ} b PASSED_ALL e.passed) stays);
+  past_place = λ j v e at is past r.
+      let within = (all_served P A L s r j v e at is any).within in omega arith;
+  within_frame = λ j v e at is stays torn r.
+      torn ((all_served P A L s r j v e at is any).stays stays).whole;
+  left_unshown = λ j v e at is gone wrong r.
+      wrong ((all_served P A L s r j v e at is any).word
+      ∙ ap (λ b. cond {A = ℕ} b PASSED_ALL e.passed) gone);
+  one_number = λ i j v w e f apart at is here shown same r.
+      apart (sym (listens_here P A L s r i v e at is any).here ∙ ap r.ear same
+      ∙ (listens_here P A L s r j w f here shown any).here);
+  unseen = λ me below none r. let h = all_have_seats P A s r me below in none h.0 h.1 h.2 h.3;
+}
