@@ -12,11 +12,13 @@
 #![tactic(auto)]
 
 mod bells;
+mod deadlines;
 mod shared;
 #[cfg(test)]
 mod tests;
 mod waiters;
 
 pub use bells::Bell;
+pub use deadlines::Deadline;
 pub use shared::SharedBell;
 pub use waiters::{LONGEST_ASKED_SLEEP, LONGEST_PAUSE, LONGEST_SLEEP, Waiter, Waiting};

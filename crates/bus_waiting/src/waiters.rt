@@ -1,10 +1,11 @@
 //! A waiter: how one call waits, from its first look to its last.
 
 use crate::bells::Bell;
+use crate::deadlines::Deadline;
 use crossbeam_utils::Backoff;
 use std::cell::Cell;
 use std::sync::{Forever, Wait};
-use std::time::Duration;
+use std::time::{Clock, Duration};
 
 /// How a thread waits for another.
 #[derive(Clone, Copy, Debug, PartialEq, Eq)]
@@ -40,7 +41,7 @@ pub struct Waiter<'a, W> {
     wait: &'a W,
     waiting: Waiting,
     bell: Option<&'a Bell>,
-    longest: u64,
+    longest: Cell<Duration>,
     backoff: Backoff,
     /// How often it has rested since a turn got somewhere.
     rests: Cell<u32>,
@@ -74,7 +75,7 @@ impl<'a, W: Wait> Waiter<'a, W> {
             wait,
             waiting,
             bell,
-            longest,
+            longest: Cell::new(Duration::from_millis(longest)),
             backoff: Backoff::new(),
             rests: Cell::new(0),
             seen: Cell::new(None),
@@ -111,7 +112,7 @@ impl<'a, W: Wait> Waiter<'a, W> {
     /// A turn found nothing, and what it waits for is rung. It may return for no reason.
     pub fn rest(&self) {
         let rests = self.count_rest();
-        self.rest_for(rests, Duration::from_millis(self.longest));
+        self.rest_for(rests, self.longest.get());
     }
 
     /// A turn found nothing, and no ring follows what it waits for. Before its first sleep it rings
@@ -122,9 +123,17 @@ impl<'a, W: Wait> Waiter<'a, W> {
             self.ring();
         }
         let doubled = rests.saturating_sub(LOOKS_AWAKE).min(7);
-        let most = self.longest.min(LONGEST_PAUSE).saturating_mul(1000);
-        let longest = (FIRST_PAUSE << doubled).min(most);
-        self.rest_for(rests, Duration::from_micros(longest));
+        let longest = Duration::from_micros(FIRST_PAUSE << doubled)
+            .min(Duration::from_millis(LONGEST_PAUSE))
+            .min(self.longest.get());
+        self.rest_for(rests, longest);
+    }
+
+    /// Whether there is time left until then. From now on no sleep is longer than that.
+    pub fn has_time<C: Clock>(&self, deadline: &Deadline<'_, C>) -> bool {
+        let left = deadline.left();
+        self.longest.set(self.longest.get().min(left));
+        left > Duration::ZERO
     }
 
     /// Tells those that sleep that its call has got somewhere.
