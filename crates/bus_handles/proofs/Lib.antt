@@ -5,5 +5,7 @@ mod HandleLaws
 -- The numbers of senders, as they are noted one by one.
 mod PageLaws
 -- What the last answer of a sending says as a Result; and turns between which a function is asked
--- that always says the same.
+-- of which less is said.
 mod SendingLaws
+-- Turns of a receiver between which a function is asked of which less is said.
+mod HearingLaws

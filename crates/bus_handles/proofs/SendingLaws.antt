@@ -1,5 +1,5 @@
 -- What the last answer of a sending says as a Result; and turns between which a function is asked
--- that always says the same.
+-- of which less is said.
 use Rattle.std.proofs.Common.{◌≡◌, ◌≢◌, Bool, true, false, Result, Ok, Err, IfOk, IfErr}
 use Rattle.std.proofs.Common.{OnOk, ◌↔◌}
 use Rattle.std.proofs.Common.{Option, Some, None, IfSome, IfNone, refl, subst}
@@ -14,7 +14,6 @@ use Rattle.bus_pageslot.specs.Sendings.{KeptAfter}
 use Rattle.bus_pageslot.specs.Turns.{Tellings, AsksOn, SendsAsking, StopsWaiting}
 use Rattle.bus_pageslot.specs.Turns as turns
 use Rattle.bus_handles.specs.Answers.{delivered_turn, IsWhy, DeliversNone}
-use Rattle.bus_handles.specs.Asking.{SaysNo, SaysYes}
 use Rattle.bus_handles.specs.declared.answers.Delivered.{Delivered}
 use Rattle.bus_handles.specs.declared.answers.NotDelivered.{NotDelivered}
 use Rattle.bus_handles.specs.declared.answers.NotDelivered.TheVariants as why
@@ -74,89 +73,97 @@ never_of F answer r fits is = (
   λ no. absurd (no fits),
 )
 
--- ---- a function that always says the same
--- turns in which nobody was told to go on
+-- ---- a function that is asked says no more than these
+-- turns in which each answer was one of these
 module _ {C F : Type 0} (P : Process C) (T : Tellings C) (Tells : F → Bool → F → Type 0)
-    (no : (f : F) (told : Bool) (f' : F) → Tells f told f' → told ≡ false) (first : SenderSeat C)
-    (given : F) where
-  asks_no : (s : SenderSeat C) (f : F) → AsksOn P T Tells first given s f
-      → AsksOn P T SaysNo first tt s tt
-  asks_no _ _ turns.Begins = turns.Begins
-  asks_no _ _ (turns.Goes old f word answer new before turned goes waits) =
-      turns.Goes old tt word answer new (asks_no old f before) turned goes waits
-  asks_no _ _ (turns.Asks old f word answer new f' before turned waits told) =
-      absurd (let wrong : true ≡ false = no f true f' told in cc)
+    (Says : Unit {0} → Bool → Unit {0} → Type 0)
+    (says : (f : F) (told : Bool) (f' : F) → Tells f told f' → Says tt told tt)
+    (first : SenderSeat C) (given : F) where
+  asks_as : (s : SenderSeat C) (f : F) → AsksOn P T Tells first given s f
+      → AsksOn P T Says first tt s tt
+  asks_as _ _ turns.Begins = turns.Begins
+  asks_as _ _ (turns.Goes old f word answer new before turned goes waits) =
+      turns.Goes old tt word answer new (asks_as old f before) turned goes waits
+  asks_as _ _ (turns.Asks old f word answer new f' before turned waits told) =
+      turns.Asks old tt word answer new tt (asks_as old f before) turned waits
+      (says f true f' told)
 
-  pub sends_no : (answer : Turn) (new : SenderSeat C) → SendsAsking P T Tells first given answer new
-      → SendsAsking P T SaysNo first tt answer new
-  sends_no answer new h = record {
+  pub sends_as : (answer : Turn) (new : SenderSeat C) → SendsAsking P T Tells first given answer new
+      → SendsAsking P T Says first tt answer new
+  sends_as answer new h = record {
     old = h.old;
     asked = tt;
     word = h.word;
-    before = asks_no h.old h.asked h.before;
+    before = asks_as h.old h.asked h.before;
     turned = h.turned;
     last = h.last;
   }
 
-  pub stops_no : (new : SenderSeat C) → StopsWaiting P T Tells first given new
-      → StopsWaiting P T SaysNo first tt new
-  stops_no new h = record {
+  pub stops_as : (new : SenderSeat C) → StopsWaiting P T Tells first given new
+      → StopsWaiting P T Says first tt new
+  stops_as new h = record {
     old = h.old;
     asked = tt;
     word = h.word;
     answer = h.answer;
-    before = asks_no h.old h.asked h.before;
+    before = asks_as h.old h.asked h.before;
     turned = h.turned;
     waits = h.waits;
     left = tt;
-    told = refl;
+    told = says h.asked false h.left h.told;
   }
 
-pub sends_asking_no : {C F : Type 0} (P : Process C) (T : Tellings C)
-    (Tells : F → Bool → F → Type 0) (first : SenderSeat C) (given : F) (new : SenderSeat C)
-    (r : Option Turn) → IfSome r (λ t. SendsAsking P T Tells first given t new)
-    → ((f : F) (told : Bool) (f' : F) → Tells f told f' → told ≡ false)
-    → IfSome r (λ t. SendsAsking P T SaysNo first tt t new)
-sends_asking_no P T Tells first given new (Some t) h never =
-    sends_no P T Tells never first given t new h
-sends_asking_no P T Tells first given new None h never = h
+pub sends_asking_as : {C F : Type 0} (P : Process C) (T : Tellings C)
+    (Tells : F → Bool → F → Type 0) (Says : Unit {0} → Bool → Unit {0} → Type 0)
+    (first : SenderSeat C) (given : F) (new : SenderSeat C) (r : Option Turn)
+    → IfSome r (λ t. SendsAsking P T Tells first given t new)
+    → ((f : F) (told : Bool) (f' : F) → Tells f told f' → Says tt told tt)
+    → IfSome r (λ t. SendsAsking P T Says first tt t new)
+sends_asking_as P T Tells Says first given new (Some t) h says =
+    sends_as P T Tells Says says first given t new h
+sends_asking_as P T Tells Says first given new None h says = h
 
-pub stops_asking_no : {C F : Type 0} (P : Process C) (T : Tellings C)
-    (Tells : F → Bool → F → Type 0) (first : SenderSeat C) (given : F) (new : SenderSeat C)
-    (r : Option Turn) → IfNone r (StopsWaiting P T Tells first given new)
-    → ((f : F) (told : Bool) (f' : F) → Tells f told f' → told ≡ false)
-    → IfNone r (StopsWaiting P T SaysNo first tt new)
-stops_asking_no P T Tells first given new (Some t) h never = h
-stops_asking_no P T Tells first given new None h never =
-    stops_no P T Tells never first given new h
+pub stops_asking_as : {C F : Type 0} (P : Process C) (T : Tellings C)
+    (Tells : F → Bool → F → Type 0) (Says : Unit {0} → Bool → Unit {0} → Type 0)
+    (first : SenderSeat C) (given : F) (new : SenderSeat C) (r : Option Turn)
+    → IfNone r (StopsWaiting P T Tells first given new)
+    → ((f : F) (told : Bool) (f' : F) → Tells f told f' → Says tt told tt)
+    → IfNone r (StopsWaiting P T Says first tt new)
+stops_asking_as P T Tells Says first given new (Some t) h says = h
+stops_asking_as P T Tells Says first given new None h says =
+    stops_as P T Tells Says says first given new h
 
--- turns and looks in which nobody was told to stop
+-- turns and looks in which each answer to go on was one of these
 module _ {C F : Type 0} (P : Process C) (A : Automaton C) (T : Tellings C)
-    (Tells : F → Bool → F → Type 0) (first : SenderSeat C) (given : F) where
-  goes_yes : (next : Coming) (s : SenderSeat C) (f : F)
-      → GoesForRoom P A T Tells first given next s f → GoesForRoom P A T SaysYes first tt next s tt
-  goes_yes _ _ _ room.Begins = room.Begins
-  goes_yes _ _ _ (room.Goes old f word answer new before turned goes waits) =
-      room.Goes old tt word answer new (goes_yes room.Turning old f before) turned goes waits
-  goes_yes _ _ _ (room.Asks old f word answer new f' before turned waits told) =
-      room.Asks old tt word answer new tt (goes_yes room.Turning old f before) turned waits refl
-  goes_yes _ _ _ (room.Fills old f word new before turned) =
-      room.Fills old tt word new (goes_yes room.Turning old f before) turned
-  goes_yes _ _ _ (room.FindsNone looks old f f' new before few told look) =
-      room.FindsNone looks old tt tt new (goes_yes (room.Looking looks) old f before) few refl look
-  goes_yes _ _ _ (room.FindsRoom looks old f f' new before few told look) =
-      room.FindsRoom looks old tt tt new (goes_yes (room.Looking looks) old f before) few refl look
-  goes_yes _ _ _ (room.Tries old f before) =
-      room.Tries old tt (goes_yes (room.Looking room.most_looks) old f before)
+    (Tells : F → Bool → F → Type 0) (Says : Unit {0} → Bool → Unit {0} → Type 0)
+    (says : (f f' : F) → Tells f true f' → Says tt true tt) (first : SenderSeat C) (given : F) where
+  goes_as : (next : Coming) (s : SenderSeat C) (f : F)
+      → GoesForRoom P A T Tells first given next s f → GoesForRoom P A T Says first tt next s tt
+  goes_as _ _ _ room.Begins = room.Begins
+  goes_as _ _ _ (room.Goes old f word answer new before turned goes waits) =
+      room.Goes old tt word answer new (goes_as room.Turning old f before) turned goes waits
+  goes_as _ _ _ (room.Asks old f word answer new f' before turned waits told) =
+      room.Asks old tt word answer new tt (goes_as room.Turning old f before) turned waits
+      (says f f' told)
+  goes_as _ _ _ (room.Fills old f word new before turned) =
+      room.Fills old tt word new (goes_as room.Turning old f before) turned
+  goes_as _ _ _ (room.FindsNone looks old f f' new before few told look) =
+      room.FindsNone looks old tt tt new (goes_as (room.Looking looks) old f before) few
+      (says f f' told) look
+  goes_as _ _ _ (room.FindsRoom looks old f f' new before few told look) =
+      room.FindsRoom looks old tt tt new (goes_as (room.Looking looks) old f before) few
+      (says f f' told) look
+  goes_as _ _ _ (room.Tries old f before) =
+      room.Tries old tt (goes_as (room.Looking room.most_looks) old f before)
 
-  pub sends_yes : (answer : Turn) (new : SenderSeat C)
+  pub sends_for_room_as : (answer : Turn) (new : SenderSeat C)
       → SendsForRoom P A T Tells first given answer new
-      → SendsForRoom P A T SaysYes first tt answer new
-  sends_yes answer new h = record {
+      → SendsForRoom P A T Says first tt answer new
+  sends_for_room_as answer new h = record {
     old = h.old;
     asked = tt;
     word = h.word;
-    before = goes_yes room.Turning h.old h.asked h.before;
+    before = goes_as room.Turning h.old h.asked h.before;
     turned = h.turned;
     last = h.last;
     room = h.room;

@@ -1,4 +1,4 @@
--- Functions that are asked whether to go on, and always say the same: what a call of one may tell.
+-- Functions that are asked whether to go on, by calls that make one: what a call of it may tell.
 use Rattle.std.specs.Prelude.{◌≡◌, Bool, true, false}
 
 -- it waits for nobody
@@ -8,3 +8,7 @@ SaysNo before told after = told ≡ false
 -- it waits as long as it takes
 abbrev pub SaysYes : Unit {0} → Bool → Unit {0} → Type 0
 SaysYes before told after = told ≡ true
+
+-- it waits as long as there is time, of which nothing is said
+abbrev pub SaysEither : Unit {0} → Bool → Unit {0} → Type 0
+SaysEither before told after = Unit {0}

@@ -12,6 +12,7 @@ ghost use Rattle.bus_pageslot.specs.Seats.{table_of, actions_of, stored_of};
 ghost use Rattle.bus_receiver.specs.Listening.{bus_of, Takes, HaveMet, IsTold};
 ghost use Rattle.bus_receiver.specs.Listening.{PassesTo, PassesWhile, item_or_end, written_or_end};
 ghost use Rattle.bus_receiver.specs.Listening.{next_of, LeavesPlace};
+ghost use Rattle.bus_handles.specs.Asking.{SaysEither};
 
 use crate::answers::BusNotEnded;
 use crate::senders::SenderHandle;
@@ -20,11 +21,12 @@ use bus_batch::Item;
 use bus_deliverylog::RecvTurn;
 use bus_pageslot::{Bus, Ended};
 use bus_receiver::{Found, ItemTurn, Left, Next, Receiver};
-use bus_waiting::{SharedBell, Waiting};
+use bus_waiting::{Deadline, SharedBell, Waiting};
 use std::alloc::AllocError;
 use std::cmp::Ordering;
 use std::marker::Model;
 use std::sync::{Arc, Wait};
+use std::time::{Clock, Duration};
 
 /// A receiver with its bus. One thread at a time has it. Its calls are those of `Receiver`, and
 /// none of them takes memory. A handle that is let go leaves, so that no ring waits for it.
@@ -224,6 +226,21 @@ impl<Q: Ratifier + Drop> ReceiverHandle<Q> {
         let bus: &Bus<Q> = &self.bus;
         let waiter = self.bell.asked(wait);
         self.receiver.next_item_while(&waiter, bus, go_on)
+    }
+
+    /// As `next_item_while`, for so long at most: Stopped where it has waited so long, by a clock
+    /// of the system that never goes back. What it knows of the log comes first. It is right to
+    /// about a millisecond where the thread has a core. A clock that cannot be read stops it at
+    /// once.
+    pub fn next_item_timeout<T: Wait + Clock>(&mut self, clock: &T, time: Duration) -> Next
+        ensures bus { self.new.bus ≡ self.old.bus }
+        ensures passes { PassesWhile SaysEither self.old.me tt result self.new.me }
+    {
+        let deadline = Deadline::after(clock, time);
+        let bus: &Bus<Q> = &self.bus;
+        let waiter = self.bell.asked(clock);
+        self.receiver
+            .next_item_while(&waiter, bus, || waiter.has_time(&deadline))
     }
 
     /// As `next_item_while`, with the item written in place, so that it is moved less. Where it

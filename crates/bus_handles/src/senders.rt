@@ -25,7 +25,7 @@ ghost use Rattle.bus_pageslot.specs.Turns.{tells_by, TakesUpTo, Sends, SendsAski
 ghost use Rattle.bus_pageslot.specs.Sendings.{waiting_of, HasSent, HasSentPart, KeptAfter};
 ghost use Rattle.bus_pageslot.specs.Sendings.{Carries, CarryRefused};
 ghost use Rattle.bus_handles.specs.Answers.{delivered_turn, DeliversNone};
-ghost use Rattle.bus_handles.specs.Asking.{SaysNo, SaysYes};
+ghost use Rattle.bus_handles.specs.Asking.{SaysNo, SaysYes, SaysEither};
 ghost use Rattle.bus_pageslot.specs.Looks.{LooksForRoom};
 ghost use Rattle.bus_pageslot.specs.Room.{Fits, SendsForRoom, StopsForRoom};
 ghost use Rattle.bus_pageslot.specs.Sendings.{ClosesAndSends};
@@ -41,11 +41,12 @@ use bus_pageslot::{Bus, NeverFits, Sender, Unsent};
 use bus_register::limits::{MOST_MESSAGES, MOST_SENDERS};
 use bus_register::{Kind, SenderNo};
 use bus_tenure::Turn;
-use bus_waiting::{SharedBell, Waiting};
+use bus_waiting::{Deadline, SharedBell, Waiting};
 use rand_core::Rng;
 use rand_pcg::Pcg32;
 use std::marker::Model;
 use std::sync::{Arc, Wait};
+use std::time::{Clock, Duration};
 
 /// A sender with its bus, and with a generator of the random words that it votes by. One thread at
 /// a time has it. Its calls are those of `Sender`, and none of them takes memory.
@@ -417,6 +418,30 @@ impl<Q: Ratifier + Drop, R: Rng + Drop> SenderHandle<Q, R> {
             puts (actions_of P self.new) ≡ puts (actions_of P self.old) }
     {
         self.send_while(wait, || false)
+    }
+
+    /// As `send_while`, for so long at most: None where it has waited so long, by a clock of the
+    /// system that never goes back. It is right to about a millisecond where the thread has a core.
+    /// A clock that cannot be read ends it at once, but after a turn.
+    #[must_use]
+    pub fn send_timeout<T: Wait + Clock>(&mut self, clock: &T, time: Duration) -> Option<Turn>
+        ensures table { table_of self.new ≡ table_of self.old }
+        ensures sends { IfSome result (λ turn. SendsAsking (process_by Q.Ratifier)
+            (tells_by Q.Ratifier) SaysEither self.old tt turn self.new) }
+        ensures stops { IfNone result (StopsWaiting (process_by Q.Ratifier) (tells_by Q.Ratifier)
+            SaysEither self.old tt self.new) }
+        ensures keeps { let P = process_by Q.Ratifier in
+            IfSome result (λ turn. is_refusal turn ≡ true → KeptAfter P self.old turn self.new) }
+        ensures waits { let P = process_by Q.Ratifier in
+            IfNone result (waiting_of P self.new ≡ waiting_of P self.old) }
+        ensures puts { let P = process_by Q.Ratifier in
+            puts (actions_of P self.new) ≡ puts (actions_of P self.old) }
+    {
+        let deadline = Deadline::after(clock, time);
+        let bus: &Bus<Q> = &self.bus;
+        let waiter = self.bell.asked(clock);
+        self.sender
+            .send_while(&waiter, bus, &mut self.rng, || waiter.has_time(&deadline))
     }
 
     /// The frame of its batch is no longer than the log of its bus. Where it is longer, it is Full

@@ -3,6 +3,6 @@
 -- Answers, memories and machines that the definitions refuse.
 pub mod RefusalLaws
 -- Each of the wrong behaviours is refused.
-mod PromiseRefused
+pub mod PromiseRefused
 -- No promise holds of a log that lacks what was put, or has a word that was never stored.
-mod LogRefused
+pub mod LogRefused

@@ -1,4 +1,4 @@
-use Rattle.std.proofs.Common.{◌≡◌, true}
+use Rattle.std.proofs.Common.{◌≡◌, true, refl}
 use Rattle.bus_automaton.specs.Buses.{process_with, automaton_with}
 use Rattle.bus_automaton.specs.declared.plans.Plan.{Plan}
 use Rattle.bus_tenure.specs.Classes.{is_refusal}
@@ -6,8 +6,8 @@ use Rattle.bus_pageslot.specs.Room.{SendsForRoom}
 use Rattle.bus_pageslot.specs.Sendings.{KeptAfter}
 use Rattle.bus_pageslot.specs.Turns.{tells_with}
 use Rattle.bus_handles.specs.Asking.{SaysYes}
-use Rattle.bus_handles.proofs.SendingLaws.{delivers, delivers_none, but_one, of_answer, sends_yes}
-use Rattle.bus_handles.proofs.SendingLaws.{gave, never_of}
+use Rattle.bus_handles.proofs.SendingLaws.{delivers, delivers_none, but_one, of_answer}
+use Rattle.bus_handles.proofs.SendingLaws.{sends_for_room_as, gave, never_of}
 use Rattle.bus_handles.proofs.senders.SenderHandle.deliver_when_room.Goals as goal
 
 pub returns-in-Ok-Some-clause-delivered : goal.returns-in-Ok-Some-clause-delivered
@@ -23,7 +23,11 @@ returns-in-Ok-Some-clause-delivered g c =
     c.in-Ok-Some.is c.in-Ok-Some.field-0-is c.send_when_room.ensures.sends in
     rw (← c.self.view_is)
     (delivers (λ t. (p : Plan) × SendsForRoom P (A p) T SaysYes old tt t new) c.in-Ok-Some.turn
-    c.answered.result (plan, sends_yes P (A plan) T _ old _ c.in-Ok-Some.turn new sends)
+    c.answered.result (
+      plan,
+      sends_for_room_as P (A plan) T _ SaysYes (λ f f' told. refl) old _ c.in-Ok-Some.turn new
+          sends,
+    )
     c.answered.ensures.delivered)
 
 pub returns-in-Ok-Some-clause-not_delivered : goal.returns-in-Ok-Some-clause-not_delivered
@@ -43,7 +47,7 @@ returns-in-Ok-Some-clause-not_delivered g c =
     c.send_when_room.ensures.keeps in
     rw (← c.self.view_is) (but_one _ c.answered.result (delivers_none P
     (λ t. (p : Plan) × SendsForRoom P (A p) T SaysYes old tt t new) old turn new c.answered.result
-    (plan, sends_yes P (A plan) T _ old _ turn new sends) keeps
+    (plan, sends_for_room_as P (A plan) T _ SaysYes (λ f f' told. refl) old _ turn new sends) keeps
     c.answered.ensures.not_delivered))
 
 pub returns-in-Ok-Some-clause-never : goal.returns-in-Ok-Some-clause-never
