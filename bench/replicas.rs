@@ -3,30 +3,44 @@
 //!
 //! `replicas KIND WORKERS WRITES MILLISECONDS` has so many workers each call for so long; of a
 //! thousand calls so many write. It prints how many nanoseconds a call of one worker took in the
-//! mean, and how many KiB the process had at most.
+//! mean, and how many KiB the process had at most. At the end each worker reads all keys: they
+//! have to be what was written last, and the same for all workers.
+
+#[cfg(feature = "locks")]
+mod replicas_locks;
+mod replicas_log;
 
 use kioskbasil::replica::{Replica, ReplicaError, Replicas, State};
 use kioskbasil::Shape;
+use replicas_log::Log;
 use std::collections::HashMap;
 use std::error::Error;
 use std::hint::black_box;
 use std::sync::atomic::{AtomicBool, Ordering};
 use std::sync::{Barrier, Mutex, RwLock};
 use std::time::{Duration, Instant};
-use std::{env, fs, thread};
+use std::{env, fs, hint, thread};
 
 const KEYS: u64 = 65_536;
+
+/// A worker asks after so many calls whether to stop.
+const PART: u64 = 64;
 
 /// After so many calls a worker that looks at its state alone hears.
 const HEARS: usize = 256;
 
 type Fault = Box<dyn Error + Send + Sync>;
 
+/// Each key, with its first value.
+fn first() -> impl Iterator<Item = (u64, u64)> {
+    (0..KEYS).map(|key| (key, key))
+}
+
 struct Map(HashMap<u64, u64>);
 
 impl Map {
     fn new() -> Map {
-        Map((0..KEYS).map(|key| (key, key)).collect())
+        Map(first().collect())
     }
 
     fn get(&self, key: u64) -> u64 {
@@ -58,9 +72,20 @@ trait Access: Send {
     fn read(&mut self, key: u64) -> Result<u64, Fault>;
     fn write(&mut self, key: u64, value: u64) -> Result<(), Fault>;
 
-    /// Behind its last call.
-    fn end(self: Box<Self>) -> Result<(), Fault> {
-        Ok(())
+    /// Behind its last call: the values of all keys, once all workers have made theirs.
+    fn end(mut self: Box<Self>, ended: &Barrier) -> Result<Vec<u64>, Fault> {
+        ended.wait();
+        (0..KEYS).map(|key| self.read(key)).collect()
+    }
+}
+
+/// Who waits for another spins so often at first, and yields then.
+fn pause(tries: &mut u32) {
+    if *tries < 20 {
+        *tries += 1;
+        hint::spin_loop();
+    } else {
+        thread::yield_now();
     }
 }
 
@@ -116,9 +141,9 @@ impl Access for ByReplica {
         Ok(())
     }
 
-    fn end(self: Box<Self>) -> Result<(), Fault> {
+    fn end(self: Box<Self>, _: &Barrier) -> Result<Vec<u64>, Fault> {
         match self.replica.finish_timeout(Duration::from_secs(20)) {
-            Ok(_) => Ok(()),
+            Ok(map) => Ok((0..KEYS).map(|key| map.get(key)).collect()),
             Err(ReplicaError::MissingWorker(worker)) => Err(format!("no worker {worker}").into()),
             Err(why) => Err(why.into()),
         }
@@ -139,56 +164,121 @@ fn drawn(worker: u64, writes: u64) -> Vec<(u64, bool)> {
         .collect()
 }
 
-/// All calls of a worker until it is stopped: how many.
+/// What a worker writes in the part behind so many calls. Of up to 64 workers no other one writes
+/// it, and no key has it at first.
+fn value(worker: u64, calls: u64) -> u64 {
+    KEYS + calls + worker
+}
+
+/// What all workers go by: when they begin, stop and have ended.
+struct Course {
+    begin: Barrier,
+    stop: AtomicBool,
+    ended: Barrier,
+}
+
+/// A worker's calls, and the values of all keys that it read behind them.
+struct Done {
+    calls: u64,
+    values: Vec<u64>,
+}
+
+/// All calls of a worker until it is stopped.
 fn work(
     mut access: Box<dyn Access + '_>,
+    worker: u64,
     draws: &[(u64, bool)],
-    begin: &Barrier,
-    stop: &AtomicBool,
-) -> Result<u64, Fault> {
+    course: &Course,
+) -> Result<Done, Fault> {
     let (mut calls, mut sum) = (0, 0u64);
-    begin.wait();
+    course.begin.wait();
     'all: loop {
-        for part in draws.chunks(64) {
+        for part in draws.chunks(PART as usize) {
+            let value = value(worker, calls);
             for (key, writes) in part {
                 if *writes {
-                    access.write(*key, calls)?;
+                    access.write(*key, value)?;
                 } else {
                     sum = sum.wrapping_add(access.read(*key)?);
                 }
             }
-            calls += part.len() as u64;
-            if stop.load(Ordering::Relaxed) {
+            calls += PART;
+            if course.stop.load(Ordering::Relaxed) {
                 break 'all;
             }
         }
     }
     black_box(sum);
-    access.end()?;
-    Ok(calls)
+    let values = access.end(&course.ended)?;
+    Ok(Done { calls, values })
 }
 
-/// Nanoseconds a call of one worker.
-fn measured(all: Vec<Box<dyn Access + '_>>, writes: u64, time: Duration) -> Result<f64, Fault> {
-    let (begin, stop) = (Barrier::new(all.len() + 1), AtomicBool::new(false));
+/// What a worker wrote last to each key, of which it has made so many calls.
+fn last(worker: u64, draws: &[(u64, bool)], calls: u64) -> Vec<Option<u64>> {
+    let mut values = vec![None; draws.len()];
+    for call in calls.saturating_sub(KEYS)..calls {
+        let (key, writes) = draws[(call % KEYS) as usize];
+        if writes {
+            values[key as usize] = Some(value(worker, call - call % PART));
+        }
+    }
+    values
+}
+
+/// Whether each key has what one of the workers wrote last to it, or its first value where none
+/// did, and all workers read the same.
+fn check(draws: &[Vec<(u64, bool)>], all: &[Done]) -> Result<(), Fault> {
+    let written: Vec<_> = (0..)
+        .zip(draws)
+        .zip(all)
+        .map(|((worker, draws), done)| last(worker, draws, done.calls))
+        .collect();
+    for key in 0..KEYS as usize {
+        let value = all[0].values[key];
+        let is_written = written.iter().any(|of| of[key] == Some(value));
+        let is_first = value == key as u64 && written.iter().all(|of| of[key].is_none());
+        if !is_written && !is_first {
+            return Err(format!("key {key} has {value}, which nobody wrote last").into());
+        }
+        if all.iter().any(|done| done.values[key] != value) {
+            return Err(format!("key {key} is not the same for all workers").into());
+        }
+    }
+    Ok(())
+}
+
+/// Nanoseconds a call of one worker, and the memory in KiB.
+fn measured(
+    all: Vec<Box<dyn Access + '_>>,
+    writes: u64,
+    time: Duration,
+) -> Result<(f64, String), Fault> {
+    let course = Course {
+        begin: Barrier::new(all.len() + 1),
+        stop: AtomicBool::new(false),
+        ended: Barrier::new(all.len()),
+    };
     let workers = all.len() as f64;
     let draws: Vec<_> = (0..all.len() as u64).map(|it| drawn(it, writes)).collect();
     thread::scope(|scope| {
-        let threads: Vec<_> = all
-            .into_iter()
-            .zip(&draws)
-            .map(|(access, draws)| scope.spawn(|| work(access, draws, &begin, &stop)))
-            .collect();
-        begin.wait();
+        let mut threads = Vec::new();
+        for (worker, (access, draws)) in (0..).zip(all.into_iter().zip(&draws)) {
+            let course = &course;
+            threads.push(scope.spawn(move || work(access, worker, draws, course)));
+        }
+        course.begin.wait();
         let begun = Instant::now();
         thread::sleep(time);
-        stop.store(true, Ordering::Relaxed);
+        let memory = memory()?;
+        course.stop.store(true, Ordering::Relaxed);
         let took = begun.elapsed().as_nanos() as f64;
-        let mut calls = 0;
+        let mut done = Vec::new();
         for thread in threads {
-            calls += thread.join().map_err(|_| "a worker panicked")??;
+            done.push(thread.join().map_err(|_| "a worker panicked")??);
         }
-        Ok(took * workers / calls as f64)
+        check(&draws, &done)?;
+        let calls: u64 = done.iter().map(|it| it.calls).sum();
+        Ok((took * workers / calls as f64, memory))
     })
 }
 
@@ -200,37 +290,48 @@ fn memory() -> Result<String, Fault> {
     Ok(line.trim().trim_end_matches(" kB").to_string())
 }
 
+/// Workers that share one.
+fn sharing<'a, T>(shared: &'a T, workers: usize) -> Vec<Box<dyn Access + 'a>>
+where
+    &'a T: Access,
+{
+    (0..workers).map(|_| Box::new(shared) as _).collect()
+}
+
+/// Workers with a replica each, of a kind such as `state+submit`.
+fn replicated(kind: &str, workers: usize) -> Result<Vec<Box<dyn Access>>, Fault> {
+    let (reads, puts) = kind.split_once('+').ok_or("no such kind")?;
+    let by = |replica| ByReplica {
+        replica,
+        latest: reads == "latest",
+        executes: puts == "execute",
+        calls: 0,
+    };
+    let replicas = Replicas::open(Shape::of(workers, workers), Map::new)?;
+    let all = replicas.into_iter().map(|it| Box::new(by(it)) as _);
+    Ok(all.collect())
+}
+
 fn main() -> Result<(), Fault> {
     let words: Vec<String> = env::args().skip(1).collect();
     let [kind, workers, writes, milliseconds] = &words[..] else {
         return Err("usage: replicas KIND WORKERS WRITES MILLISECONDS".into());
     };
     let (workers, writes): (usize, u64) = (workers.parse()?, writes.parse()?);
-    let (mutex, rwlock) = (Mutex::new(Map::new()), RwLock::new(Map::new()));
-    let all: Vec<Box<dyn Access + '_>> = match &kind[..] {
-        "mutex" => (0..workers)
-            .map(|_| Box::new(&mutex) as Box<dyn Access>)
-            .collect(),
-        "rwlock" => (0..workers)
-            .map(|_| Box::new(&rwlock) as Box<dyn Access>)
-            .collect(),
-        _ => {
-            let (reads, puts) = kind.split_once('+').ok_or("no such kind")?;
-            let by = |replica| ByReplica {
-                replica,
-                latest: reads == "latest",
-                executes: puts == "execute",
-                calls: 0,
-            };
-            let replicas = Replicas::open(Shape::of(workers, workers), Map::new)?;
-            let all = replicas
-                .into_iter()
-                .map(|it| Box::new(by(it)) as Box<dyn Access>);
-            all.collect()
-        }
-    };
     let time = Duration::from_millis(milliseconds.parse()?);
-    let nanoseconds = measured(all, writes, time)?;
-    println!("{nanoseconds:.0} {}", memory()?);
+    let by = |all| measured(all, writes, time);
+    let (nanoseconds, memory) = match &kind[..] {
+        "mutex" => by(sharing(&Mutex::new(Map::new()), workers)),
+        "rwlock" => by(sharing(&RwLock::new(Map::new()), workers)),
+        #[cfg(feature = "locks")]
+        "parking_lot" => by(sharing(&parking_lot::RwLock::new(Map::new()), workers)),
+        #[cfg(feature = "locks")]
+        "dashmap" => by(sharing(&dashmap::DashMap::from_iter(first()), workers)),
+        #[cfg(feature = "locks")]
+        "left-right" => by(sharing(&replicas_locks::LeftRight::new(), workers)),
+        "node-replication" => by(Log::new(workers, 1).workers()),
+        _ => by(replicated(kind, workers)?),
+    }?;
+    println!("{nanoseconds:.0} {memory}");
     Ok(())
 }
