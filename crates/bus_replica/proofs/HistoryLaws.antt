@@ -12,7 +12,7 @@ use Rattle.bus_world.specs.Headline.{IsPrefix}
 use Rattle.bus_replica.specs.Replicas.{Operations, Folds, Begins, Then}
 use Rattle.bus_replica.specs.OneOrder.{AreFunctions}
 use Rattle.bus_replica.specs.Histories.{Did, Executed, Read, Call, is_execution, Runs}
-use Rattle.bus_replica.specs.Histories.{AreTakenFrom, TakesEffectAt, IsBefore}
+use Rattle.bus_replica.specs.Histories.{operations_of, TakesEffectAt, IsBefore}
 use Rattle.bus_replica.specs.Histories.{IsLinearizable, AreMoments, IsDoneBetween, AreDoneBy}
 use Rattle.bus_replica.specs.Histories.{AreInTurn}
 use Rattle.bus_replica.proofs.LinearLaws.{begins_front}
@@ -33,17 +33,14 @@ shorter : {A : Type 0} (xs ys whole : List A) → IsPrefix xs whole → IsPrefix
 shorter xs ys whole h k few = begins_front xs h.rest ys k.rest (h.together ∙ sym k.together) few
 
 -- ---- histories
--- their operations
-abbrev pub operations_of : {A : Type 0} → List (Item × A) → List Item
-operations_of {A} history = map (λ (h : Item × A). h.0) history
-
 same_pair : {A : Type 0} (h k : Item × A) → h.0 ≡ k.0 → h.1 ≡ k.1 → h ≡ k
 same_pair {A} h k item answer =
     ap {B = Item × A} (λ (i : Item). (i, h.1)) item
     ∙ ap {B = Item × A} (λ (a : A). (k.0, a)) answer
 
 -- an operation that stands in a history stands at the same place in any list that it begins
-stands_there : {A : Type 0} (history : List (Item × A)) (rest : List Item) (place : ℕ) (item : Item)
+pub stands_there : {A : Type 0} (history : List (Item × A)) (rest : List Item) (place : ℕ)
+    (item : Item)
     (answer : A) → slice_get history place ≡ Some (item, answer)
     → slice_get (operations_of history ++ rest) place ≡ Some item
 stands_there {A} [] rest place item answer at =
@@ -52,16 +49,6 @@ stands_there {A} (h ∷ history) rest zero item answer at =
     ap (λ (z : Item × A). Some z.0) (same_Some h (item, answer) at)
 stands_there (h ∷ history) rest (suc place) item answer at =
     stands_there history rest place item answer at
-
-pub taken_from : {A : Type 0} (operations : List Item) (history : List (Item × A))
-    → IsPrefix (operations_of history) operations → AreTakenFrom operations history
-taken_from operations history h = record {
-  from = λ place. place;
-  there = λ place item answer at.
-      ap (λ z. slice_get z place) (sym h.together)
-      ∙ stands_there history h.rest place item answer at;
-  once = λ place other low low' same. same;
-}
 
 -- ---- points
 abbrev weight : {S A : Type 0} → Did S A → ℕ
@@ -437,7 +424,7 @@ module _ {S A : Type 0} (IsFirst : S → Type 0) (Applies : Operations S A) wher
           history = history;
           last = all.last;
           legal = all.leads;
-          taken = taken_from operations history all.of_order;
+          taken = all.of_order;
           point = point;
           effect = λ i c at. (at_point i c at).effect;
           alone = λ i j c d at at' has has' same.

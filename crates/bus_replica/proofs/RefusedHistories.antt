@@ -1,16 +1,19 @@
 -- Wrong histories of a counter are not linearizable, and a right one is.
 use Rattle.std.proofs.Common.{◌≡◌, ℕ, zero, suc, ◌+◌, ◌*◌, ◌<◌, ◌≤◌, true, false, Option, Some}
-use Rattle.std.proofs.Common.{None, List, [], ◌∷◌, ◌++◌, length, slice_get, refl, ap, subst, arith}
-use Rattle.std.proofs.lemmas.List.{length-append}
-use Rattle.std.proofs.lemmas.Option.{same_Some, slice_get_within}
+use Rattle.std.proofs.Common.{None, List, [], ◌∷◌, ◌++◌, length, slice_get, refl, sym, ◌∙◌, ap}
+use Rattle.std.proofs.Common.{subst, arith}
+use Rattle.std.proofs.lemmas.List.{length-append, length-map}
+use Rattle.std.proofs.lemmas.Option.{same_Some}
 use Rattle.bus_world.proofs.Growing.{nothing_more}
+use Rattle.bus_world.specs.Headline.{IsPrefix}
 use Rattle.bus_batch.specs.declared.messages.Item.{Item}
 use Rattle.bus_replica.specs.Histories.{Did, Executed, Read, Call, is_execution, Runs}
-use Rattle.bus_replica.specs.Histories.{AreTakenFrom, ExecutesAt}
+use Rattle.bus_replica.specs.Histories.{ExecutesAt, HistoriesAccept, operations_of, two_calls}
 use Rattle.bus_replica.specs.Histories.{ReadsAt, TakesEffectAt, IsBefore, Counts}
 use Rattle.bus_replica.specs.Histories.{IsCounted, ExecutedAs, ReadAs, HistoriesRefuse}
-use Rattle.bus_replica.specs.Histories.{IsAccepted, right_calls}
-use Rattle.bus_replica.proofs.HistoryLaws.{taken_from}
+use Rattle.bus_replica.proofs.HistoryLaws.{stands_there}
+use Rattle.bus_replica.proofs.OwnLaws.{at_place}
+use Rattle.bus_replica.proofs.TimeLaws.{prefix_long}
 
 -- ---- counting
 counted : (old : ℕ) (history : List (Item × ℕ)) (new : ℕ) → Runs Counts old history new
@@ -75,19 +78,13 @@ module _ (operations : List Item) (calls : List (Call ℕ ℕ)) (h : IsCounted o
       subst (λ z. IsBefore z did' (h.point i) (h.point j)) is
       (subst (λ z. IsBefore c.did z (h.point i) (h.point j)) is' (h.in_time i j c d at at' before))
 
--- an element that there is
-there_is : {A : Type 0} (xs : List A) (k : ℕ) → k < length xs → (x : A) × (slice_get xs k ≡ Some x)
-there_is [] k low = absurd (omega (arith, low))
-there_is (x ∷ xs) zero low = (x, refl)
-there_is (x ∷ xs) (suc k) low = there_is xs k (omega (arith, low))
-
 -- so many operations at most are in a history
-within : (operations : List Item) (history : List (Item × ℕ))
-    (t : AreTakenFrom operations history) (place : ℕ) → place < length history
-    → t.from place < length operations
-within operations history t place low =
-    let one = there_is history place low in
-    slice_get_within operations (t.from place) one.0.0 (t.there place one.0.0 one.0.1 one.1)
+as_many : (operations : List Item) (history : List (Item × ℕ))
+    → IsPrefix (operations_of history) operations → length history ≤ length operations
+as_many operations history taken =
+    let few = prefix_long (operations_of history) operations taken in
+    let same = length-map history (λ (h : Item × ℕ). h.0) in
+    omega (arith, few, same)
 
 pub refused : (operations : List Item) (calls : List (Call ℕ ℕ)) → HistoriesRefuse operations calls
 refused operations calls = record {
@@ -123,59 +120,95 @@ refused operations calls = record {
       timely operations calls h i j c d (Executed e.number e.bytes answer)
       (Executed r.number r.bytes later) e.at r.at e.did r.did before in
       omega (arith, first, second, order, less);
+  foreign_operation = λ i c answer e none h.
+      let effect : ExecutesAt h.history c.worker e.number e.bytes answer (h.point i) =
+      subst (λ z. TakesEffectAt Counts h.first h.history c.worker z (h.point i)) e.did
+      (h.effect i c e.at) in
+      let at = ap (λ z. slice_get z (length effect.before)) effect.stands
+      ∙ at_place effect.before effect.after (effect.item, answer) in
+      none (length effect.before) effect.item
+      (ap (λ z. slice_get z (length effect.before)) (sym h.taken.together)
+      ∙ stands_there h.history h.taken.rest (length effect.before) effect.item answer at)
+      effect.worker_is effect.number_is;
   from_nowhere = λ i c shown r none some h.
       let all = (point_read operations calls h i c shown r).within in
-      let one = within operations h.history h.taken 0 (omega (arith, all, some)) in
+      let most = as_many operations h.history h.taken in
       let few = ap length none in
-      omega (arith, one, few);
+      omega (arith, all, most, few, some);
   applied_twice = λ i c shown item r is more h.
       let all = (point_read operations calls h i c shown r).within in
-      let zeroth = within operations h.history h.taken 0 (omega (arith, all, more)) in
-      let first = within operations h.history h.taken 1 (omega (arith, all, more)) in
+      let most = as_many operations h.history h.taken in
       let few = ap length is in
-      let same = h.taken.once 0 1 (omega (arith, all, more)) (omega (arith, all, more))
-      (omega (arith, zeroth, first, few)) in
-      omega (arith, same);
+      omega (arith, all, most, few, more);
 }
 
--- ---- a history that is linearizable
-module _ (item : Item) (reader : ℕ) where
+-- ---- histories that are linearizable
+-- an execution that returns by this moment, and a read that begins at that one
+module _ (item : Item) (reader returned began : ℕ) (some : 0 < returned) where
   abbrev first_call : Call ℕ ℕ
   first_call = record {
     worker = item.sender.0;
     began = 0;
-    returned = 1;
+    returned = returned;
     did = Executed item.number item.message 1;
   }
 
-  abbrev second_call : Call ℕ ℕ
-  second_call = record { worker = reader; began = 1; returned = 2; did = Read 1 }
+  abbrev second_call : ℕ → Call ℕ ℕ
+  second_call shown =
+      record { worker = reader; began = began; returned = began + 1; did = Read shown }
 
   abbrev right_history : List (Item × ℕ)
   right_history = (item, 1) ∷ []
 
+  -- the points of the two calls
+  point_at : ℕ → ℕ → ℕ
+  point_at shown zero = 1
+  point_at shown (suc i) = 2 * shown
+
   -- what holds of both calls, each at its place, holds of each call
-  of_both : (Q : ℕ → Call ℕ ℕ → Type 0) → Q 0 first_call → Q 1 second_call → (i : ℕ)
-      (c : Call ℕ ℕ) → slice_get (right_calls item reader) i ≡ Some c → Q i c
-  of_both Q one two zero c at = subst (Q 0) (same_Some first_call c at) one
-  of_both Q one two (suc zero) c at = subst (Q 1) (same_Some second_call c at) two
-  of_both Q one two (suc (suc i)) c at =
+  of_both : (shown : ℕ) (Q : ℕ → Call ℕ ℕ → Type 0) → Q 0 first_call → Q 1 (second_call shown)
+      → (i : ℕ) (c : Call ℕ ℕ) → slice_get (two_calls item reader returned began shown) i ≡ Some c
+      → Q i c
+  of_both shown Q one two zero c at = subst (Q 0) (same_Some first_call c at) one
+  of_both shown Q one two (suc zero) c at = subst (Q 1) (same_Some (second_call shown) c at) two
+  of_both shown Q one two (suc (suc i)) c at =
       absurd (let no : ◌≡◌ {A = Option (Call ℕ ℕ)} None (Some c) = at in cc)
 
-  abbrev TakesEffect : ℕ → Call ℕ ℕ → Type 0
-  TakesEffect i c = TakesEffectAt Counts 0 right_history c.worker c.did (i + 1)
+  abbrev TakesEffect : ℕ → ℕ → Call ℕ ℕ → Type 0
+  TakesEffect shown i c = TakesEffectAt Counts 0 right_history c.worker c.did (point_at shown i)
 
   -- executions are at the first place
   abbrev IsFirstCall : ℕ → Call ℕ ℕ → Type 0
   IsFirstCall i c = is_execution c.did ≡ true → i ≡ 0
 
   -- they keep their order in time
-  abbrev ComesBefore : ℕ → Call ℕ ℕ → ℕ → Call ℕ ℕ → Type 0
-  ComesBefore i c j d = c.returned ≤ d.began → IsBefore c.did d.did (i + 1) (j + 1)
+  abbrev ComesBefore : ℕ → ℕ → Call ℕ ℕ → ℕ → Call ℕ ℕ → Type 0
+  ComesBefore shown i c j d =
+      c.returned ≤ d.began → IsBefore c.did d.did (point_at shown i) (point_at shown j)
 
-  pub accepted : IsAccepted item reader
-  accepted =
-      let all = of_both IsFirstCall (λ is. refl)
+  read_there : (shown : ℕ) → shown ≤ 1 → ReadsAt Counts 0 right_history shown (2 * shown)
+  read_there zero low =
+      record {
+        before = [];
+        after = right_history;
+        stands = refl;
+        leads = refl;
+        point_is = refl;
+      }
+  read_there (suc zero) low =
+      record {
+        before = right_history;
+        after = [];
+        stands = refl;
+        leads = (1, (refl, refl), refl);
+        point_is = refl;
+      }
+  read_there (suc (suc shown)) low = absurd (omega (arith, low))
+
+  two_accepted : (shown : ℕ) → shown ≤ 1 → (returned ≤ began → shown ≡ 1)
+      → IsCounted (item ∷ []) (two_calls item reader returned began shown)
+  two_accepted shown low in_order =
+      let all = of_both shown IsFirstCall (λ is. refl)
       (λ is. absurd (let no : false ≡ true = is in cc)) in
       record {
         first = 0;
@@ -183,9 +216,9 @@ module _ (item : Item) (reader : ℕ) where
         history = right_history;
         last = 1;
         legal = (1, (refl, refl), refl);
-        taken = taken_from (item ∷ []) right_history (nothing_more (item ∷ []));
-        point = λ i. i + 1;
-        effect = of_both TakesEffect
+        taken = nothing_more (item ∷ []);
+        point = point_at shown;
+        effect = of_both shown (TakesEffect shown)
             (record {
               before = [];
               item = item;
@@ -196,20 +229,23 @@ module _ (item : Item) (reader : ℕ) where
               bytes_are = refl;
               point_is = refl;
             })
-            (record {
-              before = right_history;
-              after = [];
-              stands = refl;
-              leads = (1, (refl, refl), refl);
-              point_is = refl;
-            });
+            (read_there shown low);
         alone = λ i j c d at at' is is' same.
             let one = all i c at is in let other = all j d at' is' in omega (arith, one, other);
         in_time = λ i j c d at at'.
-            of_both (λ i c. ComesBefore i c j d)
-            (of_both (λ j d. ComesBefore 0 first_call j d) (λ le. omega (arith, le))
-            (λ le. omega arith) j d at')
-            (of_both (λ j d. ComesBefore 1 second_call j d) (λ le. omega (arith, le))
-            (λ le. omega (arith, le)) j d at')
+            of_both shown (λ i c. ComesBefore shown i c j d)
+            (of_both shown (λ j d. ComesBefore shown 0 first_call j d)
+            (λ le. absurd (omega (arith, le, some)))
+            (λ le. let one = in_order le in omega (arith, one)) j d at')
+            (of_both shown (λ j d. ComesBefore shown 1 (second_call shown) j d)
+            (λ le. absurd (omega (arith, le)))
+            (λ le. omega (arith)) j d at')
             i c at;
       }
+
+pub accepted : (item : Item) (reader : ℕ) → HistoriesAccept item reader
+accepted item reader = record {
+  behind = two_accepted item reader 1 1 (omega arith) 1 (omega arith) (λ le. refl);
+  beside = λ shown low. two_accepted item reader 2 1 (omega arith) shown low
+      (λ le. absurd (omega (arith, le)));
+}

@@ -1,6 +1,6 @@
 -- Histories of calls, and which of them are linearizable (Herlihy and Wing 1990).
 use Rattle.std.specs.Prelude.{◌≡◌, ◌≢◌, ◌⊎◌, ℕ, ◌+◌, ◌*◌, ◌<◌, ◌≤◌, Bool, true, false, Some, List}
-use Rattle.std.specs.Prelude.{[], ◌∷◌, ◌++◌, length, slice_get}
+use Rattle.std.specs.Prelude.{[], ◌∷◌, ◌++◌, length, map, slice_get}
 use Rattle.bus_batch.specs.declared.messages.Item.{Item}
 use Rattle.bus_batch.specs.Frames.{Order, items_in}
 use Rattle.bus_world.specs.Headline.{IsPrefix}
@@ -34,14 +34,9 @@ Runs {S} Applies old (operation ∷ history) new =
     (next : S) × Applies old operation.0.sender.0 operation.0.message operation.1 next
     × Runs Applies next history new
 
--- each operation of the history is one of these, and none of these stands in it twice
-pub record AreTakenFrom {A : Type 0} (operations : List Item) (history : List (Item × A)) :
-    Type 0 where
-  pub from : ℕ → ℕ
-  pub there : (place : ℕ) (item : Item) (answer : A) → slice_get history place ≡ Some (item, answer)
-      → slice_get operations (from place) ≡ Some item
-  pub once : (place other : ℕ) → place < length history → other < length history
-      → from place ≡ from other → place ≡ other
+-- the operations of a history, without their answers
+abbrev pub operations_of : {A : Type 0} → List (Item × A) → List Item
+operations_of {A} history = map (λ (h : Item × A). h.0) history
 
 -- ---- points
 -- Each call takes effect at one point of a sequential history. The point of the operation that i
@@ -81,11 +76,11 @@ IsBefore (Read shown) (Executed number bytes answer) point other = point < other
 IsBefore (Read shown) (Read shown') point other = point ≤ other
 
 -- ---- linearizable
--- There is one sequential history of the object, from a first state, which has no operations but
--- these and none of them twice. Each call takes effect at a point of it: an execution was answered
--- what its operation answers there, and a read showed the state that is there. No two executions
--- have the same point. And the calls keep their order in time: where the one had returned by the
--- moment behind which the other began, its point is before the other's.
+-- There is one sequential history of the object, from a first state, whose operations begin these:
+-- so it has no others, and none of them twice. Each call takes effect at a point of it: an
+-- execution was answered what its operation answers there, and a read showed the state that is
+-- there. No two executions have the same point. And the calls keep their order in time: where the
+-- one had returned by the moment behind which the other began, its point is before the other's.
 pub record IsLinearizable {S A : Type 0} (IsFirst : S → Type 0) (Applies : Operations S A)
     (operations : List Item) (calls : List (Call S A)) : Type 0 where
   pub first : S
@@ -93,7 +88,7 @@ pub record IsLinearizable {S A : Type 0} (IsFirst : S → Type 0) (Applies : Ope
   pub history : List (Item × A)
   pub last : S
   pub legal : Runs Applies first history last
-  pub taken : AreTakenFrom operations history
+  pub taken : IsPrefix (operations_of history) operations
   -- of each call, by its place in the list
   pub point : ℕ → ℕ
   pub effect : (i : ℕ) (c : Call S A) → slice_get calls i ≡ Some c
@@ -174,6 +169,11 @@ pub record HistoriesRefuse (operations : List Item) (calls : List (Call ℕ ℕ)
   pub other_place : (i j : ℕ) (c d : Call ℕ ℕ) (answer later : ℕ) → ExecutedAs calls i c answer
       → ExecutedAs calls j d later → c.returned ≤ d.began → later ≤ answer
       → ¬ IsCounted operations calls
+  -- a foreign operation: an execution of one that is none of these
+  pub foreign_operation : (i : ℕ) (c : Call ℕ ℕ) (answer : ℕ) (e : ExecutedAs calls i c answer)
+      → ((place : ℕ) (item : Item) → slice_get operations place ≡ Some item
+      → item.sender.0 ≡ c.worker → item.number ≡ e.number → ⊥)
+      → ¬ IsCounted operations calls
   -- an operation from nowhere: a read shows one, and there was none
   pub from_nowhere : (i : ℕ) (c : Call ℕ ℕ) (shown : ℕ) → ReadAs calls i c shown
       → operations ≡ [] → 0 < shown → ¬ IsCounted operations calls
@@ -181,16 +181,20 @@ pub record HistoriesRefuse (operations : List Item) (calls : List (Call ℕ ℕ)
   pub applied_twice : (i : ℕ) (c : Call ℕ ℕ) (shown : ℕ) (item : Item) → ReadAs calls i c shown
       → operations ≡ item ∷ [] → 1 < shown → ¬ IsCounted operations calls
 
--- one execution of the only operation, and behind it a read that shows one
-abbrev pub right_calls : Item → ℕ → List (Call ℕ ℕ)
-right_calls item reader =
+-- An execution of the only operation, which begins at the moment 0 and returns by this one; and a
+-- read that begins at that one, and shows so many.
+abbrev pub two_calls : Item → (reader returned began shown : ℕ) → List (Call ℕ ℕ)
+two_calls item reader returned began shown =
     record {
       worker = item.sender.0;
       began = 0;
-      returned = 1;
+      returned = returned;
       did = Executed item.number item.message 1;
     }
-    ∷ record { worker = reader; began = 1; returned = 2; did = Read 1 } ∷ []
+    ∷ record { worker = reader; began = began; returned = began + 1; did = Read shown } ∷ []
 
-abbrev pub IsAccepted : Item → ℕ → Type 0
-IsAccepted item reader = IsCounted (item ∷ []) (right_calls item reader)
+pub record HistoriesAccept (item : Item) (reader : ℕ) : Type 0 where
+  -- behind the execution a read shows one
+  pub behind : IsCounted (item ∷ []) (two_calls item reader 1 1 1)
+  -- beside it one or none
+  pub beside : (shown : ℕ) → shown ≤ 1 → IsCounted (item ∷ []) (two_calls item reader 2 1 shown)

@@ -16,7 +16,7 @@ ghost use Rattle.bus_replica.specs.OneOrder.{AreFunctions};
 ghost use Rattle.bus_replica.specs.Linearized.{IsLinearized, IsRead};
 ghost use Rattle.bus_replica.specs.Causes.{tells};
 ghost use Rattle.bus_replica.specs.Histories.{AreDoneBy, AreInTurn, AreMoments, Call};
-ghost use Rattle.bus_replica.specs.Histories.{HistoriesRefuse, IsAccepted, IsLinearizable};
+ghost use Rattle.bus_replica.specs.Histories.{HistoriesAccept, HistoriesRefuse, IsLinearizable};
 ghost use Rattle.bus_replica.specs.Moments.{AreDoneOnMachines, AreDoneOnTables, EndsWith};
 ghost use Rattle.bus_replica.specs.Moments.{HasExecutedOn, HasReadOn, IsLaterMachine, LeadTo};
 ghost use Rattle.bus_replica.specs.Moments.{MachineMoment, PublishesMore, PutsSince, TableMoment};
@@ -59,12 +59,13 @@ pub fn replicas_have_linearizable_histories<S: State>()
 /// Of a counter no history is linearizable in which a read is stale, or ahead of its time, or goes
 /// back; in which two executions have the same answer, as if one operation had been lost, or an
 /// execution that began after another had returned is answered as if it stood before that; or in
-/// which a read shows an operation from nowhere, or one that was applied twice. A right history is
-/// linearizable: an execution of the only operation, and behind it a read that shows one.
+/// which a read shows an operation from nowhere, or one that was applied twice; or in which one is
+/// executed that nobody sent. Right histories are linearizable: of an execution of the only
+/// operation, and a read behind it that shows one, or beside it that shows one or none.
 pub fn wrong_histories_are_refused()
     ensures refuses { (operations : List Item) (calls : List (Call ℕ ℕ))
         → HistoriesRefuse operations calls }
-    ensures accepts { (item : Item) (reader : ℕ) → IsAccepted item reader }
+    ensures accepts { (item : Item) (reader : ℕ) → HistoriesAccept item reader }
 {}
 
 /// Of two pages of promises, where the order of the one begins the order of the other. What a
