@@ -1,7 +1,7 @@
 -- What the table's rule keeps, from its start on.
-pub mod Rule
+pub mod Ruled
 -- One step of a seat.
-pub mod Steps
+pub mod SeatSteps
 -- Calls of a sender.
 pub mod Sends
 -- Calls of a receiver.

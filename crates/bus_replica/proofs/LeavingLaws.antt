@@ -1,15 +1,16 @@
 -- Who was told to have left, after a turn of a receiver.
 use Rattle.std.proofs.Common.{◌≡◌, ℕ, ◌⊎◌, inl, inr, true, false, List, [], ◌∷◌, ◌++◌}
-use Rattle.std.proofs.Common.{refl, sym, ◌∙◌, ap, subst, arith, ◌+◌, ◌<◌, length}
-use Rattle.std.proofs.lemmas.Bool.{or_right, eq-eqb, cases_lt}
-use Rattle.std.proofs.lemmas.List.Elements.{All-push}
+use Rattle.std.proofs.Common.{refl, sym, ◌∙◌, ap, subst, arith, ◌+◌, ◌<◌, length, Bool}
+use Rattle.std.proofs.lemmas.Bool.{or_right, eq-eqb, ne_eqb, cases_eq, cases_lt}
+use Rattle.std.proofs.Math.Bool.{or-false}
+use Rattle.std.proofs.lemmas.List.{get_or-set_same, get_or-set_other, length-set}
 use Rattle.std.proofs.lemmas.List.Folds.{list_any-append}
-use Rattle.std.specs.Prelude.{All, ◌||◌, Result, Ok, Err, OnOk, OnErr}
+use Rattle.std.specs.Prelude.{◌||◌, Result, Ok, Err, OnOk, slice_set, slice_index_or}
 use Rattle.std.specs.List.{list_any}
 use lib.ListN.{get_or}
 use Rattle.bus_register.specs.declared.registers.SenderNo.{SenderNo}
 use Rattle.bus_batch.specs.declared.messages.Item.{Item}
-use Rattle.bus_batch.specs.Frames.{Entry, Leaves, items_in, is_leave_of}
+use Rattle.bus_batch.specs.Frames.{Entry, Says, Leaves, items_in, is_leave_of}
 use Rattle.bus_deliverylog.specs.declared.receiving.RecvTurn.{RecvTurn}
 use Rattle.bus_deliverylog.specs.declared.receiving.RecvTurn.TheVariants as turn
 use Rattle.bus_world.specs.Headline.{entry_heard}
@@ -25,32 +26,62 @@ use Rattle.bus_replica.proofs.GoingLaws.{goes_same}
 use Rattle.bus_replica.proofs.FoldLaws.{fold_more, fold_stays, fold_told}
 use Rattle.bus_replica.proofs.HearingLaws.{HasGrown, entries_heard, hears_grows, learns_grows}
 
--- who has left has left for good
-leave_stays : {C : Type 0} (old new : Sat C) (entries : List Entry) (worker : ℕ)
-    → HasGrown old entries new → has_heard_leave old.0 worker ≡ true
-    → has_heard_leave new.0 worker ≡ true
-leave_stays old new entries worker g left =
+-- of whom it was answered that it has left
+leaves_more : {C : Type 0} (old new : Sat C) (entries : List Entry) (worker : ℕ)
+    → HasGrown old entries new
+    → has_heard_leave new.0 worker
+    ≡ (has_heard_leave old.0 worker || list_any (is_leave_of worker) entries)
+leaves_more old new entries worker g =
     ap (list_any (is_leave_of worker)) g.entries_are
     ∙ list_any-append (is_leave_of worker) (entries_heard old.0) entries
-    ∙ ap (λ b. b || list_any (is_leave_of worker) entries) left
+
+-- none of these entries is a leave mark of this worker
+leaves_same : {C : Type 0} (old new : Sat C) (entries : List Entry) (worker : ℕ)
+    → HasGrown old entries new → list_any (is_leave_of worker) entries ≡ false
+    → has_heard_leave new.0 worker ≡ has_heard_leave old.0 worker
+leaves_same old new entries worker g none =
+    leaves_more old new entries worker g
+    ∙ ap (λ b. has_heard_leave old.0 worker || b) none
+    ∙ or-false (has_heard_leave old.0 worker)
 
 leave_heard : {C : Type 0} (old new : Sat C) (s : SenderNo) → HasGrown old (Leaves s ∷ []) new
     → has_heard_leave new.0 s.0 ≡ true
 leave_heard old new s g =
-    ap (list_any (is_leave_of s.0)) g.entries_are
-    ∙ list_any-append (is_leave_of s.0) (entries_heard old.0) (Leaves s ∷ [])
-    ∙ or_right (list_any (is_leave_of s.0) (entries_heard old.0))
-    (list_any (is_leave_of s.0) (Leaves s ∷ [])) (ap (λ b. b || false) (eq-eqb s.0 s.0 refl))
+    leaves_more old new (Leaves s ∷ []) s.0 g
+    ∙ or_right (has_heard_leave old.0 s.0) (list_any (is_leave_of s.0) (Leaves s ∷ []))
+    (ap (λ b. b || false) (eq-eqb s.0 s.0 refl))
+
+-- of whom it is noted
+abbrev AreNoted : {C : Type 0} → View C → List Bool → Type 0
+AreNoted v left = (worker : ℕ) → worker < length left
+    → slice_index_or left worker false ≡ has_heard_leave v worker
+
+noted_same : {C : Type 0} (old new : Sat C) (entries : List Entry) (left : List Bool)
+    → HasGrown old entries new → ((worker : ℕ) → list_any (is_leave_of worker) entries ≡ false)
+    → AreNoted old.0 left → AreNoted new.0 left
+noted_same old new entries left g none gone = λ worker low.
+    gone worker low ∙ sym (leaves_same old new entries worker g (none worker))
+
+-- a leave mark is noted
+noted_more : {C : Type 0} (old new : Sat C) (s : SenderNo) (left : List Bool)
+    → HasGrown old (Leaves s ∷ []) new → s.0 < length left → AreNoted old.0 left
+    → AreNoted new.0 (slice_set left s.0 true)
+noted_more old new s left g within gone = λ worker low. elim (cases_eq worker s.0) [
+  | inl same ↦
+      ap (λ w. get_or (slice_set left s.0 true) w false) same
+      ∙ get_or-set_same left s.0 true false within
+      ∙ sym (ap (has_heard_leave new.0) same ∙ leave_heard old new s g)
+  | inr other ↦
+      get_or-set_other left s.0 worker true false other
+      ∙ gone worker (let long = length-set left s.0 true in omega (arith, low, long))
+      ∙ sym (leaves_same old new (Leaves s ∷ []) worker g
+      (ap (λ b. b || false) (ne_eqb s.0 worker (λ e. other (sym e)))))
+]
 
 module _ {C S A : Type 0} (IsFirst : S → Type 0) (Applies : Operations S A) (old new : Sat C)
-    (state : S) (left : List SenderNo) (h : IsHearing IsFirst Applies old.0 state left) where
+    (state : S) (left : List Bool) (h : IsHearing IsFirst Applies old.0 state left) where
   grown : (answer : RecvTurn) → Hears old answer new → HasGrown old (entry_heard answer) new
   grown answer hears = hears_grows old answer new h.fold.heard h.fold.within hears
-
-  stay : (answer : RecvTurn) → Hears old answer new
-      → All (λ (s : SenderNo). has_heard_leave new.0 s.0 ≡ true) left
-  stay answer hears = λ k d lt.
-      leave_stays old new (entry_heard answer) _ (grown answer hears) (h.gone k d lt)
 
   -- a turn that found an item, and the operation applied
   pub hearing_more : (now : S) (item : Item) (answer : A) → Hears old (turn.Item item) new
@@ -58,56 +89,34 @@ module _ {C S A : Type 0} (IsFirst : S → Type 0) (Applies : Operations S A) (o
       → IsHearing IsFirst Applies new.0 now left
   hearing_more now item answer hears applied = record {
     fold = fold_more IsFirst Applies old new state now item answer h.fold hears applied;
-    gone = stay (turn.Item item) hears;
+    gone = noted_same old new (Says item ∷ []) left (grown (turn.Item item) hears) (λ worker. refl)
+        h.gone;
   }
 
-  -- a turn that found none
-  pub hearing_stays : (answer : RecvTurn) → items_in (entry_heard answer) ≡ []
-      → Hears old answer new → IsHearing IsFirst Applies new.0 state left
+  -- a turn that found neither an item nor a leave mark
+  pub hearing_stays : (answer : RecvTurn) → entry_heard answer ≡ [] → Hears old answer new
+      → IsHearing IsFirst Applies new.0 state left
   hearing_stays answer none hears = record {
-    fold = fold_stays IsFirst Applies old new state answer none h.fold hears;
-    gone = stay answer hears;
+    fold = fold_stays IsFirst Applies old new state answer (ap items_in none) h.fold hears;
+    gone = noted_same old new (entry_heard answer) left (grown answer hears)
+        (λ worker. ap (list_any (is_leave_of worker)) none) h.gone;
   }
 
   -- a load of the length, out of turn
   pub hearing_told : (got : ℕ) → Learns old got new → IsHearing IsFirst Applies new.0 state left
   hearing_told got learns = record {
     fold = fold_told IsFirst Applies old new state got h.fold learns;
-    gone = λ k d lt. leave_stays old new [] _
-        (learns_grows old got new h.fold.heard h.fold.within learns) (h.gone k d lt);
+    gone = noted_same old new [] left
+        (learns_grows old got new h.fold.heard h.fold.within learns) (λ worker. refl) h.gone;
   }
 
-  -- a turn that found a leave mark, which is noted or not
-  pub hearing_leaves : (s : SenderNo) (noted : List SenderNo)
-      → (noted ≡ left ++ s ∷ []) ⊎ (noted ≡ left) → Hears old (turn.Leave s) new
-      → IsHearing IsFirst Applies new.0 state noted
-  hearing_leaves s noted is hears = record {
+  -- a turn that found a leave mark, which is noted
+  pub hearing_leaves : (s : SenderNo) → s.0 < length left → Hears old (turn.Leave s) new
+      → IsHearing IsFirst Applies new.0 state (slice_set left s.0 true)
+  hearing_leaves s within hears = record {
     fold = fold_stays IsFirst Applies old new state (turn.Leave s) refl h.fold hears;
-    gone = elim is [
-      | inl more ↦
-          (subst (λ z. All (λ (s : SenderNo). has_heard_leave new.0 s.0 ≡ true) z) (sym more)
-          (All-push (λ (s : SenderNo). has_heard_leave new.0 s.0 ≡ true) left s
-          (stay (turn.Leave s) hears) (leave_heard old new s (grown (turn.Leave s) hears))))
-      | inr same ↦
-          (subst (λ z. All (λ (s : SenderNo). has_heard_leave new.0 s.0 ≡ true) z) (sym same)
-          (stay (turn.Leave s) hears))
-    ];
+    gone = noted_more old new s left (grown (turn.Leave s) hears) within h.gone;
   }
-
--- a push of a list that may be full
-pub noted : {E V : Type 0} (result : Result (Unit {0}) E) (items : V → List SenderNo) (old new : V)
-    (s : SenderNo) → OnOk result (items new ≡ items old ++ s ∷ []) → OnErr result (new ≡ old)
-    → (items new ≡ items old ++ s ∷ []) ⊎ (items new ≡ items old)
-noted (Ok x) items old new s ok err = inl ok
-noted (Err e) items old new s ok err = inr (ap items err)
-
--- whom the list has, has left
-pub leave_noted : {C : Type 0} (v : View C) (left items : List SenderNo) (none : SenderNo)
-    (k worker : ℕ) → All (λ (s : SenderNo). has_heard_leave v s.0 ≡ true) left → items ≡ left
-    → k < length items → (get_or items k none).0 ≡ worker → has_heard_leave v worker ≡ true
-leave_noted v left items none k worker gone same low is =
-    ap (has_heard_leave v) (sym is)
-    ∙ subst (λ z. All (λ (s : SenderNo). has_heard_leave v s.0 ≡ true) z) (sym same) gone k none low
 
 -- one worker more
 pub left_more : {C : Type 0} (v : View C) (n : ℕ) → HaveAllLeft v n → has_heard_leave v n ≡ true

@@ -20,7 +20,7 @@ use Rattle.bus_pageslot.specs.declared.rule.View.{View}
 use Rattle.bus_pageslot.specs.declared.rule.View.TheVariants.{Tap}
 use Rattle.bus_handles.specs.Handles.{SeatOfBus, IsOpened, seat_of}
 use Rattle.bus_replica.specs.Replicas.{Operations, Folds, Begins, IsFold, Replicated}
-use Rattle.bus_replica.specs.Replicas.{items_heard, has_view}
+use Rattle.bus_replica.specs.Replicas.{items_heard, has_view, HasNobodyLeft}
 use Rattle.bus_replica.specs.Openings.{IsNewReplica, AreNewReplicas, IsPairing, replica_shape}
 
 -- ---- a receiver before its first turn
@@ -28,12 +28,17 @@ use Rattle.bus_replica.specs.Openings.{IsNewReplica, AreNewReplicas, IsPairing, 
 record HasHeardNothing {C : Type 0} (v : View C) : Type 0 where
   heard : has_view v ≡ true
   none : items_heard v ≡ []
+  nobody : HasNobodyLeft v
   within : (receiver_view_in v).place ≤ length (known_in v)
 
 new_hears : {C : Type 0} (m : Sat C) (x : TableLayout) (r : ℕ)
     → m ≡ (Tap x (new_receiver_view r), []) → HasHeardNothing m.0
 new_hears {C} m x r is = subst (λ (z : Sat C). HasHeardNothing z.0) (sym is)
-    (record { heard = refl; none = refl; within = omega arith })
+    (record { heard = refl; none = refl; nobody = λ worker. refl; within = omega arith })
+
+pub nobody_left : {C : Type 0} (m : Sat C) (x : TableLayout) (r : ℕ)
+    → m ≡ (Tap x (new_receiver_view r), []) → HasNobodyLeft m.0
+nobody_left m x r is = (new_hears m x r is).nobody
 
 pub fold_of_none : {C S A : Type 0} (IsFirst : S → Type 0) (Applies : Operations S A) (m : Sat C)
     (x : TableLayout) (r : ℕ) (state : S) → m ≡ (Tap x (new_receiver_view r), [])

@@ -14,6 +14,7 @@ use Rattle.bus_pageslot.specs.Rule.{Sat}
 use Rattle.bus_pageslot.specs.Seats.{SenderSeat}
 use Rattle.bus_pageslot.specs.Turns.{Tellings, Turned, tells_with}
 use Rattle.bus_replica.specs.Replicas.{Replicated, GoesOn, WorksOn, PutsStay, HaveAllLeft}
+use Rattle.bus_replica.specs.Replicas.{has_heard_leave}
 use Rattle.bus_replica.specs.declared.faults.Fault.{Fault}
 use Rattle.bus_replica.specs.declared.faults.Fault.TheVariants as fault
 
@@ -83,11 +84,12 @@ IsCause P T Long Stops old new fault.Spent =
 IsCause P T Long Stops old new fault.Stopped = Stops
 IsCause P T Long Stops old new (fault.MissingWorker worker) = ⊥
 
--- Of the call that finishes, of so many workers. It was told to stop before this worker has left,
--- and those before it have.
+-- Of the call that finishes, of so many workers. It was told to stop before it was answered that
+-- this worker has left, and of those before it it was.
 pub record IsFirstMissing {C S : Type 0} (workers : ℕ) (new : Replicated C S) (worker : ℕ) :
     Type 0 where
   pub some : worker < workers
+  pub missing : has_heard_leave new.me.0 worker ≡ false
   pub first : HaveAllLeft new.me.0 worker
 
 abbrev pub IsEndCause : {C S : Type 0} → Process C → Tellings C → (Stops : Type 0)

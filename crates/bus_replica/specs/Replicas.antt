@@ -31,6 +31,10 @@ items_heard v = flat_map item_in (receiver_view_in v).answers
 abbrev pub has_heard_leave : {C : Type 0} → View C → ℕ → Bool
 has_heard_leave v worker = has_gone worker (order_given (receiver_view_in v).answers)
 
+-- it was not answered of anybody that it has left
+abbrev pub HasNobodyLeft : {C : Type 0} → View C → Type 0
+HasNobodyLeft v = (worker : ℕ) → has_heard_leave v worker ≡ false
+
 -- it was answered that each of so many workers has left
 abbrev pub HaveAllLeft : {C : Type 0} → View C → ℕ → Type 0
 HaveAllLeft v workers = (worker : ℕ) → worker < workers → has_heard_leave v worker ≡ true

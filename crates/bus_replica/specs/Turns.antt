@@ -1,6 +1,5 @@
 -- What a turn of a replica does.
-use Rattle.std.specs.Prelude.{◌≡◌, true, List, All}
-use Rattle.bus_register.specs.declared.registers.SenderNo.{SenderNo}
+use Rattle.std.specs.Prelude.{◌≡◌, ℕ, ◌<◌, Bool, false, List, length, slice_index_or}
 use Rattle.bus_deliverylog.specs.declared.receiving.RecvTurn.{RecvTurn}
 use Rattle.bus_deliverylog.specs.declared.receiving.RecvTurn.TheVariants as turn
 use Rattle.bus_pageslot.specs.Listening.{Hears}
@@ -20,11 +19,13 @@ Makes {S} {A} Applies old (turn.Item item) told new =
 Makes Applies old (turn.Leave sender) told new = (told ≡ applied.Going) × (new ≡ old)
 Makes Applies old turn.End told new = (told ≡ applied.End) × (new ≡ old)
 
--- its state is the fold of what its receiver was given, and it was told that these have left
+-- its state is the fold of what its receiver was given; and of each number it is noted whether it
+-- was answered that the worker of that number has left
 pub record IsHearing {C S A : Type 0} (IsFirst : S → Type 0) (Applies : Operations S A)
-    (v : View C) (state : S) (left : List SenderNo) : Type 0 where
+    (v : View C) (state : S) (left : List Bool) : Type 0 where
   pub fold : IsFold IsFirst Applies v state
-  pub gone : All (λ (s : SenderNo). has_heard_leave v s.0 ≡ true) left
+  pub gone : (worker : ℕ) → worker < length left
+      → slice_index_or left worker false ≡ has_heard_leave v worker
 
 -- a turn of its receiver, and the operation that it heard, if it heard one, applied
 pub record TakesIn {C S A : Type 0} (Applies : Operations S A) (old : Hearing C S)

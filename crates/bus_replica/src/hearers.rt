@@ -1,21 +1,22 @@
 //! A receiver, and the state that it applies to all that it hears.
 
-ghost use Rattle.std.specs.Prelude.{◌≡◌, ℕ, ◌<◌, IfOk, IfErr, IfSome, IfNone, IsTrue, true};
+ghost use Rattle.std.specs.Prelude.{◌≡◌, ℕ, ◌<◌, IfOk, IfErr, IfSome, IfNone, false};
 ghost use Rattle.bus_pageslot.specs.Rule.{receiver_view_in};
 ghost use Rattle.bus_pageslot.specs.Seats.{table_of};
 ghost use Rattle.bus_automaton.specs.ThreeWordBuses.{process};
 ghost use Rattle.bus_replica.specs.Causes.{HearsEnd};
 ghost use Rattle.bus_replica.specs.Replicas.{IsFold, StandsLast, GoesOn, HasCaughtUp, HearsOut};
-ghost use Rattle.bus_replica.specs.Replicas.{HaveAllLeft, has_heard_leave};
+ghost use Rattle.bus_replica.specs.Replicas.{HaveAllLeft, HasNobodyLeft, has_heard_leave};
 
 use crate::faults::Fault;
 use crate::states::State;
-use arrayvec::ArrayVec;
 use bus_handles::{ReceiverHandle, RecvTurn, SenderHandle, ThreeWord};
 use bus_register::SenderNo;
-use bus_register::limits::MOST_SENDERS;
 use std::marker::Model;
 use std::sync::Wait;
+
+/// How many numbers a worker can have.
+const NUMBERS: usize = 256;
 
 /// What a turn of a hearer came to.
 #[derive(Drop)]
@@ -39,8 +40,8 @@ pub enum Applied<A> {
 pub struct Hearer<S: State> {
     receiver: ReceiverHandle<ThreeWord>,
     state: S,
-    /// The workers that were heard to have left.
-    left: ArrayVec<SenderNo, MOST_SENDERS>,
+    /// Of each number: whether that worker was heard to have left.
+    left: [bool; NUMBERS],
 }
 
 impl<S: State> Model for Hearer<S> {
@@ -52,7 +53,7 @@ impl<S: State> Model for Hearer<S> {
 
     ghost view = { λ h. record { bus = h.receiver.bus; me = h.receiver.me; state = h.state } };
 
-    ghost invariant = { λ h. IsHearing S.is_first S.applies h.receiver.me.0 h.state h.left.items };
+    ghost invariant = { λ h. IsHearing S.is_first S.applies h.receiver.me.0 h.state h.left };
 }
 
 impl<S: State> Hearer<S> {
@@ -60,7 +61,8 @@ impl<S: State> Hearer<S> {
 
     /// A hearer by this receiver, of a state that all that it has heard leads to.
     pub fn new(receiver: ReceiverHandle<ThreeWord>, state: S) -> Hearer<S>
-        requires { IsFold S.is_first S.applies receiver.me.0 state }
+        requires fold { IsFold S.is_first S.applies receiver.me.0 state }
+        requires nobody { HasNobodyLeft receiver.me.0 }
         ensures bus { result.bus ≡ receiver.bus }
         ensures me { result.me ≡ receiver.me }
         ensures state { result.state ≡ state }
@@ -68,7 +70,7 @@ impl<S: State> Hearer<S> {
         Hearer {
             receiver,
             state,
-            left: ArrayVec::new(),
+            left: [false; NUMBERS],
         }
     }
 
@@ -99,8 +101,9 @@ impl<S: State> Hearer<S> {
     /// The first of so many workers of which it was not heard that it has left.
     pub fn missing(&self, workers: u8) -> Option<SenderNo>
         ensures none { IfNone result (HaveAllLeft self.now.me.0 workers) }
-        ensures first { IfSome result
-            (λ worker. (worker.0 < workers) × HaveAllLeft self.now.me.0 worker.0) }
+        ensures first { IfSome result (λ worker. (worker.0 < workers)
+            × (has_heard_leave self.now.me.0 worker.0 ≡ false)
+            × HaveAllLeft self.now.me.0 worker.0) }
     {
         for worker in 0..workers {
             if !self.has_left(SenderNo(worker)) {
@@ -112,14 +115,9 @@ impl<S: State> Hearer<S> {
 
     /// It was heard that this worker has left.
     fn has_left(&self, worker: SenderNo) -> bool
-        ensures { IsTrue result → has_heard_leave self.now.me.0 worker.0 ≡ true }
+        ensures { result ≡ has_heard_leave self.now.me.0 worker.0 }
     {
-        for sender in self.left.as_slice() {
-            if sender.0 == worker.0 {
-                return true;
-            }
-        }
-        false
+        self.left[usize::from(worker.0)]
     }
 
     /// One turn of the receiver: an operation that is heard is applied.
@@ -138,7 +136,7 @@ impl<S: State> Hearer<S> {
                 }
             }
             RecvTurn::Leave(sender) => {
-                let _ = self.left.try_push(sender);
+                self.left[usize::from(sender.0)] = true;
                 Applied::Going
             }
             RecvTurn::End => Applied::End,

@@ -8,7 +8,7 @@ ghost use Rattle.bus_pageslot.specs.Seats.{table_of};
 ghost use Rattle.bus_pageslot.specs.Sendings.{waiting_of};
 ghost use Rattle.bus_replica.specs.Causes.{tells, IsCause, IsEndCause, RefusesLong, SaysStop};
 ghost use Rattle.bus_replica.specs.Replicas.{IsFold, StandsLast, PutsMore, PutsStay};
-ghost use Rattle.bus_replica.specs.Replicas.{PutsAtMostOnce};
+ghost use Rattle.bus_replica.specs.Replicas.{PutsAtMostOnce, HasNobodyLeft};
 ghost use Rattle.bus_replica.specs.Replicas.{GoesOn, HasCaughtUp, HaveAllLeft, HasHeardAll};
 ghost use Rattle.bus_replica.specs.Replicas.{HearsOut, PutsStayLeaving, Replicated};
 
@@ -54,6 +54,7 @@ impl<S: State> Replica<S> {
         requires table { table_of sender ≡ receiver.bus.table }
         requires workers { workers ≡ receiver.bus.plan.shape.senders }
         requires fold { IsFold S.is_first S.applies receiver.me.0 state }
+        requires nobody { HasNobodyLeft receiver.me.0 }
         ensures sender { result.sender ≡ sender }
         ensures bus { result.bus ≡ receiver.bus }
         ensures me { result.me ≡ receiver.me }

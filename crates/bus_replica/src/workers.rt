@@ -14,6 +14,7 @@ ghost use Rattle.bus_replica.specs.Causes.{SaysOn, SaysStop, WasAnswered};
 ghost use Rattle.bus_replica.specs.Replicas.{IsFold, StandsLast, PutsMore, PutsStay};
 ghost use Rattle.bus_replica.specs.Replicas.{PutsAtMostOnce};
 ghost use Rattle.bus_replica.specs.Replicas.{GoesOn, HasCaughtUp, HaveAllLeft, HearsOut};
+ghost use Rattle.bus_replica.specs.Replicas.{HasNobodyLeft, has_heard_leave};
 ghost use Rattle.bus_replica.specs.Replicas.{PutsStayLeaving, Replicated};
 ghost use Rattle.bus_automaton.specs.ThreeWordBuses.{Held};
 
@@ -70,6 +71,7 @@ impl<S: State> Worker<S> {
         requires table { table_of sender ≡ receiver.bus.table }
         requires workers { workers ≡ receiver.bus.plan.shape.senders }
         requires fold { IsFold S.is_first S.applies receiver.me.0 state }
+        requires nobody { HasNobodyLeft receiver.me.0 }
         ensures sender { result.sender ≡ sender }
         ensures bus { result.bus ≡ receiver.bus }
         ensures me { result.me ≡ receiver.me }
@@ -518,7 +520,9 @@ impl<S: State> Worker<S> {
         ensures none { IfNone result
             (HaveAllLeft self.now.me.0 self.now.bus.plan.shape.senders) }
         ensures first { IfSome result (λ worker.
-            (worker.0 < self.now.bus.plan.shape.senders) × HaveAllLeft self.now.me.0 worker.0) }
+            (worker.0 < self.now.bus.plan.shape.senders)
+            × (has_heard_leave self.now.me.0 worker.0 ≡ false)
+            × HaveAllLeft self.now.me.0 worker.0) }
     {
         self.hearer.missing(self.workers)
     }

@@ -7,7 +7,7 @@ use lib.ListN.{get_elem?}
 use Rattle.atomic_table.specs.Table.{State, keeps, Allows, Splits, Joins}
 use Rattle.atomic_table.proofs.Lists.{at_set, set_else}
 use Rattle.bus_pageslot.specs.Notes.{Notes}
-use Rattle.bus_pageslot.proofs.Rule.Openings.{at_end}
+use Rattle.bus_pageslot.proofs.Ruled.Openings.{at_end}
 use Rattle.bus_batch.specs.declared.messages.Item.{Item}
 use Rattle.bus_batch.specs.Frames.{AreFrames, order_of, tenure_and_owner}
 use Rattle.bus_batch.proofs.FrameLaws.{same_log}
@@ -28,11 +28,11 @@ use Rattle.bus_pageslot.specs.Rule.{IsFirst, TableInvariant}
 use Rattle.bus_pageslot.specs.Lasting.{LeavesViews}
 use Rattle.bus_pageslot.specs.Steps.{Accepts, Meets, Met, Learns, KnowsSent}
 use Rattle.bus_automaton.specs.SenderTrails.{SenderTrail}
-use Rattle.bus_pageslot.proofs.Rule.AllSeats.{seen_joined, seen_parted}
+use Rattle.bus_pageslot.proofs.Ruled.AllSeats.{seen_joined, seen_parted}
 use Rattle.bus_pageslot.proofs.Hears.Hearing.{agree}
 use Rattle.bus_pageslot.proofs.Hears.Ears.{GoesTo, goes_to, two_of}
 use Rattle.bus_pageslot.proofs.Hears.Loads.{reloaded, whole, size, fits}
-use Rattle.bus_pageslot.proofs.Rule.Reaching.{accepted}
+use Rattle.bus_pageslot.proofs.Ruled.Reaching.{accepted}
 
 -- two seats that were joined
 abbrev pub IsPair : {C : Type 0} → View C → Type 0

@@ -31,7 +31,7 @@ use Rattle.bus_automaton.specs.declared.plans.Plan.{Plan}
 use Rattle.bus_pageslot.specs.Listening.{FindsLength, FindsWord}
 use Rattle.bus_pageslot.specs.Looks.{IsFoundBy}
 use Rattle.bus_pageslot.specs.Notes.{Look}
-use Rattle.bus_pageslot.proofs.Rule.AllSeats.{SeatsEither, still_seen}
+use Rattle.bus_pageslot.proofs.Ruled.AllSeats.{SeatsEither, still_seen}
 use Rattle.bus_pageslot.proofs.Hears.Hearing.{heard_loaded, heard_learnt, heard_quiet, heard_good}
 
 -- one view replaced, after a load

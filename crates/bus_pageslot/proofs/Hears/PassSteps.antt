@@ -26,7 +26,7 @@ use Rattle.bus_pageslot.specs.Steps.{HasPassed, HasLeft}
 use Rattle.bus_pageslot.specs.declared.rule.View.{View}
 use Rattle.bus_pageslot.specs.declared.rule.View.TheVariants.{Maker, Sender, Tap, Meeting, Telling}
 use Rattle.bus_pageslot.specs.declared.rule.View.TheVariants.{Spent}
-use Rattle.bus_pageslot.proofs.Rule.AllSeats.{still_seen}
+use Rattle.bus_pageslot.proofs.Ruled.AllSeats.{still_seen}
 use Rattle.bus_pageslot.proofs.Hears.Hearing.{heard_left, heard_passed}
 use Rattle.bus_pageslot.proofs.Hears.Loads.{Listens}
 

@@ -40,7 +40,7 @@ use Rattle.bus_pageslot.specs.declared.listeners.Listener.{Listener}
 use Rattle.bus_pageslot.specs.Listening.{FindsLength, FindsWord, HearsWord, Hears, Writes}
 use Rattle.bus_pageslot.specs.Listening.{PassIsDue, HearingRefuses}
 use Rattle.bus_pageslot.specs.Listening.{item_turn_of, item_after, sign_after}
-use Rattle.bus_pageslot.proofs.Rule.Ties.{no_shorter}
+use Rattle.bus_pageslot.proofs.Ruled.Ties.{no_shorter}
 
 -- ---- a load of the length
 front_of : (known more : List ℕ) (p : ℕ) → IsPrefix known more → p ≤ length known

@@ -28,7 +28,7 @@ use Rattle.bus_pageslot.specs.Steps.{Learns, Meets, Reads}
 use Rattle.bus_pageslot.specs.declared.rule.View.{View}
 use Rattle.bus_pageslot.specs.declared.rule.View.TheVariants.{Maker, Sender, Tap, Meeting, Telling}
 use Rattle.bus_pageslot.specs.declared.rule.View.TheVariants.{Spent}
-use Rattle.bus_pageslot.proofs.Rule.AllSeats.{SeatsEither, still_seen}
+use Rattle.bus_pageslot.proofs.Ruled.AllSeats.{SeatsEither, still_seen}
 use Rattle.bus_pageslot.proofs.Hears.Hearing.{heard_loaded, heard_quiet}
 use Rattle.bus_pageslot.proofs.Hears.Joining.{both_agree, join_leaves, knows_sent, part_leaves}
 use Rattle.bus_pageslot.proofs.Hears.Joining.{pairs}

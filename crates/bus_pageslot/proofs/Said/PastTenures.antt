@@ -24,7 +24,7 @@ use Rattle.bus_pageslot.specs.Rule.{Sat, TableInvariant}
 use Rattle.bus_pageslot.specs.SafeSeats.{HasGoneOn, LeavesPast}
 use Rattle.bus_pageslot.specs.Steps.{IsDue}
 use Rattle.bus_pageslot.specs.declared.rule.View.{View}
-use Rattle.bus_pageslot.proofs.Steps.Stepping as stepping
+use Rattle.bus_pageslot.proofs.SeatSteps.Stepping as stepping
 
 -- ---- what leaves the actions of a tenure as they are adds none to them
 none_added : (t : ℕ) (xs ys : List Action) → actions_in t (xs ++ ys) ≡ actions_in t xs

@@ -29,7 +29,7 @@ use Rattle.bus_pageslot.specs.Histories.{LeavesLog}
 use Rattle.bus_pageslot.specs.Rule.{Sat, TableInvariant}
 use Rattle.bus_pageslot.specs.Steps.{IsDue}
 use Rattle.bus_pageslot.specs.declared.rule.View.{View}
-use Rattle.bus_pageslot.proofs.Steps.Stepping as stepping
+use Rattle.bus_pageslot.proofs.SeatSteps.Stepping as stepping
 
 -- what the cells of a machine show as all that was published stands below the length of its words,
 -- where no word of its log is used again

@@ -26,8 +26,8 @@ use Rattle.bus_pageslot.specs.Rule.{Sat, sender_trail_in, TableInvariant}
 use Rattle.bus_pageslot.specs.Steps.{IsDue, all_in, since_in}
 use Rattle.bus_pageslot.specs.Truths.{IsTrueAnswer}
 use Rattle.bus_pageslot.specs.declared.rule.View.{View}
-use Rattle.bus_pageslot.proofs.Steps.Accepting.{since_is}
-use Rattle.bus_pageslot.proofs.Steps.Stepping as stepping
+use Rattle.bus_pageslot.proofs.SeatSteps.Accepting.{since_is}
+use Rattle.bus_pageslot.proofs.SeatSteps.Stepping as stepping
 
 pub told_truly : {E : Type 0} (X : Election E) (x : Layout) (reuse : Option ℕ) (bases : List ℕ)
     (K : ProcessLaws (process_of X))

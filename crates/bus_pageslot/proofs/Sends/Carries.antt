@@ -15,7 +15,7 @@ use Rattle.bus_pageslot.specs.Seats.{SenderSeat, actions_of}
 use Rattle.bus_pageslot.specs.Sendings.{waiting_of, TakesAll, TakesNone, TakesMore, Carries}
 use Rattle.bus_pageslot.specs.Sendings.{MayFit, CarryRefused}
 use Rattle.bus_pageslot.specs.Steps.{puts_from}
-use Rattle.bus_pageslot.proofs.Steps.Accepting.{puts_from-snoc}
+use Rattle.bus_pageslot.proofs.SeatSteps.Accepting.{puts_from-snoc}
 
 -- those before a place, what is there, and those behind it
 pub split_at : (all : List (List ℕ)) (i : ℕ) (y : List ℕ) → i < length all → y ≡ get_or all i y

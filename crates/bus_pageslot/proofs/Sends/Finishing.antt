@@ -36,7 +36,7 @@ use Rattle.bus_automaton.specs.Processes.{Process}
 use Rattle.bus_pageslot.specs.Seats.{SenderSeat}
 use Rattle.bus_pageslot.specs.Turns.{Tellings, Turned, TurnsOn, Here, More, tells_with}
 use Rattle.bus_pageslot.specs.Sendings.{KeptAfter}
-use Rattle.bus_pageslot.proofs.Rule.Keeping.{leaves_batch, going_keeps, refused_keeps}
+use Rattle.bus_pageslot.proofs.Ruled.Keeping.{leaves_batch, going_keeps, refused_keeps}
 use Rattle.bus_pageslot.specs.Finishing.{is_behind, ends_tenure, StaysOrEnds, is_sent, GoesThrough}
 use Rattle.bus_pageslot.specs.Finishing.{Begun, Through, HasFinished, FinishesAs, FinishingRefuses}
 use Rattle.bus_pageslot.proofs.Sends.TurnsLeft.{none_begun, IsTurn}

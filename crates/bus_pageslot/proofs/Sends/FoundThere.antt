@@ -36,9 +36,9 @@ use Rattle.bus_pageslot.specs.Rule.{slot_of}
 use Rattle.bus_pageslot.specs.Steps.{Accepts}
 use Rattle.bus_pageslot.specs.Steps.Accepts.{Nothing, Message, Marks}
 use Rattle.bus_pageslot.specs.declared.rule.View.{View}
-use Rattle.bus_pageslot.proofs.Steps.Accepting.{stays}
+use Rattle.bus_pageslot.proofs.SeatSteps.Accepting.{stays}
 use Rattle.bus_pageslot.proofs.Said.Endings.{slot_is}
-use Rattle.bus_pageslot.proofs.Rule.Processes.{queue_same}
+use Rattle.bus_pageslot.proofs.Ruled.Processes.{queue_same}
 
 -- ---- where a message was put
 -- an action at which this was put, with any number, behind so many puts

@@ -20,7 +20,7 @@ use Rattle.bus_pageslot.specs.Rule.{Sat, sender_trail_in, notes_in}
 use Rattle.bus_pageslot.specs.Steps.{Accepts, Numbers, carried_of, since_in, all_in}
 use Rattle.bus_pageslot.specs.Steps.Accepts.{Message, Marks}
 use Rattle.bus_pageslot.specs.Seats.{Shows}
-use Rattle.bus_pageslot.proofs.Steps.Accepting.{since_is}
+use Rattle.bus_pageslot.proofs.SeatSteps.Accepting.{since_is}
 
 -- the actions of a sender d with this view
 abbrev pub actions_in : {C : Type 0} → Process C → View C → C → List Action

@@ -37,8 +37,8 @@ use Rattle.bus_pageslot.specs.Steps.{Accepts}
 use Rattle.bus_pageslot.specs.Truths.{IsTrueAnswer}
 use Rattle.bus_pageslot.specs.declared.rule.View.{View}
 use Rattle.bus_pageslot.proofs.Said.Histories.{seated}
-use Rattle.bus_pageslot.proofs.Rule.Reaching.{accepted}
-use Rattle.bus_pageslot.proofs.Steps.Stepping.{OfEvents}
+use Rattle.bus_pageslot.proofs.Ruled.Reaching.{accepted}
+use Rattle.bus_pageslot.proofs.SeatSteps.Stepping.{OfEvents}
 
 -- no action more
 none_more : (s : ℕ) (D : ℕ → List Action) → actions_with s [] D s ≡ D s

@@ -17,8 +17,8 @@ use Rattle.bus_pageslot.specs.Turns.{TakesSome}
 use Rattle.bus_pageslot.specs.Room.{Coming, Turning, Looking, GoesForRoom, Begins, Goes, Asks}
 use Rattle.bus_pageslot.specs.Room.{Fills, FindsNone, FindsRoom, Tries, SendsForRoom, StopsForRoom}
 use Rattle.bus_pageslot.specs.Room.{GoesOnTimes, RoomRefuses, DrawsForRoom, Drawn, most_looks}
-use Rattle.bus_pageslot.proofs.Rule.Keeping.{Stays, LeavesBatch, turned_left}
-use Rattle.bus_pageslot.proofs.Steps.Plain.{goes_drawing}
+use Rattle.bus_pageslot.proofs.Ruled.Keeping.{Stays, LeavesBatch, turned_left}
+use Rattle.bus_pageslot.proofs.SeatSteps.Plain.{goes_drawing}
 use Rattle.bus_pageslot.proofs.Sends.Sending.{turned_puts, drawn_on, waiting_goes}
 
 -- ---- turns in a row

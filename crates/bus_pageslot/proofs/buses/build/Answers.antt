@@ -4,7 +4,7 @@ use Rattle.bus_automaton.specs.declared.plans.Plan.{Plan}
 use Rattle.bus_automaton.specs.Buses.{process_with, automaton_with}
 use Rattle.bus_core.specs.declared.limits.TheConstants.{PASSED_APART}
 use Rattle.bus_pageslot.specs.Places.{AreIn}
-use Rattle.bus_pageslot.proofs.Rule.Openings.{all_here, all_taps_here}
+use Rattle.bus_pageslot.proofs.Ruled.Openings.{all_here, all_taps_here}
 use Rattle.bus_pageslot.proofs.buses.build.Goals as goal
 
 pub returns-clause-table : goal.returns-clause-table

@@ -1,7 +1,7 @@
 use Rattle.bus_machine.specs.Telling.{Tells}
 use Rattle.bus_automaton.specs.Buses.{process_with, automaton_with}
 use Rattle.bus_pageslot.proofs.Said.Histories.{elector, sizes, laws_are, sized}
-use Rattle.bus_pageslot.proofs.Steps.Stepping.{OfEvents}
+use Rattle.bus_pageslot.proofs.SeatSteps.Stepping.{OfEvents}
 use Rattle.bus_pageslot.proofs.Said.Truths.{told_truly}
 use Rattle.bus_pageslot.proofs.laws.answers_are_true.Goals as goal
 

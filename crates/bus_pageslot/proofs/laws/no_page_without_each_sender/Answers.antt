@@ -1,6 +1,6 @@
 use Rattle.std.proofs.Common.{[], refl}
 use Rattle.bus_automaton.specs.Buses.{process_with, automaton_with}
-use Rattle.bus_pageslot.proofs.Rule.OnePage.{no_bus, no_empty, no_page}
+use Rattle.bus_pageslot.proofs.Ruled.OnePage.{no_bus, no_empty, no_page}
 use Rattle.bus_pageslot.proofs.laws.no_page_without_each_sender.Goals as goal
 
 pub returns-clause-shown : goal.returns-clause-shown

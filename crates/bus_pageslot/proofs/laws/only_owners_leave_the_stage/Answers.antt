@@ -3,8 +3,8 @@ use Rattle.bus_machine.specs.Telling.{OpensOnly}
 use Rattle.bus_tenure.specs.Elections.{elections}
 use Rattle.bus_automaton.specs.Buses.{process_with, plan_passers}
 use Rattle.bus_pageslot.proofs.Said.Histories.{elector, sizes, rule_is, laws_are, sized}
-use Rattle.bus_pageslot.proofs.Steps.Staging.{owners_leave}
-use Rattle.bus_pageslot.proofs.Steps.Stepping.{OfEvents}
+use Rattle.bus_pageslot.proofs.SeatSteps.Staging.{owners_leave}
+use Rattle.bus_pageslot.proofs.SeatSteps.Stepping.{OfEvents}
 use Rattle.bus_pageslot.proofs.laws.only_owners_leave_the_stage.Goals as goal
 
 pub returns : goal.returns

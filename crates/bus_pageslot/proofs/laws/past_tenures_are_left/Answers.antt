@@ -2,7 +2,7 @@ use Rattle.bus_machine.specs.Promise.{Follows}
 use Rattle.bus_automaton.specs.Buses.{process_with}
 use Rattle.bus_pageslot.proofs.Said.Histories.{elector, sizes, rule_is, laws_are, sized}
 use Rattle.bus_pageslot.proofs.Said.PastTenures.{past_is_left}
-use Rattle.bus_pageslot.proofs.Steps.Stepping.{OfEvents}
+use Rattle.bus_pageslot.proofs.SeatSteps.Stepping.{OfEvents}
 use Rattle.bus_pageslot.proofs.laws.past_tenures_are_left.Goals as goal
 
 pub returns : goal.returns

@@ -2,7 +2,7 @@ use Rattle.bus_machine.specs.Telling.{Tells}
 use Rattle.bus_automaton.specs.Buses.{process_with, automaton_with}
 use Rattle.bus_pageslot.proofs.Said.Histories.{elector, sizes, laws_are, sized}
 use Rattle.bus_pageslot.proofs.Sends.Resting.{rests_truly, closed_refused, spent_refused}
-use Rattle.bus_pageslot.proofs.Steps.Stepping.{OfEvents}
+use Rattle.bus_pageslot.proofs.SeatSteps.Stepping.{OfEvents}
 use Rattle.bus_pageslot.proofs.laws.rests_are_true.Goals as goal
 
 pub returns-clause-rests : goal.returns-clause-rests

@@ -1,5 +1,5 @@
 use Rattle.bus_automaton.specs.Buses.{process_with}
-use Rattle.bus_pageslot.proofs.Rule.OnePage.{actions_same, logs_alike, orders_same}
+use Rattle.bus_pageslot.proofs.Ruled.OnePage.{actions_same, logs_alike, orders_same}
 use Rattle.bus_pageslot.proofs.laws.seats_show_one_page.Goals as goal
 
 pub returns-clause-actions : goal.returns-clause-actions

@@ -1,5 +1,5 @@
 use Rattle.bus_automaton.specs.Buses.{process_with, automaton_with}
-use Rattle.bus_pageslot.proofs.Rule.OwnLayouts.{by_its_table}
+use Rattle.bus_pageslot.proofs.Ruled.OwnLayouts.{by_its_table}
 use Rattle.bus_pageslot.proofs.laws.senders_go_by_their_table.Goals as goal
 
 pub returns : goal.returns

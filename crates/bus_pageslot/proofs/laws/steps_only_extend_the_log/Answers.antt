@@ -1,5 +1,5 @@
 use Rattle.bus_automaton.specs.Buses.{process_with, automaton_with}
-use Rattle.bus_pageslot.proofs.Steps.Extending.{extends, never_shorter, rule_after}
+use Rattle.bus_pageslot.proofs.SeatSteps.Extending.{extends, never_shorter, rule_after}
 use Rattle.bus_pageslot.proofs.laws.steps_only_extend_the_log.Goals as goal
 
 pub returns-clause-extends : goal.returns-clause-extends

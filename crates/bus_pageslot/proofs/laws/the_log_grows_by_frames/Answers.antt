@@ -2,7 +2,7 @@ use Rattle.bus_machine.specs.Promise.{Follows}
 use Rattle.bus_automaton.specs.Buses.{process_with, automaton_with}
 use Rattle.bus_pageslot.proofs.Said.Histories.{elector, sizes, laws_are, sized}
 use Rattle.bus_pageslot.proofs.Said.Publishing.{joins_frame}
-use Rattle.bus_pageslot.proofs.Steps.Stepping.{OfEvents}
+use Rattle.bus_pageslot.proofs.SeatSteps.Stepping.{OfEvents}
 use Rattle.bus_pageslot.proofs.laws.the_log_grows_by_frames.Goals as goal
 
 pub returns : goal.returns

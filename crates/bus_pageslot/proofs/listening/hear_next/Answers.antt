@@ -2,7 +2,7 @@ use Rattle.std.proofs.Common.{◌≡◌, subst, ◌∙◌}
 use Rattle.bus_deliverylog.specs.declared.receiving.RecvTurn.TheVariants as turn
 use Rattle.bus_pageslot.specs.Listening.{HearsWord, WritesOrPlain}
 use Rattle.bus_pageslot.proofs.Hears.Rounds.{not_known}
-use Rattle.bus_pageslot.proofs.Steps.Silent.{not_due_after}
+use Rattle.bus_pageslot.proofs.SeatSteps.Silent.{not_due_after}
 use Rattle.bus_pageslot.proofs.listening.hear_next.Goals as goal
 
 pub returns-then-place-listener-clause-passed : goal.returns-then-place-listener-clause-passed

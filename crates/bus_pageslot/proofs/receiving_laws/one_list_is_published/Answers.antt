@@ -1,5 +1,5 @@
 use Rattle.bus_automaton.specs.Buses.{process_with, automaton_with}
-use Rattle.bus_pageslot.proofs.Rule.OneList.{one_list}
+use Rattle.bus_pageslot.proofs.Ruled.OneList.{one_list}
 use Rattle.bus_pageslot.proofs.receiving_laws.one_list_is_published.Goals as goal
 
 pub returns : goal.returns

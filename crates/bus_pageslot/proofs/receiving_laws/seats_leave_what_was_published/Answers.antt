@@ -1,6 +1,6 @@
 use Rattle.bus_automaton.specs.Buses.{process_with, automaton_with}
 use Rattle.bus_pageslot.proofs.Said.Lasting.{seats_join, seats_part}
-use Rattle.bus_pageslot.proofs.Rule.Openings.{cut_leaves, tapped_by}
+use Rattle.bus_pageslot.proofs.Ruled.Openings.{cut_leaves, tapped_by}
 use Rattle.bus_pageslot.proofs.receiving_laws.seats_leave_what_was_published.Goals as goal
 
 pub returns-clause-joins : goal.returns-clause-joins

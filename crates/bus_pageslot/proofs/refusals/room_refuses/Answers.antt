@@ -1,6 +1,6 @@
 use Rattle.bus_automaton.specs.Buses.{process_with, automaton_with}
 use Rattle.bus_pageslot.specs.Turns.{tells_with}
-use Rattle.bus_pageslot.proofs.Rule.Keeping.{leaves_batch}
+use Rattle.bus_pageslot.proofs.Ruled.Keeping.{leaves_batch}
 use Rattle.bus_pageslot.proofs.Sends.Room.{room_refuses}
 use Rattle.bus_pageslot.proofs.refusals.room_refuses.Goals as goal
 

@@ -7,7 +7,7 @@ use Rattle.bus_world.specs.World.{first_page}
 use Rattle.bus_automaton.specs.Buses.{process_with, automaton_with}
 use Rattle.bus_pageslot.specs.declared.rule.View.TheVariants.{Maker}
 use Rattle.bus_pageslot.specs.Rule.{TableInvariant}
-use Rattle.bus_pageslot.proofs.Rule.Openings.{opens}
+use Rattle.bus_pageslot.proofs.Ruled.Openings.{opens}
 use Rattle.bus_pageslot.proofs.seating.bus_table.Goals as goal
 
 pub new-requires : goal.new-requires

@@ -3,7 +3,7 @@ use Rattle.atomic_table.specs.Seated.{TableId}
 use Rattle.bus_automaton.specs.Buses.{process_with, automaton_with}
 use Rattle.bus_pageslot.specs.declared.rule.View.TheVariants.{Maker}
 use Rattle.bus_pageslot.specs.Buses.{IsNewSeat, AreNewSeats}
-use Rattle.bus_pageslot.proofs.Rule.Openings.{one_more}
+use Rattle.bus_pageslot.proofs.Ruled.Openings.{one_more}
 use Rattle.bus_pageslot.proofs.seating.seat_all.Goals as goal
 
 pub seat_next-sender-requires-clause-wide : goal.seat_next-sender-requires-clause-wide

@@ -10,8 +10,8 @@ use Rattle.bus_pageslot.specs.Steps.{all_in}
 use Rattle.bus_pageslot.specs.Steps.Accepts.{Nothing}
 use Rattle.bus_pageslot.specs.Seats.{sender_trail_of, notes_of}
 use Rattle.bus_automaton.specs.SenderTrails.{new_sender_trail, with_actions}
-use Rattle.bus_pageslot.proofs.Steps.Accepting.{since_is}
-use Rattle.bus_pageslot.proofs.Rule.Openings.{shows_new}
+use Rattle.bus_pageslot.proofs.SeatSteps.Accepting.{since_is}
+use Rattle.bus_pageslot.proofs.Ruled.Openings.{shows_new}
 use Rattle.bus_pageslot.proofs.seating.seat_next.Goals as goal
 
 pub overflow_cast-me : goal.overflow_cast-me

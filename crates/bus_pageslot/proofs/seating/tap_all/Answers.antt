@@ -3,7 +3,7 @@ use Rattle.bus_pageslot.specs.declared.rule.View.TheVariants.{Maker}
 use Rattle.atomic_table.specs.Seated.{TableId}
 use Rattle.bus_automaton.specs.Buses.{automaton_with}
 use Rattle.bus_pageslot.specs.Buses.{IsNewTap, AreNewTaps}
-use Rattle.bus_pageslot.proofs.Rule.Openings.{one_more_tap}
+use Rattle.bus_pageslot.proofs.Ruled.Openings.{one_more_tap}
 use Rattle.bus_pageslot.proofs.seating.tap_all.Goals as goal
 
 pub tap_next-tap-requires-clause-wide : goal.tap_next-tap-requires-clause-wide

@@ -8,9 +8,9 @@ use Rattle.bus_tenure.specs.declared.turns.Turn.TheVariants.{Going}
 use Rattle.bus_automaton.specs.Buses.{process_with}
 use Rattle.bus_pageslot.specs.Rule.{stored_in}
 use Rattle.bus_pageslot.specs.Steps.{Gone, GoesOn, Due, stored_by}
-use Rattle.bus_pageslot.proofs.Steps.ElectionRows.{elects_moves, elects_handed, length_stays}
-use Rattle.bus_pageslot.proofs.Steps.Plain.{due_staying, shows_staying, told_staying}
-use Rattle.bus_pageslot.proofs.Rule.Processes.{words_are}
+use Rattle.bus_pageslot.proofs.SeatSteps.ElectionRows.{elects_moves, elects_handed, length_stays}
+use Rattle.bus_pageslot.proofs.SeatSteps.Plain.{due_staying, shows_staying, told_staying}
+use Rattle.bus_pageslot.proofs.Ruled.Processes.{words_are}
 use Rattle.bus_pageslot.proofs.steps.elect_once.Goals as goal
 
 pub step-got-requires-clause-due : goal.step-got-requires-clause-due

@@ -6,8 +6,8 @@ use Rattle.bus_tenure.specs.declared.turns.Turn.TheVariants.{Going}
 use Rattle.bus_pageslot.specs.Seats.{SenderSeat}
 use Rattle.bus_pageslot.specs.Turns.{tells_with, GoesPlainly, Turned, NoneYet, Next}
 use Rattle.bus_pageslot.specs.Turns.{IsElecting}
-use Rattle.bus_pageslot.proofs.Steps.ElectionRows.{turned_electing}
-use Rattle.bus_pageslot.proofs.Steps.Rows.{goes_last, goes_some}
+use Rattle.bus_pageslot.proofs.SeatSteps.ElectionRows.{turned_electing}
+use Rattle.bus_pageslot.proofs.SeatSteps.Rows.{goes_last, goes_some}
 use Rattle.bus_pageslot.proofs.steps.elect_row.Goals as goal
 
 -- a vote is next

@@ -2,7 +2,7 @@ use Rattle.std.proofs.Common.{◌∷◌, None, sym, ◌∙◌, ap}
 use Rattle.atomic_table.specs.Table.{rest}
 use Rattle.bus_automaton.specs.Buses.{process_with}
 use Rattle.bus_pageslot.specs.Steps.{carried_of}
-use Rattle.bus_pageslot.proofs.Rule.Processes.{given_is, handed_is, given_out, nothing_out}
+use Rattle.bus_pageslot.proofs.Ruled.Processes.{given_is, handed_is, given_out, nothing_out}
 use Rattle.bus_pageslot.proofs.steps.put_out.Goals as goal
 
 pub exchange-none-requires-clause-out : goal.exchange-none-requires-clause-out

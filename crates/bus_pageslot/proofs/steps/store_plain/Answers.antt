@@ -7,8 +7,8 @@ use Rattle.bus_tenure.specs.Elections.{Elector, election_with}
 use Rattle.bus_tenure.specs.declared.turns.Turn.TheVariants.{Going}
 use Rattle.bus_automaton.specs.Buses.{process_with}
 use Rattle.bus_pageslot.specs.Steps.{Gone, GoesOn, Due}
-use Rattle.bus_pageslot.proofs.Steps.Plain.{due_staying, shows_staying, told_staying}
-use Rattle.bus_pageslot.proofs.Rule.Processes.{words_are, plain_moves, plain_handed, plain_answer}
+use Rattle.bus_pageslot.proofs.SeatSteps.Plain.{due_staying, shows_staying, told_staying}
+use Rattle.bus_pageslot.proofs.Ruled.Processes.{words_are, plain_moves, plain_handed, plain_answer}
 use Rattle.bus_pageslot.proofs.steps.store_plain.Goals as goal
 
 pub step-requires-clause-due : goal.step-requires-clause-due

@@ -4,7 +4,7 @@ use Rattle.bus_core.specs.Senders.{Sender}
 use Rattle.bus_tenure.specs.Elections.{Elector, election_with}
 use Rattle.bus_pageslot.specs.Seats.{SenderSeat}
 use Rattle.bus_pageslot.specs.Turns.{NoneYet, Next}
-use Rattle.bus_pageslot.proofs.Steps.PlainRows.{turned_plainly, length_stays}
+use Rattle.bus_pageslot.proofs.SeatSteps.PlainRows.{turned_plainly, length_stays}
 use Rattle.bus_pageslot.proofs.steps.store_row.Goals as goal
 
 pub loop-taken-init : goal.loop-taken-init

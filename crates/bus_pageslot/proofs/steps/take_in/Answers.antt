@@ -2,7 +2,7 @@ use Rattle.std.proofs.Common.{◌∷◌, Some, IsSome, refl, sym, ◌∙◌, ap,
 use Rattle.atomic_table.specs.Table.{rest}
 use Rattle.bus_automaton.specs.Buses.{process_with}
 use Rattle.bus_pageslot.specs.Steps.{laid_at, slot_in, slots_emptied}
-use Rattle.bus_pageslot.proofs.Rule.Processes.{awaits_is, laid_is}
+use Rattle.bus_pageslot.proofs.Ruled.Processes.{awaits_is, laid_is}
 use Rattle.bus_pageslot.proofs.steps.take_in.Goals as goal
 
 pub exchange-requires-clause-out : goal.exchange-requires-clause-out

@@ -7,9 +7,9 @@ use Rattle.bus_automaton.specs.Buses.{process_with}
 use Rattle.bus_pageslot.specs.Steps.Accepts.{Nothing}
 use Rattle.bus_pageslot.specs.Seats.{Took}
 use Rattle.bus_pageslot.specs.Steps.{Gone, GoesOn}
-use Rattle.bus_pageslot.proofs.Steps.Walks.{ended, core_is, notes_now, laid_now, numbered_now}
-use Rattle.bus_pageslot.proofs.Steps.Walks.{me_now}
-use Rattle.bus_pageslot.proofs.Steps.Walks.{all_now, counted_now, wide_now}
+use Rattle.bus_pageslot.proofs.SeatSteps.Walks.{ended, core_is, notes_now, laid_now, numbered_now}
+use Rattle.bus_pageslot.proofs.SeatSteps.Walks.{me_now}
+use Rattle.bus_pageslot.proofs.SeatSteps.Walks.{all_now, counted_now, wide_now}
 use Rattle.bus_pageslot.proofs.steps.walk.Goals as goal
 
 pub feed_of-turn-requires-clause-due : goal.feed_of-turn-requires-clause-due

@@ -3,7 +3,7 @@ use Rattle.bus_automaton.specs.ThreeWordBuses.{automaton, process}
 use Rattle.bus_automaton.specs.declared.plans.Plan.{Plan}
 use Rattle.bus_pageslot.specs.Buses.{BusId}
 use Rattle.bus_replica.proofs.OpeningLaws.{next_sender, next_receiver, one_more, fold_of_none}
-use Rattle.bus_replica.proofs.OpeningLaws.{all_made}
+use Rattle.bus_replica.proofs.OpeningLaws.{all_made, nobody_left}
 use Rattle.bus_replica.proofs.opening.pair.Goals as goal
 
 pub new-requires-clause-table : goal.new-requires-clause-table
@@ -43,6 +43,16 @@ new-requires-clause-fold g c =
     c.loop-receiver.receiver-iterator.rest.items c.next.new.self.rest.items
     c.in-Some-next.ensures.items c.in-Some.ensures.steps.0 c.loop-receiver.invariant).1
     c.in_ok-state.ensures
+
+pub new-requires-clause-nobody : goal.new-requires-clause-nobody
+new-requires-clause-nobody g c =
+    nobody_left c.in-Some.receiver.me (automaton c.loop-receiver.invariant.bus.plan).table_layout
+    (length c.loop-receiver.replicas.items)
+    (next_receiver process automaton g.S.State.is_first c.args.shape
+    c.loop-receiver.replicas.items c.in-Some-next.sender c.in-Some.receiver
+    c.loop-receiver.senders.rest.items c.next-in-loop-receiver.new.self.rest.items
+    c.loop-receiver.receiver-iterator.rest.items c.next.new.self.rest.items
+    c.in-Some-next.ensures.items c.in-Some.ensures.steps.0 c.loop-receiver.invariant).1
 
 pub loop-receiver-preserved : goal.loop-receiver-preserved
 loop-receiver-preserved g c =

@@ -2,7 +2,7 @@ use Rattle.std.proofs.Common.{arith, sym, subst}
 use Rattle.bus_core.specs.Plain.{IsPlain, StoresPlain}
 use Rattle.bus_tenure.specs.Elections.{election_with}
 use Rattle.bus_pageslot.specs.Turns.{NoneYet}
-use Rattle.bus_pageslot.proofs.Steps.PlainRows.{row_fewer}
+use Rattle.bus_pageslot.proofs.SeatSteps.PlainRows.{row_fewer}
 use Rattle.bus_pageslot.proofs.seats.Sender.clear_turns.Goals as goal
 
 pub clears_left-requires : goal.clears_left-requires

@@ -1,6 +1,6 @@
 use Rattle.bus_automaton.specs.Buses.{process_with}
 use Rattle.bus_pageslot.specs.Turns.{tells_with, NoneYet, Next}
-use Rattle.bus_pageslot.proofs.Steps.PlainRows.{turned_plainly, goes_on}
+use Rattle.bus_pageslot.proofs.SeatSteps.PlainRows.{turned_plainly, goes_on}
 use Rattle.bus_pageslot.proofs.seats.Sender.frame_turns.Goals as goal
 
 pub returns-then-most-eq0-clause-goes : goal.returns-then-most-eq0-clause-goes

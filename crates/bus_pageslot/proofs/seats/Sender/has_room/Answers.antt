@@ -8,7 +8,7 @@ use Rattle.bus_pageslot.specs.Rule.{Sat}
 use Rattle.bus_pageslot.specs.Room.{Fits}
 use Rattle.bus_pageslot.specs.Seats.{SenderSeat, sender_trail_of, notes_of}
 use Rattle.bus_pageslot.proofs.Sends.Looking.{never_fits, shows_looked, looks_keep, looks_shown}
-use Rattle.bus_pageslot.proofs.Rule.OwnLayouts.{looked_fits, looked_layout}
+use Rattle.bus_pageslot.proofs.Ruled.OwnLayouts.{looked_fits, looked_layout}
 use Rattle.bus_pageslot.proofs.seats.Sender.has_room.Goals as goal
 
 pub invariant_of-self : goal.invariant_of-self

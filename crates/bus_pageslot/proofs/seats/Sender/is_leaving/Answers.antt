@@ -1,7 +1,7 @@
 use Rattle.std.proofs.Common.{sym, ◌∙◌, ap}
 use Rattle.bus_automaton.specs.Buses.{process_with}
 use Rattle.bus_tenure.specs.Core.{is_leaving}
-use Rattle.bus_pageslot.proofs.Rule.Processes.{leaving_is}
+use Rattle.bus_pageslot.proofs.Ruled.Processes.{leaving_is}
 use Rattle.bus_pageslot.proofs.seats.Sender.is_leaving.Goals as goal
 
 pub returns : goal.returns

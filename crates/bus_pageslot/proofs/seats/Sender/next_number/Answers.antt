@@ -1,7 +1,7 @@
 use Rattle.std.proofs.Common.{sym, ◌∙◌, ap}
 use Rattle.bus_automaton.specs.Buses.{process_with}
 use Rattle.bus_batch.specs.Batches.{next_of}
-use Rattle.bus_pageslot.proofs.Rule.Processes.{next_is}
+use Rattle.bus_pageslot.proofs.Ruled.Processes.{next_is}
 use Rattle.bus_pageslot.proofs.seats.Sender.next_number.Goals as goal
 
 pub returns : goal.returns

@@ -1,6 +1,6 @@
 use Rattle.std.proofs.Common.{sym, ◌∙◌, ap}
 use Rattle.bus_pageslot.specs.Turns.{tells_with, word_drawn, NoneYet}
-use Rattle.bus_pageslot.proofs.Steps.Rows.{takes_some}
+use Rattle.bus_pageslot.proofs.SeatSteps.Rows.{takes_some}
 use Rattle.bus_pageslot.proofs.seats.Sender.next_turns.Goals as goal
 
 -- a vote

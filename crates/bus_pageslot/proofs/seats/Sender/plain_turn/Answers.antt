@@ -3,7 +3,7 @@ use Rattle.std.proofs.lemmas.Bool.{true≢false}
 use Rattle.bus_automaton.specs.Buses.{process_with}
 use Rattle.bus_core.specs.Plain.{IsPlain, StoresPlain}
 use Rattle.bus_tenure.specs.Elections.{election_with}
-use Rattle.bus_pageslot.proofs.Rule.Processes.{plain_op, plain_draws_none}
+use Rattle.bus_pageslot.proofs.Ruled.Processes.{plain_op, plain_draws_none}
 use Rattle.bus_pageslot.proofs.seats.Sender.plain_turn.Goals as goal
 
 pub store_on-requires-clause-stores : goal.store_on-requires-clause-stores

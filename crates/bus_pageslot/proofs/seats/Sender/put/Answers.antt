@@ -6,7 +6,7 @@ use Rattle.bus_register.specs.declared.limits.TheConstants.{NUMBERS}
 use Rattle.bus_world.proofs.PlayingLaws.{small_bytes}
 use Rattle.bus_world.specs.Headline.{HasPut, puts}
 use Rattle.bus_pageslot.specs.Seats.{first_number_of, actions_of}
-use Rattle.bus_pageslot.proofs.Rule.Processes.{next_is}
+use Rattle.bus_pageslot.proofs.Ruled.Processes.{next_is}
 use Rattle.bus_pageslot.proofs.Sends.Puts.{number_fits, shows_put, put_done, put_counts}
 use Rattle.bus_pageslot.proofs.seats.Sender.put.Goals as goal
 

@@ -3,7 +3,7 @@ use Rattle.std.proofs.lemmas.Bool.{true≢false}
 use Rattle.bus_automaton.specs.Buses.{process_with, automaton_with}
 use Rattle.bus_pageslot.specs.Turns.{tells_with}
 use Rattle.bus_pageslot.specs.Room.{Begins, Goes, Asks, Undrawn}
-use Rattle.bus_pageslot.proofs.Rule.Keeping.{leaves_batch}
+use Rattle.bus_pageslot.proofs.Ruled.Keeping.{leaves_batch}
 use Rattle.bus_pageslot.proofs.Sends.Room.{goes_in_row, plain_for_room, rows_last, sends_puts}
 use Rattle.bus_pageslot.proofs.Sends.Room.{for_room_keeps}
 use Rattle.bus_pageslot.proofs.Sends.Room.{stopped_puts, stopped_waits, fills}

@@ -3,9 +3,9 @@ use Rattle.bus_world.specs.Headline.{puts}
 use Rattle.bus_automaton.specs.Buses.{process_with}
 use Rattle.bus_pageslot.specs.Seats.{actions_of}
 use Rattle.bus_pageslot.specs.Turns.{tells_with, Begins, Goes, Asks, Undrawn}
-use Rattle.bus_pageslot.proofs.Steps.Plain.{goes_asking, goes_drawing, goes_putting}
-use Rattle.bus_pageslot.proofs.Rule.Keeping.{leaves_batch, going_keeps, refused_keeps}
-use Rattle.bus_pageslot.proofs.Steps.Rows.{last_of}
+use Rattle.bus_pageslot.proofs.SeatSteps.Plain.{goes_asking, goes_drawing, goes_putting}
+use Rattle.bus_pageslot.proofs.Ruled.Keeping.{leaves_batch, going_keeps, refused_keeps}
+use Rattle.bus_pageslot.proofs.SeatSteps.Rows.{last_of}
 use Rattle.bus_pageslot.proofs.Sends.Sending.{turned_puts, drawn_on, asks_same, draws_same, goes_on}
 use Rattle.bus_pageslot.proofs.Sends.Sending.{waiting_goes}
 use Rattle.bus_pageslot.proofs.seats.Sender.send_while.Goals as goal

@@ -4,7 +4,7 @@ use Rattle.bus_core.specs.Plain.{StoresPlain}
 use Rattle.bus_tenure.specs.Elections.{election_with}
 use Rattle.bus_pageslot.specs.Rule.{stored_in}
 use Rattle.bus_pageslot.specs.Steps.{stored_by}
-use Rattle.bus_pageslot.proofs.Steps.Plain.{stored_behind}
+use Rattle.bus_pageslot.proofs.SeatSteps.Plain.{stored_behind}
 use Rattle.bus_pageslot.proofs.seats.Sender.store_on.Goals as goal
 
 pub store_plain-requires-clause-stores : goal.store_plain-requires-clause-stores

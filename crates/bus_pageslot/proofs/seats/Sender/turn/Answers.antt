@@ -4,7 +4,7 @@ use Rattle.bus_core.specs.Telling.{FeedTells, RestTells}
 use Rattle.bus_register.specs.declared.registers.Op.{Op}
 use Rattle.bus_tenure.specs.Elections.{election_with}
 use Rattle.bus_pageslot.specs.Seats.{TookAndTold}
-use Rattle.bus_pageslot.proofs.Steps.Plain.{due_some}
+use Rattle.bus_pageslot.proofs.SeatSteps.Plain.{due_some}
 use Rattle.bus_pageslot.proofs.seats.Sender.turn.Goals as goal
 
 pub returns-then-plain_turn-clause-rests : goal.returns-then-plain_turn-clause-rests

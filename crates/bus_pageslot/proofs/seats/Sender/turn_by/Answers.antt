@@ -8,7 +8,7 @@ use Rattle.bus_tenure.specs.Elections.{election_with}
 use Rattle.bus_pageslot.specs.Rule.{stored_in}
 use Rattle.bus_pageslot.specs.Seats.{TookAndTold}
 use Rattle.bus_pageslot.specs.Steps.{stored_by}
-use Rattle.bus_pageslot.proofs.Rule.Processes.{words_are, rest_is_told}
+use Rattle.bus_pageslot.proofs.Ruled.Processes.{words_are, rest_is_told}
 use Rattle.bus_pageslot.proofs.seats.Sender.turn_by.Goals as goal
 
 pub returns-in_default-clause-rests : goal.returns-in_default-clause-rests

@@ -1,8 +1,8 @@
 use Rattle.std.proofs.Common.{◌+◌, inl, inr, arith, sym, ◌∙◌}
 use Rattle.std.proofs.lemmas.Bool.{true≢false}
 use Rattle.bus_pageslot.specs.Turns.{tells_with, Once}
-use Rattle.bus_pageslot.proofs.Steps.Plain.{takes_plainly}
-use Rattle.bus_pageslot.proofs.Steps.Rows.{takes_more}
+use Rattle.bus_pageslot.proofs.SeatSteps.Plain.{takes_plainly}
+use Rattle.bus_pageslot.proofs.SeatSteps.Rows.{takes_more}
 use Rattle.bus_pageslot.proofs.seats.Sender.turns.Goals as goal
 
 pub loop-init : goal.loop-init

@@ -1,7 +1,7 @@
 use Rattle.std.proofs.Common.{sym, ◌∙◌, ap}
 use Rattle.bus_automaton.specs.Buses.{process_with}
 use Rattle.bus_pageslot.specs.Sendings.{waiting_of}
-use Rattle.bus_pageslot.proofs.Rule.Processes.{messages_are}
+use Rattle.bus_pageslot.proofs.Ruled.Processes.{messages_are}
 use Rattle.bus_pageslot.proofs.seats.Sender.waiting.Goals as goal
 
 pub returns : goal.returns

@@ -1,7 +1,7 @@
 use Rattle.std.proofs.Common.{refl, ◌∙◌, ap}
 use Rattle.bus_core.specs.declared.steps.Step.TheVariants as step
 use Rattle.bus_pageslot.specs.Turns.{tells_with, NoneYet}
-use Rattle.bus_pageslot.proofs.Steps.Rows.{takes_any}
+use Rattle.bus_pageslot.proofs.SeatSteps.Rows.{takes_any}
 use Rattle.bus_pageslot.proofs.seats.Sender.wordless_turns.Goals as goal
 
 pub election_turns-requires-clause-elects : goal.election_turns-requires-clause-elects

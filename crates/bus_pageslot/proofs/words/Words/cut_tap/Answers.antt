@@ -8,7 +8,7 @@ use Rattle.bus_automaton.specs.declared.plans.Plan.{Plan}
 use Rattle.bus_pageslot.specs.declared.rule.View.{View}
 use Rattle.bus_pageslot.specs.Buses.{BusId}
 use Rattle.bus_pageslot.specs.Rule.{tap_left, tap_right, TableInvariant}
-use Rattle.bus_pageslot.proofs.Rule.Openings.{tap_allowed}
+use Rattle.bus_pageslot.proofs.Ruled.Openings.{tap_allowed}
 use Rattle.bus_pageslot.proofs.words.Words.cut_tap.Goals as goal
 
 pub split_seat-requires : goal.split_seat-requires

@@ -7,7 +7,7 @@ use Rattle.bus_automaton.specs.Buses.{process_with, automaton_with}
 use Rattle.bus_pageslot.specs.Buses.{BusId}
 use Rattle.bus_pageslot.specs.Steps.{Due}
 use Rattle.bus_pageslot.proofs.Sends.Counted.{counts_one, goes_counted}
-use Rattle.bus_pageslot.proofs.Steps.Walks.{due_within, picked_allowed, swaps}
+use Rattle.bus_pageslot.proofs.SeatSteps.Walks.{due_within, picked_allowed, swaps}
 use Rattle.bus_pageslot.proofs.words.Words.step.Goals as goal
 
 pub load-requires : goal.load-requires

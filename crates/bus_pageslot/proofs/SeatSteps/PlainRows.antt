@@ -18,8 +18,8 @@ use Rattle.bus_pageslot.specs.Seats.{SenderSeat, TookAndTold, stored_of}
 use Rattle.bus_pageslot.specs.Steps.{stored_by}
 use Rattle.bus_pageslot.specs.Turns.{Tellings, TurnsPlainly, GoesPlainly, NoneYet, Next}
 use Rattle.bus_pageslot.specs.Turns.{tells_with}
-use Rattle.bus_pageslot.proofs.Steps.Plain.{due_some, stored_behind}
-use Rattle.bus_pageslot.proofs.Rule.Processes.{plain_op, plain_draws_none}
+use Rattle.bus_pageslot.proofs.SeatSteps.Plain.{due_some, stored_behind}
+use Rattle.bus_pageslot.proofs.Ruled.Processes.{plain_op, plain_draws_none}
 
 -- fewer of a row are one
 pub row_fewer : {E : Type 0} (X : Election E) (v : Sender E) (at : ℕ) (values : ℕ → ℕ)

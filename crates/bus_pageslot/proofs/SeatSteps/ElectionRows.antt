@@ -22,7 +22,7 @@ use Rattle.bus_automaton.specs.Processes.{Process}
 use Rattle.bus_pageslot.specs.Seats.{SenderSeat, TookAndTold}
 use Rattle.bus_pageslot.specs.Steps.{stored_by}
 use Rattle.bus_pageslot.specs.Turns.{Tellings, Turned, ElectsIn, tells_with}
-use Rattle.bus_pageslot.proofs.Steps.Plain.{due_some, stored_behind}
+use Rattle.bus_pageslot.proofs.SeatSteps.Plain.{due_some, stored_behind}
 
 -- a step behind the length leaves the length that was stored last
 pub length_stays : (o : Op) (before : ℕ) → 2 ≤ register o → stored_by (Some o) before ≡ before

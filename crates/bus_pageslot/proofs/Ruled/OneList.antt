@@ -12,7 +12,7 @@ use Rattle.bus_pageslot.specs.ReceiverViews.{ReceiverView}
 use Rattle.bus_pageslot.specs.Rings.{ShowsReceiver}
 use Rattle.bus_pageslot.specs.Rule.{TableInvariant}
 use Rattle.bus_pageslot.specs.declared.rule.View.{View}
-use Rattle.bus_pageslot.proofs.Rule.OnePage.{one_log}
+use Rattle.bus_pageslot.proofs.Ruled.OnePage.{one_log}
 use Rattle.bus_pageslot.proofs.Said.Promising.{seats_promised}
 use Rattle.bus_pageslot.proofs.Said.Rings.{all_served, below_here}
 

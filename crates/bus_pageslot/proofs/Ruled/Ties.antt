@@ -36,12 +36,12 @@ use Rattle.bus_pageslot.specs.Rule.{KnowsLog, IsTrueOf, Seats, SeatsReceiver, Ta
 use Rattle.bus_pageslot.proofs.Hears.Loads.{Listens}
 use Rattle.bus_pageslot.specs.Steps.{all_in, since_in, stored_by, noted_by, Told, Gone, IsDue}
 use Rattle.bus_automaton.specs.SenderTrails.{SenderTrail, with_actions, with_sender_trail}
-use Rattle.bus_pageslot.proofs.Steps.Accepting.{since_is}
-use Rattle.bus_pageslot.proofs.Rule.AllSeats.{still_seen}
+use Rattle.bus_pageslot.proofs.SeatSteps.Accepting.{since_is}
+use Rattle.bus_pageslot.proofs.Ruled.AllSeats.{still_seen}
 use Rattle.bus_pageslot.proofs.Hears.Hearing.{heard_later}
-use Rattle.bus_pageslot.proofs.Rule.Numbering.{numbers_next}
-use Rattle.bus_pageslot.proofs.Rule.Reaching.{accepted}
-use Rattle.bus_pageslot.proofs.Rule.Slots.{Moved, moves}
+use Rattle.bus_pageslot.proofs.Ruled.Numbering.{numbers_next}
+use Rattle.bus_pageslot.proofs.Ruled.Reaching.{accepted}
+use Rattle.bus_pageslot.proofs.Ruled.Slots.{Moved, moves}
 
 pub no_shorter : (xs ys : List ℕ) → IsPrefix xs ys → length xs ≤ length ys
 no_shorter xs ys p = let a = length-append xs p.rest in let b = ap length p.together in omega arith

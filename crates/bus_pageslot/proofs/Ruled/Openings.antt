@@ -34,11 +34,11 @@ use Rattle.bus_pageslot.specs.Steps.Accepts.{Nothing}
 use Rattle.bus_pageslot.specs.Seats.{SenderSeat, ReceiverSeat, Shows, table_of}
 use Rattle.bus_pageslot.specs.Buses.{IsNewSeat, AreNewSeats, IsNewTap, AreNewTaps}
 use Rattle.bus_automaton.specs.SenderTrails.{SenderTrail, new_sender_trail}
-use Rattle.bus_pageslot.proofs.Rule.AllSeats.{seen_parted}
+use Rattle.bus_pageslot.proofs.Ruled.AllSeats.{seen_parted}
 use Rattle.bus_pageslot.proofs.Hears.Ears.{views_still}
 use Rattle.bus_pageslot.proofs.Hears.Loads.{Listens}
 use Rattle.bus_pageslot.proofs.Hears.Hearing.{heard_new}
-use Rattle.bus_pageslot.proofs.Rule.Numbering.{numbers_next}
+use Rattle.bus_pageslot.proofs.Ruled.Numbering.{numbers_next}
 use Rattle.atomic_table.specs.Seated.{TableId}
 
 pub at_end : {A : Type 0} (l : List A) (a b : A) (j : ℕ) → get_elem? (l ++ a ∷ []) j ≡ some b

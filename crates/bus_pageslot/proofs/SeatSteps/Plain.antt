@@ -27,9 +27,9 @@ use Rattle.bus_pageslot.specs.declared.rule.View.{View}
 use Rattle.bus_pageslot.specs.Turns.{Tellings, TurnsPlainly, GoesPlainly, NoneYet, Next, AsksOn}
 use Rattle.bus_pageslot.specs.Turns.{Goes, DrawsOn, word_drawn, TakesOn, Again}
 use Rattle.bus_pageslot.proofs.Sends.Sending.{turned_puts, drawn_on}
-use Rattle.bus_pageslot.proofs.Steps.Walks.{core_is, notes_now, laid_now, numbered_now, me_now}
-use Rattle.bus_pageslot.proofs.Steps.Walks.{all_now}
-use Rattle.bus_pageslot.proofs.Steps.Walks.{counted_now, wide_now}
+use Rattle.bus_pageslot.proofs.SeatSteps.Walks.{core_is, notes_now, laid_now, numbered_now, me_now}
+use Rattle.bus_pageslot.proofs.SeatSteps.Walks.{all_now}
+use Rattle.bus_pageslot.proofs.SeatSteps.Walks.{counted_now, wide_now}
 
 module _ {C : Type 0} (P : Process C) (d : C) (stays : P.move d ≡ Stays) where
   -- its step is due

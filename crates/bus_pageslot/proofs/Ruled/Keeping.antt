@@ -38,7 +38,7 @@ use Rattle.bus_world.specs.Turning.{core_with_page, after_step}
 use Rattle.bus_pageslot.specs.Seats.{SenderSeat, Took}
 use Rattle.bus_pageslot.specs.Sendings.{waiting_of, KeptAfter}
 use Rattle.bus_pageslot.specs.Turns.{Tellings, Turned, TurnsOn, Here, More, Sends}
-use Rattle.bus_pageslot.proofs.Rule.Processes.{queue_same}
+use Rattle.bus_pageslot.proofs.Ruled.Processes.{queue_same}
 
 -- ---- what one step leaves of a batch
 -- the same messages, and a close that waits or none as before

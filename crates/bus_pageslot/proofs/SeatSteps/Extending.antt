@@ -19,8 +19,8 @@ use Rattle.bus_pageslot.specs.Histories.{LeavesLog, LeavesRule}
 use Rattle.bus_pageslot.specs.Rule.{Sat, sender_trail_in, notes_in, stored_in, IsSeated}
 use Rattle.bus_pageslot.specs.Rule.{TableInvariant}
 use Rattle.bus_pageslot.specs.Steps.{IsDue, Told}
-use Rattle.bus_pageslot.proofs.Rule.Reaching.{accepted}
-use Rattle.bus_pageslot.proofs.Rule.Ties.{goes_on, no_shorter, front}
+use Rattle.bus_pageslot.proofs.Ruled.Reaching.{accepted}
+use Rattle.bus_pageslot.proofs.Ruled.Ties.{goes_on, no_shorter, front}
 
 -- a list that has a word which is not 0 is not empty
 has_word : (ws : List ℕ) (v : ℕ) → v < slice_index ws 0 → 0 < length ws

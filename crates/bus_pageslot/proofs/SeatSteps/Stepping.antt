@@ -26,7 +26,7 @@ use Rattle.bus_pageslot.specs.Rule.{TableInvariant}
 use Rattle.bus_pageslot.specs.Steps.{IsDue}
 use Rattle.bus_pageslot.specs.declared.rule.View.{View}
 use Rattle.bus_pageslot.specs.declared.rule.View.TheVariants as view
-use Rattle.bus_pageslot.proofs.Rule.Reaching.{accepted}
+use Rattle.bus_pageslot.proofs.Ruled.Reaching.{accepted}
 
 -- what is so of each event of a machine of these sizes
 abbrev pub OfEvents : {E : Type 0} → Election E → (Machine E → Event → Answer → Machine E → Type 0)

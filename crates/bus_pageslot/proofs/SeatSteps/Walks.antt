@@ -18,8 +18,8 @@ use Rattle.bus_pageslot.specs.Steps.{slots_emptied, since_in, all_in, noted_by, 
 use Rattle.bus_pageslot.specs.Steps.{Gone, GoesOn, Due}
 use Rattle.bus_pageslot.specs.Steps.Accepts.{Nothing}
 use Rattle.bus_automaton.specs.SenderTrails.{SenderTrail, with_actions, with_sender_trail}
-use Rattle.bus_pageslot.proofs.Steps.Accepting.{since_is}
-use Rattle.bus_pageslot.proofs.Rule.Ties.{goes_allowed}
+use Rattle.bus_pageslot.proofs.SeatSteps.Accepting.{since_is}
+use Rattle.bus_pageslot.proofs.Ruled.Ties.{goes_allowed}
 
 -- ---- the sender that a call picks
 pub due_within :

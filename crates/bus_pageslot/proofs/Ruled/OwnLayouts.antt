@@ -19,7 +19,7 @@ use Rattle.bus_pageslot.specs.Seats.{Shows}
 use Rattle.bus_pageslot.specs.Steps.{Accepts}
 use Rattle.bus_pageslot.specs.declared.rule.View.{View}
 use Rattle.bus_pageslot.specs.declared.rule.View.TheVariants as view
-use Rattle.bus_pageslot.proofs.Steps.Accepting.{stays}
+use Rattle.bus_pageslot.proofs.SeatSteps.Accepting.{stays}
 use Rattle.bus_pageslot.proofs.Sends.Looking.{never_fits}
 
 module _ {E : Type 0} (P : Process (Sender E)) (A : Automaton (Sender E)) (K : ProcessLaws P)

@@ -11,7 +11,7 @@ use Rattle.bus_automaton.specs.Lawful.{AutomatonLaws, AcceptsIn}
 use Rattle.bus_automaton.specs.Processes.{Process, Automaton, base_in, actions_at}
 use Rattle.bus_automaton.specs.SenderTrails.{SenderTrail}
 use Rattle.bus_pageslot.specs.Steps.{Numbers}
-use Rattle.bus_pageslot.proofs.Rule.Reaching.{accepted}
+use Rattle.bus_pageslot.proofs.Ruled.Reaching.{accepted}
 
 module _ {C : Type 0} (P : Process C) (A : Automaton C) (L : AutomatonLaws P A) where
   numbers_at : (z : A.State) → A.IsReached z → (c : C) → A.sender z (P.me c) ≡ Some c

@@ -13,7 +13,8 @@ use Rattle.bus_pageslot.specs.Seats.{SenderSeat, actions_of}
 use Rattle.bus_pageslot.specs.Turns.{Tellings, AsksOn, DrawsOn, TurnsDrawing, word_drawn}
 use Rattle.bus_pageslot.specs.Turns.{GoesPlainly, NoneYet, Next, TakesPlainly, TakesSome}
 use Rattle.bus_pageslot.specs.Turns.{TakesOn, Again}
-use Rattle.bus_pageslot.proofs.Steps.Plain.{goes_asking, goes_drawing, goes_putting, takes_plainly}
+use Rattle.bus_pageslot.proofs.SeatSteps.Plain.{goes_asking, goes_drawing, goes_putting}
+use Rattle.bus_pageslot.proofs.SeatSteps.Plain.{takes_plainly}
 
 -- what led to the last turn of a row, and that turn
 pub record LastOf {C F : Type 0} (P : Process C) (T : Tellings C) (Tells : F → Bool → F → Type 0)

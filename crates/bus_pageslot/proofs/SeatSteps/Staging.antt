@@ -27,7 +27,7 @@ use Rattle.bus_pageslot.specs.Rule.{Sat, TableInvariant}
 use Rattle.bus_pageslot.specs.Stages.{TakesPageOf}
 use Rattle.bus_pageslot.specs.Steps.{IsDue}
 use Rattle.bus_pageslot.specs.declared.rule.View.{View}
-use Rattle.bus_pageslot.proofs.Steps.Stepping as stepping
+use Rattle.bus_pageslot.proofs.SeatSteps.Stepping as stepping
 
 same_turn : (a b : Answered) → answer.Turn a ≡ answer.Turn b → a ≡ b
 same_turn a b e = cc
