@@ -3,14 +3,19 @@
 //! to run: the balances go to standard error, the verdict to standard output.
 #![tactic(auto)]
 
-ghost use Rattle.std.specs.Prelude.{◌≡◌, ◌↔◌, ◌^◌, ◌<◌, List, ℕ, IsTrue, sum};
+ghost use Rattle.std.specs.Prelude.{◌≡◌, ◌↔◌, ◌^◌, ◌<◌, List, ℕ, Bool, IsTrue, sum};
 ghost use Rattle.std.specs.Bool.{OnFalse};
 ghost use Rattle.bus_batch.specs.declared.messages.Item.{Item};
+ghost use Rattle.bus_batch.specs.Frames.{Order, items_in};
+ghost use Rattle.bus_replica.specs.Histories.{AreDoneBy, AreInTurn, AreMoments, Call};
+ghost use Rattle.bus_replica.specs.Histories.{IsLinearizable};
+ghost use Rattle.bus_replica.specs.OneOrder.{AreFunctions};
 ghost use Rattle.bus_replica.specs.Replicas.{Folds, IsFold};
 ghost use Rattle.example_ledger.specs.Transfers.{after_transfer, message_of, money, CanBePaid};
 ghost use Rattle.example_ledger.specs.Transfers.{IsFirst, Applies};
 
 use anyhow::{Context, ensure};
+use bus_replica::histories::histories_are_linearizable;
 use bus_replica::{Replica, SenderNo, State, open_replicas};
 use std::alloc::{AllocError, Global};
 use std::marker::Model;
@@ -108,6 +113,17 @@ pub fn no_money_is_made_or_lost()
     ensures { (first balances : List ℕ) (items : List Item) → IsFirst first
         → Folds Applies first items balances → sum balances ≡ money }
 {}
+
+/// A transfer has one outcome, and there is one first ledger. So any history of calls of ledgers is
+/// linearizable whose calls are done between moments of one order, as `bus_replica` says.
+pub fn ledgers_are_linearizable()
+    ensures functions { AreFunctions IsFirst Applies }
+    ensures histories { (orders : ℕ → Order) (last : ℕ) (calls : List (Call (List ℕ) Bool))
+        → AreMoments orders → AreDoneBy IsFirst Applies orders last calls → AreInTurn calls
+        → IsLinearizable IsFirst Applies (items_in (orders last).entries) calls }
+{
+    histories_are_linearizable::<Ledger>();
+}
 
 /// What the accounts of a replica have: all the money, at any time. It is what the transfers lead
 /// to that it was given.

@@ -1,0 +1,2 @@
+-- A transfer has one outcome.
+mod Outcomes
