@@ -4,6 +4,7 @@ use std::time::{Clock, Duration, Instant};
 
 /// So long from a moment on, by the clock of the system that never goes back. Where that cannot be
 /// read, the time is over.
+#[derive(Drop)]
 pub struct Deadline<'a, C> {
     clock: &'a C,
     began: Option<Instant>,
