@@ -19,3 +19,5 @@ mod schedules;
 mod scripts;
 #[cfg(test)]
 mod seats;
+#[cfg(test)]
+mod timeouts;
