@@ -23,5 +23,5 @@ module _ {C F : Type 0} (Tells : F → Bool → F → Type 0)
     asked = tt;
     before = asks_as h.old h.asked h.before;
     hears = h.hears;
-    told = λ stopped. (tt, says h.asked false (h.told stopped).1 (h.told stopped).2);
+    told = λ stopped. (tt, says h.asked false (h.told stopped).0 (h.told stopped).1);
   }
