@@ -79,8 +79,9 @@ static uint32_t execute(struct kioskbasil_replica *r, uint32_t count, uint32_t *
     return replica_execute(r, operation.bytes, operation.length, place);
 }
 
-/* How the first worker of a run ends: it finishes; it is stopped at this ask and goes on; it is
-   stopped there and given up; or it is given up after so many calls. */
+/* How the first worker of a run ends: it finishes; it is stopped at this ask and goes on, and then
+   leaves by calls that are stopped there; it is stopped there and given up; or it is given up after
+   so many calls. */
 enum ending { FINISHES, GOES_ON, STOPS, LEAVES };
 static enum ending ending;
 static unsigned turn, turns = 20;
@@ -124,12 +125,24 @@ static struct done work_first(struct kioskbasil_replica *r) {
     return done;
 }
 
+/* Leaves by calls that are told to stop, until one of them is OK. */
+static uint32_t leave_bit_by_bit(struct kioskbasil_replica *r) {
+    for (;; sched_yield()) {
+        unsigned asked = 0;
+        uint32_t code = replica_leave_while(r, so_often, &asked);
+        if (code != REPLICA_STOPPED && code != REPLICA_MISSING) return code;
+        if (code == REPLICA_STOPPED) continue; /* it may put operations still */
+        if (replica_submit(r, NULL, 0, NULL) != KIOSKBASIL_CLOSED) return code;
+    }
+}
+
 static void *work(void *given) {
     struct kioskbasil_replica *r = given;
     bool is_first = ending != FINISHES && r->number == 0;
     struct done *done = calloc(1, sizeof *done);
     if (!done) abort();
     *done = is_first ? work_first(r) : execute_all(r);
+    if (r->sender.live && done->code == KIOSKBASIL_OK && is_first) done->code = leave_bit_by_bit(r);
     if (r->sender.live && done->code == KIOSKBASIL_OK) done->code = replica_finish(r);
     return done;
 }
@@ -228,8 +241,11 @@ static void codes(void) {
     EXPECT(replica_latest(&replicas[1]), KIOSKBASIL_EMPTY_HANDLE);
     EXPECT(execute(&replicas[1], 0, NULL), KIOSKBASIL_EMPTY_HANDLE);
     EXPECT(replica_finish(&replicas[1]), KIOSKBASIL_EMPTY_HANDLE);
+    EXPECT(replica_leave(&replicas[1]), KIOSKBASIL_EMPTY_HANDLE);
     EXPECT(replica_finish(&replicas[0]), KIOSKBASIL_OK);
+    EXPECT(replica_leave(&replicas[0]), KIOSKBASIL_EMPTY_HANDLE);
     EXPECT(execute(&replicas[0], 0, NULL), KIOSKBASIL_EMPTY_HANDLE);
+    EXPECT(strcmp(replica_text(REPLICA_STOPPED), "told to stop, or its time is over"), 0);
     EXPECT(strcmp(replica_text(REPLICA_MISSING), "a worker has not left"), 0);
     EXPECT(strcmp(replica_text(KIOSKBASIL_SPENT), "spent"), 0);
     EXPECT(books[1].faults + books[0].faults, 0);
@@ -276,6 +292,83 @@ static void times(void) {
     free_all(2);
 }
 
+/* A leave that misses a worker keeps the replica: it puts nothing more and reads on, and a further
+   call goes on. */
+static void leaves_one_by_one(void) {
+    size_t heard = 0;
+    EXPECT(open_all(2, 129), KIOSKBASIL_OK);
+    EXPECT(execute(&replicas[0], 0, NULL), KIOSKBASIL_OK);
+    EXPECT(replica_leave_timeout(&replicas[0], 0), REPLICA_MISSING);
+    EXPECT(replica_leave_timeout(&replicas[0], 30), REPLICA_MISSING);
+    EXPECT(replicas[0].missing, 1);
+    EXPECT(execute(&replicas[0], 1, NULL), KIOSKBASIL_CLOSED);
+    EXPECT(replica_submit(&replicas[0], NULL, 0, NULL), KIOSKBASIL_CLOSED);
+    EXPECT(replica_flush(&replicas[0]), KIOSKBASIL_OK);
+    for (uint32_t count = 0; count < 40; count++) {
+        EXPECT(execute(&replicas[1], count, NULL), KIOSKBASIL_OK);
+        if (count % 2) EXPECT(replica_latest(&replicas[0]), KIOSKBASIL_OK);
+        else EXPECT(replica_hear(&replicas[0], &heard), KIOSKBASIL_OK);
+        EXPECT(books[0].many, count + 2);
+    }
+    EXPECT(replica_leave(&replicas[1]), KIOSKBASIL_OK);
+    EXPECT(replica_leave(&replicas[0]), KIOSKBASIL_OK);
+    EXPECT(replica_leave_timeout(&replicas[1], 0), KIOSKBASIL_OK);
+    EXPECT(replica_hear(&replicas[0], &heard), KIOSKBASIL_OK);
+    EXPECT(heard, 0);
+    EXPECT(replica_finish(&replicas[0]), KIOSKBASIL_OK);
+    EXPECT(memcmp(&books[0], &books[1], sizeof *books), 0);
+    free_all(2);
+}
+
+/* The ring is full with operations that wait, since the second does not hear: a leave is stopped
+   before its mark was taken, and then the worker may put operations still. */
+static void leaves_a_full_ring(void) {
+    uint32_t code, next = 0;
+    EXPECT(open_all(2, 16), KIOSKBASIL_OK);
+    do {
+        struct operation it = operation_of(0, next);
+        code = replica_submit_timeout(&replicas[0], it.bytes, it.length, NULL, 0);
+    } while (code == KIOSKBASIL_OK && ++next);
+    EXPECT(code, REPLICA_STOPPED);
+    EXPECT(replica_leave_timeout(&replicas[0], 0), REPLICA_STOPPED);
+    EXPECT(replica_leave_timeout(&replicas[0], 30), REPLICA_STOPPED);
+    while (replica_flush_timeout(&replicas[0], 0)) replica_hear(&replicas[1], NULL);
+    struct operation last = operation_of(0, next);
+    EXPECT(replica_submit(&replicas[0], last.bytes, last.length, NULL), KIOSKBASIL_OK);
+    do {
+        replica_hear(&replicas[1], NULL);
+        code = replica_leave_timeout(&replicas[0], 0);
+    } while (code == REPLICA_STOPPED || (code == REPLICA_MISSING && !replicas[0].missing));
+    EXPECT(code, REPLICA_MISSING);
+    EXPECT(replica_finish(&replicas[1]), KIOSKBASIL_OK);
+    EXPECT(replica_leave(&replicas[0]), KIOSKBASIL_OK);
+    EXPECT(books[0].many, next + 1);
+    EXPECT(memcmp(&books[0], &books[1], sizeof *books), 0);
+    EXPECT(books[0].faults, 0);
+    free_all(2);
+}
+
+/* Five operations leave one word of the ring, and a leave mark takes two. So the first has not left
+   itself until the second hears. */
+static void leaves_without_room(void) {
+    size_t heard = 0;
+    EXPECT(open_all(2, 16), KIOSKBASIL_OK);
+    for (int i = 0; i < 5; i++) EXPECT(replica_execute(&replicas[0], NULL, 0, NULL), KIOSKBASIL_OK);
+    for (unsigned milliseconds = 0; milliseconds < 20; milliseconds += 10) {
+        EXPECT(replica_leave_timeout(&replicas[0], milliseconds), REPLICA_MISSING);
+        EXPECT(replicas[0].missing, 0);
+        EXPECT(replica_submit(&replicas[0], NULL, 0, NULL), KIOSKBASIL_CLOSED);
+    }
+    EXPECT(replica_hear(&replicas[1], &heard), KIOSKBASIL_OK);
+    EXPECT(heard, 5);
+    EXPECT(replica_leave_timeout(&replicas[0], 0), REPLICA_MISSING);
+    EXPECT(replicas[0].missing, 1);
+    EXPECT(replica_leave(&replicas[1]), KIOSKBASIL_OK);
+    EXPECT(replica_leave(&replicas[0]), KIOSKBASIL_OK);
+    EXPECT(books[0].many, 5);
+    free_all(2);
+}
+
 static atomic_bool stop;
 
 static bool goes_on(void *none) {
@@ -315,6 +408,9 @@ int main(int argc, char **argv) {
     codes();
     of_each_length();
     times();
+    leaves_one_by_one();
+    leaves_a_full_ring();
+    leaves_without_room();
     woken();
     runs();
     printf("replica: %ld passed, %ld failed\n", passed, failed);

@@ -266,6 +266,9 @@ impl Worker {
             thread::sleep(self.pause());
             return (None, number, self.sent);
         }
+        if self.dice.one_in(3) {
+            return self.leave_and_end();
+        }
         let (pause, asks) = (self.pause(), 1 + self.dice.below(60));
         let replica = self.replica;
         let told = match self.dice.below(8) {
@@ -289,6 +292,68 @@ impl Worker {
             Some(Err(why)) => panic!("finish: {why}"),
         };
         (finished, number, sent)
+    }
+
+    /// As `live`, by calls that leave, and then the state.
+    fn leave_and_end(mut self) -> (Option<usize>, u32, Vec<u64>) {
+        let (number, most) = (self.replica.number(), [1, 2, 11, u64::MAX]);
+        let most = self.dice.of_these(&most);
+        let has_left = survived(|| self.leave(most));
+        if has_left.is_none() {
+            let poisoned = Err(ReplicaError::Poisoned);
+            assert_eq!(self.replica.hear(), poisoned, "it is not poisoned");
+        }
+        let applied = self.replica.into_state().applied;
+        let finished = (has_left == Some(true)).then(|| applied);
+        (finished, number, self.sent)
+    }
+
+    /// Leaves by so many calls at most, most of which are told to stop. Behind some that are stopped
+    /// before its mark was taken it puts more. Says whether one was Ok.
+    fn leave(&mut self, most: u64) -> bool {
+        let (mut is_leaving, mut puts) = (false, self.dice.below(5));
+        for _ in 0..most {
+            let (pause, asks) = (self.pause(), 1 + self.dice.below(6));
+            let replica = &mut self.replica;
+            let told = match self.dice.below(6) {
+                0 => Some(replica.leave_while(so_often(asks))),
+                1 => survived(|| replica.leave_while(then_panics(asks))),
+                2 if most < u64::MAX => Some(replica.leave()),
+                _ => Some(replica.leave_timeout(pause)),
+            };
+            match told {
+                Some(Ok(())) => {
+                    self.has_flushed();
+                    assert_eq!(self.replica.hear(), Ok(0), "there is more than all");
+                    return true;
+                }
+                Some(Err(ReplicaError::Stopped)) => {
+                    assert!(!is_leaving, "its mark is lost");
+                    if puts > 0 {
+                        self.submit();
+                        puts -= 1;
+                    }
+                }
+                Some(Err(ReplicaError::MissingWorker(_))) => {
+                    is_leaving = true;
+                    self.is_leaving();
+                }
+                Some(Err(why)) => panic!("leave: {why}"),
+                None => self.is_poisoned_or_goes_on(),
+            }
+        }
+        false
+    }
+
+    /// Behind a leave whose mark was taken: it has sent all, puts nothing more, and reads.
+    fn is_leaving(&mut self) {
+        self.has_flushed();
+        let (_, bytes) = self.next();
+        assert_eq!(self.replica.submit(&bytes), Err(ReplicaError::Ended));
+        assert_eq!(self.replica.execute(&bytes), Err(ReplicaError::Ended));
+        if self.dice.one_in(4) {
+            self.read();
+        }
     }
 }
 

@@ -1,5 +1,6 @@
 /* Long messages, of 0 to 880 bytes: each is cut into pieces that stand side by side in one frame.
-   It stands on waiting.h, beside which it is to be copied, and builds as that does.
+   It stands on waiting.h, and builds as that does. Copy it beside that, or install a release, where
+   it is kioskbasil_long.h.
 
    A piece is a message of the bus. Its first byte says how many pieces follow it, and behind that
    it has 55 bytes, the last piece at most 55. Who sends long messages to a bus sends no others. */

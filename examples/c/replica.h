@@ -1,5 +1,6 @@
 /* Replicas: a state that workers replicate, with a call for each operation. It stands on long.h and
-   waiting.h, beside which it is to be copied, and builds as these do.
+   waiting.h, and builds as these do. Copy the three side by side, or install a release: there they
+   are kioskbasil_replica.h, kioskbasil_long.h and kioskbasil_waiting.h.
 
    Each worker has a replica: a sender, a receiver, a state of the caller's, and a callback that
    applies an operation to it. Operations of all workers go to all replicas in one order, and each
@@ -10,6 +11,9 @@
    replica_hear now and then, or replica_hear_timeout where it has nothing else to do. One that
    fails calls replica_free. Between two calls a replica keeps nobody waiting.
 
+   At the end replica_finish leaves, hears up to where all have left, and gives the replica up.
+   replica_leave leaves it open: where that is stopped a further call goes on.
+
    One thread at a time has a replica. The callback looks at nothing but its arguments, so that
    equal states stay equal, and it always returns. */
 #ifndef KIOSKBASIL_REPLICA_H
@@ -18,12 +22,12 @@
 #include "long.h"
 
 /* What a call answers beside KIOSKBASIL_OK, KIOSKBASIL_CLOSED (the order has ended, or this worker
-   has left), KIOSKBASIL_SPENT, KIOSKBASIL_PUT_TOO_LONG (more than 880 bytes), KIOSKBASIL_NEVER_FITS
-   (the operation is longer than the log; one of 129 words has room for each) and
-   KIOSKBASIL_EMPTY_HANDLE. */
+   has left or has begun to), KIOSKBASIL_SPENT, KIOSKBASIL_PUT_TOO_LONG (more than 880 bytes),
+   KIOSKBASIL_NEVER_FITS (the operation is longer than the log; one of 129 words has room for each)
+   and KIOSKBASIL_EMPTY_HANDLE. */
 enum {
     REPLICA_STOPPED = 96, /* told to stop, or its time is over; what was put waits still */
-    REPLICA_MISSING = 97  /* the same of finish, before the worker `missing` has left */
+    REPLICA_MISSING = 97  /* the same of leave and finish, before the worker `missing` has left */
 };
 
 /* Applies the operation of these bytes, at most 880, of the worker of this number. `answer` is
@@ -56,8 +60,10 @@ struct kioskbasil_replica {
     uint64_t words; /* of the frame that waits */
     uint32_t number;
     uint32_t waits;   /* how many messages wait */
-    uint32_t missing; /* after REPLICA_MISSING: the first worker that has not left */
-    bool leaves;      /* a leave mark waits */
+    uint32_t missing; /* after REPLICA_MISSING: the first worker that has not left; it may be this
+                         one, or may wait itself for another that does not hear */
+    bool is_leaving;  /* its leave mark was taken */
+    bool leaves;      /* that mark waits */
     bool is_full;     /* its last turn found no room */
 };
 
@@ -290,7 +296,9 @@ static inline uint32_t replica_latest(struct kioskbasil_replica *r) {
 
 /* ---- calls that wait: each has a form that asks go_on(given) where nothing more can be done for
    now, and stops where that says no, and one that stops after so many milliseconds. Whoever makes
-   go_on say no rings the bell. */
+   go_on say no rings the bell.
+
+   A _while asks only where it would wait: so look at the flag in your loop too. */
 
 /* Takes turns towards sending what waits, and applies what is there. */
 static inline uint32_t replica_round(struct kioskbasil_replica *r, bool *moved) {
@@ -345,8 +353,9 @@ static inline uint32_t replica_submit_by(struct kioskbasil_replica *r, const voi
 }
 
 /* Puts an operation of at most 880 bytes into the batch, and gives its number in *number (which may
-   be NULL). It is sent with what comes later: by flush, execute, finish, or where the batch has no
-   room for the next one. What it answers nobody is told. After REPLICA_STOPPED it is not put.
+   be NULL). It is sent with what comes later: by flush, execute, leave, finish, or where the batch
+   has no room for the next one. What it answers nobody is told. After REPLICA_STOPPED it is not
+   put, so the call may be repeated.
 
    A batch has room for 16 operations of up to 55 bytes; a longer one counts for each 55 bytes
    begun. Numbers rise by as much: an operation has that of its last piece. */
@@ -402,8 +411,8 @@ static inline uint32_t replica_execute_by(struct kioskbasil_replica *r, const vo
 
 /* Executes an operation of at most 880 bytes: it is OK once this replica has applied it, by a
    callback that was given `answer`, at its place in the order. It is the last one applied then.
-   After REPLICA_STOPPED it may be put, and may stand in the order already: it is sent with whatever
-   is sent next, and its callback is given NULL. */
+   After REPLICA_STOPPED do not repeat the call: the operation may be put, and may stand in the
+   order already. It is sent with whatever is sent next, and its callback is given NULL. */
 static inline uint32_t replica_execute_while(struct kioskbasil_replica *r, const void *operation,
                                              size_t length, void *answer,
                                              bool (*go_on)(void *given), void *given) {
@@ -425,7 +434,11 @@ static inline uint32_t replica_execute(struct kioskbasil_replica *r, const void 
 
 /* Opens a bus with a replica for each worker, in the order of their numbers, and the callback of
    all. Its log is a ring, whatever `sizes` says. Set the `state` of each then, to equal ones.
-   KIOSKBASIL_OK, or what kioskbasil_open answers. */
+   KIOSKBASIL_OK, or what kioskbasil_open answers.
+
+   Usual sizes are {.rounds = 2, .rows = 8, .log_words = 32768}. There are 1 to 8 rounds, 2 to 8
+   rows and 16 to 65,536 words. A log of 129 words or more takes any operation. `{0}` is refused, as
+   KIOSKBASIL_BAD_ROUNDS: a 0 stands for no usual size. */
 static inline uint32_t replicas_open(struct kioskbasil_replicas *shared,
                                      const kioskbasil_sizes *sizes,
                                      struct kioskbasil_replica *replicas, size_t workers,
@@ -468,16 +481,23 @@ static inline void replica_free(struct kioskbasil_replica *r) {
     free_receiver(&r->receiver, &r->shared->bell);
 }
 
-static inline uint32_t replica_finish_by(struct kioskbasil_replica *r,
-                                         struct replica_patience patience) {
-    uint64_t words;
+/* Sends what waits, and then lets a leave mark wait, unless it was taken before. */
+static inline uint32_t replica_begin_leave(struct kioskbasil_replica *r,
+                                           struct replica_patience *patience) {
     uint32_t code;
     if (!r->sender.live) return KIOSKBASIL_EMPTY_HANDLE;
-    code = replica_send_all(r, &patience);
-    if (code == KIOSKBASIL_OK) {
-        r->leaves = kioskbasil_leave(&r->sender) == KIOSKBASIL_OK;
-        if (!r->leaves) code = KIOSKBASIL_CLOSED;
-    }
+    if (r->is_leaving) return KIOSKBASIL_OK;
+    code = replica_send_all(r, patience);
+    if (code != KIOSKBASIL_OK) return code;
+    if (kioskbasil_leave(&r->sender) != KIOSKBASIL_OK) return KIOSKBASIL_CLOSED;
+    r->is_leaving = r->leaves = true;
+    return KIOSKBASIL_OK;
+}
+
+static inline uint32_t replica_leave_by(struct kioskbasil_replica *r,
+                                        struct replica_patience patience) {
+    uint64_t words;
+    uint32_t code = replica_begin_leave(r, &patience);
     while (code == KIOSKBASIL_OK) {
         bool moved = false;
         code = replica_round(r, &moved);
@@ -485,22 +505,45 @@ static inline uint32_t replica_finish_by(struct kioskbasil_replica *r,
         if (replica_have_all_left(r, &words) && replica_has_applied(r, words)) break;
         if (!replica_goes_on(r, &patience, moved)) code = REPLICA_MISSING;
     }
+    return code;
+}
+
+/* Sends what waits, leaves, and applies all operations of all workers, up to where all have left.
+   So the states of all that are answered OK are equal. A worker whose replica is given up has left.
+   One whose replica is kept and does not call this has not, and this waits for it.
+
+   Told to stop it is REPLICA_MISSING, and `missing` says whom it waited for. Or it is
+   REPLICA_STOPPED, if an operation of its own waits still: then it has not begun to leave. A
+   further call goes on.
+
+   The replica is kept: replica_free gives it up. After OK and REPLICA_MISSING submit and execute
+   are KIOSKBASIL_CLOSED. But it has to hear as before, and `state`, hear and latest work on. */
+static inline uint32_t replica_leave_while(struct kioskbasil_replica *r,
+                                           bool (*go_on)(void *given), void *given) {
+    return replica_leave_by(r, replica_asking(go_on, given));
+}
+
+static inline uint32_t replica_leave_timeout(struct kioskbasil_replica *r, unsigned milliseconds) {
+    return replica_leave_by(r, replica_up_to(milliseconds));
+}
+
+static inline uint32_t replica_leave(struct kioskbasil_replica *r) {
+    return replica_leave_while(r, NULL, NULL);
+}
+
+/* As replica_leave_while, but that it gives the replica up then, whatever the answer. So what waits
+   after REPLICA_STOPPED is lost. */
+static inline uint32_t replica_finish_while(struct kioskbasil_replica *r,
+                                            bool (*go_on)(void *given), void *given) {
+    uint32_t code = replica_leave_while(r, go_on, given);
     replica_free(r);
     return code;
 }
 
-/* Sends what waits, leaves, and applies all operations of all workers, up to where all have left:
-   so the states of all that are answered OK are equal. Then it gives the replica up, whatever the
-   answer. A worker whose replica is given up has left; one whose replica is kept and not finished
-   has not, and this waits for it. Told to stop it is REPLICA_MISSING, and `missing` says whom it
-   waited for; or REPLICA_STOPPED, if an operation of its own waits still, which is lost. */
-static inline uint32_t replica_finish_while(struct kioskbasil_replica *r,
-                                            bool (*go_on)(void *given), void *given) {
-    return replica_finish_by(r, replica_asking(go_on, given));
-}
-
 static inline uint32_t replica_finish_timeout(struct kioskbasil_replica *r, unsigned milliseconds) {
-    return replica_finish_by(r, replica_up_to(milliseconds));
+    uint32_t code = replica_leave_timeout(r, milliseconds);
+    replica_free(r);
+    return code;
 }
 
 static inline uint32_t replica_finish(struct kioskbasil_replica *r) {
@@ -509,9 +552,9 @@ static inline uint32_t replica_finish(struct kioskbasil_replica *r) {
 
 /* A code in words. */
 static inline const char *replica_text(uint32_t code) {
-    if (code == REPLICA_STOPPED) return "told to stop";
+    if (code == REPLICA_STOPPED) return "told to stop, or its time is over";
     if (code == REPLICA_MISSING) return "a worker has not left";
-    if (code == KIOSKBASIL_CLOSED) return "the order has ended";
+    if (code == KIOSKBASIL_CLOSED) return "the order has ended, or this worker has left it";
     if (code == KIOSKBASIL_PUT_TOO_LONG) return "an operation of more than 880 bytes";
     if (code == KIOSKBASIL_NEVER_FITS) return "an operation that is longer than the log";
     return kioskbasil_text(code);

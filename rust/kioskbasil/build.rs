@@ -49,8 +49,8 @@ fn archive(here: &Path) -> Result<Archive, String> {
     }
     Err(
         "there is no libbus_c.a. `rt lib` in crates/bus_c proves and builds it, which takes 20 \
-         minutes or more; `./quick bus_c` builds it without a proof in half a minute; or set \
-         KIOSKBASIL_ARCHIVE to the file, of any name"
+         minutes or more; `./quick bus_c` builds it without a proof in half a minute, longer \
+         beside other work; or set KIOSKBASIL_ARCHIVE to the file, of any name"
             .to_string(),
     )
 }

@@ -123,7 +123,8 @@ pub struct Shape {
 }
 
 impl Shape {
-    /// 2 rounds, 8 rows that are used again, and the longest log.
+    /// So many senders and so many receivers, with 2 rounds, 8 rows that are used again, and the
+    /// longest log.
     pub fn of(senders: usize, receivers: usize) -> Shape {
         Shape {
             senders,
@@ -134,6 +135,17 @@ impl Shape {
             again: true,
             ring: false,
         }
+    }
+
+    /// As many receivers as senders, and else as `of`. So are replicas opened, of which each
+    /// worker has one (`replica::Replicas::open`).
+    ///
+    /// ```
+    /// # use kioskbasil::Shape;
+    /// assert_eq!(Shape::of_workers(3), Shape::of(3, 3));
+    /// ```
+    pub fn of_workers(workers: usize) -> Shape {
+        Shape::of(workers, workers)
     }
 }
 

@@ -31,7 +31,7 @@
 //!     replica.finish()
 //! }
 //!
-//! let replicas = Replicas::open(Shape::of(3, 3), || Counter(0))?;
+//! let replicas = Replicas::open(Shape::of_workers(3), || Counter(0))?;
 //! let workers: Vec<_> = replicas.into_iter().map(|it| thread::spawn(|| work(it))).collect();
 //! for worker in workers {
 //!     assert_eq!(worker.join().unwrap(), Ok(Counter(900)));
@@ -43,10 +43,15 @@
 //! `hear` now and then, or `hear_timeout` where it has nothing else to do. One that is dropped
 //! holds up nobody.
 //!
+//! **The end.** `finish` gives the state once all workers have left. It is `leave` and then
+//! `into_state`. A `leave_timeout` that comes to `MissingWorker` keeps the replica, and a further
+//! call goes on.
+//!
 //! **Panics.** Where `apply` panics the replica is poisoned: it leaves the bus at once, its state
-//! stays as the panic left it, and each later call but `state` answers `Poisoned`. The operation
-//! stands in the order, so each replica comes to it: where it panics in one for what it is, it
-//! does in all. The others go on, and for their `finish` the poisoned one has left.
+//! stays as the panic left it, and each later call but `state` and `into_state` answers
+//! `Poisoned`. The operation stands in the order, so each replica comes to it: where it panics in
+//! one for what it is, it does in all. The others go on, and for their `leave` and `finish` the
+//! poisoned one has left.
 
 mod calls;
 mod errors;
@@ -79,9 +84,9 @@ pub trait State {
 pub enum Replicas {}
 
 impl Replicas {
-    /// Opens a bus with a replica for each of its senders, in the order of their numbers. Its log
-    /// is a ring, and it has as many receivers as senders, whatever `shape` says of these. All
-    /// first states are to be equal.
+    /// Opens a bus with a replica for each of its senders, in the order of their numbers:
+    /// `Shape::of_workers(3)` is for three. Its log is a ring, and it has as many receivers as
+    /// senders, whatever `shape` says of these. All first states are to be equal.
     pub fn open<S: State>(
         shape: Shape,
         mut first: impl FnMut() -> S,
@@ -107,8 +112,8 @@ impl Replicas {
 /// go to another thread, and one thread at a time has it.
 ///
 /// Between two calls it keeps nobody waiting, and so it is behind one that panics: no tenure stays
-/// begun. One that is dropped leaves: what it had not sent is lost, and `finish` of the others
-/// waits for it no more.
+/// begun. One that is dropped leaves: what it had not sent is lost, and `leave` and `finish` of
+/// the others wait for it no more.
 pub struct Replica<S: State> {
     number: u32,
     bell: Bell,

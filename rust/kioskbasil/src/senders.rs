@@ -253,6 +253,11 @@ impl Sender {
         self.closes
     }
 
+    /// A turn of it was answered `Left`.
+    pub(crate) fn has_left(&self) -> bool {
+        self.has_left
+    }
+
     /// How many turns its election takes at most, with the one that takes the page; 0 where none is
     /// begun.
     ///

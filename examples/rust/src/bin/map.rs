@@ -45,7 +45,7 @@ fn work(mut replica: Replica<Map>, stop: &AtomicBool) -> Result<Map, ReplicaErro
 
 fn main() -> Result<(), Box<dyn Error>> {
     let stop = AtomicBool::new(false);
-    let replicas = Replicas::open(Shape::of(3, 3), Map::default)?;
+    let replicas = Replicas::open(Shape::of_workers(3), Map::default)?;
     let maps = thread::scope(|scope| {
         let start = |replica| scope.spawn(|| work(replica, &stop));
         let workers: Vec<_> = replicas.into_iter().map(start).collect();

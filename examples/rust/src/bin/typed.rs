@@ -46,7 +46,7 @@ impl State for Map {
 }
 
 fn main() -> Result<(), Box<dyn Error>> {
-    let mut replicas = Replicas::open(Shape::of(2, 2), Map::default)?;
+    let mut replicas = Replicas::open(Shape::of_workers(2), Map::default)?;
     let (mut anna, mut bert) = (replicas.remove(0), replicas.remove(0));
     let (key, value) = (&[1; 100][..], &[2; 100][..]);
     let (set, remove) = (Operation::Set { key, value }, Operation::Remove { key });

@@ -138,8 +138,8 @@ impl<S: State> Replica<S> {
     }
 
     /// Puts an operation of at most 880 bytes into the batch, and gives its number. It is sent with
-    /// what comes later: by `flush`, `execute`, `finish`, or where the batch has no room for the
-    /// next one. What it answers nobody is told.
+    /// what comes later: by `flush`, `execute`, `leave`, `finish`, or where the batch has no room
+    /// for the next one. What it answers nobody is told.
     ///
     /// A batch has room for 16 operations of up to 55 bytes; a longer one counts for each 55 bytes
     /// begun. Numbers rise by as much: an operation has that of its last piece.
@@ -149,7 +149,8 @@ impl<S: State> Replica<S> {
 
     /// As `submit`, but that it can be told to stop: each time it has sent and applied what it can
     /// and there is no room for the operation it asks `go_on`, and where that says no it is
-    /// `Stopped`. The operation is not put then. Whoever makes it say no rings the bell.
+    /// `Stopped`. The operation is not put then, so the call may be repeated. Whoever makes it say
+    /// no rings the bell.
     pub fn submit_while(
         &mut self,
         operation: &[u8],
@@ -159,7 +160,8 @@ impl<S: State> Replica<S> {
         self.put(operation, &mut patience)
     }
 
-    /// As `submit`, but that it is `Stopped` after so long.
+    /// As `submit`, but that it is `Stopped` after so long. The operation is not put then, so the
+    /// call may be repeated.
     pub fn submit_timeout(
         &mut self,
         operation: &[u8],
@@ -253,9 +255,12 @@ impl<S: State> Replica<S> {
 
     /// As `execute`, but that it can be told to stop: each time it has sent and applied what it
     /// can and its operation was not among that it asks `go_on`, and where that says no it is
-    /// `Stopped`. The operation may be put then, and may stand in the order already: it is sent
-    /// with whatever is sent next, and what it answers is lost. Whoever makes it say no rings the
-    /// bell.
+    /// `Stopped`. Whoever makes it say no rings the bell. It asks only where it would wait, so look
+    /// at the flag in your loop too.
+    ///
+    /// **After `Stopped` do not repeat the call**: the operation may be put, and may stand in the
+    /// order already. It is sent with whatever is sent next, and what it answers is lost. So a
+    /// second call may have it applied twice. `submit_while` and `flush_while` may be repeated.
     pub fn execute_while(
         &mut self,
         operation: &[u8],
@@ -265,7 +270,8 @@ impl<S: State> Replica<S> {
         self.execute_by(operation, &mut patience)
     }
 
-    /// As `execute`, but that it is `Stopped` after so long, as with `execute_while`.
+    /// As `execute`, but that it is `Stopped` after so long. Do not repeat the call then: the
+    /// operation may stand in the order already, as with `execute_while`.
     pub fn execute_timeout(
         &mut self,
         operation: &[u8],
@@ -311,43 +317,101 @@ impl<S: State> Replica<S> {
     }
 
     /// Sends what waits, leaves, and applies all operations of all workers, up to where all have
-    /// left. So the states that it gives are equal. A replica that is dropped or poisoned has
-    /// left; one that is kept and not finished has not, and this waits for it.
-    pub fn finish(self) -> Result<S, ReplicaError> {
-        self.finish_while(always)
+    /// left. So the states of those of which it was Ok are equal. A replica that is dropped or
+    /// poisoned has left. One that is kept and does not call this has not, and this waits for it.
+    ///
+    /// No operation can be put after it, or after a `MissingWorker`: `submit` and `execute` are
+    /// `Ended`. `hear`, `state` and `latest` work on, and `into_state` gives the state.
+    pub fn leave(&mut self) -> Result<(), ReplicaError> {
+        self.leave_while(always)
     }
 
-    /// As `finish`, but that it can be told to stop: each time it has sent and applied what it can
-    /// and a worker has not left yet it asks `go_on`, and where that says no the first such worker
-    /// is a `MissingWorker`; or it is `Stopped`, if an operation of its own waits still. The
-    /// replica is gone then, and keeps nobody waiting. Whoever makes it say no rings the bell.
-    pub fn finish_while(self, go_on: impl FnMut() -> bool) -> Result<S, ReplicaError> {
-        let patience = Patience::new(go_on, self.waiting);
-        self.finish_by(patience)
+    /// As `leave`, but that it can be told to stop. Each time it has sent and applied what it can
+    /// and a worker has not left yet it asks `go_on`. Where that says no the first such worker is a
+    /// `MissingWorker`. Or it is `Stopped`, if an operation of its own waits still: then it has not
+    /// begun to leave. A further call goes on. Whoever makes it say no rings the bell.
+    ///
+    /// The replica is kept, and has to hear as before: call again, or drop it. The worker that is
+    /// named may be this one, or may wait itself for another that does not hear.
+    ///
+    /// ```
+    /// # use kioskbasil::replica::{ReplicaError, Replicas, State};
+    /// # use kioskbasil::Shape;
+    /// # use std::time::Duration;
+    /// # struct Count(u64);
+    /// # impl State for Count {
+    /// #     type Answer = u64;
+    /// #     fn apply(&mut self, _from: u32, _operation: &[u8]) -> u64 {
+    /// #         self.0 += 1;
+    /// #         self.0
+    /// #     }
+    /// # }
+    /// let mut replicas = Replicas::open(Shape::of_workers(2), || Count(0))?;
+    /// let (mut anna, mut bert) = (replicas.remove(0), replicas.remove(0));
+    /// let missing = anna.leave_timeout(Duration::from_millis(1));
+    /// assert_eq!(missing, Err(ReplicaError::MissingWorker(1)));
+    /// assert_eq!(anna.execute(b"late"), Err(ReplicaError::Ended));
+    /// assert_eq!(bert.execute(b"last"), Ok(1));
+    /// bert.leave()?;
+    /// anna.leave()?;
+    /// assert_eq!((anna.into_state().0, bert.into_state().0), (1, 1));
+    /// # Ok::<(), Box<dyn std::error::Error>>(())
+    /// ```
+    pub fn leave_while(&mut self, go_on: impl FnMut() -> bool) -> Result<(), ReplicaError> {
+        let mut patience = Patience::new(go_on, self.waiting);
+        self.leave_by(&mut patience)
     }
 
-    /// As `finish`, but that it is told to stop after so long, as with `finish_while`.
-    pub fn finish_timeout(self, time: Duration) -> Result<S, ReplicaError> {
-        let patience = up_to(time, self.waiting);
-        self.finish_by(patience)
+    /// As `leave`, but that it is told to stop after so long, as with `leave_while`.
+    pub fn leave_timeout(&mut self, time: Duration) -> Result<(), ReplicaError> {
+        let mut patience = up_to(time, self.waiting);
+        self.leave_by(&mut patience)
     }
 
-    fn finish_by<F: FnMut() -> bool>(
-        mut self,
-        mut patience: Patience<F>,
-    ) -> Result<S, ReplicaError> {
-        self.send_all(&mut patience)?;
-        self.seat()?.leave()?;
+    fn leave_by<F: FnMut() -> bool>(
+        &mut self,
+        patience: &mut Patience<F>,
+    ) -> Result<(), ReplicaError> {
+        if !self.seat()?.is_leaving() {
+            self.send_all(patience)?;
+            self.seat()?.leave()?;
+        }
         loop {
             let has_moved = self.round()?;
             let seat = self.seat()?;
             let missing = match seat.told.all_left() {
-                Ok(words) if seat.has_given(words) => return Ok(self.state),
+                Ok(words) if seat.has_given(words) => return Ok(()),
                 Ok(_) => self.number,
                 Err(worker) => worker,
             };
-            let goes_on = self.go_on(&mut patience, has_moved);
+            let goes_on = self.go_on(patience, has_moved);
             goes_on.map_err(|_| ReplicaError::MissingWorker(missing))?;
         }
+    }
+
+    /// As `leave`, and gives the state. So the states that it gives are equal. After an error the
+    /// replica is gone, and keeps nobody waiting. `leave` keeps it.
+    pub fn finish(self) -> Result<S, ReplicaError> {
+        self.finish_while(always)
+    }
+
+    /// As `leave_while`, and gives the state. After an error the replica is gone, and what it had
+    /// not sent is lost.
+    pub fn finish_while(mut self, go_on: impl FnMut() -> bool) -> Result<S, ReplicaError> {
+        self.leave_while(go_on)?;
+        Ok(self.into_state())
+    }
+
+    /// As `finish`, but that it is told to stop after so long, as with `finish_while`.
+    pub fn finish_timeout(mut self, time: Duration) -> Result<S, ReplicaError> {
+        self.leave_timeout(time)?;
+        Ok(self.into_state())
+    }
+
+    /// The state by what it has applied so far, as `state` shows it, also of a poisoned replica.
+    /// The replica is dropped: so it leaves, and what it had not sent is lost. `leave` and this
+    /// are `finish`.
+    pub fn into_state(self) -> S {
+        self.state
     }
 }

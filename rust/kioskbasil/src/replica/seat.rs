@@ -16,8 +16,8 @@ pub(crate) struct Operation<'a> {
     pub(crate) bytes: &'a [u8],
 }
 
-/// A sender and a receiver of one bus, which leave together. No call of it but `poll_send` returns
-/// with a tenure begun.
+/// A sender and a receiver of one bus, which are dropped together. No call of it but `poll_send`
+/// returns with a tenure begun.
 pub(crate) struct Seat {
     pub(crate) sender: Sender,
     pub(crate) receiver: Receiver,
@@ -29,7 +29,9 @@ pub(crate) struct Seat {
     words: u64,
     /// An operation of several pieces.
     joined: [u8; MOST_LONG_BYTES],
-    /// A leave mark waits.
+    /// Its leave mark was taken.
+    is_leaving: bool,
+    /// That mark waits.
     leaves: bool,
     /// Its last turn found no room.
     is_full: bool,
@@ -51,6 +53,7 @@ impl Seat {
             waits: 0,
             words: 1,
             joined: [0; MOST_LONG_BYTES],
+            is_leaving: false,
             leaves: false,
             is_full: false,
         }
@@ -93,8 +96,13 @@ impl Seat {
     /// Lets a leave mark wait.
     pub(crate) fn leave(&mut self) -> Result<(), ReplicaError> {
         self.sender.leave().map_err(|_| ReplicaError::Ended)?;
-        self.leaves = true;
+        (self.is_leaving, self.leaves) = (true, true);
         Ok(())
+    }
+
+    /// Its leave mark was taken, be it sent or not.
+    pub(crate) fn is_leaving(&self) -> bool {
+        self.is_leaving
     }
 
     /// Takes turns towards sending what waits, as many as wait for nobody; but that it takes the
@@ -153,7 +161,8 @@ impl Seat {
                 self.told.publish(self.sender.words());
                 Ok(true)
             }
-            Turn::Left { .. } => {
+            // Closed where this answer was lost so.
+            Turn::Left { .. } | Turn::Closed if self.sender.has_left() => {
                 self.leaves = false;
                 self.note_left();
                 self.sender.bell().ring();

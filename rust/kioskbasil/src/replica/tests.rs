@@ -1,13 +1,14 @@
-//! A replica whose sender is behind another one: no public call makes one for sure.
+//! A replica whose sender is behind another one, which no public call makes for sure; and those
+//! that leave.
 
-use super::{Replica, Replicas, State};
+use super::{Replica, ReplicaError, Replicas, State};
 use crate::{Shape, Turn};
 use std::future::Future;
 use std::panic::{self, AssertUnwindSafe};
 use std::pin::Pin;
 use std::sync::atomic::{AtomicUsize, Ordering};
 use std::sync::Arc;
-use std::task::{Context, Wake, Waker};
+use std::task::{Context, Poll, Wake, Waker};
 use std::thread;
 use std::time::Duration;
 
@@ -98,6 +99,200 @@ fn a_panic_of_apply_finds_no_tenure_begun() {
     let mut anna = executes.join().unwrap();
     assert!(anna.seat().is_err());
     assert_eq!(goes_on(&mut bert), 4);
+}
+
+/// A replica leaves by calls that are told to stop at once, until one of them is Ok.
+fn leaves_bit_by_bit(replica: &mut Replica<Count>) {
+    loop {
+        match replica.leave_while(|| false) {
+            Ok(()) => return,
+            Err(ReplicaError::MissingWorker(_)) => thread::yield_now(),
+            Err(why) => panic!("leave: {why}"),
+        }
+    }
+}
+
+/// Two replicas over a ring of so many words.
+fn two(log_words: u64) -> (Replica<Count>, Replica<Count>) {
+    let shape = Shape {
+        log_words,
+        ..Shape::of_workers(2)
+    };
+    let first = || Count {
+        applied: Arc::default(),
+        panics_at: None,
+    };
+    let mut replicas = Replicas::open(shape, first).unwrap();
+    (replicas.remove(0), replicas.remove(0))
+}
+
+fn applied(replica: &Replica<Count>) -> usize {
+    replica.state().applied.load(Ordering::SeqCst)
+}
+
+const MISSES_BERT: Result<(), ReplicaError> = Err(ReplicaError::MissingWorker(1));
+
+#[test]
+fn all_leave_and_have_the_same() {
+    let (anna, bert) = two(129);
+    let works = |mut replica: Replica<Count>| {
+        for _ in 0..50 {
+            replica.submit(b"x").unwrap();
+            replica.execute(b"y").unwrap();
+        }
+        replica.submit(b"z").unwrap();
+        assert_eq!((replica.leave(), applied(&replica)), (Ok(()), 202));
+        assert_eq!((replica.leave(), replica.hear()), (Ok(()), Ok(0)));
+        replica.into_state().applied.load(Ordering::SeqCst)
+    };
+    let other = thread::spawn(move || works(bert));
+    assert_eq!((works(anna), other.join().unwrap()), (202, 202));
+}
+
+#[test]
+fn a_further_leave_goes_on_where_a_worker_was_missing() {
+    let (mut anna, mut bert) = two(129);
+    anna.submit(b"x").unwrap();
+    assert_eq!(anna.leave_while(|| false), MISSES_BERT);
+    assert_eq!(anna.leave_timeout(A_WHILE), MISSES_BERT);
+    assert_eq!(bert.execute(b"y").unwrap(), 1);
+    let leaves = thread::spawn(move || {
+        thread::sleep(A_WHILE);
+        (bert.leave(), applied(&bert))
+    });
+    assert_eq!((anna.leave(), applied(&anna)), (Ok(()), 2));
+    assert_eq!(leaves.join().unwrap(), (Ok(()), 2));
+    assert_eq!(anna.finish().unwrap().applied.load(Ordering::SeqCst), 2);
+}
+
+/// It hears, and is read, but it puts nothing more. What others put it has still to hear.
+#[test]
+fn one_that_has_left_puts_nothing_and_reads_on() {
+    let (mut anna, mut bert) = two(129);
+    assert_eq!(anna.execute(b"x").unwrap(), 0);
+    assert_eq!(anna.leave_while(|| false), MISSES_BERT);
+    assert_eq!(anna.submit(b"y"), Err(ReplicaError::Ended));
+    assert_eq!(anna.execute(b"y").err(), Some(ReplicaError::Ended));
+    let waker = Waker::from(Arc::new(Nobody));
+    let mut context = Context::from_waker(&waker);
+    let mut future = Box::pin(anna.execute_async(b"y"));
+    let polled = future.as_mut().poll(&mut context);
+    assert_eq!(polled, Poll::Ready(Err(ReplicaError::Ended)));
+    drop(future);
+    assert_eq!(anna.submit(&[0; 881]), Err(ReplicaError::TooLong));
+    assert_eq!((anna.flush(), applied(&anna)), (Ok(()), 1));
+    for count in 1..100 {
+        assert_eq!(bert.execute(b"z").unwrap(), count);
+        match count % 3 {
+            0 => assert_eq!(anna.hear(), Ok(1)),
+            1 => drop(anna.latest().unwrap()),
+            _ => assert!(anna.poll_applied(&mut context).is_ready()),
+        }
+        assert_eq!(applied(&anna), count + 1);
+    }
+    assert_eq!((bert.leave(), anna.leave()), (Ok(()), Ok(())));
+    assert_eq!((applied(&anna), applied(&bert)), (100, 100));
+}
+
+/// The ring is full with an operation that waits. So the leave is stopped before its mark was
+/// taken, and operations can be put still. One that is stopped in `submit` is not put.
+#[test]
+fn a_further_leave_goes_on_where_an_operation_waited() {
+    let (mut anna, mut bert) = two(16);
+    let mut put = 0;
+    while anna.submit_while(b"operate", || false).is_ok() {
+        put += 1;
+    }
+    for _ in 0..3 {
+        let stopped = Err(ReplicaError::Stopped);
+        assert_eq!(anna.leave_timeout(Duration::ZERO), stopped);
+        assert_eq!(anna.leave_while(|| false), stopped);
+        let submitted = anna.submit_timeout(b"operate", Duration::ZERO);
+        assert_eq!(submitted, Err(ReplicaError::Stopped));
+    }
+    let hears = thread::spawn(move || {
+        while applied(&bert) < put {
+            bert.hear_timeout(A_WHILE).unwrap();
+        }
+        bert
+    });
+    assert_eq!(anna.flush(), Ok(()));
+    let mut bert = hears.join().unwrap();
+    assert_eq!(anna.submit(b"operate"), Ok(put as u64));
+    let leaves = thread::spawn(move || (bert.leave(), applied(&bert)));
+    assert_eq!((anna.leave(), applied(&anna)), (Ok(()), put + 1));
+    assert_eq!(leaves.join().unwrap(), (Ok(()), put + 1));
+}
+
+/// Five operations leave one word of the ring, and a leave mark takes two. So the first has not
+/// left itself, as long as the second does not hear.
+#[test]
+fn a_further_leave_goes_on_where_the_mark_had_no_room() {
+    let (mut anna, mut bert) = two(16);
+    for count in 0..5 {
+        assert_eq!(anna.execute(b"operate").unwrap(), count);
+    }
+    for _ in 0..3 {
+        let misses_anna = Err(ReplicaError::MissingWorker(0));
+        assert_eq!(anna.leave_while(|| false), misses_anna);
+        assert_eq!(anna.submit(b"operate"), Err(ReplicaError::Ended));
+    }
+    assert_eq!(
+        (bert.hear(), anna.leave_while(|| false)),
+        (Ok(5), MISSES_BERT)
+    );
+    assert_eq!(bert.execute(b"operate").unwrap(), 5);
+    let leaves = thread::spawn(move || leaves_bit_by_bit(&mut bert));
+    leaves_bit_by_bit(&mut anna);
+    leaves.join().unwrap();
+    assert_eq!(applied(&anna), 6);
+}
+
+/// `into_state` without a leave, or in the middle of one, leaves as a drop does.
+#[test]
+fn a_state_may_be_taken_before_all_have_left() {
+    for leaves in [false, true] {
+        let (mut anna, mut bert) = two(16);
+        for _ in 0..5 {
+            anna.execute(b"operate").unwrap();
+        }
+        if leaves {
+            assert!(anna.leave_while(|| false).is_err());
+        }
+        let state = anna.into_state();
+        assert_eq!(state.applied.load(Ordering::SeqCst), 5);
+        assert_eq!((bert.leave(), applied(&bert)), (Ok(()), 5));
+    }
+    let (mut anna, bert) = two(129);
+    drop(bert);
+    anna.state.panics_at = Some(1);
+    anna.submit(b"x").unwrap();
+    anna.submit(b"y").unwrap();
+    assert!(panic::catch_unwind(AssertUnwindSafe(|| anna.leave())).is_err());
+    assert_eq!(anna.leave(), Err(ReplicaError::Poisoned));
+    assert_eq!(anna.into_state().applied.load(Ordering::SeqCst), 1);
+}
+
+struct Panics;
+
+impl Wake for Panics {
+    fn wake(self: Arc<Self>) {
+        panic!("asked to");
+    }
+}
+
+/// The answer that it has left is lost there, and is told by the next turn.
+#[test]
+fn a_further_leave_goes_on_where_a_waker_panics() {
+    let (mut anna, mut bert) = two(129);
+    let waker = Waker::from(Arc::new(Panics));
+    assert!(bert
+        .poll_applied(&mut Context::from_waker(&waker))
+        .is_pending());
+    let leaves = AssertUnwindSafe(|| anna.leave_while(|| false));
+    assert!(panic::catch_unwind(leaves).is_err());
+    assert_eq!(anna.leave_while(|| false), MISSES_BERT);
+    assert_eq!((bert.leave(), anna.leave()), (Ok(()), Ok(())));
 }
 
 struct Nobody;
