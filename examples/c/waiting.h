@@ -1,4 +1,4 @@
-/* Calls that wait, over kioskbasil.h, to be copied: no call of the library waits. That they end is
+/* Calls that wait, over kioskbasil.h, to be copied or installed: no call of the library waits. That they end is
    not promised. They are for Linux: with -std=c11 build with -D_POSIX_C_SOURCE=200809L too, or take
    -std=gnu11.
 
