@@ -1,6 +1,6 @@
-/* Calls that wait, over kioskbasil.h, to be copied or installed: no call of the library waits. That they end is
-   not promised. They are for Linux: with -std=c11 build with -D_POSIX_C_SOURCE=200809L too, or take
-   -std=gnu11.
+/* Calls that wait, over kioskbasil.h, to be copied or installed: no call of the library waits.
+   That they end is not promised. They are for Linux: with -std=c11 build with
+   -D_POSIX_C_SOURCE=200809L too, or take -std=gnu11.
 
    Each bus has a bell, which its threads share: a thread that waits sleeps until it rings. The calls
    below ring it. So all threads of a bus give them the same bell, or all give NULL: then
