@@ -1,5 +1,5 @@
 -- The cause of a fault, of a part of a call, is the cause of the whole.
-use Rattle.std.proofs.Common.{◌≡◌, ℕ, Bool, true, false, inl, inr, refl, sym, subst}
+use Rattle.std.proofs.Common.{◌≡◌, ℕ, Bool, true, false, inl, inr, refl, sym, subst, ap, ◌∙◌}
 use Rattle.std.specs.Prelude.{IfErr, Result, Ok, Err}
 use Rattle.bus_tenure.specs.declared.turns.Turn.{Turn}
 use Rattle.bus_tenure.specs.declared.turns.Turn.TheVariants as turn
@@ -11,7 +11,7 @@ use Rattle.bus_replica.specs.Causes.{WasAnswered, WasShut, HasEnded}
 use Rattle.bus_replica.specs.Causes.{IsCause, IsEndCause, SaysOn, SaysStop, SaidYes}
 use Rattle.bus_replica.specs.Causes.{Unasked}
 use Rattle.bus_replica.specs.Replicas.{Replicated, GoesOn, Here, WorksOn, Rests, HaveAllLeft}
-use Rattle.bus_replica.specs.Replicas.{PutsStayLeaving}
+use Rattle.bus_replica.specs.Replicas.{PutsStayLeaving, has_heard_leave}
 use Rattle.bus_replica.specs.declared.faults.Fault.{Fault}
 use Rattle.bus_replica.specs.declared.faults.Fault.TheVariants as fault
 use Rattle.bus_replica.proofs.GoingLaws.{ends_behind, ends_same}
@@ -139,6 +139,7 @@ module _ {C S : Type 0} (P : Process C) (T : Tellings C) (a b c d : Replicated C
     stops h.0,
     record {
       some = h.1.some;
+      missing = ap (λ (m : Sat C). has_heard_leave m.0 worker.0) same ∙ h.1.missing;
       first = subst (λ (m : Sat C). HaveAllLeft m.0 worker.0) (sym same) h.1.first;
     },
   )

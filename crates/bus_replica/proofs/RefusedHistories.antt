@@ -161,7 +161,7 @@ module _ (item : Item) (reader returned began : ℕ) (some : 0 < returned) where
   right_history = (item, 1) ∷ []
 
   -- the points of the two calls
-  point_at : ℕ → ℕ → ℕ
+  abbrev point_at : ℕ → ℕ → ℕ
   point_at shown zero = 1
   point_at shown (suc i) = 2 * shown
 

@@ -1,3 +1,4 @@
+use Rattle.std.proofs.Common.{◌∙◌}
 use Rattle.bus_replica.proofs.LeavingLaws.{left_more}
 use Rattle.bus_replica.proofs.hearers.Hearer.missing.Goals as goal
 

@@ -1,4 +1,4 @@
-use Rattle.std.proofs.Common.{ℕ, List, refl, subst}
+use Rattle.std.proofs.Common.{ℕ, List, refl, subst, rules}
 use Rattle.bus_deliverylog.specs.declared.receiving.RecvTurn.TheVariants as turn
 use Rattle.bus_replica.proofs.FoldLaws.{stands_last}
 use Rattle.bus_replica.proofs.LeavingLaws.{hearing_more, hearing_stays, hearing_leaves}
