@@ -1,0 +1,16 @@
+-- Words as bytes, and checksums.
+pub mod Words
+-- Records, one behind another: bytes have one longest list of them.
+pub mod Chunks
+-- The records of a log's frames.
+pub mod Frames
+-- From the records that were walked to the frames that are told.
+pub mod Walking
+-- Headers: bytes begin with one at most.
+pub mod HeaderLaws
+-- Tails that are less than a record.
+pub mod Shorts
+-- What answers of a journal are.
+pub mod AnswerLaws
+-- A journal of which the first bytes are left, with zeros behind.
+pub mod CutLaws
