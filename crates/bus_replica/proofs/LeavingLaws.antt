@@ -1,4 +1,5 @@
 -- Who was told to have left, after a turn of a receiver.
+use Rattle.std.proofs.Common.{zero, suc, replicate}
 use Rattle.std.proofs.Common.{◌≡◌, ℕ, ◌⊎◌, inl, inr, true, false, List, [], ◌∷◌, ◌++◌}
 use Rattle.std.proofs.Common.{refl, sym, ◌∙◌, ap, subst, arith, ◌+◌, ◌<◌, length, Bool}
 use Rattle.std.proofs.lemmas.Bool.{or_right, eq-eqb, ne_eqb, cases_eq, cases_lt}
@@ -20,6 +21,7 @@ use Rattle.bus_pageslot.specs.Rule.{Sat}
 use Rattle.bus_pageslot.specs.Steps.{Learns}
 use Rattle.bus_pageslot.specs.declared.rule.View.{View}
 use Rattle.bus_replica.specs.Replicas.{Operations, has_heard_leave, HaveAllLeft, HasHeardAll}
+use Rattle.bus_replica.specs.Replicas.{HasNobodyLeft}
 use Rattle.bus_replica.specs.Replicas.{GoesOn, IsFold, Replicated}
 use Rattle.bus_replica.specs.Turns.{IsHearing}
 use Rattle.bus_replica.proofs.GoingLaws.{goes_same}
@@ -78,6 +80,22 @@ noted_more old new s left g within gone = λ worker low. elim (cases_eq worker s
       (ap (λ b. b || false) (ne_eqb s.0 worker (λ e. other (sym e)))))
 ]
 
+-- where nobody has left, nobody is noted
+none_noted : (n worker : ℕ) → slice_index_or (replicate n false) worker false ≡ false
+none_noted zero zero = refl
+none_noted zero (suc worker) = refl
+none_noted (suc n) zero = refl
+none_noted (suc n) (suc worker) = none_noted n worker
+
+pub hearing_new : {C S A : Type 0} (IsFirst : S → Type 0) (Applies : Operations S A) (m : Sat C)
+    (state : S) (n : ℕ) (left : List Bool) → IsFold IsFirst Applies m.0 state → HasNobodyLeft m.0
+    → left ≡ replicate n false → IsHearing IsFirst Applies m.0 state left
+hearing_new IsFirst Applies m state n left fold nobody is = record {
+  fold = fold;
+  gone = λ worker low.
+      ap (λ z. slice_index_or z worker false) is ∙ none_noted n worker ∙ sym (nobody worker);
+}
+
 module _ {C S A : Type 0} (IsFirst : S → Type 0) (Applies : Operations S A) (old new : Sat C)
     (state : S) (left : List Bool) (h : IsHearing IsFirst Applies old.0 state left) where
   grown : (answer : RecvTurn) → Hears old answer new → HasGrown old (entry_heard answer) new
@@ -111,11 +129,13 @@ module _ {C S A : Type 0} (IsFirst : S → Type 0) (Applies : Operations S A) (o
   }
 
   -- a turn that found a leave mark, which is noted
-  pub hearing_leaves : (s : SenderNo) → s.0 < length left → Hears old (turn.Leave s) new
-      → IsHearing IsFirst Applies new.0 state (slice_set left s.0 true)
-  hearing_leaves s within hears = record {
+  pub hearing_leaves : (s : SenderNo) (n : ℕ) → n ≡ s.0 → s.0 < length left
+      → Hears old (turn.Leave s) new
+      → IsHearing IsFirst Applies new.0 state (slice_set left n true)
+  hearing_leaves s n same within hears = record {
     fold = fold_stays IsFirst Applies old new state (turn.Leave s) refl h.fold hears;
-    gone = noted_more old new s left (grown (turn.Leave s) hears) within h.gone;
+    gone = subst (λ k. AreNoted new.0 (slice_set left k true)) (sym same)
+        (noted_more old new s left (grown (turn.Leave s) hears) within h.gone);
   }
 
 -- one worker more

@@ -1,6 +1,8 @@
 //! A receiver, and the state that it applies to all that it hears.
 
 ghost use Rattle.std.specs.Prelude.{◌≡◌, ℕ, ◌<◌, IfOk, IfErr, IfSome, IfNone, false};
+ghost use Rattle.std.specs.Prelude.{replicate};
+ghost use Rattle.bus_replica.specs.declared.hearers.TheConstants.{NUMBERS};
 ghost use Rattle.bus_pageslot.specs.Rule.{receiver_view_in};
 ghost use Rattle.bus_pageslot.specs.Seats.{table_of};
 ghost use Rattle.bus_automaton.specs.ThreeWordBuses.{process};
@@ -33,6 +35,13 @@ pub enum Applied<A> {
     },
     /// The order has ended.
     End,
+}
+
+/// Nobody was heard to have left.
+fn nobody() -> [bool; NUMBERS]
+    ensures { result ≡ replicate NUMBERS false }
+{
+    [false; NUMBERS]
 }
 
 /// A receiver, and the state that it applies to all that it hears.
@@ -70,7 +79,7 @@ impl<S: State> Hearer<S> {
         Hearer {
             receiver,
             state,
-            left: [false; NUMBERS],
+            left: nobody(),
         }
     }
 

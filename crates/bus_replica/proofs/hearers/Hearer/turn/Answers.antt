@@ -24,7 +24,7 @@ pub invariant_of-self-in-Leave : goal.invariant_of-self-in-Leave
 invariant_of-self-in-Leave g c =
     hearing_leaves g.S.State.is_first g.S.State.applies c.self.inside.receiver.me
     c.turn.new.self.me c.self.inside.state c.self.inside.left c.self.invariant
-    c.in-Leave.sender (search rules) c.in-Leave.ensures.hears
+    c.in-Leave.sender c.from.result c.from.ensures (search rules) c.in-Leave.ensures.hears
 
 pub invariant_of-self-in-End : goal.invariant_of-self-in-End
 invariant_of-self-in-End g c =
