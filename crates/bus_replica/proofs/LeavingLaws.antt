@@ -4,7 +4,7 @@ use Rattle.std.proofs.Common.{◌≡◌, ℕ, ◌⊎◌, inl, inr, true, false, 
 use Rattle.std.proofs.Common.{refl, sym, ◌∙◌, ap, subst, arith, ◌+◌, ◌<◌, length, Bool}
 use Rattle.std.proofs.lemmas.Bool.{or_right, eq-eqb, ne_eqb, cases_eq, cases_lt}
 use Rattle.std.proofs.Math.Bool.{or-false}
-use Rattle.std.proofs.lemmas.List.{get_or-set_same, get_or-set_other, length-set}
+use Rattle.std.proofs.lemmas.List.{get_or-set_same, get_or-set_other, length-set, length-replicate}
 use Rattle.std.proofs.lemmas.List.Folds.{list_any-append}
 use Rattle.std.specs.Prelude.{◌||◌, Result, Ok, Err, OnOk, slice_set, slice_index_or}
 use Rattle.std.specs.List.{list_any}
@@ -24,6 +24,7 @@ use Rattle.bus_replica.specs.Replicas.{Operations, has_heard_leave, HaveAllLeft,
 use Rattle.bus_replica.specs.Replicas.{HasNobodyLeft}
 use Rattle.bus_replica.specs.Replicas.{GoesOn, IsFold, Replicated}
 use Rattle.bus_replica.specs.Turns.{IsHearing}
+use Rattle.bus_replica.specs.declared.hearers.TheConstants.{NUMBERS}
 use Rattle.bus_replica.proofs.GoingLaws.{goes_same}
 use Rattle.bus_replica.proofs.FoldLaws.{fold_more, fold_stays, fold_told}
 use Rattle.bus_replica.proofs.HearingLaws.{HasGrown, entries_heard, hears_grows, learns_grows}
@@ -88,12 +89,13 @@ none_noted (suc n) zero = refl
 none_noted (suc n) (suc worker) = none_noted n worker
 
 pub hearing_new : {C S A : Type 0} (IsFirst : S → Type 0) (Applies : Operations S A) (m : Sat C)
-    (state : S) (n : ℕ) (left : List Bool) → IsFold IsFirst Applies m.0 state → HasNobodyLeft m.0
-    → left ≡ replicate n false → IsHearing IsFirst Applies m.0 state left
-hearing_new IsFirst Applies m state n left fold nobody is = record {
+    (state : S) (left : List Bool) → IsFold IsFirst Applies m.0 state → HasNobodyLeft m.0
+    → left ≡ replicate NUMBERS false → IsHearing IsFirst Applies m.0 state left
+hearing_new IsFirst Applies m state left fold nobody is = record {
   fold = fold;
+  long = ap length is ∙ length-replicate NUMBERS false;
   gone = λ worker low.
-      ap (λ z. slice_index_or z worker false) is ∙ none_noted n worker ∙ sym (nobody worker);
+      ap (λ z. slice_index_or z worker false) is ∙ none_noted NUMBERS worker ∙ sym (nobody worker);
 }
 
 module _ {C S A : Type 0} (IsFirst : S → Type 0) (Applies : Operations S A) (old new : Sat C)
@@ -107,6 +109,7 @@ module _ {C S A : Type 0} (IsFirst : S → Type 0) (Applies : Operations S A) (o
       → IsHearing IsFirst Applies new.0 now left
   hearing_more now item answer hears applied = record {
     fold = fold_more IsFirst Applies old new state now item answer h.fold hears applied;
+    long = h.long;
     gone = noted_same old new (Says item ∷ []) left (grown (turn.Item item) hears) (λ worker. refl)
         h.gone;
   }
@@ -116,6 +119,7 @@ module _ {C S A : Type 0} (IsFirst : S → Type 0) (Applies : Operations S A) (o
       → IsHearing IsFirst Applies new.0 state left
   hearing_stays answer none hears = record {
     fold = fold_stays IsFirst Applies old new state answer (ap items_in none) h.fold hears;
+    long = h.long;
     gone = noted_same old new (entry_heard answer) left (grown answer hears)
         (λ worker. ap (list_any (is_leave_of worker)) none) h.gone;
   }
@@ -124,6 +128,7 @@ module _ {C S A : Type 0} (IsFirst : S → Type 0) (Applies : Operations S A) (o
   pub hearing_told : (got : ℕ) → Learns old got new → IsHearing IsFirst Applies new.0 state left
   hearing_told got learns = record {
     fold = fold_told IsFirst Applies old new state got h.fold learns;
+    long = h.long;
     gone = noted_same old new [] left
         (learns_grows old got new h.fold.heard h.fold.within learns) (λ worker. refl) h.gone;
   }
@@ -134,6 +139,7 @@ module _ {C S A : Type 0} (IsFirst : S → Type 0) (Applies : Operations S A) (o
       → IsHearing IsFirst Applies new.0 state (slice_set left n true)
   hearing_leaves s n same within hears = record {
     fold = fold_stays IsFirst Applies old new state (turn.Leave s) refl h.fold hears;
+    long = length-set left n true ∙ h.long;
     gone = subst (λ k. AreNoted new.0 (slice_set left k true)) (sym same)
         (noted_more old new s left (grown (turn.Leave s) hears) within h.gone);
   }

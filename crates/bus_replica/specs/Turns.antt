@@ -6,6 +6,7 @@ use Rattle.bus_pageslot.specs.Listening.{Hears}
 use Rattle.bus_pageslot.specs.declared.rule.View.{View}
 use Rattle.bus_replica.specs.Replicas.{Operations, Hearing, IsFold, StandsLast, has_heard_leave}
 use Rattle.bus_replica.specs.declared.hearers.Applied.{Applied}
+use Rattle.bus_replica.specs.declared.hearers.TheConstants.{NUMBERS}
 use Rattle.bus_replica.specs.declared.hearers.Applied.TheVariants as applied
 
 -- what it makes of an answer of its receiver, and what it tells
@@ -24,6 +25,7 @@ Makes Applies old turn.End told new = (told ≡ applied.End) × (new ≡ old)
 pub record IsHearing {C S A : Type 0} (IsFirst : S → Type 0) (Applies : Operations S A)
     (v : View C) (state : S) (left : List Bool) : Type 0 where
   pub fold : IsFold IsFirst Applies v state
+  pub long : length left ≡ NUMBERS
   pub gone : (worker : ℕ) → worker < length left
       → slice_index_or left worker false ≡ has_heard_leave v worker
 

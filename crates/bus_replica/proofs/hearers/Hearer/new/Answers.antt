@@ -3,5 +3,5 @@ use Rattle.bus_replica.proofs.hearers.Hearer.new.Goals as goal
 
 pub invariant_of-result : goal.invariant_of-result
 invariant_of-result g c =
-    hearing_new g.S.State.is_first g.S.State.applies c.args.receiver.me c.args.state 256
+    hearing_new g.S.State.is_first g.S.State.applies c.args.receiver.me c.args.state
     c.nobody.result c.requires.fold c.requires.nobody c.nobody.ensures
