@@ -1,3 +1,4 @@
+use Rattle.std.proofs.Common.{List, [], ◌∷◌, refl}
 use Rattle.example_ledger.proofs.Outcomes.{functions}
 use Rattle.example_ledger.proofs.ledgers_are_linearizable.Goals as goal
 
