@@ -11,7 +11,8 @@ use crate::records::head_count;
 pub enum JournalEnd {
     /// Nothing stands behind the last whole record.
     Whole,
-    /// A tail that was cut off or never written out.
+    /// Less than a record, and zeros: a tail that was cut off or never written out, or damage of a
+    /// head that looks so.
     Torn,
     /// Any other tail.
     Damaged,

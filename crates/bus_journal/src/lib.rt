@@ -8,9 +8,7 @@
 //! push_header(&mut bytes, &Header { senders: 2, most: 16, place: 0, first })?;
 //! let frame = [0x4000_0200_0000_0000, 0x8040_0000_0000_0000, 0x6100_0000_0000_0000];
 //! push_record(&mut bytes, 0, &frame)?;
-//! let Ok(read) = read_journal(rt.alloc(), &bytes) else {
-//!     return Err(fail);
-//! };
+//! let read = read_journal(rt.alloc(), &bytes)?;
 //! assert_eq!(rt; read.log.order.items[0].message.as_slice(), b"a".as_slice());
 //! assert_eq!(rt; read.end, JournalEnd::Whole);
 //! ```
