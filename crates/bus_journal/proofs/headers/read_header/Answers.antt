@@ -3,9 +3,6 @@ use Rattle.std.proofs.Common.{refl, ◌∙◌, arith, All}
 use Rattle.bus_journal.specs.Format.{word_bytes, words_bytes, checksum, header_bytes}
 use Rattle.bus_journal.proofs.HeaderLaws.{damaged_sum, damaged_numbers, is_header}
 use Rattle.bus_journal.proofs.headers.read_header.Goals as goal
-use Rattle.bus_journal.proofs.headers.read_header.Goals.{then-most-eq0-via-then-most-eq0}
-use Rattle.bus_journal.proofs.headers.read_header.Goals.{then-most-eq0-via-else-most-eq0+then-most-gt-MOST_BATCH}
-use Rattle.bus_journal.proofs.headers.read_header.Goals.{then-most-eq0-via-else-most-eq0+else-most-gt-MOST_BATCH+then-place-ge-PLACES}
 
 pub returns-then-not-are_same-clause-refused : goal.returns-then-not-are_same-clause-refused
 returns-then-not-are_same-clause-refused c =
@@ -26,10 +23,11 @@ returns-then-most-eq0-clause-refused c =
     (subst (λ z. z ≡ word_bytes most ++ drop 8 z) words c.in-Some-Some.ensures.some)
     (subst (λ z. z ≡ word_bytes place ++ drop 8 z) numbers c.in-Some-Some.ensures'.some)
     (λ some few low. elim c.then-most-eq0.branch [
-      | then-most-eq0-via-then-most-eq0 w ↦ (let is = w.if-most-eq0.true in absurd (omega arith))
-      | then-most-eq0-via-else-most-eq0+then-most-gt-MOST_BATCH w ↦
+      | goal.then-most-eq0-via-then-most-eq0 w ↦
+          (let is = w.if-most-eq0.true in absurd (omega arith))
+      | goal.then-most-eq0-via-else-most-eq0+then-most-gt-MOST_BATCH w ↦
           (let past = w.if-most-gt-MOST_BATCH.true in absurd (omega arith))
-      | then-most-eq0-via-else-most-eq0+else-most-gt-MOST_BATCH+then-place-ge-PLACES w ↦
+      | goal.then-most-eq0-via-else-most-eq0+else-most-gt-MOST_BATCH+then-place-ge-PLACES w ↦
           (let past = w.if-place-ge-PLACES.true in absurd (omega arith))
     ])
 

@@ -4,8 +4,6 @@ use Rattle.bus_journal.proofs.HeaderLaws.{other_magic, torn_early, begins_as, ve
 use Rattle.bus_journal.proofs.HeaderLaws.{torn_behind_version, senders_parts, damaged_senders}
 use Rattle.bus_journal.proofs.HeaderLaws.{torn_behind_senders}
 use Rattle.bus_journal.proofs.headers.senders_of.Goals as goal
-use Rattle.bus_journal.proofs.headers.senders_of.Goals.{then-senders-eq0-via-then-senders-eq0}
-use Rattle.bus_journal.proofs.headers.senders_of.Goals.{then-senders-eq0-via-else-senders-eq0+then-senders}
 
 pub returns-then-not-are_same-clause-refused : goal.returns-then-not-are_same-clause-refused
 unfolding magic
@@ -63,9 +61,9 @@ returns-then-senders-eq0-clause-refused c =
     c.in-Some.ensures.some c.if-version-ne-VERSION.false c.split_at-2.ensures.back
     c.in-Some-first_word.ensures.some)
     (λ some few. elim c.then-senders-eq0.branch [
-      | then-senders-eq0-via-then-senders-eq0 w ↦
+      | goal.then-senders-eq0-via-then-senders-eq0 w ↦
           (let is = w.if-senders-eq0.true in absurd (omega arith))
-      | then-senders-eq0-via-else-senders-eq0+then-senders w ↦
+      | goal.then-senders-eq0-via-else-senders-eq0+then-senders w ↦
           (let past = w.if-senders.true in absurd (omega arith))
     ])
 

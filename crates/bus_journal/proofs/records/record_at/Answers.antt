@@ -2,8 +2,6 @@ use Rattle.std.proofs.Common.{◌++◌, take, ap, sym, refl, ◌∙◌, arith}
 use Rattle.bus_journal.specs.Format.{word_bytes, checksum}
 use Rattle.bus_journal.proofs.Chunks.{counted, long_enough, sum_there, begins_with}
 use Rattle.bus_journal.proofs.records.record_at.Goals as goal
-use Rattle.bus_journal.proofs.records.record_at.Goals.{then-count-room-via-then-count-room}
-use Rattle.bus_journal.proofs.records.record_at.Goals.{then-count-room-via-else-count-room+then-bytes-count}
 
 pub returns-then-count-room-clause-none : goal.returns-then-count-room-clause-none
 returns-then-count-room-clause-none c words rest chunk e =
@@ -11,8 +9,9 @@ returns-then-count-room-clause-none c words rest chunk e =
     words rest c.in_ok-count.ensures.some chunk e in
     let long = long_enough c.args.place c.args.bytes.now words rest e in
     elim c.then-count-room.branch [
-      | then-count-room-via-then-count-room w ↦ (let past = w.if-count-room.true in omega arith)
-      | then-count-room-via-else-count-room+then-bytes-count w ↦
+      | goal.then-count-room-via-then-count-room w ↦
+          (let past = w.if-count-room.true in omega arith)
+      | goal.then-count-room-via-else-count-room+then-bytes-count w ↦
           (let short = w.if-bytes-count.true in absurd (omega arith))
     ]
 
