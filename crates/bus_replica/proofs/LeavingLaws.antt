@@ -1,6 +1,6 @@
 -- Who was told to have left, after a turn of a receiver.
 use Rattle.std.proofs.Common.{zero, suc, replicate}
-use Rattle.std.proofs.Common.{◌≡◌, ℕ, ◌⊎◌, inl, inr, true, false, List, [], ◌∷◌, ◌++◌}
+use Rattle.std.proofs.Common.{◌≡◌, ℕ, inl, inr, true, false, List, [], ◌∷◌}
 use Rattle.std.proofs.Common.{refl, sym, ◌∙◌, ap, subst, arith, ◌+◌, ◌<◌, length, Bool}
 use Rattle.std.proofs.lemmas.Bool.{or_right, eq-eqb, ne_eqb, cases_eq, cases_lt}
 use Rattle.std.proofs.Math.Bool.{or-false}

@@ -1,3 +1,5 @@
+-- A batch that takes messages, after one of them.
+pub mod BatchLaws
 -- The cause of a fault, of a part of a call, is the cause of the whole.
 pub mod CauseLaws
 -- Who was answered that all workers have left was given the whole order.
@@ -18,6 +20,13 @@ pub mod LaterLaws
 pub mod LeavingLaws
 -- What a call executed stands behind all that was in the order when it began.
 pub mod LinearLaws
+-- What pieces of long operations come to in a state of these: the fold of the operations that are
+-- whole, and of each worker what it has begun.
+pub mod LongLaws
+-- What is linearizable over the pieces of long operations is so over these.
+pub mod LongOrders
+-- Long operations of replicas, by tables that threads go by.
+pub mod LongTables
 -- What two pages of promises, and machines that play events, tell of executions and reads.
 pub mod MachineLaws
 -- The replicas of a bus that is new, paired off one by one.

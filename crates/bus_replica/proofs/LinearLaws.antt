@@ -26,7 +26,7 @@ use Rattle.bus_pageslot.specs.Turns.{Tellings}
 use Rattle.bus_pageslot.specs.declared.rule.View.{View}
 use Rattle.bus_pageslot.specs.declared.rule.View.TheVariants.{Maker, Sender, Tap, Meeting, Telling}
 use Rattle.bus_pageslot.specs.declared.rule.View.TheVariants.{Spent}
-use Rattle.bus_replica.specs.Replicas.{Operations, StandsLast, PutsMore, Replicated, has_view}
+use Rattle.bus_replica.specs.Replicas.{Operations, StandsLast, PutsAll, Replicated, has_view}
 use Rattle.bus_replica.specs.Replicas.{items_heard}
 use Rattle.bus_replica.specs.Linearized.{PageOf, SitsAt, IsLinearized}
 use Rattle.bus_replica.specs.Moments.{EndsWith}
@@ -137,14 +137,15 @@ pub linearized : {C S A : Type 0} (IsFirst : S → Type 0) (Applies : Operations
     (T : Tellings C) (x : TableLayout) (base : ℕ → ℕ) (log later : List ℕ)
     (s t : State (Option Page) (View C))
     (h : IsPromised P x base log s) (k : IsPromised P x base later t) → IsPrefix log later
-    → (old new : SenderSeat C) (worker number : ℕ) (bytes : List ℕ)
+    → (old new : SenderSeat C) (worker number : ℕ) (front : List (List ℕ)) (bytes : List ℕ)
     → IsSeated P base s old worker → IsSeated P base t new worker
-    → PutsMore P T old new number bytes → (j : ℕ) (w : View C) (state : S) (answer : A)
+    → PutsAll P T old new number (front ++ bytes ∷ [])
+    → (j : ℕ) (w : View C) (state : S) (answer : A)
     → get_elem? t.views j ≡ some w → has_view w ≡ true
     → StandsLast IsFirst Applies w state worker number answer
     → IsLinearized IsFirst Applies h.order k.order worker number bytes answer state
-linearized IsFirst Applies P T x base log later s t h k on old new worker number bytes sits sits'
-    put j w state answer at has last =
+linearized IsFirst Applies P T x base log later s t h k on old new worker number front bytes sits
+    sits' put j w state answer at has last =
     let answers = (receiver_view_in w).answers in
     let page = h.promises (λ r. []) (λ r. inl refl) in
     let page' = k.promises (λ r. answers) (λ r. inr (j, w, at, shows_own w has)) in
@@ -153,15 +154,19 @@ linearized IsFirst Applies P T x base log later s t h k on old new worker number
     let more = has_put_all P x base log s h old worker sits in
     let counted = put.number_is in
     let first = sits.first in
+    let before = puts (actions_of P old) in
+    let many = length-append front (bytes ∷ []) in
+    let long = length-append before front in
     performed IsFirst Applies h.order k.order (items_on P x base log later s t h k on) worker
     (base worker) (page'.faithful.numbered worker) (puts (actions_of P new))
-    (puts (actions_of P old)) [] number bytes
+    (before ++ front) [] number bytes
     (subst (λ p. IsPrefix (map (λ (i : Item). i.message) (of_sender p k.order))
     (puts (actions_of P new))) sits'.me
     (puts_on P x base later t k sits'.place new sits'.core sits'.trail sits'.notes sits'.at
     sits'.shows))
-    put.puts_are (omega (arith, counted, first)) (omega (arith, few, more)) (items_heard w) state
-    answer (items_begin answers answers k.order (page'.delivered 0))
+    (put.puts_are ∙ sym (append_assoc before front (bytes ∷ [])))
+    (omega (arith, counted, first, many, long)) (omega (arith, few, more, long)) (items_heard w)
+    state answer (items_begin answers answers k.order (page'.delivered 0))
     (record {
       first = last.first;
       begins = last.begins;
@@ -186,7 +191,7 @@ accepts_me P laws c _ _ (Marks d actions mark before can) =
     (laws.marked d mark).me ∙ accepts_me P laws c d actions before
 
 -- whoever sits at a table of which the rule holds begins with the number of the sitting
-seated : {C : Type 0} (P : Process C) (A : Automaton C) → ProcessLaws P → AutomatonLaws P A
+pub seated : {C : Type 0} (P : Process C) (A : Automaton C) → ProcessLaws P → AutomatonLaws P A
     → (s : State (Option Page) (View C)) → TableInvariant P A s → (seat : SenderSeat C)
     → SitsAt P s seat → IsSeated P (base_in A) s seat (P.me seat.core)
 seated {C} P A laws lawful s r seat sits =
@@ -231,17 +236,17 @@ given_some Spent before item e = absurd (none_given before item e)
 pub executed : {C S A : Type 0} (IsFirst : S → Type 0) (Applies : Operations S A) (P : Process C)
     (T : Tellings C) (Bus : Automaton C) → ProcessLaws P → AutomatonLaws P Bus
     → (s t : RuledTable P Bus) (h : PageOf s) (k : PageOf t) → IsPrefix (published s) (published t)
-    → (old new : Replicated C S) (number : ℕ) (bytes : List ℕ) (answer : A) (j : ℕ)
-    → SitsAt P s.table old.sender → SitsAt P t.table new.sender
+    → (old new : Replicated C S) (number : ℕ) (front : List (List ℕ)) (bytes : List ℕ)
+    (answer : A) (j : ℕ) → SitsAt P s.table old.sender → SitsAt P t.table new.sender
     → get_elem? t.table.views j ≡ some new.me.0
-    → PutsMore P T old.sender new.sender number bytes
+    → PutsAll P T old.sender new.sender number (front ++ bytes ∷ [])
     → StandsLast IsFirst Applies new.me.0 new.state (P.me old.sender.core) number answer
     → IsLinearized IsFirst Applies h.order k.order (P.me old.sender.core) number bytes answer
     new.state
-executed {C} IsFirst Applies P T Bus laws lawful s t h k on old new number bytes answer j sits sits'
-    at put last =
+executed {C} IsFirst Applies P T Bus laws lawful s t h k on old new number front bytes answer j sits
+    sits' at put last =
     linearized IsFirst Applies P T Bus.table_layout (base_in Bus) (published s) (published t)
-    s.table t.table h k on old.sender new.sender (P.me old.sender.core) number bytes
+    s.table t.table h k on old.sender new.sender (P.me old.sender.core) number front bytes
     (seated P Bus laws lawful s.table s.rule old.sender sits)
     (subst (λ w. IsSeated P (base_in Bus) t.table new.sender w) put.me_is
     (seated P Bus laws lawful t.table t.rule new.sender sits'))

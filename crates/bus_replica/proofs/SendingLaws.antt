@@ -1,6 +1,7 @@
 -- What a sender has put stays what it has put, by the same numbers, whatever else it does.
 use Rattle.std.proofs.Common.{◌≡◌, ℕ, ◌+◌, Bool, true, false, List, [], ◌∷◌, ◌++◌, length, Option}
-use Rattle.std.proofs.Common.{Some, None, inl, inr, refl, sym, ◌∙◌, ap, subst}
+use Rattle.std.proofs.Common.{Some, None, inl, inr, refl, sym, ◌∙◌, ap, subst, append_assoc}
+use Rattle.std.proofs.Common.{arith}
 use Rattle.std.specs.Prelude.{IfSome, IfNone, IfOk, Result, Ok, Err, OnErr, OnOk}
 use Rattle.atomic_table.specs.declared.shared.Seat.{Seat}
 use Rattle.bus_batch.specs.Batches.{CanPut, CanClose, next_of}
@@ -13,7 +14,7 @@ use Rattle.bus_tenure.specs.declared.pages.Page.{Page}
 use Rattle.bus_tenure.specs.declared.turns.Turn.{Turn}
 use Rattle.bus_world.specs.Headline.{HasPut, HasMarked, puts, put_of}
 use Rattle.std.proofs.lemmas.Grind.{flat_map-append}
-use Rattle.std.proofs.lemmas.List.{append-nil}
+use Rattle.std.proofs.lemmas.List.{append-nil, length-append}
 use Rattle.bus_automaton.specs.Processes.{Process, Automaton}
 use Rattle.bus_automaton.specs.SenderTrails.{SenderTrail}
 use Rattle.bus_automaton.specs.declared.plans.Plan.{Plan}
@@ -28,9 +29,9 @@ use Rattle.bus_pageslot.specs.Turns.{Tellings, Turned, AsksOn, Begins, Goes, Ask
 use Rattle.bus_pageslot.specs.Turns.{StopsWaiting}
 use Rattle.bus_pageslot.specs.declared.rule.View.{View}
 use Rattle.bus_replica.specs.Causes.{WasAnswered}
-use Rattle.bus_replica.specs.Replicas.{PutsMore, PutsStay, PutsAtMostOnce, WorksOn, Rests, Turns}
-use Rattle.bus_replica.specs.Replicas.{Puts, PutsStayLeaving, Leaves, Looks, Operations, Replicated}
-use Rattle.bus_replica.specs.Replicas.{StandsLast}
+use Rattle.bus_replica.specs.Replicas.{PutsAll, PutsMore, PutsStay, PutsAllOrNone, WorksOn, Rests}
+use Rattle.bus_replica.specs.Replicas.{Turns, Puts, PutsStayLeaving, Leaves, Looks, Operations}
+use Rattle.bus_replica.specs.Replicas.{Replicated, StandsLast}
 
 -- ---- what a sender does, one after another
 pub works_trans : {C : Type 0} (P : Process C) (T : Tellings C) (leaves : Bool)
@@ -209,7 +210,7 @@ puts_one P T old new number bytes can core seat next action counts same = record
   puts_are =
       ap puts action ∙ flat_map-append put_of (actions_of P old) (HasPut number bytes ∷ []);
   first_is = same.first;
-  number_is = counts;
+  number_is = omega (arith, counts);
   me_is = same.me;
   works = Puts old bytes new Rests (record {
     could = can;
@@ -236,28 +237,50 @@ put_more P T (Err e) old new bytes can core seat next action counts same = tt
 
 -- behind what was done before, and before what is done behind it
 pub stays_more : {C : Type 0} (P : Process C) (T : Tellings C) (first old new : SenderSeat C)
-    (number : ℕ) (bytes : List ℕ) → PutsStay P T first old → PutsMore P T old new number bytes
-    → PutsMore P T first new number bytes
-stays_more P T first old new number bytes stays more = record {
-  puts_are = more.puts_are ∙ ap (λ z. z ++ bytes ∷ []) stays.puts_are;
+    (number : ℕ) (messages : List (List ℕ)) → PutsStay P T first old
+    → PutsAll P T old new number messages → PutsAll P T first new number messages
+stays_more P T first old new number messages stays more = record {
+  puts_are = more.puts_are ∙ ap (λ z. z ++ messages) stays.puts_are;
   first_is = more.first_is ∙ stays.first_is;
   number_is =
-      more.number_is ∙ ap (λ z. z + length (puts (actions_of P old))) stays.first_is
-      ∙ ap (λ z. first_number_of P first + length z) stays.puts_are;
+      more.number_is
+      ∙ ap (λ z. z + length (puts (actions_of P old)) + length messages) stays.first_is
+      ∙ ap (λ z. first_number_of P first + length z + length messages) stays.puts_are;
   me_is = more.me_is ∙ stays.me_is;
   works = works_trans P T false first old new stays.works more.works;
 }
 
 pub more_stays : {C : Type 0} (P : Process C) (T : Tellings C) (first old new : SenderSeat C)
-    (number : ℕ) (bytes : List ℕ) → PutsMore P T first old number bytes → PutsStay P T old new
-    → PutsMore P T first new number bytes
-more_stays P T first old new number bytes more stays = record {
+    (number : ℕ) (messages : List (List ℕ)) → PutsAll P T first old number messages
+    → PutsStay P T old new → PutsAll P T first new number messages
+more_stays P T first old new number messages more stays = record {
   puts_are = stays.puts_are ∙ more.puts_are;
   first_is = stays.first_is ∙ more.first_is;
   number_is = more.number_is;
   me_is = stays.me_is ∙ more.me_is;
   works = works_trans P T false first old new more.works stays.works;
 }
+
+-- one put behind others
+pub more_on : {C : Type 0} (P : Process C) (T : Tellings C) (first old new : SenderSeat C)
+    (n number : ℕ) (messages : List (List ℕ)) (bytes : List ℕ)
+    → PutsAll P T first old n messages → PutsMore P T old new number bytes
+    → PutsAll P T first new number (messages ++ bytes ∷ [])
+more_on P T first old new n number messages bytes before more =
+    let put = before.puts_are in
+    let all = length-append (puts (actions_of P first)) messages in
+    let long = ap length put in
+    let both = length-append messages (bytes ∷ []) in
+    let start = before.first_is in
+    let number_is = more.number_is in
+    record {
+      puts_are = more.puts_are ∙ ap (λ z. z ++ bytes ∷ []) put
+          ∙ append_assoc (puts (actions_of P first)) messages (bytes ∷ []);
+      first_is = more.first_is ∙ start;
+      number_is = omega (arith, number_is, start, long, all, both);
+      me_is = more.me_is ∙ before.me_is;
+      works = works_trans P T false first old new before.works more.works;
+    }
 
 -- what a refused put or mark leaves
 same_seat : {C : Type 0} (old new : SenderSeat C) → new.core ≡ old.core → new.seat ≡ old.seat
@@ -332,43 +355,45 @@ pub refused_settled : {C V E : Type 0} (P : Process C) (T : Tellings C)
 refused_settled P T first old new (Ok x) behind stays = tt
 refused_settled P T first old new (Err e) behind stays = stay_on P T first old new stays behind
 
--- an operation that was put or not, with what follows it
+-- operations that were put or not, with what follows it
 once_stays : {C : Type 0} (P : Process C) (T : Tellings C) (first old new : SenderSeat C)
-    (bytes : List ℕ) → PutsAtMostOnce P T first old bytes → PutsStay P T old new
-    → PutsAtMostOnce P T first new bytes
-once_stays P T first old new bytes (inl stays) behind = inl (stay_on P T first old new stays behind)
-once_stays P T first old new bytes (inr more) behind =
-    inr (more.0, more_stays P T first old new more.0 bytes more.1 behind)
+    (messages : List (List ℕ)) → PutsAllOrNone P T first old messages → PutsStay P T old new
+    → PutsAllOrNone P T first new messages
+once_stays P T first old new messages (inl stays) behind =
+    inl (stay_on P T first old new stays behind)
+once_stays P T first old new messages (inr more) behind =
+    inr (more.0, more_stays P T first old new more.0 messages more.1 behind)
 
 pub once_settled : {C V E : Type 0} (P : Process C) (T : Tellings C) (first old new : SenderSeat C)
-    (bytes : List ℕ) (result : Result V E) → PutsStay P T old new
-    → OnErr result (PutsAtMostOnce P T first old bytes)
-    → OnErr result (PutsAtMostOnce P T first new bytes)
-once_settled P T first old new bytes (Ok x) behind once = tt
-once_settled P T first old new bytes (Err e) behind once =
-    once_stays P T first old new bytes once behind
+    (messages : List (List ℕ)) (result : Result V E) → PutsStay P T old new
+    → OnErr result (PutsAllOrNone P T first old messages)
+    → OnErr result (PutsAllOrNone P T first new messages)
+once_settled P T first old new messages (Ok x) behind once = tt
+once_settled P T first old new messages (Err e) behind once =
+    once_stays P T first old new messages once behind
 
--- a put, with what follows it
+-- puts, with what follows them
 pub put_settled : {C E : Type 0} (P : Process C) (T : Tellings C) (first old new : SenderSeat C)
-    (bytes : List ℕ) (result : Result ℕ E) → PutsStay P T old new
-    → IfOk result (λ number. PutsMore P T first old number bytes)
-    → IfOk result (λ number. PutsMore P T first new number bytes)
-put_settled P T first old new bytes (Ok number) stays more =
-    more_stays P T first old new number bytes more stays
-put_settled P T first old new bytes (Err e) stays more = tt
+    (messages : List (List ℕ)) (result : Result ℕ E) → PutsStay P T old new
+    → IfOk result (λ number. PutsAll P T first old number messages)
+    → IfOk result (λ number. PutsAll P T first new number messages)
+put_settled P T first old new messages (Ok number) stays more =
+    more_stays P T first old new number messages more stays
+put_settled P T first old new messages (Err e) stays more = tt
 
 -- an execution, with what follows it
 pub executed_settled : {C S A E : Type 0} (IsFirst : S → Type 0) (Applies : Operations S A)
-    (P : Process C) (T : Tellings C) (a c d : Replicated C S) (bytes : List ℕ) (worker : ℕ)
-    (result : Result A E) → PutsStay P T c.sender d.sender → d.me ≡ c.me → d.state ≡ c.state
-    → IfOk result (λ answer. (x : ℕ) × PutsMore P T a.sender c.sender x bytes
+    (P : Process C) (T : Tellings C) (a c d : Replicated C S) (messages : List (List ℕ))
+    (worker : ℕ) (result : Result A E) → PutsStay P T c.sender d.sender → d.me ≡ c.me
+    → d.state ≡ c.state
+    → IfOk result (λ answer. (x : ℕ) × PutsAll P T a.sender c.sender x messages
     × StandsLast IsFirst Applies c.me.0 c.state worker x answer)
-    → IfOk result (λ answer. (x : ℕ) × PutsMore P T a.sender d.sender x bytes
+    → IfOk result (λ answer. (x : ℕ) × PutsAll P T a.sender d.sender x messages
     × StandsLast IsFirst Applies d.me.0 d.state worker x answer)
-executed_settled {C} IsFirst Applies P T a c d bytes worker (Ok answer) stays me state h = (
+executed_settled {C} IsFirst Applies P T a c d messages worker (Ok answer) stays me state h = (
   h.0,
-  more_stays P T a.sender c.sender d.sender h.0 bytes h.1 stays,
+  more_stays P T a.sender c.sender d.sender h.0 messages h.1 stays,
   subst (λ (m : Sat C). StandsLast IsFirst Applies m.0 d.state worker h.0 answer) (sym me)
       (subst (λ z. StandsLast IsFirst Applies c.me.0 z worker h.0 answer) (sym state) h.2),
 )
-executed_settled IsFirst Applies P T a c d bytes worker (Err e) stays me state h = tt
+executed_settled IsFirst Applies P T a c d messages worker (Err e) stays me state h = tt

@@ -1,5 +1,5 @@
 -- Histories of replicas, by tables that threads go by.
-use Rattle.std.proofs.Common.{ℕ, List, subst}
+use Rattle.std.proofs.Common.{ℕ, List, subst, []}
 use Rattle.bus_batch.specs.Frames.{items_in}
 use Rattle.bus_world.specs.Headline.{IsPrefix}
 use Rattle.bus_automaton.specs.Lawful.{ProcessLaws, AutomatonLaws}
@@ -24,7 +24,7 @@ module _ {C S A : Type 0} (IsFirst : S → Type 0) (Applies : Operations S A) (P
       → IsDoneBetween IsFirst Applies s.page.order t.page.order worker did
   done_on s t on worker (Executed number bytes answer) h =
       let l = executed IsFirst Applies P T Bus laws lawful s.here t.here s.page t.page on h.old
-      h.new number bytes answer h.seat h.sits h.sits_still h.at h.puts h.ends in (
+      h.new number [] bytes answer h.seat h.sits h.sits_still h.at h.puts h.ends in (
         h.new.state,
         subst
             (λ w. IsLinearized IsFirst Applies s.page.order t.page.order w number bytes answer

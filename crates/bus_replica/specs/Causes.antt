@@ -2,7 +2,9 @@
 use Rattle.std.specs.Prelude.{◌≡◌, ◌⊎◌, ℕ, ◌<◌, Bool, true, false, None, Result, Err}
 use Rattle.bus_adoptcommit.specs.ThreeWord.{kind_at, op_of, fed_of}
 use Rattle.bus_adoptcommit.specs.ThreeWordKeeps.{three_word}
-use Rattle.bus_batch.specs.Batches.{IsShut}
+use Rattle.bus_batch.specs.Batches.{IsShut, Pending}
+use Rattle.bus_batch.specs.declared.batches.PutFault.{PutFault}
+use Rattle.bus_batch.specs.declared.batches.PutFault.TheVariants as put
 use Rattle.bus_deliverylog.specs.declared.receiving.RecvTurn.TheVariants as recv
 use Rattle.bus_tenure.specs.declared.turns.Turn.{Turn}
 use Rattle.bus_tenure.specs.declared.turns.Turn.TheVariants as turn
@@ -83,6 +85,13 @@ IsCause P T Long Stops old new fault.Spent =
     WasAnswered P T false old.sender turn.Spent new.sender
 IsCause P T Long Stops old new fault.Stopped = Stops
 IsCause P T Long Stops old new (fault.MissingWorker worker) = ⊥
+
+-- why a batch takes no messages that are short: it is shut, or has no room for them now
+abbrev pub RefusesPut : Pending → PutFault → Type 0
+RefusesPut b put.Closed = IsShut b
+RefusesPut b put.Busy = Unit {0}
+RefusesPut b put.TooLong = ⊥
+RefusesPut b put.BatchFull = Unit {0}
 
 -- Of the call that finishes, of so many workers. It was told to stop before it was answered that
 -- this worker has left, and of those before it it was.

@@ -3,6 +3,7 @@ pub mod Turns
 pub mod Causes
 pub mod OneOrder
 pub mod Linearized
+pub mod Longs
 pub mod Histories
 pub mod Moments
 pub mod Openings

@@ -2,7 +2,8 @@
 use Rattle.std.specs.Prelude.{◌≡◌, ◌⊎◌, ℕ, ◌+◌, ◌<◌, ◌≤◌, Bool, true, false, List, []}
 use Rattle.std.specs.Prelude.{◌∷◌, ◌++◌, length, flat_map}
 use Rattle.bus_batch.specs.declared.messages.Item.{Item}
-use Rattle.bus_batch.specs.Batches.{CanClose}
+use Rattle.bus_batch.specs.Batches.{CanClose, Pending}
+use Rattle.bus_batch.specs.declared.batches.Phase.TheVariants.{Open}
 use Rattle.bus_batch.specs.Frames.{has_gone}
 use Rattle.bus_pageslot.specs.Buses.{BusId}
 use Rattle.bus_pageslot.specs.Rule.{Sat, receiver_view_in, known_in}
@@ -170,15 +171,21 @@ pub data WorksOn {C : Type 0} (P : Process C) (T : Tellings C) (leaves : Bool)
       → sender_trail_of P new ≡ sender_trail_of P old → table_of new ≡ table_of old
       → WorksOn P T leaves first new
 
--- so it has put these bytes behind all that it had put before, by this number; it is the same
--- worker's sender
-pub record PutsMore {C : Type 0} (P : Process C) (T : Tellings C) (old new : SenderSeat C)
-    (number : ℕ) (bytes : List ℕ) : Type 0 where
-  pub puts_are : puts (actions_of P new) ≡ puts (actions_of P old) ++ bytes ∷ []
+-- so it has put these messages, one behind another, behind all that it had put before, and the last
+-- of them by this number; it is the same worker's sender
+pub record PutsAll {C : Type 0} (P : Process C) (T : Tellings C) (old new : SenderSeat C)
+    (number : ℕ) (messages : List (List ℕ)) : Type 0 where
+  pub puts_are : puts (actions_of P new) ≡ puts (actions_of P old) ++ messages
   pub first_is : first_number_of P new ≡ first_number_of P old
-  pub number_is : number ≡ first_number_of P old + length (puts (actions_of P old))
+  pub number_is : number + 1
+      ≡ first_number_of P old + length (puts (actions_of P old)) + length messages
   pub me_is : P.me new.core ≡ P.me old.core
   pub works : WorksOn P T false old new
+
+-- one message of these bytes
+abbrev pub PutsMore : {C : Type 0} → Process C → Tellings C → SenderSeat C → SenderSeat C → ℕ
+    → List ℕ → Type 0
+PutsMore P T old new number bytes = PutsAll P T old new number (bytes ∷ [])
 
 -- or its puts are the same as before, and so is the number of its first message
 pub record PutsStay {C : Type 0} (P : Process C) (T : Tellings C) (old new : SenderSeat C) :
@@ -196,8 +203,16 @@ pub record PutsStayLeaving {C : Type 0} (P : Process C) (T : Tellings C) (old ne
   pub me_is : P.me new.core ≡ P.me old.core
   pub works : WorksOn P T true old new
 
--- or it has put these bytes, or nothing
+-- a batch takes messages, and so many wait in it
+abbrev pub IsOpenWith : Pending → ℕ → Type 0
+IsOpenWith b many = (b.phase ≡ Open) × (b.busy ≡ false) × (length b.messages ≡ many)
+
+-- or it has put all of these messages, or nothing
+abbrev pub PutsAllOrNone : {C : Type 0} → Process C → Tellings C → SenderSeat C → SenderSeat C
+    → List (List ℕ) → Type 0
+PutsAllOrNone P T old new messages =
+    PutsStay P T old new ⊎ ((number : ℕ) × PutsAll P T old new number messages)
+
 abbrev pub PutsAtMostOnce : {C : Type 0} → Process C → Tellings C → SenderSeat C → SenderSeat C
     → List ℕ → Type 0
-PutsAtMostOnce P T old new bytes =
-    PutsStay P T old new ⊎ ((number : ℕ) × PutsMore P T old new number bytes)
+PutsAtMostOnce P T old new bytes = PutsAllOrNone P T old new (bytes ∷ [])

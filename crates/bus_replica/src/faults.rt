@@ -7,7 +7,8 @@ use std::fmt;
 /// Why an operation was not executed, or a replica not finished.
 #[derive(Clone, Copy, Debug, PartialEq, Eq)]
 pub enum Fault {
-    /// An operation has more than 56 bytes. Nothing was given, applied or put.
+    /// An operation has more than 56 bytes, or a long one more than 880. Nothing was given, applied
+    /// or put.
     TooLong,
     /// The order has ended, or this worker has left it.
     Ended,
@@ -25,7 +26,7 @@ impl Error for Fault {}
 impl fmt::Display for Fault {
     fn fmt<W: fmt::Write>(&self, f: &mut fmt::Formatter<W>) -> fmt::Result {
         match self {
-            Fault::TooLong => f.write_str("an operation of more than 56 bytes"),
+            Fault::TooLong => f.write_str("an operation that is too long"),
             Fault::Ended => f.write_str("the order has ended"),
             Fault::Spent => f.write_str("all tenures are spent"),
             Fault::Stopped => f.write_str("told to stop"),

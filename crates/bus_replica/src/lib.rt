@@ -18,6 +18,9 @@ mod faults;
 mod hearers;
 pub mod histories;
 pub mod laws;
+mod long_calls;
+pub mod long_laws;
+mod longs;
 mod opening;
 mod replicas;
 mod states;
@@ -25,6 +28,7 @@ mod workers;
 
 pub use bus_handles::SenderNo;
 pub use faults::{Fault, OpenFault};
+pub use longs::Long;
 pub use opening::{LOG_WORDS, open_replicas, open_replicas_in};
 pub use replicas::Replica;
 pub use states::State;

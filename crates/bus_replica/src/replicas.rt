@@ -1,20 +1,23 @@
 //! A worker's replica.
 
-ghost use Rattle.std.specs.Prelude.{◌≡◌, ℕ, ◌<◌, IfOk, IfErr, OnOk, OnErr, None, [], length};
-ghost use Rattle.bus_register.specs.declared.limits.TheConstants.{MOST_BYTES};
+ghost use Rattle.std.specs.Prelude.{◌≡◌, ℕ, ◌<◌, ◌≤◌, IfOk, IfErr, OnOk, OnErr, None, [], ◌∷◌};
+ghost use Rattle.std.specs.Prelude.{◌++◌, length};
+ghost use Rattle.bus_register.specs.declared.limits.TheConstants.{MOST_BYTES, MOST_MESSAGES};
 ghost use Rattle.bus_automaton.specs.ThreeWordBuses.{process, Held};
 ghost use Rattle.bus_core.specs.Seen.{tenure_begun};
 ghost use Rattle.bus_pageslot.specs.Seats.{table_of};
 ghost use Rattle.bus_pageslot.specs.Sendings.{waiting_of};
 ghost use Rattle.bus_replica.specs.Causes.{tells, IsCause, IsEndCause, RefusesLong, SaysStop};
 ghost use Rattle.bus_replica.specs.Replicas.{IsFold, StandsLast, PutsMore, PutsStay};
-ghost use Rattle.bus_replica.specs.Replicas.{PutsAtMostOnce, HasNobodyLeft};
+ghost use Rattle.bus_replica.specs.Replicas.{PutsAll, PutsAllOrNone, PutsAtMostOnce};
+ghost use Rattle.bus_replica.specs.Replicas.{HasNobodyLeft};
 ghost use Rattle.bus_replica.specs.Replicas.{GoesOn, HasCaughtUp, HaveAllLeft, HasHeardAll};
 ghost use Rattle.bus_replica.specs.Replicas.{HearsOut, PutsStayLeaving, Replicated};
 
 use crate::faults::Fault;
 use crate::states::State;
 use crate::workers::Worker;
+use bus_batch::Message;
 use bus_handles::{ReceiverHandle, SenderHandle, SenderNo, ThreeWord};
 use bus_register::limits::MOST_BYTES;
 use bus_waiting::SharedBell;
@@ -132,7 +135,7 @@ impl<S: State> Replica<S> {
     pub fn submit_while<W: Wait, F: FnMut() -> bool>(
         &mut self,
         wait: &W,
-        mut go_on: F,
+        go_on: F,
         op: &[u8],
     ) -> Result<u64, Fault>
         requires callable { F.IsAlwaysCallable go_on }
@@ -148,13 +151,9 @@ impl<S: State> Replica<S> {
         ensures free { tenure_begun self.new.sender.core ≡ None }
     {
         if op.len() > MOST_BYTES {
-            self.worker.settle(wait);
-            return Err(Fault::TooLong);
+            return Err(self.refuse(wait));
         }
-        let waiter = self.bell.asked(wait);
-        let given = self.worker.put(wait, &waiter, &mut go_on, op);
-        self.worker.settle(wait);
-        given
+        self.submit_all(wait, go_on, &[], op)
     }
 
     /// Sends what waits, and applies what comes until then.
@@ -218,7 +217,7 @@ impl<S: State> Replica<S> {
     pub fn execute_while<W: Wait, F: FnMut() -> bool>(
         &mut self,
         wait: &W,
-        mut go_on: F,
+        go_on: F,
         op: &[u8],
     ) -> Result<S::Answer, Fault>
         requires callable { F.IsAlwaysCallable go_on }
@@ -237,11 +236,79 @@ impl<S: State> Replica<S> {
         ensures free { tenure_begun self.new.sender.core ≡ None }
     {
         if op.len() > MOST_BYTES {
-            self.worker.settle(wait);
-            return Err(Fault::TooLong);
+            return Err(self.refuse(wait));
         }
+        self.execute_all(wait, go_on, &[], op)
+    }
+
+    /// Ends the tenure that it has begun, and does nothing else: an operation is too long.
+    pub(crate) fn refuse<W: Wait>(&mut self, wait: &W) -> Fault
+        ensures bus { self.new.bus ≡ self.old.bus }
+        ensures why { result ≡ Fault.TooLong }
+        ensures me { (self.new.me ≡ self.old.me) × (self.new.state ≡ self.old.state) }
+        ensures puts { PutsStay process tells self.old.sender self.new.sender }
+        ensures still { tenure_begun self.old.sender.core ≡ None
+            → self.new.sender ≡ self.old.sender }
+        ensures free { tenure_begun self.new.sender.core ≡ None }
+    {
+        self.worker.settle(wait);
+        Fault::TooLong
+    }
+
+    /// Puts operations side by side into one batch, all of them or none, and gives the number of
+    /// the last one.
+    pub(crate) fn submit_all<W: Wait, F: FnMut() -> bool>(
+        &mut self,
+        wait: &W,
+        mut go_on: F,
+        before: &[Message],
+        op: &[u8],
+    ) -> Result<u64, Fault>
+        requires callable { F.IsAlwaysCallable go_on }
+        requires short { length op.now ≤ MOST_BYTES }
+        requires few { length before.now < MOST_MESSAGES }
+        ensures bus { self.new.bus ≡ self.old.bus }
+        ensures on { GoesOn self.old.me self.new.me }
+        ensures put { IfOk result (λ number. PutsAll process tells self.old.sender
+            self.new.sender number (before.now ++ op.now ∷ [])) }
+        ensures refused { OnErr result (PutsStay process tells self.old.sender self.new.sender) }
+        ensures cause { IfErr result
+            (IsCause process tells ⊥ (SaysStop F.step go_on) self.old self.new) }
+        ensures free { tenure_begun self.new.sender.core ≡ None }
+    {
         let waiter = self.bell.asked(wait);
-        let answered = self.worker.execute(wait, &waiter, &mut go_on, op);
+        let given = self.worker.put(wait, &waiter, &mut go_on, before, op);
+        self.worker.settle(wait);
+        given
+    }
+
+    /// The same, and then sends them and applies what comes up to the last one, whose answer it
+    /// gives.
+    pub(crate) fn execute_all<W: Wait, F: FnMut() -> bool>(
+        &mut self,
+        wait: &W,
+        mut go_on: F,
+        before: &[Message],
+        op: &[u8],
+    ) -> Result<S::Answer, Fault>
+        requires callable { F.IsAlwaysCallable go_on }
+        requires short { length op.now ≤ MOST_BYTES }
+        requires few { length before.now < MOST_MESSAGES }
+        ensures bus { self.new.bus ≡ self.old.bus }
+        ensures on { GoesOn self.old.me self.new.me }
+        ensures executed { IfOk result (λ answer. (number : ℕ)
+            × PutsAll process tells self.old.sender self.new.sender number
+            (before.now ++ op.now ∷ [])
+            × StandsLast S.is_first S.applies self.new.me.0 self.new.state
+            (process.me self.old.sender.core) number answer) }
+        ensures refused { OnErr result (PutsAllOrNone process tells self.old.sender
+            self.new.sender (before.now ++ op.now ∷ [])) }
+        ensures cause { IfErr result
+            (IsCause process tells ⊥ (SaysStop F.step go_on) self.old self.new) }
+        ensures free { tenure_begun self.new.sender.core ≡ None }
+    {
+        let waiter = self.bell.asked(wait);
+        let answered = self.worker.execute(wait, &waiter, &mut go_on, before, op);
         self.worker.settle(wait);
         answered
     }

@@ -1,18 +1,18 @@
 //! What a worker's sender and receiver do for the calls of its replica.
 
-ghost use Rattle.std.specs.Prelude.{◌≡◌, ℕ, ◌<◌, ◌≤◌, ◌⊎◌, IfOk, IfErr, IfSome, IfNone, None};
-ghost use Rattle.std.specs.Prelude.{OnOk, OnErr, IsTrue, [], length, true, false};
-ghost use Rattle.bus_batch.specs.Batches.{IsPutFault, IsCloseFault};
-ghost use Rattle.bus_register.specs.declared.limits.TheConstants.{MOST_BYTES};
+ghost use Rattle.std.specs.Prelude.{◌≡◌, ℕ, ◌+◌, ◌<◌, ◌≤◌, ◌⊎◌, IfOk, IfErr, IfSome, IfNone};
+ghost use Rattle.std.specs.Prelude.{OnOk, OnErr, IsTrue, None, [], ◌∷◌, ◌++◌, length, true, false};
+ghost use Rattle.bus_batch.specs.Batches.{CanPut, IsPutFault, IsCloseFault};
+ghost use Rattle.bus_register.specs.declared.limits.TheConstants.{MOST_BYTES, MOST_MESSAGES};
 ghost use Rattle.bus_automaton.specs.ThreeWordBuses.{process};
 ghost use Rattle.bus_core.specs.Seen.{tenure_begun};
 ghost use Rattle.bus_pageslot.specs.Rule.{receiver_view_in};
 ghost use Rattle.bus_pageslot.specs.Seats.{table_of};
 ghost use Rattle.bus_pageslot.specs.Sendings.{waiting_of};
-ghost use Rattle.bus_replica.specs.Causes.{tells, HearsEnd, IsCause, IsEndCause};
+ghost use Rattle.bus_replica.specs.Causes.{tells, HearsEnd, IsCause, IsEndCause, RefusesPut};
 ghost use Rattle.bus_replica.specs.Causes.{SaysOn, SaysStop, WasAnswered};
-ghost use Rattle.bus_replica.specs.Replicas.{IsFold, StandsLast, PutsMore, PutsStay};
-ghost use Rattle.bus_replica.specs.Replicas.{PutsAtMostOnce};
+ghost use Rattle.bus_replica.specs.Replicas.{IsFold, StandsLast, PutsAll, PutsMore, PutsStay};
+ghost use Rattle.bus_replica.specs.Replicas.{PutsAllOrNone, IsOpenWith};
 ghost use Rattle.bus_replica.specs.Replicas.{GoesOn, HasCaughtUp, HaveAllLeft, HearsOut};
 ghost use Rattle.bus_replica.specs.Replicas.{HasNobodyLeft, has_heard_leave};
 ghost use Rattle.bus_replica.specs.Replicas.{PutsStayLeaving, Replicated};
@@ -21,9 +21,11 @@ ghost use Rattle.bus_automaton.specs.ThreeWordBuses.{Held};
 use crate::faults::Fault;
 use crate::hearers::Hearer;
 use crate::states::State;
+use bus_automaton::laws::threads_may_go_by;
+use bus_batch::Message;
 use bus_handles::{CloseFault, PutFault, ReceiverHandle, SenderHandle, SenderNo, ThreeWord, Turn};
 use bus_pageslot::sending_laws::senders_stay_who_they_are;
-use bus_register::limits::MOST_BYTES;
+use bus_register::limits::{MOST_BYTES, MOST_MESSAGES};
 use bus_waiting::Waiter;
 use std::marker::Model;
 use std::sync::Wait;
@@ -136,29 +138,33 @@ impl<S: State> Worker<S> {
         self.hearer.catch_up(wait, &mut self.sender);
     }
 
-    /// Puts an operation, sends it and applies what comes up to it. A tenure may be begun then.
+    /// Puts operations side by side, sends them and applies what comes up to the last one. A tenure
+    /// may be begun then.
     pub(crate) fn execute<W: Wait, F: FnMut() -> bool>(
         &mut self,
         wait: &W,
         waiter: &Waiter<'_, W>,
         go_on: &mut F,
+        before: &[Message],
         op: &[u8],
     ) -> Result<S::Answer, Fault>
         requires callable { F.IsAlwaysCallable go_on.old }
         requires short { length op.now ≤ MOST_BYTES }
+        requires few { length before.now < MOST_MESSAGES }
         ensures bus { self.new.bus ≡ self.old.bus }
         ensures on { GoesOn self.old.me self.new.me }
         ensures executed { IfOk result (λ answer. (number : ℕ)
-            × PutsMore process tells self.old.sender self.new.sender number op.now
+            × PutsAll process tells self.old.sender self.new.sender number
+            (before.now ++ op.now ∷ [])
             × StandsLast S.is_first S.applies self.new.me.0 self.new.state
             (process.me self.old.sender.core) number answer) }
-        ensures refused { OnErr result
-            (PutsAtMostOnce process tells self.old.sender self.new.sender op.now) }
+        ensures refused { OnErr result (PutsAllOrNone process tells self.old.sender
+            self.new.sender (before.now ++ op.now ∷ [])) }
         ensures cause { IfErr result
             (IsCause process tells ⊥ (SaysStop F.step go_on.old) self.old self.new) }
     {
         let worker = self.number();
-        let number = self.put(wait, waiter, go_on, op)?;
+        let number = self.put(wait, waiter, go_on, before, op)?;
         for _ in waiter.forever() {
             let place = self.place();
             self.send(wait)?;
@@ -174,29 +180,32 @@ impl<S: State> Worker<S> {
         unreachable!()
     }
 
-    /// Puts an operation once there is room for it in the batch. A tenure may be begun then.
+    /// Puts operations side by side, once there is room for all of them in the batch, and gives the
+    /// number of the last one. A tenure may be begun then.
     pub(crate) fn put<W: Wait, F: FnMut() -> bool>(
         &mut self,
         wait: &W,
         waiter: &Waiter<'_, W>,
         go_on: &mut F,
+        before: &[Message],
         op: &[u8],
     ) -> Result<u64, Fault>
         requires callable { F.IsAlwaysCallable go_on.old }
         requires short { length op.now ≤ MOST_BYTES }
+        requires few { length before.now < MOST_MESSAGES }
         ensures callable { F.IsAlwaysCallable go_on.new }
         ensures says { OnOk result (SaysOn F.step go_on.old go_on.new) }
         ensures bus { self.new.bus ≡ self.old.bus }
         ensures on { GoesOn self.old.me self.new.me }
-        ensures put { IfOk result
-            (λ number. PutsMore process tells self.old.sender self.new.sender number op.now) }
+        ensures put { IfOk result (λ number. PutsAll process tells self.old.sender
+            self.new.sender number (before.now ++ op.now ∷ [])) }
         ensures refused { OnErr result (PutsStay process tells self.old.sender self.new.sender) }
         ensures cause { IfErr result
             (IsCause process tells ⊥ (SaysStop F.step go_on.old) self.old self.new) }
     {
         for _ in waiter.forever() {
             let place = self.place();
-            match self.try_put(op) {
+            match self.try_put(before, op) {
                 Ok(number) => return Ok(number),
                 Err(PutFault::TooLong) => unreachable!(),
                 Err(PutFault::Closed) => return Err(Fault::Ended),
@@ -209,18 +218,89 @@ impl<S: State> Worker<S> {
         unreachable!()
     }
 
+    /// Puts operations side by side into the batch, if there is room for all of them now. A fault
+    /// changes nothing.
+    fn try_put(&mut self, before: &[Message], op: &[u8]) -> Result<u64, PutFault>
+        requires short { length op.now ≤ MOST_BYTES }
+        requires few { length before.now < MOST_MESSAGES }
+        ensures bus { self.new.bus ≡ self.old.bus }
+        ensures me { (self.new.me ≡ self.old.me) × (self.new.state ≡ self.old.state) }
+        ensures put { IfOk result (λ number. PutsAll process tells self.old.sender
+            self.new.sender number (before.now ++ op.now ∷ [])) }
+        ensures refused { OnErr result (PutsStay process tells self.old.sender self.new.sender) }
+        ensures fault { IfErr result (RefusesPut (process.queue self.old.sender.core)) }
+    {
+        match before.split_first() {
+            None => self.put_one(op),
+            Some((first, rest)) => self.put_several(first, rest, op),
+        }
+    }
+
+    /// The same of two operations or more.
+    fn put_several(&mut self, first: &Message, rest: &[Message], op: &[u8]) -> Result<u64, PutFault>
+        requires short { length op.now ≤ MOST_BYTES }
+        requires few { length rest.now + 1 < MOST_MESSAGES }
+        ensures bus { self.new.bus ≡ self.old.bus }
+        ensures me { (self.new.me ≡ self.old.me) × (self.new.state ≡ self.old.state) }
+        ensures put { IfOk result (λ number. PutsAll process tells self.old.sender
+            self.new.sender number (first.now ∷ (rest.now ++ op.now ∷ []))) }
+        ensures refused { OnErr result (PutsStay process tells self.old.sender self.new.sender) }
+        ensures fault { IfErr result (RefusesPut (process.queue self.old.sender.core)) }
+    {
+        let room = MOST_MESSAGES - 2 - rest.len();
+        if self.sender.pending() as usize > room {
+            return Err(self.why_full());
+        }
+        self.put_one(first.as_slice())?;
+        for message in rest {
+            self.put_next(message.as_slice());
+        }
+        Ok(self.put_next(op))
+    }
+
+    /// Why a batch takes no messages for which it has no room.
+    fn why_full(&self) -> PutFault
+        ensures { RefusesPut (process.queue self.now.sender.core) result }
+    {
+        if self.sender.is_closed() {
+            PutFault::Closed
+        } else {
+            PutFault::BatchFull
+        }
+    }
+
     /// Puts an operation into the batch, if there is room for it now. A fault changes nothing.
-    fn try_put(&mut self, op: &[u8]) -> Result<u64, PutFault>
+    fn put_one(&mut self, op: &[u8]) -> Result<u64, PutFault>
+        requires short { length op.now ≤ MOST_BYTES }
         ensures bus { self.new.bus ≡ self.old.bus }
         ensures me { (self.new.me ≡ self.old.me) × (self.new.state ≡ self.old.state) }
         ensures put { IfOk result
             (λ number. PutsMore process tells self.old.sender self.new.sender number op.now) }
+        ensures open { OnOk result (IsOpenWith (process.queue self.new.sender.core)
+            (length (waiting_of process self.old.sender) + 1)) }
         ensures refused { OnErr result (PutsStay process tells self.old.sender self.new.sender) }
         ensures fault { IfErr result
             (IsPutFault (process.queue self.old.sender.core) (length op.now)) }
+        ensures refuses { IfErr result (RefusesPut (process.queue self.old.sender.core)) }
     {
         senders_stay_who_they_are::<ThreeWord, fn() -> bool>();
+        threads_may_go_by::<ThreeWord>();
         self.sender.put(op)
+    }
+
+    /// Puts an operation for which there is room.
+    fn put_next(&mut self, op: &[u8]) -> u64
+        requires can { CanPut (process.queue self.old.sender.core) (length op.now) }
+        ensures bus { self.new.bus ≡ self.old.bus }
+        ensures me { (self.new.me ≡ self.old.me) × (self.new.state ≡ self.old.state) }
+        ensures put { PutsMore process tells self.old.sender self.new.sender result op.now }
+        ensures open { IsOpenWith (process.queue self.new.sender.core)
+            (length (waiting_of process self.old.sender) + 1) }
+    {
+        match self.put_one(op) {
+            Ok(number) => number,
+            Err(_) => unreachable!(),
+        }
     }
 
     /// Sends what waits. A tenure may be begun where it is answered a fault.

@@ -1,12 +1,14 @@
 //! Tests of the bus for threads: its turns beside a machine's, its seats, its receivers, its
-//! replicas and whole runs. They stand above the crates that they test, so that none of those is
-//! proved once more for its tests.
+//! replicas, their long operations and whole runs. They stand above the crates that they test, so
+//! that none of those is proved once more for its tests.
 #![tactic(auto)]
 
 #[cfg(test)]
 mod both;
 #[cfg(test)]
 mod games;
+#[cfg(test)]
+mod long;
 #[cfg(test)]
 mod receivers;
 #[cfg(test)]

@@ -1,3 +1,4 @@
+use Rattle.std.proofs.Common.{[]}
 use Rattle.bus_automaton.specs.ThreeWordBuses.{automaton, process}
 use Rattle.bus_replica.specs.Causes.{tells}
 use Rattle.bus_automaton.specs.Processes.{base_in}
@@ -7,9 +8,10 @@ use Rattle.bus_replica.proofs.ReadLaws.{read}
 use Rattle.bus_replica.proofs.laws.replicas_are_linearizable.Goals as goal
 
 pub returns-clause-executes : goal.returns-clause-executes
-returns-clause-executes g c = λ plan.
+returns-clause-executes g c = λ plan s t h k on old new number.
     executed g.S.State.is_first g.S.State.applies process tells (automaton plan)
-    c.threads_may_go_by.ensures.process (c.threads_may_go_by.ensures.automaton plan)
+    c.threads_may_go_by.ensures.process (c.threads_may_go_by.ensures.automaton plan) s t h k on
+    old new number []
 
 pub returns-clause-orders : goal.returns-clause-orders
 returns-clause-orders g c = λ plan s t h k on.

@@ -1,4 +1,4 @@
-use Rattle.std.proofs.Common.{rules, ◌<◌, ◌∙◌, ap, false, Bool, slice_index_or, arith}
+use Rattle.std.proofs.Common.{rules, ◌<◌, ◌∙◌, ap, false, slice_index_or, arith}
 use Rattle.bus_replica.proofs.hearers.Hearer.has_left.Goals as goal
 
 pub returns : goal.returns

@@ -1,4 +1,3 @@
-use Rattle.std.proofs.Common.{subst}
 use Rattle.bus_automaton.specs.ThreeWordBuses.{process}
 use Rattle.bus_replica.specs.Causes.{tells, SaysStop}
 use Rattle.bus_replica.proofs.CauseLaws.{end_settled}

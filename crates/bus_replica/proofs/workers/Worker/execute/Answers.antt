@@ -1,8 +1,8 @@
-use Rattle.std.proofs.Common.{of_calls, rules, inl, inr, refl, ◌∙◌, sym, subst}
+use Rattle.std.proofs.Common.{[], ◌∷◌, ◌++◌, of_calls, rules, inl, inr, refl, ◌∙◌, sym, subst}
 use Rattle.bus_world.proofs.PlayingLaws.{passed_up}
 use Rattle.bus_automaton.specs.ThreeWordBuses.{process}
 use Rattle.bus_replica.specs.Causes.{tells, IsCause, SaysStop, SaidYes}
-use Rattle.bus_replica.specs.Replicas.{PutsMore, PutsStay, PutsAtMostOnce, Rests}
+use Rattle.bus_replica.specs.Replicas.{PutsAll, PutsStay, PutsAllOrNone, Rests}
 use Rattle.bus_replica.proofs.CauseLaws.{cause_within}
 use Rattle.bus_replica.proofs.GoingLaws.{goes_trans, goes_same, ends_behind}
 use Rattle.bus_replica.proofs.SendingLaws.{more_stays}
@@ -53,31 +53,33 @@ returns-in_err-found-clause-cause g c =
 
 pub returns-in_err-number-clause-refused : goal.returns-in_err-number-clause-refused
 returns-in_err-number-clause-refused g c =
-    passed_up _ _ (λ w. PutsAtMostOnce process tells c.args.self.now.sender c.put.new.self.sender
-    c.args.op.now)
+    passed_up _ _ (λ w. PutsAllOrNone process tells c.args.self.now.sender c.put.new.self.sender
+    (c.args.before.now ++ c.args.op.now ∷ []))
     c.from_residual.ensures (inl c.in_err-number.ensures.refused)
 
 pub returns-in_err-send-clause-refused : goal.returns-in_err-send-clause-refused
 returns-in_err-send-clause-refused g c =
-    passed_up _ _ (λ w. PutsAtMostOnce process tells c.args.self.now.sender c.send.new.self.sender
-    c.args.op.now)
+    passed_up _ _ (λ w. PutsAllOrNone process tells c.args.self.now.sender c.send.new.self.sender
+    (c.args.before.now ++ c.args.op.now ∷ []))
     c.from_residual-in_err-send.ensures
     (inr (
       c.in_ok-number.number,
       more_stays process tells c.args.self.now.sender c.loop.self.sender c.send.new.self.sender
-          c.in_ok-number.number c.args.op.now c.loop.invariant.3 c.send.ensures.puts,
+          c.in_ok-number.number (c.args.before.now ++ c.args.op.now ∷ []) c.loop.invariant.3
+          c.send.ensures.puts,
     ))
 
 pub returns-in_err-found-clause-refused : goal.returns-in_err-found-clause-refused
 returns-in_err-found-clause-refused g c =
     passed_up _ _
-    (λ w. PutsAtMostOnce process tells c.args.self.now.sender c.hear_own.new.self.sender
-    c.args.op.now)
+    (λ w. PutsAllOrNone process tells c.args.self.now.sender c.hear_own.new.self.sender
+    (c.args.before.now ++ c.args.op.now ∷ []))
     c.from_residual-in_err-found.ensures
     (inr (
       c.in_ok-number.number,
       more_stays process tells c.args.self.now.sender c.loop.self.sender
-          c.hear_own.new.self.sender c.in_ok-number.number c.args.op.now c.loop.invariant.3
+          c.hear_own.new.self.sender c.in_ok-number.number (c.args.before.now ++ c.args.op.now ∷ [])
+          c.loop.invariant.3
           (subst (λ s. PutsStay process tells c.loop.self.sender s) (sym c.hear_own.ensures.sender)
           c.send.ensures.puts),
     ))
@@ -87,17 +89,17 @@ returns-then-not-go_on-clause-refused g c =
     inr (
       c.in_ok-number.number,
       more_stays process tells c.args.self.now.sender c.loop.self.sender c.hear_own.new.self.sender
-          c.in_ok-number.number c.args.op.now c.loop.invariant.3
+          c.in_ok-number.number (c.args.before.now ++ c.args.op.now ∷ []) c.loop.invariant.3
           (subst (λ s. PutsStay process tells c.loop.self.sender s) (sym c.hear_own.ensures.sender)
           c.send.ensures.puts),
     )
 
 pub returns-in-Some-found-clause-executed : goal.returns-in-Some-found-clause-executed
 returns-in-Some-found-clause-executed g c =
-    let more : PutsMore process tells c.args.self.now.sender c.hear_own.new.self.sender
-    c.in_ok-number.number c.args.op.now =
+    let more : PutsAll process tells c.args.self.now.sender c.hear_own.new.self.sender
+    c.in_ok-number.number (c.args.before.now ++ c.args.op.now ∷ []) =
     more_stays process tells c.args.self.now.sender c.loop.self.sender c.hear_own.new.self.sender
-    c.in_ok-number.number c.args.op.now c.loop.invariant.3
+    c.in_ok-number.number (c.args.before.now ++ c.args.op.now ∷ []) c.loop.invariant.3
     (subst (λ s. PutsStay process tells c.loop.self.sender s) (sym c.hear_own.ensures.sender)
     c.send.ensures.puts) in
     search rules
@@ -111,7 +113,7 @@ loop-preserved g c = (
       c.send.ensures.me.0)
       c.hear_own.ensures.on,
   more_stays process tells c.args.self.now.sender c.loop.self.sender c.hear_own.new.self.sender
-      c.in_ok-number.number c.args.op.now c.loop.invariant.3
+      c.in_ok-number.number (c.args.before.now ++ c.args.op.now ∷ []) c.loop.invariant.3
       (subst (λ s. PutsStay process tells c.loop.self.sender s) (sym c.hear_own.ensures.sender)
       c.send.ensures.puts),
   SaidYes c.loop.go_on c.go_on.new.self c.loop.invariant.4 c.if-not-go_on.ensures,

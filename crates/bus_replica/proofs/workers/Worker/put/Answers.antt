@@ -1,4 +1,4 @@
-use Rattle.std.proofs.Common.{◌∙◌, refl}
+use Rattle.std.proofs.Common.{[], ◌∷◌, ◌++◌, ◌∙◌, refl}
 use Rattle.bus_world.proofs.PlayingLaws.{passed_up}
 use Rattle.bus_automaton.specs.ThreeWordBuses.{process}
 use Rattle.bus_replica.specs.Causes.{tells, IsCause, SaysStop, Unasked}
@@ -20,7 +20,8 @@ loop-init g c = (
 pub returns-in-Ok-clause-put : goal.returns-in-Ok-clause-put
 returns-in-Ok-clause-put g c =
     stays_more process tells c.args.self.now.sender c.loop.self.sender c.try_put.new.self.sender
-    c.in-Ok.number c.args.op.now c.loop.invariant.3 c.in-Ok.ensures.put
+    c.in-Ok.number (c.args.before.now ++ c.args.op.now ∷ []) c.loop.invariant.3
+    c.in-Ok.ensures.put
 
 pub returns-in_err-round-in-Err-Busy-clause-on : goal.returns-in_err-round-in-Err-Busy-clause-on
 returns-in_err-round-in-Err-Busy-clause-on g c =
