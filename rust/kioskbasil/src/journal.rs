@@ -15,16 +15,17 @@
 //! **What is on disk.** Behind a sync a frame is on disk, and only then: `Journal::safe` and a
 //! `Watch` tell up to where. Who answers somebody waits for that place before. A frame that was not
 //! synced may be lost in a crash, and its numbers are given again then. One sync may serve many
-//! frames: write all that are there, by `SyncPolicy::Never`, and then call `sync`.
+//! frames: write those that are there, by `SyncPolicy::Never`, and then call `sync`.
 //!
 //! ```
 //! use kioskbasil::journal::{Journal, JournalError};
 //! use kioskbasil::Receiver;
+//! use std::iter;
 //!
 //! fn record(mut receiver: Receiver, mut journal: Journal) -> Result<(), JournalError> {
-//!     while let Some(frame) = receiver.next_frame() {
-//!         journal.write(&frame)?;
-//!         while let Some(frame) = receiver.try_frame() {
+//!     while let Some(first) = receiver.next_frame() {
+//!         let more = iter::from_fn(|| receiver.try_frame());
+//!         for frame in iter::once(first).chain(more).take(100) {
 //!             journal.write(&frame)?;
 //!         }
 //!         journal.sync()?;
