@@ -4,9 +4,6 @@ use super::header::{checksum, push_words, words_of};
 use super::Header;
 use crate::{Body, Frame, Item, MOST_BYTES, MOST_MESSAGES, MOST_SENDERS};
 
-/// The most words that a frame has behind its head: 16 messages of 56 bytes.
-const MOST_COUNT: u64 = 128;
-
 /// Bits of a number, and of a tenure.
 const NUMBER: u64 = (1 << 48) - 1;
 const TENURE: u64 = (1 << 40) - 1;
@@ -94,7 +91,7 @@ impl Log {
         let (&head, rest) = words.split_first()?;
         let (owner, tenure) = (owner_of(head), head & TENURE);
         let is_there = usize::from(owner) < self.next.len() && !self.left[usize::from(owner)];
-        let is_counted = count_of(head) == rest.len() as u64 && rest.len() as u64 <= MOST_COUNT;
+        let is_counted = count_of(head) == rest.len() as u64;
         if self.ended || head >> 62 != 1 || !is_there || !is_counted || tenure < self.tenures {
             return None;
         }
@@ -145,7 +142,7 @@ fn body_of(owner: u8, words: &[u64]) -> Option<Body> {
     }
 }
 
-/// The messages that these words are, at most 16.
+/// The messages that these words are, at most 16: so no more than 128 words are any.
 fn items_of(owner: u8, mut words: &[u64]) -> Option<Vec<Item>> {
     let mut items = Vec::new();
     while let Some((&word, rest)) = words.split_first() {

@@ -191,7 +191,6 @@ impl Receiver {
 
     /// The head that was heard behind the last frame, where no other call has gone on behind it.
     fn begun_frame(&mut self) -> Option<Head> {
-        self.given = self.many;
         let head = self.head.take()?;
         (self.place() == head.place + 1).then_some(head)
     }

@@ -2,7 +2,7 @@
 
 use super::common::{bus, in_time, ring};
 use super::heard;
-use kioskbasil::{Body, Bus, NextFrame};
+use kioskbasil::{Body, Bus, Heard, NextFrame};
 use std::time::Duration;
 use std::{iter, thread};
 
@@ -81,6 +81,18 @@ fn frames_are_whole_behind_other_calls() {
     sender.send_all(["five"]).unwrap();
     let frame = receiver.try_frame().unwrap();
     assert_eq!((frame.place, &frame.items()[0][..]), (11, &b"five"[..]));
+}
+
+/// So is a leave of which another call has taken the head.
+#[test]
+fn leaves_are_whole_behind_other_calls() {
+    let (mut senders, mut receivers) = bus(2, 1, 8);
+    senders[1].leave().unwrap();
+    let _ = senders[1].send();
+    senders[0].send_all(["one"]).unwrap();
+    while !matches!(receivers[0].turn(), Heard::Head { .. }) {}
+    let frame = receivers[0].try_frame().unwrap();
+    assert_eq!((frame.place, &frame.items()[0][..]), (2, &b"one"[..]));
 }
 
 #[test]

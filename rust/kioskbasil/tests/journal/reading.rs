@@ -129,6 +129,20 @@ fn other_tails_are_damaged() {
     assert_eq!(refused, Err(GoOnError::Damaged { at: 144 }));
 }
 
+/// Zeros before the last byte count, wherever that stands.
+#[test]
+fn far_bytes_are_damage() {
+    let lengths = (0..20).chain(4_070..4_110).chain(8_170..8_210);
+    for zeros in lengths {
+        let bytes = [small(), vec![0; zeros], vec![1]].concat();
+        let end = match zeros {
+            0..=6 => End::Torn { at: 144 },
+            _ => End::Damaged { at: 144 },
+        };
+        assert_eq!(told(&bytes), (3, end), "{zeros}");
+    }
+}
+
 /// A head that tells of more than is there is torn by its format; with a whole record behind it
 /// nothing goes on from it, and nothing is cut.
 #[test]
@@ -281,6 +295,8 @@ fn other_headers_are_refused() {
         refusal(b"KIOSKLOG\0\0\0\0\0\0\0"),
         ReadError::TornHeader
     ));
+    let before = refusal(b"KIOSKLOG\0\0\0\0\0\0\0\0");
+    assert!(matches!(before, ReadError::OtherVersion { version: 0 }));
     let later = refusal(b"KIOSKLOG\0\0\0\0\0\0\0\x02");
     assert!(matches!(later, ReadError::OtherVersion { version: 2 }));
     assert_eq!(later.to_string(), "a journal of version 2");
