@@ -4,17 +4,19 @@
 //! and has four workers send messages over a ring, each with a copy of the state, while a thread
 //! records all frames in a next journal. For each message of its own that is on disk a worker prints
 //! `durable SENDER NUMBER HASH`, with its state's hash at that place. It goes on until it is killed.
+//! By every second seed what is written waits in memory for a sync, so that a kill loses it.
 //!
 //! `crash read FILE..` prints of each file what the reader of the crate says of it.
 
 use kioskbasil::journal::{self, End, Header, Journal, JournalError, ReadError, Recovered};
-use kioskbasil::journal::{SyncPolicy, Watch};
+use kioskbasil::journal::{JournalFile, SyncPolicy, Watch};
 use kioskbasil::{Bus, Item, NextFrame, Page, Receiver, Sender, Shape, TrySendError, Turn};
 use std::error::Error;
 use std::fmt::Write as _;
+use std::fs::{self, File};
 use std::io::{self, Write};
 use std::time::Duration;
-use std::{env, fs, iter, process, thread};
+use std::{env, iter, process, thread};
 
 type Fault = Box<dyn Error + Send + Sync>;
 
@@ -73,8 +75,43 @@ fn recover(folder: &str) -> Result<(State, Page, String), Fault> {
     unreachable!("all numbers have a file")
 }
 
+/// A file behind a cache that a kill loses: what is written reaches it by a sync, and some before.
+struct Cached {
+    file: File,
+    kept: Vec<u8>,
+    dice: Dice,
+}
+
+impl Write for Cached {
+    fn write(&mut self, bytes: &[u8]) -> io::Result<usize> {
+        self.kept.extend_from_slice(bytes);
+        if self.dice.below(4) == 0 {
+            let some = self.dice.below(self.kept.len() as u64 + 1) as usize;
+            self.file.write_all(&self.kept[..some])?;
+            self.kept.drain(..some);
+        }
+        Ok(bytes.len())
+    }
+
+    fn flush(&mut self) -> io::Result<()> {
+        Ok(())
+    }
+}
+
+impl JournalFile for Cached {
+    fn sync(&mut self) -> io::Result<()> {
+        self.file.write_all(&self.kept)?;
+        self.kept.clear();
+        self.file.sync_data()
+    }
+}
+
 /// Records by one sync behind each frame, by one for those that are there, or by one a millisecond.
-fn record(mut ear: Receiver, mut journal: Journal, policy: SyncPolicy) -> Result<(), JournalError> {
+fn record<F: JournalFile>(
+    mut ear: Receiver,
+    mut journal: Journal<F>,
+    policy: SyncPolicy,
+) -> Result<(), JournalError> {
     if let SyncPolicy::Every(time) = policy {
         loop {
             match ear.next_frame_timeout(time) {
@@ -85,7 +122,10 @@ fn record(mut ear: Receiver, mut journal: Journal, policy: SyncPolicy) -> Result
         }
     }
     while let Some(first) = ear.next_frame() {
-        for frame in iter::once(first).chain(iter::from_fn(|| ear.try_frame())).take(50) {
+        for frame in iter::once(first)
+            .chain(iter::from_fn(|| ear.try_frame()))
+            .take(50)
+        {
             journal.write(&frame)?;
         }
         journal.sync()?;
@@ -174,31 +214,51 @@ fn run(folder: &str, seed: u64) -> Result<(), Fault> {
     let mut dice = Dice(seed.wrapping_mul(0x9e37_79b9_7f4a_7c15) | 1);
     let (state, page, path) = recover(folder)?;
     println!("recovered {} {:016x}", state.count, state.hash);
+    let millisecond = SyncPolicy::Every(Duration::from_millis(1));
+    let policies = [SyncPolicy::EachFrame, SyncPolicy::Never, millisecond];
+    let policy = policies[dice.below(3) as usize];
+    let header = Header::after(WORKERS, &page)?;
+    if seed % 2 == 0 {
+        let journal = Journal::create(path, header, policy)?;
+        return serve(page, state, journal, policy, dice);
+    }
+    let begun = format!("{path}.new");
+    let cached = Cached {
+        file: File::create(&begun)?,
+        kept: Vec::new(),
+        dice: Dice(dice.below(u64::MAX) | 1),
+    };
+    let journal = Journal::on(cached, header, policy)?;
+    fs::rename(begun, path)?;
+    serve(page, state, journal, policy, dice)
+}
+
+/// Has the workers work, and a thread record what they send.
+fn serve<F: JournalFile + Send + 'static>(
+    page: Page,
+    state: State,
+    journal: Journal<F>,
+    policy: SyncPolicy,
+    mut dice: Dice,
+) -> Result<(), Fault> {
     let shape = Shape {
         log_words: [64, 256, 4096, 65_536][dice.below(4) as usize],
         ring: true,
         ..Shape::of(WORKERS, WORKERS + 1)
     };
-    let millisecond = SyncPolicy::Every(Duration::from_millis(1));
-    let policies = [SyncPolicy::EachFrame, SyncPolicy::Never, millisecond];
-    let policy = policies[dice.below(3) as usize];
     let (senders, mut receivers) = Bus::open_after(shape, page)?;
-    let journal = Journal::create(path, Header::after(WORKERS, &page)?, policy)?;
-    let on_disk = journal.watch();
-    let ear = receivers.remove(WORKERS);
+    let (on_disk, ear) = (journal.watch(), receivers.remove(WORKERS));
     let records = thread::spawn(move || record(ear, journal, policy));
     let pairs = senders.into_iter().zip(receivers);
-    let workers: Vec<_> = pairs
-        .map(|(sender, receiver)| Worker {
-            sender,
-            receiver,
-            state,
-            dice: Dice(dice.below(u64::MAX) | 1),
-            on_disk: on_disk.clone(),
-            unsaid: Vec::new(),
-        })
-        .collect();
-    let workers: Vec<_> = workers.into_iter().map(|it| thread::spawn(|| it.work())).collect();
+    let workers = pairs.map(|(sender, receiver)| Worker {
+        sender,
+        receiver,
+        state,
+        dice: Dice(dice.below(u64::MAX) | 1),
+        on_disk: on_disk.clone(),
+        unsaid: Vec::new(),
+    });
+    let workers: Vec<_> = workers.map(|it| thread::spawn(|| it.work())).collect();
     for worker in workers {
         worker.join().expect("a panic")?;
     }
