@@ -100,6 +100,7 @@ impl Write for Cached {
 
 impl JournalFile for Cached {
     fn sync(&mut self) -> io::Result<()> {
+        thread::sleep(Duration::from_micros(self.dice.below(3000)));
         self.file.write_all(&self.kept)?;
         self.kept.clear();
         self.file.sync_data()

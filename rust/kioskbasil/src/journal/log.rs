@@ -68,14 +68,16 @@ impl Log {
 
     /// Writes the record of a frame into `record`. False where that is not the next of the log.
     pub(super) fn record_of(&self, frame: &Frame, record: &mut Vec<u8>) -> bool {
+        let words = frame.words();
         record.clear();
-        push_words(record, &frame.words());
+        push_words(record, &words);
+        let is_next = self.frame_of(&words).as_ref() == Some(frame) && self.goes_on_with(frame);
+        if !is_next || self.record_length(record).is_none() {
+            return false;
+        }
         let sum = checksum(&[&self.place.to_be_bytes(), record]);
         record.extend_from_slice(&sum);
-        let is_record = self.record_length(record) == Some(record.len());
-        is_record
-            && self.frame_of_record(record).as_ref() == Some(frame)
-            && self.goes_on_with(frame)
+        true
     }
 
     /// The numbers of its messages go on with those of its owner.
@@ -153,8 +155,10 @@ fn items_of(owner: u8, mut words: &[u64]) -> Option<Vec<Item>> {
             return None;
         }
         let (data, behind) = rest.split_at(data);
-        let mut bytes = Vec::with_capacity(MOST_BYTES);
-        push_words(&mut bytes, data);
+        let mut bytes = [0; MOST_BYTES];
+        for (eight, word) in bytes.chunks_exact_mut(8).zip(data) {
+            eight.copy_from_slice(&word.to_be_bytes());
+        }
         if bytes[length..].iter().any(|byte| *byte != 0) {
             return None;
         }

@@ -20,26 +20,27 @@ const ROUNDS: [u32; 64] = [
 
 /// The digest of these parts, one behind another.
 pub(super) fn digest(parts: &[&[u8]]) -> [u8; 32] {
-    let (mut state, mut block, mut filled, mut length) = (BEGIN, [0; 64], 0, 0u64);
-    let mut push = |byte: u8| {
-        block[filled] = byte;
-        filled = (filled + 1) % 64;
-        if filled == 0 {
-            mix(&mut state, &block);
+    let (mut state, mut block, mut filled, mut length) = (BEGIN, [0; 64], 0, 0);
+    for mut part in parts.iter().copied() {
+        length += part.len() as u64;
+        while !part.is_empty() {
+            let (front, behind) = part.split_at(part.len().min(64 - filled));
+            block[filled..filled + front.len()].copy_from_slice(front);
+            (part, filled) = (behind, filled + front.len());
+            if filled == 64 {
+                mix(&mut state, &block);
+                filled = 0;
+            }
         }
-        filled
-    };
-    for byte in parts.iter().copied().flatten() {
-        push(*byte);
-        length += 8;
     }
-    let mut at = push(0x80);
-    while at != 56 {
-        at = push(0);
+    block[filled] = 0x80;
+    block[filled + 1..].fill(0);
+    if filled >= 56 {
+        mix(&mut state, &block);
+        block.fill(0);
     }
-    for byte in length.to_be_bytes() {
-        push(byte);
-    }
+    block[56..].copy_from_slice(&(8 * length).to_be_bytes());
+    mix(&mut state, &block);
     let mut digest = [0; 32];
     for (bytes, word) in digest.chunks_exact_mut(4).zip(state) {
         bytes.copy_from_slice(&word.to_be_bytes());
