@@ -65,7 +65,7 @@ pub struct Reader<R> {
 }
 
 impl Reader<File> {
-    /// Opens a journal, and reads its header.
+    /// Opens a journal, and reads its header. It syncs nothing, as `read` does.
     ///
     /// A `ReadError` says what the file is, or that it could not be opened or read.
     pub fn open(path: impl AsRef<Path>) -> Result<Reader<File>, ReadError> {

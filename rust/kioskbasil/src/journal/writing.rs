@@ -35,7 +35,7 @@ pub enum SyncPolicy {
     /// Behind each frame.
     EachFrame,
     /// Behind a frame, if the last sync is so long ago. Where no frame follows, the last ones wait
-    /// for `Journal::sync`.
+    /// for `Journal::sync`: call it where `Receiver::next_frame_timeout` comes to `Stopped`.
     Every(Duration),
     /// By `Journal::sync` alone.
     Never,
@@ -199,7 +199,8 @@ impl<F: JournalFile> Journal<F> {
     }
 
     /// The header of a next file for the same log, which goes on behind the frames that were
-    /// written: where one file grows too long, or has failed.
+    /// written: where one file grows too long, or a write has failed. Behind a sync that has failed
+    /// the frames behind `safe` may be in neither file.
     pub fn next_header(&self) -> Header {
         Header::at(self.log.place, self.log.next.clone())
     }
