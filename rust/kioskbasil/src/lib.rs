@@ -50,13 +50,15 @@
 //! ```
 //!
 //! Who replicates a state between workers takes `replica`, whose calls do all of that: `execute` puts
-//! an operation, and gives what it answers at its place in the order.
+//! an operation, and gives what it answers at its place in the order. Who wants the order on disk
+//! hears it by frames, and records them in a `journal`.
 //!
 //! What is proved is said of the archive's functions (`crates/bus_c`). Trusted besides are this
 //! crate, which has the `unsafe` code so that its users need none, the compilers and the C library.
 
 mod bell;
 mod errors;
+pub mod journal;
 mod long;
 mod raw;
 mod receivers;
@@ -72,7 +74,7 @@ pub use errors::{
     SendError, TrySendError, Unsent,
 };
 pub use long::{LongItem, NextLong, NotLong, PutLongError, MOST_LONG_BYTES};
-pub use receivers::{Heard, Item, Next, NextItems, Receiver};
+pub use receivers::{Body, Frame, Heard, Item, Next, NextFrame, NextItems, Receiver};
 pub use senders::{Sender, Turn};
 pub use sizes::{room_to_close, tenures_needed, words_needed};
 pub use waiting::Waiting;

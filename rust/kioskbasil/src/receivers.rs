@@ -1,6 +1,9 @@
 //! Receivers.
 
+mod frames;
 mod long;
+
+pub use frames::{Body, Frame, NextFrame};
 
 use crate::errors::{EndError, OtherBus};
 use crate::raw;
@@ -37,6 +40,18 @@ impl Item {
         length: 0,
         bytes: [0; MOST_BYTES],
     };
+
+    /// The item of these bytes, at most 56.
+    pub(crate) fn of(sender: u8, number: u64, bytes: &[u8]) -> Item {
+        let mut item = Item {
+            number,
+            sender,
+            length: bytes.len() as u8,
+            ..Item::NONE
+        };
+        item.bytes[..bytes.len()].copy_from_slice(bytes);
+        item
+    }
 }
 
 impl Deref for Item {
@@ -134,6 +149,8 @@ pub struct Receiver {
     given: usize,
     many: usize,
     ended: bool,
+    /// The head of the next frame, where `try_frame` has heard it behind the last one.
+    head: Option<frames::Head>,
     /// How many words its bus's log can have.
     log_words: usize,
     /// Of a ring the last passed place that it rang for.
@@ -177,6 +194,7 @@ impl Receiver {
             given: 0,
             many: 0,
             ended: false,
+            head: None,
             log_words: shape.log_words as usize,
             passed: shape.ring.then_some(0),
             read: 0,
