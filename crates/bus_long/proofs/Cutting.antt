@@ -84,6 +84,27 @@ pub front_on : (n : ℕ) (bytes : List ℕ)
     → front (record { left = suc n; bytes = bytes }) n ≡ bytes
 front_on n bytes = cond-true (nat_eq (suc n) (suc n)) bytes [] (eq-eqb (suc n) (suc n) refl)
 
+-- where no piece is to come, what stands there makes no difference
+front_idle : (b : Begun) (n : ℕ) → b.left ≡ 0 → front b n ≡ front nothing n
+front_idle b n idle =
+    cond-false (nat_eq b.left (suc n)) b.bytes []
+    (ne_eqb b.left (suc n) (λ e. omega (arith, e, idle)))
+    ∙ sym (front_none n)
+
+pub whole_idle : (b : Begun) (message : List ℕ) → b.left ≡ 0
+    → whole_by b message ≡ whole_by nothing message
+whole_idle b [] idle = refl
+whole_idle b (follow ∷ bytes) idle =
+    ap (λ z. cond (is_piece follow bytes) (cond (nat_eq follow 0) (Some (z ++ bytes)) None)
+    (Some (follow ∷ bytes))) (front_idle b 0 idle)
+
+pub begun_idle : (b : Begun) (message : List ℕ) → b.left ≡ 0
+    → begun_by b message ≡ begun_by nothing message
+begun_idle b [] idle = refl
+begun_idle b (follow ∷ bytes) idle =
+    ap (λ z. cond (is_piece follow bytes && nat_lt 0 follow)
+    (record { left = follow; bytes = z ++ bytes }) nothing) (front_idle b follow idle)
+
 -- ---- pieces, one after another
 
 pub pieces_last : (bytes : List ℕ) → length bytes ≤ PIECE_BYTES → pieces bytes ≡ (0 ∷ bytes) ∷ []

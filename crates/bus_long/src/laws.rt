@@ -4,12 +4,12 @@ ghost use Rattle.std.specs.Prelude.{◌≡◌, ◌≢◌, ℕ, ◌≤◌, ◌<�
 ghost use Rattle.std.specs.Prelude.{flat_map, Some};
 ghost use Rattle.bus_batch.specs.declared.messages.Item.{Item};
 ghost use Rattle.bus_long.specs.declared.pieces.TheConstants.{MOST_LONG_BYTES, PIECE_BYTES};
-ghost use Rattle.bus_long.specs.Pieces.{pieces, nothing, begun, joined, whole_by};
+ghost use Rattle.bus_long.specs.Pieces.{Begun, pieces, nothing, begun, begun_by, joined, whole_by};
 ghost use Rattle.bus_long.specs.Joined.{sent_by, longs, longs_behind, whole_behind};
 
 /// Whoever reads the pieces of long messages of one sender in their order has just these messages,
 /// whole and in their order; of the first pieces, the first messages. A message is whole with its
-/// last piece.
+/// last piece. Where no piece is to come, bytes that a joiner has make no difference.
 pub fn pieces_are_joined()
     ensures all { (messages : List (List ℕ)) → All (λ m. length m ≤ MOST_LONG_BYTES) messages
         → (joined nothing (flat_map pieces messages) ≡ messages)
@@ -22,6 +22,9 @@ pub fn pieces_are_joined()
         → All (λ m. length m ≤ MOST_LONG_BYTES) messages → length message ≤ MOST_LONG_BYTES
         → pieces message ≡ before ++ last ∷ []
         → whole_by (begun nothing (flat_map pieces messages ++ before)) last ≡ Some message }
+    ensures idle { (b : Begun) (message : List ℕ) → b.left ≡ 0
+        → (whole_by b message ≡ whole_by nothing message)
+        × (begun_by b message ≡ begun_by nothing message) }
 {}
 
 /// The long messages of items: an item adds the one that is whole with it, and changes none before.

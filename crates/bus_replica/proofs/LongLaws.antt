@@ -13,6 +13,7 @@ use Rattle.bus_batch.specs.declared.messages.Item.{Item}
 use Rattle.bus_long.specs.Joined.{longs, longs_behind, sent_by, whole_behind, whole_item}
 use Rattle.bus_long.specs.Pieces.{Begun, begun, begun_by, nothing, pieces, whole_by}
 use Rattle.bus_long.specs.declared.pieces.TheConstants.{MOST_LONG_BYTES}
+use Rattle.bus_replica.specs.OneOrder.{AreFunctions}
 use Rattle.bus_replica.specs.Longs.{AppliesLong, AppliesWhole, IsFirstLong, LongState, begun_of}
 use Rattle.bus_replica.specs.Replicas.{Operations, Folds, Begins, Then}
 
@@ -81,6 +82,32 @@ begun_more worker items item false other =
     (sent_more worker items item
     ∙ ap (λ z. sent_by worker items ++ cond z (item.message ∷ []) []) other
     ∙ append-nil (sent_by worker items))
+
+-- ---- one outcome
+module _ {S A : Type 0} (IsFirst : S → Type 0) (Applies : Operations S A)
+    (F : AreFunctions IsFirst Applies) where
+  whole_same : (old : S) (from : ℕ) (whole : Option (List ℕ)) (answer answer' : Option A)
+      (new new' : S) → AppliesWhole Applies old from whole answer new
+      → AppliesWhole Applies old from whole answer' new' → (answer ≡ answer') × (new ≡ new')
+  whole_same old from None answer answer' new new' a b = (a.0 ∙ sym b.0, a.1 ∙ sym b.1)
+  whole_same old from (Some bytes) answer answer' new new' a b =
+      let one = F.one_next old from bytes a.0 b.0 new new' a.2 b.2 in
+      (a.1 ∙ ap Some one.0 ∙ sym b.1, one.1)
+
+  same_long : (a b : LongState S) → a.state ≡ b.state → a.begun ≡ b.begun → a ≡ b
+  same_long a b state begun_is =
+      let made : S → List Begun → LongState S = λ s z. record { state = s; begun = z } in
+      ap (λ s. made s a.begun) state ∙ ap (made b.state) begun_is
+
+  pub functions_long : AreFunctions (IsFirstLong IsFirst) (AppliesLong Applies)
+  functions_long = record {
+    one_first = λ a b x y.
+        same_long a b (F.one_first a.state b.state x.0 y.0) (x.1 ∙ sym y.1);
+    one_next = λ old from op answer answer' new new' x y.
+        let one = whole_same old.state from (whole_by (begun_of old from) op) answer answer'
+        new.state new'.state x.whole y.whole in
+        (one.0, same_long new new' one.1 (x.begins ∙ sym y.begins));
+  }
 
 -- ---- the fold
 module _ {S A : Type 0} (IsFirst : S → Type 0) (Applies : Operations S A) (laws : PieceLaws) where

@@ -173,5 +173,6 @@ module _ {C S : Type 0} (P : Process C) (A : Plan → Automaton C) (IsFirst : S 
         bus = h.bus;
         plan_is = h.plan_is ∙ ap (λ (x : Shape). ring_plan x None) h.shape_is;
         many = omega (arith, none, many, as_many);
+        few = h.few;
         each = h.each;
       }

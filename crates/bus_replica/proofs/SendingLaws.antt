@@ -29,7 +29,8 @@ use Rattle.bus_pageslot.specs.Turns.{Tellings, Turned, AsksOn, Begins, Goes, Ask
 use Rattle.bus_pageslot.specs.Turns.{StopsWaiting}
 use Rattle.bus_pageslot.specs.declared.rule.View.{View}
 use Rattle.bus_replica.specs.Causes.{WasAnswered}
-use Rattle.bus_replica.specs.Replicas.{PutsAll, PutsMore, PutsStay, PutsAllOrNone, WorksOn, Rests}
+use Rattle.bus_replica.specs.Replicas.{PutsAll, PutsNow, TakesAll, TakesNone, TakesOn, PutsStay}
+use Rattle.bus_replica.specs.Replicas.{PutsAllOrNone, WorksOn, Rests}
 use Rattle.bus_replica.specs.Replicas.{Turns, Puts, PutsStayLeaving, Leaves, Looks, Operations}
 use Rattle.bus_replica.specs.Replicas.{Replicated, StandsLast}
 
@@ -199,20 +200,20 @@ told_stays {C} P T old new core me table =
 
 -- ---- puts
 -- a put by its contract
-pub puts_one : {C : Type 0} (P : Process C) (T : Tellings C) (old new : SenderSeat C)
-    (number : ℕ) (bytes : List ℕ) → CanPut (P.queue old.core) (length bytes)
+pub puts_one : {C : Type 0} (P : Process C) (old new : SenderSeat C) (number : ℕ)
+    (bytes : List ℕ) → CanPut (P.queue old.core) (length bytes)
     → new.core ≡ P.with_message old.core bytes → new.seat ≡ old.seat
     → number ≡ next_of (P.queue old.core)
     → actions_of P new ≡ actions_of P old ++ HasPut number bytes ∷ []
     → number ≡ first_number_of P old + length (puts (actions_of P old))
-    → IsSameSender P old new → PutsMore P T old new number bytes
-puts_one P T old new number bytes can core seat next action counts same = record {
+    → IsSameSender P old new → PutsNow P old new number (bytes ∷ [])
+puts_one P old new number bytes can core seat next action counts same = record {
   puts_are =
       ap puts action ∙ flat_map-append put_of (actions_of P old) (HasPut number bytes ∷ []);
   first_is = same.first;
   number_is = omega (arith, counts);
   me_is = same.me;
-  works = Puts old bytes new Rests (record {
+  takes = TakesOn [] old bytes new TakesNone (record {
     could = can;
     core = core;
     seat = seat;
@@ -220,20 +221,78 @@ puts_one P T old new number bytes can core seat next action counts same = record
   });
 }
 
-pub put_more : {C E : Type 0} (P : Process C) (T : Tellings C) (result : Result ℕ E)
-    (old new : SenderSeat C) (bytes : List ℕ)
-    → OnOk result (CanPut (P.queue old.core) (length bytes))
+pub put_more : {C E : Type 0} (P : Process C) (result : Result ℕ E) (old new : SenderSeat C)
+    (bytes : List ℕ) → OnOk result (CanPut (P.queue old.core) (length bytes))
     → OnOk result (new.core ≡ P.with_message old.core bytes) → new.seat ≡ old.seat
     → IfOk result (λ number. number ≡ next_of (P.queue old.core))
     → IfOk result (λ number. actions_of P new ≡ actions_of P old ++ HasPut number bytes ∷ [])
     → IfOk result (λ number. number ≡ first_number_of P old + length (puts (actions_of P old)))
     → ((old new : SenderSeat C) (bytes : List ℕ) → new.core ≡ P.with_message old.core bytes
     → new.seat ≡ old.seat → IsSameSender P old new)
-    → IfOk result (λ number. PutsMore P T old new number bytes)
-put_more P T (Ok number) old new bytes can core seat next action counts same =
-    puts_one P T old new number bytes can core seat next action counts
-    (same old new bytes core seat)
-put_more P T (Err e) old new bytes can core seat next action counts same = tt
+    → IfOk result (λ number. PutsNow P old new number (bytes ∷ []))
+put_more P (Ok number) old new bytes can core seat next action counts same =
+    puts_one P old new number bytes can core seat next action counts (same old new bytes core seat)
+put_more P (Err e) old new bytes can core seat next action counts same = tt
+
+takes_trans : {C : Type 0} (P : Process C) (a b c : SenderSeat C) (messages more : List (List ℕ))
+    → TakesAll P a messages b → TakesAll P b more c → TakesAll P a (messages ++ more) c
+takes_trans P a b _ messages _ before TakesNone =
+    subst (λ z. TakesAll P a z b) (sym (append-nil messages)) before
+takes_trans P a b _ messages _ before (TakesOn more old bytes new later takes) =
+    subst (λ z. TakesAll P a z new) (append_assoc messages more (bytes ∷ []))
+    (TakesOn (messages ++ more) old bytes new (takes_trans P a b old messages more before later)
+    takes)
+
+-- one put behind others
+pub now_on : {C : Type 0} (P : Process C) (first old new : SenderSeat C) (n number : ℕ)
+    (messages : List (List ℕ)) (bytes : List ℕ) → PutsNow P first old n messages
+    → PutsNow P old new number (bytes ∷ [])
+    → PutsNow P first new number (messages ++ bytes ∷ [])
+now_on P first old new n number messages bytes before more =
+    let put = before.puts_are in
+    let all = length-append (puts (actions_of P first)) messages in
+    let long = ap length put in
+    let both = length-append messages (bytes ∷ []) in
+    let start = before.first_is in
+    let number_is = more.number_is in
+    record {
+      puts_are = more.puts_are ∙ ap (λ z. z ++ bytes ∷ []) put
+          ∙ append_assoc (puts (actions_of P first)) messages (bytes ∷ []);
+      first_is = more.first_is ∙ start;
+      number_is = omega (arith, number_is, start, long, all, both);
+      me_is = more.me_is ∙ before.me_is;
+      takes = takes_trans P first old new messages (bytes ∷ []) before.takes more.takes;
+    }
+
+pub now_all : {C : Type 0} (P : Process C) (T : Tellings C) (old new : SenderSeat C) (number : ℕ)
+    (messages : List (List ℕ)) → PutsNow P old new number messages
+    → PutsAll P T old new number messages
+now_all P T old new number messages now = record {
+  puts_are = now.puts_are;
+  first_is = now.first_is;
+  number_is = now.number_is;
+  me_is = now.me_is;
+  at = old;
+  after = new;
+  before = Rests;
+  takes = now.takes;
+  behind = Rests;
+}
+
+-- what it did in all
+takes_works : {C : Type 0} (P : Process C) (T : Tellings C) (first new : SenderSeat C)
+    (messages : List (List ℕ)) → TakesAll P first messages new → WorksOn P T false first new
+takes_works P T first _ _ TakesNone = Rests
+takes_works P T first _ _ (TakesOn messages old bytes new before takes) =
+    Puts old bytes new (takes_works P T first old messages before) takes
+
+pub works_of : {C : Type 0} (P : Process C) (T : Tellings C) (old new : SenderSeat C) (number : ℕ)
+    (messages : List (List ℕ)) → PutsAll P T old new number messages → WorksOn P T false old new
+works_of P T old new number messages put =
+    works_trans P T false old put.after new
+    (works_trans P T false old put.at put.after put.before
+    (takes_works P T put.at put.after messages put.takes))
+    put.behind
 
 -- behind what was done before, and before what is done behind it
 pub stays_more : {C : Type 0} (P : Process C) (T : Tellings C) (first old new : SenderSeat C)
@@ -247,7 +306,11 @@ stays_more P T first old new number messages stays more = record {
       ∙ ap (λ z. z + length (puts (actions_of P old)) + length messages) stays.first_is
       ∙ ap (λ z. first_number_of P first + length z + length messages) stays.puts_are;
   me_is = more.me_is ∙ stays.me_is;
-  works = works_trans P T false first old new stays.works more.works;
+  at = more.at;
+  after = more.after;
+  before = works_trans P T false first old more.at stays.works more.before;
+  takes = more.takes;
+  behind = more.behind;
 }
 
 pub more_stays : {C : Type 0} (P : Process C) (T : Tellings C) (first old new : SenderSeat C)
@@ -258,29 +321,12 @@ more_stays P T first old new number messages more stays = record {
   first_is = stays.first_is ∙ more.first_is;
   number_is = more.number_is;
   me_is = stays.me_is ∙ more.me_is;
-  works = works_trans P T false first old new more.works stays.works;
+  at = more.at;
+  after = more.after;
+  before = more.before;
+  takes = more.takes;
+  behind = works_trans P T false more.after old new more.behind stays.works;
 }
-
--- one put behind others
-pub more_on : {C : Type 0} (P : Process C) (T : Tellings C) (first old new : SenderSeat C)
-    (n number : ℕ) (messages : List (List ℕ)) (bytes : List ℕ)
-    → PutsAll P T first old n messages → PutsMore P T old new number bytes
-    → PutsAll P T first new number (messages ++ bytes ∷ [])
-more_on P T first old new n number messages bytes before more =
-    let put = before.puts_are in
-    let all = length-append (puts (actions_of P first)) messages in
-    let long = ap length put in
-    let both = length-append messages (bytes ∷ []) in
-    let start = before.first_is in
-    let number_is = more.number_is in
-    record {
-      puts_are = more.puts_are ∙ ap (λ z. z ++ bytes ∷ []) put
-          ∙ append_assoc (puts (actions_of P first)) messages (bytes ∷ []);
-      first_is = more.first_is ∙ start;
-      number_is = omega (arith, number_is, start, long, all, both);
-      me_is = more.me_is ∙ before.me_is;
-      works = works_trans P T false first old new before.works more.works;
-    }
 
 -- what a refused put or mark leaves
 same_seat : {C : Type 0} (old new : SenderSeat C) → new.core ≡ old.core → new.seat ≡ old.seat

@@ -42,6 +42,7 @@ pub record AreNewReplicas {C S : Type 0} (P : Process C) (A : Plan → Automaton
   pub bus : BusId
   pub plan_is : bus.plan ≡ ring_plan (replica_shape workers words) None
   pub many : length made ≡ workers
+  pub few : workers ≤ MOST_SENDERS
   pub each : (k : ℕ) (r : Replicated C S) → slice_get made k ≡ Some r
       → IsNewReplica P (A bus.plan) IsFirst bus k r
 

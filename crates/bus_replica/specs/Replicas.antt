@@ -171,8 +171,17 @@ pub data WorksOn {C : Type 0} (P : Process C) (T : Tellings C) (leaves : Bool)
       → sender_trail_of P new ≡ sender_trail_of P old → table_of new ≡ table_of old
       → WorksOn P T leaves first new
 
--- so it has put these messages, one behind another, behind all that it had put before, and the last
--- of them by this number; it is the same worker's sender
+-- messages that a sender took into its batch one behind another, with no step
+pub data TakesAll {C : Type 0} (P : Process C) (first : SenderSeat C) : List (List ℕ)
+    → SenderSeat C → Type 0 where
+  TakesNone : TakesAll P first [] first
+  TakesOn : (messages : List (List ℕ)) (old : SenderSeat C) (bytes : List ℕ) (new : SenderSeat C)
+      → TakesAll P first messages old → Takes P old bytes new
+      → TakesAll P first (messages ++ bytes ∷ []) new
+
+-- It has put these messages, all of them into one batch, behind all that it had put before, and the
+-- last of them by this number; it is the same worker's sender. What else it did stands before and
+-- behind that.
 pub record PutsAll {C : Type 0} (P : Process C) (T : Tellings C) (old new : SenderSeat C)
     (number : ℕ) (messages : List (List ℕ)) : Type 0 where
   pub puts_are : puts (actions_of P new) ≡ puts (actions_of P old) ++ messages
@@ -180,7 +189,11 @@ pub record PutsAll {C : Type 0} (P : Process C) (T : Tellings C) (old new : Send
   pub number_is : number + 1
       ≡ first_number_of P old + length (puts (actions_of P old)) + length messages
   pub me_is : P.me new.core ≡ P.me old.core
-  pub works : WorksOn P T false old new
+  pub at : SenderSeat C
+  pub after : SenderSeat C
+  pub before : WorksOn P T false old at
+  pub takes : TakesAll P at messages after
+  pub behind : WorksOn P T false after new
 
 -- one message of these bytes
 abbrev pub PutsMore : {C : Type 0} → Process C → Tellings C → SenderSeat C → SenderSeat C → ℕ
@@ -202,6 +215,16 @@ pub record PutsStayLeaving {C : Type 0} (P : Process C) (T : Tellings C) (old ne
   pub first_is : first_number_of P new ≡ first_number_of P old
   pub me_is : P.me new.core ≡ P.me old.core
   pub works : WorksOn P T true old new
+
+-- it has put these messages and has done nothing else
+pub record PutsNow {C : Type 0} (P : Process C) (old new : SenderSeat C) (number : ℕ)
+    (messages : List (List ℕ)) : Type 0 where
+  pub puts_are : puts (actions_of P new) ≡ puts (actions_of P old) ++ messages
+  pub first_is : first_number_of P new ≡ first_number_of P old
+  pub number_is : number + 1
+      ≡ first_number_of P old + length (puts (actions_of P old)) + length messages
+  pub me_is : P.me new.core ≡ P.me old.core
+  pub takes : TakesAll P old messages new
 
 -- a batch takes messages, and so many wait in it
 abbrev pub IsOpenWith : Pending → ℕ → Type 0

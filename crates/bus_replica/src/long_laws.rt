@@ -18,6 +18,7 @@ ghost use Rattle.bus_pageslot.specs.Seats.{actions_of};
 ghost use Rattle.bus_replica.specs.Causes.{tells};
 ghost use Rattle.bus_replica.specs.Linearized.{IsLinearized, IsRead, PageOf, SitsAt};
 ghost use Rattle.bus_replica.specs.Longs.{AppliesLong, ArePiecesOf, IsFirstLong, LongState};
+ghost use Rattle.bus_replica.specs.OneOrder.{AreFunctions};
 ghost use Rattle.bus_replica.specs.Replicas.{HasCaughtUp, IsFold, PutsAll, Replicated, StandsLast};
 
 use crate::states::State;
@@ -35,7 +36,7 @@ use bus_pageslot::laws::seats_keep_promises;
 /// the fold over a beginning of that order, with all that stood there when the call began. The
 /// order of an earlier moment begins that of a later one. And of a worker that has put long
 /// operations alone, those that stand in that order are the first that it put, whole and in its
-/// order.
+/// order. Where an operation has one outcome, a message of `Long` has one too.
 pub fn long_operations_are_linearizable<S: State>()
     ensures executes { (plan : Plan) (s t : RuledTable process (automaton plan)) (h : PageOf s)
         (k : PageOf t) → plan.shape.senders ≤ MOST_SENDERS → IsPrefix (published s) (published t)
@@ -65,6 +66,8 @@ pub fn long_operations_are_linearizable<S: State>()
     ensures whole { (plan : Plan) (t : RuledTable process (automaton plan)) (k : PageOf t)
         (worker : ℕ) (operations : List (List ℕ)) → ArePiecesOf operations (puts (k.actions worker))
         → IsPrefix (sent_by worker (items_in (long_order k.order).entries)) operations }
+    ensures functions { AreFunctions S.is_first S.applies
+        → AreFunctions (IsFirstLong S.is_first) (AppliesLong S.applies) }
 {
     pieces_are_joined();
     long_messages_are_whole();

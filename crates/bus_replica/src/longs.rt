@@ -12,7 +12,8 @@ use std::alloc::{AllocError, Global};
 use std::marker::Model;
 
 /// A state whose operations have 0 to 880 bytes. It is replicated as any other; its operations go
-/// by `submit_long` and `execute_long` of a replica, each whole. It takes 57 KB of memory more.
+/// by `submit_long` and `execute_long` of a replica, each whole. A worker uses these calls alone:
+/// what it puts by `submit` or `execute` may be taken for a piece. It takes 57 KB of memory more.
 #[derive(Drop)]
 pub struct Long<S: State> {
     state: S,

@@ -11,7 +11,7 @@ ghost use Rattle.bus_pageslot.specs.Seats.{table_of};
 ghost use Rattle.bus_pageslot.specs.Sendings.{waiting_of};
 ghost use Rattle.bus_replica.specs.Causes.{tells, HearsEnd, IsCause, IsEndCause, RefusesPut};
 ghost use Rattle.bus_replica.specs.Causes.{SaysOn, SaysStop, WasAnswered};
-ghost use Rattle.bus_replica.specs.Replicas.{IsFold, StandsLast, PutsAll, PutsMore, PutsStay};
+ghost use Rattle.bus_replica.specs.Replicas.{IsFold, StandsLast, PutsAll, PutsNow, PutsStay};
 ghost use Rattle.bus_replica.specs.Replicas.{PutsAllOrNone, IsOpenWith};
 ghost use Rattle.bus_replica.specs.Replicas.{GoesOn, HasCaughtUp, HaveAllLeft, HearsOut};
 ghost use Rattle.bus_replica.specs.Replicas.{HasNobodyLeft, has_heard_leave};
@@ -225,8 +225,8 @@ impl<S: State> Worker<S> {
         requires few { length before.now < MOST_MESSAGES }
         ensures bus { self.new.bus ≡ self.old.bus }
         ensures me { (self.new.me ≡ self.old.me) × (self.new.state ≡ self.old.state) }
-        ensures put { IfOk result (λ number. PutsAll process tells self.old.sender
-            self.new.sender number (before.now ++ op.now ∷ [])) }
+        ensures put { IfOk result (λ number. PutsNow process self.old.sender self.new.sender
+            number (before.now ++ op.now ∷ [])) }
         ensures refused { OnErr result (PutsStay process tells self.old.sender self.new.sender) }
         ensures fault { IfErr result (RefusesPut (process.queue self.old.sender.core)) }
     {
@@ -242,8 +242,8 @@ impl<S: State> Worker<S> {
         requires few { length rest.now + 1 < MOST_MESSAGES }
         ensures bus { self.new.bus ≡ self.old.bus }
         ensures me { (self.new.me ≡ self.old.me) × (self.new.state ≡ self.old.state) }
-        ensures put { IfOk result (λ number. PutsAll process tells self.old.sender
-            self.new.sender number (first.now ∷ (rest.now ++ op.now ∷ []))) }
+        ensures put { IfOk result (λ number. PutsNow process self.old.sender self.new.sender
+            number (first.now ∷ (rest.now ++ op.now ∷ []))) }
         ensures refused { OnErr result (PutsStay process tells self.old.sender self.new.sender) }
         ensures fault { IfErr result (RefusesPut (process.queue self.old.sender.core)) }
     {
@@ -274,8 +274,8 @@ impl<S: State> Worker<S> {
         requires short { length op.now ≤ MOST_BYTES }
         ensures bus { self.new.bus ≡ self.old.bus }
         ensures me { (self.new.me ≡ self.old.me) × (self.new.state ≡ self.old.state) }
-        ensures put { IfOk result
-            (λ number. PutsMore process tells self.old.sender self.new.sender number op.now) }
+        ensures put { IfOk result (λ number. PutsNow process self.old.sender self.new.sender
+            number (op.now ∷ [])) }
         ensures open { OnOk result (IsOpenWith (process.queue self.new.sender.core)
             (length (waiting_of process self.old.sender) + 1)) }
         ensures refused { OnErr result (PutsStay process tells self.old.sender self.new.sender) }
@@ -293,7 +293,7 @@ impl<S: State> Worker<S> {
         requires can { CanPut (process.queue self.old.sender.core) (length op.now) }
         ensures bus { self.new.bus ≡ self.old.bus }
         ensures me { (self.new.me ≡ self.old.me) × (self.new.state ≡ self.old.state) }
-        ensures put { PutsMore process tells self.old.sender self.new.sender result op.now }
+        ensures put { PutsNow process self.old.sender self.new.sender result (op.now ∷ []) }
         ensures open { IsOpenWith (process.queue self.new.sender.core)
             (length (waiting_of process self.old.sender) + 1) }
     {

@@ -8,7 +8,7 @@ use Rattle.bus_pageslot.specs.Lasting.{published}
 use Rattle.bus_replica.specs.Causes.{tells}
 use Rattle.bus_replica.specs.Longs.{AppliesLong, IsFirstLong}
 use Rattle.bus_replica.proofs.LinearLaws.{items_on}
-use Rattle.bus_replica.proofs.LongLaws.{AreBelow}
+use Rattle.bus_replica.proofs.LongLaws.{AreBelow, functions_long}
 use Rattle.bus_replica.proofs.LongOrders.{long_on, long_read, long_whole}
 use Rattle.bus_replica.proofs.LongTables.{all_below, executed_long, senders_are}
 use Rattle.bus_replica.proofs.ReadLaws.{read}
@@ -76,3 +76,6 @@ returns-clause-whole g c = λ plan t k worker operations are.
       whole = c.long_messages_are_whole.ensures.whole;
     })
     k.order worker operations (puts (k.actions worker)) are (page.faithful.messages worker)
+
+pub returns-clause-functions : goal.returns-clause-functions
+returns-clause-functions g c = functions_long g.S.State.is_first g.S.State.applies

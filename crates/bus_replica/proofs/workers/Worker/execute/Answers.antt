@@ -5,7 +5,7 @@ use Rattle.bus_replica.specs.Causes.{tells, IsCause, SaysStop, SaidYes}
 use Rattle.bus_replica.specs.Replicas.{PutsAll, PutsStay, PutsAllOrNone, Rests}
 use Rattle.bus_replica.proofs.CauseLaws.{cause_within}
 use Rattle.bus_replica.proofs.GoingLaws.{goes_trans, goes_same, ends_behind}
-use Rattle.bus_replica.proofs.SendingLaws.{more_stays}
+use Rattle.bus_replica.proofs.SendingLaws.{more_stays, works_of}
 use Rattle.bus_replica.proofs.workers.Worker.execute.Goals as goal
 
 pub returns-in_err-found-clause-on : goal.returns-in_err-found-clause-on
@@ -35,7 +35,10 @@ returns-in_err-send-clause-cause g c =
     c.args.self.now c.send.new.self w)
     c.from_residual-in_err-send.ensures
     (cause_within process tells c.args.self.now c.loop.self c.send.new.self c.send.new.self
-    c.loop.invariant.2 refl c.loop.invariant.3.works Rests ⊥ ⊥ ⊥
+    c.loop.invariant.2 refl
+    (works_of process tells c.args.self.now.sender c.loop.self.sender c.in_ok-number.number
+    (c.args.before.now ++ c.args.op.now ∷ []) c.loop.invariant.3)
+    Rests ⊥ ⊥ ⊥
     (SaysStop (goal.F-step g) c.args.go_on.now) (λ long. long) (λ stops. absurd stops)
     c.in_err-send.field-0.0 c.in_err-send.ensures.cause)
 

@@ -5,7 +5,7 @@ use Rattle.bus_replica.specs.Causes.{tells, IsCause, SaysStop, Unasked}
 use Rattle.bus_replica.specs.Replicas.{Here, Rests, PutsStay}
 use Rattle.bus_replica.proofs.CauseLaws.{cause_within, says_trans}
 use Rattle.bus_replica.proofs.GoingLaws.{goes_trans, goes_same}
-use Rattle.bus_replica.proofs.SendingLaws.{stay, stay_on, stays_more}
+use Rattle.bus_replica.proofs.SendingLaws.{now_all, stay, stay_on, stays_more}
 use Rattle.bus_replica.proofs.workers.Worker.put.Goals as goal
 
 pub loop-init : goal.loop-init
@@ -21,7 +21,8 @@ pub returns-in-Ok-clause-put : goal.returns-in-Ok-clause-put
 returns-in-Ok-clause-put g c =
     stays_more process tells c.args.self.now.sender c.loop.self.sender c.try_put.new.self.sender
     c.in-Ok.number (c.args.before.now ++ c.args.op.now ∷ []) c.loop.invariant.3
-    c.in-Ok.ensures.put
+    (now_all process tells c.loop.self.sender c.try_put.new.self.sender c.in-Ok.number
+    (c.args.before.now ++ c.args.op.now ∷ []) c.in-Ok.ensures.put)
 
 pub returns-in_err-round-in-Err-Busy-clause-on : goal.returns-in_err-round-in-Err-Busy-clause-on
 returns-in_err-round-in-Err-Busy-clause-on g c =

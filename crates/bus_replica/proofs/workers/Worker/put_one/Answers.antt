@@ -8,7 +8,7 @@ use Rattle.bus_replica.proofs.workers.Worker.put_one.Goals as goal
 pub returns-clause-put : goal.returns-clause-put
 returns-clause-put g c =
     rw (← c.self.view_is)
-    (put_more process tells c.put.result c.self.inside.sender c.put.new.self c.args.op.now
+    (put_more process c.put.result c.self.inside.sender c.put.new.self c.args.op.now
     c.put.ensures.could c.put.ensures.taken c.put.ensures.seat c.put.ensures.number
     c.put.ensures.action c.put.ensures.counts c.senders_stay_who_they_are.ensures.puts)
 

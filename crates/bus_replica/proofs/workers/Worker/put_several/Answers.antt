@@ -3,8 +3,8 @@ use Rattle.std.proofs.Common.{arith}
 use Rattle.std.proofs.lemmas.List.{take_all, take_more}
 use Rattle.bus_automaton.specs.ThreeWordBuses.{process}
 use Rattle.bus_replica.specs.Causes.{tells}
-use Rattle.bus_replica.specs.Replicas.{PutsAll}
-use Rattle.bus_replica.proofs.SendingLaws.{more_on, stay}
+use Rattle.bus_replica.specs.Replicas.{PutsNow}
+use Rattle.bus_replica.proofs.SendingLaws.{now_on, stay}
 use Rattle.bus_replica.proofs.workers.Worker.put_several.Goals as goal
 
 pub returns-then-pending-room-clause-refused : goal.returns-then-pending-room-clause-refused
@@ -29,9 +29,9 @@ loop-message-preserved g c =
       me = (c.put_next.ensures.me.0 ∙ inv.me.0, c.put_next.ensures.me.1 ∙ inv.me.1);
       put = (
         c.put_next.result,
-        subst (λ z. PutsAll process tells c.args.self.now.sender c.put_next.new.self.sender
+        subst (λ z. PutsNow process c.args.self.now.sender c.put_next.new.self.sender
             c.put_next.result (first ∷ z)) (sym next)
-            (more_on process tells c.args.self.now.sender c.loop-message.self.sender
+            (now_on process c.args.self.now.sender c.loop-message.self.sender
             c.put_next.new.self.sender inv.put.0 c.put_next.result (first ∷ take k rest) bytes
             inv.put.1 c.put_next.ensures.put),
       );
@@ -44,9 +44,9 @@ returns-clause-put g c =
     let first = c.args.first.now in
     let rest = c.args.rest.now in
     let inv = c.loop-message.invariant in
-    subst (λ z. PutsAll process tells c.args.self.now.sender c.put_next-2.new.self.sender
+    subst (λ z. PutsNow process c.args.self.now.sender c.put_next-2.new.self.sender
     c.put_next-2.result (first ∷ (z ++ c.args.op.now ∷ [])))
     (take_all k rest c.loop-message-test.false)
-    (more_on process tells c.args.self.now.sender c.loop-message.self.sender
+    (now_on process c.args.self.now.sender c.loop-message.self.sender
     c.put_next-2.new.self.sender inv.put.0 c.put_next-2.result (first ∷ take k rest) c.args.op.now
     inv.put.1 c.put_next-2.ensures.put)
