@@ -39,7 +39,9 @@ impl State for Tally {
         if !op.iter().all(|byte| *byte == from.0) {
             self.strange = self.strange.wrapping_add(1);
         }
-        let told = op.len() as u64 * 256 + u64::from(from.0);
+        let told = (op.len() as u64)
+            .wrapping_mul(256)
+            .wrapping_add(u64::from(from.0));
         self.sum = self.sum.wrapping_mul(31).wrapping_add(told);
         op.len()
     }
