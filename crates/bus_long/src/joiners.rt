@@ -123,7 +123,10 @@ fn may_be_piece(message: &[u8]) -> bool
     ensures short { IsTrue result → (slice_index message.now 0 < MOST_MESSAGES)
         × (length message.now ≤ PIECE_BYTES + 1) }
 {
-    if message.is_empty() || message[0] as usize >= MOST_MESSAGES {
+    if message.is_empty() {
+        return false;
+    }
+    if message[0] as usize >= MOST_MESSAGES {
         return false;
     }
     if message[0] == 0 {

@@ -1,18 +1,17 @@
 use Rattle.std.proofs.Common.{length, arith, ap, sym, ◌∙◌, eqb-true}
 use Rattle.bus_long.proofs.Cutting.{high_is_none, last_may_be, inner_may_be}
 use Rattle.bus_long.proofs.joiners.may_be_piece.Goals as goal
-use Rattle.bus_long.proofs.joiners.may_be_piece.Goals.{then-is_empty-via-then-is_empty}
-use Rattle.bus_long.proofs.joiners.may_be_piece.Goals.{then-is_empty-via-else-is_empty+then-message-ge-MOST_MESSAGES}
 
 pub returns-then-is_empty-clause-some : goal.returns-then-is_empty-clause-some
-returns-then-is_empty-clause-some c follow bytes is = elim c.then-is_empty.branch [
-  | then-is_empty-via-then-is_empty w ↦
-      let none =
-      eqb-true (length c.args.message.now) 0 (sym c.is_empty.ensures ∙ w.if-is_empty.true) in
-      let some = ap length is in absurd (omega arith)
-  | then-is_empty-via-else-is_empty+then-message-ge-MOST_MESSAGES w ↦
-      high_is_none c.args.message.now follow bytes is w.if-message-ge-MOST_MESSAGES.true
-]
+returns-then-is_empty-clause-some c follow bytes is =
+    let none =
+    eqb-true (length c.args.message.now) 0 (sym c.is_empty.ensures ∙ c.if-is_empty.true) in
+    let some = ap length is in absurd (omega arith)
+
+pub returns-then-message-ge-MOST_MESSAGES-clause-some
+    : goal.returns-then-message-ge-MOST_MESSAGES-clause-some
+returns-then-message-ge-MOST_MESSAGES-clause-some c follow bytes is =
+    high_is_none c.args.message.now follow bytes is c.if-message-ge-MOST_MESSAGES.true
 
 pub returns-then-message-eq0-clause-some : goal.returns-then-message-eq0-clause-some
 returns-then-message-eq0-clause-some c follow bytes is =
