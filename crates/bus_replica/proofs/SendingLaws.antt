@@ -23,13 +23,14 @@ use Rattle.bus_pageslot.specs.Looks.{LooksForRoom}
 use Rattle.bus_pageslot.specs.Rule.{Sat}
 use Rattle.bus_pageslot.specs.Seats.{SenderSeat, first_number_of, actions_of, sender_trail_of}
 use Rattle.bus_pageslot.specs.Seats.{table_of}
+use Rattle.bus_pageslot.specs.Sendings.{TakesAll, TakesNone, TakesMore}
 use Rattle.bus_pageslot.specs.Staying.{IsSameSender}
 use Rattle.bus_pageslot.specs.Steps.{all_in}
 use Rattle.bus_pageslot.specs.Turns.{Tellings, Turned, AsksOn, Begins, Goes, Asks, SendsAsking}
 use Rattle.bus_pageslot.specs.Turns.{StopsWaiting}
 use Rattle.bus_pageslot.specs.declared.rule.View.{View}
 use Rattle.bus_replica.specs.Causes.{WasAnswered}
-use Rattle.bus_replica.specs.Replicas.{PutsAll, PutsNow, TakesAll, TakesNone, TakesOn, PutsStay}
+use Rattle.bus_replica.specs.Replicas.{PutsAll, PutsNow, PutsStay}
 use Rattle.bus_replica.specs.Replicas.{PutsAllOrNone, WorksOn, Rests}
 use Rattle.bus_replica.specs.Replicas.{Turns, Puts, PutsStayLeaving, Leaves, Looks, Operations}
 use Rattle.bus_replica.specs.Replicas.{Replicated, StandsLast}
@@ -213,7 +214,7 @@ puts_one P old new number bytes can core seat next action counts same = record {
   first_is = same.first;
   number_is = omega (arith, counts);
   me_is = same.me;
-  takes = TakesOn [] old bytes new TakesNone (record {
+  takes = TakesMore [] old bytes new TakesNone (record {
     could = can;
     core = core;
     seat = seat;
@@ -238,9 +239,9 @@ takes_trans : {C : Type 0} (P : Process C) (a b c : SenderSeat C) (messages more
     → TakesAll P a messages b → TakesAll P b more c → TakesAll P a (messages ++ more) c
 takes_trans P a b _ messages _ before TakesNone =
     subst (λ z. TakesAll P a z b) (sym (append-nil messages)) before
-takes_trans P a b _ messages _ before (TakesOn more old bytes new later takes) =
+takes_trans P a b _ messages _ before (TakesMore more old bytes new later takes) =
     subst (λ z. TakesAll P a z new) (append_assoc messages more (bytes ∷ []))
-    (TakesOn (messages ++ more) old bytes new (takes_trans P a b old messages more before later)
+    (TakesMore (messages ++ more) old bytes new (takes_trans P a b old messages more before later)
     takes)
 
 -- one put behind others
@@ -283,7 +284,7 @@ now_all P T old new number messages now = record {
 takes_works : {C : Type 0} (P : Process C) (T : Tellings C) (first new : SenderSeat C)
     (messages : List (List ℕ)) → TakesAll P first messages new → WorksOn P T false first new
 takes_works P T first _ _ TakesNone = Rests
-takes_works P T first _ _ (TakesOn messages old bytes new before takes) =
+takes_works P T first _ _ (TakesMore messages old bytes new before takes) =
     Puts old bytes new (takes_works P T first old messages before) takes
 
 pub works_of : {C : Type 0} (P : Process C) (T : Tellings C) (old new : SenderSeat C) (number : ℕ)

@@ -21,7 +21,7 @@ use Rattle.bus_world.specs.Headline.{HasMarked, puts, order_given}
 use Rattle.bus_automaton.specs.Processes.{Process}
 use Rattle.bus_pageslot.specs.Seats.{SenderSeat, first_number_of, actions_of, sender_trail_of}
 use Rattle.bus_pageslot.specs.Seats.{table_of}
-use Rattle.bus_pageslot.specs.Sendings.{Takes}
+use Rattle.bus_pageslot.specs.Sendings.{Takes, TakesAll}
 use Rattle.bus_pageslot.specs.Turns.{Tellings, Turned}
 
 -- the items among what a receiver was answered, in their order
@@ -170,14 +170,6 @@ pub data WorksOn {C : Type 0} (P : Process C) (T : Tellings C) (leaves : Bool)
   Looks : (old new : SenderSeat C) → WorksOn P T leaves first old → new.core ≡ old.core
       → sender_trail_of P new ≡ sender_trail_of P old → table_of new ≡ table_of old
       → WorksOn P T leaves first new
-
--- messages that a sender took into its batch one behind another, with no step
-pub data TakesAll {C : Type 0} (P : Process C) (first : SenderSeat C) : List (List ℕ)
-    → SenderSeat C → Type 0 where
-  TakesNone : TakesAll P first [] first
-  TakesOn : (messages : List (List ℕ)) (old : SenderSeat C) (bytes : List ℕ) (new : SenderSeat C)
-      → TakesAll P first messages old → Takes P old bytes new
-      → TakesAll P first (messages ++ bytes ∷ []) new
 
 -- It has put these messages, all of them into one batch, behind all that it had put before, and the
 -- last of them by this number; it is the same worker's sender. What else it did stands before and
