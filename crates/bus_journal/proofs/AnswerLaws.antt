@@ -1,13 +1,14 @@
 -- What answers of a journal are.
 use Rattle.std.proofs.Common.{◌≡◌, ◌≢◌, ℕ, ◌+◌, ◌*◌, ◌≤◌, List, [], ◌∷◌, ◌++◌, length}
 use Rattle.std.proofs.Common.{drop, map, refl, sym, ap, subst, ◌∙◌, append_assoc, arith}
-use Rattle.std.proofs.Common.{inl}
+use Rattle.std.proofs.Common.{inl, inr, get_or, take, ◌-◌}
 use Rattle.std.specs.List.{AllByRecursion}
 use Rattle.std.proofs.lemmas.List.{length-append, length-drop, append-nil, append_cancel_left}
 use Rattle.std.proofs.lemmas.List.{nil_from_length, map-append}
 use Rattle.std.proofs.lemmas.List.Elements.{All-nil, All-cons}
-use Rattle.std.proofs.lemmas.List.{map_push}
-use Rattle.std.specs.Prelude.{◌||◌, true, flat_map}
+use Rattle.std.proofs.lemmas.List.{map_push, take_all, length-take-le, take-append-drop}
+use Rattle.std.proofs.lemmas.List.{get_or-append_right}
+use Rattle.std.specs.Prelude.{◌||◌, Bool, true, false, IsTrue, ◌↔◌, flat_map}
 use Rattle.std.proofs.lemmas.List.Concat.{flat_map-append}
 use Rattle.bus_register.specs.declared.registers.SenderNo.{SenderNo}
 use Rattle.bus_batch.specs.Frames.{Frame, Order, IsFrame, AreFrames, frame_words, body_words}
@@ -20,13 +21,15 @@ use Rattle.bus_journal.specs.declared.ends.JournalEnd.{JournalEnd}
 use Rattle.bus_journal.specs.declared.ends.JournalEnd.TheVariants as end
 use Rattle.bus_journal.specs.Format.{Heading, IsHeading, header_bytes, journal_bytes, record_bytes}
 use Rattle.bus_journal.specs.Format.{records_bytes, word_bytes, words_bytes, checksum}
-use Rattle.bus_journal.specs.Records.{IsChunk, IsTornRest}
+use Rattle.bus_journal.specs.Records.{IsChunk, IsTornRest, IsShort, HidesRecord, count_of}
 use Rattle.bus_journal.specs.Reading.{AreFew, Answer, Reads, EndsAs, IsJournal, HasRecords}
 use Rattle.bus_journal.specs.Walks.{words_in}
-use Rattle.bus_journal.proofs.Words.{length-words, length-checksum, same_parts}
-use Rattle.bus_journal.proofs.Chunks.{length-record, one_length, record_head}
+use Rattle.bus_journal.proofs.Words.{length-words, length-checksum, same_parts, one_word}
+use Rattle.bus_journal.proofs.Chunks.{length-record, one_length, record_head, head_fits}
+use Rattle.bus_journal.proofs.Chunks.{length-chunk}
 use Rattle.bus_journal.proofs.Chunks.{records-append, records-push, sum_of, chunk_head}
 use Rattle.bus_journal.proofs.Frames.{frames_are_chunks, frame_is_chunk, words_of_frames}
+use Rattle.bus_journal.proofs.Shorts.{torn_is_short}
 use Rattle.bus_journal.proofs.HeaderLaws.{one_header}
 
 -- ---- two answers
@@ -63,19 +66,39 @@ one_end senders most rest end.Damaged end.Whole a b =
 one_end senders most rest end.Damaged end.Torn a b = absurd (a b.1)
 one_end senders most rest end.Damaged end.Damaged a b = refl
 
-abbrev answer_as : Heading → Order → List (ℕ × SenderNo) → ℕ → JournalEnd → ℕ → Answer
-answer_as h o w p e n =
-    record { heading = h; order = o; owners = w; place = p; end = e; whole = n }
+abbrev answer_as : Heading → Order → List (ℕ × SenderNo) → List ℕ → ℕ → JournalEnd → ℕ → Bool
+    → Answer
+answer_as h o w s p e n b = record {
+  heading = h;
+  order = o;
+  owners = w;
+  words = s;
+  place = p;
+  end = e;
+  whole = n;
+  hides = b;
+}
 
 same_answer : (a b : Answer) → a.heading ≡ b.heading → a.order ≡ b.order → a.owners ≡ b.owners
-    → a.place ≡ b.place → a.end ≡ b.end → a.whole ≡ b.whole → a ≡ b
-same_answer a b h o w p e n =
-    ap (λ z. answer_as z a.order a.owners a.place a.end a.whole) h
-    ∙ ap (λ z. answer_as b.heading z a.owners a.place a.end a.whole) o
-    ∙ ap (λ z. answer_as b.heading b.order z a.place a.end a.whole) w
-    ∙ ap (λ z. answer_as b.heading b.order b.owners z a.end a.whole) p
-    ∙ ap (λ z. answer_as b.heading b.order b.owners b.place z a.whole) e
-    ∙ ap (λ z. answer_as b.heading b.order b.owners b.place b.end z) n
+    → a.words ≡ b.words → a.place ≡ b.place → a.end ≡ b.end → a.whole ≡ b.whole
+    → a.hides ≡ b.hides → a ≡ b
+same_answer a b h o w s p e n i =
+    ap (λ z. answer_as z a.order a.owners a.words a.place a.end a.whole a.hides) h
+    ∙ ap (λ z. answer_as b.heading z a.owners a.words a.place a.end a.whole a.hides) o
+    ∙ ap (λ z. answer_as b.heading b.order z a.words a.place a.end a.whole a.hides) w
+    ∙ ap (λ z. answer_as b.heading b.order b.owners z a.place a.end a.whole a.hides) s
+    ∙ ap (λ z. answer_as b.heading b.order b.owners b.words z a.end a.whole a.hides) p
+    ∙ ap (λ z. answer_as b.heading b.order b.owners b.words b.place z a.whole a.hides) e
+    ∙ ap (λ z. answer_as b.heading b.order b.owners b.words b.place b.end z a.hides) n
+    ∙ ap (λ z. answer_as b.heading b.order b.owners b.words b.place b.end b.whole z) i
+
+-- what two answers say is true just where the same is
+same_hiding : {P Q : Type 0} (x y : Bool) → IsTrue x ↔ P → IsTrue y ↔ Q → (P → Q) → (Q → P)
+    → x ≡ y
+same_hiding true true a b there back = refl
+same_hiding false false a b there back = refl
+same_hiding true false a b there back = sym (b.1 (there (a.0 refl)))
+same_hiding false true a b there back = a.1 (back (b.0 refl))
 
 -- two journals in the same bytes have one header and one body
 record OneBody (h k : Heading) (b c : List ℕ) : Type 0 where
@@ -119,18 +142,35 @@ one_answer bytes fs gs a b r s =
     ∙ ap (λ z. z ++ drop b.whole bytes) records_are) in
     let ends = one_end a.heading.senders a.heading.most (drop a.whole bytes) a.end b.end r.ends
     (subst (λ (z : Heading). EndsAs z.senders z.most (drop a.whole bytes) b.end) (sym h)
-    (subst (λ z. EndsAs b.heading.senders b.heading.most z b.end) (sym rests) s.ends)) in (
+    (subst (λ z. EndsAs b.heading.senders b.heading.most z b.end) (sym rests) s.ends)) in
+    let places : a.place ≡ b.place =
+    r.tells.place_is
+    ∙ ap (λ (z : Heading). z.place + length (log_words fs)) h
+    ∙ ap (λ z. b.heading.place + length (log_words z)) frames
+    ∙ sym s.tells.place_is in (
       frames,
       same_answer a b h
           (r.tells.order_is ∙ ap order_of frames ∙ sym s.tells.order_is)
           (r.tells.owners_are ∙ ap (λ z. map tenure_and_owner z) frames ∙ sym s.tells.owners_are)
-          (r.tells.place_is
-          ∙ ap (λ (z : Heading). z.place + length (log_words fs)) h
-          ∙ ap (λ z. b.heading.place + length (log_words z)) frames
-          ∙ sym s.tells.place_is)
+          (r.tells.words_are ∙ ap log_words frames ∙ sym s.tells.words_are)
+          places
           ends
-          (same_size bytes a.whole b.whole r.tells.within s.tells.within rests),
+          (same_size bytes a.whole b.whole r.tells.within s.tells.within rests)
+          (same_hiding a.hides b.hides r.hides s.hides
+          (hiding a.heading b.heading a.place b.place (drop a.whole bytes) (drop b.whole bytes)
+          a.end b.end h places rests ends)
+          (hiding b.heading a.heading b.place a.place (drop b.whole bytes) (drop a.whole bytes)
+          b.end a.end (sym h) (sym places) (sym rests) (sym ends))),
     )
+  where
+    Hides : Heading → ℕ → List ℕ → JournalEnd → Type 0
+    Hides h place rest e = (e ≡ end.Torn) × HidesRecord h.senders h.most place rest
+
+    hiding : (h k : Heading) (p q : ℕ) (x y : List ℕ) (e f : JournalEnd) → h ≡ k → p ≡ q → x ≡ y
+        → e ≡ f → Hides h p x e → Hides k q y f
+    hiding h k p q x y e f hk pq xy ef hides =
+        subst (λ z. Hides k q y z) ef (subst (λ z. Hides k q z e) xy
+        (subst (λ z. Hides k z x e) pq (subst (λ z. Hides z p x e) hk hides)))
 
 -- ---- an answer of what was written
 
@@ -247,6 +287,80 @@ none_skipped h frames f sum behind bytes told a is lawful few lawful' size other
         (size ∙ sym (length-checksum (word_bytes place ++ words_bytes (frame_words g)))) split.1 in
         absurd (other (sums.0 ∙ ap (λ z. checksum (word_bytes place ++ z)) (sym split.0)))
 
+-- Where such a record has all its bytes, nothing behind it and no zero at the end, the file is
+-- damaged.
+pub none_torn : (h : Heading) (frames : List Frame) (f : Frame) (sum bytes : List ℕ)
+    (told : List Frame) (a : Answer) → IsHeading h → AreFrames h.senders frames
+    → AreFew h.most frames → IsFrame h.senders f → length sum ≡ 8 → get_or sum 7 0 ≢ 0
+    → sum
+    ≢ checksum (word_bytes (h.place + length (log_words frames)) ++ words_bytes (frame_words f))
+    → bytes ≡ journal_bytes h frames ++ (words_bytes (frame_words f) ++ sum)
+    → Reads bytes told a → a.end ≡ end.Damaged
+none_torn h frames f sum bytes told a is lawful few lawful' size last other e r =
+    one_end a.heading.senders a.heading.most (drop a.whole bytes) a.end end.Damaged r.ends
+    (subst (λ z. ¬ IsTornRest a.heading.senders a.heading.most z) rest
+    (not_torn a.heading.senders a.heading.most))
+  where
+    tail : List ℕ
+    tail = words_bytes (frame_words f) ++ sum
+
+    m : HasMore h frames tail bytes told a
+    m = has_more h frames tail bytes told a is lawful few e r
+
+    place : ℕ
+    place = h.place + length (log_words frames)
+
+    told_is : told ≡ frames
+    told_is = none_skipped h frames f sum [] bytes told a is lawful few lawful' size other
+        (e ∙ ap (λ z. journal_bytes h frames ++ (words_bytes (frame_words f) ++ z))
+        (sym (append-nil sum))) r
+
+    nobody : (later : List Frame) → told ≡ frames ++ later → later ≡ []
+    nobody later longer =
+        let long = ap length (sym longer ∙ told_is) in
+        let parts = length-append frames later in
+        nil_from_length later (omega (arith, long, parts))
+
+    rest : tail ≡ drop a.whole bytes
+    rest =
+        m.rest_is
+        ∙ ap (λ z. records_bytes place (map frame_words z) ++ drop a.whole bytes)
+        (nobody m.later m.longer)
+
+    k : IsChunk h.senders 16 (frame_words f)
+    k = frame_is_chunk h.senders 16 f lawful' (body_most f.body lawful'.body)
+
+    long : length tail ≡ 8 * (length (frame_words f) + 1)
+    long =
+        let parts = length-append (words_bytes (frame_words f)) sum in
+        let words = length-words (frame_words f) in
+        omega (arith, parts, words, size)
+
+    last_is : get_or tail (length tail - 1) 0 ≢ 0
+    last_is zero =
+        let words = length-words (frame_words f) in
+        let at : (length tail - 1) - 8 * length (frame_words f) ≡ 7 = omega (arith, long) in
+        last (sym (get_or-append_right (words_bytes (frame_words f)) sum
+        (8 * length (frame_words f)) (length tail - 1) 0 words (omega (arith, long))
+        ∙ ap (λ z. get_or sum z 0) at) ∙ zero)
+
+    not_short : (senders most : ℕ) → ¬ IsShort senders most tail
+    not_short senders most (inl few) = absurd (omega (arith, few, long))
+    not_short senders most (inr s) =
+        let heads = one_word k.head s.0 (words_bytes k.body ++ sum) s.1
+        (head_fits h.senders 16 k.head k.may) (head_fits senders most s.0 s.3)
+        (sym (chunk_head h.senders 16 (frame_words f) sum k) ∙ s.2) in
+        let counts = ap count_of heads.0 in
+        let words = length-chunk h.senders 16 (frame_words f) k in
+        let few = s.4 in
+        absurd (omega (arith, few, words, counts, long))
+
+    not_torn : (senders most : ℕ) → ¬ IsTornRest senders most tail
+    not_torn senders most t =
+        not_short senders most (subst (λ z. IsShort senders most z)
+        (take_all (length tail) tail (omega arith))
+        (torn_is_short senders most tail (length tail) (omega arith) (λ some. last_is) t))
+
 -- one byte more is torn
 pub byte_torn : (h : Heading) (frames : List Frame) (byte : ℕ) (bytes : List ℕ) (told : List Frame)
     (a : Answer) → IsHeading h → AreFrames h.senders frames → AreFew h.most frames
@@ -281,15 +395,97 @@ byte_torn h frames byte bytes told a is lawful few e r =
         let one = length-record place (frame_words g) in
         absurd (omega arith)
 
--- not nothing, where there is a frame
-pub not_early : (h : Heading) (f : Frame) (bytes : List ℕ) (a : Answer) → IsHeading h
-    → AreFrames h.senders (f ∷ []) → AreFew h.most (f ∷ [])
-    → bytes ≡ journal_bytes h (f ∷ []) → Reads bytes [] a → ⊥
-not_early h f bytes a is lawful few e r =
-    let m = has_more h (f ∷ []) [] bytes [] a is lawful few
-    (e ∙ sym (append-nil (journal_bytes h (f ∷ [])))) r in
-    let none : [] ≡ f ∷ m.later = m.longer in
-    absurd cc
+-- no frame is left out at the end
+pub not_early : (h : Heading) (frames : List Frame) (f : Frame) (bytes : List ℕ) (a : Answer)
+    → IsHeading h → AreFrames h.senders (frames ++ f ∷ []) → AreFew h.most (frames ++ f ∷ [])
+    → bytes ≡ journal_bytes h (frames ++ f ∷ []) → Reads bytes frames a → ⊥
+not_early h frames f bytes a is lawful few e r =
+    let all = frames ++ f ∷ [] in
+    let m = has_more h all [] bytes frames a is lawful few
+    (e ∙ sym (append-nil (journal_bytes h all))) r in
+    let long = ap length m.longer in
+    let parts = length-append all m.later in
+    let one = length-append frames (f ∷ []) in
+    absurd (omega (arith, long, parts, one))
+
+-- ---- a tail that is cut off
+
+-- so much as the whole records have is what is written of their frames
+pub is_left : (bytes : List ℕ) (frames : List Frame) (a : Answer) → Reads bytes frames a
+    → take a.whole bytes ≡ journal_bytes a.heading frames
+is_left bytes frames a r =
+    (same_parts left (journal_bytes a.heading frames) (drop a.whole bytes) (drop a.whole bytes)
+    sizes both).0
+  where
+    i : IsJournal a.heading frames (drop a.whole bytes) bytes
+    i = r.tells.journal
+
+    left : List ℕ
+    left = take a.whole bytes
+
+    both : left ++ drop a.whole bytes ≡ journal_bytes a.heading frames ++ drop a.whole bytes
+    both =
+        take-append-drop a.whole bytes ∙ i.bytes_are
+        ∙ ap (λ z. header_bytes a.heading ++ z) i.records.body_is
+        ∙ sym (append_assoc (header_bytes a.heading)
+        (records_bytes a.heading.place (map frame_words frames)) (drop a.whole bytes))
+
+    sizes : length left ≡ length (journal_bytes a.heading frames)
+    sizes =
+        let all = ap length both in
+        let one = length-append left (drop a.whole bytes) in
+        let other = length-append (journal_bytes a.heading frames) (drop a.whole bytes) in
+        omega (arith, all, one, other)
+
+-- and each answer of it is of just these frames, and whole
+pub mended : (bytes : List ℕ) (frames told : List Frame) (a b : Answer) → Reads bytes frames a
+    → Reads (take a.whole bytes) told b
+    → (told ≡ frames) × (b.heading ≡ a.heading) × (b.end ≡ end.Whole) × (b.whole ≡ a.whole)
+mended bytes frames told a b r s =
+    (m.longer ∙ ap (λ z. frames ++ z) nobody.0 ∙ append-nil frames, m.headings, end_is, same)
+  where
+    left : List ℕ
+    left = take a.whole bytes
+
+    i : IsJournal a.heading frames (drop a.whole bytes) bytes
+    i = r.tells.journal
+
+    is_journal : left ≡ journal_bytes a.heading frames ++ []
+    is_journal = is_left bytes frames a r ∙ sym (append-nil (journal_bytes a.heading frames))
+
+    m : HasMore a.heading frames [] left told b
+    m = has_more a.heading frames [] left told b i.heading i.records.lawful i.records.few
+        is_journal s
+
+    none : (later : List Frame)
+        → [] ≡ records_bytes (a.heading.place + length (log_words frames)) (map frame_words later)
+        ++ drop b.whole left
+        → (later ≡ []) × (drop b.whole left ≡ [])
+    none [] e = (refl, sym e)
+    none (g ∷ later) e =
+        let place = a.heading.place + length (log_words frames) in
+        let size = ap length e in
+        let records = records_bytes (place + length (frame_words g)) (map frame_words later) in
+        let all = length-append (record_bytes place (frame_words g) ++ records)
+        (drop b.whole left) in
+        let both = length-append (record_bytes place (frame_words g)) records in
+        let one = length-record place (frame_words g) in
+        absurd (omega (arith, size, all, both, one))
+
+    nobody : (m.later ≡ []) × (drop b.whole left ≡ [])
+    nobody = none m.later m.rest_is
+
+    end_is : b.end ≡ end.Whole
+    end_is = one_end b.heading.senders b.heading.most (drop b.whole left) b.end end.Whole s.ends
+        nobody.1
+
+    same : b.whole ≡ a.whole
+    same =
+        let size = length-take-le a.whole bytes r.tells.within in
+        let rest = length-drop b.whole left in
+        let nothing = ap length nobody.1 in
+        let within = s.tells.within in
+        omega (arith, size, rest, nothing, within)
 
 -- ---- what is written grows
 
@@ -310,6 +506,18 @@ grows_more h frames f =
     (record_bytes (h.place + length (log_words frames)) (frame_words f)))
 
 -- a batch of as many messages as a frame has at most leaves none out
+pub grows_by : (h : Heading) (frames others : List Frame)
+    → journal_bytes h (frames ++ others) ≡ journal_bytes h frames
+    ++ records_bytes (h.place + length (log_words frames)) (map frame_words others)
+grows_by h frames others =
+    ap (λ z. header_bytes h ++ records_bytes h.place z) (map-append frame_words frames others)
+    ∙ ap (λ z. header_bytes h ++ z)
+    (records-append h.place (map frame_words frames) (map frame_words others))
+    ∙ ap (λ z. header_bytes h ++ (records_bytes h.place (map frame_words frames)
+    ++ records_bytes (h.place + length z) (map frame_words others))) (words_of_frames frames)
+    ∙ sym (append_assoc (header_bytes h) (records_bytes h.place (map frame_words frames))
+    (records_bytes (h.place + length (log_words frames)) (map frame_words others)))
+
 pub all_few : (senders least most : ℕ) (frames : List Frame) → AreFramesFrom senders least frames
     → 16 ≤ most → AreFew most frames
 all_few senders least most [] lawful enough = All-nil (λ f. length (body_words f.body) ≤ 8 * most)
@@ -352,8 +560,10 @@ pub written_read : (h : Heading) (frames : List Frame) (behind bytes : List ℕ)
     (a : Answer) → IsHeading h → AreFrames h.senders frames → AreFew h.most frames
     → bytes ≡ journal_bytes h frames ++ behind → Reads bytes told a
     → (a.heading ≡ h) × IsPrefixOfOrder (order_of frames) a.order
-    × ((later : List Frame) × (a.order ≡ order_of (frames ++ later))
-    × (a.owners ≡ map tenure_and_owner (frames ++ later)))
+    × ((later : List Frame) × (told ≡ frames ++ later)
+    × (a.order ≡ order_of (frames ++ later))
+    × (a.owners ≡ map tenure_and_owner (frames ++ later))
+    × (a.words ≡ log_words (frames ++ later)))
 written_read h frames behind bytes told a is lawful few e r =
     let m = has_more h frames behind bytes told a is lawful few e r in (
       m.headings,
@@ -364,7 +574,9 @@ written_read h frames behind bytes told a is lawful few e r =
           (r.tells.order_is ∙ ap order_of m.longer),
       (
         m.later,
+        m.longer,
         r.tells.order_is ∙ ap order_of m.longer,
         r.tells.owners_are ∙ ap (λ z. map tenure_and_owner z) m.longer,
+        r.tells.words_are ∙ ap log_words m.longer,
       ),
     )

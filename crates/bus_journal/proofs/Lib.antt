@@ -4,6 +4,8 @@ pub mod Words
 pub mod Chunks
 -- The records of a log's frames.
 pub mod Frames
+-- The words of a log, appended frame by frame.
+pub mod Pushing
 -- From the records that were walked to the frames that are told.
 pub mod Walking
 -- Headers: bytes begin with one at most.
@@ -12,5 +14,9 @@ pub mod HeaderLaws
 pub mod Shorts
 -- What answers of a journal are.
 pub mod AnswerLaws
+-- A journal that was written is told whole.
+pub mod WrittenLaws
+-- Records in a tail that looks cut off.
+pub mod Hiding
 -- A journal of which the first bytes are left, with zeros behind.
 pub mod CutLaws

@@ -1,5 +1,5 @@
 -- From the records that were walked to the frames that are told.
-use Rattle.std.proofs.Common.{◌≡◌, ℕ, ◌+◌, ◌-◌, ◌<◌, ◌≤◌, List, [], ◌∷◌}
+use Rattle.std.proofs.Common.{◌≡◌, ℕ, ◌+◌, ◌-◌, ◌<◌, ◌≤◌, List, [], ◌∷◌, Bool}
 use Rattle.std.proofs.Common.{◌++◌, length, get_or, take, drop, map, sym, ap, subst, ◌∙◌}
 use Rattle.std.proofs.Common.{arith, append_assoc, ◌⊎◌, inl, inr}
 use Rattle.std.specs.List.{AllByRecursion}
@@ -267,18 +267,20 @@ told_good h body log words words' size size' place w v bad s =
 
 -- what was read behind a header is what the whole bytes say
 pub tells : (h : Heading) (bytes body : List ℕ) (start size : ℕ) (log : LogRead)
-    (words : List ℕ) (n : ℕ) (e : JournalEnd) → IsHeading h → start ≤ length bytes
+    (words : List ℕ) (n : ℕ) (e : JournalEnd) (b : Bool) → IsHeading h → start ≤ length bytes
     → bytes ≡ header_bytes h ++ drop start bytes → body ≡ drop start bytes → n ≡ length words
     → (t : TellsRecords h body log words size)
     → Tells bytes t.frames (record {
       heading = h;
       order = order_held log.order;
       owners = log.owners.items;
+      words = words;
       place = h.place + n;
       end = e;
       whole = start + size;
+      hides = b;
     })
-tells h bytes body start size log words n e is within parts body_is n_is t =
+tells h bytes body start size log words n e b is within parts body_is n_is t =
     let rest : drop size body ≡ drop (start + size) bytes =
     ap (λ z. drop size z) body_is ∙ drop-drop size start bytes in
     let left = length-drop start bytes in
@@ -294,6 +296,7 @@ tells h bytes body start size log words n e is within parts body_is n_is t =
       within = omega arith;
       order_is = t.order_is;
       owners_are = t.owners_are;
+      words_are = t.words_are;
       place_is = ap (λ z. h.place + z) (n_is ∙ ap length t.words_are);
     }
 

@@ -1,6 +1,6 @@
 -- What bytes say as a journal.
 use Rattle.std.specs.Prelude.{◌≡◌, ◌≢◌, ℕ, ◌+◌, ◌*◌, ◌<◌, ◌≤◌, ◌^◌, List, [], ◌++◌}
-use Rattle.std.specs.Prelude.{length, take, drop, map, All}
+use Rattle.std.specs.Prelude.{length, take, drop, map, All, Bool, IsTrue, ◌↔◌}
 use Rattle.bus_register.specs.declared.limits.TheConstants.{MOST_SENDERS}
 use Rattle.bus_register.specs.declared.registers.SenderNo.{SenderNo}
 use Rattle.bus_batch.specs.Frames.{Frame, Order, AreFrames, frame_words, body_words, log_words}
@@ -14,7 +14,7 @@ use Rattle.bus_journal.specs.declared.headers.JournalFault.{JournalFault}
 use Rattle.bus_journal.specs.declared.headers.JournalFault.TheVariants as fault
 use Rattle.bus_journal.specs.Format.{Heading, IsHeading, magic, version, word_bytes, header_bytes}
 use Rattle.bus_journal.specs.Format.{records_bytes}
-use Rattle.bus_journal.specs.Records.{IsTornRest}
+use Rattle.bus_journal.specs.Records.{IsTornRest, HidesRecord}
 
 -- a header without where its numbers lie in memory
 abbrev pub heading_of : Header → Heading
@@ -53,27 +53,32 @@ pub record Answer : Type 0 where
   pub heading : Heading
   pub order : Order
   pub owners : List (ℕ × SenderNo)
+  pub words : List ℕ
   pub place : ℕ
   pub end : JournalEnd
   pub whole : ℕ
+  pub hides : Bool
 
 abbrev pub answer_of : JournalRead → Answer
 answer_of read = record {
   heading = heading_of read.header;
   order = order_held read.log.order;
   owners = read.log.owners.items;
+  words = read.words.items;
   place = read.place;
   end = read.end;
   whole = read.whole;
+  hides = read.hides;
 }
 
--- the answer tells the order and owners of these frames, whose records the bytes have, and where
--- the last of them ends
+-- the answer tells the order, the owners and the words of these frames, whose records the bytes
+-- have, and where the last of them ends
 pub record Tells (bytes : List ℕ) (frames : List Frame) (a : Answer) : Type 0 where
   pub journal : IsJournal a.heading frames (drop a.whole bytes) bytes
   pub within : a.whole ≤ length bytes
   pub order_is : a.order ≡ order_of frames
   pub owners_are : a.owners ≡ map tenure_and_owner frames
+  pub words_are : a.words ≡ log_words frames
   pub place_is : a.place ≡ a.heading.place + length (log_words frames)
 
 -- how the bytes end behind the last whole record
@@ -87,6 +92,8 @@ pub record Reads (bytes : List ℕ) (frames : List Frame) (a : Answer) : Type 0 
   pub tells : Tells bytes frames a
   pub longest : IsLongest a.heading frames bytes
   pub ends : EndsAs a.heading.senders a.heading.most (drop a.whole bytes) a.end
+  pub hides : IsTrue a.hides ↔ ((a.end ≡ end.Torn)
+      × HidesRecord a.heading.senders a.heading.most a.place (drop a.whole bytes))
 
 -- ---- what is refused
 

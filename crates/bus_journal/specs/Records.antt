@@ -1,6 +1,6 @@
 -- What bytes begin with: a word, a head, a record.
 use Rattle.std.specs.Prelude.{◌≡◌, ℕ, ◌+◌, ◌*◌, ◌/◌, ◌%◌, ◌<◌, ◌≤◌, ◌^◌, List, ◌∷◌, ◌++◌}
-use Rattle.std.specs.Prelude.{length, All, ◌⊎◌}
+use Rattle.std.specs.Prelude.{length, drop, All, ◌⊎◌}
 use Rattle.bus_journal.specs.Format.{word_bytes, record_bytes}
 
 -- how many words of a frame stand behind its head (bus_batch says how a head is made)
@@ -61,3 +61,18 @@ pub record IsTornRest (senders most : ℕ) (rest : List ℕ) : Type 0 where
   pub parts : rest ≡ written ++ zeros
   pub short : IsShort senders most written
   pub nothing : All (λ byte. byte ≡ 0) zeros
+
+-- bytes begin with a whole record, whose checksum holds at this place
+abbrev pub BeginsRecord : ℕ → ℕ → ℕ → List ℕ → Type 0
+BeginsRecord senders most place bytes =
+    (words rest : List ℕ) × IsChunk senders most words × (bytes ≡ record_bytes place words ++ rest)
+
+-- A whole record of a later place stands in bytes, and so they are no tail of a journal that was
+-- cut off. So many words of eight bytes stand before it, of which some and not all are of frames:
+-- the others are checksums.
+pub record HidesRecord (senders most place : ℕ) (bytes : List ℕ) : Type 0 where
+  pub before : ℕ
+  pub words : ℕ
+  pub some : 1 ≤ words
+  pub few : words < before
+  pub begins : BeginsRecord senders most (place + words) (drop (8 * before) bytes)

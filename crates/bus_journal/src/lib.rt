@@ -17,6 +17,7 @@
 mod bytes;
 pub mod ends;
 pub mod headers;
+mod hidden;
 pub mod laws;
 pub mod reading;
 pub mod records;
@@ -24,7 +25,7 @@ pub mod records;
 pub use ends::JournalEnd;
 pub use headers::{Header, JournalFault, push_header};
 pub use reading::{JournalRead, read_journal};
-pub use records::push_record;
+pub use records::{push_frames, push_record};
 
 #[cfg(test)]
 mod tests;

@@ -1,11 +1,12 @@
 //! A whole journal, read.
 
-ghost use Rattle.std.specs.Prelude.{◌≡◌, ◌≢◌, List, [], drop, IfOk, IfErr};
+ghost use Rattle.std.specs.Prelude.{◌≡◌, ◌≢◌, ◌↔◌, List, [], drop, IfOk, IfErr, IsTrue};
 ghost use Rattle.bus_batch.specs.Frames.{Frame};
 
 use crate::bytes::push_words_of;
 use crate::ends::{JournalEnd, end_of};
 use crate::headers::{Header, JournalFault, read_header};
+use crate::hidden::is_hiding;
 use crate::records::record_at;
 use bus_deliverylog::{LogFault, LogRead, read_log};
 use std::alloc::{AllocError, Global};
@@ -16,11 +17,16 @@ pub struct JournalRead {
     pub header: Header,
     /// What the whole records say.
     pub log: LogRead,
+    /// Their words, which are a log's.
+    pub words: Vec<u64>,
     /// The place in the log behind the last whole frame.
     pub place: u64,
     pub end: JournalEnd,
-    /// How many bytes stand before the end of the last whole record.
+    /// How many bytes stand before the end of the last whole record, or of the header.
     pub whole: u64,
+    /// It ends torn, and a whole record of a later place stands in the tail. So that is no tail
+    /// that was cut off: a head before it is damaged.
+    pub hides: bool,
 }
 
 /// Words of whole records, and how many bytes these have.
@@ -36,7 +42,7 @@ ghost use Rattle.bus_journal.specs.Reading.{heading_of};
 ghost use Rattle.bus_journal.specs.Format.{IsHeading};
 ghost use Rattle.bus_journal.specs.Walks.{Walks, TellsRecords};
 ghost use Rattle.bus_journal.specs.declared.ends.JournalEnd.TheVariants as end;
-ghost use Rattle.bus_journal.specs.Records.{IsTornRest};
+ghost use Rattle.bus_journal.specs.Records.{IsTornRest, HidesRecord};
 
 /// Reads the bytes of a journal: the longest list of whole records that are a log's.
 pub fn read_journal(alloc: Global, bytes: &[u8]) -> Result<JournalRead, JournalFault>
@@ -54,6 +60,9 @@ pub fn read_journal(alloc: Global, bytes: &[u8]) -> Result<JournalRead, JournalF
         × IsTornRest read.header.senders read.header.most (drop read.whole bytes.now)) }
     ensures damaged { IfOk result (λ read. read.end ≡ end.Damaged
         → ¬ IsTornRest read.header.senders read.header.most (drop read.whole bytes.now)) }
+    ensures hides { IfOk result (λ read. IsTrue read.hides ↔ ((read.end ≡ end.Torn)
+        × HidesRecord read.header.senders read.header.most read.place
+        (drop read.whole bytes.now))) }
 
     // So the laws speak of each answer.
     ensures reads { IfOk result
@@ -68,12 +77,16 @@ pub fn read_journal(alloc: Global, bytes: &[u8]) -> Result<JournalRead, JournalF
     let (log, walked) = read_records(alloc, body, &header)?;
     let (_, rest) = body.split_at(walked.size);
     let end = end_of(rest, header.senders, header.most);
+    let place = header.place + walked.words.len() as u64;
+    let hides = is_hiding(end, rest, header.senders, header.most, place);
     Ok(JournalRead {
-        place: header.place + walked.words.len() as u64,
+        header,
         log,
+        words: walked.words,
+        place,
         end,
         whole: (start + walked.size) as u64,
-        header,
+        hides,
     })
 }
 

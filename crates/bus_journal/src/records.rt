@@ -1,9 +1,12 @@
 //! The records of a journal.
 
 ghost use Rattle.std.specs.Prelude.{◌≡◌, ◌+◌, ◌*◌, ◌≤◌, ◌↔◌, ℕ, List, ◌++◌, length, take, OnOk};
+ghost use Rattle.std.specs.Prelude.{◌<◌, ◌^◌, map, min};
+ghost use Rattle.bus_batch.specs.Frames.{Frame, AreFrames, frame_words, log_words};
 ghost use Rattle.std.specs.Prelude.{OnErr, OnSome, IfSome, IfNone, IsTrue};
-ghost use Rattle.bus_journal.specs.Format.{word_bytes, record_bytes};
+ghost use Rattle.bus_journal.specs.Format.{word_bytes, record_bytes, records_bytes};
 ghost use Rattle.bus_journal.specs.Records.{IsRecordHead, BeginsHead, BeginsWith, BeginsNone};
+ghost use Rattle.bus_journal.specs.Records.{count_of};
 
 use crate::bytes::{are_same, checksum_at, first_word, push_words};
 use std::alloc::AllocError;
@@ -43,6 +46,52 @@ fn append_record(out: &mut Vec<u8>, place: u64, frame: &[u64]) -> Result<(), All
     Ok(())
 }
 
+/// Appends the records of the frames that the words of a log are, of which the first has this
+/// place. Where memory is refused, nothing is appended. Of words that are no log nothing is said,
+/// but that what was there stays.
+pub fn push_frames(out: &mut Vec<u8>, place: u64, words: &[u64]) -> Result<(), AllocError>
+    requires { place + length words.now < 2 ^ 64 }
+    ensures ok { OnOk result ((senders : ℕ) (frames : List Frame) → AreFrames senders frames
+        → log_words frames ≡ words.now
+        → out.new.items ≡ out.old.items ++ records_bytes place (map frame_words frames)) }
+    ensures kept { take (length out.old.items) out.new.items ≡ out.old.items }
+    ensures err { OnErr result (out.new.items ≡ out.old.items) }
+{
+    let start = out.len();
+    let pushed = append_frames(out, place, words);
+    if pushed.is_err() {
+        out.truncate(start);
+    }
+    pushed
+}
+
+/// Appends the records of frames. Where memory is refused, some may have been appended.
+fn append_frames(out: &mut Vec<u8>, place: u64, words: &[u64]) -> Result<(), AllocError>
+    requires { place + length words.now < 2 ^ 64 }
+    ensures ok { OnOk result ((senders : ℕ) (frames : List Frame) → AreFrames senders frames
+        → log_words frames ≡ words.now
+        → out.new.items ≡ out.old.items ++ records_bytes place (map frame_words frames)) }
+    ensures kept { take (length out.old.items) out.new.items ≡ out.old.items }
+{
+    let mut rest = words;
+    let mut at = place;
+    while !rest.is_empty() {
+        let count = frame_len(rest[0]).min(rest.len());
+        let (frame, behind) = rest.split_at(count);
+        push_record(out, at, frame)?;
+        at += count as u64;
+        rest = behind;
+    }
+    Ok(())
+}
+
+/// How many words a frame has with this head, which is one of them.
+fn frame_len(head: u64) -> usize
+    ensures { result ≡ count_of head + 1 }
+{
+    (head % OWNER / COUNT) as usize + 1
+}
+
 /// A head that may begin a record, by itself.
 fn is_record_head(head: u64, senders: u64, most: u64) -> bool
     requires { most ≤ 64 }
@@ -66,7 +115,7 @@ pub(crate) fn head_count(bytes: &[u8], senders: u64, most: u64) -> Option<usize>
     if !is_record_head(head, senders, most) {
         return None;
     }
-    Some((head % OWNER / COUNT) as usize + 1)
+    Some(frame_len(head))
 }
 
 /// How many words the whole record has, at most so many, with which bytes begin.
