@@ -23,7 +23,7 @@ _bus() {
         ;;
     "run --senders" | "run --receivers") names="1 2 3 4 5 6 7 8" ;;
     "log --senders" | *" --messages" | *" --seed") ;;
-    " "*) names="ratify replay trace run log" ;;
+    " "*) names="ratify replay trace run log journal" ;;
     esac
     if [[ "$word" == -* ]]; then
         case "$command" in
@@ -34,8 +34,9 @@ _bus() {
             ;;
         ratify | replay) names="-h --help" ;;
         trace) names="--svg --html --play -h --help" ;;
-        run) names="--senders --receivers --messages --seed --log -h --help" ;;
+        run) names="--senders --receivers --messages --seed --log --journal -h --help" ;;
         log) names="--senders -h --help" ;;
+        journal) names="--repair -h --help" ;;
         esac
     fi
     mapfile -t COMPREPLY < <(compgen -W "$names" -- "$word")

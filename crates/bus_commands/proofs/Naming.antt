@@ -69,15 +69,20 @@ module _ (name : Text) (rows : List Row) where
             let same = rows_are (codes "trace") r e in
             play (subst (IsLeftOut (codes "svg")) same a)
             (subst (IsLeftOut (codes "html")) same b) (subst (IsGiven (codes "play")) same d);
-        run = λ r e a. absurd (other (codes "run") r refl refl e);
+        run = λ r e a b. absurd (other (codes "run") r refl refl e);
         run_log = λ r e a. absurd (other (codes "run") r refl refl e);
+        run_journal = λ r e a b. absurd (other (codes "run") r refl refl e);
         log = λ r e. absurd (other (codes "log") r refl refl e);
+        journal = λ r e a. absurd (other (codes "journal") r refl refl e);
+        repair = λ r e a. absurd (other (codes "journal") r refl refl e);
       }
 
   pub of_run : (t : Task) (request : Request) → name ≡ codes "run" → AsksFor rows request
-      → (IsLeftOut (codes "log") rows → t ≡ task.Run request)
-      → (IsGiven (codes "log") rows → t ≡ task.RunLog request) → NamesTask (Some (name, rows)) t
-  of_run t request is asks run run_log =
+      → (IsLeftOut (codes "log") rows → IsLeftOut (codes "journal") rows → t ≡ task.Run request)
+      → (IsGiven (codes "log") rows → t ≡ task.RunLog request)
+      → (IsLeftOut (codes "log") rows → IsGiven (codes "journal") rows
+      → t ≡ task.RunJournal request) → NamesTask (Some (name, rows)) t
+  of_run t request is asks run run_log run_journal =
       let other : (m : Text) (rows' : List Row) → bytes_eq (codes "run") m ≡ false
       → bytes_eq m m ≡ true → met name rows ≡ met m rows' → ⊥ =
       λ m rows' differ same e. apart (codes "run") m differ same (sym is ∙ name_is m rows' e) in
@@ -90,9 +95,10 @@ module _ (name : Text) (rows : List Row) where
         picture = λ r e a. absurd (other (codes "trace") r refl refl e);
         webpage = λ r e a b. absurd (other (codes "trace") r refl refl e);
         play = λ r e a b d. absurd (other (codes "trace") r refl refl e);
-        run = λ r e a. (
+        run = λ r e a b. (
           request,
-          run (subst (IsLeftOut (codes "log")) (rows_are (codes "run") r e) a),
+          run (subst (IsLeftOut (codes "log")) (rows_are (codes "run") r e) a)
+              (subst (IsLeftOut (codes "journal")) (rows_are (codes "run") r e) b),
           asked r e,
         );
         run_log = λ r e a. (
@@ -100,5 +106,37 @@ module _ (name : Text) (rows : List Row) where
           run_log (subst (IsGiven (codes "log")) (rows_are (codes "run") r e) a),
           asked r e,
         );
+        run_journal = λ r e a b. (
+          request,
+          run_journal (subst (IsLeftOut (codes "log")) (rows_are (codes "run") r e) a)
+              (subst (IsGiven (codes "journal")) (rows_are (codes "run") r e) b),
+          asked r e,
+        );
         log = λ r e. absurd (other (codes "log") r refl refl e);
+        journal = λ r e a. absurd (other (codes "journal") r refl refl e);
+        repair = λ r e a. absurd (other (codes "journal") r refl refl e);
+      }
+
+  pub of_journal : (t : Task) → name ≡ codes "journal"
+      → (IsLeftOut (codes "repair") rows → t ≡ task.Journal)
+      → (IsGiven (codes "repair") rows → t ≡ task.Repair) → NamesTask (Some (name, rows)) t
+  of_journal t is journal repair =
+      let other : (m : Text) (rows' : List Row) → bytes_eq (codes "journal") m ≡ false
+      → bytes_eq m m ≡ true → met name rows ≡ met m rows' → ⊥ =
+      λ m rows' differ same e. apart (codes "journal") m differ same (sym is ∙ name_is m rows' e) in
+      record {
+        ratify = λ r e. absurd (other (codes "ratify") r refl refl e);
+        replay = λ r e. absurd (other (codes "replay") r refl refl e);
+        trace = λ r e a b d. absurd (other (codes "trace") r refl refl e);
+        picture = λ r e a. absurd (other (codes "trace") r refl refl e);
+        webpage = λ r e a b. absurd (other (codes "trace") r refl refl e);
+        play = λ r e a b d. absurd (other (codes "trace") r refl refl e);
+        run = λ r e a b. absurd (other (codes "run") r refl refl e);
+        run_log = λ r e a. absurd (other (codes "run") r refl refl e);
+        run_journal = λ r e a b. absurd (other (codes "run") r refl refl e);
+        log = λ r e. absurd (other (codes "log") r refl refl e);
+        journal = λ r e a.
+            journal (subst (IsLeftOut (codes "repair")) (rows_are (codes "journal") r e) a);
+        repair = λ r e a.
+            repair (subst (IsGiven (codes "repair")) (rows_are (codes "journal") r e) a);
       }

@@ -1,5 +1,5 @@
 -- What is printed of a run that ended well, and that nothing is printed of another.
-use Rattle.std.proofs.Common.{◌≡◌, ℕ, List, inl, inr, refl, sym, subst, ◌∙◌}
+use Rattle.std.proofs.Common.{◌≡◌, ℕ, ◌<◌, ◌≤◌, ◌^◌, List, inl, inr, refl, sym, subst, ◌∙◌, arith}
 use Rattle.std.specs.Prelude.{Result, Err, IsErr, IsErrAnd}
 use Rattle.bus_pageslot.specs.Outcomes.{Outcome}
 use Rattle.bus_receiver.specs.Hearing.{Hearing}
@@ -7,7 +7,12 @@ use Rattle.bus_run.specs.Audit.{OfOrder, shape_of_run}
 use Rattle.bus_run.specs.Reports.{IsRunReport}
 use Rattle.bus_run.specs.RunText.{report_text, IsRunText}
 use Rattle.bus_logtext.specs.Words.{words_text}
-use Rattle.bus_commands.specs.RunLog.{IsRunLog}
+use Rattle.bus_commands.specs.RunLog.{IsRunLog, IsRunJournal, run_heading}
+use Rattle.bus_batch.specs.Frames.{Frame, AreFrames, log_words}
+use Rattle.bus_journal.specs.Format.{IsHeading, journal_bytes}
+use Rattle.bus_register.specs.declared.limits.TheConstants.{MOST_SENDERS}
+use Rattle.std.proofs.lemmas.List.{length-replicate}
+use Rattle.std.proofs.lemmas.List.Elements.{All-replicate}
 use Rattle.bus_run.specs.Stops.{IsStop, IsRunFault}
 use Rattle.bus_run.specs.declared.faults.RunFault.{RunFault}
 use Rattle.bus_run.specs.declared.faults.RunFault.TheVariants as run
@@ -46,6 +51,39 @@ is_run_log senders receivers messages left heards text made said = record {
   run = text_of_order senders receivers messages left heards _ made refl;
   text_is = said;
 }
+
+-- the header of a run's journal is one
+pub is_run_heading : (senders : ℕ) → 1 ≤ senders → senders ≤ MOST_SENDERS
+    → IsHeading (run_heading senders)
+is_run_heading senders some few = record {
+  some_senders = some;
+  most_senders = few;
+  some_messages = omega arith;
+  most_messages = omega arith;
+  place = omega arith;
+  each_sender = length-replicate senders 0;
+  words = All-replicate (λ number. number < 2 ^ 64) senders 0 (omega arith);
+}
+
+-- the bytes of a journal of the frames that the words spell
+pub is_run_journal :
+    (senders receivers messages : ℕ) (left : Outcome) (heards : List Hearing) (text : List ℕ)
+    → IsRunReport (shape_of_run senders receivers) messages left heards
+    → ((frames : List Frame) → AreFrames senders frames → log_words frames ≡ left.log
+    → text ≡ journal_bytes (run_heading senders) frames)
+    → IsRunJournal senders receivers messages text
+is_run_journal senders receivers messages left heards text made said =
+    let s = made.spelled.2 in
+    let lawful : AreFrames senders s.frames =
+    subst (λ z. AreFrames z s.frames) made.senders_are s.lawful in
+    record {
+      summary = report_text made.spelled.0 left.page senders heards;
+      run = text_of_order senders receivers messages left heards _ made refl;
+      frames = s.frames;
+      lawful = lawful;
+      words_are = s.words_are;
+      text_is = said s.frames lawful s.words_are;
+    }
 
 -- ---- what goes wrong before anything is written
 pub no_stop_is_write : (senders receivers : ℕ) (fault : RunFault) → IsStop senders receivers fault

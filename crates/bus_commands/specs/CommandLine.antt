@@ -43,9 +43,11 @@ trace_command = with_rule (with_rule (with_rule (new_app (codes "trace")) (flag 
     (record (flag (codes "html")) { is_free = false }))
     (record (flag (codes "play")) { is_free = false })
 
+-- the journal has a rule on another option; which one is tested
 abbrev pub run_command : App
 run_command =
     with_rule
+    (with_rule
     (with_rule
     (with_rule
     (with_rule (with_rule (new_app (codes "run"))
@@ -53,11 +55,15 @@ run_command =
     (number (codes "receivers") (codes "2") (Unsigned 1 MOST_RECEIVE_WORKERS)))
     (number (codes "messages") (codes "100") (Unsigned 0 MOST_MESSAGES_EACH)))
     (number (codes "seed") (codes "7") (Unsigned 0 (2 ^ 64 - 1))))
-    (flag (codes "log"))
+    (flag (codes "log")))
+    (record (flag (codes "journal")) { is_free = false })
 
 abbrev pub log_command : App
 log_command = with_rule (new_app (codes "log"))
     (number (codes "senders") (codes "3") (Unsigned 1 MOST_SENDERS))
+
+abbrev pub journal_command : App
+journal_command = with_rule (new_app (codes "journal")) (flag (codes "repair"))
 
 -- what `bus` has without its commands
 abbrev pub bus_alone : App
@@ -75,10 +81,12 @@ bus_command =
     with_subcommand
     (with_subcommand
     (with_subcommand
+    (with_subcommand
     (with_subcommand (with_subcommand bus_alone ratify_command.top) replay_command.top)
     trace_command.top)
     run_command.top)
-    log_command.top
+    log_command.top)
+    journal_command.top
 
 -- ---- what a command's words say
 -- the option is there, or is not
@@ -117,11 +125,19 @@ pub record NamesTask (met : Option (Text × List Row)) (t : Task) : Type 0 where
   pub play : (rows : List Row) → met ≡ Some (codes "trace", rows) → IsLeftOut (codes "svg") rows
       → IsLeftOut (codes "html") rows → IsGiven (codes "play") rows → t ≡ task.Webpage purpose.Play
   pub run : (rows : List Row) → met ≡ Some (codes "run", rows) → IsLeftOut (codes "log") rows
+      → IsLeftOut (codes "journal") rows
       → (request : Request) × (t ≡ task.Run request) × AsksFor rows request
   pub run_log : (rows : List Row) → met ≡ Some (codes "run", rows) → IsGiven (codes "log") rows
       → (request : Request) × (t ≡ task.RunLog request) × AsksFor rows request
+  pub run_journal : (rows : List Row) → met ≡ Some (codes "run", rows)
+      → IsLeftOut (codes "log") rows → IsGiven (codes "journal") rows
+      → (request : Request) × (t ≡ task.RunJournal request) × AsksFor rows request
   pub log : (rows : List Row) → met ≡ Some (codes "log", rows)
       → (senders : ℕ) × (t ≡ task.Log senders) × IsNumberOf (codes "senders") rows 3 senders
+  pub journal : (rows : List Row) → met ≡ Some (codes "journal", rows)
+      → IsLeftOut (codes "repair") rows → t ≡ task.Journal
+  pub repair : (rows : List Row) → met ≡ Some (codes "journal", rows)
+      → IsGiven (codes "repair") rows → t ≡ task.Repair
 
 -- words meet a command of which this holds, of what its options are given
 abbrev pub MeetsWith : Text → List Text → (List Row → Type 0) → Type 0

@@ -11,12 +11,16 @@ use Rattle.bus_trace.specs.Traces.{IsTrace}
 use Rattle.bus_picture.specs.Pictures.{picture}
 use Rattle.bus_webpage.specs.Webpages.{script_of, webpage}
 use Rattle.bus_logtext.specs.Answers.{IsAnswer as IsTold}
+use Rattle.bus_logtext.specs.Journals.{IsJournalAnswer, IsRepaired}
 use Rattle.bus_run.specs.RunText.{IsRunText}
+use Rattle.bus_run.specs.Stops.{IsRunFault}
+use Rattle.bus_run.specs.declared.faults.RunFault.{RunFault}
 use Rattle.bus_run.specs.declared.limits.TheConstants.{MOST_MESSAGES_EACH}
-use Rattle.bus_commands.specs.RunLog.{IsRunLog}
+use Rattle.bus_commands.specs.RunLog.{IsRunLog, IsRunJournal}
 use Rattle.bus_commands.specs.declared.command_line.Task.{Task}
 use Rattle.bus_commands.specs.declared.command_line.Task.TheVariants as task
 use Rattle.bus_commands.specs.declared.streams.TheConstants.{SCRIPT_LIMIT, LOG_LIMIT}
+use Rattle.bus_commands.specs.declared.streams.TheConstants.{JOURNAL_LIMIT}
 
 -- how many bytes a task reads, at most
 abbrev pub limit_of : Task → ℕ
@@ -27,7 +31,10 @@ limit_of task.Picture = SCRIPT_LIMIT
 limit_of (task.Webpage purpose) = SCRIPT_LIMIT
 limit_of (task.Run request) = SCRIPT_LIMIT
 limit_of (task.RunLog request) = SCRIPT_LIMIT
+limit_of (task.RunJournal request) = SCRIPT_LIMIT
 limit_of (task.Log senders) = LOG_LIMIT
+limit_of task.Journal = JOURNAL_LIMIT
+limit_of task.Repair = JOURNAL_LIMIT
 
 -- the task reads an input; the others run a bus
 abbrev pub ReadsInput : Task → Type 0
@@ -38,7 +45,10 @@ ReadsInput task.Picture = Unit {0}
 ReadsInput (task.Webpage purpose) = Unit {0}
 ReadsInput (task.Run request) = ⊥
 ReadsInput (task.RunLog request) = ⊥
+ReadsInput (task.RunJournal request) = ⊥
 ReadsInput (task.Log senders) = Unit {0}
+ReadsInput task.Journal = Unit {0}
+ReadsInput task.Repair = Unit {0}
 
 -- the election that the program goes by, made of ratifiers of three words
 abbrev pub by_three_words : Election (Elector Local)
@@ -59,7 +69,24 @@ AnswersTask (task.Webpage purpose) input outcome text =
     × (text ≡ webpage purpose (script_of purpose input) trace)
 AnswersTask (task.Run request) input outcome text = ⊥
 AnswersTask (task.RunLog request) input outcome text = ⊥
+AnswersTask (task.RunJournal request) input outcome text = ⊥
 AnswersTask (task.Log senders) input outcome text = IsTold senders input outcome text
+AnswersTask task.Journal input outcome text = IsJournalAnswer input outcome text
+AnswersTask task.Repair input outcome text = IsRepaired input outcome text
+
+-- why a task that runs a bus does not end well, but for a failed write
+abbrev pub FailsTask : Task → RunFault → Type 0
+FailsTask task.Ratify fault = ⊥
+FailsTask task.Replay fault = ⊥
+FailsTask task.Trace fault = ⊥
+FailsTask task.Picture fault = ⊥
+FailsTask (task.Webpage purpose) fault = ⊥
+FailsTask (task.Run request) fault = IsRunFault request.senders request.receivers fault
+FailsTask (task.RunLog request) fault = IsRunFault request.senders request.receivers fault
+FailsTask (task.RunJournal request) fault = IsRunFault request.senders request.receivers fault
+FailsTask (task.Log senders) fault = ⊥
+FailsTask task.Journal fault = ⊥
+FailsTask task.Repair fault = ⊥
 
 -- what a task that runs a bus prints of a run that ended well
 abbrev pub PrintsTask : Task → List ℕ → Type 0
@@ -72,4 +99,8 @@ PrintsTask (task.Run request) text =
     IsRunText request.senders request.receivers (min request.messages MOST_MESSAGES_EACH) text
 PrintsTask (task.RunLog request) text =
     IsRunLog request.senders request.receivers (min request.messages MOST_MESSAGES_EACH) text
+PrintsTask (task.RunJournal request) text =
+    IsRunJournal request.senders request.receivers (min request.messages MOST_MESSAGES_EACH) text
 PrintsTask (task.Log senders) text = ⊥
+PrintsTask task.Journal text = ⊥
+PrintsTask task.Repair text = ⊥

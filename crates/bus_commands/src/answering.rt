@@ -1,15 +1,17 @@
 //! Which command a task names, and by which ratifier it goes.
 
-ghost use Rattle.std.specs.Prelude.{◌≡◌, ℕ, List, IfOk, IfErr, IsErrOf, Ok, Err};
+ghost use Rattle.std.specs.Prelude.{◌≡◌, ◌⊎◌, ℕ, List, IfOk, IfErr, IsErrOf, Ok, Err};
 ghost use Rattle.std.specs.Io.KnownBytes.{Appends, Keeps};
 ghost use Rattle.bus_script.specs.declared.answers.Outcome.{Outcome};
 ghost use Rattle.bus_commands.specs.Streams.{ReadsWhole, IsScriptFault, WritesPart};
-ghost use Rattle.bus_commands.specs.Tasks.{AnswersTask, PrintsTask, ReadsInput, limit_of};
+ghost use Rattle.bus_commands.specs.Tasks.{AnswersTask, PrintsTask, FailsTask, ReadsInput};
+ghost use Rattle.bus_commands.specs.Tasks.{limit_of};
 
 use crate::command_line::Task;
+use crate::journal::{journal, repair};
 use crate::log::log;
 use crate::picture::picture;
-use crate::printing::{print_log, print_run};
+use crate::printing::{print_journal, print_log, print_run};
 use crate::ratify::ratify;
 use crate::replay::replay;
 use crate::trace::trace;
@@ -50,11 +52,13 @@ pub fn answer<R: Read, W: Write>(
         Task::Picture => picture::<ThreeWord, _, _>(alloc, reader, writer),
         Task::Webpage(purpose) => webpage::<ThreeWord, _, _>(alloc, purpose, reader, writer),
         Task::Log { senders } => without_trace(alloc, log(alloc, senders, reader, writer)),
-        Task::Run(_) | Task::RunLog(_) => unreachable!(),
+        Task::Journal => without_trace(alloc, journal(alloc, reader, writer)),
+        Task::Repair => without_trace(alloc, repair(alloc, reader, writer)),
+        Task::Run(_) | Task::RunLog(_) | Task::RunJournal(_) => unreachable!(),
     }
 }
 
-/// Runs the bus that a task asks for, and writes its summary or its log.
+/// Runs the bus that a task asks for, and writes its summary, its log or its journal.
 pub fn print<T: Threads + Wait + Sync, W: Write>(
     rt: &T,
     alloc: Global,
@@ -67,12 +71,14 @@ pub fn print<T: Threads + Wait + Sync, W: Write>(
     // A front of it, where a write failed; with another fault nothing was written.
     ensures write { IsErrOf result RunFault.Write → (text : List ℕ)
         × PrintsTask task text × WritesPart (W.contents writer.old) (W.contents writer.new) text }
+    ensures fault { IfErr result (λ fault. (fault ≡ RunFault.Write) ⊎ FailsTask task fault) }
     ensures unwritten { IfErr result (λ fault. (fault ≡ RunFault.Write → ⊥)
         → Keeps (W.contents writer.old) (W.contents writer.new)) }
 {
     match task {
         Task::Run(request) => print_run(rt, alloc, request, writer),
         Task::RunLog(request) => print_log(rt, alloc, request, writer),
+        Task::RunJournal(request) => print_journal(rt, alloc, request, writer),
         _ => unreachable!(),
     }
 }

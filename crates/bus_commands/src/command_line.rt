@@ -30,8 +30,14 @@ pub enum Task {
     Run(Request),
     /// Of a run, its log.
     RunLog(Request),
+    /// Of a run, its journal.
+    RunJournal(Request),
     /// Of a log of so many senders, what it spells.
     Log { senders: u64 },
+    /// Of a journal, what it says.
+    Journal,
+    /// Of a journal, what is left where a torn tail is cut off.
+    Repair,
 }
 
 /// The command line with all its commands.
@@ -66,7 +72,8 @@ fn bus_command<'a>(alloc: Global) -> Result<Command<'a>, Error>
         .subcommand(replay)?
         .subcommand(trace)?
         .subcommand(run_command(alloc)?)?
-        .subcommand(log_command(alloc)?)?;
+        .subcommand(log_command(alloc)?)?
+        .subcommand(journal_command(alloc)?)?;
     Ok(bus)
 }
 
@@ -93,10 +100,13 @@ fn task_of(name: &str, given: &ArgMatches<'_>) -> Task
         "trace" if given.get_flag("play") => Task::Webpage(Purpose::Play),
         "trace" => Task::Trace,
         "run" if given.get_flag("log") => Task::RunLog(request_of(given)),
+        "run" if given.get_flag("journal") => Task::RunJournal(request_of(given)),
         "run" => Task::Run(request_of(given)),
         "log" => Task::Log {
             senders: number_of(given, "senders", 3),
         },
+        "journal" if given.get_flag("repair") => Task::Repair,
+        "journal" => Task::Journal,
         _ => Task::Ratify,
     }
 }
@@ -119,7 +129,8 @@ fn run_command<'a>(alloc: Global) -> Result<Command<'a>, Error>
         .arg(number(alloc, "receivers", "2", receivers).help("Threads that receive, 1 to 8"))?
         .arg(number(alloc, "messages", "100", messages).help("Messages of each sender, 0 to 400"))?
         .arg(seed)?
-        .arg(log_flag(alloc))?;
+        .arg(log_flag(alloc))?
+        .arg(journal_flag(alloc)?)?;
     Ok(command)
 }
 
@@ -137,6 +148,30 @@ fn log_command<'a>(alloc: Global) -> Result<Command<'a>, Error>
     Ok(command)
 }
 
+/// The command `journal`.
+fn journal_command<'a>(alloc: Global) -> Result<Command<'a>, Error>
+    ensures shape { IfOk result (λ c. app_of c ≡ line.journal_command) }
+    ensures local { IfOk result (λ c. (out-Command c).has_globals ≡ false) }
+{
+    let command = Command::new(alloc, "journal")
+        .about("Tells what a journal on standard input says, and how it ends")
+        .override_usage(help::JOURNAL_USAGE)
+        .after_help(help::JOURNAL)
+        .arg(repair_flag(alloc))?;
+    Ok(command)
+}
+
+/// The option of `journal` that asks for what is left of it.
+fn repair_flag<'a>(alloc: Global) -> Arg<'a>
+    ensures rule { rule_of result ≡ line.flag (codes "repair") }
+    ensures local { result.global ≡ false }
+{
+    Arg::new(alloc, "repair")
+        .long("repair")
+        .action(ArgAction::SetTrue)
+        .help("Write the journal without its torn tail, in place of the lines")
+}
+
 /// The option of `run` that asks for its log.
 fn log_flag<'a>(alloc: Global) -> Arg<'a>
     ensures rule { rule_of result ≡ line.flag (codes "log") }
@@ -146,6 +181,19 @@ fn log_flag<'a>(alloc: Global) -> Arg<'a>
         .long("log")
         .action(ArgAction::SetTrue)
         .help("Print the words of the log, one a line, in place of the summary")
+}
+
+/// The option of `run` that asks for its journal.
+fn journal_flag<'a>(alloc: Global) -> Result<Arg<'a>, AllocError>
+    ensures rule { IfOk result (λ a. rule_of a
+        ≡ record (line.flag (codes "journal")) { is_free = false }) }
+    ensures local { IfOk result (λ a. a.global ≡ false) }
+{
+    Arg::new(alloc, "journal")
+        .long("journal")
+        .action(ArgAction::SetTrue)
+        .help("Write the bytes of a journal of the log, in place of the summary")
+        .conflicts_with("log")
 }
 
 /// The option of `trace` that asks for a picture.

@@ -19,7 +19,7 @@ pub const BUS: &str = "Examples:
 'bus COMMAND --help' says more of a command. Formats, refusals and exit statuses stand in
 docs/FORMATS.md, and examples/tour has nine commented scripts.";
 
-/// How `ratify` is called. It and the three below it read standard input.
+/// How `ratify` is called. It and the four below it read standard input.
 pub const RATIFY_USAGE: &str = "bus ratify < FILE";
 
 /// How `replay` is called.
@@ -30,6 +30,9 @@ pub const TRACE_USAGE: &str = "bus trace [OPTIONS] < FILE";
 
 /// How `log` is called.
 pub const LOG_USAGE: &str = "bus log [OPTIONS] < FILE";
+
+/// How `journal` is called.
+pub const JOURNAL_USAGE: &str = "bus journal [OPTIONS] < FILE";
 
 /// Behind the options of `ratify`.
 pub const RATIFY: &str =
@@ -76,6 +79,7 @@ pub const RUN: &str = "It reads nothing. The order of the messages may differ fr
 Examples:
   bus run --senders 3 --receivers 2 --messages 100 --seed 7
   bus run --senders 1 --receivers 1 --messages 2 --log
+  bus run --messages 20 --journal > run.journal
 
 What is printed stands in docs/FORMATS.md, under 'run'.";
 
@@ -88,3 +92,16 @@ Examples:
   printf '4000010000000000\\nc000000000000000\\n' | bus log --senders 1
 
 The format stands in docs/FORMATS.md, under 'Words of a log'.";
+
+/// Behind the options of `journal`.
+pub const JOURNAL: &str =
+    "The last line is 'whole', 'torn' or 'damaged', and how many bytes the header and the whole
+records have.
+The status is 0 where the journal is whole, and with --repair also where a torn tail was cut off.
+Where whole records stand behind a damaged head, nothing is cut off.
+
+Examples:
+  bus journal < run.journal
+  bus journal --repair < run.journal > whole.journal
+
+The format stands in docs/FORMATS.md, under 'Journals'.";

@@ -18,6 +18,7 @@
 pub mod answering;
 pub mod command_line;
 pub mod help;
+pub mod journal;
 pub mod laws;
 pub mod log;
 pub mod picture;

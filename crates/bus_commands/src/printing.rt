@@ -1,8 +1,12 @@
-//! What `bus run` prints of a run: its summary, or its log.
+//! What `bus run` prints of a run: its summary, its log, or a journal of that.
 
-ghost use Rattle.std.specs.Prelude.{◌≡◌, ◌⊎◌, ℕ, List, IfOk, OnOk, IfErr, IsErrOf, min};
+ghost use Rattle.std.specs.Prelude.{◌≡◌, ◌≤◌, ◌<◌, ◌^◌, ◌⊎◌, ℕ, List, IfOk, OnOk, IfErr, IsErrOf};
+ghost use Rattle.std.specs.Prelude.{length, min};
 ghost use Rattle.std.specs.Io.KnownBytes.{Appends, Keeps};
-ghost use Rattle.bus_commands.specs.RunLog.{IsRunLog};
+ghost use Rattle.bus_batch.specs.Frames.{Frame, AreFrames, log_words};
+ghost use Rattle.bus_journal.specs.Format.{journal_bytes};
+ghost use Rattle.bus_register.specs.declared.limits.TheConstants.{MOST_SENDERS};
+ghost use Rattle.bus_commands.specs.RunLog.{IsRunLog, IsRunJournal, run_heading};
 ghost use Rattle.bus_run.specs.Audit.{shape_of_run};
 ghost use Rattle.bus_run.specs.Left.{RunServes};
 ghost use Rattle.bus_run.specs.Reports.{IsRunReport};
@@ -11,11 +15,13 @@ ghost use Rattle.bus_run.specs.Stops.{IsRunFault};
 ghost use Rattle.bus_commands.specs.Streams.{WritesPart};
 
 use crate::streams::write_whole;
+use bus_journal::{Header, push_frames, push_header};
 use bus_logtext::print_words;
+use bus_register::limits::MOST_MESSAGES;
 use bus_run::limits::MOST_MESSAGES_EACH;
 use bus_run::{OpenGate, Report, RunFault, report_text, run};
 use bus_script::Outcome;
-use std::alloc::Global;
+use std::alloc::{AllocError, Global};
 use std::io::Write;
 use std::sync::Wait;
 use std::thread::Threads;
@@ -121,5 +127,60 @@ pub fn print_log<R: Threads + Wait + Sync, W: Write>(
     let report = run_of(rt, alloc, request)?;
     let text = print_words(alloc, report.ended.log())?;
     write_whole(writer, text.as_bytes())?;
+    Ok(Outcome::Done)
+}
+
+/// The bytes of a journal of a run's log.
+fn run_journal(alloc: Global, words: &[u64], senders: u64) -> Result<Vec<u8>, AllocError>
+    requires some { 1 ≤ senders }
+    requires few { senders ≤ MOST_SENDERS }
+    ensures { IfOk result (λ bytes. (frames : List Frame) → AreFrames senders frames
+        → log_words frames ≡ words.now
+        → bytes.items ≡ journal_bytes (run_heading senders) frames) }
+{
+    let header = Header {
+        senders,
+        most: MOST_MESSAGES as u64,
+        place: 0,
+        first: vec![in alloc; 0u64; senders as usize]?,
+    };
+    let mut bytes = Vec::new(alloc);
+    push_header(&mut bytes, &header)?;
+    push_frames(&mut bytes, 0, words)?;
+    Ok(bytes)
+}
+
+/// Runs a bus and writes the bytes of a journal of its log.
+pub fn print_journal<R: Threads + Wait + Sync, W: Write>(
+    rt: &R,
+    alloc: Global,
+    request: Request,
+    writer: &mut W,
+) -> Result<Outcome, RunFault>
+    // The shape is one that is served.
+    ensures served { OnOk result (RunServes (shape_of_run request.senders request.receivers)) }
+
+    // The run ended well, and all of its journal was written.
+    ensures ok { IfOk result (λ outcome. (outcome ≡ Outcome.Done) × (text : List ℕ)
+        × IsRunJournal request.senders request.receivers
+        (min request.messages MOST_MESSAGES_EACH) text
+        × Appends (W.contents writer.old) (W.contents writer.new) text) }
+
+    // The run ended well, and a part of its journal was written.
+    ensures write { IsErrOf result RunFault.Write
+        → RunServes (shape_of_run request.senders request.receivers) × (text : List ℕ)
+        × IsRunJournal request.senders request.receivers
+        (min request.messages MOST_MESSAGES_EACH) text
+        × WritesPart (W.contents writer.old) (W.contents writer.new) text }
+
+    // Else the run did not end well, or there was no memory for the bytes, and nothing was written.
+    ensures fault { IfErr result (λ fault. (fault ≡ RunFault.Write)
+        ⊎ IsRunFault request.senders request.receivers fault) }
+    ensures unwritten { IfErr result (λ fault. (fault ≡ RunFault.Write → ⊥)
+        → Keeps (W.contents writer.old) (W.contents writer.new)) }
+{
+    let report = run_of(rt, alloc, request)?;
+    let bytes = run_journal(alloc, report.ended.log(), request.senders)?;
+    write_whole(writer, bytes.as_slice())?;
     Ok(Outcome::Done)
 }

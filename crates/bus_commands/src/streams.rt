@@ -15,6 +15,9 @@ pub const SCRIPT_LIMIT: usize = 1_048_576;
 /// How many bytes the lines of a log have at most.
 pub const LOG_LIMIT: usize = 2_097_152;
 
+/// How many bytes of a journal are read at most: 64 MiB.
+pub const JOURNAL_LIMIT: usize = 67_108_864;
+
 /// How many bytes are read at once.
 const CHUNK: usize = 16_384;
 

@@ -8,3 +8,5 @@ pub mod AnswerLemmas
 pub mod LineLemmas
 -- What is told along the words of a log.
 pub mod TextLemmas
+-- Bytes have one answer as a journal, and one repair.
+pub mod JournalLemmas

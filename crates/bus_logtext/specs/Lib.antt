@@ -2,3 +2,4 @@ pub mod Words
 pub mod Lines
 pub mod Text
 pub mod Answers
+pub mod Journals

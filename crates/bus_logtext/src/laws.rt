@@ -1,10 +1,10 @@
 //! Laws of the text of logs: each function does nothing, and its contract is the law.
 
 ghost use Rattle.std.specs.Prelude.{◌≡◌, ◌≢◌, ℕ, ◌↔◌, ◌^◌, ◌<◌, ◌≤◌, List, [], ◌∷◌, ◌++◌, All};
-ghost use Rattle.std.specs.Prelude.{Some, None, Ok, Err, codes, length};
+ghost use Rattle.std.specs.Prelude.{Some, None, Ok, Err, codes, length, slice_index, ◌⊎◌, ◌+◌};
 ghost use Rattle.bus_register.specs.declared.limits.TheConstants.{MOST_LOG_WORDS};
 ghost use Rattle.bus_deliverylog.specs.Logs.{IsFirstBad, IsTorn};
-ghost use Rattle.bus_batch.specs.Frames.{Frame, AreFrames, log_words};
+ghost use Rattle.bus_batch.specs.Frames.{Frame, AreFrames, IsFrame, frame_words, log_words};
 ghost use Rattle.bus_script.specs.Grammar.{script_lines};
 ghost use Rattle.bus_script.specs.declared.answers.Outcome.{Outcome};
 ghost use Rattle.bus_script.specs.declared.answers.Outcome.TheVariants.{Done, Refused};
@@ -13,8 +13,17 @@ ghost use Rattle.bus_logtext.specs.declared.faults.Refusal.{Refusal};
 ghost use Rattle.bus_logtext.specs.Lines.{IsWordLine, AreWordLines};
 ghost use Rattle.bus_logtext.specs.Text.{log_text, bad_word_text};
 ghost use Rattle.bus_logtext.specs.Answers.{IsAnswer};
+ghost use Rattle.bus_journal.specs.Format.{Heading, IsHeading, journal_bytes, word_bytes};
+ghost use Rattle.bus_journal.specs.Format.{words_bytes, checksum};
+ghost use Rattle.bus_journal.specs.Reading.{Answer, AreFew, Reads};
+ghost use Rattle.bus_journal.specs.declared.ends.JournalEnd.TheVariants as end;
+ghost use Rattle.bus_logtext.specs.Journals.{IsJournalAnswer, IsRepaired, IsBeyondRepair, Mends};
+ghost use Rattle.bus_logtext.specs.Journals.{journal_text};
 
 use bus_deliverylog::laws::readings_are_exact;
+use bus_journal::laws::{
+    journals_are_one, journals_refuse, mended_journals_are_whole, written_journals_are_read,
+};
 
 /// A line is a word just where it is spelled so.
 pub fn lines_are_words()
@@ -73,4 +82,55 @@ pub fn log_answers_refuse()
         → text ≡ bad_word_text place }
 {
     readings_are_exact();
+}
+
+/// Bytes have at most one answer as a journal, and one repair.
+pub fn journal_answers_are_one()
+    ensures answers { (input : List ℕ) (outcome other : Outcome) (text another : List ℕ)
+        → IsJournalAnswer input outcome text → IsJournalAnswer input other another
+        → (outcome ≡ other) × (text ≡ another) }
+    ensures repairs { (input : List ℕ) (outcome other : Outcome) (left another : List ℕ)
+        → IsRepaired input outcome left → IsRepaired input other another
+        → (outcome ≡ other) × (left ≡ another) }
+{
+    journals_are_one();
+}
+
+/// What a repair leaves is told as whole, with the lines of the frames that were told before.
+pub fn repaired_journals_are_whole()
+    ensures { (input left text : List ℕ) (outcome : Outcome) → IsRepaired input Done left
+        → IsJournalAnswer left outcome text
+        → (outcome ≡ Done) × ((frames : List Frame) × (a : Answer) × Reads input frames a
+        × (text ≡ journal_text a.heading frames end.Whole a.whole)) }
+{
+    mended_journals_are_whole();
+    written_journals_are_read();
+}
+
+/// What is written as a journal is answered with just its lines, as whole.
+pub fn written_journals_are_told()
+    ensures { (h : Heading) (frames : List Frame) → IsHeading h → AreFrames h.senders frames
+        → AreFew h.most frames → IsJournalAnswer (journal_bytes h frames) Done
+        (journal_text h frames end.Whole (length (journal_bytes h frames))) }
+{
+    written_journals_are_read();
+}
+
+/// What no answer of a journal does: to call one done which has a byte more, to leave such a byte
+/// in a repair, and to call one done or repair it of which the last record is damaged.
+pub fn journal_answers_refuse()
+    ensures torn { (h : Heading) (frames : List Frame) (byte : ℕ) (input text : List ℕ)
+        → IsHeading h → AreFrames h.senders frames → AreFew h.most frames
+        → input ≡ journal_bytes h frames ++ byte ∷ [] → ¬ IsJournalAnswer input Done text }
+    ensures left { (h : Heading) (frames : List Frame) (byte : ℕ) (input : List ℕ) → IsHeading h
+        → AreFrames h.senders frames → AreFew h.most frames
+        → input ≡ journal_bytes h frames ++ byte ∷ [] → ¬ IsRepaired input Done input }
+    ensures damaged { (h : Heading) (frames : List Frame) (f : Frame) (sum : List ℕ)
+        (input text : List ℕ) → IsHeading h → AreFrames h.senders frames → AreFew h.most frames
+        → IsFrame h.senders f → length sum ≡ 8 → slice_index sum 7 ≢ 0 → sum ≢ checksum
+        (word_bytes (h.place + length (log_words frames)) ++ words_bytes (frame_words f))
+        → input ≡ journal_bytes h frames ++ (words_bytes (frame_words f) ++ sum)
+        → ¬ (IsJournalAnswer input Done text ⊎ IsRepaired input Done text) }
+{
+    journals_refuse();
 }

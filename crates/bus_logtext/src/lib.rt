@@ -1,4 +1,4 @@
-//! The words of a log as lines of text, and what is printed of such lines.
+//! The words of a log as lines of text, and what is printed of such lines and of a journal.
 //!
 //! The log of one frame, in which sender 0 sent one message:
 //!
@@ -13,11 +13,13 @@
 
 pub mod answers;
 pub mod faults;
+pub mod journals;
 pub mod laws;
 pub mod text;
 pub mod words;
 
 pub use answers::read_log_text;
 pub use faults::{LineFault, Refusal, WordsFault};
+pub use journals::{mended_len, read_journal_text};
 pub use text::log_text;
 pub use words::{print_words, words_of};

@@ -1,14 +1,16 @@
 //! The program `bus`. `bus ratify`, `bus replay` and `bus trace` read a script from standard input
 //! and write its answer to standard output, `bus trace --svg` a picture of it, `bus trace --html` a
 //! web page that steps through it, `bus trace --play` one on which one also plays, and `bus log`
-//! the words of a log. `bus run` lets threads share a
-//! bus, and writes what came of it.
+//! the words of a log. `bus journal` tells the bytes of a journal, and `bus journal --repair`
+//! writes what is left of them where a torn tail is cut off. `bus run` lets threads share a bus,
+//! and writes what came of it.
 //!
-//! Where a script or a log was refused, standard error says why, as a hint.
+//! Where a script, a log or a journal was refused, standard error says why, as a hint.
 //!
-//! Exit status: 0 where the script was played, the log was told, the bus was run or the version was
-//! asked for; 1 where a script or a log was refused, or the program could not do its work, which
-//! standard error then says; 2 where the command line was refused, or asked for help.
+//! Exit status: 0 where the script was played, the log was told, the journal is whole or was
+//! repaired, the bus was run or the version was asked for; 1 where a script, a log or a journal was
+//! refused, or the program could not do its work, which standard error then says; 2 where the
+//! command line was refused, or asked for help.
 #![tactic(auto)]
 
 ghost use Rattle.std.specs.Prelude.{◌≤◌, ◌^◌};
@@ -17,7 +19,8 @@ ghost use Rattle.bus_commands.specs.Tasks.{ReadsInput};
 use bus_adoptcommit::ThreeWord;
 use bus_commands::answering::{answer, print};
 use bus_commands::command_line::{Task, parse};
-use bus_commands::streams::{LOG_LIMIT, SCRIPT_LIMIT, read_whole};
+use bus_commands::streams::{JOURNAL_LIMIT, LOG_LIMIT, SCRIPT_LIMIT, read_whole};
+use bus_journal::{JournalEnd, JournalFault, read_journal};
 use bus_reasons::{Reads, reason_of};
 use bus_register::NoMemory;
 use bus_run::RunFault;
@@ -66,23 +69,25 @@ fn do_task<R: AllocGlobal + Input + Print + Eprint + Threads + Wait + Sync>(
     task: Task,
 ) -> ExitCode {
     match task {
-        Task::Ratify => do_reading(rt, task, Reads::Ratify, SCRIPT_LIMIT),
-        Task::Replay => do_reading(rt, task, Reads::Replay, SCRIPT_LIMIT),
-        Task::Trace => do_reading(rt, task, Reads::Replay, SCRIPT_LIMIT),
-        Task::Picture => do_reading(rt, task, Reads::Replay, SCRIPT_LIMIT),
-        Task::Webpage(_) => do_reading(rt, task, Reads::Replay, SCRIPT_LIMIT),
-        Task::Log { senders } => do_reading(rt, task, Reads::Log { senders }, LOG_LIMIT),
+        Task::Ratify => do_reading(rt, task, Some(Reads::Ratify), SCRIPT_LIMIT),
+        Task::Replay => do_reading(rt, task, Some(Reads::Replay), SCRIPT_LIMIT),
+        Task::Trace => do_reading(rt, task, Some(Reads::Replay), SCRIPT_LIMIT),
+        Task::Picture => do_reading(rt, task, Some(Reads::Replay), SCRIPT_LIMIT),
+        Task::Webpage(_) => do_reading(rt, task, Some(Reads::Replay), SCRIPT_LIMIT),
+        Task::Log { senders } => do_reading(rt, task, Some(Reads::Log { senders }), LOG_LIMIT),
+        Task::Journal | Task::Repair => do_reading(rt, task, None, JOURNAL_LIMIT),
         Task::RunLog(_) => end(rt, print(rt, rt.alloc(), task, &mut io::writer(rt))),
+        Task::RunJournal(_) => end(rt, print(rt, rt.alloc(), task, &mut io::writer(rt))),
         Task::Run(_) => end(rt, print(rt, rt.alloc(), task, &mut io::writer(rt))),
     }
 }
 
 /// Does a command that reads, over all of its input, says why that was refused where it was, and
-/// gives the exit status.
+/// gives the exit status. What reads lines is named; a journal has none.
 fn do_reading<R: AllocGlobal + Input + Print + Eprint>(
     rt: &R,
     task: Task,
-    reads: Reads,
+    reads: Option<Reads>,
     limit: usize,
 ) -> ExitCode
     requires task { ReadsInput task }
@@ -94,7 +99,10 @@ fn do_reading<R: AllocGlobal + Input + Print + Eprint>(
     };
     let ended = answer_to_input(rt, task, input.as_slice());
     if ended == Ok(Outcome::Refused) {
-        say_why(rt, reads, input.as_slice());
+        match reads {
+            Some(reads) => say_why(rt, reads, input.as_slice()),
+            None => say_of_journal(rt, input.as_slice()),
+        }
     }
     end(rt, ended)
 }
@@ -107,6 +115,27 @@ fn say_why<R: AllocGlobal + Eprint>(rt: &R, reads: Reads, input: &[u8]) {
     {
         let _ = eprintln!(rt; "bus: {reason}");
     }
+}
+
+/// Says why bytes are no whole journal.
+fn say_of_journal<R: AllocGlobal + Eprint>(rt: &R, input: &[u8]) {
+    let _ = match read_journal(rt.alloc(), input) {
+        Ok(read) if read.hides => {
+            eprintln!(rt;
+                "bus: behind byte {} a head is damaged, before whole records",
+                read.whole
+            )
+        }
+        Ok(read) if read.end == JournalEnd::Torn => {
+            eprintln!(rt; "bus: behind byte {} stands less than a record", read.whole)
+        }
+        Ok(read) => eprintln!(rt;
+            "bus: behind byte {} stands no record that goes on",
+            read.whole
+        ),
+        Err(JournalFault::NoMemory) => return,
+        Err(fault) => eprintln!(rt; "bus: {fault}"),
+    };
 }
 
 /// What a command answers to an input; of a trace, what `replay` does.

@@ -144,8 +144,11 @@ fn tasks(rt: HostRuntime) {
     names_task(&rt, &["trace", "--play"], Task::Webpage(Purpose::Play));
     names_task(&rt, &["run"], Task::Run(run));
     names_task(&rt, &["run", "--log"], Task::RunLog(run));
+    names_task(&rt, &["run", "--journal"], Task::RunJournal(run));
     names_task(&rt, &["log"], Task::Log { senders: 3 });
     names_task(&rt, &["log", "--senders", "2"], Task::Log { senders: 2 });
+    names_task(&rt, &["journal"], Task::Journal);
+    names_task(&rt, &["journal", "--repair"], Task::Repair);
 }
 
 /// Wants that `run` with these options is this run.
@@ -199,6 +202,8 @@ fn command_lines(rt: HostRuntime) {
     for rest in [["trace", "--svg", "--html"], ["trace", "--html", "--svg"]] {
         refuses_words(&rt, &rest, ErrorKind::ArgumentConflict);
     }
+    let both = ["run", "--log", "--journal"];
+    refuses_words(&rt, &both, ErrorKind::ArgumentConflict);
     for rest in [
         ["run", "--senders", "0"],
         ["run", "--senders", "9"],

@@ -1,4 +1,4 @@
-use Rattle.std.proofs.Common.{◌≡◌, ℕ, List, IfOk, IfErr, Option, Result, string_bytes, refl, sym}
+use Rattle.std.proofs.Common.{◌≡◌, ℕ, List, IfOk, IfErr, Option, string_bytes, refl, sym}
 use Rattle.std.proofs.Common.{subst}
 use Rattle.std.proofs.lemmas.Result.{IfOk-weaker, IfErr-weaker}
 use Rattle.std.specs.Io.KnownBytes.{Appends}
@@ -12,7 +12,8 @@ use Rattle.bus_trace.specs.Traces.{IsTrace}
 use Rattle.bus_webpage.specs.Webpages.{script_of, webpage}
 use Rattle.bus_commands.specs.declared.command_line.Task.{Task}
 use Rattle.bus_commands.specs.declared.command_line.Task.TheVariants as task
-use Rattle.bus_commands.specs.declared.streams.TheConstants.{SCRIPT_LIMIT}
+use Rattle.bus_commands.specs.declared.streams.TheConstants.{SCRIPT_LIMIT, JOURNAL_LIMIT}
+use Rattle.bus_logtext.specs.Journals.{IsJournalAnswer}
 use Rattle.bus_commands.specs.Streams.{ReadsWhole, IsScriptFault}
 use Rattle.bus_commands.specs.Tasks.{AnswersTask, by_three_words, limit_of}
 use Rattle.bus_commands.proofs.answering.answer.Goals as goal
@@ -106,3 +107,28 @@ returns-in-Webpage-clause-fault g c =
     (fault_more SCRIPT_LIMIT IsAnswered Answers (λ input text is. (is.0, (is.1, is.2, is.3)))
     before after from to)
     c.webpage.ensures.fault)
+
+pub returns-in-Journal-clause-ok : goal.returns-in-Journal-clause-ok
+returns-in-Journal-clause-ok g c =
+    let before = g.R.Read.remaining c.args.reader.now in
+    let from = g.W.Write.contents c.args.writer.now in
+    let to = g.W.Write.contents c.journal.new.writer in
+    subst (λ t. IfOk c.without_trace-in-Journal.result (Answered t before from to))
+    (sym c.in-Journal.is)
+    (IfOk-weaker c.without_trace-in-Journal.result _ (Answered task.Journal before from to)
+    (λ answer e. subst (λ r. IfOk r (λ outcome. (input : List ℕ) × (text : List ℕ)
+    × ReadsWhole JOURNAL_LIMIT before input × IsJournalAnswer input outcome text
+    × Appends from to text)) e c.journal.ensures.ok)
+    c.without_trace-in-Journal.ensures.ok)
+
+pub returns-in-Journal-clause-fault : goal.returns-in-Journal-clause-fault
+returns-in-Journal-clause-fault g c =
+    let before = g.R.Read.remaining c.args.reader.now in
+    let after = g.R.Read.remaining c.journal.new.reader in
+    let from = g.W.Write.contents c.args.writer.now in
+    let to = g.W.Write.contents c.journal.new.writer in
+    subst (λ t. IfErr c.without_trace-in-Journal.result (Fails t before after from to))
+    (sym c.in-Journal.is)
+    (IfErr-weaker c.without_trace-in-Journal.result _ (Fails task.Journal before after from to)
+    (λ fault e. subst (λ r. IfErr r (Fails task.Journal before after from to)) e
+    c.journal.ensures.fault) c.without_trace-in-Journal.ensures.err)

@@ -77,5 +77,8 @@ returns c =
     let fourth =
     c.in_ok-subcommand-4.ensures.shape c.in_ok-run_command.ensures.local
     ∙ ap₂ with_subcommand third (top_of _ _ c.in_ok-run_command.ensures.shape) in
-    c.in_ok-bus.ensures.shape c.in_ok-log_command.ensures.local
-    ∙ ap₂ with_subcommand fourth (top_of _ _ c.in_ok-log_command.ensures.shape)
+    let fifth =
+    c.in_ok-subcommand-5.ensures.shape c.in_ok-log_command.ensures.local
+    ∙ ap₂ with_subcommand fourth (top_of _ _ c.in_ok-log_command.ensures.shape) in
+    c.in_ok-bus.ensures.shape c.in_ok-journal_command.ensures.local
+    ∙ ap₂ with_subcommand fifth (top_of _ _ c.in_ok-journal_command.ensures.shape)

@@ -42,9 +42,12 @@ nothing = record {
   picture = λ r e a. absurd cc;
   webpage = λ r e a b. absurd cc;
   play = λ r e a b d. absurd cc;
-  run = λ r e a. absurd cc;
+  run = λ r e a b. absurd cc;
   run_log = λ r e a. absurd cc;
+  run_journal = λ r e a b. absurd cc;
   log = λ r e. absurd cc;
+  journal = λ r e a. absurd cc;
+  repair = λ r e a. absurd cc;
 }
 
 pub returns : goal.returns
@@ -66,7 +69,10 @@ returns c =
             play = w.task_of.ensures.play;
             run = w.task_of.ensures.run;
             run_log = w.task_of.ensures.run_log;
+            run_journal = w.task_of.ensures.run_journal;
             log = w.task_of.ensures.log;
+            journal = w.task_of.ensures.journal;
+            repair = w.task_of.ensures.repair;
           } in
           let o = (out-ArgMatches m).subcommand in
           let both =

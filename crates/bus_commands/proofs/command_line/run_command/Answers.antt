@@ -46,5 +46,8 @@ returns-clause-shape c =
     let four =
     c.in_ok-arg-4.ensures.shape (ap is_global c.help-seed.ensures ∙ c.number.ensures.local)
     ∙ ap₂ with_rule three seed in
-    c.in_ok-command.ensures.shape c.log_flag.ensures.local
-    ∙ ap₂ with_rule four c.log_flag.ensures.rule
+    let five =
+    c.in_ok-arg-5.ensures.shape c.log_flag.ensures.local
+    ∙ ap₂ with_rule four c.log_flag.ensures.rule in
+    c.in_ok-command.ensures.shape c.in_ok-journal_flag.ensures.local
+    ∙ ap₂ with_rule five c.in_ok-journal_flag.ensures.rule

@@ -3,6 +3,7 @@ use Rattle.clap.specs.Words.{Text, found_of, one_text, one_of, rows_of}
 use Rattle.clap.proofs.WalkLemmas.{one_text-rows}
 use Rattle.clap.specs.declared.parser.matches.ArgMatches.{ArgMatches}
 use Rattle.bus_commands.proofs.Naming.{Flagged, not_given, not_left_out, of_run, of_trace}
+use Rattle.bus_commands.proofs.Naming.{of_journal}
 use Rattle.bus_commands.proofs.command_line.task_of.Goals as goal
 
 -- by the rows of a command
@@ -101,16 +102,21 @@ returns-in-run c =
       receivers = r.receivers;
       messages = r.messages;
       seed = r.seed;
-    } (λ a. absurd (on a)) (λ a. refl)
+    } (λ a b. absurd (on a)) (λ a. refl) (λ a b. absurd (on a))
 
 pub returns-in-run-2 : goal.returns-in-run-2
 returns-in-run-2 c =
     let given = c.args.given.now in
     let e = c.get_flag-then-str_eq-3.ensures in
+    let e' = c.get_flag-then-str_eq-3-2.ensures in
     let f = by_rows given (codes "log") c.get_flag-then-str_eq-3.result
     record { none = e.none; value = e.value; other = e.other } in
+    let f' = by_rows given (codes "journal") c.get_flag-then-str_eq-3-2.result
+    record { none = e'.none; value = e'.value; other = e'.other } in
     let off = not_given (codes "log") (rows_of (found_of given)) c.get_flag-then-str_eq-3.result f
     c.if-get_flag-4.false in
+    let on = not_left_out (codes "journal") (rows_of (found_of given))
+    c.get_flag-then-str_eq-3-2.result f' c.if-get_flag-5.true in
     let r = c.request_of-in-run-2.ensures in
     of_run c.args.name.now (rows_of (found_of given)) _ c.request_of-in-run-2.result c.in-run.is
     record {
@@ -118,4 +124,48 @@ returns-in-run-2 c =
       receivers = r.receivers;
       messages = r.messages;
       seed = r.seed;
-    } (λ a. refl) (λ a. absurd (off a))
+    } (λ a b. absurd (on b)) (λ a. absurd (off a)) (λ a b. refl)
+
+pub returns-in-run-3 : goal.returns-in-run-3
+returns-in-run-3 c =
+    let given = c.args.given.now in
+    let e = c.get_flag-then-str_eq-3.ensures in
+    let e' = c.get_flag-then-str_eq-3-2.ensures in
+    let f = by_rows given (codes "log") c.get_flag-then-str_eq-3.result
+    record { none = e.none; value = e.value; other = e.other } in
+    let f' = by_rows given (codes "journal") c.get_flag-then-str_eq-3-2.result
+    record { none = e'.none; value = e'.value; other = e'.other } in
+    let off = not_given (codes "log") (rows_of (found_of given)) c.get_flag-then-str_eq-3.result f
+    c.if-get_flag-4.false in
+    let off' = not_given (codes "journal") (rows_of (found_of given))
+    c.get_flag-then-str_eq-3-2.result f' c.if-get_flag-5.false in
+    let r = c.request_of-in-run-3.ensures in
+    of_run c.args.name.now (rows_of (found_of given)) _ c.request_of-in-run-3.result c.in-run.is
+    record {
+      senders = r.senders;
+      receivers = r.receivers;
+      messages = r.messages;
+      seed = r.seed;
+    } (λ a b. refl) (λ a. absurd (off a)) (λ a b. absurd (off' b))
+
+pub returns-in-journal : goal.returns-in-journal
+returns-in-journal c =
+    let given = c.args.given.now in
+    let e = c.get_flag-then-str_eq-5.ensures in
+    let f = by_rows given (codes "repair") c.get_flag-then-str_eq-5.result
+    record { none = e.none; value = e.value; other = e.other } in
+    let on = not_left_out (codes "repair") (rows_of (found_of given))
+    c.get_flag-then-str_eq-5.result f c.if-get_flag-6.true in
+    of_journal c.args.name.now (rows_of (found_of given)) _ c.in-journal.is (λ a. absurd (on a))
+    (λ a. refl)
+
+pub returns-in-journal-2 : goal.returns-in-journal-2
+returns-in-journal-2 c =
+    let given = c.args.given.now in
+    let e = c.get_flag-then-str_eq-5.ensures in
+    let f = by_rows given (codes "repair") c.get_flag-then-str_eq-5.result
+    record { none = e.none; value = e.value; other = e.other } in
+    let off = not_given (codes "repair") (rows_of (found_of given))
+    c.get_flag-then-str_eq-5.result f c.if-get_flag-6.false in
+    of_journal c.args.name.now (rows_of (found_of given)) _ c.in-journal.is (λ a. refl)
+    (λ a. absurd (off a))

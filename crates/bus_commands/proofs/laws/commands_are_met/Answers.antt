@@ -28,8 +28,20 @@ returns-clause-play c = (_, refl, (inr refl, inr refl, refl))
 
 pub returns-clause-run : goal.returns-clause-run
 unfolding clap_on_literals
-returns-clause-run c = (_, refl, (inr refl, refl, refl))
+returns-clause-run c = (_, refl, (inr refl, inr refl, refl, refl))
+
+pub returns-clause-run_journal : goal.returns-clause-run_journal
+unfolding clap_on_literals
+returns-clause-run_journal c = (_, refl, (inr refl, refl))
 
 pub returns-clause-log : goal.returns-clause-log
 unfolding clap_on_literals
 returns-clause-log c = (_, refl, refl)
+
+pub returns-clause-journal : goal.returns-clause-journal
+unfolding clap_on_literals
+returns-clause-journal c = (_, refl, inr refl)
+
+pub returns-clause-repair : goal.returns-clause-repair
+unfolding clap_on_literals
+returns-clause-repair c = (_, refl, refl)
