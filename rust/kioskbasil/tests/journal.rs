@@ -2,6 +2,10 @@
 //! their checksums by Python's hashlib.
 
 mod common;
+#[path = "journal/disk.rs"]
+mod disk;
+#[path = "journal/failing.rs"]
+mod failing;
 #[path = "journal/frames.rs"]
 mod frames;
 #[path = "journal/reading.rs"]
@@ -12,7 +16,7 @@ mod runs;
 mod writing;
 
 use common::bus;
-use kioskbasil::journal::{self, End, Header, ReadError};
+use kioskbasil::journal::{self, Doing, End, Header, JournalError, ReadError, Safe};
 use kioskbasil::{Frame, Page};
 use std::path::PathBuf;
 use std::{env, fs, process};
@@ -54,6 +58,14 @@ fn refusal(bytes: &[u8]) -> ReadError {
 /// A header of so many senders whose numbers begin with 0.
 fn header(senders: usize) -> Header {
     Header::after(senders, &Page::from_numbers(&[0]).unwrap()).unwrap()
+}
+
+/// What has failed of a journal, what of it is safe, and the text.
+fn failure(error: JournalError) -> (Doing, Safe, String) {
+    match &error {
+        JournalError::Failed { doing, safe, .. } => (*doing, *safe, error.to_string()),
+        other => panic!("{other}"),
+    }
 }
 
 /// A folder of one test, which goes with it.

@@ -1,12 +1,11 @@
 //! Journals, as they are written.
 
 use super::common::in_time;
-use super::{bytes, header, heard, small, Folder, ENDS, FIRST, HEADER};
-use kioskbasil::journal::{self, Doing, End, Header, Journal, JournalError, JournalFile};
-use kioskbasil::journal::{ReadError, RepairError, Safe, SyncPolicy, Watch};
+use super::disk::{Call, Disk, Failing, Plates};
+use super::{bytes, failure, header, heard, small, Folder, ENDS, FIRST, HEADER};
+use kioskbasil::journal::{self, Doing, End, Header, Journal, JournalError};
+use kioskbasil::journal::{ReadError, RepairError, SyncPolicy, Watch};
 use kioskbasil::{Body, Frame, Page};
-use std::io::{self, Write};
-use std::sync::{Arc, Mutex};
 use std::time::Duration;
 use std::{fs, thread};
 
@@ -89,73 +88,6 @@ fn files_go_on_in_a_next_one() {
     );
 }
 
-/// What a disk has, and when it fails.
-#[derive(Debug, Default)]
-struct Plates {
-    bytes: Vec<u8>,
-    /// How many bytes were there at the last sync, and how many syncs there were.
-    synced: usize,
-    syncs: usize,
-    writes: usize,
-    /// The most bytes of one write; 0 where there is no such limit.
-    short: usize,
-    /// At how many bytes it is full, and at which sync it fails.
-    full_at: Option<usize>,
-    sync_fails: Option<usize>,
-}
-
-#[derive(Clone, Debug, Default)]
-struct Disk(Arc<Mutex<Plates>>);
-
-impl Disk {
-    fn of(plates: Plates) -> Disk {
-        Disk(Arc::new(Mutex::new(plates)))
-    }
-
-    fn see<T>(&self, see: impl FnOnce(&mut Plates) -> T) -> T {
-        see(&mut self.0.lock().unwrap())
-    }
-}
-
-impl Write for Disk {
-    fn write(&mut self, bytes: &[u8]) -> io::Result<usize> {
-        self.see(|plates| {
-            plates.writes += 1;
-            let most = if plates.short > 0 {
-                plates.short
-            } else {
-                bytes.len()
-            };
-            let room = plates
-                .full_at
-                .map_or(usize::MAX, |at| at - plates.bytes.len());
-            if room == 0 {
-                return Err(io::Error::new(io::ErrorKind::Other, "full"));
-            }
-            let many = bytes.len().min(most).min(room);
-            plates.bytes.extend_from_slice(&bytes[..many]);
-            Ok(many)
-        })
-    }
-
-    fn flush(&mut self) -> io::Result<()> {
-        Ok(())
-    }
-}
-
-impl JournalFile for Disk {
-    fn sync(&mut self) -> io::Result<()> {
-        self.see(|plates| {
-            plates.syncs += 1;
-            if plates.sync_fails.map_or(false, |at| plates.syncs >= at) {
-                return Err(io::Error::new(io::ErrorKind::Other, "gone"));
-            }
-            plates.synced = plates.bytes.len();
-            Ok(())
-        })
-    }
-}
-
 /// A frame is one write and, where each is synced, one sync. Short writes go on.
 #[test]
 fn frames_are_one_write_each() {
@@ -164,7 +96,8 @@ fn frames_are_one_write_each() {
     for frame in &heard(5) {
         journal.write(frame).unwrap();
     }
-    assert_eq!(disk.see(|it| (it.writes, it.syncs)), (6, 6));
+    let calls = disk.see(|it| (it.count(Call::Write), it.count(Call::Sync)));
+    assert_eq!(calls, (6, 6));
     let whole = disk.see(|it| it.bytes.clone());
     let short = Disk::of(Plates {
         short: 3,
@@ -182,12 +115,13 @@ fn policies_say_when_to_sync() {
         let disk = Disk::default();
         let mut journal = Journal::on(disk.clone(), header(1), policy).unwrap();
         frames.iter().for_each(|it| journal.write(it).unwrap());
-        let before = (disk.see(|it| it.syncs) - 1, journal.safe().frames);
+        let syncs = || disk.see(|it| it.count(Call::Sync)) - 1;
+        let before = (syncs(), journal.safe().frames);
         journal.sync().unwrap();
         journal.sync().unwrap();
         assert_eq!(journal.safe().frames, 4);
         assert_eq!(journal.safe().bytes, disk.see(|it| it.synced) as u64);
-        (before, disk.see(|it| it.syncs) - 1)
+        (before, syncs())
     };
     assert_eq!(syncs(SyncPolicy::EachFrame), ((4, 4), 4));
     assert_eq!(syncs(SyncPolicy::Never), ((0, 0), 1));
@@ -196,13 +130,6 @@ fn policies_say_when_to_sync() {
         ((0, 0), 1)
     );
     assert_eq!(syncs(SyncPolicy::Every(Duration::ZERO)), ((4, 4), 4));
-}
-
-fn failure(error: JournalError) -> (Doing, Safe, String) {
-    match &error {
-        JournalError::Failed { doing, safe, .. } => (*doing, *safe, error.to_string()),
-        other => panic!("{other}"),
-    }
 }
 
 /// At each byte at which the disk is full the journal stops, says what is safe, and each further
@@ -263,7 +190,11 @@ fn failing_syncs_stop_a_journal() {
     let frames = heard(4);
     for fails in 1..6 {
         let disk = Disk::of(Plates {
-            sync_fails: Some(fails),
+            fails: Some(Failing {
+                call: Call::Sync,
+                from: fails,
+                once: false,
+            }),
             ..Plates::default()
         });
         let begun = Journal::on(disk.clone(), header(1), SyncPolicy::EachFrame);
@@ -293,7 +224,11 @@ fn failing_syncs_stop_a_journal() {
 fn watches_are_told() {
     let frames = heard(2);
     let disk = Disk::of(Plates {
-        sync_fails: Some(3),
+        fails: Some(Failing {
+            call: Call::Sync,
+            from: 3,
+            once: false,
+        }),
         ..Plates::default()
     });
     let mut journal = Journal::on(disk, header(1), SyncPolicy::Never).unwrap();
