@@ -1,18 +1,31 @@
-"""What bench/crash does: a reader of journals written from docs/FORMATS.md, and the kills.
+"""What bench/crash does: a reader of journals written from docs/FORMATS.md, the kills, the runs without room, and the changes.
 
-usage: crash.py PROGRAM FOLDER KILLS
+usage: crash.py PROGRAM FOLDER KILLS ROOMS CHANGES
 """
+import bisect
+import collections
+import errno
+import functools
 import hashlib
 import os
 import random
+import re
+import resource
+import shutil
+import signal
 import struct
 import subprocess
 import sys
+import threading
 import time
 
 WORKERS = 4
 HASH = 0xCBF29CE484222325
 MAGIC = b"KIOSKLOG"
+END, LEAVE = 0xC000000000000000, 0xC000000000000001
+# What a run says whose file has failed: what of it, the system's number for that, and how many frames, words and bytes are safe.
+SAFE = r"safe are (\d+) frames, up to place (\d+) and byte (\d+)"
+FAILED = re.compile(r"crash: .+ is not (made|written|synced): .+ \(os error (\d+)\); " + SAFE + r"\n")
 
 
 class Refused(Exception):
@@ -69,13 +82,34 @@ def messages_of(words):
     return items
 
 
+@functools.lru_cache(1 << 14)
+def frame_of(place, record):
+    """The words of a record at a place, its owner, its mark and its messages; None where it has no frame."""
+    words = words_of(record[:-8])
+    if len(words) > 129 or record[-8:] != checksum(struct.pack(">Q", place) + record[:-8]):
+        return None
+    owner = words[0] >> 54 & 0xFF
+    if words[1:] in ((END,), (LEAVE,)):
+        return words, owner, words[1], ()
+    items = messages_of(words[1:])
+    return None if items is None else (words, owner, None, [(owner, *item) for item in items])
+
+
+@functools.lru_cache(1 << 14)
+def hash_behind(value, words):
+    """A hash behind these words, before which it was this."""
+    for word in words:
+        value = (value ^ word) * 0x100000001B3 & (1 << 64) - 1
+    return value
+
+
 class Journal:
     """What the bytes of a journal say."""
 
     def __init__(self, data):
         self.senders, self.most, self.place, self.first = read_header(data)
         self.items, self.frames, self.ends = [], 0, [48 + 8 * self.senders]
-        self.tenure, self.left, self.ended = -1, set(), False
+        self.tenure, self.left, self.ended, self.hash = -1, set(), False, HASH
         self.next = list(self.first)
         self.starts = []
         while self.record(data):
@@ -89,6 +123,8 @@ class Journal:
             self.end = "torn"
         else:
             self.end = "damaged"
+        # Nothing goes on from a file that looks torn where a whole record stands behind: the head before it was damaged.
+        self.goes_on = self.end == "whole" or self.end == "torn" and not self.has_record_in(written)
 
     def size_of(self, data):
         """How many bytes the record has with whose head these begin."""
@@ -100,31 +136,37 @@ class Journal:
             return None
         return 8 * (count + 2)
 
+    def has_record_in(self, rest):
+        """A whole record of a later place stands in what is left."""
+        for at in range(8, len(rest), 8):
+            size = self.size_of(rest[at : at + 8])
+            record = rest[at : at + size] if size else b""
+            if size and len(record) == size:
+                fronts = (struct.pack(">Q", self.place + words) for words in range(1, at // 8))
+                if any(record[-8:] == checksum(front + record[:-8]) for front in fronts):
+                    return True
+        return False
+
     def record(self, data):
         """Reads a record, if a whole one follows that the log goes on with."""
         at = self.ends[-1]
         size = self.size_of(data[at : at + 8])
         if size is None or at + size > len(data):
             return False
-        body = data[at : at + size - 8]
-        if data[at + size - 8 : at + size] != checksum(struct.pack(">Q", self.place) + body):
+        frame = frame_of(self.place, data[at : at + size])
+        if frame is None:
             return False
-        words = words_of(body)
-        owner, tenure = words[0] >> 54 & 0xFF, words[0] & (1 << 40) - 1
-        if self.ended or owner in self.left or tenure <= self.tenure or len(words) > 129:
+        words, owner, mark, items = frame
+        tenure = words[0] & (1 << 40) - 1
+        if self.ended or owner in self.left or tenure <= self.tenure:
             return False
-        if words[1:] == (0xC000000000000000,):
-            self.ended = True
-        elif words[1:] == (0xC000000000000001,):
+        self.ended = mark == END
+        if mark == LEAVE:
             self.left.add(owner)
-        else:
-            items = messages_of(words[1:])
-            if items is None:
-                return False
-            for number, text in items:
-                self.items.append((owner, number, text))
-                self.next[owner] = max(self.next[owner], number + 1)
-        self.tenure = tenure
+        self.items += items
+        for _, number, _ in items:
+            self.next[owner] = max(self.next[owner], number + 1)
+        self.tenure, self.hash = tenure, hash_behind(self.hash, words)
         self.place += len(words)
         self.frames += 1
         self.starts.append(len(self.items))
@@ -136,8 +178,9 @@ class Journal:
         state = State()
         for item in self.items:
             state.apply(item)
-        numbers = " ".join(map(str, self.next))
-        return f"{self.end} {self.ends[-1]} frames {self.frames} place {self.place} state {state} next {numbers}"
+        page, numbers = "yes" if self.goes_on else "no", " ".join(map(str, self.next))
+        end, frames = f"{self.end} {self.ends[-1]} page {page}", f"frames {self.frames} {self.hash:016x} place {self.place}"
+        return f"{end} {frames} state {state} next {numbers}"
 
 
 def said_of(data):
@@ -147,16 +190,19 @@ def said_of(data):
         return str(why)
 
 
+@functools.lru_cache(1 << 16)
+def state_behind(value, item):
+    """The hash of a state behind a message."""
+    sender, number, text = item
+    return hash_behind(value, (sender, number, len(text), *text))
+
+
 class State:
     def __init__(self):
         self.count, self.hash = 0, HASH
 
     def apply(self, item):
-        sender, number, text = item
-        value = self.hash
-        for word in (sender, number, len(text), *text):
-            value = (value ^ word) * 0x100000001B3 & (1 << 64) - 1
-        self.count, self.hash = self.count + 1, value
+        self.count, self.hash = self.count + 1, state_behind(self.hash, item)
 
     def __str__(self):
         return f"{self.count} {self.hash:016x}"
@@ -176,22 +222,71 @@ class Chain:
         return os.path.join(self.folder, f"journal.{self.files}")
 
 
+def limit_files(size):
+    """No file of this process grows longer, and a write that would have it do so fails."""
+    signal.signal(signal.SIGXFSZ, signal.SIG_IGN)
+    resource.setrlimit(resource.RLIMIT_FSIZE, (size, size))
+
+
+def mount(folder, options):
+    """Mounts a disk in memory, or another size of it; False where that is not allowed."""
+    command = ["mount", "-t", "tmpfs", "-o", options, "tmpfs", folder]
+    return shutil.which("mount") is not None and subprocess.run(command, stderr=subprocess.DEVNULL).returncode == 0
+
+
+def told_of_bit(data, journal, bit):
+    """What is to be told of a whole journal with this bit turned: a refusal, or the end, the frames, and whether a run may go on."""
+    byte = bit // 8
+    if byte < journal.ends[0]:
+        return "OtherMagic" if byte < 8 else "OtherVersion" if byte < 16 else "DamagedHeader"
+    frames = bisect.bisect_right(journal.ends, byte) - 1
+    start = journal.ends[frames]
+    (head,) = words_of(data[start : start + 8])
+    place = 8 * (start + 7 - byte) + bit % 8
+    # A head may look torn: where its count, of bits 40 to 53, is raised, and tells of more bytes than there are.
+    count = (head ^ 1 << place) >> 40 & 0x3FFF if 40 <= place < 54 else 0
+    if 1 <= count <= 8 * journal.most and 8 * (count + 2) > len(data) - start:
+        return "torn", frames, frames == journal.frames - 1
+    return "damaged", frames, False
+
+
+def told_of_cut(journal, cut, zeros):
+    """What is to be told of a whole journal that is cut at a byte, with so many zeros behind."""
+    for end, fault in ((8, "OtherMagic"), (16, "OtherVersion"), (24, "DamagedHeader"), (journal.ends[0], "DamagedHeader")):
+        if cut < end:
+            return fault if cut + zeros >= end or (zeros and end == 8) else "TornHeader"
+    frames = bisect.bisect_right(journal.ends, cut) - 1
+    return "torn" if zeros or cut > journal.ends[frames] else "whole", frames, True
+
+
 class Tests:
     def __init__(self, program, folder, seed):
-        self.program, self.folder = program, folder
+        self.program, self.folder, self.seed = program, folder, seed
         self.dice = random.Random(seed)
         self.passed = self.failed = self.said = self.cuts = self.files = 0
         self.frames = self.in_creation = 0
+        self.ended = collections.Counter()
 
     def fault(self, text):
         self.failed += 1
         if self.failed <= 20:
             print("FAILED ", text)
 
+    def count(self, text, fault):
+        """Counts a test. Says whether it has passed."""
+        if fault:
+            self.fault(f"{text}: {fault}")
+        else:
+            self.passed += 1
+        return not fault
+
+    def start(self, chain, seed, before=None):
+        command = [self.program, "run", chain.folder, str(seed)]
+        return subprocess.Popen(command, bufsize=0, stdout=subprocess.PIPE, stderr=subprocess.PIPE, preexec_fn=before)
+
     def kill(self, chain, seed):
         """Starts the program, kills it, and looks at what it has said and left."""
-        command = [self.program, "run", chain.folder, str(seed)]
-        process = subprocess.Popen(command, stdout=subprocess.PIPE, stderr=subprocess.PIPE)
+        process = self.start(chain, seed)
         until = time.monotonic() + self.dice.choice([0, 10, 10])
         while time.monotonic() < until and process.poll() is None and not os.path.exists(chain.path()):
             time.sleep(0.0005)
@@ -202,9 +297,43 @@ class Tests:
         except subprocess.TimeoutExpired:
             process.kill()
             out, errors = process.communicate()
+        return f"it said {errors.decode()}" if errors else self.see(chain, out)
+
+    def kill_later(self, chain, seed):
+        """Starts the program, kills it once it has said what is on disk, and looks at that."""
+        process = self.start(chain, seed)
+        hangs = threading.Timer(60, process.kill)
+        hangs.start()
+        said = process.stdout.readline() + process.stdout.readline()
+        hangs.cancel()
+        hangs.join()
+        process.kill()
+        out, errors = process.communicate()
+        if errors or said.count(b"\n") < 2:
+            return f"it does not go on: {said.decode()}{errors.decode()}"
+        return self.see(chain, said + out)
+
+    def run_out(self, chain, seed, limit=None):
+        """Runs the program until its file has no more room, and looks at how it ends, and at what it has said and left."""
+        process = self.start(chain, seed, None if limit is None else lambda: limit_files(limit))
+        try:
+            out, errors = process.communicate(timeout=60)
+        except subprocess.TimeoutExpired:
+            process.kill()
+            process.communicate()
+            return "it hangs"
+        failed = FAILED.fullmatch(errors.decode())
+        why = errno.ENOSPC if limit is None else errno.EFBIG
+        if process.returncode != 1 or not failed or int(failed[2]) != why or not out:
+            return f"it ended with {process.returncode}: {errors.decode()}"
+        self.ended[failed[1]] += 1
+        if os.path.exists(chain.path()) == (failed[1] == "made"):
+            return f"it has {'a' if failed[1] == 'made' else 'no'} file, and said {errors.decode()}"
+        return self.see(chain, out, tuple(map(int, failed.groups()[2:])))
+
+    def see(self, chain, out, called_safe=None):
+        """Looks at what a run has said and left: one that was killed, or that has ended with an error that calls so much safe."""
         lines = [line.split() for line in out.decode().splitlines()]
-        if errors:
-            return f"it said {errors.decode()}"
         if lines and lines[0] != ["recovered", *str(chain.state).split()]:
             return f"it recovered {lines[0]} for {chain.state}"
         try:
@@ -213,10 +342,10 @@ class Tests:
         except FileNotFoundError:
             self.in_creation += 1
             return "it said what is in no file" if lines[1:] else None
-        return self.look(chain, data, lines[1:])
+        return self.look(chain, data, lines[1:], called_safe)
 
-    def look(self, chain, data, lines):
-        """Looks at the file that a killed run has left, by the lines that it has said."""
+    def look(self, chain, data, lines, called_safe):
+        """Looks at the file that a run has left, by the lines that it has said."""
         try:
             journal = Journal(data)
         except Refused as why:
@@ -244,13 +373,19 @@ class Tests:
         self.frames += journal.frames
         safe = next((end for end, many in zip(journal.ends[1:], journal.starts) if many >= last), journal.ends[0])
         safe = safe if last else journal.ends[0]
+        if called_safe:
+            frames, place, byte = called_safe
+            if journal.ends[frames : frames + 1] != [byte] or 8 * (place + frames) != byte - journal.ends[0]:
+                return f"it calls {frames} frames safe, up to place {place} and byte {byte}"
+            if safe > byte:
+                return f"it calls {byte} bytes safe, and has said what stands up to {safe}"
         fault = self.change(data, journal, safe, last)
-        self.go_on(chain, data, safe)
+        self.go_on(chain, data, safe, called_safe is None)
         return fault
 
-    def go_on(self, chain, data, safe):
+    def go_on(self, chain, data, safe, may_cut):
         """Cuts the file, or leaves it, and notes what it says."""
-        if self.dice.random() < 0.4:
+        if may_cut and self.dice.random() < 0.4:
             self.cuts += 1
             data = data[: self.dice.randint(safe, len(data))] + bytes(self.dice.choice([0, 0, 7, 4096]))
             with open(chain.path(), "wb") as file:
@@ -301,11 +436,7 @@ class Tests:
                 file.write(copy)
         read = subprocess.run([self.program, "read", *paths], stdout=subprocess.PIPE, check=True)
         for (kind, copy), said in zip(copies, read.stdout.decode().splitlines()):
-            fault = self.judge(kind, data, copy, journal, said, last)
-            if fault:
-                self.fault(f"{kind}: {fault}")
-            else:
-                self.passed += 1
+            self.count(kind, self.judge(kind, data, copy, journal, said, last))
         return None
 
     def judge(self, kind, data, copy, journal, said, last):
@@ -322,7 +453,7 @@ class Tests:
             return "other messages"
         if kind == "bit" and found.end == "whole":
             return "nothing is told"
-        if kind in ("lost", "cut") and found.end == "damaged":
+        if kind in ("lost", "cut") and not found.goes_on:
             return "a cut is damage"
         if kind == "lost" and len(found.items) < last:
             return "what was on disk is not there"
@@ -332,25 +463,130 @@ class Tests:
                 return "nothing is told"
         return None
 
+    def kills(self, many):
+        """Kills runs at random moments, up to twenty in a row."""
+        chain = None
+        for number in range(many):
+            if number % 20 == 0 or chain is None:
+                chain = Chain(os.path.join(self.folder, f"runs.{number}"))
+            fault = self.kill(chain, self.seed + number)
+            if not self.count(f"kill {number} of seed {self.seed + number}, file {chain.files}", fault):
+                chain = None
+        print(
+            f"{many} kills: {self.files} journals of {self.frames} frames, of which {self.cuts} were cut; {self.in_creation} kills "
+            f"before there was one; {self.said} messages said to be on disk"
+        )
+
+    def tell_ended(self, name):
+        """Says how runs without room have ended since the last time."""
+        told = ", ".join(f"{count} not {done}" for done, count in sorted(self.ended.items()))
+        print(f"{name}: {sum(self.ended.values())} runs ended by them, {told}; {self.said} messages said to be on disk by now")
+        self.ended.clear()
+
+    def limits(self, many):
+        """Has a limit of the size of a file end runs, up to ten in a row, each with a run without it behind."""
+        chain = None
+        for number in range(many):
+            if number % 10 == 0 or chain is None:
+                chain = Chain(os.path.join(self.folder, f"limits.{number}"))
+            limit, seed = self.dice.randrange(self.dice.choice([120, 3000, 40000])), self.seed + number
+            fault = self.run_out(chain, seed, limit) or self.kill_later(chain, seed + 1)
+            if not self.count(f"limit {limit} of seed {seed}, file {chain.files}", fault):
+                chain = None
+        self.tell_ended(f"{many} limits of a file's size")
+
+    def full_disks(self, many):
+        """Has runs fill a disk, where one may be mounted, each with one behind that finds it full, and one once it has room."""
+        disk, large = os.path.join(self.folder, "disk"), "remount,size=64m"
+        os.mkdir(disk)
+        if not mount(disk, "size=64m"):
+            print("full disks are left out: to mount one is not allowed here")
+            return
+        try:
+            for number in range(many):
+                chain = Chain(os.path.join(disk, f"runs.{number}"))
+                size, seed = 4 * self.dice.randint(1, 16), self.seed + number
+                fault = None if mount(disk, f"remount,size={size}k") else "the disk is not made small"
+                fault = fault or self.run_out(chain, seed) or self.run_out(chain, seed + 1)
+                fault = fault or (None if mount(disk, large) else "the disk is not made large")
+                self.count(f"disk of {size} KiB, seed {seed}", fault or self.kill_later(chain, seed + 2))
+                shutil.rmtree(chain.folder)
+        finally:
+            subprocess.run(["umount", disk], check=True)
+        self.tell_ended(f"{many} full disks")
+
+    def written(self):
+        """A journal of a run, up to its last whole record: the second of two, so that the numbers of its header are above 0."""
+        chain = Chain(os.path.join(self.folder, "changes"))
+        for seed, limit in ((self.seed, 3000), (self.seed + 1, 45000)):
+            path, fault = chain.path(), self.run_out(chain, seed, limit)
+            if not self.count(f"limit {limit} of seed {seed}", fault):
+                return None
+        with open(path, "rb") as file:
+            data = file.read()
+        return data[: Journal(data).ends[-1]]
+
+    def turned(self, data, journal):
+        """A copy with a random bit turned, at times of a count near the end, which may look torn; and what is to be told of it."""
+        bit = self.dice.randrange(8 * len(data))
+        if self.dice.random() < 0.05:
+            bit = 8 * (self.dice.choice(journal.ends[-6:-1]) + 2) + self.dice.randrange(7)
+        copy = bytearray(data)
+        copy[bit // 8] ^= 1 << bit % 8
+        return f"bit {bit} turned", bytes(copy), told_of_bit(data, journal, bit)
+
+    def cut(self, data, journal):
+        """A copy cut at a random byte, at times in its header or behind a record; and what is to be told of it."""
+        cut, zeros = self.dice.randrange(len(data)), self.dice.choice([0, 0, 1, 8, 4096])
+        if self.dice.random() < 0.1:
+            cut = self.dice.choice([*range(journal.ends[0]), *journal.ends])
+        return f"cut at {cut}, {zeros} zeros", data[:cut] + bytes(zeros), told_of_cut(journal, cut, zeros)
+
+    def fault_of(self, copy, journal, said, wanted):
+        """What is wrong with what both readers say of a copy of a journal."""
+        try:
+            found = Journal(copy)
+        except Refused as why:
+            line = told = str(why)
+        else:
+            line, told = found.said(), (found.end, found.frames, found.goes_on)
+            many = len(found.items)
+            if (found.items, found.ends) != (journal.items[:many], journal.ends[: found.frames + 1]):
+                return "other frames"
+        if said != line:
+            return f"said {said!r}, for {line!r}"
+        return None if told == wanted else f"told {told}, for {wanted}"
+
+    def changes(self, many):
+        """Has both readers read so many copies of a journal with a bit turned, and so many that are cut."""
+        data, began = self.written(), time.monotonic()
+        if data is None:
+            return
+        journal = Journal(data)
+        for name, change in (("bits turned", self.turned), ("tails cut", self.cut)):
+            ends = collections.Counter()
+            for first in range(0, many, 500):
+                copies = [change(data, journal) for _ in range(min(500, many - first))]
+                text = b"".join(struct.pack(">Q", len(copy)) + copy for _, copy, _ in copies)
+                read = subprocess.run([self.program, "copies"], input=text, stdout=subprocess.PIPE)
+                lines = read.stdout.decode().splitlines() + len(copies) * [f"nothing, and ended with {read.returncode}"]
+                for (kind, copy, wanted), said in zip(copies, lines):
+                    self.count(f"{kind}, seed {self.seed}", self.fault_of(copy, journal, said, wanted))
+                    ends["refused" if isinstance(wanted, str) else wanted[0]] += 1
+            told = ", ".join(f"{count} {end}" for end, count in sorted(ends.items()))
+            print(f"{many} {name}, of {journal.frames} frames in {len(data)} bytes: {told}; {time.monotonic() - began:.0f} s by now")
+
 
 def main():
-    program, folder, kills = sys.argv[1], sys.argv[2], int(sys.argv[3])
-    seed = random.randrange(1 << 32)
-    tests = Tests(program, folder, seed)
-    chain = None
-    for number in range(kills):
-        if number % 20 == 0 or chain is None:
-            chain = Chain(os.path.join(folder, f"runs.{number}"))
-        fault = tests.kill(chain, seed + number)
-        if fault:
-            tests.fault(f"kill {number} of seed {seed}, file {chain.files}: {fault}")
-            chain = None
-        else:
-            tests.passed += 1
-    print(
-        f"{kills} kills: {tests.files} journals of {tests.frames} frames, of which {tests.cuts} were cut; {tests.in_creation} kills "
-        f"before there was one; {tests.said} messages said to be on disk"
-    )
+    program, folder, kills, rooms, changes = *sys.argv[1:3], *map(int, sys.argv[3:])
+    tests = Tests(program, folder, random.randrange(1 << 32))
+    if kills:
+        tests.kills(kills)
+    if rooms:
+        tests.limits(rooms)
+        tests.full_disks(rooms)
+    if changes:
+        tests.changes(changes)
     print(f"{tests.passed} passed, {tests.failed} failed")
     sys.exit(1 if tests.failed or not tests.said else 0)
 

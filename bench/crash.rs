@@ -1,20 +1,22 @@
 //! The program that bench/crash kills.
 //!
-//! `crash run FOLDER SEED` recovers what the journals of a folder say, prints `recovered COUNT HASH`,
-//! and has four workers send messages over a ring, each with a copy of the state, while a thread
-//! records all frames in a next journal. For each message of its own that is on disk a worker prints
-//! `durable SENDER NUMBER HASH`, with its state's hash at that place. It goes on until it is killed.
-//! By every second seed what is written waits in memory for a sync, so that a kill loses it.
+//! `crash run FOLDER SEED` recovers what the journals of a folder say, prints `recovered COUNT
+//! HASH`, and has four workers send messages over a ring, each with a copy of the state, while a
+//! thread records all frames in a next journal. For each message of its own that is on disk a
+//! worker prints `durable SENDER NUMBER HASH`, with its state's hash at that place. It goes on
+//! until it is killed, or until its file fails: then it says so, and ends with 1. By every second
+//! seed what is written waits in memory for a sync, so that a kill loses it.
 //!
-//! `crash read FILE..` prints of each file what the reader of the crate says of it.
+//! `crash read FILE..` prints of each file what the reader of the crate says of it. `crash copies`
+//! does so of each journal that standard input has, behind its length as eight bytes.
 
 use kioskbasil::journal::{self, End, Header, Journal, JournalError, ReadError, Recovered};
 use kioskbasil::journal::{JournalFile, SyncPolicy, Watch};
-use kioskbasil::{Bus, Item, NextFrame, Page, Receiver, Sender, Shape, TrySendError, Turn};
+use kioskbasil::{Bus, Frame, Item, NextFrame, Page, Receiver, Sender, Shape, TrySendError, Turn};
 use std::error::Error;
 use std::fmt::Write as _;
 use std::fs::{self, File};
-use std::io::{self, Write};
+use std::io::{self, BufRead, Read, Write};
 use std::time::Duration;
 use std::{env, iter, process, thread};
 
@@ -39,10 +41,13 @@ impl State {
         self.count += 1;
         let words = [u64::from(item.sender), item.number, item.len() as u64];
         let bytes = item.iter().map(|byte| u64::from(*byte));
-        for word in words.into_iter().chain(bytes) {
-            self.hash = (self.hash ^ word).wrapping_mul(0x0100_0000_01b3);
-        }
+        self.hash = hash(self.hash, words.into_iter().chain(bytes));
     }
+}
+
+fn hash(before: u64, words: impl Iterator<Item = u64>) -> u64 {
+    let behind = |hash: u64, word: u64| (hash ^ word).wrapping_mul(0x0100_0000_01b3);
+    words.fold(before, behind)
 }
 
 /// Numbers that look random, by Marsaglia's xorshift.
@@ -275,10 +280,13 @@ fn told(read: &Recovered) -> String {
         End::Torn { at } => format!("torn {at}"),
         End::Damaged { at } => format!("damaged {at}"),
     };
+    let page = if read.page().is_ok() { "yes" } else { "no" };
+    let words = read.frames().iter().flat_map(Frame::words);
     let next: Vec<_> = read.next_numbers().iter().map(u64::to_string).collect();
     format!(
-        "{end} frames {} place {} state {} {:016x} next {}",
+        "{end} page {page} frames {} {:016x} place {} state {} {:016x} next {}",
         read.frames().len(),
+        hash(State::NONE.hash, words),
         read.place(),
         state.count,
         state.hash,
@@ -286,8 +294,8 @@ fn told(read: &Recovered) -> String {
     )
 }
 
-fn read(path: &str) -> String {
-    match journal::read(path) {
+fn said(read: Result<Recovered, ReadError>) -> String {
+    match read {
         Ok(read) => told(&read),
         Err(ReadError::OtherMagic) => "OtherMagic".to_string(),
         Err(ReadError::OtherVersion { .. }) => "OtherVersion".to_string(),
@@ -295,6 +303,18 @@ fn read(path: &str) -> String {
         Err(ReadError::DamagedHeader) => "DamagedHeader".to_string(),
         Err(other) => other.to_string(),
     }
+}
+
+fn read_copies() -> io::Result<()> {
+    let (mut input, mut output) = (io::stdin().lock(), io::stdout().lock());
+    let mut length = [0; 8];
+    while !input.fill_buf()?.is_empty() {
+        input.read_exact(&mut length)?;
+        let mut bytes = vec![0; u64::from_be_bytes(length) as usize];
+        input.read_exact(&mut bytes)?;
+        writeln!(output, "{}", said(journal::read_from(&bytes[..])))?;
+    }
+    Ok(())
 }
 
 fn main() {
@@ -306,9 +326,13 @@ fn main() {
             eprintln!("crash: {}", ended.unwrap_err());
             process::exit(1);
         }
-        ["read", ref files @ ..] => files.iter().for_each(|path| println!("{}", read(path))),
+        ["read", ref files @ ..] => {
+            let read = |path| println!("{}", said(journal::read(path)));
+            files.iter().for_each(read);
+        }
+        ["copies"] => read_copies().expect("a stream"),
         _ => {
-            eprintln!("usage: crash run FOLDER SEED | crash read FILE..");
+            eprintln!("usage: crash run FOLDER SEED | crash read FILE.. | crash copies");
             process::exit(2);
         }
     }
