@@ -3,6 +3,8 @@
 //! A receiver of its own hears the bus by frames (`Receiver::next_frame`), and a `Journal` appends
 //! each to a file. After a crash `read` gives all whole frames back, says how the file ends behind
 //! them, and makes the `Page` with which the next bus goes on. `docs/FORMATS.md` has the bytes.
+//! Replicas are recorded by `Replicas::open_recorded`, and `replica::replay` makes their state
+//! anew.
 //!
 //! **A sitting has a file of its own.** A next bus begins its log and its tenures anew, and a file
 //! has one log. So after a restart the next sitting is recorded in a next file, whose header has

@@ -52,9 +52,16 @@
 //! `Poisoned`. The operation stands in the order, so each replica comes to it: where it panics in
 //! one for what it is, it does in all. The others go on, and for their `leave` and `finish` the
 //! poisoned one has left.
+//!
+//! **A run on disk.** `Replicas::open_recorded` gives one more receiver, whose frames a thread
+//! writes to a `journal`. Behind `execute` a worker waits until its operation is on disk:
+//! `watch.wait(replica.words())?`. After a crash `replay` makes the first state of the next
+//! sitting, which goes on with the journal's numbers. An operation on which `apply` panics stands
+//! in the journal, and panics again there: so refuse what is wrong by an answer.
 
 mod calls;
 mod errors;
+mod replaying;
 mod seat;
 mod tasks;
 #[cfg(test)]
@@ -62,8 +69,9 @@ mod tests;
 mod told;
 
 pub use errors::ReplicaError;
+pub use replaying::replay;
 
-use crate::{Bell, Bus, OpenError, Shape, Waiting};
+use crate::{Bell, Bus, OpenError, Page, Receiver, Sender, Shape, Waiting};
 use seat::Seat;
 use std::fmt;
 use std::sync::Arc;
@@ -87,25 +95,107 @@ impl Replicas {
     /// Opens a bus with a replica for each of its senders, in the order of their numbers:
     /// `Shape::of_workers(3)` is for three. Its log is a ring, and it has as many receivers as
     /// senders, whatever `shape` says of these. All first states are to be equal.
+    ///
+    /// An `OpenError` where `shape` is of no bus, or memory was refused.
     pub fn open<S: State>(
         shape: Shape,
-        mut first: impl FnMut() -> S,
+        first: impl FnMut() -> S,
     ) -> Result<Vec<Replica<S>>, OpenError> {
         let (senders, receivers) = Bus::open_ring(Shape {
             receivers: shape.senders,
             ..shape
         })?;
-        let told = Arc::new(Told::of(shape.senders));
-        let pairs = senders.into_iter().zip(receivers);
-        let seats = pairs.map(|(sender, receiver)| Replica {
-            number: u32::from(sender.number()),
-            bell: sender.bell().clone(),
-            waiting: Waiting::default(),
-            seat: Some(Seat::new(sender, receiver, &told, shape.log_words)),
-            state: first(),
-        });
-        Ok(seats.collect())
+        Ok(seated(shape.log_words, senders, receivers, first))
     }
+
+    /// As `open`, over a bus that goes on with the numbers of this page, and with one more
+    /// receiver, which hears whole frames for a journal (`Receiver::next_frame`). The page is that
+    /// of the last sitting's journal, and of the first sitting `Page::from_numbers(&[0])`. All
+    /// first states are what `replay` makes of the journals before.
+    ///
+    /// That receiver is given None once each replica has left, was dropped or is poisoned, and all
+    /// was recorded. So join its thread behind that. A replica that is kept and has not left keeps
+    /// it waiting. If the receiver is kept and not asked it stops all workers once the ring is
+    /// full. If it is dropped nothing more is recorded, and the workers go on.
+    ///
+    /// As of `open`, and `OpenError::NotEnded` or `Numbers` where the page does not fit. 64
+    /// workers are `Receivers`: at most 63 are recorded.
+    ///
+    /// ```
+    /// use kioskbasil::journal::{self, Header, Journal, JournalError, SyncPolicy};
+    /// use kioskbasil::replica::{replay, Replicas, State};
+    /// use kioskbasil::{Page, Shape};
+    ///
+    /// #[derive(Clone)]
+    /// struct Sum(u64);
+    /// impl State for Sum {
+    ///     type Answer = u64;
+    ///     fn apply(&mut self, _from: u32, operation: &[u8]) -> u64 {
+    ///         self.0 += u64::from(operation[0]);
+    ///         self.0
+    ///     }
+    /// }
+    ///
+    /// let (shape, page) = (Shape::of_workers(2), Page::from_numbers(&[0])?);
+    /// let (mut replicas, mut ear) = Replicas::open_recorded(shape, &page, || Sum(0))?;
+    /// let header = Header::after(2, &page)?;
+    /// let mut journal = Journal::on(Vec::new(), header, SyncPolicy::EachFrame)?;
+    /// let watch = journal.watch();
+    /// let records = std::thread::spawn(move || {
+    ///     while let Some(frame) = ear.next_frame() {
+    ///         journal.write(&frame)?;
+    ///     }
+    ///     Ok::<_, JournalError>(journal.into_file())
+    /// });
+    /// let sum = replicas[1].execute(&[7])?;
+    /// watch.wait(replicas[1].words())?;
+    /// println!("{sum} is on disk");
+    /// drop(replicas);
+    ///
+    /// // The next sitting.
+    /// let read = journal::read_from(&records.join().unwrap()?[..])?;
+    /// let (page, mut sum) = (read.page()?, Sum(0));
+    /// replay(&mut sum, read.frames())?;
+    /// let (mut replicas, _ear) = Replicas::open_recorded(shape, &page, || sum.clone())?;
+    /// assert_eq!((replicas[1].submit(&[1]), replicas[1].execute(&[1])), (Ok(1), Ok(9)));
+    /// # Ok::<(), Box<dyn std::error::Error>>(())
+    /// ```
+    pub fn open_recorded<S: State>(
+        shape: Shape,
+        page: &Page,
+        first: impl FnMut() -> S,
+    ) -> Result<(Vec<Replica<S>>, Receiver), OpenError> {
+        let shape = Shape {
+            receivers: shape.senders.saturating_add(1),
+            ring: true,
+            ..shape
+        };
+        let (senders, mut receivers) = Bus::open_after(shape, *page)?;
+        senders[0].end_with_senders();
+        let recorder = receivers.remove(shape.senders);
+        let replicas = seated(shape.log_words, senders, receivers, first);
+        Ok((replicas, recorder))
+    }
+}
+
+/// A replica for each sender, with the receiver of its number.
+fn seated<S: State>(
+    log_words: u64,
+    senders: Vec<Sender>,
+    receivers: Vec<Receiver>,
+    mut first: impl FnMut() -> S,
+) -> Vec<Replica<S>> {
+    let told = Arc::new(Told::of(senders.len()));
+    let pairs = senders.into_iter().zip(receivers);
+    let replicas = pairs.map(|(sender, receiver)| Replica {
+        number: u32::from(sender.number()),
+        bell: sender.bell().clone(),
+        waiting: Waiting::default(),
+        seat: Some(Seat::new(sender, receiver, &told, log_words)),
+        words: 0,
+        state: first(),
+    });
+    replicas.collect()
 }
 
 /// A worker's replica of a state, with the sender and the receiver by which it takes part. It may
@@ -120,6 +210,8 @@ pub struct Replica<S: State> {
     waiting: Waiting,
     /// None where it is poisoned.
     seat: Option<Seat>,
+    /// All that it has applied stands in so many words of the log.
+    words: u64,
     state: S,
 }
 
@@ -153,6 +245,20 @@ impl<S: State> Replica<S> {
     #[inline]
     pub fn state(&self) -> &S {
         &self.state
+    }
+
+    /// How many words of the log its state has: all that it has applied stands in these. Behind
+    /// `execute` they end with that operation's frame; else there may be more of them, with
+    /// operations that it applies next.
+    ///
+    /// What `execute` answers, and what a state shows, stands in the order. In a crash it may be
+    /// lost all the same, until a journal has it on disk (`Replicas::open_recorded`). So who tells
+    /// somebody of it waits before: `watch.wait(replica.words())?` returns once all of these words
+    /// are on disk (`journal::Watch`). The worker hears nothing meanwhile, which holds the others
+    /// up where the ring is full.
+    #[inline]
+    pub fn words(&self) -> u64 {
+        self.words
     }
 
     /// The bell of its bus. Whoever makes a closure say no rings it, so that who sleeps asks.

@@ -15,11 +15,9 @@ mod runs;
 #[path = "journal/writing.rs"]
 mod writing;
 
-use common::bus;
+use common::{bus, Folder};
 use kioskbasil::journal::{self, Doing, End, Header, JournalError, ReadError, Safe};
 use kioskbasil::{Frame, Page};
-use std::path::PathBuf;
-use std::{env, fs, process};
 
 /// The header of two senders, of batches of 16, at place 5, with the first numbers 9 and 4.
 const HEADER: &str = "4b494f534b4c4f47 0000000000000001 0000000000000002 0000000000000010 \
@@ -65,27 +63,6 @@ fn failure(error: JournalError) -> (Doing, Safe, String) {
     match &error {
         JournalError::Failed { doing, safe, .. } => (*doing, *safe, error.to_string()),
         other => panic!("{other}"),
-    }
-}
-
-/// A folder of one test, which goes with it.
-struct Folder(PathBuf);
-
-impl Folder {
-    fn new(name: &str) -> Folder {
-        let path = env::temp_dir().join(format!("kioskbasil.{}.{name}", process::id()));
-        fs::create_dir_all(&path).unwrap();
-        Folder(path)
-    }
-
-    fn file(&self, name: &str) -> PathBuf {
-        self.0.join(name)
-    }
-}
-
-impl Drop for Folder {
-    fn drop(&mut self) {
-        let _ = fs::remove_dir_all(&self.0);
     }
 }
 

@@ -4,7 +4,8 @@
 mod common;
 
 use common::{in_time, open};
-use kioskbasil::replica::{Replica, State};
+use kioskbasil::replica::{Replica, Replicas, State};
+use kioskbasil::{Page, Shape};
 use std::future::Future;
 use std::pin::Pin;
 use std::sync::atomic::{AtomicBool, Ordering::SeqCst};
@@ -225,4 +226,19 @@ fn a_stream_has_all_that_is_applied_and_its_answers() {
         }
         assert_eq!(bert.state().0.len(), 500);
     });
+}
+
+/// The words of a replica that is recorded, and what it is given once all have left.
+#[test]
+fn tasks_are_recorded() {
+    let page = Page::from_numbers(&[0]).unwrap();
+    let opened = Replicas::open_recorded(Shape::of_workers(1), &page, Log::default);
+    let (mut replicas, mut ear) = opened.unwrap();
+    let replica = &mut replicas[0];
+    for count in 0..20 {
+        run(replica.execute_async(&operation(count))).unwrap();
+        assert_eq!(ear.try_frame().unwrap().end_place(), replica.words());
+    }
+    replica.leave().unwrap();
+    assert_eq!(run(replica.next_applied_async()), None);
 }

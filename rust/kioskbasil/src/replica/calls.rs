@@ -65,6 +65,7 @@ impl<S: State> Replica<S> {
         };
         let operation = poisons.seat.as_mut()?.lend_operation()?;
         poisons.applies = true;
+        self.words = operation.words;
         let (from, number) = (operation.from, operation.number);
         let answer = self.state.apply(from, operation.bytes);
         poisons.applies = false;
@@ -81,7 +82,7 @@ impl<S: State> Replica<S> {
         while self.step().is_some() {
             many += 1;
         }
-        if self.seat()?.receiver.has_ended() {
+        if self.seat()?.is_cut_off() {
             return Err(ReplicaError::Ended);
         }
         Ok(many)
@@ -307,10 +308,12 @@ impl<S: State> Replica<S> {
         while let Some(applied) = self.step() {
             many += 1;
             if applied.from == self.number && applied.number == number {
+                // It is the last one of its frame.
+                self.words = self.seat()?.sent_words().unwrap_or(self.words);
                 return Ok((many, Some(applied.answer)));
             }
         }
-        if self.seat()?.receiver.has_ended() {
+        if self.seat()?.is_cut_off() {
             return Err(ReplicaError::Ended);
         }
         Ok((many, None))

@@ -14,6 +14,8 @@ pub(crate) struct Operation<'a> {
     pub(crate) from: u32,
     pub(crate) number: u64,
     pub(crate) bytes: &'a [u8],
+    /// It stands in so many words of the log.
+    pub(crate) words: u64,
 }
 
 /// A sender and a receiver of one bus, which are dropped together. No call of it but `poll_send`
@@ -27,6 +29,8 @@ pub(crate) struct Seat {
     /// How many messages wait, and how many words of a frame they take.
     waits: usize,
     words: u64,
+    /// How many words the log had behind the last frame of messages that it has sent.
+    sent: u64,
     /// An operation of several pieces.
     joined: [u8; MOST_LONG_BYTES],
     /// Its leave mark was taken.
@@ -52,6 +56,7 @@ impl Seat {
             log_words,
             waits: 0,
             words: 1,
+            sent: 0,
             joined: [0; MOST_LONG_BYTES],
             is_leaving: false,
             leaves: false,
@@ -158,7 +163,8 @@ impl Seat {
             Turn::Delivered { .. } | Turn::Idle => {
                 self.waits = 0;
                 self.words = 1;
-                self.told.publish(self.sender.words());
+                self.sent = self.sender.words();
+                self.told.publish(self.sent);
                 Ok(true)
             }
             // Closed where this answer was lost so.
@@ -191,6 +197,7 @@ impl Seat {
             begun = self.receiver.look_for_long();
             self.told.publish(self.receiver.read());
         }
+        let words = self.receiver.read();
         let (last, bytes) = match self.receiver.take_pieces(begun)? {
             Ok([one]) => (one, &one[1..]),
             Ok(pieces) => (&pieces[pieces.len() - 1], join(pieces, &mut self.joined)),
@@ -200,7 +207,21 @@ impl Seat {
             from: u32::from(last.sender),
             number: last.number,
             bytes,
+            words,
         })
+    }
+
+    /// How many words the log has up to the end of its own last frame, where all is sent that was
+    /// put.
+    #[inline]
+    pub(crate) fn sent_words(&self) -> Option<u64> {
+        self.has_sent().then_some(self.sent)
+    }
+
+    /// The order has ended before this worker has left it.
+    #[inline]
+    pub(crate) fn is_cut_off(&self) -> bool {
+        self.receiver.has_ended() && !self.is_leaving
     }
 
     /// It has given all operations of so many words of the log.

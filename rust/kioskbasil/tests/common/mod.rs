@@ -3,9 +3,11 @@
 
 use kioskbasil::replica::{Replica, Replicas, State};
 use kioskbasil::{Bus, Receiver, Sender, Shape};
+use std::path::PathBuf;
 use std::sync::mpsc;
 use std::thread;
 use std::time::Duration;
+use std::{env, fs, process};
 
 /// A bus with so many rows, each for one tenure.
 pub fn bus(senders: usize, receivers: usize, rows: u64) -> (Vec<Sender>, Vec<Receiver>) {
@@ -52,4 +54,25 @@ pub fn in_time<T: Send + 'static>(does: impl FnOnce() -> T + Send + 'static) -> 
 /// How many messages of the bus a long one of so many bytes is: pieces of 55 bytes, one at least.
 pub fn pieces(length: usize) -> u64 {
     ((length + 54) / 55).max(1) as u64
+}
+
+/// A folder of one test, which goes with it.
+pub struct Folder(PathBuf);
+
+impl Folder {
+    pub fn new(name: &str) -> Folder {
+        let path = env::temp_dir().join(format!("kioskbasil.{}.{name}", process::id()));
+        fs::create_dir_all(&path).unwrap();
+        Folder(path)
+    }
+
+    pub fn file(&self, name: &str) -> PathBuf {
+        self.0.join(name)
+    }
+}
+
+impl Drop for Folder {
+    fn drop(&mut self) {
+        let _ = fs::remove_dir_all(&self.0);
+    }
 }
