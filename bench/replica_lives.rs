@@ -1,9 +1,10 @@
 //! Random lives of replicas, for bench/rust_lives.rs.
 
 use crate::{locked, say, so_often, survived, then_panics, Dice, Survived};
-use kioskbasil::replica::{Replica, ReplicaError, Replicas, State};
-use kioskbasil::{Shape, Waiting, MOST_LONG_BYTES};
+use kioskbasil::replica::{replay, Replica, ReplicaError, Replicas, State};
+use kioskbasil::{Frame, OpenError, Page, Receiver, Shape, Waiting, MOST_LONG_BYTES};
 use std::future::Future;
+use std::iter;
 use std::panic;
 use std::pin::Pin;
 use std::sync::atomic::{AtomicU64, Ordering::SeqCst};
@@ -357,6 +358,25 @@ impl Worker {
     }
 }
 
+/// Opens replicas, and where they are recorded the receiver for that.
+fn opened(
+    shape: Shape,
+    is_recorded: bool,
+    first: impl FnMut() -> Book,
+) -> Result<(Vec<Replica<Book>>, Option<Receiver>), OpenError> {
+    if !is_recorded {
+        return Ok((Replicas::open(shape, first)?, None));
+    }
+    let page = Page::from_numbers(&[0, 7]).unwrap();
+    let (replicas, ear) = Replicas::open_recorded(shape, &page, first)?;
+    Ok((replicas, Some(ear)))
+}
+
+/// All frames, up to the end.
+fn record(mut ear: Receiver) -> Vec<Frame> {
+    iter::from_fn(|| ear.next_frame()).collect()
+}
+
 /// A life of replicas; how many operations it had.
 pub fn life(dice: &mut Dice) -> usize {
     let shape = Shape {
@@ -366,7 +386,10 @@ pub fn life(dice: &mut Dice) -> usize {
         ..Shape::of(1 + dice.below(8) as usize, 1)
     };
     let (calls, panics) = (dice.below(150), dice.one_in(3));
-    say(format!("{shape:?}, calls {calls}, panics {panics}"));
+    let is_recorded = dice.one_in(2);
+    say(format!(
+        "{shape:?}, calls {calls}, panics {panics}, recorded {is_recorded}"
+    ));
     let shared = Arc::<Shared>::default();
     let first = || Book {
         shared: shared.clone(),
@@ -375,7 +398,7 @@ pub fn life(dice: &mut Dice) -> usize {
         last: (0, 0),
         panics_at: None,
     };
-    let replicas = Replicas::open(shape, || {
+    let made = opened(shape, is_recorded, || {
         let panics_at = Some(dice.below(200) as usize).filter(|_| panics && dice.one_in(2));
         Book {
             panics_at,
@@ -395,8 +418,16 @@ pub fn life(dice: &mut Dice) -> usize {
         };
         thread::spawn(move || worker.live(calls))
     };
-    let threads: Vec<_> = replicas.unwrap().into_iter().map(start).collect();
+    let (replicas, ear) = made.unwrap();
+    let records = ear.map(|ear| thread::spawn(|| record(ear)));
+    let threads: Vec<_> = replicas.into_iter().map(start).collect();
     let ended: Vec<_> = threads.into_iter().map(|it| it.join().unwrap()).collect();
+    if let Some(records) = records {
+        let (frames, mut book) = (records.join().unwrap(), first());
+        replay(&mut book, &frames).unwrap();
+        let applied = locked(&shared.order).len();
+        assert_eq!(book.applied, applied, "an operation is not recorded");
+    }
     let order = locked(&shared.order);
     for (finished, number, sent) in ended {
         assert!(

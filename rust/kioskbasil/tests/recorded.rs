@@ -9,6 +9,7 @@ use kioskbasil::{Body, Bus, Frame, NotLong, OpenError, Page, Receiver, Shape};
 use std::io::{self, Write};
 use std::panic::{self, AssertUnwindSafe};
 use std::path::{Path, PathBuf};
+use std::sync::{Arc, Mutex};
 use std::thread::{self, JoinHandle};
 use std::{fs, iter};
 
@@ -185,7 +186,7 @@ fn sittings_go_on_and_no_number_comes_twice() {
     }
 }
 
-/// Also where others wait with it in one frame, and where more has come behind it.
+/// Also where others wait with it in one frame.
 #[test]
 fn words_end_with_the_frame_of_what_was_executed() {
     let folder = Folder::new("words");
@@ -215,6 +216,44 @@ fn words_end_with_the_frame_of_what_was_executed() {
             assert_eq!(frames.iter().find(has_it).unwrap().end_place(), *words);
         }
     }
+}
+
+/// A state that has another replica execute, where it comes to `first`.
+#[derive(Clone, Default)]
+struct Calls(Arc<Mutex<Option<Replica<Calls>>>>);
+
+impl State for Calls {
+    type Answer = ();
+
+    fn apply(&mut self, _from: u32, operation: &[u8]) {
+        if operation == b"first" {
+            if let Some(other) = self.0.lock().unwrap().as_mut() {
+                other.execute(b"behind").unwrap();
+            }
+        }
+    }
+}
+
+/// A receiver takes 32 items out of the bus at once. So what was executed is taken with what the
+/// other one puts behind it meanwhile.
+#[test]
+fn words_end_before_what_has_come_behind() {
+    let calls = Calls::default();
+    let mut of_anna = Some(calls.clone());
+    let first = || of_anna.take().unwrap_or_default();
+    let opened = Replicas::open_recorded(Shape::of_workers(2), &first_page(), first);
+    let (mut replicas, mut ear) = opened.unwrap();
+    let (mut anna, mut bert) = (replicas.remove(0), replicas.remove(0));
+    bert.execute(b"first").unwrap();
+    for _ in 0..39 {
+        bert.execute(b"more").unwrap();
+    }
+    *calls.0.lock().unwrap() = Some(bert);
+    anna.execute(b"own").unwrap();
+    let frames: Vec<_> = iter::from_fn(|| ear.try_frame()).collect();
+    let own = frames.iter().find(|it| it.owner == 0).unwrap();
+    assert_eq!((anna.words(), anna.hear()), (own.end_place(), Ok(1)));
+    assert_eq!((frames.len(), anna.words()), (42, frames[41].end_place()));
 }
 
 /// Of what others have executed too: all that a state shows is on disk behind the wait.
