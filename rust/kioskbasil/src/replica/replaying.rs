@@ -9,10 +9,9 @@ use crate::{Frame, NotLong, MOST_LONG_BYTES};
 /// call for each; `Header::first_numbers` shows whether one is missing. What is damaged is not
 /// among the frames, and `Recovered::page` refuses such a file: so ask that first.
 ///
-/// `NotLong` has the first item that is no operation, as `Receiver::try_long` tells it; all before
-/// that is applied. It is no piece of one, or the other pieces do not follow. All of an operation
-/// stand in one frame, so pieces of two frames are never joined: where a frame ends within an
-/// operation, its first piece is refused.
+/// `NotLong` has the first item that is no operation; all before that is applied. It is no piece of
+/// one, or the other pieces do not follow. All of an operation stand in one frame, so pieces of two
+/// frames are never joined: where a frame ends within an operation, its first piece is refused.
 ///
 /// ```
 /// use kioskbasil::replica::{replay, State};
