@@ -3,7 +3,7 @@ use Rattle.std.proofs.Common.{◌≡◌, ℕ, ◌⊎◌, inl, inr, Bool, true, f
 use Rattle.bus_register.specs.declared.registers.SenderNo.{SenderNo}
 use Rattle.bus_deliverylog.specs.declared.receiving.RecvTurn.{RecvTurn}
 use Rattle.bus_deliverylog.specs.declared.receiving.RecvTurn.TheVariants as turn
-use Rattle.bus_pageslot.specs.Listening.{Hears}
+use Rattle.bus_pageslot.specs.Listening.{Hears, GoesOnTo, At, Onward}
 use Rattle.bus_pageslot.specs.Rule.{Sat}
 use Rattle.bus_replica.specs.Causes.{HearsEnd}
 use Rattle.bus_replica.specs.Replicas.{Operations, Hearing, GoesOn, Here, On, HearsMore, Nothing}
@@ -16,6 +16,17 @@ pub goes_trans : {C : Type 0} (a b c : Sat C) → GoesOn a b → GoesOn b c → 
 goes_trans a b _ before Here = before
 goes_trans a b _ before (On old answer new later hears) =
     On old answer new (goes_trans a b old before later) hears
+
+-- by turns that took words which say nothing by themselves
+pub goes_along : {C : Type 0} (a b c : Sat C) → GoesOn a b → GoesOnTo b c → GoesOn a c
+goes_along a b _ before At = before
+goes_along a b _ before (Onward old new later undue below hears) =
+    On old turn.Going new (goes_along a b old before later) hears
+
+more_along : {C : Type 0} (a b c : Sat C) → HearsMore a b → GoesOnTo b c → HearsMore a c
+more_along a b _ before At = before
+more_along a b _ before (Onward old new later undue below hears) =
+    Something old turn.Going new (more_along a b old before later) hears refl
 
 -- what has changed nothing
 pub goes_same : {C : Type 0} (a b c : Sat C) → GoesOn a b → c ≡ b → GoesOn a c
@@ -111,28 +122,36 @@ empty_is {A = A} Applies old new turn.End m =
     absurd (let no : true ≡ false = ap (is_empty {A = A}) m.0 in cc)
 
 module _ {C S A : Type 0} (Applies : Operations S A) (first : Sat C) (old new : Hearing C S) where
-  -- one turn more, after which nothing more is known yet
+  -- what a hearer takes in is by turns of its receiver
+  pub goes_by : (told : Applied A) → GoesOn first old.me → TakesIn Applies old told new
+      → GoesOn first new.me
+  goes_by told before takes =
+      On takes.before takes.answer new.me
+      (goes_along first old.me takes.before before takes.going) takes.hears
+
+  -- after which nothing more is known yet
   pub more_turn : (told : Applied A) → HearsMore first old.me → TakesIn Applies old told new
       → is_done told ≡ false → HearsMore first new.me
   more_turn told before takes goes =
-      Something old.me takes.answer new.me before takes.hears
+      Something takes.before takes.answer new.me
+      (more_along first old.me takes.before before takes.going) takes.hears
       (sym (done_out Applies old.state new.state takes.answer told takes.makes) ∙ goes)
 
   pub end_turn : HearsMore first old.me → TakesIn Applies old applied.End new
       → HearsOut first true new.me
   end_turn before takes = record {
-    before = old.me;
-    goes_on = before;
-    last = subst (λ a. Hears old.me a new.me)
+    before = takes.before;
+    goes_on = more_along first old.me takes.before before takes.going;
+    last = subst (λ a. Hears takes.before a new.me)
         (end_is Applies old.state new.state takes.answer takes.makes) takes.hears;
   }
 
   pub empty_turn : HearsMore first old.me → TakesIn Applies old applied.Empty new
       → HearsOut first false new.me
   empty_turn before takes = record {
-    before = old.me;
-    goes_on = before;
-    last = subst (λ a. Hears old.me a new.me)
+    before = takes.before;
+    goes_on = more_along first old.me takes.before before takes.going;
+    last = subst (λ a. Hears takes.before a new.me)
         (empty_is Applies old.state new.state takes.answer takes.makes) takes.hears;
   }
 
@@ -140,8 +159,8 @@ module _ {C S A : Type 0} (Applies : Operations S A) (first : Sat C) (old new : 
   pub turn_ends : GoesOn first old.me → TakesIn Applies old applied.End new
       → HearsEnd first new.me
   turn_ends before takes = record {
-    before = old.me;
-    goes_on = before;
-    last = subst (λ a. Hears old.me a new.me)
+    before = takes.before;
+    goes_on = goes_along first old.me takes.before before takes.going;
+    last = subst (λ a. Hears takes.before a new.me)
         (end_is Applies old.state new.state takes.answer takes.makes) takes.hears;
   }

@@ -16,7 +16,9 @@ use Rattle.bus_deliverylog.specs.declared.receiving.RecvTurn.{RecvTurn}
 use Rattle.bus_deliverylog.specs.declared.receiving.RecvTurn.TheVariants as turn
 use Rattle.bus_world.specs.Headline.{entry_heard}
 use Rattle.bus_pageslot.specs.Buses.{BusId}
-use Rattle.bus_pageslot.specs.Listening.{Hears}
+use Rattle.bus_pageslot.specs.Listening.{Hears, GoesOnTo, At, Onward, item_turn_of}
+use Rattle.bus_pageslot.specs.Listening.{sign_after, Writes}
+use Rattle.bus_pageslot.specs.declared.listening.ItemTurn.TheVariants as item_turn
 use Rattle.bus_pageslot.specs.Rule.{Sat}
 use Rattle.bus_pageslot.specs.Steps.{Learns}
 use Rattle.bus_pageslot.specs.declared.rule.View.{View}
@@ -143,6 +145,62 @@ module _ {C S A : Type 0} (IsFirst : S → Type 0) (Applies : Operations S A) (o
     gone = subst (λ k. AreNoted new.0 (slice_set left k true)) (sym same)
         (noted_more old new s left (grown (turn.Leave s) hears) within h.gone);
   }
+
+-- turns that took words which say nothing by themselves
+pub hearing_along : {C S A : Type 0} (IsFirst : S → Type 0) (Applies : Operations S A)
+    (old new : Sat C) (state : S) (left : List Bool) → IsHearing IsFirst Applies old.0 state left
+    → GoesOnTo old new → IsHearing IsFirst Applies new.0 state left
+hearing_along IsFirst Applies old _ state left h At = h
+hearing_along IsFirst Applies old _ state left h (Onward before new later undue below hears) =
+    hearing_stays IsFirst Applies before new state left
+    (hearing_along IsFirst Applies old before state left h later) turn.Going refl hears
+
+-- ---- the answer of the last turn, by what it told
+pub told_item : (answer : RecvTurn) (before after : Item)
+    → Writes answer before item_turn.Item after → answer ≡ turn.Item after
+told_item turn.Going before after w = absurd (cc)
+told_item turn.Empty before after w = absurd (cc)
+told_item (turn.Head tenure owner) before after w = absurd (cc)
+told_item (turn.Item item) before after w = ap (λ z. turn.Item z) (sym w.after_is)
+told_item (turn.Leave sender) before after w = absurd (cc)
+told_item turn.End before after w = absurd (cc)
+
+pub told_going : (answer signed : RecvTurn) → item_turn.Going ≡ item_turn_of answer
+    → signed ≡ sign_after answer turn.Going → answer ≡ signed
+told_going turn.Going signed told is = sym is
+told_going turn.Empty signed told is = absurd (cc)
+told_going (turn.Head tenure owner) signed told is = sym is
+told_going (turn.Item item) signed told is = absurd (cc)
+told_going (turn.Leave sender) signed told is = sym is
+told_going turn.End signed told is = absurd (cc)
+
+-- one that is no leave mark tells of no entry
+pub told_plain : (answer signed : RecvTurn) → item_turn.Going ≡ item_turn_of answer
+    → signed ≡ sign_after answer turn.Going → ((s : SenderNo) → signed ≡ turn.Leave s → ⊥)
+    → entry_heard answer ≡ []
+told_plain turn.Going signed told is plain = refl
+told_plain turn.Empty signed told is plain = absurd (cc)
+told_plain (turn.Head tenure owner) signed told is plain = refl
+told_plain (turn.Item item) signed told is plain = absurd (cc)
+told_plain (turn.Leave sender) signed told is plain = absurd (plain sender is)
+told_plain turn.End signed told is plain = absurd (cc)
+
+pub told_empty : (answer : RecvTurn) → item_turn.Empty ≡ item_turn_of answer
+    → answer ≡ turn.Empty
+told_empty turn.Going told = absurd (cc)
+told_empty turn.Empty told = refl
+told_empty (turn.Head tenure owner) told = absurd (cc)
+told_empty (turn.Item item) told = absurd (cc)
+told_empty (turn.Leave sender) told = absurd (cc)
+told_empty turn.End told = absurd (cc)
+
+pub told_end : (answer : RecvTurn) → item_turn.End ≡ item_turn_of answer → answer ≡ turn.End
+told_end turn.Going told = absurd (cc)
+told_end turn.Empty told = absurd (cc)
+told_end (turn.Head tenure owner) told = absurd (cc)
+told_end (turn.Item item) told = absurd (cc)
+told_end (turn.Leave sender) told = absurd (cc)
+told_end turn.End told = refl
 
 -- one worker more
 pub left_more : {C : Type 0} (v : View C) (n : ℕ) → HaveAllLeft v n → has_heard_leave v n ≡ true

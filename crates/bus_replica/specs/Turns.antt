@@ -2,7 +2,8 @@
 use Rattle.std.specs.Prelude.{◌≡◌, ℕ, ◌<◌, Bool, false, List, length, slice_index_or}
 use Rattle.bus_deliverylog.specs.declared.receiving.RecvTurn.{RecvTurn}
 use Rattle.bus_deliverylog.specs.declared.receiving.RecvTurn.TheVariants as turn
-use Rattle.bus_pageslot.specs.Listening.{Hears}
+use Rattle.bus_pageslot.specs.Listening.{Hears, GoesOnTo}
+use Rattle.bus_pageslot.specs.Rule.{Sat}
 use Rattle.bus_pageslot.specs.declared.rule.View.{View}
 use Rattle.bus_replica.specs.Replicas.{Operations, Hearing, IsFold, StandsLast, has_heard_leave}
 use Rattle.bus_replica.specs.declared.hearers.Applied.{Applied}
@@ -29,11 +30,14 @@ pub record IsHearing {C S A : Type 0} (IsFirst : S → Type 0) (Applies : Operat
   pub gone : (worker : ℕ) → worker < length left
       → slice_index_or left worker false ≡ has_heard_leave v worker
 
--- a turn of its receiver, and the operation that it heard, if it heard one, applied
+-- turns of its receiver that took words which say nothing by themselves, and one more; and the
+-- operation that this heard, if it heard one, applied
 pub record TakesIn {C S A : Type 0} (Applies : Operations S A) (old : Hearing C S)
     (told : Applied A) (new : Hearing C S) : Type 0 where
+  pub before : Sat C
+  pub going : GoesOnTo old.me before
   pub answer : RecvTurn
-  pub hears : Hears old.me answer new.me
+  pub hears : Hears before answer new.me
   pub makes : Makes Applies old.state answer told new.state
 
 -- where it told of an operation, that stands last

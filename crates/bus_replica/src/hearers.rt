@@ -12,7 +12,7 @@ ghost use Rattle.bus_replica.specs.Replicas.{HaveAllLeft, HasNobodyLeft, has_hea
 
 use crate::faults::Fault;
 use crate::states::State;
-use bus_handles::{ReceiverHandle, RecvTurn, SenderHandle, ThreeWord};
+use bus_handles::{Item, ItemTurn, ReceiverHandle, RecvTurn, SenderHandle, ThreeWord};
 use bus_register::SenderNo;
 use std::marker::Model;
 use std::sync::Wait;
@@ -129,14 +129,16 @@ impl<S: State> Hearer<S> {
         self.left[usize::from(worker.0)]
     }
 
-    /// One turn of the receiver: an operation that is heard is applied.
-    pub fn turn(&mut self) -> Applied<S::Answer>
+    /// One turn of the receiver or more: all but the last take words that say nothing by themselves.
+    /// An operation that is heard is written in the item's place, and applied.
+    pub fn turn(&mut self, item: &mut Item) -> Applied<S::Answer>
         ensures bus { self.new.bus ≡ self.old.bus }
         ensures takes { TakesIn S.applies self.old result self.new }
         ensures stands { StandsIfTold S.is_first S.applies self.new result }
     {
-        match self.receiver.turn() {
-            RecvTurn::Item(item) => {
+        let mut sign = RecvTurn::Going;
+        match self.receiver.signed_turns(item, &mut sign) {
+            ItemTurn::Item => {
                 let answer = self.state.apply(item.sender, item.message.as_slice());
                 Applied::Op {
                     sender: item.sender,
@@ -144,14 +146,15 @@ impl<S: State> Hearer<S> {
                     answer,
                 }
             }
-            RecvTurn::Leave(sender) => {
-                self.left[usize::from(sender.0)] = true;
-                Applied::Going
-            }
-            RecvTurn::End => Applied::End,
-            RecvTurn::Empty => Applied::Empty,
-            RecvTurn::Head { .. } => Applied::Going,
-            RecvTurn::Going => Applied::Going,
+            ItemTurn::Going => match sign {
+                RecvTurn::Leave(sender) => {
+                    self.left[usize::from(sender.0)] = true;
+                    Applied::Going
+                }
+                _ => Applied::Going,
+            },
+            ItemTurn::Empty => Applied::Empty,
+            ItemTurn::End => Applied::End,
         }
     }
 
@@ -170,8 +173,9 @@ impl<S: State> Hearer<S> {
         ensures ended { IfErr result
             (λ why. (why ≡ Fault.Ended) × HearsEnd self.old.me self.new.me) }
     {
+        let mut item = Item::blank();
         for _ in wait.forever() {
-            match self.turn() {
+            match self.turn(&mut item) {
                 Applied::Op {
                     sender,
                     number: told,
@@ -194,8 +198,9 @@ impl<S: State> Hearer<S> {
         ensures bus { self.new.bus ≡ self.old.bus }
         ensures out { HearsOut self.old.me result self.new.me }
     {
+        let mut item = Item::blank();
         for _ in wait.forever() {
-            match self.turn() {
+            match self.turn(&mut item) {
                 Applied::Empty => return false,
                 Applied::End => return true,
                 Applied::Op { .. } | Applied::Going => {}
@@ -215,11 +220,12 @@ impl<S: State> Hearer<S> {
     {
         self.receiver.told(sender);
         let length = self.receiver.known();
+        let mut item = Item::blank();
         for _ in wait.forever() {
             if self.receiver.place() >= length {
                 return;
             }
-            let _ = self.turn();
+            let _ = self.turn(&mut item);
         }
         unreachable!()
     }

@@ -1,5 +1,6 @@
 use Rattle.std.proofs.Common.{◌∙◌, rules}
-use Rattle.bus_replica.specs.Replicas.{Here, On}
+use Rattle.bus_replica.specs.Replicas.{Here}
+use Rattle.bus_replica.proofs.GoingLaws.{goes_by}
 use Rattle.bus_replica.proofs.LeavingLaws.{hearing_told}
 use Rattle.bus_replica.proofs.hearers.Hearer.catch_up.Goals as goal
 
@@ -15,13 +16,13 @@ loop-init g c = (search rules, Here)
 pub loop-preserved-else-place-length : goal.loop-preserved-else-place-length
 loop-preserved-else-place-length g c = (
   c.turn.ensures.bus ∙ c.loop.invariant.0,
-  On c.loop.self.me c.turn.ensures.takes.answer c.turn.new.self.me c.loop.invariant.1
-      c.turn.ensures.takes.hears,
+  goes_by g.S.State.applies c.told.new.self.me c.loop.self c.turn.new.self c.turn.result
+      c.loop.invariant.1 c.turn.ensures.takes,
 )
 
 pub loop-preserved : goal.loop-preserved
 loop-preserved g c = (
   c.turn.ensures.bus ∙ c.loop.invariant.0,
-  On c.loop.self.me c.turn.ensures.takes.answer c.turn.new.self.me c.loop.invariant.1
-      c.turn.ensures.takes.hears,
+  goes_by g.S.State.applies c.told.new.self.me c.loop.self c.turn.new.self c.turn.result
+      c.loop.invariant.1 c.turn.ensures.takes,
 )
