@@ -156,6 +156,19 @@ impl FrameReader {
         }
     }
 
+    /// The same reader once more, where it stands. Takes no memory.
+    pub fn copied(&self) -> FrameReader
+        ensures { result ≡ self.now }
+    {
+        FrameReader {
+            senders: self.senders,
+            least: self.least,
+            left: self.left,
+            place: self.place,
+            bytes: self.bytes.copied(),
+        }
+    }
+
     /// The words so far end within a frame: they begin a log and are none. After a bad word it
     /// answers no.
     pub fn inside(&self) -> bool

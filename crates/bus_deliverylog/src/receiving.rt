@@ -74,6 +74,18 @@ impl LogReader {
         }
     }
 
+    /// The same reader once more, at its place. Takes no memory.
+    pub fn copied(&self) -> LogReader
+        ensures { result ≡ self.now }
+    {
+        LogReader {
+            known: self.known,
+            place: self.place,
+            frames: self.frames.copied(),
+            ended: self.ended,
+        }
+    }
+
     /// How many words were read.
     pub fn place(&self) -> u64
         ensures place { result ≡ self.now.place }
