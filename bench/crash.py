@@ -1,6 +1,6 @@
 """What bench/crash does: a reader of journals written from docs/FORMATS.md, the kills, the runs without room, and the changes.
 
-usage: crash.py PROGRAM FOLDER KILLS ROOMS CHANGES
+usage: crash.py PROGRAM[,PROGRAM] FOLDER KILLS ROOMS CHANGES
 """
 import bisect
 import collections
@@ -26,6 +26,33 @@ END, LEAVE = 0xC000000000000000, 0xC000000000000001
 # What a run says whose file has failed: what of it, the system's number for that, and how many frames, words and bytes are safe.
 SAFE = r"safe are (\d+) frames, up to place (\d+) and byte (\d+)"
 FAILED = re.compile(r"crash: .+ is not (made|written|synced): .+ \(os error (\d+)\); " + SAFE + r"\n")
+
+
+def with_other_words(words, dice):
+    """The words of a record, of which some were changed, put in or left out; mostly with the count that they have then."""
+    words, at, kind = list(words), dice.randrange(1, len(words)), dice.randrange(6)
+    if kind == 0:
+        words[at] ^= 1 << dice.randrange(64)
+    elif kind == 1:
+        words[0] ^= 1 << dice.randrange(64)
+    elif kind == 2:
+        words[dice.choice([1, at]) :] = [dice.choice([END, LEAVE, END + 2])]
+    elif kind == 3:
+        words.insert(at, dice.choice([0, END, LEAVE, 1 << 62, 1 << 63 | 7, 1 << 63 | 57 << 54, dice.getrandbits(64)]))
+    elif kind == 4:
+        del words[at]
+    else:
+        words[1:] = [1 << 63 | 1 << 20 | number for number in range(dice.choice([15, 16, 17, 128, 129]))]
+    if dice.random() < 0.8:
+        words[0] = words[0] & ~(0x3FFF << 40) | (len(words) - 1) << 40
+    return words
+
+
+def with_other_numbers(words, dice):
+    """The words of a header, one of which was changed."""
+    words, at = list(words), dice.randrange(len(words))
+    words[at] = dice.choice([0, 1, 2, 16, 64, 65, (1 << 48) - 65536, (1 << 48) - 65537, (1 << 63) - 1, 1 << 63, dice.getrandbits(64)])
+    return words
 
 
 class Refused(Exception):
@@ -178,7 +205,8 @@ class Journal:
         state = State()
         for item in self.items:
             state.apply(item)
-        page, numbers = "yes" if self.goes_on else "no", " ".join(map(str, self.next))
+        page = "yes" if self.goes_on and max(self.next) < (1 << 48) - 65536 else "no"
+        numbers = " ".join(map(str, self.next))
         end, frames = f"{self.end} {self.ends[-1]} page {page}", f"frames {self.frames} {self.hash:016x} place {self.place}"
         return f"{end} {frames} state {state} next {numbers}"
 
@@ -260,8 +288,8 @@ def told_of_cut(journal, cut, zeros):
 
 
 class Tests:
-    def __init__(self, program, folder, seed):
-        self.program, self.folder, self.seed = program, folder, seed
+    def __init__(self, programs, folder, seed):
+        self.programs, self.folder, self.seed = programs, folder, seed
         self.dice = random.Random(seed)
         self.passed = self.failed = self.said = self.cuts = self.files = 0
         self.frames = self.in_creation = 0
@@ -280,13 +308,17 @@ class Tests:
             self.passed += 1
         return not fault
 
-    def start(self, chain, seed, before=None):
-        command = [self.program, "run", chain.folder, str(seed)]
+    def by_turns(self, number):
+        """The program of the run of this number, and the seed, so that each program has all seeds."""
+        return self.programs[number % len(self.programs)], self.seed + number // len(self.programs)
+
+    def start(self, chain, run, before=None):
+        command = [run[0], "run", chain.folder, str(run[1])]
         return subprocess.Popen(command, bufsize=0, stdout=subprocess.PIPE, stderr=subprocess.PIPE, preexec_fn=before)
 
-    def kill(self, chain, seed):
-        """Starts the program, kills it, and looks at what it has said and left."""
-        process = self.start(chain, seed)
+    def kill(self, chain, run):
+        """Starts a program, kills it, and looks at what it has said and left."""
+        process = self.start(chain, run)
         until = time.monotonic() + self.dice.choice([0, 10, 10])
         while time.monotonic() < until and process.poll() is None and not os.path.exists(chain.path()):
             time.sleep(0.0005)
@@ -299,9 +331,9 @@ class Tests:
             out, errors = process.communicate()
         return f"it said {errors.decode()}" if errors else self.see(chain, out)
 
-    def kill_later(self, chain, seed):
-        """Starts the program, kills it once it has said what is on disk, and looks at that."""
-        process = self.start(chain, seed)
+    def kill_later(self, chain, run):
+        """Starts a program, kills it once it has said what is on disk, and looks at that."""
+        process = self.start(chain, run)
         hangs = threading.Timer(60, process.kill)
         hangs.start()
         said = process.stdout.readline() + process.stdout.readline()
@@ -313,9 +345,9 @@ class Tests:
             return f"it does not go on: {said.decode()}{errors.decode()}"
         return self.see(chain, said + out)
 
-    def run_out(self, chain, seed, limit=None):
-        """Runs the program until its file has no more room, and looks at how it ends, and at what it has said and left."""
-        process = self.start(chain, seed, None if limit is None else lambda: limit_files(limit))
+    def run_out(self, chain, run, limit=None):
+        """Runs a program until its file has no more room, and looks at how it ends, and at what it has said and left."""
+        process = self.start(chain, run, None if limit is None else lambda: limit_files(limit))
         try:
             out, errors = process.communicate(timeout=60)
         except subprocess.TimeoutExpired:
@@ -379,9 +411,21 @@ class Tests:
                 return f"it calls {frames} frames safe, up to place {place} and byte {byte}"
             if safe > byte:
                 return f"it calls {byte} bytes safe, and has said what stands up to {safe}"
-        fault = self.change(data, journal, safe, last)
+        fault = self.write_again(chain.path(), data[: journal.ends[-1]]) or self.change(data, journal, safe, last)
         self.go_on(chain, data, safe, called_safe is None)
         return fault
+
+    def write_again(self, path, wanted):
+        """Has each program read a file and write its frames into a new one, of just these bytes."""
+        copy = os.path.join(self.folder, "again")
+        for program in self.programs:
+            if os.path.exists(copy):
+                os.remove(copy)
+            status = subprocess.run([program, "again", path, copy]).returncode
+            with open(copy, "rb") as file:
+                if status or file.read() != wanted:
+                    return f"written again by {program} it has other bytes"
+        return None
 
     def go_on(self, chain, data, safe, may_cut):
         """Cuts the file, or leaves it, and notes what it says."""
@@ -427,16 +471,17 @@ class Tests:
         return kind, data[:start] + data[end:other] + data[start:end] + data[other:]
 
     def change(self, data, journal, safe, last):
-        """Has both readers read changed copies of a file."""
+        """Has all readers read changed copies of a file."""
         copies = [self.changed(data, journal, safe) for _ in range(20)]
         paths = []
         for number, (_, copy) in enumerate(copies):
             paths.append(os.path.join(self.folder, f"copy.{number}"))
             with open(paths[-1], "wb") as file:
                 file.write(copy)
-        read = subprocess.run([self.program, "read", *paths], stdout=subprocess.PIPE, check=True)
-        for (kind, copy), said in zip(copies, read.stdout.decode().splitlines()):
-            self.count(kind, self.judge(kind, data, copy, journal, said, last))
+        reads = [subprocess.run([it, "read", *paths], stdout=subprocess.PIPE, check=True) for it in self.programs]
+        for (kind, copy), *said in zip(copies, *(read.stdout.decode().splitlines() for read in reads)):
+            faults = [self.judge(kind, data, copy, journal, line, last) for line in said]
+            self.count(kind, next(filter(None, faults), None))
         return None
 
     def judge(self, kind, data, copy, journal, said, last):
@@ -469,8 +514,8 @@ class Tests:
         for number in range(many):
             if number % 20 == 0 or chain is None:
                 chain = Chain(os.path.join(self.folder, f"runs.{number}"))
-            fault = self.kill(chain, self.seed + number)
-            if not self.count(f"kill {number} of seed {self.seed + number}, file {chain.files}", fault):
+            run = self.by_turns(number)
+            if not self.count(f"kill {number} of {run}, file {chain.files}", self.kill(chain, run)):
                 chain = None
         print(
             f"{many} kills: {self.files} journals of {self.frames} frames, of which {self.cuts} were cut; {self.in_creation} kills "
@@ -489,9 +534,9 @@ class Tests:
         for number in range(many):
             if number % 10 == 0 or chain is None:
                 chain = Chain(os.path.join(self.folder, f"limits.{number}"))
-            limit, seed = self.dice.randrange(self.dice.choice([120, 3000, 40000])), self.seed + number
-            fault = self.run_out(chain, seed, limit) or self.kill_later(chain, seed + 1)
-            if not self.count(f"limit {limit} of seed {seed}, file {chain.files}", fault):
+            limit, run = self.dice.randrange(self.dice.choice([120, 3000, 40000])), self.by_turns(number)
+            fault = self.run_out(chain, run, limit) or self.kill_later(chain, self.by_turns(number // 2))
+            if not self.count(f"limit {limit} of {run}, file {chain.files}", fault):
                 chain = None
         self.tell_ended(f"{many} limits of a file's size")
 
@@ -505,22 +550,22 @@ class Tests:
         try:
             for number in range(many):
                 chain = Chain(os.path.join(disk, f"runs.{number}"))
-                size, seed = 4 * self.dice.randint(1, 16), self.seed + number
+                size, run = 4 * self.dice.randint(1, 16), self.by_turns(number)
                 fault = None if mount(disk, f"remount,size={size}k") else "the disk is not made small"
-                fault = fault or self.run_out(chain, seed) or self.run_out(chain, seed + 1)
+                fault = fault or self.run_out(chain, run) or self.run_out(chain, self.by_turns(number + 2))
                 fault = fault or (None if mount(disk, large) else "the disk is not made large")
-                self.count(f"disk of {size} KiB, seed {seed}", fault or self.kill_later(chain, seed + 2))
+                self.count(f"disk of {size} KiB of {run}", fault or self.kill_later(chain, self.by_turns(number // 2)))
                 shutil.rmtree(chain.folder)
         finally:
             subprocess.run(["umount", disk], check=True)
         self.tell_ended(f"{many} full disks")
 
-    def written(self):
+    def written(self, program):
         """A journal of a run, up to its last whole record: the second of two, so that the numbers of its header are above 0."""
-        chain = Chain(os.path.join(self.folder, "changes"))
-        for seed, limit in ((self.seed, 3000), (self.seed + 1, 45000)):
-            path, fault = chain.path(), self.run_out(chain, seed, limit)
-            if not self.count(f"limit {limit} of seed {seed}", fault):
+        chain = Chain(os.path.join(self.folder, f"changes.{os.path.basename(program)}"))
+        for run, limit in (((program, self.seed), 3000), ((program, self.seed + 1), 45000)):
+            path, fault = chain.path(), self.run_out(chain, run, limit)
+            if not self.count(f"limit {limit} of {run}", fault):
                 return None
         with open(path, "rb") as file:
             data = file.read()
@@ -542,8 +587,25 @@ class Tests:
             cut = self.dice.choice([*range(journal.ends[0]), *journal.ends])
         return f"cut at {cut}, {zeros} zeros", data[:cut] + bytes(zeros), told_of_cut(journal, cut, zeros)
 
+    def made_anew(self, data, journal):
+        """A copy with other words in a record, or in the header, and the right checksum behind them. All readers have to say the same."""
+        ends, dice = journal.ends, self.dice
+        if dice.random() < 0.1:
+            words = with_other_numbers(words_of(data[: ends[0] - 8]), dice)
+            text = struct.pack(">%dQ" % len(words), *words)
+            return "words of the header", text + checksum(text) + data[ends[0] :], None
+        at = dice.randrange(journal.frames)
+        words = with_other_words(words_of(data[ends[at] : ends[at + 1] - 8]), dice)
+        text = struct.pack(">%dQ" % len(words), *words)
+        place = (ends[at] - ends[0]) // 8 - at
+        sum_of = checksum(struct.pack(">Q", place) + text)
+        return f"words of record {at}", data[: ends[at]] + text + sum_of + data[ends[at + 1] :], None
+
     def fault_of(self, copy, journal, said, wanted):
-        """What is wrong with what both readers say of a copy of a journal."""
+        """What is wrong with what a program and the reader here say of a copy of a journal."""
+        if wanted is None:
+            line = said_of(copy)
+            return None if said == line else f"said {said!r}, for {line!r}"
         try:
             found = Journal(copy)
         except Refused as why:
@@ -557,36 +619,45 @@ class Tests:
             return f"said {said!r}, for {line!r}"
         return None if told == wanted else f"told {told}, for {wanted}"
 
-    def changes(self, many):
-        """Has both readers read so many copies of a journal with a bit turned, and so many that are cut."""
-        data, began = self.written(), time.monotonic()
+    def lines_of(self, copies):
+        """What each program says of these copies, program by program for each of them."""
+        text = b"".join(struct.pack(">Q", len(copy)) + copy for _, copy, _ in copies)
+        said = []
+        for program in self.programs:
+            read = subprocess.run([program, "copies"], input=text, stdout=subprocess.PIPE)
+            said.append(read.stdout.decode().splitlines() + len(copies) * [f"nothing, and ended with {read.returncode}"])
+        return zip(*said)
+
+    def changes(self, many, program):
+        """Has all readers read so many copies of a program's journal with a bit turned, as many that are cut, and with other words."""
+        data, began = self.written(program), time.monotonic()
         if data is None:
             return
         journal = Journal(data)
-        for name, change in (("bits turned", self.turned), ("tails cut", self.cut)):
+        for name, change in (("bits turned", self.turned), ("tails cut", self.cut), ("records made anew", self.made_anew)):
             ends = collections.Counter()
             for first in range(0, many, 500):
                 copies = [change(data, journal) for _ in range(min(500, many - first))]
-                text = b"".join(struct.pack(">Q", len(copy)) + copy for _, copy, _ in copies)
-                read = subprocess.run([self.program, "copies"], input=text, stdout=subprocess.PIPE)
-                lines = read.stdout.decode().splitlines() + len(copies) * [f"nothing, and ended with {read.returncode}"]
-                for (kind, copy, wanted), said in zip(copies, lines):
-                    self.count(f"{kind}, seed {self.seed}", self.fault_of(copy, journal, said, wanted))
-                    ends["refused" if isinstance(wanted, str) else wanted[0]] += 1
+                for (kind, copy, wanted), said in zip(copies, self.lines_of(copies)):
+                    faults = [self.fault_of(copy, journal, line, wanted) for line in said]
+                    self.count(f"{kind}, seed {self.seed}", next(filter(None, faults), None))
+                    ends["refused" if len(said[0].split()) == 1 else said[0].split()[0]] += 1
             told = ", ".join(f"{count} {end}" for end, count in sorted(ends.items()))
-            print(f"{many} {name}, of {journal.frames} frames in {len(data)} bytes: {told}; {time.monotonic() - began:.0f} s by now")
+            of = f"of {journal.frames} frames in {len(data)} bytes by {os.path.basename(program)}"
+            print(f"{many} {name}, {of}: {told}; {time.monotonic() - began:.0f} s by now")
 
 
 def main():
-    program, folder, kills, rooms, changes = *sys.argv[1:3], *map(int, sys.argv[3:])
-    tests = Tests(program, folder, random.randrange(1 << 32))
+    folder, kills, rooms, changes = sys.argv[2], *map(int, sys.argv[3:])
+    programs = sys.argv[1].split(",")
+    tests = Tests(programs, folder, random.randrange(1 << 32))
     if kills:
         tests.kills(kills)
     if rooms:
         tests.limits(rooms)
         tests.full_disks(rooms)
-    if changes:
-        tests.changes(changes)
+    for number, program in enumerate(programs if changes else []):
+        tests.changes((changes + number) // len(programs), program)
     print(f"{tests.passed} passed, {tests.failed} failed")
     sys.exit(1 if tests.failed or not tests.said else 0)
 

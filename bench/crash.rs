@@ -8,7 +8,8 @@
 //! seed what is written waits in memory for a sync, so that a kill loses it.
 //!
 //! `crash read FILE..` prints of each file what the reader of the crate says of it. `crash copies`
-//! does so of each journal that standard input has, behind its length as eight bytes.
+//! does so of each journal that standard input has, behind its length as eight bytes. `crash again
+//! FILE TO` writes the frames of a file into a new one.
 
 use kioskbasil::journal::{self, End, Header, Journal, JournalError, ReadError, Recovered};
 use kioskbasil::journal::{JournalFile, SyncPolicy, Watch};
@@ -317,6 +318,16 @@ fn read_copies() -> io::Result<()> {
     Ok(())
 }
 
+/// Writes the frames of a file into a new one.
+fn write_again(from: &str, to: &str) -> Result<(), Fault> {
+    let read = journal::read(from)?;
+    let mut journal = Journal::create(to, read.header().clone(), SyncPolicy::Never)?;
+    Ok(read
+        .frames()
+        .iter()
+        .try_for_each(|it| journal.write(it))?)
+}
+
 fn main() {
     let words: Vec<String> = env::args().skip(1).collect();
     let words: Vec<&str> = words.iter().map(String::as_str).collect();
@@ -331,8 +342,9 @@ fn main() {
             files.iter().for_each(read);
         }
         ["copies"] => read_copies().expect("a stream"),
+        ["again", from, to] => write_again(from, to).expect("a file"),
         _ => {
-            eprintln!("usage: crash run FOLDER SEED | crash read FILE.. | crash copies");
+            eprintln!("usage: crash run FOLDER SEED | read FILE.. | copies | again FILE TO");
             process::exit(2);
         }
     }

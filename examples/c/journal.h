@@ -865,8 +865,9 @@ static inline void kioskbasil_journal_next_header(const struct kioskbasil_journa
 static inline uint32_t kioskbasil_journal_close(struct kioskbasil_journal *it) {
     uint32_t code = it->code;
     int status = it->file < 0 ? 0 : close(it->file);
-    it->file = -1;
-    if (status && code == KIOSKBASIL_OK) code = journal_fail(it, "close", it->written.bytes);
+    it->file = -1; /* it is closed also where that was interrupted */
+    if (status && errno != EINTR && code == KIOSKBASIL_OK)
+        code = journal_fail(it, "close", it->written.bytes);
     pthread_mutex_lock(&it->lock);
     if (it->code == KIOSKBASIL_OK) it->code = JOURNAL_CLOSED;
     pthread_mutex_unlock(&it->lock);
