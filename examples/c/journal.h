@@ -52,8 +52,8 @@ enum {
 };
 
 enum {
-    JOURNAL_WORDS = 129,          /* words of a frame, at most */
-    JOURNAL_MOST_BATCH = 64,      /* the most messages of a batch that a header may say */
+    JOURNAL_WORDS = 1 + KIOSKBASIL_MOST_MESSAGES * (1 + KIOSKBASIL_MOST_BYTES / 8), /* 129 */
+    JOURNAL_MOST_BATCH = 64, /* the most messages of a batch that a header may say */
     JOURNAL_MOST_RECORD = 8 * (8 * JOURNAL_MOST_BATCH + 2),
     JOURNAL_INPUT = 4 * JOURNAL_MOST_RECORD,
     JOURNAL_MOST_PATH = 4096
