@@ -30,7 +30,7 @@ FAILED = re.compile(r"crash: .+ is not (made|written|synced): .+ \(os error (\d+
 
 def with_other_words(words, dice):
     """The words of a record, of which some were changed, put in or left out; mostly with the count that they have then."""
-    words, at, kind = list(words), dice.randrange(1, len(words)), dice.randrange(6)
+    words, at, kind = list(words), dice.randrange(1, len(words)), dice.randrange(8)
     if kind == 0:
         words[at] ^= 1 << dice.randrange(64)
     elif kind == 1:
@@ -41,6 +41,10 @@ def with_other_words(words, dice):
         words.insert(at, dice.choice([0, END, LEAVE, 1 << 62, 1 << 63 | 7, 1 << 63 | 57 << 54, dice.getrandbits(64)]))
     elif kind == 4:
         del words[at]
+    elif kind == 5:
+        del words[1:]
+    elif kind == 6:
+        words.append(1 << 63 | dice.choice([8, 56]) << 54 | dice.getrandbits(20))
     else:
         words[1:] = [1 << 63 | 1 << 20 | number for number in range(dice.choice([15, 16, 17, 128, 129]))]
     if dice.random() < 0.8:
@@ -572,10 +576,14 @@ class Tests:
         return data[: Journal(data).ends[-1]]
 
     def turned(self, data, journal):
-        """A copy with a random bit turned, at times of a count near the end, which may look torn; and what is to be told of it."""
+        """A copy with a random bit turned, at times of the header, or of a count near the end, which may look torn; and what is to be
+        told of it.
+        """
         bit = self.dice.randrange(8 * len(data))
         if self.dice.random() < 0.05:
             bit = 8 * (self.dice.choice(journal.ends[-6:-1]) + 2) + self.dice.randrange(7)
+        elif self.dice.random() < 0.05:
+            bit = self.dice.randrange(8 * journal.ends[0])
         copy = bytearray(data)
         copy[bit // 8] ^= 1 << bit % 8
         return f"bit {bit} turned", bytes(copy), told_of_bit(data, journal, bit)
@@ -590,16 +598,21 @@ class Tests:
     def made_anew(self, data, journal):
         """A copy with other words in a record, or in the header, and the right checksum behind them. All readers have to say the same."""
         ends, dice = journal.ends, self.dice
-        if dice.random() < 0.1:
+        if dice.random() < 0.2:
             words = with_other_numbers(words_of(data[: ends[0] - 8]), dice)
             text = struct.pack(">%dQ" % len(words), *words)
             return "words of the header", text + checksum(text) + data[ends[0] :], None
         at = dice.randrange(journal.frames)
-        words = with_other_words(words_of(data[ends[at] : ends[at + 1] - 8]), dice)
-        text = struct.pack(">%dQ" % len(words), *words)
-        place = (ends[at] - ends[0]) // 8 - at
-        sum_of = checksum(struct.pack(">Q", place) + text)
-        return f"words of record {at}", data[: ends[at]] + text + sum_of + data[ends[at + 1] :], None
+        text, place = data[: ends[at]], (ends[at] - ends[0]) // 8 - at
+        records = [words_of(data[start : end - 8]) for start, end in zip(ends[at:], ends[at + 1 :])]
+        records[0] = with_other_words(records[0], dice)
+        # Those behind it have the checksums of the places where they stand then, or the old ones.
+        many = dice.choice([1, len(records)])
+        for words in records[:many]:
+            record = struct.pack(">%dQ" % len(words), *words)
+            text += record + checksum(struct.pack(">Q", place) + record)
+            place += len(words)
+        return f"words of record {at}", text + data[ends[at + many] :], None
 
     def fault_of(self, copy, journal, said, wanted):
         """What is wrong with what a program and the reader here say of a copy of a journal."""

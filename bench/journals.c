@@ -26,11 +26,15 @@ static struct {
     bool once;      /* only that one, */
     int why;        /* and by which errno */
     size_t most;    /* bytes of a read or write; 0 where there is no such limit */
+    enum call order[16]; /* the first calls, */
+    size_t many;         /* and how many there were */
 } seam;
 
 static bool fails(enum call call) {
     uint64_t count = ++seam.counts[call];
     bool is_due = seam.from && call == seam.call && count >= seam.from;
+    if (seam.many < sizeof seam.order / sizeof *seam.order) seam.order[seam.many] = call;
+    seam.many++;
     if (!is_due || (seam.once && count > seam.from)) return false;
     errno = seam.why;
     return true;
@@ -96,7 +100,7 @@ static void break_call(enum call call, uint64_t from, bool once, int why) {
 
 /* ---- a folder, files, and frames */
 
-enum { FRAMES = 6, LEAST_RUN = 200 };
+enum { FRAMES = 6, LEAST_RUN = 400 };
 
 static char folder[64], path[128], next_path[128];
 static struct kioskbasil_frame frames[FRAMES];
@@ -279,24 +283,47 @@ static void other_frames(void) {
         EXPECT(kioskbasil_journal_write(&journal, &wrong[i]), JOURNAL_NOT_NEXT);
     EXPECT(file_size(path), size);
     EXPECT(kioskbasil_journal_write(&journal, &frames[1]), KIOSKBASIL_OK);
-    wrong[0] = frames[2];
-    wrong[0].what = KIOSKBASIL_LEAVE;
-    wrong[0].many = 0;
-    EXPECT(kioskbasil_journal_write(&journal, &wrong[0]), KIOSKBASIL_OK);
-    wrong[1] = wrong[0];
-    wrong[1].what = KIOSKBASIL_END;
-    wrong[1].place += 2;
-    wrong[1].tenure++;
-    EXPECT(kioskbasil_journal_write(&journal, &wrong[1]), JOURNAL_NOT_NEXT); /* who has left */
-    wrong[1].owner = 1;
-    EXPECT(kioskbasil_journal_write(&journal, &wrong[1]), KIOSKBASIL_OK);
-    wrong[1].place += 2;
-    wrong[1].tenure++;
-    EXPECT(kioskbasil_journal_write(&journal, &wrong[1]), JOURNAL_NOT_NEXT); /* behind the end */
+    EXPECT(kioskbasil_journal_close(&journal), KIOSKBASIL_OK);
+    EXPECT(recovered(path, 0), 2);
+}
+
+/* Nothing of who has left is the next, and nothing behind the end. */
+static void marks(void) {
+    struct kioskbasil_frame mark = frames[0];
+    kioskbasil_left page;
+    mark.what = KIOSKBASIL_LEAVE;
+    mark.many = 0;
+    EXPECT(create(2, JOURNAL_NEVER), KIOSKBASIL_OK);
+    EXPECT(kioskbasil_journal_write(&journal, &mark), KIOSKBASIL_OK);
+    mark.what = KIOSKBASIL_END;
+    mark.place += 2;
+    mark.tenure++;
+    EXPECT(kioskbasil_journal_write(&journal, &mark), JOURNAL_NOT_NEXT);
+    mark.owner = 1;
+    EXPECT(kioskbasil_journal_write(&journal, &mark), KIOSKBASIL_OK);
+    mark.place += 2;
+    mark.tenure++;
+    EXPECT(kioskbasil_journal_write(&journal, &mark), JOURNAL_NOT_NEXT);
     EXPECT(kioskbasil_journal_close(&journal), KIOSKBASIL_OK);
     EXPECT(kioskbasil_journal_recover(&reader, path, NULL, NULL), KIOSKBASIL_OK);
     EXPECT(reader.end, JOURNAL_WHOLE);
     EXPECT(reader.log.left[0] && !reader.log.left[1] && reader.log.ended, true);
+    EXPECT(kioskbasil_journal_page(&reader, &page), KIOSKBASIL_OK);
+    EXPECT(page.gone[0] && !page.gone[1] && page.ended, true);
+}
+
+/* A header that allows batches of one message takes no frame of more than eight words. */
+static void small_batches(void) {
+    struct kioskbasil_journal_header header = header_of(2);
+    header.most = 1;
+    unlink(path);
+    EXPECT(kioskbasil_journal_create(&journal, path, &header, JOURNAL_NEVER, 0), KIOSKBASIL_OK);
+    EXPECT(kioskbasil_journal_write(&journal, &frames[0]), KIOSKBASIL_OK);
+    EXPECT(kioskbasil_journal_write(&journal, &frames[1]), KIOSKBASIL_OK);
+    EXPECT(kioskbasil_journal_write(&journal, &frames[2]), JOURNAL_NOT_NEXT);
+    EXPECT(kioskbasil_journal_close(&journal), KIOSKBASIL_OK);
+    EXPECT(recovered(path, 0), 2);
+    EXPECT(reader.end == JOURNAL_WHOLE && reader.header.most == 1, true);
 }
 
 /* How often each policy syncs: six frames, and a sync behind them. */
@@ -434,12 +461,16 @@ static void next_files(void) {
 
 /* A crash leaves a whole header or no file; a file that is there stays. */
 static void creation(void) {
+    static const enum call order[] = {OPEN, WRITE, FSYNC, RENAME, OPEN, FSYNC, CLOSE};
     struct kioskbasil_journal_header header = header_of(2);
     char begun[sizeof path + 8], text[200], *far = malloc(2 * JOURNAL_MOST_PATH);
     const char *wanted = "create at byte 0: File exists";
     sprintf(begun, "%s.new", path);
     put_file(begun, "of a crash", 10);
+    heal();
     EXPECT(create(2, JOURNAL_NEVER), KIOSKBASIL_OK);
+    EXPECT(seam.many, 7);
+    EXPECT(memcmp(seam.order, order, sizeof order), 0);
     EXPECT(access(begun, F_OK), -1);
     EXPECT(kioskbasil_journal_close(&journal), KIOSKBASIL_OK);
     EXPECT(kioskbasil_journal_create(&journal, path, &header, JOURNAL_NEVER, 0), JOURNAL_FAILED);
@@ -450,6 +481,7 @@ static void creation(void) {
         break_call(call, 1, true, EIO);
         EXPECT(create(2, JOURNAL_NEVER), call == FDATASYNC ? KIOSKBASIL_OK : JOURNAL_FAILED);
         if (call != FDATASYNC) EXPECT(access(path, F_OK), -1);
+        if (call == FDATASYNC) kioskbasil_journal_close(&journal);
     }
     heal();
     EXPECT(kioskbasil_journal_create(&journal, "/no/such/folder", &header, JOURNAL_NEVER, 0),
@@ -471,6 +503,32 @@ static void creation(void) {
 
 static bool is_header_fault(uint32_t code) {
     return code >= JOURNAL_OTHER_MAGIC && code <= JOURNAL_DAMAGED_HEADER;
+}
+
+/* What is no journal is told as that, and not as damage. */
+static void other_headers(void) {
+    static const struct { const char *bytes; size_t many; uint32_t code; } told[] = {
+        {"", 0, JOURNAL_TORN_HEADER},
+        {"KIX", 3, JOURNAL_OTHER_MAGIC},
+        {"KIOSKLOX", 8, JOURNAL_OTHER_MAGIC},
+        {"KIOSKLOG\0\0\0\0\0\0\0", 15, JOURNAL_TORN_HEADER},
+        {"KIOSKLOG\0\0\0\0\0\0\0\0", 16, JOURNAL_OTHER_VERSION},
+        {"KIOSKLOG\0\0\0\0\0\0\0\2", 16, JOURNAL_OTHER_VERSION},
+        {"KIOSKLOG\0\0\0\0\0\0\0\1\0\0\0\0\0\0\0", 23, JOURNAL_TORN_HEADER},
+        {"KIOSKLOG\0\0\0\0\0\0\0\1\0\0\0\0\0\0\0\0", 24, JOURNAL_DAMAGED_HEADER},
+        {"KIOSKLOG\0\0\0\0\0\0\0\1\0\0\0\0\0\0\0\101", 24, JOURNAL_DAMAGED_HEADER},
+        {"KIOSKLOG\0\0\0\0\0\0\0\1\100\0\0\0\0\0\0\1", 24, JOURNAL_DAMAGED_HEADER},
+        {"KIOSKLOG\0\0\0\0\0\0\0\1\0\0\0\0\0\0\0\100", 24, JOURNAL_TORN_HEADER},
+    };
+    for (size_t i = 0; i < sizeof told / sizeof *told; i++) {
+        put_file(path, told[i].bytes, told[i].many);
+        EXPECT(kioskbasil_journal_open(&reader, path), told[i].code);
+        EXPECT(kioskbasil_journal_repair(&reader, path, NULL), told[i].code);
+        EXPECT(file_size(path), told[i].many);
+    }
+    put_file(path, told[5].bytes, 16);
+    EXPECT(kioskbasil_journal_open(&reader, path), JOURNAL_OTHER_VERSION);
+    EXPECT(reader.version, 2);
 }
 
 /* Each cut of a file, with zeros behind it or without, is whole or torn, goes on, and is mended. */
@@ -536,6 +594,26 @@ static void turned_bits(void) {
         EXPECT(kioskbasil_journal_repair(&reader, path, NULL), code);
         EXPECT(file_size(path), code == KIOSKBASIL_OK ? reader.whole : size);
         whole[bit / 8] ^= (uint8_t)(1u << bit % 8);
+    }
+}
+
+/* Bytes behind zeros are damage, however far they are. */
+static void far_bytes(void) {
+    static const uint8_t none[8192];
+    size_t size;
+    EXPECT(record_all(JOURNAL_NEVER), KIOSKBASIL_OK);
+    EXPECT(kioskbasil_journal_close(&journal), KIOSKBASIL_OK);
+    size = file_size(path);
+    for (size_t zeros = 0; zeros < 30000; zeros += zeros < 20 ? 1 : 97) {
+        int file = open(path, O_WRONLY);
+        size_t left = zeros;
+        EXPECT(ftruncate(file, (off_t)size) || lseek(file, 0, SEEK_END) < 0, false);
+        for (; left > sizeof none; left -= sizeof none)
+            EXPECT(write(file, none, sizeof none), sizeof none);
+        EXPECT(write(file, none, left) + write(file, "x", 1), left + 1);
+        close(file);
+        EXPECT(recovered(path, 0), FRAMES);
+        EXPECT(reader.end, zeros < 7 ? JOURNAL_TORN : JOURNAL_DAMAGED);
     }
 }
 
@@ -605,6 +683,7 @@ static void frames_behind_other_calls(void) {
         send(&s[0]);
     }
     EXPECT(next_place(r, &heard), 5);
+    EXPECT(heard.frame.many, 1);
     /* The head of the next frame is heard by now; another call takes its item. */
     while (kioskbasil_hear_once(r, &answer) != KIOSKBASIL_ITEM) {
     }
@@ -625,6 +704,26 @@ static void frames_behind_other_calls(void) {
     kioskbasil_free_receiver(r);
     memset(&heard, 0, sizeof heard);
     EXPECT(next_place(r, &heard), 1000 + KIOSKBASIL_EMPTY_HANDLE);
+}
+
+/* The bell rings where a frame of a ring is passed, and not where none is there. */
+static void passing_rings(void) {
+    kioskbasil_sizes sizes = {.rounds = 2, .rows = 8, .log_words = 64};
+    kioskbasil_sender s[1] = {KIOSKBASIL_NONE};
+    kioskbasil_receiver r[1] = {KIOSKBASIL_NONE};
+    struct kioskbasil_frames heard = {0};
+    struct bell bell = BELL_NEW;
+    uint64_t rings = bell_listen(&bell);
+    EXPECT(kioskbasil_open_ring(&sizes, s, 1, r, 1), KIOSKBASIL_OK);
+    EXPECT(kioskbasil_try_frame(r, &heard, &bell), KIOSKBASIL_EMPTY);
+    EXPECT(bell.rings, rings);
+    kioskbasil_put(&s[0], "one", 3, NULL);
+    send(&s[0]);
+    EXPECT(kioskbasil_try_frame(r, &heard, &bell), KIOSKBASIL_OK);
+    EXPECT(bell.rings, rings + 1);
+    kioskbasil_free_sender(&s[0]);
+    kioskbasil_free_receiver(r);
+    bell_free(&bell);
 }
 
 /* ---- runs of threads */
@@ -765,6 +864,8 @@ static void failing_run(void) {
 
 int main(int many, char **words) {
     uint64_t messages = many > 1 ? strtoull(words[1], NULL, 10) : LEAST_RUN;
+    int free_at_first = dup(0), free_at_last;
+    close(free_at_first);
     strcpy(folder, "/tmp/journals.XXXXXX");
     if (!mkdtemp(folder)) return 1;
     sprintf(path, "%s/journal", folder);
@@ -773,17 +874,24 @@ int main(int many, char **words) {
     vectors();
     bytes_are_these();
     other_frames();
+    marks();
+    small_batches();
     policies();
     nothing_follows_a_fault();
     interrupts();
     next_files();
     creation();
+    other_headers();
     cuts();
     turned_bits();
+    far_bytes();
     reads_that_fail();
     frames_behind_other_calls();
+    passing_rings();
     sittings(messages);
     failing_run();
+    free_at_last = dup(0);
+    EXPECT(free_at_last, free_at_first); /* no file was left open */
     unlink(path);
     unlink(next_path);
     strcat(path, ".new");

@@ -84,7 +84,6 @@ struct kioskbasil_frames {
     bool is_begun; /* the head of the next one was heard behind it */
     uint8_t owner;
     uint64_t tenure, place;
-    bool has_ended;
 };
 
 /* What a journal begins with. */
@@ -229,7 +228,6 @@ static inline uint32_t journal_hear(kioskbasil_receiver *receiver, struct kioskb
             frame->many = 0;
             if (it->is_begun) return journal_heard(it, code);
         } else if (code != KIOSKBASIL_GOING) {
-            it->has_ended = code == KIOSKBASIL_END;
             if (!it->is_begun || kioskbasil_refused(code)) return code;
             return journal_heard(it, frame->many ? (uint32_t)KIOSKBASIL_ITEM : code);
         }
@@ -247,7 +245,6 @@ static inline uint32_t kioskbasil_try_frame(kioskbasil_receiver *receiver,
     kioskbasil_receiver_shown before = {0, 0, false, 0}, after;
     uint32_t code;
     if (!receiver || !it) return KIOSKBASIL_NULL;
-    if (it->has_ended) return KIOSKBASIL_END;
     code = kioskbasil_show_receiver(receiver, &before);
     if (code != KIOSKBASIL_OK) return code;
     if (before.place != it->place + 1) it->is_begun = false; /* another call has gone on */
