@@ -1,6 +1,6 @@
 -- What stands for a receiver of a ring between any two steps, and what its stores leave.
 use Rattle.std.specs.Prelude.{◌≡◌, ◌≢◌, ◌⊎◌, ℕ, ◌+◌, ◌<◌, ◌≤◌, true, false, List, length, take}
-use Rattle.std.specs.Prelude.{Option, slice_index, slice_set, if◌then◌else◌}
+use Rattle.std.specs.Prelude.{Option, slice_index, slice_set}
 use mathlib.Core.Option.{some}
 use lib.ListN.{get_elem?}
 use Rattle.atomic_table.specs.Table.{State}
@@ -11,7 +11,7 @@ use Rattle.bus_automaton.specs.Lawful.{floor_in}
 use Rattle.bus_automaton.specs.Processes.{TableLayout, Process, Automaton, log_cell, log_in}
 use Rattle.bus_automaton.specs.Processes.{passed_word}
 use Rattle.bus_pageslot.specs.ReceiverViews.{ReceiverView}
-use Rattle.bus_pageslot.specs.Rule.{TableInvariant}
+use Rattle.bus_pageslot.specs.Rule.{SeatsStaying, TableInvariant}
 use Rattle.bus_pageslot.specs.declared.rule.View.{View}
 use Rattle.bus_pageslot.specs.declared.rule.View.TheVariants.{Maker, Sender, Tap, Meeting, Telling}
 use Rattle.bus_pageslot.specs.declared.rule.View.TheVariants.{Spent}
@@ -32,6 +32,12 @@ HasSeat me v =
     ((e : ReceiverView) × (e.me ≡ me) × ShowsReceiver e v)
     ⊎ ((x : TableLayout) × (made : ℕ) × (v ≡ Maker x made) × (made ≤ x.senders + me))
 
+-- one of these views shows a receiver of this number that has not left
+abbrev pub IsTaken : {C : Type 0} → List (View C) → ℕ → Type 0
+IsTaken {C} views me =
+    (j : ℕ) × (v : View C) × (e : ReceiverView) × (get_elem? views j ≡ some v) × ShowsReceiver e v
+    × (e.me ≡ me) × (e.gone ≡ false)
+
 -- Of a receiver that has not left, on a table with these words, where this is all that was
 -- published.
 pub record RingKeeps (x : TableLayout) (words log : List ℕ) (e : ReceiverView) : Type 0 where
@@ -44,11 +50,15 @@ pub record RingKeeps (x : TableLayout) (words log : List ℕ) (e : ReceiverView)
   pub stands : (place : ℕ) → e.passed ≤ place → place < length log
       → slice_index words (log_cell x place) ≡ slice_index log place
 
--- of any receiver
-pub record RingShows (x : TableLayout) (words log : List ℕ) (e : ReceiverView) : Type 0 where
-  -- its passed place is a word of the table, and shows what it has passed, or that it has left
+-- of any receiver, on a table whose seats have these views
+pub record RingShows {C : Type 0} (x : TableLayout) (words log : List ℕ) (views : List (View C))
+    (e : ReceiverView) : Type 0 where
+  -- its passed place is a word of the table, and shows what it has passed
   pub below : e.me < x.passers
-  pub word : slice_index words (passed_word x e.me) ≡ (if e.gone then PASSED_ALL else e.passed)
+  pub word : e.gone ≡ false → slice_index words (passed_word x e.me) ≡ e.passed
+  -- or that it has left, until another one has taken its number
+  pub left : e.gone ≡ true
+      → (slice_index words (passed_word x e.me) ≡ PASSED_ALL) ⊎ IsTaken views e.me
   pub within : e.passed ≤ e.place
   pub stays : e.gone ≡ false → RingKeeps x words log e
 
@@ -95,15 +105,22 @@ pub record RuleRefuses {C : Type 0} (P : Process C) (A : Automaton C)
   pub within_frame : (j : ℕ) (v : View C) (e : ReceiverView) → get_elem? s.views j ≡ some v
       → ShowsReceiver e v → e.gone ≡ false
       → ¬ IsLog A.table_layout.senders (take e.passed e.known) → ¬ TableInvariant P A s
-  -- one that has left, and whose passed place does not show that
+  -- one that has left, and whose passed place does not show that, where no other has its number
   pub left_unshown : (j : ℕ) (v : View C) (e : ReceiverView) → get_elem? s.views j ≡ some v
-      → ShowsReceiver e v → e.gone ≡ true
+      → ShowsReceiver e v → e.gone ≡ true → ¬ IsTaken s.views e.me
       → slice_index s.words (passed_word A.table_layout e.me) ≢ PASSED_ALL
       → ¬ TableInvariant P A s
-  -- two seats that show receivers of one number
+  -- two seats that show receivers of one number, neither of which has left
   pub one_number : (i j : ℕ) (v w : View C) (e f : ReceiverView) → i ≢ j
-      → get_elem? s.views i ≡ some v → ShowsReceiver e v → get_elem? s.views j ≡ some w
-      → ShowsReceiver f w → e.me ≡ f.me → ¬ TableInvariant P A s
+      → get_elem? s.views i ≡ some v → ShowsReceiver e v → e.gone ≡ false
+      → get_elem? s.views j ≡ some w → ShowsReceiver f w → f.gone ≡ false → e.me ≡ f.me
+      → ¬ TableInvariant P A s
+  -- a passed place that holds up the ring for nobody: no receiver of its number that has not left
+  -- shows in a view, nor is one yet to have its seat made
+  pub unattended : (me : ℕ) → me < A.table_layout.passers
+      → slice_index s.words (passed_word A.table_layout me) ≢ PASSED_ALL
+      → ((j : ℕ) (v : View C) → get_elem? s.views j ≡ some v → ¬ SeatsStaying me v)
+      → ¬ TableInvariant P A s
   -- a receiver that shows in no view, and whose seat is not yet to be made
   pub unseen : (me : ℕ) → me < A.table_layout.passers
       → ((j : ℕ) (v : View C) → get_elem? s.views j ≡ some v → ¬ HasSeat me v)

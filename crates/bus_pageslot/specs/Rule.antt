@@ -199,6 +199,12 @@ all_knowing (Telling c sender_trail notes x e) known =
 all_knowing Spent known = Spent
 
 -- ---- what the views say of a bus
+-- where the number of a receiver is: with the seat that is to make one for it, or at that of the
+-- last receiver that has it
+pub data Ear : Type 0 where
+  Unmade : ℕ → Ear
+  Made : ℕ → Ear
+
 -- the seat j is that of this sender, which has done just this, and has stored no length but those
 -- that the log has reached
 pub record IsSeated {C : Type 0} (P : Process C) (A : Automaton C) (z : A.State) (seat : ℕ → ℕ)
@@ -217,25 +223,27 @@ pub record IsUnseated {C : Type 0} (A : Automaton C) (z : A.State) (seat : ℕ �
 
 -- the receiver r has no seat of its own yet, and has passed nothing: the seat j is to make one for
 -- it
-pub record IsUnheard {C : Type 0} (A : Automaton C) (z : A.State) (ear : ℕ → ℕ) (j r : ℕ) :
+pub record IsUnheard {C : Type 0} (A : Automaton C) (z : A.State) (ear : ℕ → Ear) (j r : ℕ) :
     Type 0 where
-  pub here : ear r ≡ j
+  pub here : ear r ≡ Unmade j
   pub passed : A.passed z r ≡ Some 0
 
--- The seat j is that of the receiver of this number, which has a passed place. Until the receiver
--- has left, that has what the receiver has stored there; and then it shows that the receiver has
--- left. What the receiver has stored is not past its place.
-pub record IsListening {C : Type 0} (A : Automaton C) (z : A.State) (ear : ℕ → ℕ) (j : ℕ)
+-- A receiver of this number, for which a seat was made, and which has a passed place. Until the
+-- receiver has left, the number is that of the seat j alone, and the passed place has what the
+-- receiver has stored there. From then on nothing is said of the number: another may take it. What
+-- the receiver has stored is not past its place.
+pub record IsListening {C : Type 0} (A : Automaton C) (z : A.State) (ear : ℕ → Ear) (j : ℕ)
     (e : ReceiverView) : Type 0 where
-  pub here : ear e.me ≡ j
+  pub here : e.gone ≡ false → ear e.me ≡ Made j
+  pub made : (i : ℕ) → ear e.me ≢ Unmade i
   pub below : e.me < A.table_layout.passers
   pub shown : e.gone ≡ false → A.passed z e.me ≡ Some e.passed
-  pub left : e.gone ≡ true → A.passed z e.me ≡ None
   pub past : e.passed ≤ e.place
 
 -- A receiver knows a beginning of the log, which has some frames; and its turns have answered just
--- what these give, up to its place. Where words of the log are used again its number is its own.
-pub record KnowsLog {C : Type 0} (A : Automaton C) (z : A.State) (ear : ℕ → ℕ) (j : ℕ)
+-- what these give, up to its place. Where words of the log are used again its number is its own,
+-- until it leaves.
+pub record KnowsLog {C : Type 0} (A : Automaton C) (z : A.State) (ear : ℕ → Ear) (j : ℕ)
     (x : TableLayout) (e : ReceiverView) : Type 0 where
   pub table_layout : x ≡ A.table_layout
   pub front : IsPrefix e.known (log_in A z)
@@ -246,13 +254,14 @@ pub record KnowsLog {C : Type 0} (A : Automaton C) (z : A.State) (ear : ℕ → 
   pub heard : HasHeard frames e
   pub listens : (A.table_layout.passers ≡ 0) ⊎ IsListening A z ear j e
 
--- two receivers have two numbers
+-- two receivers have two numbers, or one of them has left
 abbrev pub AreTwo : {C : Type 0} → Automaton C → ReceiverView → ReceiverView → Type 0
-AreTwo A e f = (A.table_layout.passers ≡ 0) ⊎ (e.me ≢ f.me)
+AreTwo A e f =
+    (A.table_layout.passers ≡ 0) ⊎ (e.me ≢ f.me) ⊎ (e.gone ≡ true) ⊎ (f.gone ≡ true)
 
 -- of these seats of senders, and these of receivers
-abbrev pub IsTrueOf : {C : Type 0} → Process C → (A : Automaton C) → A.State → (seat ear : ℕ → ℕ)
-    → ℕ → View C → Type 0
+abbrev pub IsTrueOf : {C : Type 0} → Process C → (A : Automaton C) → A.State → (ℕ → ℕ)
+    → (ℕ → Ear) → ℕ → View C → Type 0
 IsTrueOf P A z seat ear j (Maker x made) =
     (x ≡ A.table_layout)
     × ((p : ℕ) → made ≤ p → p < A.table_layout.senders → IsUnseated A z seat j p)
@@ -287,6 +296,16 @@ SeatsReceiver r (Meeting x e y f) = (e.me ≡ r) ⊎ (f.me ≡ r)
 SeatsReceiver r (Telling c sender_trail notes x e) = e.me ≡ r
 SeatsReceiver r Spent = ⊥
 
+-- a receiver r that has not left shows in this view, or is yet to have its seat made by it
+abbrev pub SeatsStaying : {C : Type 0} → ℕ → View C → Type 0
+SeatsStaying r (Maker x made) = made ≤ x.senders + r
+SeatsStaying r (Sender c sender_trail notes) = ⊥
+SeatsStaying r (Tap x e) = (e.me ≡ r) × (e.gone ≡ false)
+SeatsStaying r (Meeting x e y f) =
+    ((e.me ≡ r) × (e.gone ≡ false)) ⊎ ((f.me ≡ r) × (f.gone ≡ false))
+SeatsStaying r (Telling c sender_trail notes x e) = (e.me ≡ r) × (e.gone ≡ false)
+SeatsStaying r Spent = ⊥
+
 -- Executions of the bus lead to a state with these words, and with its page in the slot where that
 -- is at home; the views of the seats are true of it; and each of its senders shows in one of them,
 -- and so does each receiver of a ring.
@@ -298,8 +317,8 @@ pub record TableInvariant {C : Type 0} (P : Process C) (A : Automaton C)
   pub slot : s.homes ≡ slot_of (A.home state) ∷ []
   -- of each sender the seat that shows it
   pub seat : ℕ → ℕ
-  -- and of each receiver that has a passed place
-  pub ear : ℕ → ℕ
+  -- and of each receiver that has a passed place, until it leaves
+  pub ear : ℕ → Ear
   pub views : (j : ℕ) (v : View C) → get_elem? s.views j ≡ some v
       → IsTrueOf P A state seat ear j v
   pub all : (p : ℕ) → p < A.table_layout.senders
@@ -307,3 +326,6 @@ pub record TableInvariant {C : Type 0} (P : Process C) (A : Automaton C)
   -- and so does each receiver of a ring
   pub all_heard : (r : ℕ) → r < A.table_layout.passers
       → (j : ℕ) × (v : View C) × (get_elem? s.views j ≡ some v) × SeatsReceiver r v
+  -- and where a passed place has a place of the log, a receiver that has not left
+  pub all_staying : (r p : ℕ) → A.passed state r ≡ Some p
+      → (j : ℕ) × (v : View C) × (get_elem? s.views j ≡ some v) × SeatsStaying r v

@@ -123,17 +123,17 @@ pub fn no_page_without_each_sender<Q: Ratifier>()
 {}
 
 /// Of a ring, between any two steps, no word is lost that a receiver has not passed. The passed
-/// place of each receiver shows what that has passed, or that it has left. What one that has not
-/// left has passed are whole frames that it has read. From there on each word that was published
-/// stands in its cell. And each receiver shows in some seat, or the maker of seats has yet to make
-/// it one.
+/// place of each receiver shows what that has passed, or that it has left, unless another one has
+/// taken its number since then. What one that has not left has passed are whole frames that it has
+/// read. From there on each word that was published stands in its cell. And each receiver shows in
+/// some seat, or the maker of seats has yet to make it one.
 pub fn rings_are_safe<Q: Ratifier>()
     ensures receiver { let P = process_by Q.Ratifier in let A = automaton_by Q.Ratifier in
         (plan : Plan) (s : State (Option Page) (View (Sender (Elector Q)))) (seat : ℕ)
         (v : View (Sender (Elector Q))) (e : ReceiverView) (r : TableInvariant P (A plan) s)
         → get_elem? s.views seat ≡ some v → ShowsReceiver e v
         → 0 < (A plan).table_layout.passers
-        → RingShows (A plan).table_layout s.words (log_in (A plan) r.state) e }
+        → RingShows (A plan).table_layout s.words (log_in (A plan) r.state) s.views e }
     ensures all { let P = process_by Q.Ratifier in let A = automaton_by Q.Ratifier in
         (plan : Plan) (s : State (Option Page) (View (Sender (Elector Q)))) (me : ℕ)
         → TableInvariant P (A plan) s → me < (A plan).table_layout.passers

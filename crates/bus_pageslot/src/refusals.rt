@@ -63,9 +63,10 @@ pub fn hearing_refuses<Q: Ratifier>()
 
 /// The rule holds of no table of a ring with one of these faults. A word was overwritten that a
 /// receiver knows and has not passed. More than a whole log lies behind what one has passed. A
-/// passed place does not show what its receiver has passed, or that it has left. A receiver has
-/// passed what it has not read, or a place within a frame. Two seats show one receiver. A receiver
-/// shows in no seat, and none is yet to be made for it.
+/// passed place does not show what its receiver has passed, or, where no other one has taken its
+/// number, that it has left. A receiver has passed what it has not read, or a place within a frame.
+/// Two seats show one number, and neither receiver has left. A passed place holds the ring up for
+/// nobody. A receiver shows in no seat, and none is yet to be made for it.
 pub fn rule_refuses<Q: Ratifier>()
     ensures { let A = automaton_by Q.Ratifier in
         (plan : Plan) (s : State (Option Page) (View (Sender (Elector Q))))

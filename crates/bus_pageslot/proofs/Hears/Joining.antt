@@ -1,6 +1,6 @@
 -- Joined seats: how seats are joined, what they learn, and how they are cut apart again.
 use Rattle.std.proofs.Common.{◌≡◌, ◌≢◌, ◌⊎◌, inl, inr, ℕ, Option, List, [], ◌∷◌, ◌++◌, length}
-use Rattle.std.proofs.Common.{length-set, map, set}
+use Rattle.std.proofs.Common.{false, length-set, map, set}
 use Rattle.std.proofs.Common.{slice_index, arith, refl, sym, ◌∙◌, ap, subst, ⊎_elim}
 use mathlib.Core.Option.{some}
 use lib.ListN.{get_elem?}
@@ -21,7 +21,8 @@ use Rattle.bus_pageslot.specs.declared.rule.View.TheVariants.{Maker, Sender, Tap
 use Rattle.bus_pageslot.specs.declared.rule.View.TheVariants.{Spent}
 use Rattle.bus_automaton.specs.Processes.{TableLayout, Process, Automaton, log_in}
 use Rattle.bus_automaton.specs.Lawful.{AutomatonLaws}
-use Rattle.bus_pageslot.specs.Rule.{Sat, Seats, SeatsReceiver, IsSeated, KnowsLog, IsTrueOf}
+use Rattle.bus_pageslot.specs.Rule.{Sat, Seats, SeatsReceiver, SeatsStaying, Ear, IsSeated}
+use Rattle.bus_pageslot.specs.Rule.{KnowsLog, IsTrueOf}
 use Rattle.bus_pageslot.specs.Rule.{views_joined, first_of, second_of, all_knowing}
 use Rattle.bus_pageslot.specs.Rule.{receiver_view_in, known_in}
 use Rattle.bus_pageslot.specs.Rule.{IsFirst, TableInvariant}
@@ -50,12 +51,14 @@ module _ {C : Type 0} (P : Process C) (A : Automaton C) where
       → get_elem? s.views id ≡ some v → id ≢ other → (y : TableLayout) (l : ReceiverView)
       → get_elem? (set s.views id w) other ≡ some (Tap y l)
       → ((p : ℕ) → Seats P p v → Seats P p w)
-      → ((q : ℕ) → SeatsReceiver q v ⊎ (l.me ≡ q) → SeatsReceiver q w) → (ear' : ℕ → ℕ)
+      → ((q : ℕ) → SeatsReceiver q v ⊎ (l.me ≡ q) → SeatsReceiver q w)
+      → ((q : ℕ) → SeatsStaying q v ⊎ ((l.me ≡ q) × (l.gone ≡ false)) → SeatsStaying q w)
+      → (ear' : ℕ → Ear)
       → ((j : ℕ) → j ≢ other → (u : View C) → IsTrueOf P A r.state r.seat r.ear j u
       → IsTrueOf P A r.state r.seat ear' j u)
       → IsTrueOf P A r.state r.seat ear' id w
       → LeavesViews P A s r (set (set s.views id w) other Spent)
-  joined s r id other v w at apart y l there still heard ear' others fits = record {
+  joined s r id other v w at apart y l there still heard staying ear' others fits = record {
     rule = record {
       state = r.state;
       reached = r.reached;
@@ -78,6 +81,8 @@ module _ {C : Type 0} (P : Process C) (A : Automaton C) where
           (λ is. ⊎_elim (still p) (λ (none : ⊥). absurd none) is) (r.all p below);
       all_heard = λ q below. seen_joined (SeatsReceiver q) s.views id other v w (Tap y l) Spent at
           apart there (heard q) (r.all_heard q below);
+      all_staying = λ q n is. seen_joined (SeatsStaying q) s.views id other v w (Tap y l) Spent at
+          apart there (staying q) (r.all_staying q n is);
     };
     log = refl;
   }
@@ -97,6 +102,8 @@ module _ {C : Type 0} (P : Process C) (A : Automaton C) where
       let g = goes_to P A r.state r.seat r.ear other id y l k in
       joined s r id other (Sender c t notes) w at (λ e. apart (sym e)) y l there (λ p is. is)
       (λ q is. ⊎_elim (λ (none : ⊥). absurd none) (λ (k : l.me ≡ q). k) is)
+      (λ q is. ⊎_elim (λ (none : ⊥). absurd none)
+      (λ (k : (l.me ≡ q) × (l.gone ≡ false)). k) is)
       g.ear' g.others (h, g.here)
   join_leaves (Tap x e) is y l id other = λ s r at apart there.
       let w : View C = Meeting x e y l in
@@ -105,7 +112,7 @@ module _ {C : Type 0} (P : Process C) (A : Automaton C) where
       r.views other (Tap y l) (sym (set_else s.views id other w apart) ∙ there) in
       let g = goes_to P A r.state r.seat r.ear other id y l k in
       joined s r id other (Tap x e) w at (λ e. apart (sym e)) y l there (λ p is. is) (λ q is. is)
-      g.ear' g.others (
+      (λ q is. is) g.ear' g.others (
         g.others id (λ e. apart (sym e)) (Tap x e) h,
         g.here,
         two_of A r.state r.ear id other (λ e. apart (sym e)) x e y l h k,
@@ -124,10 +131,11 @@ module _ {C : Type 0} (P : Process C) (A : Automaton C) where
       → get_elem? s.views id ≡ some v → ((p : ℕ) → Seats P p v → Seats P p w)
       → (y : TableLayout) (l : ReceiverView)
       → ((q : ℕ) → SeatsReceiver q v → SeatsReceiver q w ⊎ (l.me ≡ q))
+      → ((q : ℕ) → SeatsStaying q v → SeatsStaying q w ⊎ ((l.me ≡ q) × (l.gone ≡ false)))
       → (g : GoesTo P A r.state r.seat r.ear id (length s.views) y l)
       → IsTrueOf P A r.state r.seat g.ear' id w
       → LeavesViews P A s r (set s.views id w ++ Tap y l ∷ [])
-  parted s r id v w at still y l heard g fits =
+  parted s r id v w at still y l heard staying g fits =
       record {
         rule = record {
           state = r.state;
@@ -151,6 +159,8 @@ module _ {C : Type 0} (P : Process C) (A : Automaton C) where
               (λ is. inl (still p is)) (r.all p below);
           all_heard = λ q below. seen_parted (SeatsReceiver q) s.views id v w (Tap y l) at (heard q)
               (r.all_heard q below);
+          all_staying = λ q n is. seen_parted (SeatsStaying q) s.views id v w (Tap y l) at
+              (staying q) (r.all_staying q n is);
         };
         log = refl;
       }
@@ -165,13 +175,13 @@ module _ {C : Type 0} (P : Process C) (A : Automaton C) where
   part_leaves (Meeting x k y l) is id = λ s r at.
       let h = r.views id (Meeting x k y l) at in
       let g = goes_to P A r.state r.seat r.ear id (length s.views) y l h.1 in
-      parted s r id (Meeting x k y l) (Tap x k) at (λ p is. is) y l (λ q is. is) g
+      parted s r id (Meeting x k y l) (Tap x k) at (λ p is. is) y l (λ q is. is) (λ q is. is) g
       (g.beside x k h.0 h.2)
   part_leaves (Telling c t notes y l) is id = λ s r at.
       let h = r.views id (Telling c t notes y l) at in
       let g = goes_to P A r.state r.seat r.ear id (length s.views) y l h.1 in
       parted s r id (Telling c t notes y l) (Sender c t notes) at (λ p is. is) y l
-      (λ q is. inr is) g h.0
+      (λ q is. inr is) (λ q is. inr is) g h.0
   part_leaves Spent is id = absurd is
 
   pub parts_allowed : (v : View C) → IsPair v → (id : ℕ)
@@ -196,7 +206,7 @@ module _ {C : Type 0} (P : Process C) (A : Automaton C) where
   still_pair Spent known is = absurd is
 
 -- two receivers of one bus agree
-pub both_agree : {C : Type 0} (A : Automaton C) (z : A.State) (ear : ℕ → ℕ) (j : ℕ)
+pub both_agree : {C : Type 0} (A : Automaton C) (z : A.State) (ear : ℕ → Ear) (j : ℕ)
     (x y : TableLayout) (e f : ReceiverView)
     → KnowsLog A z ear j x e → KnowsLog A z ear j y f → Agree e f
 both_agree A z ear j x y e f h k =

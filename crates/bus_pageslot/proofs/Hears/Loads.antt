@@ -22,7 +22,8 @@ use Rattle.bus_pageslot.specs.declared.rule.View.TheVariants.{Maker, Sender, Tap
 use Rattle.bus_pageslot.specs.declared.rule.View.TheVariants.{Spent}
 use Rattle.bus_automaton.specs.Processes.{TableLayout, Process, Automaton, log_cell, log_in}
 use Rattle.bus_automaton.specs.Lawful.{AutomatonLaws, MayAsk}
-use Rattle.bus_pageslot.specs.Rule.{Sat, Seats, SeatsReceiver, IsListening, KnowsLog, IsTrueOf}
+use Rattle.bus_pageslot.specs.Rule.{Sat, Seats, SeatsReceiver, SeatsStaying, IsListening}
+use Rattle.bus_pageslot.specs.Rule.{Ear, KnowsLog, IsTrueOf}
 use Rattle.bus_pageslot.specs.Rule.{receiver_view_in, known_in, with_receiver_view, senders_in}
 use Rattle.bus_pageslot.specs.Rule.{table_layout_in, log_word_in, FitsLog, MayRead, with_look}
 use Rattle.bus_pageslot.specs.Rule.{TableInvariant}
@@ -31,13 +32,13 @@ use Rattle.bus_automaton.specs.declared.plans.Plan.{Plan}
 use Rattle.bus_pageslot.specs.Listening.{FindsLength, FindsWord}
 use Rattle.bus_pageslot.specs.Looks.{IsFoundBy}
 use Rattle.bus_pageslot.specs.Notes.{Look}
-use Rattle.bus_pageslot.proofs.Ruled.AllSeats.{SeatsEither, still_seen}
+use Rattle.bus_pageslot.proofs.Ruled.AllSeats.{SeatsAny, still_seen}
 use Rattle.bus_pageslot.proofs.Hears.Hearing.{heard_loaded, heard_learnt, heard_quiet, heard_good}
 
 -- one view replaced, after a load
 pub reloaded : {C : Type 0} (P : Process C) (A : Automaton C) (s : State (Option Page) (View C))
     (r : TableInvariant P A s) (i id : ℕ) (v w : View C) → get_elem? s.views id ≡ some v
-    → ((who : ℕ ⊎ ℕ) → SeatsEither P who v → SeatsEither P who w)
+    → ((who : ℕ ⊎ ℕ ⊎ ℕ) → SeatsAny P who v → SeatsAny P who w)
     → IsTrueOf P A r.state r.seat r.ear id w
     → TableInvariant P A record {
       words = slice_set s.words i (slice_index s.words i);
@@ -58,13 +59,15 @@ reloaded {C} P A s r i id v w at still fits = record {
       (λ (u : (j ≢ id) × (get_elem? s.views j ≡ some v)). r.views j v u.1)
       (at_set s.views id j w v e);
   all = λ p below. still_seen (Seats P p) s.views id v w at (still (inl p)) (r.all p below);
-  all_heard = λ q below. still_seen (SeatsReceiver q) s.views id v w at (still (inr q))
+  all_heard = λ q below. still_seen (SeatsReceiver q) s.views id v w at (still (inr (inl q)))
       (r.all_heard q below);
+  all_staying = λ q p is. still_seen (SeatsStaying q) s.views id v w at (still (inr (inr q)))
+      (r.all_staying q p is);
 }
 
 -- what a seat shows stays true where it shows a look more, and who shows in it
-pub look_true : {C : Type 0} (P : Process C) (A : Automaton C) (z : A.State) (seat ear : ℕ → ℕ)
-    (j : ℕ) (look : Look) (v : View C) → IsTrueOf P A z seat ear j v
+pub look_true : {C : Type 0} (P : Process C) (A : Automaton C) (z : A.State) (seat : ℕ → ℕ)
+    (ear : ℕ → Ear) (j : ℕ) (look : Look) (v : View C) → IsTrueOf P A z seat ear j v
     → IsTrueOf P A z seat ear j (with_look v look)
 look_true P A z seat ear j look (Maker x made) h = h
 look_true P A z seat ear j look (Sender c t notes) h = h
@@ -73,11 +76,12 @@ look_true P A z seat ear j look (Meeting x e y f) h = h
 look_true P A z seat ear j look (Telling c t notes x e) h = h
 look_true P A z seat ear j look Spent h = h
 
-pub look_seen : {C : Type 0} (P : Process C) (look : Look) (v : View C) (who : ℕ ⊎ ℕ)
-    → SeatsEither P who v → SeatsEither P who (with_look v look)
+pub look_seen : {C : Type 0} (P : Process C) (look : Look) (v : View C) (who : ℕ ⊎ ℕ ⊎ ℕ)
+    → SeatsAny P who v → SeatsAny P who (with_look v look)
 look_seen P look (Maker x made) who h = h
 look_seen P look (Sender c t notes) (inl p) h = h
-look_seen P look (Sender c t notes) (inr r) h = h
+look_seen P look (Sender c t notes) (inr (inl r)) h = h
+look_seen P look (Sender c t notes) (inr (inr r)) h = h
 look_seen P look (Tap x e) who h = h
 look_seen P look (Meeting x e y f) who h = h
 look_seen P look (Telling c t notes x e) who h = h
@@ -105,25 +109,26 @@ look_allowed P A k plan is slots id me at s r many here few =
     )
 
 -- a receiver that has gone on, and has passed what it had passed
-abbrev pub Listens : {C : Type 0} → (A : Automaton C) → A.State → (ℕ → ℕ) → ℕ → ReceiverView
+abbrev pub Listens : {C : Type 0} → (A : Automaton C) → A.State → (ℕ → Ear) → ℕ → ReceiverView
     → Type 0
 Listens A z ear j e = (A.table_layout.passers ≡ 0) ⊎ IsListening A z ear j e
 
-pub listens_on : {C : Type 0} (A : Automaton C) (z : A.State) (ear : ℕ → ℕ) (j : ℕ)
+pub listens_on : {C : Type 0} (A : Automaton C) (z : A.State) (ear : ℕ → Ear) (j : ℕ)
     (e e' : ReceiverView) → e'.me ≡ e.me → e'.passed ≡ e.passed → e'.gone ≡ e.gone
     → e.place ≤ e'.place → Listens A z ear j e → Listens A z ear j e'
 listens_on A z ear j e e' me passed gone on (inl flat) = inl flat
 listens_on A z ear j e e' me passed gone on (inr l) = inr record {
-  here = ap ear me ∙ l.here;
+  here = λ stays. ap ear me ∙ l.here (sym gone ∙ stays);
+  made = λ i none. l.made i (sym (ap ear me) ∙ none);
   below = let same = me in let low = l.below in omega arith;
   shown = λ stays.
       ap (A.passed z) me ∙ l.shown (sym gone ∙ stays) ∙ ap Some (sym passed);
-  left = λ away. ap (A.passed z) me ∙ l.left (sym gone ∙ away);
   past = let a = l.past in omega arith;
 }
 
 -- a receiver that knows the whole log, and has read what it had read
-pub knows_all : {C : Type 0} (A : Automaton C) (z : A.State) (ear : ℕ → ℕ) (j : ℕ) (x : TableLayout)
+pub knows_all : {C : Type 0} (A : Automaton C) (z : A.State) (ear : ℕ → Ear) (j : ℕ)
+    (x : TableLayout)
     (e e' : ReceiverView)
     → (h : KnowsLog A z ear j x e) → e'.known ≡ log_in A z → e'.place ≡ e.place
     → HasHeard h.frames e' → e'.me ≡ e.me → e'.passed ≡ e.passed → e'.gone ≡ e.gone
@@ -142,7 +147,7 @@ knows_all A z ear j x e e' h all place heard me passed gone = record {
   listens = listens_on A z ear j e e' me passed gone (omega arith) h.listens;
 }
 
-pub whole : {C : Type 0} (A : Automaton C) (z : A.State) (ear : ℕ → ℕ) (j : ℕ) (x : TableLayout)
+pub whole : {C : Type 0} (A : Automaton C) (z : A.State) (ear : ℕ → Ear) (j : ℕ) (x : TableLayout)
     (e : ReceiverView) → KnowsLog A z ear j x e
     → KnowsLog A z ear j x (receiver_view_knowing e (log_in A z))
 whole A z ear j x e h = knows_all A z ear j x e (receiver_view_knowing e (log_in A z)) h refl refl
@@ -229,7 +234,7 @@ module _ {C : Type 0} (P : Process C) (A : Automaton C) (L : AutomatonLaws P A) 
       )
 
 -- what a receiver may ask for
-may_ask : {C : Type 0} (A : Automaton C) (z : A.State) (ear : ℕ → ℕ) (j : ℕ) (x : TableLayout)
+may_ask : {C : Type 0} (A : Automaton C) (z : A.State) (ear : ℕ → Ear) (j : ℕ) (x : TableLayout)
     (e : ReceiverView) → KnowsLog A z ear j x e → (place : ℕ) → MayRead x e place
     → MayAsk A z e.me place
 may_ask A z ear j x e h place (inl flat) =
@@ -295,7 +300,7 @@ pub record WordFound {C : Type 0} (P : Process C) (A : Automaton C)
     (s : State (Option Page) (View C)) (r : TableInvariant P A s) (id : ℕ) (m : Sat C)
     (x : TableLayout) (e : ReceiverView) : Type 0 where
   pub view : View C
-  pub still : (who : ℕ ⊎ ℕ) → SeatsEither P who (Tap x e) → SeatsEither P who view
+  pub still : (who : ℕ ⊎ ℕ ⊎ ℕ) → SeatsAny P who (Tap x e) → SeatsAny P who view
   pub true_of : IsTrueOf P A r.state r.seat r.ear id view
   pub finds : FindsWord m (slice_index s.words (log_cell x e.place)) (view, m.1)
 

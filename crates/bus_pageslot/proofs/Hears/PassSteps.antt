@@ -5,11 +5,11 @@ use Rattle.std.proofs.Common.{[], ◌∷◌, ◌++◌, drop, length, slice_index
 use Rattle.std.proofs.Common.{take, arith, refl, sym, ◌∙◌, ap, subst, ⊎_elim, append_assoc}
 use mathlib.Core.Option.{some}
 use lib.ListN.{get_elem?}
-use Rattle.std.proofs.lemmas.Bool.{true≢false}
+use Rattle.std.proofs.lemmas.Bool.{cases_eq}
 use Rattle.std.proofs.lemmas.List.{get_or-set_other, length-take}
 use Rattle.std.proofs.lemmas.List.{take-append-drop}
 use Rattle.atomic_table.specs.Table.{State, keeps, Allows}
-use Rattle.atomic_table.proofs.Lists.{at_set}
+use Rattle.atomic_table.proofs.Lists.{at_set, set_here}
 use Rattle.bus_register.specs.declared.limits.TheConstants.{PASSED_ALL}
 use Rattle.bus_batch.specs.Frames.{AreFrames, Order, IsLog, log_words}
 use Rattle.bus_tenure.specs.declared.pages.Page.{Page}
@@ -19,20 +19,22 @@ use Rattle.bus_automaton.specs.Processes.{TableLayout, Process, Automaton, passe
 use Rattle.bus_automaton.specs.SenderTrails.{SenderTrail}
 use Rattle.bus_pageslot.specs.ReceiverViews.{ReceiverView, HasHeard, passed_on, left_for_good}
 use Rattle.bus_pageslot.specs.Rule.{Sat, slot_of, receiver_view_in, with_receiver_view}
-use Rattle.bus_pageslot.specs.Rule.{passed_word_in, IsSeated, Seats, SeatsReceiver}
+use Rattle.bus_pageslot.specs.Rule.{passed_word_in, Ear, Made, IsSeated, Seats, SeatsReceiver}
+use Rattle.bus_pageslot.specs.Rule.{SeatsStaying}
 use Rattle.bus_pageslot.specs.Rule.{IsListening, KnowsLog, IsTrueOf, TableInvariant}
 use Rattle.bus_pageslot.specs.Rings.{LeavesAll}
 use Rattle.bus_pageslot.specs.Steps.{HasPassed, HasLeft}
 use Rattle.bus_pageslot.specs.declared.rule.View.{View}
 use Rattle.bus_pageslot.specs.declared.rule.View.TheVariants.{Maker, Sender, Tap, Meeting, Telling}
 use Rattle.bus_pageslot.specs.declared.rule.View.TheVariants.{Spent}
-use Rattle.bus_pageslot.proofs.Ruled.AllSeats.{still_seen}
+use Rattle.bus_pageslot.proofs.Ruled.AllSeats.{still_seen, within}
 use Rattle.bus_pageslot.proofs.Hears.Hearing.{heard_left, heard_passed}
+use Rattle.bus_pageslot.proofs.Hears.Ears.{seat_of}
 use Rattle.bus_pageslot.proofs.Hears.Loads.{Listens}
 
 module _ {C : Type 0} (P : Process C) (A : Automaton C) (L : AutomatonLaws P A)
     (s : State (Option Page) (View C)) (r : TableInvariant P A s) (id number : ℕ)
-    (passed : Option ℕ) (me : ℕ) (mine : r.ear me ≡ id)
+    (passed : Option ℕ) (me : ℕ) (mine : r.ear me ≡ Made id)
     (p : PassesIn A r.state me number passed) where
   -- ---- the other views stay true
   first_same : slice_index (A.words p.state) 0 ≡ slice_index (A.words r.state) 0
@@ -41,8 +43,8 @@ module _ {C : Type 0} (P : Process C) (A : Automaton C) (L : AutomatonLaws P A)
       ∙ get_or-set_other (A.words r.state) (passed_word A.table_layout me) 0 number 0
       (λ e. absurd (let low = L.passed_behind in omega arith))
 
-  apart : (j : ℕ) → j ≢ id → (q : ℕ) → r.ear q ≡ j → q ≢ me
-  apart j other q at same = other (sym at ∙ ap r.ear same ∙ mine)
+  apart : (j : ℕ) → j ≢ id → (q : ℕ) → seat_of (r.ear q) ≡ j → q ≢ me
+  apart j other q at same = other (sym at ∙ ap (λ i. seat_of (r.ear i)) same ∙ ap seat_of mine)
 
   seated_still : (j : ℕ) (c : C) (t : SenderTrail) (stored : ℕ)
       → IsSeated P A r.state r.seat j c t stored → IsSeated P A p.state r.seat j c t stored
@@ -58,9 +60,9 @@ module _ {C : Type 0} (P : Process C) (A : Automaton C) (L : AutomatonLaws P A)
   listens_still j other e (inl flat) = inl flat
   listens_still j other e (inr l) = inr record {
     here = l.here;
+    made = l.made;
     below = l.below;
-    shown = λ stays. p.others e.me (apart j other e.me l.here) ∙ l.shown stays;
-    left = λ gone. p.others e.me (apart j other e.me l.here) ∙ l.left gone;
+    shown = λ stays. p.others e.me (apart j other e.me (ap seat_of (l.here stays))) ∙ l.shown stays;
     past = l.past;
   }
 
@@ -99,7 +101,8 @@ module _ {C : Type 0} (P : Process C) (A : Automaton C) (L : AutomatonLaws P A)
     }),
     λ q low high. record {
       here = (h.2 q low high).here;
-      passed = p.others q (apart j other q (h.2 q low high).here) ∙ (h.2 q low high).passed;
+      passed = p.others q (apart j other q (ap seat_of (h.2 q low high).here))
+          ∙ (h.2 q low high).passed;
     },
   )
   others_true j other (Sender c t notes) h = seated_still j c t notes.stored h
@@ -110,12 +113,15 @@ module _ {C : Type 0} (P : Process C) (A : Automaton C) (L : AutomatonLaws P A)
       (seated_still j c t notes.stored h.0, knows_still j other x e h.1)
   others_true j other Spent h = tt
 
-  -- ---- so the rule holds
-  pub stored : (x : TableLayout) (e e' : ReceiverView) → get_elem? s.views id ≡ some (Tap x e)
-      → e'.me ≡ e.me → (word : ℕ) → word ≡ passed_word A.table_layout me
-      → KnowsLog A p.state r.ear id x e'
-      → LeavesAll P A s r id word number (Tap x e')
-  stored x e e' at same word is knows = record {
+  -- ---- so the rule holds, where the seat shows another view
+  pub stored : (v w : View C) → get_elem? s.views id ≡ some v
+      → ((q : ℕ) → Seats P q v → Seats P q w)
+      → ((q : ℕ) → SeatsReceiver q v → SeatsReceiver q w)
+      → ((q : ℕ) → q ≢ me → SeatsStaying q v → SeatsStaying q w)
+      → ((n : ℕ) → passed ≡ Some n → SeatsStaying me w) → (word : ℕ)
+      → word ≡ passed_word A.table_layout me → IsTrueOf P A p.state r.seat r.ear id w
+      → LeavesAll P A s r id word number w
+  stored v w at sends hears stays own word is true_of = record {
     rule = record {
       state = p.state;
       reached = p.reached;
@@ -124,23 +130,43 @@ module _ {C : Type 0} (P : Process C) (A : Automaton C) (L : AutomatonLaws P A)
       slot = r.slot ∙ ap (λ (h : Option Page). slot_of h ∷ []) (sym p.home);
       seat = r.seat;
       ear = r.ear;
-      views = λ j v i. ⊎_elim
-          (λ (u : (j ≡ id) × (Tap x e' ≡ v)).
+      views = λ j u i. ⊎_elim
+          (λ (k : (j ≡ id) × (w ≡ u)).
           subst (λ (y : ℕ × View C). IsTrueOf P A p.state r.seat r.ear y.0 y.1)
-          (λ k. (sym u.0 k, u.1 k)) knows)
-          (λ (u : (j ≢ id) × (get_elem? s.views j ≡ some v)).
-          others_true j u.0 v (r.views j v u.1))
-          (at_set s.views id j (Tap x e') v i);
-      all = λ q below. still_seen (Seats P q) s.views id (Tap x e) (Tap x e') at (λ k. k)
-          (r.all q below);
-      all_heard = λ q below. still_seen (SeatsReceiver q) s.views id (Tap x e) (Tap x e') at
-          (λ k. same ∙ k) (r.all_heard q below);
+          (λ i. (sym k.0 i, k.1 i)) true_of)
+          (λ (k : (j ≢ id) × (get_elem? s.views j ≡ some u)).
+          others_true j k.0 u (r.views j u k.1))
+          (at_set s.views id j w u i);
+      all = λ q below. still_seen (Seats P q) s.views id v w at (sends q) (r.all q below);
+      all_heard = λ q below. still_seen (SeatsReceiver q) s.views id v w at (hears q)
+          (r.all_heard q below);
+      all_staying = λ q n k. elim (cases_eq q me) [
+        | inl i ↦ (
+          id,
+          w,
+          set_here s.views id w (within s.views id v at),
+          subst (λ y. SeatsStaying y w) (sym i)
+              (own n (sym p.here ∙ ap (A.passed p.state) (sym i) ∙ k)),
+        )
+        | inr ne ↦ still_seen (SeatsStaying q) s.views id v w at (stays q ne)
+            (r.all_staying q n (sym (p.others q ne) ∙ k))
+      ];
     };
     log = p.log;
   }
 
+  -- and where it shows the same receiver, which has stored this
+  pub stored_own : (x : TableLayout) (e e' : ReceiverView) → get_elem? s.views id ≡ some (Tap x e)
+      → e.me ≡ me → e'.me ≡ e.me → ((n : ℕ) → passed ≡ Some n → e'.gone ≡ false) → (word : ℕ)
+      → word ≡ passed_word A.table_layout me
+      → KnowsLog A p.state r.ear id x e'
+      → LeavesAll P A s r id word number (Tap x e')
+  stored_own x e e' at own same stays word is knows =
+      stored (Tap x e) (Tap x e') at (λ q k. k) (λ q k. same ∙ k)
+      (λ q ne k. absurd (ne (sym k.0 ∙ own))) (λ n k. (same ∙ own, stays n k)) word is knows
+
 -- ---- a receiver that has a passed place is of its own number
-pub its_own : {C : Type 0} (A : Automaton C) (z : A.State) (ear : ℕ → ℕ) (j : ℕ) (x : TableLayout)
+pub its_own : {C : Type 0} (A : Automaton C) (z : A.State) (ear : ℕ → Ear) (j : ℕ) (x : TableLayout)
     (e : ReceiverView) → KnowsLog A z ear j x e → 0 < x.passers → IsListening A z ear j e
 its_own A z ear j x e h any = by h.listens
   where
@@ -150,7 +176,7 @@ its_own A z ear j x e h any = by h.listens
     by (inr l) = l
 
 -- and may pass where the words that it has read are a log
-may_pass : {C : Type 0} (A : Automaton C) (z : A.State) (ear : ℕ → ℕ) (j : ℕ) (x : TableLayout)
+may_pass : {C : Type 0} (A : Automaton C) (z : A.State) (ear : ℕ → Ear) (j : ℕ) (x : TableLayout)
     (e : ReceiverView) → KnowsLog A z ear j x e → e.ended ≡ false
     → IsLog x.senders (take e.place e.known) → MayPass A z e.place
 may_pass A z ear j x e h going log =
@@ -202,30 +228,31 @@ module _ {C : Type 0} (P : Process C) (A : Automaton C) (L : AutomatonLaws P A)
   pass_leaves going log =
       let p = L.passes r.state e.me e.passed e.place r.reached (l.shown stays) l.past
       (may_pass A r.state r.ear id x e h going log) in
-      stored P A L s r id e.place (Some e.place) e.me l.here p x e (passed_on e word) here refl word
-      is_word
-      (knows_with P A L s r id e.place (Some e.place) e.me l.here p id x e (passed_on e word) h refl
-      refl (heard_passed h.frames e h.heard word going)
+      stored_own P A L s r id e.place (Some e.place) e.me (l.here stays) p x e (passed_on e word)
+      here
+      refl refl (λ n is. stays) word is_word
+      (knows_with P A L s r id e.place (Some e.place) e.me (l.here stays) p id x e
+      (passed_on e word) h refl refl (heard_passed h.frames e h.heard word going)
       (inr record {
         here = l.here;
+        made = l.made;
         below = l.below;
         shown = λ k. p.here;
-        left = λ k. absurd (true≢false (sym k ∙ stays));
         past = omega arith;
       }))
 
   pub leave_leaves : LeavesAll P A s r id word PASSED_ALL (Tap x (left_for_good e word))
   leave_leaves =
       let p = L.leaves r.state e.me e.passed r.reached (l.shown stays) in
-      stored P A L s r id PASSED_ALL None e.me l.here p x e (left_for_good e word) here refl word
-      is_word
-      (knows_with P A L s r id PASSED_ALL None e.me l.here p id x e (left_for_good e word) h refl
-      refl (heard_left h.frames e h.heard word)
+      stored_own P A L s r id PASSED_ALL None e.me (l.here stays) p x e (left_for_good e word) here
+      refl refl (λ n is. absurd cc) word is_word
+      (knows_with P A L s r id PASSED_ALL None e.me (l.here stays) p id x e (left_for_good e word) h
+      refl refl (heard_left h.frames e h.heard word)
       (inr record {
-        here = l.here;
+        here = λ k. absurd (let bad : true ≡ false = k in cc);
+        made = l.made;
         below = l.below;
         shown = λ k. absurd (let bad : true ≡ false = k in cc);
-        left = λ k. p.here;
         past = l.past;
       }))
 

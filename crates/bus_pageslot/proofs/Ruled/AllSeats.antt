@@ -7,9 +7,9 @@ use Rattle.std.proofs.lemmas.Bool.{cases_eq}
 use Rattle.atomic_table.proofs.Lists.{set_here, set_else, at_last, at_longer}
 use Rattle.bus_pageslot.specs.declared.rule.View.{View}
 use Rattle.bus_automaton.specs.Processes.{Process}
-use Rattle.bus_pageslot.specs.Rule.{Seats, SeatsReceiver}
+use Rattle.bus_pageslot.specs.Rule.{Seats, SeatsReceiver, SeatsStaying}
 
-within : {A : Type 0} (l : List A) (j : ℕ) (a : A) → get_elem? l j ≡ some a → j < length l
+pub within : {A : Type 0} (l : List A) (j : ℕ) (a : A) → get_elem? l j ≡ some a → j < length l
 within [] j a e = absurd (some-ne-none a (sym e))
 within (x ∷ xs) zero a e = omega arith
 within (x ∷ xs) (suc j) a e = let l = within xs j a e in omega arith
@@ -18,14 +18,17 @@ one_there : {A : Type 0} (l : List A) (j : ℕ) (a b : A) → get_elem? l j ≡ 
     → get_elem? l j ≡ some b → a ≡ b
 one_there l j a b e f = some-injective a b (sym e ∙ f)
 
--- what is so of the sender of this number, or of the receiver of this number
-abbrev OfEither : ℕ ⊎ ℕ → (sender receiver : ℕ → Type 0) → Type 0
-OfEither (inl p) sender receiver = sender p
-OfEither (inr r) sender receiver = receiver r
+-- what is so of the sender of this number, of the receiver of this number, or of one that has not
+-- left
+abbrev OfAny : ℕ ⊎ ℕ ⊎ ℕ → (sender receiver staying : ℕ → Type 0) → Type 0
+OfAny (inl p) sender receiver staying = sender p
+OfAny (inr (inl r)) sender receiver staying = receiver r
+OfAny (inr (inr r)) sender receiver staying = staying r
 
--- this sender, or this receiver of a ring, shows in a view
-abbrev pub SeatsEither : {C : Type 0} → Process C → ℕ ⊎ ℕ → View C → Type 0
-SeatsEither P who v = OfEither who (λ p. Seats P p v) (λ r. SeatsReceiver r v)
+-- this sender, this receiver of a ring, or this one that has not left shows in a view
+abbrev pub SeatsAny : {C : Type 0} → Process C → ℕ ⊎ ℕ ⊎ ℕ → View C → Type 0
+SeatsAny P who v =
+    OfAny who (λ p. Seats P p v) (λ r. SeatsReceiver r v) (λ r. SeatsStaying r v)
 
 -- of whoever shows in such views
 module _ {C : Type 0} (Shows : View C → Type 0) where

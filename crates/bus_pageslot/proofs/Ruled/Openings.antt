@@ -1,6 +1,6 @@
 -- The table at its start, and how senders get their seats.
 use Rattle.std.proofs.Common.{◌≡◌, ◌≢◌, ℕ, zero, suc, ◌+◌, ◌-◌, ◌<◌, ◌≤◌, false, length-set, Option}
-use Rattle.std.proofs.Common.{Some, true}
+use Rattle.std.proofs.Common.{Some}
 use Rattle.std.proofs.Common.{List, [], ◌∷◌, ◌++◌, length, set, slice_get, get_or, replicate}
 use Rattle.std.proofs.Common.{arith, refl, sym, ◌∙◌, ap, subst, ⊎_elim, inl, inr, ◌⊎◌}
 use mathlib.Core.Option.{some, some-injective, some-ne-none}
@@ -26,8 +26,9 @@ use Rattle.bus_automaton.specs.Processes.{TableLayout, Process, Automaton, IsCou
 use Rattle.bus_automaton.specs.Processes.{log_in}
 use Rattle.bus_automaton.specs.Lawful.{AutomatonLaws, Opens}
 use Rattle.bus_pageslot.specs.Rule.{slot_of, Sat, tap_left, tap_right, sender_trail_in, notes_in}
-use Rattle.bus_pageslot.specs.Rule.{cut_left, cut_right, IsUnheard, KnowsLog, IsTrueOf}
-use Rattle.bus_pageslot.specs.Rule.{Seats, SeatsReceiver, TableInvariant}
+use Rattle.bus_pageslot.specs.Rule.{cut_left, cut_right, Ear, Unmade, Made, IsUnheard, KnowsLog}
+use Rattle.bus_pageslot.specs.Rule.{IsTrueOf}
+use Rattle.bus_pageslot.specs.Rule.{Seats, SeatsReceiver, SeatsStaying, TableInvariant}
 use Rattle.bus_pageslot.specs.Lasting.{LeavesViews}
 use Rattle.bus_pageslot.specs.Steps.{Numbers, carried_of}
 use Rattle.bus_pageslot.specs.Steps.Accepts.{Nothing}
@@ -35,7 +36,7 @@ use Rattle.bus_pageslot.specs.Seats.{SenderSeat, ReceiverSeat, Shows, table_of}
 use Rattle.bus_pageslot.specs.Buses.{IsNewSeat, AreNewSeats, IsNewTap, AreNewTaps}
 use Rattle.bus_automaton.specs.SenderTrails.{SenderTrail, new_sender_trail}
 use Rattle.bus_pageslot.proofs.Ruled.AllSeats.{seen_parted}
-use Rattle.bus_pageslot.proofs.Hears.Ears.{views_still}
+use Rattle.bus_pageslot.proofs.Hears.Ears.{seat_of, views_beside}
 use Rattle.bus_pageslot.proofs.Hears.Loads.{Listens}
 use Rattle.bus_pageslot.proofs.Hears.Hearing.{heard_new}
 use Rattle.bus_pageslot.proofs.Ruled.Numbering.{numbers_next}
@@ -49,7 +50,7 @@ at_end (x ∷ xs) a b zero e = inl e
 at_end (x ∷ xs) a b (suc j) e = ⊎_elim (λ h. inl h) (λ t. inr (ap suc t.0, t.1)) (at_end xs a b j e)
 
 -- a receiver that knows nothing, of a log with these frames
-knows_new : {C : Type 0} (A : Automaton C) (z : A.State) (ear : ℕ → ℕ) (j me : ℕ)
+knows_new : {C : Type 0} (A : Automaton C) (z : A.State) (ear : ℕ → Ear) (j me : ℕ)
     (x : TableLayout) → x ≡ A.table_layout
     → (frames : List Frame) → AreFrames A.table_layout.senders frames
     → log_words frames ≡ log_in A z → Listens A z ear j (new_receiver_view me)
@@ -71,16 +72,17 @@ module _ {C : Type 0} (P : Process C) (A : Automaton C) (L : AutomatonLaws P A) 
 
   module _ (o : Opens P A) where
     only : (j : ℕ) (v : View C) → get_elem? (first ∷ []) j ≡ some v
-        → IsTrueOf P A o.state (λ p. 0) (λ r. 0) j v
-    only zero v e = subst (IsTrueOf P A o.state (λ p. 0) (λ r. 0) 0) (some-injective first v e) (
-      refl,
-      λ p low high. record {
-        here = refl;
-        core = o.senders p high;
-        sender_trail_is = o.sender_trail p;
-      },
-      λ r low high. record { here = refl; passed = o.passed r high },
-    )
+        → IsTrueOf P A o.state (λ p. 0) (λ r. Unmade 0) j v
+    only zero v e =
+        subst (IsTrueOf P A o.state (λ p. 0) (λ r. Unmade 0) 0) (some-injective first v e) (
+          refl,
+          λ p low high. record {
+            here = refl;
+            core = o.senders p high;
+            sender_trail_is = o.sender_trail p;
+          },
+          λ r low high. record { here = refl; passed = o.passed r high },
+        )
     only (suc j) v e = absurd (some-ne-none v (sym e))
 
     pub opens : (ws : List ℕ) → ws ≡ replicate A.table_layout.words 0
@@ -91,13 +93,15 @@ module _ {C : Type 0} (P : Process C) (A : Automaton C) (L : AutomatonLaws P A) 
       words = zeros ∙ sym o.words;
       slot = ap (λ (h : Option Page). slot_of h ∷ []) (sym o.home);
       seat = λ p. 0;
-      ear = λ r. 0;
+      ear = λ r. Unmade 0;
       views = only;
       all = λ p below. (0, first, refl, omega arith);
       all_heard = λ q below. (0, first, refl, omega arith);
+      all_staying = λ q n is. (0, first, refl, omega arith);
     }
 
-  module _ (z : A.State) (seat ear : ℕ → ℕ) (k id count : ℕ) (mine : seat k ≡ id) (j : ℕ)
+  module _ (z : A.State) (seat : ℕ → ℕ) (ear : ℕ → Ear) (k id count : ℕ) (mine : seat k ≡ id)
+      (j : ℕ)
       (other : j ≢ id) where
     seats_still : (q : ℕ) → seat q ≡ j → put k count seat q ≡ j
     seats_still q at = put_beside k count seat q (λ e. other (sym at ∙ ap seat e ∙ mine)) ∙ at
@@ -167,6 +171,10 @@ module _ {C : Type 0} (P : Process C) (A : Automaton C) (L : AutomatonLaws P A) 
               let same = ap (λ (y : TableLayout). y.senders) old.0 in
               seen_parted (SeatsReceiver q) s.views id (Maker x made) left right at
               (λ is. inl (omega arith)) (r.all_heard q in_range);
+          all_staying = λ q n is.
+              let same = ap (λ (y : TableLayout). y.senders) old.0 in
+              seen_parted (SeatsStaying q) s.views id (Maker x made) left right at
+              (λ is. inl (omega arith)) (r.all_staying q n is);
           views = λ j v e. elim (at_end (set s.views id left) right v j e) [
             | inl u ↦ ⊎_elim
                 (λ (y : (j ≡ id) × (left ≡ v)). subst
@@ -223,7 +231,7 @@ module _ {C : Type 0} (P : Process C) (A : Automaton C) (L : AutomatonLaws P A) 
     Tapped = LeavesViews P A s r (set s.views id left ++ tap ∷ [])
 
     -- with these seats of receivers
-    tapped : (ear' : ℕ → ℕ)
+    tapped : (ear' : ℕ → Ear)
         → ((j : ℕ) → j ≢ id → (v : View C) → IsTrueOf P A r.state r.seat r.ear j v
         → IsTrueOf P A r.state r.seat ear' j v)
         → ((q : ℕ) → made + 1 ≤ A.table_layout.senders + q → q < A.table_layout.passers
@@ -247,6 +255,12 @@ module _ {C : Type 0} (P : Process C) (A : Automaton C) (L : AutomatonLaws P A) 
                   | inr n ↦ inl (omega (arith, n))
                 ])
                 (r.all_heard q below);
+            all_staying = λ q p is. seen_parted (SeatsStaying q) s.views id (Maker x made) left tap
+                at (λ is. elim (cases_eq number q) [
+                  | inl e ↦ inr (e, refl)
+                  | inr n ↦ inl (omega (arith, n))
+                ])
+                (r.all_staying q p is);
             views = λ j v e. elim (at_end (set s.views id left) tap v j e) [
               | inl u ↦ ⊎_elim
                   (λ (y : (j ≡ id) × (left ≡ v)). subst
@@ -275,19 +289,20 @@ module _ {C : Type 0} (P : Process C) (A : Automaton C) (L : AutomatonLaws P A) 
         let passers = ap (λ (y : TableLayout). y.passers) old.0 in
         let count : ℕ = length s.views in
         let mine = old.2 number (omega arith) (omega arith) in
-        tapped (put number count r.ear)
-        (views_still P A r.state r.seat r.ear id number count mine.here)
+        tapped (put number (Made count) r.ear)
+        (views_beside P A r.state r.seat r.ear number count id (ap seat_of mine.here))
         (λ q low high.
         let w = old.2 q (omega arith) high in
         record {
-          here = put_beside number count r.ear q (λ e. absurd (omega arith)) ∙ w.here;
+          here = put_beside number (Made count) r.ear q (λ e. absurd (omega arith)) ∙ w.here;
           passed = w.passed;
         })
         (inr record {
-          here = put_here number count r.ear;
+          here = λ stays. put_here number (Made count) r.ear;
+          made = λ i none. let bad : Made count ≡ Unmade i =
+              sym (put_here number (Made count) r.ear) ∙ none in cc;
           below = omega arith;
           shown = λ stays. mine.passed;
-          left = λ gone. absurd (let bad : false ≡ true = gone in cc);
           past = omega arith;
         })
 

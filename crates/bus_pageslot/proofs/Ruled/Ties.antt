@@ -32,7 +32,8 @@ use Rattle.bus_automaton.specs.Processes.{TableLayout, Process, Automaton, log_i
 use Rattle.bus_automaton.specs.Lawful.{ProcessLaws, AutomatonLaws, ChangesTo, AcceptsIn, StepsIn}
 use Rattle.bus_automaton.specs.Lawful.{LogGrows, IsSender}
 use Rattle.bus_pageslot.specs.Rule.{slot_of, Sat, sender_trail_in, notes_in, IsSeated, IsUnseated}
-use Rattle.bus_pageslot.specs.Rule.{KnowsLog, IsTrueOf, Seats, SeatsReceiver, TableInvariant}
+use Rattle.bus_pageslot.specs.Rule.{Ear, KnowsLog, IsTrueOf, Seats, SeatsReceiver, SeatsStaying}
+use Rattle.bus_pageslot.specs.Rule.{TableInvariant}
 use Rattle.bus_pageslot.proofs.Hears.Loads.{Listens}
 use Rattle.bus_pageslot.specs.Steps.{all_in, since_in, stored_by, noted_by, Told, Gone, IsDue}
 use Rattle.bus_automaton.specs.SenderTrails.{SenderTrail, with_actions, with_sender_trail}
@@ -63,7 +64,8 @@ module _ {C : Type 0} (A : Automaton C) (z z' : A.State) (g : LogGrows A z z') w
       omega arith
 
 -- the views of the others stay true where the sender p, whose seat is id, is replaced
-module _ {C : Type 0} (P : Process C) (A : Automaton C) (z z' : A.State) (seat ear : ℕ → ℕ)
+module _ {C : Type 0} (P : Process C) (A : Automaton C) (z z' : A.State) (seat : ℕ → ℕ)
+    (ear : ℕ → Ear)
     (p id : ℕ)
     (d : C) (all : SenderTrail) (on : ChangesTo A z p d all z') (g : LogGrows A z z')
     (mine : seat p ≡ id) (j : ℕ) (other : j ≢ id) where
@@ -90,9 +92,9 @@ module _ {C : Type 0} (P : Process C) (A : Automaton C) (z z' : A.State) (seat e
   listens_still e (inl flat) = inl flat
   listens_still e (inr l) = inr record {
     here = l.here;
+    made = l.made;
     below = l.below;
     shown = λ stays. on.passed e.me ∙ l.shown stays;
-    left = λ gone. on.passed e.me ∙ l.left gone;
     past = l.past;
   }
 
@@ -178,6 +180,8 @@ tie {C} P A s r id c d t t' notes notes' words homes z' on grows long at same wo
             (Sender d t' notes') at (λ is. same ∙ is) (r.all p below);
         all_heard = λ q below. still_seen (SeatsReceiver q) s.views id (Sender c t notes)
             (Sender d t' notes') at (λ is. is) (r.all_heard q below);
+        all_staying = λ q n is. still_seen (SeatsStaying q) s.views id (Sender c t notes)
+            (Sender d t' notes') at (λ none. none) (r.all_staying q n (sym (on.passed q) ∙ is));
       };
       log = refl;
     }

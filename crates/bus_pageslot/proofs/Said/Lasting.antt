@@ -22,13 +22,14 @@ use Rattle.bus_pageslot.specs.ReceiverViews.{ReceiverView, heard_length, length_
 use Rattle.bus_pageslot.specs.ReceiverViews.{receiver_view_after_load, receiver_view_knowing}
 use Rattle.bus_pageslot.specs.Rings.{ShowsReceiver}
 use Rattle.bus_pageslot.specs.Rule.{IsFirst, IsTrueOf, KnowsLog, MayRead, Sat, Seats, SeatsReceiver}
+use Rattle.bus_pageslot.specs.Rule.{SeatsStaying}
 use Rattle.bus_pageslot.specs.Rule.{TableInvariant, all_knowing, first_of, known_in, second_of}
 use Rattle.bus_pageslot.specs.Rule.{views_joined, with_look}
 use Rattle.bus_pageslot.specs.Steps.{Learns, Meets, Reads}
 use Rattle.bus_pageslot.specs.declared.rule.View.{View}
 use Rattle.bus_pageslot.specs.declared.rule.View.TheVariants.{Maker, Sender, Tap, Meeting, Telling}
 use Rattle.bus_pageslot.specs.declared.rule.View.TheVariants.{Spent}
-use Rattle.bus_pageslot.proofs.Ruled.AllSeats.{SeatsEither, still_seen}
+use Rattle.bus_pageslot.proofs.Ruled.AllSeats.{SeatsAny, still_seen}
 use Rattle.bus_pageslot.proofs.Hears.Hearing.{heard_loaded, heard_quiet}
 use Rattle.bus_pageslot.proofs.Hears.Joining.{both_agree, join_leaves, knows_sent, part_leaves}
 use Rattle.bus_pageslot.proofs.Hears.Joining.{pairs}
@@ -39,7 +40,7 @@ use Rattle.bus_pageslot.proofs.Hears.Loads.{look_seen, look_true, word_found}
 module _ {C : Type 0} (P : Process C) (A : Automaton C) (s : State (Option Page) (View C))
     (r : TableInvariant P A s) (id : ℕ) where
   replaced : (v w : View C) → get_elem? s.views id ≡ some v
-      → ((who : ℕ ⊎ ℕ) → SeatsEither P who v → SeatsEither P who w)
+      → ((who : ℕ ⊎ ℕ ⊎ ℕ) → SeatsAny P who v → SeatsAny P who w)
       → IsTrueOf P A r.state r.seat r.ear id w → LeavesOthers P A s r id w
   replaced v w at still true_of = record {
     rule = record {
@@ -56,8 +57,10 @@ module _ {C : Type 0} (P : Process C) (A : Automaton C) (s : State (Option Page)
           (λ (k : (j ≢ id) × (get_elem? s.views j ≡ some u)). r.views j u k.1)
           (at_set s.views id j w u e);
       all = λ p below. still_seen (Seats P p) s.views id v w at (still (inl p)) (r.all p below);
-      all_heard = λ q below. still_seen (SeatsReceiver q) s.views id v w at (still (inr q))
-          (r.all_heard q below);
+      all_heard = λ q below. still_seen (SeatsReceiver q) s.views id v w at
+          (still (inr (inl q))) (r.all_heard q below);
+      all_staying = λ q p is. still_seen (SeatsStaying q) s.views id v w at
+          (still (inr (inr q))) (r.all_staying q p is);
     };
     log = refl;
   }

@@ -21,12 +21,13 @@ use Rattle.bus_pageslot.specs.declared.rule.View.TheVariants.{Spent}
 use Rattle.bus_automaton.specs.Processes.{TableLayout, Process, Automaton, base_in, log_below}
 use Rattle.bus_automaton.specs.Processes.{log_in, actions_at}
 use Rattle.bus_automaton.specs.Lawful.{AutomatonLaws, floor_in, log_from_floor}
-use Rattle.bus_pageslot.specs.Rule.{KnowsLog, IsTrueOf, Seats, TableInvariant}
+use Rattle.bus_pageslot.specs.Rule.{Ear, KnowsLog, IsTrueOf, Seats, TableInvariant}
 use Rattle.bus_pageslot.specs.Promised.{Fits, ShowsActions, ShowsTrail, IsShownTrail, IsPromised}
 use Rattle.bus_pageslot.proofs.Hears.Hearing.{begins_order, begins_owners}
 
 -- ---- actions
-module _ {C : Type 0} (P : Process C) (A : Automaton C) (z : A.State) (seat ear : ℕ → ℕ) (j : ℕ)
+module _ {C : Type 0} (P : Process C) (A : Automaton C) (z : A.State) (seat : ℕ → ℕ) (ear : ℕ → Ear)
+    (j : ℕ)
   where
     view_fits : ((p : ℕ) → A.table_layout.senders ≤ p → actions_at A z p ≡ []) → (v : View C)
         → IsTrueOf P A z seat ear j v → Fits P (actions_at A z) (log_in A z) v
@@ -68,7 +69,7 @@ record IsGood (order : Order) (owners : List (ℕ × SenderNo)) (trail : List Re
 module _ {C : Type 0} (P : Process C) (A : Automaton C) (z : A.State) (order : Order)
     (owners : List (ℕ × SenderNo))
     (s : Spells A.table_layout.senders (log_in A z) order owners) where
-  receiver_view_good : (ear : ℕ → ℕ) (j : ℕ) (x : TableLayout) (e : ReceiverView)
+  receiver_view_good : (ear : ℕ → Ear) (j : ℕ) (x : TableLayout) (e : ReceiverView)
       → KnowsLog A z ear j x e
       → IsGood order owners e.answers
   receiver_view_good ear j x e h =
@@ -90,13 +91,13 @@ module _ {C : Type 0} (P : Process C) (A : Automaton C) (z : A.State) (order : O
         silent = h.heard.silent;
       }
 
-  same_good : (ear : ℕ → ℕ) (j : ℕ) (x : TableLayout) (e : ReceiverView) → KnowsLog A z ear j x e
+  same_good : (ear : ℕ → Ear) (j : ℕ) (x : TableLayout) (e : ReceiverView) → KnowsLog A z ear j x e
       → (trail : List RecvTurn)
       → trail ≡ e.answers → IsGood order owners trail
   same_good ear j x e h trail is =
       subst (IsGood order owners) (sym is) (receiver_view_good ear j x e h)
 
-  view_good : (seat ear : ℕ → ℕ) (j : ℕ) (v : View C) → IsTrueOf P A z seat ear j v
+  view_good : (seat : ℕ → ℕ) (ear : ℕ → Ear) (j : ℕ) (v : View C) → IsTrueOf P A z seat ear j v
       → (trail : List RecvTurn) → ShowsTrail trail v → IsGood order owners trail
   view_good seat ear j (Maker x made) h trail is = absurd is
   view_good seat ear j (Sender c t notes) h trail is = absurd is

@@ -1,6 +1,6 @@
 -- A receiver of a ring finds, from what it has passed on, each word that was published there.
-use Rattle.std.proofs.Common.{◌≡◌, inl, inr, ℕ, ◌+◌, ◌%◌, ◌<◌, ◌≤◌, Bool, true, false}
-use Rattle.std.proofs.Common.{Option, ◌++◌, length, slice_index, take, cond, arith, refl, sym}
+use Rattle.std.proofs.Common.{◌≡◌, ◌⊎◌, inl, inr, ℕ, ◌+◌, ◌%◌, ◌<◌, ◌≤◌, false}
+use Rattle.std.proofs.Common.{Option, ◌++◌, length, slice_index, take, arith, refl, sym}
 use Rattle.std.proofs.Common.{◌∙◌, ap, subst}
 use mathlib.Core.Option.{some}
 use lib.ListN.{get_elem?}
@@ -9,6 +9,7 @@ use Rattle.std.proofs.lemmas.Grind.{flat_map-append}
 use Rattle.std.proofs.lemmas.List.{get_or-set_other, get_or_append_left, length-append}
 use Rattle.std.proofs.lemmas.List.{take-append-le}
 use Rattle.atomic_table.specs.Table.{State}
+use Rattle.bus_register.specs.Private.TableLaws.{some_or_none}
 use Rattle.bus_register.specs.declared.limits.TheConstants.{PASSED_ALL}
 use Rattle.bus_batch.specs.Frames.{AreFrames, IsLog, frame_words, log_words}
 use Rattle.bus_tenure.specs.declared.pages.Page.{Page}
@@ -18,11 +19,13 @@ use Rattle.bus_automaton.proofs.Walking.{front_lawful}
 use Rattle.bus_automaton.specs.Lawful.{AutomatonLaws, MayPass, floor_in}
 use Rattle.bus_automaton.specs.Processes.{TableLayout, Process, Automaton, log_cell, log_in}
 use Rattle.bus_automaton.specs.Processes.{passed_word}
+use Rattle.bus_pageslot.proofs.Hears.Ears.{seat_of}
 use Rattle.bus_pageslot.proofs.Hears.PassSteps.{its_own}
 use Rattle.bus_pageslot.specs.ReceiverViews.{ReceiverView}
 use Rattle.bus_pageslot.specs.Rings.{ShowsReceiver, HasSeat, RingKeeps, RingShows, RuleRefuses}
-use Rattle.bus_pageslot.specs.Rings.{StoresApart}
-use Rattle.bus_pageslot.specs.Rule.{IsListening, KnowsLog, IsTrueOf, SeatsReceiver, TableInvariant}
+use Rattle.bus_pageslot.specs.Rings.{IsTaken, StoresApart}
+use Rattle.bus_pageslot.specs.Rule.{IsListening, KnowsLog, IsTrueOf, SeatsReceiver, SeatsStaying}
+use Rattle.bus_pageslot.specs.Rule.{TableInvariant}
 use Rattle.bus_pageslot.specs.declared.rule.View.{View}
 use Rattle.bus_pageslot.specs.declared.rule.View.TheVariants.{Maker, Sender, Tap, Meeting, Telling}
 use Rattle.bus_pageslot.specs.declared.rule.View.TheVariants.{Spent}
@@ -36,7 +39,7 @@ module _ {C : Type 0} (P : Process C) (A : Automaton C) (L : AutomatonLaws P A)
   x = A.table_layout
 
   module _ (j : ℕ) (y : TableLayout) (e : ReceiverView) (h : KnowsLog A r.state r.ear j y e)
-      (some : 0 < x.passers) where
+      (any : 0 < x.passers) where
     l : IsListening A r.state r.ear j e
     l = its_own A r.state r.ear j y e h
         (let same = ap (λ (z : TableLayout). z.passers) h.table_layout in omega arith)
@@ -44,11 +47,35 @@ module _ {C : Type 0} (P : Process C) (A : Automaton C) (L : AutomatonLaws P A)
     shown_at : (i : ℕ) → slice_index s.words i ≡ slice_index (A.words r.state) i
     shown_at i = ap (λ ws. slice_index ws i) r.words
 
-    word : (b : Bool) → e.gone ≡ b
-        → slice_index s.words (passed_word x e.me) ≡ cond {A = ℕ} b PASSED_ALL e.passed
-    word true is = shown_at (passed_word x e.me) ∙ L.left r.state e.me r.reached l.below (l.left is)
-    word false is =
+    word : e.gone ≡ false → slice_index s.words (passed_word x e.me) ≡ e.passed
+    word is =
         shown_at (passed_word x e.me) ∙ (L.shows r.state e.me e.passed r.reached (l.shown is)).2
+
+    -- once it has left that is so of its passed place, or another has its number
+    left : (slice_index s.words (passed_word x e.me) ≡ PASSED_ALL) ⊎ IsTaken s.views e.me
+    left = elim (some_or_none (A.passed r.state e.me)) [
+      | inl none ↦ inl
+          (shown_at (passed_word x e.me) ∙ L.left r.state e.me r.reached l.below none)
+      | inr has ↦ inr (taken_by (r.all_staying e.me has.0 has.1))
+    ] where
+      taken_in : (j : ℕ) (v : View C) → get_elem? s.views j ≡ some v
+          → IsTrueOf P A r.state r.seat r.ear j v → SeatsStaying e.me v → IsTaken s.views e.me
+      taken_in j (Maker y made) at h is =
+          absurd (l.made j (h.2 e.me (let senders = ap (λ (z : TableLayout). z.senders) h.0 in
+          omega arith) l.below).here)
+      taken_in j (Sender c t notes) at h none = absurd none
+      taken_in j (Tap y f) at h is = (j, Tap y f, f, at, refl, is.0, is.1)
+      taken_in j (Meeting y f z g) at h (inl is) =
+          (j, Meeting y f z g, f, at, inl refl, is.0, is.1)
+      taken_in j (Meeting y f z g) at h (inr is) =
+          (j, Meeting y f z g, g, at, inr refl, is.0, is.1)
+      taken_in j (Telling c t notes y f) at h is =
+          (j, Telling c t notes y f, f, at, refl, is.0, is.1)
+      taken_in j Spent at h none = absurd none
+
+      taken_by : (j : ℕ) × (v : View C) × (get_elem? s.views j ≡ some v) × SeatsStaying e.me v
+          → IsTaken s.views e.me
+      taken_by h = taken_in h.0 h.1 h.2 (r.views h.0 h.1 h.2) h.3
 
     module _ (stays : e.gone ≡ false) where
       may : MayPass A r.state e.passed
@@ -80,7 +107,7 @@ module _ {C : Type 0} (P : Process C) (A : Automaton C) (L : AutomatonLaws P A)
       floor =
           let below = shown_below (slice_index s.words) x.passed (slice_index s.words 0) x.passers
           e.me l.below in
-          let here : slice_index s.words (passed_word x e.me) ≡ e.passed = word false stays in
+          let here : slice_index s.words (passed_word x e.me) ≡ e.passed = word stays in
           omega arith
 
       kept : RingKeeps x s.words (log_in A r.state) e
@@ -96,10 +123,11 @@ module _ {C : Type 0} (P : Process C) (A : Automaton C) (L : AutomatonLaws P A)
             ∙ L.finds r.state e.me place r.reached (inr (e.passed, l.shown stays, past)) below;
       }
 
-    pub served : RingShows x s.words (log_in A r.state) e
+    pub served : RingShows x s.words (log_in A r.state) s.views e
     served = record {
       below = l.below;
-      word = word e.gone refl;
+      word = word;
+      left = λ gone. left;
       within = l.past;
       stays = kept;
     }
@@ -120,7 +148,7 @@ module _ {C : Type 0} (P : Process C) (A : Automaton C) (L : AutomatonLaws P A)
 
   module _ (j : ℕ) (v : View C) (e : ReceiverView) (at : get_elem? s.views j ≡ some v)
       (is : ShowsReceiver e v) (some : 0 < x.passers) where
-    pub all_served : RingShows x s.words (log_in A r.state) e
+    pub all_served : RingShows x s.words (log_in A r.state) s.views e
     all_served =
         let k = known_of j e v (r.views j v at) is in served j k.0 e k.1 some
 
@@ -189,17 +217,23 @@ rule_refuses P A L s any = record {
       let same : slice_index s.words 0 ≡ slice_index (A.words r.state) 0 =
       ap (λ ws. slice_index ws 0) r.words in absurd (omega arith);
   not_shown = λ j v e at is stays wrong r.
-      wrong ((all_served P A L s r j v e at is any).word
-      ∙ ap (λ b. cond {A = ℕ} b PASSED_ALL e.passed) stays);
+      wrong ((all_served P A L s r j v e at is any).word stays);
   past_place = λ j v e at is past r.
       let within = (all_served P A L s r j v e at is any).within in omega arith;
   within_frame = λ j v e at is stays torn r.
       torn ((all_served P A L s r j v e at is any).stays stays).whole;
-  left_unshown = λ j v e at is gone wrong r.
-      wrong ((all_served P A L s r j v e at is any).word
-      ∙ ap (λ b. cond {A = ℕ} b PASSED_ALL e.passed) gone);
-  one_number = λ i j v w e f apart at is here shown same r.
-      apart (sym (listens_here P A L s r i v e at is any).here ∙ ap r.ear same
-      ∙ (listens_here P A L s r j w f here shown any).here);
+  left_unshown = λ j v e at is gone alone wrong r.
+      elim ((all_served P A L s r j v e at is any).left gone) [
+        | inl all ↦ wrong all
+        | inr taken ↦ alone taken
+      ];
+  one_number = λ i j v w e f apart at is stays here shown stays_too same r.
+      apart (ap seat_of (sym ((listens_here P A L s r i v e at is any).here stays) ∙ ap r.ear same
+      ∙ (listens_here P A L s r j w f here shown any).here stays_too));
+  unattended = λ me below held none r. elim (some_or_none (A.passed r.state me)) [
+    | inl left ↦ held (ap (λ ws. slice_index ws (passed_word A.table_layout me)) r.words
+        ∙ L.left r.state me r.reached below left)
+    | inr has ↦ let h = r.all_staying me has.0 has.1 in none h.0 h.1 h.2 h.3
+  ];
   unseen = λ me below none r. let h = all_have_seats P A s r me below in none h.0 h.1 h.2 h.3;
 }
