@@ -16,11 +16,12 @@ use Rattle.bus_automaton.specs.Processes.{passed_word}
 use Rattle.bus_pageslot.specs.Histories.{LeavesRule}
 use Rattle.bus_pageslot.specs.Listening.{FindsLength, FindsWord}
 use Rattle.bus_pageslot.specs.ReceiverViews.{ReceiverView, left_for_good, passed_on}
+use Rattle.bus_pageslot.specs.ReceiverViews.{receiver_view_after_load}
 use Rattle.bus_pageslot.specs.Rings.{LeavesAll}
 use Rattle.bus_pageslot.specs.Rule.{Sat, TableInvariant, cut_left, cut_right, tap_left, tap_right}
 use Rattle.bus_pageslot.specs.Rule.{first_of, second_of, views_joined, with_look}
 use Rattle.bus_pageslot.specs.Rule.{log_word_in, receiver_view_in}
-use Rattle.bus_pageslot.specs.Steps.{IsDue, Learns, Meets, Reads}
+use Rattle.bus_pageslot.specs.Steps.{IsDue, Learns, Meets, Reads, copy_of, view_forked}
 use Rattle.bus_pageslot.specs.declared.rule.View.{View}
 use Rattle.bus_pageslot.specs.declared.rule.View.TheVariants.{Tap, Spent}
 
@@ -67,7 +68,8 @@ published {A = A} t = log_in A t.rule.state
 -- One step led from one table to the other, and the rule holds after it as the laws of such a step
 -- say: of a sender a step that was due of it, or a look; of a receiver a store in its passed place,
 -- or a load; a load by joined seats; a receiver's seat went into another; joined seats were cut
--- apart; or the maker of seats cut one of a sender or of a receiver.
+-- apart; the maker of seats cut one of a sender or of a receiver; a receiver forked to a number, or
+-- tried to; or a copy of one was cut off.
 pub data StepsTo {C : Type 0} (P : Process C) (A : Automaton C) (s : RuledTable P A) :
     RuledTable P A → Type 0 where
   Sends : (seat : ℕ) (m : Sat C) (d : C) (word many : ℕ) (o : Op)
@@ -171,6 +173,44 @@ pub data StepsTo {C : Type 0} (P : Process C) (A : Automaton C) (s : RuledTable 
         };
         rule = k.rule;
       }
+  Forks : (seat : ℕ) (x : TableLayout) (e : ReceiverView) (number : ℕ)
+      → get_elem? s.table.views seat ≡ some (Tap x e)
+      → slice_index s.table.words (passed_word x number) ≡ PASSED_ALL
+      → (w : LeavesAll P A s.table s.rule seat (passed_word x number) e.passed
+      (view_forked (Tap x e) (passed_word x number) number))
+      → StepsTo P A s record {
+        table = record {
+          words = slice_set s.table.words (passed_word x number) e.passed;
+          homes = s.table.homes;
+          views = slice_set s.table.views seat
+              (view_forked (Tap x e) (passed_word x number) number);
+        };
+        rule = w.rule;
+      }
+  TriesToFork : (seat : ℕ) (x : TableLayout) (e : ReceiverView) (number : ℕ)
+      → get_elem? s.table.views seat ≡ some (Tap x e)
+      → slice_index s.table.words (passed_word x number) ≢ PASSED_ALL
+      → (w : LeavesOthers P A s.table s.rule seat
+      (Tap x (receiver_view_after_load e (passed_word x number))))
+      → StepsTo P A s record {
+        table = record {
+          words = s.table.words;
+          homes = s.table.homes;
+          views = slice_set s.table.views seat
+              (Tap x (receiver_view_after_load e (passed_word x number)));
+        };
+        rule = w.rule;
+      }
+  Copies : (seat : ℕ) (v : View C) → get_elem? s.table.views seat ≡ some v
+      → (k : LeavesViews P A s.table s.rule (slice_set s.table.views seat v ++ copy_of v ∷ []))
+      → StepsTo P A s record {
+        table = record {
+          words = s.table.words;
+          homes = s.table.homes;
+          views = slice_set s.table.views seat v ++ copy_of v ∷ [];
+        };
+        rule = k.rule;
+      }
 
 -- it is of another kind than a step of a sender that was due
 abbrev pub IsByOthers : {C : Type 0} → (P : Process C) → (A : Automaton C)
@@ -184,6 +224,9 @@ IsByOthers P A s _ (Joins seat other v w at there apart k) = Unit {0}
 IsByOthers P A s _ (Parts seat v at k) = Unit {0}
 IsByOthers P A s _ (CutsSender seat v p at k) = Unit {0}
 IsByOthers P A s _ (CutsTap seat v at k) = Unit {0}
+IsByOthers P A s _ (Forks seat x e number at free w) = Unit {0}
+IsByOthers P A s _ (TriesToFork seat x e number at taken w) = Unit {0}
+IsByOthers P A s _ (Copies seat v at k) = Unit {0}
 
 -- any number of such steps, one after another
 pub data StepsOn {C : Type 0} (P : Process C) (A : Automaton C) (first : RuledTable P A) :

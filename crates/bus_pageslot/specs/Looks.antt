@@ -4,6 +4,7 @@ use Rattle.std.specs.Prelude.{Some, None, List, [], ◌∷◌, ◌++◌, All, �
 use mathlib.Core.Option.{some}
 use lib.ListN.{get_elem?}
 use Rattle.atomic_table.specs.Table.{State}
+use Rattle.bus_register.specs.declared.limits.TheConstants.{PASSED_ALL}
 use Rattle.bus_batch.specs.Batches.{frame_of}
 use Rattle.bus_batch.specs.Frames.{frame_words}
 use Rattle.bus_tenure.specs.Core.{length_at}
@@ -46,6 +47,14 @@ pub record IsFoundOn {C : Type 0} (P : Process C) (A : Automaton C) (shown : Vie
   pub rule : TableInvariant P A table
   pub here : (seat : ℕ) × (get_elem? table.views seat ≡ some shown)
   pub stood : slice_index table.words at ≡ got
+
+-- A number that is not the one past all places stood there: if this is the passed place of a
+-- number, a receiver has that, or is yet to have it (`rule_refuses`).
+pub record IsTakenOn {C : Type 0} (P : Process C) (A : Automaton C) (shown : View C) (at : ℕ) :
+    Type 0 where
+  pub found : ℕ
+  pub other : found ≢ PASSED_ALL
+  pub on : IsFoundOn P A shown at found
 
 -- the same of the bus of the plan that a call picks
 abbrev pub IsFoundBy : {C : Type 0} → Process C → (Plan → Automaton C) → Option Plan → View C → ℕ

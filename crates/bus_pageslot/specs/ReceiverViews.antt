@@ -80,11 +80,15 @@ passed_on e word = record e {
 abbrev pub left_for_good : ReceiverView → ℕ → ReceiverView
 left_for_good e word = record e { loads = e.loads ++ word ∷ []; gone = true }
 
+-- ---- the same receiver with another number: what is forked off it
+abbrev pub forked_as : ReceiverView → ℕ → ReceiverView
+forked_as e number = record e { me = number }
+
+-- ---- what was answered
 -- what a turn answers that has found this length: Empty exactly where that is its place
 abbrev pub length_turn : ℕ → ℕ → RecvTurn
 length_turn place found = if found == place then turn.Empty else turn.Going
 
--- ---- what was answered
 -- after the end there is the end alone
 abbrev pub IsSilent : List RecvTurn → Type 0
 IsSilent answers =

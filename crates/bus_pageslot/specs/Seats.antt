@@ -137,8 +137,11 @@ abbrev pub IsPassedAt : TableLayout → ℕ → Option ℕ → Type 0
 IsPassedAt x me None = x.passers ≡ 0
 IsPassedAt x me (Some at) = (me < x.passers) × (at ≡ passed_word x me) × (at < x.words)
 
--- where the log of such a table lies, and the passed place of that receiver
+-- where the log of such a table lies, and the passed place of that receiver, among all of them
 pub record HasCells (x : TableLayout) (me : ℕ) (cells : LogCells) : Type 0 where
+  pub number_is : cells.number ≡ me
+  pub passers_is : cells.passers ≡ x.passers
+  pub passed_room : (r : ℕ) → r < x.passers → passed_word x r < x.words
   pub log_is : cells.log ≡ x.log
   pub capacity_is : cells.log_words ≡ x.capacity
   pub passed_is : IsPassedAt x me cells.passed_at

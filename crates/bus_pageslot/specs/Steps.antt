@@ -1,8 +1,10 @@
 -- What one step of a sender, or of a receiver, makes of its seat.
-use Rattle.std.specs.Prelude.{◌≡◌, ℕ, ◌+◌, ◌<◌, ◌≤◌, length, map, slice_index, List, [], ◌∷◌}
+use Rattle.std.specs.Prelude.{◌≡◌, ◌≢◌, ℕ, ◌+◌, ◌<◌, ◌≤◌, length, map, slice_index, List, []}
+use Rattle.std.specs.Prelude.{◌∷◌}
 use Rattle.std.specs.Prelude.{◌++◌, Option, Some, None, drop, Bool, true, false, if◌then◌else◌}
 use Rattle.std.specs.Prelude.{◌==◌, All}
 use Rattle.atomic_table.specs.Table.{rest}
+use Rattle.bus_register.specs.declared.limits.TheConstants.{PASSED_ALL}
 use Rattle.bus_register.specs.declared.registers.Op.{Op}
 use Rattle.bus_register.specs.declared.registers.Op.TheVariants.{Load, Store, Add, Cas}
 use Rattle.bus_register.specs.declared.registers.SenderNo.{SenderNo}
@@ -19,11 +21,11 @@ use Rattle.bus_tenure.specs.Situations.{PageMove, Stays, Comes, Returns}
 use Rattle.bus_tenure.specs.declared.pages.Page.{Page}
 use Rattle.bus_world.specs.Headline.{Action, HasPut, HasMarked, puts, IsPrefix}
 use Rattle.bus_pageslot.specs.ReceiverViews.{receiver_view_after_load, receiver_view_knowing, Agree}
-use Rattle.bus_pageslot.specs.ReceiverViews.{left_for_good, passed_on}
+use Rattle.bus_pageslot.specs.ReceiverViews.{forked_as, left_for_good, passed_on}
 use Rattle.bus_pageslot.specs.declared.rule.View.{View}
 use Rattle.bus_pageslot.specs.declared.rule.View.TheVariants.{Maker, Sender, Tap, Meeting, Telling}
 use Rattle.bus_pageslot.specs.declared.rule.View.TheVariants.{Spent}
-use Rattle.bus_automaton.specs.Processes.{Process, IsCounted, EndsBy}
+use Rattle.bus_automaton.specs.Processes.{Process, IsCounted, EndsBy, passed_word}
 use Rattle.bus_pageslot.specs.Notes.{Notes}
 use Rattle.bus_pageslot.specs.Rule.{Sat, sender_trail_in, notes_in, receiver_view_in, known_in}
 use Rattle.bus_pageslot.specs.Rule.{with_receiver_view, views_joined, first_of, second_of}
@@ -254,3 +256,54 @@ HasLeft m m' =
 pub record HasLeftBy {C : Type 0} (m m' : Sat C) : Type 0 where
   pub ring : 0 < (table_layout_in m.0).passers → HasLeft m m'
   pub flat : (table_layout_in m.0).passers ≡ 0 → m' ≡ m
+
+-- ---- a receiver's compare_exchange on the passed place of another number: a fork
+-- The seat that took this step is joined with that of a new receiver. That has this number, and is
+-- else what the one was before.
+abbrev pub view_forked : {C : Type 0} → View C → (word number : ℕ) → View C
+view_forked (Maker x made) word number = Maker x made
+view_forked (Sender c sender_trail notes) word number = Sender c sender_trail notes
+view_forked (Tap x e) word number =
+    Meeting x (receiver_view_after_load e word) x (forked_as e number)
+view_forked (Meeting x e y f) word number = Meeting x e y f
+view_forked (Telling c sender_trail notes x e) word number = Telling c sender_trail notes x e
+view_forked Spent word number = Spent
+
+-- the seat of the new one alone
+abbrev pub fork_of : {C : Type 0} → View C → ℕ → View C
+fork_of (Maker x made) number = Spent
+fork_of (Sender c sender_trail notes) number = Spent
+fork_of (Tap x e) number = Tap x (forked_as e number)
+fork_of (Meeting x e y f) number = Spent
+fork_of (Telling c sender_trail notes x e) number = Spent
+fork_of Spent number = Spent
+
+-- with the same number: a copy, where numbers are nobody's own
+abbrev pub copy_of : {C : Type 0} → View C → View C
+copy_of v = fork_of v (receiver_view_in v).me
+
+-- it shows this step more, and nothing else has changed
+abbrev pub HasTried : {C : Type 0} → Sat C → ℕ → Sat C → Type 0
+HasTried m word m' =
+    m' ≡ (
+      with_receiver_view m.0 (receiver_view_after_load (receiver_view_in m.0) word),
+      m.1,
+    )
+
+-- The step found this in this word. Where it was the number past all places the seat is two from
+-- then on: nobody had the number whose passed place the word is.
+pub record Forks {C : Type 0} (m : Sat C) (word got : ℕ) (m' : Sat C) : Type 0 where
+  pub free : got ≡ PASSED_ALL → (number : ℕ) → word ≡ passed_word (table_layout_in m.0) number
+      → m' ≡ (view_forked m.0 word number, m.1)
+  pub taken : got ≢ PASSED_ALL → HasTried m word m'
+
+-- of a log that is a ring it is that step on the passed place of this number, and else none
+pub record HasTriedBy {C : Type 0} (m : Sat C) (number : ℕ) (m' : Sat C) : Type 0 where
+  pub ring : 0 < (table_layout_in m.0).passers
+      → HasTried m (passed_word (table_layout_in m.0) number) m'
+  pub flat : (table_layout_in m.0).passers ≡ 0 → m' ≡ m
+
+-- what was forked off the one has this number of a ring, and is else a copy
+pub record IsForkOf {C : Type 0} (m : Sat C) (number : ℕ) (n : Sat C) : Type 0 where
+  pub ring : 0 < (table_layout_in m.0).passers → n ≡ (fork_of m.0 number, [])
+  pub flat : (table_layout_in m.0).passers ≡ 0 → n ≡ m

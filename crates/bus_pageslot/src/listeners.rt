@@ -4,10 +4,13 @@
 
 ghost use Rattle.std.specs.Prelude.{◌≡◌, ◌≢◌, ◌⊎◌, ℕ, ◌+◌, ◌%◌, ◌<◌, ◌≤◌, Some, None, true, false};
 ghost use Rattle.std.specs.Prelude.{[]};
+ghost use Rattle.bus_automaton.specs.Processes.{TableLayout};
 ghost use Rattle.bus_batch.specs.Reading.{is_between};
 ghost use Rattle.bus_deliverylog.specs.Receiving.{HasReceived};
 ghost use Rattle.bus_pageslot.specs.Rounds.{GoesRound, HasRoom};
+ghost use Rattle.bus_pageslot.specs.Seats.{HasCells};
 
+use bus_core::limits::PASSED_APART;
 use bus_deliverylog::LogReader;
 
 /// Where the words of a log lie, and where a receiver of it says how far it has come.
@@ -19,6 +22,33 @@ pub(crate) struct LogCells {
     pub(crate) log_words: u64,
     /// The place of its passed place; none where no word of the log is used again.
     pub(crate) passed_at: Option<u64>,
+    /// Its number.
+    pub(crate) number: u64,
+    /// How many passed places there are.
+    pub(crate) passers: u64,
+}
+
+impl LogCells {
+    /// Those of the receiver of a higher number: the same but for its number and its passed place,
+    /// and just the same where no receiver has a passed place.
+    pub(crate) fn of(self, number: u64) -> LogCells
+        requires cells { (x : TableLayout) × HasCells x self.number self
+            × (0 < x.passers → (self.number < number) × (number < x.passers)) }
+        ensures log { (result.log ≡ self.log) × (result.log_words ≡ self.log_words) }
+        ensures ring { (x : TableLayout) → HasCells x self.number self → self.number < number
+            → number < x.passers → HasCells x number result }
+        ensures flat { (x : TableLayout) → HasCells x self.number self → x.passers ≡ 0
+            → result ≡ self }
+    {
+        let Some(at) = self.passed_at else {
+            return self;
+        };
+        LogCells {
+            passed_at: Some(at + PASSED_APART * (number - self.number)),
+            number,
+            ..self
+        }
+    }
 }
 
 /// What a receiver has read of a log, and how it goes round it.
@@ -52,6 +82,25 @@ impl Listener {
             limit: 0,
             passed: 0,
             reader: LogReader::new(senders),
+        }
+    }
+
+    /// The same, for a receiver that has these cells: of this log, with a passed place of its own.
+    pub(crate) fn copied(&self, cells: LogCells) -> Listener
+        requires round { GoesRound self.now }
+        requires log { (cells.log ≡ self.now.cells.log)
+            × (cells.log_words ≡ self.now.cells.log_words) }
+        ensures round { GoesRound result }
+        ensures reader { result.reader ≡ self.now.reader }
+        ensures cells { result.cells ≡ cells }
+        ensures passed { result.passed ≡ self.now.passed }
+    {
+        Listener {
+            cells,
+            shift: self.shift,
+            limit: self.limit,
+            passed: self.passed,
+            reader: self.reader.copied(),
         }
     }
 

@@ -8,6 +8,7 @@ ghost use lib.ListN.{get_elem?};
 ghost use Rattle.atomic_table.specs.Table.{State};
 ghost use Rattle.bus_automaton.specs.Buses.{process_by, automaton_by};
 ghost use Rattle.bus_automaton.specs.Processes.{TableLayout, base_in, log_cell, log_in};
+ghost use Rattle.bus_automaton.specs.Processes.{passed_word};
 ghost use Rattle.bus_automaton.specs.declared.plans.Plan.{Plan};
 ghost use Rattle.bus_core.specs.Senders.{Sender};
 ghost use Rattle.bus_deliverylog.specs.declared.receiving.RecvTurn.{RecvTurn};
@@ -18,13 +19,14 @@ ghost use Rattle.bus_pageslot.specs.Listening.{FindsLength, FindsWord, Hears};
 ghost use Rattle.bus_pageslot.specs.OneAnswer.{AddsAnswer};
 ghost use Rattle.bus_pageslot.specs.ReceiverViews.{ReceiverView, heard_length, length_turn};
 ghost use Rattle.bus_pageslot.specs.ReceiverViews.{receiver_view_after_load, receiver_view_knowing};
-ghost use Rattle.bus_pageslot.specs.Rings.{ShowsReceiver};
+ghost use Rattle.bus_pageslot.specs.Rings.{LeavesAll, ShowsReceiver};
 ghost use Rattle.bus_pageslot.specs.Rule.{IsFirst, MayRead, Sat, TableInvariant, all_knowing};
 ghost use Rattle.bus_pageslot.specs.Rule.{cut_left, cut_right, first_of, known_in, second_of};
 ghost use Rattle.bus_pageslot.specs.Rule.{tap_left, tap_right, views_joined, with_look};
-ghost use Rattle.bus_pageslot.specs.Steps.{Learns, Meets, Reads};
+ghost use Rattle.bus_pageslot.specs.Steps.{Learns, Meets, Reads, copy_of, view_forked};
 ghost use Rattle.bus_pageslot.specs.declared.rule.View.{View};
 ghost use Rattle.bus_pageslot.specs.declared.rule.View.TheVariants as view;
+ghost use Rattle.bus_register.specs.declared.limits.TheConstants.{PASSED_ALL};
 ghost use Rattle.bus_tenure.specs.Core.{length_at};
 ghost use Rattle.bus_tenure.specs.Elections.{Elector};
 ghost use Rattle.bus_tenure.specs.declared.pages.Page.{Page};
@@ -167,6 +169,34 @@ pub fn seats_leave_what_was_published<Q: Ratifier>()
     threads_may_go_by::<Q>();
 }
 
+/// A receiver that has not left forks to a higher number, by a compare_exchange on the passed place
+/// of that: from the number past all places, to what the receiver has passed itself. Where it finds
+/// that number the seat is from then on two, one of each number, and else no word has changed. So
+/// the rule holds after it, with the same page, and the same was published. So it does where a copy
+/// of a seat is cut off it, of a log in which no receiver has a passed place.
+pub fn forks_leave_what_was_published<Q: Ratifier>()
+    ensures forks { let P = process_by Q.Ratifier in let A = automaton_by Q.Ratifier in
+        (plan : Plan) (s : State (Option Page) (View (Sender (Elector Q)))) (seat : ℕ)
+        (x : TableLayout) (e : ReceiverView) (number : ℕ) (r : TableInvariant P (A plan) s)
+        → get_elem? s.views seat ≡ some (view.Tap x e) → e.gone ≡ false → e.me < number
+        → number < x.passers → slice_index s.words (passed_word x number) ≡ PASSED_ALL
+        → LeavesAll P (A plan) s r seat (passed_word x number) e.passed
+        (view_forked (view.Tap x e) (passed_word x number) number) }
+    ensures tries { let P = process_by Q.Ratifier in let A = automaton_by Q.Ratifier in
+        (plan : Plan) (s : State (Option Page) (View (Sender (Elector Q)))) (seat : ℕ)
+        (x : TableLayout) (e : ReceiverView) (number : ℕ) (r : TableInvariant P (A plan) s)
+        → get_elem? s.views seat ≡ some (view.Tap x e) → LeavesOthers P (A plan) s r seat
+        (view.Tap x (receiver_view_after_load e (passed_word x number))) }
+    ensures copies { let P = process_by Q.Ratifier in let A = automaton_by Q.Ratifier in
+        (plan : Plan) (s : State (Option Page) (View (Sender (Elector Q)))) (seat : ℕ)
+        (x : TableLayout) (e : ReceiverView) (r : TableInvariant P (A plan) s)
+        → get_elem? s.views seat ≡ some (view.Tap x e) → x.passers ≡ 0
+        → let v : View (Sender (Elector Q)) = view.Tap x e in
+        LeavesViews P (A plan) s r (slice_set s.views seat v ++ copy_of v ∷ []) }
+{
+    threads_may_go_by::<Q>();
+}
+
 /// On one table only one list was published, by whichever proof of the rule: where no word of the
 /// log is used again, or where a seat shows a receiver that has not left.
 pub fn one_list_is_published<Q: Ratifier>()
@@ -182,8 +212,8 @@ pub fn one_list_is_published<Q: Ratifier>()
 }
 
 /// What was published begins what is published after any number of steps, of whatever kind: of
-/// senders, their looks, stores and loads of receivers, and seats that are made, joined and cut
-/// apart. And it is the same after each step but that of a sender that was due. Each step of
+/// senders, their looks, stores, loads and forks of receivers, and seats that are made, joined and
+/// cut apart. And it is the same after each step but that of a sender that was due. Each step of
 /// `StepsTo` carries what its law gives of it; this law only puts them together.
 pub fn what_was_published_stays<Q: Ratifier>()
     ensures steps { let P = process_by Q.Ratifier in let A = automaton_by Q.Ratifier in

@@ -175,6 +175,8 @@ fn cells_of<Q: Ratifier + Drop>(plan: Plan, index: u64, log: u64) -> LogCells
         log,
         log_words: plan.shape.log_words,
         passed_at,
+        number: index,
+        passers: plan.passers(),
     }
 }
 

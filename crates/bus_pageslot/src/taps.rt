@@ -1,13 +1,18 @@
 //! A receiver's seat, its loads, and what it stores in its passed place.
 
-ghost use Rattle.std.specs.Prelude.{◌≡◌, ◌<◌, ◌≤◌, [], false, length, slice_index};
-ghost use Rattle.bus_automaton.specs.Buses.{process_by};
+ghost use Rattle.std.specs.Prelude.{◌≡◌, ℕ, ◌<◌, ◌≤◌, [], false, length, slice_index, IfNone};
+ghost use Rattle.std.specs.Prelude.{IfSome, IsSome};
+ghost use Rattle.bus_automaton.specs.Buses.{automaton_by, process_by};
+ghost use Rattle.bus_automaton.specs.Processes.{TableLayout, passed_word};
+ghost use Rattle.bus_pageslot.specs.Looks.{IsFoundOn, IsTakenOn};
+ghost use Rattle.bus_register.specs.declared.limits.TheConstants.{PASSED_ALL};
 ghost use Rattle.bus_pageslot.specs.ReceiverViews.{ReceiverView, Agree, receiver_view_after_load};
 ghost use Rattle.bus_pageslot.specs.declared.rule.View.TheVariants as View;
 ghost use Rattle.bus_pageslot.specs.Rule.{receiver_view_in, known_in, with_receiver_view};
 ghost use Rattle.bus_pageslot.specs.Rule.{log_word_in, table_layout_in};
-ghost use Rattle.bus_pageslot.specs.Steps.{HasLeftBy, Learns, KnowsSent};
-ghost use Rattle.bus_pageslot.specs.Seats.{IsFresh, receiver_seat, table_of, actions_of, stored_of};
+ghost use Rattle.bus_pageslot.specs.Steps.{HasLeftBy, HasTriedBy, IsForkOf, Learns, KnowsSent};
+ghost use Rattle.bus_pageslot.specs.Seats.{IsFresh, IsPassedAt, receiver_seat, table_of};
+ghost use Rattle.bus_pageslot.specs.Seats.{actions_of, stored_of};
 ghost use Rattle.bus_pageslot.specs.Listening.{Hears, HearsAfter, HearsSigned};
 
 use crate::buses::Bus;
@@ -19,7 +24,7 @@ use bus_adoptcommit::{Ratifier, ThreeWord};
 use bus_batch::Item;
 use bus_deliverylog::RecvTurn;
 use bus_register::cell;
-use std::marker::Model;
+use std::marker::{Brand, Model};
 
 /// A receiver of a bus: its seat, how much of the log it knows, and what it has read of that. One
 /// thread at a time has it, and no call of it waits or takes memory.
@@ -109,6 +114,21 @@ impl<Q: Ratifier + Drop> Tap<Q> {
         ensures never { (table_layout_in self.now.me.0).passers ≡ 0 → result ≡ 0 }
     {
         self.listener.passed
+    }
+
+    /// Its number: of a ring, which of the passed places is its own. Of other logs several
+    /// receivers may have one number.
+    pub fn number(&self) -> u64
+        ensures { result ≡ (receiver_view_in self.now.me.0).me }
+    {
+        self.listener.cells.number
+    }
+
+    /// How many passed places its ring has: numbers are below that. 0 where its log is no ring.
+    pub fn passers(&self) -> u64
+        ensures { result ≡ (table_layout_in self.now.me.0).passers }
+    {
+        self.listener.cells.passers
     }
 
     /// The end was among what it was answered.
@@ -234,6 +254,43 @@ impl<Q: Ratifier + Drop> Tap<Q> {
         Left { seat }
     }
 
+    /// Another receiver, which has a higher number whose receiver has left, and is else just what
+    /// this one is: with what it knows, has read and passed, and was answered. From then on each is
+    /// of its own, for whatever thread. None where somebody has the number: then nothing has
+    /// changed.
+    ///
+    /// One step, which the seat of this one shows: a compare_exchange on the passed place of that
+    /// number, from 2^64 - 1 to what this one has passed. Of a log that is no ring it takes no
+    /// step, and gives a copy with the same number.
+    pub fn fork(&mut self, bus: &Bus<Q>, number: u64) -> Option<Tap<Q>>
+        requires table { self.old.table_id ≡ bus.now.table }
+        requires above { (receiver_view_in self.old.me.0).me < number }
+        requires below { 0 < (table_layout_in self.old.me.0).passers
+            → number < (table_layout_in self.old.me.0).passers }
+        ensures table { (self.new.table_id ≡ self.old.table_id)
+            × IfSome result (λ made. made.table_id ≡ self.old.table_id) }
+        ensures tries { HasTriedBy self.old.me number self.new.me }
+        ensures made { IfSome result (λ made. IsForkOf self.old.me number made.me) }
+        ensures free { 0 < (table_layout_in self.old.me.0).passers
+            → IfSome result (λ _. IsFoundOn (process_by Q.Ratifier)
+            (automaton_by Q.Ratifier bus.now.plan) self.old.me.0
+            (passed_word (table_layout_in self.old.me.0) number) PASSED_ALL) }
+        ensures taken { IfNone result (IsTakenOn (process_by Q.Ratifier)
+            (automaton_by Q.Ratifier bus.now.plan) self.old.me.0
+            (passed_word (table_layout_in self.old.me.0) number)) }
+        ensures never { (table_layout_in self.old.me.0).passers ≡ 0 → IsSome result }
+    {
+        let cells = self.listener.cells.of(number);
+        let mut seat = self.seat.take().unwrap();
+        let made = fork_seat(bus, &mut seat, cells.passed_at, self.listener.passed);
+        self.seat = Some(seat);
+        let made = made?;
+        Some(Tap {
+            seat: Some(made),
+            listener: self.listener.copied(cells),
+        })
+    }
+
     /// Two receivers of one bus meet: from then on each knows the log up to the length that is
     /// loaded, which is given. What the one that had read less was answered begins what the other
     /// was answered.
@@ -278,5 +335,44 @@ impl<Q: Ratifier + Drop> Tap<Q> {
         self.seat = Some(mine);
         self.listener.learn(length);
         length
+    }
+}
+
+/// The seat of a receiver with this passed place, which is forked off this seat: of one that has
+/// passed so much. Where there are no passed places it is a copy.
+fn fork_seat<Q: Ratifier + Drop>(
+    bus: &Bus<Q>,
+    seat: &mut BusSeat<Q>,
+    passed_at: Option<u64>,
+    passed: u64,
+) -> Option<BusSeat<Q>>
+    requires table { (seat.old.table_id ≡ bus.now.table) × (0 < bus.now.table.words) }
+    requires tap { (x : TableLayout) × (e : ReceiverView) × (number : ℕ)
+        × (seat.old.me ≡ (View.Tap x e, [])) × (e.gone ≡ false) × (0 < x.passers → e.me < number)
+        × (passed ≡ e.passed) × IsPassedAt x number passed_at × (x.words ≡ bus.now.table.words) }
+    ensures table { (seat.new.table_id ≡ seat.old.table_id)
+        × IfSome result (λ made. made.table_id ≡ seat.old.table_id) }
+    ensures tries { (number : ℕ)
+        → IsPassedAt (table_layout_in seat.old.me.0) number passed_at
+        → HasTriedBy seat.old.me number seat.new.me }
+    ensures made { (number : ℕ)
+        → IsPassedAt (table_layout_in seat.old.me.0) number passed_at
+        → IfSome result (λ made. IsForkOf seat.old.me number made.me) }
+    ensures free { (number : ℕ)
+        → IsPassedAt (table_layout_in seat.old.me.0) number passed_at
+        → 0 < (table_layout_in seat.old.me.0).passers
+        → IfSome result (λ _. IsFoundOn (process_by Q.Ratifier)
+        (automaton_by Q.Ratifier bus.now.plan) seat.old.me.0
+        (passed_word (table_layout_in seat.old.me.0) number) PASSED_ALL) }
+    ensures taken { (number : ℕ)
+        → IsPassedAt (table_layout_in seat.old.me.0) number passed_at
+        → IfNone result (IsTakenOn (process_by Q.Ratifier)
+        (automaton_by Q.Ratifier bus.now.plan) seat.old.me.0
+        (passed_word (table_layout_in seat.old.me.0) number)) }
+    ensures never { (table_layout_in seat.old.me.0).passers ≡ 0 → IsSome result }
+{
+    match passed_at {
+        Some(at) => bus.words.fork::<Brand>(seat, at as usize, passed),
+        None => Some(bus.words.copy(seat)),
     }
 }

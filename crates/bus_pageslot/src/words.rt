@@ -4,11 +4,12 @@
 //!
 //! No other module has the table, so no other function takes a step. What stands in `shown` is
 //! proved. That a body calls the table no second time is for the reader to see: each has one call,
-//! and `meet` three. What `plays` says is what the call makes the seat show: of a receiver's step
-//! that the word is the one that is noted, and of its store what was stored.
+//! `meet` three, and `fork` one more where it cuts a seat, which is a load that tells nothing. What
+//! `plays` says is what the call makes the seat show: of a receiver's step that the word is the one
+//! that is noted, and of its store what was stored.
 
 ghost use Rattle.std.specs.Prelude.{◌≡◌, ◌⊎◌, ℕ, ◌+◌, ◌<◌, ◌≤◌, Option, Some, [], ◌∷◌, false};
-ghost use Rattle.std.specs.Prelude.{length, take, IfOk};
+ghost use Rattle.std.specs.Prelude.{length, take, IfNone, IfOk, IfSome};
 ghost use Rattle.std.specs.Slots.{slots_items, slots_len, IsFull};
 ghost use Rattle.atomic_table.specs.Table.{opening, rest, Final, Seen};
 ghost use Rattle.bus_automaton.specs.Buses.{process_by, automaton_by};
@@ -16,18 +17,20 @@ ghost use Rattle.bus_automaton.specs.Processes.{TableLayout, base_in, log_cell, 
 ghost use Rattle.bus_batch.specs.Frames.{IsLog};
 ghost use Rattle.bus_pageslot.specs.declared.rule.View.TheVariants.{Maker, Tap};
 ghost use Rattle.bus_pageslot.specs.Listening.{FindsLength, FindsWord, PassIsDue};
-ghost use Rattle.bus_pageslot.specs.Looks.{IsFoundOn, IsSenders};
+ghost use Rattle.bus_pageslot.specs.Looks.{IsFoundOn, IsSenders, IsTakenOn};
 ghost use Rattle.bus_pageslot.specs.ReceiverViews.{ReceiverView};
 ghost use Rattle.bus_pageslot.specs.Rule.{IsFirst, MayRead, TableInvariant, cut_left, cut_right};
-ghost use Rattle.bus_pageslot.specs.Rule.{tap_left, tap_right, with_look};
+ghost use Rattle.bus_pageslot.specs.Rule.{table_layout_in, tap_left, tap_right, with_look};
 ghost use Rattle.bus_pageslot.specs.Steps.{Due, GoesOn, Learns, Reads, Met, HasPassed, HasLeft};
+ghost use Rattle.bus_pageslot.specs.Steps.{HasTried, fork_of};
+ghost use Rattle.bus_register.specs.declared.limits.TheConstants.{PASSED_ALL};
 ghost use Rattle.bus_pageslot.specs.StepsShown.{steps_shown};
 ghost use Rattle.bus_tenure.specs.declared.pages.Page.{Page};
 
 use crate::rule::{BusRule, BusSeat, Planned, Seated, Told, View};
 use crate::words::plays::{
-    Cut, CutTap, Goes, Leaves, LoadsJoined, LoadsLength, LoadsLengthInTurn, LoadsWord,
-    LoadsWordInTurn, Looks, Meet, Part, StoresPassed,
+    Copies, Cut, CutTap, Forks, Goes, Leaves, LoadsJoined, LoadsLength, LoadsLengthInTurn,
+    LoadsWord, LoadsWordInTurn, Looks, Meet, Part, StoresPassed,
 };
 use atomic_table::{Closed, Table};
 use bus_adoptcommit::Ratifier;
@@ -247,6 +250,56 @@ impl<Q: Ratifier> Words<Q> {
     {
         threads_may_go_by::<Q>();
         self.table.shared.store::<Leaves<Q>>(seat, at, PASSED_ALL);
+    }
+
+    /// One compare_exchange on the passed place of a higher number, by a receiver that has not
+    /// left: from the number past all places to what this one has passed. Where it finds that,
+    /// nobody has the number, and the seat of a receiver that has it is cut off this one.
+    #[inline(always)]
+    pub(crate) fn fork<K: Planned>(
+        &self,
+        seat: &mut BusSeat<Q>,
+        at: usize,
+        passed: u64,
+    ) -> Option<BusSeat<Q>>
+        requires table { (seat.old.table_id ≡ self.now.table) × (at < self.now.table.words) }
+        requires tap { (x : TableLayout) × (e : ReceiverView) × (number : ℕ)
+            × (seat.old.me ≡ (Tap x e, [])) × (e.gone ≡ false) × (e.me < number)
+            × (number < x.passers) × (at ≡ passed_word x number) × (passed ≡ e.passed) }
+        requires plan { K.plan ≡ Some self.now.plan }
+        ensures table { (seat.new.table_id ≡ seat.old.table_id) × (seat.new.id ≡ seat.old.id) }
+        ensures tries { HasTried seat.old.me at seat.new.me }
+        ensures made { IfSome result (λ made. (made.table_id ≡ seat.old.table_id) × ((number : ℕ)
+            → at ≡ passed_word (table_layout_in seat.old.me.0) number
+            → made.me ≡ (fork_of seat.old.me.0 number, []))) }
+        ensures free { IfSome result (λ _. IsFoundOn (process_by Q.Ratifier)
+            (automaton_by Q.Ratifier self.now.plan) seat.old.me.0 at PASSED_ALL) }
+        ensures taken { IfNone result (IsTakenOn (process_by Q.Ratifier)
+            (automaton_by Q.Ratifier self.now.plan) seat.old.me.0 at) }
+        ensures shown { steps_shown seat.new.me.0 ≡ steps_shown seat.old.me.0 + 1 }
+    {
+        threads_may_go_by::<Q>();
+        let shared = &self.table.shared;
+        let found = shared.compare_exchange::<Forks<Q, K>>(seat, at, PASSED_ALL, passed);
+        if found != PASSED_ALL {
+            return None;
+        }
+        Some(shared.split_seat::<Part<Q>>(seat))
+    }
+
+    /// A copy of a receiver's seat, cut off it where no receiver has a passed place. One load,
+    /// which tells nothing, and which no seat shows.
+    #[inline(always)]
+    pub(crate) fn copy(&self, seat: &mut BusSeat<Q>) -> BusSeat<Q>
+        requires table { (seat.old.table_id ≡ self.now.table) × (0 < self.now.table.words) }
+        requires tap { (x : TableLayout) × (e : ReceiverView) × (seat.old.me ≡ (Tap x e, []))
+            × (x.passers ≡ 0) }
+        ensures table { (seat.new.table_id ≡ seat.old.table_id) × (seat.new.id ≡ seat.old.id)
+            × (result.table_id ≡ seat.old.table_id) }
+        ensures same { (seat.new.me ≡ seat.old.me) × (result.me ≡ seat.old.me) }
+    {
+        threads_may_go_by::<Q>();
+        self.table.shared.split_seat::<Copies<Q>>(seat)
     }
 
     /// One load by a sender's seat, of any word, beside its turns: a look, which the seat shows

@@ -127,7 +127,7 @@ module _ {C : Type 0} (P : Process C) (A : Automaton C) where
       (join_leaves v is y l id other s r at apart there).rule
 
   -- one view replaced, and a receiver's added
-  parted : (s : State (Option Page) (View C)) (r : TableInvariant P A s) (id : ℕ) (v w : View C)
+  pub parted : (s : State (Option Page) (View C)) (r : TableInvariant P A s) (id : ℕ) (v w : View C)
       → get_elem? s.views id ≡ some v → ((p : ℕ) → Seats P p v → Seats P p w)
       → (y : TableLayout) (l : ReceiverView)
       → ((q : ℕ) → SeatsReceiver q v → SeatsReceiver q w ⊎ (l.me ≡ q))

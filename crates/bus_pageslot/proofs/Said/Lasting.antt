@@ -11,11 +11,13 @@ use Rattle.bus_world.specs.Headline.{IsPrefix}
 use Rattle.bus_world.proofs.Growing.{nothing_more, prefix_after, same_prefix}
 use Rattle.bus_automaton.specs.Lawful.{AutomatonLaws}
 use Rattle.bus_automaton.specs.Processes.{TableLayout, Process, Automaton, log_cell, log_in}
+use Rattle.bus_automaton.specs.Processes.{passed_word}
 use Rattle.bus_pageslot.specs.Lasting.{LeavesViews, LeavesOthers, RuledTable, StepsOn, StepsTo}
 use Rattle.bus_pageslot.specs.Lasting.{IsByOthers, published}
 use Rattle.bus_pageslot.specs.Lasting.StepsOn.{NoneYet, OneMore}
 use Rattle.bus_pageslot.specs.Lasting.StepsTo.{Sends, Looks, Stores, Loads, LoadsJoined, Joins}
-use Rattle.bus_pageslot.specs.Lasting.StepsTo.{Parts, CutsSender, CutsTap}
+use Rattle.bus_pageslot.specs.Lasting.StepsTo.{Parts, CutsSender, CutsTap, Forks, TriesToFork}
+use Rattle.bus_pageslot.specs.Lasting.StepsTo.{Copies}
 use Rattle.bus_pageslot.specs.Listening.{FindsLength, FindsWord}
 use Rattle.bus_pageslot.specs.Notes.{Look}
 use Rattle.bus_pageslot.specs.ReceiverViews.{ReceiverView, heard_length, length_turn}
@@ -30,6 +32,7 @@ use Rattle.bus_pageslot.specs.declared.rule.View.{View}
 use Rattle.bus_pageslot.specs.declared.rule.View.TheVariants.{Maker, Sender, Tap, Meeting, Telling}
 use Rattle.bus_pageslot.specs.declared.rule.View.TheVariants.{Spent}
 use Rattle.bus_pageslot.proofs.Ruled.AllSeats.{SeatsAny, still_seen}
+use Rattle.bus_pageslot.proofs.Hears.Forking.{tried}
 use Rattle.bus_pageslot.proofs.Hears.Hearing.{heard_loaded, heard_quiet}
 use Rattle.bus_pageslot.proofs.Hears.Joining.{both_agree, join_leaves, knows_sent, part_leaves}
 use Rattle.bus_pageslot.proofs.Hears.Joining.{pairs}
@@ -114,6 +117,12 @@ module _ {C : Type 0} (P : Process C) (A : Automaton C) (L : AutomatonLaws P A)
             now = refl;
           },
         )
+
+    pub try_leaves : (number : ℕ) → LeavesOthers P A s r id
+        (Tap x (receiver_view_after_load e (passed_word x number)))
+    try_leaves number =
+        replaced P A s r id (Tap x e) (Tap x (receiver_view_after_load e (passed_word x number))) at
+        (λ p is. is) (tried P A L s r id x e at number)
 
     pub word_leaves : (place : ℕ) → MayRead x e place → place < length e.known
         → LeavesOthers P A s r id (Tap x (receiver_view_after_load e (log_cell x place)))
@@ -265,6 +274,9 @@ module _ {C : Type 0} (P : Process C) (A : Automaton C) where
   step_begins s _ (Parts seat v at k) = same_prefix (published s) _ k.log
   step_begins s _ (CutsSender seat v p at k) = same_prefix (published s) _ k.log
   step_begins s _ (CutsTap seat v at k) = same_prefix (published s) _ k.log
+  step_begins s _ (Forks seat x e number at free w) = same_prefix (published s) _ w.log
+  step_begins s _ (TriesToFork seat x e number at taken w) = same_prefix (published s) _ w.log
+  step_begins s _ (Copies seat v at k) = same_prefix (published s) _ k.log
 
   pub step_same : (s t : RuledTable P A) (step : StepsTo P A s t) → IsByOthers P A s t step
       → published t ≡ published s
@@ -277,6 +289,9 @@ module _ {C : Type 0} (P : Process C) (A : Automaton C) where
   step_same s _ (Parts seat v at k) other = k.log
   step_same s _ (CutsSender seat v p at k) other = k.log
   step_same s _ (CutsTap seat v at k) other = k.log
+  step_same s _ (Forks seat x e number at free w) other = w.log
+  step_same s _ (TriesToFork seat x e number at taken w) other = w.log
+  step_same s _ (Copies seat v at k) other = k.log
 
   pub steps_begin : (s t : RuledTable P A) → StepsOn P A s t → IsPrefix (published s) (published t)
   steps_begin s _ NoneYet = nothing_more (published s)

@@ -130,6 +130,39 @@ impl<Q: Ratifier> Play<Option<OwnedPage>, View<SenderCore<Q>>> for Leaves<Q> {
         × HasLeft m m' };
 }
 
+/// A receiver's seat tried to fork, to the number whose passed place this is: from the number past
+/// all places to what the receiver has passed. The bus is that of the plan that was picked.
+pub(super) struct Forks<Q, K> {
+    of: PhantomData<(Q, K)>,
+}
+
+impl<Q: Ratifier, K: Planned> Play<Option<OwnedPage>, View<SenderCore<Q>>> for Forks<Q, K> {
+    ghost use Rattle.std.specs.Prelude.{◌≡◌};
+    ghost use Rattle.bus_automaton.specs.Buses.{process_with, automaton_with};
+    ghost use Rattle.bus_register.specs.declared.limits.TheConstants.{PASSED_ALL};
+    ghost use Rattle.bus_pageslot.specs.Looks.{IsFoundBy};
+    ghost use Rattle.bus_pageslot.specs.Rule.{receiver_view_in};
+    ghost use Rattle.bus_pageslot.specs.Steps as steps;
+
+    ghost then = { λ step m got m'. (step.first ≡ PASSED_ALL)
+        × (step.second ≡ (receiver_view_in m.0).passed) × steps.Forks m step.word got m'
+        × IsFoundBy (process_with Q.kind_of Q.op Q.fed Q.protocol)
+        (automaton_with Q.kind_of Q.op Q.fed Q.protocol) K.plan m.0 step.word got };
+}
+
+/// A copy of a receiver's seat is cut off it, where no receiver has a passed place.
+pub(super) struct Copies<Q> {
+    of: PhantomData<Q>,
+}
+
+impl<Q: Ratifier> Split<View<SenderCore<Q>>> for Copies<Q> {
+    ghost use Rattle.bus_pageslot.specs.Steps.{copy_of};
+
+    ghost left = { λ v. v };
+
+    ghost right = { copy_of };
+}
+
 /// A sender's seat loaded a word, of the bus of the plan that was picked, and shows this look more:
 /// the word, and the number that it found there.
 pub(super) struct Looks<Q, K> {

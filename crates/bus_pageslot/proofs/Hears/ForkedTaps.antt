@@ -1,0 +1,176 @@
+-- What a receiver that was forked off another keeps beside its seat, and what the other one does.
+use Rattle.std.proofs.Common.{◌≡◌, inl, inr, ℕ, ◌<◌, Option, Some, None, [], arith, sym, ◌∙◌, ap}
+use Rattle.std.proofs.Common.{subst}
+use Rattle.std.proofs.lemmas.Bool.{cases_lt}
+use Rattle.bus_automaton.specs.Processes.{TableLayout, passed_word}
+use Rattle.bus_pageslot.specs.ReceiverViews.{ReceiverView, forked_as, receiver_view_after_load}
+use Rattle.bus_pageslot.specs.Rounds.{GoesRound}
+use Rattle.bus_pageslot.specs.Rule.{Sat, receiver_view_in, table_layout_in, with_receiver_view}
+use Rattle.bus_pageslot.specs.Seats.{HasCells, IsFit, IsPassedAt, IsReceiverView}
+use Rattle.bus_pageslot.specs.Steps.{HasTriedBy, IsForkOf, fork_of}
+use Rattle.bus_pageslot.specs.declared.listeners.Listener.{Listener}
+use Rattle.bus_pageslot.specs.declared.listeners.LogCells.{LogCells}
+
+-- ---- where it lies
+module _ (x : TableLayout) (flat : x.passers ≡ 0) (me number : ℕ) where
+  none_of_any : (o : Option ℕ) → IsPassedAt x me o → IsPassedAt x number o
+  none_of_any (Some at) own = absurd (let low = own.0 in omega arith)
+  none_of_any None own = own
+
+module _ {C : Type 0} {m : Sat C} {words : ℕ} {l : Listener} (h : IsReceiverView m words l)
+    (number : ℕ) (cells : LogCells)
+    (ring : (x : TableLayout) → HasCells x l.cells.number l.cells → l.cells.number < number
+    → number < x.passers → HasCells x number cells)
+    (flat : (x : TableLayout) → HasCells x l.cells.number l.cells → x.passers ≡ 0
+    → cells ≡ l.cells)
+    (up : (receiver_view_in m.0).me < number)
+    (low : 0 < (table_layout_in m.0).passers → number < (table_layout_in m.0).passers) where
+  abbrev x : TableLayout
+  x = h.table_layout
+
+  abbrev e : ReceiverView
+  e = h.receiver_view
+
+  own : HasCells x l.cells.number l.cells
+  own = subst (λ k. HasCells x k l.cells) (sym h.cells.number_is) h.cells
+
+  pub up_here : e.me < number
+  up_here = subst (λ (y : Sat C). (receiver_view_in y.0).me < number) h.me up
+
+  some_there : 0 < x.passers → 0 < (table_layout_in m.0).passers
+  some_there any = subst (λ (y : Sat C). 0 < (table_layout_in y.0).passers) (sym h.me) any
+
+  none_there : x.passers ≡ 0 → (table_layout_in m.0).passers ≡ 0
+  none_there none = ap (λ (y : Sat C). (table_layout_in y.0).passers) h.me ∙ none
+
+  low_here : 0 < x.passers → number < x.passers
+  low_here any =
+      subst (λ (y : Sat C). number < (table_layout_in y.0).passers) h.me (low (some_there any))
+
+  ring_cells : 0 < x.passers → HasCells x number cells
+  ring_cells any =
+      ring x own (let is = h.cells.number_is in let a = up_here in omega arith) (low_here any)
+
+  flat_cells : x.passers ≡ 0 → HasCells x e.me cells
+  flat_cells none = subst (HasCells x e.me) (sym (flat x own none)) h.cells
+
+  pub passed_here : IsPassedAt x number cells.passed_at
+  passed_here = elim (cases_lt 0 x.passers) [
+    | inl any ↦ (ring_cells any).passed_is
+    | inr none ↦
+        let flat_is : x.passers ≡ 0 = omega arith in
+        none_of_any x flat_is e.me number cells.passed_at (flat_cells flat_is).passed_is
+  ]
+
+  pub passed_there : IsPassedAt (table_layout_in m.0) number cells.passed_at
+  passed_there = subst (λ (y : Sat C). IsPassedAt (table_layout_in y.0) number cells.passed_at)
+      (sym h.me) passed_here
+
+  -- ---- the new receiver
+  module _ {n : Sat C} {words' : ℕ} {l' : Listener} (made : IsForkOf m number n)
+      (wide : words' ≡ words) (round : GoesRound l') (reader : l'.reader ≡ l.reader)
+      (passed : l'.passed ≡ l.passed) (cells_are : l'.cells ≡ cells) where
+    -- with another number
+    forked_ring : 0 < x.passers → IsReceiverView n words' l'
+    forked_ring any = record {
+      table_layout = x;
+      receiver_view = forked_as e number;
+      me = made.ring (some_there any) ∙ ap (λ (y : Sat C). (fork_of y.0 number, [])) h.me;
+      wide = wide ∙ h.wide;
+      cells = subst (HasCells x number) (sym cells_are) (ring_cells any);
+      round = round;
+      stays = h.stays;
+      passed = passed ∙ h.passed;
+      past = h.past;
+      never = h.never;
+      within = h.within;
+      fit = subst (IsFit x.senders (forked_as e number)) (sym reader) (record {
+        known = h.fit.known;
+        place = h.fit.place;
+        ended = h.fit.ended;
+        senders_are = h.fit.senders_are;
+        within = h.fit.within;
+        pieces = h.fit.pieces;
+        received = h.fit.received;
+        seen = h.fit.seen;
+      });
+    }
+
+    -- and a copy
+    forked_flat : x.passers ≡ 0 → IsReceiverView n words' l'
+    forked_flat none = record {
+      table_layout = x;
+      receiver_view = e;
+      me = made.flat (none_there none) ∙ h.me;
+      wide = wide ∙ h.wide;
+      cells = subst (HasCells x e.me) (sym cells_are) (flat_cells none);
+      round = round;
+      stays = h.stays;
+      passed = passed ∙ h.passed;
+      past = h.past;
+      never = h.never;
+      within = h.within;
+      fit = subst (IsFit x.senders e) (sym reader) h.fit;
+    }
+
+    pub forked_tap : IsReceiverView n words' l'
+    forked_tap = elim (cases_lt 0 x.passers) [
+      | inl any ↦ forked_ring any
+      | inr none ↦ forked_flat (omega arith)
+    ]
+
+  -- ---- the one that forks
+  module _ {m' : Sat C} {words' : ℕ} (tries : HasTriedBy m number m') (wide : words' ≡ words) where
+    tried_ring : 0 < x.passers → IsReceiverView m' words' l
+    tried_ring any = record {
+      table_layout = x;
+      receiver_view = receiver_view_after_load e (passed_word x number);
+      me =
+          tries.ring (some_there any)
+          ∙ ap
+          (λ (y : Sat C). (
+            with_receiver_view y.0 (receiver_view_after_load (receiver_view_in y.0)
+                (passed_word (table_layout_in y.0) number)),
+            y.1,
+          )) h.me;
+      wide = wide ∙ h.wide;
+      cells = h.cells;
+      round = h.round;
+      stays = h.stays;
+      passed = h.passed;
+      past = h.past;
+      never = h.never;
+      within = h.within;
+      fit = record {
+        known = h.fit.known;
+        place = h.fit.place;
+        ended = h.fit.ended;
+        senders_are = h.fit.senders_are;
+        within = h.fit.within;
+        pieces = h.fit.pieces;
+        received = h.fit.received;
+        seen = h.fit.seen;
+      };
+    }
+
+    tried_flat : x.passers ≡ 0 → IsReceiverView m' words' l
+    tried_flat none = record {
+      table_layout = x;
+      receiver_view = e;
+      me = tries.flat (none_there none) ∙ h.me;
+      wide = wide ∙ h.wide;
+      cells = h.cells;
+      round = h.round;
+      stays = h.stays;
+      passed = h.passed;
+      past = h.past;
+      never = h.never;
+      within = h.within;
+      fit = h.fit;
+    }
+
+    pub tried_tap : IsReceiverView m' words' l
+    tried_tap = elim (cases_lt 0 x.passers) [
+      | inl any ↦ tried_ring any
+      | inr none ↦ tried_flat (omega arith)
+    ]

@@ -1,0 +1,302 @@
+-- A receiver forks: its compare_exchange on the passed place of a higher number is allowed, and so
+-- is a copy of its seat where no receiver has a passed place.
+use Rattle.std.proofs.Common.{◌≡◌, ◌≢◌, inl, inr, ℕ, ◌<◌, ◌==◌, false, Option, Some, []}
+use Rattle.std.proofs.Common.{◌∷◌, ◌++◌, ◌+◌, length, set, slice_index, slice_set, arith, refl}
+use Rattle.std.proofs.Common.{sym, ◌∙◌, ap, subst}
+use mathlib.Core.Option.{some}
+use lib.ListN.{get_elem?}
+use prog.Atomic.{either}
+use Rattle.std.proofs.lemmas.Bool.Decides.{eqb_tells}
+use Rattle.std.proofs.lemmas.List.{length-append}
+use Rattle.atomic_table.specs.Table.{State, keeps, Allows, Splits}
+use Rattle.bus_register.specs.Tables.{put}
+use Rattle.bus_register.specs.Private.TableLaws.{put_here}
+use Rattle.bus_register.specs.declared.limits.TheConstants.{PASSED_ALL}
+use Rattle.bus_tenure.specs.declared.pages.Page.{Page}
+use Rattle.bus_world.proofs.Bounds.{words_low}
+use Rattle.bus_automaton.specs.Lawful.{AutomatonLaws, PassesIn}
+use Rattle.bus_automaton.specs.Processes.{TableLayout, Process, Automaton, passed_word}
+use Rattle.bus_automaton.specs.declared.plans.Plan.{Plan}
+use Rattle.bus_pageslot.specs.Lasting.{LeavesViews}
+use Rattle.bus_pageslot.specs.Looks.{IsFoundBy}
+use Rattle.bus_pageslot.specs.ReceiverViews.{ReceiverView, HasHeard, forked_as}
+use Rattle.bus_pageslot.specs.ReceiverViews.{receiver_view_after_load}
+use Rattle.bus_pageslot.specs.Rings.{LeavesAll}
+use Rattle.bus_pageslot.specs.Rule.{Sat, Ear, Unmade, Made, IsListening, IsTrueOf, KnowsLog}
+use Rattle.bus_pageslot.specs.Rule.{first_of, receiver_view_in, second_of, table_layout_in}
+use Rattle.bus_pageslot.specs.Rule.{TableInvariant, with_receiver_view}
+use Rattle.bus_pageslot.specs.Steps.{Forks, HasTried, copy_of, fork_of, view_forked}
+use Rattle.bus_pageslot.specs.StepsShown.{steps_shown}
+use Rattle.bus_pageslot.specs.declared.rule.View.{View}
+use Rattle.bus_pageslot.specs.declared.rule.View.TheVariants.{Tap}
+use Rattle.bus_pageslot.proofs.Hears.Ears.{goes_to, views_still}
+use Rattle.bus_pageslot.proofs.Hears.Hearing.{heard_loaded}
+use Rattle.bus_pageslot.proofs.Hears.Joining.{parted}
+use Rattle.bus_pageslot.proofs.Hears.Loads.{listens_on, reloaded}
+use Rattle.bus_pageslot.proofs.Hears.PassSteps.{its_own, knows_with, stored}
+
+module _ {C : Type 0} (P : Process C) (A : Automaton C) (L : AutomatonLaws P A)
+    (s : State (Option Page) (View C)) (r : TableInvariant P A s) (id : ℕ) (x : TableLayout)
+    (e : ReceiverView) (here : get_elem? s.views id ≡ some (Tap x e)) (number : ℕ) where
+  abbrev h : KnowsLog A r.state r.ear id x e
+  h = r.views id (Tap x e) here
+
+  abbrev word : ℕ
+  word = passed_word x number
+
+  -- ---- where somebody has the number nothing changes but what the seat shows
+  pub tried : KnowsLog A r.state r.ear id x (receiver_view_after_load e word)
+  tried = record {
+    table_layout = h.table_layout;
+    front = h.front;
+    below = h.below;
+    frames = h.frames;
+    lawful = h.lawful;
+    words_are = h.words_are;
+    heard = heard_loaded h.frames e h.heard word;
+    listens = listens_on A r.state r.ear id e (receiver_view_after_load e word) refl refl refl
+        (omega arith) h.listens;
+  }
+
+  -- ---- where nobody has it
+  module _ (stays : e.gone ≡ false) (up : e.me < number) (low : number < x.passers)
+      (free : slice_index s.words word ≡ PASSED_ALL) where
+    l : IsListening A r.state r.ear id e
+    l = its_own A r.state r.ear id x e h (omega arith)
+
+    is_word : word ≡ passed_word A.table_layout number
+    is_word = ap (λ (y : TableLayout). passed_word y number) h.table_layout
+
+    below : number < A.table_layout.passers
+    below = let same = ap (λ (y : TableLayout). y.passers) h.table_layout in omega arith
+
+    shown : slice_index (A.words r.state) (passed_word A.table_layout number) ≡ PASSED_ALL
+    shown =
+        ap (λ ws. slice_index ws (passed_word A.table_layout number)) (sym r.words)
+        ∙ ap (slice_index s.words) (sym is_word) ∙ free
+
+    -- a passed place that somebody has is a place of the log
+    nobody : (p : ℕ) → A.passed r.state number ≡ Some p → ⊥
+    nobody p is =
+        let at = L.shows r.state number p r.reached is in
+        let within = at.1 in
+        let place = at.2 in
+        let all = shown in
+        let log = L.log r.state r.reached in
+        let few = words_low A.table_layout.senders log.frames log.lawful in
+        let size = ap length log.words_are in omega arith
+
+    -- so the number is free to be that of this seat
+    abbrev ear_now : ℕ → Ear
+    ear_now = put number (Made id) r.ear
+
+    mine : ear_now number ≡ Made id
+    mine = put_here number (Made id) r.ear
+
+    all_true : (j : ℕ) (v : View C) → IsTrueOf P A r.state r.seat r.ear j v
+        → IsTrueOf P A r.state r.seat ear_now j v
+    all_true j = views_still P A r.state r.seat r.ear number id j
+        (λ f k stays same. nobody f.passed (ap (A.passed r.state) (sym same) ∙ k.shown stays))
+        (λ u k same. nobody 0 (ap (A.passed r.state) (sym same) ∙ k.passed))
+
+    abbrev given : TableInvariant P A s
+    given = record {
+      state = r.state;
+      reached = r.reached;
+      words = r.words;
+      slot = r.slot;
+      seat = r.seat;
+      ear = ear_now;
+      views = λ j v at. all_true j v (r.views j v at);
+      all = r.all;
+      all_heard = r.all_heard;
+      all_staying = r.all_staying;
+    }
+
+    p : PassesIn A r.state number e.passed (Some e.passed)
+    p = L.forks r.state e.me e.passed number r.reached (l.shown stays) up below shown
+
+    h_now : KnowsLog A r.state ear_now id x e
+    h_now = all_true id (Tap x e) h
+
+    l_now : IsListening A r.state ear_now id e
+    l_now = its_own A r.state ear_now id x e h_now (omega arith)
+
+    apart : e.me ≢ number
+    apart same = omega arith
+
+    -- the one that forks, and the one that is forked off
+    maker : KnowsLog A p.state ear_now id x (receiver_view_after_load e word)
+    maker = knows_with P A L s given id e.passed (Some e.passed) number mine p id x e
+        (receiver_view_after_load e word) h_now refl refl
+        (heard_loaded h_now.frames e h_now.heard word)
+        (inr record {
+          here = l_now.here;
+          made = l_now.made;
+          below = l_now.below;
+          shown = λ k. p.others e.me apart ∙ l_now.shown k;
+          past = l_now.past;
+        })
+
+    fork_heard : HasHeard h_now.frames (forked_as e number)
+    fork_heard = record {
+      given_is = h_now.heard.given_is;
+      heads_are = h_now.heard.heads_are;
+      ended_is = h_now.heard.ended_is;
+      silent = h_now.heard.silent;
+    }
+
+    fork : KnowsLog A p.state ear_now id x (forked_as e number)
+    fork = knows_with P A L s given id e.passed (Some e.passed) number mine p id x e
+        (forked_as e number) h_now refl refl fork_heard
+        (inr record {
+          here = λ k. mine;
+          made = λ i none. let bad : Made id ≡ Unmade i = sym mine ∙ none in cc;
+          below = below;
+          shown = λ k. p.here;
+          past = l_now.past;
+        })
+
+    pub fork_leaves : LeavesAll P A s r id word e.passed (view_forked (Tap x e) word number)
+    fork_leaves =
+        let k : LeavesAll P A s given id word e.passed (view_forked (Tap x e) word number) =
+        stored P A L s given id e.passed (Some e.passed) number mine p (Tap x e)
+        (view_forked (Tap x e) word number) here (λ q none. none) (λ q is. inl is)
+        (λ q ne is. inl is) (λ n is. inr (refl, stays)) word is_word
+        (maker, fork, inr (inl apart)) in
+        record { rule = k.rule; log = k.log }
+
+-- ---- it is allowed
+pub fork_allowed : {C : Type 0} (P : Process C) (B : Plan → Automaton C) (k : Option Plan)
+    (plan : Plan) → k ≡ Some plan → AutomatonLaws P (B plan) → (slots id : ℕ) (m : Sat C)
+    (x : TableLayout) (e : ReceiverView) (number : ℕ) → m.0 ≡ Tap x e → e.gone ≡ false
+    → e.me < number → number < x.passers
+    → Allows (TableInvariant P (B plan)) slots id m (passed_word x number)
+    (λ n. either (n == PASSED_ALL) e.passed n)
+    (λ got m'. (PASSED_ALL ≡ PASSED_ALL) × (e.passed ≡ (receiver_view_in m.0).passed)
+    × Forks m (passed_word x number) got m'
+    × IsFoundBy P B k m.0 (passed_word x number) got)
+fork_allowed {C} P B k plan picks L slots id m x e number is stays up low s r count at range =
+    let here : get_elem? s.views id ≡ some (Tap x e) = at ∙ ap (λ (v : View C). some v) is in
+    let word : ℕ = passed_word x number in
+    let got : ℕ = slice_index s.words word in
+    let passed : e.passed ≡ (receiver_view_in m.0).passed =
+    ap (λ (v : View C). (receiver_view_in v).passed) (sym is) in
+    let found : IsFoundBy P B k m.0 word got = subst (λ q. IsFoundBy P B q m.0 word got) (sym picks)
+    (record { table = s; rule = r; here = (id, at); stood = refl }) in
+    elim (eqb_tells got PASSED_ALL) [
+      | inl free ↦
+          let w : View C = view_forked (Tap x e) word number in (
+            w,
+            keeps,
+            tt,
+            subst (λ b. TableInvariant P (B plan) (record {
+              words = slice_set s.words word (either b e.passed got);
+              homes = s.homes;
+              views = slice_set s.views id w;
+            })) (sym free.0)
+                (fork_leaves P (B plan) L s r id x e here number stays up low free.1).rule,
+            (
+              refl,
+              passed,
+              record {
+                free = λ all n same.
+                    let own : word ≡ passed_word x n =
+                    same ∙ ap (λ (v : View C). passed_word (table_layout_in v) n) is in
+                    let n_is : number ≡ n = omega arith in
+                    λ i. (view_forked (sym is i) word (n_is i), m.1);
+                taken = λ other. absurd (other free.1);
+              },
+              found,
+            ),
+          )
+      | inr taken ↦
+          let w : View C = Tap x (receiver_view_after_load e word) in (
+            w,
+            keeps,
+            tt,
+            subst (λ b. TableInvariant P (B plan) (record {
+              words = slice_set s.words word (either b e.passed got);
+              homes = s.homes;
+              views = slice_set s.views id w;
+            })) (sym taken.0)
+                (reloaded P (B plan) s r word id (Tap x e) w here (λ who k. k)
+                (tried P (B plan) L s r id x e here number)),
+            (
+              refl,
+              passed,
+              record {
+                free = λ all. absurd (taken.1 all);
+                taken = λ other i. (
+                  with_receiver_view (sym is i)
+                      (receiver_view_after_load (receiver_view_in (sym is i)) word),
+                  m.1,
+                );
+              },
+              found,
+            ),
+          )
+    ]
+
+-- ---- what its seat, and the one that is cut off it, show then
+module _ {C : Type 0} (m m' : Sat C) (word got : ℕ) (x : TableLayout) (e : ReceiverView)
+    (number : ℕ) (me : m ≡ (Tap x e, [])) (own : word ≡ passed_word x number)
+    (forks : Forks m word got m') (free : got ≡ PASSED_ALL) where
+  is_forked : m' ≡ (view_forked (Tap x e) word number, [])
+  is_forked =
+      forks.free free number
+      (own ∙ ap (λ (y : Sat C). passed_word (table_layout_in y.0) number) (sym me))
+      ∙ ap (λ (y : Sat C). (view_forked y.0 word number, y.1)) me
+
+  pub forked_view : m'.0 ≡ view_forked (Tap x e) word number
+  forked_view = ap (λ (y : Sat C). y.0) is_forked
+
+  pub forked_tries : (n : Sat C) → n ≡ (first_of m'.0, m'.1) → HasTried m word n
+  forked_tries n is =
+      is ∙ ap (λ (y : Sat C). (first_of y.0, y.1)) is_forked
+      ∙ ap
+      (λ (y : Sat C). (
+        with_receiver_view y.0 (receiver_view_after_load (receiver_view_in y.0) word),
+        y.1,
+      )) (sym me)
+
+  pub forked_made : (n : Sat C) → n ≡ (second_of m'.0, []) → n ≡ (fork_of m.0 number, [])
+  forked_made n is =
+      is ∙ ap (λ (y : Sat C). (second_of y.0, [])) is_forked
+      ∙ ap (λ (y : Sat C). (fork_of y.0 number, [])) (sym me)
+
+pub tries_shown : {C : Type 0} (m : Sat C) (word : ℕ) (n : Sat C) (x : TableLayout)
+    (e : ReceiverView) → m ≡ (Tap x e, []) → HasTried m word n
+    → steps_shown n.0 ≡ steps_shown m.0 + 1
+tries_shown {C} m word n x e me tries =
+    ap (λ (y : Sat C). steps_shown y.0) tries
+    ∙ ap
+    (λ (y : Sat C).
+    steps_shown
+    (with_receiver_view y.0 (receiver_view_after_load (receiver_view_in y.0) word))) me
+    ∙ length-append e.loads (word ∷ []) ∙ ap (λ (y : Sat C). steps_shown y.0 + 1) (sym me)
+
+-- ---- a copy, where no receiver has a passed place
+module _ {C : Type 0} (P : Process C) (A : Automaton C) (id : ℕ) (x : TableLayout)
+    (e : ReceiverView) (flat : x.passers ≡ 0) where
+  pub copy_leaves : (s : State (Option Page) (View C)) (r : TableInvariant P A s)
+      → get_elem? s.views id ≡ some (Tap x e)
+      → LeavesViews P A s r (set s.views id (Tap x e) ++ Tap x e ∷ [])
+  copy_leaves s r at =
+      let h : KnowsLog A r.state r.ear id x e = r.views id (Tap x e) at in
+      let none : A.table_layout.passers ≡ 0 =
+      sym (ap (λ (y : TableLayout). y.passers) h.table_layout) ∙ flat in
+      let g = goes_to P A r.state r.seat r.ear id (length s.views) x e h in
+      parted P A s r id (Tap x e) (Tap x e) at (λ p k. k) x e (λ q k. inl k) (λ q k. inl k) g
+      (g.beside x e h (inl none))
+
+  pub copy_allowed : (v : View C) → v ≡ Tap x e
+      → Splits (TableInvariant P A) id v v (copy_of v)
+  copy_allowed v is s r at =
+      subst (λ (y : View C).
+      TableInvariant P A record {
+        words = s.words;
+        homes = s.homes;
+        views = slice_set s.views id y ++ copy_of y ∷ [];
+      }) (sym is)
+      (copy_leaves s r (at ∙ ap (λ (y : View C). some y) is)).rule
