@@ -1,10 +1,12 @@
-//! Tests of the bus for threads: its turns beside a machine's, its seats, its receivers, its
-//! replicas, their long operations and whole runs. They stand above the crates that they test, so
-//! that none of those is proved once more for its tests.
+//! Tests of the bus for threads: its turns beside a machine's, its seats, its receivers and their
+//! forks, its replicas, their long operations and whole runs. They stand above the crates that they
+//! test, so that none of those is proved once more for its tests.
 #![tactic(auto)]
 
 #[cfg(test)]
 mod both;
+#[cfg(test)]
+mod forks;
 #[cfg(test)]
 mod games;
 #[cfg(test)]
