@@ -19,7 +19,7 @@ ends_same (a ∷ xs) (b ∷ ys) x y e =
     let same : a ≡ b = cc in (ap (λ z. z ∷ xs) same ∙ ap (λ z. b ∷ z) rest.0, rest.1)
 
 -- no list that ends with an element is empty
-not_empty : (items : List Item) (item : Item) → ◌≡◌ {A = List Item} [] (items ++ item ∷ []) → ⊥
+pub not_empty : (items : List Item) (item : Item) → ◌≡◌ {A = List Item} [] (items ++ item ∷ []) → ⊥
 not_empty items item e =
     let l = ap length e in let k = length-append items (item ∷ []) in omega arith
 

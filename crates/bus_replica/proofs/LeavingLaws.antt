@@ -15,7 +15,6 @@ use Rattle.bus_batch.specs.Frames.{Entry, Says, Leaves, items_in, is_leave_of}
 use Rattle.bus_deliverylog.specs.declared.receiving.RecvTurn.{RecvTurn}
 use Rattle.bus_deliverylog.specs.declared.receiving.RecvTurn.TheVariants as turn
 use Rattle.bus_world.specs.Headline.{entry_heard}
-use Rattle.bus_pageslot.specs.Buses.{BusId}
 use Rattle.bus_pageslot.specs.Listening.{Hears, GoesOnTo, At, Onward, item_turn_of}
 use Rattle.bus_pageslot.specs.Listening.{sign_after, Writes}
 use Rattle.bus_pageslot.specs.declared.listening.ItemTurn.TheVariants as item_turn
@@ -24,7 +23,7 @@ use Rattle.bus_pageslot.specs.Steps.{Learns}
 use Rattle.bus_pageslot.specs.declared.rule.View.{View}
 use Rattle.bus_replica.specs.Replicas.{Operations, has_heard_leave, HaveAllLeft, HasHeardAll}
 use Rattle.bus_replica.specs.Replicas.{HasNobodyLeft}
-use Rattle.bus_replica.specs.Replicas.{GoesOn, IsFold, Replicated}
+use Rattle.bus_replica.specs.Replicas.{GoesOn, IsFold, Replicated, Sitting}
 use Rattle.bus_replica.specs.Turns.{IsHearing}
 use Rattle.bus_replica.specs.declared.hearers.TheConstants.{NUMBERS}
 use Rattle.bus_replica.proofs.GoingLaws.{goes_same}
@@ -230,6 +229,6 @@ pub left_settled : {C S V E : Type 0} (old new : Replicated C S) (result : Resul
     → OnOk result (HaveAllLeft old.me.0 old.bus.plan.shape.senders)
     → OnOk result (HaveAllLeft new.me.0 new.bus.plan.shape.senders)
 left_settled {C} old new (Ok x) bus me left =
-    subst (λ (b : BusId). HaveAllLeft new.me.0 b.plan.shape.senders) (sym bus)
+    subst (λ (b : Sitting). HaveAllLeft new.me.0 b.plan.shape.senders) (sym bus)
     (subst (λ (m : Sat C). HaveAllLeft m.0 old.bus.plan.shape.senders) (sym me) left)
 left_settled old new (Err e) bus me left = tt

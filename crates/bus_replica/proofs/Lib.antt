@@ -45,3 +45,5 @@ pub mod SendingLaws
 pub mod TableLaws
 -- What was applied at one moment is applied by whoever has caught up since.
 pub mod TimeLaws
+-- A sitting goes on from what was replayed, and what was written into a journal is replayed.
+pub mod RecordedLaws

@@ -27,13 +27,13 @@ use Rattle.bus_machine.proofs.Frames.Staying.{grown_longer}
 use Rattle.bus_machine.specs.Machine.{Machine, Trails, base_of, trails_grown}
 use Rattle.bus_machine.specs.Playing.{AllAnswered, Played, trails_after}
 use Rattle.bus_machine.specs.Promise.{words_joined}
-use Rattle.bus_replica.specs.Replicas.{Operations}
+use Rattle.bus_replica.specs.Replicas.{LeadTo, Operations}
 use Rattle.bus_replica.specs.Linearized.{IsLinearized, IsRead}
 use Rattle.bus_replica.specs.OneOrder.{AreFunctions}
 use Rattle.bus_replica.specs.Histories.{AreInTurn, Call, Did, Executed, IsDoneBetween}
 use Rattle.bus_replica.specs.Histories.{IsLinearizable, Read}
 use Rattle.bus_replica.specs.Moments.{AreDoneOnMachines, EndsWith, HasExecutedOn, HasReadOn}
-use Rattle.bus_replica.specs.Moments.{IsDoneOnMachine, IsLaterMachine, LeadTo, MachineMoment}
+use Rattle.bus_replica.specs.Moments.{IsDoneOnMachine, IsLaterMachine, MachineMoment}
 use Rattle.bus_replica.specs.Moments.{PublishesMore, PutsSince, operations_in}
 use Rattle.bus_replica.proofs.HistoryLaws.{linearizable, one_more}
 use Rattle.bus_replica.proofs.LaterLaws.{orders_on, puts_cover}

@@ -1,25 +1,28 @@
 -- The replicas of a bus that is new, paired off one by one.
 use Rattle.std.proofs.Common.{◌≡◌, ℕ, zero, suc, ◌+◌, ◌≤◌, true, inl, inr, List, [], ◌∷◌, ◌++◌}
-use Rattle.std.proofs.Common.{Some, None, length, slice_get, refl, sym, ◌∙◌, ap, subst}
+use Rattle.std.proofs.Common.{Some, Option, length, slice_get, refl, sym, ◌∙◌, ap, subst}
 use Rattle.std.proofs.Common.{arith, ◌⊎◌}
 use Rattle.std.specs.Prelude.{All, option_map}
 use Rattle.std.proofs.lemmas.List.{length-append, length-map}
 use Rattle.std.proofs.lemmas.Option.{same_Some, slice_get-map, slice_get_within}
 use Rattle.std.proofs.lemmas.Option.{get_or_from_slice_get}
 use Rattle.bus_register.specs.declared.limits.TheConstants.{MOST_SENDERS}
+use Rattle.bus_batch.specs.declared.messages.Item.{Item}
+use Rattle.bus_tenure.specs.declared.pages.Page.{Page}
 use Rattle.bus_world.proofs.Places.{none_in}
 use Rattle.bus_world.specs.declared.shapes.Shape.{Shape}
 use Rattle.bus_automaton.specs.Buses.{ring_plan}
 use Rattle.bus_automaton.specs.Processes.{TableLayout, Process, Automaton}
 use Rattle.bus_automaton.specs.declared.plans.Plan.{Plan}
-use Rattle.bus_pageslot.specs.Buses.{IsNewSeat}
+use Rattle.bus_pageslot.specs.Buses.{BusId, IsNewSeat}
 use Rattle.bus_pageslot.specs.ReceiverViews.{new_receiver_view}
 use Rattle.bus_pageslot.specs.Rule.{Sat, receiver_view_in, known_in}
 use Rattle.bus_pageslot.specs.Seats.{SenderSeat}
 use Rattle.bus_pageslot.specs.declared.rule.View.{View}
 use Rattle.bus_pageslot.specs.declared.rule.View.TheVariants.{Tap}
 use Rattle.bus_handles.specs.Handles.{SeatOfBus, IsOpened, seat_of}
-use Rattle.bus_replica.specs.Replicas.{Operations, Folds, Begins, IsFold, Replicated}
+use Rattle.bus_replica.specs.Replicas.{Operations, Folds, Begins, IsFold, LeadTo, Replicated}
+use Rattle.bus_replica.specs.Replicas.{sitting_of}
 use Rattle.bus_replica.specs.Replicas.{items_heard, has_view, HasNobodyLeft}
 use Rattle.bus_replica.specs.Openings.{IsNewReplica, AreNewReplicas, IsPairing, replica_shape}
 
@@ -69,21 +72,22 @@ all_at : {X : Type 0} (So : X → Type 0) (xs : List X) → All So xs → (k : �
 all_at So xs all k x at = subst (λ z. So z) (get_or_from_slice_get xs k x x at)
     (all k x (slice_get_within xs k x at))
 
-module _ {C S : Type 0} (P : Process C) (A : Plan → Automaton C) (IsFirst : S → Type 0)
-    (shape : Shape) where
+module _ {C S Answer : Type 0} (P : Process C) (A : Plan → Automaton C) (IsFirst : S → Type 0)
+    (Applies : Operations S Answer) (shape : Shape) (page : Option Page) (replayed : List Item) where
   -- the handles of a bus that was opened
   pub none_made : (senders : List (SenderSeat C)) (receivers : List (SeatOfBus C))
-      → IsOpened P (A (ring_plan shape None)) (ring_plan shape None) senders receivers
+      → IsOpened P (A (ring_plan shape page)) (ring_plan shape page) senders receivers
       → shape ≡ replica_shape shape.senders shape.log_words → shape.senders ≤ MOST_SENDERS
-      → IsPairing P A IsFirst shape [] senders receivers
+      → IsPairing P A IsFirst Applies shape page replayed [] senders receivers
   none_made senders receivers h is few =
-      let plan = ring_plan shape None in
+      let plan = ring_plan shape page in
       let same : h.bus.plan ≡ plan = h.plan_is in
       let as_many : shape.receivers ≡ shape.senders = ap (λ (x : Shape). x.receivers) is in
       record {
-        bus = h.bus;
+        bus = sitting_of h.bus replayed;
         shape_is = is;
         plan_is = same;
+        replayed_is = refl;
         few = few;
         each = λ k r at. absurd (none_in k r at);
         senders_are = λ k number s at is.
@@ -91,7 +95,8 @@ module _ {C S : Type 0} (P : Process C) (A : Plan → Automaton C) (IsFirst : S 
             subst (λ (p : Plan). IsNewSeat P (A p) h.bus.table number s) (sym same)
             (subst (λ n. IsNewSeat P (A plan) h.bus.table n s) k_is (h.senders_are.each k s at));
         receivers_are = λ k number r at is. (
-          all_at (λ (z : SeatOfBus C). z.bus ≡ h.bus) receivers h.to_bus k r at,
+          ap (λ (b : BusId). sitting_of b replayed)
+              (all_at (λ (z : SeatOfBus C). z.bus ≡ h.bus) receivers h.to_bus k r at),
           subst (λ (p : Plan). r.me ≡ (Tap (A p).table_layout (new_receiver_view number), []))
               (sym same) (subst (λ n. r.me ≡ (Tap (A plan).table_layout (new_receiver_view n), []))
               (let k_is : k ≡ number = omega (arith, is) in k_is)
@@ -110,30 +115,31 @@ module _ {C S : Type 0} (P : Process C) (A : Plan → Automaton C) (IsFirst : S 
   module _ (made : List (Replicated C S)) (s : SenderSeat C) (r : SeatOfBus C)
       (senders senders' : List (SenderSeat C)) (receivers receivers' : List (SeatOfBus C))
       (e : senders ≡ s ∷ senders') (f : receivers ≡ r ∷ receivers')
-      (h : IsPairing P A IsFirst shape made senders receivers) where
+      (h : IsPairing P A IsFirst Applies shape page replayed made senders receivers) where
     here : length made ≡ length made + 0
     here = omega arith
 
     pub next_sender : IsNewSeat P (A h.bus.plan) h.bus.table (length made) s
     next_sender = h.senders_are 0 (length made) s (ap (λ z. slice_get z 0) e) here
 
-    pub next_receiver : (r.bus ≡ h.bus)
+    pub next_receiver : (sitting_of r.bus replayed ≡ h.bus)
         × (r.me ≡ (Tap (A h.bus.plan).table_layout (new_receiver_view (length made)), []))
     next_receiver = h.receivers_are 0 (length made) r (ap (λ z. slice_get z 0) f) here
 
     pub one_more : (new : Replicated C S) (made' : List (Replicated C S))
-        → made' ≡ made ++ new ∷ [] → new.sender ≡ s → new.bus ≡ r.bus → new.me ≡ r.me
-        → IsFirst new.state → ((plan : Plan) (p : ℕ) → P.me ((A plan).started p) ≡ p)
-        → IsPairing P A IsFirst shape made' senders' receivers'
-    one_more new made' g sender bus me first started =
+        → made' ≡ made ++ new ∷ [] → new.sender ≡ s → new.bus ≡ sitting_of r.bus replayed
+        → new.me ≡ r.me → LeadTo IsFirst Applies replayed new.state
+        → ((plan : Plan) (p : ℕ) → P.me ((A plan).started p) ≡ p)
+        → IsPairing P A IsFirst Applies shape page replayed made' senders' receivers'
+    one_more new made' g sender bus me leads started =
         let seat = subst (λ z. IsNewSeat P (A h.bus.plan) h.bus.table (length made) z) (sym sender)
         next_sender in
-        let fresh : IsNewReplica P (A h.bus.plan) IsFirst h.bus (length made) new = record {
+        let fresh : IsNewReplica P (A h.bus.plan) IsFirst Applies h.bus (length made) new = record {
           bus_is = bus ∙ next_receiver.0;
           number = ap P.me seat.core ∙ started h.bus.plan (length made);
           sender = seat;
           receiver = me ∙ next_receiver.1;
-          first = first;
+          leads = subst (λ z. LeadTo IsFirst Applies z new.state) (sym h.replayed_is) leads;
         } in
         let size = ap length g ∙ length-append made (new ∷ []) in
         let one : length (new ∷ []) ≡ 1 = refl in
@@ -145,13 +151,14 @@ module _ {C S : Type 0} (P : Process C) (A : Plan → Automaton C) (IsFirst : S 
           bus = h.bus;
           shape_is = h.shape_is;
           plan_is = h.plan_is;
+          replayed_is = h.replayed_is;
           few = h.few;
           each = λ k x at. elim (push_at made new x k (ap (λ z. slice_get z k) (sym g) ∙ at)) [
             | inl l ↦ h.each k x l
             | inr i ↦
-                (subst (λ n. IsNewReplica P (A h.bus.plan) IsFirst h.bus n x) (sym i.0)
-                (subst (λ z. IsNewReplica P (A h.bus.plan) IsFirst h.bus (length made) z) i.1
-                fresh))
+                (subst (λ n. IsNewReplica P (A h.bus.plan) IsFirst Applies h.bus n x) (sym i.0)
+                (subst (λ z. IsNewReplica P (A h.bus.plan) IsFirst Applies h.bus (length made) z)
+                i.1 fresh))
           ];
           senders_are = λ k number x at is.
               h.senders_are (suc k) number x (ap (λ z. slice_get z (suc k)) e ∙ at)
@@ -164,14 +171,17 @@ module _ {C S : Type 0} (P : Process C) (A : Plan → Automaton C) (IsFirst : S 
         }
 
   pub all_made : (made : List (Replicated C S)) (senders : List (SenderSeat C))
-      (receivers : List (SeatOfBus C)) → IsPairing P A IsFirst shape made senders receivers
-      → length receivers ≡ 0 → AreNewReplicas P A IsFirst shape.senders shape.log_words made
+      (receivers : List (SeatOfBus C))
+      → IsPairing P A IsFirst Applies shape page replayed made senders receivers
+      → length receivers ≡ 0
+      → AreNewReplicas P A IsFirst Applies shape.senders shape.log_words page replayed made
   all_made made senders receivers h none =
       let many = h.many in
       let as_many = h.as_many in
       record {
         bus = h.bus;
-        plan_is = h.plan_is ∙ ap (λ (x : Shape). ring_plan x None) h.shape_is;
+        plan_is = h.plan_is ∙ ap (λ (x : Shape). ring_plan x page) h.shape_is;
+        replayed_is = h.replayed_is;
         many = omega (arith, none, many, as_many);
         few = h.few;
         each = h.each;

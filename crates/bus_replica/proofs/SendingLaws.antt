@@ -33,7 +33,7 @@ use Rattle.bus_replica.specs.Causes.{WasAnswered}
 use Rattle.bus_replica.specs.Replicas.{PutsAll, PutsNow, PutsStay}
 use Rattle.bus_replica.specs.Replicas.{PutsAllOrNone, WorksOn, Rests}
 use Rattle.bus_replica.specs.Replicas.{Turns, Puts, PutsStayLeaving, Leaves, Looks, Operations}
-use Rattle.bus_replica.specs.Replicas.{Replicated, StandsLast}
+use Rattle.bus_replica.specs.Replicas.{LeadTo, Replicated, Sitting, StandsLast}
 
 -- ---- what a sender does, one after another
 pub works_trans : {C : Type 0} (P : Process C) (T : Tellings C) (leaves : Bool)
@@ -431,16 +431,19 @@ put_settled P T first old new messages (Err e) stays more = tt
 -- an execution, with what follows it
 pub executed_settled : {C S A E : Type 0} (IsFirst : S → Type 0) (Applies : Operations S A)
     (P : Process C) (T : Tellings C) (a c d : Replicated C S) (messages : List (List ℕ))
-    (worker : ℕ) (result : Result A E) → PutsStay P T c.sender d.sender → d.me ≡ c.me
-    → d.state ≡ c.state
+    (worker : ℕ) (result : Result A E) → PutsStay P T c.sender d.sender → d.bus ≡ c.bus
+    → d.me ≡ c.me → d.state ≡ c.state
     → IfOk result (λ answer. (x : ℕ) × PutsAll P T a.sender c.sender x messages
-    × StandsLast IsFirst Applies c.me.0 c.state worker x answer)
+    × StandsLast (LeadTo IsFirst Applies c.bus.replayed) Applies c.me.0 c.state worker x answer)
     → IfOk result (λ answer. (x : ℕ) × PutsAll P T a.sender d.sender x messages
-    × StandsLast IsFirst Applies d.me.0 d.state worker x answer)
-executed_settled {C} IsFirst Applies P T a c d messages worker (Ok answer) stays me state h = (
-  h.0,
-  more_stays P T a.sender c.sender d.sender h.0 messages h.1 stays,
-  subst (λ (m : Sat C). StandsLast IsFirst Applies m.0 d.state worker h.0 answer) (sym me)
-      (subst (λ z. StandsLast IsFirst Applies c.me.0 z worker h.0 answer) (sym state) h.2),
-)
-executed_settled IsFirst Applies P T a c d messages worker (Err e) stays me state h = tt
+    × StandsLast (LeadTo IsFirst Applies d.bus.replayed) Applies d.me.0 d.state worker x answer)
+executed_settled {C} IsFirst Applies P T a c d messages worker (Ok answer) stays bus me state h =
+    let So : Sitting → Sat C → _ → Type 0 =
+    λ b m z. StandsLast (LeadTo IsFirst Applies b.replayed) Applies m.0 z worker h.0 answer in (
+      h.0,
+      more_stays P T a.sender c.sender d.sender h.0 messages h.1 stays,
+      subst (λ (b : Sitting). So b d.me d.state) (sym bus)
+          (subst (λ (m : Sat C). So c.bus m d.state) (sym me)
+          (subst (λ z. So c.bus c.me z) (sym state) h.2)),
+    )
+executed_settled IsFirst Applies P T a c d messages worker (Err e) stays bus me state h = tt

@@ -7,3 +7,4 @@ pub mod Longs
 pub mod Histories
 pub mod Moments
 pub mod Openings
+pub mod Sittings

@@ -17,7 +17,7 @@ use Rattle.bus_pageslot.specs.Lasting.{RuledTable, published}
 use Rattle.bus_pageslot.specs.Turns.{Tellings}
 use Rattle.bus_receiver.specs.HearingRuns.{item_in}
 use Rattle.bus_replica.specs.Replicas.{Operations, Folds, Replicated, PutsMore, StandsLast}
-use Rattle.bus_replica.specs.Replicas.{HasCaughtUp, IsFold}
+use Rattle.bus_replica.specs.Replicas.{HasCaughtUp, IsFold, LeadTo}
 use Rattle.bus_replica.specs.Linearized.{PageOf, SitsAt}
 use Rattle.bus_replica.specs.Histories.{Did, Executed, Read, Call}
 
@@ -40,13 +40,6 @@ pub record EndsWith {S A : Type 0} (IsFirst : S → Type 0) (Applies : Operation
   pub at : S
   pub folds : Folds Applies first before at
   pub applied : Applies at item.sender.0 item.message answer state
-
--- the state that these operations lead to
-pub record LeadTo {S A : Type 0} (IsFirst : S → Type 0) (Applies : Operations S A)
-    (items : List Item) (state : S) : Type 0 where
-  pub first : S
-  pub begins : IsFirst first
-  pub folds : Folds Applies first items state
 
 -- what a sender did goes on from what it had done, and behind that it put these bytes, by this
 -- number

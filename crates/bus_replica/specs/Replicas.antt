@@ -4,7 +4,11 @@ use Rattle.std.specs.Prelude.{◌∷◌, ◌++◌, length, flat_map}
 use Rattle.bus_batch.specs.declared.messages.Item.{Item}
 use Rattle.bus_batch.specs.Batches.{CanClose, Pending}
 use Rattle.bus_batch.specs.declared.batches.Phase.TheVariants.{Open}
-use Rattle.bus_batch.specs.Frames.{has_gone}
+use Rattle.bus_batch.specs.Frames.{has_gone, items_in}
+use Rattle.bus_deliverylog.specs.Orders.{order_held}
+use Rattle.bus_deliverylog.specs.declared.orders.Order as declared
+use Rattle.atomic_table.specs.Seated.{TableId}
+use Rattle.bus_automaton.specs.declared.plans.Plan.{Plan}
 use Rattle.bus_pageslot.specs.Buses.{BusId}
 use Rattle.bus_pageslot.specs.Rule.{Sat, receiver_view_in, known_in}
 use Rattle.bus_pageslot.specs.declared.rule.View.{View}
@@ -60,6 +64,13 @@ pub data Folds {S A : Type 0} (Applies : Operations S A) (first : S) : List Item
   Then : (items : List Item) (old : S) (item : Item) (answer : A) (new : S)
       → Folds Applies first items old → Applies old item.sender.0 item.message answer new
       → Folds Applies first (items ++ item ∷ []) new
+
+-- these operations led to the state from a first one
+pub record LeadTo {S A : Type 0} (IsFirst : S → Type 0) (Applies : Operations S A)
+    (items : List Item) (state : S) : Type 0 where
+  pub first : S
+  pub begins : IsFirst first
+  pub folds : Folds Applies first items state
 
 -- the state of a replica is the fold of the operations over all that its receiver was given
 pub record IsFold {C S A : Type 0} (IsFirst : S → Type 0) (Applies : Operations S A) (v : View C)
@@ -134,16 +145,31 @@ pub record HasHeardAll {C S A : Type 0} (IsFirst : S → Type 0) (Applies : Oper
   pub fold : IsFold IsFirst Applies last.0 state
   pub left : HaveAllLeft last.0 workers
 
+-- A bus of replicas: its table, what it was made by, and the operations that were replayed before
+-- its first one, in their order. Where it goes on from nothing there are none.
+pub record Sitting : Type 0 where
+  pub table : TableId
+  pub plan : Plan
+  pub replayed : List Item
+
+-- the operations of an order that a program holds
+abbrev pub replayed_by : declared.Order → List Item
+replayed_by order = items_in (order_held order).entries
+
+-- this bus, behind these operations
+abbrev pub sitting_of : BusId → List Item → Sitting
+sitting_of bus replayed = record { table = bus.table; plan = bus.plan; replayed = replayed }
+
 -- a receiver of a bus, and its state
 pub record Hearing (C S : Type 0) : Type 0 where
-  pub bus : BusId
+  pub bus : Sitting
   pub me : Sat C
   pub state : S
 
 -- a worker of a bus: its sender, its receiver, and its state
 pub record Replicated (C S : Type 0) : Type 0 where
   pub sender : SenderSeat C
-  pub bus : BusId
+  pub bus : Sitting
   pub me : Sat C
   pub state : S
 

@@ -1,20 +1,23 @@
 //! A receiver, and the state that it applies to all that it hears.
 
-ghost use Rattle.std.specs.Prelude.{◌≡◌, ℕ, ◌<◌, IfOk, IfErr, IfSome, IfNone, false};
+ghost use Rattle.std.specs.Prelude.{◌≡◌, ℕ, ◌<◌, ◌≤◌, IfOk, IfErr, IfSome, IfNone, false, length};
 ghost use Rattle.std.specs.Prelude.{replicate};
 ghost use Rattle.bus_replica.specs.declared.hearers.TheConstants.{NUMBERS};
-ghost use Rattle.bus_pageslot.specs.Rule.{receiver_view_in};
+ghost use Rattle.bus_pageslot.specs.Rule.{known_in, receiver_view_in};
 ghost use Rattle.bus_pageslot.specs.Seats.{table_of};
 ghost use Rattle.bus_automaton.specs.ThreeWordBuses.{process};
 ghost use Rattle.bus_replica.specs.Causes.{HearsEnd};
 ghost use Rattle.bus_replica.specs.Replicas.{IsFold, StandsLast, GoesOn, HasCaughtUp, HearsOut};
+ghost use Rattle.bus_replica.specs.Replicas.{LeadTo, replayed_by, sitting_of};
 ghost use Rattle.bus_replica.specs.Replicas.{HaveAllLeft, HasNobodyLeft, has_heard_leave};
 
 use crate::faults::Fault;
 use crate::states::State;
+use bus_deliverylog::Order;
 use bus_handles::{Item, ItemTurn, ReceiverHandle, RecvTurn, SenderHandle, ThreeWord};
 use bus_register::SenderNo;
 use std::marker::Model;
+use std::snapshot::Snapshot;
 use std::sync::Wait;
 
 /// How many numbers a worker can have.
@@ -49,36 +52,51 @@ fn nobody() -> [bool; NUMBERS]
 pub struct Hearer<S: State> {
     receiver: ReceiverHandle<ThreeWord>,
     state: S,
+    /// What was replayed before its first turn, for clauses alone.
+    replayed: Snapshot<Order>,
     /// Of each number: whether that worker was heard to have left.
     left: [bool; NUMBERS],
 }
 
 impl<S: State> Model for Hearer<S> {
     ghost use Rattle.bus_automaton.specs.ThreeWordBuses.{Held};
-    ghost use Rattle.bus_replica.specs.Replicas.{Hearing};
+    ghost use Rattle.bus_replica.specs.Replicas.{Hearing, LeadTo, replayed_by, sitting_of};
     ghost use Rattle.bus_replica.specs.Turns.{IsHearing};
 
     ghost Value = { Hearing Held S };
 
-    ghost view = { λ h. record { bus = h.receiver.bus; me = h.receiver.me; state = h.state } };
+    ghost view = { λ h. record {
+      bus = sitting_of h.receiver.bus (replayed_by h.replayed.value);
+      me = h.receiver.me;
+      state = h.state;
+    } };
 
-    ghost invariant = { λ h. IsHearing S.is_first S.applies h.receiver.me.0 h.state h.left };
+    ghost invariant = { λ h. IsHearing
+        (LeadTo S.is_first S.applies (replayed_by h.replayed.value)) S.applies h.receiver.me.0
+        h.state h.left };
 }
 
 impl<S: State> Hearer<S> {
     ghost use Rattle.bus_replica.specs.Turns.{TakesIn, StandsIfTold};
 
-    /// A hearer by this receiver, of a state that all that it has heard leads to.
-    pub fn new(receiver: ReceiverHandle<ThreeWord>, state: S) -> Hearer<S>
-        requires fold { IsFold S.is_first S.applies receiver.me.0 state }
+    /// A hearer by this receiver, of a state that all that was replayed and that it has heard leads
+    /// to.
+    pub fn new(
+        receiver: ReceiverHandle<ThreeWord>,
+        state: S,
+        replayed: Snapshot<Order>,
+    ) -> Hearer<S>
+        requires fold { IsFold (LeadTo S.is_first S.applies (replayed_by replayed.value)) S.applies
+            receiver.me.0 state }
         requires nobody { HasNobodyLeft receiver.me.0 }
-        ensures bus { result.bus ≡ receiver.bus }
+        ensures bus { result.bus ≡ sitting_of receiver.bus (replayed_by replayed.value) }
         ensures me { result.me ≡ receiver.me }
         ensures state { result.state ≡ state }
     {
         Hearer {
             receiver,
             state,
+            replayed,
             left: nobody(),
         }
     }
@@ -86,14 +104,16 @@ impl<S: State> Hearer<S> {
     /// The state as it is.
     pub fn state(&self) -> &S
         ensures state { result.now ≡ self.now.state }
-        ensures fold { IsFold S.is_first S.applies self.now.me.0 self.now.state }
+        ensures fold { IsFold (LeadTo S.is_first S.applies self.now.bus.replayed) S.applies
+            self.now.me.0 self.now.state }
     {
         &self.state
     }
 
     /// How many words the receiver has read.
     pub fn place(&self) -> u64
-        ensures { result ≡ (receiver_view_in self.now.me.0).place }
+        ensures place { result ≡ (receiver_view_in self.now.me.0).place }
+        ensures within { result ≤ length (known_in self.now.me.0) }
     {
         self.receiver.place()
     }
@@ -101,7 +121,8 @@ impl<S: State> Hearer<S> {
     /// The state, without the receiver, which leaves.
     pub fn into_state(self) -> S
         ensures state { result ≡ self.state }
-        ensures fold { IsFold S.is_first S.applies self.me.0 self.state }
+        ensures fold { IsFold (LeadTo S.is_first S.applies self.bus.replayed) S.applies self.me.0
+            self.state }
     {
         let Hearer { state, .. } = self;
         state
@@ -134,7 +155,8 @@ impl<S: State> Hearer<S> {
     pub fn turn(&mut self, item: &mut Item) -> Applied<S::Answer>
         ensures bus { self.new.bus ≡ self.old.bus }
         ensures takes { TakesIn S.applies self.old result self.new }
-        ensures stands { StandsIfTold S.is_first S.applies self.new result }
+        ensures stands { StandsIfTold (LeadTo S.is_first S.applies self.new.bus.replayed)
+            S.applies self.new result }
     {
         let mut sign = RecvTurn::Going;
         match self.receiver.signed_turns(item, &mut sign) {
@@ -169,7 +191,8 @@ impl<S: State> Hearer<S> {
         ensures bus { self.new.bus ≡ self.old.bus }
         ensures on { GoesOn self.old.me self.new.me }
         ensures stands { IfOk result (λ found. IfSome found (λ answer.
-            StandsLast S.is_first S.applies self.new.me.0 self.new.state worker.0 number answer)) }
+            StandsLast (LeadTo S.is_first S.applies self.new.bus.replayed) S.applies self.new.me.0
+            self.new.state worker.0 number answer)) }
         ensures ended { IfErr result
             (λ why. (why ≡ Fault.Ended) × HearsEnd self.old.me self.new.me) }
     {

@@ -18,9 +18,10 @@ ghost use Rattle.bus_replica.specs.Causes.{tells};
 ghost use Rattle.bus_replica.specs.Histories.{AreDoneBy, AreInTurn, AreMoments, Call};
 ghost use Rattle.bus_replica.specs.Histories.{HistoriesAccept, HistoriesRefuse, IsLinearizable};
 ghost use Rattle.bus_replica.specs.Moments.{AreDoneOnMachines, AreDoneOnTables, EndsWith};
-ghost use Rattle.bus_replica.specs.Moments.{HasExecutedOn, HasReadOn, IsLaterMachine, LeadTo};
+ghost use Rattle.bus_replica.specs.Moments.{HasExecutedOn, HasReadOn, IsLaterMachine};
 ghost use Rattle.bus_replica.specs.Moments.{MachineMoment, PublishesMore, PutsSince, TableMoment};
 ghost use Rattle.bus_replica.specs.Moments.{operations_in};
+ghost use Rattle.bus_replica.specs.Replicas.{LeadTo};
 
 use crate::states::State;
 use bus_adoptcommit::Ratifier;
@@ -29,16 +30,19 @@ use bus_handles::ThreeWord;
 use bus_pageslot::laws::seats_keep_promises;
 
 /// Histories of calls are linearizable (Herlihy and Wing 1990), where an operation has one outcome
-/// and there is one first state. Of any list of calls between any moments: each execution stands in
+/// and there is one first state; they begin with one that the replayed operations lead to, if any
+/// were replayed. Of any list of calls between any moments: each execution stands in
 /// the orders of its two moments as `replicas_are_linearizable` says (`IsLinearized`), each read
 /// shows what it says (`IsRead`), and no worker had two executions on the way at once. Then there
 /// is one sequential history of the object, of operations that stand in the order of the last
 /// moment, in which each call takes effect at one point; and calls keep their order in time.
 pub fn histories_are_linearizable<S: State>()
-    ensures { (first : S) (orders : ℕ → Order) (last : ℕ) (calls : List (Call S S.Answer))
-        → AreFunctions S.is_first S.applies → S.is_first first → AreMoments orders
-        → AreDoneBy S.is_first S.applies orders last calls → AreInTurn calls
-        → IsLinearizable S.is_first S.applies (items_in (orders last).entries) calls }
+    ensures { (replayed : List Item) (first : S) (orders : ℕ → Order) (last : ℕ)
+        (calls : List (Call S S.Answer)) → AreFunctions S.is_first S.applies
+        → LeadTo S.is_first S.applies replayed first → AreMoments orders
+        → AreDoneBy (LeadTo S.is_first S.applies replayed) S.applies orders last calls
+        → AreInTurn calls → IsLinearizable (LeadTo S.is_first S.applies replayed) S.applies
+        (items_in (orders last).entries) calls }
 {}
 
 /// So histories of replicas are linearizable. Of any list of calls of `execute` and `catch_up`
@@ -46,11 +50,13 @@ pub fn histories_are_linearizable<S: State>()
 /// published, or the same. Of each call this asks for what it ensures, for the seats that show the
 /// replica at its moments, and that `catch_up` found the length of a table between them.
 pub fn replicas_have_linearizable_histories<S: State>()
-    ensures { (plan : Plan) (first : S) (moments : ℕ → TableMoment process (automaton plan))
-        (last : ℕ) (calls : List (Call S S.Answer)) → AreFunctions S.is_first S.applies
-        → S.is_first first → AreDoneOnTables tells S.is_first S.applies moments last calls
-        → AreInTurn calls
-        → IsLinearizable S.is_first S.applies (items_in (moments last).page.order.entries) calls }
+    ensures { (plan : Plan) (replayed : List Item) (first : S)
+        (moments : ℕ → TableMoment process (automaton plan)) (last : ℕ)
+        (calls : List (Call S S.Answer)) → AreFunctions S.is_first S.applies
+        → LeadTo S.is_first S.applies replayed first → AreDoneOnTables tells
+        (LeadTo S.is_first S.applies replayed) S.applies moments last calls
+        → AreInTurn calls → IsLinearizable (LeadTo S.is_first S.applies replayed) S.applies
+        (items_in (moments last).page.order.entries) calls }
 {
     threads_may_go_by::<ThreeWord>();
     seats_keep_promises::<ThreeWord>();

@@ -23,7 +23,7 @@ ghost use Rattle.bus_pageslot.specs.declared.rule.View.TheVariants.{Sender};
 ghost use Rattle.bus_tenure.specs.Core.{length_at};
 ghost use Rattle.bus_replica.specs.Causes.{tells};
 ghost use Rattle.bus_replica.specs.Replicas.{PutsMore, IsFold, StandsLast, items_heard, has_view};
-ghost use Rattle.bus_replica.specs.Replicas.{Folds};
+ghost use Rattle.bus_replica.specs.Replicas.{Folds, LeadTo};
 ghost use Rattle.bus_replica.specs.Replicas.{HasCaughtUp, HaveAllLeft, Replicated};
 ghost use Rattle.bus_replica.specs.OneOrder.{AreFunctions, FollowsOrder, IsLater};
 ghost use Rattle.bus_replica.specs.Linearized.{PageOf, SitsAt, IsLinearized, IsRead};
@@ -34,13 +34,13 @@ use bus_handles::ThreeWord;
 use bus_pageslot::laws::seats_keep_promises;
 
 /// The state of each replica is the fold of the operations over a beginning of the one order, which
-/// is the order of the page of promises.
+/// is the order of the page of promises, behind what was replayed.
 pub fn replicas_follow_one_order<S: State>()
     ensures { (x : TableLayout) (base : ℕ → ℕ) (log : List ℕ)
         (s : Table (Option Page) (View Held)) (h : IsPromised process x base log s) (j : ℕ)
-        (v : View Held) (state : S)
-        → get_elem? s.views j ≡ some v → IsFold S.is_first S.applies v state
-        → FollowsOrder S.is_first S.applies h.order state }
+        (v : View Held) (state : S) (replayed : List Item) → get_elem? s.views j ≡ some v
+        → IsFold (LeadTo S.is_first S.applies replayed) S.applies v state
+        → FollowsOrder (LeadTo S.is_first S.applies replayed) S.applies h.order state }
 {}
 
 /// The operation that `execute` answered is the one that it was given: of the worker whose sender
@@ -50,12 +50,12 @@ pub fn own_operation_is_what_was_put<S: State>()
         (s : Table (Option Page) (View Held)) (h : IsPromised process x base log s) (i j : ℕ)
         (v : View Held) (old seat : SenderSeat Held) (c : Held) (trail : SenderTrail)
         (notes : Notes) (state : S) (number : ℕ) (bytes : List ℕ) (answer : S.Answer)
-        → get_elem? s.views i ≡ some v → has_view v ≡ true
+        (replayed : List Item) → get_elem? s.views i ≡ some v → has_view v ≡ true
         → get_elem? s.views j ≡ some seat.seat.me.0 → seat.seat.me.0 ≡ Sender c trail notes
         → first_number_of process seat ≡ base (process.me c)
         → PutsMore process tells old seat number bytes
-        → (last : StandsLast S.is_first S.applies v state (process.me c) number answer)
-        → last.item.message ≡ bytes }
+        → (last : StandsLast (LeadTo S.is_first S.applies replayed) S.applies v state (process.me c)
+        number answer) → last.item.message ≡ bytes }
 {}
 
 /// Real time. Whatever a replica had applied at one moment, in which the log was so long, each
@@ -86,10 +86,11 @@ pub fn what_is_put_later_stands_behind()
 {}
 
 /// Where an operation has one outcome, and there is one first state, the same operations lead to
-/// the same state.
+/// the same state, behind the same ones that were replayed.
 pub fn equal_operations_give_equal_states<S: State>()
-    ensures { (items : List Item) (first other state state' : S)
-        → AreFunctions S.is_first S.applies → S.is_first first → S.is_first other
+    ensures { (replayed items : List Item) (first other state state' : S)
+        → AreFunctions S.is_first S.applies → LeadTo S.is_first S.applies replayed first
+        → LeadTo S.is_first S.applies replayed other
         → Folds S.applies first items state → Folds S.applies other items state'
         → state ≡ state' }
 {}
@@ -118,27 +119,30 @@ pub fn finished_replicas_are_equal()
 /// Of a call of `catch_up` between two moments, whose load of the length was at a third one: what
 /// `state` shows then is the fold over a beginning of the one order, with all that stood there when
 /// the call began. `HasCaughtUp` is what it ensures, and `IsFold` what `state` does.
+///
+/// A fold begins with a state that the replayed operations lead to, if any were replayed
+/// (`sittings_are_one`).
 pub fn replicas_are_linearizable<S: State>()
     ensures executes { (plan : Plan) (s t : RuledTable process (automaton plan)) (h : PageOf s)
         (k : PageOf t) → IsPrefix (published s) (published t) → (old new : Replicated Held S)
-        (number : ℕ) (bytes : List ℕ) (answer : S.Answer) (j : ℕ)
+        (number : ℕ) (bytes : List ℕ) (answer : S.Answer) (j : ℕ) (replayed : List Item)
         → SitsAt process s.table old.sender → SitsAt process t.table new.sender
         → get_elem? t.table.views j ≡ some new.me.0
         → PutsMore process tells old.sender new.sender number bytes
-        → StandsLast S.is_first S.applies new.me.0 new.state (process.me old.sender.core) number
-        answer
-        → IsLinearized S.is_first S.applies h.order k.order (process.me old.sender.core) number
-        bytes answer new.state }
+        → StandsLast (LeadTo S.is_first S.applies replayed) S.applies new.me.0 new.state
+        (process.me old.sender.core) number answer
+        → IsLinearized (LeadTo S.is_first S.applies replayed) S.applies h.order k.order
+        (process.me old.sender.core) number bytes answer new.state }
     ensures orders { (plan : Plan) (s t : RuledTable process (automaton plan)) (h : PageOf s)
         (k : PageOf t) → IsPrefix (published s) (published t)
         → IsPrefix (items_in h.order.entries) (items_in k.order.entries) }
     ensures reads { (plan : Plan) (s m t : RuledTable process (automaton plan)) (h : PageOf s)
         (k : PageOf t) → IsPrefix (published s) (published m)
         → IsPrefix (published m) (published t) → (old new : Replicated Held S) (j : ℕ)
-        → get_elem? t.table.views j ≡ some new.me.0 → (caught : HasCaughtUp old.me new.me)
+        (replayed : List Item) → get_elem? t.table.views j ≡ some new.me.0 → (caught : HasCaughtUp old.me new.me)
         → caught.got ≡ slice_index m.table.words length_at
-        → IsFold S.is_first S.applies new.me.0 new.state
-        → IsRead S.is_first S.applies h.order k.order new.state }
+        → IsFold (LeadTo S.is_first S.applies replayed) S.applies new.me.0 new.state
+        → IsRead (LeadTo S.is_first S.applies replayed) S.applies h.order k.order new.state }
 {
     threads_may_go_by::<ThreeWord>();
     seats_keep_promises::<ThreeWord>();

@@ -8,7 +8,7 @@ ghost use Rattle.bus_long.specs.declared.pieces.TheConstants.{MOST_LONG_BYTES};
 ghost use Rattle.bus_replica.specs.Causes.{tells, IsCause, RefusesLong, SaysStop};
 ghost use Rattle.bus_replica.specs.Longs.{AppliesLong, IsFirstLong};
 ghost use Rattle.bus_replica.specs.Replicas.{StandsLast, PutsAll, PutsAllOrNone, PutsStay};
-ghost use Rattle.bus_replica.specs.Replicas.{GoesOn};
+ghost use Rattle.bus_replica.specs.Replicas.{GoesOn, LeadTo};
 
 use crate::faults::Fault;
 use crate::longs::Long;
@@ -68,8 +68,9 @@ impl<S: State> Replica<Long<S>> {
         ensures on { GoesOn self.old.me self.new.me }
         ensures executed { IfOk result (λ answer. (number : ℕ)
             × PutsAll process tells self.old.sender self.new.sender number (pieces op.now)
-            × StandsLast (IsFirstLong S.is_first) (AppliesLong S.applies) self.new.me.0
-            self.new.state (process.me self.old.sender.core) number answer) }
+            × StandsLast (LeadTo (IsFirstLong S.is_first) (AppliesLong S.applies)
+            self.new.bus.replayed) (AppliesLong S.applies) self.new.me.0 self.new.state
+            (process.me self.old.sender.core) number answer) }
         ensures refused { OnErr result
             (PutsAllOrNone process tells self.old.sender self.new.sender (pieces op.now)) }
         ensures long { MOST_LONG_BYTES < length op.now
@@ -93,8 +94,9 @@ impl<S: State> Replica<Long<S>> {
         ensures on { GoesOn self.old.me self.new.me }
         ensures executed { IfOk result (λ answer. (number : ℕ)
             × PutsAll process tells self.old.sender self.new.sender number (pieces op.now)
-            × StandsLast (IsFirstLong S.is_first) (AppliesLong S.applies) self.new.me.0
-            self.new.state (process.me self.old.sender.core) number answer) }
+            × StandsLast (LeadTo (IsFirstLong S.is_first) (AppliesLong S.applies)
+            self.new.bus.replayed) (AppliesLong S.applies) self.new.me.0 self.new.state
+            (process.me self.old.sender.core) number answer) }
         ensures refused { OnErr result
             (PutsAllOrNone process tells self.old.sender self.new.sender (pieces op.now)) }
         ensures long { MOST_LONG_BYTES < length op.now

@@ -1,6 +1,6 @@
 //! What holds of long operations: each stands whole at the place of its last piece.
 
-ghost use Rattle.std.specs.Prelude.{◌≡◌, ℕ, ◌≤◌, List, All, ◌++◌, Option, Some, length, flat_map};
+ghost use Rattle.std.specs.Prelude.{◌≡◌, ℕ, ◌≤◌, List, [], All, ◌++◌, Option, Some, length, flat_map};
 ghost use Rattle.std.specs.Prelude.{slice_index};
 ghost use mathlib.Core.Option.{some};
 ghost use lib.ListN.{get_elem?};
@@ -19,7 +19,8 @@ ghost use Rattle.bus_replica.specs.Causes.{tells};
 ghost use Rattle.bus_replica.specs.Linearized.{IsLinearized, IsRead, PageOf, SitsAt};
 ghost use Rattle.bus_replica.specs.Longs.{AppliesLong, ArePiecesOf, IsFirstLong, LongState};
 ghost use Rattle.bus_replica.specs.OneOrder.{AreFunctions};
-ghost use Rattle.bus_replica.specs.Replicas.{HasCaughtUp, IsFold, PutsAll, Replicated, StandsLast};
+ghost use Rattle.bus_replica.specs.Replicas.{HasCaughtUp, IsFold, LeadTo, PutsAll, Replicated};
+ghost use Rattle.bus_replica.specs.Replicas.{StandsLast};
 
 use crate::states::State;
 use bus_automaton::laws::threads_may_go_by;
@@ -36,7 +37,8 @@ use bus_pageslot::laws::seats_keep_promises;
 /// the fold over a beginning of that order, with all that stood there when the call began. The
 /// order of an earlier moment begins that of a later one. And of a worker that has put long
 /// operations alone, those that stand in that order are the first that it put, whole and in its
-/// order. Where an operation has one outcome, a message of `Long` has one too.
+/// order. Where an operation has one outcome, a message of `Long` has one too. Of calls of a
+/// sitting that goes on from what was replayed nothing is said.
 pub fn long_operations_are_linearizable<S: State>()
     ensures executes { (plan : Plan) (s t : RuledTable process (automaton plan)) (h : PageOf s)
         (k : PageOf t) → plan.shape.senders ≤ MOST_SENDERS → IsPrefix (published s) (published t)
@@ -47,8 +49,8 @@ pub fn long_operations_are_linearizable<S: State>()
         → ArePiecesOf before (puts (actions_of process old.sender))
         → length bytes ≤ MOST_LONG_BYTES
         → PutsAll process tells old.sender new.sender number (pieces bytes)
-        → StandsLast (IsFirstLong S.is_first) (AppliesLong S.applies) new.me.0 new.state
-        (process.me old.sender.core) number answer
+        → StandsLast (LeadTo (IsFirstLong S.is_first) (AppliesLong S.applies) [])
+        (AppliesLong S.applies) new.me.0 new.state (process.me old.sender.core) number answer
         → (own : S.Answer) × (answer ≡ Some own)
         × IsLinearized S.is_first S.applies (long_order h.order) (long_order k.order)
         (process.me old.sender.core) number bytes own new.state.state }
@@ -61,7 +63,8 @@ pub fn long_operations_are_linearizable<S: State>()
         → IsPrefix (published m) (published t) → (old new : Replicated Held (LongState S)) (j : ℕ)
         → get_elem? t.table.views j ≡ some new.me.0 → (caught : HasCaughtUp old.me new.me)
         → caught.got ≡ slice_index m.table.words length_at
-        → IsFold (IsFirstLong S.is_first) (AppliesLong S.applies) new.me.0 new.state
+        → IsFold (LeadTo (IsFirstLong S.is_first) (AppliesLong S.applies) [])
+        (AppliesLong S.applies) new.me.0 new.state
         → IsRead S.is_first S.applies (long_order h.order) (long_order k.order) new.state.state }
     ensures whole { (plan : Plan) (t : RuledTable process (automaton plan)) (k : PageOf t)
         (worker : ℕ) (operations : List (List ℕ)) → ArePiecesOf operations (puts (k.actions worker))

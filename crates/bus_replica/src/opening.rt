@@ -1,21 +1,30 @@
 //! How the replicas of a bus are opened.
 
-ghost use Rattle.std.specs.Prelude.{◌≡◌, IfOk, IfErr, []};
+ghost use Rattle.std.specs.Prelude.{◌≡◌, ℕ, IfOk, IfErr, None, Some, [], Option};
+ghost use Rattle.std.specs.Option.{option_copied};
+ghost use Rattle.bus_batch.specs.Frames.{items_in};
+ghost use Rattle.bus_deliverylog.specs.Orders.{order_held};
+ghost use Rattle.bus_tenure.specs.declared.pages.Page.{Page};
 ghost use Rattle.bus_automaton.specs.ThreeWordBuses.{automaton, process};
-ghost use Rattle.bus_replica.specs.Openings.{AreNewReplicas, IsOpenFault, IsPairing};
+ghost use Rattle.bus_machine.specs.Playing.{RefusedWith};
+ghost use Rattle.bus_replica.specs.Openings.{AreNewReplicas, AreSizes, IsOpenFault, IsPairing};
 ghost use Rattle.bus_replica.specs.declared.opening.TheConstants.{LOG_WORDS};
 ghost use Rattle.bus_replica.specs.Openings.{replica_shape};
 
 use crate::faults::OpenFault;
+use crate::replaying::replayed;
 use crate::replicas::Replica;
 use crate::states::State;
 use bus_automaton::laws::threads_may_go_by;
+use bus_deliverylog::Order;
 use bus_handles::{
-    MOST_LOG_WORDS, MOST_SENDERS, ReceiverHandle, SenderHandle, Shape, ThreeWord, open_ring,
+    MOST_LOG_WORDS, MOST_SENDERS, MakeFault, Page, ReceiverHandle, SenderHandle, Shape, ThreeWord,
+    open_ring,
 };
 use bus_register::NoMemory;
 use bus_register::limits::MOST_FRAME_WORDS;
 use std::alloc::Global;
+use std::snapshot::Snapshot;
 
 /// How many words the log of `open_replicas` has.
 pub const LOG_WORDS: u64 = 32_768;
@@ -23,9 +32,9 @@ pub const LOG_WORDS: u64 = 32_768;
 /// Opens a bus for so many workers, 1 to 64, and gives each a replica of the first state. Its log
 /// is a ring of `LOG_WORDS` words.
 pub fn open_replicas<S: State>(alloc: Global, workers: u64) -> Result<Vec<Replica<S>>, OpenFault>
-    ensures opened { IfOk result (λ made.
-        AreNewReplicas process automaton S.is_first workers LOG_WORDS made.items) }
-    ensures fault { IfErr result (IsOpenFault workers LOG_WORDS) }
+    ensures opened { IfOk result (λ made. AreNewReplicas process automaton S.is_first S.applies
+        workers LOG_WORDS None [] made.items) }
+    ensures fault { IfErr result (IsOpenFault workers LOG_WORDS None) }
 {
     open_replicas_in(alloc, workers, LOG_WORDS)
 }
@@ -37,9 +46,43 @@ pub fn open_replicas_in<S: State>(
     workers: u64,
     log_words: u64,
 ) -> Result<Vec<Replica<S>>, OpenFault>
-    ensures opened { IfOk result (λ made.
-        AreNewReplicas process automaton S.is_first workers log_words made.items) }
-    ensures fault { IfErr result (IsOpenFault workers log_words) }
+    ensures opened { IfOk result (λ made. AreNewReplicas process automaton S.is_first S.applies
+        workers log_words None [] made.items) }
+    ensures fault { IfErr result (IsOpenFault workers log_words None) }
+{
+    open_behind(alloc, workers, log_words, None, &Order::new(alloc))
+}
+
+/// As `open_replicas_in`, of a sitting that goes on from what was recorded: with the numbers of
+/// this page, and each replica with the state that the operations of this order lead to. Each
+/// replays them by itself. Of a journal the page is that of `page_after`, and the order that of
+/// `read_journal`.
+pub fn open_recorded<S: State>(
+    alloc: Global,
+    workers: u64,
+    log_words: u64,
+    page: &Page,
+    order: &Order,
+) -> Result<Vec<Replica<S>>, OpenFault>
+    ensures opened { IfOk result (λ made. AreNewReplicas process automaton S.is_first S.applies
+        workers log_words (Some page.now) (items_in (order_held order.now).entries) made.items) }
+    ensures fault { IfErr result (IsOpenFault workers log_words (Some page.now)) }
+{
+    open_behind(alloc, workers, log_words, Some(page), order)
+}
+
+/// Replicas behind the operations of this order, with the numbers of this page, if of any.
+fn open_behind<S: State>(
+    alloc: Global,
+    workers: u64,
+    log_words: u64,
+    page: Option<&Page>,
+    order: &Order,
+) -> Result<Vec<Replica<S>>, OpenFault>
+    ensures opened { IfOk result (λ made. AreNewReplicas process automaton S.is_first S.applies
+        workers log_words (option_copied page.entry) (items_in (order_held order.now).entries)
+        made.items) }
+    ensures fault { IfErr result (IsOpenFault workers log_words (option_copied page.entry)) }
 {
     if workers < 1 || workers > MOST_SENDERS as u64 {
         return Err(OpenFault::Workers);
@@ -48,12 +91,25 @@ pub fn open_replicas_in<S: State>(
         return Err(OpenFault::LogWords);
     }
     let shape = shape_of(workers, log_words);
-    let Ok((senders, receivers)) = open_ring::<ThreeWord>(alloc, shape, None) else {
-        return Err(OpenFault::NoMemory);
-    };
-    match pair(alloc, shape, senders, receivers) {
-        Ok(replicas) => Ok(replicas),
-        Err(NoMemory) => Err(OpenFault::NoMemory),
+    match open_ring::<ThreeWord>(alloc, shape, page) {
+        Ok((senders, receivers)) => match pair(alloc, shape, page, order, senders, receivers) {
+            Ok(replicas) => Ok(replicas),
+            Err(NoMemory) => Err(OpenFault::NoMemory),
+        },
+        Err(why) => Err(fault_of(why)),
+    }
+}
+
+/// Why there are no replicas, where this is why there is no bus for them.
+fn fault_of(why: MakeFault) -> OpenFault
+    ensures { (workers words : ℕ) (page : Option Page) → AreSizes workers words
+        → RefusedWith workers (replica_shape workers words) (Some 8) page why
+        → IsOpenFault workers words page result }
+{
+    match why {
+        MakeFault::NotEnded => OpenFault::NotEnded,
+        MakeFault::Numbers => OpenFault::Numbers,
+        _ => OpenFault::NoMemory,
     }
 }
 
@@ -70,17 +126,23 @@ fn shape_of(workers: u64, log_words: u64) -> Shape
     }
 }
 
-/// A replica of the first state for each of these senders and receivers of one bus.
+/// A replica for each of these senders and receivers of one bus, of the state that the operations
+/// of this order lead to. The bus goes on with the numbers of this page, if of any.
 fn pair<S: State>(
     alloc: Global,
     shape: Shape,
+    page: Option<&Page>,
+    order: &Order,
     senders: Vec<SenderHandle<ThreeWord>>,
     receivers: Vec<ReceiverHandle<ThreeWord>>,
 ) -> Result<Vec<Replica<S>>, NoMemory>
-    requires { IsPairing process automaton S.is_first shape [] senders.items receivers.items }
-    ensures opened { IfOk result (λ made.
-        AreNewReplicas process automaton S.is_first shape.senders shape.log_words made.items) }
+    requires { IsPairing process automaton S.is_first S.applies shape (option_copied page)
+        (items_in (order_held order.now).entries) [] senders.items receivers.items }
+    ensures opened { IfOk result (λ made. AreNewReplicas process automaton S.is_first S.applies
+        shape.senders shape.log_words (option_copied page.entry)
+        (items_in (order_held order.now).entries) made.items) }
 {
+    let _ = page;
     threads_may_go_by::<ThreeWord>();
     let mut senders = senders.into_iter();
     let mut replicas = Vec::new(alloc);
@@ -89,8 +151,10 @@ fn pair<S: State>(
             unreachable!()
         };
         let bell = receiver.bell()?;
-        let state = S::first(alloc)?;
-        replicas.push(Replica::new(sender, receiver, state, shape.senders as u8, bell))?;
+        let state = replayed(alloc, order)?;
+        let snapshot = Snapshot::of(order);
+        let workers = shape.senders as u8;
+        replicas.push(Replica::new(sender, receiver, state, snapshot, workers, bell))?;
     }
     Ok(replicas)
 }

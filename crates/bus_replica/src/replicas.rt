@@ -5,12 +5,13 @@ ghost use Rattle.std.specs.Prelude.{◌++◌, length};
 ghost use Rattle.bus_register.specs.declared.limits.TheConstants.{MOST_BYTES, MOST_MESSAGES};
 ghost use Rattle.bus_automaton.specs.ThreeWordBuses.{process, Held};
 ghost use Rattle.bus_core.specs.Seen.{tenure_begun};
+ghost use Rattle.bus_pageslot.specs.Rule.{known_in, receiver_view_in};
 ghost use Rattle.bus_pageslot.specs.Seats.{table_of};
 ghost use Rattle.bus_pageslot.specs.Sendings.{waiting_of};
 ghost use Rattle.bus_replica.specs.Causes.{tells, IsCause, IsEndCause, RefusesLong, SaysStop};
 ghost use Rattle.bus_replica.specs.Replicas.{IsFold, StandsLast, PutsMore, PutsStay};
 ghost use Rattle.bus_replica.specs.Replicas.{PutsAll, PutsAllOrNone, PutsAtMostOnce};
-ghost use Rattle.bus_replica.specs.Replicas.{HasNobodyLeft};
+ghost use Rattle.bus_replica.specs.Replicas.{HasNobodyLeft, LeadTo, replayed_by, sitting_of};
 ghost use Rattle.bus_replica.specs.Replicas.{GoesOn, HasCaughtUp, HaveAllLeft, HasHeardAll};
 ghost use Rattle.bus_replica.specs.Replicas.{HearsOut, PutsStayLeaving, Replicated};
 
@@ -18,10 +19,12 @@ use crate::faults::Fault;
 use crate::states::State;
 use crate::workers::Worker;
 use bus_batch::Message;
+use bus_deliverylog::Order;
 use bus_handles::{ReceiverHandle, SenderHandle, SenderNo, ThreeWord};
 use bus_register::limits::MOST_BYTES;
 use bus_waiting::SharedBell;
 use std::marker::Model;
+use std::snapshot::Snapshot;
 use std::sync::Wait;
 
 /// A worker's replica of a state, with the sender and the receiver by which it takes part. One
@@ -51,20 +54,22 @@ impl<S: State> Replica<S> {
         sender: SenderHandle<ThreeWord>,
         receiver: ReceiverHandle<ThreeWord>,
         state: S,
+        replayed: Snapshot<Order>,
         workers: u8,
         bell: SharedBell,
     ) -> Replica<S>
         requires table { table_of sender ≡ receiver.bus.table }
         requires workers { workers ≡ receiver.bus.plan.shape.senders }
-        requires fold { IsFold S.is_first S.applies receiver.me.0 state }
+        requires fold { IsFold (LeadTo S.is_first S.applies (replayed_by replayed.value)) S.applies
+            receiver.me.0 state }
         requires nobody { HasNobodyLeft receiver.me.0 }
         ensures sender { result.sender ≡ sender }
-        ensures bus { result.bus ≡ receiver.bus }
+        ensures bus { result.bus ≡ sitting_of receiver.bus (replayed_by replayed.value) }
         ensures me { result.me ≡ receiver.me }
         ensures state { result.state ≡ state }
     {
         Replica {
-            worker: Worker::new(sender, receiver, state, workers),
+            worker: Worker::new(sender, receiver, state, replayed, workers),
             bell,
         }
     }
@@ -77,12 +82,27 @@ impl<S: State> Replica<S> {
     }
 
     /// The state by what this worker has applied so far: the fold of the operations that its
-    /// receiver was given, which begin the one order.
+    /// receiver was given, which begin the one order, behind those that were replayed.
     pub fn state(&self) -> &S
         ensures state { result.now ≡ self.now.state }
-        ensures fold { IsFold S.is_first S.applies self.now.me.0 self.now.state }
+        ensures fold { IsFold (LeadTo S.is_first S.applies self.now.bus.replayed) S.applies
+            self.now.me.0 self.now.state }
     {
         self.worker.state()
+    }
+
+    /// How many words of the log its receiver has read: all that it has applied of this sitting
+    /// stands in these (`words_hold_what_was_applied`). Behind `execute` they end with that
+    /// operation, and else may hold more, which it applies next.
+    ///
+    /// What `execute` answers, and what `state` shows, may be lost in a crash all the same, until a
+    /// journal has so many words on disk. So who tells somebody of it waits for that before. A
+    /// journal has whole frames, and so it may have to have some more.
+    pub fn words(&self) -> u64
+        ensures place { result ≡ (receiver_view_in self.now.me.0).place }
+        ensures within { result ≤ length (known_in self.now.me.0) }
+    {
+        self.worker.place()
     }
 
     /// Applies what has come. Says whether the order has ended. It waits for nobody.
@@ -197,8 +217,8 @@ impl<S: State> Replica<S> {
         ensures on { GoesOn self.old.me self.new.me }
         ensures executed { IfOk result (λ answer. (number : ℕ)
             × PutsMore process tells self.old.sender self.new.sender number op.now
-            × StandsLast S.is_first S.applies self.new.me.0 self.new.state
-            (process.me self.old.sender.core) number answer) }
+            × StandsLast (LeadTo S.is_first S.applies self.new.bus.replayed) S.applies
+            self.new.me.0 self.new.state (process.me self.old.sender.core) number answer) }
         ensures refused { OnErr result
             (PutsAtMostOnce process tells self.old.sender self.new.sender op.now) }
         ensures long { MOST_BYTES < length op.now
@@ -225,8 +245,8 @@ impl<S: State> Replica<S> {
         ensures on { GoesOn self.old.me self.new.me }
         ensures executed { IfOk result (λ answer. (number : ℕ)
             × PutsMore process tells self.old.sender self.new.sender number op.now
-            × StandsLast S.is_first S.applies self.new.me.0 self.new.state
-            (process.me self.old.sender.core) number answer) }
+            × StandsLast (LeadTo S.is_first S.applies self.new.bus.replayed) S.applies
+            self.new.me.0 self.new.state (process.me self.old.sender.core) number answer) }
         ensures refused { OnErr result
             (PutsAtMostOnce process tells self.old.sender self.new.sender op.now) }
         ensures long { MOST_BYTES < length op.now
@@ -299,8 +319,8 @@ impl<S: State> Replica<S> {
         ensures executed { IfOk result (λ answer. (number : ℕ)
             × PutsAll process tells self.old.sender self.new.sender number
             (before.now ++ op.now ∷ [])
-            × StandsLast S.is_first S.applies self.new.me.0 self.new.state
-            (process.me self.old.sender.core) number answer) }
+            × StandsLast (LeadTo S.is_first S.applies self.new.bus.replayed) S.applies
+            self.new.me.0 self.new.state (process.me self.old.sender.core) number answer) }
         ensures refused { OnErr result (PutsAllOrNone process tells self.old.sender
             self.new.sender (before.now ++ op.now ∷ [])) }
         ensures cause { IfErr result
@@ -357,7 +377,8 @@ impl<S: State> Replica<S> {
     /// As `leave`, and gives the state.
     pub fn finish<W: Wait>(self, wait: &W) -> Result<S, Fault>
         ensures heard { IfOk result (λ state.
-            HasHeardAll S.is_first S.applies self.bus.plan.shape.senders self.me state) }
+            HasHeardAll (LeadTo S.is_first S.applies self.bus.replayed) S.applies
+            self.bus.plan.shape.senders self.me state) }
         ensures cause { IfErr result (λ why. (last : Replicated Held S) × GoesOn self.me last.me
             × PutsStayLeaving process tells self.sender last.sender
             × IsEndCause process tells ⊥ self.bus.plan.shape.senders self last why) }
@@ -370,7 +391,8 @@ impl<S: State> Replica<S> {
     pub fn finish_while<W: Wait, F: FnMut() -> bool>(self, wait: &W, go_on: F) -> Result<S, Fault>
         requires callable { F.IsAlwaysCallable go_on }
         ensures heard { IfOk result (λ state.
-            HasHeardAll S.is_first S.applies self.bus.plan.shape.senders self.me state) }
+            HasHeardAll (LeadTo S.is_first S.applies self.bus.replayed) S.applies
+            self.bus.plan.shape.senders self.me state) }
         ensures cause { IfErr result (λ why. (last : Replicated Held S) × GoesOn self.me last.me
             × PutsStayLeaving process tells self.sender last.sender × IsEndCause process tells
             (SaysStop F.step go_on) self.bus.plan.shape.senders self last why) }
@@ -384,7 +406,8 @@ impl<S: State> Replica<S> {
     /// `finish`. Its receiver leaves.
     pub fn into_state(self) -> S
         ensures state { result ≡ self.state }
-        ensures fold { IsFold S.is_first S.applies self.me.0 self.state }
+        ensures fold { IsFold (LeadTo S.is_first S.applies self.bus.replayed) S.applies self.me.0
+            self.state }
     {
         let Replica { worker, .. } = self;
         worker.into_state()

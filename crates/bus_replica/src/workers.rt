@@ -6,13 +6,14 @@ ghost use Rattle.bus_batch.specs.Batches.{CanPut, IsPutFault, IsCloseFault};
 ghost use Rattle.bus_register.specs.declared.limits.TheConstants.{MOST_BYTES, MOST_MESSAGES};
 ghost use Rattle.bus_automaton.specs.ThreeWordBuses.{process};
 ghost use Rattle.bus_core.specs.Seen.{tenure_begun};
-ghost use Rattle.bus_pageslot.specs.Rule.{receiver_view_in};
+ghost use Rattle.bus_pageslot.specs.Rule.{known_in, receiver_view_in};
 ghost use Rattle.bus_pageslot.specs.Seats.{table_of};
 ghost use Rattle.bus_pageslot.specs.Sendings.{waiting_of};
 ghost use Rattle.bus_replica.specs.Causes.{tells, HearsEnd, IsCause, IsEndCause, RefusesPut};
 ghost use Rattle.bus_replica.specs.Causes.{SaysOn, SaysStop, WasAnswered};
 ghost use Rattle.bus_replica.specs.Replicas.{IsFold, StandsLast, PutsAll, PutsNow, PutsStay};
 ghost use Rattle.bus_replica.specs.Replicas.{PutsAllOrNone, IsOpenWith};
+ghost use Rattle.bus_replica.specs.Replicas.{LeadTo, replayed_by, sitting_of};
 ghost use Rattle.bus_replica.specs.Replicas.{GoesOn, HasCaughtUp, HaveAllLeft, HearsOut};
 ghost use Rattle.bus_replica.specs.Replicas.{HasNobodyLeft, has_heard_leave};
 ghost use Rattle.bus_replica.specs.Replicas.{PutsStayLeaving, Replicated};
@@ -23,11 +24,13 @@ use crate::hearers::Hearer;
 use crate::states::State;
 use bus_automaton::laws::threads_may_go_by;
 use bus_batch::Message;
+use bus_deliverylog::Order;
 use bus_handles::{CloseFault, PutFault, ReceiverHandle, SenderHandle, SenderNo, ThreeWord, Turn};
 use bus_pageslot::sending_laws::senders_stay_who_they_are;
 use bus_register::limits::{MOST_BYTES, MOST_MESSAGES};
 use bus_waiting::Waiter;
 use std::marker::Model;
+use std::snapshot::Snapshot;
 use std::sync::Wait;
 use std::thread;
 
@@ -68,20 +71,22 @@ impl<S: State> Worker<S> {
         sender: SenderHandle<ThreeWord>,
         receiver: ReceiverHandle<ThreeWord>,
         state: S,
+        replayed: Snapshot<Order>,
         workers: u8,
     ) -> Worker<S>
         requires table { table_of sender ≡ receiver.bus.table }
         requires workers { workers ≡ receiver.bus.plan.shape.senders }
-        requires fold { IsFold S.is_first S.applies receiver.me.0 state }
+        requires fold { IsFold (LeadTo S.is_first S.applies (replayed_by replayed.value)) S.applies
+            receiver.me.0 state }
         requires nobody { HasNobodyLeft receiver.me.0 }
         ensures sender { result.sender ≡ sender }
-        ensures bus { result.bus ≡ receiver.bus }
+        ensures bus { result.bus ≡ sitting_of receiver.bus (replayed_by replayed.value) }
         ensures me { result.me ≡ receiver.me }
         ensures state { result.state ≡ state }
     {
         Worker {
             sender,
-            hearer: Hearer::new(receiver, state),
+            hearer: Hearer::new(receiver, state, replayed),
             workers,
             is_full: false,
             is_leaving: false,
@@ -97,7 +102,8 @@ impl<S: State> Worker<S> {
 
     /// How many words its receiver has read.
     pub(crate) fn place(&self) -> u64
-        ensures { result ≡ (receiver_view_in self.now.me.0).place }
+        ensures place { result ≡ (receiver_view_in self.now.me.0).place }
+        ensures within { result ≤ length (known_in self.now.me.0) }
     {
         self.hearer.place()
     }
@@ -105,7 +111,8 @@ impl<S: State> Worker<S> {
     /// The state by what it has applied so far.
     pub(crate) fn state(&self) -> &S
         ensures state { result.now ≡ self.now.state }
-        ensures fold { IsFold S.is_first S.applies self.now.me.0 self.now.state }
+        ensures fold { IsFold (LeadTo S.is_first S.applies self.now.bus.replayed) S.applies
+            self.now.me.0 self.now.state }
     {
         self.hearer.state()
     }
@@ -113,7 +120,8 @@ impl<S: State> Worker<S> {
     /// The state, without the sender and the receiver, which leaves.
     pub(crate) fn into_state(self) -> S
         ensures state { result ≡ self.state }
-        ensures fold { IsFold S.is_first S.applies self.me.0 self.state }
+        ensures fold { IsFold (LeadTo S.is_first S.applies self.bus.replayed) S.applies self.me.0
+            self.state }
     {
         let Worker { hearer, .. } = self;
         hearer.into_state()
@@ -156,8 +164,8 @@ impl<S: State> Worker<S> {
         ensures executed { IfOk result (λ answer. (number : ℕ)
             × PutsAll process tells self.old.sender self.new.sender number
             (before.now ++ op.now ∷ [])
-            × StandsLast S.is_first S.applies self.new.me.0 self.new.state
-            (process.me self.old.sender.core) number answer) }
+            × StandsLast (LeadTo S.is_first S.applies self.new.bus.replayed) S.applies
+            self.new.me.0 self.new.state (process.me self.old.sender.core) number answer) }
         ensures refused { OnErr result (PutsAllOrNone process tells self.old.sender
             self.new.sender (before.now ++ op.now ∷ [])) }
         ensures cause { IfErr result
@@ -475,7 +483,8 @@ impl<S: State> Worker<S> {
         ensures sender { self.new.sender ≡ self.old.sender }
         ensures on { GoesOn self.old.me self.new.me }
         ensures stands { IfOk result (λ found. IfSome found (λ answer.
-            StandsLast S.is_first S.applies self.new.me.0 self.new.state worker.0 number answer)) }
+            StandsLast (LeadTo S.is_first S.applies self.new.bus.replayed) S.applies self.new.me.0
+            self.new.state worker.0 number answer)) }
         ensures ended { IfErr result
             (λ why. (why ≡ Fault.Ended) × HearsEnd self.old.me self.new.me) }
     {

@@ -12,10 +12,12 @@ use Rattle.bus_replica.proofs.LongLaws.{AreBelow, functions_long}
 use Rattle.bus_replica.proofs.LongOrders.{long_on, long_read, long_whole}
 use Rattle.bus_replica.proofs.LongTables.{all_below, executed_long, senders_are}
 use Rattle.bus_replica.proofs.ReadLaws.{read}
+use Rattle.bus_replica.proofs.RecordedLaws.{fold_first, stands_first}
 use Rattle.bus_replica.proofs.long_laws.long_operations_are_linearizable.Goals as goal
 
 pub returns-clause-executes : goal.returns-clause-executes
-returns-clause-executes g c = λ plan s t h k few.
+returns-clause-executes g c =
+    λ plan s t h k few on old new before number bytes answer j sits sits' at are short put last.
     executed_long g.S.State.is_first g.S.State.applies process tells (automaton plan)
     c.threads_may_go_by.ensures.process (c.threads_may_go_by.ensures.automaton plan)
     (record {
@@ -26,6 +28,9 @@ returns-clause-executes g c = λ plan s t h k few.
     })
     s t h k
     (let same = senders_are plan in omega (arith, few, same))
+    on old new before number bytes answer j sits sits' at are short put
+    (stands_first (IsFirstLong g.S.State.is_first) (AppliesLong g.S.State.applies) new.me.0
+    new.state (process.me old.sender.core) number answer last)
 
 pub returns-clause-orders : goal.returns-clause-orders
 returns-clause-orders g c = λ plan s t h k on.
@@ -62,7 +67,8 @@ returns-clause-reads g c = λ plan s m t h k few on on' old new j at caught load
     h.order k.order new.state
     (read (IsFirstLong g.S.State.is_first) (AppliesLong g.S.State.applies) process (automaton plan)
     s m t (c.seats_keep_promises.ensures plan m.table m.rule) h k on on' old new j at caught loaded
-    fold)
+    (fold_first (IsFirstLong g.S.State.is_first) (AppliesLong g.S.State.applies) new.me.0 new.state
+    fold))
     below
 
 pub returns-clause-whole : goal.returns-clause-whole

@@ -1,12 +1,13 @@
 use Rattle.std.proofs.Common.{◌∙◌, rules}
-use Rattle.bus_replica.specs.Replicas.{Here}
+use Rattle.bus_replica.specs.Replicas.{Here, LeadTo, replayed_by}
 use Rattle.bus_replica.proofs.GoingLaws.{goes_by}
 use Rattle.bus_replica.proofs.LeavingLaws.{hearing_told}
 use Rattle.bus_replica.proofs.hearers.Hearer.catch_up.Goals as goal
 
 pub invariant_of-self : goal.invariant_of-self
 invariant_of-self g c =
-    hearing_told g.S.State.is_first g.S.State.applies c.self.inside.receiver.me c.told.new.self.me
+    hearing_told (LeadTo g.S.State.is_first g.S.State.applies
+    (replayed_by c.self.inside.replayed.value)) g.S.State.applies c.self.inside.receiver.me c.told.new.self.me
     c.self.inside.state c.self.inside.left c.self.invariant c.told.ensures.told.got
     c.told.ensures.told.learns
 

@@ -11,7 +11,7 @@ returns-clause-executed g c =
     (executed_settled g.S.State.is_first g.S.State.applies process tells c.self.inside.worker
     c.execute-answered.new.self c.settle.new.self (c.args.before.now ++ c.args.op.now ∷ [])
     (process.me c.self.inside.worker.sender.core) c.execute-answered.result
-    c.settle.ensures.puts c.settle.ensures.me.0 c.settle.ensures.me.1
+    c.settle.ensures.puts c.settle.ensures.bus c.settle.ensures.me.0 c.settle.ensures.me.1
     c.execute-answered.ensures.executed)
 
 pub returns-clause-refused : goal.returns-clause-refused

@@ -1,14 +1,17 @@
 use Rattle.std.proofs.Common.{◌≡◌, refl, sym, ap, subst, arith}
 use Rattle.bus_world.specs.declared.shapes.Shape.{Shape}
 use Rattle.bus_automaton.specs.ThreeWordBuses.{automaton, process}
+use Rattle.std.specs.Option.{option_copied}
 use Rattle.bus_replica.specs.Openings.{replica_shape}
+use Rattle.bus_replica.specs.Replicas.{replayed_by}
 use Rattle.bus_replica.proofs.OpeningLaws.{none_made}
-use Rattle.bus_replica.proofs.opening.open_replicas_in.Goals as goal
+use Rattle.bus_replica.proofs.opening.open_behind.Goals as goal
 
 pub pair-requires : goal.pair-requires
 pair-requires g c =
     let is = c.shape_of-shape.ensures in
-    none_made process automaton g.S.State.is_first c.shape_of-shape.result
+    none_made process automaton g.S.State.is_first g.S.State.applies c.shape_of-shape.result
+    (option_copied c.args.page) (replayed_by c.args.order.now)
     c.in-Ok.senders.items c.in-Ok.receivers.items c.in-Ok.ensures.opened
     (subst (λ (x : Shape). x ≡ replica_shape x.senders x.log_words) (sym is) refl)
     (let same = ap (λ (x : Shape). x.senders) is in

@@ -1,0 +1,39 @@
+//! The state that the operations of an order lead to.
+
+ghost use Rattle.std.specs.Prelude.{IfOk};
+ghost use Rattle.bus_batch.specs.Frames.{items_in};
+ghost use Rattle.bus_deliverylog.specs.Orders.{order_held};
+ghost use Rattle.bus_replica.specs.Replicas.{Folds, LeadTo};
+
+use crate::states::State;
+use bus_deliverylog::Order;
+use bus_deliverylog::laws::merged_is_one_list;
+use std::alloc::{AllocError, Global};
+
+/// Applies all operations of an order to a state, one after another: of `read.log.order` of what
+/// `read_journal` gave, or of `read.order` of what `read_log` gave. What they answer is lost.
+///
+/// It has no fault. Bytes and words that are no log, and memory that is refused, are faults of
+/// these two, which give no order then. A journal that is damaged tells what stands before: so ask
+/// `page_after` first, which refuses it.
+///
+/// Several journals, one of each sitting, are replayed in their order by a call for each. A state
+/// of long operations is replayed as `Long` of it.
+pub fn replay<S: State>(state: &mut S, order: &Order)
+    ensures { Folds S.applies state.old (items_in (order_held order.now).entries) state.new }
+{
+    merged_is_one_list();
+    for item in &order.items {
+        let _ = state.apply(item.sender, item.message.as_slice());
+    }
+}
+
+/// The state that the operations of an order lead to from a first one.
+pub(crate) fn replayed<S: State>(alloc: Global, order: &Order) -> Result<S, AllocError>
+    ensures { IfOk result
+        (LeadTo S.is_first S.applies (items_in (order_held order.now).entries)) }
+{
+    let mut state = S::first(alloc)?;
+    replay(&mut state, order);
+    Ok(state)
+}
