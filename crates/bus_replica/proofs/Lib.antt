@@ -47,3 +47,5 @@ pub mod TableLaws
 pub mod TimeLaws
 -- A sitting goes on from what was replayed, and what was written into a journal is replayed.
 pub mod RecordedLaws
+-- The next numbers behind a journal, item by item.
+pub mod PageLaws

@@ -7,4 +7,5 @@ pub mod Longs
 pub mod Histories
 pub mod Moments
 pub mod Openings
+pub mod Pages
 pub mod Sittings

@@ -10,7 +10,7 @@ ghost use Rattle.bus_batch.specs.Frames.{Order, items_in};
 ghost use Rattle.bus_replica.specs.Histories.{AreDoneBy, AreInTurn, AreMoments, Call};
 ghost use Rattle.bus_replica.specs.Histories.{IsLinearizable};
 ghost use Rattle.bus_replica.specs.OneOrder.{AreFunctions};
-ghost use Rattle.bus_replica.specs.Replicas.{Folds, IsFold};
+ghost use Rattle.bus_replica.specs.Replicas.{Folds, IsFold, LeadTo};
 ghost use Rattle.example_ledger.specs.Transfers.{after_transfer, message_of, money, CanBePaid};
 ghost use Rattle.example_ledger.specs.Transfers.{IsFirst, Applies};
 
@@ -115,20 +115,24 @@ pub fn no_money_is_made_or_lost()
 {}
 
 /// A transfer has one outcome, and there is one first ledger. So any history of calls of ledgers is
-/// linearizable whose calls are done between moments of one order, as `bus_replica` says.
+/// linearizable whose calls are done between moments of one order, as `bus_replica` says, from what
+/// the replayed transfers lead to, if any were replayed.
 pub fn ledgers_are_linearizable()
     ensures functions { AreFunctions IsFirst Applies }
-    ensures histories { (orders : ℕ → Order) (last : ℕ) (calls : List (Call (List ℕ) Bool))
-        → AreMoments orders → AreDoneBy IsFirst Applies orders last calls → AreInTurn calls
-        → IsLinearizable IsFirst Applies (items_in (orders last).entries) calls }
+    ensures histories { (replayed : List Item) (first : List ℕ) (orders : ℕ → Order) (last : ℕ)
+        (calls : List (Call (List ℕ) Bool)) → LeadTo IsFirst Applies replayed first
+        → AreMoments orders → AreDoneBy (LeadTo IsFirst Applies replayed) Applies orders last calls
+        → AreInTurn calls → IsLinearizable (LeadTo IsFirst Applies replayed) Applies
+        (items_in (orders last).entries) calls }
 {
     histories_are_linearizable::<Ledger>();
 }
 
 /// What the accounts of a replica have: all the money, at any time. It is what the transfers lead
-/// to that it was given.
+/// to that were replayed and that it was given.
 fn balances_of(replica: &Replica<Ledger>) -> [u64; 4]
-    ensures fold { IsFold IsFirst Applies replica.now.me.0 result }
+    ensures fold { IsFold (LeadTo IsFirst Applies replica.now.bus.replayed) Applies
+        replica.now.me.0 result }
     ensures all { sum result ≡ money }
 {
     replica.state().balances
