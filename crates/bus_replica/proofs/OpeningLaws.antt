@@ -73,7 +73,8 @@ all_at So xs all k x at = subst (λ z. So z) (get_or_from_slice_get xs k x x at)
     (all k x (slice_get_within xs k x at))
 
 module _ {C S Answer : Type 0} (P : Process C) (A : Plan → Automaton C) (IsFirst : S → Type 0)
-    (Applies : Operations S Answer) (shape : Shape) (page : Option Page) (replayed : List Item) where
+    (Applies : Operations S Answer) (shape : Shape) (page : Option Page)
+    (replayed : List Item) where
   -- the handles of a bus that was opened
   pub none_made : (senders : List (SenderSeat C)) (receivers : List (SeatOfBus C))
       → IsOpened P (A (ring_plan shape page)) (ring_plan shape page) senders receivers

@@ -183,32 +183,41 @@ module _ {S A : Type 0} (IsFirst : S → Type 0) (Applies : Operations S A) wher
     one_next = F.one_next;
   }
 
-  -- what was written comes first in what is told
-  written : (old new : Order) (more : List Item) → IsPrefixOfOrder old new
-      → IsPrefix (items_in old.entries) (items_in new.entries ++ more)
-  written old new more p = record {
-    rest = items_in p.later ++ more;
-    together =
-        sym (append_assoc (items_in old.entries) (items_in p.later) more)
-        ∙ ap (λ z. z ++ more) (sym (flat_map-append item_of_entry old.entries p.later)
-        ∙ ap items_in (sym p.entries));
-  }
+  -- what was replayed before, and was written, comes first in all that is replayed
+  written : (before : List Item) (old new : Order) (more : List Item) → IsPrefixOfOrder old new
+      → IsPrefix (items_in (behind before old).entries)
+      ((before ++ items_in new.entries) ++ more)
+  written before old new more p =
+      let olds = items_in old.entries in
+      let later = items_in p.later in
+      let told : items_in new.entries ≡ olds ++ later =
+      ap items_in p.entries ∙ flat_map-append item_of_entry old.entries p.later in
+      record {
+        rest = later ++ more;
+        together =
+            ap (λ z. z ++ (later ++ more)) (items_behind before old)
+            ∙ sym (append_assoc (before ++ olds) later more)
+            ∙ ap (λ z. z ++ more) (append_assoc before olds later
+            ∙ ap (λ z. before ++ z) (sym told));
+      }
 
-  pub recorded_executed : (order told earlier later : Order) (worker number : ℕ) (bytes : List ℕ)
-      (answer : A) (state : S) → IsPrefixOfOrder order told
-      → IsLinearized (LeadTo IsFirst Applies (items_in told.entries)) Applies earlier later worker
-      number bytes answer state → IsLinearized IsFirst Applies order
-      (behind (items_in told.entries) later) worker number bytes answer state
-  recorded_executed order told earlier later worker number bytes answer state p l =
-      executed_behind (items_in told.entries) earlier later order worker number bytes answer state
-      l (written order told l.before p)
+  pub recorded_executed : (before : List Item) (order told earlier later : Order)
+      (worker number : ℕ) (bytes : List ℕ) (answer : A) (state : S) → IsPrefixOfOrder order told
+      → IsLinearized (LeadTo IsFirst Applies (before ++ items_in told.entries)) Applies earlier
+      later worker number bytes answer state → IsLinearized IsFirst Applies (behind before order)
+      (behind (before ++ items_in told.entries) later) worker number bytes answer state
+  recorded_executed before order told earlier later worker number bytes answer state p l =
+      executed_behind (before ++ items_in told.entries) earlier later (behind before order) worker
+      number bytes answer state l (written before order told l.before p)
 
-  pub recorded_read : (order told earlier later : Order) (state : S) → IsPrefixOfOrder order told
-      → IsRead (LeadTo IsFirst Applies (items_in told.entries)) Applies earlier later state
-      → IsRead IsFirst Applies order (behind (items_in told.entries) later) state
-  recorded_read order told earlier later state p l =
-      read_behind (items_in told.entries) earlier later order state l
-      (written order told l.items p)
+  pub recorded_read : (before : List Item) (order told earlier later : Order) (state : S)
+      → IsPrefixOfOrder order told
+      → IsRead (LeadTo IsFirst Applies (before ++ items_in told.entries)) Applies earlier later
+      state → IsRead IsFirst Applies (behind before order)
+      (behind (before ++ items_in told.entries) later) state
+  recorded_read before order told earlier later state p l =
+      read_behind (before ++ items_in told.entries) earlier later (behind before order) state l
+      (written before order told l.items p)
 
 -- where nothing was replayed
 none_led : {S A : Type 0} (IsFirst : S → Type 0) (Applies : Operations S A) (items : List Item)

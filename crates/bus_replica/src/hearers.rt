@@ -150,8 +150,8 @@ impl<S: State> Hearer<S> {
         self.left[usize::from(worker.0)]
     }
 
-    /// One turn of the receiver or more: all but the last take words that say nothing by themselves.
-    /// An operation that is heard is written in the item's place, and applied.
+    /// One turn of the receiver or more: all but the last take words that say nothing by
+    /// themselves. An operation that is heard is written in the item's place, and applied.
     pub fn turn(&mut self, item: &mut Item) -> Applied<S::Answer>
         ensures bus { self.new.bus ≡ self.old.bus }
         ensures takes { TakesIn S.applies self.old result self.new }

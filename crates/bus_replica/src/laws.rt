@@ -139,8 +139,8 @@ pub fn replicas_are_linearizable<S: State>()
     ensures reads { (plan : Plan) (s m t : RuledTable process (automaton plan)) (h : PageOf s)
         (k : PageOf t) → IsPrefix (published s) (published m)
         → IsPrefix (published m) (published t) → (old new : Replicated Held S) (j : ℕ)
-        (replayed : List Item) → get_elem? t.table.views j ≡ some new.me.0 → (caught : HasCaughtUp old.me new.me)
-        → caught.got ≡ slice_index m.table.words length_at
+        (replayed : List Item) → get_elem? t.table.views j ≡ some new.me.0
+        → (caught : HasCaughtUp old.me new.me) → caught.got ≡ slice_index m.table.words length_at
         → IsFold (LeadTo S.is_first S.applies replayed) S.applies new.me.0 new.state
         → IsRead (LeadTo S.is_first S.applies replayed) S.applies h.order k.order new.state }
 {

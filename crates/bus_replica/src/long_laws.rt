@@ -1,7 +1,7 @@
 //! What holds of long operations: each stands whole at the place of its last piece.
 
-ghost use Rattle.std.specs.Prelude.{◌≡◌, ℕ, ◌≤◌, List, [], All, ◌++◌, Option, Some, length, flat_map};
-ghost use Rattle.std.specs.Prelude.{slice_index};
+ghost use Rattle.std.specs.Prelude.{◌≡◌, ℕ, ◌≤◌, List, [], All, ◌++◌, Option, Some, length};
+ghost use Rattle.std.specs.Prelude.{flat_map, slice_index};
 ghost use mathlib.Core.Option.{some};
 ghost use lib.ListN.{get_elem?};
 ghost use Rattle.bus_batch.specs.Frames.{items_in};

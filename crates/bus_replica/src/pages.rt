@@ -22,7 +22,8 @@ impl fmt::Display for DamagedJournal {
     }
 }
 
-ghost use Rattle.bus_replica.specs.Pages.{IsPageBehind, MayMissFrames, next_behind, next_behind_one};
+ghost use Rattle.bus_replica.specs.Pages.{IsPageBehind, MayMissFrames, next_behind};
+ghost use Rattle.bus_replica.specs.Pages.{next_behind_one};
 
 /// The page with which the next sitting goes on: of each sender the number behind the last one that
 /// the journal told, or its first one. What a torn end has lost was on disk for nobody, and its

@@ -53,27 +53,30 @@ pub fn sittings_are_one<S: State>()
         → AreFunctions (LeadTo S.is_first S.applies replayed) S.applies }
 {}
 
-/// What was on disk before a crash stands before all that is executed after it. Of a journal in
-/// which these frames were written, whatever bytes follow them, and of whatever `read_journal` may
-/// answer of it: each execution of a sitting that goes on from that answer stands in the order of
-/// both, behind all that the frames say. Each read shows all of that, and then what it shows of its
-/// own sitting.
+/// What was on disk before a crash stands before all that is executed after it. Of the journal of a
+/// sitting, in which these frames were written, whatever bytes follow them, and of whatever
+/// `read_journal` may answer of it, behind what was replayed of the sittings before: each execution
+/// of a sitting that goes on from all that stands in the order of all sittings, behind all that was
+/// replayed before and that the frames say. Each read shows all of that, and then what it shows of
+/// its own sitting.
 pub fn what_was_recorded_stands_before<S: State>()
-    ensures executes { (h : Heading) (frames : List Frame) (tail bytes : List ℕ)
-        (told : List Frame) (a : Answer) → IsHeading h → AreFrames h.senders frames
-        → AreFew h.most frames → bytes ≡ journal_bytes h frames ++ tail → Reads bytes told a
-        → (earlier later : Order) (worker number : ℕ) (operation : List ℕ) (answer : S.Answer)
-        (state : S) → IsLinearized (LeadTo S.is_first S.applies (items_in a.order.entries))
+    ensures executes { (before : List Item) (h : Heading) (frames : List Frame)
+        (tail bytes : List ℕ) (told : List Frame) (a : Answer) → IsHeading h
+        → AreFrames h.senders frames → AreFew h.most frames
+        → bytes ≡ journal_bytes h frames ++ tail → Reads bytes told a → (earlier later : Order)
+        (worker number : ℕ) (operation : List ℕ) (answer : S.Answer) (state : S)
+        → IsLinearized (LeadTo S.is_first S.applies (before ++ items_in a.order.entries))
         S.applies earlier later worker number operation answer state
-        → IsLinearized S.is_first S.applies (order_of frames)
-        (behind (items_in a.order.entries) later) worker number operation answer state }
-    ensures reads { (h : Heading) (frames : List Frame) (tail bytes : List ℕ)
-        (told : List Frame) (a : Answer) → IsHeading h → AreFrames h.senders frames
-        → AreFew h.most frames → bytes ≡ journal_bytes h frames ++ tail → Reads bytes told a
-        → (earlier later : Order) (state : S)
-        → IsRead (LeadTo S.is_first S.applies (items_in a.order.entries)) S.applies earlier later
-        state → IsRead S.is_first S.applies (order_of frames)
-        (behind (items_in a.order.entries) later) state }
+        → IsLinearized S.is_first S.applies (behind before (order_of frames))
+        (behind (before ++ items_in a.order.entries) later) worker number operation answer state }
+    ensures reads { (before : List Item) (h : Heading) (frames : List Frame)
+        (tail bytes : List ℕ) (told : List Frame) (a : Answer) → IsHeading h
+        → AreFrames h.senders frames → AreFew h.most frames
+        → bytes ≡ journal_bytes h frames ++ tail → Reads bytes told a → (earlier later : Order)
+        (state : S) → IsRead (LeadTo S.is_first S.applies (before ++ items_in a.order.entries))
+        S.applies earlier later state → IsRead S.is_first S.applies
+        (behind before (order_of frames)) (behind (before ++ items_in a.order.entries) later)
+        state }
 {
     written_journals_are_read();
 }

@@ -1,11 +1,12 @@
 //! The state that the operations of an order lead to.
 
-ghost use Rattle.std.specs.Prelude.{IfOk};
+ghost use Rattle.std.specs.Prelude.{◌≡◌, ◌++◌, IfOk, OnErr, OnOk, length, take};
 ghost use Rattle.bus_batch.specs.Frames.{items_in};
 ghost use Rattle.bus_deliverylog.specs.Orders.{order_held};
 ghost use Rattle.bus_replica.specs.Replicas.{Folds, LeadTo};
 
 use crate::states::State;
+use bus_batch::Item;
 use bus_deliverylog::Order;
 use bus_deliverylog::laws::merged_is_one_list;
 use std::alloc::{AllocError, Global};
@@ -17,8 +18,8 @@ use std::alloc::{AllocError, Global};
 /// these two, which give no order then. A journal that is damaged tells what stands before: so ask
 /// `page_after` first, which refuses it.
 ///
-/// Several journals, one of each sitting, are replayed in their order by a call for each. A state
-/// of long operations is replayed as `Long` of it.
+/// Several journals, one of each sitting, are replayed in their order by a call for each, or as one
+/// order that `append` has made of theirs. A state of long operations is replayed as `Long` of it.
 pub fn replay<S: State>(state: &mut S, order: &Order)
     ensures { Folds S.applies state.old (items_in (order_held order.now).entries) state.new }
 {
@@ -26,6 +27,34 @@ pub fn replay<S: State>(state: &mut S, order: &Order)
     for item in &order.items {
         let _ = state.apply(item.sender, item.message.as_slice());
     }
+}
+
+/// Puts the items of an order behind those of another, so that `open_recorded` replays those of
+/// several journals. Leave marks and the end are left out. Where memory is refused nothing changes.
+pub fn append(order: &mut Order, more: &Order) -> Result<(), AllocError>
+    ensures joined { OnOk result (items_in (order_held order.new).entries
+        ≡ items_in (order_held order.old).entries ++ items_in (order_held more.now).entries) }
+    ensures refused { OnErr result (items_in (order_held order.new).entries
+        ≡ items_in (order_held order.old).entries) }
+{
+    merged_is_one_list();
+    let before = order.items.len();
+    let pushed = push_all(&mut order.items, &more.items);
+    if pushed.is_err() {
+        order.items.truncate(before);
+    }
+    pushed
+}
+
+/// Puts items behind others. Where memory is refused some of them may stand there.
+fn push_all(items: &mut Vec<Item>, more: &[Item]) -> Result<(), AllocError>
+    ensures ok { OnOk result (items.new.items ≡ items.old.items ++ more.now) }
+    ensures kept { take (length items.old.items) items.new.items ≡ items.old.items }
+{
+    for item in more {
+        items.push(item.copied())?;
+    }
+    Ok(())
 }
 
 /// The state that the operations of an order lead to from a first one.

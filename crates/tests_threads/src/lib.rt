@@ -1,6 +1,6 @@
 //! Tests of the bus for threads: its turns beside a machine's, its seats, its receivers and their
-//! forks, its replicas, their long operations and whole runs. They stand above the crates that they
-//! test, so that none of those is proved once more for its tests.
+//! forks, its replicas, those that go on from a journal, their long operations and whole runs. They
+//! stand above the crates that they test, so that none of those is proved once more for its tests.
 #![tactic(auto)]
 
 #[cfg(test)]
@@ -13,6 +13,8 @@ mod games;
 mod long;
 #[cfg(test)]
 mod receivers;
+#[cfg(test)]
+mod recorded;
 #[cfg(test)]
 mod replicas;
 #[cfg(test)]

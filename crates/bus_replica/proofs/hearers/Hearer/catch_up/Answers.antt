@@ -7,7 +7,8 @@ use Rattle.bus_replica.proofs.hearers.Hearer.catch_up.Goals as goal
 pub invariant_of-self : goal.invariant_of-self
 invariant_of-self g c =
     hearing_told (LeadTo g.S.State.is_first g.S.State.applies
-    (replayed_by c.self.inside.replayed.value)) g.S.State.applies c.self.inside.receiver.me c.told.new.self.me
+    (replayed_by c.self.inside.replayed.value)) g.S.State.applies c.self.inside.receiver.me
+    c.told.new.self.me
     c.self.inside.state c.self.inside.left c.self.invariant c.told.ensures.told.got
     c.told.ensures.told.learns
 
