@@ -299,7 +299,7 @@ static void tell(uint32_t code) {
     static const char *const ends[] = {"whole", "torn", "damaged"};
     struct state state = none;
     uint64_t hash = none.hash, frames = 0, words[JOURNAL_WORDS];
-    kioskbasil_left page;
+    kioskbasil_left page = {0};
     for (; code == KIOSKBASIL_OK; frames += code == KIOSKBASIL_OK) {
         code = kioskbasil_journal_read(&reader);
         if (code != KIOSKBASIL_OK) break;

@@ -76,7 +76,7 @@ fn recover(folder: &str) -> Result<(State, Page, String), Fault> {
             return Err(format!("{path} does not go on from the file before").into());
         }
         read.items().for_each(|item| state.apply(item));
-        page = read.page()?;
+        page = read.page_after(&page)?;
     }
     unreachable!("all numbers have a file")
 }

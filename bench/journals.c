@@ -14,9 +14,9 @@
 
 /* ---- the calls of the system */
 
-enum call { OPEN, WRITE, FSYNC, FDATASYNC, RENAME, READ, FSTAT, FTRUNCATE, CLOSE, CALLS };
+enum call { OPEN, WRITE, FSYNC, FDATASYNC, LINK, READ, FSTAT, FTRUNCATE, CLOSE, CALLS };
 
-static const char *const names[] = {"open", "write", "fsync", "fdatasync", "rename",
+static const char *const names[] = {"open", "write", "fsync", "fdatasync", "link",
                                     "read", "fstat", "ftruncate", "close"};
 
 static struct {
@@ -25,6 +25,8 @@ static struct {
     uint64_t from;  /* from which of its calls on; 0 for none, */
     bool once;      /* only that one, */
     int why;        /* and by which errno */
+    bool no_sync;   /* each fdatasync fails too */
+    const char *grows; /* the file of this name, by a byte behind the last read of it */
     size_t most;    /* bytes of a read or write; 0 where there is no such limit */
     enum call order[16]; /* the first calls, */
     size_t many;         /* and how many there were */
@@ -49,13 +51,21 @@ static ssize_t seam_write(int file, const void *bytes, size_t many) {
     return fails(WRITE) ? -1 : write(file, bytes, cut_short(many));
 }
 static ssize_t seam_read(int file, void *bytes, size_t many) {
-    return fails(READ) ? -1 : read(file, bytes, cut_short(many));
+    ssize_t more = fails(READ) ? -1 : read(file, bytes, cut_short(many));
+    if (!more && seam.grows) {
+        int other = open(seam.grows, O_WRONLY | O_APPEND);
+        EXPECT(write(other, "x", 1), 1);
+        close(other);
+    }
+    return more;
 }
 /* No sync is done: nothing here looks at a disk. */
 static int seam_fsync(int file) { return fails(FSYNC) || file < 0 ? -1 : 0; }
-static int seam_fdatasync(int file) { return fails(FDATASYNC) || file < 0 ? -1 : 0; }
-static int seam_rename(const char *from, const char *to) {
-    return fails(RENAME) ? -1 : rename(from, to);
+static int seam_fdatasync(int file) {
+    return fails(FDATASYNC) || seam.no_sync || file < 0 ? -1 : 0;
+}
+static int seam_link(const char *from, const char *to) {
+    return fails(LINK) ? -1 : link(from, to);
 }
 static int seam_fstat(int file, struct stat *found) {
     return fails(FSTAT) ? -1 : fstat(file, found);
@@ -73,7 +83,7 @@ static int seam_close(int file) {
 #define read seam_read
 #define fsync seam_fsync
 #define fdatasync seam_fdatasync
-#define rename seam_rename
+#define link seam_link
 #define fstat seam_fstat
 #define ftruncate seam_ftruncate
 #define close seam_close
@@ -83,7 +93,7 @@ static int seam_close(int file) {
 #undef read
 #undef fsync
 #undef fdatasync
-#undef rename
+#undef link
 #undef fstat
 #undef ftruncate
 #undef close
@@ -290,7 +300,7 @@ static void other_frames(void) {
 /* Nothing of who has left is the next, and nothing behind the end. */
 static void marks(void) {
     struct kioskbasil_frame mark = frames[0];
-    kioskbasil_left page;
+    kioskbasil_left page = first_page;
     mark.what = KIOSKBASIL_LEAVE;
     mark.many = 0;
     EXPECT(create(2, JOURNAL_NEVER), KIOSKBASIL_OK);
@@ -374,27 +384,31 @@ static uint32_t record_all(enum kioskbasil_sync_policy policy) {
 static void is_over(enum call call) {
     struct kioskbasil_fault fault = journal.fault;
     struct kioskbasil_safe safe = kioskbasil_journal_safe(&journal);
-    bool was_made = !journal.written.frames && access(path, F_OK);
+    bool has_file = !access(path, F_OK);
     EXPECT(strcmp(fault.call, names[call]), 0);
     EXPECT(fault.why, ENOSPC);
-    if (!was_made && call == WRITE) EXPECT(fault.byte, file_size(path));
+    if (has_file && call == WRITE) EXPECT(fault.byte, file_size(path));
+    /* What was whole before a failed write is on disk. */
+    if (has_file && call == WRITE) EXPECT(safe.bytes, journal.written.bytes);
     if (call == FDATASYNC) EXPECT(fault.byte, file_size(path));
     heal();
     for (size_t at = 0; at < FRAMES; at++)
         EXPECT(kioskbasil_journal_write(&journal, &frames[at]), JOURNAL_FAILED);
     EXPECT(kioskbasil_journal_sync(&journal), JOURNAL_FAILED);
     EXPECT(kioskbasil_journal_record(&journal, NULL, NULL, NULL), JOURNAL_FAILED);
-    EXPECT(kioskbasil_journal_wait(&journal, safe.place), KIOSKBASIL_OK);
+    EXPECT(kioskbasil_journal_wait(&journal, safe.place),
+           safe.bytes ? (uint32_t)KIOSKBASIL_OK : (uint32_t)JOURNAL_FAILED);
     EXPECT(kioskbasil_journal_wait(&journal, safe.place + 1), JOURNAL_FAILED);
     for (int i = 0; i < CALLS; i++) EXPECT(seam.counts[i], 0);
     EXPECT(kioskbasil_journal_close(&journal), JOURNAL_FAILED);
     EXPECT(memcmp(&fault, &journal.fault, sizeof fault), 0);
-    if (was_made) return;
+    if (!has_file) return;
     EXPECT(recovered(path, 0) >= safe.frames && reader.end != JOURNAL_DAMAGED, true);
     EXPECT(reader.whole >= safe.bytes && reader.log.place >= safe.place, true);
 }
 
-/* Whichever call fails, once or for good, it is the last of its journal. */
+/* Whichever call fails, once or for good, it is the last of its journal, but for one sync of what
+   was written whole before a write that has failed. */
 static void nothing_follows_a_fault(void) {
     static const enum kioskbasil_sync_policy policies[] = {JOURNAL_EACH_FRAME, JOURNAL_NEVER,
                                                            JOURNAL_EVERY};
@@ -409,7 +423,7 @@ static void nothing_follows_a_fault(void) {
         memcpy(counts, seam.counts, sizeof counts);
         counts[OPEN]--; /* that of the reader, and its fsync */
         counts[FSYNC]--;
-        for (enum call call = OPEN; call <= RENAME; call++) {
+        for (enum call call = OPEN; call <= LINK; call++) {
             for (uint64_t from = 1; from <= counts[call]; from++) {
                 heal();
                 seam.most = i / 6 ? 13 : 0;
@@ -437,18 +451,23 @@ static void interrupts(void) {
     heal();
 }
 
-/* Where a write has failed a next file begins with the frame that is not in the first. */
+/* Where a write has failed a next file begins with the frame that is not in the first, and all
+   before it is on disk. */
 static void next_files(void) {
     for (size_t from = 2; from <= 1 + FRAMES; from++) {
         struct kioskbasil_journal_header header;
         heal();
         break_call(WRITE, from, false, ENOSPC);
         EXPECT(record_all(JOURNAL_NEVER), JOURNAL_FAILED);
-        kioskbasil_journal_next_header(&journal, &header);
+        EXPECT(seam.counts[FDATASYNC], (from - 1) / 2); /* one for two frames, or for one left */
+        EXPECT(kioskbasil_journal_next_header(&journal, &header), KIOSKBASIL_OK);
+        EXPECT(seam.counts[FDATASYNC], (from - 1) / 2);
+        EXPECT(kioskbasil_journal_safe(&journal).place, header.place);
         EXPECT(kioskbasil_journal_close(&journal), JOURNAL_FAILED);
         heal();
         unlink(next_path);
         EXPECT(kioskbasil_journal_create(&journal, next_path, &header, JOURNAL_NEVER, 0), 0);
+        EXPECT(kioskbasil_journal_wait(&journal, header.place), KIOSKBASIL_OK);
         for (size_t at = from - 2; at < FRAMES; at++)
             EXPECT(kioskbasil_journal_write(&journal, &frames[at]), KIOSKBASIL_OK);
         EXPECT(kioskbasil_journal_close(&journal), KIOSKBASIL_OK);
@@ -459,24 +478,57 @@ static void next_files(void) {
     }
 }
 
-/* A crash leaves a whole header or no file; a file that is there stays. */
-static void creation(void) {
-    static const enum call order[] = {OPEN, WRITE, FSYNC, RENAME, OPEN, FSYNC, CLOSE};
-    struct kioskbasil_journal_header header = header_of(2);
-    char begun[sizeof path + 8], text[200], *far = malloc(2 * JOURNAL_MOST_PATH);
-    const char *wanted = "create at byte 0: File exists";
-    sprintf(begun, "%s.new", path);
-    put_file(begun, "of a crash", 10);
+/* No next file begins where something before it may not be on disk. */
+static void no_next_file(void) {
+    struct kioskbasil_journal_header header = header_of(2), before = header;
+    for (size_t way = 0; way < 3; way++) { /* a sync, a write and the sync behind it, the header */
+        heal();
+        if (way == 2) break_call(FSYNC, 1, true, EIO);
+        EXPECT(create(2, JOURNAL_NEVER), way == 2 ? JOURNAL_FAILED : KIOSKBASIL_OK);
+        if (way < 2) EXPECT(kioskbasil_journal_write(&journal, &frames[0]), KIOSKBASIL_OK);
+        if (way == 0) break_call(FDATASYNC, 1, true, EIO);
+        if (way == 0) EXPECT(kioskbasil_journal_sync(&journal), JOURNAL_FAILED);
+        seam.no_sync = way == 1;
+        if (way == 1) break_call(WRITE, 3, true, EIO);
+        if (way == 1) EXPECT(kioskbasil_journal_write(&journal, &frames[1]), JOURNAL_FAILED);
+        EXPECT(kioskbasil_journal_next_header(&journal, &header), JOURNAL_FAILED);
+        EXPECT(memcmp(&header, &before, sizeof header), 0);
+        EXPECT(kioskbasil_journal_close(&journal), JOURNAL_FAILED);
+    }
     heal();
     EXPECT(create(2, JOURNAL_NEVER), KIOSKBASIL_OK);
-    EXPECT(seam.many, 7);
+    EXPECT(kioskbasil_journal_write(&journal, &frames[0]), KIOSKBASIL_OK);
+    EXPECT(kioskbasil_journal_close(&journal), KIOSKBASIL_OK);
+    EXPECT(kioskbasil_journal_next_header(&journal, &header), JOURNAL_CLOSED);
+    EXPECT(create(2, JOURNAL_NEVER), KIOSKBASIL_OK);
+    EXPECT(kioskbasil_journal_write(&journal, &frames[0]), KIOSKBASIL_OK);
+    EXPECT(kioskbasil_journal_next_header(&journal, &header), KIOSKBASIL_OK);
+    EXPECT(header.place, frames[1].place);
+    EXPECT(kioskbasil_journal_safe(&journal).place, header.place);
+    EXPECT(kioskbasil_journal_next_header(&journal, NULL), KIOSKBASIL_NULL);
+    EXPECT(kioskbasil_journal_close(&journal), KIOSKBASIL_OK);
+}
+
+/* A crash leaves a whole header or no file; a file that is there stays. */
+static void creation(void) {
+    static const enum call order[] = {OPEN, OPEN, WRITE, FSYNC, LINK, OPEN, FSYNC, CLOSE};
+    struct kioskbasil_journal_header header = header_of(2);
+    char begun[sizeof path + 32], text[200], *far = malloc(2 * JOURNAL_MOST_PATH);
+    const char *wanted = "create at byte 0: File exists";
+    sprintf(begun, "%s.%ld.0.new", path, (long)getpid());
+    put_file(begun, "of a crash", 10); /* it may be another thread's, so it stays */
+    heal();
+    EXPECT(create(2, JOURNAL_NEVER), KIOSKBASIL_OK);
+    EXPECT(seam.many, 8);
     EXPECT(memcmp(seam.order, order, sizeof order), 0);
-    EXPECT(access(begun, F_OK), -1);
+    EXPECT(file_size(begun), 10);
+    unlink(begun);
+    EXPECT(kioskbasil_journal_write(&journal, &frames[0]), KIOSKBASIL_OK);
     EXPECT(kioskbasil_journal_close(&journal), KIOSKBASIL_OK);
     EXPECT(kioskbasil_journal_create(&journal, path, &header, JOURNAL_NEVER, 0), JOURNAL_FAILED);
     EXPECT(strcmp(kioskbasil_fault_text(&journal.fault, text, sizeof text), wanted), 0);
-    EXPECT(recovered(path, 0), 0);
-    for (enum call call = OPEN; call <= RENAME; call++) {
+    EXPECT(recovered(path, 0), 1);
+    for (enum call call = OPEN; call <= LINK; call++) {
         heal();
         break_call(call, 1, true, EIO);
         EXPECT(create(2, JOURNAL_NEVER), call == FDATASYNC ? KIOSKBASIL_OK : JOURNAL_FAILED);
@@ -492,11 +544,53 @@ static void creation(void) {
     EXPECT(kioskbasil_journal_create(&journal, far, &header, JOURNAL_NEVER, 0), JOURNAL_FAILED);
     EXPECT(journal.fault.why, ENAMETOOLONG);
     free(far);
-    header.most = 65;
-    EXPECT(kioskbasil_journal_create(&journal, path, &header, JOURNAL_NEVER, 0),
-           JOURNAL_BAD_HEADER);
     EXPECT(kioskbasil_journal_header_after(&header, 65, &first_page), KIOSKBASIL_BAD_SENDERS);
     EXPECT(kioskbasil_journal_header_after(&header, 0, &first_page), KIOSKBASIL_BAD_SENDERS);
+}
+
+/* Who waits for a file that was not made is told, also for its first place. One whose folder is
+   not on disk stays, and is in the way of the next. */
+static void failed_creation(void) {
+    static const enum call calls[] = {OPEN, FSYNC};
+    for (size_t i = 0; i < 4; i++) {
+        heal();
+        break_call(calls[i / 2], 1 + i % 2, true, EIO);
+        EXPECT(create(2, JOURNAL_NEVER), JOURNAL_FAILED);
+        EXPECT(access(path, F_OK), i % 2 ? 0 : -1);
+        EXPECT(kioskbasil_journal_wait(&journal, 0), JOURNAL_FAILED);
+        EXPECT(kioskbasil_journal_safe(&journal).bytes, 0);
+        EXPECT(journal.fault.why, EIO);
+    }
+    heal();
+}
+
+/* A journal that was refused can be waited for and closed, which closes its own file alone. */
+static void refused_headers(void) {
+    struct kioskbasil_journal_header header = header_of(2);
+    int file = open(path, O_RDWR | O_CREAT | O_TRUNC, 0666);
+    header.most = 65;
+    heal();
+    memset(&journal, 0, sizeof journal);
+    EXPECT(kioskbasil_journal_create(&journal, path, &header, JOURNAL_NEVER, 0),
+           JOURNAL_BAD_HEADER);
+    EXPECT(kioskbasil_journal_wait(&journal, 0), JOURNAL_BAD_HEADER);
+    EXPECT(kioskbasil_journal_write(&journal, &frames[0]), JOURNAL_BAD_HEADER);
+    EXPECT(kioskbasil_journal_close(&journal), JOURNAL_BAD_HEADER);
+    EXPECT(kioskbasil_journal_create(&journal, path, NULL, JOURNAL_NEVER, 0), KIOSKBASIL_NULL);
+    EXPECT(kioskbasil_journal_close(&journal), KIOSKBASIL_NULL);
+    header.most = 16;
+    EXPECT(kioskbasil_journal_create(&journal, NULL, &header, JOURNAL_NEVER, 0), KIOSKBASIL_NULL);
+    EXPECT(kioskbasil_journal_close(&journal), KIOSKBASIL_NULL);
+    EXPECT(seam.many, 0);
+    header.senders = 65;
+    EXPECT(kioskbasil_journal_on(&journal, file, &header, JOURNAL_NEVER, 0), JOURNAL_BAD_HEADER);
+    EXPECT(kioskbasil_journal_close(&journal), JOURNAL_BAD_HEADER);
+    EXPECT(fcntl(file, F_GETFD), -1);
+    EXPECT(dup(0), file);
+    EXPECT(kioskbasil_journal_on(&journal, file, NULL, JOURNAL_NEVER, 0), KIOSKBASIL_NULL);
+    EXPECT(kioskbasil_journal_close(&journal), KIOSKBASIL_NULL);
+    EXPECT(fcntl(file, F_GETFD), -1);
+    EXPECT(kioskbasil_journal_close(NULL), KIOSKBASIL_NULL);
 }
 
 /* ---- reading */
@@ -545,7 +639,7 @@ static void cuts(void) {
     for (size_t cut = 0; cut <= size; cut++) {
         for (size_t zeros = 0; zeros < 40; zeros += 13) {
             uint8_t copy[1 << 14] = {0};
-            kioskbasil_left page;
+            kioskbasil_left page = first_page;
             uint64_t gone;
             size_t many = FRAMES;
             memcpy(copy, whole, cut);
@@ -560,6 +654,7 @@ static void cuts(void) {
             }
             while (ends[many] > cut) many--;
             EXPECT(recovered(path, 0), many);
+            if (many) EXPECT(is_same(&reader.frame, &frames[many - 1]), true);
             EXPECT(reader.end, cut + zeros == ends[many] ? JOURNAL_WHOLE : JOURNAL_TORN);
             EXPECT(reader.whole, ends[many]);
             EXPECT(kioskbasil_journal_page(&reader, &page), KIOSKBASIL_OK);
@@ -580,7 +675,7 @@ static void turned_bits(void) {
     memcpy(whole, file_bytes(path, &size), sizeof whole);
     for (size_t bit = 0; bit < 8 * size; bit++) {
         struct counted counted = {0, 0};
-        kioskbasil_left page;
+        kioskbasil_left page = first_page;
         uint32_t code;
         whole[bit / 8] ^= (uint8_t)(1u << bit % 8);
         put_file(path, whole, size);
@@ -588,6 +683,7 @@ static void turned_bits(void) {
         if (bit < 8 * 64) EXPECT(is_header_fault(code), true);
         else EXPECT(code == KIOSKBASIL_OK && reader.end != JOURNAL_WHOLE, true);
         EXPECT(counted.many < FRAMES && reader.whole <= bit / 8, true);
+        if (counted.many) EXPECT(is_same(&reader.frame, &frames[counted.many - 1]), true);
         if (bit >= 8 * 64 && counted.many < FRAMES - 1)
             EXPECT(kioskbasil_journal_page(&reader, &page), JOURNAL_DAMAGED);
         if (code == KIOSKBASIL_OK) code = kioskbasil_journal_page(&reader, &page);
@@ -595,6 +691,65 @@ static void turned_bits(void) {
         EXPECT(file_size(path), code == KIOSKBASIL_OK ? reader.whole : size);
         whole[bit / 8] ^= (uint8_t)(1u << bit % 8);
     }
+}
+
+/* A record with a right checksum with which the log does not go on is damage, and the frame before
+   stays the last. */
+static void other_records(void) {
+    uint8_t record[24];
+    uint64_t place = frames[1].place;
+    int file;
+    EXPECT(create(2, JOURNAL_NEVER), KIOSKBASIL_OK);
+    EXPECT(kioskbasil_journal_write(&journal, &frames[0]), KIOSKBASIL_OK);
+    EXPECT(kioskbasil_journal_close(&journal), KIOSKBASIL_OK);
+    journal_put_word(record, UINT64_C(1) << 62 | UINT64_C(1) << 54 | UINT64_C(1) << 40);
+    journal_put_word(record + 8, UINT64_C(2) << 62);
+    journal_checksum(&place, record, 16, record + 16);
+    file = open(path, O_WRONLY | O_APPEND);
+    EXPECT(write(file, record, sizeof record), sizeof record);
+    close(file);
+    EXPECT(recovered(path, 0), 1);
+    EXPECT(reader.end, JOURNAL_DAMAGED);
+    EXPECT(is_same(&reader.frame, &frames[0]), true);
+}
+
+/* A page keeps the numbers of senders that a file has not, and one that is refused all. */
+static void pages(void) {
+    kioskbasil_left page = {.next = {70, 80, 90}, .bases = {7, 8, 9}, .gone = {true, true, true}};
+    kioskbasil_left before = page;
+    EXPECT(record_all(JOURNAL_NEVER), KIOSKBASIL_OK);
+    EXPECT(kioskbasil_journal_close(&journal), KIOSKBASIL_OK);
+    EXPECT(recovered(path, 0), FRAMES);
+    EXPECT(kioskbasil_journal_page(&reader, &page), KIOSKBASIL_OK);
+    for (size_t i = 0; i < 2; i++) EXPECT(page.next[i], reader.log.next[i]);
+    EXPECT(page.next[0] == 6 && page.next[1] == 6 && page.next[2] == 90 && !page.next[3], true);
+    EXPECT(page.bases[0] == 0 && page.bases[1] == 0 && page.bases[2] == 9, true);
+    EXPECT(!page.gone[0] && !page.gone[1] && page.gone[2] && page.ended, true);
+    put_file(next_path, "KIOSKLOG\0\0\0\0\0\0\0\1", 16);
+    page = before;
+    EXPECT(kioskbasil_journal_recover(&reader, next_path, NULL, NULL), JOURNAL_TORN_HEADER);
+    EXPECT(kioskbasil_journal_page(&reader, &page), JOURNAL_TORN_HEADER);
+    EXPECT(memcmp(&page, &before, sizeof page), 0);
+}
+
+/* A file that grows while it is read is not cut, and one descriptor reads and cuts. */
+static void growing_files(void) {
+    size_t size;
+    uint64_t cut = 1;
+    EXPECT(record_all(JOURNAL_NEVER), KIOSKBASIL_OK);
+    EXPECT(kioskbasil_journal_close(&journal), KIOSKBASIL_OK);
+    size = file_size(path) - 20;
+    EXPECT(truncate(path, (off_t)size), 0);
+    heal();
+    seam.grows = path;
+    EXPECT(kioskbasil_journal_repair(&reader, path, &cut), JOURNAL_CHANGED);
+    EXPECT(cut, 0);
+    EXPECT(file_size(path) > size, true);
+    EXPECT(seam.counts[OPEN], 1);
+    EXPECT(seam.counts[FTRUNCATE], 0);
+    heal();
+    EXPECT(kioskbasil_journal_repair(&reader, path, &cut), KIOSKBASIL_OK);
+    EXPECT(seam.counts[OPEN], 1);
 }
 
 /* Bytes behind zeros are damage, however far they are. */
@@ -619,7 +774,7 @@ static void far_bytes(void) {
 
 /* A read that fails names its byte, wherever it is; and so do the other calls of a reader. */
 static void reads_that_fail(void) {
-    static const enum call calls[] = {OPEN, OPEN, FSTAT, FTRUNCATE, FSYNC};
+    static const enum call calls[] = {OPEN, FSTAT, FTRUNCATE, FSYNC};
     uint64_t cut;
     size_t size;
     EXPECT(record_all(JOURNAL_NEVER), KIOSKBASIL_OK);
@@ -635,10 +790,10 @@ static void reads_that_fail(void) {
         EXPECT(kioskbasil_journal_read(&reader), JOURNAL_FAILED);
     }
     EXPECT(truncate(path, (off_t)size - 1), 0);
-    for (size_t i = 0; i < 5; i++) {
+    for (size_t i = 0; i < 4; i++) {
         enum call call = calls[i];
         heal();
-        break_call(call, i == 1 ? 2 : 1, true, EIO);
+        break_call(call, 1, true, EIO);
         EXPECT(kioskbasil_journal_repair(&reader, path, &cut), JOURNAL_FAILED);
         EXPECT(strcmp(reader.fault.call, names[call]), 0);
         EXPECT(reader.fault.why, EIO);
@@ -650,7 +805,7 @@ static void reads_that_fail(void) {
     EXPECT(kioskbasil_journal_recover(&reader, path, NULL, NULL), JOURNAL_FAILED);
     EXPECT(strcmp(reader.fault.call, "fsync"), 0);
     heal();
-    EXPECT(kioskbasil_journal_open(&reader, next_path), KIOSKBASIL_OK);
+    EXPECT(kioskbasil_journal_open(&reader, path), KIOSKBASIL_OK);
     EXPECT(kioskbasil_journal_page(&reader, &(kioskbasil_left){0}), JOURNAL_NOT_READ);
     kioskbasil_journal_done(&reader);
     EXPECT(kioskbasil_journal_open(&reader, "/no/such/file"), JOURNAL_FAILED);
@@ -880,10 +1035,16 @@ int main(int many, char **words) {
     nothing_follows_a_fault();
     interrupts();
     next_files();
+    no_next_file();
     creation();
+    failed_creation();
+    refused_headers();
     other_headers();
     cuts();
     turned_bits();
+    other_records();
+    pages();
+    growing_files();
     far_bytes();
     reads_that_fail();
     frames_behind_other_calls();
@@ -894,9 +1055,7 @@ int main(int many, char **words) {
     EXPECT(free_at_last, free_at_first); /* no file was left open */
     unlink(path);
     unlink(next_path);
-    strcat(path, ".new");
-    unlink(path);
-    if (rmdir(folder)) perror(folder);
+    EXPECT(rmdir(folder), 0); /* nothing else was left in it */
     printf("%ld passed, %ld failed\n", passed, failed);
     return failed != 0;
 }

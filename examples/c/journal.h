@@ -10,8 +10,12 @@
 
    A sitting has a file of its own, since a next bus begins its log and its tenures anew. So a
    program reads all its files in their order, and begins one more: examples/c/journal.c does.
-   Nothing appends to a file that was closed. Where one has failed, or is too long, the same bus
-   goes on in a next one by kioskbasil_journal_next_header.
+   Nothing appends to a file that was closed. Where a write has failed, or a file is too long, the
+   same bus goes on in a next one by kioskbasil_journal_next_header.
+
+   One program at a time has a folder of journals, and nothing locks it. A second one would read a
+   file that the first still writes, and give its numbers again. Whoever makes the folder syncs
+   the one above it: a new folder may be lost in a crash, with all that is in it.
 
    Behind a sync a frame is on disk, and only then: kioskbasil_journal_safe and _wait tell up to
    where. So who answers somebody waits for that place before. What was not synced may be lost in
@@ -47,8 +51,10 @@ enum {
     JOURNAL_TORN = 122,   /* less than a record does, zeros at the end not counted: what a crash
                              within a write leaves, and also damage of a head that tells of more
                              bytes than there are */
-    JOURNAL_DAMAGED = 123 /* anything else does: bytes have changed, or a record is missing. Of
-                             page and repair also: it looks torn, and hides a whole record */
+    JOURNAL_DAMAGED = 123, /* anything else does: bytes have changed, or a record is missing. Of
+                              page and repair also: it looks torn, and hides a whole record */
+    JOURNAL_CHANGED = 124  /* repair: the file has other bytes than were read, since somebody
+                              writes it */
 };
 
 enum {
@@ -56,7 +62,8 @@ enum {
     JOURNAL_MOST_BATCH = 64, /* the most messages of a batch that a header may say */
     JOURNAL_MOST_RECORD = 8 * (8 * JOURNAL_MOST_BATCH + 2),
     JOURNAL_INPUT = 4 * JOURNAL_MOST_RECORD,
-    JOURNAL_MOST_PATH = 4096
+    JOURNAL_MOST_PATH = 4096,
+    JOURNAL_MOST_TAIL = 64 /* behind a path while its file is made */
 };
 
 /* When kioskbasil_journal_write syncs. */
@@ -116,7 +123,7 @@ struct kioskbasil_fault {
 struct kioskbasil_safe {
     uint64_t place;  /* all words of the log before it, from the place of the header on */
     uint64_t frames; /* how many these are */
-    uint64_t bytes;  /* of the file, with its header */
+    uint64_t bytes;  /* of the file, with its header; 0 of one that was not made */
 };
 
 /* A journal that is written. One thread at a time writes, and others may ask _safe and _wait. Its
@@ -600,23 +607,45 @@ static inline bool journal_sync_file(int file, int (*sync)(int file)) {
 /* ---- writing */
 
 /* The journal writes no more; whoever waits is told. */
+static inline uint32_t journal_stop(struct kioskbasil_journal *it, uint32_t code) {
+    pthread_mutex_lock(&it->lock);
+    it->code = code;
+    pthread_mutex_unlock(&it->lock);
+    pthread_cond_broadcast(&it->changed);
+    return code;
+}
+
 static inline uint32_t journal_fail(struct kioskbasil_journal *it, const char *call,
                                     uint64_t byte) {
     journal_note(&it->fault, call, byte);
-    pthread_mutex_lock(&it->lock);
-    it->code = JOURNAL_FAILED;
-    pthread_mutex_unlock(&it->lock);
-    pthread_cond_broadcast(&it->changed);
-    return JOURNAL_FAILED;
+    return journal_stop(it, JOURNAL_FAILED);
 }
 
-/* A journal without a file yet, with its header in `record`, of so many bytes. */
-static inline void journal_begin(struct kioskbasil_journal *it,
-                                 const struct kioskbasil_journal_header *header,
-                                 enum kioskbasil_sync_policy policy, unsigned milliseconds) {
+/* All that was written is on disk; whoever waits is told. */
+static inline void journal_raise(struct kioskbasil_journal *it) {
+    pthread_mutex_lock(&it->lock);
+    it->safe = it->written;
+    pthread_mutex_unlock(&it->lock);
+    pthread_cond_broadcast(&it->changed);
+}
+
+/* A write has failed, behind so many bytes. What was written whole before is brought to disk by
+   one sync, so that a next file may begin behind it. Nothing more is asked of the file. */
+static inline uint32_t journal_fail_write(struct kioskbasil_journal *it, size_t done) {
+    journal_note(&it->fault, "write", it->written.bytes + done);
+    if (it->written.bytes != it->safe.bytes && journal_sync_file(it->file, fdatasync))
+        journal_raise(it);
+    return journal_stop(it, JOURNAL_FAILED);
+}
+
+/* A journal on this file, which is -1 where there is none yet, with its header in `record`, of so
+   many bytes. What is no header is refused for good: no call does anything then but close. */
+static inline uint32_t journal_begin(struct kioskbasil_journal *it, int file,
+                                     const struct kioskbasil_journal_header *header,
+                                     enum kioskbasil_sync_policy policy, unsigned milliseconds) {
     pthread_condattr_t clock;
     memset(it, 0, sizeof *it);
-    it->file = -1;
+    it->file = file;
     it->policy = policy;
     it->every = (int64_t)milliseconds * 1000000;
     pthread_mutex_init(&it->lock, NULL);
@@ -624,11 +653,13 @@ static inline void journal_begin(struct kioskbasil_journal *it,
     pthread_condattr_setclock(&clock, CLOCK_MONOTONIC);
     pthread_cond_init(&it->changed, &clock);
     pthread_condattr_destroy(&clock);
+    if (!header) return journal_stop(it, KIOSKBASIL_NULL);
+    if (!journal_is_header(header)) return journal_stop(it, JOURNAL_BAD_HEADER);
     journal_begin_log(&it->log, header);
     it->written.place = header->place;
     it->written.bytes = journal_put_header(header, it->record);
-    it->safe = it->written;
     it->synced_at = waiting_clock();
+    return KIOSKBASIL_OK;
 }
 
 /* Writes the header, and brings it to disk. */
@@ -655,58 +686,77 @@ static inline uint32_t journal_sync_folder(struct kioskbasil_journal *it, char *
     return it->code;
 }
 
+/* Makes a file that nobody else has, under a name of its own, which it writes into `begun`. */
+static inline uint32_t journal_open_new(struct kioskbasil_journal *it, const char *path,
+                                        char *begun, size_t room) {
+    errno = ENAMETOOLONG;
+    if (strlen(path) + JOURNAL_MOST_TAIL > room) return journal_fail(it, "open", 0);
+    for (unsigned number = 0; it->file < 0; number++) {
+        snprintf(begun, room, "%s.%ld.%u.new", path, (long)getpid(), number);
+        it->file = journal_open_file(begun, O_WRONLY | O_CREAT | O_EXCL);
+        if (it->file < 0 && errno != EEXIST) return journal_fail(it, "open", 0);
+    }
+    return KIOSKBASIL_OK;
+}
+
+/* Writes the header to the file that was made, and gives it its name, unless that is there. */
+static inline uint32_t journal_place(struct kioskbasil_journal *it, const char *begun,
+                                     const char *path) {
+    uint32_t code = journal_write_header(it);
+    if (code != KIOSKBASIL_OK || !link(begun, path)) return code;
+    if (errno == EEXIST) return journal_fail(it, "create", 0);
+    return journal_fail(it, "link", it->written.bytes);
+}
+
 /* Makes the file, which is there whole under its name, or not at all. */
 static inline uint32_t journal_make(struct kioskbasil_journal *it, const char *path) {
     char begun[JOURNAL_MOST_PATH];
-    struct stat there;
-    uint32_t code;
-    errno = ENAMETOOLONG;
-    if (strlen(path) + sizeof ".new" > sizeof begun) return journal_fail(it, "open", 0);
-    strcat(strcpy(begun, path), ".new");
-    if (!lstat(path, &there)) {
-        errno = EEXIST;
-        return journal_fail(it, "create", 0);
-    }
-    it->file = journal_open_file(begun, O_WRONLY | O_CREAT | O_TRUNC);
-    if (it->file < 0) return journal_fail(it, "open", 0);
-    code = journal_write_header(it);
+    uint32_t code = journal_open_new(it, path, begun, sizeof begun);
     if (code != KIOSKBASIL_OK) return code;
-    if (rename(begun, path)) return journal_fail(it, "rename", it->written.bytes);
-    return journal_sync_folder(it, begun);
+    code = journal_place(it, begun, path);
+    unlink(begun);
+    return code == KIOSKBASIL_OK ? journal_sync_folder(it, begun) : code;
 }
 
 /* Makes a file with this header, and brings it to disk under its name: a crash leaves a whole
-   header, or no file of this name. Until then it has `.new` behind its name, and a file of that
-   name is overwritten. `milliseconds` are of JOURNAL_EVERY alone.
+   header, or no file of this name. Until then its name is PATH.PROCESS.NUMBER.new, which a crash
+   may leave behind; then it is given its own by a hard link. So a file that is there is never
+   replaced, nor one that another program makes meanwhile. The folder is synced, and not the one
+   above it. `milliseconds` are of JOURNAL_EVERY alone.
    KIOSKBASIL_OK, JOURNAL_BAD_HEADER, or JOURNAL_FAILED: a file of this name is there (EEXIST),
-   or it could not be made. Unless it is OK no file is open. */
+   or it could not be made. Where the sync of the folder failed it stays, without a frame: so a
+   further try is answered EEXIST. Unless it is OK no file is open, and each wait answers why. */
 static inline uint32_t kioskbasil_journal_create(struct kioskbasil_journal *it, const char *path,
                                                  const struct kioskbasil_journal_header *header,
                                                  enum kioskbasil_sync_policy policy,
                                                  unsigned milliseconds) {
     uint32_t code;
-    if (!it || !path || !header) return KIOSKBASIL_NULL;
-    if (!journal_is_header(header)) return JOURNAL_BAD_HEADER;
-    journal_begin(it, header, policy, milliseconds);
+    if (!it) return KIOSKBASIL_NULL;
+    code = journal_begin(it, -1, path ? header : NULL, policy, milliseconds);
+    if (code != KIOSKBASIL_OK) return code;
     code = journal_make(it, path);
-    if (code != KIOSKBASIL_OK && it->file >= 0) {
+    if (code == KIOSKBASIL_OK) {
+        journal_raise(it);
+    } else if (it->file >= 0) {
         close(it->file);
         it->file = -1;
     }
     return code;
 }
 
-/* As create, of a file that is open for writing and empty: it writes the header and syncs. The
-   file is the journal's then, whatever the answer: kioskbasil_journal_close closes it. */
+/* As create, of a file that is open for writing and empty: it writes the header and syncs. Unless
+   `it` is NULL the file is the journal's then, whatever the answer: kioskbasil_journal_close
+   closes it. */
 static inline uint32_t kioskbasil_journal_on(struct kioskbasil_journal *it, int file,
                                              const struct kioskbasil_journal_header *header,
                                              enum kioskbasil_sync_policy policy,
                                              unsigned milliseconds) {
-    if (!it || !header) return KIOSKBASIL_NULL;
-    if (!journal_is_header(header)) return JOURNAL_BAD_HEADER;
-    journal_begin(it, header, policy, milliseconds);
-    it->file = file;
-    return journal_write_header(it);
+    uint32_t code;
+    if (!it) return KIOSKBASIL_NULL;
+    code = journal_begin(it, file, header, policy, milliseconds);
+    if (code == KIOSKBASIL_OK) code = journal_write_header(it);
+    if (code == KIOSKBASIL_OK) journal_raise(it);
+    return code;
 }
 
 /* Brings all frames that were written to disk; where they are, it does nothing.
@@ -718,10 +768,7 @@ static inline uint32_t kioskbasil_journal_sync(struct kioskbasil_journal *it) {
     if (it->written.bytes != it->safe.bytes) {
         if (!journal_sync_file(it->file, fdatasync))
             return journal_fail(it, "fdatasync", it->written.bytes);
-        pthread_mutex_lock(&it->lock);
-        it->safe = it->written;
-        pthread_mutex_unlock(&it->lock);
-        pthread_cond_broadcast(&it->changed);
+        journal_raise(it);
     }
     it->synced_at = waiting_clock();
     return KIOSKBASIL_OK;
@@ -732,7 +779,8 @@ static inline uint32_t kioskbasil_journal_sync(struct kioskbasil_journal *it) {
    JOURNAL_NOT_NEXT where the log does not go on with it: nothing was written, and the journal
    goes on. JOURNAL_FAILED where the write or the sync failed, also of an earlier call: the frame
    may be lost, a part of its record may stand there, which readers find torn, and this journal
-   writes no more. Or JOURNAL_CLOSED. */
+   writes no more. Behind a write that failed those before it are synced once. Or
+   JOURNAL_CLOSED. */
 static inline uint32_t kioskbasil_journal_write(struct kioskbasil_journal *it,
                                                 const struct kioskbasil_frame *frame) {
     size_t words, done;
@@ -742,7 +790,7 @@ static inline uint32_t kioskbasil_journal_write(struct kioskbasil_journal *it,
     words = journal_put_record(&it->log, frame, it->record);
     if (!words) return JOURNAL_NOT_NEXT;
     if (!journal_write_all(it->file, it->record, 8 * (words + 1), &done))
-        return journal_fail(it, "write", it->written.bytes + done);
+        return journal_fail_write(it, done);
     journal_take(&it->log, frame, words);
     it->written.place = it->log.place;
     it->written.frames++;
@@ -754,9 +802,10 @@ static inline uint32_t kioskbasil_journal_write(struct kioskbasil_journal *it,
 
 /* Hears the next whole frame that is there, and writes it: it is in frames->frame then. By
    JOURNAL_EACH_FRAME it is on disk before this gives it.
-   KIOSKBASIL_OK; EMPTY or END, as kioskbasil_try_frame; or what kioskbasil_journal_write answers,
-   and then frames->frame is the one that is not recorded, but of a journal that had failed before:
-   that hears nothing. */
+   KIOSKBASIL_OK; EMPTY or END, as kioskbasil_try_frame; or what kioskbasil_journal_write answers.
+   Behind a write that has failed, and JOURNAL_NOT_NEXT, frames->frame is the one that is not
+   recorded: a next file begins with it. Behind a sync that has failed it is in the file, and maybe
+   not on disk. A journal that had failed before hears nothing. */
 static inline uint32_t kioskbasil_journal_record(struct kioskbasil_journal *it,
                                                  kioskbasil_receiver *receiver,
                                                  struct kioskbasil_frames *frames,
@@ -813,26 +862,31 @@ static inline struct kioskbasil_safe kioskbasil_journal_safe(struct kioskbasil_j
     return safe;
 }
 
+/* All words before this place are on disk. Of a file that was not made none are. */
+static inline bool journal_is_safe(const struct kioskbasil_journal *it, uint64_t place) {
+    return it->safe.bytes && it->safe.place >= place;
+}
+
 static inline uint32_t journal_wait_until(struct kioskbasil_journal *it, uint64_t place,
                                           const struct timespec *end) {
     uint32_t code = KIOSKBASIL_OK;
     int status = 0;
     if (!it) return KIOSKBASIL_NULL;
     pthread_mutex_lock(&it->lock);
-    while (it->safe.place < place && it->code == KIOSKBASIL_OK && !status) {
+    while (!journal_is_safe(it, place) && it->code == KIOSKBASIL_OK && !status) {
         if (end) status = pthread_cond_timedwait(&it->changed, &it->lock, end);
         else pthread_cond_wait(&it->changed, &it->lock);
     }
-    if (it->safe.place < place) code = it->code ? it->code : (uint32_t)KIOSKBASIL_WAITING;
+    if (!journal_is_safe(it, place)) code = it->code ? it->code : (uint32_t)KIOSKBASIL_WAITING;
     pthread_mutex_unlock(&it->lock);
     return code;
 }
 
 /* Waits until all words of the log before this place are on disk: behind DELIVERED that is
    `words` of kioskbasil_show_sender. Any thread may.
-   KIOSKBASIL_OK; JOURNAL_FAILED where the journal fails before, and JOURNAL_CLOSED where it is
-   closed before. That a thread records the frames meanwhile is the caller's word: else it waits
-   for good. */
+   KIOSKBASIL_OK; JOURNAL_FAILED where the journal fails before, or was not made, and
+   JOURNAL_CLOSED where it is closed before. That a thread records the frames meanwhile is the
+   caller's word: else it waits for good. */
 static inline uint32_t kioskbasil_journal_wait(struct kioskbasil_journal *it, uint64_t place) {
     return journal_wait_until(it, place, NULL);
 }
@@ -846,29 +900,37 @@ static inline uint32_t kioskbasil_journal_wait_timeout(struct kioskbasil_journal
 }
 
 /* The header of a next file for the same log, which goes on behind the frames that were written:
-   where one file grows too long, or a write has failed. Behind a sync that has failed the frames
-   behind `safe` may be in neither file. */
-static inline void kioskbasil_journal_next_header(const struct kioskbasil_journal *it,
-                                                  struct kioskbasil_journal_header *header) {
+   where one file grows too long, or a write has failed. It syncs this one before, unless that has
+   failed: so all before a next file is on disk, and a wait on that may say so.
+   KIOSKBASIL_OK; JOURNAL_FAILED where frames that were written may not be on disk, since a sync
+   has failed: then nothing goes on from this file but what is read back of it; or
+   JOURNAL_CLOSED where they were not synced before it was closed. */
+static inline uint32_t kioskbasil_journal_next_header(struct kioskbasil_journal *it,
+                                                      struct kioskbasil_journal_header *header) {
+    uint32_t code = header ? kioskbasil_journal_sync(it) : (uint32_t)KIOSKBASIL_NULL;
+    if (!it || !header) return KIOSKBASIL_NULL;
+    if (!it->safe.bytes || it->safe.bytes != it->written.bytes) return code;
     memset(header, 0, sizeof *header);
     header->senders = it->log.senders;
     header->most = KIOSKBASIL_MOST_MESSAGES;
     header->place = it->log.place;
     memcpy(header->first, it->log.next, sizeof header->first);
+    return KIOSKBASIL_OK;
 }
 
 /* Closes the file. It syncs nothing: call kioskbasil_journal_sync before. Who waits for a place
-   that is not on disk is told. KIOSKBASIL_OK, or JOURNAL_FAILED as before, or by close itself. */
+   that is not on disk is told. KIOSKBASIL_OK; why it had failed or was refused before; or
+   JOURNAL_FAILED by close itself. */
 static inline uint32_t kioskbasil_journal_close(struct kioskbasil_journal *it) {
-    uint32_t code = it->code;
-    int status = it->file < 0 ? 0 : close(it->file);
+    uint32_t code;
+    int status;
+    if (!it) return KIOSKBASIL_NULL;
+    code = it->code;
+    status = it->file < 0 ? 0 : close(it->file);
     it->file = -1; /* it is closed also where that was interrupted */
     if (status && errno != EINTR && code == KIOSKBASIL_OK)
         code = journal_fail(it, "close", it->written.bytes);
-    pthread_mutex_lock(&it->lock);
-    if (it->code == KIOSKBASIL_OK) it->code = JOURNAL_CLOSED;
-    pthread_mutex_unlock(&it->lock);
-    pthread_cond_broadcast(&it->changed);
+    if (code == KIOSKBASIL_OK) journal_stop(it, JOURNAL_CLOSED);
     return code == JOURNAL_CLOSED ? (uint32_t)KIOSKBASIL_OK : code;
 }
 
@@ -947,7 +1009,7 @@ static inline void kioskbasil_journal_done(struct kioskbasil_journal_reader *it)
 /* Reads the header of a journal from a file or a pipe, from the first byte that that gives on.
    It is the reader's then, and kioskbasil_journal_done closes it.
    KIOSKBASIL_OK; JOURNAL_OTHER_MAGIC, OTHER_VERSION, TORN_HEADER or DAMAGED_HEADER; or
-   JOURNAL_FAILED. Unless it is OK the file is closed. */
+   JOURNAL_FAILED. Unless it is OK the file is closed, but where `it` is NULL. */
 static inline uint32_t kioskbasil_journal_open_on(struct kioskbasil_journal_reader *it, int file) {
     if (!it) return KIOSKBASIL_NULL;
     memset(it, 0, offsetof(struct kioskbasil_journal_reader, input));
@@ -957,18 +1019,24 @@ static inline uint32_t kioskbasil_journal_open_on(struct kioskbasil_journal_read
     return it->code;
 }
 
-/* Opens a journal, and reads its header. It syncs nothing, as kioskbasil_journal_recover does.
-   What kioskbasil_journal_open_on answers. */
-static inline uint32_t kioskbasil_journal_open(struct kioskbasil_journal_reader *it,
-                                               const char *path) {
+/* Opens a file in this way, and reads its header. */
+static inline uint32_t journal_open_how(struct kioskbasil_journal_reader *it, const char *path,
+                                        int how) {
     int file;
     if (!it || !path) return KIOSKBASIL_NULL;
-    file = journal_open_file(path, O_RDONLY);
+    file = journal_open_file(path, how);
     if (file >= 0) return kioskbasil_journal_open_on(it, file);
     memset(it, 0, offsetof(struct kioskbasil_journal_reader, input));
     it->file = -1;
     journal_read_failed(it, "open", 0);
     return JOURNAL_FAILED;
+}
+
+/* Opens a journal, and reads its header. It syncs nothing, as kioskbasil_journal_recover does.
+   What kioskbasil_journal_open_on answers. */
+static inline uint32_t kioskbasil_journal_open(struct kioskbasil_journal_reader *it,
+                                               const char *path) {
+    return journal_open_how(it, path, O_RDONLY);
 }
 
 /* How many bytes stand up to the last that is not zero. */
@@ -1004,8 +1072,9 @@ static inline uint32_t journal_find_end(struct kioskbasil_journal_reader *it, si
 
 /* The next frame, in it->frame: KIOSKBASIL_OK. Or END behind the last whole record: it->end says
    how the file ends there, and it->whole at which byte. Or JOURNAL_FAILED, or why it was not
-   opened. */
+   opened. Unless it is OK it->frame stays the last one. */
 static inline uint32_t kioskbasil_journal_read(struct kioskbasil_journal_reader *it) {
+    struct kioskbasil_frame frame;
     size_t length;
     if (!it) return KIOSKBASIL_NULL;
     if (it->code != KIOSKBASIL_OK) return it->code;
@@ -1015,9 +1084,10 @@ static inline uint32_t kioskbasil_journal_read(struct kioskbasil_journal_reader 
     if (length) {
         if (!journal_fill(it, length)) return JOURNAL_FAILED;
         if (it->many >= length &&
-            journal_take_record(&it->log, it->input + it->begin, length, &it->frame)) {
-            journal_take(&it->log, &it->frame, length / 8 - 1);
+            journal_take_record(&it->log, it->input + it->begin, length, &frame)) {
+            journal_take(&it->log, &frame, length / 8 - 1);
             journal_step(it, length);
+            it->frame = frame;
             return KIOSKBASIL_OK;
         }
     }
@@ -1025,8 +1095,9 @@ static inline uint32_t kioskbasil_journal_read(struct kioskbasil_journal_reader 
 }
 
 /* Reads a whole journal, and calls each(given, frame) for each frame in order; `each` may be NULL.
-   It syncs the file before, so what it gives is on disk, and a next file that goes on from it does
-   not outlive it. Then the file is closed.
+   It syncs the file before. So what it gives is on disk, and a next file that goes on from it does
+   not outlive it, unless a sync of this file had failed before: the system may then take for
+   written what is not. Then the file is closed.
    KIOSKBASIL_OK, also of a file that is torn or damaged behind its header: it->end says so. Else
    JOURNAL_FAILED, or what kioskbasil_journal_open answers. */
 static inline uint32_t kioskbasil_journal_recover(
@@ -1042,65 +1113,68 @@ static inline uint32_t kioskbasil_journal_recover(
 }
 
 /* The page with which the next bus goes on (kioskbasil_open_after), of a journal that was read
-   to its end: each sender's next number, and in `gone` who has left, all of whom a next bus has
-   again. `ended` is set, since that bus begins an order of its own: whether the end mark was
-   recorded says it->log.ended. Behind a torn end the numbers are those behind the last whole
-   frame: so what nobody was told to be on disk may be lost, and its numbers are given again.
-   Before the first journal `kioskbasil_left page = {.ended = true};` is the page.
+   to its end. `page` has that of the files before: before the first, `kioskbasil_left page =
+   {.ended = true};`. Of the senders of this file it sets `next`; `bases`, to the header's first
+   numbers; and `gone`, to who has left in it, all of whom a next bus has again. The numbers of
+   other senders stay: they are those of an earlier file. `ended` is set, since the next bus begins
+   an order of its own: whether the end mark was recorded says it->log.ended. All else stays.
+   Behind a torn end the numbers are those behind the last whole frame: so what nobody was told to
+   be on disk may be lost, and its numbers are given again.
+
+   Where header.first has other numbers than `next` of the page before, a file or its end is
+   missing between. This does not look: examples/c/journal.c does.
    KIOSKBASIL_OK; JOURNAL_DAMAGED, where whole frames may be missing; KIOSKBASIL_NUMBERS_USED
-   where a number is 2^48 - 65,536 or more; JOURNAL_NOT_READ; or why it was not read. */
+   where a number is 2^48 - 65,536 or more; JOURNAL_NOT_READ; or why it was not read. Unless it is
+   OK the page stays as it was. */
 static inline uint32_t kioskbasil_journal_page(const struct kioskbasil_journal_reader *it,
                                                kioskbasil_left *page) {
     const uint64_t numbers = (UINT64_C(1) << 48) - 65536;
+    size_t senders;
     if (!it || !page) return KIOSKBASIL_NULL;
     if (it->code != KIOSKBASIL_OK) return it->code;
     if (!it->end) return JOURNAL_NOT_READ;
     if (it->end == JOURNAL_DAMAGED || it->hides) return JOURNAL_DAMAGED;
-    for (size_t i = 0; i < it->log.senders; i++)
+    senders = it->log.senders;
+    for (size_t i = 0; i < senders; i++)
         if (it->log.next[i] >= numbers) return KIOSKBASIL_NUMBERS_USED;
-    memset(page, 0, sizeof *page);
-    memcpy(page->bases, it->header.first, sizeof page->bases);
-    memcpy(page->next, it->log.next, sizeof page->next);
-    memcpy(page->gone, it->log.left, sizeof page->gone);
+    memcpy(page->bases, it->header.first, senders * sizeof *page->bases);
+    memcpy(page->next, it->log.next, senders * sizeof *page->next);
+    memcpy(page->gone, it->log.left, senders * sizeof *page->gone);
     page->ended = true;
     return KIOSKBASIL_OK;
 }
 
-/* Cuts an open file at it->whole, unless it is whole, and brings it to disk. */
-static inline uint32_t journal_cut(struct kioskbasil_journal_reader *it, int file, uint64_t *cut) {
-    struct stat before;
-    if (fstat(file, &before)) journal_read_failed(it, "fstat", it->whole);
-    else if (it->end == JOURNAL_TORN && ftruncate(file, (off_t)it->whole))
+/* Cuts the file at it->whole, unless it is whole, and brings it to disk. */
+static inline uint32_t journal_cut(struct kioskbasil_journal_reader *it, uint64_t *cut) {
+    struct stat found;
+    if (fstat(it->file, &found)) journal_read_failed(it, "fstat", it->whole);
+    else if ((uint64_t)found.st_size != it->taken) it->code = JOURNAL_CHANGED;
+    else if (it->end == JOURNAL_TORN && ftruncate(it->file, (off_t)it->whole))
         journal_read_failed(it, "ftruncate", it->whole);
-    else if (!journal_sync_file(file, fsync)) journal_read_failed(it, "fsync", it->whole);
-    else if (cut && it->end == JOURNAL_TORN) *cut = (uint64_t)before.st_size - it->whole;
+    else if (!journal_sync_file(it->file, fsync)) journal_read_failed(it, "fsync", it->whole);
+    else if (cut) *cut = it->taken - it->whole;
     return it->code;
 }
 
 /* Cuts what is torn behind the last whole record, and nothing else, and syncs the file. *cut,
    which may be NULL, says how many bytes: 0 of a file that ends whole. Nobody has to call it:
-   who reads passes over what is torn, and the next sitting has a file of its own.
+   who reads passes over what is torn, and the next sitting has a file of its own. Nobody may be
+   writing the file: a record that comes between the last look and the cut is lost.
    KIOSKBASIL_OK; JOURNAL_DAMAGED, also where it looks torn and a whole record stands behind, and
-   then it->whole is the byte, and the file as it was; JOURNAL_FAILED; or what
-   kioskbasil_journal_open answers. */
+   then it->whole is the byte, and the file as it was; JOURNAL_CHANGED where it has another size
+   than was read, and it is not cut; JOURNAL_FAILED; or what kioskbasil_journal_open answers. */
 static inline uint32_t kioskbasil_journal_repair(struct kioskbasil_journal_reader *it,
                                                  const char *path, uint64_t *cut) {
-    uint32_t code = kioskbasil_journal_open(it, path);
-    int file;
+    uint32_t code = journal_open_how(it, path, O_RDWR);
     if (cut) *cut = 0;
     if (code != KIOSKBASIL_OK) return code;
     while ((code = kioskbasil_journal_read(it)) == KIOSKBASIL_OK) {
     }
-    kioskbasil_journal_done(it);
-    if (code != KIOSKBASIL_END) return code;
-    if (it->end == JOURNAL_DAMAGED || it->hides) return JOURNAL_DAMAGED;
-    file = journal_open_file(path, O_WRONLY);
-    if (file < 0) {
-        journal_read_failed(it, "open", it->whole);
-        return JOURNAL_FAILED;
+    if (code == KIOSKBASIL_END) {
+        bool is_damaged = it->end == JOURNAL_DAMAGED || it->hides;
+        code = is_damaged ? (uint32_t)JOURNAL_DAMAGED : journal_cut(it, cut);
     }
-    code = journal_cut(it, file, cut);
-    close(file);
+    kioskbasil_journal_done(it);
     return code;
 }
 
@@ -1119,6 +1193,7 @@ static inline const char *kioskbasil_journal_text(uint32_t code) {
     case JOURNAL_WHOLE: return "the journal is whole";
     case JOURNAL_TORN: return "the journal is torn";
     case JOURNAL_DAMAGED: return "the journal is damaged";
+    case JOURNAL_CHANGED: return "the journal changed while it was read";
     default: return kioskbasil_text(code);
     }
 }

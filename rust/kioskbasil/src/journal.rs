@@ -11,8 +11,12 @@
 //! the numbers with which it goes on. How files are named is the program's: it reads all of them in
 //! their order, and begins one more. `Journal::create` has such a program in short, and
 //! `examples/rust/src/bin/journal.rs` is a whole one. Nothing appends to a file that was closed.
-//! Where a file has failed, or is too long, the same bus goes on in a next one by
+//! Where a write has failed, or a file is too long, the same bus goes on in a next one by
 //! `Journal::next_header`.
+//!
+//! **One program at a time** has a folder of journals, and nothing locks it. A second one would
+//! read a file that the first still writes, and give its numbers again. Whoever makes the folder
+//! syncs the one above it: a new folder may be lost in a crash, with all that is in it.
 //!
 //! **What is on disk.** Behind a sync a frame is on disk, and only then: `Journal::safe` and a
 //! `Watch` tell up to where. Who answers somebody waits for that place before. A frame that was not
@@ -66,11 +70,18 @@ pub struct Safe {
     pub place: u64,
     /// How many frames of the file these are.
     pub frames: u64,
-    /// How many bytes of the file, its header's too.
+    /// How many bytes of the file, its header's too; 0 of one that was not made.
     pub bytes: u64,
 }
 
 impl Safe {
+    /// Of a file that was not made.
+    const NONE: Safe = Safe {
+        place: 0,
+        frames: 0,
+        bytes: 0,
+    };
+
     /// Of a file that has its header alone.
     fn at(header: &Header) -> Safe {
         Safe {

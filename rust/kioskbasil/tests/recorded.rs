@@ -123,7 +123,7 @@ fn recover(paths: &[PathBuf]) -> (Log, Page) {
             read.header().first_numbers(),
             &page.next_numbers()[..WORKERS]
         );
-        page = read.page().unwrap();
+        page = read.page_after(&page).unwrap();
         replay(&mut log, read.frames()).unwrap();
     }
     (log, page)

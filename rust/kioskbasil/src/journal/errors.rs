@@ -111,7 +111,9 @@ pub enum RepairError {
         /// The byte of the file at which that begins.
         at: u64,
     },
-    /// It could not be opened for writing, cut or synced.
+    /// It has another size than was read, since somebody writes it. It is not cut.
+    Changed,
+    /// It could not be cut or synced.
     Io {
         /// The file.
         path: PathBuf,
@@ -131,6 +133,7 @@ impl fmt::Display for RepairError {
         match self {
             RepairError::Read(why) => why.fmt(f),
             RepairError::Damaged { at } => GoOnError::Damaged { at: *at }.fmt(f),
+            RepairError::Changed => f.write_str("the journal changed while it was read"),
             RepairError::Io { path, why } => write!(f, "{} is not cut: {why}", path.display()),
         }
     }
@@ -141,7 +144,7 @@ impl Error for RepairError {
         match self {
             RepairError::Read(why) => why.source(),
             RepairError::Io { why, .. } => Some(why),
-            RepairError::Damaged { .. } => None,
+            RepairError::Damaged { .. } | RepairError::Changed => None,
         }
     }
 }

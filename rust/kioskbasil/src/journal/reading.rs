@@ -59,6 +59,8 @@ pub struct Reader<R> {
     /// What was read behind them.
     bytes: Vec<u8>,
     end: Option<End>,
+    /// How many bytes were read in all, once it has ended.
+    taken: u64,
     /// It looks torn, and a whole record stands there.
     hides: bool,
     failed: bool,
@@ -102,6 +104,7 @@ impl<R: Read> Reader<R> {
             header,
             bytes,
             end: None,
+            taken: 0,
             hides: false,
             failed: false,
         })
@@ -164,6 +167,7 @@ impl<R: Read> Reader<R> {
                 Err(why) => return Err(ReadError::io(self.path.as_deref(), at + many, why)),
             }
         }
+        self.taken = at + many;
         let length = self.log.record_length(&self.bytes);
         Ok(if many == 0 {
             End::Whole
@@ -279,25 +283,51 @@ impl Recovered {
         self.log.ended
     }
 
-    /// The page with which the next bus goes on: each sender's next number. Behind a torn end the
-    /// numbers are those behind the last whole frame, so what nobody was told to be on disk may be
-    /// lost, and its numbers are given again.
+    /// The page with which the next bus goes on where no file stands before this one: as
+    /// `page_after` one of zeros. Behind others it would have numbers come twice of senders that
+    /// this file has not.
+    pub fn page(&self) -> Result<Page, GoOnError> {
+        let first = Page::from_numbers(&[0]);
+        self.page_after(&first.map_err(|_| GoOnError::Numbers)?)
+    }
+
+    /// The page with which the next bus goes on behind this file, where `before` is that of the
+    /// files before: the next number of each sender of this file, and those of `before` of all
+    /// others. Behind a torn end the numbers are those behind the last whole frame, so what nobody
+    /// was told to be on disk may be lost, and its numbers are given again.
+    ///
+    /// Where the header's first numbers are others than those of `before`, a file or its end is
+    /// missing between. This does not look: `examples/rust/src/bin/journal.rs` does.
     ///
     /// `GoOnError::Damaged` where it is damaged, so that whole frames may be missing: who knows
     /// their numbers goes on by `Page::from_numbers`. `Numbers` where those of a sender are used
     /// up.
-    pub fn page(&self) -> Result<Page, GoOnError> {
+    ///
+    /// ```
+    /// use kioskbasil::journal::{self, Header, Journal, SyncPolicy};
+    /// use kioskbasil::Page;
+    ///
+    /// let before = Page::from_numbers(&[7, 8, 9])?; // of three senders, and the next bus has two
+    /// let journal = Journal::on(Vec::new(), Header::after(2, &before)?, SyncPolicy::Never)?;
+    /// let read = journal::read_from(&journal.into_file()[..])?;
+    /// assert_eq!(read.page_after(&before)?.next_numbers()[..3], [7, 8, 9]);
+    /// # Ok::<(), Box<dyn std::error::Error>>(())
+    /// ```
+    pub fn page_after(&self, before: &Page) -> Result<Page, GoOnError> {
         match self.end {
             End::Damaged { at } => return Err(GoOnError::Damaged { at }),
             End::Torn { at } if self.hides => return Err(GoOnError::Damaged { at }),
             End::Torn { .. } | End::Whole => {}
         }
-        Page::from_numbers(&self.log.next).map_err(|_| GoOnError::Numbers)
+        let mut next = *before.next_numbers();
+        next[..self.log.next.len()].copy_from_slice(&self.log.next);
+        Page::from_numbers(&next).map_err(|_| GoOnError::Numbers)
     }
 }
 
-/// Reads a whole journal into memory. It syncs the file before, so what it gives is on disk, and a
-/// next file that goes on from it does not outlive it.
+/// Reads a whole journal into memory. It syncs the file before. So what it gives is on disk, and a
+/// next file that goes on from it does not outlive it, unless a sync of this file had failed
+/// before: the system may then take for written what is not.
 ///
 /// A file that is torn or damaged behind its header is no error: `Recovered::end` says so. A
 /// `ReadError` says that the file is no journal, or could not be opened, synced or read.
@@ -319,32 +349,65 @@ pub fn read_from(input: impl Read) -> Result<Recovered, ReadError> {
 /// many bytes it has cut: 0 of a file that ends whole.
 ///
 /// Nobody has to call it: `read` passes over what is torn, and the next sitting has a file of its
-/// own.
+/// own. Nobody may be writing the file: a record that comes between the last look and the cut is
+/// lost.
 ///
 /// `RepairError::Damaged` where the file is damaged, also where it looks torn and a whole record
-/// stands behind: it stays as it is. `Read` where it is no journal or could not be read, and `Io`
-/// where it could not be cut or synced.
+/// stands behind: it stays as it is. `Changed` where it has another size than was read, and it is
+/// not cut. `Read` where it is no journal or could not be opened or read, and `Io` where it could
+/// not be cut or synced.
 pub fn repair(path: impl AsRef<Path>) -> Result<u64, RepairError> {
     let path = path.as_ref();
-    let mut reader = Reader::open(path)?;
+    let file = OpenOptions::new().read(true).write(true).open(path);
+    let file = file.map_err(|why| ReadError::io(Some(path), 0, why))?;
+    let mut reader = Reader::begun(file, Some(path.to_path_buf()))?;
     for frame in reader.by_ref() {
         frame?;
     }
+    match reader.end {
+        Some(End::Damaged { at }) => Err(RepairError::Damaged { at }),
+        Some(End::Torn { at }) if reader.hides => Err(RepairError::Damaged { at }),
+        _ => cut(&reader, path),
+    }
+}
+
+/// Cuts a file behind its whole records, where it still has just the bytes that were read of it.
+fn cut(reader: &Reader<File>, path: &Path) -> Result<u64, RepairError> {
     let io = |why| RepairError::Io {
         path: path.to_path_buf(),
         why,
     };
-    let file = OpenOptions::new().write(true).open(path).map_err(io)?;
-    let cut = match reader.end {
-        Some(End::Damaged { at }) => return Err(RepairError::Damaged { at }),
-        Some(End::Torn { at }) if reader.hides => return Err(RepairError::Damaged { at }),
-        Some(End::Torn { at }) => {
-            let before = file.metadata().map_err(io)?.len();
-            file.set_len(at).map_err(io)?;
-            before - at
-        }
-        Some(End::Whole) | None => 0,
-    };
+    let file = reader.input.get_ref();
+    if file.metadata().map_err(io)?.len() != reader.taken {
+        return Err(RepairError::Changed);
+    }
+    if reader.taken != reader.whole {
+        file.set_len(reader.whole).map_err(io)?;
+    }
     file.sync_all().map_err(io)?;
-    Ok(cut)
+    Ok(reader.taken - reader.whole)
+}
+
+#[cfg(test)]
+mod tests {
+    use super::*;
+    use std::{env, fs, process};
+
+    /// A file that has grown since it was read is not cut.
+    #[test]
+    fn files_that_grow_are_not_cut() {
+        let path = env::temp_dir().join(format!("kioskbasil.grows.{}", process::id()));
+        let torn = [&Header::at(0, vec![0]).bytes()[..], &[1, 2]].concat();
+        fs::write(&path, &torn).unwrap();
+        let file = OpenOptions::new().read(true).write(true).open(&path);
+        let mut reader = Reader::begun(file.unwrap(), None).unwrap();
+        assert!(reader.next().is_none());
+        let grown = [&torn[..], &[3]].concat();
+        fs::write(&path, &grown).unwrap();
+        assert!(matches!(cut(&reader, &path), Err(RepairError::Changed)));
+        assert_eq!(fs::read(&path).unwrap(), grown);
+        fs::write(&path, &torn).unwrap();
+        assert_eq!(cut(&reader, &path).unwrap(), 2);
+        fs::remove_file(&path).unwrap();
+    }
 }

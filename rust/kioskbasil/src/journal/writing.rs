@@ -4,9 +4,11 @@ use super::log::Log;
 use super::watch::{Told, Watch};
 use super::{Doing, Header, JournalError, Safe};
 use crate::Frame;
-use std::fs::{self, File};
+use std::ffi::OsString;
+use std::fs::{self, File, OpenOptions};
 use std::io::{self, Write};
 use std::path::{Path, PathBuf};
+use std::process;
 use std::sync::Arc;
 use std::time::{Duration, Instant};
 
@@ -57,11 +59,14 @@ pub struct Journal<F: JournalFile = File> {
 
 impl Journal<File> {
     /// Makes a file with this header, and brings it to disk under its name: a crash leaves a whole
-    /// header, or no file of this name. Until then it has `.new` behind its name, and a file of
-    /// that name is overwritten.
+    /// header, or no file of this name. Until then its name is `PATH.PROCESS.NUMBER.new`, which a
+    /// crash may leave behind; then it is given its own by a hard link. So a file that is there is
+    /// never replaced, nor one that another program makes meanwhile. The folder is synced, and not
+    /// the one above it.
     ///
     /// `JournalError::Failed` where a file of this name is there (`AlreadyExists`), or it could not
-    /// be made.
+    /// be made. Where the sync of the folder failed it stays, without a frame: so a further try is
+    /// answered `AlreadyExists`.
     ///
     /// ```
     /// use kioskbasil::journal::{self, Header, Journal, SyncPolicy};
@@ -92,7 +97,7 @@ impl Journal<File> {
         policy: SyncPolicy,
     ) -> Result<Journal, JournalError> {
         let path = path.as_ref().to_path_buf();
-        let failed = |why| failed(Doing::Create, Some(path.clone()), Safe::at(&header), why);
+        let failed = |why| failed(Doing::Create, Some(path.clone()), Safe::NONE, why);
         let file = placed(&path, &header.bytes()).map_err(failed)?;
         Ok(Journal::begun(file, Some(path), &header, policy))
     }
@@ -100,18 +105,27 @@ impl Journal<File> {
 
 /// Makes a file of these bytes, which is there whole under its name, or not at all.
 fn placed(path: &Path, bytes: &[u8]) -> io::Result<File> {
-    if path.symlink_metadata().is_ok() {
-        return Err(io::ErrorKind::AlreadyExists.into());
-    }
-    let mut begun = path.to_path_buf().into_os_string();
-    begun.push(".new");
-    let mut file = File::create(&begun)?;
-    file.write_all(bytes)?;
-    file.sync_all()?;
-    fs::rename(&begun, path)?;
+    let (mut file, begun) = new_file(path)?;
+    let written = file.write_all(bytes).and_then(|()| file.sync_all());
+    let linked = written.and_then(|()| fs::hard_link(&begun, path));
+    fs::remove_file(&begun).ok();
+    linked?;
     let folder = path.parent().filter(|it| !it.as_os_str().is_empty());
     File::open(folder.unwrap_or_else(|| Path::new(".")))?.sync_all()?;
     Ok(file)
+}
+
+/// Makes a file that nobody else has, under a name of its own.
+fn new_file(path: &Path) -> io::Result<(File, OsString)> {
+    let mut number = 0;
+    loop {
+        let mut begun = path.as_os_str().to_owned();
+        begun.push(format!(".{}.{number}.new", process::id()));
+        match OpenOptions::new().write(true).create_new(true).open(&begun) {
+            Err(why) if why.kind() == io::ErrorKind::AlreadyExists => number += 1,
+            made => return Ok((made?, begun)),
+        }
+    }
 }
 
 impl<F: JournalFile> Journal<F> {
@@ -123,7 +137,7 @@ impl<F: JournalFile> Journal<F> {
         let synced = written
             .and_then(|()| file.flush())
             .and_then(|()| file.sync());
-        synced.map_err(|why| failed(Doing::Create, None, Safe::at(&header), why))?;
+        synced.map_err(|why| failed(Doing::Create, None, Safe::NONE, why))?;
         Ok(Journal::begun(file, None, &header, policy))
     }
 
@@ -145,7 +159,9 @@ impl<F: JournalFile> Journal<F> {
     ///
     /// `JournalError::NotNext` where the log does not go on with it: nothing was written.
     /// `JournalError::Failed` where the write or the sync failed, also of an earlier call: the
-    /// frame may be lost, and this journal writes no more.
+    /// frame may be lost, and this journal writes no more. Behind a write that failed those before
+    /// it are synced once; it is not recorded, and a next file begins with it. Behind a sync that
+    /// failed it is in the file, and maybe not on disk.
     pub fn write(&mut self, frame: &Frame) -> Result<(), JournalError> {
         self.told.fault()?;
         if !self.log.record_of(frame, &mut self.record) {
@@ -153,7 +169,7 @@ impl<F: JournalFile> Journal<F> {
             return Err(JournalError::NotNext { place });
         }
         if let Err(why) = self.file.write_all(&self.record) {
-            return Err(self.fail(Doing::Write, why));
+            return Err(self.fail_write(why));
         }
         self.log.take(frame);
         self.written = Safe {
@@ -179,10 +195,8 @@ impl<F: JournalFile> Journal<F> {
     pub fn sync(&mut self) -> Result<(), JournalError> {
         self.told.fault()?;
         if self.written != self.safe() {
-            if let Err(why) = self.file.flush().and_then(|()| self.file.sync()) {
-                return Err(self.fail(Doing::Sync, why));
-            }
-            self.told.raise(self.written);
+            let synced = self.sync_file();
+            synced.map_err(|why| self.fail(Doing::Sync, why))?;
         }
         self.synced_at = Instant::now();
         Ok(())
@@ -199,15 +213,39 @@ impl<F: JournalFile> Journal<F> {
     }
 
     /// The header of a next file for the same log, which goes on behind the frames that were
-    /// written: where one file grows too long, or a write has failed. Behind a sync that has failed
-    /// the frames behind `safe` may be in neither file.
-    pub fn next_header(&self) -> Header {
-        Header::at(self.log.place, self.log.next.clone())
+    /// written: where one file grows too long, or a write has failed. It syncs this one before,
+    /// unless that has failed: so all before a next file is on disk, and a `Watch` on that may say
+    /// so.
+    ///
+    /// `JournalError::Failed` where frames that were written may not be on disk, since a sync has
+    /// failed: then nothing goes on from this file but what is read back of it.
+    pub fn next_header(&mut self) -> Result<Header, JournalError> {
+        match self.sync() {
+            Err(why) if self.safe() != self.written => Err(why),
+            _ => Ok(Header::at(self.log.place, self.log.next.clone())),
+        }
     }
 
     /// The file.
     pub fn into_file(self) -> F {
         self.file
+    }
+
+    /// Brings what was written to disk, and tells who waits.
+    fn sync_file(&mut self) -> io::Result<()> {
+        self.file.flush()?;
+        self.file.sync()?;
+        self.told.raise(self.written);
+        Ok(())
+    }
+
+    /// A write has failed. What was written whole before is brought to disk by one sync, so that a
+    /// next file may begin behind it. Nothing more is asked of the file.
+    fn fail_write(&mut self, why: io::Error) -> JournalError {
+        if self.written != self.safe() {
+            self.sync_file().ok();
+        }
+        self.fail(Doing::Write, why)
     }
 
     fn fail(&mut self, doing: Doing, why: io::Error) -> JournalError {

@@ -66,7 +66,8 @@ fn short_writes_go_on() {
     }
 }
 
-/// Whichever write, flush or sync fails, once or for good, it is the last of its journal.
+/// Whichever write, flush or sync fails, once or for good, it is the last of its journal, but for
+/// one sync of what was written whole before a write that has failed.
 #[test]
 fn nothing_follows_a_call_that_failed() {
     let frames = frames();
@@ -117,8 +118,15 @@ fn stops(frames: &[Frame], policy: SyncPolicy, short: usize, fails: Failing) {
     let read = journal::read_from(&bytes[..synced]).unwrap();
     let found = (read.place(), read.frames().len() as u64, read.whole_bytes());
     assert_eq!(found, (safe.place, safe.frames, safe.bytes), "{fails:?}");
-    assert_eq!(read.end(), End::Whole, "{fails:?}");
+    // A part of the record that failed may have been brought to disk too.
+    let at = safe.bytes;
+    let torn = fails.call == Call::Write && synced as u64 > at;
+    let end = if torn { End::Torn { at } } else { End::Whole };
+    assert_eq!(read.end(), end, "{fails:?}");
     let read = journal::read_from(&bytes[..]).unwrap();
+    if fails.call == Call::Write {
+        assert_eq!(read.frames().len() as u64, safe.frames, "{fails:?}");
+    }
     assert_eq!(read.frames(), &frames[..read.frames().len()], "{fails:?}");
     assert!(read.page().is_ok(), "{fails:?}");
 }
@@ -156,7 +164,8 @@ fn failures_wake_who_waits() {
     }
 }
 
-/// Where a write has failed a next file begins with the frame that is not in the first.
+/// Where a write has failed a next file begins with the frame that is not in the first, and all
+/// before it is on disk.
 #[test]
 fn a_next_file_goes_on_behind_a_failed_write() {
     let frames = frames();
@@ -171,7 +180,11 @@ fn a_next_file_goes_on_behind_a_failed_write() {
         let mut journal = journal.unwrap();
         record(&mut journal, &frames).unwrap_err();
         let (before, behind) = frames.split_at(from - 2);
-        let mut next = Journal::on(Vec::new(), journal.next_header(), SyncPolicy::Never).unwrap();
+        let header = journal.next_header().unwrap();
+        assert_eq!(journal.safe().place, header.place());
+        // One sync for two frames, or for one that was left, behind that of the header.
+        assert_eq!(disk.see(|it| it.count(Call::Sync)), 1 + (from - 1) / 2);
+        let mut next = Journal::on(Vec::new(), header, SyncPolicy::Never).unwrap();
         behind.iter().for_each(|frame| next.write(frame).unwrap());
         let first = journal::read_from(&disk.see(|it| it.bytes.clone())[..]).unwrap();
         let second = journal::read_from(&next.into_file()[..]).unwrap();
@@ -180,4 +193,38 @@ fn a_next_file_goes_on_behind_a_failed_write() {
         assert_eq!(header.place(), first.place());
         assert_eq!(header.first_numbers(), first.next_numbers());
     }
+}
+
+/// No next file begins where something before it may not be on disk; what is written is synced.
+#[test]
+fn no_next_file_begins_behind_what_may_be_lost() {
+    let frames = frames();
+    for call in [Call::Flush, Call::Sync] {
+        // The header takes the first call.
+        let fails = Failing {
+            call,
+            from: 2,
+            once: true,
+        };
+        let (_, journal) = begun(SyncPolicy::Never, 0, Some(fails));
+        let mut journal = journal.unwrap();
+        journal.write(&frames[0]).unwrap();
+        let why = failure(journal.sync().unwrap_err());
+        assert_eq!(failure(journal.next_header().unwrap_err()), why);
+
+        // The sync behind a write that has failed fails too.
+        let (disk, journal) = begun(SyncPolicy::Never, 0, Some(fails));
+        let mut journal = journal.unwrap();
+        journal.write(&frames[0]).unwrap();
+        disk.see(|it| it.full_at = Some(it.bytes.len()));
+        let why = failure(journal.write(&frames[1]).unwrap_err());
+        assert_eq!((why.0, why.1.frames), (Doing::Write, 0));
+        assert_eq!(failure(journal.next_header().unwrap_err()), why);
+    }
+    let (disk, journal) = begun(SyncPolicy::Never, 0, None);
+    let mut journal = journal.unwrap();
+    journal.write(&frames[0]).unwrap();
+    let header = journal.next_header().unwrap();
+    assert_eq!(header.place(), journal.safe().place);
+    assert!(disk.see(|it| it.synced == it.bytes.len()));
 }

@@ -34,6 +34,19 @@ fn whole_records_are_read() {
     assert_eq!(read.page().unwrap().next_numbers()[..3], [9, 8, 0]);
 }
 
+/// A page keeps the numbers of senders that the file has not.
+#[test]
+fn pages_keep_other_senders() {
+    let read = journal::read_from(&small()[..]).unwrap();
+    let before = Page::from_numbers(&[70, 80, 90]).unwrap();
+    let page = read.page_after(&before).unwrap();
+    assert_eq!(page.next_numbers()[..4], [9, 8, 90, 0]);
+    assert!(page.has_ended());
+    let cut = journal::read_from(&[&small()[..], &[1; 9]].concat()[..]).unwrap();
+    let damaged = Err(GoOnError::Damaged { at: 144 });
+    assert_eq!(cut.page_after(&before), damaged);
+}
+
 /// A reader that has a frame at a time says the same, and ends for good.
 #[test]
 fn readers_give_frames_one_by_one() {

@@ -66,7 +66,7 @@ fn runs_are_recorded_and_go_on() {
         assert_eq!((read.end(), read.has_ended()), (End::Whole, true));
         assert_eq!(read.left()[..3], [false, true, false]);
         assert_eq!(read.header().first_numbers(), [1000 * round; 3]);
-        page = read.page().unwrap();
+        page = read.page_after(&page).unwrap();
         assert_eq!(
             page.next_numbers()[..4],
             [

@@ -7,7 +7,7 @@ use kioskbasil::journal::{self, Doing, End, Header, Journal, JournalError};
 use kioskbasil::journal::{ReadError, RepairError, SyncPolicy, Watch};
 use kioskbasil::{Body, Frame, Page};
 use std::time::Duration;
-use std::{fs, thread};
+use std::{fs, process, thread};
 
 #[test]
 fn these_bytes_are_written() {
@@ -75,7 +75,8 @@ fn files_go_on_in_a_next_one() {
     let frames = heard(3);
     let mut journal = Journal::on(Vec::new(), header(1), SyncPolicy::Never).unwrap();
     journal.write(&frames[0]).unwrap();
-    let mut next = Journal::on(Vec::new(), journal.next_header(), SyncPolicy::Never).unwrap();
+    let header = journal.next_header().unwrap();
+    let mut next = Journal::on(Vec::new(), header, SyncPolicy::Never).unwrap();
     frames[1..].iter().for_each(|it| next.write(it).unwrap());
     let read = journal::read_from(&next.into_file()[..]).unwrap();
     assert_eq!(
@@ -261,9 +262,10 @@ fn watches_are_told() {
 fn files_are_made_whole_and_once() {
     let folder = Folder::new("create");
     let path = folder.file("journal");
-    fs::write(folder.file("journal.new"), "of a crash").unwrap();
+    let begun = folder.file(&format!("journal.{}.0.new", process::id()));
+    fs::write(&begun, "of a crash").unwrap(); // it may be another thread's, so it stays
     let mut journal = Journal::create(&path, header(1), SyncPolicy::EachFrame).unwrap();
-    assert!(!folder.file("journal.new").exists());
+    assert_eq!(fs::read(&begun).unwrap(), b"of a crash");
     let frames = heard(2);
     frames.iter().for_each(|it| journal.write(it).unwrap());
     drop(journal);
@@ -271,8 +273,9 @@ fn files_are_made_whole_and_once() {
     let text = again.to_string();
     assert!(text.contains("journal is not made: "), "{text}");
     let (doing, safe, _) = failure(again);
-    assert_eq!((doing, safe.frames, safe.place), (Doing::Create, 0, 0));
+    assert_eq!((doing, safe.frames, safe.bytes), (Doing::Create, 0, 0));
     assert_eq!(journal::read(&path).unwrap().frames(), frames);
+    assert_eq!(fs::read_dir(path.parent().unwrap()).unwrap().count(), 2);
     let nowhere = folder.file("no/journal");
     let refused = Journal::create(nowhere, header(1), SyncPolicy::Never);
     assert_eq!(failure(refused.unwrap_err()).0, Doing::Create);
