@@ -45,16 +45,16 @@ static struct {
     size_t many;
 } cache;
 
-/* Takes so many bytes of the cache to the file. */
+/* Takes so many bytes of the cache to the file. What that has taken is there once, also where it
+   takes no more. */
 static bool flush(int file, size_t many) {
-    size_t done = 0;
-    while (done < many) {
-        ssize_t more = write(file, cache.kept + done, many - done);
+    while (many) {
+        ssize_t more = write(file, cache.kept, many);
         if (more < 0) return false;
-        done += (size_t)more;
+        many -= (size_t)more;
+        cache.many -= (size_t)more;
+        memmove(cache.kept, cache.kept + more, cache.many);
     }
-    cache.many -= many;
-    memmove(cache.kept, cache.kept + many, cache.many);
     return true;
 }
 

@@ -88,13 +88,25 @@ struct Cached {
     dice: Dice,
 }
 
+impl Cached {
+    /// Takes so many bytes of the cache to the file. What that has taken is there once, also where
+    /// it takes no more.
+    fn take(&mut self, mut many: usize) -> io::Result<()> {
+        while many > 0 {
+            let more = self.file.write(&self.kept[..many])?;
+            self.kept.drain(..more);
+            many -= more;
+        }
+        Ok(())
+    }
+}
+
 impl Write for Cached {
     fn write(&mut self, bytes: &[u8]) -> io::Result<usize> {
         self.kept.extend_from_slice(bytes);
         if self.dice.below(4) == 0 {
             let some = self.dice.below(self.kept.len() as u64 + 1) as usize;
-            self.file.write_all(&self.kept[..some])?;
-            self.kept.drain(..some);
+            self.take(some)?;
         }
         Ok(bytes.len())
     }
@@ -107,8 +119,7 @@ impl Write for Cached {
 impl JournalFile for Cached {
     fn sync(&mut self) -> io::Result<()> {
         thread::sleep(Duration::from_micros(self.dice.below(3000)));
-        self.file.write_all(&self.kept)?;
-        self.kept.clear();
+        self.take(self.kept.len())?;
         self.file.sync_data()
     }
 }

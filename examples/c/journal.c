@@ -1,8 +1,9 @@
 /* Three workers count, and what they say is on disk. A run replays the journals of those before
    it, and goes on with their numbers in a file of its own: `journal FOLDER` counts 300 more.
    Kill it, and run it again. It goes on from what the example of this name in Rust has left, and
-   that from it. */
+   that from it. One at a time has a folder: two would give the same numbers. */
 #include "journal.h"
+#include <dirent.h>
 #include <stdlib.h>
 
 enum { WORKERS = 3, TIMES = 100 };
@@ -16,20 +17,47 @@ static void count(void *given, const struct kioskbasil_frame *frame) {
     *(uint64_t *)given += frame->many;
 }
 
+static void stop(const char *path, const char *why) {
+    fprintf(stderr, "%s: %s\n", path, why);
+    exit(1);
+}
+
+/* One above the greatest number of a file of a folder. */
+static unsigned files(const char *folder) {
+    DIR *names = opendir(folder);
+    struct dirent *name;
+    unsigned number, many = 0;
+    char more;
+    if (!names) stop(folder, strerror(errno));
+    while ((name = readdir(names)))
+        if (sscanf(name->d_name, "journal.%u%c", &number, &more) == 1 && number >= many)
+            many = number + 1;
+    closedir(names);
+    return many;
+}
+
 /* What the journals of a folder say: how many messages there are, the page of the next bus, and
-   the path of the next file. Behind a torn end it goes on, and behind a damaged one it does not. */
+   the path of the next file. Behind a torn end it goes on. It stops at a file that is damaged or
+   missing, and at one whose first numbers are not those behind the file before. */
 static uint64_t recover(const char *folder, kioskbasil_left *page, char *path) {
     static struct kioskbasil_journal_reader reader;
     uint64_t counted = 0;
+    unsigned many = files(folder);
     page->ended = true; /* no bus was before the first */
-    for (unsigned number = 0;; number++) {
+    for (unsigned number = 0; number < many; number++) {
         uint32_t code;
+        char why[256];
         sprintf(path, "%s/journal.%u", folder, number);
-        if (access(path, F_OK)) return counted;
         code = kioskbasil_journal_recover(&reader, path, count, &counted);
+        if (code == JOURNAL_FAILED)
+            stop(path, kioskbasil_fault_text(&reader.fault, why, sizeof why));
+        if (!code && memcmp(reader.header.first, page->next, 8 * reader.header.senders))
+            stop(path, "what stands before it is missing");
         if (!code) code = kioskbasil_journal_page(&reader, page);
-        if (code) fprintf(stderr, "%s: %s\n", path, kioskbasil_journal_text(code)), exit(1);
+        if (code) stop(path, kioskbasil_journal_text(code));
     }
+    sprintf(path, "%s/journal.%u", folder, many);
+    return counted;
 }
 
 /* Records all frames, up to 100 that are there by one sync. After a failure each call says so. */
@@ -42,7 +70,8 @@ static void *record(void *given) {
             if (kioskbasil_journal_record(&journal, ear, &frames, &bell)) break;
         kioskbasil_journal_sync(&journal);
     } while (!code);
-    free_receiver(ear, &bell); /* so that no worker waits for it */
+    free_receiver(ear, &bell); /* so that no worker waits for it, */
+    kioskbasil_journal_close(&journal); /* nor for what is not recorded */
     return code == KIOSKBASIL_END ? given : NULL;
 }
 
@@ -89,7 +118,6 @@ int main(int arguments, char **argument) {
         end_order(senders, &seed, &bell); /* so the recording ends too */
         pthread_join(threads[WORKERS], &done);
         if (!done) failed = path;
-        kioskbasil_journal_close(&journal);
     }
     for (int i = 0; i < WORKERS; i++) free_sender(&senders[i], &bell);
     free_receiver(ear, &bell);

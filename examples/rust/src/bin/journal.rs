@@ -1,10 +1,11 @@
 //! Three workers count, and what they say is on disk. A run replays the journals of those before
-//! it, and goes on with their numbers in a file of its own: `cargo run --bin journal FOLDER` in this
-//! folder counts 300 more. Kill it, and run it again.
+//! it, and goes on with their numbers in a file of its own: `cargo run --bin journal FOLDER` in
+//! this folder counts 300 more. Kill it, and run it again. One at a time has a folder: two would
+//! give the same numbers.
 
 use kioskbasil::journal::{self, Header, Journal, JournalError, SyncPolicy, Watch};
 use kioskbasil::{Bus, Page, Receiver, Sender, Shape, Turn};
-use std::{env, error::Error, fs, iter, thread};
+use std::{env, error::Error, fs, io, iter, thread};
 
 type Fault = Box<dyn Error + Send + Sync>;
 
@@ -32,19 +33,41 @@ fn work(mut sender: Sender, on_disk: &Watch) -> Result<(), Fault> {
     Ok(())
 }
 
+/// One above the greatest number of a file of a folder.
+fn files(folder: &str) -> io::Result<u32> {
+    let names = fs::read_dir(folder)?.collect::<Result<Vec<_>, _>>()?;
+    let number = |name: &str| name.strip_prefix("journal.")?.parse::<u32>().ok();
+    let numbers = names
+        .iter()
+        .filter_map(|it| number(it.file_name().to_str()?));
+    Ok(numbers.max().map_or(0, |last| last + 1))
+}
+
+/// What the journals of a folder say: the page of the next bus, how many messages there are, and
+/// the path of the next file. What a crash has torn is passed over. Err names a file that is
+/// missing, or whose first numbers are not those behind the file before.
+fn recover(folder: &str) -> Result<(Page, usize, String), Fault> {
+    let file = |number| format!("{folder}/journal.{number}");
+    let (mut page, mut count, many) = (Page::from_numbers(&[0])?, 0, files(folder)?);
+    for number in 0..many {
+        let read = journal::read(file(number))?;
+        let first = read.header().first_numbers();
+        if first != &page.next_numbers()[..first.len()] {
+            return Err(format!("{}: what stands before it is missing", file(number)).into());
+        }
+        (page, count) = (read.page_after(&page)?, count + read.items().count());
+    }
+    Ok((page, count, file(many)))
+}
+
 fn main() -> Result<(), Fault> {
     let folder = env::args().nth(1).ok_or("usage: journal FOLDER")?;
     fs::create_dir_all(&folder)?;
-    let file = |number| format!("{folder}/journal.{number}");
-    let (mut page, mut count, mut number) = (Page::from_numbers(&[0])?, 0, 0);
-    while fs::metadata(file(number)).is_ok() {
-        let read = journal::read(file(number))?; // what a crash has torn is passed over
-        (page, count, number) = (read.page()?, count + read.items().count(), number + 1);
-    }
+    let (page, count, path) = recover(&folder)?;
     let mut shape = Shape::of(3, 1);
     shape.ring = true;
     let (senders, mut ears) = Bus::open_after(shape, page)?;
-    let journal = Journal::create(file(number), Header::after(3, &page)?, SyncPolicy::Never)?;
+    let journal = Journal::create(path, Header::after(3, &page)?, SyncPolicy::Never)?;
     let (watch, ear) = (&journal.watch(), ears.remove(0));
     senders[0].end_with_senders(); // so the recording ends too
     thread::scope(|scope| {

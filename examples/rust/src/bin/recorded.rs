@@ -1,12 +1,12 @@
 //! Three workers replicate a map, and what they say is on disk. A run replays the journals of
 //! those before it, and goes on in a file of its own. `cargo run --bin recorded FOLDER` in this
 //! folder has each count 100 more, or as many as a number behind FOLDER says. Kill it, and run it
-//! again.
+//! again. One at a time has a folder: two would give the same numbers.
 
 use kioskbasil::journal::{self, Header, Journal, SyncPolicy, Watch};
 use kioskbasil::replica::{replay, Replica, Replicas, State};
 use kioskbasil::{Page, Shape};
-use std::{collections::BTreeMap, env, error::Error, fs, iter, thread};
+use std::{collections::BTreeMap, env, error::Error, fs, io, iter, thread};
 
 type Fault = Box<dyn Error + Send + Sync>;
 
@@ -36,20 +36,42 @@ fn work(mut replica: Replica<Map>, times: u64, on_disk: &Watch) -> Result<Map, F
     Ok(replica.finish()?)
 }
 
+/// One above the greatest number of a file of a folder.
+fn files(folder: &str) -> io::Result<u32> {
+    let names = fs::read_dir(folder)?.collect::<Result<Vec<_>, _>>()?;
+    let number = |name: &str| name.strip_prefix("recorded.")?.parse::<u32>().ok();
+    let numbers = names
+        .iter()
+        .filter_map(|it| number(it.file_name().to_str()?));
+    Ok(numbers.max().map_or(0, |last| last + 1))
+}
+
+/// What the journals of a folder say: the page of the next bus, the state, and the path of the next
+/// file. What a crash has torn is passed over. Err names a file that is missing, or whose first
+/// numbers are not those behind the file before.
+fn recover(folder: &str) -> Result<(Page, Map, String), Fault> {
+    let file = |number| format!("{folder}/recorded.{number}");
+    let (mut page, mut state, many) = (Page::from_numbers(&[0])?, Map::default(), files(folder)?);
+    for number in 0..many {
+        let read = journal::read(file(number))?;
+        let first = read.header().first_numbers();
+        if first != &page.next_numbers()[..first.len()] {
+            return Err(format!("{}: what stands before it is missing", file(number)).into());
+        }
+        page = read.page_after(&page)?;
+        replay(&mut state, read.frames())?;
+    }
+    Ok((page, state, file(many)))
+}
+
 fn main() -> Result<(), Fault> {
     let folder = env::args().nth(1).ok_or("usage: recorded FOLDER [TIMES]")?;
     let times = env::args().nth(2).map_or(Ok(100), |it| it.parse())?;
     fs::create_dir_all(&folder)?;
-    let file = |number| format!("{folder}/recorded.{number}");
-    let (mut page, mut state, mut number) = (Page::from_numbers(&[0])?, Map::default(), 0);
-    while fs::metadata(file(number)).is_ok() {
-        let read = journal::read(file(number))?; // what a crash has torn is passed over
-        (page, number) = (read.page()?, number + 1);
-        replay(&mut state, read.frames())?;
-    }
+    let (page, state, path) = recover(&folder)?;
     let (shape, header) = (Shape::of_workers(3), Header::after(3, &page)?);
     let (replicas, mut ear) = Replicas::open_recorded(shape, &page, || state.clone())?;
-    let mut journal = Journal::create(file(number), header, SyncPolicy::EachFrame)?;
+    let mut journal = Journal::create(path, header, SyncPolicy::EachFrame)?;
     let on_disk = &journal.watch();
     thread::scope(|scope| {
         let records = scope.spawn(move || {
