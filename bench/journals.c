@@ -717,6 +717,7 @@ static void other_records(void) {
 static void pages(void) {
     kioskbasil_left page = {.next = {70, 80, 90}, .bases = {7, 8, 9}, .gone = {true, true, true}};
     kioskbasil_left before = page;
+    struct kioskbasil_journal_header header;
     EXPECT(record_all(JOURNAL_NEVER), KIOSKBASIL_OK);
     EXPECT(kioskbasil_journal_close(&journal), KIOSKBASIL_OK);
     EXPECT(recovered(path, 0), FRAMES);
@@ -725,6 +726,20 @@ static void pages(void) {
     EXPECT(page.next[0] == 6 && page.next[1] == 6 && page.next[2] == 90 && !page.next[3], true);
     EXPECT(page.bases[0] == 0 && page.bases[1] == 0 && page.bases[2] == 9, true);
     EXPECT(!page.gone[0] && !page.gone[1] && page.gone[2] && page.ended, true);
+    /* A next file of the same log has no numbers of its beginning, nor who has left before. */
+    page.bases[0] = 3;
+    page.gone[1] = true;
+    EXPECT(create(2, JOURNAL_NEVER), KIOSKBASIL_OK);
+    EXPECT(kioskbasil_journal_write(&journal, &frames[0]), KIOSKBASIL_OK);
+    EXPECT(kioskbasil_journal_next_header(&journal, &header), KIOSKBASIL_OK);
+    EXPECT(kioskbasil_journal_close(&journal), KIOSKBASIL_OK);
+    unlink(next_path);
+    EXPECT(kioskbasil_journal_create(&journal, next_path, &header, JOURNAL_NEVER, 0), 0);
+    EXPECT(kioskbasil_journal_close(&journal), KIOSKBASIL_OK);
+    EXPECT(recovered(next_path, 1), 0);
+    EXPECT(kioskbasil_journal_page(&reader, &page), KIOSKBASIL_OK);
+    EXPECT(page.next[0] == 1 && page.bases[0] == 3 && page.bases[1] == 0, true);
+    EXPECT(!page.gone[0] && page.gone[1] && page.gone[2], true);
     put_file(next_path, "KIOSKLOG\0\0\0\0\0\0\0\1", 16);
     page = before;
     EXPECT(kioskbasil_journal_recover(&reader, next_path, NULL, NULL), JOURNAL_TORN_HEADER);

@@ -52,7 +52,7 @@ static uint64_t recover(const char *folder, kioskbasil_left *page, char *path) {
         if (code == JOURNAL_FAILED)
             stop(path, kioskbasil_fault_text(&reader.fault, why, sizeof why));
         if (!code && memcmp(reader.header.first, page->next, 8 * reader.header.senders))
-            stop(path, "what stands before it is missing");
+            stop(path, "it does not go on from the file before");
         if (!code) code = kioskbasil_journal_page(&reader, page);
         if (code) stop(path, kioskbasil_journal_text(code));
     }

@@ -1115,11 +1115,12 @@ static inline uint32_t kioskbasil_journal_recover(
 /* The page with which the next bus goes on (kioskbasil_open_after), of a journal that was read
    to its end. `page` has that of the files before: before the first, `kioskbasil_left page =
    {.ended = true};`. Of the senders of this file it sets `next`; `bases`, to the header's first
-   numbers; and `gone`, to who has left in it, all of whom a next bus has again. The numbers of
-   other senders stay: they are those of an earlier file. `ended` is set, since the next bus begins
-   an order of its own: whether the end mark was recorded says it->log.ended. All else stays.
-   Behind a torn end the numbers are those behind the last whole frame: so what nobody was told to
-   be on disk may be lost, and its numbers are given again.
+   numbers; and `gone`, to who has left in it, all of whom a next bus has again. Where the file
+   goes on in the log of the one before, `bases` stay, and so does who has left there. The numbers
+   of other senders stay: they are those of an earlier file. `ended` is set, since the next bus
+   begins an order of its own: whether the end mark was recorded says it->log.ended. All else
+   stays. Behind a torn end the numbers are those behind the last whole frame: so what nobody was
+   told to be on disk may be lost, and its numbers are given again.
 
    Where header.first has other numbers than `next` of the page before, a file or its end is
    missing between. This does not look: examples/c/journal.c does.
@@ -1129,17 +1130,18 @@ static inline uint32_t kioskbasil_journal_recover(
 static inline uint32_t kioskbasil_journal_page(const struct kioskbasil_journal_reader *it,
                                                kioskbasil_left *page) {
     const uint64_t numbers = (UINT64_C(1) << 48) - 65536;
-    size_t senders;
+    bool goes_on = it && it->header.place; /* in the log of the file before */
     if (!it || !page) return KIOSKBASIL_NULL;
     if (it->code != KIOSKBASIL_OK) return it->code;
     if (!it->end) return JOURNAL_NOT_READ;
     if (it->end == JOURNAL_DAMAGED || it->hides) return JOURNAL_DAMAGED;
-    senders = it->log.senders;
-    for (size_t i = 0; i < senders; i++)
+    for (size_t i = 0; i < it->log.senders; i++)
         if (it->log.next[i] >= numbers) return KIOSKBASIL_NUMBERS_USED;
-    memcpy(page->bases, it->header.first, senders * sizeof *page->bases);
-    memcpy(page->next, it->log.next, senders * sizeof *page->next);
-    memcpy(page->gone, it->log.left, senders * sizeof *page->gone);
+    for (size_t i = 0; i < it->log.senders; i++) {
+        page->next[i] = it->log.next[i];
+        if (!goes_on) page->bases[i] = it->header.first[i];
+        page->gone[i] = it->log.left[i] || (goes_on && page->gone[i]);
+    }
     page->ended = true;
     return KIOSKBASIL_OK;
 }

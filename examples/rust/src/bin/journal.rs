@@ -53,7 +53,7 @@ fn recover(folder: &str) -> Result<(Page, usize, String), Fault> {
         let read = journal::read(file(number))?;
         let first = read.header().first_numbers();
         if first != &page.next_numbers()[..first.len()] {
-            return Err(format!("{}: what stands before it is missing", file(number)).into());
+            return Err(format!("{}: it does not go on from the file before", file(number)).into());
         }
         (page, count) = (read.page_after(&page)?, count + read.items().count());
     }

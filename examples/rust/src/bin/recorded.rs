@@ -56,7 +56,7 @@ fn recover(folder: &str) -> Result<(Page, Map, String), Fault> {
         let read = journal::read(file(number))?;
         let first = read.header().first_numbers();
         if first != &page.next_numbers()[..first.len()] {
-            return Err(format!("{}: what stands before it is missing", file(number)).into());
+            return Err(format!("{}: it does not go on from the file before", file(number)).into());
         }
         page = read.page_after(&page)?;
         replay(&mut state, read.frames())?;

@@ -273,7 +273,7 @@ impl Recovered {
         &self.log.next
     }
 
-    /// Which senders have left. A next bus has all of them again.
+    /// Which senders have left in this file. A next bus has all of them again.
     pub fn left(&self) -> &[bool; MOST_SENDERS] {
         &self.log.left
     }
