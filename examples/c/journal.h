@@ -803,9 +803,9 @@ static inline uint32_t kioskbasil_journal_write(struct kioskbasil_journal *it,
 /* Hears the next whole frame that is there, and writes it: it is in frames->frame then. By
    JOURNAL_EACH_FRAME it is on disk before this gives it.
    KIOSKBASIL_OK; EMPTY or END, as kioskbasil_try_frame; or what kioskbasil_journal_write answers.
-   Behind a write that has failed, and JOURNAL_NOT_NEXT, frames->frame is the one that is not
-   recorded: a next file begins with it. Behind a sync that has failed it is in the file, and maybe
-   not on disk. A journal that had failed before hears nothing. */
+   Behind a write that has failed frames->frame is not recorded, and a next file begins with it.
+   Behind a sync that has failed it is in the file, and maybe not on disk. By JOURNAL_NOT_NEXT it is
+   not recorded. A journal that had failed before hears nothing. */
 static inline uint32_t kioskbasil_journal_record(struct kioskbasil_journal *it,
                                                  kioskbasil_receiver *receiver,
                                                  struct kioskbasil_frames *frames,
@@ -1122,8 +1122,8 @@ static inline uint32_t kioskbasil_journal_recover(
    stays. Behind a torn end the numbers are those behind the last whole frame: so what nobody was
    told to be on disk may be lost, and its numbers are given again.
 
-   Where header.first has other numbers than `next` of the page before, a file or its end is
-   missing between. This does not look: examples/c/journal.c does.
+   Where header.first has other numbers than `next` of the page before, frames are missing between,
+   or two programs ran at once. This does not look: examples/c/journal.c does.
    KIOSKBASIL_OK; JOURNAL_DAMAGED, where whole frames may be missing; KIOSKBASIL_NUMBERS_USED
    where a number is 2^48 - 65,536 or more; JOURNAL_NOT_READ; or why it was not read. Unless it is
    OK the page stays as it was. */

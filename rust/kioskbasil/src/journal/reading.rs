@@ -296,8 +296,9 @@ impl Recovered {
     /// others. Behind a torn end the numbers are those behind the last whole frame, so what nobody
     /// was told to be on disk may be lost, and its numbers are given again.
     ///
-    /// Where the header's first numbers are others than those of `before`, a file or its end is
-    /// missing between. This does not look: `examples/rust/src/bin/journal.rs` does.
+    /// Where the header's first numbers are others than those of `before`, frames are missing
+    /// between, or two programs ran at once. This does not look:
+    /// `examples/rust/src/bin/journal.rs` does.
     ///
     /// `GoOnError::Damaged` where it is damaged, so that whole frames may be missing: who knows
     /// their numbers goes on by `Page::from_numbers`. `Numbers` where those of a sender are used
