@@ -12,12 +12,12 @@ ghost use Rattle.bus_replica.specs.Replicas.{LeadTo, replayed_by, sitting_of};
 ghost use Rattle.bus_replica.specs.Replicas.{HaveAllLeft, HasNobodyLeft, has_heard_leave};
 
 use crate::faults::Fault;
+use crate::pasts::Past;
 use crate::states::State;
 use bus_deliverylog::Order;
 use bus_handles::{Item, ItemTurn, ReceiverHandle, RecvTurn, SenderHandle, ThreeWord};
 use bus_register::SenderNo;
 use std::marker::Model;
-use std::snapshot::Snapshot;
 use std::sync::Wait;
 
 /// How many numbers a worker can have.
@@ -53,7 +53,7 @@ pub struct Hearer<S: State> {
     receiver: ReceiverHandle<ThreeWord>,
     state: S,
     /// What was replayed before its first turn, for clauses alone.
-    replayed: Snapshot<Order>,
+    replayed: Past<Order>,
     /// Of each number: whether that worker was heard to have left.
     left: [bool; NUMBERS],
 }
@@ -81,11 +81,7 @@ impl<S: State> Hearer<S> {
 
     /// A hearer by this receiver, of a state that all that was replayed and that it has heard leads
     /// to.
-    pub fn new(
-        receiver: ReceiverHandle<ThreeWord>,
-        state: S,
-        replayed: Snapshot<Order>,
-    ) -> Hearer<S>
+    pub fn new(receiver: ReceiverHandle<ThreeWord>, state: S, replayed: Past<Order>) -> Hearer<S>
         requires fold { IsFold (LeadTo S.is_first S.applies (replayed_by replayed.value)) S.applies
             receiver.me.0 state }
         requires nobody { HasNobodyLeft receiver.me.0 }

@@ -23,6 +23,7 @@ pub mod long_laws;
 mod longs;
 mod opening;
 mod pages;
+mod pasts;
 pub mod recorded_laws;
 mod replaying;
 mod replicas;

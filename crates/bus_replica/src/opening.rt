@@ -12,6 +12,7 @@ ghost use Rattle.bus_replica.specs.declared.opening.TheConstants.{LOG_WORDS};
 ghost use Rattle.bus_replica.specs.Openings.{replica_shape};
 
 use crate::faults::OpenFault;
+use crate::pasts::Past;
 use crate::replaying::replayed;
 use crate::replicas::Replica;
 use crate::states::State;
@@ -24,7 +25,6 @@ use bus_handles::{
 use bus_register::NoMemory;
 use bus_register::limits::MOST_FRAME_WORDS;
 use std::alloc::Global;
-use std::snapshot::Snapshot;
 
 /// How many words the log of `open_replicas` has.
 pub const LOG_WORDS: u64 = 32_768;
@@ -152,9 +152,9 @@ fn pair<S: State>(
         };
         let bell = receiver.bell()?;
         let state = replayed(alloc, order)?;
-        let snapshot = Snapshot::of(order);
+        let past = Past::of(order);
         let workers = shape.senders as u8;
-        replicas.push(Replica::new(sender, receiver, state, snapshot, workers, bell))?;
+        replicas.push(Replica::new(sender, receiver, state, past, workers, bell))?;
     }
     Ok(replicas)
 }

@@ -16,6 +16,7 @@ ghost use Rattle.bus_replica.specs.Replicas.{GoesOn, HasCaughtUp, HaveAllLeft, H
 ghost use Rattle.bus_replica.specs.Replicas.{HearsOut, PutsStayLeaving, Replicated};
 
 use crate::faults::Fault;
+use crate::pasts::Past;
 use crate::states::State;
 use crate::workers::Worker;
 use bus_batch::Message;
@@ -24,7 +25,6 @@ use bus_handles::{ReceiverHandle, SenderHandle, SenderNo, ThreeWord};
 use bus_register::limits::MOST_BYTES;
 use bus_waiting::SharedBell;
 use std::marker::Model;
-use std::snapshot::Snapshot;
 use std::sync::Wait;
 
 /// A worker's replica of a state, with the sender and the receiver by which it takes part. One
@@ -54,7 +54,7 @@ impl<S: State> Replica<S> {
         sender: SenderHandle<ThreeWord>,
         receiver: ReceiverHandle<ThreeWord>,
         state: S,
-        replayed: Snapshot<Order>,
+        replayed: Past<Order>,
         workers: u8,
         bell: SharedBell,
     ) -> Replica<S>

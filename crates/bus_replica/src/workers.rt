@@ -21,6 +21,7 @@ ghost use Rattle.bus_automaton.specs.ThreeWordBuses.{Held};
 
 use crate::faults::Fault;
 use crate::hearers::Hearer;
+use crate::pasts::Past;
 use crate::states::State;
 use bus_automaton::laws::threads_may_go_by;
 use bus_batch::Message;
@@ -30,7 +31,6 @@ use bus_pageslot::sending_laws::senders_stay_who_they_are;
 use bus_register::limits::{MOST_BYTES, MOST_MESSAGES};
 use bus_waiting::Waiter;
 use std::marker::Model;
-use std::snapshot::Snapshot;
 use std::sync::Wait;
 use std::thread;
 
@@ -71,7 +71,7 @@ impl<S: State> Worker<S> {
         sender: SenderHandle<ThreeWord>,
         receiver: ReceiverHandle<ThreeWord>,
         state: S,
-        replayed: Snapshot<Order>,
+        replayed: Past<Order>,
         workers: u8,
     ) -> Worker<S>
         requires table { table_of sender ≡ receiver.bus.table }

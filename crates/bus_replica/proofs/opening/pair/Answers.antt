@@ -39,7 +39,7 @@ new-requires-clause-workers g c =
 pub new-requires-clause-fold : goal.new-requires-clause-fold
 new-requires-clause-fold g c =
     fold_of_none (LeadTo g.S.State.is_first g.S.State.applies
-    (replayed_by c.of-snapshot.result.value))
+    (replayed_by c.of-past.result.value))
     g.S.State.applies c.in-Some.receiver.me
     (automaton c.loop-receiver.invariant.bus.plan).table_layout
     (length c.loop-receiver.replicas.items) c.in_ok-state.state
@@ -50,7 +50,7 @@ new-requires-clause-fold g c =
     c.loop-receiver.receiver-iterator.rest.items c.next.new.self.rest.items
     c.in-Some-next.ensures.items c.in-Some.ensures.steps.0 c.loop-receiver.invariant).1
     (subst (λ z. LeadTo g.S.State.is_first g.S.State.applies (replayed_by z) c.in_ok-state.state)
-    (sym c.of-snapshot.ensures) c.in_ok-state.ensures)
+    (sym c.of-past.ensures) c.in_ok-state.ensures)
 
 pub new-requires-clause-nobody : goal.new-requires-clause-nobody
 new-requires-clause-nobody g c =
@@ -73,7 +73,7 @@ loop-receiver-preserved g c =
     c.loop-receiver.invariant c.new.result c.push.new.self.items c.in_ok-push.ensures.items
     c.new.ensures.sender
     (c.new.ensures.bus
-    ∙ ap (λ z. sitting_of c.in-Some.receiver.bus (replayed_by z)) c.of-snapshot.ensures)
+    ∙ ap (λ z. sitting_of c.in-Some.receiver.bus (replayed_by z)) c.of-past.ensures)
     c.new.ensures.me
     (subst (λ s. LeadTo g.S.State.is_first g.S.State.applies (replayed_by c.args.order.now) s)
     (sym c.new.ensures.state) c.in_ok-state.ensures)
