@@ -11,7 +11,7 @@ use Rattle.bus_tenure.specs.declared.pages.Page.{Page}
 use Rattle.bus_world.specs.Headline.{IsPrefix, order_given}
 use Rattle.bus_automaton.specs.Processes.{Process, Automaton, TableLayout, log_in}
 use Rattle.bus_pageslot.specs.ReceiverViews.{HasHeard, Begins}
-use Rattle.bus_pageslot.specs.Rule.{TableInvariant, IsTrueOf, KnowsLog, receiver_view_in}
+use Rattle.bus_pageslot.specs.Rule.{Ear, TableInvariant, IsTrueOf, KnowsLog, receiver_view_in}
 use Rattle.bus_pageslot.specs.declared.rule.View.{View}
 use Rattle.bus_pageslot.specs.declared.rule.View.TheVariants.{Maker, Sender, Tap, Meeting, Telling}
 use Rattle.bus_pageslot.specs.declared.rule.View.TheVariants.{Spent}
@@ -34,8 +34,8 @@ front_frames senders least least' (f ∷ fs) (g ∷ gs) rest lawful lawful' e =
     (later.0, ap (λ z. z ∷ gs) (sym s.0) ∙ ap (λ z. f ∷ z) later.1)
 
 -- what a seat of a receiver knows
-pub knows : {C : Type 0} (P : Process C) (A : Automaton C) (z : A.State) (seat ear : ℕ → ℕ) (j : ℕ)
-    (v : View C) → has_view v ≡ true → IsTrueOf P A z seat ear j v
+pub knows : {C : Type 0} (P : Process C) (A : Automaton C) (z : A.State) (seat : ℕ → ℕ)
+    (ear : ℕ → Ear) (j : ℕ) (v : View C) → has_view v ≡ true → IsTrueOf P A z seat ear j v
     → (x : TableLayout) × KnowsLog A z ear j x (receiver_view_in v)
 knows P A z seat ear j (Maker x made) has h = absurd (let no : false ≡ true = has in cc)
 knows P A z seat ear j (Sender c t notes) has h = absurd (let no : false ≡ true = has in cc)
