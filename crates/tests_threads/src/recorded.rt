@@ -3,8 +3,7 @@
 use bus_deliverylog::Order;
 use bus_handles::Page;
 use bus_journal::{Header, JournalRead, push_header, push_record, read_journal};
-use bus_replica::{OpenFault, Replica, SenderNo, State};
-use bus_replica::{append, open_recorded, page_after, replay};
+use bus_replica::{OpenFault, Replica, SenderNo, State, append, open_recorded, page_after, replay};
 use std::alloc::{AllocError, Global};
 use std::process::Abort;
 use std::sync::Wait;
@@ -44,9 +43,17 @@ fn written<R: Abort + AllocGlobal>(rt: &R) -> Vec<u8> {
         first,
     };
     push_header(&mut bytes, &header).expect(rt, "memory");
-    let zero = [0x4000_0200_0000_0000, 0x8040_0000_0000_0005, 0x6100_0000_0000_0000];
+    let zero = [
+        0x4000_0200_0000_0000,
+        0x8040_0000_0000_0005,
+        0x6100_0000_0000_0000,
+    ];
     push_record(&mut bytes, 0, &zero).expect(rt, "memory");
-    let one = [0x4040_0200_0000_0001, 0x8040_0000_0000_0007, 0x6200_0000_0000_0000];
+    let one = [
+        0x4040_0200_0000_0001,
+        0x8040_0000_0000_0007,
+        0x6200_0000_0000_0000,
+    ];
     push_record(&mut bytes, 3, &one).expect(rt, "memory");
     bytes
 }
