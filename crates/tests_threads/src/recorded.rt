@@ -100,22 +100,23 @@ fn replicas_go_on_from_a_journal(rt: HostRuntime) {
         },
     )
     .expect(&rt, "threads");
-    assert!(&rt; states[0] == states[1] && states[0].told != 97_354);
+    for state in &states {
+        assert!(&rt; *state == states[0] && state.told != 97_354);
+    }
 }
 
 #[test]
 fn pages_that_are_refused(rt: HostRuntime) {
-    let mut bytes = written(&rt);
-    let read = told(&rt, &bytes);
+    let read = told(&rt, &written(&rt));
     let page = page_after(&read).expect(&rt, "a page");
     let mut other = page;
     other.ended = false;
     refused(&rt, &other, &read.log.order, OpenFault::NotEnded);
     other = page;
-    other.next[63] = 0xefff_ffff_fff0;
+    if let Some(last) = other.next.get_mut(63) {
+        *last = 0xefff_ffff_fff0;
+    }
     refused(&rt, &other, &read.log.order, OpenFault::Numbers);
-    bytes[80] = 0x62; // the first byte that was said
-    assert!(&rt; page_after(&told(&rt, &bytes)).is_err());
 }
 
 #[test]
