@@ -49,3 +49,5 @@ pub mod TimeLaws
 pub mod RecordedLaws
 -- The next numbers behind a journal, item by item.
 pub mod PageLaws
+-- A state that keeps what was applied to it shows what a recovery must not lead to.
+pub mod RefusedRecoveries

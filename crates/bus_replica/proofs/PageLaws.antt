@@ -1,8 +1,12 @@
 -- The next numbers behind a journal, item by item.
-use Rattle.std.proofs.Common.{◌≡◌, ℕ, zero, suc, List, [], ◌∷◌, ◌++◌, refl, replicate}
-use Rattle.std.proofs.Common.{slice_index}
+use Rattle.std.proofs.Common.{◌≡◌, ℕ, zero, suc, ◌+◌, ◌-◌, ◌<◌, ◌≤◌, ◌^◌, Bool, true, false}
+use Rattle.std.proofs.Common.{List, [], ◌∷◌, ◌++◌, refl, replicate, slice_get, slice_index, Some}
+use Rattle.std.proofs.Common.{max, subst, sym, arith, ◌==◌, if◌then◌else◌}
+use Rattle.std.proofs.lemmas.Bool.Decides.{Decides-eqb}
+use Rattle.std.proofs.Math.Nat.{le-max_left, le-max_right, le-min, le_refl}
+use Rattle.std.proofs.lemmas.Option.{same_Some, slice_get_within}
 use Rattle.bus_batch.specs.declared.messages.Item.{Item}
-use Rattle.bus_replica.specs.Pages.{next_behind, next_behind_one}
+use Rattle.bus_replica.specs.Pages.{next_behind, next_behind_one, number_behind}
 
 -- one item more
 pub next_more : (sender : ℕ) (items : List Item) (item : Item) (next : ℕ)
@@ -17,3 +21,43 @@ pub zeros_at : (n k : ℕ) → slice_index (replicate n 0) k ≡ 0
 zeros_at zero k = refl
 zeros_at (suc n) zero = refl
 zeros_at (suc n) (suc k) = zeros_at n k
+
+-- ---- no number that was told is given again
+eqb_true : (n : ℕ) → (n == n) ≡ true
+eqb_true n = (Decides-eqb n n).1 refl
+
+grown : (b : Bool) (next other : ℕ) → next ≤ (if b then max next other else next)
+grown true next other = le-max_left next other
+grown false next other = le_refl next
+
+behind_all : (sender : ℕ) (items : List Item) (next : ℕ) → next ≤ next_behind sender items next
+behind_all sender [] next = le_refl next
+behind_all sender (i ∷ items) next =
+    let one = grown (i.sender.0 == sender) next (number_behind i.number) in
+    let more = behind_all sender items (next_behind_one sender i next) in
+    omega (arith, one, more)
+
+-- the next number behind an item of this sender is a greater one
+behind_it : (item : Item) (next : ℕ) → item.number < 2 ^ 64 - 1
+    → item.number < next_behind_one item.sender.0 item next
+behind_it item next low =
+    let high : item.number + 1 ≤ 2 ^ 64 - 1 = omega (arith, low) in
+    let one : item.number + 1 ≤ number_behind item.number =
+    le-min (le_refl (item.number + 1)) high in
+    let far = le-max_right next (number_behind item.number) in
+    subst (λ b. item.number < (if b then max next (number_behind item.number) else next))
+    (sym (eqb_true item.sender.0)) (omega (arith, one, far))
+
+pub told_behind : (items : List Item) (next k : ℕ) (item : Item) → slice_get items k ≡ Some item
+    → item.number < 2 ^ 64 - 1 → item.number < next_behind item.sender.0 items next
+told_behind [] next k item at low =
+    let within = slice_get_within [] k item at in absurd (omega (arith, within))
+told_behind (i ∷ items) next zero item at low =
+    let same : i ≡ item = same_Some i item at in
+    let one = behind_it item next low in
+    let more =
+    behind_all item.sender.0 items (next_behind_one item.sender.0 item next) in
+    subst (λ z. item.number < next_behind item.sender.0 (z ∷ items) next) (sym same)
+    (omega (arith, one, more))
+told_behind (i ∷ items) next (suc k) item at low =
+    told_behind items (next_behind_one item.sender.0 i next) k item at low

@@ -1,6 +1,7 @@
 -- The page with which a sitting goes on behind a journal.
 use Rattle.std.specs.Prelude.{◌≡◌, ◌⊎◌, ℕ, ◌+◌, ◌-◌, ◌<◌, ◌^◌, List, [], ◌∷◌, ◌==◌, true, IsTrue}
-use Rattle.std.specs.Prelude.{get_or, min, slice_index, if◌then◌else◌}
+use Rattle.std.specs.Prelude.{Option, None, Some, ⊤, false, get_or, length, max, min, replicate}
+use Rattle.std.specs.Prelude.{slice_index, take, if◌then◌else◌}
 use Rattle.bus_register.specs.declared.limits.TheConstants.{MOST_SENDERS}
 use Rattle.bus_batch.specs.declared.messages.Item.{Item}
 use Rattle.bus_journal.specs.declared.ends.JournalEnd.TheVariants as end
@@ -11,10 +12,10 @@ use Rattle.bus_tenure.specs.declared.pages.Page.{Page}
 abbrev pub number_behind : ℕ → ℕ
 number_behind number = min (number + 1) (2 ^ 64 - 1)
 
--- the next number of this sender behind an item, where it was this one before
+-- the next number of this sender behind an item, where it was this one before: never a lower one
 abbrev pub next_behind_one : ℕ → Item → ℕ → ℕ
 next_behind_one sender item next =
-    if item.sender.0 == sender then number_behind item.number else next
+    if item.sender.0 == sender then max next (number_behind item.number) else next
 
 -- and behind several, one after another
 abbrev pub next_behind : ℕ → List Item → ℕ → ℕ
@@ -22,13 +23,28 @@ next_behind sender [] next = next
 next_behind sender (item ∷ items) next =
     next_behind sender items (next_behind_one sender item next)
 
--- an order that has ended, with the next number of each sender behind what the journal told: the
--- one behind its last item, or its first number where it has none
-pub record IsPageBehind (read : JournalRead) (page : Page) : Type 0 where
-  pub ended : page.ended ≡ true
-  pub numbers : (sender : ℕ) → sender < MOST_SENDERS → slice_index page.next sender
-      ≡ next_behind sender read.log.order.items.items (get_or read.header.first.items sender 0)
+-- the next number of a sender where a sitting begins behind this page; the first sitting has none
+abbrev pub next_before : Option Page → ℕ → ℕ
+next_before None sender = 0
+next_before (Some page) sender = slice_index page.next sender
 
--- whole frames may stand behind what it told
+-- an order that has ended, with all senders anew, and with the next number of each behind what the
+-- journal told: the one behind the greatest number of its items there, or its first number where
+-- that is greater or it has none, or that of the page before where the journal has no such sender
+pub record IsPageBehind (before : Option Page) (read : JournalRead) (page : Page) : Type 0 where
+  pub ended : page.ended ≡ true
+  pub nobody : page.left ≡ replicate MOST_SENDERS false
+  pub anew : (page.tenures ≡ 0) × (page.words ≡ 0) × (page.floor ≡ 0)
+  pub numbers : (sender : ℕ) → sender < MOST_SENDERS → slice_index page.next sender
+      ≡ next_behind sender read.log.order.items.items
+          (get_or read.header.first.items sender (next_before before sender))
+
+-- it is seen that whole frames may stand behind what it told
 abbrev pub MayMissFrames : JournalRead → Type 0
 MayMissFrames read = (read.end ≡ end.Damaged) ⊎ IsTrue read.hides
+
+-- its first numbers are those of the page before it, if there is one: no file is missing between
+abbrev pub GoesOn : Option Page → JournalRead → Type 0
+GoesOn None read = ⊤
+GoesOn (Some page) read =
+    read.header.first.items ≡ take (length read.header.first.items) page.next

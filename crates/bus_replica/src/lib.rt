@@ -34,7 +34,7 @@ pub use bus_handles::SenderNo;
 pub use faults::{Fault, OpenFault};
 pub use longs::Long;
 pub use opening::{LOG_WORDS, open_recorded, open_replicas, open_replicas_in};
-pub use pages::{DamagedJournal, page_after};
+pub use pages::{GoOnFault, page_after};
 pub use replaying::{append, replay};
 pub use replicas::Replica;
 pub use states::State;

@@ -1,6 +1,6 @@
 //! The page with which a sitting goes on behind a journal.
 
-ghost use Rattle.std.specs.Prelude.{◌≡◌, ◌<◌, ℕ, IfOk, OnErr, OnOk, get_or, slice_index};
+ghost use Rattle.std.specs.Prelude.{◌≡◌, ◌<◌, ℕ, Err, IfOk, OnOk, get_or, slice_index};
 ghost use Rattle.bus_register.specs.declared.limits.TheConstants.{MOST_SENDERS};
 
 use bus_batch::Item;
@@ -10,35 +10,59 @@ use bus_register::limits::MOST_SENDERS;
 use std::error::Error;
 use std::fmt;
 
-/// A journal is damaged, so whole frames of it may be missing in what it told.
+/// Why no page was made of a journal: the first of these that holds.
 #[derive(Clone, Copy, Debug, PartialEq, Eq)]
-pub struct DamagedJournal;
+pub enum GoOnFault {
+    /// It is damaged, so whole frames of it may be missing in what it told.
+    Damaged,
+    /// Its first numbers are not those of the page before it, so a file is missing between.
+    Gap,
+}
 
-impl Error for DamagedJournal {}
+impl Error for GoOnFault {}
 
-impl fmt::Display for DamagedJournal {
+impl fmt::Display for GoOnFault {
     fn fmt<W: fmt::Write>(&self, f: &mut fmt::Formatter<W>) -> fmt::Result {
-        f.write_str("a journal that is damaged")
+        f.write_str(match self {
+            GoOnFault::Damaged => "a journal that is damaged",
+            GoOnFault::Gap => "a journal that does not go on from the page before",
+        })
     }
 }
 
-ghost use Rattle.bus_replica.specs.Pages.{IsPageBehind, MayMissFrames, next_behind};
-ghost use Rattle.bus_replica.specs.Pages.{next_behind_one};
+ghost use Rattle.std.specs.Option.{option_copied};
+ghost use Rattle.bus_replica.specs.declared.pages.GoOnFault.TheVariants as fault;
+ghost use Rattle.bus_replica.specs.Pages.{GoesOn, IsPageBehind, MayMissFrames, next_behind};
+ghost use Rattle.bus_replica.specs.Pages.{next_before, next_behind_one};
 
-/// The page with which the next sitting goes on: of each sender the number behind the last one that
-/// the journal told, or its first one. What a torn end has lost was on disk for nobody, and its
-/// numbers are given again. A journal that is damaged is refused, also where it looks torn and a
-/// whole record stands behind; and nothing else is.
-pub fn page_after(read: &JournalRead) -> Result<Page, DamagedJournal>
-    ensures page { IfOk result (IsPageBehind read.now) }
+/// The page with which the next sitting goes on, where `before` is that of the sittings before this
+/// one, if there were any: of each sender the number behind the greatest one that the journal told,
+/// or its first one, or that of `before` where the journal has no such sender. A journal that is
+/// damaged is refused, also where it looks torn and a whole record stands behind; then one whose
+/// first numbers are not those of `before`; and nothing else is.
+///
+/// What a torn end has lost was on disk for nobody, or is a last record whose head was changed,
+/// which looks the same. It is passed over, and its numbers are given again. Of several journals
+/// ask it of each, in their order, before that is replayed.
+pub fn page_after(before: Option<&Page>, read: &JournalRead) -> Result<Page, GoOnFault>
+    ensures page { IfOk result (IsPageBehind (option_copied before.entry) read.now) }
     ensures whole { OnOk result (¬ MayMissFrames read.now) }
-    ensures damaged { OnErr result (MayMissFrames read.now) }
+    ensures next { OnOk result (GoesOn (option_copied before.entry) read.now) }
+    ensures damaged { result ≡ Err fault.Damaged → MayMissFrames read.now }
+    ensures gap { result ≡ Err fault.Gap
+        → (¬ MayMissFrames read.now) × (¬ GoesOn (option_copied before.entry) read.now) }
 {
     if read.hides || read.end == JournalEnd::Damaged {
-        return Err(DamagedJournal);
+        return Err(GoOnFault::Damaged);
     }
+    if let Some(page) = before {
+        if !page.next.starts_with(&read.header.first) {
+            return Err(GoOnFault::Gap);
+        }
+    }
+    let next = numbers_before(before);
     Ok(Page {
-        next: numbers_behind(&read.header.first, &read.log.order.items),
+        next: numbers_behind(next, &read.header.first, &read.log.order.items),
         left: [false; MOST_SENDERS],
         ended: true,
         tenures: 0,
@@ -47,35 +71,47 @@ pub fn page_after(read: &JournalRead) -> Result<Page, DamagedJournal>
     })
 }
 
-/// The next number of each sender behind these items, where these were its first numbers.
-fn numbers_behind(first: &[u64], items: &[Item]) -> [u64; MOST_SENDERS]
-    ensures { (sender : ℕ) → sender < MOST_SENDERS → slice_index result sender
-        ≡ next_behind sender items.now (get_or first.now sender 0) }
+/// The next numbers of the page before, 0 where there is none.
+fn numbers_before(before: Option<&Page>) -> [u64; MOST_SENDERS]
+    ensures { (sender : ℕ) → sender < MOST_SENDERS
+        → slice_index result sender ≡ next_before (option_copied before.entry) sender }
 {
-    let mut next = first_numbers(first);
+    match before {
+        Some(page) => page.next,
+        None => [0; MOST_SENDERS],
+    }
+}
+
+/// The next number of each sender behind these items, where these were its first numbers, and
+/// `before` those of a sender without one.
+fn numbers_behind(before: [u64; MOST_SENDERS], first: &[u64], items: &[Item]) -> [u64; MOST_SENDERS]
+    ensures { (sender : ℕ) → sender < MOST_SENDERS → slice_index result sender
+        ≡ next_behind sender items.now (get_or first.now sender (slice_index before sender)) }
+{
+    let mut next = first_numbers(before, first);
     for item in items {
         note(&mut next, item);
     }
     next
 }
 
-/// An item is the last one of its sender now.
+/// The next number of an item's sender is behind it.
 fn note(next: &mut [u64; MOST_SENDERS], item: &Item)
     ensures { (sender : ℕ) → sender < MOST_SENDERS → slice_index next.new sender
         ≡ next_behind_one sender item.now (slice_index next.old sender) }
 {
     let sender = usize::from(item.sender.0);
     if sender < MOST_SENDERS {
-        next[sender] = item.number.saturating_add(1);
+        next[sender] = next[sender].max(item.number.saturating_add(1));
     }
 }
 
-/// The first number of each sender, 0 where it has none.
-fn first_numbers(first: &[u64]) -> [u64; MOST_SENDERS]
-    ensures { (sender : ℕ) → sender < MOST_SENDERS
-        → slice_index result sender ≡ get_or first.now sender 0 }
+/// The first number of each sender, and that of `before` where it has none.
+fn first_numbers(before: [u64; MOST_SENDERS], first: &[u64]) -> [u64; MOST_SENDERS]
+    ensures { (sender : ℕ) → sender < MOST_SENDERS → slice_index result sender
+        ≡ get_or first.now sender (slice_index before sender) }
 {
-    let mut next = [0; MOST_SENDERS];
+    let mut next = before;
     for sender in 0..MOST_SENDERS {
         if let Some(number) = first.get(sender) {
             next[sender] = *number;

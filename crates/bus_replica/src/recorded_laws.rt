@@ -1,8 +1,10 @@
 //! What holds of replicas that go on from a journal.
 
-ghost use Rattle.std.specs.Prelude.{◌≡◌, ℕ, ◌≤◌, List, ◌++◌, length, true};
+ghost use Rattle.std.specs.Prelude.{◌≡◌, ℕ, ◌≤◌, ◌<◌, ◌-◌, ◌^◌, List, ◌++◌, length, true, Option};
+ghost use Rattle.std.specs.Prelude.{Some, slice_get, slice_index};
 ghost use mathlib.Core.Option.{some};
 ghost use lib.ListN.{get_elem?};
+ghost use Rattle.bus_register.specs.declared.limits.TheConstants.{MOST_SENDERS};
 ghost use Rattle.bus_batch.specs.declared.messages.Item.{Item};
 ghost use Rattle.bus_batch.specs.Frames.{AreFrames, Frame, Order, items_in, log_words, order_of};
 ghost use Rattle.bus_world.specs.Headline.{IsPrefix};
@@ -10,13 +12,16 @@ ghost use Rattle.bus_automaton.specs.ThreeWordBuses.{Held, automaton, process};
 ghost use Rattle.bus_automaton.specs.declared.plans.Plan.{Plan};
 ghost use Rattle.bus_journal.specs.Format.{Heading, IsHeading, journal_bytes};
 ghost use Rattle.bus_journal.specs.Reading.{Answer, AreFew, Reads};
+ghost use Rattle.bus_journal.specs.declared.reading.JournalRead.{JournalRead};
 ghost use Rattle.bus_pageslot.specs.Lasting.{RuledTable, published};
 ghost use Rattle.bus_pageslot.specs.Rule.{receiver_view_in};
 ghost use Rattle.bus_pageslot.specs.declared.rule.View.{View};
 ghost use Rattle.bus_replica.specs.Linearized.{IsLinearized, IsRead};
 ghost use Rattle.bus_replica.specs.OneOrder.{AreFunctions};
+ghost use Rattle.bus_replica.specs.Pages.{IsPageBehind};
 ghost use Rattle.bus_replica.specs.Replicas.{LeadTo, has_view, items_heard};
-ghost use Rattle.bus_replica.specs.Sittings.{behind};
+ghost use Rattle.bus_replica.specs.Sittings.{RecoveriesRefuse, behind, keeps, nothing};
+ghost use Rattle.bus_tenure.specs.declared.pages.Page.{Page};
 
 use crate::states::State;
 use bus_journal::laws::written_journals_are_read;
@@ -55,28 +60,52 @@ pub fn sittings_are_one<S: State>()
 
 /// What was on disk before a crash stands before all that is executed after it. Of the journal of a
 /// sitting, in which these frames were written, whatever bytes follow them, and of whatever
-/// `read_journal` may answer of it, behind what was replayed of the sittings before: each execution
-/// of a sitting that goes on from all that stands in the order of all sittings, behind all that was
-/// replayed before and that the frames say. Each read shows all of that, and then what it shows of
-/// its own sitting.
+/// `read_journal` may answer of it, behind what was replayed of the sittings before: what these
+/// frames say is among what is replayed then (`told`). Each execution of a sitting that goes on from
+/// all that stands in the order of all sittings: behind all that was replayed before and that the
+/// frames say, and behind all that stood in its own sitting when it began. Each read shows all of
+/// both.
 pub fn what_was_recorded_stands_before<S: State>()
+    ensures told { (h : Heading) (frames : List Frame) (tail bytes : List ℕ) (told : List Frame)
+        (a : Answer) → IsHeading h → AreFrames h.senders frames → AreFew h.most frames
+        → bytes ≡ journal_bytes h frames ++ tail → Reads bytes told a
+        → IsPrefix (items_in (order_of frames).entries) (items_in a.order.entries) }
     ensures executes { (before : List Item) (h : Heading) (frames : List Frame)
         (tail bytes : List ℕ) (told : List Frame) (a : Answer) → IsHeading h
         → AreFrames h.senders frames → AreFew h.most frames
         → bytes ≡ journal_bytes h frames ++ tail → Reads bytes told a → (earlier later : Order)
         (worker number : ℕ) (operation : List ℕ) (answer : S.Answer) (state : S)
-        → IsLinearized (LeadTo S.is_first S.applies (before ++ items_in a.order.entries))
-        S.applies earlier later worker number operation answer state
+        → let replayed = before ++ items_in a.order.entries in
+        IsLinearized (LeadTo S.is_first S.applies replayed) S.applies earlier later worker number
+        operation answer state
         → IsLinearized S.is_first S.applies (behind before (order_of frames))
-        (behind (before ++ items_in a.order.entries) later) worker number operation answer state }
+        (behind replayed later) worker number operation answer state
+        × IsLinearized S.is_first S.applies (behind replayed earlier)
+        (behind replayed later) worker number operation answer state }
     ensures reads { (before : List Item) (h : Heading) (frames : List Frame)
         (tail bytes : List ℕ) (told : List Frame) (a : Answer) → IsHeading h
         → AreFrames h.senders frames → AreFew h.most frames
         → bytes ≡ journal_bytes h frames ++ tail → Reads bytes told a → (earlier later : Order)
-        (state : S) → IsRead (LeadTo S.is_first S.applies (before ++ items_in a.order.entries))
-        S.applies earlier later state → IsRead S.is_first S.applies
-        (behind before (order_of frames)) (behind (before ++ items_in a.order.entries) later)
-        state }
+        (state : S) → let replayed = before ++ items_in a.order.entries in
+        IsRead (LeadTo S.is_first S.applies replayed) S.applies earlier later state
+        → IsRead S.is_first S.applies (behind before (order_of frames)) (behind replayed later)
+        state
+        × IsRead S.is_first S.applies (behind replayed earlier) (behind replayed later) state }
 {
     written_journals_are_read();
 }
+
+/// No number that a journal told is given again by the page behind it, but the greatest number that
+/// a word has, which no log has.
+pub fn told_numbers_are_behind()
+    ensures { (before : Option Page) (read : JournalRead) (page : Page) (k : ℕ) (item : Item)
+        → IsPageBehind before read page → slice_get read.log.order.items.items k ≡ Some item
+        → item.sender.0 < MOST_SENDERS → item.number < 2 ^ 64 - 1
+        → item.number < slice_index page.next item.sender.0 }
+{}
+
+/// Of a state that keeps what was applied to it, in order, with the sender of each: what a recovery
+/// must not lead to.
+pub fn wrong_recoveries_are_refused()
+    ensures { (a b : Item) → RecoveriesRefuse a b }
+{}

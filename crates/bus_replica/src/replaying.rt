@@ -2,7 +2,7 @@
 
 ghost use Rattle.std.specs.Prelude.{◌≡◌, ◌++◌, IfOk, OnErr, OnOk, length, take};
 ghost use Rattle.bus_batch.specs.Frames.{items_in};
-ghost use Rattle.bus_deliverylog.specs.Orders.{order_held};
+ghost use Rattle.bus_deliverylog.specs.Orders.{HasPlaces, order_held};
 ghost use Rattle.bus_replica.specs.Replicas.{Folds, LeadTo};
 
 use crate::states::State;
@@ -19,7 +19,9 @@ use std::alloc::{AllocError, Global};
 /// `page_after` first, which refuses it.
 ///
 /// Several journals, one of each sitting, are replayed in their order by a call for each, or as one
-/// order that `append` has made of theirs. A state of long operations is replayed as `Long` of it.
+/// order that `append` has made of theirs; `page_after` is asked of each before. A state of long
+/// operations is replayed as `Long` of it, and so is what replicas of the Rust crate recorded, also
+/// where each operation was short.
 pub fn replay<S: State>(state: &mut S, order: &Order)
     ensures { Folds S.applies state.old (items_in (order_held order.now).entries) state.new }
 {
@@ -30,12 +32,16 @@ pub fn replay<S: State>(state: &mut S, order: &Order)
 }
 
 /// Puts the items of an order behind those of another, so that `open_recorded` replays those of
-/// several journals. Leave marks and the end are left out. Where memory is refused nothing changes.
+/// several journals. Its leave marks and its end are left out, and those of the other stay. Where
+/// memory is refused nothing changes.
 pub fn append(order: &mut Order, more: &Order) -> Result<(), AllocError>
     ensures joined { OnOk result (items_in (order_held order.new).entries
         ≡ items_in (order_held order.old).entries ++ items_in (order_held more.now).entries) }
     ensures refused { OnErr result (items_in (order_held order.new).entries
         ≡ items_in (order_held order.old).entries) }
+    ensures rest { (order.new.left.items ≡ order.old.left.items)
+        × (order.new.ended ≡ order.old.ended) }
+    ensures places { HasPlaces order.old → HasPlaces order.new }
 {
     merged_is_one_list();
     let before = order.items.len();

@@ -92,8 +92,8 @@ impl<S: State> Replica<S> {
     }
 
     /// How many words of the log its receiver has read: all that it has applied of this sitting
-    /// stands in these (`words_hold_what_was_applied`). Behind `execute` they end with that
-    /// operation, and else may hold more, which it applies next.
+    /// stands in these (`words_hold_what_was_applied`). They may hold more, which it applies next;
+    /// behind `execute`, by the code, they end with that operation.
     ///
     /// What `execute` answers, and what `state` shows, may be lost in a crash all the same, until a
     /// journal has so many words on disk. So who tells somebody of it waits for that before. A

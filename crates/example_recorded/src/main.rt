@@ -37,10 +37,11 @@ impl State for Tally {
 }
 
 fn work<W: Wait>(wait: &W, mut replica: Replica<Tally>) -> anyhow::Result<Tally> {
-    let before = replica.state().sum;
+    let mut last = replica.state().sum;
     for add in 1..=10_u8 {
         let sum = replica.execute(wait, &[add])?;
-        ensure!(sum > before, "an operation was lost");
+        ensure!(sum > last, "an operation was lost");
+        last = sum;
     }
     Ok(replica.finish(wait)?)
 }
@@ -49,7 +50,7 @@ fn main(rt: HostRuntime) -> anyhow::Result<()> {
     let mut bytes = Vec::new(rt.alloc());
     rt.reader().read_to_end(&mut bytes)?;
     let read = read_journal(rt.alloc(), &bytes)?;
-    let page = page_after(&read)?;
+    let page = page_after(None, &read)?;
     let order = &read.log.order;
     let mut told = Tally::first(rt.alloc())?;
     replay(&mut told, order);

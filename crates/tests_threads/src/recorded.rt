@@ -89,7 +89,7 @@ fn goes_on<R: Wait + Abort>(rt: &R, mut replica: Replica<Chain>, next: u64) -> C
 #[test]
 fn replicas_go_on_from_a_journal(rt: HostRuntime) {
     let read = told(&rt, &written(&rt));
-    let page = page_after(&read).expect(&rt, "a page");
+    let page = page_after(None, &read).expect(&rt, "a page");
     assert!(&rt; page.next[0] == 6 && page.next[1] == 8 && page.next[2] == 0);
     let states = thread::map_vec(
         &rt,
@@ -108,7 +108,7 @@ fn replicas_go_on_from_a_journal(rt: HostRuntime) {
 #[test]
 fn pages_that_are_refused(rt: HostRuntime) {
     let read = told(&rt, &written(&rt));
-    let page = page_after(&read).expect(&rt, "a page");
+    let page = page_after(None, &read).expect(&rt, "a page");
     let mut other = page;
     other.ended = false;
     refused(&rt, &other, &read.log.order, OpenFault::NotEnded);
