@@ -231,8 +231,6 @@ static struct state recover(const char *folder, kioskbasil_left *page) {
         if (access(path, F_OK)) return state;
         code = kioskbasil_journal_recover(&reader, path, apply_frame, &state);
         if (code != KIOSKBASIL_OK) fail(path, kioskbasil_journal_text(code));
-        if (memcmp(reader.header.first, page->next, WORKERS * sizeof *page->next))
-            fail(path, "does not go on from the file before");
         code = kioskbasil_journal_page(&reader, page);
         if (code != KIOSKBASIL_OK) fail(path, kioskbasil_journal_text(code));
     }
@@ -300,6 +298,7 @@ static void tell(uint32_t code) {
     struct state state = none;
     uint64_t hash = none.hash, frames = 0, words[JOURNAL_WORDS];
     kioskbasil_left page = {0};
+    memcpy(page.next, reader.header.first, sizeof page.next); /* no file stands before it */
     for (; code == KIOSKBASIL_OK; frames += code == KIOSKBASIL_OK) {
         code = kioskbasil_journal_read(&reader);
         if (code != KIOSKBASIL_OK) break;

@@ -72,11 +72,9 @@ fn recover(folder: &str) -> Result<(State, Page, String), Fault> {
             return Ok((state, page, path));
         }
         let read = journal::read(&path)?;
-        if read.header().first_numbers() != &page.next_numbers()[..WORKERS] {
-            return Err(format!("{path} does not go on from the file before").into());
-        }
+        let next = read.page_after(&page);
+        page = next.map_err(|why| format!("{path}: {why}"))?;
         read.items().for_each(|item| state.apply(item));
-        page = read.page_after(&page)?;
     }
     unreachable!("all numbers have a file")
 }

@@ -713,9 +713,17 @@ static void other_records(void) {
     EXPECT(is_same(&reader.frame, &frames[0]), true);
 }
 
+/* Behind this page the file that was read is refused by this code, and the page stays. */
+static void refused(const kioskbasil_left *before, uint32_t code) {
+    kioskbasil_left page;
+    memcpy(&page, before, sizeof page);
+    EXPECT(kioskbasil_journal_page(&reader, &page), code);
+    EXPECT(memcmp(&page, before, sizeof page), 0);
+}
+
 /* A page keeps the numbers of senders that a file has not, and one that is refused all. */
 static void pages(void) {
-    kioskbasil_left page = {.next = {70, 80, 90}, .bases = {7, 8, 9}, .gone = {true, true, true}};
+    kioskbasil_left page = {.next = {0, 0, 90}, .bases = {7, 8, 9}, .gone = {true, true, true}};
     kioskbasil_left before = page;
     struct kioskbasil_journal_header header;
     EXPECT(record_all(JOURNAL_NEVER), KIOSKBASIL_OK);
@@ -726,9 +734,8 @@ static void pages(void) {
     EXPECT(page.next[0] == 6 && page.next[1] == 6 && page.next[2] == 90 && !page.next[3], true);
     EXPECT(page.bases[0] == 0 && page.bases[1] == 0 && page.bases[2] == 9, true);
     EXPECT(!page.gone[0] && !page.gone[1] && page.gone[2] && page.ended, true);
+    refused(&page, JOURNAL_GAP); /* the same file twice */
     /* A next file of the same log has no numbers of its beginning, nor who has left before. */
-    page.bases[0] = 3;
-    page.gone[1] = true;
     EXPECT(create(2, JOURNAL_NEVER), KIOSKBASIL_OK);
     EXPECT(kioskbasil_journal_write(&journal, &frames[0]), KIOSKBASIL_OK);
     EXPECT(kioskbasil_journal_next_header(&journal, &header), KIOSKBASIL_OK);
@@ -736,15 +743,53 @@ static void pages(void) {
     unlink(next_path);
     EXPECT(kioskbasil_journal_create(&journal, next_path, &header, JOURNAL_NEVER, 0), 0);
     EXPECT(kioskbasil_journal_close(&journal), KIOSKBASIL_OK);
+    page = before;
+    EXPECT(recovered(path, 0), 1);
+    EXPECT(kioskbasil_journal_page(&reader, &page), KIOSKBASIL_OK);
+    page.bases[0] = 3;
+    page.gone[1] = true;
     EXPECT(recovered(next_path, 1), 0);
+    refused(&before, JOURNAL_GAP); /* the file before is missing, though the log is the same */
     EXPECT(kioskbasil_journal_page(&reader, &page), KIOSKBASIL_OK);
     EXPECT(page.next[0] == 1 && page.bases[0] == 3 && page.bases[1] == 0, true);
     EXPECT(!page.gone[0] && page.gone[1] && page.gone[2], true);
     put_file(next_path, "KIOSKLOG\0\0\0\0\0\0\0\1", 16);
-    page = before;
     EXPECT(kioskbasil_journal_recover(&reader, next_path, NULL, NULL), JOURNAL_TORN_HEADER);
-    EXPECT(kioskbasil_journal_page(&reader, &page), JOURNAL_TORN_HEADER);
-    EXPECT(memcmp(&page, &before, sizeof page), 0);
+    refused(&page, JOURNAL_TORN_HEADER);
+}
+
+/* A file that does not go on from the page is refused, whichever number is another. Damage is told
+   before that, and used numbers behind it. */
+static void gaps(void) {
+    static const struct { uint64_t second; const char *behind; uint32_t code; } files[] = {
+        {4, "", KIOSKBASIL_OK},
+        {4, "no record", JOURNAL_DAMAGED},
+        {(UINT64_C(1) << 48) - 65536, "", KIOSKBASIL_NUMBERS_USED},
+    };
+    for (size_t i = 0; i < 3; i++) {
+        struct kioskbasil_journal_header header = header_of(2);
+        kioskbasil_left page = first_page;
+        uint64_t second = files[i].second;
+        size_t many = strlen(files[i].behind);
+        header.first[0] = 9;
+        header.first[1] = second;
+        unlink(path);
+        EXPECT(kioskbasil_journal_create(&journal, path, &header, JOURNAL_NEVER, 0), 0);
+        EXPECT(write(journal.file, files[i].behind, many), many);
+        EXPECT(kioskbasil_journal_close(&journal), KIOSKBASIL_OK);
+        EXPECT(recovered(path, 0), 0);
+        for (size_t other = 1; other < 9; other++) {
+            page.next[0] = 9 + other % 3 - 1;
+            page.next[1] = second + other / 3 - 1;
+            if (other != 4) refused(&page, i == 1 ? JOURNAL_DAMAGED : JOURNAL_GAP);
+        }
+        refused(&first_page, i == 1 ? JOURNAL_DAMAGED : JOURNAL_GAP);
+        memcpy(page.next, header.first, sizeof page.next);
+        if (files[i].code == KIOSKBASIL_OK) EXPECT(kioskbasil_journal_page(&reader, &page), 0);
+        else refused(&page, files[i].code);
+    }
+    EXPECT(strcmp(kioskbasil_journal_text(JOURNAL_GAP),
+                  "the journal does not go on from the page before"), 0);
 }
 
 /* A file that grows while it is read is not cut, and one descriptor reads and cuts. */
@@ -1008,6 +1053,7 @@ static void sittings(uint64_t messages) {
         EXPECT(kioskbasil_journal_recover(&reader, path, mix_frame, &replayed), KIOSKBASIL_OK);
         EXPECT(reader.end == JOURNAL_WHOLE && reader.log.ended, true);
         EXPECT(replayed, run.hash);
+        if (round) refused(&first_page, JOURNAL_GAP); /* without the files before it */
         EXPECT(kioskbasil_journal_page(&reader, &page), KIOSKBASIL_OK);
         for (int i = 0; i < SENDERS; i++) EXPECT(page.next[i], messages * (round + 1));
     }
@@ -1059,6 +1105,7 @@ int main(int many, char **words) {
     turned_bits();
     other_records();
     pages();
+    gaps();
     growing_files();
     far_bytes();
     reads_that_fail();

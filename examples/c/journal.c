@@ -38,7 +38,7 @@ static unsigned files(const char *folder) {
 
 /* What the journals of a folder say: how many messages there are, the page of the next bus, and
    the path of the next file. Behind a torn end it goes on. It stops at a file that is damaged or
-   missing, and at one whose first numbers are not those behind the file before. */
+   missing, and at one that does not go on from the page before. */
 static uint64_t recover(const char *folder, kioskbasil_left *page, char *path) {
     static struct kioskbasil_journal_reader reader;
     uint64_t counted = 0;
@@ -51,8 +51,6 @@ static uint64_t recover(const char *folder, kioskbasil_left *page, char *path) {
         code = kioskbasil_journal_recover(&reader, path, count, &counted);
         if (code == JOURNAL_FAILED)
             stop(path, kioskbasil_fault_text(&reader.fault, why, sizeof why));
-        if (!code && memcmp(reader.header.first, page->next, 8 * reader.header.senders))
-            stop(path, "it does not go on from the file before");
         if (!code) code = kioskbasil_journal_page(&reader, page);
         if (code) stop(path, kioskbasil_journal_text(code));
     }

@@ -53,8 +53,10 @@ enum {
                              bytes than there are */
     JOURNAL_DAMAGED = 123, /* anything else does: bytes have changed, or a record is missing. Of
                               page and repair also: it looks torn, and hides a whole record */
-    JOURNAL_CHANGED = 124  /* repair: the file has other bytes than were read, since somebody
+    JOURNAL_CHANGED = 124, /* repair: the file has other bytes than were read, since somebody
                               writes it */
+    JOURNAL_GAP = 125      /* page: its first numbers are not those of the page before, so a file
+                              is missing between, or two programs ran at once */
 };
 
 enum {
@@ -1114,7 +1116,8 @@ static inline uint32_t kioskbasil_journal_recover(
 
 /* The page with which the next bus goes on (kioskbasil_open_after), of a journal that was read
    to its end. `page` has that of the files before: before the first, `kioskbasil_left page =
-   {.ended = true};`. Of the senders of this file it sets `next`; `bases`, to the header's first
+   {.ended = true};`. Where no file stands before it and it does not begin at 0, set `next` to
+   header.first before. Of the senders of this file it sets `next`; `bases`, to the header's first
    numbers; and `gone`, to who has left in it, all of whom a next bus has again. Where the file
    goes on in the log of the one before, `bases` stay, and so does who has left there. The numbers
    of other senders stay: they are those of an earlier file. `ended` is set, since the next bus
@@ -1122,11 +1125,10 @@ static inline uint32_t kioskbasil_journal_recover(
    stays. Behind a torn end the numbers are those behind the last whole frame: so what nobody was
    told to be on disk may be lost, and its numbers are given again.
 
-   Where header.first has other numbers than `next` of the page before, frames are missing between,
-   or two programs ran at once. This does not look: examples/c/journal.c does.
-   KIOSKBASIL_OK; JOURNAL_DAMAGED, where whole frames may be missing; KIOSKBASIL_NUMBERS_USED
-   where a number is 2^48 - 65,536 or more; JOURNAL_NOT_READ; or why it was not read. Unless it is
-   OK the page stays as it was. */
+   KIOSKBASIL_OK; or the first that holds: why it was not read; JOURNAL_NOT_READ; JOURNAL_DAMAGED,
+   where whole frames may be missing; JOURNAL_GAP where header.first has other numbers than `next`
+   of the page before, also in the same log; KIOSKBASIL_NUMBERS_USED where a number is
+   2^48 - 65,536 or more. Unless it is OK the page stays as it was. */
 static inline uint32_t kioskbasil_journal_page(const struct kioskbasil_journal_reader *it,
                                                kioskbasil_left *page) {
     const uint64_t numbers = (UINT64_C(1) << 48) - 65536;
@@ -1135,6 +1137,8 @@ static inline uint32_t kioskbasil_journal_page(const struct kioskbasil_journal_r
     if (it->code != KIOSKBASIL_OK) return it->code;
     if (!it->end) return JOURNAL_NOT_READ;
     if (it->end == JOURNAL_DAMAGED || it->hides) return JOURNAL_DAMAGED;
+    if (memcmp(it->header.first, page->next, it->header.senders * sizeof *page->next))
+        return JOURNAL_GAP;
     for (size_t i = 0; i < it->log.senders; i++)
         if (it->log.next[i] >= numbers) return KIOSKBASIL_NUMBERS_USED;
     for (size_t i = 0; i < it->log.senders; i++) {
@@ -1196,6 +1200,7 @@ static inline const char *kioskbasil_journal_text(uint32_t code) {
     case JOURNAL_TORN: return "the journal is torn";
     case JOURNAL_DAMAGED: return "the journal is damaged";
     case JOURNAL_CHANGED: return "the journal changed while it was read";
+    case JOURNAL_GAP: return "the journal does not go on from the page before";
     default: return kioskbasil_text(code);
     }
 }

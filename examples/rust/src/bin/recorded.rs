@@ -47,18 +47,15 @@ fn files(folder: &str) -> io::Result<u32> {
 }
 
 /// What the journals of a folder say: the page of the next bus, the state, and the path of the next
-/// file. What a crash has torn is passed over. Err names a file that is missing, or whose first
-/// numbers are not those behind the file before.
+/// file. What a crash has torn is passed over. Err names a file that is missing, or that has no
+/// page behind the one before.
 fn recover(folder: &str) -> Result<(Page, Map, String), Fault> {
     let file = |number| format!("{folder}/recorded.{number}");
     let (mut page, mut state, many) = (Page::from_numbers(&[0])?, Map::default(), files(folder)?);
     for number in 0..many {
         let read = journal::read(file(number))?;
-        let first = read.header().first_numbers();
-        if first != &page.next_numbers()[..first.len()] {
-            return Err(format!("{}: it does not go on from the file before", file(number)).into());
-        }
-        page = read.page_after(&page)?;
+        let next = read.page_after(&page);
+        page = next.map_err(|why| format!("{}: {why}", file(number)))?;
         replay(&mut state, read.frames())?;
     }
     Ok((page, state, file(many)))

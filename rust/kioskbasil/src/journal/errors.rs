@@ -85,6 +85,9 @@ pub enum GoOnError {
         /// The byte of the file at which that begins.
         at: u64,
     },
+    /// Its first numbers are not those of the page before, so a file is missing between, or two
+    /// programs ran at once.
+    Gap,
     /// A next number is 2^48 - 65,536 or more.
     Numbers,
 }
@@ -93,6 +96,7 @@ impl fmt::Display for GoOnError {
     fn fmt(&self, f: &mut fmt::Formatter<'_>) -> fmt::Result {
         match self {
             GoOnError::Damaged { at } => write!(f, "the journal is damaged at byte {at}"),
+            GoOnError::Gap => f.write_str("the journal does not go on from the page before"),
             GoOnError::Numbers => f.write_str("the numbers of a sender are used up"),
         }
     }

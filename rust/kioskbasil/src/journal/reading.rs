@@ -284,11 +284,12 @@ impl Recovered {
     }
 
     /// The page with which the next bus goes on where no file stands before this one: as
-    /// `page_after` one of zeros. Behind others it would have numbers come twice of senders that
-    /// this file has not.
+    /// `page_after` the header's first numbers, whatever they are, so it does not look for a gap.
+    /// Behind others it would have numbers come twice of senders that this file has not.
     pub fn page(&self) -> Result<Page, GoOnError> {
-        let first = Page::from_numbers(&[0]);
-        self.page_after(&first.map_err(|_| GoOnError::Numbers)?)
+        let mut first = [0; MOST_SENDERS];
+        first[..self.header.senders()].copy_from_slice(self.header.first_numbers());
+        self.page_behind(first)
     }
 
     /// The page with which the next bus goes on behind this file, where `before` is that of the
@@ -296,32 +297,38 @@ impl Recovered {
     /// others. Behind a torn end the numbers are those behind the last whole frame, so what nobody
     /// was told to be on disk may be lost, and its numbers are given again.
     ///
-    /// Where the header's first numbers are others than those of `before`, frames are missing
-    /// between, or two programs ran at once. This does not look:
-    /// `examples/rust/src/bin/journal.rs` does.
-    ///
-    /// `GoOnError::Damaged` where it is damaged, so that whole frames may be missing: who knows
-    /// their numbers goes on by `Page::from_numbers`. `Numbers` where those of a sender are used
-    /// up.
+    /// The first that holds: `GoOnError::Damaged` where it is damaged, so that whole frames may be
+    /// missing: who knows their numbers goes on by `Page::from_numbers`. `Gap` where the header's
+    /// first numbers are others than those of `before`: a file is missing between, or two programs
+    /// ran at once. `Numbers` where those of a sender are used up.
     ///
     /// ```
-    /// use kioskbasil::journal::{self, Header, Journal, SyncPolicy};
+    /// use kioskbasil::journal::{self, GoOnError, Header, Journal, SyncPolicy};
     /// use kioskbasil::Page;
     ///
     /// let before = Page::from_numbers(&[7, 8, 9])?; // of three senders, and the next bus has two
     /// let journal = Journal::on(Vec::new(), Header::after(2, &before)?, SyncPolicy::Never)?;
     /// let read = journal::read_from(&journal.into_file()[..])?;
     /// assert_eq!(read.page_after(&before)?.next_numbers()[..3], [7, 8, 9]);
+    /// assert_eq!(read.page_after(&Page::from_numbers(&[7, 7])?), Err(GoOnError::Gap));
     /// # Ok::<(), Box<dyn std::error::Error>>(())
     /// ```
     pub fn page_after(&self, before: &Page) -> Result<Page, GoOnError> {
+        self.page_behind(*before.next_numbers())
+    }
+
+    /// The page behind this file, where these are the next numbers of the files before.
+    fn page_behind(&self, mut next: [u64; MOST_SENDERS]) -> Result<Page, GoOnError> {
         match self.end {
             End::Damaged { at } => return Err(GoOnError::Damaged { at }),
             End::Torn { at } if self.hides => return Err(GoOnError::Damaged { at }),
             End::Torn { .. } | End::Whole => {}
         }
-        let mut next = *before.next_numbers();
-        next[..self.log.next.len()].copy_from_slice(&self.log.next);
+        let own = &mut next[..self.header.senders()];
+        if own != self.header.first_numbers() {
+            return Err(GoOnError::Gap);
+        }
+        own.copy_from_slice(&self.log.next);
         Page::from_numbers(&next).map_err(|_| GoOnError::Numbers)
     }
 }

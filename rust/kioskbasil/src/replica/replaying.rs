@@ -6,8 +6,8 @@ use crate::{Frame, NotLong, MOST_LONG_BYTES};
 
 /// Applies the operations of these frames to a state, in their order: `read.frames()` of what
 /// `journal::read` gave. Several journals, one of each sitting, are replayed in their order by a
-/// call for each; `Header::first_numbers` shows whether one is missing. What is damaged is not
-/// among the frames, and `Recovered::page` refuses such a file: so ask that first.
+/// call for each. What is damaged is not among the frames. `Recovered::page_after` refuses such a
+/// file, and one that does not go on from the page before: so ask that first.
 ///
 /// `NotLong` has the first item that is no operation; all before that is applied. It is no piece of
 /// one, or the other pieces do not follow. All of an operation stand in one frame, so pieces of two

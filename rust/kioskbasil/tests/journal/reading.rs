@@ -38,13 +38,35 @@ fn whole_records_are_read() {
 #[test]
 fn pages_keep_other_senders() {
     let read = journal::read_from(&small()[..]).unwrap();
-    let before = Page::from_numbers(&[70, 80, 90]).unwrap();
+    let before = Page::from_numbers(&[9, 4, 90]).unwrap();
     let page = read.page_after(&before).unwrap();
     assert_eq!(page.next_numbers()[..4], [9, 8, 90, 0]);
     assert!(page.has_ended());
-    let cut = journal::read_from(&[&small()[..], &[1; 9]].concat()[..]).unwrap();
-    let damaged = Err(GoOnError::Damaged { at: 144 });
-    assert_eq!(cut.page_after(&before), damaged);
+}
+
+/// Refused where a first number is another than that of the page, and by `page` never. Damage is
+/// told before that, and used numbers behind it.
+#[test]
+fn pages_that_do_not_go_on_are_refused() {
+    let page = |numbers: &[u64]| Page::from_numbers(numbers).unwrap();
+    let last = "4040010000000003 8000ffffffffffff 2f9150bf2ca1957b";
+    let spent = bytes(&[HEADER, FIRST, last]);
+    let damaged = [&small()[..], &[1; 9]].concat();
+    let at = GoOnError::Damaged { at: 144 };
+    for (bytes, fits, other) in [
+        (&small(), None, GoOnError::Gap),
+        (&spent, Some(GoOnError::Numbers), GoOnError::Gap),
+        (&damaged, Some(at), at),
+    ] {
+        let read = journal::read_from(&bytes[..]).unwrap();
+        assert_eq!(read.page().err(), fits);
+        assert_eq!(read.page_after(&page(&[9, 4])).err(), fits);
+        for numbers in [[0, 0], [9, 0], [0, 4], [9, 5], [10, 4], [9, 8]] {
+            assert_eq!(read.page_after(&page(&numbers)), Err(other), "{numbers:?}");
+        }
+    }
+    let text = "the journal does not go on from the page before";
+    assert_eq!(GoOnError::Gap.to_string(), text);
 }
 
 /// A reader that has a frame at a time says the same, and ends for good.

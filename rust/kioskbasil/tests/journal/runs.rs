@@ -2,7 +2,8 @@
 
 use super::common::{bus, in_time};
 use super::{header, Folder};
-use kioskbasil::journal::{self, End, Header, Journal, JournalFile, Recovered, SyncPolicy};
+use kioskbasil::journal::{self, End, GoOnError, Header, Journal, JournalFile};
+use kioskbasil::journal::{Recovered, SyncPolicy};
 use kioskbasil::{Bus, Frame, Item, Page, Receiver, Sender, Shape};
 use std::path::PathBuf;
 use std::thread;
@@ -55,7 +56,8 @@ fn sitting(page: Page, path: PathBuf, messages: u64) -> (Vec<Item>, Vec<Frame>) 
 #[test]
 fn runs_are_recorded_and_go_on() {
     let folder = Folder::new("run");
-    let mut page = Page::from_numbers(&[0]).unwrap();
+    let first = Page::from_numbers(&[0]).unwrap();
+    let mut page = first;
     for round in 0..3 {
         let path = folder.file(&format!("sitting.{round}"));
         let place = path.clone();
@@ -66,7 +68,14 @@ fn runs_are_recorded_and_go_on() {
         assert_eq!((read.end(), read.has_ended()), (End::Whole, true));
         assert_eq!(read.left()[..3], [false, true, false]);
         assert_eq!(read.header().first_numbers(), [1000 * round; 3]);
-        page = read.page_after(&page).unwrap();
+        let behind = read.page_after(&page).unwrap();
+        // Without the file before it, and once more.
+        for other in [first, behind] {
+            if other != page {
+                assert_eq!(read.page_after(&other), Err(GoOnError::Gap));
+            }
+        }
+        page = behind;
         assert_eq!(
             page.next_numbers()[..4],
             [

@@ -78,7 +78,10 @@ fn files_go_on_in_a_next_one() {
     let header = journal.next_header().unwrap();
     let mut next = Journal::on(Vec::new(), header, SyncPolicy::Never).unwrap();
     frames[1..].iter().for_each(|it| next.write(it).unwrap());
+    let before = journal::read_from(&journal.into_file()[..]).unwrap();
     let read = journal::read_from(&next.into_file()[..]).unwrap();
+    let page = read.page_after(&before.page().unwrap()).unwrap();
+    assert_eq!(page.next_numbers()[..2], [3, 0]);
     assert_eq!(
         (read.header().place(), read.header().first_numbers()),
         (3, &[1][..])
