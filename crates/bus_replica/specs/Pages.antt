@@ -37,7 +37,7 @@ pub record IsPageBehind (before : Option Page) (read : JournalRead) (page : Page
   pub anew : (page.tenures ≡ 0) × (page.words ≡ 0) × (page.floor ≡ 0)
   pub numbers : (sender : ℕ) → sender < MOST_SENDERS → slice_index page.next sender
       ≡ next_behind sender read.log.order.items.items
-          (get_or read.header.first.items sender (next_before before sender))
+      (get_or read.header.first.items sender (next_before before sender))
 
 -- it is seen that whole frames may stand behind what it told
 abbrev pub MayMissFrames : JournalRead → Type 0

@@ -61,10 +61,10 @@ pub fn sittings_are_one<S: State>()
 /// What was on disk before a crash stands before all that is executed after it. Of the journal of a
 /// sitting, in which these frames were written, whatever bytes follow them, and of whatever
 /// `read_journal` may answer of it, behind what was replayed of the sittings before: what these
-/// frames say is among what is replayed then (`told`). Each execution of a sitting that goes on from
-/// all that stands in the order of all sittings: behind all that was replayed before and that the
-/// frames say, and behind all that stood in its own sitting when it began. Each read shows all of
-/// both.
+/// frames say is among what is replayed then (`told`). Each execution of a sitting that goes on
+/// from all that stands in the order of all sittings: behind all that was replayed before and that
+/// the frames say, and behind all that stood in its own sitting when it began. Each read shows all
+/// of both.
 pub fn what_was_recorded_stands_before<S: State>()
     ensures told { (h : Heading) (frames : List Frame) (tail bytes : List ℕ) (told : List Frame)
         (a : Answer) → IsHeading h → AreFrames h.senders frames → AreFew h.most frames

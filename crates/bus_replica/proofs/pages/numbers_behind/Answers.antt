@@ -1,4 +1,5 @@
-use Rattle.std.proofs.Common.{◌≡◌, ◌+◌, ℕ, [], ◌∷◌, ◌++◌, ap, get_or, rules, slice_index, sym, take, ◌∙◌}
+use Rattle.std.proofs.Common.{◌≡◌, ◌+◌, ℕ, [], ◌∷◌, ◌++◌, ap, get_or, rules, slice_index, sym}
+use Rattle.std.proofs.Common.{take, ◌∙◌}
 use Rattle.std.proofs.lemmas.List.{take_more}
 use Rattle.bus_replica.specs.Pages.{next_behind, next_behind_one}
 use Rattle.bus_replica.proofs.PageLaws.{next_more}
@@ -10,7 +11,7 @@ loop-item-preserved c =
     let items = c.args.items.now in
     let item = c.item-item.result in
     let begins : ℕ → ℕ = λ sender.
-        get_or c.args.first.now sender (slice_index c.args.before sender) in
+    get_or c.args.first.now sender (slice_index c.args.before sender) in
     let next : take (k + 1) items ≡ take k items ++ item ∷ [] =
     take_more items k item c.loop-item-test.true
     ∙ ap (λ z. take k items ++ z ∷ []) (sym c.item-item.is) in

@@ -8,5 +8,5 @@ invariant-loop-item l = record {
   long : length l.next ≡ MOST_SENDERS;
   noted : (sender : ℕ) → sender < MOST_SENDERS → slice_index l.next sender
       ≡ next_behind sender (take l.item-index l.items)
-          (get_or l.first sender (slice_index l.fn.before sender));
+      (get_or l.first sender (slice_index l.fn.before sender));
 }
