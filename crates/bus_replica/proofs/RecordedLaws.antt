@@ -219,6 +219,15 @@ module _ {S A : Type 0} (IsFirst : S → Type 0) (Applies : Operations S A) wher
       read_behind (before ++ items_in told.entries) earlier later (behind before order) state l
       (written before order told l.items p)
 
+-- an order that begins another has its operations first
+pub recorded_items : (old new : Order) → IsPrefixOfOrder old new
+    → IsPrefix (items_in old.entries) (items_in new.entries)
+recorded_items old new p = record {
+  rest = items_in p.later;
+  together =
+      sym (flat_map-append item_of_entry old.entries p.later) ∙ ap items_in (sym p.entries);
+}
+
 -- where nothing was replayed
 none_led : {S A : Type 0} (IsFirst : S → Type 0) (Applies : Operations S A) (items : List Item)
     (first state : S) → items ≡ [] → Folds Applies first items state → IsFirst first

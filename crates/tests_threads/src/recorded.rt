@@ -3,7 +3,9 @@
 use bus_deliverylog::Order;
 use bus_handles::Page;
 use bus_journal::{Header, JournalRead, push_header, push_record, read_journal};
-use bus_replica::{OpenFault, Replica, SenderNo, State, append, open_recorded, page_after, replay};
+use bus_replica::{
+    GoOnFault, OpenFault, Replica, SenderNo, State, append, open_recorded, page_after, replay,
+};
 use std::alloc::{AllocError, Global};
 use std::process::Abort;
 use std::sync::Wait;
@@ -117,6 +119,24 @@ fn pages_that_are_refused(rt: HostRuntime) {
         *last = 0xefff_ffff_fff0;
     }
     refused(&rt, &other, &read.log.order, OpenFault::Numbers);
+}
+
+#[test]
+fn a_journal_behind_a_gap_is_refused(rt: HostRuntime) {
+    let read = told(&rt, &written(&rt));
+    let page = page_after(None, &read).expect(&rt, "a page");
+    match page_after(Some(&page), &read) {
+        Ok(_) => assert!(&rt; false),
+        Err(fault) => assert!(&rt; fault == GoOnFault::Gap),
+    }
+    let mut before = page;
+    for (sender, number) in [5, 7, 9].iter().enumerate() {
+        if let Some(next) = before.next.get_mut(sender) {
+            *next = *number;
+        }
+    }
+    let next = page_after(Some(&before), &read).expect(&rt, "a page");
+    assert!(&rt; next.next[0] == 6 && next.next[1] == 8 && next.next[2] == 9);
 }
 
 #[test]
