@@ -77,18 +77,21 @@ pub finds_one_more : {C : Type 0} (m : Sat C) (found : List ℕ) (old : Sat C) (
     × FindsTaken m more m'
 finds_one_more m found old number m' h any next tries =
     let any_old : 0 < (table_layout_in old.0).passers =
-        subst (λ (x : TableLayout). 0 < x.passers) (sym (found_layout m found old h)) any in
+    subst (λ (x : TableLayout). 0 < x.passers) (sym (found_layout m found old h)) any in
     let tried = tries.ring any_old in
     let at = tried.0 in
-    let other : at ≢ PASSED_ALL = λ is. absurd (let no : false ≡ true = tried.1.1 is in cc) in
-    (found ++ at ∷ [], length-append found (at ∷ []), record {
-      others = All-push (λ (it : ℕ). it ≢ PASSED_ALL) found at h.others other;
-      tries = tried.2
-          ∙ ap (λ z. with_try z (passed_word (table_layout_in z.0) number) at) h.tries
-          ∙ ap (λ n. with_try (with_tries m (number_in m + 1) found)
-          (passed_word (table_layout_in (with_tries m (number_in m + 1) found).0) n) at) next
-          ∙ sym (one_more m (number_in m + 1) found at);
-    })
+    let other : at ≢ PASSED_ALL = λ is. absurd (let no : false ≡ true = tried.1.1 is in cc) in (
+      found ++ at ∷ [],
+      length-append found (at ∷ []),
+      record {
+        others = All-push (λ (it : ℕ). it ≢ PASSED_ALL) found at h.others other;
+        tries = tried.2
+            ∙ ap (λ z. with_try z (passed_word (table_layout_in z.0) number) at) h.tries
+            ∙ ap (λ n. with_try (with_tries m (number_in m + 1) found)
+            (passed_word (table_layout_in (with_tries m (number_in m + 1) found).0) n) at) next
+            ∙ sym (one_more m (number_in m + 1) found at);
+      },
+    )
 
 pub forks_then : {C : Type 0} (m : Sat C) (found : List ℕ) (old : Sat C) (number : ℕ) (n m' : Sat C)
     → FindsTaken m found old → 0 < (table_layout_in m.0).passers
@@ -97,7 +100,7 @@ pub forks_then : {C : Type 0} (m : Sat C) (found : List ℕ) (old : Sat C) (numb
 forks_then m found old number n m' h any next within tries made = record {
   ring = λ _.
       let any_old : 0 < (table_layout_in old.0).passers =
-          subst (λ (x : TableLayout). 0 < x.passers) (sym (found_layout m found old h)) any in
+      subst (λ (x : TableLayout). 0 < x.passers) (sym (found_layout m found old h)) any in
       let tried = tries.ring any_old in
       record {
         found = found;

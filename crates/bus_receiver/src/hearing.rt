@@ -70,8 +70,8 @@ impl Heard {
         }
     }
 
-    /// Another listener that has heard just what this one has: for a receiver that is forked off the
-    /// one to which this listens.
+    /// Another listener that has heard just what this one has: for a receiver that is forked off
+    /// the one that this listens to.
     pub fn copied(&self) -> Heard
         ensures { result ≡ self.now }
     {

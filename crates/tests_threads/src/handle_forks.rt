@@ -1,8 +1,10 @@
 //! Handles of receivers that fork: of a ring to seats that others have left, and of other buses to
 //! as many as are asked for.
 
-use bus_handles::{ForkFault, Item, Message, ReceiverHandle, SenderHandle, SenderNo, Shape};
-use bus_handles::{ThreeWord, open, open_ring};
+use bus_handles::{
+    ForkFault, Item, Message, ReceiverHandle, SenderHandle, SenderNo, Shape, ThreeWord, open,
+    open_ring,
+};
 use std::alloc::Global;
 use std::process::Abort;
 use std::sync::Wait;

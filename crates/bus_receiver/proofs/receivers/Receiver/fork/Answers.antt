@@ -14,7 +14,7 @@ pub fork-requires-in-loop-next-clause-below : goal.fork-requires-in-loop-next-cl
 fork-requires-in-loop-next-clause-below g c = λ _.
     let h = c.loop-next.invariant in
     let same = ap (λ x. x.passers)
-        (found_layout c.args.self.now.me h.1 c.loop-next.self-inside.tap.me h.3) in
+    (found_layout c.args.self.now.me h.1 c.loop-next.self-inside.tap.me h.3) in
     let wide : (table_layout_in c.args.self.now.me.0).passers ≡ c.passers-passers.result = cc in
     omega arith
 
@@ -31,5 +31,5 @@ loop-next-preserved g c =
     let h = c.loop-next.invariant in
     let wide : (table_layout_in c.args.self.now.me.0).passers ≡ c.passers-passers.result = cc in
     let more = finds_one_more c.args.self.now.me h.1 c.loop-next.self-inside.tap.me c.loop-next.next
-        c.fork-in-loop-next.new.self.me h.3 (omega arith) h.2 c.in_default.ensures.tries in
+    c.fork-in-loop-next.new.self.me h.3 (omega arith) h.2 c.in_default.ensures.tries in
     (c.in_default.ensures.table.0 ∙ h.0, more.0, omega arith, more.2)
