@@ -2,6 +2,8 @@
 use Rattle.std.specs.Prelude.{ℕ, List, ◌++◌, codes}
 use Rattle.bus_batch.specs.Faults.{close_fault_text}
 use Rattle.bus_tenure.specs.Text.{turn_text}
+use Rattle.bus_handles.specs.declared.answers.ForkFault.{ForkFault}
+use Rattle.bus_handles.specs.declared.answers.ForkFault.TheVariants as fork
 use Rattle.bus_handles.specs.declared.answers.NotDelivered.{NotDelivered}
 use Rattle.bus_handles.specs.declared.answers.NotDelivered.TheVariants as delivered
 use Rattle.bus_handles.specs.declared.answers.OrderNotEnded.{OrderNotEnded}
@@ -32,3 +34,7 @@ no_page_text (page.Unanswered number) = codes "a sender was not answered that th
 abbrev pub bus_not_ended_text : BusNotEnded → List ℕ
 bus_not_ended_text bus.InUse = codes "other handles have the bus still"
 bus_not_ended_text bus.PageOut = codes "a sender has not given the page back"
+
+abbrev pub fork_fault_text : ForkFault → List ℕ
+fork_fault_text fork.NoSeat = codes "no number above the receiver's own is free"
+fork_fault_text fork.NoMemory = codes "no memory"

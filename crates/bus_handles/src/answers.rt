@@ -4,7 +4,7 @@ ghost use Rattle.std.specs.Prelude.{◌≡◌, ◌≢◌, true, Some, IfOk, IfEr
 ghost use Rattle.bus_tenure.specs.Classes.{is_last};
 ghost use Rattle.bus_handles.specs.Answers.{delivered_turn, IsWhy};
 ghost use Rattle.bus_handles.specs.Texts.{not_delivered_text, order_not_ended_text};
-ghost use Rattle.bus_handles.specs.Texts.{bus_not_ended_text};
+ghost use Rattle.bus_handles.specs.Texts.{bus_not_ended_text, fork_fault_text};
 
 use bus_batch::CloseFault;
 use bus_tenure::Turn;
@@ -97,6 +97,29 @@ impl fmt::Display for BusNotEnded {
         f.write_str(match self {
             BusNotEnded::InUse => "other handles have the bus still",
             BusNotEnded::PageOut => "a sender has not given the page back",
+        })
+    }
+}
+
+/// Why no receiver was forked off another.
+#[derive(Clone, Copy, Debug, PartialEq, Eq)]
+pub enum ForkFault {
+    /// Each number of the ring above its own was taken. That is so for now: another receiver may
+    /// leave. Of a bus that is no ring it is never said.
+    NoSeat,
+    /// The bus or its bell has too many shares. Nothing has changed.
+    NoMemory,
+}
+
+impl Error for ForkFault {}
+
+impl fmt::Display for ForkFault {
+    ghost output = { λ why. Some (fork_fault_text why) };
+
+    fn fmt<W: fmt::Write>(&self, f: &mut fmt::Formatter<W>) -> fmt::Result {
+        f.write_str(match self {
+            ForkFault::NoSeat => "no number above the receiver's own is free",
+            ForkFault::NoMemory => "no memory",
         })
     }
 }

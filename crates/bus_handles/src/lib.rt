@@ -34,7 +34,7 @@ mod pages;
 mod receivers;
 mod senders;
 
-pub use answers::{BusNotEnded, Delivered, NotDelivered, OrderNotEnded, answered};
+pub use answers::{BusNotEnded, Delivered, ForkFault, NotDelivered, OrderNotEnded, answered};
 pub use bus_receiver::{
     CloseFault, Ended, Found, Heard, Item, ItemTurn, Kind, LEAST_LOG_WORDS, LEAST_ROWS_AGAIN, Left,
     LogFault, LogRead, MOST_BYTES, MOST_LOG_WORDS, MOST_MESSAGES, MOST_RECEIVERS, MOST_ROUNDS,

@@ -1,6 +1,6 @@
 //! A receiver with its bus.
 
-ghost use Rattle.std.specs.Prelude.{◌≡◌, ℕ, ◌≤◌, List, length, Some, None, IfOk, false};
+ghost use Rattle.std.specs.Prelude.{◌≡◌, ◌≢◌, ℕ, ◌≤◌, List, length, Some, None, IfOk, false};
 ghost use Rattle.std.specs.Ordering.{nat_cmp};
 ghost use Rattle.std.specs.Arc.{arc_value};
 ghost use Rattle.bus_automaton.specs.Buses.{process_by, automaton_by, plan_passers};
@@ -9,12 +9,13 @@ ghost use Rattle.bus_pageslot.specs.Rule.{receiver_view_in, known_in, table_layo
 ghost use Rattle.bus_pageslot.specs.Listening.{Hears, HearsAfter, HearsSigned};
 ghost use Rattle.bus_pageslot.specs.Steps.{HasLeftBy, Learns};
 ghost use Rattle.bus_pageslot.specs.Seats.{table_of, actions_of, stored_of};
+ghost use Rattle.bus_receiver.specs.Forking.{HasForked, FindsNoSeat};
 ghost use Rattle.bus_receiver.specs.Listening.{bus_of, Takes, HaveMet, IsTold};
 ghost use Rattle.bus_receiver.specs.Listening.{PassesTo, PassesWhile, item_or_end, written_or_end};
 ghost use Rattle.bus_receiver.specs.Listening.{next_of, LeavesPlace};
 ghost use Rattle.bus_handles.specs.Asking.{SaysEither};
 
-use crate::answers::BusNotEnded;
+use crate::answers::{BusNotEnded, ForkFault};
 use crate::senders::SenderHandle;
 use bus_adoptcommit::{Ratifier, ThreeWord};
 use bus_batch::Item;
@@ -29,7 +30,8 @@ use std::sync::{Arc, Wait};
 use std::time::{Clock, Duration};
 
 /// A receiver with its bus. One thread at a time has it. Its calls are those of `Receiver`, and
-/// none of them takes memory. A handle that is let go leaves, so that no ring waits for it.
+/// none of them takes memory. A handle that is let go leaves, so that no ring waits for it, and a
+/// fork of another receiver may take its number.
 pub struct ReceiverHandle<Q: Ratifier = ThreeWord> {
     bus: Arc<Bus<Q>>,
     bell: SharedBell,
@@ -302,6 +304,47 @@ impl<Q: Ratifier + Drop> ReceiverHandle<Q> {
     {
         let bus: &Bus<Q> = &self.bus;
         self.receiver.meet(&mut other.receiver, bus)
+    }
+
+    /// Another receiver with this bus, which is given from now on just what this one will be given:
+    /// it goes on from the same place, and waits as this one does. Both are of one thread during
+    /// the call, and then each goes where it likes. A `Heard` of this one is no part of the handle:
+    /// who counts by one copies it too (`Heard::copied`).
+    ///
+    /// Of a ring the new one takes the lowest number above this one's that is free. Each try is one
+    /// step. Dropping it leaves, and frees its number. NoSeat says that none was free just now; as
+    /// only higher numbers are tried, they run out at the top. To keep seats for later, open a ring
+    /// with more receivers than are needed, and let the spare ones leave at the start, by `leave`
+    /// or by a drop.
+    ///
+    /// Of another bus it is a copy, never answered NoSeat and without a step. It takes no memory;
+    /// NoMemory says that the bus has too many handles.
+    pub fn fork(&mut self) -> Result<ReceiverHandle<Q>, ForkFault>
+        ensures bus { (self.new.bus ≡ self.old.bus)
+            × IfOk result (λ made. made.bus ≡ self.old.bus) }
+        ensures made { IfOk result (λ made. HasForked self.old.me made.me self.new.me) }
+        ensures none { result ≡ Err ForkFault.NoSeat → FindsNoSeat self.old.me self.new.me }
+        ensures never { (table_layout_in self.old.me.0).passers ≡ 0
+            → result ≢ Err ForkFault.NoSeat }
+        ensures memory { result ≡ Err ForkFault.NoMemory → self.new ≡ self.old }
+    {
+        let Ok((bus, bell)) = self.shares() else {
+            return Err(ForkFault::NoMemory);
+        };
+        let shared: &Bus<Q> = &bus;
+        let Some(receiver) = self.receiver.fork(shared) else {
+            return Err(ForkFault::NoSeat);
+        };
+        Ok(ReceiverHandle::new(bus, bell, receiver))
+    }
+
+    /// Its bus and its bell, for another handle.
+    fn shares(&self) -> Result<(Arc<Bus<Q>>, SharedBell), AllocError>
+        ensures { IfOk result (λ shares. arc_value shares.0 ≡ self.now.bus) }
+    {
+        let bus = Arc::try_clone(&self.bus)?;
+        let bell = self.bell.again()?;
+        Ok((bus, bell))
     }
 
     /// Leaves for good: no cell of a ring waits for this receiver any more, and those that wait for

@@ -21,6 +21,8 @@ pub mod PassSteps
 -- A receiver forks: its compare_exchange on the passed place of a higher number is allowed, and so
 -- is a copy of its seat where no receiver has a passed place.
 pub mod Forking
+-- What is no fork of a receiver of a ring, nor a try to fork.
+pub mod ForkingRefused
 -- What a receiver that was forked off another keeps beside its seat, and what the other one does.
 pub mod ForkedTaps
 -- When a receiver's passed place is due, and the cell of its place.

@@ -16,7 +16,7 @@ use Rattle.bus_automaton.specs.Processes.{passed_word}
 use Rattle.bus_pageslot.specs.Histories.{LeavesRule}
 use Rattle.bus_pageslot.specs.Listening.{FindsLength, FindsWord}
 use Rattle.bus_pageslot.specs.ReceiverViews.{ReceiverView, left_for_good, passed_on}
-use Rattle.bus_pageslot.specs.ReceiverViews.{receiver_view_after_load}
+use Rattle.bus_pageslot.specs.ReceiverViews.{receiver_tried}
 use Rattle.bus_pageslot.specs.Rings.{LeavesAll}
 use Rattle.bus_pageslot.specs.Rule.{Sat, TableInvariant, cut_left, cut_right, tap_left, tap_right}
 use Rattle.bus_pageslot.specs.Rule.{first_of, second_of, views_joined, with_look}
@@ -190,14 +190,14 @@ pub data StepsTo {C : Type 0} (P : Process C) (A : Automaton C) (s : RuledTable 
   TriesToFork : (seat : ℕ) (x : TableLayout) (e : ReceiverView) (number : ℕ)
       → get_elem? s.table.views seat ≡ some (Tap x e)
       → slice_index s.table.words (passed_word x number) ≢ PASSED_ALL
-      → (w : LeavesOthers P A s.table s.rule seat
-      (Tap x (receiver_view_after_load e (passed_word x number))))
+      → (w : LeavesOthers P A s.table s.rule seat (Tap x (receiver_tried e (passed_word x number)
+      (slice_index s.table.words (passed_word x number)))))
       → StepsTo P A s record {
         table = record {
           words = s.table.words;
           homes = s.table.homes;
-          views = slice_set s.table.views seat
-              (Tap x (receiver_view_after_load e (passed_word x number)));
+          views = slice_set s.table.views seat (Tap x (receiver_tried e (passed_word x number)
+              (slice_index s.table.words (passed_word x number))));
         };
         rule = w.rule;
       }

@@ -8,6 +8,7 @@ use Rattle.bus_deliverylog.specs.declared.receiving.RecvTurn.{RecvTurn}
 use Rattle.bus_deliverylog.specs.declared.receiving.RecvTurn.TheVariants as turn
 use Rattle.bus_tenure.specs.Core.{length_at}
 use Rattle.bus_world.specs.Headline.{IsPrefix, order_given, heads}
+use Rattle.bus_pageslot.specs.Notes.{Look}
 
 -- A receiver. Where no word of the log is used again it has no passed place, and stores nothing.
 pub record ReceiverView : Type 0 where
@@ -16,14 +17,19 @@ pub record ReceiverView : Type 0 where
   -- how many of these it has read, and whether the end was among them
   pub place : ℕ
   pub ended : Bool
-  -- what its turns that took a step have answered, the first first
+  -- What its turns that took a step have answered, the first first. Of a forked receiver this and
+  -- the next two begin with what its maker showed.
   pub answers : List RecvTurn
   -- On which words of the table its steps were, the first first: loads, but for the stores in its
-  -- passed place. A meeting, which is three loads of the length, counts as one.
+  -- passed place, and for its tries to fork, each on the passed place of another number. A meeting,
+  -- which is three loads of the length, counts as one.
   pub loads : List ℕ
+  -- what its tries to fork have found, in which words, the first first
+  pub tried : List Look
   -- its number
   pub me : ℕ
-  -- the place that it has stored in its passed place; 0 before the first
+  -- The place that it has stored in its passed place; 0 before the first. A forked one has what its
+  -- maker had passed, which the fork has stored there.
   pub passed : ℕ
   -- it has left for good
   pub gone : Bool
@@ -36,6 +42,7 @@ new_receiver_view me = record {
   ended = false;
   answers = [];
   loads = [];
+  tried = [];
   me = me;
   passed = 0;
   gone = false;
@@ -79,6 +86,14 @@ passed_on e word = record e {
 -- of the number past all places: it has left for good
 abbrev pub left_for_good : ReceiverView → ℕ → ReceiverView
 left_for_good e word = record e { loads = e.loads ++ word ∷ []; gone = true }
+
+-- ---- one compare_exchange in this word, which is the passed place of another number
+-- to fork to that number: it found this
+abbrev pub receiver_tried : ReceiverView → (word found : ℕ) → ReceiverView
+receiver_tried e word found = record e {
+  loads = e.loads ++ word ∷ [];
+  tried = e.tried ++ record { word = word; found = found } ∷ [];
+}
 
 -- ---- the same receiver with another number: what is forked off it
 abbrev pub forked_as : ReceiverView → ℕ → ReceiverView

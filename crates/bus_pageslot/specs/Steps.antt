@@ -2,7 +2,7 @@
 use Rattle.std.specs.Prelude.{◌≡◌, ◌≢◌, ℕ, ◌+◌, ◌<◌, ◌≤◌, length, map, slice_index, List, []}
 use Rattle.std.specs.Prelude.{◌∷◌}
 use Rattle.std.specs.Prelude.{◌++◌, Option, Some, None, drop, Bool, true, false, if◌then◌else◌}
-use Rattle.std.specs.Prelude.{◌==◌, All}
+use Rattle.std.specs.Prelude.{◌==◌, ◌↔◌, All, IsTrue}
 use Rattle.atomic_table.specs.Table.{rest}
 use Rattle.bus_register.specs.declared.limits.TheConstants.{PASSED_ALL}
 use Rattle.bus_register.specs.declared.registers.Op.{Op}
@@ -21,11 +21,12 @@ use Rattle.bus_tenure.specs.Situations.{PageMove, Stays, Comes, Returns}
 use Rattle.bus_tenure.specs.declared.pages.Page.{Page}
 use Rattle.bus_world.specs.Headline.{Action, HasPut, HasMarked, puts, IsPrefix}
 use Rattle.bus_pageslot.specs.ReceiverViews.{receiver_view_after_load, receiver_view_knowing, Agree}
-use Rattle.bus_pageslot.specs.ReceiverViews.{forked_as, left_for_good, passed_on}
+use Rattle.bus_pageslot.specs.ReceiverViews.{ReceiverView, forked_as, left_for_good, passed_on}
+use Rattle.bus_pageslot.specs.ReceiverViews.{receiver_tried}
 use Rattle.bus_pageslot.specs.declared.rule.View.{View}
 use Rattle.bus_pageslot.specs.declared.rule.View.TheVariants.{Maker, Sender, Tap, Meeting, Telling}
 use Rattle.bus_pageslot.specs.declared.rule.View.TheVariants.{Spent}
-use Rattle.bus_automaton.specs.Processes.{Process, IsCounted, EndsBy, passed_word}
+use Rattle.bus_automaton.specs.Processes.{TableLayout, Process, IsCounted, EndsBy, passed_word}
 use Rattle.bus_pageslot.specs.Notes.{Notes}
 use Rattle.bus_pageslot.specs.Rule.{Sat, sender_trail_in, notes_in, receiver_view_in, known_in}
 use Rattle.bus_pageslot.specs.Rule.{with_receiver_view, views_joined, first_of, second_of}
@@ -258,13 +259,13 @@ pub record HasLeftBy {C : Type 0} (m m' : Sat C) : Type 0 where
   pub flat : (table_layout_in m.0).passers ≡ 0 → m' ≡ m
 
 -- ---- a receiver's compare_exchange on the passed place of another number: a fork
--- The seat that took this step is joined with that of a new receiver. That has this number, and is
--- else what the one was before.
+-- The seat that took this step, and found the number past all places, is joined with that of a new
+-- receiver. That has this number, and is else what the one was before.
 abbrev pub view_forked : {C : Type 0} → View C → (word number : ℕ) → View C
 view_forked (Maker x made) word number = Maker x made
 view_forked (Sender c sender_trail notes) word number = Sender c sender_trail notes
 view_forked (Tap x e) word number =
-    Meeting x (receiver_view_after_load e word) x (forked_as e number)
+    Meeting x (receiver_tried e word PASSED_ALL) x (forked_as e number)
 view_forked (Meeting x e y f) word number = Meeting x e y f
 view_forked (Telling c sender_trail notes x e) word number = Telling c sender_trail notes x e
 view_forked Spent word number = Spent
@@ -282,28 +283,52 @@ fork_of Spent number = Spent
 abbrev pub copy_of : {C : Type 0} → View C → View C
 copy_of v = fork_of v (receiver_view_in v).me
 
--- it shows this step more, and nothing else has changed
-abbrev pub HasTried : {C : Type 0} → Sat C → ℕ → Sat C → Type 0
-HasTried m word m' =
-    m' ≡ (
-      with_receiver_view m.0 (receiver_view_after_load (receiver_view_in m.0) word),
-      m.1,
-    )
+-- it shows this step more, with what that found, and nothing else has changed
+abbrev pub HasTried : {C : Type 0} → Sat C → (word found : ℕ) → Sat C → Type 0
+HasTried m word found m' =
+    m' ≡ (with_receiver_view m.0 (receiver_tried (receiver_view_in m.0) word found), m.1)
 
 -- The step found this in this word. Where it was the number past all places the seat is two from
 -- then on: nobody had the number whose passed place the word is.
 pub record Forks {C : Type 0} (m : Sat C) (word got : ℕ) (m' : Sat C) : Type 0 where
   pub free : got ≡ PASSED_ALL → (number : ℕ) → word ≡ passed_word (table_layout_in m.0) number
       → m' ≡ (view_forked m.0 word number, m.1)
-  pub taken : got ≢ PASSED_ALL → HasTried m word m'
+  pub taken : got ≢ PASSED_ALL → HasTried m word got m'
+
+-- It shows that step on this word, with the number that was found there: the one past all places
+-- exactly where a receiver was made.
+abbrev pub HasTriedAt : {C : Type 0} → Sat C → (word : ℕ) (made : Bool) → Sat C → Type 0
+HasTriedAt m word made m' =
+    (found : ℕ) × (IsTrue made ↔ (found ≡ PASSED_ALL)) × HasTried m word found m'
 
 -- of a log that is a ring it is that step on the passed place of this number, and else none
-pub record HasTriedBy {C : Type 0} (m : Sat C) (number : ℕ) (m' : Sat C) : Type 0 where
+pub record HasTriedBy {C : Type 0} (m : Sat C) (number : ℕ) (made : Bool) (m' : Sat C) :
+    Type 0 where
   pub ring : 0 < (table_layout_in m.0).passers
-      → HasTried m (passed_word (table_layout_in m.0) number) m'
+      → HasTriedAt m (passed_word (table_layout_in m.0) number) made m'
   pub flat : (table_layout_in m.0).passers ≡ 0 → m' ≡ m
 
 -- what was forked off the one has this number of a ring, and is else a copy
 pub record IsForkOf {C : Type 0} (m : Sat C) (number : ℕ) (n : Sat C) : Type 0 where
   pub ring : 0 < (table_layout_in m.0).passers → n ≡ (fork_of m.0 number, [])
   pub flat : (table_layout_in m.0).passers ≡ 0 → n ≡ m
+
+-- ---- what these refuse, of a receiver of a ring
+pub record ForkingRefuses (C : Type 0) (x : TableLayout) (e : ReceiverView) (number : ℕ) :
+    Type 0 where
+  -- a fork that has stored the place of its maker for what the maker had passed
+  pub its_place : e.passed ≢ e.place → ¬ IsForkOf {C = C} (Tap x e, []) number
+      (Tap x (record (forked_as e number) { passed = e.place }), [])
+  -- one with another number
+  pub other_number : (other : ℕ) → other ≢ number
+      → ¬ IsForkOf {C = C} (Tap x e, []) number (Tap x (forked_as e other), [])
+  -- one that has read nothing, of a maker that has read a word
+  pub place_zero : 0 < e.place → ¬ IsForkOf {C = C} (Tap x e, []) number
+      (Tap x (record (forked_as e number) { place = 0 }), [])
+  -- a call without a step, whether it gives a receiver or none
+  pub no_step : (made : Bool) → ¬ HasTriedBy {C = C} (Tap x e, []) number made (Tap x e, [])
+  -- none though the number past all places was found, and one though another was
+  pub none_made : ¬ HasTriedBy {C = C} (Tap x e, []) number false
+      (Tap x (receiver_tried e (passed_word x number) PASSED_ALL), [])
+  pub one_made : (found : ℕ) → found ≢ PASSED_ALL → ¬ HasTriedBy {C = C} (Tap x e, []) number true
+      (Tap x (receiver_tried e (passed_word x number) found), [])

@@ -18,8 +18,9 @@ ghost use Rattle.bus_pageslot.specs.Lasting.{IsByOthers, StepsTo, published};
 ghost use Rattle.bus_pageslot.specs.Listening.{FindsLength, FindsWord, Hears};
 ghost use Rattle.bus_pageslot.specs.OneAnswer.{AddsAnswer};
 ghost use Rattle.bus_pageslot.specs.ReceiverViews.{ReceiverView, heard_length, length_turn};
-ghost use Rattle.bus_pageslot.specs.ReceiverViews.{receiver_view_after_load, receiver_view_knowing};
-ghost use Rattle.bus_pageslot.specs.Rings.{LeavesAll, ShowsReceiver};
+ghost use Rattle.bus_pageslot.specs.ReceiverViews.{receiver_tried, receiver_view_after_load};
+ghost use Rattle.bus_pageslot.specs.ReceiverViews.{receiver_view_knowing};
+ghost use Rattle.bus_pageslot.specs.Rings.{LeavesAll, ShowsReceiver, StoresApart};
 ghost use Rattle.bus_pageslot.specs.Rule.{IsFirst, MayRead, Sat, TableInvariant, all_knowing};
 ghost use Rattle.bus_pageslot.specs.Rule.{cut_left, cut_right, first_of, known_in, second_of};
 ghost use Rattle.bus_pageslot.specs.Rule.{tap_left, tap_right, views_joined, with_look};
@@ -186,7 +187,12 @@ pub fn forks_leave_what_was_published<Q: Ratifier>()
         (plan : Plan) (s : State (Option Page) (View (Sender (Elector Q)))) (seat : ℕ)
         (x : TableLayout) (e : ReceiverView) (number : ℕ) (r : TableInvariant P (A plan) s)
         → get_elem? s.views seat ≡ some (view.Tap x e) → LeavesOthers P (A plan) s r seat
-        (view.Tap x (receiver_view_after_load e (passed_word x number))) }
+        (view.Tap x (receiver_tried e (passed_word x number)
+        (slice_index s.words (passed_word x number)))) }
+    ensures apart { let P = process_by Q.Ratifier in let A = automaton_by Q.Ratifier in
+        (plan : Plan) (s : State (Option Page) (View (Sender (Elector Q)))) (number value : ℕ)
+        → TableInvariant P (A plan) s → number < (A plan).table_layout.passers
+        → StoresApart (A plan).table_layout s.words number value }
     ensures copies { let P = process_by Q.Ratifier in let A = automaton_by Q.Ratifier in
         (plan : Plan) (s : State (Option Page) (View (Sender (Elector Q)))) (seat : ℕ)
         (x : TableLayout) (e : ReceiverView) (r : TableInvariant P (A plan) s)

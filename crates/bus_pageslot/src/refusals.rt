@@ -1,5 +1,5 @@
-//! What finishing does not allow, nor waiting for room, a look, a receiver's turn, or the table's
-//! rule.
+//! What finishing does not allow, nor waiting for room, a look, a receiver's turn, a fork, or the
+//! table's rule.
 
 ghost use Rattle.std.specs.Prelude.{◌≡◌, ℕ, ◌<◌, Option, false};
 ghost use Rattle.atomic_table.specs.Table.{State};
@@ -16,6 +16,7 @@ ghost use Rattle.bus_pageslot.specs.ReceiverViews.{ReceiverView};
 ghost use Rattle.bus_pageslot.specs.Rings.{RuleRefuses};
 ghost use Rattle.bus_pageslot.specs.Room.{RoomRefuses};
 ghost use Rattle.bus_pageslot.specs.Seats.{SenderSeat};
+ghost use Rattle.bus_pageslot.specs.Steps.{ForkingRefuses};
 ghost use Rattle.bus_pageslot.specs.Turns.{tells_by};
 ghost use Rattle.bus_pageslot.specs.declared.rule.View.{View};
 ghost use Rattle.bus_tenure.specs.Elections.{Elector, election_of};
@@ -59,6 +60,15 @@ pub fn looking_refuses<Q: Ratifier>()
 pub fn hearing_refuses<Q: Ratifier>()
     ensures { (x : TableLayout) (e : ReceiverView) → e.ended ≡ false
         → HearingRefuses (Sender (Elector Q)) x e }
+{}
+
+/// Of a ring no fork has what its maker has read for what that had passed, nor another number than
+/// was asked for, nor has it read nothing where its maker has read a word. No call of `fork` is
+/// without a step that the seat shows. And none is answered None whose step found 2^64 - 1, nor
+/// gives a receiver where it found another number.
+pub fn forking_refuses<Q: Ratifier>()
+    ensures { (x : TableLayout) (e : ReceiverView) (number : ℕ) → 0 < x.passers
+        → ForkingRefuses (Sender (Elector Q)) x e number }
 {}
 
 /// The rule holds of no table of a ring with one of these faults. A word was overwritten that a

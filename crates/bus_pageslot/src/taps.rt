@@ -1,7 +1,7 @@
 //! A receiver's seat, its loads, and what it stores in its passed place.
 
 ghost use Rattle.std.specs.Prelude.{◌≡◌, ℕ, ◌<◌, ◌≤◌, [], false, length, slice_index, IfNone};
-ghost use Rattle.std.specs.Prelude.{IfSome, IsSome};
+ghost use Rattle.std.specs.Prelude.{IfSome, IsSome, is_some};
 ghost use Rattle.bus_automaton.specs.Buses.{automaton_by, process_by};
 ghost use Rattle.bus_automaton.specs.Processes.{TableLayout, passed_word};
 ghost use Rattle.bus_pageslot.specs.Looks.{IsFoundOn, IsTakenOn};
@@ -29,9 +29,10 @@ use std::marker::{Brand, Model};
 /// A receiver of a bus: its seat, how much of the log it knows, and what it has read of that. One
 /// thread at a time has it, and no call of it waits or takes memory.
 ///
-/// Its seat shows what its turns have answered, and which words its steps were on: its loads, and
-/// the stores in its passed place. A meeting, which is three loads of the length, counts as one.
-/// Only a step on the table adds to either.
+/// Its seat shows what its turns have answered, which words its steps were on, and what those that
+/// tried to fork have found. The steps are its loads, the stores in its passed place, and these
+/// tries. A meeting, which is three loads of the length, counts as one. Only a step on the table
+/// adds to any of the three.
 ///
 /// Of a ring a turn after each whole frame, but that of the end, stores its place there. From then
 /// on the cells of the words before it may be used again. One that takes no turns holds the ring
@@ -119,7 +120,9 @@ impl<Q: Ratifier + Drop> Tap<Q> {
     /// Its number: of a ring, which of the passed places is its own. Of other logs several
     /// receivers may have one number.
     pub fn number(&self) -> u64
-        ensures { result ≡ (receiver_view_in self.now.me.0).me }
+        ensures number { result ≡ (receiver_view_in self.now.me.0).me }
+        ensures within { 0 < (table_layout_in self.now.me.0).passers
+            → result < (table_layout_in self.now.me.0).passers }
     {
         self.listener.cells.number
     }
@@ -256,20 +259,21 @@ impl<Q: Ratifier + Drop> Tap<Q> {
 
     /// Another receiver, which has a higher number whose receiver has left, and is else just what
     /// this one is: with what it knows, has read and passed, and was answered. From then on each is
-    /// of its own, for whatever thread. None where somebody has the number: then nothing has
+    /// of its own, for whatever thread. None where somebody has the number: then no word has
     /// changed.
     ///
-    /// One step, which the seat of this one shows: a compare_exchange on the passed place of that
-    /// number, from 2^64 - 1 to what this one has passed. Of a log that is no ring it takes no
-    /// step, and gives a copy with the same number.
+    /// One step, which the seat of this one shows with the number that it found: a compare_exchange
+    /// on the passed place of that number, from 2^64 - 1 to what this one has passed. Of a log that
+    /// is no ring it takes no step, and gives a copy with the same number.
     pub fn fork(&mut self, bus: &Bus<Q>, number: u64) -> Option<Tap<Q>>
         requires table { self.old.table_id ≡ bus.now.table }
-        requires above { (receiver_view_in self.old.me.0).me < number }
+        requires above { 0 < (table_layout_in self.old.me.0).passers
+            → (receiver_view_in self.old.me.0).me < number }
         requires below { 0 < (table_layout_in self.old.me.0).passers
             → number < (table_layout_in self.old.me.0).passers }
         ensures table { (self.new.table_id ≡ self.old.table_id)
             × IfSome result (λ made. made.table_id ≡ self.old.table_id) }
-        ensures tries { HasTriedBy self.old.me number self.new.me }
+        ensures tries { HasTriedBy self.old.me number (is_some result) self.new.me }
         ensures made { IfSome result (λ made. IsForkOf self.old.me number made.me) }
         ensures free { 0 < (table_layout_in self.old.me.0).passers
             → IfSome result (λ _. IsFoundOn (process_by Q.Ratifier)
@@ -354,7 +358,7 @@ fn fork_seat<Q: Ratifier + Drop>(
         × IfSome result (λ made. made.table_id ≡ seat.old.table_id) }
     ensures tries { (number : ℕ)
         → IsPassedAt (table_layout_in seat.old.me.0) number passed_at
-        → HasTriedBy seat.old.me number seat.new.me }
+        → HasTriedBy seat.old.me number (is_some result) seat.new.me }
     ensures made { (number : ℕ)
         → IsPassedAt (table_layout_in seat.old.me.0) number passed_at
         → IfSome result (λ made. IsForkOf seat.old.me number made.me) }

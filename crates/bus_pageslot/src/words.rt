@@ -9,7 +9,7 @@
 //! that is noted, and of its store what was stored.
 
 ghost use Rattle.std.specs.Prelude.{◌≡◌, ◌⊎◌, ℕ, ◌+◌, ◌<◌, ◌≤◌, Option, Some, [], ◌∷◌, false};
-ghost use Rattle.std.specs.Prelude.{length, take, IfNone, IfOk, IfSome};
+ghost use Rattle.std.specs.Prelude.{is_some, length, take, IfNone, IfOk, IfSome};
 ghost use Rattle.std.specs.Slots.{slots_items, slots_len, IsFull};
 ghost use Rattle.atomic_table.specs.Table.{opening, rest, Final, Seen};
 ghost use Rattle.bus_automaton.specs.Buses.{process_by, automaton_by};
@@ -22,7 +22,7 @@ ghost use Rattle.bus_pageslot.specs.ReceiverViews.{ReceiverView};
 ghost use Rattle.bus_pageslot.specs.Rule.{IsFirst, MayRead, TableInvariant, cut_left, cut_right};
 ghost use Rattle.bus_pageslot.specs.Rule.{table_layout_in, tap_left, tap_right, with_look};
 ghost use Rattle.bus_pageslot.specs.Steps.{Due, GoesOn, Learns, Reads, Met, HasPassed, HasLeft};
-ghost use Rattle.bus_pageslot.specs.Steps.{HasTried, fork_of};
+ghost use Rattle.bus_pageslot.specs.Steps.{HasTriedAt, fork_of};
 ghost use Rattle.bus_register.specs.declared.limits.TheConstants.{PASSED_ALL};
 ghost use Rattle.bus_pageslot.specs.StepsShown.{steps_shown};
 ghost use Rattle.bus_tenure.specs.declared.pages.Page.{Page};
@@ -254,7 +254,8 @@ impl<Q: Ratifier> Words<Q> {
 
     /// One compare_exchange on the passed place of a higher number, by a receiver that has not
     /// left: from the number past all places to what this one has passed. Where it finds that,
-    /// nobody has the number, and the seat of a receiver that has it is cut off this one.
+    /// nobody has the number, and the seat of a receiver that has it is cut off this one. The seat
+    /// of this one shows what it found.
     #[inline(always)]
     pub(crate) fn fork<K: Planned>(
         &self,
@@ -268,7 +269,7 @@ impl<Q: Ratifier> Words<Q> {
             × (number < x.passers) × (at ≡ passed_word x number) × (passed ≡ e.passed) }
         requires plan { K.plan ≡ Some self.now.plan }
         ensures table { (seat.new.table_id ≡ seat.old.table_id) × (seat.new.id ≡ seat.old.id) }
-        ensures tries { HasTried seat.old.me at seat.new.me }
+        ensures tries { HasTriedAt seat.old.me at (is_some result) seat.new.me }
         ensures made { IfSome result (λ made. (made.table_id ≡ seat.old.table_id) × ((number : ℕ)
             → at ≡ passed_word (table_layout_in seat.old.me.0) number
             → made.me ≡ (fork_of seat.old.me.0 number, []))) }

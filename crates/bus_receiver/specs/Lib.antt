@@ -1,4 +1,5 @@
 pub use Rattle.bus_pageslot.specs.Seats
+pub mod Forking
 pub mod Hearing
 pub mod HearingRuns
 pub mod Listening

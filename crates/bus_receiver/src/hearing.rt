@@ -70,6 +70,20 @@ impl Heard {
         }
     }
 
+    /// Another listener that has heard just what this one has: for a receiver that is forked off
+    /// the one that this listens to.
+    pub fn copied(&self) -> Heard
+        ensures { result ≡ self.now }
+    {
+        Heard {
+            bases: self.bases,
+            counts: self.counts,
+            items: self.items,
+            left: self.left,
+            ended: self.ended,
+        }
+    }
+
     /// Takes the next answer of a receiver and gives true, or refuses it and gives false: an item
     /// that is not the next of its sender, or one more than can be counted; an item or a leave mark
     /// of a sender that has left, or of none below `MOST_SENDERS`; and all but the end after the

@@ -1,7 +1,7 @@
 //! A receiver of a bus, with its places compared.
 
 ghost use Rattle.std.specs.Prelude.{◌≡◌, ℕ, ◌≤◌, List, length, Some, None, IfOk};
-ghost use Rattle.std.specs.Prelude.{OnErr, true, false};
+ghost use Rattle.std.specs.Prelude.{OnErr, IfSome, IfNone, IsSome, true, false};
 ghost use Rattle.std.specs.Ordering.{nat_cmp};
 ghost use Rattle.bus_automaton.specs.Buses.{process_by, automaton_by, plan_passers};
 ghost use Rattle.bus_pageslot.specs.Endings.{IsLeft};
@@ -9,6 +9,7 @@ ghost use Rattle.bus_pageslot.specs.Rule.{receiver_view_in, known_in, table_layo
 ghost use Rattle.bus_pageslot.specs.Listening.{Hears, HearsAfter, HearsSigned};
 ghost use Rattle.bus_pageslot.specs.Steps.{HasLeftBy, Learns};
 ghost use Rattle.bus_pageslot.specs.Seats.{table_of, actions_of, stored_of};
+ghost use Rattle.bus_receiver.specs.Forking.{HasForked, FindsNoSeat};
 ghost use Rattle.bus_receiver.specs.Listening.{bus_of, is_found, Takes, HaveMet, IsTold};
 ghost use Rattle.bus_receiver.specs.Listening.{PassesTo, PassesWhile, item_or_end, written_or_end};
 ghost use Rattle.bus_receiver.specs.Listening.{next_of, LeavesPlace};
@@ -325,6 +326,35 @@ impl<Q: Ratifier + Drop> Receiver<Q> {
     {
         self.tap.meet(&mut other.tap, bus);
         self.tap.place().cmp(&other.tap.place())
+    }
+
+    /// Another receiver, which is just what this one is: with what it knows, has read and passed,
+    /// and was answered. So it is given just what this one will be given. From then on each is of
+    /// its own, for whatever thread.
+    ///
+    /// Of a ring it has the lowest number above this one's that is free, as one is whose receiver
+    /// has left. It tries these numbers, one step each, until one is free: None where none was.
+    /// That is an answer for now. Of another bus it takes no step, and never gives None.
+    pub fn fork(&mut self, bus: &Bus<Q>) -> Option<Receiver<Q>>
+        requires { bus_of self.old ≡ bus.now.table }
+        ensures table { (bus_of self.new ≡ bus_of self.old)
+            × IfSome result (λ made. bus_of made ≡ bus_of self.old) }
+        ensures made { IfSome result (λ made. HasForked self.old.me made.me self.new.me) }
+        ensures none { IfNone result (FindsNoSeat self.old.me self.new.me) }
+        ensures never { (table_layout_in self.old.me.0).passers ≡ 0 → IsSome result }
+    {
+        let own = self.tap.number();
+        let passers = self.tap.passers();
+        if passers == 0 {
+            let tap = self.tap.fork(bus, own)?;
+            return Some(Receiver { tap });
+        }
+        for next in own + 1..passers {
+            if let Some(tap) = self.tap.fork(bus, next) {
+                return Some(Receiver { tap });
+            }
+        }
+        None
     }
 
     /// Leaves for good: no cell of a ring waits for this receiver any more. That is one store in

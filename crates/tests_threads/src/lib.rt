@@ -10,6 +10,8 @@ mod forks;
 #[cfg(test)]
 mod games;
 #[cfg(test)]
+mod handle_forks;
+#[cfg(test)]
 mod long;
 #[cfg(test)]
 mod receivers;

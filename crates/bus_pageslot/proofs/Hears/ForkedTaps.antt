@@ -1,13 +1,13 @@
 -- What a receiver that was forked off another keeps beside its seat, and what the other one does.
-use Rattle.std.proofs.Common.{◌≡◌, inl, inr, ℕ, ◌<◌, Option, Some, None, [], arith, sym, ◌∙◌, ap}
-use Rattle.std.proofs.Common.{subst}
+use Rattle.std.proofs.Common.{◌≡◌, inl, inr, ℕ, ◌<◌, Bool, Option, Some, None, [], arith, sym}
+use Rattle.std.proofs.Common.{◌∙◌, ap, subst}
 use Rattle.std.proofs.lemmas.Bool.{cases_lt}
 use Rattle.bus_automaton.specs.Processes.{TableLayout, passed_word}
-use Rattle.bus_pageslot.specs.ReceiverViews.{ReceiverView, forked_as, receiver_view_after_load}
+use Rattle.bus_pageslot.specs.ReceiverViews.{ReceiverView, forked_as, receiver_tried}
 use Rattle.bus_pageslot.specs.Rounds.{GoesRound}
 use Rattle.bus_pageslot.specs.Rule.{Sat, receiver_view_in, table_layout_in, with_receiver_view}
 use Rattle.bus_pageslot.specs.Seats.{HasCells, IsFit, IsPassedAt, IsReceiverView}
-use Rattle.bus_pageslot.specs.Steps.{HasTriedBy, IsForkOf, fork_of}
+use Rattle.bus_pageslot.specs.Steps.{HasTriedAt, HasTriedBy, IsForkOf, fork_of}
 use Rattle.bus_pageslot.specs.declared.listeners.Listener.{Listener}
 use Rattle.bus_pageslot.specs.declared.listeners.LogCells.{LogCells}
 
@@ -17,13 +17,31 @@ module _ (x : TableLayout) (flat : x.passers ≡ 0) (me number : ℕ) where
   none_of_any (Some at) own = absurd (let low = own.0 in omega arith)
   none_of_any None own = own
 
+-- ---- a number of a ring is that of one of its passed places
+below_all : (x : TableLayout) (me : ℕ) (o : Option ℕ) → IsPassedAt x me o → 0 < x.passers
+    → me < x.passers
+below_all x me (Some at) own some = own.0
+below_all x me None own some = absurd (omega (arith, own))
+
+pub number_within : {C : Type 0} {m : Sat C} {words : ℕ} {l : Listener}
+    → IsReceiverView m words l → 0 < (table_layout_in m.0).passers
+    → l.cells.number < (table_layout_in m.0).passers
+number_within {C} {l = l} h = subst
+    (λ (y : Sat C). 0 < (table_layout_in y.0).passers
+    → l.cells.number < (table_layout_in y.0).passers) (sym h.me)
+    (λ some.
+    let x = h.table_layout in
+    let low = below_all x h.receiver_view.me l.cells.passed_at h.cells.passed_is some in
+    let is = h.cells.number_is in omega arith)
+
+-- ---- a fork
 module _ {C : Type 0} {m : Sat C} {words : ℕ} {l : Listener} (h : IsReceiverView m words l)
     (number : ℕ) (cells : LogCells)
     (ring : (x : TableLayout) → HasCells x l.cells.number l.cells → l.cells.number < number
     → number < x.passers → HasCells x number cells)
     (flat : (x : TableLayout) → HasCells x l.cells.number l.cells → x.passers ≡ 0
     → cells ≡ l.cells)
-    (up : (receiver_view_in m.0).me < number)
+    (up : 0 < (table_layout_in m.0).passers → (receiver_view_in m.0).me < number)
     (low : 0 < (table_layout_in m.0).passers → number < (table_layout_in m.0).passers) where
   abbrev x : TableLayout
   x = h.table_layout
@@ -34,14 +52,15 @@ module _ {C : Type 0} {m : Sat C} {words : ℕ} {l : Listener} (h : IsReceiverVi
   own : HasCells x l.cells.number l.cells
   own = subst (λ k. HasCells x k l.cells) (sym h.cells.number_is) h.cells
 
-  pub up_here : e.me < number
-  up_here = subst (λ (y : Sat C). (receiver_view_in y.0).me < number) h.me up
-
   some_there : 0 < x.passers → 0 < (table_layout_in m.0).passers
   some_there any = subst (λ (y : Sat C). 0 < (table_layout_in y.0).passers) (sym h.me) any
 
   none_there : x.passers ≡ 0 → (table_layout_in m.0).passers ≡ 0
   none_there none = ap (λ (y : Sat C). (table_layout_in y.0).passers) h.me ∙ none
+
+  pub up_here : 0 < x.passers → e.me < number
+  up_here any =
+      subst (λ (y : Sat C). (receiver_view_in y.0).me < number) h.me (up (some_there any))
 
   low_here : 0 < x.passers → number < x.passers
   low_here any =
@@ -49,7 +68,7 @@ module _ {C : Type 0} {m : Sat C} {words : ℕ} {l : Listener} (h : IsReceiverVi
 
   ring_cells : 0 < x.passers → HasCells x number cells
   ring_cells any =
-      ring x own (let is = h.cells.number_is in let a = up_here in omega arith) (low_here any)
+      ring x own (let is = h.cells.number_is in let a = up_here any in omega arith) (low_here any)
 
   flat_cells : x.passers ≡ 0 → HasCells x e.me cells
   flat_cells none = subst (HasCells x e.me) (sym (flat x own none)) h.cells
@@ -120,38 +139,41 @@ module _ {C : Type 0} {m : Sat C} {words : ℕ} {l : Listener} (h : IsReceiverVi
     ]
 
   -- ---- the one that forks
-  module _ {m' : Sat C} {words' : ℕ} (tries : HasTriedBy m number m') (wide : words' ≡ words) where
+  module _ {m' : Sat C} {words' : ℕ} {got : Bool} (tries : HasTriedBy m number got m')
+      (wide : words' ≡ words) where
     tried_ring : 0 < x.passers → IsReceiverView m' words' l
-    tried_ring any = record {
-      table_layout = x;
-      receiver_view = receiver_view_after_load e (passed_word x number);
-      me =
-          tries.ring (some_there any)
-          ∙ ap
-          (λ (y : Sat C). (
-            with_receiver_view y.0 (receiver_view_after_load (receiver_view_in y.0)
-                (passed_word (table_layout_in y.0) number)),
-            y.1,
-          )) h.me;
-      wide = wide ∙ h.wide;
-      cells = h.cells;
-      round = h.round;
-      stays = h.stays;
-      passed = h.passed;
-      past = h.past;
-      never = h.never;
-      within = h.within;
-      fit = record {
-        known = h.fit.known;
-        place = h.fit.place;
-        ended = h.fit.ended;
-        senders_are = h.fit.senders_are;
-        within = h.fit.within;
-        pieces = h.fit.pieces;
-        received = h.fit.received;
-        seen = h.fit.seen;
-      };
-    }
+    tried_ring any =
+        let step : HasTriedAt m (passed_word (table_layout_in m.0) number) got m' =
+        tries.ring (some_there any) in record {
+          table_layout = x;
+          receiver_view = receiver_tried e (passed_word x number) step.0;
+          me =
+              step.2
+              ∙ ap
+              (λ (y : Sat C). (
+                with_receiver_view y.0 (receiver_tried (receiver_view_in y.0)
+                    (passed_word (table_layout_in y.0) number) step.0),
+                y.1,
+              )) h.me;
+          wide = wide ∙ h.wide;
+          cells = h.cells;
+          round = h.round;
+          stays = h.stays;
+          passed = h.passed;
+          past = h.past;
+          never = h.never;
+          within = h.within;
+          fit = record {
+            known = h.fit.known;
+            place = h.fit.place;
+            ended = h.fit.ended;
+            senders_are = h.fit.senders_are;
+            within = h.fit.within;
+            pieces = h.fit.pieces;
+            received = h.fit.received;
+            seen = h.fit.seen;
+          };
+        }
 
     tried_flat : x.passers ≡ 0 → IsReceiverView m' words' l
     tried_flat none = record {

@@ -1,6 +1,6 @@
 -- A receiver forks: its compare_exchange on the passed place of a higher number is allowed, and so
 -- is a copy of its seat where no receiver has a passed place.
-use Rattle.std.proofs.Common.{◌≡◌, ◌≢◌, inl, inr, ℕ, ◌<◌, ◌==◌, false, Option, Some, []}
+use Rattle.std.proofs.Common.{◌≡◌, ◌≢◌, inl, inr, ℕ, ◌<◌, ◌==◌, true, false, Option, Some, []}
 use Rattle.std.proofs.Common.{◌∷◌, ◌++◌, ◌+◌, length, set, slice_index, slice_set, arith, refl}
 use Rattle.std.proofs.Common.{sym, ◌∙◌, ap, subst}
 use mathlib.Core.Option.{some}
@@ -20,17 +20,17 @@ use Rattle.bus_automaton.specs.declared.plans.Plan.{Plan}
 use Rattle.bus_pageslot.specs.Lasting.{LeavesViews}
 use Rattle.bus_pageslot.specs.Looks.{IsFoundBy}
 use Rattle.bus_pageslot.specs.ReceiverViews.{ReceiverView, HasHeard, forked_as}
-use Rattle.bus_pageslot.specs.ReceiverViews.{receiver_view_after_load}
+use Rattle.bus_pageslot.specs.ReceiverViews.{receiver_tried}
 use Rattle.bus_pageslot.specs.Rings.{LeavesAll}
 use Rattle.bus_pageslot.specs.Rule.{Sat, Ear, Unmade, Made, IsListening, IsTrueOf, KnowsLog}
 use Rattle.bus_pageslot.specs.Rule.{first_of, receiver_view_in, second_of, table_layout_in}
 use Rattle.bus_pageslot.specs.Rule.{TableInvariant, with_receiver_view}
-use Rattle.bus_pageslot.specs.Steps.{Forks, HasTried, copy_of, fork_of, view_forked}
+use Rattle.bus_pageslot.specs.Steps.{Forks, HasTried, HasTriedAt, copy_of, fork_of, view_forked}
 use Rattle.bus_pageslot.specs.StepsShown.{steps_shown}
 use Rattle.bus_pageslot.specs.declared.rule.View.{View}
 use Rattle.bus_pageslot.specs.declared.rule.View.TheVariants.{Tap}
 use Rattle.bus_pageslot.proofs.Hears.Ears.{goes_to, views_still}
-use Rattle.bus_pageslot.proofs.Hears.Hearing.{heard_loaded}
+use Rattle.bus_pageslot.proofs.Hears.Hearing.{heard_tried}
 use Rattle.bus_pageslot.proofs.Hears.Joining.{parted}
 use Rattle.bus_pageslot.proofs.Hears.Loads.{listens_on, reloaded}
 use Rattle.bus_pageslot.proofs.Hears.PassSteps.{its_own, knows_with, stored}
@@ -45,16 +45,16 @@ module _ {C : Type 0} (P : Process C) (A : Automaton C) (L : AutomatonLaws P A)
   word = passed_word x number
 
   -- ---- where somebody has the number nothing changes but what the seat shows
-  pub tried : KnowsLog A r.state r.ear id x (receiver_view_after_load e word)
-  tried = record {
+  pub tried : (found : ℕ) → KnowsLog A r.state r.ear id x (receiver_tried e word found)
+  tried found = record {
     table_layout = h.table_layout;
     front = h.front;
     below = h.below;
     frames = h.frames;
     lawful = h.lawful;
     words_are = h.words_are;
-    heard = heard_loaded h.frames e h.heard word;
-    listens = listens_on A r.state r.ear id e (receiver_view_after_load e word) refl refl refl
+    heard = heard_tried h.frames e h.heard word found;
+    listens = listens_on A r.state r.ear id e (receiver_tried e word found) refl refl refl
         (omega arith) h.listens;
   }
 
@@ -126,10 +126,10 @@ module _ {C : Type 0} (P : Process C) (A : Automaton C) (L : AutomatonLaws P A)
     apart same = omega arith
 
     -- the one that forks, and the one that is forked off
-    maker : KnowsLog A p.state ear_now id x (receiver_view_after_load e word)
+    maker : KnowsLog A p.state ear_now id x (receiver_tried e word PASSED_ALL)
     maker = knows_with P A L s given id e.passed (Some e.passed) number mine p id x e
-        (receiver_view_after_load e word) h_now refl refl
-        (heard_loaded h_now.frames e h_now.heard word)
+        (receiver_tried e word PASSED_ALL) h_now refl refl
+        (heard_tried h_now.frames e h_now.heard word PASSED_ALL)
         (inr record {
           here = l_now.here;
           made = l_now.made;
@@ -211,7 +211,7 @@ fork_allowed {C} P B k plan picks L slots id m x e number is stays up low s r co
             ),
           )
       | inr taken ↦
-          let w : View C = Tap x (receiver_view_after_load e word) in (
+          let w : View C = Tap x (receiver_tried e word got) in (
             w,
             keeps,
             tt,
@@ -221,7 +221,7 @@ fork_allowed {C} P B k plan picks L slots id m x e number is stays up low s r co
               views = slice_set s.views id w;
             })) (sym taken.0)
                 (reloaded P (B plan) s r word id (Tap x e) w here (λ who k. k)
-                (tried P (B plan) L s r id x e here number)),
+                (tried P (B plan) L s r id x e here number got)),
             (
               refl,
               passed,
@@ -229,7 +229,7 @@ fork_allowed {C} P B k plan picks L slots id m x e number is stays up low s r co
                 free = λ all. absurd (taken.1 all);
                 taken = λ other i. (
                   with_receiver_view (sym is i)
-                      (receiver_view_after_load (receiver_view_in (sym is i)) word),
+                      (receiver_tried (receiver_view_in (sym is i)) word got),
                   m.1,
                 );
               },
@@ -251,29 +251,44 @@ module _ {C : Type 0} (m m' : Sat C) (word got : ℕ) (x : TableLayout) (e : Rec
   pub forked_view : m'.0 ≡ view_forked (Tap x e) word number
   forked_view = ap (λ (y : Sat C). y.0) is_forked
 
-  pub forked_tries : (n : Sat C) → n ≡ (first_of m'.0, m'.1) → HasTried m word n
-  forked_tries n is =
-      is ∙ ap (λ (y : Sat C). (first_of y.0, y.1)) is_forked
-      ∙ ap
-      (λ (y : Sat C). (
-        with_receiver_view y.0 (receiver_view_after_load (receiver_view_in y.0) word),
-        y.1,
-      )) (sym me)
+  pub forked_tries : (n : Sat C) → n ≡ (first_of m'.0, m'.1) → HasTriedAt m word true n
+  forked_tries n is = (
+    PASSED_ALL,
+    (λ made. refl, λ found. refl),
+    is ∙ ap (λ (y : Sat C). (first_of y.0, y.1)) is_forked
+        ∙ ap
+        (λ (y : Sat C). (
+          with_receiver_view y.0 (receiver_tried (receiver_view_in y.0) word PASSED_ALL),
+          y.1,
+        )) (sym me),
+  )
 
   pub forked_made : (n : Sat C) → n ≡ (second_of m'.0, []) → n ≡ (fork_of m.0 number, [])
   forked_made n is =
       is ∙ ap (λ (y : Sat C). (second_of y.0, [])) is_forked
       ∙ ap (λ (y : Sat C). (fork_of y.0 number, [])) (sym me)
 
-pub tries_shown : {C : Type 0} (m : Sat C) (word : ℕ) (n : Sat C) (x : TableLayout)
-    (e : ReceiverView) → m ≡ (Tap x e, []) → HasTried m word n
+-- where the number is taken no receiver is made
+pub taken_tries : {C : Type 0} (m : Sat C) (at got : ℕ) (n : Sat C) → Forks m at got n
+    → got ≢ PASSED_ALL → HasTriedAt m at false n
+taken_tries m at got n forks other = (
+  got,
+  (
+    λ made. absurd (let bad : false ≡ true = made in let wrong : ⊥ = cc in wrong),
+    λ is. absurd (other is),
+  ),
+  forks.taken other,
+)
+
+pub tries_shown : {C : Type 0} (m : Sat C) (word found : ℕ) (n : Sat C) (x : TableLayout)
+    (e : ReceiverView) → m ≡ (Tap x e, []) → HasTried m word found n
     → steps_shown n.0 ≡ steps_shown m.0 + 1
-tries_shown {C} m word n x e me tries =
+tries_shown {C} m word found n x e me tries =
     ap (λ (y : Sat C). steps_shown y.0) tries
     ∙ ap
     (λ (y : Sat C).
     steps_shown
-    (with_receiver_view y.0 (receiver_view_after_load (receiver_view_in y.0) word))) me
+    (with_receiver_view y.0 (receiver_tried (receiver_view_in y.0) word found))) me
     ∙ length-append e.loads (word ∷ []) ∙ ap (λ (y : Sat C). steps_shown y.0 + 1) (sym me)
 
 -- ---- a copy, where no receiver has a passed place

@@ -27,7 +27,8 @@ use Rattle.bus_world.proofs.Places.{got_split}
 use Rattle.bus_world.proofs.ReceivingLaws.{length-log_pieces, given_is_prefix}
 use Rattle.bus_pageslot.specs.ReceiverViews.{ReceiverView, new_receiver_view, passed_on}
 use Rattle.bus_pageslot.specs.ReceiverViews.{left_for_good}
-use Rattle.bus_pageslot.specs.ReceiverViews.{receiver_view_after_load, receiver_view_knowing}
+use Rattle.bus_pageslot.specs.ReceiverViews.{receiver_tried, receiver_view_after_load}
+use Rattle.bus_pageslot.specs.ReceiverViews.{receiver_view_knowing}
 use Rattle.bus_pageslot.specs.ReceiverViews.{heard_length, heard_word, length_turn, IsSilent}
 use Rattle.bus_pageslot.specs.ReceiverViews.{HasHeard, Begins, Agree}
 
@@ -65,6 +66,14 @@ module _ (frames : List Frame) where
   module _ (e : ReceiverView) (h : HasHeard frames e) where
     pub heard_loaded : (word : ℕ) → HasHeard frames (receiver_view_after_load e word)
     heard_loaded word = record {
+      given_is = h.given_is;
+      heads_are = h.heads_are;
+      ended_is = h.ended_is;
+      silent = h.silent;
+    }
+
+    pub heard_tried : (word found : ℕ) → HasHeard frames (receiver_tried e word found)
+    heard_tried word found = record {
       given_is = h.given_is;
       heads_are = h.heads_are;
       ended_is = h.ended_is;

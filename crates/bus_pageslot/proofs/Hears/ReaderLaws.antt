@@ -312,7 +312,7 @@ goes_on_after h going takes = elim (takes _ _ h.fit.received) [
 -- ---- a turn
 
 -- a list with one more is another
-noted : (words : List ℕ) (word : ℕ) → words ≡ words ++ word ∷ [] → ⊥
+pub noted : (words : List ℕ) (word : ℕ) → words ≡ words ++ word ∷ [] → ⊥
 noted words word same = let more = ap length same ∙ length-append words (word ∷ []) in omega arith
 
 -- a turn that takes no step is none, but after the end

@@ -21,7 +21,8 @@ use Rattle.bus_pageslot.specs.Lasting.StepsTo.{Copies}
 use Rattle.bus_pageslot.specs.Listening.{FindsLength, FindsWord}
 use Rattle.bus_pageslot.specs.Notes.{Look}
 use Rattle.bus_pageslot.specs.ReceiverViews.{ReceiverView, heard_length, length_turn}
-use Rattle.bus_pageslot.specs.ReceiverViews.{receiver_view_after_load, receiver_view_knowing}
+use Rattle.bus_pageslot.specs.ReceiverViews.{receiver_tried, receiver_view_after_load}
+use Rattle.bus_pageslot.specs.ReceiverViews.{receiver_view_knowing}
 use Rattle.bus_pageslot.specs.Rings.{ShowsReceiver}
 use Rattle.bus_pageslot.specs.Rule.{IsFirst, IsTrueOf, KnowsLog, MayRead, Sat, Seats, SeatsReceiver}
 use Rattle.bus_pageslot.specs.Rule.{SeatsStaying}
@@ -119,10 +120,12 @@ module _ {C : Type 0} (P : Process C) (A : Automaton C) (L : AutomatonLaws P A)
         )
 
     pub try_leaves : (number : ℕ) → LeavesOthers P A s r id
-        (Tap x (receiver_view_after_load e (passed_word x number)))
+        (Tap x (receiver_tried e (passed_word x number)
+        (slice_index s.words (passed_word x number))))
     try_leaves number =
-        replaced P A s r id (Tap x e) (Tap x (receiver_view_after_load e (passed_word x number))) at
-        (λ p is. is) (tried P A L s r id x e at number)
+        let found = slice_index s.words (passed_word x number) in
+        replaced P A s r id (Tap x e) (Tap x (receiver_tried e (passed_word x number) found)) at
+        (λ p is. is) (tried P A L s r id x e at number found)
 
     pub word_leaves : (place : ℕ) → MayRead x e place → place < length e.known
         → LeavesOthers P A s r id (Tap x (receiver_view_after_load e (log_cell x place)))

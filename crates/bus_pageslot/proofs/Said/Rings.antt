@@ -132,6 +132,21 @@ module _ {C : Type 0} (P : Process C) (A : Automaton C) (L : AutomatonLaws P A)
       stays = kept;
     }
 
+  -- a passed place is none of the words of the log, nor the length or the stage
+  pub stores_beside : (me : ℕ) → me < x.passers → (number : ℕ) → StoresApart x s.words me number
+  stores_beside me few number =
+      let low = L.passed_behind in
+      let high = L.passed_room me few in
+      record {
+        length_same = get_or-set_other s.words (passed_word x me) 0 number 0
+            (λ i. absurd (omega arith));
+        stage_same = get_or-set_other s.words (passed_word x me) 1 number 0
+            (λ i. absurd (omega arith));
+        cells_same = λ place. get_or-set_other s.words (passed_word x me) (log_cell x place)
+            number 0
+            (λ i. absurd (apart (passed_word x me) x.log (place % x.capacity) high (sym i)));
+      }
+
   -- what is known of a receiver that a view shows
   known_of : (j : ℕ) (e : ReceiverView) (v : View C) → IsTrueOf P A r.state r.seat r.ear j v
       → ShowsReceiver e v → (y : TableLayout) × KnowsLog A r.state r.ear j y e
@@ -166,20 +181,8 @@ module _ {C : Type 0} (P : Process C) (A : Automaton C) (L : AutomatonLaws P A)
         its_own A r.state r.ear j k.0 e k.1
         (let same = ap (λ (z : TableLayout). z.passers) k.1.table_layout in omega arith)
 
-    -- its passed place is none of the words of the log, nor the length or the stage
     pub stores_apart : (number : ℕ) → StoresApart x s.words e.me number
-    stores_apart number =
-        let low = L.passed_behind in
-        let high = L.passed_room e.me listens_here.below in
-        record {
-          length_same = get_or-set_other s.words (passed_word x e.me) 0 number 0
-              (λ i. absurd (omega arith));
-          stage_same = get_or-set_other s.words (passed_word x e.me) 1 number 0
-              (λ i. absurd (omega arith));
-          cells_same = λ place. get_or-set_other s.words (passed_word x e.me) (log_cell x place)
-              number 0
-              (λ i. absurd (apart (passed_word x e.me) x.log (place % x.capacity) high (sym i)));
-        }
+    stores_apart = stores_beside e.me listens_here.below
 
 -- a receiver that shows in a view, or that the maker of seats has yet to seat
 has_seat : {C : Type 0} (me : ℕ) (v : View C) → SeatsReceiver me v → HasSeat me v

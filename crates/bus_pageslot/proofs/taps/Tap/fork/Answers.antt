@@ -1,5 +1,5 @@
-use Rattle.std.proofs.Common.{◌≡◌, ◌<◌, Option, Some, None, subst, sym, ◌∙◌, ap}
-use Rattle.std.specs.Prelude.{IfNone}
+use Rattle.std.proofs.Common.{◌≡◌, ◌<◌, true, false, Option, Some, None, subst, sym, ◌∙◌, ap}
+use Rattle.std.specs.Prelude.{IfNone, is_some}
 use Rattle.atomic_table.specs.Seated.{TableId}
 use Rattle.bus_automaton.specs.Buses.{automaton_with, process_with}
 use Rattle.bus_automaton.specs.Processes.{passed_word}
@@ -28,7 +28,8 @@ fork_seat-made-requires-clause-tap g c =
     ap (λ (s : S). s.me) (sym c.self.view_is ∙ there) in
     let a : IsTap (receiver_seat seat) c.self.inside.listener =
     subst (λ (s : S). IsTap s c.self.inside.listener) there c.self.invariant in
-    let up = subst (λ m. (receiver_view_in m.0).me < c.args.number) mine c.requires.above in
+    let up = subst (λ m. 0 < (table_layout_in m.0).passers
+    → (receiver_view_in m.0).me < c.args.number) mine c.requires.above in
     let low = subst (λ m. 0 < (table_layout_in m.0).passers
     → c.args.number < (table_layout_in m.0).passers) mine c.requires.below in
     let cells = c.of-cells.ensures in (
@@ -37,7 +38,7 @@ fork_seat-made-requires-clause-tap g c =
       c.args.number,
       a.me,
       a.stays,
-      (λ any. up_here a c.args.number c.of-cells.result cells.ring cells.flat up low),
+      up_here a c.args.number c.of-cells.result cells.ring cells.flat up low,
       a.passed,
       passed_here a c.args.number c.of-cells.result cells.ring cells.flat up low,
       sym a.wide
@@ -55,7 +56,8 @@ invariant_of-self g c =
     ap (λ (s : S). s.me) (sym c.self.view_is ∙ there) in
     let a : IsTap (receiver_seat seat) c.self.inside.listener =
     subst (λ (s : S). IsTap s c.self.inside.listener) there c.self.invariant in
-    let up = subst (λ m. (receiver_view_in m.0).me < c.args.number) mine c.requires.above in
+    let up = subst (λ m. 0 < (table_layout_in m.0).passers
+    → (receiver_view_in m.0).me < c.args.number) mine c.requires.above in
     let low = subst (λ m. 0 < (table_layout_in m.0).passers
     → c.args.number < (table_layout_in m.0).passers) mine c.requires.below in
     let cells = c.of-cells.ensures in
@@ -74,7 +76,8 @@ invariant_of-self-2 g c =
     ap (λ (s : S). s.me) (sym c.self.view_is ∙ there) in
     let a : IsTap (receiver_seat seat) c.self.inside.listener =
     subst (λ (s : S). IsTap s c.self.inside.listener) there c.self.invariant in
-    let up = subst (λ m. (receiver_view_in m.0).me < c.args.number) mine c.requires.above in
+    let up = subst (λ m. 0 < (table_layout_in m.0).passers
+    → (receiver_view_in m.0).me < c.args.number) mine c.requires.above in
     let low = subst (λ m. 0 < (table_layout_in m.0).passers
     → c.args.number < (table_layout_in m.0).passers) mine c.requires.below in
     let cells = c.of-cells.ensures in
@@ -93,13 +96,16 @@ returns-in_err-made-clause-tries g c =
     ap (λ (s : S). s.me) (sym c.self.view_is ∙ there) in
     let a : IsTap (receiver_seat seat) c.self.inside.listener =
     subst (λ (s : S). IsTap s c.self.inside.listener) there c.self.invariant in
-    let up = subst (λ m. (receiver_view_in m.0).me < c.args.number) mine c.requires.above in
+    let up = subst (λ m. 0 < (table_layout_in m.0).passers
+    → (receiver_view_in m.0).me < c.args.number) mine c.requires.above in
     let low = subst (λ m. 0 < (table_layout_in m.0).passers
     → c.args.number < (table_layout_in m.0).passers) mine c.requires.below in
     let cells = c.of-cells.ensures in
-    subst (λ m. HasTriedBy m c.args.number c.fork_seat-made.new.seat.me) (sym mine)
-    (c.fork_seat-made.ensures.tries c.args.number
-    (passed_there a c.args.number c.of-cells.result cells.ring cells.flat up low))
+    subst (λ made. HasTriedBy c.args.self.now.me c.args.number made c.fork_seat-made.new.seat.me)
+    (ap is_some (sym c.from_residual.ensures))
+    (subst (λ m. HasTriedBy m c.args.number false c.fork_seat-made.new.seat.me) (sym mine)
+    (c.in_err-made.ensures.tries c.args.number
+    (passed_there a c.args.number c.of-cells.result cells.ring cells.flat up low)))
 
 pub returns-clause-tries : goal.returns-clause-tries
 returns-clause-tries g c =
@@ -111,12 +117,13 @@ returns-clause-tries g c =
     ap (λ (s : S). s.me) (sym c.self.view_is ∙ there) in
     let a : IsTap (receiver_seat seat) c.self.inside.listener =
     subst (λ (s : S). IsTap s c.self.inside.listener) there c.self.invariant in
-    let up = subst (λ m. (receiver_view_in m.0).me < c.args.number) mine c.requires.above in
+    let up = subst (λ m. 0 < (table_layout_in m.0).passers
+    → (receiver_view_in m.0).me < c.args.number) mine c.requires.above in
     let low = subst (λ m. 0 < (table_layout_in m.0).passers
     → c.args.number < (table_layout_in m.0).passers) mine c.requires.below in
     let cells = c.of-cells.ensures in
-    subst (λ m. HasTriedBy m c.args.number c.fork_seat-made.new.seat.me) (sym mine)
-    (c.fork_seat-made.ensures.tries c.args.number
+    subst (λ m. HasTriedBy m c.args.number true c.fork_seat-made.new.seat.me) (sym mine)
+    (c.in_ok-made.ensures.tries c.args.number
     (passed_there a c.args.number c.of-cells.result cells.ring cells.flat up low))
 
 pub returns-in_err-made-clause-taken : goal.returns-in_err-made-clause-taken
@@ -129,7 +136,8 @@ returns-in_err-made-clause-taken g c =
     ap (λ (s : S). s.me) (sym c.self.view_is ∙ there) in
     let a : IsTap (receiver_seat seat) c.self.inside.listener =
     subst (λ (s : S). IsTap s c.self.inside.listener) there c.self.invariant in
-    let up = subst (λ m. (receiver_view_in m.0).me < c.args.number) mine c.requires.above in
+    let up = subst (λ m. 0 < (table_layout_in m.0).passers
+    → (receiver_view_in m.0).me < c.args.number) mine c.requires.above in
     let low = subst (λ m. 0 < (table_layout_in m.0).passers
     → c.args.number < (table_layout_in m.0).passers) mine c.requires.below in
     let cells = c.of-cells.ensures in
@@ -152,7 +160,8 @@ invariant_of-result g c =
     ap (λ (s : S). s.me) (sym c.self.view_is ∙ there) in
     let a : IsTap (receiver_seat seat) c.self.inside.listener =
     subst (λ (s : S). IsTap s c.self.inside.listener) there c.self.invariant in
-    let up = subst (λ m. (receiver_view_in m.0).me < c.args.number) mine c.requires.above in
+    let up = subst (λ m. 0 < (table_layout_in m.0).passers
+    → (receiver_view_in m.0).me < c.args.number) mine c.requires.above in
     let low = subst (λ m. 0 < (table_layout_in m.0).passers
     → c.args.number < (table_layout_in m.0).passers) mine c.requires.below in
     let cells = c.of-cells.ensures in
@@ -173,7 +182,8 @@ returns-clause-made g c =
     ap (λ (s : S). s.me) (sym c.self.view_is ∙ there) in
     let a : IsTap (receiver_seat seat) c.self.inside.listener =
     subst (λ (s : S). IsTap s c.self.inside.listener) there c.self.invariant in
-    let up = subst (λ m. (receiver_view_in m.0).me < c.args.number) mine c.requires.above in
+    let up = subst (λ m. 0 < (table_layout_in m.0).passers
+    → (receiver_view_in m.0).me < c.args.number) mine c.requires.above in
     let low = subst (λ m. 0 < (table_layout_in m.0).passers
     → c.args.number < (table_layout_in m.0).passers) mine c.requires.below in
     let cells = c.of-cells.ensures in
@@ -191,7 +201,8 @@ returns-clause-free g c any =
     ap (λ (s : S). s.me) (sym c.self.view_is ∙ there) in
     let a : IsTap (receiver_seat seat) c.self.inside.listener =
     subst (λ (s : S). IsTap s c.self.inside.listener) there c.self.invariant in
-    let up = subst (λ m. (receiver_view_in m.0).me < c.args.number) mine c.requires.above in
+    let up = subst (λ m. 0 < (table_layout_in m.0).passers
+    → (receiver_view_in m.0).me < c.args.number) mine c.requires.above in
     let low = subst (λ m. 0 < (table_layout_in m.0).passers
     → c.args.number < (table_layout_in m.0).passers) mine c.requires.below in
     let cells = c.of-cells.ensures in

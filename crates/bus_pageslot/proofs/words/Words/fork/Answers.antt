@@ -97,4 +97,5 @@ returns-clause-shown g c =
     c.compare_exchange-found.result tap.0 tap.1 tap.2 tap.3 tap.7
     c.compare_exchange-found.ensures.2.2 c.if-found.false c.split_seat.new.seat.me
     c.split_seat.ensures.2 in
-    tries_shown c.args.seat.now.me c.args.at c.split_seat.new.seat.me tap.0 tap.1 tap.3 tries
+    tries_shown c.args.seat.now.me c.args.at tries.0 c.split_seat.new.seat.me tap.0 tap.1 tap.3
+    tries.2
