@@ -268,18 +268,6 @@ module _ {C : Type 0} (m m' : Sat C) (word got : ℕ) (x : TableLayout) (e : Rec
       is ∙ ap (λ (y : Sat C). (second_of y.0, [])) is_forked
       ∙ ap (λ (y : Sat C). (fork_of y.0 number, [])) (sym me)
 
--- where the number is taken no receiver is made
-pub taken_tries : {C : Type 0} (m : Sat C) (at got : ℕ) (n : Sat C) → Forks m at got n
-    → got ≢ PASSED_ALL → HasTriedAt m at false n
-taken_tries m at got n forks other = (
-  got,
-  (
-    λ made. absurd (let bad : false ≡ true = made in let wrong : ⊥ = cc in wrong),
-    λ is. absurd (other is),
-  ),
-  forks.taken other,
-)
-
 pub tries_shown : {C : Type 0} (m : Sat C) (word found : ℕ) (n : Sat C) (x : TableLayout)
     (e : ReceiverView) → m ≡ (Tap x e, []) → HasTried m word found n
     → steps_shown n.0 ≡ steps_shown m.0 + 1

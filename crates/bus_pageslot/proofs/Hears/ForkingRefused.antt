@@ -1,13 +1,13 @@
 -- What is no fork of a receiver of a ring, nor a try to fork.
-use Rattle.std.proofs.Common.{◌≡◌, ◌≢◌, ℕ, ◌<◌, Bool, true, false, List, [], ◌∷◌, ◌++◌, arith}
-use Rattle.std.proofs.Common.{refl, sym, ◌∙◌, ap}
+use Rattle.std.proofs.Common.{◌≡◌, ℕ, ◌<◌, Bool, true, false, List, [], ◌∷◌, arith, refl, sym}
+use Rattle.std.proofs.Common.{◌∙◌, ap}
 use Rattle.std.proofs.lemmas.List.{append_cancel_left}
 use Rattle.bus_register.specs.declared.limits.TheConstants.{PASSED_ALL}
 use Rattle.bus_automaton.specs.Processes.{TableLayout, passed_word}
 use Rattle.bus_pageslot.specs.Notes.{Look}
 use Rattle.bus_pageslot.specs.ReceiverViews.{ReceiverView, forked_as, receiver_tried}
 use Rattle.bus_pageslot.specs.Rule.{Sat, receiver_view_in}
-use Rattle.bus_pageslot.specs.Steps.{ForkingRefuses, HasTriedAt, HasTriedBy, IsForkOf}
+use Rattle.bus_pageslot.specs.Steps.{ForkingRefuses, HasTriedAt, IsForkOf}
 use Rattle.bus_pageslot.specs.declared.rule.View.TheVariants.{Tap}
 use Rattle.bus_pageslot.proofs.Hears.ReaderLaws.{noted}
 
