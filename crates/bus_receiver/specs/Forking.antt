@@ -46,7 +46,7 @@ pub record HasForked {C : Type 0} (m n m' : Sat C) : Type 0 where
   pub ring : 0 < (table_layout_in m.0).passers → ForksOnRing m n m'
   pub flat : (table_layout_in m.0).passers ≡ 0 → (m' ≡ m) × (n ≡ m)
 
--- each number above its own was taken, so many as the ring has
+-- each number of the ring above its own was taken
 pub record FindsNoSeat {C : Type 0} (m m' : Sat C) : Type 0 where
   pub found : List ℕ
   pub tries : FindsTaken m found m'
