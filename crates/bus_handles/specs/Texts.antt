@@ -36,5 +36,5 @@ bus_not_ended_text bus.InUse = codes "other handles have the bus still"
 bus_not_ended_text bus.PageOut = codes "a sender has not given the page back"
 
 abbrev pub fork_fault_text : ForkFault → List ℕ
-fork_fault_text fork.NoSeat = codes "no number above the receiver's own is free"
+fork_fault_text fork.NoSeat = codes "each number above the receiver's own was taken"
 fork_fault_text fork.NoMemory = codes "no memory"

@@ -104,10 +104,10 @@ impl fmt::Display for BusNotEnded {
 /// Why no receiver was forked off another.
 #[derive(Clone, Copy, Debug, PartialEq, Eq)]
 pub enum ForkFault {
-    /// Each number of the ring above its own was taken. That is so for now: another receiver may
+    /// Each number of the ring above its own was taken when it was tried. Another receiver may
     /// leave. Of a bus that is no ring it is never said.
     NoSeat,
-    /// The bus or its bell has too many shares. Nothing has changed.
+    /// By the code, the bus or its bell has too many shares. Nothing has changed.
     NoMemory,
 }
 
@@ -118,7 +118,7 @@ impl fmt::Display for ForkFault {
 
     fn fmt<W: fmt::Write>(&self, f: &mut fmt::Formatter<W>) -> fmt::Result {
         f.write_str(match self {
-            ForkFault::NoSeat => "no number above the receiver's own is free",
+            ForkFault::NoSeat => "each number above the receiver's own was taken",
             ForkFault::NoMemory => "no memory",
         })
     }

@@ -312,13 +312,13 @@ impl<Q: Ratifier + Drop> ReceiverHandle<Q> {
     /// who counts by one copies it too (`Heard::copied`).
     ///
     /// Of a ring the new one takes the lowest number above this one's that is free. Each try is one
-    /// step. Dropping it leaves, and frees its number. NoSeat says that none was free just now; as
-    /// only higher numbers are tried, they run out at the top. To keep seats for later, open a ring
-    /// with more receivers than are needed, and let the spare ones leave at the start, by `leave`
-    /// or by a drop.
+    /// step. Dropping it leaves, and frees its number. NoSeat says that each was taken when it was
+    /// tried; as only higher numbers are tried, they run out at the top. To keep seats for later,
+    /// open a ring with more receivers than are needed, and let the spare ones leave at the start,
+    /// by `leave` or by a drop.
     ///
-    /// Of another bus it is a copy, never answered NoSeat and without a step. It takes no memory;
-    /// NoMemory says that the bus has too many handles.
+    /// Of another bus it is a copy, never answered NoSeat, and its seat shows no step. It takes no
+    /// memory: by the code NoMemory says that the bus has too many handles.
     pub fn fork(&mut self) -> Result<ReceiverHandle<Q>, ForkFault>
         ensures bus { (self.new.bus ≡ self.old.bus)
             × IfOk result (λ made. made.bus ≡ self.old.bus) }

@@ -14,8 +14,9 @@ use Rattle.bus_automaton.specs.Processes.{TableLayout, Process, Automaton, passe
 use Rattle.bus_automaton.specs.SenderTrails.{SenderTrail}
 use Rattle.bus_automaton.specs.declared.plans.Plan.{Plan}
 use Rattle.bus_pageslot.specs.Notes.{Look, Notes}
-use Rattle.bus_pageslot.specs.Rule.{TableInvariant, with_look}
+use Rattle.bus_pageslot.specs.Rule.{Sat, TableInvariant, with_look}
 use Rattle.bus_pageslot.specs.Seats.{SenderSeat, sender_trail_of, notes_of}
+use Rattle.bus_pageslot.specs.Steps.{HasTried}
 use Rattle.bus_pageslot.specs.declared.rule.View.{View}
 use Rattle.bus_pageslot.specs.declared.rule.View.TheVariants.{Maker, Sender, Tap, Meeting, Telling}
 use Rattle.bus_pageslot.specs.declared.rule.View.TheVariants.{Spent}
@@ -48,13 +49,15 @@ pub record IsFoundOn {C : Type 0} (P : Process C) (A : Automaton C) (shown : Vie
   pub here : (seat : ℕ) × (get_elem? table.views seat ≡ some shown)
   pub stood : slice_index table.words at ≡ got
 
--- A number that is not the one past all places stood there: if this is the passed place of a
--- number, a receiver has that, or is yet to have it (`rule_refuses`).
-pub record IsTakenOn {C : Type 0} (P : Process C) (A : Automaton C) (shown : View C) (at : ℕ) :
-    Type 0 where
+-- A seat tried to fork, at this word: a number that is not the one past all places stood there, and
+-- is what the seat shows of the try. If the word is the passed place of a number, a receiver has
+-- that, or is yet to have it (`rule_refuses`).
+pub record IsTakenOn {C : Type 0} (P : Process C) (A : Automaton C) (m : Sat C) (at : ℕ)
+    (m' : Sat C) : Type 0 where
   pub found : ℕ
   pub other : found ≢ PASSED_ALL
-  pub on : IsFoundOn P A shown at found
+  pub on : IsFoundOn P A m.0 at found
+  pub shown : HasTried m at found m'
 
 -- the same of the bus of the plan that a call picks
 abbrev pub IsFoundBy : {C : Type 0} → Process C → (Plan → Automaton C) → Option Plan → View C → ℕ

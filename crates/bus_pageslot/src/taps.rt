@@ -264,7 +264,7 @@ impl<Q: Ratifier + Drop> Tap<Q> {
     ///
     /// One step, which the seat of this one shows with the number that it found: a compare_exchange
     /// on the passed place of that number, from 2^64 - 1 to what this one has passed. Of a log that
-    /// is no ring it takes no step, and gives a copy with the same number.
+    /// is no ring its seat shows no step, and it gives a copy with the same number.
     pub fn fork(&mut self, bus: &Bus<Q>, number: u64) -> Option<Tap<Q>>
         requires table { self.old.table_id ≡ bus.now.table }
         requires above { 0 < (table_layout_in self.old.me.0).passers
@@ -280,8 +280,8 @@ impl<Q: Ratifier + Drop> Tap<Q> {
             (automaton_by Q.Ratifier bus.now.plan) self.old.me.0
             (passed_word (table_layout_in self.old.me.0) number) PASSED_ALL) }
         ensures taken { IfNone result (IsTakenOn (process_by Q.Ratifier)
-            (automaton_by Q.Ratifier bus.now.plan) self.old.me.0
-            (passed_word (table_layout_in self.old.me.0) number)) }
+            (automaton_by Q.Ratifier bus.now.plan) self.old.me
+            (passed_word (table_layout_in self.old.me.0) number) self.new.me) }
         ensures never { (table_layout_in self.old.me.0).passers ≡ 0 → IsSome result }
     {
         let cells = self.listener.cells.of(number);
@@ -371,8 +371,8 @@ fn fork_seat<Q: Ratifier + Drop>(
     ensures taken { (number : ℕ)
         → IsPassedAt (table_layout_in seat.old.me.0) number passed_at
         → IfNone result (IsTakenOn (process_by Q.Ratifier)
-        (automaton_by Q.Ratifier bus.now.plan) seat.old.me.0
-        (passed_word (table_layout_in seat.old.me.0) number)) }
+        (automaton_by Q.Ratifier bus.now.plan) seat.old.me
+        (passed_word (table_layout_in seat.old.me.0) number) seat.new.me) }
     ensures never { (table_layout_in seat.old.me.0).passers ≡ 0 → IsSome result }
 {
     match passed_at {

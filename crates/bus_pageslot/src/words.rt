@@ -276,7 +276,7 @@ impl<Q: Ratifier> Words<Q> {
         ensures free { IfSome result (λ _. IsFoundOn (process_by Q.Ratifier)
             (automaton_by Q.Ratifier self.now.plan) seat.old.me.0 at PASSED_ALL) }
         ensures taken { IfNone result (IsTakenOn (process_by Q.Ratifier)
-            (automaton_by Q.Ratifier self.now.plan) seat.old.me.0 at) }
+            (automaton_by Q.Ratifier self.now.plan) seat.old.me at seat.new.me) }
         ensures shown { steps_shown seat.new.me.0 ≡ steps_shown seat.old.me.0 + 1 }
     {
         threads_may_go_by::<Q>();

@@ -41,7 +41,7 @@ pub record ForksOnRing {C : Type 0} (m n m' : Sat C) : Type 0 where
   pub tries : HasTried old (passed_word (table_layout_in m.0) number) PASSED_ALL m'
   pub made : IsForkOf old number n
 
--- so of a ring; else it is a copy, without a step
+-- so of a ring; else it is a copy, and no step is shown
 pub record HasForked {C : Type 0} (m n m' : Sat C) : Type 0 where
   pub ring : 0 < (table_layout_in m.0).passers → ForksOnRing m n m'
   pub flat : (table_layout_in m.0).passers ≡ 0 → (m' ≡ m) × (n ≡ m)

@@ -334,7 +334,7 @@ impl<Q: Ratifier + Drop> Receiver<Q> {
     ///
     /// Of a ring it has the lowest number above this one's that is free, as one is whose receiver
     /// has left. It tries these numbers, one step each, until one is free: None where none was.
-    /// That is an answer for now. Of another bus it takes no step, and never gives None.
+    /// That is an answer for now. Of another bus its seat shows no step, and it never gives None.
     pub fn fork(&mut self, bus: &Bus<Q>) -> Option<Receiver<Q>>
         requires { bus_of self.old ≡ bus.now.table }
         ensures table { (bus_of self.new ≡ bus_of self.old)

@@ -1,7 +1,7 @@
 -- The next numbers behind a journal, item by item.
 use Rattle.std.proofs.Common.{◌≡◌, ℕ, zero, suc, ◌+◌, ◌-◌, ◌<◌, ◌≤◌, ◌^◌, Bool, true, false}
 use Rattle.std.proofs.Common.{List, [], ◌∷◌, ◌++◌, refl, replicate, slice_get, slice_index, Some}
-use Rattle.std.proofs.Common.{max, subst, sym, arith, ◌==◌, if◌then◌else◌}
+use Rattle.std.proofs.Common.{get_or, max, subst, sym, take, arith, ◌==◌, if◌then◌else◌}
 use Rattle.std.proofs.lemmas.Bool.Decides.{Decides-eqb}
 use Rattle.std.proofs.Math.Nat.{le-max_left, le-max_right, le-min, le_refl}
 use Rattle.std.proofs.lemmas.Option.{same_Some, slice_get_within}
@@ -30,7 +30,7 @@ grown : (b : Bool) (next other : ℕ) → next ≤ (if b then max next other els
 grown true next other = le-max_left next other
 grown false next other = le_refl next
 
-behind_all : (sender : ℕ) (items : List Item) (next : ℕ) → next ≤ next_behind sender items next
+pub behind_all : (sender : ℕ) (items : List Item) (next : ℕ) → next ≤ next_behind sender items next
 behind_all sender [] next = le_refl next
 behind_all sender (i ∷ items) next =
     let one = grown (i.sender.0 == sender) next (number_behind i.number) in
@@ -61,3 +61,11 @@ told_behind (i ∷ items) next zero item at low =
     (omega (arith, one, more))
 told_behind (i ∷ items) next (suc k) item at low =
     told_behind items (next_behind_one item.sender.0 i next) k item at low
+
+-- ---- of a sender that a front of the numbers has, the number there; of another, the one given
+pub get_front : (n : ℕ) (numbers : List ℕ) (k : ℕ)
+    → get_or (take n numbers) k (slice_index numbers k) ≡ slice_index numbers k
+get_front zero numbers k = refl
+get_front (suc n) [] k = refl
+get_front (suc n) (x ∷ numbers) zero = refl
+get_front (suc n) (x ∷ numbers) (suc k) = get_front n numbers k

@@ -43,8 +43,8 @@ pub record IsPageBehind (before : Option Page) (read : JournalRead) (page : Page
 abbrev pub MayMissFrames : JournalRead → Type 0
 MayMissFrames read = (read.end ≡ end.Damaged) ⊎ IsTrue read.hides
 
--- its first numbers are those of the page before it, if there is one: no file is missing between
-abbrev pub GoesOn : Option Page → JournalRead → Type 0
-GoesOn None read = ⊤
-GoesOn (Some page) read =
+-- its first numbers are those of the page before it, if there is one
+abbrev pub FollowsPage : Option Page → JournalRead → Type 0
+FollowsPage None read = ⊤
+FollowsPage (Some page) read =
     read.header.first.items ≡ take (length read.header.first.items) page.next

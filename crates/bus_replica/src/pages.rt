@@ -15,7 +15,8 @@ use std::fmt;
 pub enum GoOnFault {
     /// It is damaged, so whole frames of it may be missing in what it told.
     Damaged,
-    /// Its first numbers are not those of the page before it, so a file is missing between.
+    /// Its first numbers are not those of the page before it: a file is missing or comes twice, or
+    /// two programs ran at once.
     Gap,
 }
 
@@ -32,7 +33,7 @@ impl fmt::Display for GoOnFault {
 
 ghost use Rattle.std.specs.Option.{option_copied};
 ghost use Rattle.bus_replica.specs.declared.pages.GoOnFault.TheVariants as fault;
-ghost use Rattle.bus_replica.specs.Pages.{GoesOn, IsPageBehind, MayMissFrames, next_behind};
+ghost use Rattle.bus_replica.specs.Pages.{FollowsPage, IsPageBehind, MayMissFrames, next_behind};
 ghost use Rattle.bus_replica.specs.Pages.{next_before, next_behind_one};
 
 /// The page with which the next sitting goes on, where `before` is that of the sittings before this
@@ -47,10 +48,10 @@ ghost use Rattle.bus_replica.specs.Pages.{next_before, next_behind_one};
 pub fn page_after(before: Option<&Page>, read: &JournalRead) -> Result<Page, GoOnFault>
     ensures page { IfOk result (IsPageBehind (option_copied before.entry) read.now) }
     ensures whole { OnOk result (¬ MayMissFrames read.now) }
-    ensures next { OnOk result (GoesOn (option_copied before.entry) read.now) }
+    ensures next { OnOk result (FollowsPage (option_copied before.entry) read.now) }
     ensures damaged { result ≡ Err fault.Damaged → MayMissFrames read.now }
     ensures gap { result ≡ Err fault.Gap
-        → (¬ MayMissFrames read.now) × (¬ GoesOn (option_copied before.entry) read.now) }
+        → (¬ MayMissFrames read.now) × (¬ FollowsPage (option_copied before.entry) read.now) }
 {
     if read.hides || read.end == JournalEnd::Damaged {
         return Err(GoOnFault::Damaged);

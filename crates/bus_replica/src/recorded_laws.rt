@@ -18,7 +18,7 @@ ghost use Rattle.bus_pageslot.specs.Rule.{receiver_view_in};
 ghost use Rattle.bus_pageslot.specs.declared.rule.View.{View};
 ghost use Rattle.bus_replica.specs.Linearized.{IsLinearized, IsRead};
 ghost use Rattle.bus_replica.specs.OneOrder.{AreFunctions};
-ghost use Rattle.bus_replica.specs.Pages.{IsPageBehind};
+ghost use Rattle.bus_replica.specs.Pages.{FollowsPage, IsPageBehind};
 ghost use Rattle.bus_replica.specs.Replicas.{LeadTo, has_view, items_heard};
 ghost use Rattle.bus_replica.specs.Sittings.{RecoveriesRefuse, behind, keeps, nothing};
 ghost use Rattle.bus_tenure.specs.declared.pages.Page.{Page};
@@ -96,12 +96,16 @@ pub fn what_was_recorded_stands_before<S: State>()
 }
 
 /// No number that a journal told is given again by the page behind it, but the greatest number that
-/// a word has, which no log has.
+/// a word has, which no log has. And where the journal goes on from a page, no next number is less
+/// than it was there.
 pub fn told_numbers_are_behind()
-    ensures { (before : Option Page) (read : JournalRead) (page : Page) (k : ℕ) (item : Item)
+    ensures told { (before : Option Page) (read : JournalRead) (page : Page) (k : ℕ) (item : Item)
         → IsPageBehind before read page → slice_get read.log.order.items.items k ≡ Some item
         → item.sender.0 < MOST_SENDERS → item.number < 2 ^ 64 - 1
         → item.number < slice_index page.next item.sender.0 }
+    ensures earlier { (before page : Page) (read : JournalRead) (sender : ℕ)
+        → IsPageBehind (Some before) read page → FollowsPage (Some before) read
+        → sender < MOST_SENDERS → slice_index before.next sender ≤ slice_index page.next sender }
 {}
 
 /// Of a state that keeps what was applied to it, in order, with the sender of each: what a recovery

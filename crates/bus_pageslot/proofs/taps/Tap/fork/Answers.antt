@@ -146,7 +146,8 @@ returns-in_err-made-clause-taken g c =
     automaton_with g.Q.Machine.kind_of g.Q.Machine.op g.Q.Machine.fed g.Q.Ratifier.protocol
     c.args.bus.now.plan in
     if_none c.from_residual.result
-    (subst (λ m. IsTakenOn P A m.0 (passed_word (table_layout_in m.0) c.args.number)) (sym mine)
+    (subst (λ m. IsTakenOn P A m (passed_word (table_layout_in m.0) c.args.number)
+    c.fork_seat-made.new.seat.me) (sym mine)
     (c.in_err-made.ensures.taken c.args.number
     (passed_there a c.args.number c.of-cells.result cells.ring cells.flat up low)))
 
